@@ -1,0 +1,178 @@
+-- The numbers whose bugs differ.
+use Rattle.std.proofs.Common.{◌≡◌, ◌<◌, ◌≤◌, ℕ, zero, suc, Bool, true, false, cond, not, ◌&&◌, eqb, List, [], Option, Some, None, sym, refl, ap, ◌∙◌, subst, arith, inl, inr}
+use Rattle.std.specs.Prelude.{filter, nat_lt, is_some}
+use Rattle.std.specs.Str.{bytes_eq}
+use Rattle.std.proofs.lemmas.Option.{none-some}
+use Rattle.std.proofs.lemmas.Bool.{false≢true, eqb-true, eq-eqb, lt-ltb, not-true, not-false, and_parts, and_from, and_cases, or_parts}
+use Rattle.std.proofs.lemmas.Slice.Eq.{bytes_eq-Decides}
+use Rattle.bug_record.specs.Sets.{has, IsAscending}
+use Rattle.bug_record.specs.Severities.{rank}
+use Rattle.bug_record.specs.Desk.{Desk, IsSound}
+use Rattle.bug_record.specs.Images.{bug_in, or_else, put}
+use Rattle.bug_record.specs.Changed.{AreChanged, same_shared, same_bugs, same_at, numbers_below, changed_numbers, Replaces}
+use Rattle.bug_record.specs.declared.bug.Bug.{Bug}
+use Rattle.bug_record.specs.declared.bug.Shared.{Shared}
+use Rattle.bug_record.specs.declared.bug.SetImage.{SetImage}
+use Rattle.bug_record.specs.declared.severity.Severity.{Severity}
+use Rattle.bug_record.specs.declared.severity.Severity.TheVariants.{Critical, Grave, Serious, Important, Normal, Minor, Wishlist}
+use Rattle.bug_core.specs.Numbers.{IsJoined}
+use Rattle.bug_core.proofs.SetLemmas.{IsAscending-filter, has-filter, same-ascending, has-numbers_below, IsAscending-numbers_below}
+use Rattle.bug_core.proofs.ImageLemmas.{shown}
+
+-- severities of one rank are one
+abbrev of_rank : ℕ → Severity
+of_rank zero = Critical
+of_rank (suc zero) = Grave
+of_rank (suc (suc zero)) = Serious
+of_rank (suc (suc (suc zero))) = Important
+of_rank (suc (suc (suc (suc zero)))) = Normal
+of_rank (suc (suc (suc (suc (suc zero))))) = Minor
+of_rank (suc (suc (suc (suc (suc (suc n)))))) = Wishlist
+
+of_rank-rank : (s : Severity) → of_rank (rank s) ≡ s
+of_rank-rank Critical = refl
+of_rank-rank Grave = refl
+of_rank-rank Serious = refl
+of_rank-rank Important = refl
+of_rank-rank Normal = refl
+of_rank-rank Minor = refl
+of_rank-rank Wishlist = refl
+
+same_severity : (s t : Severity) → rank s ≡ rank t → s ≡ t
+same_severity s t e = sym (of_rank-rank s) ∙ ap of_rank e ∙ of_rank-rank t
+
+same_closed : (a b : Bool) → cond a b (not b) ≡ true → a ≡ b
+same_closed true b e = sym e
+same_closed false true e = absurd (false≢true e)
+same_closed false false e = refl
+
+closed_same : (a : Bool) → cond a a (not a) ≡ true
+closed_same true = refl
+closed_same false = refl
+
+bytes : (a b : List ℕ) → bytes_eq a b ≡ true → a ≡ b
+bytes a b = (bytes_eq-Decides a b).0
+
+bytes_refl : (a : List ℕ) → bytes_eq a a ≡ true
+bytes_refl a = (bytes_eq-Decides a a).1 refl
+
+-- the tests tell equal records
+same_shared-true : (s t : Shared) → same_shared s t ≡ true → s ≡ t
+same_shared-true s t e =
+    let p = and_parts (bytes_eq s.«package» t.«package» && eqb (rank s.severity) (rank t.severity)) (cond s.closed t.closed (not t.closed)) e in
+    let q = and_parts (bytes_eq s.«package» t.«package») (eqb (rank s.severity) (rank t.severity)) p.0 in
+    λ j. record {
+      «package» = bytes s.«package» t.«package» q.0 j;
+      severity = same_severity s.severity t.severity (eqb-true (rank s.severity) (rank t.severity) q.1) j;
+      closed = same_closed s.closed t.closed p.1 j;
+    }
+
+same_shared-refl : (s : Shared) → same_shared s s ≡ true
+same_shared-refl s = and_from (bytes_eq s.«package» s.«package» && eqb (rank s.severity) (rank s.severity)) (cond s.closed s.closed (not s.closed))
+    (and_from (bytes_eq s.«package» s.«package») (eqb (rank s.severity) (rank s.severity)) (bytes_refl s.«package») (eq-eqb (rank s.severity) (rank s.severity) refl))
+    (closed_same s.closed)
+
+same_bugs-true : (a b : Bug) → same_bugs a b ≡ true → a ≡ b
+same_bugs-true a b e =
+    let p = and_parts (bytes_eq a.title b.title && bytes_eq a.submitter b.submitter) (same_shared a.shared b.shared && bytes_eq a.block b.block) e in
+    let q = and_parts (bytes_eq a.title b.title) (bytes_eq a.submitter b.submitter) p.0 in
+    let r = and_parts (same_shared a.shared b.shared) (bytes_eq a.block b.block) p.1 in
+    λ j. record {
+      title = bytes a.title b.title q.0 j;
+      submitter = bytes a.submitter b.submitter q.1 j;
+      shared = same_shared-true a.shared b.shared r.0 j;
+      block = bytes a.block b.block r.1 j;
+    }
+
+same_bugs-refl : (a : Bug) → same_bugs a a ≡ true
+same_bugs-refl a = and_from (bytes_eq a.title a.title && bytes_eq a.submitter a.submitter) (same_shared a.shared a.shared && bytes_eq a.block a.block)
+    (and_from (bytes_eq a.title a.title) (bytes_eq a.submitter a.submitter) (bytes_refl a.title) (bytes_refl a.submitter))
+    (and_from (same_shared a.shared a.shared) (bytes_eq a.block a.block) (same_shared-refl a.shared) (bytes_refl a.block))
+
+same_at-true : (o p : Option Bug) → same_at o p ≡ true → o ≡ p
+same_at-true None None e = refl
+same_at-true None (Some b) e = absurd (false≢true e)
+same_at-true (Some a) None e = absurd (false≢true e)
+same_at-true (Some a) (Some b) e = ap Some (same_bugs-true a b e)
+
+same_at-refl : (o : Option Bug) → same_at o o ≡ true
+same_at-refl None = refl
+same_at-refl (Some a) = same_bugs-refl a
+
+-- the test of difference, of equal and of other bugs
+differ-not : (o p : Option Bug) → not (same_at o p) ≡ true → o ≡ p → ⊥
+differ-not o p h e = false≢true (sym (not-true (same_at o p) h) ∙ ap (λ z. same_at o z) (sym e) ∙ same_at-refl o)
+
+equal-not : (o p : Option Bug) → not (same_at o p) ≡ false → o ≡ p
+equal-not o p h = same_at-true o p (not-false (same_at o p) h)
+
+-- a number that is not among those of the bugs is no bug
+no_bug : (o : Option Bug) → is_some o ≡ false → o ≡ None
+no_bug None h = refl
+no_bug (Some b) h = absurd (false≢true (sym h))
+
+-- those of the numbers of all bugs at which the bugs differ
+pub changed-are : (old new : List SetImage) (start first second r : List ℕ) → start ≡ [] → IsJoined start (λ n. is_some (bug_in old n)) first → IsJoined first (λ n. is_some (bug_in new n)) second
+    → r ≡ filter (λ n. not (same_at (bug_in old n) (bug_in new n))) second → AreChanged (bug_in old) (bug_in new) r
+changed-are old new start first second r empty one two part = subst (AreChanged (bug_in old) (bug_in new)) (sym part) (record {
+  ascending = IsAscending-filter differ second (two.ascending (one.ascending (subst IsAscending (sym empty) tt)));
+  listed = λ n h. differ-not (bug_in old n) (bug_in new n) (and_parts (has second n) (differ n) (sym (has-filter differ second n) ∙ h)).1;
+  others = λ n h. elim (and_cases (has second n) (differ n) (sym (has-filter differ second n) ∙ h)) [ inl e ↦ absent n e | inr e ↦ equal-not (bug_in old n) (bug_in new n) e ];
+})
+  where
+    differ : ℕ → Bool
+    differ n = not (same_at (bug_in old n) (bug_in new n))
+
+    absent : (n : ℕ) → has second n ≡ false → bug_in old n ≡ bug_in new n
+    absent n e =
+        let p = or_parts (has first n) (is_some (bug_in new n)) (sym (two.numbers n) ∙ e) in
+        let q = or_parts (has start n) (is_some (bug_in old n)) (sym (one.numbers n) ∙ p.0) in
+        no_bug (bug_in old n) q.1 ∙ sym (no_bug (bug_in new n) p.1)
+
+-- The numbers at which the images differ are those at which the desks before and after differ.
+pub changed-on_desk : (d : Desk) (old new : List SetImage) (next : ℕ) (r : List ℕ) → Replaces d old new next → AreChanged (bug_in old) (bug_in new) r → AreChanged d.bug (put d (record { images = new; next = next })).bug r
+changed-on_desk d old new next r h are = record {
+  ascending = are.ascending;
+  listed = λ n e. listed n (are.listed n e) (bug_in old n) refl (bug_in new n) refl;
+  others = λ n e. others n (are.others n e) (bug_in new n) refl;
+}
+  where
+    others : (n : ℕ) → bug_in old n ≡ bug_in new n → (p : Option Bug) → bug_in new n ≡ p → d.bug n ≡ or_else (bug_in new n) (d.bug n)
+    others n e None q = ap (λ o. or_else o (d.bug n)) (sym q)
+    others n e (Some b) q = shown d old h.blocks n b (e ∙ q) ∙ ap (λ o. or_else o (d.bug n)) (sym q)
+
+    listed : (n : ℕ) → (bug_in old n ≡ bug_in new n → ⊥) → (o : Option Bug) → bug_in old n ≡ o → (p : Option Bug) → bug_in new n ≡ p → d.bug n ≡ or_else (bug_in new n) (d.bug n) → ⊥
+    listed n w o e None q k = absurd (w (h.covers n q ∙ sym q))
+    listed n w None e (Some b) q k = absurd (none-some b (sym (h.brings n b e q) ∙ k ∙ ap (λ o. or_else o (d.bug n)) q))
+    listed n w (Some a) e (Some b) q k = absurd (w (e ∙ sym (shown d old h.blocks n a e) ∙ k ∙ ap (λ o. or_else o (d.bug n)) q ∙ sym q))
+
+-- a sound desk has no bug from the next number on
+none-from_next : (d : Desk) → IsSound d → (n k : ℕ) → d.next ≤ k → nat_lt n k ≡ false → d.bug n ≡ None
+none-from_next d sound n k l h = cases (d.bug n) refl
+  where
+    cases : (o : Option Bug) → d.bug n ≡ o → d.bug n ≡ None
+    cases None e = e
+    cases (Some b) e = let below : n < d.next = (sound.in_range n b e).1 in let there : n < k = omega (arith, below, l) in absurd (false≢true (sym h ∙ lt-ltb n k there))
+
+-- so they are the list of the two desks
+pub changed-listed : (d : Desk) (old new : List SetImage) (next : ℕ) (r : List ℕ) → Replaces d old new next → AreChanged (bug_in old) (bug_in new) r → r ≡ changed_numbers d (put d (record { images = new; next = next }))
+changed-listed d old new next r h are =
+    same-ascending r (filter differ (numbers_below next)) are.ascending (IsAscending-filter differ (numbers_below next) (IsAscending-numbers_below next)) (λ m. agree m (has r m) (has (filter differ (numbers_below next)) m) refl refl)
+  where
+    after : Desk
+    after = put d (record { images = new; next = next })
+
+    differ : ℕ → Bool
+    differ n = not (same_at (d.bug n) (after.bug n))
+
+    on_desk : AreChanged d.bug after.bug r
+    on_desk = changed-on_desk d old new next r h are
+
+    agree : (m : ℕ) (s t : Bool) → has r m ≡ s → has (filter differ (numbers_below next)) m ≡ t → s ≡ t
+    agree m true true p q = refl
+    agree m false false p q = refl
+    agree m true false p q = absurd (on_desk.listed m p (elim (and_cases (has (numbers_below next) m) (differ m) (sym (has-filter differ (numbers_below next) m) ∙ q)) [
+      | inl e ↦ none-from_next d h.sound m next h.later (sym (has-numbers_below next m) ∙ e) ∙ sym (none-from_next after h.sound_after m next (omega arith) (sym (has-numbers_below next m) ∙ e))
+      | inr e ↦ equal-not (d.bug m) (after.bug m) e
+    ]))
+    agree m false true p q = absurd (differ-not (d.bug m) (after.bug m) (and_parts (has (numbers_below next) m) (differ m) (sym (has-filter differ (numbers_below next) m) ∙ q)).1 (on_desk.others m p))

@@ -1,0 +1,9 @@
+pub mod SetLemmas
+pub mod ImageLemmas
+pub mod OtherLemmas
+pub mod SoundLemmas
+pub mod ReplaceLemmas
+pub mod PlanLemmas
+pub mod JoinLemmas
+pub mod ChangedLemmas
+pub mod ReportLemmas

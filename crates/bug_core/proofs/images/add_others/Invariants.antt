@@ -1,0 +1,6 @@
+use Rattle.std.proofs.Common.{◌≡◌, ◌++◌, take}
+use Rattle.bug_core.specs.Others.{others}
+use Rattle.bug_core.proofs.images.add_others.Given as goal
+
+abbrev pub invariant-loop-image : goal.invariant-loop-image
+invariant-loop-image l = l.kept ≡ l.fn.kept ++ others l.number (take l.image-index l.images)

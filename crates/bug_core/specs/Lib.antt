@@ -1,0 +1,4 @@
+pub mod Others
+pub mod Numbers
+pub mod Planned
+pub mod Reports

@@ -1,0 +1,35 @@
+-- What is promised of the plan of each command.
+use Rattle.std.specs.Prelude.{ℕ, ◌≡◌, ◌≤◌, List, Result, Ok, Err, IfOk}
+use Rattle.bug_record.specs.Sets.{Each}
+use Rattle.bug_record.specs.Desk.{Desk}
+use Rattle.bug_record.specs.Steps.{step}
+use Rattle.bug_record.specs.Images.{AreApart, HasMember, FitsDesk}
+use Rattle.bug_record.specs.Plans.{named, AllKnown, IsShownBy, IsPlanFor, CoverImages, BringNone}
+use Rattle.bug_record.specs.declared.bug.SetImage.{SetImage}
+use Rattle.bug_record.specs.declared.command.Change.{Change}
+use Rattle.bug_record.specs.declared.command.Command.{Command}
+use Rattle.bug_record.specs.declared.command.PlanFault.{PlanFault}
+use Rattle.bug_record.specs.declared.command.PlanFault.TheVariants.{Refused, Memory}
+use Rattle.bug_record.specs.declared.command.Refusal.{Refusal}
+
+-- The answer is a refusal exactly where the step is one, and the same; that memory is wanting is always allowed.
+abbrev pub IsRefusedAs : Result Desk Refusal → Result Change PlanFault → Type 0
+IsRefusedAs (Ok d) (Ok change) = Unit {0}
+IsRefusedAs (Ok d) (Err (Refused refusal)) = ⊥
+IsRefusedAs (Ok d) (Err Memory) = Unit {0}
+IsRefusedAs (Err r) (Ok change) = ⊥
+IsRefusedAs (Err r) (Err (Refused refusal)) = r ≡ refusal
+IsRefusedAs (Err r) (Err Memory) = Unit {0}
+
+pub record IsPlanned (sender : List ℕ) (command : Command ℕ) (images : List SetImage) (next : ℕ) (result : Result Change PlanFault) : Type 0 where
+  -- of every sound desk that the images show
+  pub right : (d : Desk) → IsShownBy d images next (named command) → IsPlanFor d sender command result
+  pub fits : (d : Desk) → IsShownBy d images next (named command) → IfOk result (λ change. FitsDesk d change)
+  pub brings : (d : Desk) → IsShownBy d images next (named command) → IfOk result (λ change. BringNone d images change.images)
+  -- of any desk, sound or not, of which the images show the bugs that the command names
+  pub refusals : (d : Desk) → d.next ≡ next → AllKnown d images (named command) → IsRefusedAs (step d sender command) result
+  -- of the images alone
+  pub apart : IfOk result (λ change. AreApart change.images)
+  pub members : IfOk result (λ change. Each HasMember change.images)
+  pub covers : IfOk result (λ change. CoverImages images change.images)
+  pub later : IfOk result (λ change. next ≤ change.next)

@@ -1,0 +1,22 @@
+//! What the commands of a desk do, planned on images of sets of merged bugs; which numbers a change touches; and the change
+//! that a new report makes. The values and definitions are those of `bug_record`, whose names stand here too.
+#![tactic(auto)]
+
+mod changes;
+mod close;
+mod images;
+mod plans;
+mod report;
+mod severity;
+#[cfg(test)]
+mod tests;
+mod text;
+
+pub use bug_record::{
+    Bug, Change, Command, Member, Numbered, Numbers, PlanFault, Refusal, Sequence, SetImage,
+    Severity, Shared,
+};
+pub use changes::changed;
+pub use plans::plan;
+pub use report::report_change;
+pub use text::is_text;

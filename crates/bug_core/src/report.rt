@@ -1,0 +1,72 @@
+//! The change that a new report makes.
+
+ghost use Rattle.std.specs.Prelude.{◌≡◌, ◌<◌, IfOk};
+ghost use Rattle.debver.specs.Names.{IsName};
+ghost use Rattle.bug_record.specs.Sets.{Each};
+ghost use Rattle.bug_record.specs.Texts.{IsText};
+ghost use Rattle.bug_record.specs.Desk.{Desk, IsSound};
+ghost use Rattle.bug_record.specs.Steps.{reported};
+ghost use Rattle.bug_record.specs.Images.{put, AreApart, HasMember, FitsDesk};
+ghost use Rattle.bug_core.specs.Reports.{image_of_report};
+
+use bug_record::{Change, Member, Sequence, SetImage, Severity, Shared};
+use debver::Text;
+use std::alloc::{AllocError, Global};
+
+// The image of the new bug, alone in its set.
+fn image_of_report(
+    alloc: Global,
+    from: &str,
+    package: &str,
+    severity: Severity,
+    title: &str,
+    number: u64,
+) -> Result<SetImage, AllocError>
+    ensures { IfOk result (λ i. i ≡ image_of_report from.now «package».now severity title.now number) }
+{
+    let mut members = Sequence::new(alloc);
+    members.push(Member {
+        number,
+        title: Text::of(alloc, title)?,
+        submitter: Text::of(alloc, from)?,
+    })?;
+    Ok(SetImage {
+        shared: Shared {
+            package: Text::of(alloc, package)?,
+            severity,
+            closed: false,
+        },
+        members,
+    })
+}
+
+/// The change that a report makes: the bug of the next number is new, open, and merged with none. `next` is the desk's next
+/// number, from 1 to 999,999,999, so that a number is left.
+///
+/// # Errors
+///
+/// Want of memory alone.
+pub fn report_change(
+    alloc: Global,
+    from: &str,
+    package: &str,
+    severity: Severity,
+    title: &str,
+    next: u64,
+) -> Result<Change, AllocError>
+    requires sender { IsText from.now }
+    requires name { IsName «package».now }
+    requires title { IsText title.now }
+    requires some_left { next < 1000000000 }
+    ensures right { (d : Desk) → IsSound d → d.next ≡ next → IfOk result (λ change. put d change ≡ reported d from.now «package».now severity title.now) }
+    ensures fits { (d : Desk) → IsSound d → d.next ≡ next → IfOk result (λ change. FitsDesk d change) }
+    ensures apart { IfOk result (λ change. AreApart change.images) }
+    ensures members { IfOk result (λ change. Each HasMember change.images) }
+{
+    let mut images = Sequence::new(alloc);
+    images.push(image_of_report(alloc, from, package, severity, title, next)?)?;
+    Ok(Change {
+        images,
+        next: next + 1,
+    })
+}

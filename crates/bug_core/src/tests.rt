@@ -1,0 +1,155 @@
+#![tactic(auto, unfolding(bug_record::specs::Texts::is_text))]
+
+ghost use Rattle.std.specs.Prelude.{◌≡◌, [], ◌∷◌, IfOk};
+ghost use Rattle.bug_record.specs.Images.{numbers_of};
+
+use crate::*;
+use debver::Text;
+use std::alloc::{AllocError, Global};
+use std::test::Fail;
+
+fn member(alloc: Global, number: u64) -> Result<Member, AllocError>
+    ensures { IfOk result (λ m. m.number ≡ number) }
+{
+    Ok(Member {
+        number,
+        title: Text::of(alloc, "a")?,
+        submitter: Text::of(alloc, "ann")?,
+    })
+}
+
+fn one_member(alloc: Global, number: u64) -> Result<Sequence<Member>, AllocError>
+    ensures { IfOk result (λ ms. numbers_of ms ≡ number ∷ []) }
+{
+    let mut members = Sequence::new(alloc);
+    members.push(member(alloc, number)?)?;
+    Ok(members)
+}
+
+fn two_members(alloc: Global, first: u64, second: u64) -> Result<Sequence<Member>, AllocError>
+    ensures { IfOk result (λ ms. numbers_of ms ≡ first ∷ second ∷ []) }
+{
+    let mut members = one_member(alloc, first)?;
+    members.push(member(alloc, second)?)?;
+    Ok(members)
+}
+
+// The image of open bugs of severity normal.
+fn image(alloc: Global, members: Sequence<Member>) -> Result<SetImage, AllocError>
+    ensures { IfOk result (λ i. i.members ≡ members) }
+{
+    Ok(SetImage {
+        shared: Shared {
+            package: Text::of(alloc, "foo")?,
+            severity: Severity::Normal,
+            closed: false,
+        },
+        members,
+    })
+}
+
+#[test]
+fn texts_are_told_from_others(rt: HostRuntime) -> Result<(), Fail> {
+    let cases = [
+        ("a", true),
+        ("", false),
+        (" a", false),
+        ("a ", false),
+        ("\ta", false),
+        ("a\tb", true),
+        ("a\nb", false),
+        ("a\u{7f}b", false),
+        ("é", true),
+    ];
+    for (text, answer) in cases {
+        assert!(&rt; is_text(text) == answer, "{text}");
+    }
+    Ok(())
+}
+
+#[test]
+fn a_text_has_two_hundred_bytes_at_most(rt: HostRuntime) -> Result<(), Fail> {
+    let mut text = String::new(rt.alloc());
+    for _ in 0..200 {
+        text.push('a')?;
+    }
+    assert!(&rt; is_text(text.as_str()));
+    text.push('a')?;
+    assert!(&rt; !is_text(text.as_str()));
+    Ok(())
+}
+
+#[test]
+fn a_new_severity_changes_the_bug_and_the_same_one_nothing(rt: HostRuntime) -> Result<(), Fail> {
+    let alloc = rt.alloc();
+    let images = [image(alloc, one_member(alloc, 1)?)?];
+    let command = Command::Severity(1, Severity::Grave);
+    let Ok(change) = plan(alloc, &command, "ann", &images, 2) else {
+        panic!(&rt; "refused");
+    };
+    assert_eq!(&rt; change.next, 2);
+    let after = change.images.as_slice();
+    assert_eq!(&rt; after.len(), 1);
+    assert!(&rt; after[0].shared.severity == Severity::Grave);
+    assert!(&rt; changed(alloc, &images, after)?.as_slice() == [1].as_slice());
+    let Ok(again) = plan(alloc, &command, "ann", after, 2) else {
+        panic!(&rt; "refused");
+    };
+    assert!(&rt;
+        changed(alloc, after, again.images.as_slice())?
+            .as_slice()
+            .is_empty()
+    );
+    Ok(())
+}
+
+#[test]
+fn close_changes_all_bugs_of_the_set_and_no_other(rt: HostRuntime) -> Result<(), Fail> {
+    let alloc = rt.alloc();
+    let images = [
+        image(alloc, one_member(alloc, 3)?)?,
+        image(alloc, two_members(alloc, 1, 2)?)?,
+    ];
+    let Ok(change) = plan(alloc, &Command::Close(2), "ann", &images, 4) else {
+        panic!(&rt; "refused");
+    };
+    let after = change.images.as_slice();
+    assert_eq!(&rt; after.len(), 2);
+    assert!(&rt; after[0].shared.closed && !after[1].shared.closed);
+    assert_eq!(&rt; after[0].members.as_slice().len(), 2);
+    assert!(&rt; changed(alloc, &images, after)?.as_slice() == [1, 2].as_slice());
+    Ok(())
+}
+
+#[test]
+fn a_bug_in_no_image_is_refused_by_its_number(rt: HostRuntime) -> Result<(), Fail> {
+    let alloc = rt.alloc();
+    let images = [image(alloc, one_member(alloc, 1)?)?];
+    for number in [2, 1000000001] {
+        match plan(alloc, &Command::Close(number), "ann", &images, 2) {
+            Ok(_) => panic!(&rt; "no refusal"),
+            Err(fault) => assert!(&rt; fault == PlanFault::Refused(Refusal::NoBug(number))),
+        }
+    }
+    Ok(())
+}
+
+#[test]
+fn a_report_is_an_open_bug_of_the_next_number(rt: HostRuntime) -> Result<(), Fail> {
+    let alloc = rt.alloc();
+    let change = report_change(alloc, "ann", "foo", Severity::Serious, "It breaks", 7)?;
+    assert_eq!(&rt; change.next, 8);
+    let images = change.images.as_slice();
+    assert_eq!(&rt; images.len(), 1);
+    assert!(&rt; !images[0].shared.closed);
+    assert!(&rt; images[0].shared.package.as_str() == "foo");
+    assert!(&rt; images[0].shared.severity == Severity::Serious);
+    let members = images[0].members.as_slice();
+    assert_eq!(&rt; members.len(), 1);
+    assert_eq!(&rt; members[0].number, 7);
+    assert!(&rt; members[0].title.as_str() == "It breaks");
+    assert!(&rt; members[0].submitter.as_str() == "ann");
+    let none: [SetImage; 0] = [];
+    assert!(&rt; changed(alloc, &none, images)?.as_slice() == [7].as_slice());
+    Ok(())
+}

@@ -1,0 +1,26 @@
+use Rattle.std.proofs.Common.{◌≡◌, true, false, sym, ◌∙◌, arith}
+use Rattle.std.specs.Prelude.{slice_get, insert}
+use Rattle.bug_record.specs.Places.{is_at, place_for}
+use Rattle.bug_record.proofs.PlaceLemmas.{place_for-le, with_item-same, with_item-new}
+use Rattle.bug_record.proofs.sequence.Sequence.add.Goals as goal
+
+pub returns-then-is_at-clause-ok : goal.returns-then-is_at-clause-ok
+returns-then-is_at-clause-ok g c =
+    let key = g.T.Numbered.number in
+    let s = c.args.self.now in
+    let h : is_at key (slice_get s (place_for key s (key c.args.item))) (key c.args.item) ≡ true = cc in
+    sym (with_item-same key s c.args.item h)
+
+pub insert-requires : goal.insert-requires
+insert-requires g c =
+    let key = g.T.Numbered.number in
+    let e : c.as_slice.result.now ≡ c.self.inside.items.items = cc in
+    omega (arith, place_for-le key c.as_slice.result.now c.number-number.result, c.as_slice.ensures.len)
+
+pub returns-clause-ok : goal.returns-clause-ok
+returns-clause-ok g c =
+    let key = g.T.Numbered.number in
+    let s = c.args.self.now in
+    let h : is_at key (slice_get s (place_for key s (key c.args.item))) (key c.args.item) ≡ false = cc in
+    let e : c.insert.new.self.items ≡ insert s (place_for key s (key c.args.item)) c.args.item = cc (c.in_ok-insert.ensures.items) in
+    e ∙ with_item-new key s c.args.item h

@@ -1,0 +1,49 @@
+-- The numbers at which two desks differ.
+use Rattle.std.specs.Prelude.{ℕ, suc, zero, ◌≡◌, ◌≤◌, Bool, true, false, not, ◌&&◌, ◌==◌, List, [], ◌∷◌, ◌++◌, Option, Some, None, filter, if◌then◌else◌}
+use Rattle.std.specs.Str.{bytes_eq}
+use Rattle.bug_record.specs.Severities.{rank}
+use Rattle.bug_record.specs.Sets.{has, IsAscending}
+use Rattle.bug_record.specs.Desk.{Desk, IsSound}
+use Rattle.bug_record.specs.Images.{AreBlocksOf, put}
+use Rattle.bug_record.specs.Plans.{CoverImages, BringNone}
+use Rattle.bug_record.specs.declared.bug.Bug.{Bug}
+use Rattle.bug_record.specs.declared.bug.Shared.{Shared}
+use Rattle.bug_record.specs.declared.bug.SetImage.{SetImage}
+
+-- tests of equality
+abbrev pub same_shared : Shared → Shared → Bool
+same_shared s t = (bytes_eq s.package t.package && (rank s.severity == rank t.severity)) && (if s.closed then t.closed else not t.closed)
+
+abbrev pub same_bugs : Bug → Bug → Bool
+same_bugs a b = (bytes_eq a.title b.title && bytes_eq a.submitter b.submitter) && (same_shared a.shared b.shared && bytes_eq a.block b.block)
+
+abbrev pub same_at : Option Bug → Option Bug → Bool
+same_at None None = true
+same_at None (Some b) = false
+same_at (Some a) None = false
+same_at (Some a) (Some b) = same_bugs a b
+
+-- The ascending list of the numbers at which the record or the block differs; a number that only one side has differs.
+pub record AreChanged (old new : ℕ → Option Bug) (numbers : List ℕ) : Type 0 where
+  pub ascending : IsAscending numbers
+  pub listed : (n : ℕ) → has numbers n ≡ true → old n ≡ new n → ⊥
+  pub others : (n : ℕ) → has numbers n ≡ false → old n ≡ new n
+
+-- the numbers below n, ascending
+unfoldable pub numbers_below : ℕ → List ℕ
+numbers_below zero = []
+numbers_below (suc n) = numbers_below n ++ (n ∷ [])
+
+-- That list, of two desks: all numbers are below the next one of the later desk.
+abbrev pub changed_numbers : Desk → Desk → List ℕ
+changed_numbers old new = filter (λ n. not (same_at (old.bug n) (new.bug n))) (numbers_below new.next)
+
+-- The new images stand in the place of the old ones, which are blocks of the desk: they have every bug of the old ones,
+-- and no other bug of the desk, and leave a sound desk.
+pub record Replaces (d : Desk) (old new : List SetImage) (next : ℕ) : Type 0 where
+  pub sound : IsSound d
+  pub blocks : AreBlocksOf d old
+  pub covers : CoverImages old new
+  pub brings : BringNone d old new
+  pub later : d.next ≤ next
+  pub sound_after : IsSound (put d (record { images = new; next = next }))

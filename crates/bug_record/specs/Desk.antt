@@ -1,0 +1,36 @@
+-- A desk: bugs that each have their own whole record.
+use Rattle.std.specs.Prelude.{ℕ, ◌≡◌, ◌<◌, ◌≤◌, true, List, Option, Some, None}
+use Rattle.debver.specs.Names.{IsName}
+use Rattle.bug_record.specs.Sets.{has, IsAscending}
+use Rattle.bug_record.specs.Texts.{IsText}
+use Rattle.bug_record.specs.declared.bug.Bug.{Bug}
+
+-- A desk: the bug of each number that has one, and the next number to give. The bug holds its whole record, and as its
+-- block the numbers of the bugs merged with it, itself among them.
+pub record Desk : Type 0 where
+  pub bug : ℕ → Option Bug
+  pub next : ℕ
+
+-- what a bug has to be of one that is merged with b: there, with the same block and the same shared fields
+abbrev pub IsMergedWith : Bug → Option Bug → Type 0
+IsMergedWith b None = ⊥
+IsMergedWith b (Some c) = (c.block ≡ b.block) × (c.shared ≡ b.shared)
+
+-- the limits of the texts and names of a record
+pub record HasGoodTexts (b : Bug) : Type 0 where
+  pub title : IsText b.title
+  pub submitter : IsText b.submitter
+  pub package_name : IsName b.shared.package
+
+-- What a desk keeps.
+pub record IsSound (d : Desk) : Type 0 where
+  -- a bug is in its own block, which is ascending
+  pub own : (n : ℕ) (b : Bug) → d.bug n ≡ Some b → has b.block n ≡ true
+  pub ascending : (n : ℕ) (b : Bug) → d.bug n ≡ Some b → IsAscending b.block
+  -- merged bugs have one block and agree on the shared fields
+  pub agree : (n m : ℕ) (b : Bug) → d.bug n ≡ Some b → has b.block m ≡ true → IsMergedWith b (d.bug m)
+  -- every text and package name is within its limits
+  pub texts : (n : ℕ) (b : Bug) → d.bug n ≡ Some b → HasGoodTexts b
+  -- numbers are from 1 to below the next one, which is from 1 to 1,000,000,000
+  pub in_range : (n : ℕ) (b : Bug) → d.bug n ≡ Some b → (0 < n) × (n < d.next)
+  pub next_in_range : (0 < d.next) × (d.next ≤ 1000000000)

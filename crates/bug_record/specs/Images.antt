@@ -1,0 +1,59 @@
+-- Images of sets of merged bugs, and what they say of a desk.
+use Rattle.std.specs.Prelude.{ℕ, ◌≡◌, ◌≢◌, ◌==◌, true, List, [], ◌∷◌, Option, Some, None, option_map, map, if◌then◌else◌}
+use Rattle.bug_record.specs.Sets.{has, Each}
+use Rattle.bug_record.specs.Desk.{Desk, IsSound}
+use Rattle.bug_record.specs.declared.bug.Bug.{Bug}
+use Rattle.bug_record.specs.declared.bug.Member.{Member}
+use Rattle.bug_record.specs.declared.bug.SetImage.{SetImage}
+use Rattle.bug_record.specs.declared.command.Change.{Change}
+
+-- the numbers of the members
+abbrev pub numbers_of : List Member → List ℕ
+numbers_of ms = map (λ m. m.number) ms
+
+-- the member n
+abbrev pub member_at : List Member → ℕ → Option Member
+member_at [] n = None
+member_at (m ∷ ms) n = if m.number == n then Some m else member_at ms n
+
+-- a member as a bug with a whole record
+abbrev pub bug_of : SetImage → Member → Bug
+bug_of i m = record { title = m.title; submitter = m.submitter; shared = i.shared; block = numbers_of i.members }
+
+-- the first value, or else the second
+abbrev pub or_else : {A : Type 0} → Option A → Option A → Option A
+or_else (Some x) o = Some x
+or_else None o = o
+
+-- the bug n as the images show it
+abbrev pub bug_in : List SetImage → ℕ → Option Bug
+bug_in [] n = None
+bug_in (i ∷ is) n = or_else (option_map (bug_of i) (member_at i.members n)) (bug_in is n)
+
+-- no bug is in two images
+abbrev pub AreApart : List SetImage → Type 0
+AreApart [] = Unit {0}
+AreApart (i ∷ is) = ((n : ℕ) → has (numbers_of i.members) n ≡ true → bug_in is n ≡ None) × AreApart is
+
+abbrev pub HasMember : SetImage → Type 0
+HasMember i = i.members ≢ []
+
+-- the image is a block of the desk: each member is a bug with the shared fields, merged with the members
+abbrev pub IsBlockOf : Desk → SetImage → Type 0
+IsBlockOf d i = Each (λ m. d.bug m.number ≡ Some (bug_of i m)) i.members
+
+abbrev pub AreBlocksOf : Desk → List SetImage → Type 0
+AreBlocksOf d is = Each (IsBlockOf d) is
+
+-- The desk after a change: the numbers of each image get its fields and become one block, and all else stays.
+abbrev pub put : Desk → Change → Desk
+put d c = record { bug = λ n. or_else (bug_in c.images n) (d.bug n); next = c.next }
+
+-- the images cover whole sets: with a bug of the desk, all that are merged with it
+abbrev pub CoverSets : Desk → List SetImage → Type 0
+CoverSets d is = (n m : ℕ) (b : Bug) → d.bug n ≡ Some b → bug_in is n ≢ None → has b.block m ≡ true → bug_in is m ≢ None
+
+-- The change may be made on the desk: it covers whole sets, and leaves a sound desk.
+pub record FitsDesk (d : Desk) (c : Change) : Type 0 where
+  pub whole : CoverSets d c.images
+  pub sound : IsSound (put d c)

@@ -1,0 +1,10 @@
+pub mod Sets
+pub mod Places
+pub mod Words
+pub mod Texts
+pub mod Severities
+pub mod Desk
+pub mod Steps
+pub mod Images
+pub mod Plans
+pub mod Changed

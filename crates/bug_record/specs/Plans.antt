@@ -1,0 +1,44 @@
+-- What is planned for a command on the images of sets, and what that says of a desk.
+use Rattle.std.specs.Prelude.{ℕ, ◌≡◌, ◌≢◌, List, [], ◌∷◌, Option, Some, None, Result, Ok, Err}
+use Rattle.bug_record.specs.Desk.{Desk, IsSound}
+use Rattle.bug_record.specs.Steps.{step}
+use Rattle.bug_record.specs.Images.{bug_in, put, AreBlocksOf}
+use Rattle.bug_record.specs.declared.bug.Bug.{Bug}
+use Rattle.bug_record.specs.declared.bug.SetImage.{SetImage}
+use Rattle.bug_record.specs.declared.command.Change.{Change}
+use Rattle.bug_record.specs.declared.command.Command.{Command}
+use Rattle.bug_record.specs.declared.command.Command.TheVariants.{Severity as SetSeverity, Close}
+use Rattle.bug_record.specs.declared.command.PlanFault.{PlanFault}
+use Rattle.bug_record.specs.declared.command.PlanFault.TheVariants.{Refused, Memory}
+
+-- the bugs that a command names
+abbrev pub named : Command ℕ → List ℕ
+named (SetSeverity n s) = n ∷ []
+named (Close n) = n ∷ []
+
+-- of each of these numbers the images say what the desk has: its bug, or that it has none
+abbrev pub AllKnown : Desk → List SetImage → List ℕ → Type 0
+AllKnown d is [] = Unit {0}
+AllKnown d is (n ∷ ns) = (bug_in is n ≡ d.bug n) × AllKnown d is ns
+
+-- A sound desk that is as the images say: they are blocks of it, its next number is this, and of these bugs it has those
+-- that are in an image.
+pub record IsShownBy (d : Desk) (is : List SetImage) (next : ℕ) (ns : List ℕ) : Type 0 where
+  pub sound : IsSound d
+  pub next_is : d.next ≡ next
+  pub blocks : AreBlocksOf d is
+  pub known : AllKnown d is ns
+
+-- What is answered is the command's step: the same refusal, or a change that leaves the step's desk, which is sound.
+abbrev pub IsPlanFor : Desk → List ℕ → Command ℕ → Result Change PlanFault → Type 0
+IsPlanFor d sender command (Ok change) = (step d sender command ≡ Ok (put d change)) × IsSound (put d change)
+IsPlanFor d sender command (Err (Refused refusal)) = step d sender command ≡ Err refusal
+IsPlanFor d sender command (Err Memory) = Unit {0}
+
+-- each bug that is in the old images is in the new ones
+abbrev pub CoverImages : List SetImage → List SetImage → Type 0
+CoverImages old new = (n : ℕ) → bug_in new n ≡ None → bug_in old n ≡ None
+
+-- the new images bring in no bug of the desk that the old ones don't have
+abbrev pub BringNone : Desk → List SetImage → List SetImage → Type 0
+BringNone d old new = (n : ℕ) (b : Bug) → bug_in old n ≡ None → bug_in new n ≡ Some b → d.bug n ≡ None

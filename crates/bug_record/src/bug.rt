@@ -1,0 +1,100 @@
+//! Bugs, and the images of sets of merged bugs.
+
+ghost use Rattle.std.specs.Prelude.{◌≡◌, IfOk};
+
+use crate::sequence::{Numbered, Numbers, Sequence};
+use crate::severity::Severity;
+use debver::Text;
+use std::alloc::AllocError;
+
+/// The fields on which merged bugs agree.
+#[derive(Debug, Drop)]
+pub struct Shared {
+    pub package: Text,
+    pub severity: Severity,
+    pub closed: bool,
+}
+
+/// A bug of a set, with the fields of its own.
+#[derive(Debug, Drop)]
+pub struct Member {
+    pub number: u64,
+    pub title: Text,
+    pub submitter: Text,
+}
+
+/// The image of a set of merged bugs: the shared fields once, and the members by number, ascending. A bug that is
+/// merged with none is a set of one.
+#[derive(Debug, Drop)]
+pub struct SetImage {
+    pub shared: Shared,
+    pub members: Sequence<Member>,
+}
+
+/// A bug's whole record, and the numbers of the bugs merged with it, itself among them, ascending.
+#[derive(Debug, Drop)]
+pub struct Bug {
+    pub title: Text,
+    pub submitter: Text,
+    pub shared: Shared,
+    pub block: Numbers,
+}
+
+impl Numbered for Member {
+    ghost number = { λ m. m.number };
+
+    fn number(&self) -> u64 {
+        self.number
+    }
+}
+
+impl Shared {
+    /// An equal value of its own.
+    pub fn copy(&self) -> Result<Shared, AllocError>
+        ensures { IfOk result (λ r. r ≡ self.now) }
+    {
+        Ok(Shared {
+            package: self.package.copy()?,
+            severity: self.severity,
+            closed: self.closed,
+        })
+    }
+}
+
+impl Member {
+    /// An equal value of its own.
+    pub fn copy(&self) -> Result<Member, AllocError>
+        ensures { IfOk result (λ r. r ≡ self.now) }
+    {
+        Ok(Member {
+            number: self.number,
+            title: self.title.copy()?,
+            submitter: self.submitter.copy()?,
+        })
+    }
+}
+
+impl Sequence<Member> {
+    /// An equal value of its own.
+    pub fn copy(&self) -> Result<Sequence<Member>, AllocError>
+        ensures { IfOk result (λ r. r ≡ self.now) }
+    {
+        let mut copies = self.empty();
+        for member in self.as_slice() {
+            copies.push(member.copy()?)?;
+        }
+        Ok(copies)
+    }
+}
+
+impl SetImage {
+    /// An equal value of its own.
+    pub fn copy(&self) -> Result<SetImage, AllocError>
+        ensures { IfOk result (λ r. r ≡ self.now) }
+    {
+        Ok(SetImage {
+            shared: self.shared.copy()?,
+            members: self.members.copy()?,
+        })
+    }
+}

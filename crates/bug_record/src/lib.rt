@@ -1,0 +1,17 @@
+//! Bugs and commands as values: a bug's whole record, the image of a set of merged bugs, commands and refusals, and the
+//! definitions (`specs/`) of a desk of bugs, of what keeps it sound, and of what each command does to it.
+#![tactic(auto)]
+
+mod bug;
+mod command;
+mod sequence;
+mod severity;
+#[cfg(test)]
+mod tests;
+mod words;
+
+pub use bug::{Bug, Member, SetImage, Shared};
+pub use command::{Change, Command, PlanFault, Refusal};
+pub use sequence::{Numbered, Numbers, Sequence};
+pub use severity::Severity;
+pub use words::is_word;

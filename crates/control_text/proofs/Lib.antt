@@ -1,0 +1,5 @@
+pub mod WordLemmas
+pub mod Boundaries
+pub mod NumberLemmas
+pub mod LawLemmas
+pub mod ReadingLemmas

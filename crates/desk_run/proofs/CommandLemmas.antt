@@ -1,0 +1,85 @@
+-- A command that is carried out in parts is the machine's step.
+use Rattle.std.proofs.Common.{◌≡◌, ◌≤◌, ℕ, Bool, true, false, eqb, List, [], ◌∷◌, Option, Some, None, Result, Ok, Err, sym, refl, ap, ◌∙◌, subst, arith}
+use Rattle.std.specs.Prelude.{option_map, ◌||◌, if◌then◌else◌}
+use Rattle.std.proofs.lemmas.Bool.{false≢true, eqb-true}
+use Rattle.bug_record.specs.Sets.{has, Each}
+use Rattle.bug_record.specs.Desk.{Desk, IsSound}
+use Rattle.bug_record.specs.Steps.{step}
+use Rattle.bug_record.specs.Images.{numbers_of, member_at, bug_of, bug_in, or_else, put, IsBlockOf, FitsDesk}
+use Rattle.bug_record.specs.Plans.{named, IsShownBy, CoverImages, BringNone}
+use Rattle.bug_record.specs.Changed.{changed_numbers}
+use Rattle.bug_record.specs.declared.bug.Member.{Member}
+use Rattle.bug_record.specs.declared.bug.SetImage.{SetImage}
+use Rattle.bug_record.specs.declared.command.Change.{Change}
+use Rattle.bug_record.specs.declared.command.Command.{Command}
+use Rattle.bug_record.specs.declared.command.Refusal.{Refusal}
+use Rattle.control_text.specs.declared.named.Named.{Named}
+use Rattle.desk_text.specs.declared.outcome.Outcome.{Outcome}
+use Rattle.desk_text.specs.declared.outcome.Outcome.TheVariants.{Changed, Refused}
+use Rattle.desk_store.specs.Store.{IsImageOf}
+use Rattle.desk_store.specs.Message.{does, outcome_of, command_meant, refusal_meant}
+use Rattle.desk_text.specs.declared.outcome.StoreFault.{StoreFault}
+use Rattle.desk_run.specs.Commands.{ShowBug, IsPlanned, CarriesOut, Does}
+
+-- a member that is a bug of the desk
+member_shown : (d : Desk) (i : SetImage) (ms : List Member) (n : ℕ) → has (numbers_of ms) n ≡ true → Each (λ m. d.bug m.number ≡ Some (bug_of i m)) ms → or_else (option_map (bug_of i) (member_at ms n)) None ≡ d.bug n
+member_shown d i [] n h e = absurd (false≢true h)
+member_shown d i (m ∷ ms) n h e =
+    elim (eqb m.number n) as (λ t. eqb m.number n ≡ t → or_else (option_map (bug_of i) (if t then Some m else member_at ms n)) None ≡ d.bug n) [
+      | true ↦ λ q. sym e.0 ∙ ap d.bug (eqb-true m.number n q)
+      | false ↦ λ q. member_shown d i ms n (sym (ap (λ t. t || has (numbers_of ms) n) q) ∙ h) e.1
+    ] refl
+
+-- the image of a bug shows it
+pub one_image : (d : Desk) (n : ℕ) (i : SetImage) → IsImageOf d n (Some i) → ShowBug d n (i ∷ [])
+one_image d n i h = record { blocks = (h.1, tt); known = member_shown d i i.members n h.0 h.1 }
+
+-- after the two questions
+pub shown : (d d1 d2 : Desk) (images sets : List SetImage) (n next : ℕ) (ns : List ℕ) → ns ≡ n ∷ [] → sets ≡ images → ShowBug d n images × (d1 ≡ d) → (next ≡ d1.next) × (d2 ≡ d1) → IsSound d2 → IsShownBy d2 sets next ns
+shown d d1 d2 images sets n next ns e f p q sound =
+    let same : d ≡ d2 = sym (q.1 ∙ p.1) in
+    let s : ShowBug d2 n images = subst (λ (z : Desk). ShowBug z n images) same p.0 in
+    let t : ShowBug d2 n sets = subst (ShowBug d2 n) (sym f) s in
+    subst (λ (w : List ℕ). IsShownBy d2 sets next w) (sym e)
+    (record { sound = sound; next_is = sym (q.0 ∙ ap (λ (z : Desk). z.next) (sym q.1)); blocks = t.blocks; known = (t.known, tt) })
+
+-- what is planned may be carried out
+pub planned : (d : Desk) (images : List SetImage) (next : ℕ) (ns : List ℕ) (change : Change) → IsShownBy d images next ns → FitsDesk d change → CoverImages images change.images → BringNone d images change.images → next ≤ change.next → IsPlanned d images change
+planned d images next ns change sh fits covers brings later = record {
+  fits = fits;
+  replaces = record {
+    sound = sh.sound;
+    blocks = sh.blocks;
+    covers = covers;
+    brings = brings;
+    later = subst (λ (m : ℕ). m ≤ change.next) (sym sh.next_is) later;
+    sound_after = fits.sound;
+  };
+}
+
+does_done : (sender : List ℕ) (d d1 d2 new : Desk) (command : Command Named) (meant : Command ℕ) (change : Change) (outcome : Outcome) → meant ≡ command_meant [] command → d1 ≡ d → d2 ≡ d1
+    → step d2 sender meant ≡ Ok (put d2 change) → (outcome ≡ Changed (changed_numbers d2 (put d2 change))) × (new ≡ put d2 change) → does sender [] d command ≡ (outcome, new)
+unfolding does
+does_done sender d d1 d2 new command meant change outcome e p q s c =
+    let same : d ≡ d2 = sym (q ∙ p) in
+    ap (λ (x : Command ℕ). outcome_of d (step d sender x)) (sym e)
+    ∙ (ap (λ (z : Desk). outcome_of z (step z sender meant)) same
+    ∙ (ap (outcome_of d2) s
+    ∙ (λ i. (sym c.0 i, sym c.1 i))))
+
+-- a planned change that is carried out
+pub does_planned : (sender : List ℕ) (d d1 d2 new : Desk) (command : Command Named) (meant : Command ℕ) (change : Change) (result : Result Outcome StoreFault) → meant ≡ command_meant [] command → d1 ≡ d → d2 ≡ d1
+    → step d2 sender meant ≡ Ok (put d2 change) → CarriesOut d2 change result new → Does sender d command result new
+does_planned sender d d1 d2 new command meant change (Ok outcome) e p q s c = does_done sender d d1 d2 new command meant change outcome e p q s c
+does_planned sender d d1 d2 new command meant change (Err fault) e p q s c = c ∙ (q ∙ p)
+
+-- a refused command
+pub does_refused : (sender : List ℕ) (d d1 d2 : Desk) (command : Command Named) (meant : Command ℕ) (refusal said : Refusal) → meant ≡ command_meant [] command → d1 ≡ d → d2 ≡ d1
+    → step d2 sender meant ≡ Err refusal → said ≡ refusal_meant refusal → does sender [] d command ≡ (Refused said, d2)
+unfolding does
+does_refused sender d d1 d2 command meant refusal said e p q s c =
+    let same : d ≡ d2 = sym (q ∙ p) in
+    ap (λ (x : Command ℕ). outcome_of d (step d sender x)) (sym e)
+    ∙ (ap (λ (z : Desk). outcome_of z (step z sender meant)) same
+    ∙ (ap (outcome_of d2) s
+    ∙ (λ i. (Refused (sym c i), d2))))

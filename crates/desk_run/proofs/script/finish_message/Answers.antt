@@ -1,0 +1,49 @@
+use Rattle.std.proofs.Common.{ℕ, List, take, ◌∙◌, sym, subst, ap}
+use Rattle.std.specs.Prelude.{◌||◌}
+use Rattle.std.specs.Io.KnownBytes.{Appends}
+use Rattle.desk_store.proofs.HoldsLemmas.{holds_weaker}
+use Rattle.desk_run.specs.Transcripts.{received_text}
+use Rattle.desk_run.specs.Script.{Message, standing}
+use Rattle.desk_run.proofs.PartLemmas.{untold, received_carried, received_fault, received_whole}
+use Rattle.desk_run.proofs.script.finish_message.Goals as goal
+
+pub returns-in_default-clause-answer : goal.returns-in_default-clause-answer
+returns-in_default-clause-answer g c =
+    let s = standing (g.S.Records.desk c.args.store.now) c.args.run.now.sender c.args.run.now.refused in
+    holds_weaker c.receive_lines-received.ensures.answer
+    (λ r. untold (Message c.args.run.now.gathered.items) s _ _ _
+    (received_carried c.args.run.now.gathered.items s c.receive_lines-received.result.outcomes c.receive_lines-received.result.end _ (rw (c.as_str.ensures, c.as_slice-lines.ensures.value) at r)))
+
+pub returns-in-Err-clause-answer : goal.returns-in-Err-clause-answer
+returns-in-Err-clause-answer g c =
+    let s = standing (g.S.Records.desk c.args.store.now) c.args.run.now.sender c.args.run.now.refused in
+    let text = c.as_slice.ensures.value ∙ c.in-Ok.ensures in
+    holds_weaker c.receive_lines-received.ensures.answer
+    (λ r. (
+      _,
+      c.in-Err.ensures.front.0,
+      received_carried c.args.run.now.gathered.items s c.receive_lines-received.result.outcomes c.receive_lines-received.result.end _ (rw (c.as_str.ensures, c.as_slice-lines.ensures.value) at r),
+      subst (λ (w : List ℕ). Appends (g.W.Write.contents c.args.writer.now) (g.W.Write.contents c.write_out.new.writer) (take c.in-Err.ensures.front.0 w)) (text ∙ ap (received_text c.receive_lines-received.result.outcomes c.receive_lines-received.result.end) c.as_slice-lines.ensures.value) c.in-Err.ensures.front.1,
+    ))
+
+pub returns-in-Some-clause-answer : goal.returns-in-Some-clause-answer
+returns-in-Some-clause-answer g c =
+    let s = standing (g.S.Records.desk c.args.store.now) c.args.run.now.sender c.args.run.now.refused in
+    let text = c.as_slice.ensures.value ∙ c.in-Ok.ensures in
+    holds_weaker c.receive_lines-received.ensures.answer
+    (λ r. (
+      _,
+      received_fault c.args.run.now.gathered.items s c.receive_lines-received.result.outcomes c.receive_lines-received.result.end _ c.in-Some.fault (sym c.in-Some.ensures) (rw (c.as_str.ensures, c.as_slice-lines.ensures.value) at r),
+      subst (Appends (g.W.Write.contents c.args.writer.now) (g.W.Write.contents c.write_out.new.writer)) (text ∙ ap (received_text c.receive_lines-received.result.outcomes c.receive_lines-received.result.end) c.as_slice-lines.ensures.value) c.in-Ok-write_out.ensures.all,
+    ))
+
+pub returns-clause-answer : goal.returns-clause-answer
+returns-clause-answer g c =
+    let s = standing (g.S.Records.desk c.args.store.now) c.args.run.now.sender c.args.run.now.refused in
+    let text = c.as_slice.ensures.value ∙ c.in-Ok.ensures in
+    let none = sym c.fault_of_end.ensures ∙ c.in_default-fault_of_end.is in
+    let either = c.either-run.ensures ∙ ap (λ b. c.args.run.now.refused || b) c.refuses.ensures in
+    holds_weaker c.receive_lines-received.ensures.answer
+    (λ r.
+    let w = received_whole c.args.run.now.gathered.items s c.receive_lines-received.result.outcomes c.receive_lines-received.result.end _ c.either-run.result none either (rw (c.as_str.ensures, c.as_slice-lines.ensures.value) at r) in
+    (w.0, subst (Appends (g.W.Write.contents c.args.writer.now) (g.W.Write.contents c.write_out.new.writer)) (text ∙ ap (received_text c.receive_lines-received.result.outcomes c.receive_lines-received.result.end) c.as_slice-lines.ensures.value ∙ w.1) c.in-Ok-write_out.ensures.all))

@@ -1,0 +1,162 @@
+-- A script: its parts, what is written for them, and the desk that they leave. This project's own rule.
+use Rattle.std.specs.Prelude.{ℕ, ◌==◌, Bool, true, false, ◌||◌, List, [], ◌∷◌, ◌++◌, Option, Some, None, Result, Ok, Err, codes, if◌then◌else◌}
+use Rattle.std.specs.List.{list_any}
+use Rattle.std.specs.Str.{bytes_eq}
+use Rattle.std.specs.Fmt.{decimal}
+use Rattle.bug_record.specs.Texts.{is_text, IsText}
+use Rattle.bug_record.specs.Desk.{Desk}
+use Rattle.control_text.specs.Words.{has_bytes, trimmed, first_word, after_word}
+use Rattle.desk_text.specs.Texts.{as_line}
+use Rattle.desk_text.specs.declared.outcome.Outcome.{Outcome}
+use Rattle.desk_text.specs.declared.outcome.Outcome.TheVariants.{Refused}
+use Rattle.desk_text.specs.declared.outcome.End.{End}
+use Rattle.desk_text.specs.declared.outcome.End.TheVariants as ends
+use Rattle.desk_store.specs.Message.{Entry, Machine, after_lines, at_start, end_of}
+use Rattle.desk_run.specs.Lines.{lines_of}
+use Rattle.desk_run.specs.Transcripts.{received_text}
+use Rattle.desk_run.specs.Reports.{report_of}
+use Rattle.desk_run.specs.declared.reporting.ReportFault.{ReportFault}
+use Rattle.desk_run.specs.declared.reporting.ReportFault.TheVariants.{BadPackage, BadVersion, BadSeverity, BadTitle, Full, Store}
+use Rattle.desk_run.specs.declared.script.ScriptEnd.{ScriptEnd}
+use Rattle.desk_run.specs.declared.script.ScriptEnd.TheVariants as script_ends
+
+-- a message, by its lines, or the line of a directive
+pub data Part : Type 0 where
+  Message : List (List ℕ) → Part
+  Order : List ℕ → Part
+
+-- a line whose first byte is `@`
+abbrev pub is_directive : List ℕ → Bool
+is_directive [] = false
+is_directive (c ∷ s) = c == 64
+
+-- The parts of these lines, where the message so far has the lines `gathered`. Between two directives stands a message,
+-- which may have no line.
+abbrev pub parts_of : List (List ℕ) → List (List ℕ) → List Part
+parts_of gathered [] = Message gathered ∷ []
+parts_of gathered (line ∷ lines) =
+    if is_directive line then Message gathered ∷ Order line ∷ parts_of [] lines
+    else parts_of (gathered ++ line ∷ []) lines
+
+unfoldable pub script_of : List ℕ → List Part
+script_of input = parts_of [] (lines_of input)
+
+-- what a directive's line says
+pub data Directive : Type 0 where
+  From : List ℕ → Directive
+  Report : List ℕ → Option (List ℕ) → List ℕ → List ℕ → Directive
+  Bad : Directive
+
+-- `@from TEXT`, where the text has 1 to 200 bytes
+abbrev pub from_directive : List ℕ → Directive
+from_directive text = if is_text text then From text else Bad
+
+-- a version is a word, and `-` is none
+abbrev pub given_version : List ℕ → Option (List ℕ)
+given_version word = if bytes_eq word (codes "-") then None else Some word
+
+-- `@report package version severity title`: three words, and the rest of the line without outer blanks
+abbrev pub report_directive : List ℕ → Directive
+report_directive text =
+    let after_package = after_word text in
+    let after_version = after_word after_package in
+    let severity = first_word after_version in
+    if has_bytes severity
+    then Report (first_word text) (given_version (first_word after_package)) severity (trimmed (after_word after_version))
+    else Bad
+
+-- what a line says that begins with `@`
+unfoldable pub directive_of : List ℕ → Directive
+directive_of line =
+    if bytes_eq (first_word line) (codes "@from") then from_directive (trimmed (after_word line))
+    else if bytes_eq (first_word line) (codes "@report") then report_directive (after_word line)
+    else Bad
+
+-- a sender is a text of 1 to 200 bytes
+abbrev pub HasGoodSender : Directive → Type 0
+HasGoodSender (From sender) = IsText sender
+HasGoodSender directive = Unit {0}
+
+-- where a script stands between two parts: the desk, the current sender, and whether anything was refused
+pub record Standing : Type 0 where
+  pub desk : Desk
+  pub sender : List ℕ
+  pub refused : Bool
+
+abbrev pub standing : Desk → List ℕ → Bool → Standing
+standing d sender refused = record { desk = d; sender = sender; refused = refused }
+
+-- where a script begins; the sender is `nobody`
+abbrev pub begin : Desk → Standing
+begin d = standing d (codes "nobody") false
+
+-- why a report is refused
+abbrev pub refused_text : ReportFault → List ℕ
+refused_text BadPackage = codes "bad package name"
+refused_text BadVersion = codes "bad version"
+refused_text BadSeverity = codes "unknown severity"
+refused_text BadTitle = codes "bad title"
+refused_text Full = codes "no bug number is left"
+refused_text (Store fault) = []
+
+-- the answer to a report: the number of the new bug, or the refusal
+abbrev pub report_text : Result Desk ReportFault → ℕ → List ℕ
+report_text (Ok new) number = as_line (codes "OK " ++ decimal number)
+report_text (Err refusal) number = as_line (codes "NO " ++ refused_text refusal)
+
+abbrev pub after_report : Result Desk ReportFault → Standing → Standing
+after_report (Ok new) s = standing new s.sender s.refused
+after_report (Err refusal) s = standing s.desk s.sender true
+
+-- what is written for a directive, and where the script stands after it
+abbrev pub directive_text : Directive → Standing → List ℕ
+directive_text (From sender) s = []
+directive_text (Report package_name version severity title) s = report_text (report_of s.desk s.sender package_name version severity title) s.desk.next
+directive_text Bad s = as_line (codes "Bad directive.")
+
+abbrev pub after_directive : Directive → Standing → Standing
+after_directive (From sender) s = standing s.desk sender s.refused
+after_directive (Report package_name version severity title) s = after_report (report_of s.desk s.sender package_name version severity title) s
+after_directive Bad s = standing s.desk s.sender true
+
+-- whether an answer `NO ..` or `Too many unreadable lines.` is among those of a message
+abbrev pub is_refused : Outcome → Bool
+is_refused (Refused refusal) = true
+is_refused outcome = false
+
+abbrev pub is_too_many : End → Bool
+is_too_many ends.TooManyUnreadable = true
+is_too_many end = false
+
+abbrev pub refuses : List Entry → End → Bool
+refuses outcomes end = list_any (λ entry. is_refused entry.1) outcomes || is_too_many end
+
+-- what is written for a message that the machine takes to this, and where the script stands after it
+abbrev pub message_text : Machine → List (List ℕ) → List ℕ
+message_text m lines = received_text m.outcomes (end_of m.outcomes) lines
+
+abbrev pub after_message : Machine → Standing → Standing
+after_message m s = standing m.desk s.sender (s.refused || refuses m.outcomes (end_of m.outcomes))
+
+-- what is written for a part, over the desk that the parts before it leave, and where the script stands after it
+unfoldable pub part_text : Part → Standing → List ℕ
+part_text (Message lines) s = message_text (after_lines s.sender (at_start s.desk) lines) lines
+part_text (Order line) s = directive_text (directive_of line) s
+
+unfoldable pub part_after : Part → Standing → Standing
+part_after (Message lines) s = after_message (after_lines s.sender (at_start s.desk) lines) s
+part_after (Order line) s = after_directive (directive_of line) s
+
+-- the texts of the parts, one after another, and where the script stands after them
+unfoldable pub text_of : List Part → Standing → List ℕ
+text_of [] s = []
+text_of (part ∷ parts) s = part_text part s ++ text_of parts (part_after part s)
+
+unfoldable pub after_parts : List Part → Standing → Standing
+after_parts [] s = s
+after_parts (part ∷ parts) s = after_parts parts (part_after part s)
+
+-- the end of a script
+abbrev pub end_of_script : Bool → ScriptEnd
+end_of_script true = script_ends.Refused
+end_of_script false = script_ends.Accepted

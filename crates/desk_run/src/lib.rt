@@ -1,0 +1,19 @@
+//! Messages, reports and scripts, over any store of a desk.
+#![tactic(auto)]
+
+mod answer;
+mod command;
+mod directive;
+mod fault;
+mod lines;
+mod message;
+mod reporting;
+mod script;
+mod source;
+mod transcript;
+
+pub use fault::ScriptFault;
+pub use message::{Received, receive};
+pub use reporting::{ReportFault, report};
+pub use script::ScriptEnd;
+pub use transcript::received_text;

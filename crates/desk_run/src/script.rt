@@ -1,0 +1,215 @@
+//! Scripts: messages and directives, from a reader to a writer.
+
+ghost use Rattle.std.specs.Prelude.{◌≡◌, ℕ, ◌||◌, List, [], ◌∷◌, ◌++◌, OnOk, IfOk, IfErr};
+ghost use Rattle.std.specs.Option.{option_copied};
+ghost use Rattle.bug_record.specs.Texts.{IsText};
+ghost use Rattle.desk_store.specs.Store.{Holds};
+ghost use Rattle.desk_run.specs.Script.{Report, Part, Message, Order, standing, parts_of, directive_of};
+ghost use Rattle.desk_run.specs.Running.{Runs, Stops, Carries, IsCounted, IsOfPart, EndsParts};
+
+use crate::answer::{fault_of_end, refuses, report_answer, store_fault};
+use crate::directive::{Directive, ReportWords, is_directive, read_directive};
+use crate::fault::ScriptFault;
+use crate::message::receive_lines;
+use crate::reporting::report;
+use crate::source::write_out;
+use crate::transcript::received_bytes;
+use debver::Text;
+use desk_store::Records;
+use std::alloc::Global;
+use std::io::Write;
+
+/// How a script that was run to its end went.
+#[derive(Clone, Copy, Debug, PartialEq, Eq, Drop)]
+pub enum ScriptEnd {
+    /// Nothing was refused.
+    Accepted,
+    /// An answer `NO ..`, `Bad directive.` or `Too many unreadable lines.` was written.
+    Refused,
+}
+
+// A script in its course: the current sender, whether anything was refused, and the lines of the current message.
+#[derive(Drop)]
+struct Run {
+    sender: Text,
+    refused: bool,
+    gathered: Vec<Text>,
+    ghost good_sender: { IsText sender },
+}
+
+fn either(a: bool, b: bool) -> bool
+    ensures { result ≡ (a || b) }
+{
+    a || b
+}
+
+// Carries the gathered message out.
+fn finish_message<S: Records, W: Write>(
+    alloc: Global,
+    store: &mut S,
+    writer: &mut W,
+    run: &mut Run,
+) -> Result<(), ScriptFault>
+    ensures answer { Holds S.is_kept S.is_honest store.old store.new (Carries (Message run.old.gathered.items)
+        (standing (S.desk store.old) run.old.sender run.old.refused) (standing (S.desk store.new) run.new.sender run.new.refused)
+        (W.contents writer.old) (W.contents writer.new) result) }
+    ensures own { IfErr result IsOfPart }
+    ensures count { IsCounted result (S.faults store.old) (S.faults store.new) }
+    ensures cleared { OnOk result (run.new.gathered.items ≡ []) }
+{
+    let lines = run.gathered.as_slice();
+    let received = receive_lines(alloc, store, run.sender.as_str(), lines);
+    let Ok(text) = received_bytes(alloc, &received, lines) else {
+        return Err(ScriptFault::Memory);
+    };
+    match write_out(writer, text.as_slice()) {
+        Ok(()) => {}
+        Err(_) => return Err(ScriptFault::Write),
+    }
+    if let Some(fault) = fault_of_end(received.end) {
+        return Err(ScriptFault::Store(fault));
+    }
+    run.refused = either(run.refused, refuses(&received));
+    run.gathered.clear();
+    Ok(())
+}
+
+// Carries a report out.
+fn carry_report<S: Records, W: Write>(
+    alloc: Global,
+    store: &mut S,
+    writer: &mut W,
+    run: &mut Run,
+    line: &str,
+    words: ReportWords<'_>,
+) -> Result<(), ScriptFault>
+    requires { directive_of line.now ≡ Report words.package.now (option_copied words.version) words.severity.now words.title.now }
+    ensures answer { Holds S.is_kept S.is_honest store.old store.new (Carries (Order line.now)
+        (standing (S.desk store.old) run.old.sender run.old.refused) (standing (S.desk store.new) run.new.sender run.new.refused)
+        (W.contents writer.old) (W.contents writer.new) result) }
+    ensures own { IfErr result IsOfPart }
+    ensures count { IsCounted result (S.faults store.old) (S.faults store.new) }
+    ensures gathered { run.new.gathered.items ≡ run.old.gathered.items }
+{
+    let answer = report(
+        alloc,
+        store,
+        run.sender.as_str(),
+        words.package,
+        words.version,
+        words.severity,
+        words.title,
+    );
+    let Ok(text) = report_answer(alloc, &answer) else {
+        return Err(ScriptFault::Memory);
+    };
+    match write_out(writer, text.as_slice()) {
+        Ok(()) => {}
+        Err(_) => return Err(ScriptFault::Write),
+    }
+    match answer {
+        Ok(_) => Ok(()),
+        Err(fault) => match store_fault(fault) {
+            Some(fault) => Err(ScriptFault::Store(fault)),
+            None => {
+                run.refused = true;
+                Ok(())
+            }
+        },
+    }
+}
+
+// Carries a directive out.
+fn carry_out<S: Records, W: Write>(
+    alloc: Global,
+    store: &mut S,
+    writer: &mut W,
+    run: &mut Run,
+    line: &str,
+) -> Result<(), ScriptFault>
+    ensures answer { Holds S.is_kept S.is_honest store.old store.new (Carries (Order line.now)
+        (standing (S.desk store.old) run.old.sender run.old.refused) (standing (S.desk store.new) run.new.sender run.new.refused)
+        (W.contents writer.old) (W.contents writer.new) result) }
+    ensures own { IfErr result IsOfPart }
+    ensures count { IsCounted result (S.faults store.old) (S.faults store.new) }
+    ensures gathered { run.new.gathered.items ≡ run.old.gathered.items }
+{
+    match read_directive(line) {
+        Directive::From(sender) => match Text::of(alloc, sender) {
+            Ok(sender) => {
+                run.sender = sender;
+                Ok(())
+            }
+            Err(_) => Err(ScriptFault::Memory),
+        },
+        Directive::Report(words) => carry_report(alloc, store, writer, run, line, words),
+        Directive::Bad => match write_out(writer, b"Bad directive.\n") {
+            Ok(()) => {
+                run.refused = true;
+                Ok(())
+            }
+            Err(_) => Err(ScriptFault::Write),
+        },
+    }
+}
+
+// Takes one line of a script.
+fn take_line<S: Records, W: Write>(
+    alloc: Global,
+    store: &mut S,
+    writer: &mut W,
+    run: &mut Run,
+    line: Text,
+) -> Result<(), ScriptFault>
+    ensures ok { IfOk result (λ done. (parts : List Part)
+        × ((lines : List (List ℕ)) → parts_of run.old.gathered.items (line ∷ lines) ≡ parts ++ parts_of run.new.gathered.items lines)
+        × Holds S.is_kept S.is_honest store.old store.new (Runs parts
+        (standing (S.desk store.old) run.old.sender run.old.refused) (standing (S.desk store.new) run.new.sender run.new.refused)
+        (W.contents writer.old) (W.contents writer.new))) }
+    ensures err { IfErr result (λ fault. Holds S.is_kept S.is_honest store.old store.new
+        ((lines : List (List ℕ)) → Stops (parts_of run.old.gathered.items (line ∷ lines))
+        (standing (S.desk store.old) run.old.sender run.old.refused) (S.desk store.new)
+        (W.contents writer.old) (W.contents writer.new) fault)) }
+    ensures own { IfErr result IsOfPart }
+    ensures count { IsCounted result (S.faults store.old) (S.faults store.new) }
+{
+    if is_directive(line.as_str()) {
+        match finish_message(alloc, store, writer, run) {
+            Ok(()) => {}
+            Err(fault) => return Err(fault),
+        }
+        match carry_out(alloc, store, writer, run, line.as_str()) {
+            Ok(()) => Ok(()),
+            Err(fault) => Err(fault),
+        }
+    } else {
+        match run.gathered.push(line) {
+            Ok(()) => Ok(()),
+            Err(_) => Err(ScriptFault::Memory),
+        }
+    }
+}
+
+// Carries the last message out.
+fn finish_script<S: Records, W: Write>(
+    alloc: Global,
+    store: &mut S,
+    writer: &mut W,
+    run: &mut Run,
+) -> Result<ScriptEnd, ScriptFault>
+    ensures answer { Holds S.is_kept S.is_honest store.old store.new (EndsParts (Message run.old.gathered.items ∷ [])
+        (standing (S.desk store.old) run.old.sender run.old.refused) (S.desk store.new)
+        (W.contents writer.old) (W.contents writer.new) result) }
+    ensures own { IfErr result IsOfPart }
+    ensures count { IsCounted result (S.faults store.old) (S.faults store.new) }
+{
+    match finish_message(alloc, store, writer, run) {
+        Ok(()) => {}
+        Err(fault) => return Err(fault),
+    }
+    if run.refused {
+        Ok(ScriptEnd::Refused)
+    } else {
+        Ok(ScriptEnd::Accepted)
+    }
+}

@@ -1,0 +1,5 @@
+pub mod Store
+pub mod Plain
+pub mod Rows
+pub mod FailAt
+pub mod OneSet

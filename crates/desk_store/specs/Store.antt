@@ -1,0 +1,58 @@
+-- What a call of a store says of its content.
+use Rattle.std.specs.Prelude.{ℕ, ◌≡◌, ◌⊎◌, ◌+◌, ◌-◌, ◌^◌, ◌<◌, min, true, Option, Some, None, Result, Ok, Err}
+use Rattle.bug_record.specs.Sets.{has}
+use Rattle.bug_record.specs.Desk.{Desk}
+use Rattle.bug_record.specs.Images.{numbers_of, IsBlockOf, put}
+use Rattle.bug_record.specs.declared.bug.SetImage.{SetImage}
+use Rattle.bug_record.specs.declared.command.Change.{Change}
+use Rattle.desk_text.specs.declared.outcome.StoreFault.{StoreFault}
+use Rattle.desk_text.specs.declared.outcome.StoreFault.TheVariants.{Memory, Device, Full, Foreign}
+
+-- A call goes from old to new: honesty isn't won, and where the tables were kept as it began and the disk was honest up
+-- to its end, they are kept again, and P holds.
+pub record Holds {S : Type 0} (is_kept is_honest : S → Type 0) (old new : S) (P : Type 0) : Type 0 where
+  pub honest : is_honest new → is_honest old
+  pub kept : is_kept old → is_honest new → is_kept new
+  pub fact : is_kept old → is_honest new → P
+
+-- A question changes nothing: the tables aren't kept now where they weren't before.
+pub record Asks {S : Type 0} (is_kept is_honest : S → Type 0) (old new : S) (P : Type 0) : Type 0 where
+  pub holds : Holds is_kept is_honest old new P
+  pub was_kept : is_kept new → is_honest new → is_kept old
+
+-- the content stays, and an answer is one of which P holds
+abbrev pub Answers : {T : Type 0} → Desk → Desk → Result T StoreFault → (T → Type 0) → Type 0
+Answers old new (Ok answer) P = P answer × (new ≡ old)
+Answers old new (Err fault) P = new ≡ old
+
+-- the image of the bug's block: the bug is among its members, and it is a block of the desk
+abbrev pub IsImageOf : Desk → ℕ → Option SetImage → Type 0
+IsImageOf d n None = d.bug n ≡ None
+IsImageOf d n (Some i) = (has (numbers_of i.members) n ≡ true) × IsBlockOf d i
+
+abbrev pub IsNext : Desk → ℕ → Type 0
+IsNext d n = n ≡ d.next
+
+-- the change is made, or none
+abbrev pub Applies : {T : Type 0} → Desk → Desk → Result T StoreFault → Change → Type 0
+Applies old new (Ok done) change = new ≡ put old change
+Applies old new (Err fault) change = new ≡ old
+
+-- one more, up to the largest u64
+abbrev pub one_more : ℕ → ℕ
+one_more n = min (n + 1) (2 ^ 64 - 1)
+
+-- the count of faults after an answer: want of memory isn't counted
+abbrev pub faults_after : {T : Type 0} → Result T StoreFault → ℕ → ℕ
+faults_after (Ok answer) n = n
+faults_after (Err Memory) n = n
+faults_after (Err Device) n = one_more n
+faults_after (Err Full) n = one_more n
+faults_after (Err Foreign) n = one_more n
+
+-- over several calls: a fault of this kind was counted, or the count stands at its end
+abbrev pub IsCounted : StoreFault → ℕ → ℕ → Type 0
+IsCounted Memory before now = Unit {0}
+IsCounted Device before now = (before < now) ⊎ (now ≡ 2 ^ 64 - 1)
+IsCounted Full before now = (before < now) ⊎ (now ≡ 2 ^ 64 - 1)
+IsCounted Foreign before now = (before < now) ⊎ (now ≡ 2 ^ 64 - 1)

@@ -1,0 +1,95 @@
+//! A store that fails once, for tests.
+
+ghost use Rattle.std.specs.Prelude.{◌≡◌, ◌≢◌, ◌-◌, ◌||◌, ◌==◌, true, false, Err};
+ghost use Rattle.bug_record.specs.Sets.{Each};
+ghost use Rattle.bug_record.specs.Images.{AreApart, HasMember, FitsDesk};
+ghost use Rattle.desk_store.specs.Store.{Holds, Asks, Answers, IsImageOf, IsNext, Applies, faults_after};
+ghost use Rattle.desk_store.specs.FailAt.{faults_with};
+
+use crate::records::Records;
+use bug_record::{Change, SetImage};
+use desk_text::StoreFault;
+
+/// A store round another. One call of `apply` answers `Device`, changes nothing and is counted; every other call is the
+/// other store's.
+#[derive(Drop)]
+pub struct FailAt<S> {
+    inner: S,
+    left: u64,
+    has_failed: bool,
+    ghost once: { has_failed ≡ true → left ≡ 0 },
+}
+
+impl<S: Records> FailAt<S> {
+    /// The k-th call of `apply` is to fail, counted from 1; none where k is 0.
+    pub fn new(inner: S, k: u64) -> FailAt<S>
+        ensures inner { result.inner ≡ inner }
+        ensures left { result.left ≡ k }
+        ensures has_failed { result.has_failed ≡ false }
+    {
+        FailAt {
+            inner,
+            left: k,
+            has_failed: false,
+        }
+    }
+}
+
+impl<S: Records> Records for FailAt<S> {
+    ghost desk = { λ s. S.desk s.inner };
+
+    ghost is_kept = { λ s. S.is_kept s.inner };
+
+    ghost is_honest = { λ s. S.is_honest s.inner };
+
+    ghost faults = { λ s. faults_with s.has_failed (S.faults s.inner) };
+
+    fn set_of(&mut self, number: u64) -> Result<Option<SetImage>, StoreFault>
+        ensures answer { Asks S.is_kept S.is_honest self.old.inner self.new.inner (Answers (S.desk self.old.inner) (S.desk self.new.inner) result (IsImageOf (S.desk self.old.inner) number)) }
+        ensures count { S.faults self.new.inner ≡ faults_after result (S.faults self.old.inner) }
+        ensures left { self.new.left ≡ self.old.left }
+        ensures has_failed { self.new.has_failed ≡ self.old.has_failed }
+    {
+        self.inner.set_of(number)
+    }
+
+    fn next(&mut self) -> Result<u64, StoreFault>
+        ensures answer { Asks S.is_kept S.is_honest self.old.inner self.new.inner (Answers (S.desk self.old.inner) (S.desk self.new.inner) result (IsNext (S.desk self.old.inner))) }
+        ensures count { S.faults self.new.inner ≡ faults_after result (S.faults self.old.inner) }
+        ensures left { self.new.left ≡ self.old.left }
+        ensures has_failed { self.new.has_failed ≡ self.old.has_failed }
+    {
+        self.inner.next()
+    }
+
+    fn apply(&mut self, change: &Change) -> Result<(), StoreFault>
+        requires apart { AreApart change.now.images }
+        requires members { Each HasMember change.now.images }
+        requires fits { S.is_kept self.old.inner → S.is_honest self.old.inner → FitsDesk (S.desk self.old.inner) change.now }
+        ensures answer { Holds S.is_kept S.is_honest self.old.inner self.new.inner (Applies (S.desk self.old.inner) (S.desk self.new.inner) result change.now) }
+        ensures count { faults_with self.new.has_failed (S.faults self.new.inner) ≡ faults_after result (faults_with self.old.has_failed (S.faults self.old.inner)) }
+        ensures countdown { self.new.left ≡ self.old.left - 1 }
+        ensures has_failed { self.new.has_failed ≡ (self.old.has_failed || (self.old.left == 1)) }
+        ensures due { self.old.left ≡ 1 → (result ≡ Err StoreFault.Device) × (self.new.inner ≡ self.old.inner) }
+        ensures passed_on { self.old.left ≢ 1 → S.faults self.new.inner ≡ faults_after result (S.faults self.old.inner) }
+    {
+        if self.left == 1 {
+            self.left = 0;
+            self.has_failed = true;
+            return Err(StoreFault::Device);
+        }
+        self.left = self.left.saturating_sub(1);
+        self.inner.apply(change)
+    }
+
+    fn faults(&self) -> u64 {
+        let faults = self.inner.faults();
+        if self.has_failed {
+            faults.saturating_add(1)
+        } else {
+            faults
+        }
+    }
+
+    ghost sound = { λ s kept. S.sound s.inner kept };
+}

@@ -1,0 +1,14 @@
+//! Stores of a desk: what every store says of its content, a desk in memory, and a store that fails for tests. The
+//! definition of a message (`specs/Message.antt`) stands here too.
+#![tactic(auto)]
+
+mod fail_at;
+mod plain;
+mod records;
+mod rows;
+#[cfg(test)]
+mod tests;
+
+pub use fail_at::FailAt;
+pub use plain::PlainDesk;
+pub use records::Records;

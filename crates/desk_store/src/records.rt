@@ -1,0 +1,54 @@
+//! What a store of a desk does, whatever keeps the desk.
+
+ghost use Rattle.std.specs.Prelude.{◌≡◌, ℕ, Option, Result};
+ghost use Rattle.bug_record.specs.Sets.{Each};
+ghost use Rattle.bug_record.specs.Desk.{Desk, IsSound};
+ghost use Rattle.bug_record.specs.Images.{AreApart, HasMember, FitsDesk};
+ghost use Rattle.desk_store.specs.Store.{Holds, Asks, Answers, IsImageOf, IsNext, Applies, faults_after};
+
+use bug_record::{Change, SetImage};
+use desk_text::StoreFault;
+
+/// A store of a desk, in memory or in tables.
+///
+/// What it says of its content holds where its tables are kept as a call begins and the disk was honest up to its end,
+/// and then they are kept again. After a fault the content is as before.
+pub trait Records {
+    /// The content.
+    ghost desk: { Self → Desk };
+
+    /// The content is kept as it has to be. Always so of a desk in memory.
+    ghost is_kept: { Self → Type 0 };
+
+    /// So far the disk has returned what was written to it. Always so of a desk in memory.
+    ghost is_honest: { Self → Type 0 };
+
+    /// How often the store has failed by another cause than want of memory, up to `u64::MAX`.
+    ghost faults: { Self → ℕ };
+
+    /// The image of the set that the bug is in; `None` exactly where there is no bug of this number.
+    fn set_of(&mut self, number: u64) -> Result<Option<SetImage>, StoreFault>
+        ensures answer { Asks is_kept is_honest self.old self.new (Answers (desk self.old) (desk self.new) result (IsImageOf (desk self.old) number)) }
+        ensures count { faults self.new ≡ faults_after result (faults self.old) };
+
+    /// The number of the next bug: 1,000,000,000 where no number is left.
+    fn next(&mut self) -> Result<u64, StoreFault>
+        ensures answer { Asks is_kept is_honest self.old self.new (Answers (desk self.old) (desk self.new) result (IsNext (desk self.old))) }
+        ensures count { faults self.new ≡ faults_after result (faults self.old) };
+
+    /// Carries a change out, in one step. Of the change it asks that each image has a member and no bug is in two, and,
+    /// of kept tables over an honest disk, that it covers whole sets and leaves a sound desk.
+    fn apply(&mut self, change: &Change) -> Result<(), StoreFault>
+        requires apart { AreApart change.now.images }
+        requires members { Each HasMember change.now.images }
+        requires fits { is_kept self.old → is_honest self.old → FitsDesk (desk self.old) change.now }
+        ensures answer { Holds is_kept is_honest self.old self.new (Applies (desk self.old) (desk self.new) result change.now) }
+        ensures count { faults self.new ≡ faults_after result (faults self.old) };
+
+    /// How often the store has answered `Device`, `Full` or `Foreign`, up to `u64::MAX`.
+    fn faults(&self) -> u64
+        ensures { result ≡ faults self.now };
+
+    /// A desk that is kept is sound.
+    ghost sound: { (s : Self) → is_kept s → IsSound (desk s) };
+}

@@ -1,0 +1,71 @@
+-- The texts of a transcript. This project's own rule.
+use Rattle.std.specs.Prelude.{ℕ, List, [], ◌∷◌, ◌++◌, codes}
+use Rattle.std.specs.Fmt.{decimal}
+use Rattle.bug_record.specs.declared.command.Refusal.{Refusal}
+use Rattle.bug_record.specs.declared.command.Refusal.TheVariants.{Unknown, Malformed, BadSeverity, NoName, NoBug}
+use Rattle.desk_text.specs.declared.outcome.StoreFault.{StoreFault}
+use Rattle.desk_text.specs.declared.outcome.StoreFault.TheVariants as faults
+use Rattle.desk_text.specs.declared.outcome.Outcome.{Outcome}
+use Rattle.desk_text.specs.declared.outcome.Outcome.TheVariants as outcomes
+use Rattle.desk_text.specs.declared.outcome.End.{End}
+use Rattle.desk_text.specs.declared.outcome.End.TheVariants as ends
+
+-- a line of a transcript ends with one line feed
+abbrev pub as_line : List ℕ → List ℕ
+as_line text = text ++ 10 ∷ []
+
+-- a line as it was written, after `> `
+abbrev pub echo : List ℕ → List ℕ
+echo line = codes "> " ++ line
+
+-- why a line is refused
+abbrev pub refusal_text : Refusal → List ℕ
+refusal_text Unknown = codes "unknown command"
+refusal_text Malformed = codes "malformed command"
+refusal_text BadSeverity = codes "unknown severity"
+refusal_text (NoName k) = codes "no such name -" ++ decimal k
+refusal_text (NoBug n) = codes "no such bug " ++ decimal n
+
+-- each number after a space
+abbrev pub numbers_text : List ℕ → List ℕ
+numbers_text [] = []
+numbers_text (n ∷ ns) = (32 ∷ decimal n) ++ numbers_text ns
+
+-- the changed numbers
+abbrev pub changed_text : List ℕ → List ℕ
+changed_text [] = codes "OK, no change."
+changed_text (n ∷ ns) = codes "OK" ++ numbers_text (n ∷ ns)
+
+-- what is answered to a line
+abbrev pub answer_text : Outcome → List ℕ
+answer_text (outcomes.Changed numbers) = changed_text numbers
+answer_text (outcomes.Refused refusal) = codes "NO " ++ refusal_text refusal
+answer_text outcomes.Stopped = codes "Stopped."
+
+-- the two lines of an outcome
+abbrev pub outcome_text : List ℕ → Outcome → List ℕ
+outcome_text line outcome = as_line (echo line) ++ as_line (answer_text outcome)
+
+abbrev pub fault_word : StoreFault → List ℕ
+fault_word faults.Memory = codes "memory"
+fault_word faults.Device = codes "device"
+fault_word faults.Full = codes "full"
+fault_word faults.Foreign = codes "foreign"
+
+unfoldable pub fault_answer : StoreFault → List ℕ
+fault_answer fault = codes "Store fault: " ++ (fault_word fault ++ codes ".")
+
+-- the line of a store fault
+abbrev pub fault_text : StoreFault → List ℕ
+fault_text fault = as_line (fault_answer fault)
+
+-- the line at which the store failed, and the fault's line
+abbrev pub store_end_text : StoreFault → List ℕ → List ℕ
+store_end_text fault line = as_line (echo line) ++ fault_text fault
+
+-- what follows the last outcome; the line is that at which the store failed
+abbrev pub end_text : End → List ℕ → List ℕ
+end_text ends.All line = []
+end_text ends.Stopped line = []
+end_text ends.TooManyUnreadable line = as_line (codes "Too many unreadable lines.")
+end_text (ends.Store fault k) line = store_end_text fault line
