@@ -1,5 +1,5 @@
 -- An item added to an ascending list goes to its place.
-use Rattle.std.proofs.Common.{◌≡◌, ◌≤◌, ◌+◌, ℕ, suc, true, false, cond, List, [], ◌∷◌, length, sym, refl, ap, ◌∙◌, subst, arith}
+use Rattle.std.proofs.Common.{◌≡◌, ◌≤◌, ◌+◌, ℕ, suc, true, false, cond, List, [], ◌∷◌, length, sym, refl, ap, subst, arith}
 use Rattle.std.specs.Prelude.{slice_get, insert, ◌==◌, nat_lt}
 use Rattle.std.proofs.lemmas.Bool.{false≢true}
 use Rattle.bug_record.specs.Sets.{with_item}

@@ -6,3 +6,5 @@ pub mod ReportLemmas
 pub mod WrittenLemmas
 pub mod PartLemmas
 pub mod RunLemmas
+pub mod ScriptLemmas
+pub mod ReadingLemmas

@@ -15,5 +15,5 @@ mod transcript;
 pub use fault::ScriptFault;
 pub use message::{Received, receive};
 pub use reporting::{ReportFault, report};
-pub use script::ScriptEnd;
+pub use script::{ScriptEnd, run_script};
 pub use transcript::received_text;

@@ -4,20 +4,21 @@ ghost use Rattle.std.specs.Prelude.{◌≡◌, ℕ, ◌||◌, List, [], ◌∷�
 ghost use Rattle.std.specs.Option.{option_copied};
 ghost use Rattle.bug_record.specs.Texts.{IsText};
 ghost use Rattle.desk_store.specs.Store.{Holds};
-ghost use Rattle.desk_run.specs.Script.{Report, Part, Message, Order, standing, parts_of, directive_of};
-ghost use Rattle.desk_run.specs.Running.{Runs, Stops, Carries, IsCounted, IsOfPart, EndsParts};
+ghost use Rattle.desk_run.specs.Script.{Report, Part, Message, Order, standing, begin, parts_of, directive_of};
+ghost use Rattle.desk_run.specs.Reading.{Known, Left};
+ghost use Rattle.desk_run.specs.Running.{Runs, Stops, Carries, IsCounted, IsOfPart, EndsParts, Ends};
 
 use crate::answer::{fault_of_end, refuses, report_answer, store_fault};
 use crate::directive::{Directive, ReportWords, is_directive, read_directive};
 use crate::fault::ScriptFault;
 use crate::message::receive_lines;
 use crate::reporting::report;
-use crate::source::write_out;
+use crate::source::{Piece, Source, next_line, write_out};
 use crate::transcript::received_bytes;
 use debver::Text;
 use desk_store::Records;
 use std::alloc::Global;
-use std::io::Write;
+use std::io::{Read, Write};
 
 /// How a script that was run to its end went.
 #[derive(Clone, Copy, Debug, PartialEq, Eq, Drop)]
@@ -212,4 +213,51 @@ fn finish_script<S: Records, W: Write>(
     } else {
         Ok(ScriptEnd::Accepted)
     }
+}
+
+/// Runs a script: reads its lines to the end, carries messages and directives out in turn, and writes their answers.
+///
+/// Where it answers `Ok` it has read to the end, and has written the script's output and nothing else. After a fault of the
+/// store what was written is the output up to there with the fault's text; after `Read` (also where the reader was asked
+/// 16,777,216 times), `NotUtf8` and `LineTooLong` the text of all earlier parts, whole, and the message whose lines were being
+/// gathered was not begun; after `Memory` the same, and the part at hand may have been carried out; after `Write` a front of
+/// the output. `NotUtf8` and `LineTooLong` name the first line of either kind; one that is both is too long.
+pub fn run_script<S: Records, R: Read, W: Write>(
+    alloc: Global,
+    store: &mut S,
+    reader: &mut R,
+    writer: &mut W,
+) -> Result<ScriptEnd, ScriptFault>
+    ensures answer { Holds S.is_kept S.is_honest store.old store.new (Known (R.remaining reader.old) (λ input.
+        Ends input (begin (S.desk store.old)) (S.desk store.new) (W.contents writer.old) (W.contents writer.new) result)) }
+    ensures read { OnOk result (Left (R.remaining reader.old) (R.remaining reader.new) (λ input rest. rest ≡ [])) }
+    ensures count { IsCounted result (S.faults store.old) (S.faults store.new) }
+{
+    let Ok(sender) = Text::of(alloc, "nobody") else {
+        return Err(ScriptFault::Memory);
+    };
+    let mut run = Run {
+        sender,
+        refused: false,
+        gathered: Vec::new(alloc),
+    };
+    let mut source = Source::new();
+    for number in 1..u64::MAX {
+        match next_line(alloc, &mut source, reader, number) {
+            Err(fault) => return Err(fault),
+            Ok(Piece::Line(line)) => match take_line(alloc, store, writer, &mut run, line) {
+                Ok(()) => {}
+                Err(fault) => return Err(fault),
+            },
+            Ok(Piece::Last(line)) => {
+                match take_line(alloc, store, writer, &mut run, line) {
+                    Ok(()) => {}
+                    Err(fault) => return Err(fault),
+                }
+                return finish_script(alloc, store, writer, &mut run);
+            }
+            Ok(Piece::End) => return finish_script(alloc, store, writer, &mut run),
+        }
+    }
+    Err(ScriptFault::Read)
 }

@@ -1,3 +1,4 @@
 pub mod OneSet
 pub mod PlainLemmas
 pub mod RowLemmas
+pub mod HoldsLemmas

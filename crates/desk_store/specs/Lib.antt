@@ -3,3 +3,4 @@ pub mod Plain
 pub mod Rows
 pub mod FailAt
 pub mod OneSet
+pub mod Message

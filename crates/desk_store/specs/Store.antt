@@ -1,5 +1,5 @@
 -- What a call of a store says of its content.
-use Rattle.std.specs.Prelude.{ℕ, ◌≡◌, ◌⊎◌, ◌+◌, ◌-◌, ◌^◌, ◌<◌, min, true, Option, Some, None, Result, Ok, Err}
+use Rattle.std.specs.Prelude.{ℕ, ◌≡◌, ◌+◌, ◌-◌, ◌^◌, min, true, Option, Some, None, Result, Ok, Err}
 use Rattle.bug_record.specs.Sets.{has}
 use Rattle.bug_record.specs.Desk.{Desk}
 use Rattle.bug_record.specs.Images.{numbers_of, IsBlockOf, put}
@@ -49,10 +49,3 @@ faults_after (Err Memory) n = n
 faults_after (Err Device) n = one_more n
 faults_after (Err Full) n = one_more n
 faults_after (Err Foreign) n = one_more n
-
--- over several calls: a fault of this kind was counted, or the count stands at its end
-abbrev pub IsCounted : StoreFault → ℕ → ℕ → Type 0
-IsCounted Memory before now = Unit {0}
-IsCounted Device before now = (before < now) ⊎ (now ≡ 2 ^ 64 - 1)
-IsCounted Full before now = (before < now) ⊎ (now ≡ 2 ^ 64 - 1)
-IsCounted Foreign before now = (before < now) ⊎ (now ≡ 2 ^ 64 - 1)

@@ -15,6 +15,7 @@ use desk_text::StoreFault;
 #[derive(Drop)]
 pub struct FailAt<S> {
     inner: S,
+    // Which call of `apply` is to fail, counted from 1; 0: none, or none any more.
     left: u64,
     has_failed: bool,
     ghost once: { has_failed ≡ true → left ≡ 0 },
@@ -45,7 +46,8 @@ impl<S: Records> Records for FailAt<S> {
     ghost faults = { λ s. faults_with s.has_failed (S.faults s.inner) };
 
     fn set_of(&mut self, number: u64) -> Result<Option<SetImage>, StoreFault>
-        ensures answer { Asks S.is_kept S.is_honest self.old.inner self.new.inner (Answers (S.desk self.old.inner) (S.desk self.new.inner) result (IsImageOf (S.desk self.old.inner) number)) }
+        ensures answer { Asks S.is_kept S.is_honest self.old.inner self.new.inner
+            (Answers (S.desk self.old.inner) (S.desk self.new.inner) result (IsImageOf (S.desk self.old.inner) number)) }
         ensures count { S.faults self.new.inner ≡ faults_after result (S.faults self.old.inner) }
         ensures left { self.new.left ≡ self.old.left }
         ensures has_failed { self.new.has_failed ≡ self.old.has_failed }
@@ -54,7 +56,8 @@ impl<S: Records> Records for FailAt<S> {
     }
 
     fn next(&mut self) -> Result<u64, StoreFault>
-        ensures answer { Asks S.is_kept S.is_honest self.old.inner self.new.inner (Answers (S.desk self.old.inner) (S.desk self.new.inner) result (IsNext (S.desk self.old.inner))) }
+        ensures answer { Asks S.is_kept S.is_honest self.old.inner self.new.inner
+            (Answers (S.desk self.old.inner) (S.desk self.new.inner) result (IsNext (S.desk self.old.inner))) }
         ensures count { S.faults self.new.inner ≡ faults_after result (S.faults self.old.inner) }
         ensures left { self.new.left ≡ self.old.left }
         ensures has_failed { self.new.has_failed ≡ self.old.has_failed }
@@ -66,11 +69,14 @@ impl<S: Records> Records for FailAt<S> {
         requires apart { AreApart change.now.images }
         requires members { Each HasMember change.now.images }
         requires fits { S.is_kept self.old.inner → S.is_honest self.old.inner → FitsDesk (S.desk self.old.inner) change.now }
-        ensures answer { Holds S.is_kept S.is_honest self.old.inner self.new.inner (Applies (S.desk self.old.inner) (S.desk self.new.inner) result change.now) }
-        ensures count { faults_with self.new.has_failed (S.faults self.new.inner) ≡ faults_after result (faults_with self.old.has_failed (S.faults self.old.inner)) }
+        ensures answer { Holds S.is_kept S.is_honest self.old.inner self.new.inner
+            (Applies (S.desk self.old.inner) (S.desk self.new.inner) result change.now) }
+        ensures count { faults_with self.new.has_failed (S.faults self.new.inner)
+            ≡ faults_after result (faults_with self.old.has_failed (S.faults self.old.inner)) }
         ensures countdown { self.new.left ≡ self.old.left - 1 }
         ensures has_failed { self.new.has_failed ≡ (self.old.has_failed || (self.old.left == 1)) }
-        ensures due { self.old.left ≡ 1 → (result ≡ Err StoreFault.Device) × (self.new.inner ≡ self.old.inner) }
+        ensures due { self.old.left ≡ 1 → result ≡ Err StoreFault.Device }
+        ensures unchanged { self.old.left ≡ 1 → self.new.inner ≡ self.old.inner }
         ensures passed_on { self.old.left ≢ 1 → S.faults self.new.inner ≡ faults_after result (S.faults self.old.inner) }
     {
         if self.left == 1 {

@@ -1,18 +1,17 @@
 //! A desk in memory.
 
-ghost use Rattle.std.specs.Prelude.{◌≡◌, ◌≤◌, ◌++◌, ℕ, true, None, Some, Ok, Err, IfOk, IfErr, OnOk, OnErr};
+ghost use Rattle.std.specs.Prelude.{◌≡◌, ◌≤◌, ◌++◌, None, Ok, IfOk, IfErr, OnOk, OnErr};
 ghost use Rattle.std.specs.BTreeMap.{get};
 ghost use Rattle.std.specs.Ordering.{nat_cmp};
-ghost use Rattle.bug_record.specs.Sets.{Each};
-ghost use Rattle.bug_record.specs.Desk.{Desk, IsSound};
-ghost use Rattle.bug_record.specs.Images.{AreApart, HasMember, FitsDesk, bug_of, put, bug_in, or_else};
+ghost use Rattle.bug_record.specs.Desk.{IsSound};
+ghost use Rattle.bug_record.specs.Images.{FitsDesk, put};
 ghost use Rattle.bug_record.proofs.SoundProp.{IsSound-prop};
-ghost use Rattle.desk_store.specs.Store.{Holds, Asks, Answers, IsImageOf, IsNext, Applies, faults_after};
+ghost use Rattle.desk_store.specs.Store.{IsImageOf};
 ghost use Rattle.desk_store.specs.Plain.{desk_of, empty_desk, member_of, members_in, set_in};
 
 use crate::records::Records;
 use crate::rows::put_images;
-use bug_record::{Bug, Change, Member, Numbers, Sequence, SetImage};
+use bug_record::{Bug, Change, Member, Sequence, SetImage};
 use desk_text::StoreFault;
 use std::alloc::{AllocError, Global};
 use std::collections::BTreeMap;
@@ -117,7 +116,8 @@ impl Records for PlainDesk {
 
     fn apply(&mut self, change: &Change) -> Result<(), StoreFault>
         requires fits { FitsDesk (desk_of self.old.bugs self.old.next) change.now }
-        ensures done { OnOk result (desk_of self.new.bugs self.new.next ≡ put (desk_of self.old.bugs self.old.next) change.now) }
+        ensures done { OnOk result
+            (desk_of self.new.bugs self.new.next ≡ put (desk_of self.old.bugs self.old.next) change.now) }
         ensures fault { OnErr result (desk_of self.new.bugs self.new.next ≡ desk_of self.old.bugs self.old.next) }
         ensures memory { IfErr result (λ fault. fault ≡ StoreFault.Memory) }
     {

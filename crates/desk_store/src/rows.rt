@@ -1,6 +1,6 @@
 //! The bugs of a change, put into a map: all of them, or none where there is no memory.
 
-ghost use Rattle.std.specs.Prelude.{◌≡◌, ◌++◌, ℕ, true, false, None, [], ◌∷◌, map, filter, IsTrue, IsOk, IfOk, OnOk, OnErr, if◌then◌else◌};
+ghost use Rattle.std.specs.Prelude.{◌≡◌, ◌++◌, ℕ, None, [], ◌∷◌, map, filter, IsTrue, IsOk, IfOk, OnOk, OnErr, if◌then◌else◌};
 ghost use Rattle.std.specs.BTreeMap.{get};
 ghost use Rattle.std.specs.Ordering.{nat_cmp};
 ghost use Rattle.bug_record.specs.Sets.{Each, has};
@@ -44,7 +44,8 @@ fn add_row(
     member: &Member,
 ) -> Result<(), AllocError>
     requires { block.now ≡ numbers_of image.now.members }
-    ensures { OnOk result (rows.new.items ≡ rows.old.items ++ filter (is_known bugs.now known) (row_of image.now member.now ∷ [])) }
+    ensures { OnOk result
+        (rows.new.items ≡ rows.old.items ++ filter (is_known bugs.now known) (row_of image.now member.now ∷ [])) }
 {
     if bugs.contains_key(&member.number) != known {
         return Ok(());
@@ -69,7 +70,8 @@ fn add_rows(
     known: bool,
     image: &SetImage,
 ) -> Result<(), AllocError>
-    ensures { OnOk result (rows.new.items ≡ rows.old.items ++ filter (is_known bugs.now known) (map (row_of image.now) image.now.members)) }
+    ensures { OnOk result
+        (rows.new.items ≡ rows.old.items ++ filter (is_known bugs.now known) (map (row_of image.now) image.now.members)) }
 {
     let block = block_of(alloc, image)?;
     for member in image.members.as_slice() {

@@ -161,26 +161,3 @@ fn no_call_fails_where_none_is_to(rt: HostRuntime) -> Result<(), Fail> {
     assert!(rt; store.faults() == 0);
     Ok(())
 }
-
-#[test]
-fn zz_memory(rt: HostRuntime) -> Result<(), Fail> {
-    let alloc = rt.alloc();
-    let mut desk = PlainDesk::new(alloc, 1);
-    let few: Vec<u64> = (1..4u64).collect(alloc)?;
-    let many: Vec<u64> = (1..41u64).collect(alloc)?;
-    let first = put_set(alloc, &mut desk, Severity::Normal, few.as_slice(), 4);
-    assert!(rt; first == Ok(()));
-    let second = put_set(alloc, &mut desk, Severity::Serious, many.as_slice(), 41);
-    if second != Ok(()) {
-        println!(rt; "second fails")?;
-        assert!(rt; second == Err(StoreFault::Memory));
-        assert!(rt; desk.next() == Ok(4));
-        for n in 1..4u64 {
-            assert!(rt; is_set(&desk.set_of(n), Severity::Normal, few.as_slice()));
-        }
-        for n in 4..41u64 {
-            assert!(rt; matches!(desk.set_of(n), Ok(None)));
-        }
-    }
-    Ok(())
-}

@@ -1,0 +1,203 @@
+-- A script, from the lines that are left.
+use Rattle.std.proofs.Common.{◌≡◌, inl, ℕ, ◌+◌, List, [], ◌∷◌, ◌++◌, length, map, sym, ◌∙◌, ap, subst, refl, arith, Option, Some, Result, Ok, Err, append_assoc, append-nil, length-append}
+use Rattle.std.specs.Result.{IfErr, OnOk}
+use Rattle.bug_record.specs.Desk.{Desk}
+use Rattle.desk_run.specs.Lines.{without_return, raw_lines, lines_of}
+use Rattle.desk_run.specs.Reading.{IsGoodLine, GivesPiece, IsLineFault, IsReadingFault, Known, Left}
+use Rattle.desk_run.specs.Script.{Part, Message, Standing, parts_of, script_of, after_parts}
+use Rattle.desk_run.specs.Running.{Runs, Stops, StopsIn, EndsParts, Ends, AreGood, IsFirstBad, IsPlace, IsOfPart}
+use Rattle.desk_run.specs.declared.source.Piece.{Piece}
+use Rattle.desk_run.specs.declared.source.Piece.TheVariants as pieces
+use Rattle.desk_run.specs.declared.fault.ScriptFault.{ScriptFault}
+use Rattle.desk_run.specs.declared.fault.ScriptFault.TheVariants as stops
+use Rattle.desk_run.specs.declared.script.ScriptEnd.{ScriptEnd}
+use Rattle.desk_run.proofs.WrittenLemmas.{appends_none}
+use Rattle.desk_run.proofs.RunLemmas.{runs_then_stops, runs_then_ends, stops_more, one_stops, parts_begin, runs_none}
+
+map_append : {A B : Type 0} (f : A → B) (xs ys : List A) → map f (xs ++ ys) ≡ map f xs ++ map f ys
+map_append f [] ys = refl
+map_append f (x ∷ xs) ys = ap (λ (w : List _). f x ∷ w) (map_append f xs ys)
+
+length_map : {A B : Type 0} (f : A → B) (xs : List A) → length (map f xs) ≡ length xs
+length_map f [] = refl
+length_map f (x ∷ xs) = omega (arith, length_map f xs)
+
+good_append : (xs ys : List (List ℕ)) → AreGood xs → AreGood ys → AreGood (xs ++ ys)
+good_append [] ys p q = q
+good_append (x ∷ xs) ys p q = (p.0, good_append xs ys p.1 q)
+
+-- the input begins with good lines of these texts, and then comes the rest
+pub record ReadTo (texts : List (List ℕ)) (input rest : List ℕ) : Type 0 where
+  pub raws : List (List ℕ)
+  pub lines : raw_lines input ≡ raws ++ raw_lines rest
+  pub texts_are : map without_return raws ≡ texts
+  pub good : AreGood raws
+
+-- the lines read so far are cut into these parts, and the message so far
+abbrev pub IsCut : List (List ℕ) → List Part → List (List ℕ) → Type 0
+IsCut texts before gathered = (lines : List (List ℕ)) → parts_of [] (texts ++ lines) ≡ before ++ parts_of gathered lines
+
+pub nothing_read : (input : List ℕ) → ReadTo [] input input
+nothing_read input = record { raws = []; lines = refl; texts_are = refl; good = tt }
+
+-- one line more
+pub read_more : (texts : List (List ℕ)) (input rest left line : List ℕ) → ReadTo texts input rest → (raw : List ℕ) × (raw_lines rest ≡ raw ∷ raw_lines left) × IsGoodLine raw × (line ≡ without_return raw) → ReadTo (texts ++ line ∷ []) input left
+read_more texts input rest left line r p = record {
+  raws = r.raws ++ p.0 ∷ [];
+  lines = r.lines ∙ (ap (λ (w : List (List ℕ)). r.raws ++ w) p.1 ∙ sym (append_assoc r.raws (p.0 ∷ []) (raw_lines left)));
+  texts_are = map_append without_return r.raws (p.0 ∷ []) ∙ (ap (λ (w : List (List ℕ)). w ++ without_return p.0 ∷ []) r.texts_are ∙ ap (λ (w : List ℕ). texts ++ w ∷ []) (sym p.3));
+  good = good_append r.raws (p.0 ∷ []) r.good (p.2, tt);
+}
+
+pub cut_more : (texts : List (List ℕ)) (before parts : List Part) (g h : List (List ℕ)) (line : List ℕ) → IsCut texts before g → ((lines : List (List ℕ)) → parts_of g (line ∷ lines) ≡ parts ++ parts_of h lines) → IsCut (texts ++ line ∷ []) (before ++ parts) h
+cut_more texts before parts g h line c f lines =
+    ap (parts_of []) (append_assoc texts (line ∷ []) lines) ∙ (c (line ∷ lines) ∙ (ap (λ (w : List Part). before ++ w) (f lines) ∙ sym (append_assoc before parts (parts_of h lines))))
+
+-- the script, where so much is read
+script_cut : (texts : List (List ℕ)) (before : List Part) (g : List (List ℕ)) (input rest : List ℕ) → ReadTo texts input rest → IsCut texts before g → script_of input ≡ before ++ parts_of g (map without_return (raw_lines rest))
+unfolding script_of lines_of
+script_cut texts before g input rest r c =
+    ap (λ (w : List (List ℕ)). parts_of [] (map without_return w)) r.lines
+    ∙ (ap (parts_of []) (map_append without_return r.raws (raw_lines rest) ∙ ap (λ (w : List (List ℕ)). w ++ map without_return (raw_lines rest)) r.texts_are)
+    ∙ c (map without_return (raw_lines rest)))
+
+-- nothing is left
+all_good : (texts : List (List ℕ)) (input rest : List ℕ) → ReadTo texts input rest → raw_lines rest ≡ [] → AreGood (raw_lines input)
+all_good texts input rest r e = subst AreGood (sym (r.lines ∙ (ap (λ (w : List (List ℕ)). r.raws ++ w) e ∙ append-nil r.raws))) r.good
+
+place_of_part : (fault : ScriptFault) (raws : List (List ℕ)) (before : List Part) → IsOfPart fault → IsPlace fault raws before
+place_of_part (stops.Store fault) raws before o = tt
+place_of_part stops.Write raws before o = tt
+place_of_part stops.Memory raws before o = tt
+place_of_part stops.Read raws before o = absurd o
+place_of_part (stops.NotUtf8 line) raws before o = absurd o
+place_of_part (stops.LineTooLong line) raws before o = absurd o
+
+-- a stop in the parts that are left
+pub stops_in : (texts : List (List ℕ)) (before : List Part) (g : List (List ℕ)) (input rest : List ℕ) (a b : Standing) (d : Desk) (c0 c1 c2 : Option (List ℕ)) (fault : ScriptFault) → ReadTo texts input rest → IsCut texts before g → Runs before a b c0 c1
+    → IsOfPart fault → Stops (parts_of g (map without_return (raw_lines rest))) b d c1 c2 fault → Ends input a d c0 c2 (Err fault)
+stops_in texts before g input rest a b d c0 c1 c2 fault r c ran o s =
+    let cut = script_cut texts before g input rest r c in
+    let stop = subst (λ (ps : List Part). Stops ps a d c0 c2 fault) (sym cut) (runs_then_stops before (parts_of g (map without_return (raw_lines rest))) a b d c0 c1 c2 fault ran s) in
+    (stop, place_of_part fault (raw_lines input) stop.before o)
+
+-- the end of the input
+pub ends_at : (texts : List (List ℕ)) (before : List Part) (g : List (List ℕ)) (input rest : List ℕ) (a b : Standing) (d : Desk) (c0 c1 c2 : Option (List ℕ)) (r : Result ScriptEnd ScriptFault) → ReadTo texts input rest → raw_lines rest ≡ [] → IsCut texts before g → Runs before a b c0 c1
+    → IfErr r IsOfPart → EndsParts (Message g ∷ []) b d c1 c2 r → Ends input a d c0 c2 r
+ends_at texts before g input rest a b d c0 c1 c2 (Ok end) r e c ran o ends =
+    let cut = script_cut texts before g input rest r c ∙ ap (λ (w : List (List ℕ)). before ++ parts_of g (map without_return w)) e in
+    let all = subst (λ (ps : List Part). EndsParts ps a d c0 c2 (Ok end)) (sym cut) (runs_then_ends before (Message g ∷ []) a b d c0 c1 c2 (Ok end) ran ends) in
+    (all_good texts input rest r e, all.0, all.1, all.2)
+ends_at texts before g input rest a b d c0 c1 c2 (Err fault) r e c ran o ends =
+    stops_in texts before g input rest a b d c0 c1 c2 fault r c ran o (subst (λ (w : List (List ℕ)). Stops (parts_of g (map without_return w)) b d c1 c2 fault) (sym e) ends)
+
+-- a stop in the reading
+unbegun : (fault : ScriptFault) (number : ℕ) (m : List (List ℕ)) (s : Standing) (d : Desk) (c : Option (List ℕ)) → IsReadingFault number fault → d ≡ s.desk → StopsIn (Message m) s d c c fault
+unbegun stops.Read number m s d c o e = (tt, e, appends_none c)
+unbegun (stops.NotUtf8 line) number m s d c o e = (tt, e, appends_none c)
+unbegun (stops.LineTooLong line) number m s d c o e = (tt, e, appends_none c)
+unbegun stops.Memory number m s d c o e = (inl e, appends_none c)
+unbegun stops.Write number m s d c o e = absurd o
+unbegun (stops.Store fault) number m s d c o e = absurd o
+
+first_bad : (texts : List (List ℕ)) (before : List Part) (g : List (List ℕ)) (input rest : List ℕ) (line number : ℕ) (P : List ℕ → Type 0) → ReadTo texts input rest → IsCut texts before g → length texts + 1 ≡ number → line ≡ number
+    → (raw : List ℕ) (more : List (List ℕ)) → raw_lines rest ≡ raw ∷ more → P raw → IsFirstBad (raw_lines input) line before P
+first_bad texts before g input rest line number P r c n e raw more is bad = record {
+  good = r.raws;
+  bad = raw;
+  more = more;
+  lines = r.lines ∙ ap (λ (w : List (List ℕ)). r.raws ++ w) is;
+  counted = e ∙ (sym n ∙ ap (λ (k : ℕ). k + 1) (ap length (sym r.texts_are) ∙ length_map without_return r.raws));
+  are_good = r.good;
+  is_bad = bad;
+  gathered = g;
+  parts = ap (parts_of []) (r.texts_are ∙ sym (append-nil texts)) ∙ c [];
+}
+
+place_of_line : (texts : List (List ℕ)) (before : List Part) (g : List (List ℕ)) (input rest : List ℕ) (number : ℕ) (fault : ScriptFault) → ReadTo texts input rest → IsCut texts before g → length texts + 1 ≡ number → IsLineFault number fault rest → IsPlace fault (raw_lines input) before
+place_of_line texts before g input rest number stops.Read r c n f = tt
+place_of_line texts before g input rest number stops.Memory r c n f = tt
+place_of_line texts before g input rest number stops.Write r c n f = tt
+place_of_line texts before g input rest number (stops.Store fault) r c n f = tt
+place_of_line texts before g input rest number (stops.NotUtf8 line) r c n f = first_bad texts before g input rest line number _ r c n f.0 f.1 f.2 f.3 (f.4, f.5)
+place_of_line texts before g input rest number (stops.LineTooLong line) r c n f = first_bad texts before g input rest line number _ r c n f.0 f.1 f.2 f.3 f.4
+
+pub stops_reading : (texts : List (List ℕ)) (before : List Part) (g : List (List ℕ)) (input rest : List ℕ) (number : ℕ) (a b : Standing) (d : Desk) (c0 c1 : Option (List ℕ)) (fault : ScriptFault) → ReadTo texts input rest → IsCut texts before g → Runs before a b c0 c1 → d ≡ b.desk
+    → length texts + 1 ≡ number → IsReadingFault number fault → IsLineFault number fault rest → Ends input a d c0 c1 (Err fault)
+stops_reading texts before g input rest number a b d c0 c1 fault r c ran same n o f =
+    let left = map without_return (raw_lines rest) in
+    let p = parts_begin g left in
+    let cut = script_cut texts before g input rest r c ∙ ap (λ (w : List Part). before ++ w) p.2 in (
+      record {
+        before = before;
+        part = Message p.0;
+        after = p.1;
+        split = cut;
+        between = c1;
+        ran = ran.1;
+        stops = unbegun fault number p.0 (after_parts before a) d c1 o (same ∙ ap (λ (s : Standing). s.desk) ran.0);
+      },
+      place_of_line texts before g input rest number fault r c n f,
+    )
+
+-- nothing read, for want of memory
+pub stops_at_once : (input : List ℕ) (a : Standing) (c : Option (List ℕ)) → Ends input a a.desk c c (Err stops.Memory)
+stops_at_once input a c = stops_reading [] [] [] input input 1 a a a.desk c c stops.Memory (nothing_read input) (λ lines. refl) (runs_none a c) refl refl tt tt
+
+pub left_more : {a b c : Option (List ℕ)} {P Q R : List ℕ → List ℕ → Type 0} → Left a b P → Left b c Q → ((xs ys zs : List ℕ) → P xs ys → Q ys zs → R xs zs) → Left a c R
+left_more p q f = record { known = λ xs e. let u = p.known xs e in let v = q.known u.0 u.1 in (v.0, v.1, f xs u.0 v.0 u.2 v.2) }
+
+pub left_same : (a : Option (List ℕ)) {P : List ℕ → List ℕ → Type 0} → ((xs : List ℕ) → P xs xs) → Left a a P
+left_same a f = record { known = λ xs e. (xs, e, f xs) }
+
+-- what is known of what is left is known of the whole
+pub known_before : {a b : Option (List ℕ)} {P : List ℕ → List ℕ → Type 0} {Q R : List ℕ → Type 0} → Left a b P → Known b Q → ((xs ys : List ℕ) → P xs ys → Q ys → R xs) → Known a R
+known_before p q f = record { known = λ xs e. let u = p.known xs e in f xs u.0 u.2 (q.known u.0 u.1) }
+
+pub known_of : {a b : Option (List ℕ)} {P : List ℕ → List ℕ → Type 0} {R : List ℕ → Type 0} → Left a b P → ((xs ys : List ℕ) → P xs ys → R xs) → Known a R
+known_of p f = record { known = λ xs e. let u = p.known xs e in f xs u.0 u.2 }
+
+pub none_right : (xs ys : List ℕ) → xs ++ ys ≡ [] → ys ≡ []
+none_right [] ys e = e
+none_right (x ∷ xs) ys e = cc
+
+pub on_ok : {T E P : Type 0} (r : Result T E) → P → OnOk r P
+on_ok (Ok x) p = p
+on_ok (Err e) p = tt
+
+pub no_lines_left : (line : List ℕ) (all rest : List ℕ) → (raw : List ℕ) × (raw_lines all ≡ raw ∷ []) × IsGoodLine raw × (line ≡ without_return raw) × (rest ≡ []) → (raw : List ℕ) × (raw_lines all ≡ raw ∷ raw_lines rest) × IsGoodLine raw × (line ≡ without_return raw)
+no_lines_left line all rest p = (p.0, p.1 ∙ ap (λ (w : List ℕ). p.0 ∷ raw_lines w) (sym p.4), p.2, p.3)
+
+-- what a line gives
+abbrev pub IsNextLine : List ℕ → List ℕ → List ℕ → Type 0
+IsNextLine line all rest = (raw : List ℕ) × (raw_lines all ≡ raw ∷ raw_lines rest) × IsGoodLine raw × (line ≡ without_return raw)
+
+-- a stop in a line that was read
+pub stops_in_line : {r0 r1 r2 : Option (List ℕ)} (texts : List (List ℕ)) (before : List Part) (g : List (List ℕ)) (source rest line : List ℕ) (a b : Standing) (d : Desk) (c0 c1 c2 : Option (List ℕ)) (fault : ScriptFault) → Left r0 r1 (λ xs ys. ReadTo texts xs (source ++ ys)) → Left r1 r2 (λ ys zs. IsNextLine line (source ++ ys) (rest ++ zs)) → IsCut texts before g → Runs before a b c0 c1
+    → IsOfPart fault → ((lines : List (List ℕ)) → Stops (parts_of g (line ∷ lines)) b d c1 c2 fault) → Known r0 (λ xs. Ends xs a d c0 c2 (Err fault))
+stops_in_line texts before g source rest line a b d c0 c1 c2 fault read piece c ran o stop = record {
+  known = λ xs e.
+      let u = read.known xs e in
+      let v = piece.known u.0 u.1 in
+      let p = v.2 in
+      let here : line ∷ map without_return (raw_lines (rest ++ v.0)) ≡ map without_return (raw_lines (source ++ u.0)) =
+          ap (λ (w : List ℕ). w ∷ map without_return (raw_lines (rest ++ v.0))) p.3 ∙ sym (ap (map without_return) p.1) in
+      stops_in texts before g xs (source ++ u.0) a b d c0 c1 c2 fault u.2 c ran o (subst (λ (ls : List (List ℕ)). Stops (parts_of g ls) b d c1 c2 fault) here (stop (map without_return (raw_lines (rest ++ v.0))))) }
+
+-- the last line, as one that is read
+pub last_line : {r1 r2 : Option (List ℕ)} (source rest line : List ℕ) → Left r1 r2 (λ ys zs. (raw : List ℕ) × (raw_lines (source ++ ys) ≡ raw ∷ []) × IsGoodLine raw × (line ≡ without_return raw) × (rest ++ zs ≡ [])) → Left r1 r2 (λ ys zs. IsNextLine line (source ++ ys) (rest ++ zs))
+last_line source rest line p = record { known = λ ys e. let u = p.known ys e in (u.0, u.1, no_lines_left line (source ++ ys) (rest ++ u.0) u.2) }
+
+-- the end of the input, after its last line
+pub ends_at_last : {r0 r1 r2 : Option (List ℕ)} (texts : List (List ℕ)) (before parts : List Part) (g h : List (List ℕ)) (source rest line : List ℕ) (a b : Standing) (d : Desk) (c0 c1 c2 : Option (List ℕ)) (r : Result ScriptEnd ScriptFault) → Left r0 r1 (λ xs ys. ReadTo texts xs (source ++ ys))
+    → Left r1 r2 (λ ys zs. (raw : List ℕ) × (raw_lines (source ++ ys) ≡ raw ∷ []) × IsGoodLine raw × (line ≡ without_return raw) × (rest ++ zs ≡ [])) → IsCut texts before g → ((lines : List (List ℕ)) → parts_of g (line ∷ lines) ≡ parts ++ parts_of h lines) → Runs (before ++ parts) a b c0 c1
+    → IfErr r IsOfPart → EndsParts (Message h ∷ []) b d c1 c2 r → Known r0 (λ xs. Ends xs a d c0 c2 r)
+ends_at_last texts before parts g h source rest line a b d c0 c1 c2 r read piece c f ran o ends = record {
+  known = λ xs e.
+      let u = read.known xs e in
+      let v = piece.known u.0 u.1 in
+      let p = v.2 in
+      ends_at (texts ++ line ∷ []) (before ++ parts) h xs (rest ++ v.0) a b d c0 c1 c2 r (read_more texts xs (source ++ u.0) (rest ++ v.0) line u.2 (no_lines_left line (source ++ u.0) (rest ++ v.0) p)) (ap raw_lines p.4) (cut_more texts before parts g h line c f) ran o ends }
+
+pub one_line_more : (texts : List (List ℕ)) (line : List ℕ) (number : ℕ) → length texts + 1 ≡ number → length (texts ++ line ∷ []) + 1 ≡ number + 1
+one_line_more texts line number e = ap (λ (n : ℕ). n + 1) (length-append texts (line ∷ []) ∙ e)

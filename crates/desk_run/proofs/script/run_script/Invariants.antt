@@ -1,0 +1,21 @@
+use Rattle.std.proofs.Common.{◌≡◌, ◌+◌, ◌++◌, ℕ, List, length}
+use Rattle.desk_store.specs.Store.{Holds}
+use Rattle.desk_run.specs.Reading.{Left}
+use Rattle.desk_run.specs.Script.{Part, begin, standing}
+use Rattle.desk_run.specs.Running.{Runs}
+use Rattle.desk_run.proofs.ScriptLemmas.{ReadTo, IsCut}
+use Rattle.desk_run.proofs.script.run_script.Given as goal
+
+abbrev pub invariant-loop-number : goal.invariant-loop-number
+invariant-loop-number g l =
+    let desk = g.S.Records.desk in
+    record {
+      before : List Part;
+      texts : List (List ℕ);
+      counted : length texts + 1 ≡ l.number;
+      cut : IsCut texts before l.run.gathered.items;
+      faults : g.S.Records.faults l.store ≡ g.S.Records.faults l.fn.store;
+      read : Left (g.R.Read.remaining l.fn.reader) (g.R.Read.remaining l.reader) (λ xs ys. ReadTo texts xs (l.source ++ ys));
+      ran : Holds g.S.Records.is_kept g.S.Records.is_honest l.fn.store l.store
+          (Runs before (begin (desk l.fn.store)) (standing (desk l.store) l.run.sender l.run.refused) (g.W.Write.contents l.fn.writer) (g.W.Write.contents l.writer));
+    }

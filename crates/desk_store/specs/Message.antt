@@ -1,0 +1,136 @@
+-- A message, as a machine that takes its lines one at a time (the BTS page 'control and manipulation'; its end at the
+-- fifth line that could not be read, and all else where no page is named, are this project's own rules).
+use Rattle.std.specs.Prelude.{ℕ, ◌≡◌, ◌+◌, ◌-◌, ◌<◌, ◌≤◌, ◌==◌, nat_lt, nat_le, Bool, true, false, List, [], ◌∷◌, ◌++◌, length, take, count_by, Option, Some, None, Result, Ok, Err, unwrap_or, if◌then◌else◌}
+use Rattle.std.specs.List.{list_any}
+use Rattle.bug_record.specs.Desk.{Desk}
+use Rattle.bug_record.specs.Steps.{step}
+use Rattle.bug_record.specs.Changed.{changed_numbers}
+use Rattle.bug_record.specs.declared.command.Command.{Command}
+use Rattle.bug_record.specs.declared.command.Command.TheVariants.{Severity as SetSeverity, Close}
+use Rattle.bug_record.specs.declared.command.Refusal.{Refusal}
+use Rattle.bug_record.specs.declared.command.Refusal.TheVariants.{Unknown, Malformed, NoName, NoBug}
+use Rattle.control_text.specs.Lines.{reading}
+use Rattle.control_text.specs.declared.named.Named.{Named}
+use Rattle.control_text.specs.declared.named.Named.TheVariants.{Number, Name}
+use Rattle.control_text.specs.declared.line.Line.{Line}
+use Rattle.control_text.specs.declared.line.Line.TheVariants.{Blank, Comment, Stop, Do}
+use Rattle.desk_text.specs.declared.outcome.StoreFault.{StoreFault}
+use Rattle.desk_text.specs.declared.outcome.Outcome.{Outcome}
+use Rattle.desk_text.specs.declared.outcome.Outcome.TheVariants.{Changed, Refused, Stopped}
+use Rattle.desk_text.specs.declared.outcome.End.{End}
+use Rattle.desk_text.specs.declared.outcome.End.TheVariants as ends
+use Rattle.desk_store.specs.Store.{faults_after}
+
+-- a line as it was written, and what came of it
+abbrev pub Entry : Type 0
+Entry = List ℕ × Outcome
+
+-- The names that an accepted line gives, with their numbers. No command gives a name so far.
+abbrev pub names_given : Entry → List (ℕ × ℕ)
+names_given entry = []
+
+-- the names known after these lines
+abbrev pub known_names : List Entry → List (ℕ × ℕ)
+known_names [] = []
+known_names (entry ∷ entries) = names_given entry ++ known_names entries
+
+abbrev pub number_of_name : List (ℕ × ℕ) → ℕ → Option ℕ
+number_of_name [] k = None
+number_of_name (p ∷ names) k = if p.0 == k then Some p.1 else number_of_name names k
+
+-- The number that a bug word means. A name -k that isn't known stands for 1,000,000,000 + k, which no bug has.
+abbrev pub number_meant : List (ℕ × ℕ) → Named → ℕ
+number_meant names (Number n) = n
+number_meant names (Name k) = unwrap_or (number_of_name names k) (1000000000 + k)
+
+abbrev pub command_meant : List (ℕ × ℕ) → Command Named → Command ℕ
+command_meant names (SetSeverity w s) = SetSeverity (number_meant names w) s
+command_meant names (Close w) = Close (number_meant names w)
+
+-- where that number is refused, the refusal is that of the name
+abbrev pub refusal_meant : Refusal → Refusal
+refusal_meant (NoBug n) = if nat_lt 1000000000 n then NoName (n - 1000000000) else NoBug n
+refusal_meant refusal = refusal
+
+-- the outcome of a command whose step is this, and the desk after it
+abbrev pub outcome_of : Desk → Result Desk Refusal → Outcome × Desk
+outcome_of d (Ok new) = (Changed (changed_numbers d new), new)
+outcome_of d (Err refusal) = (Refused (refusal_meant refusal), d)
+
+unfoldable pub does : List ℕ → List (ℕ × ℕ) → Desk → Command Named → Outcome × Desk
+does sender names d command = outcome_of d (step d sender (command_meant names command))
+
+-- the machine within a message: the desk, and the outcomes so far
+pub record Machine : Type 0 where
+  pub desk : Desk
+  pub outcomes : List Entry
+
+abbrev pub machine : Desk → List Entry → Machine
+machine d outcomes = record { desk = d; outcomes = outcomes }
+
+abbrev pub with_outcome : Machine → List ℕ → Outcome × Desk → Machine
+with_outcome m line done = machine done.1 (m.outcomes ++ (line, done.0) ∷ [])
+
+-- what the machine does with a line that reads so; blank lines and comments have no outcome
+abbrev pub takes : List ℕ → Machine → List ℕ → Result Line Refusal → Machine
+takes sender m line (Ok Blank) = m
+takes sender m line (Ok Comment) = m
+takes sender m line (Ok Stop) = with_outcome m line (Stopped, m.desk)
+takes sender m line (Ok (Do command)) = with_outcome m line (does sender (known_names m.outcomes) m.desk command)
+takes sender m line (Err refusal) = with_outcome m line (Refused refusal, m.desk)
+
+-- lines that could not be read
+abbrev pub is_unreadable : Outcome → Bool
+is_unreadable (Refused Unknown) = true
+is_unreadable (Refused Malformed) = true
+is_unreadable outcome = false
+
+abbrev pub unreadable_count : List Entry → ℕ
+unreadable_count entries = count_by (λ entry. is_unreadable entry.1) entries
+
+abbrev pub is_stop : Outcome → Bool
+is_stop Stopped = true
+is_stop outcome = false
+
+-- How the outcomes so far end the message, which goes on at `All`: a stop ends it, and so does the fifth line that could
+-- not be read.
+unfoldable pub end_of : List Entry → End
+end_of entries =
+    if list_any (λ entry. is_stop entry.1) entries then ends.Stopped
+    else if nat_le 5 (unreadable_count entries) then ends.TooManyUnreadable
+    else ends.All
+
+-- after its end the machine takes no line
+abbrev pub takes_at : End → List ℕ → Machine → List ℕ → Machine
+takes_at ends.All sender m line = takes sender m line (reading line)
+takes_at ends.Stopped sender m line = m
+takes_at ends.TooManyUnreadable sender m line = m
+takes_at (ends.Store fault k) sender m line = m
+
+-- the machine after these lines
+abbrev pub after_lines : List ℕ → Machine → List (List ℕ) → Machine
+after_lines sender m [] = m
+after_lines sender m (line ∷ lines) = after_lines sender (takes_at (end_of m.outcomes) sender m line) lines
+
+abbrev pub at_start : Desk → Machine
+at_start d = machine d []
+
+-- in these lines the machine comes to these outcomes, this end and this desk
+pub record Comes (sender : List ℕ) (lines : List (List ℕ)) (old : Desk) (outcomes : List Entry) (end : End) (new : Desk) : Type 0 where
+  pub after : after_lines sender (at_start old) lines ≡ machine new outcomes
+  pub end_is : end_of outcomes ≡ end
+
+-- What a message comes to: its outcomes, its end, and the desk after it. With a fault at line k, the lines before k were
+-- taken, and line k and the later ones were not.
+abbrev pub IsReceived : List ℕ → List (List ℕ) → Desk → List Entry → End → Desk → Type 0
+IsReceived sender lines old outcomes ends.All new = Comes sender lines old outcomes ends.All new
+IsReceived sender lines old outcomes ends.Stopped new = Comes sender lines old outcomes ends.Stopped new
+IsReceived sender lines old outcomes ends.TooManyUnreadable new = Comes sender lines old outcomes ends.TooManyUnreadable new
+IsReceived sender lines old outcomes (ends.Store fault k) new = (0 < k) × (k ≤ length lines) × Comes sender (take (k - 1) lines) old outcomes ends.All new
+
+-- the store's count of faults after a message
+abbrev pub faults_after_end : End → ℕ → ℕ
+faults_after_end ends.All n = n
+faults_after_end ends.Stopped n = n
+faults_after_end ends.TooManyUnreadable n = n
+faults_after_end (ends.Store fault k) n = faults_after {T = Unit {0}} (Err fault) n
