@@ -1,13 +1,14 @@
 -- A command that is carried out in parts is the machine's step.
 use Rattle.std.proofs.Common.{◌≡◌, ◌≤◌, ℕ, Bool, true, false, eqb, List, [], ◌∷◌, Option, Some, None, Result, Ok, Err, sym, refl, ap, ◌∙◌, subst, arith}
-use Rattle.std.specs.Prelude.{option_map, ◌||◌, if◌then◌else◌}
+use Rattle.std.specs.Prelude.{option_map, ◌||◌, ◌==◌, length, if◌then◌else◌}
 use Rattle.std.proofs.lemmas.Bool.{false≢true, eqb-true}
 use Rattle.bug_record.specs.Sets.{has, Each}
 use Rattle.bug_record.specs.Desk.{Desk, IsSound}
 use Rattle.bug_record.specs.Steps.{step}
 use Rattle.bug_record.specs.Images.{numbers_of, member_at, bug_of, bug_in, or_else, put, IsBlockOf, FitsDesk}
 use Rattle.bug_record.specs.Plans.{named, IsShownBy, CoverImages, BringNone}
-use Rattle.bug_record.specs.Changed.{changed_numbers}
+use Rattle.bug_record.specs.Changed.{changed_numbers, AreChanged, Replaces}
+use Rattle.bug_core.proofs.ChangedLemmas.{changed-on_desk}
 use Rattle.bug_record.specs.declared.bug.Member.{Member}
 use Rattle.bug_record.specs.declared.bug.SetImage.{SetImage}
 use Rattle.bug_record.specs.declared.command.Change.{Change}
@@ -44,8 +45,9 @@ shown d d1 d2 images sets n next ns e f p q sound =
     (record { sound = sound; next_is = sym (q.0 ∙ ap (λ (z : Desk). z.next) (sym q.1)); blocks = t.blocks; known = (t.known, tt) })
 
 -- what is planned may be carried out
-pub planned : (d : Desk) (images : List SetImage) (next : ℕ) (ns : List ℕ) (change : Change) → IsShownBy d images next ns → FitsDesk d change → CoverImages images change.images → BringNone d images change.images → next ≤ change.next → IsPlanned d images change
+pub planned : (d : Desk) (images : List SetImage) (next : ℕ) (ns : List ℕ) (change : Change) → IsShownBy d images next ns → FitsDesk d change → CoverImages images change.images → BringNone d images change.images → next ≤ change.next → IsPlanned d images next change
 planned d images next ns change sh fits covers brings later = record {
+  next_is = sh.next_is;
   fits = fits;
   replaces = record {
     sound = sh.sound;
@@ -83,3 +85,25 @@ does_refused sender d d1 d2 command meant refusal said e p q s c =
     ∙ (ap (λ (z : Desk). outcome_of z (step z sender meant)) same
     ∙ (ap (outcome_of d2) s
     ∙ (λ i. (Refused (sym c i), d2))))
+
+-- the numbers of a planned change are those at which the desks differ
+pub told : {d : Desk} (images sets : List SetImage) {next : ℕ} {change : Change} {numbers : List ℕ} → sets ≡ change.images
+    → ((d : Desk) (next : ℕ) → Replaces d images sets next → numbers ≡ changed_numbers d (put d (record { images = sets; next = next })))
+    → IsPlanned d images next change → Changed numbers ≡ Changed (changed_numbers d (put d change))
+told {d} images sets {next} {change} {numbers} e right p =
+    ap Changed (right d change.next (subst (λ js. Replaces d images js change.next) (sym e) p.replaces) ∙ ap (λ js. changed_numbers d (put d (record { images = js; next = change.next }))) e)
+
+-- a list of no number
+pub nothing : (shown numbers : List ℕ) → shown ≡ numbers → (length shown == 0) ≡ true → numbers ≡ []
+nothing [] numbers e t = sym e
+nothing (n ∷ ns) numbers e t = let none : length (n ∷ ns) ≡ 0 = eqb-true (length (n ∷ ns)) 0 t in absurd (omega arith)
+
+-- a change of nothing leaves the desk as it is
+pub unchanged : (d : Desk) (images sets : List SetImage) (next : ℕ) (change : Change) (numbers : List ℕ) → sets ≡ change.images → AreChanged (bug_in images) (bug_in sets) numbers
+    → IsPlanned d images next change → numbers ≡ [] → change.next ≡ next → put d change ≡ d
+unchanged d images sets next change numbers e a p none same =
+    let b = subst (λ js. AreChanged (bug_in images) (bug_in js) numbers) e a in
+    let o = (changed-on_desk d images change.images change.next numbers p.replaces b).others in
+    let f : (n : ℕ) → (put d change).bug n ≡ d.bug n = λ n. sym (o n (ap (λ w. has w n) none)) in
+    let m : change.next ≡ d.next = same ∙ sym p.next_is in
+    λ i. record { bug = λ n. f n i; next = m i }

@@ -78,22 +78,26 @@ fn images_of<S: Records>(
     }
 }
 
-// Has the store carry a planned change out.
+// Has the store carry a planned change out. A change of nothing isn't handed to it.
 fn carry_out<S: Records>(
     alloc: Global,
     store: &mut S,
     images: &[SetImage],
+    next: u64,
     change: &Change,
 ) -> Result<Outcome, StoreFault>
     requires apart { AreApart change.now.images }
     requires members { Each HasMember change.now.images }
-    requires planned { S.is_kept store.old → S.is_honest store.old → IsPlanned (S.desk store.old) images.now change.now }
+    requires planned { S.is_kept store.old → S.is_honest store.old → IsPlanned (S.desk store.old) images.now next change.now }
     ensures answer { Holds S.is_kept S.is_honest store.old store.new (CarriesOut (S.desk store.old) change.now result (S.desk store.new)) }
     ensures count { S.faults store.new ≡ faults_after result (S.faults store.old) }
 {
     let Ok(numbers) = changed(alloc, images, change.images.as_slice()) else {
         return Err(StoreFault::Memory);
     };
+    if numbers.as_slice().is_empty() && change.next == next {
+        return Ok(Outcome::Changed(numbers));
+    }
     match store.apply(change) {
         Ok(()) => Ok(Outcome::Changed(numbers)),
         Err(fault) => Err(fault),
@@ -122,7 +126,7 @@ pub(crate) fn take_command<S: Records>(
     };
     let sets = images.as_slice();
     match plan(alloc, &command, from, sets, next) {
-        Ok(change) => carry_out(alloc, store, sets, &change),
+        Ok(change) => carry_out(alloc, store, sets, next, &change),
         Err(PlanFault::Refused(refusal)) => Ok(Outcome::Refused(refusal_meant(refusal))),
         Err(PlanFault::Memory) => Err(StoreFault::Memory),
     }
