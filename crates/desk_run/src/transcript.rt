@@ -2,7 +2,7 @@
 
 ghost use Rattle.std.specs.Prelude.{◌≡◌, ◌++◌, IfOk, OnOk, OnErr};
 ghost use Rattle.desk_run.specs.Lines.{lines_of};
-ghost use Rattle.desk_run.specs.Transcripts.{transcript, line_of_end, IsLineOf, received_text};
+ghost use Rattle.desk_run.specs.Transcripts.{transcript, line_of_end, received_text};
 
 use crate::lines::split_lines;
 use crate::message::Received;
@@ -23,14 +23,16 @@ fn append_outcomes(
     Ok(())
 }
 
-// The line at which the store failed, if it did.
+// The line at which the store failed, if it did and there is such a line.
 fn line_of_end(end: End, lines: &[Text]) -> &str
-    requires { IsLineOf end lines.now }
     ensures { result.now ≡ line_of_end end lines.now }
 {
-    match end {
-        End::Store(_, line) => lines[line as usize - 1].as_str(),
-        _ => "",
+    let End::Store(_, line) = end else {
+        return "";
+    };
+    match lines.get(line.saturating_sub(1) as usize) {
+        Some(line) => line.as_str(),
+        None => "",
     }
 }
 
@@ -41,7 +43,6 @@ pub(crate) fn received_bytes(
     received: &Received,
     lines: &[Text],
 ) -> Result<Vec<u8>, AllocError>
-    requires { IsLineOf received.now.end lines.now }
     ensures { IfOk result (λ text. text.items ≡ received_text received.now.outcomes received.now.end lines.now) }
 {
     let mut text = Vec::new(alloc);
@@ -51,15 +52,15 @@ pub(crate) fn received_bytes(
     Ok(text)
 }
 
-/// Appends the transcript of a message that was received: the two lines of each outcome, and the end's text. It asks that
-/// the line of a store fault is a line of the message. Where there is no memory, `out` is as before.
+/// Appends the transcript of this message, as it was received: the two lines of each outcome, and the end's text. Where
+/// the message has no line of the number at which the store failed, an empty line is told. Where there is no memory, `out`
+/// is as before.
 pub fn received_text(
     alloc: Global,
     out: &mut Vec<u8>,
     received: &Received,
     message: &str,
 ) -> Result<(), AllocError>
-    requires { IsLineOf received.now.end (lines_of message.now) }
     ensures ok { OnOk result (out.new.items ≡ out.old.items ++ received_text received.now.outcomes received.now.end (lines_of message.now)) }
     ensures err { OnErr result (out.new.items ≡ out.old.items) }
 {
