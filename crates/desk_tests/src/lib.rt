@@ -1,0 +1,11 @@
+//! Tests that cross crates: reports, messages and scripts over a desk in memory, and over one that fails.
+#![tactic(auto)]
+
+#[cfg(test)]
+mod messages;
+#[cfg(test)]
+mod reports;
+#[cfg(test)]
+mod scripts;
+#[cfg(test)]
+mod shown;
