@@ -20,7 +20,7 @@ use Rattle.desk_text.specs.declared.outcome.Outcome.TheVariants.{Changed, Refuse
 use Rattle.desk_store.specs.Store.{IsImageOf}
 use Rattle.desk_store.specs.Message.{does, outcome_of, command_meant, refusal_meant}
 use Rattle.desk_text.specs.declared.outcome.StoreFault.{StoreFault}
-use Rattle.desk_run.specs.Commands.{ShowBug, IsPlanned, CarriesOut, Does}
+use Rattle.desk_run.specs.Commands.{ShowBug, MayBeMade, CarriesOut, Does}
 
 -- a member that is a bug of the desk
 member_shown : (d : Desk) (i : SetImage) (ms : List Member) (n : ℕ) → has (numbers_of ms) n ≡ true → Each (λ m. d.bug m.number ≡ Some (bug_of i m)) ms → or_else (option_map (bug_of i) (member_at ms n)) None ≡ d.bug n
@@ -45,7 +45,7 @@ shown d d1 d2 images sets n next ns e f p q sound =
     (record { sound = sound; next_is = sym (q.0 ∙ ap (λ (z : Desk). z.next) (sym q.1)); blocks = t.blocks; known = (t.known, tt) })
 
 -- what is planned may be carried out
-pub planned : (d : Desk) (images : List SetImage) (next : ℕ) (ns : List ℕ) (change : Change) → IsShownBy d images next ns → FitsDesk d change → CoverImages images change.images → BringNone d images change.images → next ≤ change.next → IsPlanned d images next change
+pub planned : (d : Desk) (images : List SetImage) (next : ℕ) (ns : List ℕ) (change : Change) → IsShownBy d images next ns → FitsDesk d change → CoverImages images change.images → BringNone d images change.images → next ≤ change.next → MayBeMade d images next change
 planned d images next ns change sh fits covers brings later = record {
   next_is = sh.next_is;
   fits = fits;
@@ -89,7 +89,7 @@ does_refused sender d d1 d2 command meant refusal said e p q s c =
 -- the numbers of a planned change are those at which the desks differ
 pub told : {d : Desk} (images sets : List SetImage) {next : ℕ} {change : Change} {numbers : List ℕ} → sets ≡ change.images
     → ((d : Desk) (next : ℕ) → Replaces d images sets next → numbers ≡ changed_numbers d (put d (record { images = sets; next = next })))
-    → IsPlanned d images next change → Changed numbers ≡ Changed (changed_numbers d (put d change))
+    → MayBeMade d images next change → Changed numbers ≡ Changed (changed_numbers d (put d change))
 told {d} images sets {next} {change} {numbers} e right p =
     ap Changed (right d change.next (subst (λ js. Replaces d images js change.next) (sym e) p.replaces) ∙ ap (λ js. changed_numbers d (put d (record { images = js; next = change.next }))) e)
 
@@ -100,7 +100,7 @@ nothing (n ∷ ns) numbers e t = let none : length (n ∷ ns) ≡ 0 = eqb-true (
 
 -- a change of nothing leaves the desk as it is
 pub unchanged : (d : Desk) (images sets : List SetImage) (next : ℕ) (change : Change) (numbers : List ℕ) → sets ≡ change.images → AreChanged (bug_in images) (bug_in sets) numbers
-    → IsPlanned d images next change → numbers ≡ [] → change.next ≡ next → put d change ≡ d
+    → MayBeMade d images next change → numbers ≡ [] → change.next ≡ next → put d change ≡ d
 unchanged d images sets next change numbers e a p none same =
     let b = subst (λ js. AreChanged (bug_in images) (bug_in js) numbers) e a in
     let o = (changed-on_desk d images change.images change.next numbers p.replaces b).others in

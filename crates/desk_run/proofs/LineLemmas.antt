@@ -5,7 +5,8 @@ use Rattle.std.specs.List.{list_any}
 use Rattle.std.proofs.lemmas.List.{get_or_default}
 use Rattle.std.proofs.lemmas.List.Folds.{list_any_none}
 use Rattle.std.proofs.lemmas.Bool.{ne_eqb, eqb-true, or_parts, eq-eqb}
-use Rattle.desk_run.specs.Lines.{without_return, onto, raw_lines, lines_of}
+use Rattle.std.specs.List.{onto_first}
+use Rattle.desk_run.specs.Lines.{without_return, raw_lines, lines_of}
 
 abbrev pub is_feed : ℕ → Bool
 is_feed c = eqb c 10
@@ -19,19 +20,19 @@ pub raw_lines-first : (line rest : List ℕ) → list_any is_feed line ≡ false
 raw_lines-first [] rest h = refl
 raw_lines-first (c ∷ line) rest h =
     let p = or_parts (is_feed c) (list_any is_feed line) h in
-    ap (λ (t : Bool). if t then [] ∷ raw_lines (line ++ 10 ∷ rest) else onto c (raw_lines (line ++ 10 ∷ rest))) p.0
-    ∙ ap (onto c) (raw_lines-first line rest p.1)
+    ap (λ (t : Bool). if t then [] ∷ raw_lines (line ++ 10 ∷ rest) else onto_first c (raw_lines (line ++ 10 ∷ rest))) p.0
+    ∙ ap (onto_first c) (raw_lines-first line rest p.1)
 
 -- the last line
 pub raw_lines-last : (line : List ℕ) → 0 < length line → list_any is_feed line ≡ false → raw_lines line ≡ line ∷ []
 raw_lines-last [] lt h = absurd (omega arith)
 raw_lines-last (c ∷ []) lt h =
     let p = or_parts (is_feed c) false h in
-    ap (λ (t : Bool). if t then [] ∷ [] else onto c []) p.0
+    ap (λ (t : Bool). if t then [] ∷ [] else onto_first c []) p.0
 raw_lines-last (c ∷ d ∷ line) lt h =
     let p = or_parts (is_feed c) (list_any is_feed (d ∷ line)) h in
-    ap (λ (t : Bool). if t then [] ∷ raw_lines (d ∷ line) else onto c (raw_lines (d ∷ line))) p.0
-    ∙ ap (onto c) (raw_lines-last (d ∷ line) (omega arith) p.1)
+    ap (λ (t : Bool). if t then [] ∷ raw_lines (d ∷ line) else onto_first c (raw_lines (d ∷ line))) p.0
+    ∙ ap (onto_first c) (raw_lines-last (d ∷ line) (omega arith) p.1)
 
 -- a carriage return at the end
 pub without_return-ended : (front : List ℕ) → without_return (front ++ 13 ∷ []) ≡ front
@@ -47,7 +48,7 @@ without_return-none (c ∷ []) h =
 without_return-none (c ∷ d ∷ s) h = ap (λ (w : List ℕ). c ∷ w) (without_return-none (d ∷ s) (λ front e. h (c ∷ front) (ap (λ (w : List ℕ). c ∷ w) e)))
 
 -- a message that isn't empty has a line
-onto_some : (c : ℕ) (lines : List (List ℕ)) → 1 ≤ length (onto c lines)
+onto_some : (c : ℕ) (lines : List (List ℕ)) → 1 ≤ length (onto_first c lines)
 onto_some c [] = omega arith
 onto_some c (line ∷ lines) = omega arith
 

@@ -1,5 +1,5 @@
 -- Parts of a script, carried out one at a time.
-use Rattle.std.proofs.Common.{◌≡◌, inl, inr, ℕ, Bool, true, false, List, [], ◌∷◌, ◌++◌, take, sym, ◌∙◌, ap, subst, refl, Option, Some, None, Result, Ok, Err}
+use Rattle.std.proofs.Common.{◌≡◌, inl, inr, ℕ, Bool, true, false, ◌<◌, length, List, [], ◌∷◌, ◌++◌, take, sym, ◌∙◌, ap, subst, refl, Option, Some, None, Result, Ok, Err}
 use Rattle.std.specs.Prelude.{◌||◌}
 use Rattle.std.proofs.lemmas.Option.{none-some, same_Some}
 use Rattle.std.specs.Io.KnownBytes.{Appends}
@@ -12,8 +12,8 @@ use Rattle.desk_store.specs.Store.{faults_after, one_more}
 use Rattle.desk_store.specs.Message.{Entry, Machine, machine, after_lines, at_start, end_of, IsReceived, Comes, faults_after_end}
 use Rattle.desk_run.specs.Transcripts.{received_text}
 use Rattle.desk_run.specs.Reports.{report_of, IsReported, faults_after_report}
-use Rattle.desk_run.specs.Script.{Part, Message, Order, Directive, From, Report, Bad, Standing, standing, part_text, part_after, message_text, after_message, refuses, directive_of, directive_text, after_directive, report_text, after_report}
-use Rattle.desk_run.specs.Running.{FaultsIn, IsCarried, StopsIn, Carries}
+use Rattle.desk_run.specs.Script.{Part, Message, DirectiveLine, Directive, From, Report, Bad, Standing, standing, part_text, part_after, message_text, after_message, refuses, directive_of, directive_text, after_directive, report_text, after_report}
+use Rattle.desk_run.specs.Running.{AsksStore, FaultsIn, IsCarried, StopsIn, Carries}
 use Rattle.desk_run.specs.Answers.{fault_of_end, report_answer, store_fault}
 use Rattle.desk_run.specs.declared.reporting.ReportFault.{ReportFault}
 use Rattle.desk_run.specs.declared.reporting.ReportFault.TheVariants as reports
@@ -68,21 +68,21 @@ received_whole lines s outcomes ends.TooManyUnreadable d refused e r h = let w =
 received_whole lines s outcomes (ends.Store fault k) d refused e r h = absurd (none-some fault (sym e))
 
 -- a directive, by what its line says
-order_is : (line : List ℕ) (s : Standing) (directive : Directive) → directive_of line ≡ directive → (part_text (Order line) s ≡ directive_text directive s) × (part_after (Order line) s ≡ after_directive directive s)
+order_is : (line : List ℕ) (s : Standing) (directive : Directive) → directive_of line ≡ directive → (part_text (DirectiveLine line) s ≡ directive_text directive s) × (part_after (DirectiveLine line) s ≡ after_directive directive s)
 unfolding part_text part_after
 order_is line s directive e = (ap (λ (d : Directive). directive_text d s) e, ap (λ (d : Directive). after_directive d s) e)
 
 -- a directive carried out
-pub order_done : (line : List ℕ) (s b : Standing) (c0 c1 : Option (List ℕ)) (text : List ℕ) (directive : Directive) → directive ≡ directive_of line → b ≡ after_directive directive s → text ≡ directive_text directive s → Appends c0 c1 text → (b ≡ part_after (Order line) s) × Appends c0 c1 (part_text (Order line) s)
+pub order_done : (line : List ℕ) (s b : Standing) (c0 c1 : Option (List ℕ)) (text : List ℕ) (directive : Directive) → directive ≡ directive_of line → b ≡ after_directive directive s → text ≡ directive_text directive s → Appends c0 c1 text → (b ≡ part_after (DirectiveLine line) s) × Appends c0 c1 (part_text (DirectiveLine line) s)
 order_done line s b c0 c1 text directive e f t h =
     let o = order_is line s directive (sym e) in
     (f ∙ sym o.1, subst (Appends c0 c1) (t ∙ sym o.0) h)
 
 -- its text not all written
-pub order_unwritten : (line : List ℕ) (s : Standing) (d : Desk) (c0 c1 : Option (List ℕ)) (text : List ℕ) (n : ℕ) (directive : Directive) → directive ≡ directive_of line → d ≡ (after_directive directive s).desk → text ≡ directive_text directive s → Appends c0 c1 (take n text) → StopsIn (Order line) s d c0 c1 stops.Write
-order_unwritten line s d c0 c1 text n directive e f t h =
+pub order_unwritten : (line : List ℕ) (s : Standing) (d : Desk) (c0 c1 : Option (List ℕ)) (text : List ℕ) (n : ℕ) (directive : Directive) → directive ≡ directive_of line → d ≡ (after_directive directive s).desk → text ≡ directive_text directive s → n < length text → Appends c0 c1 (take n text) → StopsIn (DirectiveLine line) s d c0 c1 stops.Write
+order_unwritten line s d c0 c1 text n directive e f t few h =
     let o = order_is line s directive (sym e) in
-    (text, n, inl (f ∙ sym (ap (λ (x : Standing). x.desk) o.1), t ∙ sym o.0), h)
+    (text, n, few, inl (f ∙ sym (ap (λ (x : Standing). x.desk) o.1), t ∙ sym o.0), h)
 
 -- want of memory before anything was done
 pub not_begun : (part : Part) (s : Standing) (d : Desk) (c : Option (List ℕ)) → d ≡ s.desk → StopsIn part s d c c stops.Memory
@@ -94,21 +94,21 @@ untold part s d c text h = (inr (text, h), appends_none c)
 
 -- what a report comes to
 report_is : (line p : List ℕ) (v : Option (List ℕ)) (sev t : List ℕ) (s : Standing) (r : Result Desk ReportFault) → directive_of line ≡ Report p v sev t → report_of s.desk s.sender p v sev t ≡ r
-    → (part_text (Order line) s ≡ report_text r s.desk.next) × (part_after (Order line) s ≡ after_report r s)
+    → (part_text (DirectiveLine line) s ≡ report_text r s.desk.next) × (part_after (DirectiveLine line) s ≡ after_report r s)
 report_is line p v sev t s r e h =
     let o = order_is line s (Report p v sev t) e in
     (o.0 ∙ ap (λ (x : Result Desk ReportFault). report_text x s.desk.next) h, o.1 ∙ ap (λ (x : Result Desk ReportFault). after_report x s) h)
 
-refused_carried : (line p : List ℕ) (v : Option (List ℕ)) (sev t : List ℕ) (s : Standing) (d : Desk) (fault : ReportFault) → directive_of line ≡ Report p v sev t → (report_of s.desk s.sender p v sev t ≡ Err fault) × (d ≡ s.desk) → IsCarried (Order line) s d (report_text (Err fault) s.desk.next)
+refused_carried : (line p : List ℕ) (v : Option (List ℕ)) (sev t : List ℕ) (s : Standing) (d : Desk) (fault : ReportFault) → directive_of line ≡ Report p v sev t → (report_of s.desk s.sender p v sev t ≡ Err fault) × (d ≡ s.desk) → IsCarried (DirectiveLine line) s d (report_text (Err fault) s.desk.next)
 refused_carried line p v sev t s d fault e h =
     let o = report_is line p v sev t s (Err fault) e h.0 in
     inl (h.1 ∙ sym (ap (λ (x : Standing). x.desk) o.1), sym o.0)
 
-pub reported_carried : (line p : List ℕ) (v : Option (List ℕ)) (sev t : List ℕ) (s : Standing) (d : Desk) (answer : Result ℕ ReportFault) → directive_of line ≡ Report p v sev t → IsReported s.sender p v sev t s.desk answer d → IsCarried (Order line) s d (report_answer answer)
+pub reported_carried : (line p : List ℕ) (v : Option (List ℕ)) (sev t : List ℕ) (s : Standing) (d : Desk) (answer : Result ℕ ReportFault) → directive_of line ≡ Report p v sev t → IsReported s.sender p v sev t s.desk answer d → IsCarried (DirectiveLine line) s d (report_answer answer)
 reported_carried line p v sev t s d (Ok number) e h =
     let o = report_is line p v sev t s (Ok d) e h.0 in
     inl (sym (ap (λ (x : Standing). x.desk) o.1), ap (λ (n : ℕ). report_text (Ok d) n) h.1 ∙ sym o.0)
-reported_carried line p v sev t s d (Err (reports.Store fault)) e h = inr (fault, (h.2, refl))
+reported_carried line p v sev t s d (Err (reports.Store fault)) e h = inr (fault, (subst AsksStore (sym e) (h.0, h.1), h.2, refl))
 reported_carried line p v sev t s d (Err reports.BadPackage) e h = refused_carried line p v sev t s d reports.BadPackage e h
 reported_carried line p v sev t s d (Err reports.BadVersion) e h = refused_carried line p v sev t s d reports.BadVersion e h
 reported_carried line p v sev t s d (Err reports.BadSeverity) e h = refused_carried line p v sev t s d reports.BadSeverity e h
@@ -116,19 +116,19 @@ reported_carried line p v sev t s d (Err reports.BadTitle) e h = refused_carried
 reported_carried line p v sev t s d (Err reports.Full) e h = refused_carried line p v sev t s d reports.Full e h
 
 pub reported_whole : (line p : List ℕ) (v : Option (List ℕ)) (sev t : List ℕ) (s : Standing) (d : Desk) (number : ℕ) → directive_of line ≡ Report p v sev t → IsReported s.sender p v sev t s.desk (Ok number) d
-    → (standing d s.sender s.refused ≡ part_after (Order line) s) × (report_answer (Ok number) ≡ part_text (Order line) s)
+    → (standing d s.sender s.refused ≡ part_after (DirectiveLine line) s) × (report_answer (Ok number) ≡ part_text (DirectiveLine line) s)
 reported_whole line p v sev t s d number e h =
     let o = report_is line p v sev t s (Ok d) e h.0 in
     (sym o.1, ap (λ (n : ℕ). report_text (Ok d) n) h.1 ∙ sym o.0)
 
 refused_is : (line p : List ℕ) (v : Option (List ℕ)) (sev t : List ℕ) (s : Standing) (d : Desk) (fault : ReportFault) → directive_of line ≡ Report p v sev t → (report_of s.desk s.sender p v sev t ≡ Err fault) × (d ≡ s.desk)
-    → (standing d s.sender true ≡ part_after (Order line) s) × (report_text (Err fault) s.desk.next ≡ part_text (Order line) s)
+    → (standing d s.sender true ≡ part_after (DirectiveLine line) s) × (report_text (Err fault) s.desk.next ≡ part_text (DirectiveLine line) s)
 refused_is line p v sev t s d fault e h =
     let o = report_is line p v sev t s (Err fault) e h.0 in
     (ap (λ (x : Desk). standing x s.sender true) h.1 ∙ sym o.1, sym o.0)
 
 pub reported_refused : (line p : List ℕ) (v : Option (List ℕ)) (sev t : List ℕ) (s : Standing) (d : Desk) (fault : ReportFault) → store_fault fault ≡ None → directive_of line ≡ Report p v sev t → IsReported s.sender p v sev t s.desk (Err fault) d
-    → (standing d s.sender true ≡ part_after (Order line) s) × (report_answer (Err fault) ≡ part_text (Order line) s)
+    → (standing d s.sender true ≡ part_after (DirectiveLine line) s) × (report_answer (Err fault) ≡ part_text (DirectiveLine line) s)
 reported_refused line p v sev t s d (reports.Store fault) n e h = absurd (none-some fault (sym n))
 reported_refused line p v sev t s d reports.BadPackage n e h = refused_is line p v sev t s d reports.BadPackage e h
 reported_refused line p v sev t s d reports.BadVersion n e h = refused_is line p v sev t s d reports.BadVersion e h
@@ -137,14 +137,14 @@ reported_refused line p v sev t s d reports.BadTitle n e h = refused_is line p v
 reported_refused line p v sev t s d reports.Full n e h = refused_is line p v sev t s d reports.Full e h
 
 -- a report at which the store failed
-pub reported_fault : (line p : List ℕ) (v : Option (List ℕ)) (sev t : List ℕ) (s : Standing) (d : Desk) (fault : ReportFault) (of_store : StoreFault) → store_fault fault ≡ Some of_store → IsReported s.sender p v sev t s.desk (Err fault) d
-    → FaultsIn (Order line) s of_store d (report_answer (Err fault))
-reported_fault line p v sev t s d (reports.Store fault) f e h = (h.2, ap fault_text (same_Some fault f e))
-reported_fault line p v sev t s d reports.BadPackage f e h = absurd (none-some f e)
-reported_fault line p v sev t s d reports.BadVersion f e h = absurd (none-some f e)
-reported_fault line p v sev t s d reports.BadSeverity f e h = absurd (none-some f e)
-reported_fault line p v sev t s d reports.BadTitle f e h = absurd (none-some f e)
-reported_fault line p v sev t s d reports.Full f e h = absurd (none-some f e)
+pub reported_fault : (line p : List ℕ) (v : Option (List ℕ)) (sev t : List ℕ) (s : Standing) (d : Desk) (fault : ReportFault) (of_store : StoreFault) → store_fault fault ≡ Some of_store → directive_of line ≡ Report p v sev t → IsReported s.sender p v sev t s.desk (Err fault) d
+    → FaultsIn (DirectiveLine line) s of_store d (report_answer (Err fault))
+reported_fault line p v sev t s d (reports.Store fault) f e says h = (subst AsksStore (sym says) (h.0, h.1), h.2, ap fault_text (same_Some fault f e))
+reported_fault line p v sev t s d reports.BadPackage f e says h = absurd (none-some f e)
+reported_fault line p v sev t s d reports.BadVersion f e says h = absurd (none-some f e)
+reported_fault line p v sev t s d reports.BadSeverity f e says h = absurd (none-some f e)
+reported_fault line p v sev t s d reports.BadTitle f e says h = absurd (none-some f e)
+reported_fault line p v sev t s d reports.Full f e says h = absurd (none-some f e)
 
 -- how it is counted
 pub refused_count : (fault : ReportFault) (n : ℕ) → store_fault fault ≡ None → faults_after_report (Err fault) n ≡ n

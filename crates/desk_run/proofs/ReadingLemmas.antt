@@ -4,7 +4,8 @@ use Rattle.std.specs.List.{list_any}
 use Rattle.std.specs.Prelude.{if◌then◌else◌}
 use Rattle.std.proofs.lemmas.Bool.{or_parts}
 use Rattle.std.proofs.lemmas.Grind.{common_steps}
-use Rattle.desk_run.specs.Lines.{onto, raw_lines}
+use Rattle.std.specs.List.{onto_first}
+use Rattle.desk_run.specs.Lines.{raw_lines}
 use Rattle.desk_run.specs.Reading.{Known, Left, GivesByte, GivesRaw, IsLineFault, IsTextFault}
 use Rattle.desk_run.specs.declared.fault.ScriptFault.{ScriptFault}
 use Rattle.desk_run.specs.declared.fault.ScriptFault.TheVariants.{Read, Write, NotUtf8, LineTooLong, Memory, Store}
@@ -34,7 +35,7 @@ last_ended s line mid t byte free short some is p q = left_then p q
     (ap raw_lines (e ∙ (ap (λ (w : List ℕ). line ++ w) end.0 ∙ append-nil line)) ∙ raw_lines-last line some free, short, end.1))
 
 -- a byte goes on to the end of its line
-onto-first : (c : ℕ) (lines : List (List ℕ)) → (raw : List ℕ) × (more : List (List ℕ)) × (onto c lines ≡ raw ∷ more) × (1 ≤ length raw)
+onto-first : (c : ℕ) (lines : List (List ℕ)) → (raw : List ℕ) × (more : List (List ℕ)) × (onto_first c lines ≡ raw ∷ more) × (1 ≤ length raw)
 onto-first c [] = (c ∷ [], [], refl, omega arith)
 onto-first c (line ∷ lines) = (c ∷ line, lines, refl, omega arith)
 
@@ -45,12 +46,12 @@ line_goes_on [] rest free some = absurd (omega arith)
 line_goes_on (c ∷ []) rest free some =
     let p = or_parts (is_feed c) false free in
     let u = onto-first c (raw_lines rest) in
-    (u.0, u.1, ap (λ (t : Bool). if t then [] ∷ raw_lines rest else onto c (raw_lines rest)) p.0 ∙ u.2, u.3)
+    (u.0, u.1, ap (λ (t : Bool). if t then [] ∷ raw_lines rest else onto_first c (raw_lines rest)) p.0 ∙ u.2, u.3)
 line_goes_on (c ∷ d ∷ line) rest free some =
     let p = or_parts (is_feed c) (list_any is_feed (d ∷ line)) free in
     let u = line_goes_on (d ∷ line) rest p.1 (omega arith) in
     let all = d ∷ (line ++ rest) in
-    (c ∷ u.0, u.1, ap (λ (t : Bool). if t then [] ∷ raw_lines all else onto c (raw_lines all)) p.0 ∙ ap (onto c) u.2, omega (arith, u.3))
+    (c ∷ u.0, u.1, ap (λ (t : Bool). if t then [] ∷ raw_lines all else onto_first c (raw_lines all)) p.0 ∙ ap (onto_first c) u.2, omega (arith, u.3))
 
 -- one byte more than the limit
 pub line_too_long : {a b c : Option (List ℕ)} (number : ℕ) (s line mid t : List ℕ) (byte : Option ℕ) (x : ℕ) → list_any is_feed line ≡ false → length line ≡ 65536 → byte ≡ Some x → is_feed x ≡ false

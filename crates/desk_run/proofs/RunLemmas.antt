@@ -3,7 +3,8 @@ use Rattle.std.proofs.Common.{◌≡◌, inl, ℕ, Bool, true, false, List, [], 
 use Rattle.std.specs.Result.{IfErr}
 use Rattle.std.specs.Io.KnownBytes.{Appends}
 use Rattle.bug_record.specs.Desk.{Desk}
-use Rattle.desk_run.specs.Script.{Part, Message, Order, Standing, part_text, part_after, text_of, after_parts, parts_of, is_directive, end_of_script}
+use Rattle.desk_run.specs.Script.{Part, Message, DirectiveLine, Standing, part_text, part_after, text_of, after_parts, parts_of, with_line, is_directive, end_of_script}
+use Rattle.desk_run.specs.Taking.{parts_from}
 use Rattle.desk_run.specs.Running.{Runs, StopsIn, Stops, EndsParts}
 use Rattle.desk_run.specs.declared.fault.ScriptFault.{ScriptFault}
 use Rattle.desk_run.specs.declared.fault.ScriptFault.TheVariants as stops
@@ -89,38 +90,38 @@ stops_more ps qs a d c0 c1 fault q = record {
 }
 
 -- the parts begin with a message
-parts_begin_at : (gathered : List (List ℕ)) (line : List ℕ) (lines : List (List ℕ)) (b : Bool) → is_directive line ≡ b → (message : List (List ℕ)) × (rest : List Part) × (parts_of (gathered ++ line ∷ []) lines ≡ Message message ∷ rest) → (message : List (List ℕ)) × (rest : List Part) × (parts_of gathered (line ∷ lines) ≡ Message message ∷ rest)
-parts_begin_at gathered line lines true e r = (gathered, Order line ∷ parts_of [] lines, rw e refl)
+parts_begin_at : (gathered : List (List ℕ)) (line : List ℕ) (lines : List (List ℕ)) (b : Bool) → is_directive line ≡ b → (message : List (List ℕ)) × (rest : List Part) × (parts_from (gathered ++ line ∷ []) lines ≡ Message message ∷ rest) → (message : List (List ℕ)) × (rest : List Part) × (parts_from gathered (line ∷ lines) ≡ Message message ∷ rest)
+parts_begin_at gathered line lines true e r = (gathered, DirectiveLine line ∷ parts_from [] lines, rw e refl)
 parts_begin_at gathered line lines false e r = (r.0, r.1, rw e r.2)
 
-pub parts_begin : (gathered lines : List (List ℕ)) → (message : List (List ℕ)) × (rest : List Part) × (parts_of gathered lines ≡ Message message ∷ rest)
+pub parts_begin : (gathered lines : List (List ℕ)) → (message : List (List ℕ)) × (rest : List Part) × (parts_from gathered lines ≡ Message message ∷ rest)
 parts_begin gathered [] = (gathered, [], refl)
 parts_begin gathered (line ∷ lines) = parts_begin_at gathered line lines (is_directive line) refl (parts_begin (gathered ++ line ∷ []) lines)
 
 -- want of memory while a message is gathered
-pub gathered_stops : (gathered lines : List (List ℕ)) (a : Standing) (d : Desk) (c : Option (List ℕ)) → d ≡ a.desk → Stops (parts_of gathered lines) a d c c stops.Memory
+pub gathered_stops : (gathered lines : List (List ℕ)) (a : Standing) (d : Desk) (c : Option (List ℕ)) → d ≡ a.desk → Stops (parts_from gathered lines) a d c c stops.Memory
 gathered_stops gathered lines a d c e =
     let p = parts_begin gathered lines in
     subst (λ (ps : List Part). Stops ps a d c c stops.Memory) (sym p.2)
     (stops_more (Message p.0 ∷ []) p.1 a d c c stops.Memory (one_stops (Message p.0) a d c c stops.Memory (not_begun (Message p.0) a d c e)))
 
-pub parts_directive : (gathered : List (List ℕ)) (line : List ℕ) (lines : List (List ℕ)) → is_directive line ≡ true → parts_of gathered (line ∷ lines) ≡ Message gathered ∷ Order line ∷ parts_of [] lines
+pub parts_directive : (gathered : List (List ℕ)) (line : List ℕ) (lines : List (List ℕ)) → is_directive line ≡ true → parts_from gathered (line ∷ lines) ≡ Message gathered ∷ DirectiveLine line ∷ parts_from [] lines
 parts_directive gathered line lines e = rw e refl
 
-pub parts_gathered : (gathered : List (List ℕ)) (line : List ℕ) (lines : List (List ℕ)) → is_directive line ≡ false → parts_of gathered (line ∷ lines) ≡ parts_of (gathered ++ line ∷ []) lines
+pub parts_gathered : (gathered : List (List ℕ)) (line : List ℕ) (lines : List (List ℕ)) → is_directive line ≡ false → parts_from gathered (line ∷ lines) ≡ parts_from (gathered ++ line ∷ []) lines
 parts_gathered gathered line lines e = rw e refl
 
 -- the script stops in the message before a directive
-pub stops_at_message : (gathered : List (List ℕ)) (line : List ℕ) (lines : List (List ℕ)) (a : Standing) (d : Desk) (c0 c1 : Option (List ℕ)) (fault : ScriptFault) → is_directive line ≡ true → StopsIn (Message gathered) a d c0 c1 fault → Stops (parts_of gathered (line ∷ lines)) a d c0 c1 fault
+pub stops_at_message : (gathered : List (List ℕ)) (line : List ℕ) (lines : List (List ℕ)) (a : Standing) (d : Desk) (c0 c1 : Option (List ℕ)) (fault : ScriptFault) → is_directive line ≡ true → StopsIn (Message gathered) a d c0 c1 fault → Stops (parts_from gathered (line ∷ lines)) a d c0 c1 fault
 stops_at_message gathered line lines a d c0 c1 fault e s =
-    subst (λ (ps : List Part). Stops ps a d c0 c1 fault) (sym (parts_directive gathered line lines e)) (stops_more (Message gathered ∷ []) (Order line ∷ parts_of [] lines) a d c0 c1 fault (one_stops (Message gathered) a d c0 c1 fault s))
+    subst (λ (ps : List Part). Stops ps a d c0 c1 fault) (sym (parts_directive gathered line lines e)) (stops_more (Message gathered ∷ []) (DirectiveLine line ∷ parts_from [] lines) a d c0 c1 fault (one_stops (Message gathered) a d c0 c1 fault s))
 
 -- the script stops in a directive
-pub stops_at_order : (gathered : List (List ℕ)) (line : List ℕ) (lines : List (List ℕ)) (a b : Standing) (d : Desk) (c0 c1 c2 : Option (List ℕ)) (fault : ScriptFault) → is_directive line ≡ true → (b ≡ part_after (Message gathered) a) × Appends c0 c1 (part_text (Message gathered) a) → StopsIn (Order line) b d c1 c2 fault → Stops (parts_of gathered (line ∷ lines)) a d c0 c2 fault
+pub stops_at_order : (gathered : List (List ℕ)) (line : List ℕ) (lines : List (List ℕ)) (a b : Standing) (d : Desk) (c0 c1 c2 : Option (List ℕ)) (fault : ScriptFault) → is_directive line ≡ true → (b ≡ part_after (Message gathered) a) × Appends c0 c1 (part_text (Message gathered) a) → StopsIn (DirectiveLine line) b d c1 c2 fault → Stops (parts_from gathered (line ∷ lines)) a d c0 c2 fault
 stops_at_order gathered line lines a b d c0 c1 c2 fault e r s =
     subst (λ (ps : List Part). Stops ps a d c0 c2 fault) (sym (parts_directive gathered line lines e))
-    (stops_more (Message gathered ∷ Order line ∷ []) (parts_of [] lines) a d c0 c2 fault
-    (runs_then_stops (Message gathered ∷ []) (Order line ∷ []) a b d c0 c1 c2 fault (one_ran (Message gathered) a b c0 c1 r) (one_stops (Order line) b d c1 c2 fault s)))
+    (stops_more (Message gathered ∷ DirectiveLine line ∷ []) (parts_from [] lines) a d c0 c2 fault
+    (runs_then_stops (Message gathered ∷ []) (DirectiveLine line ∷ []) a b d c0 c1 c2 fault (one_ran (Message gathered) a b c0 c1 r) (one_stops (DirectiveLine line) b d c1 c2 fault s)))
 
 -- a run of the parts to their end
 pub runs_ends : (ps : List Part) (a b : Standing) (c0 c1 : Option (List ℕ)) (end : ScriptEnd) → end ≡ end_of_script b.refused → Runs ps a b c0 c1 → EndsParts ps a b.desk c0 c1 (Ok end)
@@ -134,3 +135,42 @@ runs_then_ends ps qs a b d c0 c1 c2 (Ok end) p q =
       q.1 ∙ ap (λ (x : Standing). end_of_script x.refused) (sym s),
       subst (Appends c0 c2) (ap (λ (x : Standing). text_of ps a ++ text_of qs x) p.0 ∙ sym (text_append ps qs a)) (appends_then c0 c1 c2 (text_of ps a) (text_of qs b) p.1 q.2),
     )
+
+-- the parts of lines begin with a message
+begins_at : (line : List ℕ) (lines : List (List ℕ)) (b : Bool) → is_directive line ≡ b → (message : List (List ℕ)) × (rest : List Part) × (parts_of lines ≡ Message message ∷ rest) → (message : List (List ℕ)) × (rest : List Part) × (parts_of (line ∷ lines) ≡ Message message ∷ rest)
+begins_at line lines true e r = ([], DirectiveLine line ∷ parts_of lines, rw e refl)
+begins_at line lines false e r = (line ∷ r.0, r.1, rw e (ap (with_line line) r.2))
+
+begins : (lines : List (List ℕ)) → (message : List (List ℕ)) × (rest : List Part) × (parts_of lines ≡ Message message ∷ rest)
+begins [] = ([], [], refl)
+begins (line ∷ lines) = begins_at line lines (is_directive line) refl (begins lines)
+
+-- lines at the front of the first message
+abbrev with_lines : List (List ℕ) → List Part → List Part
+with_lines gathered (Message lines ∷ parts) = Message (gathered ++ lines) ∷ parts
+with_lines gathered parts = Message gathered ∷ parts
+
+with_none : (lines : List (List ℕ)) → with_lines [] (parts_of lines) ≡ parts_of lines
+with_none lines = let r = begins lines in ap (with_lines []) r.2 ∙ sym r.2
+
+with_one_more : (gathered : List (List ℕ)) (line : List ℕ) (lines : List (List ℕ)) → with_lines (gathered ++ line ∷ []) (parts_of lines) ≡ with_lines gathered (with_line line (parts_of lines))
+with_one_more gathered line lines =
+    let r = begins lines in
+    ap (with_lines (gathered ++ line ∷ [])) r.2
+    ∙ (ap (λ (w : List (List ℕ)). Message w ∷ r.1) (append_assoc gathered (line ∷ []) r.0)
+    ∙ sym (ap (λ (ps : List Part). with_lines gathered (with_line line ps)) r.2))
+
+from_line : (gathered : List (List ℕ)) (line : List ℕ) (lines : List (List ℕ)) (b : Bool) → is_directive line ≡ b → parts_from [] lines ≡ with_lines [] (parts_of lines)
+    → parts_from (gathered ++ line ∷ []) lines ≡ with_lines (gathered ++ line ∷ []) (parts_of lines) → parts_from gathered (line ∷ lines) ≡ with_lines gathered (parts_of (line ∷ lines))
+from_line gathered line lines true e none more =
+    rw e (ap (λ (ps : List Part). Message gathered ∷ DirectiveLine line ∷ ps) (none ∙ with_none lines)
+    ∙ ap (λ (w : List (List ℕ)). Message w ∷ DirectiveLine line ∷ parts_of lines) (sym (append-nil gathered)))
+from_line gathered line lines false e none more = rw e (more ∙ with_one_more gathered line lines)
+
+from_gathered : (gathered lines : List (List ℕ)) → parts_from gathered lines ≡ with_lines gathered (parts_of lines)
+from_gathered gathered [] = ap (λ (w : List (List ℕ)). Message w ∷ []) (sym (append-nil gathered))
+from_gathered gathered (line ∷ lines) = from_line gathered line lines (is_directive line) refl (from_gathered [] lines) (from_gathered (gathered ++ line ∷ []) lines)
+
+-- the parts of all lines
+pub from_start : (lines : List (List ℕ)) → parts_from [] lines ≡ parts_of lines
+from_start lines = from_gathered [] lines ∙ with_none lines

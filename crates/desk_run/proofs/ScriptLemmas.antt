@@ -5,14 +5,15 @@ use Rattle.bug_record.specs.Desk.{Desk}
 use Rattle.desk_run.specs.Lines.{without_return, raw_lines, lines_of}
 use Rattle.desk_run.specs.Reading.{IsGoodLine, GivesPiece, IsLineFault, IsReadingFault, Known, Left}
 use Rattle.desk_run.specs.Script.{Part, Message, Standing, parts_of, script_of, after_parts}
-use Rattle.desk_run.specs.Running.{Runs, Stops, StopsIn, EndsParts, Ends, AreGood, IsFirstBad, IsPlace, IsOfPart}
+use Rattle.desk_run.specs.Taking.{parts_from}
+use Rattle.desk_run.specs.Running.{Runs, Stops, StopsIn, EndsParts, Ends, AreGood, IsFirstBad, IsPlace, IsOfPart, StopsInGoodLines}
 use Rattle.desk_run.specs.declared.source.Piece.{Piece}
 use Rattle.desk_run.specs.declared.source.Piece.TheVariants as pieces
 use Rattle.desk_run.specs.declared.fault.ScriptFault.{ScriptFault}
 use Rattle.desk_run.specs.declared.fault.ScriptFault.TheVariants as stops
 use Rattle.desk_run.specs.declared.script.ScriptEnd.{ScriptEnd}
 use Rattle.desk_run.proofs.WrittenLemmas.{appends_none}
-use Rattle.desk_run.proofs.RunLemmas.{runs_then_stops, runs_then_ends, stops_more, one_stops, parts_begin, runs_none}
+use Rattle.desk_run.proofs.RunLemmas.{runs_then_stops, runs_then_ends, stops_more, one_stops, parts_begin, runs_none, from_start}
 
 map_append : {A B : Type 0} (f : A → B) (xs ys : List A) → map f (xs ++ ys) ≡ map f xs ++ map f ys
 map_append f [] ys = refl
@@ -35,7 +36,7 @@ pub record ReadTo (texts : List (List ℕ)) (input rest : List ℕ) : Type 0 whe
 
 -- the lines read so far are cut into these parts, and the message so far
 abbrev pub IsCut : List (List ℕ) → List Part → List (List ℕ) → Type 0
-IsCut texts before gathered = (lines : List (List ℕ)) → parts_of [] (texts ++ lines) ≡ before ++ parts_of gathered lines
+IsCut texts before gathered = (lines : List (List ℕ)) → parts_from [] (texts ++ lines) ≡ before ++ parts_from gathered lines
 
 pub nothing_read : (input : List ℕ) → ReadTo [] input input
 nothing_read input = record { raws = []; lines = refl; texts_are = refl; good = tt }
@@ -49,17 +50,36 @@ read_more texts input rest left line r p = record {
   good = good_append r.raws (p.0 ∷ []) r.good (p.2, tt);
 }
 
-pub cut_more : (texts : List (List ℕ)) (before parts : List Part) (g h : List (List ℕ)) (line : List ℕ) → IsCut texts before g → ((lines : List (List ℕ)) → parts_of g (line ∷ lines) ≡ parts ++ parts_of h lines) → IsCut (texts ++ line ∷ []) (before ++ parts) h
+pub cut_more : (texts : List (List ℕ)) (before parts : List Part) (g h : List (List ℕ)) (line : List ℕ) → IsCut texts before g → ((lines : List (List ℕ)) → parts_from g (line ∷ lines) ≡ parts ++ parts_from h lines) → IsCut (texts ++ line ∷ []) (before ++ parts) h
 cut_more texts before parts g h line c f lines =
-    ap (parts_of []) (append_assoc texts (line ∷ []) lines) ∙ (c (line ∷ lines) ∙ (ap (λ (w : List Part). before ++ w) (f lines) ∙ sym (append_assoc before parts (parts_of h lines))))
+    ap (parts_from []) (append_assoc texts (line ∷ []) lines) ∙ (c (line ∷ lines) ∙ (ap (λ (w : List Part). before ++ w) (f lines) ∙ sym (append_assoc before parts (parts_from h lines))))
 
 -- the script, where so much is read
-script_cut : (texts : List (List ℕ)) (before : List Part) (g : List (List ℕ)) (input rest : List ℕ) → ReadTo texts input rest → IsCut texts before g → script_of input ≡ before ++ parts_of g (map without_return (raw_lines rest))
+script_cut : (texts : List (List ℕ)) (before : List Part) (g : List (List ℕ)) (input rest : List ℕ) → ReadTo texts input rest → IsCut texts before g → script_of input ≡ before ++ parts_from g (map without_return (raw_lines rest))
 unfolding script_of lines_of
 script_cut texts before g input rest r c =
-    ap (λ (w : List (List ℕ)). parts_of [] (map without_return w)) r.lines
-    ∙ (ap (parts_of []) (map_append without_return r.raws (raw_lines rest) ∙ ap (λ (w : List (List ℕ)). w ++ map without_return (raw_lines rest)) r.texts_are)
-    ∙ c (map without_return (raw_lines rest)))
+    sym (from_start (lines_of input))
+    ∙ (ap (λ (w : List (List ℕ)). parts_from [] (map without_return w)) r.lines
+    ∙ (ap (parts_from []) (map_append without_return r.raws (raw_lines rest) ∙ ap (λ (w : List (List ℕ)). w ++ map without_return (raw_lines rest)) r.texts_are)
+    ∙ c (map without_return (raw_lines rest))))
+
+-- the parts of the lines that are read
+read_cut : (texts : List (List ℕ)) (tail before : List Part) (input rest : List ℕ) → (r : ReadTo texts input rest) → parts_from [] texts ≡ before ++ tail → parts_of (map without_return r.raws) ≡ before ++ tail
+read_cut texts tail before input rest r e = sym (from_start (map without_return r.raws)) ∙ (ap (parts_from []) r.texts_are ∙ e)
+
+cut_here : (texts : List (List ℕ)) (before : List Part) (g : List (List ℕ)) → IsCut texts before g → parts_from [] texts ≡ before ++ Message g ∷ []
+cut_here texts before g c = ap (parts_from []) (sym (append-nil texts)) ∙ c []
+
+-- a stop in the parts of the lines that are read
+good_stops : (texts : List (List ℕ)) (before tail : List Part) (input rest : List ℕ) (a b : Standing) (d : Desk) (c0 c1 c2 : Option (List ℕ)) (fault : ScriptFault) → ReadTo texts input rest → parts_from [] texts ≡ before ++ tail → Runs before a b c0 c1
+    → Stops tail b d c1 c2 fault → StopsInGoodLines (raw_lines input) a d c0 c2 fault
+good_stops texts before tail input rest a b d c0 c1 c2 fault r e ran s = record {
+  good = r.raws;
+  more = raw_lines rest;
+  lines = r.lines;
+  are_good = r.good;
+  stops = subst (λ (ps : List Part). Stops ps a d c0 c2 fault) (sym (read_cut texts tail before input rest r e)) (runs_then_stops before tail a b d c0 c1 c2 fault ran s);
+}
 
 -- nothing is left
 all_good : (texts : List (List ℕ)) (input rest : List ℕ) → ReadTo texts input rest → raw_lines rest ≡ [] → AreGood (raw_lines input)
@@ -75,21 +95,22 @@ place_of_part (stops.LineTooLong line) raws before o = absurd o
 
 -- a stop in the parts that are left
 pub stops_in : (texts : List (List ℕ)) (before : List Part) (g : List (List ℕ)) (input rest : List ℕ) (a b : Standing) (d : Desk) (c0 c1 c2 : Option (List ℕ)) (fault : ScriptFault) → ReadTo texts input rest → IsCut texts before g → Runs before a b c0 c1
-    → IsOfPart fault → Stops (parts_of g (map without_return (raw_lines rest))) b d c1 c2 fault → Ends input a d c0 c2 (Err fault)
-stops_in texts before g input rest a b d c0 c1 c2 fault r c ran o s =
+    → IsOfPart fault → Stops (parts_from g (map without_return (raw_lines rest))) b d c1 c2 fault → StopsInGoodLines (raw_lines input) a d c0 c2 fault → Ends input a d c0 c2 (Err fault)
+stops_in texts before g input rest a b d c0 c1 c2 fault r c ran o s good =
     let cut = script_cut texts before g input rest r c in
-    let stop = subst (λ (ps : List Part). Stops ps a d c0 c2 fault) (sym cut) (runs_then_stops before (parts_of g (map without_return (raw_lines rest))) a b d c0 c1 c2 fault ran s) in
-    (stop, place_of_part fault (raw_lines input) stop.before o)
+    let stop = subst (λ (ps : List Part). Stops ps a d c0 c2 fault) (sym cut) (runs_then_stops before (parts_from g (map without_return (raw_lines rest))) a b d c0 c1 c2 fault ran s) in
+    (stop, place_of_part fault (raw_lines input) stop.before o, good)
 
 -- the end of the input
 pub ends_at : (texts : List (List ℕ)) (before : List Part) (g : List (List ℕ)) (input rest : List ℕ) (a b : Standing) (d : Desk) (c0 c1 c2 : Option (List ℕ)) (r : Result ScriptEnd ScriptFault) → ReadTo texts input rest → raw_lines rest ≡ [] → IsCut texts before g → Runs before a b c0 c1
     → IfErr r IsOfPart → EndsParts (Message g ∷ []) b d c1 c2 r → Ends input a d c0 c2 r
 ends_at texts before g input rest a b d c0 c1 c2 (Ok end) r e c ran o ends =
-    let cut = script_cut texts before g input rest r c ∙ ap (λ (w : List (List ℕ)). before ++ parts_of g (map without_return w)) e in
+    let cut = script_cut texts before g input rest r c ∙ ap (λ (w : List (List ℕ)). before ++ parts_from g (map without_return w)) e in
     let all = subst (λ (ps : List Part). EndsParts ps a d c0 c2 (Ok end)) (sym cut) (runs_then_ends before (Message g ∷ []) a b d c0 c1 c2 (Ok end) ran ends) in
     (all_good texts input rest r e, all.0, all.1, all.2)
 ends_at texts before g input rest a b d c0 c1 c2 (Err fault) r e c ran o ends =
-    stops_in texts before g input rest a b d c0 c1 c2 fault r c ran o (subst (λ (w : List (List ℕ)). Stops (parts_of g (map without_return w)) b d c1 c2 fault) (sym e) ends)
+    stops_in texts before g input rest a b d c0 c1 c2 fault r c ran o (subst (λ (w : List (List ℕ)). Stops (parts_from g (map without_return w)) b d c1 c2 fault) (sym e) ends)
+    (good_stops texts before (Message g ∷ []) input rest a b d c0 c1 c2 fault r (cut_here texts before g c) ran ends)
 
 -- a stop in the reading
 unbegun : (fault : ScriptFault) (number : ℕ) (m : List (List ℕ)) (s : Standing) (d : Desk) (c : Option (List ℕ)) → IsReadingFault number fault → d ≡ s.desk → StopsIn (Message m) s d c c fault
@@ -111,7 +132,7 @@ first_bad texts before g input rest line number P r c n e raw more is bad = reco
   are_good = r.good;
   is_bad = bad;
   gathered = g;
-  parts = ap (parts_of []) (r.texts_are ∙ sym (append-nil texts)) ∙ c [];
+  parts = read_cut texts (Message g ∷ []) before input rest r (cut_here texts before g c);
 }
 
 place_of_line : (texts : List (List ℕ)) (before : List Part) (g : List (List ℕ)) (input rest : List ℕ) (number : ℕ) (fault : ScriptFault) → ReadTo texts input rest → IsCut texts before g → length texts + 1 ≡ number → IsLineFault number fault rest → IsPlace fault (raw_lines input) before
@@ -138,6 +159,7 @@ stops_reading texts before g input rest number a b d c0 c1 fault r c ran same n 
         stops = unbegun fault number p.0 (after_parts before a) d c1 o (same ∙ ap (λ (s : Standing). s.desk) ran.0);
       },
       place_of_line texts before g input rest number fault r c n f,
+      good_stops texts before (Message g ∷ []) input rest a b d c0 c1 c1 fault r (cut_here texts before g c) ran (one_stops (Message g) b d c1 c1 fault (unbegun fault number g b d c1 o same)),
     )
 
 -- nothing read, for want of memory
@@ -174,7 +196,7 @@ IsNextLine line all rest = (raw : List ℕ) × (raw_lines all ≡ raw ∷ raw_li
 
 -- a stop in a line that was read
 pub stops_in_line : {r0 r1 r2 : Option (List ℕ)} (texts : List (List ℕ)) (before : List Part) (g : List (List ℕ)) (source rest line : List ℕ) (a b : Standing) (d : Desk) (c0 c1 c2 : Option (List ℕ)) (fault : ScriptFault) → Left r0 r1 (λ xs ys. ReadTo texts xs (source ++ ys)) → Left r1 r2 (λ ys zs. IsNextLine line (source ++ ys) (rest ++ zs)) → IsCut texts before g → Runs before a b c0 c1
-    → IsOfPart fault → ((lines : List (List ℕ)) → Stops (parts_of g (line ∷ lines)) b d c1 c2 fault) → Known r0 (λ xs. Ends xs a d c0 c2 (Err fault))
+    → IsOfPart fault → ((lines : List (List ℕ)) → Stops (parts_from g (line ∷ lines)) b d c1 c2 fault) → Known r0 (λ xs. Ends xs a d c0 c2 (Err fault))
 stops_in_line texts before g source rest line a b d c0 c1 c2 fault read piece c ran o stop = record {
   known = λ xs e.
       let u = read.known xs e in
@@ -182,7 +204,8 @@ stops_in_line texts before g source rest line a b d c0 c1 c2 fault read piece c 
       let p = v.2 in
       let here : line ∷ map without_return (raw_lines (rest ++ v.0)) ≡ map without_return (raw_lines (source ++ u.0)) =
           ap (λ (w : List ℕ). w ∷ map without_return (raw_lines (rest ++ v.0))) p.3 ∙ sym (ap (map without_return) p.1) in
-      stops_in texts before g xs (source ++ u.0) a b d c0 c1 c2 fault u.2 c ran o (subst (λ (ls : List (List ℕ)). Stops (parts_of g ls) b d c1 c2 fault) here (stop (map without_return (raw_lines (rest ++ v.0))))) }
+      stops_in texts before g xs (source ++ u.0) a b d c0 c1 c2 fault u.2 c ran o (subst (λ (ls : List (List ℕ)). Stops (parts_from g ls) b d c1 c2 fault) here (stop (map without_return (raw_lines (rest ++ v.0)))))
+          (good_stops (texts ++ line ∷ []) before (parts_from g (line ∷ [])) xs (rest ++ v.0) a b d c0 c1 c2 fault (read_more texts xs (source ++ u.0) (rest ++ v.0) line u.2 p) (c (line ∷ [])) ran (stop [])) }
 
 -- the last line, as one that is read
 pub last_line : {r1 r2 : Option (List ℕ)} (source rest line : List ℕ) → Left r1 r2 (λ ys zs. (raw : List ℕ) × (raw_lines (source ++ ys) ≡ raw ∷ []) × IsGoodLine raw × (line ≡ without_return raw) × (rest ++ zs ≡ [])) → Left r1 r2 (λ ys zs. IsNextLine line (source ++ ys) (rest ++ zs))
@@ -190,7 +213,7 @@ last_line source rest line p = record { known = λ ys e. let u = p.known ys e in
 
 -- the end of the input, after its last line
 pub ends_at_last : {r0 r1 r2 : Option (List ℕ)} (texts : List (List ℕ)) (before parts : List Part) (g h : List (List ℕ)) (source rest line : List ℕ) (a b : Standing) (d : Desk) (c0 c1 c2 : Option (List ℕ)) (r : Result ScriptEnd ScriptFault) → Left r0 r1 (λ xs ys. ReadTo texts xs (source ++ ys))
-    → Left r1 r2 (λ ys zs. (raw : List ℕ) × (raw_lines (source ++ ys) ≡ raw ∷ []) × IsGoodLine raw × (line ≡ without_return raw) × (rest ++ zs ≡ [])) → IsCut texts before g → ((lines : List (List ℕ)) → parts_of g (line ∷ lines) ≡ parts ++ parts_of h lines) → Runs (before ++ parts) a b c0 c1
+    → Left r1 r2 (λ ys zs. (raw : List ℕ) × (raw_lines (source ++ ys) ≡ raw ∷ []) × IsGoodLine raw × (line ≡ without_return raw) × (rest ++ zs ≡ [])) → IsCut texts before g → ((lines : List (List ℕ)) → parts_from g (line ∷ lines) ≡ parts ++ parts_from h lines) → Runs (before ++ parts) a b c0 c1
     → IfErr r IsOfPart → EndsParts (Message h ∷ []) b d c1 c2 r → Known r0 (λ xs. Ends xs a d c0 c2 r)
 ends_at_last texts before parts g h source rest line a b d c0 c1 c2 r read piece c f ran o ends = record {
   known = λ xs e.

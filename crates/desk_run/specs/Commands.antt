@@ -18,7 +18,7 @@ pub record ShowBug (d : Desk) (n : ℕ) (images : List SetImage) : Type 0 where
   pub known : bug_in images n ≡ d.bug n
 
 -- the change may be made on the desk with this next number, and stands in the place of these images
-pub record IsPlanned (d : Desk) (images : List SetImage) (next : ℕ) (change : Change) : Type 0 where
+pub record MayBeMade (d : Desk) (images : List SetImage) (next : ℕ) (change : Change) : Type 0 where
   pub next_is : d.next ≡ next
   pub fits : FitsDesk d change
   pub replaces : Replaces d images change.images change.next

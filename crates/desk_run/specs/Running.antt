@@ -11,7 +11,9 @@ use Rattle.desk_store.specs.Message.{Entry, IsReceived}
 use Rattle.desk_run.specs.Lines.{raw_lines, without_return}
 use Rattle.desk_run.specs.Reading.{IsGoodLine}
 use Rattle.desk_run.specs.Transcripts.{received_text}
-use Rattle.desk_run.specs.Script.{Part, Message, Order, Standing, parts_of, script_of, part_text, part_after, text_of, after_parts, end_of_script}
+use Rattle.desk_run.specs.Script.{Part, Message, DirectiveLine, Directive, From, Report, Bad, directive_of, Standing, parts_of, script_of, part_text, part_after, text_of, after_parts, end_of_script}
+use Rattle.bug_record.specs.declared.severity.Severity.{Severity}
+use Rattle.desk_run.specs.Reports.{report_severity}
 use Rattle.desk_run.specs.declared.fault.ScriptFault.{ScriptFault}
 use Rattle.desk_run.specs.declared.fault.ScriptFault.TheVariants.{Read, Write, NotUtf8, LineTooLong, Memory, Store}
 use Rattle.desk_run.specs.declared.script.ScriptEnd.{ScriptEnd}
@@ -20,27 +22,34 @@ use Rattle.desk_run.specs.declared.script.ScriptEnd.{ScriptEnd}
 abbrev pub Runs : List Part → Standing → Standing → Option (List ℕ) → Option (List ℕ) → Type 0
 Runs parts a b c0 c1 = (b ≡ after_parts parts a) × Appends c0 c1 (text_of parts a)
 
--- The store failed in a part: a message was received up to a line, and its text ends with the fault's; a directive
--- changed nothing, and its text is the fault's.
+-- a directive that asks the store: a report whose words are good
+abbrev pub AsksStore : Directive → Type 0
+AsksStore (Report package_name version severity title) = (s : Severity) × (report_severity package_name version severity title ≡ Ok s)
+AsksStore (From sender) = ⊥
+AsksStore Bad = ⊥
+
+-- The store failed in a part: a message was received up to a line, and its text ends with the fault's; a report changed
+-- nothing, and its text is the fault's.
 abbrev pub FaultsIn : Part → Standing → StoreFault → Desk → List ℕ → Type 0
 FaultsIn (Message lines) s fault d text =
     (outcomes : List Entry) × (k : ℕ) × IsReceived s.sender lines s.desk outcomes (ends.Store fault k) d × (text ≡ received_text outcomes (ends.Store fault k) lines)
-FaultsIn (Order line) s fault d text = (d ≡ s.desk) × (text ≡ fault_text fault)
+FaultsIn (DirectiveLine line) s fault d text = AsksStore (directive_of line) × (d ≡ s.desk) × (text ≡ fault_text fault)
 
 -- a part was carried out, whole or up to a fault of the store, and this is to be written for it
 abbrev pub IsCarried : Part → Standing → Desk → List ℕ → Type 0
 IsCarried part s d text = ((d ≡ (part_after part s).desk) × (text ≡ part_text part s)) ⊎ ((fault : StoreFault) × FaultsIn part s fault d text)
 
+-- the part is a message
 abbrev pub IsMessage : Part → Type 0
 IsMessage (Message lines) = Unit {0}
-IsMessage (Order line) = ⊥
+IsMessage (DirectiveLine line) = ⊥
 
 -- How a script stops in a part. At a fault of the store all that is to be written for the part is written; at `Write` a
--- front of it; at `Memory` nothing of it, and the part may not have been begun; at a fault of reading the part is a
+-- front of it, not all; at `Memory` nothing of it, and the part may not have been begun; at a fault of reading the part is a
 -- message that was not begun.
 abbrev pub StopsIn : Part → Standing → Desk → Option (List ℕ) → Option (List ℕ) → ScriptFault → Type 0
 StopsIn part s d c0 c1 (Store fault) = (text : List ℕ) × FaultsIn part s fault d text × Appends c0 c1 text
-StopsIn part s d c0 c1 Write = (text : List ℕ) × (n : ℕ) × IsCarried part s d text × Appends c0 c1 (take n text)
+StopsIn part s d c0 c1 Write = (text : List ℕ) × (n : ℕ) × (n < length text) × IsCarried part s d text × Appends c0 c1 (take n text)
 StopsIn part s d c0 c1 Memory = ((d ≡ s.desk) ⊎ ((text : List ℕ) × IsCarried part s d text)) × Appends c0 c1 []
 StopsIn part s d c0 c1 Read = IsMessage part × (d ≡ s.desk) × Appends c0 c1 []
 StopsIn part s d c0 c1 (NotUtf8 line) = IsMessage part × (d ≡ s.desk) × Appends c0 c1 []
@@ -52,6 +61,7 @@ pub record Stops (parts : List Part) (a : Standing) (d : Desk) (c0 c1 : Option (
   pub part : Part
   pub after : List Part
   pub split : parts ≡ before ++ part ∷ after
+  -- the bytes written before that part
   pub between : Option (List ℕ)
   pub ran : Appends c0 between (text_of before a)
   pub stops : StopsIn part (after_parts before a) d between c1 fault
@@ -72,7 +82,15 @@ pub record IsFirstBad (raws : List (List ℕ)) (number : ℕ) (before : List Par
   pub are_good : AreGood good
   pub is_bad : P bad
   pub gathered : List (List ℕ)
-  pub parts : parts_of [] (map without_return good) ≡ before ++ Message gathered ∷ []
+  pub parts : parts_of (map without_return good) ≡ before ++ Message gathered ∷ []
+
+-- No line beyond the good ones played a part in a stop: the first lines, which are good, are a script that stops so too.
+pub record StopsInGoodLines (raws : List (List ℕ)) (a : Standing) (d : Desk) (c0 c1 : Option (List ℕ)) (fault : ScriptFault) : Type 0 where
+  pub good : List (List ℕ)
+  pub more : List (List ℕ)
+  pub lines : raws ≡ good ++ more
+  pub are_good : AreGood good
+  pub stops : Stops (parts_of (map without_return good)) a d c0 c1 fault
 
 -- where a fault of a line comes
 abbrev pub IsPlace : ScriptFault → List (List ℕ) → List Part → Type 0
@@ -94,11 +112,12 @@ IsOfPart Memory = Unit {0}
 IsOfPart fault = ⊥
 
 -- What a script over this input leaves and has written. At its end all lines are good, all parts are carried out and
--- their texts written, and the end says whether anything was refused; at a fault it stops in a part.
+-- their texts written, and the end says whether anything was refused; at a fault it stops in a part, and did nothing for
+-- a line that is not good.
 abbrev pub Ends : List ℕ → Standing → Desk → Option (List ℕ) → Option (List ℕ) → Result ScriptEnd ScriptFault → Type 0
 Ends input a d c0 c1 (Ok end) =
     AreGood (raw_lines input) × (d ≡ (after_parts (script_of input) a).desk) × (end ≡ end_of_script (after_parts (script_of input) a).refused) × Appends c0 c1 (text_of (script_of input) a)
-Ends input a d c0 c1 (Err fault) = (stop : Stops (script_of input) a d c0 c1 fault) × IsPlace fault (raw_lines input) stop.before
+Ends input a d c0 c1 (Err fault) = (stop : Stops (script_of input) a d c0 c1 fault) × IsPlace fault (raw_lines input) stop.before × StopsInGoodLines (raw_lines input) a d c0 c1 fault
 
 -- a part was carried out, or the script stops in it
 abbrev pub Carries : {T : Type 0} → Part → Standing → Standing → Option (List ℕ) → Option (List ℕ) → Result T ScriptFault → Type 0

@@ -23,23 +23,27 @@ use Rattle.desk_run.specs.declared.script.ScriptEnd.TheVariants as script_ends
 -- a message, by its lines, or the line of a directive
 pub data Part : Type 0 where
   Message : List (List ℕ) → Part
-  Order : List ℕ → Part
+  DirectiveLine : List ℕ → Part
 
 -- a line whose first byte is `@`
 abbrev pub is_directive : List ℕ → Bool
 is_directive [] = false
 is_directive (c ∷ s) = c == 64
 
--- The parts of these lines, where the message so far has the lines `gathered`. Between two directives stands a message,
--- which may have no line.
-abbrev pub parts_of : List (List ℕ) → List (List ℕ) → List Part
-parts_of gathered [] = Message gathered ∷ []
-parts_of gathered (line ∷ lines) =
-    if is_directive line then Message gathered ∷ Order line ∷ parts_of [] lines
-    else parts_of (gathered ++ line ∷ []) lines
+-- a line at the front of the first message
+abbrev pub with_line : List ℕ → List Part → List Part
+with_line line (Message lines ∷ parts) = Message (line ∷ lines) ∷ parts
+with_line line parts = Message (line ∷ []) ∷ parts
+
+-- The parts of these lines: each line that begins with `@` is a directive, and the lines before, between and after
+-- directives are messages, which may have no line.
+abbrev pub parts_of : List (List ℕ) → List Part
+parts_of [] = Message [] ∷ []
+parts_of (line ∷ lines) =
+    if is_directive line then Message [] ∷ DirectiveLine line ∷ parts_of lines else with_line line (parts_of lines)
 
 unfoldable pub script_of : List ℕ → List Part
-script_of input = parts_of [] (lines_of input)
+script_of input = parts_of (lines_of input)
 
 -- what a directive's line says
 pub data Directive : Type 0 where
@@ -97,7 +101,7 @@ refused_text BadVersion = codes "bad version"
 refused_text BadSeverity = codes "unknown severity"
 refused_text BadTitle = codes "bad title"
 refused_text Full = codes "no bug number is left"
-refused_text (Store fault) = []
+refused_text (Store fault) = [] -- no refusal
 
 -- the answer to a report: the number of the new bug, or the refusal
 abbrev pub report_text : Result Desk ReportFault → ℕ → List ℕ
@@ -141,11 +145,11 @@ after_message m s = standing m.desk s.sender (s.refused || refuses m.outcomes (e
 -- what is written for a part, over the desk that the parts before it leave, and where the script stands after it
 unfoldable pub part_text : Part → Standing → List ℕ
 part_text (Message lines) s = message_text (after_lines s.sender (at_start s.desk) lines) lines
-part_text (Order line) s = directive_text (directive_of line) s
+part_text (DirectiveLine line) s = directive_text (directive_of line) s
 
 unfoldable pub part_after : Part → Standing → Standing
 part_after (Message lines) s = after_message (after_lines s.sender (at_start s.desk) lines) s
-part_after (Order line) s = after_directive (directive_of line) s
+part_after (DirectiveLine line) s = after_directive (directive_of line) s
 
 -- the texts of the parts, one after another, and where the script stands after them
 unfoldable pub text_of : List Part → Standing → List ℕ

@@ -1,11 +1,12 @@
--- What the functions that take the lines of a message answer.
-use Rattle.std.specs.Prelude.{ℕ, ◌≡◌, List, Bool, true, false, Result, Ok, Err}
+-- What the functions that take the lines of a message or of a script answer.
+use Rattle.std.specs.Prelude.{ℕ, ◌≡◌, List, [], ◌∷◌, ◌++◌, if◌then◌else◌, Bool, true, false, Result, Ok, Err}
 use Rattle.bug_record.specs.Desk.{Desk}
 use Rattle.control_text.specs.Lines.{reading}
 use Rattle.desk_text.specs.declared.outcome.StoreFault.{StoreFault}
 use Rattle.desk_text.specs.declared.outcome.End.{End}
 use Rattle.desk_text.specs.declared.outcome.End.TheVariants as ends
 use Rattle.desk_store.specs.Message.{Entry, machine, takes}
+use Rattle.desk_run.specs.Script.{Part, Message, DirectiveLine, is_directive}
 
 -- a message goes on at `All`
 abbrev pub goes_on : End → Bool
@@ -18,3 +19,10 @@ goes_on (ends.Store fault k) = false
 abbrev pub TakesLine : List ℕ → Desk → List Entry → Desk → List Entry → Result End StoreFault → List ℕ → Type 0
 TakesLine sender d outcomes d' outcomes' (Ok end) line = takes sender (machine d outcomes) line (reading line) ≡ machine d' outcomes'
 TakesLine sender d outcomes d' outcomes' (Err fault) line = d' ≡ d
+
+-- the parts of a script of which these lines are left, where the lines `gathered` are those of the message so far
+abbrev pub parts_from : List (List ℕ) → List (List ℕ) → List Part
+parts_from gathered [] = Message gathered ∷ []
+parts_from gathered (line ∷ lines) =
+    if is_directive line then Message gathered ∷ DirectiveLine line ∷ parts_from [] lines
+    else parts_from (gathered ++ line ∷ []) lines

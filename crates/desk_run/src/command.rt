@@ -7,7 +7,7 @@ ghost use Rattle.bug_record.specs.Images.{AreApart, HasMember};
 ghost use Rattle.bug_record.specs.Plans.{named};
 ghost use Rattle.desk_store.specs.Store.{Holds, Asks, Answers, faults_after};
 ghost use Rattle.desk_store.specs.Message.{number_meant, command_meant, refusal_meant};
-ghost use Rattle.desk_run.specs.Commands.{ShowBug, IsPlanned, CarriesOut, Does};
+ghost use Rattle.desk_run.specs.Commands.{ShowBug, MayBeMade, CarriesOut, Does};
 
 use bug_core::{changed, plan};
 use bug_record::{Change, Command, PlanFault, Refusal, Sequence, SetImage};
@@ -88,7 +88,7 @@ fn carry_out<S: Records>(
 ) -> Result<Outcome, StoreFault>
     requires apart { AreApart change.now.images }
     requires members { Each HasMember change.now.images }
-    requires planned { S.is_kept store.old → S.is_honest store.old → IsPlanned (S.desk store.old) images.now next change.now }
+    requires planned { S.is_kept store.old → S.is_honest store.old → MayBeMade (S.desk store.old) images.now next change.now }
     ensures answer { Holds S.is_kept S.is_honest store.old store.new (CarriesOut (S.desk store.old) change.now result (S.desk store.new)) }
     ensures count { S.faults store.new ≡ faults_after result (S.faults store.old) }
 {

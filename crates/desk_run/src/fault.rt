@@ -6,7 +6,7 @@ use thiserror::Error;
 /// Why a script was not run to its end. Lines count from 1.
 #[derive(Clone, Copy, Debug, PartialEq, Eq, Drop, Error)]
 pub enum ScriptFault {
-    /// A read failed, or the reader was asked 16,777,216 times.
+    /// A read failed, or more than 16,777,216 reads were needed.
     #[error("the script could not be read")]
     Read,
     /// A write failed, or took no byte.

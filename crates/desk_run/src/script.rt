@@ -4,7 +4,8 @@ ghost use Rattle.std.specs.Prelude.{◌≡◌, ℕ, ◌||◌, List, [], ◌∷�
 ghost use Rattle.std.specs.Option.{option_copied};
 ghost use Rattle.bug_record.specs.Texts.{IsText};
 ghost use Rattle.desk_store.specs.Store.{Holds};
-ghost use Rattle.desk_run.specs.Script.{Report, Part, Message, Order, standing, begin, parts_of, directive_of};
+ghost use Rattle.desk_run.specs.Script.{Report, Part, Message, DirectiveLine, standing, begin, directive_of};
+ghost use Rattle.desk_run.specs.Taking.{parts_from};
 ghost use Rattle.desk_run.specs.Reading.{Known, Left};
 ghost use Rattle.desk_run.specs.Running.{Runs, Stops, Carries, IsCounted, IsOfPart, EndsParts, Ends};
 
@@ -85,7 +86,7 @@ fn carry_report<S: Records, W: Write>(
     words: ReportWords<'_>,
 ) -> Result<(), ScriptFault>
     requires { directive_of line.now ≡ Report words.package.now (option_copied words.version) words.severity.now words.title.now }
-    ensures answer { Holds S.is_kept S.is_honest store.old store.new (Carries (Order line.now)
+    ensures answer { Holds S.is_kept S.is_honest store.old store.new (Carries (DirectiveLine line.now)
         (standing (S.desk store.old) run.old.sender run.old.refused) (standing (S.desk store.new) run.new.sender run.new.refused)
         (W.contents writer.old) (W.contents writer.new) result) }
     ensures own { IfErr result IsOfPart }
@@ -128,7 +129,7 @@ fn carry_out<S: Records, W: Write>(
     run: &mut Run,
     line: &str,
 ) -> Result<(), ScriptFault>
-    ensures answer { Holds S.is_kept S.is_honest store.old store.new (Carries (Order line.now)
+    ensures answer { Holds S.is_kept S.is_honest store.old store.new (Carries (DirectiveLine line.now)
         (standing (S.desk store.old) run.old.sender run.old.refused) (standing (S.desk store.new) run.new.sender run.new.refused)
         (W.contents writer.old) (W.contents writer.new) result) }
     ensures own { IfErr result IsOfPart }
@@ -163,12 +164,12 @@ fn take_line<S: Records, W: Write>(
     line: Text,
 ) -> Result<(), ScriptFault>
     ensures ok { IfOk result (λ done. (parts : List Part)
-        × ((lines : List (List ℕ)) → parts_of run.old.gathered.items (line ∷ lines) ≡ parts ++ parts_of run.new.gathered.items lines)
+        × ((lines : List (List ℕ)) → parts_from run.old.gathered.items (line ∷ lines) ≡ parts ++ parts_from run.new.gathered.items lines)
         × Holds S.is_kept S.is_honest store.old store.new (Runs parts
         (standing (S.desk store.old) run.old.sender run.old.refused) (standing (S.desk store.new) run.new.sender run.new.refused)
         (W.contents writer.old) (W.contents writer.new))) }
     ensures err { IfErr result (λ fault. Holds S.is_kept S.is_honest store.old store.new
-        ((lines : List (List ℕ)) → Stops (parts_of run.old.gathered.items (line ∷ lines))
+        ((lines : List (List ℕ)) → Stops (parts_from run.old.gathered.items (line ∷ lines))
         (standing (S.desk store.old) run.old.sender run.old.refused) (S.desk store.new)
         (W.contents writer.old) (W.contents writer.new) fault)) }
     ensures own { IfErr result IsOfPart }

@@ -174,7 +174,6 @@ pub(crate) fn next_line<R: Read>(
 /// The fault is Write: a write failed, an interrupted one too, or took no byte. A front of the bytes is then written.
 pub(crate) fn write_out<W: Write>(writer: &mut W, bytes: &[u8]) -> Result<(), ScriptFault>
     ensures all { OnOk result (Appends (W.contents writer.old) (W.contents writer.new) bytes.now) }
-    ensures front { OnErr result ((n : ℕ) × Appends (W.contents writer.old) (W.contents writer.new) (take n bytes.now)) }
     ensures unfinished { OnErr result ((n : ℕ) × (n < length bytes.now) × Appends (W.contents writer.old) (W.contents writer.new) (take n bytes.now)) }
     ensures write { OnErr result (result ≡ Result.Err ScriptFault.Write) }
 {

@@ -1,6 +1,6 @@
 use Rattle.std.proofs.Common.{refl, ◌∙◌, sym, ap}
 use Rattle.desk_store.proofs.HoldsLemmas.{holds_none}
-use Rattle.desk_run.specs.Script.{From, Bad, Order, standing}
+use Rattle.desk_run.specs.Script.{From, Bad, DirectiveLine, standing}
 use Rattle.desk_run.proofs.WrittenLemmas.{appends_none}
 use Rattle.desk_run.proofs.PartLemmas.{order_done, order_unwritten}
 use Rattle.desk_run.proofs.script.carry_out.Goals as goal
@@ -19,4 +19,4 @@ returns-in-Ok-write_out-clause-answer g c =
 pub returns-in-Err-write_out-clause-answer : goal.returns-in-Err-write_out-clause-answer
 returns-in-Err-write_out-clause-answer g c =
     let s = standing (g.S.Records.desk c.args.store.now) c.args.run.now.sender c.args.run.now.refused in
-    holds_none _ _ _ (order_unwritten c.args.line.now s _ _ _ _ c.in-Err-write_out.ensures.front.0 Bad c.in-Bad.ensures.value refl refl c.in-Err-write_out.ensures.front.1)
+    holds_none _ _ _ (order_unwritten c.args.line.now s _ _ _ _ c.in-Err-write_out.ensures.unfinished.0 Bad c.in-Bad.ensures.value refl refl c.in-Err-write_out.ensures.unfinished.1 c.in-Err-write_out.ensures.unfinished.2)

@@ -1,8 +1,8 @@
-use Rattle.std.proofs.Common.{ℕ, List, take, ◌∙◌, sym, subst, ap}
+use Rattle.std.proofs.Common.{ℕ, ◌<◌, length, List, take, ◌∙◌, sym, subst, ap}
 use Rattle.std.specs.Option.{option_copied}
 use Rattle.std.specs.Io.KnownBytes.{Appends}
 use Rattle.desk_store.proofs.HoldsLemmas.{holds_weaker}
-use Rattle.desk_run.specs.Script.{Order, standing}
+use Rattle.desk_run.specs.Script.{DirectiveLine, standing}
 use Rattle.desk_run.specs.Answers.{report_answer}
 use Rattle.desk_run.proofs.PartLemmas.{untold, reported_carried, reported_whole, reported_refused, reported_fault, fault_count, refused_count}
 use Rattle.desk_run.proofs.script.carry_report.Goals as goal
@@ -11,7 +11,7 @@ pub returns-in_default-clause-answer : goal.returns-in_default-clause-answer
 returns-in_default-clause-answer g c =
     let s = standing (g.S.Records.desk c.args.store.now) c.args.run.now.sender c.args.run.now.refused in
     holds_weaker c.report-answer.ensures.answer
-    (λ r. untold (Order c.args.line.now) s _ _ (report_answer c.report-answer.result)
+    (λ r. untold (DirectiveLine c.args.line.now) s _ _ (report_answer c.report-answer.result)
     (reported_carried c.args.line.now _ _ _ _ s _ c.report-answer.result c.requires (rw c.as_str.ensures at r)))
 
 pub returns-in-Err-clause-answer : goal.returns-in-Err-clause-answer
@@ -21,9 +21,10 @@ returns-in-Err-clause-answer g c =
     holds_weaker c.report-answer.ensures.answer
     (λ r. (
       report_answer c.report-answer.result,
-      c.in-Err.ensures.front.0,
+      c.in-Err.ensures.unfinished.0,
+      subst (λ (w : List ℕ). c.in-Err.ensures.unfinished.0 < length w) text c.in-Err.ensures.unfinished.1,
       reported_carried c.args.line.now _ _ _ _ s _ c.report-answer.result c.requires (rw c.as_str.ensures at r),
-      subst (λ (w : List ℕ). Appends (g.W.Write.contents c.args.writer.now) (g.W.Write.contents c.write_out.new.writer) (take c.in-Err.ensures.front.0 w)) text c.in-Err.ensures.front.1,
+      subst (λ (w : List ℕ). Appends (g.W.Write.contents c.args.writer.now) (g.W.Write.contents c.write_out.new.writer) (take c.in-Err.ensures.unfinished.0 w)) text c.in-Err.ensures.unfinished.2,
     ))
 
 pub returns-in-Ok-answer-clause-answer : goal.returns-in-Ok-answer-clause-answer
@@ -42,9 +43,9 @@ returns-in-Some-clause-answer g c =
     let of_store = sym c.store_fault.ensures ∙ c.in-Some.is in
     holds_weaker c.report-answer.ensures.answer
     (λ r.
-    let f = reported_fault c.args.line.now _ _ _ _ s _ c.in-Err-answer.fault c.in-Some.fault of_store (rw (c.as_str.ensures, c.in-Err-answer.is) at r) in (
+    let f = reported_fault c.args.line.now _ _ _ _ s _ c.in-Err-answer.fault c.in-Some.fault of_store c.requires (rw (c.as_str.ensures, c.in-Err-answer.is) at r) in (
       report_answer c.report-answer.result,
-      (f.0, ap report_answer c.in-Err-answer.is ∙ f.1),
+      (f.0, f.1, ap report_answer c.in-Err-answer.is ∙ f.2),
       subst (Appends (g.W.Write.contents c.args.writer.now) (g.W.Write.contents c.write_out.new.writer)) text c.in-Ok-write_out.ensures.all,
     ))
 

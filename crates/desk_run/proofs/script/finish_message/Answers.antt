@@ -1,4 +1,4 @@
-use Rattle.std.proofs.Common.{ℕ, List, take, ◌∙◌, sym, subst, ap}
+use Rattle.std.proofs.Common.{ℕ, ◌<◌, length, List, take, ◌∙◌, sym, subst, ap}
 use Rattle.std.specs.Prelude.{◌||◌}
 use Rattle.std.specs.Io.KnownBytes.{Appends}
 use Rattle.desk_store.proofs.HoldsLemmas.{holds_weaker}
@@ -21,9 +21,10 @@ returns-in-Err-clause-answer g c =
     holds_weaker c.receive_lines-received.ensures.answer
     (λ r. (
       _,
-      c.in-Err.ensures.front.0,
+      c.in-Err.ensures.unfinished.0,
+      subst (λ (w : List ℕ). c.in-Err.ensures.unfinished.0 < length w) (text ∙ ap (received_text c.receive_lines-received.result.outcomes c.receive_lines-received.result.end) c.as_slice-lines.ensures.value) c.in-Err.ensures.unfinished.1,
       received_carried c.args.run.now.gathered.items s c.receive_lines-received.result.outcomes c.receive_lines-received.result.end _ (rw (c.as_str.ensures, c.as_slice-lines.ensures.value) at r),
-      subst (λ (w : List ℕ). Appends (g.W.Write.contents c.args.writer.now) (g.W.Write.contents c.write_out.new.writer) (take c.in-Err.ensures.front.0 w)) (text ∙ ap (received_text c.receive_lines-received.result.outcomes c.receive_lines-received.result.end) c.as_slice-lines.ensures.value) c.in-Err.ensures.front.1,
+      subst (λ (w : List ℕ). Appends (g.W.Write.contents c.args.writer.now) (g.W.Write.contents c.write_out.new.writer) (take c.in-Err.ensures.unfinished.0 w)) (text ∙ ap (received_text c.receive_lines-received.result.outcomes c.receive_lines-received.result.end) c.as_slice-lines.ensures.value) c.in-Err.ensures.unfinished.2,
     ))
 
 pub returns-in-Some-clause-answer : goal.returns-in-Some-clause-answer

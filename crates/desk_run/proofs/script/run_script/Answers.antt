@@ -2,7 +2,8 @@ use Rattle.std.proofs.Common.{◌≡◌, ℕ, List, [], ◌∷◌, ◌++◌, len
 use Rattle.bug_record.specs.Texts.{is_text, IsText}
 use Rattle.desk_store.proofs.HoldsLemmas.{holds_weaker, holds_none, holds_then, holds_both}
 use Rattle.desk_run.specs.Lines.{raw_lines, without_return}
-use Rattle.desk_run.specs.Script.{standing, begin, parts_of}
+use Rattle.desk_run.specs.Script.{standing, begin}
+use Rattle.desk_run.specs.Taking.{parts_from}
 use Rattle.desk_run.specs.declared.fault.ScriptFault.TheVariants.{Read}
 use Rattle.desk_run.proofs.RunLemmas.{runs_then, runs_none}
 use Rattle.desk_run.proofs.ScriptLemmas.{ReadTo, IsCut, nothing_read, read_more, cut_more, ends_at, stops_reading, stops_at_once, left_more, left_same, known_before, known_of, none_right, on_ok, stops_in_line, last_line, ends_at_last, one_line_more}
@@ -21,7 +22,7 @@ loop-number-init g c = record {
   before = [];
   texts = [];
   counted = refl;
-  cut = λ lines. ap (λ (h : List (List ℕ)). parts_of h lines) (sym c.new.ensures.items);
+  cut = λ lines. ap (λ (h : List (List ℕ)). parts_from h lines) (sym c.new.ensures.items);
   faults = refl;
   read = left_same _ (λ xs. subst (λ (s : List ℕ). ReadTo [] xs (s ++ xs)) (sym c.new-source.ensures) (nothing_read xs));
   ran = holds_none _ _ _
