@@ -9,7 +9,8 @@ use Rattle.desk_run.specs.Running.{Runs, StopsIn, Stops, EndsParts}
 use Rattle.desk_run.specs.declared.fault.ScriptFault.{ScriptFault}
 use Rattle.desk_run.specs.declared.fault.ScriptFault.TheVariants as stops
 use Rattle.desk_run.specs.declared.script.ScriptEnd.{ScriptEnd}
-use Rattle.desk_run.proofs.WrittenLemmas.{appends_none, appends_then}
+use Rattle.std.proofs.KnownBytes.{Appends-trans}
+use Rattle.desk_run.proofs.WrittenLemmas.{appends_none}
 use Rattle.desk_run.proofs.PartLemmas.{not_begun}
 
 text_nil : (a : Standing) → text_of [] a ≡ []
@@ -60,7 +61,7 @@ runs_none a c = (sym (after_none a), subst (Appends c c) (sym (text_nil a)) (app
 pub runs_then : (ps qs : List Part) (a b e : Standing) (c0 c1 c2 : Option (List ℕ)) → Runs ps a b c0 c1 → Runs qs b e c1 c2 → Runs (ps ++ qs) a e c0 c2
 runs_then ps qs a b e c0 c1 c2 p q = (
   q.0 ∙ (ap (after_parts qs) p.0 ∙ sym (after_append ps qs a)),
-  subst (Appends c0 c2) (ap (λ (s : Standing). text_of ps a ++ text_of qs s) p.0 ∙ sym (text_append ps qs a)) (appends_then c0 c1 c2 (text_of ps a) (text_of qs b) p.1 q.1),
+  subst (Appends c0 c2) (ap (λ (s : Standing). text_of ps a ++ text_of qs s) p.0 ∙ sym (text_append ps qs a)) (Appends-trans c0 c1 c2 (text_of ps a) (text_of qs b) p.1 q.1),
 )
 
 pub runs_then_stops : (ps qs : List Part) (a b : Standing) (d : Desk) (c0 c1 c2 : Option (List ℕ)) (fault : ScriptFault) → Runs ps a b c0 c1 → Stops qs b d c1 c2 fault → Stops (ps ++ qs) a d c0 c2 fault
@@ -73,7 +74,7 @@ runs_then_stops ps qs a b d c0 c1 c2 fault p q =
       after = q.after;
       split = ap (λ (w : List Part). ps ++ w) q.split ∙ sym (append_assoc ps q.before (q.part ∷ q.after));
       between = q.between;
-      ran = subst (Appends c0 q.between) (sym t) (appends_then c0 c1 q.between (text_of ps a) (text_of q.before b) p.1 q.ran);
+      ran = subst (Appends c0 q.between) (sym t) (Appends-trans c0 c1 q.between (text_of ps a) (text_of q.before b) p.1 q.ran);
       stops = subst (λ (x : Standing). StopsIn q.part x d q.between c2 fault) (sym s) q.stops;
     }
 
@@ -133,7 +134,7 @@ runs_then_ends ps qs a b d c0 c1 c2 (Ok end) p q =
     let s : after_parts (ps ++ qs) a ≡ after_parts qs b = after_append ps qs a ∙ ap (after_parts qs) (sym p.0) in (
       q.0 ∙ ap (λ (x : Standing). x.desk) (sym s),
       q.1 ∙ ap (λ (x : Standing). end_of_script x.refused) (sym s),
-      subst (Appends c0 c2) (ap (λ (x : Standing). text_of ps a ++ text_of qs x) p.0 ∙ sym (text_append ps qs a)) (appends_then c0 c1 c2 (text_of ps a) (text_of qs b) p.1 q.2),
+      subst (Appends c0 c2) (ap (λ (x : Standing). text_of ps a ++ text_of qs x) p.0 ∙ sym (text_append ps qs a)) (Appends-trans c0 c1 c2 (text_of ps a) (text_of qs b) p.1 q.2),
     )
 
 -- the parts of lines begin with a message

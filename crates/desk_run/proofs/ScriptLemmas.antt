@@ -203,9 +203,10 @@ stops_in_line texts before g source rest line a b d c0 c1 c2 fault read piece c 
       let v = piece.known u.0 u.1 in
       let p = v.2 in
       let here : line ∷ map without_return (raw_lines (rest ++ v.0)) ≡ map without_return (raw_lines (source ++ u.0)) =
-          ap (λ (w : List ℕ). w ∷ map without_return (raw_lines (rest ++ v.0))) p.3 ∙ sym (ap (map without_return) p.1) in
+      ap (λ (w : List ℕ). w ∷ map without_return (raw_lines (rest ++ v.0))) p.3 ∙ sym (ap (map without_return) p.1) in
       stops_in texts before g xs (source ++ u.0) a b d c0 c1 c2 fault u.2 c ran o (subst (λ (ls : List (List ℕ)). Stops (parts_from g ls) b d c1 c2 fault) here (stop (map without_return (raw_lines (rest ++ v.0)))))
-          (good_stops (texts ++ line ∷ []) before (parts_from g (line ∷ [])) xs (rest ++ v.0) a b d c0 c1 c2 fault (read_more texts xs (source ++ u.0) (rest ++ v.0) line u.2 p) (c (line ∷ [])) ran (stop [])) }
+      (good_stops (texts ++ line ∷ []) before (parts_from g (line ∷ [])) xs (rest ++ v.0) a b d c0 c1 c2 fault (read_more texts xs (source ++ u.0) (rest ++ v.0) line u.2 p) (c (line ∷ [])) ran (stop []));
+}
 
 -- the last line, as one that is read
 pub last_line : {r1 r2 : Option (List ℕ)} (source rest line : List ℕ) → Left r1 r2 (λ ys zs. (raw : List ℕ) × (raw_lines (source ++ ys) ≡ raw ∷ []) × IsGoodLine raw × (line ≡ without_return raw) × (rest ++ zs ≡ [])) → Left r1 r2 (λ ys zs. IsNextLine line (source ++ ys) (rest ++ zs))
@@ -220,7 +221,8 @@ ends_at_last texts before parts g h source rest line a b d c0 c1 c2 r read piece
       let u = read.known xs e in
       let v = piece.known u.0 u.1 in
       let p = v.2 in
-      ends_at (texts ++ line ∷ []) (before ++ parts) h xs (rest ++ v.0) a b d c0 c1 c2 r (read_more texts xs (source ++ u.0) (rest ++ v.0) line u.2 (no_lines_left line (source ++ u.0) (rest ++ v.0) p)) (ap raw_lines p.4) (cut_more texts before parts g h line c f) ran o ends }
+      ends_at (texts ++ line ∷ []) (before ++ parts) h xs (rest ++ v.0) a b d c0 c1 c2 r (read_more texts xs (source ++ u.0) (rest ++ v.0) line u.2 (no_lines_left line (source ++ u.0) (rest ++ v.0) p)) (ap raw_lines p.4) (cut_more texts before parts g h line c f) ran o ends;
+}
 
 pub one_line_more : (texts : List (List ℕ)) (line : List ℕ) (number : ℕ) → length texts + 1 ≡ number → length (texts ++ line ∷ []) + 1 ≡ number + 1
 one_line_more texts line number e = ap (λ (n : ℕ). n + 1) (length-append texts (line ∷ []) ∙ e)

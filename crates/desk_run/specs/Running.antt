@@ -2,6 +2,7 @@
 use Rattle.std.specs.Prelude.{ℕ, ◌≡◌, ◌⊎◌, ◌+◌, ◌<◌, ◌≤◌, List, [], ◌∷◌, ◌++◌, length, take, map, Option, Result, Ok, Err}
 use Rattle.std.specs.Io.KnownBytes.{Appends}
 use Rattle.std.specs.Str.{IsUtf8}
+use Rattle.bug_record.specs.Sets.{Each}
 use Rattle.bug_record.specs.Desk.{Desk}
 use Rattle.desk_text.specs.Texts.{fault_text}
 use Rattle.desk_text.specs.declared.outcome.StoreFault.{StoreFault}
@@ -68,8 +69,7 @@ pub record Stops (parts : List Part) (a : Standing) (d : Desk) (c0 c1 : Option (
 
 -- each line is good: at most 65,536 bytes, and UTF-8
 abbrev pub AreGood : List (List ℕ) → Type 0
-AreGood [] = Unit {0}
-AreGood (raw ∷ raws) = IsGoodLine raw × AreGood raws
+AreGood raws = Each IsGoodLine raws
 
 -- The line of this number, counted from 1, is the first that is not good, and the parts before the message that its lines
 -- before this one belong to were carried out.

@@ -101,7 +101,7 @@ refused_text BadVersion = codes "bad version"
 refused_text BadSeverity = codes "unknown severity"
 refused_text BadTitle = codes "bad title"
 refused_text Full = codes "no bug number is left"
-refused_text (Store fault) = [] -- no refusal
+refused_text (Store fault) = []  -- no refusal
 
 -- the answer to a report: the number of the new bug, or the refusal
 abbrev pub report_text : Result Desk ReportFault → ℕ → List ℕ

@@ -219,10 +219,10 @@ fn finish_script<S: Records, W: Write>(
 /// Runs a script: reads its lines to the end, carries messages and directives out in turn, and writes their answers.
 ///
 /// Where it answers `Ok` it has read to the end, and has written the script's output and nothing else. After a fault of the
-/// store what was written is the output up to there with the fault's text; after `Read` (also where the reader was asked
-/// 16,777,216 times), `NotUtf8` and `LineTooLong` the text of all earlier parts, whole, and the message whose lines were being
+/// store what was written is the output up to there with the fault's text; after `Read` (also where more than 16,777,216
+/// reads were needed), `NotUtf8` and `LineTooLong` the text of all earlier parts, whole, and the message whose lines were being
 /// gathered was not begun; after `Memory` the same, and the part at hand may have been carried out; after `Write` a front of
-/// the output. `NotUtf8` and `LineTooLong` name the first line of either kind; one that is both is too long.
+/// the output, and not all of what was to be written for the part at hand. `NotUtf8` and `LineTooLong` name the first line of either kind; one that is both is too long.
 pub fn run_script<S: Records, R: Read, W: Write>(
     alloc: Global,
     store: &mut S,

@@ -13,9 +13,14 @@ returns-in-Ok-apply-clause-answer g c =
     holds_where a (λ u w p. (told c.args.images.now _ c.as_slice.ensures c.in-Ok.ensures.desks (c.requires.planned u (a.honest w)), p))
 
 pub returns-then-change-next-clause-answer : goal.returns-then-change-next-clause-answer
-returns-then-change-next-clause-answer g c = 
-    record { honest = λ w. w; kept = λ u w. u; fact = λ u w.
-    let p = c.requires.planned u w in
-    (told c.args.images.now _ c.as_slice.ensures c.in-Ok.ensures.desks p, 
-     sym (unchanged _ c.args.images.now _ c.args.next c.args.change.now c.in-Ok.numbers c.as_slice.ensures c.in-Ok.ensures.images p
-        (nothing _ _ c.as_slice-2.ensures (sym c.is_empty.ensures ∙ c.if-is_empty.true)) c.if-change-next.true)) }
+returns-then-change-next-clause-answer g c =
+    record {
+      honest = λ w. w;
+      kept = λ u w. u;
+      fact = λ u w.
+          let p = c.requires.planned u w in (
+            told c.args.images.now _ c.as_slice.ensures c.in-Ok.ensures.desks p,
+            sym (unchanged _ c.args.images.now _ c.args.next c.args.change.now c.in-Ok.numbers c.as_slice.ensures c.in-Ok.ensures.images p
+                (nothing _ _ c.as_slice-2.ensures (sym c.is_empty.ensures ∙ c.if-is_empty.true)) c.if-change-next.true),
+          );
+    }

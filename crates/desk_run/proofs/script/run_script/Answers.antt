@@ -27,14 +27,15 @@ loop-number-init g c = record {
   read = left_same _ (λ xs. subst (λ (s : List ℕ). ReadTo [] xs (s ++ xs)) (sym c.new-source.ensures) (nothing_read xs));
   ran = holds_none _ _ _
       (let r = runs_none (begin (g.S.Records.desk c.args.store.now)) (g.W.Write.contents c.args.writer.now) in
-      (ap (λ (x : List ℕ). standing (g.S.Records.desk c.args.store.now) x false) c.in-Ok.ensures ∙ r.0, r.1)) }
+      (ap (λ (x : List ℕ). standing (g.S.Records.desk c.args.store.now) x false) c.in-Ok.ensures ∙ r.0, r.1));
+}
 
 pub returns-in-Err-clause-answer : goal.returns-in-Err-clause-answer
 returns-in-Err-clause-answer g c =
     let i = c.loop-number.invariant in
     holds_weaker i.ran
     (λ ran. known_before i.read c.in-Err.ensures.fault
-      (λ xs ys r f. stops_reading i.texts i.before c.loop-number.run.gathered.items xs (c.loop-number.source ++ ys) c.loop-number.number _ _ _ _ _ c.in-Err.fault r i.cut ran refl i.counted c.in-Err.ensures.outside f))
+    (λ xs ys r f. stops_reading i.texts i.before c.loop-number.run.gathered.items xs (c.loop-number.source ++ ys) c.loop-number.number _ _ _ _ _ c.in-Err.fault r i.cut ran refl i.counted c.in-Err.ensures.outside f))
 
 pub returns-in-Err-take_line-clause-answer : goal.returns-in-Err-take_line-clause-answer
 returns-in-Err-take_line-clause-answer g c =
@@ -57,7 +58,7 @@ returns-in-Ok-Last-clause-answer g c =
     let piece = rw c.in-Ok-Last.field-0-is at c.in-Ok-Last.ensures.piece in
     holds_then (holds_both i.ran more.2) c.finish_script.ensures.answer
     (λ p ends. ends_at_last i.texts i.before more.0 c.loop-number.run.gathered.items c.take_line-in-Ok-Last.new.run.gathered.items c.loop-number.source c.next_line.new.source c.in-Ok-Last.line _ _ _ _ _ _ c.finish_script.result
-      i.read piece i.cut more.1 (runs_then i.before more.0 _ _ _ _ _ _ p.0 p.1) c.finish_script.ensures.own ends)
+    i.read piece i.cut more.1 (runs_then i.before more.0 _ _ _ _ _ _ p.0 p.1) c.finish_script.ensures.own ends)
 
 pub returns-in-Ok-Last-clause-read : goal.returns-in-Ok-Last-clause-read
 returns-in-Ok-Last-clause-read g c =
@@ -71,7 +72,7 @@ returns-in-Ok-End-clause-answer g c =
     let piece = rw c.in-Ok-End.field-0-is at c.in-Ok-End.ensures.piece in
     holds_then i.ran c.finish_script-in-Ok-End.ensures.answer
     (λ ran ends. known_before i.read (known_of piece (λ ys zs p. p.0))
-      (λ xs ys r none. ends_at i.texts i.before c.loop-number.run.gathered.items xs (c.loop-number.source ++ ys) _ _ _ _ _ _ c.finish_script-in-Ok-End.result r none i.cut ran c.finish_script-in-Ok-End.ensures.own ends))
+    (λ xs ys r none. ends_at i.texts i.before c.loop-number.run.gathered.items xs (c.loop-number.source ++ ys) _ _ _ _ _ _ c.finish_script-in-Ok-End.result r none i.cut ran c.finish_script-in-Ok-End.ensures.own ends))
 
 pub returns-in-Ok-End-clause-read : goal.returns-in-Ok-End-clause-read
 returns-in-Ok-End-clause-read g c =
@@ -91,11 +92,12 @@ loop-number-preserved g c =
       cut = cut_more i.texts i.before more.0 c.loop-number.run.gathered.items c.take_line.new.run.gathered.items c.in-Ok-Line.line i.cut more.1;
       faults = c.in-Ok-take_line.ensures.count ∙ i.faults;
       read = left_more i.read piece (λ xs ys zs r p. read_more i.texts xs (c.loop-number.source ++ ys) (c.next_line.new.source ++ zs) c.in-Ok-Line.line r p);
-      ran = holds_then i.ran more.2 (λ p q. runs_then i.before more.0 _ _ _ _ _ _ p q) }
+      ran = holds_then i.ran more.2 (λ p q. runs_then i.before more.0 _ _ _ _ _ _ p q);
+    }
 
 pub returns-clause-answer : goal.returns-clause-answer
 returns-clause-answer g c =
     let i = c.loop-number.invariant in
     holds_weaker i.ran
     (λ ran. known_before i.read (record { known = λ ys e. tt })
-      (λ xs ys r (t : Unit {0}). stops_reading i.texts i.before c.loop-number.run.gathered.items xs (c.loop-number.source ++ ys) c.loop-number.number _ _ _ _ _ Read r i.cut ran refl i.counted tt tt))
+    (λ xs ys r (t : Unit {0}). stops_reading i.texts i.before c.loop-number.run.gathered.items xs (c.loop-number.source ++ ys) c.loop-number.number _ _ _ _ _ Read r i.cut ran refl i.counted tt tt))
