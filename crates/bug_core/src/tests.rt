@@ -1,3 +1,4 @@
+//! Worked values, and each call once where memory is ample.
 #![tactic(auto, unfolding(bug_record::specs::Texts::is_text))]
 
 ghost use Rattle.std.specs.Prelude.{◌≡◌, [], ◌∷◌, IfOk};

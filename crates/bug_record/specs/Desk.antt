@@ -11,7 +11,7 @@ pub record Desk : Type 0 where
   pub bug : ℕ → Option Bug
   pub next : ℕ
 
--- what a bug has to be of one that is merged with b: there, with the same block and the same shared fields
+-- the bug is there, and has b's block and b's shared fields
 abbrev pub IsMergedWith : Bug → Option Bug → Type 0
 IsMergedWith b None = ⊥
 IsMergedWith b (Some c) = (c.block ≡ b.block) × (c.shared ≡ b.shared)
@@ -22,7 +22,7 @@ pub record HasGoodTexts (b : Bug) : Type 0 where
   pub submitter : IsText b.submitter
   pub package_name : IsName b.shared.package
 
--- What a desk keeps.
+-- What a desk keeps. This project's own rule.
 pub record IsSound (d : Desk) : Type 0 where
   -- a bug is in its own block, which is ascending
   pub own : (n : ℕ) (b : Bug) → d.bug n ≡ Some b → has b.block n ≡ true

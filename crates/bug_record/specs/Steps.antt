@@ -28,7 +28,7 @@ abbrev pub step : Desk → List ℕ → Command ℕ → Result Desk Refusal
 step d sender (SetSeverity n s) = at_bug (d.bug n) n (λ _. Ok (change_shared d n (λ f. record f { severity = s })))
 step d sender (Close n) = at_bug (d.bug n) n (λ _. Ok (change_shared d n (λ f. record f { closed = true })))
 
--- the record of a new report under this number: open, and merged with none
+-- the record of a new report under this number: open, and merged with none (reports are this project's own rule)
 abbrev pub new_bug : ℕ → List ℕ → List ℕ → Severity → List ℕ → Bug
 new_bug number sender package_name severity title = record {
   title = title;

@@ -17,8 +17,8 @@ begins_blank (c ∷ s) = is_blank c
 abbrev pub ends_blank : List ℕ → Bool
 ends_blank s = begins_blank (reverse s)
 
--- A text of 1 to 200 bytes: no control character other than tab, and no blank at its beginning or end. (That it is UTF-8
--- is the type of all texts here.)
+-- A text of 1 to 200 bytes: no control character other than tab, and no blank at its beginning or end. (Callers hand in
+-- a `&str`, which is UTF-8; the definition does not say it.)
 unfoldable pub is_text : List ℕ → Bool
 is_text s =
     nat_le 1 (length s) && nat_le (length s) 200

@@ -50,7 +50,7 @@ boundary_before_blanks s =
       λ within far.
           let back : length s - 1 - (k - 1) ≡ n = omega arith in
           let passes : is_blank (get_or s n 0) ≡ true =
-              sym (ap is_blank (get_or-reverse s (k - 1) 0 (omega arith) ∙ ap (λ i. get_or s i 0) back)) ∙ prefix_len_passes is_blank (reverse s) (k - 1) 0 (omega arith) in
+          sym (ap is_blank (get_or-reverse s (k - 1) 0 (omega arith) ∙ ap (λ i. get_or s i 0) back)) ∙ prefix_len_passes is_blank (reverse s) (k - 1) 0 (omega arith) in
           let near : get_or s n 0 < 128 = blank-ascii (get_or s n 0) passes in
           absurd (omega arith),
     )

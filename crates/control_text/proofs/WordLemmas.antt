@@ -85,12 +85,6 @@ begins_blank-drop (c ∷ s) =
     ]
 
 -- a text up to its first blank, and from there on
-pub has_bytes-take : (s : List ℕ) → begins_blank s ≡ false → has_bytes s ≡ has_bytes (take (position_or_len is_blank s) s)
-has_bytes-take [] e = refl
-has_bytes-take (c ∷ s) e =
-    let more = cond-true (not (is_blank c)) (1 + position_or_len is_blank s) 0 (not_from_false _ e) in
-    sym (ap has_bytes (ap (λ n. take n (c ∷ s)) more ∙ take_more_of (position_or_len is_blank s) c s))
-
 pub EndsWord-drop : (s : List ℕ) → EndsWord (drop (position_or_len is_blank s) s)
 EndsWord-drop [] = tt
 EndsWord-drop (c ∷ s) =

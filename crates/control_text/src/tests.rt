@@ -1,5 +1,7 @@
+//! Worked lines, words, texts and numbers.
+
 use crate::named::bug_word;
-use crate::{Line, LineFault, Named, number_word, read_line};
+use crate::{Line, LineFault, Named, next_word, number_word, read_line, trim};
 use bug_record::{Command, Refusal, Severity};
 
 #[test]
@@ -97,4 +99,43 @@ fn words_that_are_numbers_or_bugs(rt: HostRuntime) {
     }
     assert!(rt; bug_word("12") == Some(Named::Number(12)));
     assert!(rt; bug_word("-999999999") == Some(Named::Name(999_999_999)));
+}
+
+#[test]
+fn the_first_word_and_the_text_after_it(rt: HostRuntime) {
+    let cases = [
+        ("", ("", "")),
+        (" \t ", ("", "")),
+        ("new", ("new", "")),
+        ("\t new", ("new", "")),
+        ("new ", ("new", " ")),
+        ("new \t  text", ("new", " \t  text")),
+        (" \tnew\t \ttext and more ", ("new", "\t \ttext and more ")),
+        ("new\r text", ("new\r", " text")),
+        ("\r\n new", ("\r\n", " new")),
+        ("\u{b}\u{c} new", ("\u{b}\u{c}", " new")),
+        ("\u{a0}à\u{3000}b c", ("\u{a0}à\u{3000}b", " c")),
+    ];
+    for (text, parts) in cases {
+        assert!(rt; next_word(text) == parts, "{text}");
+    }
+}
+
+#[test]
+fn texts_without_outer_blanks(rt: HostRuntime) {
+    let cases = [
+        ("", ""),
+        (" \t ", ""),
+        ("new", "new"),
+        ("\t new", "new"),
+        ("new \t", "new"),
+        (" \ttwo \t  words\t ", "two \t  words"),
+        ("\r new \r", "\r new \r"),
+        (" new\r\n", "new\r\n"),
+        ("\u{c}\t\u{b} ", "\u{c}\t\u{b}"),
+        (" \u{a0}à\u{3000}\t", "\u{a0}à\u{3000}"),
+    ];
+    for (text, inner) in cases {
+        assert!(rt; trim(text) == inner, "{text}");
+    }
 }

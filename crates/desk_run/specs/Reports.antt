@@ -45,7 +45,7 @@ unfoldable pub report_of : Desk → List ℕ → List ℕ → Option (List ℕ) 
 report_of d sender package_name version severity title =
     desk_reported (report_severity package_name version severity title) d sender package_name title
 
--- What is answered, and the desk after it: the number of the new bug; a refusal, and no change; or, of a report whose
+-- What is answered, and the desk after it (the version is checked, and not kept so far): the number of the new bug; a refusal, and no change; or, of a report whose
 -- words are good, a fault of the store, and no change.
 abbrev pub IsReported : List ℕ → List ℕ → Option (List ℕ) → List ℕ → List ℕ → Desk → Result ℕ ReportFault → Desk → Type 0
 IsReported sender package_name version severity title old (Ok number) new = (report_of old sender package_name version severity title ≡ Ok new) × (number ≡ old.next)

@@ -1,5 +1,5 @@
--- A message, as a machine that takes its lines one at a time (the BTS page 'control and manipulation'; its end at the
--- fifth line that could not be read, and all else where no page is named, are this project's own rules).
+-- A message, as a machine that takes its lines one at a time (stops: the BTS page 'control and manipulation'; the rest is
+-- this project's own rule).
 use Rattle.std.specs.Prelude.{ℕ, ◌≡◌, ◌+◌, ◌-◌, ◌<◌, ◌≤◌, ◌==◌, nat_lt, nat_le, Bool, true, false, List, [], ◌∷◌, ◌++◌, length, take, count_by, Option, Some, None, Result, Ok, Err, unwrap_or, if◌then◌else◌}
 use Rattle.std.specs.List.{list_any}
 use Rattle.bug_record.specs.Desk.{Desk}
@@ -38,7 +38,8 @@ abbrev pub number_of_name : List (ℕ × ℕ) → ℕ → Option ℕ
 number_of_name [] k = None
 number_of_name (p ∷ names) k = if p.0 == k then Some p.1 else number_of_name names k
 
--- The number that a bug word means. A name -k that isn't known stands for 1,000,000,000 + k, which no bug has.
+-- The number that a bug word means. A name -k that isn't known stands for 1,000,000,000 + k, which no bug of a sound desk
+-- has.
 abbrev pub number_meant : List (ℕ × ℕ) → Named → ℕ
 number_meant names (Number n) = n
 number_meant names (Name k) = unwrap_or (number_of_name names k) (1000000000 + k)
