@@ -2,3 +2,4 @@ pub mod OneSet
 pub mod PlainLemmas
 pub mod RowLemmas
 pub mod HoldsLemmas
+pub mod NameLemmas

@@ -3,6 +3,7 @@
 #![tactic(auto)]
 
 mod fail_at;
+mod laws;
 mod plain;
 mod records;
 mod rows;
@@ -10,5 +11,6 @@ mod rows;
 mod tests;
 
 pub use fail_at::FailAt;
+pub use laws::names_are_told_from_numbers;
 pub use plain::PlainDesk;
 pub use records::Records;
