@@ -176,3 +176,17 @@ changed-listed d old new next r h are =
       | inr e ↦ equal-not (d.bug m) (after.bug m) e
     ]))
     agree m false true p q = absurd (differ-not (d.bug m) (after.bug m) (and_parts (has (numbers_below next) m) (differ m) (sym (has-filter differ (numbers_below next) m) ∙ q)).1 (on_desk.others m p))
+
+-- the list of two sound desks is that of the numbers at which they differ
+pub changed-differ : (d e : Desk) → IsSound d → IsSound e → d.next ≤ e.next → AreChanged d.bug e.bug (changed_numbers d e)
+changed-differ d e sound sound_after later = record {
+  ascending = IsAscending-filter differ (numbers_below e.next) (IsAscending-numbers_below e.next);
+  listed = λ n h. differ-not (d.bug n) (e.bug n) (and_parts (has (numbers_below e.next) n) (differ n) (sym (has-filter differ (numbers_below e.next) n) ∙ h)).1;
+  others = λ n h. elim (and_cases (has (numbers_below e.next) n) (differ n) (sym (has-filter differ (numbers_below e.next) n) ∙ h)) [
+    | inl a ↦ none-from_next d sound n e.next later (sym (has-numbers_below e.next n) ∙ a) ∙ sym (none-from_next e sound_after n e.next (omega arith) (sym (has-numbers_below e.next n) ∙ a))
+    | inr b ↦ equal-not (d.bug n) (e.bug n) b
+  ];
+}
+  where
+    differ : ℕ → Bool
+    differ n = not (same_at (d.bug n) (e.bug n))

@@ -5,6 +5,7 @@
 mod changes;
 mod close;
 mod images;
+mod laws;
 mod plans;
 mod report;
 mod severity;
@@ -17,6 +18,7 @@ pub use bug_record::{
     Severity, Shared,
 };
 pub use changes::changed;
+pub use laws::changed_numbers_differ;
 pub use plans::plan;
 pub use report::report_change;
 pub use text::is_text;
