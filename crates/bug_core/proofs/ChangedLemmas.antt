@@ -8,7 +8,8 @@ use Rattle.std.proofs.lemmas.Slice.Eq.{bytes_eq-Decides}
 use Rattle.bug_record.specs.Sets.{has, IsAscending}
 use Rattle.bug_record.specs.Severities.{rank}
 use Rattle.bug_record.specs.Desk.{Desk, IsSound}
-use Rattle.bug_record.specs.Images.{bug_in, or_else, put}
+use Rattle.bug_record.specs.Images.{bug_in, put}
+use Rattle.std.specs.Option.{option_or}
 use Rattle.bug_record.specs.Changed.{AreChanged, same_shared, same_bugs, same_at, numbers_below, changed_numbers, Replaces}
 use Rattle.bug_record.specs.declared.bug.Bug.{Bug}
 use Rattle.bug_record.specs.declared.bug.Shared.{Shared}
@@ -137,14 +138,14 @@ changed-on_desk d old new next r h are = record {
   others = λ n e. others n (are.others n e) (bug_in new n) refl;
 }
   where
-    others : (n : ℕ) → bug_in old n ≡ bug_in new n → (p : Option Bug) → bug_in new n ≡ p → d.bug n ≡ or_else (bug_in new n) (d.bug n)
-    others n e None q = ap (λ o. or_else o (d.bug n)) (sym q)
-    others n e (Some b) q = shown d old h.blocks n b (e ∙ q) ∙ ap (λ o. or_else o (d.bug n)) (sym q)
+    others : (n : ℕ) → bug_in old n ≡ bug_in new n → (p : Option Bug) → bug_in new n ≡ p → d.bug n ≡ option_or (bug_in new n) (d.bug n)
+    others n e None q = ap (λ o. option_or o (d.bug n)) (sym q)
+    others n e (Some b) q = shown d old h.blocks n b (e ∙ q) ∙ ap (λ o. option_or o (d.bug n)) (sym q)
 
-    listed : (n : ℕ) → (bug_in old n ≡ bug_in new n → ⊥) → (o : Option Bug) → bug_in old n ≡ o → (p : Option Bug) → bug_in new n ≡ p → d.bug n ≡ or_else (bug_in new n) (d.bug n) → ⊥
+    listed : (n : ℕ) → (bug_in old n ≡ bug_in new n → ⊥) → (o : Option Bug) → bug_in old n ≡ o → (p : Option Bug) → bug_in new n ≡ p → d.bug n ≡ option_or (bug_in new n) (d.bug n) → ⊥
     listed n w o e None q k = absurd (w (h.covers n q ∙ sym q))
-    listed n w None e (Some b) q k = absurd (none-some b (sym (h.brings n b e q) ∙ k ∙ ap (λ o. or_else o (d.bug n)) q))
-    listed n w (Some a) e (Some b) q k = absurd (w (e ∙ sym (shown d old h.blocks n a e) ∙ k ∙ ap (λ o. or_else o (d.bug n)) q ∙ sym q))
+    listed n w None e (Some b) q k = absurd (none-some b (sym (h.brings n b e q) ∙ k ∙ ap (λ o. option_or o (d.bug n)) q))
+    listed n w (Some a) e (Some b) q k = absurd (w (e ∙ sym (shown d old h.blocks n a e) ∙ k ∙ ap (λ o. option_or o (d.bug n)) q ∙ sym q))
 
 -- a sound desk has no bug from the next number on
 none-from_next : (d : Desk) → IsSound d → (n k : ℕ) → d.next ≤ k → nat_lt n k ≡ false → d.bug n ≡ None

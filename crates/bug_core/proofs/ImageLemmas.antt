@@ -5,22 +5,23 @@ use Rattle.std.proofs.lemmas.Option.{same_Some, none-some}
 use Rattle.std.proofs.lemmas.Bool.{false≢true, eqb-true}
 use Rattle.bug_record.specs.Sets.{has, Each}
 use Rattle.bug_record.specs.Desk.{Desk}
-use Rattle.bug_record.specs.Images.{numbers_of, member_at, bug_of, bug_in, or_else, IsBlockOf, AreBlocksOf}
+use Rattle.bug_record.specs.Images.{numbers_of, member_at, bug_of, bug_in, IsBlockOf, AreBlocksOf}
+use Rattle.std.specs.Option.{option_or}
 use Rattle.bug_record.specs.declared.bug.Bug.{Bug}
 use Rattle.bug_record.specs.declared.bug.Member.{Member}
 use Rattle.bug_record.specs.declared.bug.SetImage.{SetImage}
 use Rattle.bug_core.specs.Others.{image_with}
 
 -- a value, or its want, of a choice of two
-pub none_left : {A : Type 0} (o p : Option A) → or_else o p ≡ None → o ≡ None
+pub none_left : {A : Type 0} (o p : Option A) → option_or o p ≡ None → o ≡ None
 none_left None p h = refl
 none_left (Some a) p h = absurd (none-some a (sym h))
 
-pub none_right : {A : Type 0} (o p : Option A) → or_else o p ≡ None → p ≡ None
+pub none_right : {A : Type 0} (o p : Option A) → option_or o p ≡ None → p ≡ None
 none_right None p h = h
 none_right (Some a) p h = absurd (none-some a (sym h))
 
-pub none_both : {A : Type 0} (o p : Option A) → o ≡ None → p ≡ None → or_else o p ≡ None
+pub none_both : {A : Type 0} (o p : Option A) → o ≡ None → p ≡ None → option_or o p ≡ None
 none_both None p h k = k
 none_both (Some a) p h k = h
 
@@ -73,17 +74,17 @@ each-member P (m ∷ ms) n x h e =
     [ true ↦ λ e. subst P (same_Some _ _ e) h.0 | false ↦ λ e. each-member P ms n x h.1 e ] e
 
 -- images one after another
-pub bug_in-append : (xs ys : List SetImage) (m : ℕ) → bug_in (xs ++ ys) m ≡ or_else (bug_in xs m) (bug_in ys m)
+pub bug_in-append : (xs ys : List SetImage) (m : ℕ) → bug_in (xs ++ ys) m ≡ option_or (bug_in xs m) (bug_in ys m)
 bug_in-append [] ys m = refl
 bug_in-append (i ∷ xs) ys m =
-    elim (member_at i.members m) as (λ o. or_else (option_map (bug_of i) o) (bug_in (xs ++ ys) m) ≡ or_else (or_else (option_map (bug_of i) o) (bug_in xs m)) (bug_in ys m))
+    elim (member_at i.members m) as (λ o. option_or (option_map (bug_of i) o) (bug_in (xs ++ ys) m) ≡ option_or (option_or (option_map (bug_of i) o) (bug_in xs m)) (bug_in ys m))
     [ None ↦ bug_in-append xs ys m | Some x ↦ refl ]
 
 -- a set that the images show is shown whole
 pub bug_in-block : (is : List SetImage) (n m : ℕ) (b : Bug) → bug_in is n ≡ Some b → has b.block m ≡ true → bug_in is m ≡ None → ⊥
 bug_in-block [] n m b h k e = absurd (none-some b h)
 bug_in-block (i ∷ is) n m b h k e =
-    elim (member_at i.members n) as (λ o. member_at i.members n ≡ o → or_else (option_map (bug_of i) o) (bug_in is n) ≡ Some b → ⊥) [
+    elim (member_at i.members n) as (λ o. member_at i.members n ≡ o → option_or (option_map (bug_of i) o) (bug_in is n) ≡ Some b → ⊥) [
       | None ↦ λ a h. bug_in-block is n m b h k (none_right (option_map (bug_of i) (member_at i.members m)) (bug_in is m) e)
       | Some x ↦ λ a h.
           let none : member_at i.members m ≡ None = none_map (bug_of i) (member_at i.members m) (none_left (option_map (bug_of i) (member_at i.members m)) (bug_in is m) e) in
@@ -97,7 +98,7 @@ bug-member d i n x h e = ap d.bug (sym (number-member i.members n x e)) ∙ each
 pub shown : (d : Desk) (is : List SetImage) → AreBlocksOf d is → (n : ℕ) (b : Bug) → bug_in is n ≡ Some b → d.bug n ≡ Some b
 shown d [] h n b e = absurd (none-some b e)
 shown d (i ∷ is) h n b e =
-    elim (member_at i.members n) as (λ o. member_at i.members n ≡ o → or_else (option_map (bug_of i) o) (bug_in is n) ≡ Some b → d.bug n ≡ Some b)
+    elim (member_at i.members n) as (λ o. member_at i.members n ≡ o → option_or (option_map (bug_of i) o) (bug_in is n) ≡ Some b → d.bug n ≡ Some b)
     [ None ↦ λ a e. shown d is h.1 n b e | Some x ↦ λ a e. bug-member d i n x h.0 a ∙ e ] refl e
 
 -- the image that has a bug
@@ -110,7 +111,7 @@ image_with-has (j ∷ is) n i h =
 pub image_with-shows : (is : List SetImage) (n : ℕ) (i : SetImage) → image_with is n ≡ Some i → (x : Member) × (bug_in is n ≡ Some (bug_of i x))
 image_with-shows [] n i h = absurd (none-some i h)
 image_with-shows (j ∷ is) n i h =
-    elim (member_at j.members n) as (λ o. member_at j.members n ≡ o → (x : Member) × (or_else (option_map (bug_of j) o) (bug_in is n) ≡ Some (bug_of i x))) [
+    elim (member_at j.members n) as (λ o. member_at j.members n ≡ o → (x : Member) × (option_or (option_map (bug_of j) o) (bug_in is n) ≡ Some (bug_of i x))) [
       | None ↦ λ e. image_with-shows is n i (ap (λ t. cond t (Some j) (image_with is n)) (sym (has-member_none j.members n e)) ∙ h)
       | Some x ↦ λ e. (x, ap (λ (z : SetImage). Some (bug_of z x)) (same_Some _ _ (ap (λ t. cond t (Some j) (image_with is n)) (sym (has-member_some j.members n x e)) ∙ h)))
     ] refl
@@ -118,7 +119,7 @@ image_with-shows (j ∷ is) n i h =
 pub image_with-none : (is : List SetImage) (n : ℕ) → image_with is n ≡ None → bug_in is n ≡ None
 image_with-none [] n h = refl
 image_with-none (j ∷ is) n h =
-    elim (member_at j.members n) as (λ o. member_at j.members n ≡ o → or_else (option_map (bug_of j) o) (bug_in is n) ≡ None) [
+    elim (member_at j.members n) as (λ o. member_at j.members n ≡ o → option_or (option_map (bug_of j) o) (bug_in is n) ≡ None) [
       | None ↦ λ e. image_with-none is n (ap (λ t. cond t (Some j) (image_with is n)) (sym (has-member_none j.members n e)) ∙ h)
       | Some x ↦ λ e. absurd (none-some j (sym (ap (λ t. cond t (Some j) (image_with is n)) (sym (has-member_some j.members n x e)) ∙ h)))
     ] refl

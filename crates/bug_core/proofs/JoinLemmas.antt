@@ -3,7 +3,8 @@ use Rattle.std.proofs.Common.{◌≡◌, ◌<◌, ◌+◌, ℕ, Bool, true, fals
 use Rattle.std.specs.Prelude.{option_map, is_some, ◌==◌}
 use Rattle.std.proofs.lemmas.List.{at_drop_more}
 use Rattle.bug_record.specs.Sets.{has, with_item}
-use Rattle.bug_record.specs.Images.{numbers_of, member_at, bug_of, bug_in, or_else}
+use Rattle.bug_record.specs.Images.{numbers_of, member_at, bug_of, bug_in}
+use Rattle.std.specs.Option.{option_or}
 use Rattle.bug_record.specs.declared.bug.Member.{Member}
 use Rattle.bug_record.specs.declared.bug.SetImage.{SetImage}
 use Rattle.bug_core.specs.Numbers.{IsJoined}
@@ -18,9 +19,9 @@ or_group false b c = refl
 is_some-first : (i : SetImage) (is : List SetImage) (n : ℕ) → is_some (bug_in (i ∷ is) n) ≡ (has (numbers_of i.members) n || is_some (bug_in is n))
 is_some-first i is n = cases (member_at i.members n) refl
   where
-    cases : (o : Option Member) → member_at i.members n ≡ o → is_some (or_else (option_map (bug_of i) (member_at i.members n)) (bug_in is n)) ≡ (has (numbers_of i.members) n || is_some (bug_in is n))
-    cases None e = ap (λ (o : Option Member). is_some (or_else (option_map (bug_of i) o) (bug_in is n))) e ∙ sym (ap (λ t. t || is_some (bug_in is n)) (has-member_none i.members n e))
-    cases (Some x) e = ap (λ (o : Option Member). is_some (or_else (option_map (bug_of i) o) (bug_in is n))) e ∙ sym (ap (λ t. t || is_some (bug_in is n)) (has-member_some i.members n x e))
+    cases : (o : Option Member) → member_at i.members n ≡ o → is_some (option_or (option_map (bug_of i) (member_at i.members n)) (bug_in is n)) ≡ (has (numbers_of i.members) n || is_some (bug_in is n))
+    cases None e = ap (λ (o : Option Member). is_some (option_or (option_map (bug_of i) o) (bug_in is n))) e ∙ sym (ap (λ t. t || is_some (bug_in is n)) (has-member_none i.members n e))
+    cases (Some x) e = ap (λ (o : Option Member). is_some (option_or (option_map (bug_of i) o) (bug_in is n))) e ∙ sym (ap (λ t. t || is_some (bug_in is n)) (has-member_some i.members n x e))
 
 -- one member more
 pub join-member : (set joined : List ℕ) (ms : List Member) (k : ℕ) (m : Member) → k < length ms → m ≡ get_or ms k m → joined ≡ with_item (λ n. n) set m.number

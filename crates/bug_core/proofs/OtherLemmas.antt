@@ -4,7 +4,8 @@ use Rattle.std.specs.Prelude.{option_map}
 use Rattle.std.proofs.lemmas.Option.{same_Some, none-some}
 use Rattle.std.proofs.lemmas.Bool.{and_right, not_from_true}
 use Rattle.bug_record.specs.Sets.{has, Each}
-use Rattle.bug_record.specs.Images.{numbers_of, member_at, bug_of, bug_in, or_else, AreApart, HasMember}
+use Rattle.bug_record.specs.Images.{numbers_of, member_at, bug_of, bug_in, AreApart, HasMember}
+use Rattle.std.specs.Option.{option_or}
 use Rattle.bug_record.specs.declared.bug.Bug.{Bug}
 use Rattle.bug_record.specs.declared.bug.Member.{Member}
 use Rattle.bug_record.specs.declared.bug.SetImage.{SetImage}
@@ -16,11 +17,11 @@ others-own : (n : ℕ) (j : SetImage) (is : List SetImage) → has (numbers_of j
 others-own n j is h = ap (λ t. cond t (j ∷ others n is) (others n is)) (and_right (is_any j.members) (not (has (numbers_of j.members) n)) (not_from_true (has (numbers_of j.members) n) h))
 
 others-first : (n : ℕ) (j : SetImage) (is : List SetImage) (m : ℕ) → has (numbers_of j.members) n ≡ false
-    → bug_in (others n (j ∷ is)) m ≡ or_else (option_map (bug_of j) (member_at j.members m)) (bug_in (others n is) m)
+    → bug_in (others n (j ∷ is)) m ≡ option_or (option_map (bug_of j) (member_at j.members m)) (bug_in (others n is) m)
 others-first n j is m h = ap (λ t. bug_in (cond (is_any j.members && not t) (j ∷ others n is) (others n is)) m) h ∙ cases j.members refl
   where
-    cases : (ms : List Member) → j.members ≡ ms → bug_in (cond (is_any ms && true) (j ∷ others n is) (others n is)) m ≡ or_else (option_map (bug_of j) (member_at j.members m)) (bug_in (others n is) m)
-    cases [] e = sym (ap (λ ms. or_else (option_map (bug_of j) (member_at ms m)) (bug_in (others n is) m)) e)
+    cases : (ms : List Member) → j.members ≡ ms → bug_in (cond (is_any ms && true) (j ∷ others n is) (others n is)) m ≡ option_or (option_map (bug_of j) (member_at j.members m)) (bug_in (others n is) m)
+    cases [] e = sym (ap (λ ms. option_or (option_map (bug_of j) (member_at ms m)) (bug_in (others n is) m)) e)
     cases (x ∷ xs) e = refl
 
 -- the others show no more bugs than all
@@ -41,7 +42,7 @@ others-all n [] m h = refl
 others-all n (j ∷ is) m h =
     let none : member_at j.members n ≡ None = none_map (bug_of j) (member_at j.members n) (none_left (option_map (bug_of j) (member_at j.members n)) (bug_in is n) h) in
     others-first n j is m (has-member_none j.members n none)
-    ∙ ap (λ o. or_else (option_map (bug_of j) (member_at j.members m)) o) (others-all n is m (none_right (option_map (bug_of j) (member_at j.members n)) (bug_in is n) h))
+    ∙ ap (λ o. option_or (option_map (bug_of j) (member_at j.members m)) o) (others-all n is m (none_right (option_map (bug_of j) (member_at j.members n)) (bug_in is n) h))
 
 -- the others show no bug of n's image
 pub others-gone : (n : ℕ) (is : List SetImage) (m : ℕ) (i : SetImage) → AreApart is → image_with is n ≡ Some i → has (numbers_of i.members) m ≡ true → bug_in (others n is) m ≡ None
@@ -65,8 +66,8 @@ others-kept n [] m i a h k = refl
 others-kept n (j ∷ is) m i a h k =
     elim (has (numbers_of j.members) n) as (λ t. has (numbers_of j.members) n ≡ t → cond t (Some j) (image_with is n) ≡ Some i → bug_in (others n (j ∷ is)) m ≡ bug_in (j ∷ is) m) [
       | true ↦ λ e h. ap (λ js. bug_in js m) (others-own n j is e) ∙ others-all n is m (a.0 n e)
-          ∙ sym (ap (λ o. or_else (option_map (bug_of j) o) (bug_in is m)) (ap (λ (z : SetImage). member_at z.members m) (same_Some _ _ h) ∙ k))
-      | false ↦ λ e h. others-first n j is m e ∙ ap (λ o. or_else (option_map (bug_of j) (member_at j.members m)) o) (others-kept n is m i a.1 h k)
+          ∙ sym (ap (λ o. option_or (option_map (bug_of j) o) (bug_in is m)) (ap (λ (z : SetImage). member_at z.members m) (same_Some _ _ h) ∙ k))
+      | false ↦ λ e h. others-first n j is m e ∙ ap (λ o. option_or (option_map (bug_of j) (member_at j.members m)) o) (others-kept n is m i a.1 h k)
     ] refl h
 
 cons_nil : (x : Member) (xs : List Member) → x ∷ xs ≡ [] → ⊥

@@ -6,7 +6,8 @@ use Rattle.std.proofs.lemmas.Bool.{false≢true, false_from_ne_true}
 use Rattle.bug_record.specs.Sets.{has, Each}
 use Rattle.bug_record.specs.Desk.{Desk, IsSound}
 use Rattle.bug_record.specs.Steps.{each_bug}
-use Rattle.bug_record.specs.Images.{numbers_of, member_at, bug_of, bug_in, or_else, put, AreApart, HasMember, AreBlocksOf, CoverSets}
+use Rattle.bug_record.specs.Images.{numbers_of, member_at, bug_of, bug_in, put, AreApart, HasMember, AreBlocksOf, CoverSets}
+use Rattle.std.specs.Option.{option_or}
 use Rattle.bug_record.specs.Plans.{CoverImages}
 use Rattle.bug_record.specs.declared.bug.Bug.{Bug}
 use Rattle.bug_record.specs.declared.bug.Shared.{Shared}
@@ -33,7 +34,7 @@ apart-append (x ∷ xs) ys a b h = (
   apart-append xs ys a.1 b (λ m k. h m (λ e. k (none_right (option_map (bug_of x) (member_at x.members m)) (bug_in xs m) e))),
 )
   where
-    there : (m : ℕ) → has (numbers_of x.members) m ≡ true → or_else (option_map (bug_of x) (member_at x.members m)) (bug_in xs m) ≡ None → ⊥
+    there : (m : ℕ) → has (numbers_of x.members) m ≡ true → option_or (option_map (bug_of x) (member_at x.members m)) (bug_in xs m) ≡ None → ⊥
     there m k e = let y = member-has x.members m k in none-some (bug_of x y.0) (sym (none_left (option_map (bug_of x) (member_at x.members m)) (bug_in xs m) e) ∙ ap (option_map (bug_of x)) y.1)
 
 pub each-append : {T : Type 0} (P : T → Type 0) (xs ys : List T) → Each P xs → Each P ys → Each P (xs ++ ys)
@@ -83,30 +84,30 @@ put-replaced d is next n i new f sound same blocks a h p = λ j. record { bug = 
     other : (m : ℕ) → member_at i.members m ≡ None → (b : Bug) → d.bug m ≡ Some b → has b.block n ≡ false
     other m q b e = false_from_ne_true (has b.block n) (λ k. false≢true (sym (has-member_none i.members m q) ∙ merged-back d sound n m (bug_of i (image_with-shows is n i h).0) b here e k))
 
-    as_shown : (m : ℕ) (o : Option Bug) → bug_in is m ≡ o → or_else (bug_in is m) (d.bug m) ≡ d.bug m
-    as_shown m None q = ap (λ o. or_else o (d.bug m)) q
-    as_shown m (Some c) q = ap (λ o. or_else o (d.bug m)) q ∙ sym (shown d is blocks m c q)
+    as_shown : (m : ℕ) (o : Option Bug) → bug_in is m ≡ o → option_or (bug_in is m) (d.bug m) ≡ d.bug m
+    as_shown m None q = ap (λ o. option_or o (d.bug m)) q
+    as_shown m (Some c) q = ap (λ o. option_or o (d.bug m)) q ∙ sym (shown d is blocks m c q)
 
     kept : (m : ℕ) → member_at i.members m ≡ None → (o : Option Bug) → d.bug m ≡ o → o ≡ option_map (f m) o
     kept m q None e = refl
     kept m q (Some c) e = ap Some (sym (p.elsewhere m c q (other m q c e)))
 
-    at : (m : ℕ) (o : Option Member) → member_at i.members m ≡ o → or_else (bug_in (new ++ others n is) m) (d.bug m) ≡ option_map (f m) (d.bug m)
+    at : (m : ℕ) (o : Option Member) → member_at i.members m ≡ o → option_or (bug_in (new ++ others n is) m) (d.bug m) ≡ option_map (f m) (d.bug m)
     at m None q =
-        ap (λ (o : Option Bug). or_else o (d.bug m)) (bug_in-append new (others n is) m ∙ ap (λ (o : Option Bug). or_else o (bug_in (others n is) m)) (p.outside m q) ∙ others-kept n is m i a h q)
+        ap (λ (o : Option Bug). option_or o (d.bug m)) (bug_in-append new (others n is) m ∙ ap (λ (o : Option Bug). option_or o (bug_in (others n is) m)) (p.outside m q) ∙ others-kept n is m i a h q)
         ∙ as_shown m (bug_in is m) refl ∙ kept m q (d.bug m) refl
     at m (Some x) q =
         let e : d.bug m ≡ Some (bug_of i x) = bug-member d i m x (image_with-block d is n i blocks h) q in
-        ap (λ (o : Option Bug). or_else o (d.bug m)) (bug_in-append new (others n is) m ∙ ap (λ (o : Option Bug). or_else o (bug_in (others n is) m)) (p.inside m x q))
+        ap (λ (o : Option Bug). option_or o (d.bug m)) (bug_in-append new (others n is) m ∙ ap (λ (o : Option Bug). option_or o (bug_in (others n is) m)) (p.inside m x q))
         ∙ sym (ap (option_map (f m)) e)
 
 -- the image with other shared fields in the place of a bug's image
 pub shared-takes_place : (is : List SetImage) (n : ℕ) (i : SetImage) (f : Shared → Shared) → image_with is n ≡ Some i
     → TakesPlace i n (record i { shared = f i.shared } ∷ []) (λ m b. record b { shared = cond (has b.block n) (f b.shared) b.shared })
 shared-takes_place is n i f h = record {
-  inside = λ m x q. ap (λ (o : Option Member). or_else (option_map (bug_of (record i { shared = f i.shared })) o) None) q
+  inside = λ m x q. ap (λ (o : Option Member). option_or (option_map (bug_of (record i { shared = f i.shared })) o) None) q
       ∙ ap (λ t. Some (record (bug_of i x) { shared = cond t (f i.shared) i.shared })) (sym (image_with-has is n i h));
-  outside = λ m q. ap (λ (o : Option Member). or_else (option_map (bug_of (record i { shared = f i.shared })) o) None) q;
+  outside = λ m q. ap (λ (o : Option Member). option_or (option_map (bug_of (record i { shared = f i.shared })) o) None) q;
   elsewhere = λ m b q k. ap (λ t. record b { shared = cond t (f b.shared) b.shared }) k;
   apart = ((λ m k. refl), tt);
   members = ((λ e. false≢true (ap (λ ms. has (numbers_of ms) n) (sym e) ∙ image_with-has is n i h)), tt);

@@ -8,7 +8,8 @@ use Rattle.bug_record.specs.Sets.{has, IsAscending}
 use Rattle.bug_record.specs.Texts.{IsText}
 use Rattle.bug_record.specs.Desk.{Desk, IsSound, IsMergedWith, HasGoodTexts}
 use Rattle.bug_record.specs.Steps.{reported, new_bug}
-use Rattle.bug_record.specs.Images.{put, bug_of, or_else, CoverSets, FitsDesk}
+use Rattle.bug_record.specs.Images.{put, bug_of, CoverSets, FitsDesk}
+use Rattle.std.specs.Option.{option_or}
 use Rattle.bug_record.specs.declared.bug.Bug.{Bug}
 use Rattle.bug_record.specs.declared.bug.Member.{Member}
 use Rattle.bug_record.specs.declared.severity.Severity.{Severity}
@@ -65,7 +66,7 @@ put-report d a p s t next same = subst (λ (k : ℕ). put d (record { images = i
     x : Member
     x = record { number = d.next; title = t; submitter = a }
 
-    by_test : (m : ℕ) (z y : Bool) → z ≡ y → or_else (or_else (option_map (bug_of (image_of_report a p s t d.next)) (cond z (Some x) None)) None) (d.bug m) ≡ cond y (Some new) (d.bug m)
+    by_test : (m : ℕ) (z y : Bool) → z ≡ y → option_or (option_or (option_map (bug_of (image_of_report a p s t d.next)) (cond z (Some x) None)) None) (d.bug m) ≡ cond y (Some new) (d.bug m)
     by_test m true true e = refl
     by_test m false false e = refl
     by_test m true false e = absurd (false≢true (sym e))
@@ -74,14 +75,14 @@ put-report d a p s t next same = subst (λ (k : ℕ). put d (record { images = i
     turned : (m n : ℕ) → eqb n m ≡ eqb m n
     turned m n = elim (eqb n m) as (λ z. eqb n m ≡ z → z ≡ eqb m n) [ true ↦ λ e. sym (eq-eqb m n (sym (eqb-true n m e))) | false ↦ λ e. sym (ne_eqb m n (λ q. false≢true (sym e ∙ eq-eqb n m (sym q)))) ] refl
 
-    at : (m : ℕ) → or_else (or_else (option_map (bug_of (image_of_report a p s t d.next)) (cond (eqb d.next m) (Some x) None)) None) (d.bug m) ≡ cond (eqb m d.next) (Some new) (d.bug m)
+    at : (m : ℕ) → option_or (option_or (option_map (bug_of (image_of_report a p s t d.next)) (cond (eqb d.next m) (Some x) None)) None) (d.bug m) ≡ cond (eqb m d.next) (Some new) (d.bug m)
     at m = by_test m (eqb d.next m) (eqb m d.next) (turned m d.next)
 
 -- It covers whole sets, as the new number is no bug's.
 whole-report : (d : Desk) (a p : List ℕ) (s : Severity) (t : List ℕ) → IsSound d → CoverSets d (image_of_report a p s t d.next ∷ [])
 whole-report d a p s t sound n m b h k q =
     let below : n < d.next = (sound.in_range n b h).1 in
-    absurd (k (ap (λ z. or_else (option_map (bug_of (image_of_report a p s t d.next)) (cond z (Some x) None)) None) (ne_eqb d.next n (λ e. absurd (omega (arith, e, below))))))
+    absurd (k (ap (λ z. option_or (option_map (bug_of (image_of_report a p s t d.next)) (cond z (Some x) None)) None) (ne_eqb d.next n (λ e. absurd (omega (arith, e, below))))))
   where
     x : Member
     x = record { number = d.next; title = t; submitter = a }

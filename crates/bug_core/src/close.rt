@@ -10,7 +10,7 @@ use bug_record::{Change, PlanFault, Refusal, SetImage};
 use std::alloc::Global;
 
 /// What `close` does on the images, whoever sends it.
-pub fn plan_close(
+pub(crate) fn plan_close(
     alloc: Global,
     number: u64,
     images: &[SetImage],

@@ -9,7 +9,7 @@ use bug_record::{Change, Member, Sequence, SetImage, Shared};
 use std::alloc::{AllocError, Global};
 
 /// The member of a number.
-pub fn find_member(members: &[Member], number: u64) -> Option<&Member>
+pub(crate) fn find_member(members: &[Member], number: u64) -> Option<&Member>
     ensures { MatchOption result (member_at members.now number ≡ None) (λ m. member_at members.now number ≡ Some m.now) }
 {
     for member in members {
@@ -21,7 +21,7 @@ pub fn find_member(members: &[Member], number: u64) -> Option<&Member>
 }
 
 /// Whether one of the members has the number.
-pub fn has_member(members: &[Member], number: u64) -> bool
+pub(crate) fn has_member(members: &[Member], number: u64) -> bool
     ensures { result ≡ has (numbers_of members.now) number }
 {
     for member in members {
@@ -33,7 +33,7 @@ pub fn has_member(members: &[Member], number: u64) -> bool
 }
 
 /// The image that has the bug.
-pub fn find(images: &[SetImage], number: u64) -> Option<&SetImage>
+pub(crate) fn find(images: &[SetImage], number: u64) -> Option<&SetImage>
     ensures { MatchOption result (image_with images.now number ≡ None) (λ i. image_with images.now number ≡ Some i.now) }
 {
     for image in images {
@@ -69,7 +69,7 @@ fn add_others(
 }
 
 /// The change that puts these images in the place of the bug's, and keeps the others.
-pub fn replace(
+pub(crate) fn replace(
     mut parts: Sequence<SetImage>,
     images: &[SetImage],
     number: u64,
@@ -86,7 +86,7 @@ pub fn replace(
 }
 
 /// The change that gives the image of the bug other shared fields, and keeps the others.
-pub fn replace_shared(
+pub(crate) fn replace_shared(
     alloc: Global,
     image: &SetImage,
     shared: Shared,

@@ -10,7 +10,7 @@ use bug_record::{Change, PlanFault, Refusal, SetImage, Severity};
 use std::alloc::Global;
 
 /// What `severity` does on the images, whoever sends it.
-pub fn plan_severity(
+pub(crate) fn plan_severity(
     alloc: Global,
     number: u64,
     severity: Severity,

@@ -4,17 +4,7 @@ ghost use Rattle.std.specs.Prelude.{◌≡◌, not};
 ghost use Rattle.std.specs.List.{list_all};
 ghost use Rattle.bug_record.specs.Texts.{is_blank, is_control, begins_blank, ends_blank, is_text};
 
-fn is_blank(byte: u8) -> bool
-    ensures { result ≡ is_blank byte }
-{
-    byte == b' ' || byte == b'\t'
-}
-
-fn is_control(byte: u8) -> bool
-    ensures { result ≡ is_control byte }
-{
-    (byte < 32 && byte != b'\t') || byte == 127
-}
+use bug_record::{is_blank, is_control};
 
 fn is_clean(bytes: &[u8]) -> bool
     ensures { result ≡ list_all (λ c. not (is_control c)) bytes.now }

@@ -1,5 +1,6 @@
 -- Images of sets of merged bugs, and what they say of a desk.
-use Rattle.std.specs.Prelude.{ℕ, ◌≡◌, ◌≢◌, ◌==◌, true, List, [], ◌∷◌, Option, Some, None, option_map, map, if◌then◌else◌}
+use Rattle.std.specs.Prelude.{ℕ, ◌≡◌, ◌≢◌, ◌==◌, true, List, [], ◌∷◌, Option, Some, None, option_map, map, if◌then◌else◌, ⊤}
+use Rattle.std.specs.Option.{option_or}
 use Rattle.bug_record.specs.Sets.{has, Each}
 use Rattle.bug_record.specs.Desk.{Desk, IsSound}
 use Rattle.bug_record.specs.declared.bug.Bug.{Bug}
@@ -20,19 +21,14 @@ member_at (m ∷ ms) n = if m.number == n then Some m else member_at ms n
 abbrev pub bug_of : SetImage → Member → Bug
 bug_of i m = record { title = m.title; submitter = m.submitter; shared = i.shared; block = numbers_of i.members }
 
--- the first value, or else the second
-abbrev pub or_else : {A : Type 0} → Option A → Option A → Option A
-or_else (Some x) o = Some x
-or_else None o = o
-
 -- the bug n as the images show it
 abbrev pub bug_in : List SetImage → ℕ → Option Bug
 bug_in [] n = None
-bug_in (i ∷ is) n = or_else (option_map (bug_of i) (member_at i.members n)) (bug_in is n)
+bug_in (i ∷ is) n = option_or (option_map (bug_of i) (member_at i.members n)) (bug_in is n)
 
 -- no bug is in two images
 abbrev pub AreApart : List SetImage → Type 0
-AreApart [] = Unit {0}
+AreApart [] = ⊤
 AreApart (i ∷ is) = ((n : ℕ) → has (numbers_of i.members) n ≡ true → bug_in is n ≡ None) × AreApart is
 
 abbrev pub HasMember : SetImage → Type 0
@@ -47,7 +43,7 @@ AreBlocksOf d is = Each (IsBlockOf d) is
 
 -- The desk after a change: the numbers of each image get its fields and become one block, and all else stays.
 abbrev pub put : Desk → Change → Desk
-put d c = record { bug = λ n. or_else (bug_in c.images n) (d.bug n); next = c.next }
+put d c = record { bug = λ n. option_or (bug_in c.images n) (d.bug n); next = c.next }
 
 -- the images cover whole sets: with a bug of the desk, all that are merged with it
 abbrev pub CoverSets : Desk → List SetImage → Type 0

@@ -1,5 +1,5 @@
 -- What is planned for a command on the images of sets, and what that says of a desk.
-use Rattle.std.specs.Prelude.{ℕ, ◌≡◌, List, [], ◌∷◌, Some, None, Result, Ok, Err}
+use Rattle.std.specs.Prelude.{ℕ, ◌≡◌, List, [], ◌∷◌, Some, None, Result, Ok, Err, ⊤}
 use Rattle.bug_record.specs.Desk.{Desk, IsSound}
 use Rattle.bug_record.specs.Steps.{step}
 use Rattle.bug_record.specs.Images.{bug_in, put, AreBlocksOf}
@@ -18,7 +18,7 @@ named (Close n) = n ∷ []
 
 -- of each of these numbers the images say what the desk has: its bug, or that it has none
 abbrev pub AllKnown : Desk → List SetImage → List ℕ → Type 0
-AllKnown d is [] = Unit {0}
+AllKnown d is [] = ⊤
 AllKnown d is (n ∷ ns) = (bug_in is n ≡ d.bug n) × AllKnown d is ns
 
 -- A sound desk that is as the images say: they are blocks of it, its next number is this, and of these bugs it has those
@@ -33,7 +33,7 @@ pub record IsShownBy (d : Desk) (is : List SetImage) (next : ℕ) (ns : List ℕ
 abbrev pub IsPlanFor : Desk → List ℕ → Command ℕ → Result Change PlanFault → Type 0
 IsPlanFor d sender command (Ok change) = (step d sender command ≡ Ok (put d change)) × IsSound (put d change)
 IsPlanFor d sender command (Err (Refused refusal)) = step d sender command ≡ Err refusal
-IsPlanFor d sender command (Err Memory) = Unit {0}
+IsPlanFor d sender command (Err Memory) = ⊤
 
 -- each bug that is in the old images is in the new ones
 abbrev pub CoverImages : List SetImage → List SetImage → Type 0

@@ -1,5 +1,5 @@
 -- Sets as ascending lists: of numbers, or of items that each have a number.
-use Rattle.std.specs.Prelude.{ℕ, ◌<◌, Bool, false, ◌||◌, ◌==◌, nat_lt, List, [], ◌∷◌, if◌then◌else◌}
+use Rattle.std.specs.Prelude.{ℕ, ◌<◌, Bool, false, ◌||◌, ◌==◌, nat_lt, List, [], ◌∷◌, if◌then◌else◌, ⊤}
 
 -- whether n is in the list
 abbrev pub has : List ℕ → ℕ → Bool
@@ -8,17 +8,17 @@ has (x ∷ xs) n = (x == n) || has xs n
 
 -- each element is above n
 abbrev pub AllAbove : ℕ → List ℕ → Type 0
-AllAbove n [] = Unit {0}
+AllAbove n [] = ⊤
 AllAbove n (x ∷ xs) = (n < x) × AllAbove n xs
 
 -- each element is below those after it
 abbrev pub IsAscending : List ℕ → Type 0
-IsAscending [] = Unit {0}
+IsAscending [] = ⊤
 IsAscending (x ∷ xs) = AllAbove x xs × IsAscending xs
 
 -- what holds of each element
 abbrev pub Each : {T : Type 0} → (T → Type 0) → List T → Type 0
-Each P [] = Unit {0}
+Each P [] = ⊤
 Each P (x ∷ xs) = P x × Each P xs
 
 -- the ascending list with x, unless it has an item of that number

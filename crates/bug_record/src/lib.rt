@@ -3,6 +3,7 @@
 #![tactic(auto)]
 
 mod bug;
+mod characters;
 mod command;
 mod sequence;
 mod severity;
@@ -11,6 +12,7 @@ mod tests;
 mod words;
 
 pub use bug::{Bug, Member, SetImage, Shared};
+pub use characters::{is_blank, is_control};
 pub use command::{Change, Command, PlanFault, Refusal};
 pub use sequence::{Numbered, Numbers, Sequence};
 pub use severity::Severity;

@@ -1,3 +1,5 @@
+//! Severities, sequences and copies, at values known from the rules.
+
 use crate::{Member, Numbers, Sequence, SetImage, Severity, Shared};
 use debver::Text;
 use std::test::Fail;

@@ -5,17 +5,7 @@ ghost use Rattle.std.specs.List.{list_any, prefix_len, suffix_len, position_or_l
 ghost use Rattle.bug_record.specs.Texts.{is_blank, is_control, begins_blank};
 ghost use Rattle.control_text.specs.Words.{words, has_bytes, EndsWord, without_first_blanks, without_last_blanks, first_word, after_word, trimmed};
 
-fn is_blank(c: u8) -> bool
-    ensures { result ≡ is_blank c }
-{
-    c == b' ' || c == b'\t'
-}
-
-fn is_control(c: u8) -> bool
-    ensures { result ≡ is_control c }
-{
-    (c < 32 && c != b'\t') || c == 127
-}
+use bug_record::{is_blank, is_control};
 
 /// Whether the text holds a control character other than tab.
 pub(crate) fn has_control(text: &str) -> bool

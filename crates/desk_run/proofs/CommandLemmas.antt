@@ -5,7 +5,8 @@ use Rattle.std.proofs.lemmas.Bool.{false≢true, eqb-true}
 use Rattle.bug_record.specs.Sets.{has, Each}
 use Rattle.bug_record.specs.Desk.{Desk, IsSound}
 use Rattle.bug_record.specs.Steps.{step}
-use Rattle.bug_record.specs.Images.{numbers_of, member_at, bug_of, bug_in, or_else, put, IsBlockOf, FitsDesk}
+use Rattle.bug_record.specs.Images.{numbers_of, member_at, bug_of, bug_in, put, IsBlockOf, FitsDesk}
+use Rattle.std.specs.Option.{option_or}
 use Rattle.bug_record.specs.Plans.{named, IsShownBy, CoverImages, BringNone}
 use Rattle.bug_record.specs.Changed.{changed_numbers, AreChanged, Replaces}
 use Rattle.bug_core.proofs.ChangedLemmas.{changed-on_desk}
@@ -23,10 +24,10 @@ use Rattle.desk_text.specs.declared.outcome.StoreFault.{StoreFault}
 use Rattle.desk_run.specs.Commands.{ShowBug, MayBeMade, CarriesOut, Does}
 
 -- a member that is a bug of the desk
-member_shown : (d : Desk) (i : SetImage) (ms : List Member) (n : ℕ) → has (numbers_of ms) n ≡ true → Each (λ m. d.bug m.number ≡ Some (bug_of i m)) ms → or_else (option_map (bug_of i) (member_at ms n)) None ≡ d.bug n
+member_shown : (d : Desk) (i : SetImage) (ms : List Member) (n : ℕ) → has (numbers_of ms) n ≡ true → Each (λ m. d.bug m.number ≡ Some (bug_of i m)) ms → option_or (option_map (bug_of i) (member_at ms n)) None ≡ d.bug n
 member_shown d i [] n h e = absurd (false≢true h)
 member_shown d i (m ∷ ms) n h e =
-    elim (eqb m.number n) as (λ t. eqb m.number n ≡ t → or_else (option_map (bug_of i) (if t then Some m else member_at ms n)) None ≡ d.bug n) [
+    elim (eqb m.number n) as (λ t. eqb m.number n ≡ t → option_or (option_map (bug_of i) (if t then Some m else member_at ms n)) None ≡ d.bug n) [
       | true ↦ λ q. sym e.0 ∙ ap d.bug (eqb-true m.number n q)
       | false ↦ λ q. member_shown d i ms n (sym (ap (λ t. t || has (numbers_of ms) n) q) ∙ h) e.1
     ] refl

@@ -1,5 +1,5 @@
 -- How a script is read: line by line, each line checked as it comes. This project's own rule.
-use Rattle.std.specs.Prelude.{◌≡◌, ℕ, ◌<◌, ◌≤◌, List, [], ◌∷◌, length, Option, Some, None, IsUtf8}
+use Rattle.std.specs.Prelude.{◌≡◌, ℕ, ◌<◌, ◌≤◌, List, [], ◌∷◌, length, Option, Some, None, IsUtf8, ⊤}
 use Rattle.desk_run.specs.Lines.{without_return, raw_lines}
 use Rattle.desk_run.specs.declared.fault.ScriptFault.{ScriptFault}
 use Rattle.desk_run.specs.declared.fault.ScriptFault.TheVariants.{Read, Write, NotUtf8, LineTooLong, Memory, Store}
@@ -14,8 +14,7 @@ pub record IsGoodLine (raw : List ℕ) : Type 0 where
   pub short : length raw ≤ 65536
   pub utf8 : IsUtf8 raw
 
--- From `all` comes this piece, and `rest` is left: a line up to its line feed, or what follows the last line feed, or
--- nothing.
+-- From `all` comes this piece, and `rest` is left: a line; the last line, with which nothing is left; or nothing.
 abbrev pub GivesPiece : Piece → List ℕ → List ℕ → Type 0
 GivesPiece (pieces.Line line) all rest = (raw : List ℕ) × (raw_lines all ≡ raw ∷ raw_lines rest) × IsGoodLine raw × (line ≡ without_return raw)
 GivesPiece (pieces.Last line) all rest = (raw : List ℕ) × (raw_lines all ≡ raw ∷ []) × IsGoodLine raw × (line ≡ without_return raw) × (rest ≡ [])
@@ -25,15 +24,15 @@ GivesPiece pieces.End all rest = (raw_lines all ≡ []) × (rest ≡ [])
 abbrev pub IsLineFault : ℕ → ScriptFault → List ℕ → Type 0
 IsLineFault number (NotUtf8 line) all = (line ≡ number) × (raw : List ℕ) × (more : List (List ℕ)) × (raw_lines all ≡ raw ∷ more) × (length raw ≤ 65536) × ¬ (IsUtf8 raw)
 IsLineFault number (LineTooLong line) all = (line ≡ number) × (raw : List ℕ) × (more : List (List ℕ)) × (raw_lines all ≡ raw ∷ more) × (65536 < length raw)
-IsLineFault number Read all = Unit {0}
-IsLineFault number Memory all = Unit {0}
+IsLineFault number Read all = ⊤
+IsLineFault number Memory all = ⊤
 IsLineFault number Write all = ⊥
 IsLineFault number (Store fault) all = ⊥
 
 -- The faults that the reading of the line with this number may have.
 abbrev pub IsReadingFault : ℕ → ScriptFault → Type 0
-IsReadingFault number Read = Unit {0}
-IsReadingFault number Memory = Unit {0}
+IsReadingFault number Read = ⊤
+IsReadingFault number Memory = ⊤
 IsReadingFault number (NotUtf8 line) = line ≡ number
 IsReadingFault number (LineTooLong line) = line ≡ number
 IsReadingFault number Write = ⊥
@@ -61,5 +60,5 @@ GivesRaw raw_pieces.End all rest = (raw_lines all ≡ []) × (rest ≡ [])
 -- The fault of a text of these bytes: they are no UTF-8, or there was no memory.
 abbrev pub IsTextFault : ℕ → List ℕ → ScriptFault → Type 0
 IsTextFault number bytes (NotUtf8 line) = (line ≡ number) × ¬ (IsUtf8 bytes)
-IsTextFault number bytes Memory = Unit {0}
+IsTextFault number bytes Memory = ⊤
 IsTextFault number bytes _ = ⊥

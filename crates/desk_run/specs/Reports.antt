@@ -1,5 +1,5 @@
 -- Reports. This project's own rule.
-use Rattle.std.specs.Prelude.{ℕ, ◌≡◌, nat_lt, Bool, true, false, List, Option, Some, None, Result, Ok, Err, is_some, if◌then◌else◌}
+use Rattle.std.specs.Prelude.{ℕ, ◌≡◌, nat_lt, Bool, true, false, List, Option, Some, None, Result, Ok, Err, is_some, if◌then◌else◌, ⊤}
 use Rattle.debver.specs.Names.{name_fault}
 use Rattle.debver.specs.Faults.{text_fault}
 use Rattle.bug_record.specs.Texts.{is_text}
@@ -32,7 +32,7 @@ report_severity package_name version severity title =
 abbrev pub IsOfWords : ReportFault → Type 0
 IsOfWords Full = ⊥
 IsOfWords (Store fault) = ⊥
-IsOfWords _ = Unit {0}
+IsOfWords _ = ⊤
 
 -- The desk after a report whose words give this: the bug of the next number is new, where a number is left.
 abbrev pub desk_reported : Result Severity ReportFault → Desk → List ℕ → List ℕ → List ℕ → Result Desk ReportFault
@@ -55,5 +55,5 @@ IsReported sender package_name version severity title old (Err refusal) new = (r
 -- the store's count of faults after a report
 abbrev pub faults_after_report : Result ℕ ReportFault → ℕ → ℕ
 faults_after_report (Ok number) n = n
-faults_after_report (Err (Store fault)) n = faults_after {T = Unit {0}} (Err fault) n
+faults_after_report (Err (Store fault)) n = faults_after {T = ⊤} (Err fault) n
 faults_after_report (Err refusal) n = n

@@ -1,5 +1,5 @@
 -- What running a script leaves and has written, at its end and at each fault. This project's own rule.
-use Rattle.std.specs.Prelude.{ℕ, ◌≡◌, ◌⊎◌, ◌+◌, ◌<◌, ◌≤◌, List, [], ◌∷◌, ◌++◌, length, take, map, Option, Result, Ok, Err}
+use Rattle.std.specs.Prelude.{ℕ, ◌≡◌, ◌⊎◌, ◌+◌, ◌<◌, ◌≤◌, List, [], ◌∷◌, ◌++◌, length, take, map, Option, Result, Ok, Err, ⊤}
 use Rattle.std.specs.Io.KnownBytes.{Appends}
 use Rattle.std.specs.Str.{IsUtf8}
 use Rattle.bug_record.specs.Sets.{Each}
@@ -42,7 +42,7 @@ IsCarried part s d text = ((d ≡ (part_after part s).desk) × (text ≡ part_te
 
 -- the part is a message
 abbrev pub IsMessage : Part → Type 0
-IsMessage (Message lines) = Unit {0}
+IsMessage (Message lines) = ⊤
 IsMessage (DirectiveLine line) = ⊥
 
 -- How a script stops in a part. At a fault of the store all that is to be written for the part is written; at `Write` a
@@ -96,7 +96,7 @@ pub record StopsInGoodLines (raws : List (List ℕ)) (a : Standing) (d : Desk) (
 abbrev pub IsPlace : ScriptFault → List (List ℕ) → List Part → Type 0
 IsPlace (NotUtf8 number) raws before = IsFirstBad raws number before (λ raw. (length raw ≤ 65536) × ¬ IsUtf8 raw)
 IsPlace (LineTooLong number) raws before = IsFirstBad raws number before (λ raw. 65536 < length raw)
-IsPlace fault raws before = Unit {0}
+IsPlace fault raws before = ⊤
 
 -- What these parts leave and have written: at their end all are carried out and their texts written, and the end says
 -- whether anything was refused; at a fault the script stops in one.
@@ -106,9 +106,9 @@ EndsParts parts a d c0 c1 (Err fault) = Stops parts a d c0 c1 fault
 
 -- a fault of a part, and not of the reading
 abbrev pub IsOfPart : ScriptFault → Type 0
-IsOfPart (Store fault) = Unit {0}
-IsOfPart Write = Unit {0}
-IsOfPart Memory = Unit {0}
+IsOfPart (Store fault) = ⊤
+IsOfPart Write = ⊤
+IsOfPart Memory = ⊤
 IsOfPart fault = ⊥
 
 -- What a script over this input leaves and has written. At its end all lines are good, all parts are carried out and
@@ -128,7 +128,7 @@ Carries part a b c0 c1 (Err fault) = StopsIn part a b.desk c0 c1 fault
 -- not be built or written.
 abbrev pub IsCounted : {T : Type 0} → Result T ScriptFault → ℕ → ℕ → Type 0
 IsCounted (Ok end) before now = now ≡ before
-IsCounted (Err (Store fault)) before now = now ≡ faults_after {T = Unit {0}} (Err fault) before
+IsCounted (Err (Store fault)) before now = now ≡ faults_after {T = ⊤} (Err fault) before
 IsCounted (Err Write) before now = (now ≡ before) ⊎ (now ≡ one_more before)
 IsCounted (Err Memory) before now = (now ≡ before) ⊎ (now ≡ one_more before)
 IsCounted (Err fault) before now = now ≡ before

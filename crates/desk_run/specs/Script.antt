@@ -1,5 +1,5 @@
 -- A script: its parts, what is written for them, and the desk that they leave. This project's own rule.
-use Rattle.std.specs.Prelude.{ℕ, ◌==◌, Bool, true, false, ◌||◌, List, [], ◌∷◌, ◌++◌, Option, Some, None, Result, Ok, Err, codes, if◌then◌else◌}
+use Rattle.std.specs.Prelude.{ℕ, ◌==◌, Bool, true, false, ◌||◌, List, [], ◌∷◌, ◌++◌, Option, Some, None, Result, Ok, Err, codes, if◌then◌else◌, ⊤}
 use Rattle.std.specs.List.{list_any}
 use Rattle.std.specs.Str.{bytes_eq}
 use Rattle.std.specs.Fmt.{decimal}
@@ -79,7 +79,7 @@ directive_of line =
 -- a sender is a text of 1 to 200 bytes
 abbrev pub HasGoodSender : Directive → Type 0
 HasGoodSender (From sender) = IsText sender
-HasGoodSender directive = Unit {0}
+HasGoodSender directive = ⊤
 
 -- where a script stands between two parts: the desk, the current sender, and whether anything was refused
 pub record Standing : Type 0 where

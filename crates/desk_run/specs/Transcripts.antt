@@ -1,5 +1,5 @@
 -- The transcript of a message. This project's own rule.
-use Rattle.std.specs.Prelude.{ℕ, ◌-◌, ◌<◌, ◌≤◌, List, [], ◌∷◌, ◌++◌, length, slice_index_or}
+use Rattle.std.specs.Prelude.{ℕ, ◌-◌, ◌<◌, ◌≤◌, List, [], ◌∷◌, ◌++◌, length, slice_index_or, ⊤}
 use Rattle.desk_text.specs.declared.outcome.End.{End}
 use Rattle.desk_text.specs.declared.outcome.End.TheVariants.{All, Stopped, TooManyUnreadable, Store}
 use Rattle.desk_text.specs.Texts.{outcome_text, end_text}
@@ -19,9 +19,9 @@ line_of_end (Store fault k) lines = slice_index_or lines (k - 1) []
 
 -- where the store failed, it failed at one of the lines
 abbrev pub IsLineOf : End → List (List ℕ) → Type 0
-IsLineOf All lines = Unit {0}
-IsLineOf Stopped lines = Unit {0}
-IsLineOf TooManyUnreadable lines = Unit {0}
+IsLineOf All lines = ⊤
+IsLineOf Stopped lines = ⊤
+IsLineOf TooManyUnreadable lines = ⊤
 IsLineOf (Store fault k) lines = (0 < k) × (k ≤ length lines)
 
 -- what is written for a message that was received

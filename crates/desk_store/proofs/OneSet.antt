@@ -6,7 +6,8 @@ use Rattle.std.proofs.lemmas.Option.{none-some, same_Some}
 use Rattle.bug_record.specs.Sets.{has, Each, IsAscending}
 use Rattle.bug_record.specs.Texts.{is_text}
 use Rattle.bug_record.specs.Desk.{Desk, IsSound, IsMergedWith, HasGoodTexts}
-use Rattle.bug_record.specs.Images.{numbers_of, member_at, bug_of, bug_in, or_else, put, HasMember, FitsDesk}
+use Rattle.bug_record.specs.Images.{numbers_of, member_at, bug_of, bug_in, put, HasMember, FitsDesk}
+use Rattle.std.specs.Option.{option_or}
 use Rattle.bug_record.specs.declared.bug.Bug.{Bug}
 use Rattle.bug_record.specs.declared.severity.Severity.{Severity}
 use Rattle.desk_text.specs.declared.outcome.StoreFault.{StoreFault}
@@ -29,8 +30,8 @@ bug_with severity ns n = bug_of (set_with severity ns) (member_named n)
 
 put-bug : (d : Desk) (severity : Severity) (ns : List ℕ) (next n : ℕ) → (put d (change_with severity ns next)).bug n ≡ cond (has ns n) (Some (bug_with severity ns n)) (d.bug n)
 put-bug d severity ns next n =
-    ap (λ o. or_else (or_else (option_map (bug_of (set_with severity ns)) o) None) (d.bug n)) (member_at-map ns n)
-    ∙ elim (has ns n) as (λ t. or_else (or_else (option_map (bug_of (set_with severity ns)) (cond t (Some (member_named n)) None)) None) (d.bug n) ≡ cond t (Some (bug_with severity ns n)) (d.bug n)) [ true ↦ refl | false ↦ refl ]
+    ap (λ o. option_or (option_or (option_map (bug_of (set_with severity ns)) o) None) (d.bug n)) (member_at-map ns n)
+    ∙ elim (has ns n) as (λ t. option_or (option_or (option_map (bug_of (set_with severity ns)) (cond t (Some (member_named n)) None)) None) (d.bug n) ≡ cond t (Some (bug_with severity ns n)) (d.bug n)) [ true ↦ refl | false ↦ refl ]
 
 -- a bug of the desk after the change is one of the set
 only : (d : Desk) (severity : Severity) (ns : List ℕ) (next : ℕ) → IsWithin d ns → (n : ℕ) (b : Bug) → (put d (change_with severity ns next)).bug n ≡ Some b → (has ns n ≡ true) × (bug_with severity ns n ≡ b)
@@ -79,7 +80,7 @@ put-whole d severity ns sound within n m b h w = there (d.bug m) refl (sound.agr
     shown : has ns m ≡ true → bug_in (set_with severity ns ∷ []) m ≡ None → ⊥
     shown k e =
         none-some (bug_with severity ns m)
-        (sym e ∙ ap (λ o. or_else (option_map (bug_of (set_with severity ns)) o) None) (member_at-map ns m ∙ ap (λ t. cond t (Some (member_named m)) None) k))
+        (sym e ∙ ap (λ o. option_or (option_map (bug_of (set_with severity ns)) o) None) (member_at-map ns m ∙ ap (λ t. cond t (Some (member_named m)) None) k))
 
     there : (o : Option Bug) → d.bug m ≡ o → IsMergedWith b o → bug_in (set_with severity ns ∷ []) m ≡ None → ⊥
     there None q a = absurd a
@@ -90,11 +91,6 @@ change_with-fits d severity ns next sound within ascending below some few = reco
   whole = λ n m b h _ w. put-whole d severity ns sound within n m b h w;
   sound = put-sound d severity ns next within ascending below some few;
 }
-
--- a desk within one list is within a longer
-pub within_more : (d : Desk) (n k : ℕ) → IsWithin d (n ∷ []) → IsWithin d (n ∷ k ∷ [])
-within_more d n k h m b e =
-    elim (eqb n m) as (λ t. (t || false) ≡ true → (t || (eqb k m || false)) ≡ true) [ true ↦ λ w. refl | false ↦ λ w. absurd (false≢true w) ] (h m b e)
 
 pub within_none : (d : Desk) (first : ℕ) (ns : List ℕ) → d ≡ record { bug = λ n. None; next = first } → IsWithin d ns
 within_none d first ns is n b e = absurd (none-some b (sym (ap (λ (w : Desk). w.bug n) is) ∙ e))

@@ -6,7 +6,8 @@ use Rattle.std.specs.Ordering.{nat_cmp}
 use Rattle.std.specs.BTreeMap.{BTreeMap, get}
 use Rattle.bug_record.specs.Sets.{has, Each}
 use Rattle.bug_record.specs.Desk.{IsSound, IsMergedWith}
-use Rattle.bug_record.specs.Images.{numbers_of, bug_in, or_else, put}
+use Rattle.bug_record.specs.Images.{numbers_of, bug_in, put}
+use Rattle.std.specs.Option.{option_or}
 use Rattle.bug_record.specs.declared.bug.Bug.{Bug}
 use Rattle.bug_record.specs.declared.bug.Member.{Member}
 use Rattle.bug_record.specs.declared.command.Change.{Change}
@@ -66,5 +67,5 @@ set_in-image bugs next sound n b e =
 pub desk_of-same : (now old : BTreeMap ℕ Bug) (next : ℕ) → ((n : ℕ) → get nat_cmp now n ≡ get nat_cmp old n) → desk_of now next ≡ desk_of old next
 desk_of-same now old next h = λ i. record { bug = λ n. h n i; next = next }
 
-pub desk_of-put : (now old : BTreeMap ℕ Bug) (next : ℕ) (change : Change) → ((n : ℕ) → get nat_cmp now n ≡ or_else (bug_in change.images n) (get nat_cmp old n)) → desk_of now change.next ≡ put (desk_of old next) change
+pub desk_of-put : (now old : BTreeMap ℕ Bug) (next : ℕ) (change : Change) → ((n : ℕ) → get nat_cmp now n ≡ option_or (bug_in change.images n) (get nat_cmp old n)) → desk_of now change.next ≡ put (desk_of old next) change
 desk_of-put now old next change h = λ i. record { bug = λ n. h n i; next = change.next }

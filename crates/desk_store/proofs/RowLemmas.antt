@@ -7,7 +7,8 @@ use Rattle.std.proofs.lemmas.Bool.{false≢true, eqb-true, eq-eqb}
 use Rattle.std.proofs.lemmas.Bool.Decides.{nat_tests}
 use Rattle.std.proofs.lemmas.Option.{none-some}
 use Rattle.bug_record.specs.Sets.{has, Each}
-use Rattle.bug_record.specs.Images.{member_at, bug_of, bug_in, or_else}
+use Rattle.bug_record.specs.Images.{member_at, bug_of, bug_in}
+use Rattle.std.specs.Option.{option_or}
 use Rattle.bug_record.specs.declared.bug.Bug.{Bug}
 use Rattle.bug_record.specs.declared.bug.Member.{Member}
 use Rattle.bug_record.specs.declared.bug.SetImage.{SetImage}
@@ -18,9 +19,9 @@ use Rattle.desk_store.specs.declared.rows.Row.{Row}
 pub is_eq-nat_cmp : (a b : ℕ) → is_eq (nat_cmp a b) ≡ eqb a b
 is_eq-nat_cmp a b = grind (arith, nat_tests)
 
-pub or_else-assoc : {A : Type 0} (a b c : Option A) → or_else (or_else a b) c ≡ or_else a (or_else b c)
-or_else-assoc (Some x) b c = refl
-or_else-assoc None b c = refl
+pub option_or-assoc : {A : Type 0} (a b c : Option A) → option_or (option_or a b) c ≡ option_or a (option_or b c)
+option_or-assoc (Some x) b c = refl
+option_or-assoc None b c = refl
 
 cond_same : {A : Type 0} (t : Bool) (x : A) → cond t x x ≡ x
 cond_same true x = refl
@@ -28,10 +29,10 @@ cond_same false x = refl
 
 -- ---- rows
 
-pub bug_at-append : (xs ys : List Row) (n : ℕ) → bug_at (xs ++ ys) n ≡ or_else (bug_at xs n) (bug_at ys n)
+pub bug_at-append : (xs ys : List Row) (n : ℕ) → bug_at (xs ++ ys) n ≡ option_or (bug_at xs n) (bug_at ys n)
 bug_at-append [] ys n = refl
 bug_at-append (x ∷ xs) ys n =
-    elim (eqb x.number n) as (λ t. cond t (Some x.bug) (bug_at (xs ++ ys) n) ≡ or_else (cond t (Some x.bug) (bug_at xs n)) (bug_at ys n))
+    elim (eqb x.number n) as (λ t. cond t (Some x.bug) (bug_at (xs ++ ys) n) ≡ option_or (cond t (Some x.bug) (bug_at xs n)) (bug_at ys n))
     [ true ↦ refl | false ↦ bug_at-append xs ys n ]
 
 pub bug_at-map : (i : SetImage) (ms : List Member) (n : ℕ) → bug_at (map (row_of i) ms) n ≡ option_map (bug_of i) (member_at ms n)
@@ -45,8 +46,8 @@ pub bug_at-rows_of : (is : List SetImage) (n : ℕ) → bug_at (rows_of is) n �
 bug_at-rows_of [] n = refl
 bug_at-rows_of (i ∷ is) n =
     bug_at-append (map (row_of i) i.members) (rows_of is) n
-    ∙ (ap (λ o. or_else o (bug_at (rows_of is) n)) (bug_at-map i i.members n)
-    ∙ ap (or_else (option_map (bug_of i) (member_at i.members n))) (bug_at-rows_of is n))
+    ∙ (ap (λ o. option_or o (bug_at (rows_of is) n)) (bug_at-map i i.members n)
+    ∙ ap (option_or (option_map (bug_of i) (member_at i.members n))) (bug_at-rows_of is n))
 
 -- rows that are picked by their number
 abbrev picked : (ℕ → Bool) → List Row → List Row
@@ -104,57 +105,38 @@ AreThere bugs rows = Each (λ row. is_there bugs row.number ≡ true) rows
 
 -- Of the rows `all`, which are put into the map `old`, `rest` are left to put into `now`.
 pub record IsPutting (old : BTreeMap ℕ Bug) (all : List Row) (now : BTreeMap ℕ Bug) (rest : List Row) : Type 0 where
-  pub goes_on : (n : ℕ) → or_else (bug_at rest n) (get nat_cmp now n) ≡ or_else (bug_at all n) (get nat_cmp old n)
+  pub goes_on : (n : ℕ) → option_or (bug_at rest n) (get nat_cmp now n) ≡ option_or (bug_at all n) (get nat_cmp old n)
   pub within : (n : ℕ) → bug_at all n ≡ None → bug_at rest n ≡ None
   pub there : AreThere old all → AreThere now rest
 
-pub putting_none : (old : BTreeMap ℕ Bug) (all : List Row) → IsPutting old all old all
-putting_none old all = record { goes_on = λ n. refl; within = λ n h. h; there = λ h. h }
-
-or_else-none : {A : Type 0} (a b : Option A) → or_else a b ≡ None → a ≡ None
-or_else-none (Some x) b h = absurd (none-some x (sym h))
-or_else-none None b h = refl
+option_or-none : {A : Type 0} (a b : Option A) → option_or a b ≡ None → a ≡ None
+option_or-none (Some x) b h = absurd (none-some x (sym h))
+option_or-none None b h = refl
 
 -- the row that is put in is found
 put_row : (now more : BTreeMap ℕ Bug) (r : Row) (n : ℕ) → get nat_cmp more n ≡ cond (is_eq (nat_cmp r.number n)) (Some r.bug) (get nat_cmp now n)
-    → get nat_cmp more n ≡ or_else (bug_at (r ∷ []) n) (get nat_cmp now n)
+    → get nat_cmp more n ≡ option_or (bug_at (r ∷ []) n) (get nat_cmp now n)
 put_row now more r n h =
     h ∙ (ap (λ t. cond t (Some r.bug) (get nat_cmp now n)) (is_eq-nat_cmp r.number n)
-    ∙ elim (eqb r.number n) as (λ t. cond t (Some r.bug) (get nat_cmp now n) ≡ or_else (cond t (Some r.bug) None) (get nat_cmp now n)) [ true ↦ refl | false ↦ refl ])
+    ∙ elim (eqb r.number n) as (λ t. cond t (Some r.bug) (get nat_cmp now n) ≡ option_or (cond t (Some r.bug) None) (get nat_cmp now n)) [ true ↦ refl | false ↦ refl ])
 
-or_else-some : {A : Type 0} (a b : Option A) → is_some b ≡ true → is_some (or_else a b) ≡ true
-or_else-some (Some x) b h = refl
-or_else-some None b h = h
+option_or-some : {A : Type 0} (a b : Option A) → is_some b ≡ true → is_some (option_or a b) ≡ true
+option_or-some (Some x) b h = refl
+option_or-some None b h = h
 
 -- one row more is in
 pub putting_more : (old : BTreeMap ℕ Bug) (all : List Row) (now more : BTreeMap ℕ Bug) (rows rest : List Row) (r : Row) → rows ≡ rest ++ r ∷ [] → IsPutting old all now rows
     → ((n : ℕ) → get nat_cmp more n ≡ cond (is_eq (nat_cmp r.number n)) (Some r.bug) (get nat_cmp now n)) → IsPutting old all more rest
 putting_more old all now more rows rest r is p h = record {
-  goes_on = λ n. ap (or_else (bug_at rest n)) (put_row now more r n (h n)) ∙ (sym (or_else-assoc (bug_at rest n) (bug_at (r ∷ []) n) (get nat_cmp now n)) ∙ (ap (λ o. or_else o (get nat_cmp now n)) (sym (parts n)) ∙ p.goes_on n));
-  within = λ n e. or_else-none (bug_at rest n) (bug_at (r ∷ []) n) (sym (parts n) ∙ p.within n e);
+  goes_on = λ n. ap (option_or (bug_at rest n)) (put_row now more r n (h n)) ∙ (sym (option_or-assoc (bug_at rest n) (bug_at (r ∷ []) n) (get nat_cmp now n)) ∙ (ap (λ o. option_or o (get nat_cmp now n)) (sym (parts n)) ∙ p.goes_on n));
+  within = λ n e. option_or-none (bug_at rest n) (bug_at (r ∷ []) n) (sym (parts n) ∙ p.within n e);
   there = λ w. Each-weaker (λ (row : Row). is_there now row.number ≡ true) (λ (row : Row). is_there more row.number ≡ true)
-      (λ row k. ap is_some (put_row now more r row.number (h row.number)) ∙ or_else-some (bug_at (r ∷ []) row.number) (get nat_cmp now row.number) k)
+      (λ row k. ap is_some (put_row now more r row.number (h row.number)) ∙ option_or-some (bug_at (r ∷ []) row.number) (get nat_cmp now row.number) k)
       rest (Each-append (λ (row : Row). is_there now row.number ≡ true) rest (r ∷ []) (subst (AreThere now) is (p.there w))).0;
 }
   where
-    parts : (n : ℕ) → bug_at rows n ≡ or_else (bug_at rest n) (bug_at (r ∷ []) n)
+    parts : (n : ℕ) → bug_at rows n ≡ option_or (bug_at rest n) (bug_at (r ∷ []) n)
     parts n = ap (λ (w : List Row). bug_at w n) is ∙ bug_at-append rest (r ∷ []) n
-
--- where no row is left
-pub putting_all : (old : BTreeMap ℕ Bug) (all : List Row) (now : BTreeMap ℕ Bug) (rows : List Row) → rows ≡ [] → IsPutting old all now rows → (n : ℕ) → get nat_cmp now n ≡ or_else (bug_at all n) (get nat_cmp old n)
-putting_all old all now rows is p n = sym (ap (λ (w : List Row). or_else (bug_at w n) (get nat_cmp now n)) is) ∙ p.goes_on n
-
--- where rows are left, all else is as before
-pub putting_others : (old : BTreeMap ℕ Bug) (all : List Row) (now : BTreeMap ℕ Bug) (rows : List Row) → IsPutting old all now rows → (n : ℕ) → bug_at all n ≡ None → get nat_cmp now n ≡ get nat_cmp old n
-putting_others old all now rows p n e =
-    sym (ap (λ o. or_else o (get nat_cmp now n)) (p.within n e)) ∙ (p.goes_on n ∙ ap (λ o. or_else o (get nat_cmp old n)) e)
-
--- the next row's number is there, where all rows' are
-pub putting_there : (old : BTreeMap ℕ Bug) (all : List Row) (now : BTreeMap ℕ Bug) (rows rest : List Row) (r : Row) → rows ≡ rest ++ r ∷ [] → IsPutting old all now rows → AreThere old all
-    → get nat_cmp now r.number ≡ None → ⊥
-putting_there old all now rows rest r is p w e =
-    let h = (Each-append (λ (row : Row). is_there now row.number ≡ true) rest (r ∷ []) (subst (AreThere now) is (p.there w))).1 in
-    false≢true (sym (ap is_some e) ∙ h.0)
 
 -- ---- both together
 
@@ -166,19 +148,19 @@ AreThere-filter bugs (r ∷ rows) =
     [ true ↦ λ e. (e, AreThere-filter bugs rows) | false ↦ λ e. AreThere-filter bugs rows ] refl
 
 -- they are there after other rows are put in
-pub AreThere-after : (old now : BTreeMap ℕ Bug) (fresh rows : List Row) → ((n : ℕ) → get nat_cmp now n ≡ or_else (bug_at fresh n) (get nat_cmp old n)) → AreThere old rows → AreThere now rows
+pub AreThere-after : (old now : BTreeMap ℕ Bug) (fresh rows : List Row) → ((n : ℕ) → get nat_cmp now n ≡ option_or (bug_at fresh n) (get nat_cmp old n)) → AreThere old rows → AreThere now rows
 AreThere-after old now fresh rows h w =
     Each-weaker (λ (row : Row). is_there old row.number ≡ true) (λ (row : Row). is_there now row.number ≡ true)
-    (λ row k. ap is_some (h row.number) ∙ or_else-some (bug_at fresh row.number) (get nat_cmp old row.number) k) rows w
+    (λ row k. ap is_some (h row.number) ∙ option_or-some (bug_at fresh row.number) (get nat_cmp old row.number) k) rows w
 
 -- the rows of new numbers and then those of the others are all rows
 pub both_put : (bugs : BTreeMap ℕ Bug) (is : List SetImage) (n : ℕ)
-    → or_else (bug_at (filter (is_known bugs true) (rows_of is)) n) (or_else (bug_at (filter (is_known bugs false) (rows_of is)) n) (get nat_cmp bugs n)) ≡ or_else (bug_in is n) (get nat_cmp bugs n)
+    → option_or (bug_at (filter (is_known bugs true) (rows_of is)) n) (option_or (bug_at (filter (is_known bugs false) (rows_of is)) n) (get nat_cmp bugs n)) ≡ option_or (bug_in is n) (get nat_cmp bugs n)
 both_put bugs is n =
-    ap (λ o. or_else o (or_else (bug_at (filter (is_known bugs false) (rows_of is)) n) (get nat_cmp bugs n))) (bug_at-filter (is_there bugs) (rows_of is) n)
-    ∙ (ap (λ o. or_else (cond (is_there bugs n) (bug_at (rows_of is) n) None) (or_else o (get nat_cmp bugs n))) (bug_at-filter (λ k. not (is_there bugs k)) (rows_of is) n)
-    ∙ (elim (is_there bugs n) as (λ t. or_else (cond t (bug_at (rows_of is) n) None) (or_else (cond (not t) (bug_at (rows_of is) n) None) (get nat_cmp bugs n)) ≡ or_else (bug_at (rows_of is) n) (get nat_cmp bugs n)) [ true ↦ refl | false ↦ refl ]
-    ∙ ap (λ o. or_else o (get nat_cmp bugs n)) (bug_at-rows_of is n)))
+    ap (λ o. option_or o (option_or (bug_at (filter (is_known bugs false) (rows_of is)) n) (get nat_cmp bugs n))) (bug_at-filter (is_there bugs) (rows_of is) n)
+    ∙ (ap (λ o. option_or (cond (is_there bugs n) (bug_at (rows_of is) n) None) (option_or o (get nat_cmp bugs n))) (bug_at-filter (λ k. not (is_there bugs k)) (rows_of is) n)
+    ∙ (elim (is_there bugs n) as (λ t. option_or (cond t (bug_at (rows_of is) n) None) (option_or (cond (not t) (bug_at (rows_of is) n) None) (get nat_cmp bugs n)) ≡ option_or (bug_at (rows_of is) n) (get nat_cmp bugs n)) [ true ↦ refl | false ↦ refl ]
+    ∙ ap (λ o. option_or o (get nat_cmp bugs n)) (bug_at-rows_of is n)))
 
 is_some-none : {A : Type 0} (o : Option A) → is_some o ≡ false → o ≡ None
 is_some-none None h = refl
@@ -201,12 +183,12 @@ taken_out old now after rows fresh numbers fs ns others out n =
 
 -- the map after the rows of new numbers and then those of the others
 pub put_then : (old mid now : BTreeMap ℕ Bug) (is : List SetImage) (fresh known : List Row) → fresh ≡ filter (is_known old false) (rows_of is) → known ≡ filter (is_known old true) (rows_of is)
-    → ((n : ℕ) → get nat_cmp mid n ≡ or_else (bug_at fresh n) (get nat_cmp old n)) → ((n : ℕ) → get nat_cmp now n ≡ or_else (bug_at known n) (get nat_cmp mid n))
-    → (n : ℕ) → get nat_cmp now n ≡ or_else (bug_in is n) (get nat_cmp old n)
+    → ((n : ℕ) → get nat_cmp mid n ≡ option_or (bug_at fresh n) (get nat_cmp old n)) → ((n : ℕ) → get nat_cmp now n ≡ option_or (bug_at known n) (get nat_cmp mid n))
+    → (n : ℕ) → get nat_cmp now n ≡ option_or (bug_in is n) (get nat_cmp old n)
 put_then old mid now is fresh known fs ks h k n =
-    k n ∙ (ap (or_else (bug_at known n)) (h n)
-    ∙ (ap (λ (w : List Row). or_else (bug_at w n) (or_else (bug_at fresh n) (get nat_cmp old n))) ks
-    ∙ (ap (λ (w : List Row). or_else (bug_at (filter (is_known old true) (rows_of is)) n) (or_else (bug_at w n) (get nat_cmp old n))) fs
+    k n ∙ (ap (option_or (bug_at known n)) (h n)
+    ∙ (ap (λ (w : List Row). option_or (bug_at w n) (option_or (bug_at fresh n) (get nat_cmp old n))) ks
+    ∙ (ap (λ (w : List Row). option_or (bug_at (filter (is_known old true) (rows_of is)) n) (option_or (bug_at w n) (get nat_cmp old n))) fs
     ∙ both_put old is n)))
 
 -- a call that can't fail leaves nothing at an error

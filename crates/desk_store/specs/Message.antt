@@ -1,6 +1,6 @@
 -- A message, as a machine that takes its lines one at a time (stops: the BTS page 'control and manipulation'; the rest is
 -- this project's own rule).
-use Rattle.std.specs.Prelude.{ℕ, ◌≡◌, ◌+◌, ◌-◌, ◌<◌, ◌≤◌, ◌==◌, nat_lt, nat_le, Bool, true, false, List, [], ◌∷◌, ◌++◌, length, take, count_by, Option, Some, None, Result, Ok, Err, unwrap_or, if◌then◌else◌}
+use Rattle.std.specs.Prelude.{ℕ, ◌≡◌, ◌+◌, ◌-◌, ◌<◌, ◌≤◌, ◌==◌, nat_lt, nat_le, Bool, true, false, List, [], ◌∷◌, ◌++◌, length, take, count_by, Option, Some, None, Result, Ok, Err, unwrap_or, if◌then◌else◌, ⊤}
 use Rattle.std.specs.List.{list_any}
 use Rattle.bug_record.specs.Desk.{Desk}
 use Rattle.bug_record.specs.Steps.{step}
@@ -134,4 +134,4 @@ abbrev pub faults_after_end : End → ℕ → ℕ
 faults_after_end ends.All n = n
 faults_after_end ends.Stopped n = n
 faults_after_end ends.TooManyUnreadable n = n
-faults_after_end (ends.Store fault k) n = faults_after {T = Unit {0}} (Err fault) n
+faults_after_end (ends.Store fault k) n = faults_after {T = ⊤} (Err fault) n

@@ -4,7 +4,8 @@ ghost use Rattle.std.specs.Prelude.{◌≡◌, ◌++◌, ℕ, None, [], ◌∷�
 ghost use Rattle.std.specs.BTreeMap.{get};
 ghost use Rattle.std.specs.Ordering.{nat_cmp};
 ghost use Rattle.bug_record.specs.Sets.{Each, has};
-ghost use Rattle.bug_record.specs.Images.{numbers_of, bug_in, or_else};
+ghost use Rattle.bug_record.specs.Images.{numbers_of, bug_in};
+ghost use Rattle.std.specs.Option.{option_or};
 ghost use Rattle.desk_store.specs.Rows.{bug_at, row_of, rows_of, is_there, is_known};
 
 use bug_record::{Bug, Member, Numbers, Sequence, SetImage};
@@ -106,7 +107,7 @@ fn numbers_of_rows(alloc: Global, rows: &[Row]) -> Result<Vec<u64>, AllocError>
 // Puts rows into the map, from the last to the first, so that the first of a number stays. Where there is no memory,
 // some of the rows may be there, and all else is as before. No memory is taken for a number that is there already.
 fn insert_rows(bugs: &mut BTreeMap<u64, Bug>, mut rows: Vec<Row>) -> Result<(), AllocError>
-    ensures ok { OnOk result ((n : ℕ) → get nat_cmp bugs.new n ≡ or_else (bug_at rows.items n) (get nat_cmp bugs.old n)) }
+    ensures ok { OnOk result ((n : ℕ) → get nat_cmp bugs.new n ≡ option_or (bug_at rows.items n) (get nat_cmp bugs.old n)) }
     ensures others { (n : ℕ) → bug_at rows.items n ≡ None → get nat_cmp bugs.new n ≡ get nat_cmp bugs.old n }
     ensures known { Each (λ row. IsTrue (is_there bugs.old row.number)) rows.items → IsOk result }
 {
@@ -132,7 +133,7 @@ pub(crate) fn put_images(
     bugs: &mut BTreeMap<u64, Bug>,
     images: &[SetImage],
 ) -> Result<(), AllocError>
-    ensures ok { OnOk result ((n : ℕ) → get nat_cmp bugs.new n ≡ or_else (bug_in images.now n) (get nat_cmp bugs.old n)) }
+    ensures ok { OnOk result ((n : ℕ) → get nat_cmp bugs.new n ≡ option_or (bug_in images.now n) (get nat_cmp bugs.old n)) }
     ensures err { OnErr result ((n : ℕ) → get nat_cmp bugs.new n ≡ get nat_cmp bugs.old n) }
 {
     let fresh = rows_of(alloc, bugs, false, images)?;

@@ -1,3 +1,5 @@
+//! The desk in memory, and a store that fails once.
+
 ghost use Rattle.std.specs.Prelude.{◌≡◌, ◌≢◌, ◌≤◌, ◌<◌, [], IfOk};
 ghost use Rattle.bug_record.specs.Sets.{IsAscending};
 ghost use Rattle.desk_store.specs.OneSet.{member_named, set_with, change_with, IsWithin, AreBelow};

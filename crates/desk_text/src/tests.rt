@@ -1,3 +1,5 @@
+//! The texts of outcomes, ends and faults.
+
 use crate::{End, Outcome, StoreFault, end_text, fault_text, outcome_text};
 use bug_record::{Numbers, Refusal};
 use std::alloc::{AllocError, Global};
