@@ -10,7 +10,6 @@ ghost use Rattle.bts.specs.Jobs.{job_of, status_of, IsRun};
 
 use desk_run::{ScriptEnd, ScriptFault, run_script};
 use desk_store::PlainDesk;
-
 use std::alloc::Global;
 use std::io::{Read, Write};
 

@@ -117,9 +117,9 @@ pub words-empty : (s : List ℕ) → length s ≡ 0 → words s ≡ []
 words-empty [] e = words-nil
 words-empty (c ∷ s) e = absurd (omega arith)
 
-pub has_bytes-some : (s : List ℕ) → (length s ≡ 0 → ⊥) → has_bytes s ≡ true
-has_bytes-some [] h = absurd (h refl)
-has_bytes-some (c ∷ s) h = refl
+pub none_empty : (s : List ℕ) → has_bytes s ≡ false → length s ≡ 0
+none_empty [] h = refl
+none_empty (c ∷ s) h = absurd (false≢true (sym h))
 
 pub words-cut : (s word rest : List ℕ) → s ≡ word ++ rest → list_any is_blank word ≡ false → EndsWord rest → has_bytes word ≡ true → words s ≡ word ∷ words rest
 words-cut s word rest e whole ends some = ap words e ∙ words-word word rest some whole ends

@@ -1,6 +1,6 @@
 //! The words of a text: the maximal runs of bytes that are no blanks.
 
-ghost use Rattle.std.specs.Prelude.{◌≡◌, ◌≤◌, [], ◌∷◌, ◌++◌, length, drop, MatchOption, IsFalse};
+ghost use Rattle.std.specs.Prelude.{◌≡◌, ◌≤◌, [], ◌∷◌, ◌++◌, length, drop, MatchOption, IsTrue, IsFalse};
 ghost use Rattle.std.specs.List.{list_any, prefix_len, suffix_len, position_or_len, before_first};
 ghost use Rattle.bug_record.specs.Texts.{is_blank, is_control, begins_blank};
 ghost use Rattle.control_text.specs.Words.{words, has_bytes, EndsWord, without_first_blanks, without_last_blanks, first_word, after_word, trimmed};
@@ -47,26 +47,28 @@ fn at_blank(text: &str) -> (&str, &str)
     text.split_at(leading_others(text.as_bytes()))
 }
 
+/// The first word, which is empty where there is none, and the text after it.
+pub fn next_word(text: &str) -> (&str, &str)
+    ensures word { result.0.now ≡ first_word text.now }
+    ensures rest { result.1.now ≡ after_word text.now }
+    ensures first { IsTrue (has_bytes result.0.now) → words text.now ≡ result.0.now ∷ words result.1.now }
+    ensures none { IsFalse (has_bytes result.0.now) → words text.now ≡ [] }
+{
+    at_blank(without_blanks(text))
+}
+
 /// The first word, and the text after it; `None` where there is no word.
 pub(crate) fn split_word(text: &str) -> Option<(&str, &str)>
     ensures { MatchOption result
         (words text.now ≡ [])
         (λ parts. words text.now ≡ parts.0.now ∷ words parts.1.now) }
 {
-    let text = without_blanks(text);
-    if text.is_empty() {
+    let (word, rest) = next_word(text);
+    if word.is_empty() {
         None
     } else {
-        Some(at_blank(text))
+        Some((word, rest))
     }
-}
-
-/// The first word, which is empty where there is none, and the text after it.
-pub fn next_word(text: &str) -> (&str, &str)
-    ensures word { result.0.now ≡ first_word text.now }
-    ensures rest { result.1.now ≡ after_word text.now }
-{
-    at_blank(without_blanks(text))
 }
 
 fn last_blanks(s: &[u8]) -> usize
