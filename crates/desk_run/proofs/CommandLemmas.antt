@@ -1,13 +1,13 @@
 -- A command that is carried out in parts is the machine's step.
-use Rattle.std.proofs.Common.{◌≡◌, ◌≤◌, ℕ, Bool, true, false, eqb, List, [], ◌∷◌, Option, Some, None, Result, Ok, Err, sym, refl, ap, ◌∙◌, subst, arith}
+use Rattle.std.proofs.Common.{◌≡◌, ◌≤◌, ℕ, true, false, eqb, List, [], ◌∷◌, Some, None, Result, Ok, Err, sym, refl, ap, ◌∙◌, subst, arith}
 use Rattle.std.specs.Prelude.{option_map, ◌||◌, ◌==◌, length, if◌then◌else◌}
 use Rattle.std.proofs.lemmas.Bool.{false≢true, eqb-true}
 use Rattle.bug_record.specs.Sets.{has, Each}
 use Rattle.bug_record.specs.Desk.{Desk, IsSound}
 use Rattle.bug_record.specs.Steps.{step}
-use Rattle.bug_record.specs.Images.{numbers_of, member_at, bug_of, bug_in, put, IsBlockOf, FitsDesk}
+use Rattle.bug_record.specs.Images.{numbers_of, member_at, bug_of, bug_in, put, FitsDesk}
 use Rattle.std.specs.Option.{option_or}
-use Rattle.bug_record.specs.Plans.{named, IsShownBy, CoverImages, BringNone}
+use Rattle.bug_record.specs.Plans.{IsShownBy, CoverImages, BringNone}
 use Rattle.bug_record.specs.Changed.{changed_numbers, AreChanged, Replaces}
 use Rattle.bug_core.proofs.ChangedLemmas.{changed-on_desk}
 use Rattle.bug_record.specs.declared.bug.Member.{Member}

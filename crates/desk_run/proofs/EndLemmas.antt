@@ -1,11 +1,10 @@
 -- What ends a message.
-use Rattle.std.proofs.Common.{◌≡◌, ℕ, suc, ◌<◌, ◌≤◌, ◌+◌, List, [], ◌∷◌, ◌++◌, Bool, true, false, sym, ◌∙◌, ap, refl, arith, subst}
-use Rattle.std.specs.Prelude.{◌||◌, nat_le, count_by, if◌then◌else◌}
+use Rattle.std.proofs.Common.{◌≡◌, ℕ, ◌<◌, ◌≤◌, ◌+◌, List, [], ◌∷◌, ◌++◌, Bool, true, false, ◌∙◌, ap, refl, arith}
+use Rattle.std.specs.Prelude.{◌||◌, nat_le, if◌then◌else◌}
 use Rattle.std.specs.List.{list_any}
 use Rattle.std.proofs.lemmas.List.Sums.{sum_by-append}
 use Rattle.std.proofs.lemmas.Bool.Decides.{nat_tests}
 use Rattle.desk_text.specs.declared.outcome.StoreFault.{StoreFault}
-use Rattle.desk_text.specs.declared.outcome.End.{End}
 use Rattle.desk_text.specs.declared.outcome.End.TheVariants.{All, Stopped, TooManyUnreadable, Store}
 use Rattle.desk_store.specs.Message.{Entry, is_stop, is_unreadable, unreadable_count, end_of, known_names}
 

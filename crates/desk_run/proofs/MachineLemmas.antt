@@ -1,5 +1,5 @@
 -- The machine over lists of lines.
-use Rattle.std.proofs.Common.{◌≡◌, ℕ, ◌<◌, ◌+◌, List, [], ◌∷◌, ◌++◌, length, get_or, take, drop, sym, ◌∙◌, ap, subst, refl, Bool, true, false, Result, Ok, Err}
+use Rattle.std.proofs.Common.{◌≡◌, ℕ, ◌<◌, ◌+◌, List, [], ◌∷◌, ◌++◌, length, get_or, take, drop, sym, ◌∙◌, ap, subst, refl, true, false, Result, Ok}
 use Rattle.std.proofs.lemmas.List.{take_more, take-append-drop}
 use Rattle.bug_record.specs.Desk.{Desk}
 use Rattle.bug_record.specs.declared.command.Command.{Command}
@@ -11,7 +11,7 @@ use Rattle.control_text.specs.declared.line.Line.TheVariants.{Do}
 use Rattle.desk_text.specs.declared.outcome.Outcome.{Outcome}
 use Rattle.desk_text.specs.declared.outcome.End.{End}
 use Rattle.desk_text.specs.declared.outcome.End.TheVariants as ends
-use Rattle.desk_store.specs.Message.{Entry, Machine, machine, after_lines, at_start, takes, takes_at, end_of, does, with_outcome, known_names, Comes, IsReceived, faults_after_end}
+use Rattle.desk_store.specs.Message.{Entry, Machine, machine, after_lines, at_start, takes, takes_at, end_of, does, with_outcome, Comes, IsReceived, faults_after_end}
 use Rattle.desk_run.specs.Taking.{goes_on}
 use Rattle.desk_run.specs.Transcripts.{IsLineOf}
 use Rattle.desk_run.proofs.EndLemmas.{known_names-none, never_store, at_start_open}

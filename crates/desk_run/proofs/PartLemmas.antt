@@ -1,5 +1,5 @@
 -- Parts of a script, carried out one at a time.
-use Rattle.std.proofs.Common.{◌≡◌, inl, inr, ℕ, Bool, true, false, ◌<◌, length, List, [], ◌∷◌, ◌++◌, take, sym, ◌∙◌, ap, subst, refl, Option, Some, None, Result, Ok, Err}
+use Rattle.std.proofs.Common.{◌≡◌, inl, inr, ℕ, Bool, true, ◌<◌, length, List, take, sym, ◌∙◌, ap, subst, refl, Option, Some, None, Result, Ok, Err}
 use Rattle.std.specs.Prelude.{◌||◌}
 use Rattle.std.proofs.lemmas.Option.{none-some, same_Some}
 use Rattle.std.specs.Io.KnownBytes.{Appends}
@@ -8,16 +8,15 @@ use Rattle.desk_text.specs.Texts.{fault_text}
 use Rattle.desk_text.specs.declared.outcome.StoreFault.{StoreFault}
 use Rattle.desk_text.specs.declared.outcome.End.{End}
 use Rattle.desk_text.specs.declared.outcome.End.TheVariants as ends
-use Rattle.desk_store.specs.Store.{faults_after, one_more}
-use Rattle.desk_store.specs.Message.{Entry, Machine, machine, after_lines, at_start, end_of, IsReceived, Comes, faults_after_end}
+use Rattle.desk_store.specs.Store.{faults_after}
+use Rattle.desk_store.specs.Message.{Entry, Machine, machine, after_lines, at_start, IsReceived, Comes}
 use Rattle.desk_run.specs.Transcripts.{received_text}
 use Rattle.desk_run.specs.Reports.{report_of, IsReported, faults_after_report}
-use Rattle.desk_run.specs.Script.{Part, Message, DirectiveLine, Directive, From, Report, Bad, Standing, standing, part_text, part_after, message_text, after_message, refuses, directive_of, directive_text, after_directive, report_text, after_report}
-use Rattle.desk_run.specs.Running.{AsksStore, FaultsIn, IsCarried, StopsIn, Carries}
+use Rattle.desk_run.specs.Script.{Part, Message, DirectiveLine, Directive, Report, Standing, standing, part_text, part_after, message_text, after_message, refuses, directive_of, directive_text, after_directive, report_text, after_report}
+use Rattle.desk_run.specs.Running.{AsksStore, FaultsIn, IsCarried, StopsIn}
 use Rattle.desk_run.specs.Answers.{fault_of_end, report_answer, store_fault}
 use Rattle.desk_run.specs.declared.reporting.ReportFault.{ReportFault}
 use Rattle.desk_run.specs.declared.reporting.ReportFault.TheVariants as reports
-use Rattle.desk_run.specs.declared.fault.ScriptFault.{ScriptFault}
 use Rattle.desk_run.specs.declared.fault.ScriptFault.TheVariants as stops
 use Rattle.desk_run.proofs.WrittenLemmas.{appends_none}
 

@@ -1,5 +1,5 @@
 -- No byte written.
-use Rattle.std.proofs.Common.{◌≡◌, ℕ, List, [], ◌∷◌, ◌++◌, ◌∙◌, ap, arith, Option, Some, None, append_assoc}
+use Rattle.std.proofs.Common.{ℕ, List, [], arith, Option, Some, None}
 use Rattle.std.specs.Io.KnownBytes.{Appends}
 use Rattle.std.proofs.lemmas.Grind.{common_steps}
 

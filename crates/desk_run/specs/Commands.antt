@@ -1,5 +1,5 @@
 -- What the functions that carry a command out answer, step by step.
-use Rattle.std.specs.Prelude.{ℕ, ◌≡◌, [], ◌∷◌, List, Result, Ok, Err}
+use Rattle.std.specs.Prelude.{ℕ, ◌≡◌, [], List, Result, Ok, Err}
 use Rattle.bug_record.specs.Desk.{Desk}
 use Rattle.bug_record.specs.Images.{bug_in, put, AreBlocksOf, FitsDesk}
 use Rattle.bug_record.specs.Changed.{changed_numbers, Replaces}

@@ -1,6 +1,5 @@
 -- Calls of a store, one after another.
-use Rattle.std.proofs.Common.{◌≡◌}
-use Rattle.desk_store.specs.Store.{Holds, Asks}
+use Rattle.desk_store.specs.Store.{Holds}
 
 -- no call
 pub holds_none : {S : Type 0} (k h : S → Type 0) (a : S) {P : Type 0} → P → Holds k h a a P

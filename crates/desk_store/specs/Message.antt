@@ -14,7 +14,6 @@ use Rattle.control_text.specs.declared.named.Named.{Named}
 use Rattle.control_text.specs.declared.named.Named.TheVariants.{Number, Name}
 use Rattle.control_text.specs.declared.line.Line.{Line}
 use Rattle.control_text.specs.declared.line.Line.TheVariants.{Blank, Comment, Stop, Do}
-use Rattle.desk_text.specs.declared.outcome.StoreFault.{StoreFault}
 use Rattle.desk_text.specs.declared.outcome.Outcome.{Outcome}
 use Rattle.desk_text.specs.declared.outcome.Outcome.TheVariants.{Changed, Refused, Stopped}
 use Rattle.desk_text.specs.declared.outcome.End.{End}

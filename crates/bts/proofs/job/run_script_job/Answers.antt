@@ -1,10 +1,8 @@
-use Rattle.std.proofs.Common.{◌≡◌, ℕ, List, Option, subst}
+use Rattle.std.proofs.Common.{subst}
 use Rattle.bug_record.specs.Desk.{Desk}
-use Rattle.desk_store.specs.Plain.{desk_of, empty_desk}
-use Rattle.desk_run.specs.Reading.{Known}
+use Rattle.desk_store.specs.Plain.{desk_of}
 use Rattle.desk_run.specs.Script.{begin}
 use Rattle.desk_run.specs.Running.{Ends}
-use Rattle.bts.specs.Jobs.{IsRun}
 use Rattle.bts.proofs.job.run_script_job.Goals as goal
 
 pub returns : goal.returns

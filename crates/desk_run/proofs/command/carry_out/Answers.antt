@@ -1,9 +1,5 @@
-use Rattle.std.proofs.Common.{ap, sym, subst, ◌∙◌, []}
-use Rattle.bug_record.specs.Images.{bug_in, put}
-use Rattle.bug_record.specs.Changed.{changed_numbers, AreChanged, Replaces}
-use Rattle.desk_text.specs.declared.outcome.Outcome.TheVariants.{Changed}
+use Rattle.std.proofs.Common.{sym, ◌∙◌}
 use Rattle.desk_store.proofs.HoldsLemmas.{holds_where}
-use Rattle.desk_run.specs.Commands.{MayBeMade}
 use Rattle.desk_run.proofs.CommandLemmas.{nothing, unchanged, told}
 use Rattle.desk_run.proofs.command.carry_out.Goals as goal
 

@@ -1,6 +1,6 @@
-use Rattle.std.proofs.Common.{◌≡◌, ◌∙◌, ap}
+use Rattle.std.proofs.Common.{◌∙◌, ap}
 use Rattle.desk_store.specs.Message.{refusal_meant}
-use Rattle.desk_store.proofs.HoldsLemmas.{holds_where, holds_then, holds_both}
+use Rattle.desk_store.proofs.HoldsLemmas.{holds_where, holds_both}
 use Rattle.desk_run.proofs.CommandLemmas.{shown, planned, does_planned, does_refused}
 use Rattle.desk_run.proofs.command.take_command.Goals as goal
 

@@ -1,4 +1,4 @@
-use Rattle.std.proofs.Common.{arith, ◌∙◌, sym, ap}
+use Rattle.std.proofs.Common.{arith, ◌∙◌, sym}
 use Rattle.desk_store.proofs.HoldsLemmas.{holds_none}
 use Rattle.desk_run.proofs.MachineLemmas.{received_nothing, comes_to_nothing}
 use Rattle.desk_run.proofs.LineLemmas.{some_line, no_lines}

@@ -1,6 +1,6 @@
-use Rattle.std.proofs.Common.{◌≡◌, ◌∙◌, sym, ap, refl}
+use Rattle.std.proofs.Common.{◌∙◌, sym, ap, refl}
 use Rattle.desk_store.proofs.HoldsLemmas.{holds_none, holds_then}
-use Rattle.desk_store.specs.Message.{Entry, machine, at_start, unreadable_count, end_of}
+use Rattle.desk_store.specs.Message.{machine, unreadable_count, end_of}
 use Rattle.desk_run.specs.Taking.{goes_on}
 use Rattle.desk_run.proofs.EndLemmas.{at_start_open}
 use Rattle.desk_run.proofs.MachineLemmas.{line_more, line_at, all_ended, received_ended, goes_on-all, settled_faults, settled_line}

@@ -1,6 +1,5 @@
-use Rattle.std.proofs.Common.{arith, ◌≡◌, ◌+◌, ◌≤◌, ◌<◌, sym, ◌∙◌}
-use Rattle.std.specs.Prelude.{if◌then◌else◌}
-use Rattle.desk_store.specs.Message.{unreadable_count, is_unreadable}
+use Rattle.std.proofs.Common.{arith, sym, ◌∙◌}
+use Rattle.desk_store.specs.Message.{is_unreadable}
 use Rattle.desk_run.proofs.EndLemmas.{few, one_at_most, count-push, end_at_stop, end_at_fifth, end_not_yet}
 use Rattle.desk_run.proofs.message.settle.Goals as goal
 

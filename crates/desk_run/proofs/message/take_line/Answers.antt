@@ -1,4 +1,3 @@
-use Rattle.std.proofs.Common.{◌≡◌}
 use Rattle.desk_store.proofs.HoldsLemmas.{holds_weaker}
 use Rattle.desk_run.proofs.MachineLemmas.{took_command}
 use Rattle.desk_run.proofs.message.take_line.Goals as goal

@@ -1,6 +1,6 @@
-use Rattle.std.proofs.Common.{refl, ◌∙◌, sym, ap}
+use Rattle.std.proofs.Common.{refl, ◌∙◌, ap}
 use Rattle.desk_store.proofs.HoldsLemmas.{holds_none}
-use Rattle.desk_run.specs.Script.{From, Bad, DirectiveLine, standing}
+use Rattle.desk_run.specs.Script.{From, Bad, standing}
 use Rattle.desk_run.proofs.WrittenLemmas.{appends_none}
 use Rattle.desk_run.proofs.PartLemmas.{order_done, order_unwritten}
 use Rattle.desk_run.proofs.script.carry_out.Goals as goal

@@ -1,4 +1,4 @@
-use Rattle.std.proofs.Common.{sym, ap, ◌∙◌, [], ◌∷◌}
+use Rattle.std.proofs.Common.{sym, ap, [], ◌∷◌}
 use Rattle.desk_store.proofs.HoldsLemmas.{holds_weaker}
 use Rattle.desk_run.specs.Script.{Message, end_of_script}
 use Rattle.desk_run.proofs.RunLemmas.{one_ran, one_stops, runs_ends}
