@@ -9,7 +9,7 @@ use std::test::Fail;
 
 /// Takes a report from ann.
 #[tactic(auto, unfolding(bug_record::specs::Texts::is_text))]
-pub fn take_report<S: Records>(
+pub(crate) fn take_report<S: Records>(
     alloc: Global,
     store: &mut S,
     package: &str,
@@ -22,12 +22,16 @@ pub fn take_report<S: Records>(
 
 /// Takes a message from ann.
 #[tactic(auto, unfolding(bug_record::specs::Texts::is_text))]
-pub fn take_message<S: Records>(alloc: Global, store: &mut S, message: &str) -> Received {
+pub(crate) fn take_message<S: Records>(alloc: Global, store: &mut S, message: &str) -> Received {
     receive(alloc, store, "ann", message)
 }
 
 /// Takes the reports of so many bugs of the package foo, with version 1 and severity normal: `a`, `b` and `c`.
-pub fn report_bugs<S: Records>(alloc: Global, store: &mut S, count: usize) -> Result<(), Fail> {
+pub(crate) fn report_bugs<S: Records>(
+    alloc: Global,
+    store: &mut S,
+    count: usize,
+) -> Result<(), Fail> {
     for title in ["a", "b", "c"].iter().take(count) {
         take_report(alloc, store, "foo", Some("1"), "normal", title)?;
     }
@@ -35,7 +39,7 @@ pub fn report_bugs<S: Records>(alloc: Global, store: &mut S, count: usize) -> Re
 }
 
 /// Whether the message's outcome at this place, from 0, is a change of exactly this bug, and belongs to this line.
-pub fn is_change_at(received: &Received, place: usize, line: &str, number: u64) -> bool {
+pub(crate) fn is_change_at(received: &Received, place: usize, line: &str, number: u64) -> bool {
     match received.outcomes.as_slice().get(place) {
         Some((text, Outcome::Changed(numbers))) => {
             text.as_str() == line && numbers.as_slice() == [number].as_slice()
@@ -45,7 +49,7 @@ pub fn is_change_at(received: &Received, place: usize, line: &str, number: u64) 
 }
 
 /// Whether the message's outcome at this place, from 0, is this refusal.
-pub fn is_refusal_at(received: &Received, place: usize, refusal: Refusal) -> bool {
+pub(crate) fn is_refusal_at(received: &Received, place: usize, refusal: Refusal) -> bool {
     match received.outcomes.as_slice().get(place) {
         Some((_, Outcome::Refused(given))) => *given == refusal,
         _ => false,
@@ -53,7 +57,7 @@ pub fn is_refusal_at(received: &Received, place: usize, refusal: Refusal) -> boo
 }
 
 /// The bugs' severity and whether they are closed; `None` where there is no such bug.
-pub fn severity_of<S: Records>(store: &mut S, number: u64) -> Option<(Severity, bool)> {
+pub(crate) fn severity_of<S: Records>(store: &mut S, number: u64) -> Option<(Severity, bool)> {
     match store.set_of(number) {
         Ok(Some(image)) => Some((image.shared.severity, image.shared.closed)),
         _ => None,
@@ -61,7 +65,7 @@ pub fn severity_of<S: Records>(store: &mut S, number: u64) -> Option<(Severity, 
 }
 
 /// Whether the image is that of one bug of the package foo, with this number, title and submitter.
-pub fn is_single(image: &SetImage, number: u64, title: &str, submitter: &str) -> bool {
+pub(crate) fn is_single(image: &SetImage, number: u64, title: &str, submitter: &str) -> bool {
     match image.members.as_slice() {
         [member] => {
             image.shared.package.as_str() == "foo"
@@ -74,14 +78,18 @@ pub fn is_single(image: &SetImage, number: u64, title: &str, submitter: &str) ->
 }
 
 /// The message's transcript.
-pub fn told(alloc: Global, received: &Received, message: &str) -> Result<Vec<u8>, AllocError> {
+pub(crate) fn told(
+    alloc: Global,
+    received: &Received,
+    message: &str,
+) -> Result<Vec<u8>, AllocError> {
     let mut text = Vec::new(alloc);
     received_text(alloc, &mut text, received, message)?;
     Ok(text)
 }
 
 /// Whether a message came to so many outcomes, this end, and this transcript.
-pub fn came_to(
+pub(crate) fn came_to(
     alloc: Global,
     received: &Received,
     message: &str,
