@@ -4,13 +4,16 @@ use Rattle.std.specs.Prelude.{filter, nat_lt, is_some}
 use Rattle.std.specs.Str.{bytes_eq}
 use Rattle.std.proofs.lemmas.Option.{none-some}
 use Rattle.std.proofs.lemmas.Bool.{false≢true, eqb-true, eq-eqb, lt-ltb, not-true, not-false, and_parts, and_from, and_cases, or_parts}
-use Rattle.std.proofs.lemmas.Slice.Eq.{bytes_eq-Decides}
+use Rattle.std.proofs.lemmas.Slice.Eq.{bytes_eq-Decides, slice_eq-Decides}
+use Rattle.std.specs.Bool.{Decides}
+use Rattle.ancestry.specs.Nodes.{Node, same_node}
+use Rattle.ancestry.proofs.NodeLemmas.{same_true, same_itself}
 use Rattle.bug_record.specs.Sets.{has, IsAscending}
 use Rattle.bug_record.specs.Severities.{rank}
 use Rattle.bug_record.specs.Desk.{Desk, IsSound}
 use Rattle.bug_record.specs.Images.{bug_in, put}
 use Rattle.std.specs.Option.{option_or}
-use Rattle.bug_record.specs.Changed.{AreChanged, same_shared, same_bugs, same_at, numbers_below, changed_numbers, Replaces}
+use Rattle.bug_record.specs.Changed.{AreChanged, same_nodes, same_shared, same_bugs, same_at, numbers_below, changed_numbers, Replaces}
 use Rattle.bug_record.specs.declared.bug.Bug.{Bug}
 use Rattle.bug_record.specs.declared.bug.Shared.{Shared}
 use Rattle.bug_record.specs.declared.bug.SetImage.{SetImage}
@@ -57,21 +60,30 @@ bytes a b = (bytes_eq-Decides a b).0
 bytes_refl : (a : List ℕ) → bytes_eq a a ≡ true
 bytes_refl a = (bytes_eq-Decides a a).1 refl
 
+nodes_decide : (ns ms : List Node) → Decides (same_nodes ns ms) (ns ≡ ms)
+nodes_decide ns ms = slice_eq-Decides (λ a b. (same_true a b, λ e. subst (λ (z : Node). same_node a z ≡ true) e (same_itself a))) ns ms (same_nodes ns ms) refl
+
 -- the tests tell equal records
 same_shared-true : (s t : Shared) → same_shared s t ≡ true → s ≡ t
 same_shared-true s t e =
-    let p = and_parts (bytes_eq s.«package» t.«package» && eqb (rank s.severity) (rank t.severity)) (cond s.closed t.closed (not t.closed)) e in
-    let q = and_parts (bytes_eq s.«package» t.«package») (eqb (rank s.severity) (rank t.severity)) p.0 in
+    let p = and_parts (bytes_eq s.«package» t.«package» && eqb (rank s.severity) (rank t.severity) && cond s.closed t.closed (not t.closed)) (same_nodes s.found t.found && same_nodes s.fixed t.fixed) e in
+    let r = and_parts (bytes_eq s.«package» t.«package» && eqb (rank s.severity) (rank t.severity)) (cond s.closed t.closed (not t.closed)) p.0 in
+    let q = and_parts (bytes_eq s.«package» t.«package») (eqb (rank s.severity) (rank t.severity)) r.0 in
+    let u = and_parts (same_nodes s.found t.found) (same_nodes s.fixed t.fixed) p.1 in
     λ j. record {
       «package» = bytes s.«package» t.«package» q.0 j;
       severity = same_severity s.severity t.severity (eqb-true (rank s.severity) (rank t.severity) q.1) j;
-      closed = same_closed s.closed t.closed p.1 j;
+      closed = same_closed s.closed t.closed r.1 j;
+      found = (nodes_decide s.found t.found).0 u.0 j;
+      fixed = (nodes_decide s.fixed t.fixed).0 u.1 j;
     }
 
 same_shared-refl : (s : Shared) → same_shared s s ≡ true
-same_shared-refl s = and_from (bytes_eq s.«package» s.«package» && eqb (rank s.severity) (rank s.severity)) (cond s.closed s.closed (not s.closed))
+same_shared-refl s = and_from (bytes_eq s.«package» s.«package» && eqb (rank s.severity) (rank s.severity) && cond s.closed s.closed (not s.closed)) (same_nodes s.found s.found && same_nodes s.fixed s.fixed)
+    (and_from (bytes_eq s.«package» s.«package» && eqb (rank s.severity) (rank s.severity)) (cond s.closed s.closed (not s.closed))
     (and_from (bytes_eq s.«package» s.«package») (eqb (rank s.severity) (rank s.severity)) (bytes_refl s.«package») (eq-eqb (rank s.severity) (rank s.severity) refl))
-    (closed_same s.closed)
+    (closed_same s.closed))
+    (and_from (same_nodes s.found s.found) (same_nodes s.fixed s.fixed) ((nodes_decide s.found s.found).1 refl) ((nodes_decide s.fixed s.fixed).1 refl))
 
 same_bugs-true : (a b : Bug) → same_bugs a b ≡ true → a ≡ b
 same_bugs-true a b e =

@@ -3,6 +3,9 @@ pub mod ImageLemmas
 pub mod OtherLemmas
 pub mod SoundLemmas
 pub mod ReplaceLemmas
+pub mod NodeLemmas
+pub mod MarkLemmas
+pub mod FieldLemmas
 pub mod PlanLemmas
 pub mod JoinLemmas
 pub mod ChangedLemmas

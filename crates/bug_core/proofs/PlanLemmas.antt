@@ -1,23 +1,29 @@
 -- For each kind of command, that what is planned on images is its step on the desk.
-use Rattle.std.proofs.Common.{◌≡◌, ℕ, List, [], ◌∷◌, ◌++◌, Option, Some, None, Result, Ok, Err, refl, sym, ap, ◌∙◌, subst, arith}
-use Rattle.std.proofs.lemmas.Option.{none-some}
+use Rattle.std.proofs.Common.{◌≡◌, ℕ, true, false, cond, List, [], ◌∷◌, ◌++◌, Option, Some, None, Result, Ok, Err, refl, sym, ap, ◌∙◌, subst, arith}
+use Rattle.std.proofs.lemmas.Option.{none-some, same_Some}
+use Rattle.debver.specs.Names.{IsName}
 use Rattle.bug_record.specs.Desk.{Desk, IsSound}
-use Rattle.bug_record.specs.Steps.{step, at_bug, each_bug, change_shared}
-use Rattle.bug_record.specs.Images.{bug_in, put, AreApart}
+use Rattle.bug_record.specs.Commands.{bug_named, HasGoodParts}
+use Rattle.bug_record.specs.Steps.{step, at_bug, each_bug, change_set, shared_after, new_submitter}
+use Rattle.bug_record.specs.Sets.{has, Each}
+use Rattle.bug_record.specs.Texts.{IsText}
+use Rattle.bug_record.specs.Images.{bug_of, bug_in, numbers_of, put, AreApart, AreBlocksOf}
 use Rattle.bug_record.specs.Plans.{named, AllKnown, IsShownBy}
 use Rattle.bug_record.specs.declared.bug.Bug.{Bug}
-use Rattle.bug_record.specs.declared.bug.Shared.{Shared}
 use Rattle.bug_record.specs.declared.bug.SetImage.{SetImage}
 use Rattle.bug_record.specs.declared.command.Change.{Change}
 use Rattle.bug_record.specs.declared.command.Command.{Command}
-use Rattle.bug_record.specs.declared.command.PlanFault.TheVariants.{Refused}
+use Rattle.bug_record.specs.declared.command.PlanFault.{PlanFault}
+use Rattle.bug_record.specs.declared.command.PlanFault.TheVariants.{Refused, Memory}
 use Rattle.bug_record.specs.declared.command.Refusal.{Refusal}
 use Rattle.bug_record.specs.declared.command.Refusal.TheVariants.{NoBug}
 use Rattle.bug_core.specs.Others.{image_with, others}
-use Rattle.bug_core.specs.Planned.{IsPlanned, IsRefusedAs}
-use Rattle.bug_core.proofs.ImageLemmas.{image_with-shows, image_with-none}
-use Rattle.bug_core.proofs.SoundLemmas.{sound-change_shared}
-use Rattle.bug_core.proofs.ReplaceLemmas.{TakesPlace, apart-replaced, members-replaced, covers-replaced, none-replaced, whole-sets, put-replaced, shared-takes_place}
+use Rattle.bug_core.specs.Planned.{HasName, IsPlanned, IsRefusedAs}
+use Rattle.bug_core.specs.Fields.{IsWanting}
+use Rattle.bug_core.proofs.ImageLemmas.{shown, image_with-shows, image_with-none}
+use Rattle.bug_core.proofs.FieldLemmas.{good-shared_after, good-new_submitter}
+use Rattle.bug_core.proofs.SoundLemmas.{sound-change_set}
+use Rattle.bug_core.proofs.ReplaceLemmas.{TakesPlace, apart-replaced, members-replaced, covers-replaced, none-replaced, whole-sets, put-replaced, image_after, set-takes_place}
 
 -- the step of each desk, sound or not, of which the images show the bugs that the command names
 abbrev pub Steps : List ℕ → Command ℕ → List SetImage → ℕ → (Desk → Result Desk Refusal) → Type 0
@@ -29,7 +35,7 @@ planned-refused sender command is next refusal h = record {
   right = λ d sh. h d sh.next_is sh.known;
   fits = λ d sh. tt;
   brings = λ d sh. tt;
-  refusals = λ d e k. subst (λ (z : Result Desk Refusal). IsRefusedAs z (Err (Refused refusal))) (sym (h d e k)) refl;
+  refusals = λ d e k names. subst (λ (z : Result Desk Refusal). IsRefusedAs z (Err (Refused refusal))) (sym (h d e k)) refl;
   apart = tt;
   members = tt;
   covers = tt;
@@ -44,7 +50,7 @@ planned-replaced sender command is next n i new f a h p steps keeps change same 
   right = λ d sh. (steps d sh.next_is sh.known ∙ ap Ok (sym (moved d sh)), sound d sh);
   fits = λ d sh. record { whole = whole-sets d is js sh.sound sh.blocks covers none; sound = sound d sh };
   brings = λ d sh m b q e. absurd (none-some b (sym (none m q) ∙ e));
-  refusals = λ d e k. subst (λ (z : Result Desk Refusal). IsRefusedAs z (Ok (record { images = js; next = next }))) (sym (steps d e k)) tt;
+  refusals = λ d e k names. subst (λ (z : Result Desk Refusal). IsRefusedAs z (Ok (record { images = js; next = next }))) (sym (steps d e k)) tt;
   apart = apart-replaced is n i new f a h p;
   members = members-replaced is n i new f p;
   covers = covers;
@@ -69,30 +75,63 @@ planned-replaced sender command is next n i new f a h p steps keeps change same 
     sound : (d : Desk) → IsShownBy d is next (named command) → IsSound (put d (record { images = js; next = next }))
     sound d sh = subst IsSound (sym (moved d sh)) (keeps d sh)
 
--- A command that changes the shared fields of the bug n and of those merged with it, and leaves the package's name.
-pub record ChangesShared (sender : List ℕ) (command : Command ℕ) (n : ℕ) (f : Shared → Shared) : Type 0 where
-  pub names : named command ≡ n ∷ []
-  pub steps : (d : Desk) → step d sender command ≡ at_bug (d.bug n) n (λ _. Ok (change_shared d n f))
-  pub leaves : (s : Shared) → (f s).«package» ≡ s.«package»
+-- ---- a command that changes the set of the bug that it names
 
--- the bug that it names is on the desk as the images show it
-known-bug : (sender : List ℕ) (command : Command ℕ) (is : List SetImage) (n : ℕ) (f : Shared → Shared) → ChangesShared sender command n f → (d : Desk) → AllKnown d is (named command) → bug_in is n ≡ d.bug n
-known-bug sender command is n f kind d k = (subst (AllKnown d is) kind.names k).0
+abbrev set_after : List ℕ → Command ℕ → Desk → Desk
+set_after sender command d = change_set d (bug_named command) (shared_after command) (new_submitter sender command)
 
-pub planned-shared : (sender : List ℕ) (command : Command ℕ) (is : List SetImage) (next n : ℕ) (f : Shared → Shared) → ChangesShared sender command n f → (i : SetImage) → AreApart is → image_with is n ≡ Some i
-    → (change : Change) → change.images ≡ (record i { shared = f i.shared } ∷ []) ++ others n is → change.next ≡ next → IsPlanned sender command is next (Ok change)
-planned-shared sender command is next n f kind i a h =
-    planned-replaced sender command is next n i (record i { shared = f i.shared } ∷ []) _ a h (shared-takes_place is n i f h) steps (λ d sh. sound-change_shared d n f sh.sound kind.leaves)
-  where
-    steps : Steps sender command is next (λ d. Ok (change_shared d n f))
-    steps d e k =
-        kind.steps d ∙ ap (λ (o : Option Bug). at_bug o n (λ _. Ok (change_shared d n f))) (sym (known-bug sender command is n f kind d k) ∙ (image_with-shows is n i h).1)
+-- its step, by what the images show of the bug
+steps-shown : (sender : List ℕ) (command : Command ℕ) (is : List SetImage) (next : ℕ) (o : Option Bug) → bug_in is (bug_named command) ≡ o
+    → Steps sender command is next (λ d. at_bug o (bug_named command) (λ _. Ok (set_after sender command d)))
+steps-shown sender command is next o h d e k = ap (λ (z : Option Bug). at_bug z (bug_named command) (λ _. Ok (set_after sender command d))) (sym k.0 ∙ h)
+
+pub planned-set : (sender : List ℕ) (command : Command ℕ) (is : List SetImage) (next : ℕ) (i : SetImage) → IsText sender → HasGoodParts command → AreApart is → image_with is (bug_named command) ≡ Some i
+    → (change : Change) → change.images ≡ image_after i (shared_after command) (new_submitter sender command) ∷ others (bug_named command) is → change.next ≡ next → IsPlanned sender command is next (Ok change)
+planned-set sender command is next i text good a h =
+    planned-replaced sender command is next (bug_named command) i (image_after i (shared_after command) (new_submitter sender command) ∷ []) _ a h
+    (set-takes_place is (bug_named command) i (shared_after command) (new_submitter sender command) h)
+    (let b = image_with-shows is (bug_named command) i h in steps-shown sender command is next (Some (bug_of i b.0)) b.1)
+    (λ d sh. sound-change_set d (bug_named command) (shared_after command) (new_submitter sender command) sh.sound
+    (record { fields = good-shared_after command good; texts = good-new_submitter sender command text good }))
 
 -- a bug in no image is refused
-pub planned-no_bug : (sender : List ℕ) (command : Command ℕ) (is : List SetImage) (next n : ℕ) (f : Shared → Shared) → ChangesShared sender command n f → image_with is n ≡ None
-    → IsPlanned sender command is next (Err (Refused (NoBug n)))
-planned-no_bug sender command is next n f kind h = planned-refused sender command is next (NoBug n) steps
+pub planned-no_bug : (sender : List ℕ) (command : Command ℕ) (is : List SetImage) (next : ℕ) → image_with is (bug_named command) ≡ None
+    → IsPlanned sender command is next (Err (Refused (NoBug (bug_named command))))
+planned-no_bug sender command is next h = planned-refused sender command is next (NoBug (bug_named command)) (steps-shown sender command is next None (image_with-none is (bug_named command) h))
+
+-- no desk shows an image whose package is no package name
+has_name : (is : List SetImage) (n : ℕ) (i : SetImage) → image_with is n ≡ Some i → Each HasName is → IsName i.shared.«package»
+has_name [] n i h e = absurd (none-some i h)
+has_name (j ∷ is) n i h e =
+    elim (has (numbers_of j.members) n) as (λ t. cond t (Some j) (image_with is n) ≡ Some i → IsName i.shared.«package»)
+    [ true ↦ λ h. subst HasName (same_Some _ _ h) e.0 | false ↦ λ h. has_name is n i h e.1 ] h
+
+named-shown : (d : Desk) (is : List SetImage) (n : ℕ) (i : SetImage) → IsSound d → AreBlocksOf d is → image_with is n ≡ Some i → IsName i.shared.«package»
+named-shown d is n i sound blocks h = let b = image_with-shows is n i h in (sound.texts n (bug_of i b.0) (shown d is blocks n (bug_of i b.0) b.1)).shared.package_name
+
+-- what is answered where memory is wanting, or the image's package is no package name
+pub planned-wanting : (sender : List ℕ) (command : Command ℕ) (is : List SetImage) (next n : ℕ) (i : SetImage) (fault : PlanFault) → image_with is n ≡ Some i → IsWanting i.shared.«package» fault → IsPlanned sender command is next (Err fault)
+planned-wanting sender command is next n i Memory h w = record {
+  right = λ d sh. tt;
+  fits = λ d sh. tt;
+  brings = λ d sh. tt;
+  refusals = λ d e k names. always (step d sender command);
+  apart = tt;
+  members = tt;
+  covers = tt;
+  later = tt;
+}
   where
-    steps : Steps sender command is next (λ _. Err (NoBug n))
-    steps d e k =
-        kind.steps d ∙ ap (λ (o : Option Bug). at_bug o n (λ _. Ok (change_shared d n f))) (sym (known-bug sender command is n f kind d k) ∙ image_with-none is n h)
+    always : (r : Result Desk Refusal) → IsRefusedAs r (Err Memory)
+    always (Ok d) = tt
+    always (Err refusal) = tt
+planned-wanting sender command is next n i (Refused refusal) h w = record {
+  right = λ d sh. absurd (w (named-shown d is n i sh.sound sh.blocks h));
+  fits = λ d sh. tt;
+  brings = λ d sh. tt;
+  refusals = λ d e k names. absurd (w (has_name is n i h names));
+  apart = tt;
+  members = tt;
+  covers = tt;
+  later = tt;
+}

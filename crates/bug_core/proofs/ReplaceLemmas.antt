@@ -1,6 +1,6 @@
 -- Images that take the place of the image of a bug's set.
-use Rattle.std.proofs.Common.{◌≡◌, ℕ, true, false, cond, List, [], ◌∷◌, ◌++◌, Option, Some, None, sym, refl, ap, ◌∙◌}
-use Rattle.std.specs.Prelude.{option_map}
+use Rattle.std.proofs.Common.{◌≡◌, ℕ, true, false, cond, eqb, List, [], ◌∷◌, ◌++◌, Option, Some, None, sym, refl, ap, ◌∙◌}
+use Rattle.std.specs.Prelude.{option_map, unwrap_or, map}
 use Rattle.std.proofs.lemmas.Option.{none-some}
 use Rattle.std.proofs.lemmas.Bool.{false≢true, false_from_ne_true}
 use Rattle.bug_record.specs.Sets.{has, Each}
@@ -14,6 +14,7 @@ use Rattle.bug_record.specs.declared.bug.Shared.{Shared}
 use Rattle.bug_record.specs.declared.bug.Member.{Member}
 use Rattle.bug_record.specs.declared.bug.SetImage.{SetImage}
 use Rattle.bug_core.specs.Others.{image_with, others}
+use Rattle.bug_core.specs.Fields.{with_submitter}
 use Rattle.bug_core.proofs.ImageLemmas.{none_left, none_right, none_both, none_from, same_value, has-member_some, has-member_none, member-has, bug_in-append, bug_in-block, bug-member, shown, image_with-has, image_with-shows, image_with-lacks, image_with-block}
 use Rattle.bug_core.proofs.OtherLemmas.{others-none, others-gone, others-kept, others-apart, others-members}
 use Rattle.bug_core.proofs.SoundLemmas.{merged-back}
@@ -76,7 +77,7 @@ whole-sets d is js sound blocks covers none n m b h k q e = cases (bug_in is n) 
 -- The desk after the change: each bug as f makes it.
 pub put-replaced : (d : Desk) (is : List SetImage) (next n : ℕ) (i : SetImage) (new : List SetImage) (f : ℕ → Bug → Bug) → IsSound d → d.next ≡ next → AreBlocksOf d is → AreApart is → image_with is n ≡ Some i → TakesPlace i n new f
     → put d (record { images = new ++ others n is; next = next }) ≡ each_bug d f
-put-replaced d is next n i new f sound same blocks a h p = λ j. record { bug = λ m. at m (member_at i.members m) refl j; next = sym same j }
+put-replaced d is next n i new f sound same blocks a h p = λ j. record { bug = λ m. at m (member_at i.members m) refl j; tree = d.tree; next = sym same j }
   where
     here : d.bug n ≡ Some (bug_of i (image_with-shows is n i h).0)
     here = let b = image_with-shows is n i h in shown d is blocks n (bug_of i b.0) b.1
@@ -101,14 +102,42 @@ put-replaced d is next n i new f sound same blocks a h p = λ j. record { bug = 
         ap (λ (o : Option Bug). option_or o (d.bug m)) (bug_in-append new (others n is) m ∙ ap (λ (o : Option Bug). option_or o (bug_in (others n is) m)) (p.inside m x q))
         ∙ sym (ap (option_map (f m)) e)
 
--- the image with other shared fields in the place of a bug's image
-pub shared-takes_place : (is : List SetImage) (n : ℕ) (i : SetImage) (f : Shared → Shared) → image_with is n ≡ Some i
-    → TakesPlace i n (record i { shared = f i.shared } ∷ []) (λ m b. record b { shared = cond (has b.block n) (f b.shared) b.shared })
-shared-takes_place is n i f h = record {
-  inside = λ m x q. ap (λ (o : Option Member). option_or (option_map (bug_of (record i { shared = f i.shared })) o) None) q
-      ∙ ap (λ t. Some (record (bug_of i x) { shared = cond t (f i.shared) i.shared })) (sym (image_with-has is n i h));
-  outside = λ m q. ap (λ (o : Option Member). option_or (option_map (bug_of (record i { shared = f i.shared })) o) None) q;
-  elsewhere = λ m b q k. ap (λ t. record b { shared = cond t (f b.shared) b.shared }) k;
+-- members with another submitter, if one is given, keep their numbers
+numbers_of-with_submitter : (who : Option (List ℕ)) (ms : List Member) → numbers_of (map (with_submitter who) ms) ≡ numbers_of ms
+numbers_of-with_submitter who [] = refl
+numbers_of-with_submitter who (m ∷ ms) = ap (λ ns. m.number ∷ ns) (numbers_of-with_submitter who ms)
+
+member_at-with_submitter : (who : Option (List ℕ)) (ms : List Member) (n : ℕ) → member_at (map (with_submitter who) ms) n ≡ option_map (with_submitter who) (member_at ms n)
+member_at-with_submitter who [] n = refl
+member_at-with_submitter who (m ∷ ms) n =
+    elim (eqb m.number n) as (λ t. cond t (Some (with_submitter who m)) (member_at (map (with_submitter who) ms) n) ≡ option_map (with_submitter who) (cond t (Some m) (member_at ms n)))
+    [ true ↦ refl | false ↦ member_at-with_submitter who ms n ]
+
+-- the image of a bug's set with other fields
+abbrev pub image_after : SetImage → (Shared → Shared) → (Shared → Option (List ℕ)) → SetImage
+image_after i f who = record { shared = f i.shared; members = map (with_submitter (who i.shared)) i.members }
+
+-- it stands in the place of the old one
+pub set-takes_place : (is : List SetImage) (n : ℕ) (i : SetImage) (f : Shared → Shared) (who : Shared → Option (List ℕ)) → image_with is n ≡ Some i
+    → TakesPlace i n (image_after i f who ∷ []) (λ m b. record b { shared = cond (has b.block n) (f b.shared) b.shared; submitter = cond (has b.block n) (unwrap_or (who b.shared) b.submitter) b.submitter })
+set-takes_place is n i f who h = record {
+  inside = λ m x q. shows m (Some x) q ∙ (λ j. Some (record (bug_of i x) {
+    shared = cond (sym own j) (f i.shared) i.shared;
+    submitter = cond (sym own j) (unwrap_or (who i.shared) x.submitter) x.submitter;
+    block = numbers j;
+  }));
+  outside = λ m q. shows m None q;
+  elsewhere = λ m b q k. ap (λ t. record b { shared = cond t (f b.shared) b.shared; submitter = cond t (unwrap_or (who b.shared) b.submitter) b.submitter }) k;
   apart = ((λ m k. refl), tt);
-  members = ((λ e. false≢true (ap (λ ms. has (numbers_of ms) n) (sym e) ∙ image_with-has is n i h)), tt);
+  members = ((λ e. false≢true (ap (λ ms. has (numbers_of ms) n) (sym e) ∙ ap (λ ns. has ns n) numbers ∙ own)), tt);
 }
+  where
+    own : has (numbers_of i.members) n ≡ true
+    own = image_with-has is n i h
+
+    numbers : numbers_of (map (with_submitter (who i.shared)) i.members) ≡ numbers_of i.members
+    numbers = numbers_of-with_submitter (who i.shared) i.members
+
+    shows : (m : ℕ) (o : Option Member) → member_at i.members m ≡ o
+        → bug_in (image_after i f who ∷ []) m ≡ option_or (option_map (bug_of (image_after i f who)) (option_map (with_submitter (who i.shared)) o)) None
+    shows m o q = ap (λ (z : Option Member). option_or (option_map (bug_of (image_after i f who)) z) None) (member_at-with_submitter (who i.shared) i.members m ∙ ap (option_map (with_submitter (who i.shared))) q)

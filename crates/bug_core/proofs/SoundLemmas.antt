@@ -1,11 +1,12 @@
 -- What keeps a desk sound.
-use Rattle.std.proofs.Common.{◌≡◌, ℕ, Bool, true, false, cond, Option, Some, None, sym, refl, ap, ◌∙◌, subst}
-use Rattle.std.specs.Prelude.{option_map}
+use Rattle.std.proofs.Common.{◌≡◌, ℕ, Bool, true, false, cond, List, Option, Some, None, sym, refl, ap, ◌∙◌, subst}
+use Rattle.std.specs.Prelude.{option_map, unwrap_or}
 use Rattle.std.proofs.lemmas.Option.{same_Some, none-some}
-use Rattle.debver.specs.Names.{IsName}
 use Rattle.bug_record.specs.Sets.{has, IsAscending}
-use Rattle.bug_record.specs.Desk.{Desk, IsSound, IsMergedWith, HasGoodTexts}
-use Rattle.bug_record.specs.Steps.{each_bug, change_shared}
+use Rattle.bug_record.specs.Desk.{Desk, IsSound, IsMergedWith, IsGoodShared, HasGoodTexts}
+use Rattle.bug_record.specs.Steps.{each_bug, change_set}
+use Rattle.bug_record.specs.Texts.{IsText}
+use Rattle.bug_record.specs.Commands.{IfGiven}
 use Rattle.bug_record.specs.declared.bug.Bug.{Bug}
 use Rattle.bug_record.specs.declared.bug.Shared.{Shared}
 
@@ -48,18 +49,32 @@ sound-each_bug d f sound keeps = record {
       merged-from c (option_map (f m) (d.bug m)) (f m a.0) (ap (option_map (f m)) a.1) (a.2 ∙ ap (λ (z : Bug). z.block) w.2) (a.3 ∙ ap (λ (z : Bug). z.shared) w.2);
   texts = λ n c h. let w = was-mapped (f n) (d.bug n) c h in subst HasGoodTexts w.2 (keeps.texts n w.0 w.1);
   in_range = λ n c h. let w = was-mapped (f n) (d.bug n) c h in sound.in_range n w.0 w.1;
+  forest = sound.forest;
   next_in_range = sound.next_in_range;
 }
 
--- a change of the shared fields of a set that leaves the package's name
-pub sound-change_shared : (d : Desk) (n : ℕ) (f : Shared → Shared) → IsSound d → ((s : Shared) → (f s).«package» ≡ s.«package») → IsSound (change_shared d n f)
-sound-change_shared d n f sound same = sound-each_bug d (λ m b. record b { shared = cond (has b.block n) (f b.shared) b.shared }) sound (record {
-  own = λ m b h. sound.own m b h;
-  ascending = λ m b h. sound.ascending m b h;
-  agree = λ m k b h q. let a = agree d sound m k b h q in (a.0, a.1, a.2, (λ j. cond (has (a.2 j) n) (f (a.3 j)) (a.3 j)));
-  texts = λ m b h. let t = sound.texts m b h in record { title = t.title; submitter = t.submitter; package_name = subst IsName (sym (named b (has b.block n))) t.package_name };
-})
+-- a change of the fields of a set that keeps their limits
+pub record KeepsLimits (f : Shared → Shared) (who : Shared → Option (List ℕ)) : Type 0 where
+  pub fields : (s : Shared) → IsGoodShared s → IsGoodShared (f s)
+  pub texts : (s : Shared) → IfGiven IsText (who s)
+
+pub sound-change_set : (d : Desk) (n : ℕ) (f : Shared → Shared) (who : Shared → Option (List ℕ)) → IsSound d → KeepsLimits f who → IsSound (change_set d n f who)
+sound-change_set d n f who sound keeps =
+    sound-each_bug d (λ m b. record b { shared = cond (has b.block n) (f b.shared) b.shared; submitter = cond (has b.block n) (unwrap_or (who b.shared) b.submitter) b.submitter }) sound (record {
+      own = λ m b h. sound.own m b h;
+      ascending = λ m b h. sound.ascending m b h;
+      agree = λ m k b h q. let a = agree d sound m k b h q in (a.0, a.1, a.2, (λ j. cond (has (a.2 j) n) (f (a.3 j)) (a.3 j)));
+      texts = λ m b h. let t = sound.texts m b h in record { title = t.title; submitter = person b (has b.block n) t.submitter; shared = fields b (has b.block n) t.shared };
+    })
   where
-    named : (b : Bug) (t : Bool) → (cond t (f b.shared) b.shared).«package» ≡ b.shared.«package»
-    named b true = same b.shared
-    named b false = refl
+    fields : (b : Bug) (t : Bool) → IsGoodShared b.shared → IsGoodShared (cond t (f b.shared) b.shared)
+    fields b true h = keeps.fields b.shared h
+    fields b false h = h
+
+    given : (o : Option (List ℕ)) (old : List ℕ) → IfGiven IsText o → IsText old → IsText (unwrap_or o old)
+    given None old g h = h
+    given (Some text) old g h = g
+
+    person : (b : Bug) (t : Bool) → IsText b.submitter → IsText (cond t (unwrap_or (who b.shared) b.submitter) b.submitter)
+    person b true h = given (who b.shared) b.submitter (keeps.texts b.shared) h
+    person b false h = h

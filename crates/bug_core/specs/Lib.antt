@@ -1,4 +1,5 @@
 pub mod Others
 pub mod Numbers
+pub mod Fields
 pub mod Planned
 pub mod Reports

@@ -1,5 +1,6 @@
 -- What is promised of the plan of each command.
 use Rattle.std.specs.Prelude.{ℕ, ◌≡◌, ◌≤◌, List, Result, Ok, Err, IfOk}
+use Rattle.debver.specs.Names.{IsName}
 use Rattle.bug_record.specs.Sets.{Each}
 use Rattle.bug_record.specs.Desk.{Desk}
 use Rattle.bug_record.specs.Steps.{step}
@@ -21,13 +22,17 @@ IsRefusedAs (Err r) (Ok change) = ⊥
 IsRefusedAs (Err r) (Err (Refused refusal)) = r ≡ refusal
 IsRefusedAs (Err r) (Err Memory) = Unit {0}
 
+-- the image's package is a package name
+abbrev pub HasName : SetImage → Type 0
+HasName i = IsName i.shared.package
+
 pub record IsPlanned (sender : List ℕ) (command : Command ℕ) (images : List SetImage) (next : ℕ) (result : Result Change PlanFault) : Type 0 where
   -- of every sound desk that the images show
   pub right : (d : Desk) → IsShownBy d images next (named command) → IsPlanFor d sender command result
   pub fits : (d : Desk) → IsShownBy d images next (named command) → IfOk result (λ change. FitsDesk d change)
   pub brings : (d : Desk) → IsShownBy d images next (named command) → IfOk result (λ change. BringNone d images change.images)
-  -- of any desk, sound or not, of which the images show the bugs that the command names
-  pub refusals : (d : Desk) → d.next ≡ next → AllKnown d images (named command) → IsRefusedAs (step d sender command) result
+  -- of any desk, sound or not, of which the images show the bugs that the command names, where their packages are package names
+  pub refusals : (d : Desk) → d.next ≡ next → AllKnown d images (named command) → Each HasName images → IsRefusedAs (step d sender command) result
   -- of the images alone
   pub apart : IfOk result (λ change. AreApart change.images)
   pub members : IfOk result (λ change. Each HasMember change.images)

@@ -5,12 +5,19 @@ ghost use Rattle.std.specs.Str.{bytes_eq};
 ghost use Rattle.bug_record.specs.Sets.{has};
 ghost use Rattle.bug_record.specs.Desk.{Desk};
 ghost use Rattle.bug_record.specs.Images.{numbers_of, bug_of, bug_in, put};
-ghost use Rattle.bug_record.specs.Changed.{same_shared, same_at, AreChanged, changed_numbers, Replaces};
+ghost use Rattle.bug_record.specs.Changed.{same_nodes, same_shared, same_at, AreChanged, changed_numbers, Replaces};
 ghost use Rattle.bug_core.specs.Numbers.{IsJoined};
 
 use crate::images::find_member;
+use ancestry::Node;
 use bug_record::{Member, Numbers, Sequence, SetImage, Shared};
 use std::alloc::{AllocError, Global};
+
+fn same_nodes(a: &[Node], b: &[Node]) -> bool
+    ensures { result ≡ same_nodes a.now b.now }
+{
+    a == b
+}
 
 fn same_shared(a: &Shared, b: &Shared) -> bool
     ensures { result ≡ same_shared a.now b.now }
@@ -18,6 +25,8 @@ fn same_shared(a: &Shared, b: &Shared) -> bool
     a.package.as_str() == b.package.as_str()
         && a.severity.rank() == b.severity.rank()
         && a.closed == b.closed
+        && same_nodes(a.found.as_slice(), b.found.as_slice())
+        && same_nodes(a.fixed.as_slice(), b.fixed.as_slice())
 }
 
 fn same_numbers(a: &[Member], b: &[Member]) -> bool

@@ -5,7 +5,7 @@ ghost use Rattle.bug_record.specs.Sets.{has};
 ghost use Rattle.bug_record.specs.Images.{numbers_of, member_at};
 ghost use Rattle.bug_core.specs.Others.{image_with, is_other, others};
 
-use bug_record::{Change, Member, Sequence, SetImage, Shared};
+use bug_record::{Change, Member, Sequence, SetImage};
 use std::alloc::{AllocError, Global};
 
 /// The member of a number.
@@ -85,22 +85,18 @@ pub(crate) fn replace(
     })
 }
 
-/// The change that gives the image of the bug other shared fields, and keeps the others.
-pub(crate) fn replace_shared(
+/// The change that puts this image in the place of the bug's, and keeps the others.
+pub(crate) fn replace_one(
     alloc: Global,
-    image: &SetImage,
-    shared: Shared,
+    image: SetImage,
     images: &[SetImage],
     number: u64,
     next: u64,
 ) -> Result<Change, AllocError>
-    ensures images { IfOk result (λ change. change.images ≡ record image.now { shared = shared } ∷ others number images.now) }
+    ensures images { IfOk result (λ change. change.images ≡ image ∷ others number images.now) }
     ensures next { IfOk result (λ change. change.next ≡ next) }
 {
     let mut parts = Sequence::new(alloc);
-    parts.push(SetImage {
-        shared,
-        members: image.members.copy()?,
-    })?;
+    parts.push(image)?;
     replace(parts, images, number, next)
 }

@@ -3,21 +3,22 @@
 #![tactic(auto)]
 
 mod changes;
-mod close;
+mod fields;
 mod images;
 mod laws;
 mod plans;
 mod report;
-mod severity;
 #[cfg(test)]
 mod tests;
 mod text;
+mod versions;
 
 pub use bug_record::{
-    Bug, Change, Command, Member, Numbered, Numbers, PlanFault, Refusal, Sequence, SetImage,
-    Severity, Shared,
+    Bug, Change, Command, Member, Nodes, Numbered, Numbers, PlanFault, Refusal, Sequence, SetImage,
+    Severity, Shared, VersionArg, Who,
 };
 pub use changes::changed;
+pub use fields::bug_named;
 pub use laws::changed_numbers_differ;
 pub use plans::plan;
 pub use report::report_change;

@@ -4,38 +4,47 @@ ghost use Rattle.std.specs.Prelude.{◌≡◌, ◌≤◌, IfOk};
 ghost use Rattle.bug_record.specs.Sets.{Each};
 ghost use Rattle.bug_record.specs.Texts.{IsText};
 ghost use Rattle.bug_record.specs.Desk.{Desk};
+ghost use Rattle.bug_record.specs.Commands.{HasGoodParts};
 ghost use Rattle.bug_record.specs.Steps.{step};
 ghost use Rattle.bug_record.specs.Images.{AreApart, HasMember, FitsDesk};
 ghost use Rattle.bug_record.specs.Plans.{named, AllKnown, IsShownBy, IsPlanFor, CoverImages, BringNone};
-ghost use Rattle.bug_core.specs.Planned.{IsRefusedAs, IsPlanned};
+ghost use Rattle.bug_core.specs.Planned.{HasName, IsRefusedAs, IsPlanned};
 
-use crate::close::plan_close;
-use crate::severity::plan_severity;
-use bug_record::{Change, Command, PlanFault, SetImage};
+use crate::fields::{bug_named, members_with, new_submitter, shared_after};
+use crate::images::{find, replace_one};
+use bug_record::{Change, Command, PlanFault, Refusal, SetImage};
 use std::alloc::Global;
 
-// Each command's plan.
-fn plan_each(
+// What a command does to the set of the bug that it names.
+fn plan_set(
     alloc: Global,
     command: &Command<u64>,
     from: &str,
     images: &[SetImage],
     next: u64,
 ) -> Result<Change, PlanFault>
-    requires { AreApart images.now }
+    requires sender { IsText from.now }
+    requires parts { HasGoodParts command.now }
+    requires apart { AreApart images.now }
     ensures { IsPlanned from.now command.now images.now next result }
 {
-    match command {
-        Command::Severity(number, severity) => {
-            plan_severity(alloc, *number, *severity, images, next)
-        }
-        Command::Close(number) => plan_close(alloc, *number, images, next),
-    }
+    let number = bug_named(command);
+    let Some(image) = find(images, number) else {
+        return Err(PlanFault::Refused(Refusal::NoBug(number)));
+    };
+    let shared = match shared_after(alloc, command, &image.shared) {
+        Ok(shared) => shared,
+        Err(fault) => return Err(fault),
+    };
+    let submitter = new_submitter(command, from, &image.shared);
+    let members = members_with(alloc, image.members.as_slice(), submitter)?;
+    let image = SetImage { shared, members };
+    Ok(replace_one(alloc, image, images, number, next)?)
 }
 
 /// The change that a command makes on a desk (the BTS page 'control and manipulation'). The images show the desk's sets of
-/// merged bugs that have a bug which the command names; more sets may be among them. `from` is the sender, on whom none
-/// of these commands depends, and `next` the desk's next number.
+/// merged bugs that have a bug which the command names; more sets may be among them. `from` is the sender, and `next`
+/// the desk's next number. The command's versions, package names and texts are within their limits.
 ///
 /// The change's images are those handed in that have a member, with what the command does to them: put on the desk they
 /// leave the desk of the command's step.
@@ -43,7 +52,8 @@ fn plan_each(
 /// # Errors
 ///
 /// `Refused(NoBug(n))` where the command names a bug n that is in no image: n may be any number. `Memory` where there was
-/// none.
+/// none. `Refused(BadPackage)` where the command has a version for an image whose package is no package name: no desk
+/// shows such an image.
 pub fn plan(
     alloc: Global,
     command: &Command<u64>,
@@ -52,15 +62,16 @@ pub fn plan(
     next: u64,
 ) -> Result<Change, PlanFault>
     requires sender { IsText from.now }
+    requires parts { HasGoodParts command.now }
     requires apart { AreApart images.now }
     ensures right { (d : Desk) → IsShownBy d images.now next (named command.now) → IsPlanFor d from.now command.now result }
     ensures fits { (d : Desk) → IsShownBy d images.now next (named command.now) → IfOk result (λ change. FitsDesk d change) }
-    ensures refusals { (d : Desk) → d.next ≡ next → AllKnown d images.now (named command.now) → IsRefusedAs (step d from.now command.now) result }
+    ensures refusals { (d : Desk) → d.next ≡ next → AllKnown d images.now (named command.now) → Each HasName images.now → IsRefusedAs (step d from.now command.now) result }
     ensures apart { IfOk result (λ change. AreApart change.images) }
     ensures members { IfOk result (λ change. Each HasMember change.images) }
     ensures covers { IfOk result (λ change. CoverImages images.now change.images) }
     ensures brings { (d : Desk) → IsShownBy d images.now next (named command.now) → IfOk result (λ change. BringNone d images.now change.images) }
     ensures later { IfOk result (λ change. next ≤ change.next) }
 {
-    plan_each(alloc, command, from, images, next)
+    plan_set(alloc, command, from, images, next)
 }

@@ -5,13 +5,27 @@ ghost use Rattle.debver.specs.Names.{IsName};
 ghost use Rattle.bug_record.specs.Sets.{Each};
 ghost use Rattle.bug_record.specs.Texts.{IsText};
 ghost use Rattle.bug_record.specs.Desk.{Desk, IsSound};
-ghost use Rattle.bug_record.specs.Steps.{reported};
+ghost use Rattle.ancestry.specs.Nodes.{IsNode};
+ghost use Rattle.bug_record.specs.Commands.{IfGiven};
+ghost use Rattle.bug_record.specs.Steps.{found_first, reported};
 ghost use Rattle.bug_record.specs.Images.{put, AreApart, HasMember, FitsDesk};
 ghost use Rattle.bug_core.specs.Reports.{image_of_report};
 
-use bug_record::{Change, Member, Sequence, SetImage, Severity, Shared};
+use ancestry::Node;
+use bug_record::{Change, Member, Nodes, Sequence, SetImage, Severity, Shared};
 use debver::Text;
 use std::alloc::{AllocError, Global};
+
+// The set of the node, if one is given.
+fn found_first(alloc: Global, node: Option<Node>) -> Result<Nodes, AllocError>
+    ensures { IfOk result (λ nodes. nodes ≡ found_first node) }
+{
+    let mut nodes = Sequence::new(alloc);
+    if let Some(node) = node {
+        nodes.push(node)?;
+    }
+    Ok(nodes)
+}
 
 // The image of the new bug, alone in its set.
 fn image_of_report(
@@ -20,9 +34,10 @@ fn image_of_report(
     package: &str,
     severity: Severity,
     title: &str,
+    node: Option<Node>,
     number: u64,
 ) -> Result<SetImage, AllocError>
-    ensures { IfOk result (λ i. i ≡ image_of_report from.now «package».now severity title.now number) }
+    ensures { IfOk result (λ i. i ≡ image_of_report from.now «package».now severity title.now node number) }
 {
     let mut members = Sequence::new(alloc);
     members.push(Member {
@@ -35,12 +50,15 @@ fn image_of_report(
             package: Text::of(alloc, package)?,
             severity,
             closed: false,
+            found: found_first(alloc, node)?,
+            fixed: Sequence::new(alloc),
         },
         members,
     })
 }
 
-/// The change that a report makes: the bug of the next number is new, open, and merged with none. `next` is the desk's next
+/// The change that a report makes: the bug of the next number is new, open, merged with none, and found at the node, if one is
+/// given. `next` is the desk's next
 /// number, from 1 to 999,999,999, so that a number is left.
 ///
 /// # Errors
@@ -52,19 +70,21 @@ pub fn report_change(
     package: &str,
     severity: Severity,
     title: &str,
+    node: Option<Node>,
     next: u64,
 ) -> Result<Change, AllocError>
     requires sender { IsText from.now }
     requires name { IsName «package».now }
     requires title { IsText title.now }
+    requires node { IfGiven IsNode node }
     requires some_left { next < 1000000000 }
-    ensures right { (d : Desk) → IsSound d → d.next ≡ next → IfOk result (λ change. put d change ≡ reported d from.now «package».now severity title.now) }
+    ensures right { (d : Desk) → IsSound d → d.next ≡ next → IfOk result (λ change. put d change ≡ reported d from.now «package».now severity title.now node) }
     ensures fits { (d : Desk) → IsSound d → d.next ≡ next → IfOk result (λ change. FitsDesk d change) }
     ensures apart { IfOk result (λ change. AreApart change.images) }
     ensures members { IfOk result (λ change. Each HasMember change.images) }
 {
     let mut images = Sequence::new(alloc);
-    images.push(image_of_report(alloc, from, package, severity, title, next)?)?;
+    images.push(image_of_report(alloc, from, package, severity, title, node, next)?)?;
     Ok(Change {
         images,
         next: next + 1,

@@ -3,9 +3,11 @@
 
 ghost use Rattle.std.specs.Prelude.{◌≡◌, [], ◌∷◌, IfOk};
 ghost use Rattle.bug_record.specs.Images.{numbers_of};
+ghost use Rattle.bug_record.specs.Commands.{IfGiven, IsGoodVersion};
 
 use crate::*;
-use debver::Text;
+use ancestry::Node;
+use debver::{Text, check, check_name};
 use std::alloc::{AllocError, Global};
 use std::test::Fail;
 
@@ -44,9 +46,49 @@ fn image(alloc: Global, members: Sequence<Member>) -> Result<SetImage, AllocErro
             package: Text::of(alloc, "foo")?,
             severity: Severity::Normal,
             closed: false,
+            found: Sequence::new(alloc),
+            fixed: Sequence::new(alloc),
         },
         members,
     })
+}
+
+// The version of a text; none where it is no version.
+fn version(alloc: Global, text: &str) -> Result<Option<VersionArg>, AllocError>
+    ensures { IfOk result (IfGiven IsGoodVersion) }
+{
+    if check(text).is_err() {
+        return Ok(None);
+    }
+    Ok(Some(VersionArg {
+        source: None,
+        version: Text::of(alloc, text)?,
+    }))
+}
+
+// The image of bug 1, closed, and fixed in foo/1.0 and bar/3.
+fn fixed_image(alloc: Global) -> Result<SetImage, Fail> {
+    let mut image = image(alloc, one_member(alloc, 1)?)?;
+    image.shared.closed = true;
+    for text in ["foo/1.0", "bar/3"] {
+        let Ok(node) = Node::read(alloc, text) else {
+            return Err(Fail::new("no node"));
+        };
+        image.shared.fixed.add_node(node)?;
+    }
+    Ok(image)
+}
+
+fn texts_are(nodes: &Nodes, texts: &[(&str, &str)]) -> bool {
+    if nodes.as_slice().len() != texts.len() {
+        return false;
+    }
+    for (node, (source, version)) in nodes.as_slice().iter().zip(texts) {
+        if node.source() != *source || node.version() != *version {
+            return false;
+        }
+    }
+    true
 }
 
 #[test]
@@ -111,7 +153,7 @@ fn close_changes_all_bugs_of_the_set_and_no_other(rt: HostRuntime) -> Result<(),
         image(alloc, one_member(alloc, 3)?)?,
         image(alloc, two_members(alloc, 1, 2)?)?,
     ];
-    let Ok(change) = plan(alloc, &Command::Close(2), "ann", &images, 4) else {
+    let Ok(change) = plan(alloc, &Command::Close(2, None), "ann", &images, 4) else {
         panic!(&rt; "refused");
     };
     let after = change.images.as_slice();
@@ -127,7 +169,7 @@ fn a_bug_in_no_image_is_refused_by_its_number(rt: HostRuntime) -> Result<(), Fai
     let alloc = rt.alloc();
     let images = [image(alloc, one_member(alloc, 1)?)?];
     for number in [2, 1000000001] {
-        match plan(alloc, &Command::Close(number), "ann", &images, 2) {
+        match plan(alloc, &Command::Close(number, None), "ann", &images, 2) {
             Ok(_) => panic!(&rt; "no refusal"),
             Err(fault) => assert!(&rt; fault == PlanFault::Refused(Refusal::NoBug(number))),
         }
@@ -136,15 +178,93 @@ fn a_bug_in_no_image_is_refused_by_its_number(rt: HostRuntime) -> Result<(), Fai
 }
 
 #[test]
+fn a_closed_bug_is_found_again_where_no_higher_version_is_fixed(
+    rt: HostRuntime,
+) -> Result<(), Fail> {
+    let alloc = rt.alloc();
+    let rows = [("0.9~", true), ("2", true), ("3-0", false), ("3", false), ("4", false)];
+    for (text, stays_closed) in rows {
+        let images = [fixed_image(alloc)?];
+        let command = Command::Found(1, version(alloc, text)?);
+        let Ok(change) = plan(alloc, &command, "ann", &images, 2) else {
+            panic!(&rt; "refused");
+        };
+        let [after] = change.images.as_slice() else {
+            panic!(&rt; "not one image");
+        };
+        assert!(&rt; after.shared.closed == stays_closed, "{text}");
+        assert!(&rt; texts_are(&after.shared.found, &[("foo", text)]), "{text}");
+        assert!(&rt; texts_are(&after.shared.fixed, &[("bar", "3"), ("foo", "1.0")]), "{text}");
+    }
+    Ok(())
+}
+
+#[test]
+fn a_closed_bug_is_reopened_by_somebody(rt: HostRuntime) -> Result<(), Fail> {
+    let alloc = rt.alloc();
+    let images = [fixed_image(alloc)?];
+    let command = Command::Reopen(1, Some(Who::Given(Text::of(alloc, "bob")?)));
+    let Ok(change) = plan(alloc, &command, "ann", &images, 2) else {
+        panic!(&rt; "refused");
+    };
+    let [after] = change.images.as_slice() else {
+        panic!(&rt; "not one image");
+    };
+    assert!(&rt; !after.shared.closed && after.shared.fixed.as_slice().is_empty());
+    for member in after.members.as_slice() {
+        assert!(&rt; member.submitter.as_str() == "bob");
+    }
+    let again = Command::Reopen(1, Some(Who::Sender));
+    let Ok(again) = plan(alloc, &again, "zed", change.images.as_slice(), 2) else {
+        panic!(&rt; "refused");
+    };
+    let none = changed(alloc, change.images.as_slice(), again.images.as_slice())?;
+    assert!(&rt; none.as_slice().is_empty());
+    Ok(())
+}
+
+#[test]
+fn a_bug_of_another_package_has_the_mark_of_the_new_version_alone(
+    rt: HostRuntime,
+) -> Result<(), Fail> {
+    let alloc = rt.alloc();
+    let images = [fixed_image(alloc)?];
+    if check_name("baz").is_err() {
+        panic!(&rt; "no name");
+    }
+    let command = Command::Reassign(1, Text::of(alloc, "baz")?, version(alloc, "7")?);
+    let Ok(change) = plan(alloc, &command, "ann", &images, 2) else {
+        panic!(&rt; "refused");
+    };
+    let [after] = change.images.as_slice() else {
+        panic!(&rt; "not one image");
+    };
+    assert!(&rt; after.shared.package.as_str() == "baz" && after.shared.closed);
+    assert!(&rt; texts_are(&after.shared.found, &[("baz", "7")]));
+    assert!(&rt; after.shared.fixed.as_slice().is_empty());
+    Ok(())
+}
+
+#[test]
 fn a_report_is_an_open_bug_of_the_next_number(rt: HostRuntime) -> Result<(), Fail> {
     let alloc = rt.alloc();
-    let change = report_change(alloc, "ann", "foo", Severity::Serious, "It breaks", 7)?;
+    let change = report_change(
+        alloc,
+        "ann",
+        "foo",
+        Severity::Serious,
+        "It breaks",
+        Node::read(alloc, "foo/1.0-1").ok(),
+        7,
+    )?;
     assert_eq!(&rt; change.next, 8);
     let images = change.images.as_slice();
     assert_eq!(&rt; images.len(), 1);
     assert!(&rt; !images[0].shared.closed);
     assert!(&rt; images[0].shared.package.as_str() == "foo");
     assert!(&rt; images[0].shared.severity == Severity::Serious);
+    assert!(&rt; texts_are(&images[0].shared.found, &[("foo", "1.0-1")]));
+    assert!(&rt; images[0].shared.fixed.as_slice().is_empty());
     let members = images[0].members.as_slice();
     assert_eq!(&rt; members.len(), 1);
     assert_eq!(&rt; members[0].number, 7);

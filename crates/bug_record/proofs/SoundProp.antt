@@ -2,8 +2,13 @@
 use Rattle.std.proofs.Common.{ℕ, List, [], ◌∷◌, Option, Some, None}
 use Rattle.std.proofs.Props.{props}
 use Rattle.std.specs.Coded.{×_prop, Unit-prop, le_prop}
-use Rattle.bug_record.specs.Sets.{AllAbove, IsAscending}
-use Rattle.bug_record.specs.Desk.{Desk, IsSound, IsMergedWith}
+use Rattle.std.specs.List.Sorted.{IsStrictlySortedBy-prop}
+use Rattle.ancestry.specs.Nodes.{Node, IsNode, node_cmp}
+use Rattle.ancestry.proofs.ForestProp.{IsNode-prop, IsForest-prop}
+use Rattle.bug_record.specs.Sets.{AllAbove, IsAscending, Each}
+use Rattle.bug_record.specs.Marks.{IsNodeSet}
+use Rattle.bug_record.specs.Desk.{Desk, IsSound, IsMergedWith, IsGoodShared}
+use Rattle.bug_record.specs.declared.bug.Shared.{Shared}
 use Rattle.bug_record.specs.declared.bug.Bug.{Bug}
 
 pub AllAbove-prop : (n : ℕ) (xs : List ℕ) → IsProp (AllAbove n xs)
@@ -18,5 +23,15 @@ pub IsMergedWith-prop : (b : Bug) (o : Option Bug) → IsProp (IsMergedWith b o)
 IsMergedWith-prop b None = hlevel props
 IsMergedWith-prop b (Some c) = hlevel props
 
+Each-prop : {T : Type 0} (P : T → Type 0) → ((x : T) → IsProp (P x)) → (xs : List T) → IsProp (Each P xs)
+Each-prop P h [] = Unit-prop
+Each-prop P h (x ∷ xs) = ×_prop (h x) (Each-prop P h xs)
+
+pub IsNodeSet-prop : (nodes : List Node) → IsProp (IsNodeSet nodes)
+IsNodeSet-prop nodes = hlevel (props, IsStrictlySortedBy-prop node_cmp nodes, Each-prop IsNode IsNode-prop nodes)
+
+IsGoodShared-prop : (f : Shared) → IsProp (IsGoodShared f)
+IsGoodShared-prop f = hlevel (props, IsNodeSet-prop f.found, IsNodeSet-prop f.fixed)
+
 pub IsSound-prop : (d : Desk) → IsProp (IsSound d)
-IsSound-prop d = hlevel (props, IsAscending-prop, IsMergedWith-prop)
+IsSound-prop d = hlevel (props, IsAscending-prop, IsMergedWith-prop, IsGoodShared-prop, IsForest-prop)

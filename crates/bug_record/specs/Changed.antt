@@ -1,6 +1,8 @@
 -- The numbers at which two desks differ.
 use Rattle.std.specs.Prelude.{ℕ, suc, zero, ◌≡◌, ◌≤◌, Bool, true, false, not, ◌&&◌, ◌==◌, List, [], ◌∷◌, ◌++◌, Option, Some, None, filter, if◌then◌else◌}
 use Rattle.std.specs.Str.{bytes_eq}
+use Rattle.std.specs.Cmp.Lexicographic.{pointwise}
+use Rattle.ancestry.specs.Nodes.{Node, same_node}
 use Rattle.bug_record.specs.Severities.{rank}
 use Rattle.bug_record.specs.Sets.{has, IsAscending}
 use Rattle.bug_record.specs.Desk.{Desk, IsSound}
@@ -11,8 +13,13 @@ use Rattle.bug_record.specs.declared.bug.Shared.{Shared}
 use Rattle.bug_record.specs.declared.bug.SetImage.{SetImage}
 
 -- tests of equality
+abbrev pub same_nodes : List Node → List Node → Bool
+same_nodes ns ms = pointwise same_node ns ms
+
 abbrev pub same_shared : Shared → Shared → Bool
-same_shared s t = (bytes_eq s.package t.package && (rank s.severity == rank t.severity)) && (if s.closed then t.closed else not t.closed)
+same_shared s t =
+    (bytes_eq s.package t.package && (rank s.severity == rank t.severity)) && (if s.closed then t.closed else not t.closed)
+    && (same_nodes s.found t.found && same_nodes s.fixed t.fixed)
 
 abbrev pub same_bugs : Bug → Bug → Bool
 same_bugs a b = (bytes_eq a.title b.title && bytes_eq a.submitter b.submitter) && (same_shared a.shared b.shared && bytes_eq a.block b.block)

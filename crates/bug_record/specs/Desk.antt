@@ -1,14 +1,18 @@
 -- A desk: bugs that each have their own whole record.
 use Rattle.std.specs.Prelude.{ℕ, ◌≡◌, ◌<◌, ◌≤◌, true, Option, Some, None}
 use Rattle.debver.specs.Names.{IsName}
+use Rattle.ancestry.specs.Trees.{Ancestry, IsForest}
 use Rattle.bug_record.specs.Sets.{has, IsAscending}
 use Rattle.bug_record.specs.Texts.{IsText}
+use Rattle.bug_record.specs.Marks.{IsNodeSet}
 use Rattle.bug_record.specs.declared.bug.Bug.{Bug}
+use Rattle.bug_record.specs.declared.bug.Shared.{Shared}
 
--- A desk: the bug of each number that has one, and the next number to give. The bug holds its whole record, and as its
--- block the numbers of the bugs merged with it, itself among them.
+-- A desk: the bug of each number that has one, the ancestry of nodes, and the next number to give. The bug holds its whole
+-- record, and as its block the numbers of the bugs merged with it, itself among them.
 pub record Desk : Type 0 where
   pub bug : ℕ → Option Bug
+  pub tree : Ancestry
   pub next : ℕ
 
 -- the bug is there, and has b's block and b's shared fields
@@ -16,11 +20,17 @@ abbrev pub IsMergedWith : Bug → Option Bug → Type 0
 IsMergedWith b None = ⊥
 IsMergedWith b (Some c) = (c.block ≡ b.block) × (c.shared ≡ b.shared)
 
--- the limits of the texts and names of a record
+-- the limits of shared fields: marks are sets of nodes
+pub record IsGoodShared (f : Shared) : Type 0 where
+  pub package_name : IsName f.package
+  pub found : IsNodeSet f.found
+  pub fixed : IsNodeSet f.fixed
+
+-- the limits of the texts, names and marks of a record
 pub record HasGoodTexts (b : Bug) : Type 0 where
   pub title : IsText b.title
   pub submitter : IsText b.submitter
-  pub package_name : IsName b.shared.package
+  pub shared : IsGoodShared b.shared
 
 -- What a desk keeps. This project's own rule.
 pub record IsSound (d : Desk) : Type 0 where
@@ -29,8 +39,10 @@ pub record IsSound (d : Desk) : Type 0 where
   pub ascending : (n : ℕ) (b : Bug) → d.bug n ≡ Some b → IsAscending b.block
   -- merged bugs have one block and agree on the shared fields
   pub agree : (n m : ℕ) (b : Bug) → d.bug n ≡ Some b → has b.block m ≡ true → IsMergedWith b (d.bug m)
-  -- every text and package name is within its limits
+  -- every text, package name and node is within its limits
   pub texts : (n : ℕ) (b : Bug) → d.bug n ≡ Some b → HasGoodTexts b
   -- numbers are from 1 to below the next one, which is from 1 to 1,000,000,000
   pub in_range : (n : ℕ) (b : Bug) → d.bug n ≡ Some b → (0 < n) × (n < d.next)
+  -- every node has a line to its root, of known nodes
+  pub forest : IsForest d.tree
   pub next_in_range : (0 < d.next) × (d.next ≤ 1000000000)

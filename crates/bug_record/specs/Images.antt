@@ -43,7 +43,7 @@ AreBlocksOf d is = Each (IsBlockOf d) is
 
 -- The desk after a change: the numbers of each image get its fields and become one block, and all else stays.
 abbrev pub put : Desk → Change → Desk
-put d c = record { bug = λ n. option_or (bug_in c.images n) (d.bug n); next = c.next }
+put d c = record { bug = λ n. option_or (bug_in c.images n) (d.bug n); tree = d.tree; next = c.next }
 
 -- the images cover whole sets: with a bug of the desk, all that are merged with it
 abbrev pub CoverSets : Desk → List SetImage → Type 0

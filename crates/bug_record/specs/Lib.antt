@@ -3,7 +3,9 @@ pub mod Places
 pub mod Words
 pub mod Texts
 pub mod Severities
+pub mod Marks
 pub mod Desk
+pub mod Commands
 pub mod Steps
 pub mod Images
 pub mod Plans

@@ -1,20 +1,19 @@
 -- What is planned for a command on the images of sets, and what that says of a desk.
 use Rattle.std.specs.Prelude.{ℕ, ◌≡◌, List, [], ◌∷◌, Some, None, Result, Ok, Err, ⊤}
 use Rattle.bug_record.specs.Desk.{Desk, IsSound}
+use Rattle.bug_record.specs.Commands.{bug_named}
 use Rattle.bug_record.specs.Steps.{step}
 use Rattle.bug_record.specs.Images.{bug_in, put, AreBlocksOf}
 use Rattle.bug_record.specs.declared.bug.Bug.{Bug}
 use Rattle.bug_record.specs.declared.bug.SetImage.{SetImage}
 use Rattle.bug_record.specs.declared.command.Change.{Change}
 use Rattle.bug_record.specs.declared.command.Command.{Command}
-use Rattle.bug_record.specs.declared.command.Command.TheVariants.{Severity as SetSeverity, Close}
 use Rattle.bug_record.specs.declared.command.PlanFault.{PlanFault}
 use Rattle.bug_record.specs.declared.command.PlanFault.TheVariants.{Refused, Memory}
 
 -- the bugs that a command names
 abbrev pub named : Command ℕ → List ℕ
-named (SetSeverity n s) = n ∷ []
-named (Close n) = n ∷ []
+named command = bug_named command ∷ []
 
 -- of each of these numbers the images say what the desk has: its bug, or that it has none
 abbrev pub AllKnown : Desk → List SetImage → List ℕ → Type 0

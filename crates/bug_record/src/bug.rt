@@ -2,7 +2,7 @@
 
 ghost use Rattle.std.specs.Prelude.{◌≡◌, IfOk};
 
-use crate::sequence::{Numbered, Numbers, Sequence};
+use crate::sequence::{Nodes, Numbered, Numbers, Sequence};
 use crate::severity::Severity;
 use debver::Text;
 use std::alloc::AllocError;
@@ -13,6 +13,10 @@ pub struct Shared {
     pub package: Text,
     pub severity: Severity,
     pub closed: bool,
+    /// The nodes that are marked as having the bug.
+    pub found: Nodes,
+    /// The nodes that are marked as not having it.
+    pub fixed: Nodes,
 }
 
 /// A bug of a set, with the fields of its own.
@@ -57,6 +61,8 @@ impl Shared {
             package: self.package.copy()?,
             severity: self.severity,
             closed: self.closed,
+            found: self.found.copy()?,
+            fixed: self.fixed.copy()?,
         })
     }
 }

@@ -3,15 +3,45 @@
 use crate::bug::SetImage;
 use crate::sequence::Sequence;
 use crate::severity::Severity;
+use debver::Text;
 use std::alloc::AllocError;
 
-/// A command of the BTS page 'control and manipulation', whose bugs are given as `N`.
-#[derive(Clone, Copy, Debug, PartialEq, Eq, Drop)]
+/// A version as a command names it: of this source package, or of the bug's own where there is none.
+#[derive(Debug, PartialEq, Eq, Drop)]
+pub struct VersionArg {
+    pub source: Option<Text>,
+    pub version: Text,
+}
+
+/// Somebody, as a command names them.
+#[derive(Debug, PartialEq, Eq, Drop)]
+pub enum Who {
+    /// The sender, written `!`.
+    Sender,
+    /// This address.
+    Given(Text),
+}
+
+/// A command of the BTS page 'control and manipulation', whose bugs are given as `N`. Each changes the bug and all bugs
+/// that are merged with it.
+#[derive(Debug, PartialEq, Eq, Drop)]
 pub enum Command<N> {
-    /// `severity n s`: sets the severity of the bug and of those merged with it.
+    /// `found n [v]`: the bug is in the version, which may reopen it; without a version it is open and nowhere fixed.
+    Found(N, Option<VersionArg>),
+    /// `notfound n v`: the mark that the bug is in the version goes.
+    NotFound(N, VersionArg),
+    /// `fixed n v`: the version does not have the bug. It is not closed by that.
+    Fixed(N, VersionArg),
+    /// `notfixed n v`: the mark that the version does not have the bug goes. It is not reopened by that.
+    NotFixed(N, VersionArg),
+    /// `close n [v]`: closes the bug, as one that the version does not have.
+    Close(N, Option<VersionArg>),
+    /// `reopen n [who]`: opens a closed bug, which is then nowhere fixed, and has the new submitter, if one is given.
+    Reopen(N, Option<Who>),
+    /// `severity n s`: sets the severity.
     Severity(N, Severity),
-    /// `close n`: closes the bug and those merged with it.
-    Close(N),
+    /// `reassign n package [v]`: moves the bug to a package, and marks it found in the version there.
+    Reassign(N, Text, Option<VersionArg>),
 }
 
 /// Why a line is refused, in the order in which the causes are tested.
@@ -21,8 +51,14 @@ pub enum Refusal {
     Unknown,
     /// The shape is wrong, or the line holds a control character other than tab.
     Malformed,
+    /// A text of more than 200 bytes.
+    TooLong,
     /// A word that names no severity.
     BadSeverity,
+    /// A word that is no version.
+    BadVersion,
+    /// A word that is no package name.
+    BadPackage,
     /// The name -k is not known.
     NoName(u64),
     /// There is no bug of this number.

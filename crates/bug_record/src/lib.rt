@@ -13,7 +13,7 @@ mod words;
 
 pub use bug::{Bug, Member, SetImage, Shared};
 pub use characters::{is_blank, is_control};
-pub use command::{Change, Command, PlanFault, Refusal};
-pub use sequence::{Numbered, Numbers, Sequence};
+pub use command::{Change, Command, PlanFault, Refusal, VersionArg, Who};
+pub use sequence::{Nodes, Numbered, Numbers, Sequence};
 pub use severity::Severity;
 pub use words::is_word;

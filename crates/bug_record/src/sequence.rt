@@ -7,6 +7,10 @@ ghost use Rattle.bug_record.specs.Places.{place_for, is_at};
 use std::alloc::{AllocError, Global};
 use std::marker::Model;
 
+mod nodes;
+
+pub use nodes::Nodes;
+
 /// A list of values, which contracts see as that list.
 #[derive(Debug, Drop)]
 pub struct Sequence<T> {

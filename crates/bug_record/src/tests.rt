@@ -77,6 +77,8 @@ fn a_copied_image_equals_it(rt: HostRuntime) -> Result<(), Fail> {
             package: Text::of(alloc, "dpkg")?,
             severity: Severity::Grave,
             closed: true,
+            found: Sequence::new(alloc),
+            fixed: Sequence::new(alloc),
         },
         members,
     };

@@ -1,5 +1,10 @@
 pub mod WordLemmas
+pub mod TextLemmas
 pub mod Boundaries
 pub mod NumberLemmas
 pub mod LawLemmas
 pub mod ReadingLemmas
+pub mod PlainWords
+pub mod SpacedLemmas
+pub mod SpellingLemmas
+pub mod SpellingLaw

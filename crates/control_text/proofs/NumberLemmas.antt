@@ -18,7 +18,7 @@ tells_list_all = record {
   more = λ c cs digit h. and_from (is_ascii_digit c) (list_all is_ascii_digit cs) (and_from (nat_le 48 c) (nat_le c 57) (le-leb 48 c digit.0) (le-leb c 57 digit.1)) h;
 }
 
-own : IsNumeralModel (λ ds. list_all is_ascii_digit ds ≡ true) (digits_value 10)
+pub own : IsNumeralModel (λ ds. list_all is_ascii_digit ds ≡ true) (digits_value 10)
 own = numerals_by_value (λ ds. list_all is_ascii_digit ds ≡ true) tells_list_all
 
 pub short_value : (s : List ℕ) → list_all is_ascii_digit s ≡ true → length s ≤ 9 → digits_value 10 s ≤ 999999999

@@ -1,28 +1,45 @@
--- The numbers of a line that is read are good.
-use Rattle.std.proofs.Common.{◌≡◌, ℕ, List, [], ◌∷◌, ◌==◌, Bool, true, false, Option, Result, Some, None, Ok, Err, refl, cond, sym, subst}
-use Rattle.std.specs.Prelude.{IfOk, IfSome, IsErrAnd, MatchResult, option_map, ⊤}
-use Rattle.std.specs.List.{list_any}
-use Rattle.std.proofs.lemmas.Bool.{cond_both}
-use Rattle.bug_record.specs.Texts.{is_control}
+-- What a line gives is well formed.
+use Rattle.std.proofs.Common.{◌≡◌, ℕ, ◌≤◌, List, [], ◌∷◌, length, ◌==◌, ◌&&◌, nat_lt, true, false, Option, Result, Some, None, Ok, Err, refl, cond, sym, ◌∙◌, subst, arith, codes}
+use Rattle.std.specs.Prelude.{IfOk, IfSome, is_none, option_map, ⊤}
+use Rattle.std.specs.List.{list_any, before_first, after_first, prefix_len, position_or_len}
+use Rattle.std.specs.Str.{bytes_eq}
+use Rattle.std.proofs.lemmas.Bool.{cond_both, ltb-false, false≢true}
+use Rattle.std.proofs.lemmas.Slice.Eq.{bytes_eq-Decides}
+use Rattle.debver.specs.Names.{IsName, name_fault}
+use Rattle.debver.specs.Cut.{IsVersion}
+use Rattle.debver.specs.Faults.{text_fault}
+use Rattle.ancestry.specs.Nodes.{node, is_slash, node_of}
+use Rattle.ancestry.proofs.ReadLemmas.{nodes_exactly}
+use Rattle.bug_record.specs.Texts.{is_blank, is_control, IsText}
 use Rattle.bug_record.specs.Severities.{severity_of}
+use Rattle.bug_record.specs.Commands.{IfGiven, IsGoodVersion, IsGoodPerson}
 use Rattle.bug_record.specs.declared.severity.Severity.{Severity}
-use Rattle.bug_record.specs.declared.command.Command.{Command}
-use Rattle.bug_record.specs.declared.command.Command.TheVariants.{Severity as SetSeverity, Close as CloseBug}
+use Rattle.bug_record.specs.declared.command.Command.TheVariants as commands
+use Rattle.bug_record.specs.declared.command.VersionArg.{VersionArg}
+use Rattle.bug_record.specs.declared.command.Who.{Who}
+use Rattle.bug_record.specs.declared.command.Who.TheVariants.{Sender, Given}
 use Rattle.bug_record.specs.declared.command.Refusal.{Refusal}
-use Rattle.bug_record.specs.declared.command.Refusal.TheVariants.{Malformed, BadSeverity}
+use Rattle.bug_record.specs.declared.command.Refusal.TheVariants.{Malformed, TooLong, BadSeverity, BadVersion, BadPackage}
 use Rattle.control_text.specs.declared.named.Named.{Named}
 use Rattle.control_text.specs.declared.named.Named.TheVariants.{Number, Name}
 use Rattle.control_text.specs.declared.commands.CommandWord.{CommandWord}
-use Rattle.control_text.specs.declared.commands.CommandWord.TheVariants.{Severity as SeverityWord, Close as CloseWord}
-use Rattle.control_text.specs.declared.line.Line.{Line}
-use Rattle.control_text.specs.declared.line.LineFault.{LineFault}
-use Rattle.control_text.specs.declared.line.Line.TheVariants.{Comment, Stop}
+use Rattle.control_text.specs.declared.commands.CommandWord.TheVariants as command_words
 use Rattle.control_text.specs.Numbers.{without_hash, number_of_digits}
 use Rattle.control_text.specs.Bugs.{bug_of_text, bug_of_word, IsGoodBug}
-use Rattle.control_text.specs.Words.{words}
-use Rattle.control_text.specs.Commands.{or_refuse, severity_command, close_command, command_of, command_word, HasGoodBugs}
-use Rattle.control_text.specs.Lines.{begins_hash, is_stop, line_of_command, command_reading, reading_of_words, reading, HasGoodNumbers}
+use Rattle.control_text.specs.Words.{words, trimmed, after_word, without_first_blanks}
+use Rattle.control_text.specs.Versions.{plain_version, sourced_version, version_of_word, without_src, package_of_word}
+use Rattle.control_text.specs.Commands.{or_refuse, and_read, bug_of, version_of, bug_and_version, bug_and_any_version, severity_command, any_version, package_of, reassign_words, reassign_command, who_of_text, any_who_of_text, bug_and_text, reopen_command, command_of}
+use Rattle.control_text.specs.WellFormed.{IsPlain, IsWellFormed}
 use Rattle.control_text.proofs.NumberLemmas.{number_of_digits-good}
+use Rattle.control_text.proofs.TextLemmas.{none-drop, trimmed-text}
+
+or_refuse-good : {A B : Type 0} (o : Option A) (refusal : Refusal) (f : A → Result B Refusal) (P : A → Type 0) (Q : B → Type 0) → IfSome o P → ((x : A) → P x → IfOk (f x) Q) → IfOk (or_refuse o refusal f) Q
+or_refuse-good None refusal f P Q h each = tt
+or_refuse-good (Some x) refusal f P Q h each = each x h
+
+and_read-good : {A B : Type 0} (r : Result A Refusal) (f : A → Result B Refusal) (P : A → Type 0) (Q : B → Type 0) → IfOk r P → ((x : A) → P x → IfOk (f x) Q) → IfOk (and_read r f) Q
+and_read-good (Err refusal) f P Q h each = tt
+and_read-good (Ok x) f P Q h each = each x h
 
 good_bug_by : (o : Option ℕ) (make : ℕ → Named) → ((n : ℕ) → o ≡ Some n → IsGoodBug (make n)) → IfSome (option_map make o) IsGoodBug
 good_bug_by None make h = tt
@@ -36,56 +53,153 @@ bug_of_text-good (c ∷ s) =
     (λ e. good_bug_by (number_of_digits s) Name (number_of_digits-good s))
     (λ e. good_bug_by (number_of_digits (c ∷ s)) Number (number_of_digits-good (c ∷ s)))
 
-pub bug_of_word-good : (s : List ℕ) → IfSome (bug_of_word s) IsGoodBug
-bug_of_word-good s = bug_of_text-good (without_hash s)
+bug_of-good : (s : List ℕ) → IfOk (bug_of s) IsGoodBug
+bug_of-good s = or_refuse-good (bug_of_word s) Malformed (λ bug. Ok bug) IsGoodBug IsGoodBug (bug_of_text-good (without_hash s)) (λ bug good. good)
 
-or_refuse-good : {A B : Type 0} (o : Option A) (refusal : Refusal) (f : A → Result B Refusal) (P : A → Type 0) (Q : B → Type 0) → IfSome o P → ((x : A) → P x → IfOk (f x) Q) → IfOk (or_refuse o refusal f) Q
-or_refuse-good None refusal f P Q h each = tt
-or_refuse-good (Some x) refusal f P Q h each = each x h
+-- texts that give a node are a package name and a version
+both_good : (s v : List ℕ) → (is_none (name_fault s) && is_none (text_fault v)) ≡ true → IsName s × IsVersion v
+both_good s v e =
+    let is : node_of s v ≡ Some (node s v) = subst (λ b. cond b (Some (node s v)) None ≡ Some (node s v)) (sym e) refl in
+    let both = (nodes_exactly s v (node s v)).0 is in
+    (both.1, both.2)
+
+-- `a0` is a name, so that a text by itself is seen to be a version
+pub version_good : (v : List ℕ) → is_none (text_fault v) ≡ true → IsVersion v
+version_good v e = (both_good (codes "a0") v e).1
+
+name_good : (s : List ℕ) → is_none (name_fault s) ≡ true → IsName s
+name_good s e = (both_good s (codes "0") (subst (λ b. (b && true) ≡ true) (sym e) refl)).0
+
+plain_version-good : (v : List ℕ) → IfSome (plain_version v) IsGoodVersion
+plain_version-good v =
+    cond_both (is_none (text_fault v)) (Some (record { source = None; version = v })) None (λ o. IfSome o IsGoodVersion)
+    (λ e. record { source = tt; version = version_good v e }) (λ e. tt)
+
+sourced_version-good : (s v : List ℕ) → IfSome (sourced_version s v) IsGoodVersion
+sourced_version-good s v =
+    cond_both (is_none (name_fault s) && is_none (text_fault v)) (Some (record { source = Some s; version = v })) None (λ o. IfSome o IsGoodVersion)
+    (λ e. let both = both_good s v e in record { source = both.0; version = both.1 }) (λ e. tt)
+
+version_of-good : (w : List ℕ) → IfOk (version_of w) IsGoodVersion
+version_of-good w =
+    let some : IfSome (version_of_word w) IsGoodVersion
+    = cond_both (list_any is_slash w) (sourced_version (before_first is_slash w) (after_first is_slash w)) (plain_version w) (λ o. IfSome o IsGoodVersion)
+    (λ e. sourced_version-good (before_first is_slash w) (after_first is_slash w)) (λ e. plain_version-good w) in
+    or_refuse-good (version_of_word w) BadVersion (λ version. Ok version) IsGoodVersion IsGoodVersion some (λ version good. good)
+
+package_of-good : (w : List ℕ) → IfOk (package_of w) IsName
+package_of-good w =
+    let some : IfSome (package_of_word w) IsName
+    = cond_both (is_none (name_fault (without_src w))) (Some (without_src w)) None (λ o. IfSome o IsName) (name_good (without_src w)) (λ e. tt) in
+    or_refuse-good (package_of_word w) BadPackage (λ name. Ok name) IsName IsName some (λ name good. good)
+
+any_version-good : (o : Option (List ℕ)) → IfOk (any_version o) (IfGiven IsGoodVersion)
+any_version-good None = tt
+any_version-good (Some w) = and_read-good (version_of w) (λ version. Ok (Some version)) IsGoodVersion (IfGiven IsGoodVersion) (version_of-good w) (λ version good. good)
+
+bug_and_version-good : (ws : List (List ℕ)) → IfOk (bug_and_version ws) (λ both. IsGoodBug both.0 × IsGoodVersion both.1)
+bug_and_version-good (n ∷ v ∷ []) =
+    and_read-good (bug_of n) _ IsGoodBug (λ both. IsGoodBug both.0 × IsGoodVersion both.1) (bug_of-good n) (λ bug good.
+    and_read-good (version_of v) (λ version. Ok (bug, version)) IsGoodVersion (λ both. IsGoodBug both.0 × IsGoodVersion both.1) (version_of-good v) (λ version fine. (good, fine)))
+bug_and_version-good [] = tt
+bug_and_version-good (n ∷ []) = tt
+bug_and_version-good (n ∷ v ∷ w ∷ ws) = tt
+
+abbrev given : Named × VersionArg → Result (Named × Option VersionArg) Refusal
+given both = Ok (both.0, Some both.1)
+
+given-good : (ws : List (List ℕ)) → IfOk (and_read (bug_and_version ws) given) (λ both. IsGoodBug both.0 × IfGiven IsGoodVersion both.1)
+given-good ws = and_read-good (bug_and_version ws) given (λ both. IsGoodBug both.0 × IsGoodVersion both.1) (λ both. IsGoodBug both.0 × IfGiven IsGoodVersion both.1) (bug_and_version-good ws) (λ both good. good)
+
+bug_and_any_version-good : (ws : List (List ℕ)) → IfOk (bug_and_any_version ws) (λ both. IsGoodBug both.0 × IfGiven IsGoodVersion both.1)
+bug_and_any_version-good (n ∷ []) =
+    and_read-good (bug_of n) (λ bug. Ok (bug, None)) IsGoodBug (λ both. IsGoodBug both.0 × IfGiven IsGoodVersion both.1) (bug_of-good n) (λ bug good. (good, tt))
+bug_and_any_version-good [] = tt
+bug_and_any_version-good (n ∷ v ∷ ws) = given-good (n ∷ v ∷ ws)
 
 any_severity : (o : Option Severity) → IfSome o (λ _. ⊤)
 any_severity None = tt
 any_severity (Some severity) = tt
 
-severity_command-good : (ws : List (List ℕ)) → IfOk (severity_command ws) HasGoodBugs
+severity_command-good : (ws : List (List ℕ)) → IfOk (severity_command ws) IsWellFormed
 severity_command-good (n ∷ s ∷ []) =
-    or_refuse-good (bug_of_word n) Malformed _ IsGoodBug HasGoodBugs (bug_of_word-good n) (λ bug good.
-    or_refuse-good (severity_of s) BadSeverity (λ severity. Ok (SetSeverity bug severity)) (λ _. ⊤) HasGoodBugs (any_severity (severity_of s)) (λ severity _. good))
-severity_command-good _ = tt
+    and_read-good (bug_of n) _ IsGoodBug IsWellFormed (bug_of-good n) (λ bug good.
+    or_refuse-good (severity_of s) BadSeverity (λ severity. Ok (commands.Severity bug severity)) (λ _. ⊤) IsWellFormed (any_severity (severity_of s)) (λ severity _.
+    record { bug = good; parts = tt; texts = tt }))
+severity_command-good [] = tt
+severity_command-good (n ∷ []) = tt
+severity_command-good (n ∷ s ∷ w ∷ ws) = tt
 
-close_command-good : (ws : List (List ℕ)) → IfOk (close_command ws) HasGoodBugs
-close_command-good (n ∷ []) =
-    or_refuse-good (bug_of_word n) Malformed (λ bug. Ok (CloseBug bug)) IsGoodBug HasGoodBugs (bug_of_word-good n) (λ bug good. good)
-close_command-good _ = tt
+reassign_words-good : (n p : List ℕ) (v : Option (List ℕ)) → IfOk (reassign_words n p v) IsWellFormed
+reassign_words-good n p v =
+    and_read-good (bug_of n) _ IsGoodBug IsWellFormed (bug_of-good n) (λ bug good.
+    and_read-good (package_of p) _ IsName IsWellFormed (package_of-good p) (λ name named.
+    and_read-good (any_version v) (λ version. Ok (commands.Reassign bug name version)) (IfGiven IsGoodVersion) IsWellFormed (any_version-good v) (λ version fine.
+    record { bug = good; parts = (named, fine); texts = tt })))
 
-command_of-good : (command : CommandWord) (ws : List (List ℕ)) → IfOk (command_of command ws) HasGoodBugs
-command_of-good SeverityWord ws = severity_command-good ws
-command_of-good CloseWord ws = close_command-good ws
+reassign_command-good : (ws : List (List ℕ)) → IfOk (reassign_command ws) IsWellFormed
+reassign_command-good (n ∷ p ∷ []) = reassign_words-good n p None
+reassign_command-good (n ∷ p ∷ v ∷ []) = reassign_words-good n p (Some v)
+reassign_command-good [] = tt
+reassign_command-good (n ∷ []) = tt
+reassign_command-good (n ∷ p ∷ v ∷ w ∷ ws) = tt
 
-line_of_command-good : (r : Result (Command Named) Refusal) → IfOk r HasGoodBugs → IfOk (line_of_command r) HasGoodNumbers
-line_of_command-good (Ok command) h = h
-line_of_command-good (Err refusal) h = tt
+-- somebody who can be written
+abbrev IsGoodWho : Option Who → Type 0
+IsGoodWho who = IfGiven IsGoodPerson who × IsPlain who
 
-command_reading-good : (o : Option CommandWord) (has_control : Bool) (ws : List (List ℕ)) → IfOk (command_reading o has_control ws) HasGoodNumbers
-command_reading-good None has_control ws = tt
-command_reading-good (Some command) true ws = tt
-command_reading-good (Some command) false ws = line_of_command-good (command_of command ws) (command_of-good command ws)
+unequal : (s t : List ℕ) → bytes_eq s t ≡ false → ¬ (s ≡ t)
+unequal s t e is = false≢true (sym e ∙ (bytes_eq-Decides s t).1 is)
 
-reading_of_words-good : (has_control : Bool) (ws : List (List ℕ)) → IfOk (reading_of_words has_control ws) HasGoodNumbers
-reading_of_words-good has_control [] = tt
-reading_of_words-good has_control (word ∷ ws) =
-    let P : Result Line Refusal → Type 0 = λ r. IfOk r HasGoodNumbers in
-    cond_both (begins_hash word) (Ok Comment) (cond (is_stop (word ∷ ws)) (Ok Stop) (command_reading (command_word word) has_control ws)) P (λ e. tt) (λ e.
-    cond_both (is_stop (word ∷ ws)) (Ok Stop) (command_reading (command_word word) has_control ws) P (λ f. tt) (λ f. command_reading-good (command_word word) has_control ws))
+who_of_text-good : (text : List ℕ) → bytes_eq text (codes "=") ≡ false → (length text ≤ 200 → IsText text) → IfOk (who_of_text text) (λ who. IsGoodWho (Some who))
+who_of_text-good text other good =
+    let P : Result Who Refusal → Type 0 = λ r. IfOk r (λ who. IsGoodWho (Some who)) in
+    cond_both (bytes_eq text (codes "!")) (Ok Sender) (cond (nat_lt 200 (length text)) (Err TooLong) (Ok (Given text))) P (λ e. (tt, tt)) (λ e.
+    cond_both (nat_lt 200 (length text)) (Err TooLong) (Ok (Given text)) P (λ f. tt) (λ f.
+    (good (ltb-false 200 (length text) f), (unequal text (codes "!") e, unequal text (codes "=") other))))
 
-pub reading-good : (text : List ℕ) → IfOk (reading text) HasGoodNumbers
-unfolding reading
-reading-good text = reading_of_words-good (list_any is_control text) (words text)
+any_who-good : (text : List ℕ) → (1 ≤ length text → length text ≤ 200 → IsText text) → IfOk (any_who_of_text text) IsGoodWho
+any_who-good [] good = (tt, tt)
+any_who-good (c ∷ text) good =
+    cond_both (bytes_eq (c ∷ text) (codes "=")) (Ok None) (and_read (who_of_text (c ∷ text)) (λ who. Ok (Some who))) (λ r. IfOk r IsGoodWho) (λ e. (tt, tt)) (λ e.
+    and_read-good (who_of_text (c ∷ text)) (λ who. Ok (Some who)) (λ who. IsGoodWho (Some who)) IsGoodWho (who_of_text-good (c ∷ text) e (good (omega arith))) (λ who fine. fine))
 
--- the same of an answer that is the reading, or an error where that is one
-pub good-map_err : (r : Result Line Refusal) (s : Result Line LineFault) (P : Refusal → LineFault → Type 0) → MatchResult r (λ line. s ≡ Ok line) (λ refusal. IsErrAnd s (P refusal)) → IfOk r HasGoodNumbers → IfOk s HasGoodNumbers
-good-map_err (Ok line) s P is good =
-    let Q : Result Line LineFault → Type 0 = λ t. IfOk t HasGoodNumbers in
-    subst Q (sym is) good
-good-map_err (Err refusal) (Ok line) P is good = absurd is
-good-map_err (Err refusal) (Err fault) P is good = tt
+pub clean_after_word : (text : List ℕ) → list_any is_control text ≡ false → list_any is_control (after_word text) ≡ false
+clean_after_word text clean =
+    let t = without_first_blanks text in
+    none-drop is_control (position_or_len is_blank t) t (none-drop is_control (prefix_len is_blank text) text clean)
+
+-- what follows a bug word is a text, where it has 1 to 200 bytes
+abbrev IsTextWithin : List ℕ → Type 0
+IsTextWithin text = 1 ≤ length text → length text ≤ 200 → IsText text
+
+bug_and_text-good : (arguments : List ℕ) → list_any is_control arguments ≡ false → IfOk (bug_and_text arguments) (λ both. IsGoodBug both.0 × IsTextWithin both.1)
+bug_and_text-good arguments clean =
+    let text = trimmed (after_word arguments) in
+    let good : IsTextWithin text = λ least most. trimmed-text (after_word arguments) least most (clean_after_word arguments clean) in
+    let of_bug : Named → Result (Named × List ℕ) Refusal = λ bug. Ok (bug, text) in
+    elim (words arguments) as (λ ws. IfOk {T = Named × List ℕ} (elim ws as (λ _. Result (Named × List ℕ) Refusal) [ [] ↦ Err Malformed | n ∷ more ↦ and_read (bug_of n) of_bug ]) (λ both. IsGoodBug both.0 × IsTextWithin both.1)) [
+      | [] ↦ tt
+      | n ∷ more ↦ and_read-good (bug_of n) of_bug IsGoodBug (λ both. IsGoodBug both.0 × IsTextWithin both.1) (bug_of-good n) (λ bug fine. (fine, good))
+    ]
+
+reopen_command-good : (arguments : List ℕ) → list_any is_control arguments ≡ false → IfOk (reopen_command arguments) IsWellFormed
+reopen_command-good arguments clean =
+    and_read-good (bug_and_text arguments) _ (λ both. IsGoodBug both.0 × IsTextWithin both.1) IsWellFormed (bug_and_text-good arguments clean) (λ both good.
+    and_read-good (any_who_of_text both.1) (λ who. Ok (commands.Reopen both.0 who)) IsGoodWho IsWellFormed (any_who-good both.1 good.1) (λ who fine.
+    record { bug = good.0; parts = fine.0; texts = fine.1 }))
+
+pub command_of-good : (word : CommandWord) (arguments : List ℕ) → list_any is_control arguments ≡ false → IfOk (command_of word arguments) IsWellFormed
+command_of-good command_words.Found arguments clean =
+    and_read-good (bug_and_any_version (words arguments)) (λ both. Ok (commands.Found both.0 both.1)) _ IsWellFormed (bug_and_any_version-good (words arguments)) (λ both good. record { bug = good.0; parts = good.1; texts = tt })
+command_of-good command_words.NotFound arguments clean =
+    and_read-good (bug_and_version (words arguments)) (λ both. Ok (commands.NotFound both.0 both.1)) _ IsWellFormed (bug_and_version-good (words arguments)) (λ both good. record { bug = good.0; parts = good.1; texts = tt })
+command_of-good command_words.Fixed arguments clean =
+    and_read-good (bug_and_version (words arguments)) (λ both. Ok (commands.Fixed both.0 both.1)) _ IsWellFormed (bug_and_version-good (words arguments)) (λ both good. record { bug = good.0; parts = good.1; texts = tt })
+command_of-good command_words.NotFixed arguments clean =
+    and_read-good (bug_and_version (words arguments)) (λ both. Ok (commands.NotFixed both.0 both.1)) _ IsWellFormed (bug_and_version-good (words arguments)) (λ both good. record { bug = good.0; parts = good.1; texts = tt })
+command_of-good command_words.Close arguments clean =
+    and_read-good (bug_and_any_version (words arguments)) (λ both. Ok (commands.Close both.0 both.1)) _ IsWellFormed (bug_and_any_version-good (words arguments)) (λ both good. record { bug = good.0; parts = good.1; texts = tt })
+command_of-good command_words.Reopen arguments clean = reopen_command-good arguments clean
+command_of-good command_words.Severity arguments clean = severity_command-good (words arguments)
+command_of-good command_words.Reassign arguments clean = reassign_command-good (words arguments)

@@ -61,7 +61,7 @@ drop_more_of n c s = rw one-add refl
 take_more_of : (n c : ℕ) (s : List ℕ) → take (1 + n) (c ∷ s) ≡ c ∷ take n s
 take_more_of n c s = rw one-add refl
 
-drop-blank : (c : ℕ) (s : List ℕ) → is_blank c ≡ true → drop (prefix_len is_blank (c ∷ s)) (c ∷ s) ≡ drop (prefix_len is_blank s) s
+pub drop-blank : (c : ℕ) (s : List ℕ) → is_blank c ≡ true → drop (prefix_len is_blank (c ∷ s)) (c ∷ s) ≡ drop (prefix_len is_blank s) s
 drop-blank c s e = ap (λ n. drop n (c ∷ s)) (cond-true (is_blank c) _ _ e) ∙ drop_more_of (prefix_len is_blank s) c s
 
 drop-other : (c : ℕ) (s : List ℕ) → is_blank c ≡ false → drop (prefix_len is_blank (c ∷ s)) (c ∷ s) ≡ c ∷ s

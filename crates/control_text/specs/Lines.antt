@@ -1,13 +1,14 @@
 -- The lines of a control message (the BTS page 'control and manipulation').
-use Rattle.std.specs.Prelude.{ℕ, ◌≡◌, ◌==◌, ◌&&◌, ◌||◌, codes, if◌then◌else◌, Bool, true, false, List, [], ◌∷◌, Option, Some, None, Result, Ok, Err, ⊤}
+use Rattle.std.specs.Prelude.{ℕ, ◌≡◌, ◌==◌, ◌&&◌, ◌||◌, codes, if◌then◌else◌, Bool, false, List, [], ◌∷◌, Option, Some, None, Result, Ok, Err, ⊤}
+use Rattle.std.specs.Borrow.{Bor}
 use Rattle.std.specs.List.{list_any}
 use Rattle.bug_record.specs.Texts.{is_control}
 use Rattle.bug_record.specs.Words.{is_word}
 use Rattle.bug_record.specs.declared.command.Command.{Command}
 use Rattle.bug_record.specs.declared.command.Refusal.{Refusal}
 use Rattle.bug_record.specs.declared.command.Refusal.TheVariants.{Unknown, Malformed}
-use Rattle.control_text.specs.Words.{words}
-use Rattle.control_text.specs.Commands.{command_word, command_of, HasGoodBugs}
+use Rattle.control_text.specs.Words.{words, after_word}
+use Rattle.control_text.specs.Commands.{command_word, command_of, bug_and_text}
 use Rattle.control_text.specs.declared.commands.CommandWord.{CommandWord}
 use Rattle.control_text.specs.declared.named.Named.{Named}
 use Rattle.control_text.specs.declared.line.Line.{Line}
@@ -37,32 +38,35 @@ abbrev pub line_of_command : Result (Command Named) Refusal → Result Line Refu
 line_of_command (Ok command) = Ok (Do command)
 line_of_command (Err refusal) = Err refusal
 
--- A line whose first word is this command, or none: it may hold no control character other than tab.
-abbrev pub command_reading : Option CommandWord → Bool → List (List ℕ) → Result Line Refusal
-command_reading None has_control arguments = Err Unknown
-command_reading (Some command) true arguments = Err Malformed
-command_reading (Some command) false arguments = line_of_command (command_of command arguments)
+-- A line whose first word is this command, or none: it may hold no control character other than tab. The arguments are the
+-- text after that word.
+abbrev pub command_reading : Option CommandWord → List ℕ → Result Line Refusal
+command_reading None text = Err Unknown
+command_reading (Some command) text =
+    if list_any is_control text then Err Malformed
+    else line_of_command (command_of command (after_word text))
 
 -- What a line of these words says: the first of these cases that fits. That only a command's line is tested for control
 -- characters is this project's own rule.
-abbrev pub reading_of_words : Bool → List (List ℕ) → Result Line Refusal
-reading_of_words has_control [] = Ok Blank
-reading_of_words has_control (word ∷ arguments) =
+abbrev pub reading_of_words : List ℕ → List (List ℕ) → Result Line Refusal
+reading_of_words text [] = Ok Blank
+reading_of_words text (word ∷ arguments) =
     if begins_hash word then Ok Comment
     else if is_stop (word ∷ arguments) then Ok Stop
-    else command_reading (command_word word) has_control arguments
+    else command_reading (command_word word) text
 
 -- The line, or the refusal, that a text gives: every text gives just one.
 unfoldable pub reading : List ℕ → Result Line Refusal
-reading text = reading_of_words (list_any is_control text) (words text)
+reading text = reading_of_words text (words text)
 
--- what is answered is the reading, unless there was no memory
-abbrev pub IsReading : Result Line Refusal → Result Line LineFault → Type 0
-IsReading answer (Ok line) = answer ≡ Ok line
-IsReading answer (Err (Refused refusal)) = answer ≡ Err refusal
-IsReading answer (Err Memory) = ⊤
+-- what is answered is what is read, unless there was no memory
+abbrev pub Reads : {A : Type 0} → Result A Refusal → Result A LineFault → Type 0
+Reads answer (Ok value) = answer ≡ Ok value
+Reads answer (Err (Refused refusal)) = answer ≡ Err refusal
+Reads answer (Err Memory) = ⊤
 
--- the numbers and names of a line's command are from 1 to 999,999,999
-abbrev pub HasGoodNumbers : Line → Type 0
-HasGoodNumbers (Do command) = HasGoodBugs command
-HasGoodNumbers _ = ⊤
+-- the same of a bug and the text after it, which is a part of the text that is read
+abbrev pub ReadsBug : List ℕ → Result (Named × Bor (List ℕ)) LineFault → Type 0
+ReadsBug arguments (Ok both) = bug_and_text arguments ≡ Ok (both.0, both.1.now)
+ReadsBug arguments (Err (Refused refusal)) = bug_and_text arguments ≡ Err refusal
+ReadsBug arguments (Err Memory) = ⊥

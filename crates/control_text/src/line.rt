@@ -2,13 +2,14 @@
 
 ghost use Rattle.std.specs.Prelude.{◌≡◌, ◌∷◌, IfOk};
 ghost use Rattle.control_text.specs.Words.{words};
-ghost use Rattle.control_text.specs.Lines.{begins_hash, is_stop_word, is_stop, reading, IsReading, HasGoodNumbers};
+ghost use Rattle.control_text.specs.Lines.{begins_hash, is_stop_word, is_stop, reading, Reads};
+ghost use Rattle.control_text.specs.WellFormed.{IsWellFormedLine};
 
 use crate::commands::{command_word, read_command};
 use crate::named::Named;
-use crate::words::{has_control, split_word};
+use crate::words::{has_control, next_word, split_word};
 use bug_record::{Command, Refusal, is_word};
-use std::alloc::Global;
+use std::alloc::{AllocError, Global};
 
 /// What a line says.
 #[derive(Debug, PartialEq, Eq, Drop)]
@@ -49,6 +50,17 @@ fn is_stop_word(word: &str) -> bool
         || is_word(word, "--")
 }
 
+impl From<AllocError> for LineFault {
+    ghost use Rattle.std.specs.Prelude.{◌≡◌};
+    ghost use Rattle.control_text.specs.declared.line.LineFault.TheVariants.{Memory};
+
+    ghost from_gives = { λ _ e. e ≡ Memory };
+
+    fn from(_error: AllocError) -> LineFault {
+        LineFault::Memory
+    }
+}
+
 // Whether the first word and the text after it are a stop.
 fn is_stop(word: &str, rest: &str) -> bool
     ensures { result ≡ is_stop (word.now ∷ words rest.now) }
@@ -62,14 +74,22 @@ fn is_stop(word: &str, rest: &str) -> bool
     is_word(word, "thank") && is_word(second, "you")
 }
 
-// The line, or the refusal, that the text gives.
+/// What a line of a control message says, or why it is refused (the BTS page 'control and manipulation'). The line is given
+/// without its end.
+///
+/// # Errors
+///
+/// `Refused` with the refusal that the line has, of those that need no desk: `Unknown`, `Malformed`, `TooLong`,
+/// `BadSeverity`, `BadVersion`, `BadPackage`. `Memory` where there was none.
 #[tactic(auto, unfolding(crate::specs::Lines::reading))]
-fn reading_of(text: &str) -> Result<Line, Refusal>
-    ensures { result ≡ reading text.now }
+pub fn read_line(alloc: Global, text: &str) -> Result<Line, LineFault>
+    ensures exact { Reads (reading text.now) result }
+    ensures well_formed { IfOk result IsWellFormedLine }
 {
-    let Some((word, rest)) = split_word(text) else {
+    let (word, rest) = next_word(text);
+    if word.is_empty() {
         return Ok(Line::Blank);
-    };
+    }
     if begins_hash(word) {
         return Ok(Line::Comment);
     }
@@ -77,19 +97,13 @@ fn reading_of(text: &str) -> Result<Line, Refusal>
         return Ok(Line::Stop);
     }
     let Some(command) = command_word(word) else {
-        return Err(Refusal::Unknown);
+        return Err(LineFault::Refused(Refusal::Unknown));
     };
     if has_control(text) {
-        return Err(Refusal::Malformed);
+        return Err(LineFault::Refused(Refusal::Malformed));
     }
-    Ok(Line::Do(read_command(command, rest)?))
-}
-
-/// What a line of a control message says, or why it is refused. The line is given without its end. The commands so far
-/// take no memory.
-pub fn read_line(_alloc: Global, text: &str) -> Result<Line, LineFault>
-    ensures exact { IsReading (reading text.now) result }
-    ensures in_range { IfOk result HasGoodNumbers }
-{
-    reading_of(text).map_err(LineFault::Refused)
+    match read_command(alloc, command, rest) {
+        Ok(command) => Ok(Line::Do(command)),
+        Err(fault) => Err(fault),
+    }
 }

@@ -2,7 +2,7 @@
 
 use crate::named::bug_word;
 use crate::{Line, LineFault, Named, next_word, number_word, read_line, trim};
-use bug_record::{Command, Refusal, Severity};
+use bug_record::Refusal;
 
 #[test]
 fn blank_lines_comments_and_stops(rt: HostRuntime) {
@@ -40,10 +40,23 @@ fn lines_that_are_refused(rt: HostRuntime) {
         ("severity x bogus", Refusal::Malformed),
         ("severity 1", Refusal::Malformed),
         ("severity 1 grave now", Refusal::Malformed),
-        ("close 1 1.0", Refusal::Malformed),
-        ("close 1\u{7}", Refusal::Malformed),
-        ("close", Refusal::Malformed),
         ("severity 1 bogus", Refusal::BadSeverity),
+        ("close", Refusal::Malformed),
+        ("close 1\u{7}", Refusal::Malformed),
+        ("close 1 1.0 2.0", Refusal::Malformed),
+        ("found", Refusal::Malformed),
+        ("found 1 1.0 2.0", Refusal::Malformed),
+        ("notfound 1", Refusal::Malformed),
+        ("fixed 1", Refusal::Malformed),
+        ("notfixed 1", Refusal::Malformed),
+        ("fixed x 1_0", Refusal::Malformed),
+        ("reopen", Refusal::Malformed),
+        ("reopen ann 1", Refusal::Malformed),
+        ("reopen 1 ann\u{7f}", Refusal::Malformed),
+        ("reassign 1", Refusal::Malformed),
+        ("reassign 1 foo 1 2", Refusal::Malformed),
+        ("reassign 1 Foo 1 2", Refusal::Malformed),
+        ("reassign x Foo 1_0", Refusal::Malformed),
     ];
     for (text, refusal) in cases {
         assert!(rt;
@@ -54,26 +67,27 @@ fn lines_that_are_refused(rt: HostRuntime) {
 }
 
 #[test]
-fn commands_are_read(rt: HostRuntime) {
+fn the_leftmost_wrong_word_decides(rt: HostRuntime) {
     let cases = [
-        (
-            "SEVERITY  #007 Grave",
-            Command::Severity(Named::Number(7), Severity::Grave),
-        ),
-        (
-            "\tseverity -1\tminor ",
-            Command::Severity(Named::Name(1), Severity::Minor),
-        ),
-        (
-            "Close 999999999",
-            Command::Close(Named::Number(999_999_999)),
-        ),
-        ("close -1", Command::Close(Named::Name(1))),
-        ("close #-01", Command::Close(Named::Name(1))),
+        ("close 1 Foo/1", Refusal::BadVersion),
+        ("found 1 src:foo/1", Refusal::BadVersion),
+        ("found 1 foo/1/2", Refusal::BadVersion),
+        ("found 1 foo/", Refusal::BadVersion),
+        ("found 1 /1", Refusal::BadVersion),
+        ("notfound 1 1.0_2", Refusal::BadVersion),
+        ("fixed 1 1.0-", Refusal::BadVersion),
+        ("notfixed 1 :1", Refusal::BadVersion),
+        ("reassign 1 Foo 1_0", Refusal::BadPackage),
+        ("reassign 1 bar 1_0", Refusal::BadVersion),
+        ("reassign 1 bar Foo/1", Refusal::BadVersion),
+        ("reassign 1 a", Refusal::BadPackage),
+        ("reassign 1 src:", Refusal::BadPackage),
+        ("reassign 1 src:src:foo", Refusal::BadPackage),
+        ("reassign 1 SRC:foo", Refusal::BadPackage),
     ];
-    for (text, command) in cases {
+    for (text, refusal) in cases {
         assert!(rt;
-            read_line(rt.alloc(), text) == Ok(Line::Do(command)),
+            read_line(rt.alloc(), text) == Err(LineFault::Refused(refusal)),
             "{text}"
         );
     }

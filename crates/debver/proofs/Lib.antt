@@ -4,3 +4,8 @@ pub mod Cuts
 pub mod Faultless
 pub mod CutLaws
 pub mod NameLaws
+pub mod KeySteps
+pub mod KeyNumbers
+pub mod KeyParts
+pub mod WalkSteps
+pub mod NotGreater

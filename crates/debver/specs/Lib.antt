@@ -3,3 +3,8 @@ pub mod Parts
 pub mod Cut
 pub mod Faults
 pub mod Names
+pub mod Keys
+pub mod Walk
+pub mod Versions
+pub mod KeyLaws
+pub mod OrderLaws

@@ -1,10 +1,13 @@
 //! The parts of a version text.
 
-ghost use Rattle.std.specs.Prelude.{◌≡◌, ◌++◌, Some, None, MatchResult};
+ghost use Rattle.std.specs.Prelude.{◌≡◌, ◌++◌, [], Some, None, MatchResult, IsTrue, unwrap_or};
+ghost use Rattle.std.specs.List.{list_all};
 ghost use Rattle.std.specs.Option.{option_copied};
+ghost use Rattle.debver.specs.Characters.{is_digit};
 ghost use Rattle.debver.specs.Parts.{epoch_text, revision_text, PrecedesFirstColon, FollowsLastHyphen};
 ghost use Rattle.debver.specs.Cut.{cut, IsVersion};
 ghost use Rattle.debver.specs.Faults.{text_fault};
+ghost use Rattle.debver.specs.Versions.{revision_or_zero};
 
 use crate::fault::{VersionFault, first_fault};
 use std::marker::Model;
@@ -61,6 +64,27 @@ impl<'a> Parts<'a> {
         ensures { option_copied result ≡ (cut self.now).revision }
     {
         self.revision
+    }
+
+    // The digits of the epoch, of which there are none where it is absent.
+    pub(crate) fn epoch_digits(&self) -> &'a [u8]
+        ensures value { result.now ≡ unwrap_or (cut self.now).epoch [] }
+        ensures digits { IsTrue (list_all is_digit result.now) }
+    {
+        match self.epoch {
+            Some(epoch) => epoch.as_bytes(),
+            None => &[],
+        }
+    }
+
+    // The revision, and `0` where it is absent.
+    pub(crate) fn revision_or_zero(&self) -> &'a [u8]
+        ensures { result.now ≡ revision_or_zero (cut self.now) }
+    {
+        match self.revision {
+            Some(revision) => revision.as_bytes(),
+            None => b"0",
+        }
     }
 }
 

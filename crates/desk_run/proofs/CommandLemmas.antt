@@ -13,7 +13,9 @@ use Rattle.bug_core.proofs.ChangedLemmas.{changed-on_desk}
 use Rattle.bug_record.specs.declared.bug.Member.{Member}
 use Rattle.bug_record.specs.declared.bug.SetImage.{SetImage}
 use Rattle.bug_record.specs.declared.command.Change.{Change}
+use Rattle.bug_record.specs.Commands.{HasGoodParts, command_over}
 use Rattle.bug_record.specs.declared.command.Command.{Command}
+use Rattle.bug_record.specs.declared.command.Command.TheVariants as commands
 use Rattle.bug_record.specs.declared.command.Refusal.{Refusal}
 use Rattle.control_text.specs.declared.named.Named.{Named}
 use Rattle.desk_text.specs.declared.outcome.Outcome.{Outcome}
@@ -107,4 +109,15 @@ unchanged d images sets next change numbers e a p none same =
     let o = (changed-on_desk d images change.images change.next numbers p.replaces b).others in
     let f : (n : ℕ) → (put d change).bug n ≡ d.bug n = λ n. sym (o n (ap (λ w. has w n) none)) in
     let m : change.next ≡ d.next = same ∙ sym p.next_is in
-    λ i. record { bug = λ n. f n i; next = m i }
+    λ i. record { bug = λ n. f n i; tree = d.tree; next = m i }
+
+-- the parts of a command that is meant are those of the command
+pub parts-meant : {N M : Type 0} (f : N → M) (command : Command N) → HasGoodParts command → HasGoodParts (command_over f command)
+parts-meant f (commands.Found n version) h = h
+parts-meant f (commands.NotFound n version) h = h
+parts-meant f (commands.Fixed n version) h = h
+parts-meant f (commands.NotFixed n version) h = h
+parts-meant f (commands.Close n version) h = h
+parts-meant f (commands.Reopen n who) h = h
+parts-meant f (commands.Severity n severity) h = h
+parts-meant f (commands.Reassign n package_name version) h = h

@@ -5,6 +5,7 @@ pub mod MachineLemmas
 pub mod ReportLemmas
 pub mod WrittenLemmas
 pub mod PartLemmas
+pub mod BranchLemmas
 pub mod RunLemmas
 pub mod ScriptLemmas
 pub mod ReadingLemmas

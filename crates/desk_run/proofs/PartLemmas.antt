@@ -1,6 +1,6 @@
 -- Parts of a script, carried out one at a time.
 use Rattle.std.proofs.Common.{◌≡◌, inl, inr, ℕ, Bool, true, ◌<◌, length, List, take, sym, ◌∙◌, ap, subst, refl, Option, Some, None, Result, Ok, Err}
-use Rattle.std.specs.Prelude.{◌||◌}
+use Rattle.std.specs.Prelude.{◌||◌, OnOk, OnErr}
 use Rattle.std.proofs.lemmas.Option.{none-some, same_Some}
 use Rattle.std.specs.Io.KnownBytes.{Appends}
 use Rattle.bug_record.specs.Desk.{Desk}
@@ -13,10 +13,11 @@ use Rattle.desk_store.specs.Message.{Entry, Machine, machine, after_lines, at_st
 use Rattle.desk_run.specs.Transcripts.{received_text}
 use Rattle.desk_run.specs.Reports.{report_of, IsReported, faults_after_report}
 use Rattle.desk_run.specs.Script.{Part, Message, DirectiveLine, Directive, Report, Standing, standing, part_text, part_after, message_text, after_message, refuses, directive_of, directive_text, after_directive, report_text, after_report}
-use Rattle.desk_run.specs.Running.{AsksStore, FaultsIn, IsCarried, StopsIn}
+use Rattle.desk_run.specs.Running.{AsksStore, FaultsIn, IsCarried, StopsIn, Carries}
 use Rattle.desk_run.specs.Answers.{fault_of_end, report_answer, store_fault}
 use Rattle.desk_run.specs.declared.reporting.ReportFault.{ReportFault}
 use Rattle.desk_run.specs.declared.reporting.ReportFault.TheVariants as reports
+use Rattle.desk_run.specs.declared.fault.ScriptFault.{ScriptFault}
 use Rattle.desk_run.specs.declared.fault.ScriptFault.TheVariants as stops
 use Rattle.desk_run.proofs.WrittenLemmas.{appends_none}
 
@@ -67,7 +68,7 @@ received_whole lines s outcomes ends.TooManyUnreadable d refused e r h = let w =
 received_whole lines s outcomes (ends.Store fault k) d refused e r h = absurd (none-some fault (sym e))
 
 -- a directive, by what its line says
-order_is : (line : List ℕ) (s : Standing) (directive : Directive) → directive_of line ≡ directive → (part_text (DirectiveLine line) s ≡ directive_text directive s) × (part_after (DirectiveLine line) s ≡ after_directive directive s)
+pub order_is : (line : List ℕ) (s : Standing) (directive : Directive) → directive_of line ≡ directive → (part_text (DirectiveLine line) s ≡ directive_text directive s) × (part_after (DirectiveLine line) s ≡ after_directive directive s)
 unfolding part_text part_after
 order_is line s directive e = (ap (λ (d : Directive). directive_text d s) e, ap (λ (d : Directive). after_directive d s) e)
 
@@ -82,6 +83,21 @@ pub order_unwritten : (line : List ℕ) (s : Standing) (d : Desk) (c0 c1 : Optio
 order_unwritten line s d c0 c1 text n directive e f t few h =
     let o = order_is line s directive (sym e) in
     (text, n, few, inl (f ∙ sym (ap (λ (x : Standing). x.desk) o.1), t ∙ sym o.0), h)
+
+-- a directive that is refused before the store is asked
+abbrev fault_of : ScriptFault → Result (Unit {0}) ScriptFault → ScriptFault
+fault_of other (Ok done) = other
+fault_of other (Err fault) = fault
+
+pub order_refused : (line : List ℕ) (s : Standing) (sender : List ℕ) (refused : Bool) (c0 c1 : Option (List ℕ)) (text : List ℕ) (directive : Directive) (r : Result (Unit {0}) ScriptFault)
+    → directive ≡ directive_of line → after_directive directive s ≡ standing s.desk s.sender true → text ≡ directive_text directive s
+    → OnOk r (Appends c0 c1 text) → OnErr r ((n : ℕ) × (n < length text) × Appends c0 c1 (take n text)) → OnErr r (r ≡ Err stops.Write) → OnOk r (refused ≡ true) → sender ≡ s.sender
+    → Carries (DirectiveLine line) s (standing s.desk sender refused) c0 c1 r
+order_refused line s sender refused c0 c1 text directive (Ok done) e after t all some write told same =
+    order_done line s (standing s.desk sender refused) c0 c1 text directive e ((λ i. standing s.desk (same i) (told i)) ∙ sym after) t all
+order_refused line s sender refused c0 c1 text directive (Err fault) e after t all some write told same =
+    subst (λ (f : ScriptFault). StopsIn (DirectiveLine line) s s.desk c0 c1 f) (sym (ap (fault_of fault) write))
+    (order_unwritten line s s.desk c0 c1 text some.0 directive e (ap (λ (x : Standing). x.desk) (sym after)) t some.1 some.2)
 
 -- want of memory before anything was done
 pub not_begun : (part : Part) (s : Standing) (d : Desk) (c : Option (List ℕ)) → d ≡ s.desk → StopsIn part s d c c stops.Memory

@@ -7,12 +7,12 @@ use Rattle.bug_record.specs.Steps.{reported}
 use Rattle.bug_record.specs.declared.severity.Severity.{Severity}
 use Rattle.desk_run.specs.declared.reporting.ReportFault.{ReportFault}
 use Rattle.desk_run.specs.declared.reporting.ReportFault.TheVariants.{BadPackage, BadVersion, BadSeverity, BadTitle, Full, Store}
-use Rattle.desk_run.specs.Reports.{report_severity, desk_reported, report_of, IsOfWords, IsReported, faults_after_report}
+use Rattle.desk_run.specs.Reports.{node_reported, report_severity, desk_reported, report_of, IsOfWords, IsReported, faults_after_report}
 
 -- words that are refused
 words_of : (sender p : List ℕ) (v : Option (List ℕ)) (s t : List ℕ) (d : Desk) (fault : ReportFault) → Err fault ≡ report_severity p v s t → report_of d sender p v s t ≡ Err fault
 unfolding report_of
-words_of sender p v s t d fault e = ap (λ r. desk_reported r d sender p t) (sym e)
+words_of sender p v s t d fault e = ap (λ r. desk_reported r d sender p v t) (sym e)
 
 pub words_refused : (sender p : List ℕ) (v : Option (List ℕ)) (s t : List ℕ) (d : Desk) (fault : ReportFault) → IsOfWords fault → Err fault ≡ report_severity p v s t → IsReported sender p v s t d (Err fault) d
 words_refused sender p v s t d BadPackage o e = (words_of sender p v s t d BadPackage e, refl)
@@ -36,15 +36,15 @@ unfolding report_of
 report_full sender p v s t d e severity next w n le =
     let m : d.next ≡ next = sym n.0 in
     let b : nat_lt d.next 1000000000 ≡ false = grind (arith, nat_tests) in
-    (ap (λ r. desk_reported r d sender p t) (sym w) ∙ ap (λ (x : Bool). if x then Ok (reported d sender p severity t) else Err Full) b, n.1)
+    (ap (λ r. desk_reported r d sender p v t) (sym w) ∙ ap (λ (x : Bool). if x then Ok (reported d sender p severity t (node_reported p v)) else Err Full) b, n.1)
 
 -- the new bug is there
-pub report_done : (sender p : List ℕ) (v : Option (List ℕ)) (s t : List ℕ) (d e new : Desk) (severity : Severity) (next : ℕ) → Ok severity ≡ report_severity p v s t → (next ≡ d.next) × (e ≡ d) → next < 1000000000 → new ≡ reported e sender p severity t → IsReported sender p v s t d (Ok next) new
+pub report_done : (sender p : List ℕ) (v : Option (List ℕ)) (s t : List ℕ) (d e new : Desk) (severity : Severity) (next : ℕ) → Ok severity ≡ report_severity p v s t → (next ≡ d.next) × (e ≡ d) → next < 1000000000 → new ≡ reported e sender p severity t (node_reported p v) → IsReported sender p v s t d (Ok next) new
 unfolding report_of
 report_done sender p v s t d e new severity next w n lt is =
     let m : d.next ≡ next = sym n.0 in
     let b : nat_lt d.next 1000000000 ≡ true = grind (arith, nat_tests) in (
-      ap (λ r. desk_reported r d sender p t) (sym w) ∙ (ap (λ (x : Bool). if x then Ok (reported d sender p severity t) else Err Full) b
-          ∙ ap Ok (ap (λ (z : Desk). reported z sender p severity t) (sym n.1) ∙ sym is)),
+      ap (λ r. desk_reported r d sender p v t) (sym w) ∙ (ap (λ (x : Bool). if x then Ok (reported d sender p severity t (node_reported p v)) else Err Full) b
+          ∙ ap Ok (ap (λ (z : Desk). reported z sender p severity t (node_reported p v)) (sym n.1) ∙ sym is)),
       n.0,
     )

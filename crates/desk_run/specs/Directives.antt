@@ -1,10 +1,12 @@
 -- The directive that the code's value says.
 use Rattle.std.specs.Option.{option_copied}
+use Rattle.control_text.specs.Words.{words}
 use Rattle.desk_run.specs.Script as script
 use Rattle.desk_run.specs.declared.directive.Directive.{Directive}
-use Rattle.desk_run.specs.declared.directive.Directive.TheVariants.{From, Report, Bad}
+use Rattle.desk_run.specs.declared.directive.Directive.TheVariants.{From, Report, Branch, Bad}
 
 abbrev pub said : Directive → script.Directive
 said (From sender) = script.From sender.now
 said (Report words) = script.Report words.package.now (option_copied words.version) words.severity.now words.title.now
+said (Branch rest) = script.Branch (words rest.now)
 said Bad = script.Bad

@@ -3,6 +3,7 @@ pub mod Taking
 pub mod Lines
 pub mod Transcripts
 pub mod Reports
+pub mod Branches
 pub mod Script
 pub mod Directives
 pub mod Reading

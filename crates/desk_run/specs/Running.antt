@@ -1,5 +1,5 @@
 -- What running a script leaves and has written, at its end and at each fault. This project's own rule.
-use Rattle.std.specs.Prelude.{ℕ, ◌≡◌, ◌⊎◌, ◌+◌, ◌<◌, ◌≤◌, List, [], ◌∷◌, ◌++◌, length, take, map, Option, Result, Ok, Err, ⊤}
+use Rattle.std.specs.Prelude.{ℕ, ◌≡◌, ◌⊎◌, ◌+◌, ◌<◌, ◌≤◌, List, [], ◌∷◌, ◌++◌, length, take, map, Option, Some, Result, Ok, Err, ⊤}
 use Rattle.std.specs.Io.KnownBytes.{Appends}
 use Rattle.std.specs.Str.{IsUtf8}
 use Rattle.bug_record.specs.Sets.{Each}
@@ -12,9 +12,11 @@ use Rattle.desk_store.specs.Message.{Entry, IsReceived}
 use Rattle.desk_run.specs.Lines.{raw_lines, without_return}
 use Rattle.desk_run.specs.Reading.{IsGoodLine}
 use Rattle.desk_run.specs.Transcripts.{received_text}
-use Rattle.desk_run.specs.Script.{Part, Message, DirectiveLine, Directive, From, Report, Bad, directive_of, Standing, parts_of, script_of, part_text, part_after, text_of, after_parts, end_of_script}
+use Rattle.desk_run.specs.Script.{Part, Message, DirectiveLine, Directive, From, Report, Branch, Bad, directive_of, Standing, parts_of, script_of, part_text, part_after, text_of, after_parts, end_of_script}
 use Rattle.bug_record.specs.declared.severity.Severity.{Severity}
+use Rattle.ancestry.specs.Nodes.{Node}
 use Rattle.desk_run.specs.Reports.{report_severity}
+use Rattle.desk_run.specs.Branches.{nodes_of}
 use Rattle.desk_run.specs.declared.fault.ScriptFault.{ScriptFault}
 use Rattle.desk_run.specs.declared.fault.ScriptFault.TheVariants.{Read, Write, NotUtf8, LineTooLong, Memory, Store}
 use Rattle.desk_run.specs.declared.script.ScriptEnd.{ScriptEnd}
@@ -23,14 +25,15 @@ use Rattle.desk_run.specs.declared.script.ScriptEnd.{ScriptEnd}
 abbrev pub Runs : List Part → Standing → Standing → Option (List ℕ) → Option (List ℕ) → Type 0
 Runs parts a b c0 c1 = (b ≡ after_parts parts a) × Appends c0 c1 (text_of parts a)
 
--- a directive that asks the store: a report whose words are good
+-- a directive that asks the store: a report whose words are good, or a branch whose words are nodes
 abbrev pub AsksStore : Directive → Type 0
 AsksStore (Report package_name version severity title) = (s : Severity) × (report_severity package_name version severity title ≡ Ok s)
+AsksStore (Branch words) = (nodes : List Node) × (nodes_of words ≡ Some nodes)
 AsksStore (From sender) = ⊥
 AsksStore Bad = ⊥
 
--- The store failed in a part: a message was received up to a line, and its text ends with the fault's; a report changed
--- nothing, and its text is the fault's.
+-- The store failed in a part: a message was received up to a line, and its text ends with the fault's; a report or
+-- a branch changed nothing, and its text is the fault's.
 abbrev pub FaultsIn : Part → Standing → StoreFault → Desk → List ℕ → Type 0
 FaultsIn (Message lines) s fault d text =
     (outcomes : List Entry) × (k : ℕ) × IsReceived s.sender lines s.desk outcomes (ends.Store fault k) d × (text ≡ received_text outcomes (ends.Store fault k) lines)

@@ -5,7 +5,7 @@ use Rattle.std.specs.Str.{bytes_eq}
 use Rattle.std.specs.Fmt.{decimal}
 use Rattle.bug_record.specs.Texts.{is_text, IsText}
 use Rattle.bug_record.specs.Desk.{Desk}
-use Rattle.control_text.specs.Words.{has_bytes, trimmed, first_word, after_word}
+use Rattle.control_text.specs.Words.{has_bytes, words, trimmed, first_word, after_word}
 use Rattle.desk_text.specs.Texts.{as_line}
 use Rattle.desk_text.specs.declared.outcome.Outcome.{Outcome}
 use Rattle.desk_text.specs.declared.outcome.Outcome.TheVariants.{Refused}
@@ -14,7 +14,9 @@ use Rattle.desk_text.specs.declared.outcome.End.TheVariants as ends
 use Rattle.desk_store.specs.Message.{Entry, Machine, after_lines, at_start, end_of}
 use Rattle.desk_run.specs.Lines.{lines_of}
 use Rattle.desk_run.specs.Transcripts.{received_text}
+use Rattle.ancestry.specs.Trees.{Ancestry}
 use Rattle.desk_run.specs.Reports.{report_of}
+use Rattle.desk_run.specs.Branches.{BranchRefusal, branch_of, refusal_text}
 use Rattle.desk_run.specs.declared.reporting.ReportFault.{ReportFault}
 use Rattle.desk_run.specs.declared.reporting.ReportFault.TheVariants.{BadPackage, BadVersion, BadSeverity, BadTitle, Full, Store}
 use Rattle.desk_run.specs.declared.script.ScriptEnd.{ScriptEnd}
@@ -49,6 +51,7 @@ script_of input = parts_of (lines_of input)
 pub data Directive : Type 0 where
   From : List ℕ → Directive
   Report : List ℕ → Option (List ℕ) → List ℕ → List ℕ → Directive
+  Branch : List (List ℕ) → Directive
   Bad : Directive
 
 -- `@from TEXT`, where the text has 1 to 200 bytes
@@ -74,6 +77,7 @@ unfoldable pub directive_of : List ℕ → Directive
 directive_of line =
     if bytes_eq (first_word line) (codes "@from") then from_directive (trimmed (after_word line))
     else if bytes_eq (first_word line) (codes "@report") then report_directive (after_word line)
+    else if bytes_eq (first_word line) (codes "@branch") then Branch (words (after_word line))
     else Bad
 
 -- a sender is a text of 1 to 200 bytes
@@ -112,15 +116,26 @@ abbrev pub after_report : Result Desk ReportFault → Standing → Standing
 after_report (Ok new) s = standing new s.sender s.refused
 after_report (Err refusal) s = standing s.desk s.sender true
 
+-- the answer to a branch: `OK`, or the refusal
+abbrev pub branch_text : Result Ancestry BranchRefusal → List ℕ
+branch_text (Ok tree) = as_line (codes "OK")
+branch_text (Err refusal) = as_line (codes "NO " ++ refusal_text refusal)
+
+abbrev pub after_branch : Result Ancestry BranchRefusal → Standing → Standing
+after_branch (Ok tree) s = standing (record s.desk { tree = tree }) s.sender s.refused
+after_branch (Err refusal) s = standing s.desk s.sender true
+
 -- what is written for a directive, and where the script stands after it
 abbrev pub directive_text : Directive → Standing → List ℕ
 directive_text (From sender) s = []
 directive_text (Report package_name version severity title) s = report_text (report_of s.desk s.sender package_name version severity title) s.desk.next
+directive_text (Branch words) s = branch_text (branch_of s.desk.tree words)
 directive_text Bad s = as_line (codes "Bad directive.")
 
 abbrev pub after_directive : Directive → Standing → Standing
 after_directive (From sender) s = standing s.desk sender s.refused
 after_directive (Report package_name version severity title) s = after_report (report_of s.desk s.sender package_name version severity title) s
+after_directive (Branch words) s = after_branch (branch_of s.desk.tree words) s
 after_directive Bad s = standing s.desk s.sender true
 
 -- whether an answer `NO ..` or `Too many unreadable lines.` is among those of a message

@@ -1,13 +1,15 @@
-//! What is written for a report, and what a message's outcomes say of a script.
+//! What is written for a report and for a branch, and what a message's outcomes say of a script.
 
-ghost use Rattle.std.specs.Prelude.{◌≡◌, ◌++◌, IfOk};
+ghost use Rattle.std.specs.Prelude.{◌≡◌, ◌++◌, codes, IfOk};
 ghost use Rattle.std.specs.List.{list_any};
 ghost use Rattle.desk_text.specs.Texts.{as_line};
+ghost use Rattle.desk_run.specs.Branches.{fault_words};
 ghost use Rattle.desk_run.specs.Script.{refused_text, is_refused, is_too_many, refuses};
-ghost use Rattle.desk_run.specs.Answers.{report_answer, fault_of_end, store_fault};
+ghost use Rattle.desk_run.specs.Answers.{report_answer, branch_answer, refuses_branch, fault_of_branch, fault_of_end, store_fault};
 
 use crate::message::Received;
 use crate::reporting::ReportFault;
+use ancestry::BranchFault;
 use debver::Text;
 use desk_text::{End, Outcome, StoreFault, fault_text};
 use std::alloc::{AllocError, Global};
@@ -51,6 +53,43 @@ pub(crate) fn report_answer(
             Ok(text)
         }
         Err(refusal) => line_of(alloc, "NO ", refused_text(*refusal)),
+    }
+}
+
+// The line of a refused branch.
+fn branch_refusal(alloc: Global, refusal: BranchFault) -> Result<Vec<u8>, AllocError>
+    ensures { IfOk result (λ text. text.items ≡ as_line (codes "NO " ++ fault_words refusal)) }
+{
+    match refusal {
+        BranchFault::EmptyBranch => line_of(alloc, "NO ", "empty branch"),
+        BranchFault::TooLong => line_of(alloc, "NO ", "more than 200 versions"),
+        BranchFault::Repeated(place) => {
+            let place = format!(in alloc; "{place}")?;
+            line_of(alloc, "NO repeated version at ", place.as_str())
+        }
+        BranchFault::Conflict(place) => {
+            let place = format!(in alloc; "{place}")?;
+            line_of(alloc, "NO conflict at ", place.as_str())
+        }
+        BranchFault::Memory => line_of(alloc, "NO ", ""),
+    }
+}
+
+/// The line that answers a branch.
+pub(crate) fn branch_answer(
+    alloc: Global,
+    answer: &Result<Result<(), BranchFault>, StoreFault>,
+) -> Result<Vec<u8>, AllocError>
+    ensures { IfOk result (λ text. text.items ≡ branch_answer answer.now) }
+{
+    match answer {
+        Ok(Ok(())) => line_of(alloc, "OK", ""),
+        Ok(Err(refusal)) => branch_refusal(alloc, *refusal),
+        Err(fault) => {
+            let mut text = Vec::new(alloc);
+            fault_text(alloc, &mut text, *fault)?;
+            Ok(text)
+        }
     }
 }
 
@@ -102,5 +141,27 @@ pub(crate) fn store_fault(fault: ReportFault) -> Option<StoreFault>
     match fault {
         ReportFault::Store(fault) => Some(fault),
         _ => None,
+    }
+}
+
+/// Whether a branch is refused.
+pub(crate) fn refuses_branch(answer: &Result<Result<(), BranchFault>, StoreFault>) -> bool
+    ensures { result ≡ refuses_branch answer.now }
+{
+    match answer {
+        Ok(Err(_)) => true,
+        _ => false,
+    }
+}
+
+/// The fault of the store at which a branch ended, if it was that.
+pub(crate) fn fault_of_branch(
+    answer: &Result<Result<(), BranchFault>, StoreFault>,
+) -> Option<StoreFault>
+    ensures { result ≡ fault_of_branch answer.now }
+{
+    match answer {
+        Ok(_) => None,
+        Err(fault) => Some(*fault),
     }
 }

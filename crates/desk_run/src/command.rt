@@ -1,15 +1,15 @@
 //! One command of a message, carried out on a store.
 
-ghost use Rattle.std.specs.Prelude.{◌≡◌, ◌∷◌, [], IfOk};
+ghost use Rattle.std.specs.Prelude.{◌≡◌, [], IfOk};
 ghost use Rattle.bug_record.specs.Sets.{Each};
 ghost use Rattle.bug_record.specs.Texts.{IsText};
 ghost use Rattle.bug_record.specs.Images.{AreApart, HasMember};
-ghost use Rattle.bug_record.specs.Plans.{named};
+ghost use Rattle.bug_record.specs.Commands.{HasGoodParts};
 ghost use Rattle.desk_store.specs.Store.{Holds, Asks, Answers, faults_after};
 ghost use Rattle.desk_store.specs.Message.{number_meant, command_meant, refusal_meant};
 ghost use Rattle.desk_run.specs.Commands.{ShowBug, MayBeMade, CarriesOut, Does};
 
-use bug_core::{changed, plan};
+use bug_core::{bug_named, changed, plan};
 use bug_record::{Change, Command, PlanFault, Refusal, Sequence, SetImage};
 use control_text::Named;
 use desk_store::Records;
@@ -26,12 +26,20 @@ fn number_meant(bug: Named) -> u64
     }
 }
 
-fn command_meant(command: &Command<Named>) -> Command<u64>
-    ensures { result ≡ command_meant [] command.now }
+fn command_meant(command: Command<Named>) -> Command<u64>
+    ensures { result ≡ command_meant [] command }
 {
     match command {
-        Command::Severity(bug, severity) => Command::Severity(number_meant(*bug), *severity),
-        Command::Close(bug) => Command::Close(number_meant(*bug)),
+        Command::Found(bug, version) => Command::Found(number_meant(bug), version),
+        Command::NotFound(bug, version) => Command::NotFound(number_meant(bug), version),
+        Command::Fixed(bug, version) => Command::Fixed(number_meant(bug), version),
+        Command::NotFixed(bug, version) => Command::NotFixed(number_meant(bug), version),
+        Command::Close(bug, version) => Command::Close(number_meant(bug), version),
+        Command::Reopen(bug, who) => Command::Reopen(number_meant(bug), who),
+        Command::Severity(bug, severity) => Command::Severity(number_meant(bug), severity),
+        Command::Reassign(bug, package, version) => {
+            Command::Reassign(number_meant(bug), package, version)
+        }
     }
 }
 
@@ -44,16 +52,6 @@ fn refusal_meant(refusal: Refusal) -> Refusal
             Refusal::NoName(number - 1_000_000_000)
         }
         _ => refusal,
-    }
-}
-
-// The bug that a command names.
-fn number_of(command: &Command<u64>) -> u64
-    ensures { named command.now ≡ result ∷ [] }
-{
-    match command {
-        Command::Severity(number, _) => *number,
-        Command::Close(number) => *number,
     }
 }
 
@@ -109,14 +107,15 @@ pub(crate) fn take_command<S: Records>(
     alloc: Global,
     store: &mut S,
     from: &str,
-    command: &Command<Named>,
+    command: Command<Named>,
 ) -> Result<Outcome, StoreFault>
-    requires { IsText from.now }
-    ensures answer { Holds S.is_kept S.is_honest store.old store.new (Does from.now (S.desk store.old) command.now result (S.desk store.new)) }
+    requires sender { IsText from.now }
+    requires parts { HasGoodParts command }
+    ensures answer { Holds S.is_kept S.is_honest store.old store.new (Does from.now (S.desk store.old) command result (S.desk store.new)) }
     ensures count { S.faults store.new ≡ faults_after result (S.faults store.old) }
 {
     let command = command_meant(command);
-    let images = match images_of(alloc, store, number_of(&command)) {
+    let images = match images_of(alloc, store, bug_named(&command)) {
         Ok(images) => images,
         Err(fault) => return Err(fault),
     };

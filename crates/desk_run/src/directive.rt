@@ -16,6 +16,8 @@ pub(crate) enum Directive<'a> {
     From(&'a str),
     /// A report.
     Report(ReportWords<'a>),
+    /// A branch, by the text of its words.
+    Branch(&'a str),
     /// The line is no directive.
     Bad,
 }
@@ -85,6 +87,8 @@ pub(crate) fn read_directive(line: &str) -> Directive<'_>
         from_directive(trim(rest))
     } else if name == "@report" {
         report_directive(rest)
+    } else if name == "@branch" {
+        Directive::Branch(rest)
     } else {
         Directive::Bad
     }

@@ -2,6 +2,7 @@
 #![tactic(auto)]
 
 mod answer;
+mod branch;
 mod command;
 mod directive;
 mod fault;

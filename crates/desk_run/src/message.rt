@@ -126,7 +126,7 @@ fn take_line<S: Records>(
             Err(fault) => Err(fault),
         },
         Ok(Line::Do(command)) => match make_room(alloc, &mut progress.outcomes, line) {
-            Ok(text) => match take_command(alloc, store, from, &command) {
+            Ok(text) => match take_command(alloc, store, from, command) {
                 Ok(outcome) => Ok(settle(progress, text, outcome)),
                 Err(fault) => Err(fault),
             },

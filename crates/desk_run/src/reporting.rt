@@ -1,12 +1,15 @@
 //! Reports of bugs.
 
-ghost use Rattle.std.specs.Prelude.{◌≡◌, false, is_some, OnOk, IfErr};
+ghost use Rattle.std.specs.Prelude.{◌≡◌, false, is_some, OnOk, IfOk, IfErr};
 ghost use Rattle.std.specs.Option.{option_copied};
 ghost use Rattle.debver.specs.Names.{IsName, name_fault};
+ghost use Rattle.debver.specs.Cut.{IsVersion};
 ghost use Rattle.bug_record.specs.Texts.{IsText};
+ghost use Rattle.bug_record.specs.Commands.{IfGiven};
 ghost use Rattle.desk_store.specs.Store.{Holds};
-ghost use Rattle.desk_run.specs.Reports.{has_bad_version, report_severity, IsOfWords, IsReported, faults_after_report};
+ghost use Rattle.desk_run.specs.Reports.{has_bad_version, node_reported, report_severity, IsOfWords, IsReported, faults_after_report};
 
+use ancestry::{Node, NodeFault};
 use bug_core::{is_text, report_change};
 use bug_record::Severity;
 use debver::{check, check_name};
@@ -33,7 +36,8 @@ pub enum ReportFault {
 }
 
 fn has_bad_version(version: Option<&str>) -> bool
-    ensures { result ≡ has_bad_version (option_copied version.entry) }
+    ensures value { result ≡ has_bad_version (option_copied version.entry) }
+    ensures version { result ≡ false → IfGiven IsVersion (option_copied version.entry) }
 {
     match version {
         Some(version) => check(version).is_err(),
@@ -62,6 +66,7 @@ fn report_severity(
     ensures value { result ≡ report_severity «package».now (option_copied version.entry) severity.now title.now }
     ensures named { OnOk result (IsName «package».now) }
     ensures titled { OnOk result (IsText title.now) }
+    ensures versioned { OnOk result (IfGiven IsVersion (option_copied version.entry)) }
     ensures own { IfErr result IsOfWords }
 {
     if has_bad_name(package) {
@@ -82,8 +87,29 @@ fn report_severity(
     }
 }
 
-/// Takes a report: a new bug of the next number, open and merged with none, whose submitter is the sender. The version is
-/// checked, and not kept. Answers its number.
+// The node of a report: the version of the package, if one is given.
+fn node_reported(
+    alloc: Global,
+    package: &str,
+    version: Option<&str>,
+) -> Result<Option<Node>, ReportFault>
+    requires name { IsName «package».now }
+    requires version { IfGiven IsVersion (option_copied version) }
+    ensures node { IfOk result (λ node. node ≡ node_reported «package».now (option_copied version.entry)) }
+    ensures memory { IfErr result (λ fault. fault ≡ ReportFault.Store StoreFault.Memory) }
+{
+    let Some(version) = version else {
+        return Ok(None);
+    };
+    match Node::at(alloc, package, version) {
+        Ok(node) => Ok(Some(node)),
+        Err(NodeFault::BadNode) => unreachable!(),
+        Err(NodeFault::Memory) => Err(ReportFault::Store(StoreFault::Memory)),
+    }
+}
+
+/// Takes a report: a new bug of the next number, open and merged with none, whose submitter is the sender, and which is found
+/// in the version of its package, if one is given. Answers its number.
 pub fn report<S: Records>(
     alloc: Global,
     store: &mut S,
@@ -109,7 +135,11 @@ pub fn report<S: Records>(
     if next >= 1_000_000_000 {
         return Err(ReportFault::Full);
     }
-    let Ok(change) = report_change(alloc, from, package, severity, title, next) else {
+    let node = match node_reported(alloc, package, version) {
+        Ok(node) => node,
+        Err(fault) => return Err(fault),
+    };
+    let Ok(change) = report_change(alloc, from, package, severity, title, node, next) else {
         return Err(ReportFault::Store(StoreFault::Memory));
     };
     match store.apply(&change) {

@@ -1,21 +1,27 @@
 //! Scripts: messages and directives, from a reader to a writer.
 
-ghost use Rattle.std.specs.Prelude.{◌≡◌, ℕ, ◌||◌, List, [], ◌∷◌, ◌++◌, OnOk, IfOk, IfErr};
+ghost use Rattle.std.specs.Prelude.{◌≡◌, ℕ, ◌<◌, ◌||◌, true, length, take, Some, Result, List, [], ◌∷◌, ◌++◌, OnOk, OnErr, IfOk, IfErr};
 ghost use Rattle.std.specs.Option.{option_copied};
 ghost use Rattle.bug_record.specs.Texts.{IsText};
 ghost use Rattle.desk_store.specs.Store.{Holds};
-ghost use Rattle.desk_run.specs.Script.{Report, Part, Message, DirectiveLine, standing, begin, directive_of};
+ghost use Rattle.desk_run.specs.Script.{Report, Branch, Part, Message, DirectiveLine, standing, begin, directive_of};
+ghost use Rattle.std.specs.Io.KnownBytes.{Appends};
+ghost use Rattle.desk_run.specs.Branches.{nodes_of};
 ghost use Rattle.desk_run.specs.Taking.{parts_from};
 ghost use Rattle.desk_run.specs.Reading.{Known, Left};
 ghost use Rattle.desk_run.specs.Running.{Runs, Stops, Carries, IsCounted, IsOfPart, EndsParts, Ends};
 
-use crate::answer::{fault_of_end, refuses, report_answer, store_fault};
+use crate::answer::{
+    branch_answer, fault_of_branch, fault_of_end, refuses, refuses_branch, report_answer, store_fault,
+};
+use crate::branch::read_nodes;
 use crate::directive::{Directive, ReportWords, is_directive, read_directive};
 use crate::fault::ScriptFault;
 use crate::message::receive_lines;
 use crate::reporting::report;
 use crate::source::{Piece, Source, next_line, write_out};
 use crate::transcript::received_bytes;
+use ancestry::{Node, NodeFault};
 use debver::Text;
 use desk_store::Records;
 use std::alloc::Global;
@@ -76,6 +82,24 @@ fn finish_message<S: Records, W: Write>(
     Ok(())
 }
 
+// Writes the answer to a directive that is refused before the store is asked.
+fn refuse<W: Write>(writer: &mut W, run: &mut Run, answer: &[u8]) -> Result<(), ScriptFault>
+    ensures all { OnOk result (Appends (W.contents writer.old) (W.contents writer.new) answer.now) }
+    ensures unfinished { OnErr result ((n : ℕ) × (n < length answer.now) × Appends (W.contents writer.old) (W.contents writer.new) (take n answer.now)) }
+    ensures write { OnErr result (result ≡ Result.Err ScriptFault.Write) }
+    ensures refused { OnOk result (run.new.refused ≡ true) }
+    ensures sender { run.new.sender ≡ run.old.sender }
+    ensures gathered { run.new.gathered.items ≡ run.old.gathered.items }
+{
+    match write_out(writer, answer) {
+        Ok(()) => {
+            run.refused = true;
+            Ok(())
+        }
+        Err(fault) => Err(fault),
+    }
+}
+
 // Carries a report out.
 fn carry_report<S: Records, W: Write>(
     alloc: Global,
@@ -121,6 +145,38 @@ fn carry_report<S: Records, W: Write>(
     }
 }
 
+// Carries the branch of these nodes out.
+fn carry_nodes<S: Records, W: Write>(
+    alloc: Global,
+    store: &mut S,
+    writer: &mut W,
+    run: &mut Run,
+    line: &str,
+    nodes: &[Node],
+) -> Result<(), ScriptFault>
+    requires { (names : List (List ℕ)) × (directive_of line.now ≡ Branch names) × (nodes_of names ≡ Some nodes.now) }
+    ensures answer { Holds S.is_kept S.is_honest store.old store.new (Carries (DirectiveLine line.now)
+        (standing (S.desk store.old) run.old.sender run.old.refused) (standing (S.desk store.new) run.new.sender run.new.refused)
+        (W.contents writer.old) (W.contents writer.new) result) }
+    ensures own { IfErr result IsOfPart }
+    ensures count { IsCounted result (S.faults store.old) (S.faults store.new) }
+    ensures gathered { run.new.gathered.items ≡ run.old.gathered.items }
+{
+    let answer = store.branch(nodes);
+    let Ok(text) = branch_answer(alloc, &answer) else {
+        return Err(ScriptFault::Memory);
+    };
+    match write_out(writer, text.as_slice()) {
+        Ok(()) => {}
+        Err(_) => return Err(ScriptFault::Write),
+    }
+    if let Some(fault) = fault_of_branch(&answer) {
+        return Err(ScriptFault::Store(fault));
+    }
+    run.refused = either(run.refused, refuses_branch(&answer));
+    Ok(())
+}
+
 // Carries a directive out.
 fn carry_out<S: Records, W: Write>(
     alloc: Global,
@@ -145,13 +201,12 @@ fn carry_out<S: Records, W: Write>(
             Err(_) => Err(ScriptFault::Memory),
         },
         Directive::Report(words) => carry_report(alloc, store, writer, run, line, words),
-        Directive::Bad => match write_out(writer, b"Bad directive.\n") {
-            Ok(()) => {
-                run.refused = true;
-                Ok(())
-            }
-            Err(_) => Err(ScriptFault::Write),
+        Directive::Branch(words) => match read_nodes(alloc, words) {
+            Ok(nodes) => carry_nodes(alloc, store, writer, run, line, nodes.as_slice()),
+            Err(NodeFault::BadNode) => refuse(writer, run, b"NO bad version\n"),
+            Err(NodeFault::Memory) => Err(ScriptFault::Memory),
         },
+        Directive::Bad => refuse(writer, run, b"Bad directive.\n"),
     }
 }
 

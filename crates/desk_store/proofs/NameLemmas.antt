@@ -1,9 +1,12 @@
 -- Unknown names, and numbers that no bug has.
-use Rattle.std.proofs.Common.{◌≡◌, ◌<◌, ◌≤◌, ◌+◌, ◌-◌, ℕ, Bool, true, false, Option, Some, None, Result, ◌∙◌, ap, refl, arith}
+use Rattle.std.proofs.Common.{◌≡◌, ◌<◌, ◌≤◌, ◌+◌, ◌-◌, ℕ, Bool, List, true, false, Option, Some, None, Ok, Err, ◌∙◌, ap, refl, arith}
 use Rattle.std.specs.Prelude.{nat_lt, if◌then◌else◌}
 use Rattle.std.proofs.lemmas.Bool.{lt-ltb, le-ltb}
 use Rattle.bug_record.specs.Desk.{Desk, IsSound}
-use Rattle.bug_record.specs.Steps.{at_bug}
+use Rattle.bug_record.specs.Commands.{bug_named, command_over}
+use Rattle.bug_record.specs.Steps.{step, at_bug, change_set, shared_after, new_submitter}
+use Rattle.bug_record.specs.declared.command.Command.{Command}
+use Rattle.bug_record.specs.declared.command.Command.TheVariants as commands
 use Rattle.bug_record.specs.declared.bug.Bug.{Bug}
 use Rattle.bug_record.specs.declared.command.Refusal.{Refusal}
 use Rattle.bug_record.specs.declared.command.Refusal.TheVariants.{NoName, NoBug}
@@ -29,13 +32,29 @@ meant_number n few =
     let below : nat_lt 1000000000 n ≡ false = le-ltb 1000000000 n (omega arith) in
     ap (λ (b : Bool). if b then NoName (n - 1000000000) else NoBug n) below
 
+-- the bug that the command which is meant names
+pub bug-meant : {N M : Type 0} (f : N → M) (command : Command N) → bug_named (command_over f command) ≡ f (bug_named command)
+bug-meant f (commands.Found n version) = refl
+bug-meant f (commands.NotFound n version) = refl
+bug-meant f (commands.Fixed n version) = refl
+bug-meant f (commands.NotFixed n version) = refl
+bug-meant f (commands.Close n version) = refl
+bug-meant f (commands.Reopen n who) = refl
+bug-meant f (commands.Severity n severity) = refl
+bug-meant f (commands.Reassign n package_name version) = refl
+
 -- a command of a bug that is not there
-pub name_refused : (d : Desk) (k : ℕ) (f : Bug → Result Desk Refusal) → IsSound d → 0 < k → outcome_of d (at_bug (d.bug (1000000000 + k)) (1000000000 + k) f) ≡ (Refused (NoName k), d)
-name_refused d k f sound some =
-    ap (λ (o : Option Bug). outcome_of d (at_bug o (1000000000 + k) f)) (none_above d (1000000000 + k) sound (omega arith))
+refused : (d : Desk) (command : Command ℕ) (n : ℕ) (sender : List ℕ) → bug_named command ≡ n → d.bug n ≡ None → step d sender command ≡ Err (NoBug n)
+refused d command n sender is none =
+    ap (λ (o : Option Bug). at_bug {A = Desk} o (bug_named command) (λ _. Ok (change_set d (bug_named command) (shared_after command) (new_submitter sender command)))) (ap d.bug is ∙ none)
+    ∙ ap (λ (k : ℕ). Err (NoBug k)) is
+
+pub name_refused : (d : Desk) (command : Command ℕ) (k : ℕ) (sender : List ℕ) → IsSound d → 0 < k → bug_named command ≡ 1000000000 + k → outcome_of d (step d sender command) ≡ (Refused (NoName k), d)
+name_refused d command k sender sound some is =
+    ap (outcome_of d) (refused d command (1000000000 + k) sender is (none_above d (1000000000 + k) sound (omega arith)))
     ∙ (λ i. (Refused (meant_name k some i), d))
 
-pub number_refused : (d : Desk) (n : ℕ) (f : Bug → Result Desk Refusal) → n ≤ 999999999 → d.bug n ≡ None → outcome_of d (at_bug (d.bug n) n f) ≡ (Refused (NoBug n), d)
-number_refused d n f few none =
-    ap (λ (o : Option Bug). outcome_of d (at_bug o n f)) none
+pub number_refused : (d : Desk) (command : Command ℕ) (n : ℕ) (sender : List ℕ) → n ≤ 999999999 → d.bug n ≡ None → bug_named command ≡ n → outcome_of d (step d sender command) ≡ (Refused (NoBug n), d)
+number_refused d command n sender few none is =
+    ap (outcome_of d) (refused d command n sender is none)
     ∙ (λ i. (Refused (meant_number n few i), d))

@@ -3,6 +3,8 @@ use Rattle.std.proofs.Common.{◌≡◌, ◌≢◌, ℕ, ◌<◌, ◌≤◌, Boo
 use Rattle.std.specs.Prelude.{option_map}
 use Rattle.std.proofs.lemmas.Bool.{false≢true, eqb-true}
 use Rattle.std.proofs.lemmas.Option.{none-some, same_Some}
+use Rattle.std.specs.List.Sorted.{IsStrictlySortedBy}
+use Rattle.ancestry.specs.Trees.{no_nodes, IsForest}
 use Rattle.bug_record.specs.Sets.{has, Each, IsAscending}
 use Rattle.bug_record.specs.Texts.{is_text}
 use Rattle.bug_record.specs.Desk.{Desk, IsSound, IsMergedWith, HasGoodTexts}
@@ -51,20 +53,25 @@ each_has P (k ∷ ns) n h e =
     [ true ↦ λ q _. subst P (eqb-true k n q) h.0 | false ↦ λ _ w. each_has P ns n h.1 w ] refl e
 
 good_texts : (severity : Severity) (ns : List ℕ) (n : ℕ) → HasGoodTexts (bug_with severity ns n)
-unfolding is_text
+unfolding is_text IsStrictlySortedBy
 good_texts severity ns n = record {
   title = refl;
   submitter = refl;
-  package_name = record { long = omega arith; start = refl; bytes = refl; short = omega arith };
+  shared = record {
+    package_name = record { long = omega arith; start = refl; bytes = refl; short = omega arith };
+    found = record { ascending = tt; valid = tt };
+    fixed = record { ascending = tt; valid = tt };
+  };
 }
 
-put-sound : (d : Desk) (severity : Severity) (ns : List ℕ) (next : ℕ) → IsWithin d ns → IsAscending ns → AreBelow ns next → 0 < next → next ≤ 1000000000 → IsSound (put d (change_with severity ns next))
-put-sound d severity ns next within ascending below some few = record {
+put-sound : (d : Desk) (severity : Severity) (ns : List ℕ) (next : ℕ) → IsForest d.tree → IsWithin d ns → IsAscending ns → AreBelow ns next → 0 < next → next ≤ 1000000000 → IsSound (put d (change_with severity ns next))
+put-sound d severity ns next forest within ascending below some few = record {
   own = λ n b h. let o = only d severity ns next within n b h in ap (λ (c : Bug). has c.block n) (sym o.1) ∙ (ap (λ (ks : List ℕ). has ks n) (numbers_of-map ns) ∙ o.0);
   ascending = λ n b h. let o = only d severity ns next within n b h in subst (λ (c : Bug). IsAscending c.block) o.1 (subst IsAscending (sym (numbers_of-map ns)) ascending);
   agree = λ n m b h w. let o = only d severity ns next within n b h in merged n m b o.1 (sym (ap (λ (c : Bug). has c.block m) (sym o.1) ∙ ap (λ (ks : List ℕ). has ks m) (numbers_of-map ns)) ∙ w);
   texts = λ n b h. subst HasGoodTexts (only d severity ns next within n b h).1 (good_texts severity ns n);
   in_range = λ n b h. each_has (λ k. (0 < k) × (k < next)) ns n below (only d severity ns next within n b h).0;
+  forest = forest;
   next_in_range = (some, few);
 }
   where
@@ -89,10 +96,10 @@ put-whole d severity ns sound within n m b h w = there (d.bug m) refl (sound.agr
 pub change_with-fits : (d : Desk) (severity : Severity) (ns : List ℕ) (next : ℕ) → IsSound d → IsWithin d ns → IsAscending ns → AreBelow ns next → 0 < next → next ≤ 1000000000 → FitsDesk d (change_with severity ns next)
 change_with-fits d severity ns next sound within ascending below some few = record {
   whole = λ n m b h _ w. put-whole d severity ns sound within n m b h w;
-  sound = put-sound d severity ns next within ascending below some few;
+  sound = put-sound d severity ns next sound.forest within ascending below some few;
 }
 
-pub within_none : (d : Desk) (first : ℕ) (ns : List ℕ) → d ≡ record { bug = λ n. None; next = first } → IsWithin d ns
+pub within_none : (d : Desk) (first : ℕ) (ns : List ℕ) → d ≡ record { bug = λ n. None; tree = no_nodes; next = first } → IsWithin d ns
 within_none d first ns is n b e = absurd (none-some b (sym (ap (λ (w : Desk). w.bug n) is) ∙ e))
 
 -- what is left when the change is asked for

@@ -4,6 +4,7 @@ use Rattle.std.proofs.lemmas.List.{drop_more}
 use Rattle.std.proofs.lemmas.Bool.{eq-eqb, or_left, or_right}
 use Rattle.std.specs.Ordering.{nat_cmp}
 use Rattle.std.specs.BTreeMap.{BTreeMap, get}
+use Rattle.ancestry.specs.Trees.{Ancestry, IsForest}
 use Rattle.bug_record.specs.Sets.{has, Each}
 use Rattle.bug_record.specs.Desk.{IsSound, IsMergedWith}
 use Rattle.bug_record.specs.Images.{numbers_of, bug_in, put}
@@ -56,16 +57,28 @@ Each-members_in bugs b block is (n ∷ ns) h =
     refl (first_merged bugs b n ns h)
 
 -- the set of a bug that is there is its image
-pub set_in-image : (bugs : BTreeMap ℕ Bug) (next : ℕ) → IsSound (desk_of bugs next) → (n : ℕ) (b : Bug) → get nat_cmp bugs n ≡ Some b → IsImageOf (desk_of bugs next) n (Some (set_in bugs b))
-set_in-image bugs next sound n b e =
+pub set_in-image : (bugs : BTreeMap ℕ Bug) (tree : Ancestry) (next : ℕ) → IsSound (desk_of bugs tree next) → (n : ℕ) (b : Bug) → get nat_cmp bugs n ≡ Some b → IsImageOf (desk_of bugs tree next) n (Some (set_in bugs b))
+set_in-image bugs tree next sound n b e =
     let merged : AllMerged bugs b b.block = λ m w. sound.agree n m b e w in
     let ns : numbers_of (members_in bugs b.block) ≡ b.block = numbers_of-members_in bugs b b.block merged in
     (ap (λ (w : List ℕ). has w n) ns ∙ sound.own n b e, Each-members_in bugs b (numbers_of (members_in bugs b.block)) (sym ns) b.block merged)
 
 -- ---- desks with the same bugs
 
-pub desk_of-same : (now old : BTreeMap ℕ Bug) (next : ℕ) → ((n : ℕ) → get nat_cmp now n ≡ get nat_cmp old n) → desk_of now next ≡ desk_of old next
-desk_of-same now old next h = λ i. record { bug = λ n. h n i; next = next }
+pub desk_of-same : (now old : BTreeMap ℕ Bug) (tree : Ancestry) (next : ℕ) → ((n : ℕ) → get nat_cmp now n ≡ get nat_cmp old n) → desk_of now tree next ≡ desk_of old tree next
+desk_of-same now old tree next h = λ i. record { bug = λ n. h n i; tree = tree; next = next }
 
-pub desk_of-put : (now old : BTreeMap ℕ Bug) (next : ℕ) (change : Change) → ((n : ℕ) → get nat_cmp now n ≡ option_or (bug_in change.images n) (get nat_cmp old n)) → desk_of now change.next ≡ put (desk_of old next) change
-desk_of-put now old next change h = λ i. record { bug = λ n. h n i; next = change.next }
+pub desk_of-put : (now old : BTreeMap ℕ Bug) (tree : Ancestry) (next : ℕ) (change : Change) → ((n : ℕ) → get nat_cmp now n ≡ option_or (bug_in change.images n) (get nat_cmp old n)) → desk_of now tree change.next ≡ put (desk_of old tree next) change
+desk_of-put now old tree next change h = λ i. record { bug = λ n. h n i; tree = tree; next = change.next }
+
+-- a desk is sound with another ancestry
+pub desk_of-tree : (bugs : BTreeMap ℕ Bug) (old new : Ancestry) (next : ℕ) → IsForest new → IsSound (desk_of bugs old next) → IsSound (desk_of bugs new next)
+desk_of-tree bugs old new next forest h = record {
+  own = h.own;
+  ascending = h.ascending;
+  agree = h.agree;
+  texts = h.texts;
+  in_range = h.in_range;
+  forest = forest;
+  next_in_range = h.next_in_range;
+}

@@ -3,10 +3,10 @@
 use Rattle.std.specs.Prelude.{ℕ, ◌≡◌, ◌+◌, ◌-◌, ◌<◌, ◌≤◌, ◌==◌, nat_lt, nat_le, Bool, true, false, List, [], ◌∷◌, ◌++◌, length, take, count_by, Option, Some, None, Result, Ok, Err, unwrap_or, if◌then◌else◌, ⊤}
 use Rattle.std.specs.List.{list_any}
 use Rattle.bug_record.specs.Desk.{Desk}
+use Rattle.bug_record.specs.Commands.{command_over}
 use Rattle.bug_record.specs.Steps.{step}
 use Rattle.bug_record.specs.Changed.{changed_numbers}
 use Rattle.bug_record.specs.declared.command.Command.{Command}
-use Rattle.bug_record.specs.declared.command.Command.TheVariants.{Severity as SetSeverity, Close}
 use Rattle.bug_record.specs.declared.command.Refusal.{Refusal}
 use Rattle.bug_record.specs.declared.command.Refusal.TheVariants.{Unknown, Malformed, NoName, NoBug}
 use Rattle.control_text.specs.Lines.{reading}
@@ -44,8 +44,7 @@ number_meant names (Number n) = n
 number_meant names (Name k) = unwrap_or (number_of_name names k) (1000000000 + k)
 
 abbrev pub command_meant : List (ℕ × ℕ) → Command Named → Command ℕ
-command_meant names (SetSeverity w s) = SetSeverity (number_meant names w) s
-command_meant names (Close w) = Close (number_meant names w)
+command_meant names command = command_over (number_meant names) command
 
 -- where that number is refused, the refusal is that of the name
 abbrev pub refusal_meant : Refusal → Refusal

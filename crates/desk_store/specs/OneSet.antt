@@ -13,7 +13,7 @@ member_named n = record { number = n; title = codes "dpkg -i fails"; submitter =
 
 -- bugs of dpkg that are merged
 abbrev pub set_with : Severity → List ℕ → SetImage
-set_with severity ns = record { shared = record { «package» = codes "dpkg"; severity = severity; closed = false }; members = map member_named ns }
+set_with severity ns = record { shared = record { «package» = codes "dpkg"; severity = severity; closed = false; found = []; fixed = [] }; members = map member_named ns }
 
 abbrev pub change_with : Severity → List ℕ → ℕ → Change
 change_with severity ns next = record { images = set_with severity ns ∷ []; next = next }

@@ -2,18 +2,19 @@
 use Rattle.std.specs.Prelude.{ℕ, List, [], ◌∷◌, ◌++◌, Option, Some, None}
 use Rattle.std.specs.Ordering.{nat_cmp}
 use Rattle.std.specs.BTreeMap.{BTreeMap, get}
+use Rattle.ancestry.specs.Trees.{Ancestry, no_nodes}
 use Rattle.bug_record.specs.Desk.{Desk}
 use Rattle.bug_record.specs.declared.bug.Bug.{Bug}
 use Rattle.bug_record.specs.declared.bug.Member.{Member}
 use Rattle.bug_record.specs.declared.bug.SetImage.{SetImage}
 
--- the desk of these bugs
-abbrev pub desk_of : BTreeMap ℕ Bug → ℕ → Desk
-desk_of bugs next = record { bug = λ n. get nat_cmp bugs n; next = next }
+-- the desk of these bugs and this ancestry
+abbrev pub desk_of : BTreeMap ℕ Bug → Ancestry → ℕ → Desk
+desk_of bugs tree next = record { bug = λ n. get nat_cmp bugs n; tree = tree; next = next }
 
--- a desk with no bug
+-- a desk with no bug and no node
 abbrev pub empty_desk : ℕ → Desk
-empty_desk first = record { bug = λ n. None; next = first }
+empty_desk first = record { bug = λ n. None; tree = no_nodes; next = first }
 
 -- the bug of this number as a member, where it is there
 abbrev pub member_of : ℕ → Option Bug → List Member

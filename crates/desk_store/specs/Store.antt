@@ -1,5 +1,9 @@
 -- What a call of a store says of its content.
-use Rattle.std.specs.Prelude.{ℕ, ◌≡◌, ◌+◌, ◌-◌, ◌^◌, min, true, Option, Some, None, Result, Ok, Err}
+use Rattle.std.specs.Prelude.{ℕ, ◌≡◌, ◌+◌, ◌-◌, ◌^◌, min, true, List, Option, Some, None, Result, Ok, Err, ⊤}
+use Rattle.ancestry.specs.Nodes.{Node}
+use Rattle.ancestry.specs.Branches.{branched}
+use Rattle.ancestry.specs.declared.fault.BranchFault.{BranchFault}
+use Rattle.ancestry.specs.declared.fault.BranchFault.TheVariants.{Memory as WantOfMemory}
 use Rattle.bug_record.specs.Sets.{has}
 use Rattle.bug_record.specs.Desk.{Desk}
 use Rattle.bug_record.specs.Images.{numbers_of, IsBlockOf, put}
@@ -37,6 +41,18 @@ IsNext d n = n ≡ d.next
 abbrev pub Applies : {T : Type 0} → Desk → Desk → Result T StoreFault → Change → Type 0
 Applies old new (Ok done) change = new ≡ put old change
 Applies old new (Err fault) change = new ≡ old
+
+-- the ancestry after a branch, or the refusal of one; bugs and the next number stay
+abbrev pub Branches : Desk → Desk → Result (Result (Unit {0}) BranchFault) StoreFault → List Node → Type 0
+Branches old new (Ok (Ok done)) nodes = (branched old.tree nodes ≡ Ok new.tree) × (new ≡ record old { tree = new.tree })
+Branches old new (Ok (Err refusal)) nodes = (branched old.tree nodes ≡ Err refusal) × (new ≡ old)
+Branches old new (Err fault) nodes = new ≡ old
+
+-- the refusal of a branch is none for want of memory
+abbrev pub IsRefusal : Result (Unit {0}) BranchFault → Type 0
+IsRefusal (Ok done) = ⊤
+IsRefusal (Err WantOfMemory) = ⊥
+IsRefusal (Err refusal) = ⊤
 
 -- one more, up to the largest u64
 abbrev pub one_more : ℕ → ℕ

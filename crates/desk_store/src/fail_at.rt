@@ -1,28 +1,29 @@
 //! A store that fails once, for tests.
 
-ghost use Rattle.std.specs.Prelude.{◌≡◌, ◌≢◌, ◌-◌, ◌||◌, ◌==◌, true, false, Err};
+ghost use Rattle.std.specs.Prelude.{◌≡◌, ◌≢◌, ◌-◌, ◌||◌, ◌==◌, true, false, Err, IfOk};
 ghost use Rattle.bug_record.specs.Sets.{Each};
 ghost use Rattle.bug_record.specs.Images.{AreApart, HasMember, FitsDesk};
-ghost use Rattle.desk_store.specs.Store.{Holds, Asks, Answers, IsImageOf, IsNext, Applies, faults_after};
+ghost use Rattle.desk_store.specs.Store.{Holds, Asks, Answers, IsImageOf, IsNext, Applies, Branches, IsRefusal, faults_after};
 ghost use Rattle.desk_store.specs.FailAt.{faults_with};
 
 use crate::records::Records;
+use ancestry::{BranchFault, Node};
 use bug_record::{Change, SetImage};
 use desk_text::StoreFault;
 
-/// A store round another. One call of `apply` answers `Device`, changes nothing and is counted; every other call is the
+/// A store round another. One call of `apply` or `branch` answers `Device`, changes nothing and is counted; every other call is the
 /// other store's.
 #[derive(Drop)]
 pub struct FailAt<S> {
     inner: S,
-    // Which call of `apply` is to fail, counted from 1; 0: none, or none any more.
+    // Which call of `apply` or `branch` is to fail, counted from 1; 0: none, or none any more.
     left: u64,
     has_failed: bool,
     ghost once: { has_failed ≡ true → left ≡ 0 },
 }
 
 impl<S: Records> FailAt<S> {
-    /// The k-th call of `apply` is to fail, counted from 1; none where k is 0.
+    /// The k-th call of `apply` or `branch` is to fail, counted from 1; none where k is 0.
     pub fn new(inner: S, k: u64) -> FailAt<S>
         ensures inner { result.inner ≡ inner }
         ensures left { result.left ≡ k }
@@ -33,6 +34,19 @@ impl<S: Records> FailAt<S> {
             left: k,
             has_failed: false,
         }
+    }
+
+    // Counts a call, and says whether it is the one that is to fail.
+    fn is_due(&mut self) -> bool
+        ensures value { result ≡ (self.old.left == 1) }
+        ensures countdown { self.new.left ≡ self.old.left - 1 }
+        ensures has_failed { self.new.has_failed ≡ (self.old.has_failed || (self.old.left == 1)) }
+        ensures inner { self.new.inner ≡ self.old.inner }
+    {
+        let due = self.left == 1;
+        self.left = self.left.saturating_sub(1);
+        self.has_failed = self.has_failed || due;
+        due
     }
 }
 
@@ -79,13 +93,29 @@ impl<S: Records> Records for FailAt<S> {
         ensures unchanged { self.old.left ≡ 1 → self.new.inner ≡ self.old.inner }
         ensures passed_on { self.old.left ≢ 1 → S.faults self.new.inner ≡ faults_after result (S.faults self.old.inner) }
     {
-        if self.left == 1 {
-            self.left = 0;
-            self.has_failed = true;
+        if self.is_due() {
             return Err(StoreFault::Device);
         }
-        self.left = self.left.saturating_sub(1);
         self.inner.apply(change)
+    }
+
+    fn branch(&mut self, nodes: &[Node]) -> Result<Result<(), BranchFault>, StoreFault>
+        ensures answer { Holds S.is_kept S.is_honest self.old.inner self.new.inner
+            (Branches (S.desk self.old.inner) (S.desk self.new.inner) result nodes.now) }
+        ensures refusal { IfOk result IsRefusal }
+        ensures count { faults_with self.new.has_failed (S.faults self.new.inner)
+            ≡ faults_after result (faults_with self.old.has_failed (S.faults self.old.inner)) }
+        ensures countdown { self.new.left ≡ self.old.left - 1 }
+        ensures has_failed { self.new.has_failed ≡ (self.old.has_failed || (self.old.left == 1)) }
+        ensures due { self.old.left ≡ 1 → result ≡ Err StoreFault.Device }
+        ensures unchanged { self.old.left ≡ 1 → self.new.inner ≡ self.old.inner }
+        ensures passed_on { self.old.left ≢ 1 → S.faults self.new.inner ≡ faults_after result (S.faults self.old.inner) }
+    {
+        if self.is_due() {
+            Err(StoreFault::Device)
+        } else {
+            self.inner.branch(nodes)
+        }
     }
 
     fn faults(&self) -> u64 {

@@ -6,23 +6,25 @@ ghost use Rattle.std.specs.Ordering.{nat_cmp};
 ghost use Rattle.bug_record.specs.Desk.{IsSound};
 ghost use Rattle.bug_record.specs.Images.{FitsDesk, put};
 ghost use Rattle.bug_record.proofs.SoundProp.{IsSound-prop};
-ghost use Rattle.desk_store.specs.Store.{IsImageOf};
+ghost use Rattle.desk_store.specs.Store.{IsImageOf, Branches, IsRefusal};
 ghost use Rattle.desk_store.specs.Plain.{desk_of, empty_desk, member_of, members_in, set_in};
 
 use crate::records::Records;
 use crate::rows::put_images;
+use ancestry::{BranchFault, Node, Tree};
 use bug_record::{Bug, Change, Member, Sequence, SetImage};
 use desk_text::StoreFault;
 use std::alloc::{AllocError, Global};
 use std::collections::BTreeMap;
 
-/// A desk in memory: the whole record of each bug, by number.
+/// A desk in memory: the whole record of each bug, by number, and the tree of nodes.
 #[derive(Drop)]
 pub struct PlainDesk {
     bugs: BTreeMap<u64, Bug>,
+    tree: Tree,
     next: u64,
     alloc: Global,
-    ghost sound: { IsSound (desk_of bugs next) } by { IsSound-prop (desk_of bugs next) },
+    ghost sound: { IsSound (desk_of bugs tree next) } by { IsSound-prop (desk_of bugs tree next) },
 }
 
 impl PlainDesk {
@@ -30,10 +32,11 @@ impl PlainDesk {
     pub fn new(alloc: Global, first: u64) -> PlainDesk
         requires some { 1 ≤ first }
         requires few { first ≤ 999999999 }
-        ensures { desk_of result.bugs result.next ≡ empty_desk first }
+        ensures { desk_of result.bugs result.tree result.next ≡ empty_desk first }
     {
         PlainDesk {
             bugs: BTreeMap::new(alloc),
+            tree: Tree::new(alloc),
             next: first,
             alloc,
         }
@@ -84,7 +87,7 @@ fn set_in(alloc: Global, bugs: &BTreeMap<u64, Bug>, bug: &Bug) -> Result<SetImag
 }
 
 impl Records for PlainDesk {
-    ghost desk = { λ s. desk_of s.bugs s.next };
+    ghost desk = { λ s. desk_of s.bugs s.tree s.next };
 
     ghost is_kept = { λ _. Unit {0} };
 
@@ -94,7 +97,7 @@ impl Records for PlainDesk {
 
     fn set_of(&mut self, number: u64) -> Result<Option<SetImage>, StoreFault>
         ensures same { self.new ≡ self.old }
-        ensures image { IfOk result (IsImageOf (desk_of self.old.bugs self.old.next) number) }
+        ensures image { IfOk result (IsImageOf (desk_of self.old.bugs self.old.tree self.old.next) number) }
         ensures none { get nat_cmp self.old.bugs number ≡ None → result ≡ Ok None }
         ensures memory { IfErr result (λ fault. fault ≡ StoreFault.Memory) }
     {
@@ -115,10 +118,10 @@ impl Records for PlainDesk {
     }
 
     fn apply(&mut self, change: &Change) -> Result<(), StoreFault>
-        requires fits { FitsDesk (desk_of self.old.bugs self.old.next) change.now }
+        requires fits { FitsDesk (desk_of self.old.bugs self.old.tree self.old.next) change.now }
         ensures done { OnOk result
-            (desk_of self.new.bugs self.new.next ≡ put (desk_of self.old.bugs self.old.next) change.now) }
-        ensures fault { OnErr result (desk_of self.new.bugs self.new.next ≡ desk_of self.old.bugs self.old.next) }
+            (desk_of self.new.bugs self.new.tree self.new.next ≡ put (desk_of self.old.bugs self.old.tree self.old.next) change.now) }
+        ensures fault { OnErr result (desk_of self.new.bugs self.new.tree self.new.next ≡ desk_of self.old.bugs self.old.tree self.old.next) }
         ensures memory { IfErr result (λ fault. fault ≡ StoreFault.Memory) }
     {
         match put_images(self.alloc, &mut self.bugs, change.images.as_slice()) {
@@ -127,6 +130,18 @@ impl Records for PlainDesk {
                 Ok(())
             }
             Err(_) => Err(StoreFault::Memory),
+        }
+    }
+
+    fn branch(&mut self, nodes: &[Node]) -> Result<Result<(), BranchFault>, StoreFault>
+        ensures taken { Branches (desk_of self.old.bugs self.old.tree self.old.next) (desk_of self.new.bugs self.new.tree self.new.next) result nodes.now }
+        ensures refusal { IfOk result IsRefusal }
+        ensures memory { IfErr result (λ fault. fault ≡ StoreFault.Memory) }
+    {
+        match self.tree.take_branch(nodes) {
+            Ok(()) => Ok(Ok(())),
+            Err(BranchFault::Memory) => Err(StoreFault::Memory),
+            Err(refusal) => Ok(Err(refusal)),
         }
     }
 

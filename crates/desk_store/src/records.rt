@@ -1,11 +1,12 @@
 //! What a store of a desk does, whatever keeps the desk.
 
-ghost use Rattle.std.specs.Prelude.{◌≡◌, ℕ, Option, Result};
+ghost use Rattle.std.specs.Prelude.{◌≡◌, ℕ, Option, Result, IfOk};
 ghost use Rattle.bug_record.specs.Sets.{Each};
 ghost use Rattle.bug_record.specs.Desk.{Desk, IsSound};
 ghost use Rattle.bug_record.specs.Images.{AreApart, HasMember, FitsDesk};
-ghost use Rattle.desk_store.specs.Store.{Holds, Asks, Answers, IsImageOf, IsNext, Applies, faults_after};
+ghost use Rattle.desk_store.specs.Store.{Holds, Asks, Answers, IsImageOf, IsNext, Applies, Branches, IsRefusal, faults_after};
 
+use ancestry::{BranchFault, Node};
 use bug_record::{Change, SetImage};
 use desk_text::StoreFault;
 
@@ -43,6 +44,13 @@ pub trait Records {
         requires members { Each HasMember change.now.images }
         requires fits { is_kept self.old → is_honest self.old → FitsDesk (desk self.old) change.now }
         ensures answer { Holds is_kept is_honest self.old self.new (Applies (desk self.old) (desk self.new) result change.now) }
+        ensures count { faults self.new ≡ faults_after result (faults self.old) };
+
+    /// Takes a branch, a list of 1 to 200 nodes of which each is based on the next. The inner answer is why the branch is
+    /// refused, never for want of memory; then, and after a fault, all is as before. Bugs and the next number stay.
+    fn branch(&mut self, nodes: &[Node]) -> Result<Result<(), BranchFault>, StoreFault>
+        ensures answer { Holds is_kept is_honest self.old self.new (Branches (desk self.old) (desk self.new) result nodes.now) }
+        ensures refusal { IfOk result IsRefusal }
         ensures count { faults self.new ≡ faults_after result (faults self.old) };
 
     /// How often the store has answered `Device`, `Full` or `Foreign`, up to `u64::MAX`.

@@ -101,7 +101,11 @@ fn rows_of(
 fn numbers_of_rows(alloc: Global, rows: &[Row]) -> Result<Vec<u64>, AllocError>
     ensures { IfOk result (λ numbers. numbers.items ≡ map (λ row. row.number) rows.now) }
 {
-    rows.iter().map(|row| row.number).collect(alloc)
+    let mut numbers = Vec::new(alloc);
+    for row in rows {
+        numbers.push(row.number)?;
+    }
+    Ok(numbers)
 }
 
 // Puts rows into the map, from the last to the first, so that the first of a number stays. Where there is no memory,

@@ -29,6 +29,8 @@ fn set(alloc: Global, severity: Severity, numbers: &[u64]) -> Result<SetImage, A
         package: Text::of(alloc, "dpkg")?,
         severity,
         closed: false,
+        found: Sequence::new(alloc),
+        fixed: Sequence::new(alloc),
     };
     let mut members = Sequence::new(alloc);
     for number in numbers {

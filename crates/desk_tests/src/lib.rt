@@ -9,3 +9,5 @@ mod reports;
 mod scripts;
 #[cfg(test)]
 mod shown;
+#[cfg(test)]
+mod versions;

@@ -48,7 +48,7 @@ impl Write for Narrow {
 }
 
 /// Whether a script has this end and writes these bytes.
-fn writes<S: Records>(
+pub(crate) fn writes<S: Records>(
     alloc: Global,
     store: &mut S,
     script: &[u8],

@@ -2,7 +2,7 @@
 use Rattle.std.specs.Prelude.{ℕ, List, [], ◌∷◌, ◌++◌, codes}
 use Rattle.std.specs.Fmt.{decimal}
 use Rattle.bug_record.specs.declared.command.Refusal.{Refusal}
-use Rattle.bug_record.specs.declared.command.Refusal.TheVariants.{Unknown, Malformed, BadSeverity, NoName, NoBug}
+use Rattle.bug_record.specs.declared.command.Refusal.TheVariants.{Unknown, Malformed, TooLong, BadSeverity, BadVersion, BadPackage, NoName, NoBug}
 use Rattle.desk_text.specs.declared.outcome.StoreFault.{StoreFault}
 use Rattle.desk_text.specs.declared.outcome.StoreFault.TheVariants as faults
 use Rattle.desk_text.specs.declared.outcome.Outcome.{Outcome}
@@ -22,7 +22,10 @@ echo line = codes "> " ++ line
 abbrev pub refusal_text : Refusal → List ℕ
 refusal_text Unknown = codes "unknown command"
 refusal_text Malformed = codes "malformed command"
+refusal_text TooLong = codes "text too long"
 refusal_text BadSeverity = codes "unknown severity"
+refusal_text BadVersion = codes "bad version"
+refusal_text BadPackage = codes "bad package name"
 refusal_text (NoName k) = codes "no such name -" ++ decimal k
 refusal_text (NoBug n) = codes "no such bug " ++ decimal n
 

@@ -31,8 +31,20 @@ fn outcomes_are_two_lines(rt: HostRuntime) -> Result<(), Fail> {
             "> close 1\nNO malformed command\n",
         ),
         (
+            Outcome::Refused(Refusal::TooLong),
+            "> close 1\nNO text too long\n",
+        ),
+        (
             Outcome::Refused(Refusal::BadSeverity),
             "> close 1\nNO unknown severity\n",
+        ),
+        (
+            Outcome::Refused(Refusal::BadVersion),
+            "> close 1\nNO bad version\n",
+        ),
+        (
+            Outcome::Refused(Refusal::BadPackage),
+            "> close 1\nNO bad package name\n",
         ),
         (
             Outcome::Refused(Refusal::NoName(1)),

@@ -13,7 +13,10 @@ fn refusal_text(alloc: Global, refusal: Refusal) -> Result<String, AllocError>
     match refusal {
         Refusal::Unknown => String::from_str(alloc, "unknown command"),
         Refusal::Malformed => String::from_str(alloc, "malformed command"),
+        Refusal::TooLong => String::from_str(alloc, "text too long"),
         Refusal::BadSeverity => String::from_str(alloc, "unknown severity"),
+        Refusal::BadVersion => String::from_str(alloc, "bad version"),
+        Refusal::BadPackage => String::from_str(alloc, "bad package name"),
         Refusal::NoName(name) => format!(in alloc; "no such name -{name}"),
         Refusal::NoBug(number) => format!(in alloc; "no such bug {number}"),
     }

@@ -1,12 +1,16 @@
-use Rattle.std.proofs.Common.{Result, sym, subst}
+use Rattle.std.proofs.Common.{List, ℕ, false, ◌≡◌, sym, ◌∙◌, subst, Result}
 use Rattle.std.specs.Prelude.{IfOk}
+use Rattle.std.specs.List.{list_any}
+use Rattle.bug_record.specs.Texts.{is_control}
+use Rattle.bug_record.specs.declared.command.Command.{Command}
 use Rattle.bug_record.specs.declared.command.Refusal.{Refusal}
-use Rattle.control_text.specs.declared.line.Line.{Line}
-use Rattle.control_text.specs.Lines.{HasGoodNumbers}
-use Rattle.control_text.proofs.ReadingLemmas.{reading-good, good-map_err}
+use Rattle.control_text.specs.declared.named.Named.{Named}
+use Rattle.control_text.specs.WellFormed.{IsWellFormed}
+use Rattle.control_text.proofs.ReadingLemmas.{command_of-good, clean_after_word}
 use Rattle.control_text.proofs.line.read_line.Goals as goal
 
-pub returns-clause-in_range : goal.returns-clause-in_range
-returns-clause-in_range c =
-    let P : Result Line Refusal → Type 0 = λ r. IfOk r HasGoodNumbers in
-    good-map_err c.reading_of.result c.map_err.result _ c.map_err.ensures.cases (subst P (sym c.reading_of.ensures) (reading-good c.args.text.now))
+pub returns-in-Ok-clause-well_formed : goal.returns-in-Ok-clause-well_formed
+returns-in-Ok-clause-well_formed c =
+    let clean = clean_after_word c.args.text.now (sym c.has_control.ensures ∙ c.if-has_control.false) in
+    let rest = subst (λ (s : List ℕ). list_any is_control s ≡ false) (sym c.next_word.ensures.rest) clean in
+    subst (λ (r : Result (Command Named) Refusal). IfOk r IsWellFormed) c.in-Ok.ensures (command_of-good c.in-Some.command c.next_word.result.1.now rest)

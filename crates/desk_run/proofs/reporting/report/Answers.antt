@@ -1,5 +1,6 @@
 use Rattle.std.proofs.Common.{◌∙◌, sym, ap}
 use Rattle.bug_record.specs.Desk.{Desk}
+use Rattle.bug_record.specs.Steps.{reported}
 use Rattle.desk_store.proofs.HoldsLemmas.{holds_none, holds_weaker, holds_both, holds_where}
 use Rattle.desk_run.proofs.ReportLemmas.{words_refused, words_not_counted, report_full, report_done}
 use Rattle.desk_run.proofs.reporting.report.Goals as goal
@@ -28,4 +29,4 @@ returns-in-Ok-apply-clause-answer g c =
     holds_where (holds_both a b) (λ u w p.
     let sound = g.met.S.Records.sound _ (a.kept u (b.honest w)) in
     let same = sym (p.0.0 ∙ ap (λ (z : Desk). z.next) (sym p.0.1)) in
-    report_done c.args.from.now _ _ _ _ _ _ _ c.in-Ok.severity c.in-Ok-next.next c.in-Ok.ensures.value p.0 c.if-next-ge1000000000.false (p.1 ∙ c.in-Ok-report_change.ensures.right _ sound same))
+    report_done c.args.from.now _ _ _ _ _ _ _ c.in-Ok.severity c.in-Ok-next.next c.in-Ok.ensures.value p.0 c.if-next-ge1000000000.false (p.1 ∙ c.in-Ok-report_change.ensures.right _ sound same ∙ ap (reported _ c.args.from.now c.args.package.now c.in-Ok.severity c.args.title.now) c.in-Ok-node_reported.ensures.node))

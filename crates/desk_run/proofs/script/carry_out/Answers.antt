@@ -1,8 +1,12 @@
-use Rattle.std.proofs.Common.{refl, ◌∙◌, ap}
+use Rattle.std.proofs.Common.{Global, ◌≡◌, None, Err, Result, refl, sym, ◌∙◌, ap, subst}
 use Rattle.desk_store.proofs.HoldsLemmas.{holds_none}
-use Rattle.desk_run.specs.Script.{From, Bad, standing}
+use Rattle.ancestry.specs.Trees.{Ancestry}
+use Rattle.control_text.specs.Words.{words}
+use Rattle.desk_run.specs.Branches.{BranchRefusal, nodes_of, AreRead}
+use Rattle.desk_run.specs.Script.{From, Branch, Bad, standing, branch_text, after_branch}
 use Rattle.desk_run.proofs.WrittenLemmas.{appends_none}
-use Rattle.desk_run.proofs.PartLemmas.{order_done, order_unwritten}
+use Rattle.desk_run.proofs.PartLemmas.{order_done, order_refused}
+use Rattle.desk_run.proofs.BranchLemmas.{branch_of_none}
 use Rattle.desk_run.proofs.script.carry_out.Goals as goal
 
 pub returns-in-Ok-clause-answer : goal.returns-in-Ok-clause-answer
@@ -11,12 +15,18 @@ returns-in-Ok-clause-answer g c =
     let e = ap From c.in-Ok.ensures ∙ c.in-From.ensures.value in
     holds_none _ _ _ (order_done c.args.line.now s _ _ _ _ (From c.in-Ok.sender) e refl refl (appends_none (g.W.Write.contents c.args.writer.now)))
 
-pub returns-in-Ok-write_out-clause-answer : goal.returns-in-Ok-write_out-clause-answer
-returns-in-Ok-write_out-clause-answer g c =
+pub returns-in-Err-BadNode-clause-answer : goal.returns-in-Err-BadNode-clause-answer
+returns-in-Err-BadNode-clause-answer g c =
     let s = standing (g.S.Records.desk c.args.store.now) c.args.run.now.sender c.args.run.now.refused in
-    holds_none _ _ _ (order_done c.args.line.now s _ _ _ _ Bad c.in-Bad.ensures.value refl refl c.in-Ok-write_out.ensures.all)
+    let names = words c.in-Branch.words.now in
+    let none : nodes_of names ≡ None = subst (λ z. AreRead {A = Global} (nodes_of names) (Err z)) c.in-Err-BadNode.field-0-is c.in-Err-BadNode.ensures in
+    let refused = branch_of_none s.desk.tree names none in
+    let done = c.refuse.ensures in
+    holds_none _ _ _ (order_refused c.args.line.now s _ _ _ _ _ (Branch names) c.refuse.result c.in-Branch.ensures.value
+    (ap (λ (r : Result Ancestry BranchRefusal). after_branch r s) refused) (ap branch_text (sym refused)) done.all done.unfinished done.write done.refused done.sender)
 
-pub returns-in-Err-write_out-clause-answer : goal.returns-in-Err-write_out-clause-answer
-returns-in-Err-write_out-clause-answer g c =
+pub returns-in-Bad-clause-answer : goal.returns-in-Bad-clause-answer
+returns-in-Bad-clause-answer g c =
     let s = standing (g.S.Records.desk c.args.store.now) c.args.run.now.sender c.args.run.now.refused in
-    holds_none _ _ _ (order_unwritten c.args.line.now s _ _ _ _ c.in-Err-write_out.ensures.unfinished.0 Bad c.in-Bad.ensures.value refl refl c.in-Err-write_out.ensures.unfinished.1 c.in-Err-write_out.ensures.unfinished.2)
+    let done = c.refuse-in-Bad.ensures in
+    holds_none _ _ _ (order_refused c.args.line.now s _ _ _ _ _ Bad c.refuse-in-Bad.result c.in-Bad.ensures.value refl refl done.all done.unfinished done.write done.refused done.sender)

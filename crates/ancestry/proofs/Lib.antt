@@ -1,0 +1,11 @@
+pub mod ForestProp
+pub mod NodeLemmas
+pub mod LinkLemmas
+pub mod LineLemmas
+pub mod ReadLemmas
+pub mod WalkLemmas
+pub mod BranchLemmas
+pub mod AncestorLemmas
+pub mod ChangeLemmas
+pub mod RepeatLemmas
+pub mod TakeLemmas

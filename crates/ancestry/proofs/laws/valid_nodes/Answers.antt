@@ -1,0 +1,5 @@
+use Rattle.ancestry.proofs.ReadLemmas.{nodes_exactly}
+use Rattle.ancestry.proofs.laws.valid_nodes.Goals as goal
+
+pub returns : goal.returns
+returns c = nodes_exactly

@@ -1,0 +1,16 @@
+use Rattle.std.proofs.Common.{◌≡◌, ◌∷◌, true, drop}
+use Rattle.ancestry.specs.Nodes.{Node}
+use Rattle.ancestry.specs.Trees.{has_node, knows, IsForest}
+use Rattle.ancestry.specs.Branches.{base_all}
+use Rattle.ancestry.specs.Changes.{Extends}
+use Rattle.ancestry.proofs.tree.Tree.base_all.Given as goal
+
+abbrev pub invariant-loop-place : goal.invariant-loop-place
+invariant-loop-place l = record {
+  left : base_all l.place l.self (l.node ∷ drop l.place l.others) ≡ base_all 0 l.fn.self l.nodes;
+  here : has_node l.nodes l.node ≡ true;
+  above : (q : Node) → has_node l.others q ≡ true → has_node l.nodes q ≡ true;
+  known : (q : Node) → has_node l.nodes q ≡ true → knows l.self q ≡ true;
+  extends : Extends l.fn.self l.nodes l.self;
+  forest : IsForest l.self;
+}

@@ -1,0 +1,22 @@
+-- The status of a bug at a version. This project's own rule.
+use Rattle.std.specs.Prelude.{◌==◌, ◌&&◌, ◌||◌, Bool, List, [], ◌∷◌, length, Option, Some, None, if◌then◌else◌}
+use Rattle.ancestry.specs.Nodes.{Node}
+use Rattle.ancestry.specs.Trees.{Ancestry, has_node, line}
+use Rattle.ancestry.specs.declared.statuses.Status.{Status}
+use Rattle.ancestry.specs.declared.statuses.Status.TheVariants.{Found, Fixed, Absent, Done}
+
+-- the first node of a line that is in one of the lists
+abbrev pub first_marked : List Node → List Node → List Node → Option Node
+first_marked found fixed [] = None
+first_marked found fixed (n ∷ line) = if has_node found n || has_node fixed n then Some n else first_marked found fixed line
+
+-- that node decides, found before fixed; with no such node the bug is found where the found list is empty
+abbrev pub status_by : List Node → Option Node → Status
+status_by found (Some n) = if has_node found n then Found else Fixed
+status_by found None = if length found == 0 then Found else Absent
+
+-- the status at a node of a bug that has these marks, and is closed or not
+unfoldable pub status : Ancestry → List Node → List Node → Bool → Node → Status
+status t found fixed closed n =
+    if closed && (length fixed == 0) then Done
+    else status_by found (first_marked found fixed (line t n))

@@ -1,0 +1,253 @@
+//! Branches: lists of nodes, each based on the next.
+
+ghost use Rattle.std.specs.Prelude.{◌≡◌, true, false, List, [], ◌∷◌, None, Some, Ok, Err, map, option_map, All, IfOk, OnOk, OnErr, if◌then◌else◌};
+ghost use Rattle.std.specs.List.Sorted.{IsStrictlySortedBy};
+ghost use Rattle.std.specs.Map.{keys_of};
+ghost use Rattle.ancestry.specs.Nodes.{Node, same_node, node_cmp};
+ghost use Rattle.ancestry.specs.Trees.{Ancestry, has_node, known_at, knows, parent_of, line, is_ancestor, IsForest};
+ghost use Rattle.ancestry.specs.Branches.{learn, learn_all, with_parent, or_conflict, base_on, base_all, repeated_after, branched, IsBranched, TakesMemory, AreBased};
+ghost use Rattle.ancestry.specs.Changes.{Makes, Extends, past_of};
+ghost use Rattle.ancestry.specs.declared.fault.BranchFault.TheVariants.{Memory};
+
+use crate::fault::BranchFault;
+use crate::node::Node;
+use crate::tree::Tree;
+use std::alloc::AllocError;
+use std::collections::BTreeMap;
+
+// How many nodes a branch has at most.
+const MOST_NODES: usize = 200;
+
+// What was known of a node before a branch is taken.
+#[derive(Clone, Copy, Drop)]
+pub(crate) enum Past {
+    // It was not known.
+    Unknown,
+    // It had no parent.
+    Root,
+    // It had a parent.
+    Based,
+}
+
+// The first place whose node stands earlier.
+fn first_repeat(nodes: &[Node]) -> Option<usize>
+    ensures { result ≡ repeated_after [] 0 nodes.now }
+{
+    for (place, node) in nodes.iter().enumerate() {
+        if nodes[..place].contains(node) {
+            return Some(place);
+        }
+    }
+    None
+}
+
+// Takes a node's parent away, where the node is known.
+fn make_root(links: &mut BTreeMap<Node, Option<Node>>, node: &Node)
+    ensures links { (n : Node) → known_at links.new.entries n
+        ≡ (if same_node node.now n then option_map (λ parent. None) (known_at links.old.entries n) else known_at links.old.entries n) }
+    ensures ascending { IsStrictlySortedBy node_cmp (keys_of links.new.entries) }
+{
+    if let Some(parent) = links.get_mut(node) {
+        *parent = None;
+    }
+}
+
+// Puts back what was known of a node.
+fn put_back_one(links: &mut BTreeMap<Node, Option<Node>>, node: &Node, past: Past)
+    ensures { (t : Ancestry) (nodes : List Node) → past_of (known_at t node.now) ≡ past
+        → Extends t (node.now ∷ nodes) links.old.entries → Extends t nodes links.new.entries }
+{
+    match past {
+        Past::Unknown => {
+            links.remove(node);
+        }
+        Past::Root => make_root(links, node),
+        Past::Based => {}
+    }
+}
+
+// Puts back what was known before a branch, whatever part of the branch was taken. This takes no memory.
+fn put_back(links: &mut BTreeMap<Node, Option<Node>>, nodes: &[Node], pasts: &[Past])
+    ensures { (t : Ancestry) → IsForest t → pasts.now ≡ map (λ n. past_of (known_at t n)) nodes.now
+        → Extends t nodes.now links.old.entries → links.new.entries ≡ t }
+{
+    for (node, past) in nodes.iter().zip(pasts) {
+        put_back_one(links, node, *past);
+    }
+}
+
+impl Tree {
+    // What is known of a node, in a word.
+    fn past(&self, node: &Node) -> Past
+        ensures { result ≡ past_of (known_at self.now node.now) }
+    {
+        match self.links.get(node) {
+            None => Past::Unknown,
+            Some(None) => Past::Root,
+            Some(Some(_)) => Past::Based,
+        }
+    }
+
+    // The same of each node.
+    fn pasts(&self, nodes: &[Node]) -> Result<Vec<Past>, AllocError>
+        ensures { IfOk result (λ pasts. pasts.items ≡ map (λ n. past_of (known_at self.now n)) nodes.now) }
+    {
+        nodes.iter().map(|node| self.past(node)).collect(self.alloc)
+    }
+
+    // Makes a node known.
+    fn learn(&mut self, node: &Node) -> Result<(), AllocError>
+        ensures ok { OnOk result (self.new ≡ learn self.old node.now) }
+        ensures err { OnErr result (self.new ≡ self.old) }
+        ensures forest { IsForest self.new }
+    {
+        if self.links.contains_key(node) {
+            return Ok(());
+        }
+        self.links.insert(node.copy()?, None)?;
+        Ok(())
+    }
+
+    // Makes all nodes known.
+    fn learn_all(&mut self, nodes: &[Node]) -> Result<(), AllocError>
+        ensures ok { OnOk result (self.new ≡ learn_all self.old nodes.now) }
+        ensures extends { Extends self.old nodes.now self.new }
+        ensures was_forest { IsForest self.old }
+        ensures forest { IsForest self.new }
+    {
+        let _ = &self.links;
+        for node in nodes {
+            self.learn(node)?;
+        }
+        Ok(())
+    }
+
+    // Whether a node is in the line of another.
+    fn leads_to<'a>(&'a self, from: &'a Node, node: &Node) -> bool
+        ensures { result ≡ has_node (line self.now from.now) node.now }
+    {
+        let mut at = from;
+        while let Some(parent) = self.parent(at) {
+            if node == at {
+                return true;
+            }
+            at = parent;
+        }
+        node == at
+    }
+
+    // Whether a node is a proper ancestor of another.
+    fn is_ancestor(&self, ancestor: &Node, node: &Node) -> bool
+        ensures value { result ≡ is_ancestor self.now ancestor.now node.now }
+        ensures forest { IsForest self.now }
+    {
+        match self.parent(node) {
+            Some(parent) => self.leads_to(parent, ancestor),
+            None => false,
+        }
+    }
+
+    // Gives a root its parent.
+    fn set_parent(&mut self, node: &Node, parent: &Node) -> Result<(), AllocError>
+        requires knows_node { knows self.old node.now ≡ true }
+        requires knows_parent { knows self.old parent.now ≡ true }
+        requires root { parent_of self.old node.now ≡ None }
+        requires apart { has_node (line self.old parent.now) node.now ≡ false }
+        ensures ok { OnOk result (self.new ≡ with_parent self.old node.now parent.now) }
+        ensures forest { OnOk result (IsForest self.new) }
+        ensures err { OnErr result (self.new ≡ self.old) }
+    {
+        let (node, parent) = (node.copy()?, parent.copy()?);
+        self.links.insert(node, Some(parent))?;
+        Ok(())
+    }
+
+    // Bases a node, which has this place in a branch, on another.
+    fn base_on(&mut self, place: usize, node: &Node, parent: &Node) -> Result<(), BranchFault>
+        requires knows_node { knows self.old node.now ≡ true }
+        requires knows_parent { knows self.old parent.now ≡ true }
+        ensures exact { Makes (or_conflict place (base_on self.old node.now parent.now) Ok) result self.new }
+        ensures err { OnErr result (self.new ≡ self.old) }
+        ensures forest { IsForest self.new }
+    {
+        if self.is_ancestor(parent, node) {
+            return Ok(());
+        }
+        if self.parent(node).is_some() || self.leads_to(parent, node) {
+            return Err(BranchFault::Conflict(place));
+        }
+        match self.set_parent(node, parent) {
+            Ok(()) => Ok(()),
+            Err(_) => Err(BranchFault::Memory),
+        }
+    }
+
+    // Bases each node of a branch on the next, from the left.
+    fn base_all(&mut self, nodes: &[Node]) -> Result<(), BranchFault>
+        requires knows_all { All (λ n. knows self.old n ≡ true) nodes.now }
+        ensures exact { Makes (base_all 0 self.old nodes.now) result self.new }
+        ensures extends { Extends self.old nodes.now self.new }
+        ensures forest { IsForest self.new }
+    {
+        let _ = &self.links;
+        let Some((mut node, others)) = nodes.split_first() else {
+            return Ok(());
+        };
+        for (place, parent) in others.iter().enumerate() {
+            self.base_on(place, node, parent)?;
+            node = parent;
+        }
+        Ok(())
+    }
+
+    // Takes a branch. After a refusal some of it may have been taken.
+    fn take_all(&mut self, nodes: &[Node]) -> Result<(), BranchFault>
+        ensures exact { Makes (base_all 0 (learn_all self.old nodes.now) nodes.now) result self.new }
+        ensures extends { Extends self.old nodes.now self.new }
+        ensures based { OnOk result (AreBased self.new nodes.now) }
+        ensures keeps { OnOk result ((n p : Node) → is_ancestor self.old p n ≡ true → is_ancestor self.new p n ≡ true) }
+        ensures known { OnOk result (All (λ n. knows self.new n ≡ true) nodes.now) }
+        ensures forest { IsForest self.new }
+    {
+        match self.learn_all(nodes) {
+            Ok(()) => self.base_all(nodes),
+            Err(_) => Err(BranchFault::Memory),
+        }
+    }
+
+    /// Takes a branch, which is a list of 1 to 200 nodes, each based on the next. From the left each node gets the next one
+    /// as its parent, unless that is a proper ancestor of it already. All nodes of the branch are known afterwards, and no
+    /// node loses a proper ancestor. Errors, in this order: `EmptyBranch`; `TooLong`; `Repeated`, with the first place whose
+    /// node stands earlier; `Conflict`, with the place of a node that has another parent or is in the line of the next one;
+    /// and `Memory`, which no branch gets in place of one of the first three. After an error the tree is as before. This
+    /// project's own rule.
+    pub fn take_branch(&mut self, nodes: &[Node]) -> Result<(), BranchFault>
+        ensures exact { IsBranched self.old nodes.now result self.new }
+        ensures memory { result ≡ Err Memory → TakesMemory (branched self.old nodes.now) }
+        ensures based { OnOk result (AreBased self.new nodes.now) }
+        ensures keeps { OnOk result ((n p : Node) → is_ancestor self.old p n ≡ true → is_ancestor self.new p n ≡ true) }
+        ensures known { OnOk result (All (λ n. knows self.new n ≡ true) nodes.now) }
+        ensures forest { IsForest self.new }
+    {
+        let _ = &self.links;
+        if nodes.is_empty() {
+            return Err(BranchFault::EmptyBranch);
+        }
+        if nodes.len() > MOST_NODES {
+            return Err(BranchFault::TooLong);
+        }
+        if let Some(place) = first_repeat(nodes) {
+            return Err(BranchFault::Repeated(place));
+        }
+        let Ok(pasts) = self.pasts(nodes) else {
+            return Err(BranchFault::Memory);
+        };
+        match self.take_all(nodes) {
+            Ok(()) => Ok(()),
+            Err(fault) => {
+                put_back(&mut self.links, nodes, pasts.as_slice());
+                Err(fault)
+            }
+        }
+    }
+}

@@ -1,0 +1,21 @@
+//! Nodes (versions of source packages), the tree that says which is based on which, and the status of a bug at a node.
+#![tactic(auto)]
+
+mod branch;
+#[cfg(test)]
+mod branch_tests;
+mod fault;
+mod laws;
+mod marks;
+mod node;
+mod statuses;
+#[cfg(test)]
+mod tests;
+mod tree;
+
+pub use fault::{BranchFault, NodeFault};
+pub use laws::{one_line, valid_nodes};
+pub use marks::status;
+pub use node::{Node, at_first_slash};
+pub use statuses::Status;
+pub use tree::Tree;

@@ -1,0 +1,108 @@
+//! Which node is based on which.
+
+ghost use Rattle.std.specs.Prelude.{◌≡◌, IfOk};
+ghost use Rattle.std.specs.List.Sorted.{IsStrictlySortedBy};
+ghost use Rattle.std.specs.Option.{option_copied};
+ghost use Rattle.ancestry.specs.Nodes.{node_cmp};
+ghost use Rattle.ancestry.specs.Trees.{no_nodes, knows, parent_of, IsLine, line, is_this, is_parent, heads, IsForest};
+
+use crate::node::Node;
+use std::alloc::{AllocError, Global};
+use std::collections::BTreeMap;
+use std::marker::Model;
+
+/// The known nodes, each with its parent, if it has one: parents are known, and there are no cycles. Contracts see the
+/// links in node order. This project's own rule.
+#[derive(Drop)]
+pub struct Tree {
+    pub(crate) links: BTreeMap<Node, Option<Node>>,
+    pub(crate) alloc: Global,
+}
+
+impl Model for Tree {
+    ghost use Rattle.ancestry.specs.Trees.{Ancestry, IsForest};
+
+    ghost Value = { Ancestry };
+
+    ghost view = { λ t. t.links.entries };
+
+    ghost invariant = { λ t. IsForest t.links.entries };
+}
+
+fn is_this(node: &Node, parent: &Option<Node>) -> bool
+    ensures { result ≡ is_this node.now parent.now }
+{
+    match parent {
+        Some(parent) => node == parent,
+        None => false,
+    }
+}
+
+impl Tree {
+    /// A tree that knows no node.
+    pub fn new(alloc: Global) -> Tree
+        ensures { result ≡ no_nodes }
+    {
+        Tree {
+            links: BTreeMap::new(alloc),
+            alloc,
+        }
+    }
+
+    /// Whether a node is known. Takes no memory.
+    pub fn knows(&self, node: &Node) -> bool
+        ensures { result ≡ knows self.now node.now }
+    {
+        self.links.contains_key(node)
+    }
+
+    // The node's parent, where it is known and has one.
+    pub(crate) fn parent(&self, node: &Node) -> Option<&Node>
+        ensures value { option_copied result ≡ parent_of self.now node.now }
+        ensures forest { IsForest self.now }
+    {
+        match self.links.get(node) {
+            Some(Some(parent)) => Some(parent),
+            _ => None,
+        }
+    }
+
+    /// The line of a node: copies of the node, its parent, and so on to one that has none. An unknown node's line is
+    /// itself alone. The error is that there was no memory.
+    pub fn line(&self, node: &Node) -> Result<Vec<Node>, AllocError>
+        ensures value { IfOk result (λ nodes. nodes.items ≡ line self.now node.now) }
+        ensures is_line { IfOk result (λ nodes. IsLine self.now node.now nodes.items) }
+        ensures forest { IsForest self.now }
+    {
+        let mut nodes = Vec::new(self.alloc);
+        let mut at = Some(node);
+        while let Some(here) = at {
+            nodes.push(here.copy()?)?;
+            at = self.parent(here);
+        }
+        Ok(nodes)
+    }
+
+    // Whether a node is some node's parent.
+    fn is_parent(&self, node: &Node) -> bool
+        ensures { result ≡ is_parent self.now node.now }
+    {
+        self.links.values().any(|parent| is_this(node, parent))
+    }
+
+    /// The heads of a source package: copies of its known nodes that are no node's parent, in node order. A text that is
+    /// no package name has none. The error is that there was no memory. For each node of the package it may look at all
+    /// known nodes.
+    pub fn heads(&self, source: &str) -> Result<Vec<Node>, AllocError>
+        ensures value { IfOk result (λ nodes. nodes.items ≡ heads self.now source.now) }
+        ensures ascending { IfOk result (λ nodes. IsStrictlySortedBy node_cmp nodes.items) }
+    {
+        let mut heads = Vec::new(self.alloc);
+        for node in self.links.keys() {
+            if node.source() == source && !self.is_parent(node) {
+                heads.push(node.copy()?)?;
+            }
+        }
+        Ok(heads)
+    }
+}

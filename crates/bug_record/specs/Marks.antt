@@ -1,0 +1,26 @@
+-- Sets of nodes, in node order, as a bug's marks are. This project's own rule.
+use Rattle.std.specs.Prelude.{ℕ, Bool, not, List, [], ◌∷◌, filter}
+use Rattle.std.specs.List.Sorted.{IsStrictlySortedBy}
+use Rattle.std.specs.Ordering.{is_lt, match_ordering}
+use Rattle.std.specs.List.{list_any}
+use Rattle.debver.specs.Versions.{text_cmp}
+use Rattle.ancestry.specs.Nodes.{Node, IsNode, same_node, node_cmp}
+use Rattle.bug_record.specs.Sets.{Each}
+
+-- each node stands once, in node order, and is a package name and a version
+pub record IsNodeSet (nodes : List Node) : Type 0 where
+  pub ascending : IsStrictlySortedBy node_cmp nodes
+  pub valid : Each IsNode nodes
+
+-- the set with n
+abbrev pub with_node : List Node → Node → List Node
+with_node [] n = n ∷ []
+with_node (m ∷ nodes) n = match_ordering (node_cmp n m) (n ∷ m ∷ nodes) (m ∷ nodes) (m ∷ with_node nodes n)
+
+-- the set without n
+abbrev pub without_node : List Node → Node → List Node
+without_node nodes n = filter (λ m. not (same_node n m)) nodes
+
+-- whether a version is lower than one of the set, in the order of versions, whatever the sources
+abbrev pub is_below_some : Node → List Node → Bool
+is_below_some n nodes = list_any (λ m. is_lt (text_cmp n.version m.version)) nodes

@@ -1,0 +1,59 @@
+-- The canonical spelling of a command: its words in lower case, with one space between them. This project's own rule.
+use Rattle.std.specs.Prelude.{ℕ, codes, List, [], ◌∷◌, ◌++◌, Option, Some, None}
+use Rattle.std.specs.Fmt.{decimal}
+use Rattle.bug_record.specs.declared.command.Command.{Command}
+use Rattle.bug_record.specs.declared.command.Command.TheVariants as commands
+use Rattle.bug_record.specs.declared.command.VersionArg.{VersionArg}
+use Rattle.bug_record.specs.declared.command.Who.{Who}
+use Rattle.bug_record.specs.declared.command.Who.TheVariants.{Sender, Given}
+use Rattle.bug_record.specs.declared.severity.Severity.{Severity}
+use Rattle.bug_record.specs.declared.severity.Severity.TheVariants as severities
+use Rattle.control_text.specs.declared.named.Named.{Named}
+use Rattle.control_text.specs.declared.named.Named.TheVariants.{Number, Name}
+
+-- a number without `#` and leading zeros; a name with its `-`
+abbrev pub bug_text : Named → List ℕ
+bug_text (Number n) = decimal n
+bug_text (Name k) = 45 ∷ decimal k
+
+abbrev pub severity_text : Severity → List ℕ
+severity_text severities.Critical = codes "critical"
+severity_text severities.Grave = codes "grave"
+severity_text severities.Serious = codes "serious"
+severity_text severities.Important = codes "important"
+severity_text severities.Normal = codes "normal"
+severity_text severities.Minor = codes "minor"
+severity_text severities.Wishlist = codes "wishlist"
+
+-- a version with a source is written `source/version`
+abbrev pub sourced_text : Option (List ℕ) → List ℕ → List ℕ
+sourced_text None version = version
+sourced_text (Some source) version = source ++ 47 ∷ version
+
+abbrev pub version_text : VersionArg → List ℕ
+version_text version = sourced_text version.source version.version
+
+abbrev pub who_text : Who → List ℕ
+who_text Sender = codes "!"
+who_text (Given text) = text
+
+-- the word of a value, if there is one
+abbrev pub word_if : {A : Type 0} → (A → List ℕ) → Option A → List (List ℕ)
+word_if f None = []
+word_if f (Some x) = f x ∷ []
+
+-- each word after a space
+abbrev pub after_spaces : List (List ℕ) → List ℕ
+after_spaces [] = []
+after_spaces (word ∷ more) = 32 ∷ (word ++ after_spaces more)
+
+-- the command's word and its arguments, of which the last may be a text with blanks of its own
+unfoldable pub spelling : Command Named → List ℕ
+spelling (commands.Found bug version) = codes "found" ++ after_spaces (bug_text bug ∷ word_if version_text version)
+spelling (commands.NotFound bug version) = codes "notfound" ++ after_spaces (bug_text bug ∷ version_text version ∷ [])
+spelling (commands.Fixed bug version) = codes "fixed" ++ after_spaces (bug_text bug ∷ version_text version ∷ [])
+spelling (commands.NotFixed bug version) = codes "notfixed" ++ after_spaces (bug_text bug ∷ version_text version ∷ [])
+spelling (commands.Close bug version) = codes "close" ++ after_spaces (bug_text bug ∷ word_if version_text version)
+spelling (commands.Reopen bug who) = codes "reopen" ++ after_spaces (bug_text bug ∷ word_if who_text who)
+spelling (commands.Severity bug severity) = codes "severity" ++ after_spaces (bug_text bug ∷ severity_text severity ∷ [])
+spelling (commands.Reassign bug package_name version) = codes "reassign" ++ after_spaces (bug_text bug ∷ package_name ∷ word_if version_text version)

@@ -1,0 +1,117 @@
+//! Words that several commands take: a bug, a version, a package, a text.
+
+ghost use Rattle.std.specs.Prelude.{◌≡◌, Ok};
+ghost use Rattle.control_text.specs.Words.{words};
+ghost use Rattle.control_text.specs.Versions.{plain_version, sourced_version, without_src};
+ghost use Rattle.control_text.specs.Commands.{or_refuse, bug_of, version_of, package_of, bug_and_version, bug_and_any_version};
+ghost use Rattle.control_text.specs.Lines.{Reads};
+ghost use Rattle.bug_record.specs.declared.command.Refusal.TheVariants.{BadVersion};
+
+use crate::line::LineFault;
+use crate::named::{Named, bug_word};
+use crate::words::split_word;
+use ancestry::at_first_slash;
+use bug_record::{Refusal, VersionArg};
+use debver::{Text, check, check_name};
+use std::alloc::Global;
+
+/// The refusal of a line whose shape is wrong.
+pub(crate) const MALFORMED: LineFault = LineFault::Refused(Refusal::Malformed);
+
+const BAD_VERSION: LineFault = LineFault::Refused(Refusal::BadVersion);
+
+/// The bug of a bug word.
+pub(crate) fn read_bug(word: &str) -> Result<Named, LineFault>
+    ensures { Reads (bug_of word.now) result }
+{
+    match bug_word(word) {
+        Some(bug) => Ok(bug),
+        None => Err(MALFORMED),
+    }
+}
+
+// A version of the bug's own package.
+fn read_plain(alloc: Global, version: &str) -> Result<VersionArg, LineFault>
+    ensures { Reads (or_refuse (plain_version version.now) BadVersion (λ version. Ok version)) result }
+{
+    if check(version).is_err() {
+        return Err(BAD_VERSION);
+    }
+    Ok(VersionArg {
+        source: None,
+        version: Text::of(alloc, version)?,
+    })
+}
+
+// A version of a source package.
+fn read_sourced(alloc: Global, source: &str, version: &str) -> Result<VersionArg, LineFault>
+    ensures { Reads (or_refuse (sourced_version source.now version.now) BadVersion (λ version. Ok version)) result }
+{
+    if check_name(source).is_err() || check(version).is_err() {
+        return Err(BAD_VERSION);
+    }
+    Ok(VersionArg {
+        source: Some(Text::of(alloc, source)?),
+        version: Text::of(alloc, version)?,
+    })
+}
+
+/// The version of a version word.
+pub(crate) fn read_version(alloc: Global, word: &str) -> Result<VersionArg, LineFault>
+    ensures { Reads (version_of word.now) result }
+{
+    match at_first_slash(word) {
+        Some((source, version)) => read_sourced(alloc, source, version),
+        None => read_plain(alloc, word),
+    }
+}
+
+// The word without one `src:` at its beginning.
+fn without_src(word: &str) -> &str
+    ensures { result.now ≡ without_src word.now }
+{
+    word.strip_prefix("src:").unwrap_or(word)
+}
+
+/// The package that a word names.
+pub(crate) fn read_package(alloc: Global, word: &str) -> Result<Text, LineFault>
+    ensures { Reads (package_of word.now) result }
+{
+    let name = without_src(word);
+    if check_name(name).is_err() {
+        return Err(LineFault::Refused(Refusal::BadPackage));
+    }
+    Ok(Text::of(alloc, name)?)
+}
+
+/// `n v`: a bug and a version.
+pub(crate) fn bug_and_version(
+    alloc: Global,
+    arguments: &str,
+) -> Result<(Named, VersionArg), LineFault>
+    ensures { Reads (bug_and_version (words arguments.now)) result }
+{
+    let (first, rest) = split_word(arguments).ok_or(MALFORMED)?;
+    let (second, rest) = split_word(rest).ok_or(MALFORMED)?;
+    if split_word(rest).is_some() {
+        return Err(MALFORMED);
+    }
+    let bug = read_bug(first)?;
+    let version = read_version(alloc, second)?;
+    Ok((bug, version))
+}
+
+/// `n [v]`: a bug, and a version, if one is given.
+pub(crate) fn bug_and_any_version(
+    alloc: Global,
+    arguments: &str,
+) -> Result<(Named, Option<VersionArg>), LineFault>
+    ensures { Reads (bug_and_any_version (words arguments.now)) result }
+{
+    let (first, rest) = split_word(arguments).ok_or(MALFORMED)?;
+    if split_word(rest).is_none() {
+        return Ok((read_bug(first)?, None));
+    }
+    let (bug, version) = bug_and_version(alloc, arguments)?;
+    Ok((bug, Some(version)))
+}

@@ -1,0 +1,128 @@
+-- A branch that is carried out in parts.
+use Rattle.std.proofs.Common.{◌≡◌, inl, inr, ℕ, Bool, ◌∷◌, ◌++◌, [], List, Option, Some, None, Result, Ok, Err, true, sym, ◌∙◌, ap, subst, refl, append_assoc, append-nil, false, arith}
+use Rattle.std.specs.Prelude.{option_map, codes, length, ◌==◌, ◌||◌}
+use Rattle.std.proofs.lemmas.Bool.{false≢true, eqb-true}
+use Rattle.std.proofs.lemmas.Option.{none-some, same_Some}
+use Rattle.control_text.specs.Words.{words, has_bytes}
+use Rattle.ancestry.specs.declared.fault.NodeFault.{NodeFault}
+use Rattle.ancestry.specs.declared.fault.NodeFault.TheVariants.{BadNode as WordIsNoNode, Memory as NoMemory}
+use Rattle.ancestry.specs.Nodes.{Node, node_of_text, IsRead}
+use Rattle.ancestry.specs.Trees.{Ancestry}
+use Rattle.ancestry.specs.Branches.{branched}
+use Rattle.ancestry.specs.declared.fault.BranchFault.{BranchFault}
+use Rattle.bug_record.specs.Desk.{Desk}
+use Rattle.desk_text.specs.declared.outcome.StoreFault.{StoreFault}
+use Rattle.desk_text.specs.declared.outcome.StoreFault.TheVariants as faults
+use Rattle.desk_text.specs.Texts.{fault_text}
+use Rattle.desk_store.specs.Store.{Branches, faults_after}
+use Rattle.desk_run.specs.Branches.{BranchRefusal, BadNode, Refused, with_node, nodes_of, or_refused, branched_by, branch_of, AreRead}
+use Rattle.desk_run.specs.Script.{Part, DirectiveLine, Directive, Branch, Standing, standing, part_text, part_after, directive_of, branch_text, after_branch}
+use Rattle.desk_run.specs.Running.{AsksStore, FaultsIn, IsCarried}
+use Rattle.desk_run.specs.Answers.{branch_answer, refuses_branch, fault_of_branch}
+use Rattle.desk_run.proofs.PartLemmas.{order_is}
+
+or_false : (b : Bool) → (b || false) ≡ b
+or_false true = refl
+or_false false = refl
+
+or_true : (b : Bool) → (b || true) ≡ true
+or_true true = refl
+or_true false = refl
+
+faults_same : (told fault : StoreFault) (n : ℕ) → told ≡ fault → faults_after {T = Result (Unit {0}) BranchFault} (Err told) n ≡ faults_after {T = Unit {0}} (Err fault) n
+faults_same told fault n e = of_kind told ∙ ap (λ (f : StoreFault). faults_after {T = Unit {0}} (Err f) n) e
+  where
+    of_kind : (f : StoreFault) → faults_after {T = Result (Unit {0}) BranchFault} (Err f) n ≡ faults_after {T = Unit {0}} (Err f) n
+    of_kind faults.Memory = refl
+    of_kind faults.Device = refl
+    of_kind faults.Full = refl
+    of_kind faults.Foreign = refl
+
+-- what a branch of these nodes comes to
+branch_is : (line : List ℕ) (names : List (List ℕ)) (nodes : List Node) (s : Standing) (r : Result Ancestry BranchFault) → directive_of line ≡ Branch names → nodes_of names ≡ Some nodes → branched s.desk.tree nodes ≡ r
+    → (part_text (DirectiveLine line) s ≡ branch_text (or_refused r)) × (part_after (DirectiveLine line) s ≡ after_branch (or_refused r) s)
+unfolding branch_of
+branch_is line names nodes s r e n h =
+    let o = order_is line s (Branch names) e in
+    let b : branch_of s.desk.tree names ≡ or_refused r = ap (branched_by s.desk.tree) n ∙ ap or_refused h in
+    (o.0 ∙ ap branch_text b, o.1 ∙ ap (λ (x : Result Ancestry BranchRefusal). after_branch x s) b)
+
+-- a word that is no node refuses the branch
+pub branch_of_none : (tree : Ancestry) (names : List (List ℕ)) → nodes_of names ≡ None → branch_of tree names ≡ Err BadNode
+unfolding branch_of
+branch_of_none tree names h = ap (branched_by tree) h
+
+-- with no fault of the store
+pub branch_whole : (line : List ℕ) (names : List (List ℕ)) (nodes : List Node) (s : Standing) (d : Desk) (answer : Result (Result (Unit {0}) BranchFault) StoreFault) (refused : Bool) → directive_of line ≡ Branch names → nodes_of names ≡ Some nodes
+    → fault_of_branch answer ≡ None → refused ≡ (s.refused || refuses_branch answer) → Branches s.desk d answer nodes
+    → (standing d s.sender refused ≡ part_after (DirectiveLine line) s) × (branch_answer answer ≡ part_text (DirectiveLine line) s)
+branch_whole line names nodes s d (Ok (Ok done)) refused e n f r h =
+    let o = branch_is line names nodes s (Ok d.tree) e n h.0 in
+    ((λ i. standing (h.1 i) s.sender ((r ∙ or_false s.refused) i)) ∙ sym o.1, sym o.0)
+branch_whole line names nodes s d (Ok (Err refusal)) refused e n f r h =
+    let o = branch_is line names nodes s (Err refusal) e n h.0 in
+    ((λ i. standing (h.1 i) s.sender ((r ∙ or_true s.refused) i)) ∙ sym o.1, sym o.0)
+branch_whole line names nodes s d (Err fault) refused e n f r h = absurd (none-some fault (sym f))
+
+-- a branch at which the store failed
+pub branch_fault : (line : List ℕ) (names : List (List ℕ)) (nodes : List Node) (s : Standing) (d : Desk) (answer : Result (Result (Unit {0}) BranchFault) StoreFault) (fault : StoreFault) → directive_of line ≡ Branch names → nodes_of names ≡ Some nodes
+    → fault_of_branch answer ≡ Some fault → Branches s.desk d answer nodes → FaultsIn (DirectiveLine line) s fault d (branch_answer answer)
+branch_fault line names nodes s d (Ok answer) fault e n f h = absurd (none-some fault f)
+branch_fault line names nodes s d (Err told) fault e n f h = (subst AsksStore (sym e) (nodes, n), h, ap fault_text (same_Some told fault f))
+
+pub branch_carried : (line : List ℕ) (names : List (List ℕ)) (nodes : List Node) (s : Standing) (d : Desk) (answer : Result (Result (Unit {0}) BranchFault) StoreFault) → directive_of line ≡ Branch names → nodes_of names ≡ Some nodes
+    → Branches s.desk d answer nodes → IsCarried (DirectiveLine line) s d (branch_answer answer)
+branch_carried line names nodes s d (Ok answer) e n h =
+    let w = branch_whole line names nodes s d (Ok answer) (s.refused || refuses_branch (Ok answer)) e n refl refl h in
+    inl (ap (λ (x : Standing). x.desk) w.0, w.1)
+branch_carried line names nodes s d (Err fault) e n h = inr (fault, branch_fault line names nodes s d (Err fault) fault e n refl h)
+
+-- how it is counted
+pub whole_count : (answer : Result (Result (Unit {0}) BranchFault) StoreFault) (n : ℕ) → fault_of_branch answer ≡ None → faults_after answer n ≡ n
+whole_count (Ok answer) n f = refl
+whole_count (Err fault) n f = absurd (none-some fault (sym f))
+
+pub branch_count : (answer : Result (Result (Unit {0}) BranchFault) StoreFault) (fault : StoreFault) (n : ℕ) → fault_of_branch answer ≡ Some fault → faults_after answer n ≡ faults_after {T = Unit {0}} (Err fault) n
+branch_count (Ok answer) fault n f = absurd (none-some fault f)
+branch_count (Err told) fault n f = faults_same told fault n (same_Some told fault f)
+
+-- ---- reading the words
+
+-- the nodes of words, after others
+pub nodes-more : (word : List ℕ) (words : List (List ℕ)) (n : Node) (before : List Node) → node_of_text word ≡ Some n
+    → option_map (λ nodes. before ++ nodes) (nodes_of (word ∷ words)) ≡ option_map (λ nodes. (before ++ n ∷ []) ++ nodes) (nodes_of words)
+nodes-more word words n before e = ap (λ (o : Option Node). option_map (λ nodes. before ++ nodes) (with_node o (nodes_of words))) e ∙ rest (nodes_of words)
+  where
+    rest : (o : Option (List Node)) → option_map (λ nodes. before ++ nodes) (with_node (Some n) o) ≡ option_map (λ nodes. (before ++ n ∷ []) ++ nodes) o
+    rest None = refl
+    rest (Some nodes) = ap Some (sym (append_assoc before (n ∷ []) nodes))
+
+pub nodes-none : (word : List ℕ) (words : List (List ℕ)) (before : List Node) → node_of_text word ≡ None → option_map (λ nodes. before ++ nodes) (nodes_of (word ∷ words)) ≡ None
+nodes-none word words before e = ap (λ (o : Option Node). option_map (λ nodes. before ++ nodes) (with_node o (nodes_of words))) e ∙ rest (nodes_of words)
+  where
+    rest : (o : Option (List Node)) → option_map (λ nodes. before ++ nodes) (with_node None o) ≡ None
+    rest None = refl
+    rest (Some nodes) = refl
+
+-- a word of no byte, and one of some
+pub no_bytes : (word : List ℕ) → (length word == 0) ≡ true → has_bytes word ≡ false
+no_bytes [] e = refl
+no_bytes (c ∷ s) e = let none : length (c ∷ s) ≡ 0 = eqb-true (length (c ∷ s)) 0 e in absurd (omega arith)
+
+pub some_bytes : (word : List ℕ) → (length word == 0) ≡ false → has_bytes word ≡ true
+some_bytes [] e = absurd (false≢true (sym e))
+some_bytes (c ∷ s) e = refl
+
+-- nothing is left to read
+pub nodes-all : (text rest : List ℕ) (before : List Node) → option_map (λ nodes. before ++ nodes) (nodes_of (words rest)) ≡ nodes_of (words text) → words rest ≡ [] → nodes_of (words text) ≡ Some before
+nodes-all text rest before h e = sym h ∙ ap (λ ws. option_map (λ nodes. before ++ nodes) (nodes_of ws)) e ∙ ap Some (append-nil before)
+
+-- no node is read
+pub unread : (A : Type 0) (text rest word : List ℕ) (more : List (List ℕ)) (before : List Node) (fault : NodeFault) → option_map (λ nodes. before ++ nodes) (nodes_of (words rest)) ≡ nodes_of (words text) → words rest ≡ word ∷ more
+    → IsRead (node_of_text word) (Err fault) → AreRead {A = A} (nodes_of (words text)) (Err fault)
+unread A text rest word more before WordIsNoNode h e r = sym h ∙ ap (λ ws. option_map (λ nodes. before ++ nodes) (nodes_of ws)) e ∙ nodes-none word more before r
+unread A text rest word more before NoMemory h e r = tt
+
+pub map_all : (o : Option (List Node)) → option_map (λ nodes. [] ++ nodes) o ≡ o
+map_all None = refl
+map_all (Some nodes) = refl

@@ -1,0 +1,15 @@
+use Rattle.std.proofs.Common.{◌≡◌, length, ◌++◌}
+use Rattle.std.specs.Prelude.{option_map}
+use Rattle.std.specs.Str.{IsUtf8}
+use Rattle.control_text.specs.Words.{words}
+use Rattle.desk_run.specs.Branches.{nodes_of}
+use Rattle.desk_run.proofs.branch.read_nodes.Given as goal
+
+abbrev pub invariant-loop-word : goal.invariant-loop-word
+invariant-loop-word l = record {
+  text : IsUtf8 l.rest;
+  nodes : option_map (λ ns. l.nodes.items ++ ns) (nodes_of (words l.rest)) ≡ nodes_of (words l.text);
+}
+
+abbrev pub decreases-loop-word : goal.decreases-loop-word
+decreases-loop-word l = length (words l.rest)

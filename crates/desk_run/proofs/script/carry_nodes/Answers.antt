@@ -1,0 +1,61 @@
+use Rattle.std.proofs.Common.{ℕ, ◌<◌, length, List, take, ◌∙◌, sym, subst, ap}
+use Rattle.std.specs.Prelude.{◌||◌}
+use Rattle.std.specs.Io.KnownBytes.{Appends}
+use Rattle.desk_store.proofs.HoldsLemmas.{holds_weaker}
+use Rattle.desk_run.specs.Script.{DirectiveLine, standing}
+use Rattle.desk_run.specs.Answers.{branch_answer}
+use Rattle.desk_run.proofs.PartLemmas.{untold}
+use Rattle.desk_run.proofs.BranchLemmas.{branch_whole, branch_fault, branch_carried, whole_count, branch_count}
+use Rattle.desk_run.proofs.script.carry_nodes.Goals as goal
+
+pub returns-in_default-clause-answer : goal.returns-in_default-clause-answer
+returns-in_default-clause-answer g c =
+    let s = standing (g.S.Records.desk c.args.store.now) c.args.run.now.sender c.args.run.now.refused in
+    holds_weaker c.branch-answer.ensures.answer
+    (λ r. untold (DirectiveLine c.args.line.now) s _ _ (branch_answer c.branch-answer.result)
+    (branch_carried c.args.line.now c.requires.0 c.args.nodes.now s _ c.branch-answer.result c.requires.1 c.requires.2 r))
+
+pub returns-in-Err-clause-answer : goal.returns-in-Err-clause-answer
+returns-in-Err-clause-answer g c =
+    let s = standing (g.S.Records.desk c.args.store.now) c.args.run.now.sender c.args.run.now.refused in
+    let text = c.as_slice.ensures.value ∙ c.in-Ok.ensures in
+    holds_weaker c.branch-answer.ensures.answer
+    (λ r. (
+      branch_answer c.branch-answer.result,
+      c.in-Err.ensures.unfinished.0,
+      subst (λ (w : List ℕ). c.in-Err.ensures.unfinished.0 < length w) text c.in-Err.ensures.unfinished.1,
+      branch_carried c.args.line.now c.requires.0 c.args.nodes.now s _ c.branch-answer.result c.requires.1 c.requires.2 r,
+      subst (λ (w : List ℕ). Appends (g.W.Write.contents c.args.writer.now) (g.W.Write.contents c.write_out.new.writer) (take c.in-Err.ensures.unfinished.0 w)) text c.in-Err.ensures.unfinished.2,
+    ))
+
+pub returns-in-Some-clause-answer : goal.returns-in-Some-clause-answer
+returns-in-Some-clause-answer g c =
+    let s = standing (g.S.Records.desk c.args.store.now) c.args.run.now.sender c.args.run.now.refused in
+    let text = c.as_slice.ensures.value ∙ c.in-Ok.ensures in
+    let of_store = sym c.fault_of_branch.ensures ∙ c.in-Some.is in
+    holds_weaker c.branch-answer.ensures.answer
+    (λ r. (
+      branch_answer c.branch-answer.result,
+      branch_fault c.args.line.now c.requires.0 c.args.nodes.now s _ c.branch-answer.result c.in-Some.fault c.requires.1 c.requires.2 of_store r,
+      subst (Appends (g.W.Write.contents c.args.writer.now) (g.W.Write.contents c.write_out.new.writer)) text c.in-Ok-write_out.ensures.all,
+    ))
+
+pub returns-in-Some-clause-count : goal.returns-in-Some-clause-count
+returns-in-Some-clause-count g c =
+    let of_store = sym c.fault_of_branch.ensures ∙ c.in-Some.is in
+    c.branch-answer.ensures.count ∙ branch_count c.branch-answer.result c.in-Some.fault _ of_store
+
+pub returns-clause-answer : goal.returns-clause-answer
+returns-clause-answer g c =
+    let s = standing (g.S.Records.desk c.args.store.now) c.args.run.now.sender c.args.run.now.refused in
+    let text = c.as_slice.ensures.value ∙ c.in-Ok.ensures in
+    let not_of_store = sym c.fault_of_branch.ensures ∙ c.in_default-fault_of_branch.is in
+    holds_weaker c.branch-answer.ensures.answer
+    (λ r.
+    let w = branch_whole c.args.line.now c.requires.0 c.args.nodes.now s _ c.branch-answer.result c.either-run.result c.requires.1 c.requires.2 not_of_store (c.either-run.ensures ∙ ap (λ b. s.refused || b) c.refuses_branch.ensures) r in
+    (w.0, subst (Appends (g.W.Write.contents c.args.writer.now) (g.W.Write.contents c.write_out.new.writer)) (text ∙ w.1) c.in-Ok-write_out.ensures.all))
+
+pub returns-clause-count : goal.returns-clause-count
+returns-clause-count g c =
+    let not_of_store = sym c.fault_of_branch.ensures ∙ c.in_default-fault_of_branch.is in
+    c.branch-answer.ensures.count ∙ whole_count c.branch-answer.result _ not_of_store

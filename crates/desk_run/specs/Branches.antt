@@ -1,0 +1,54 @@
+-- Branches in a script, by the words of their nodes. This project's own rule.
+use Rattle.std.specs.Prelude.{ℕ, ◌≡◌, List, [], ◌∷◌, ◌++◌, Option, Some, None, Result, Ok, Err, codes, Vec, ⊤}
+use Rattle.std.specs.Fmt.{decimal}
+use Rattle.ancestry.specs.Nodes.{Node, node_of_text}
+use Rattle.ancestry.specs.Trees.{Ancestry}
+use Rattle.ancestry.specs.Branches.{branched}
+use Rattle.ancestry.specs.declared.fault.NodeFault.{NodeFault}
+use Rattle.ancestry.specs.declared.fault.NodeFault.TheVariants.{BadNode as WordIsNoNode, Memory as NoMemory}
+use Rattle.ancestry.specs.declared.fault.BranchFault.{BranchFault}
+use Rattle.ancestry.specs.declared.fault.BranchFault.TheVariants.{EmptyBranch, Repeated, Conflict, TooLong, Memory}
+
+-- a node before others, if all are nodes
+abbrev pub with_node : Option Node → Option (List Node) → Option (List Node)
+with_node (Some n) (Some nodes) = Some (n ∷ nodes)
+with_node _ _ = None
+
+-- the nodes of these words, where each is one
+abbrev pub nodes_of : List (List ℕ) → Option (List Node)
+nodes_of [] = Some []
+nodes_of (word ∷ words) = with_node (node_of_text word) (nodes_of words)
+
+-- why a branch is refused: a word is no node, or its nodes are no branch
+pub data BranchRefusal : Type 0 where
+  BadNode : BranchRefusal
+  Refused : BranchFault → BranchRefusal
+
+abbrev pub or_refused : Result Ancestry BranchFault → Result Ancestry BranchRefusal
+or_refused (Ok tree) = Ok tree
+or_refused (Err fault) = Err (Refused fault)
+
+abbrev pub branched_by : Ancestry → Option (List Node) → Result Ancestry BranchRefusal
+branched_by tree None = Err BadNode
+branched_by tree (Some nodes) = or_refused (branched tree nodes)
+
+-- The ancestry after a branch of these words, or the refusal: a word that is no node decides before the branch is looked at.
+unfoldable pub branch_of : Ancestry → List (List ℕ) → Result Ancestry BranchRefusal
+branch_of tree words = branched_by tree (nodes_of words)
+
+abbrev pub fault_words : BranchFault → List ℕ
+fault_words EmptyBranch = codes "empty branch"
+fault_words TooLong = codes "more than 200 versions"
+fault_words (Repeated place) = codes "repeated version at " ++ decimal place
+fault_words (Conflict place) = codes "conflict at " ++ decimal place
+fault_words Memory = []  -- no refusal
+
+abbrev pub refusal_text : BranchRefusal → List ℕ
+refusal_text BadNode = codes "bad version"
+refusal_text (Refused fault) = fault_words fault
+
+-- what is read of the words of a branch, unless there was no memory
+abbrev pub AreRead : {A : Type 0} → Option (List Node) → Result (Vec Node A) NodeFault → Type 0
+AreRead nodes (Ok read) = nodes ≡ Some read.items
+AreRead nodes (Err WordIsNoNode) = nodes ≡ None
+AreRead nodes (Err NoMemory) = ⊤

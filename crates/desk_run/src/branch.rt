@@ -1,0 +1,31 @@
+//! The nodes of a branch in a script.
+
+ghost use Rattle.std.specs.Prelude.{◌≡◌, Some, None};
+ghost use Rattle.control_text.specs.Words.{words};
+ghost use Rattle.desk_run.specs.Branches.{nodes_of, AreRead};
+
+use ancestry::{Node, NodeFault};
+use control_text::next_word;
+use std::alloc::Global;
+
+/// The nodes of the words of a text. `BadNode` where a word is no node, `Memory` where there was none.
+pub(crate) fn read_nodes(alloc: Global, text: &str) -> Result<Vec<Node>, NodeFault>
+    ensures { AreRead (nodes_of (words text.now)) result }
+{
+    let mut nodes = Vec::new(alloc);
+    let mut rest = text;
+    loop {
+        let (word, more) = next_word(rest);
+        if word.is_empty() {
+            return Ok(nodes);
+        }
+        match Node::read(alloc, word) {
+            Ok(node) => match nodes.push(node) {
+                Ok(()) => {}
+                Err(_) => return Err(NodeFault::Memory),
+            },
+            Err(fault) => return Err(fault),
+        }
+        rest = more;
+    }
+}
