@@ -115,6 +115,7 @@ impl Tree {
         ensures was_forest { IsForest self.old }
         ensures forest { IsForest self.new }
     {
+        // A look at the tree, so that its invariant is known here.
         let _ = &self.links;
         for node in nodes {
             self.learn(node)?;
@@ -189,6 +190,7 @@ impl Tree {
         ensures extends { Extends self.old nodes.now self.new }
         ensures forest { IsForest self.new }
     {
+        // A look at the tree, so that its invariant is known here.
         let _ = &self.links;
         let Some((mut node, others)) = nodes.split_first() else {
             return Ok(());
@@ -229,6 +231,7 @@ impl Tree {
         ensures known { OnOk result (All (λ n. knows self.new n ≡ true) nodes.now) }
         ensures forest { IsForest self.new }
     {
+        // A look at the tree, so that its invariant is known here.
         let _ = &self.links;
         if nodes.is_empty() {
             return Err(BranchFault::EmptyBranch);

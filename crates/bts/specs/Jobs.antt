@@ -6,7 +6,7 @@ use Rattle.desk_run.specs.Script.{begin}
 use Rattle.desk_run.specs.Running.{Ends}
 use Rattle.desk_run.specs.declared.script.ScriptEnd.{ScriptEnd}
 use Rattle.desk_run.specs.declared.script.ScriptEnd.TheVariants.{Accepted, Refused}
-use Rattle.desk_run.specs.declared.fault.ScriptFault.{ScriptFault}
+use Rattle.desk_lines.specs.declared.fault.ScriptFault.{ScriptFault}
 use Rattle.bts.specs.declared.job.Job.{Job}
 use Rattle.bts.specs.declared.job.Job.TheVariants.{Run, Bad}
 

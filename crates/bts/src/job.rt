@@ -2,7 +2,7 @@
 
 ghost use Rattle.std.specs.Prelude.{◌≡◌, ℕ, Option, Result};
 ghost use Rattle.bug_record.specs.Desk.{Desk};
-ghost use Rattle.desk_run.specs.Reading.{Known};
+ghost use Rattle.desk_lines.specs.Reading.{Known};
 ghost use Rattle.desk_run.specs.Script.{begin};
 ghost use Rattle.desk_run.specs.Running.{Ends};
 ghost use Rattle.desk_store.specs.Plain.{empty_desk};

@@ -86,13 +86,17 @@ pub(crate) fn shared_after(
             find_at(&mut shared, node_meant(alloc, package, version)?)?;
         }
         Command::NotFound(_, version) => {
-            shared.found.remove_node(&node_meant(alloc, package, version)?);
+            shared
+                .found
+                .remove_node(&node_meant(alloc, package, version)?);
         }
         Command::Fixed(_, version) => {
             mark_fixed(&mut shared, node_meant(alloc, package, version)?)?;
         }
         Command::NotFixed(_, version) => {
-            shared.fixed.remove_node(&node_meant(alloc, package, version)?);
+            shared
+                .fixed
+                .remove_node(&node_meant(alloc, package, version)?);
         }
         Command::Close(_, None) => shared.closed = true,
         Command::Close(_, Some(version)) => {
@@ -135,7 +139,11 @@ pub(crate) fn new_submitter<'a>(
 }
 
 // A copy of the member, with another submitter, if one is given.
-fn member_with(alloc: Global, member: &Member, submitter: Option<&str>) -> Result<Member, AllocError>
+fn member_with(
+    alloc: Global,
+    member: &Member,
+    submitter: Option<&str>,
+) -> Result<Member, AllocError>
     ensures { IfOk result (λ m. m ≡ with_submitter (option_copied submitter.entry) member.now) }
 {
     Ok(Member {

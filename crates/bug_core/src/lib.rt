@@ -10,16 +10,14 @@ mod plans;
 mod report;
 #[cfg(test)]
 mod tests;
-mod text;
 mod versions;
 
 pub use bug_record::{
     Bug, Change, Command, Member, Nodes, Numbered, Numbers, PlanFault, Refusal, Sequence, SetImage,
-    Severity, Shared, VersionArg, Who,
+    Severity, Shared, VersionArg, Who, is_text,
 };
 pub use changes::changed;
 pub use fields::bug_named;
 pub use laws::changed_numbers_differ;
 pub use plans::plan;
 pub use report::report_change;
-pub use text::is_text;

@@ -182,7 +182,13 @@ fn a_closed_bug_is_found_again_where_no_higher_version_is_fixed(
     rt: HostRuntime,
 ) -> Result<(), Fail> {
     let alloc = rt.alloc();
-    let rows = [("0.9~", true), ("2", true), ("3-0", false), ("3", false), ("4", false)];
+    let rows = [
+        ("0.9~", true),
+        ("2", true),
+        ("3-0", false),
+        ("3", false),
+        ("4", false),
+    ];
     for (text, stays_closed) in rows {
         let images = [fixed_image(alloc)?];
         let command = Command::Found(1, version(alloc, text)?);
@@ -194,7 +200,10 @@ fn a_closed_bug_is_found_again_where_no_higher_version_is_fixed(
         };
         assert!(&rt; after.shared.closed == stays_closed, "{text}");
         assert!(&rt; texts_are(&after.shared.found, &[("foo", text)]), "{text}");
-        assert!(&rt; texts_are(&after.shared.fixed, &[("bar", "3"), ("foo", "1.0")]), "{text}");
+        assert!(&rt;
+            texts_are(&after.shared.fixed, &[("bar", "3"), ("foo", "1.0")]),
+            "{text}"
+        );
     }
     Ok(())
 }

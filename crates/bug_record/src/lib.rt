@@ -9,6 +9,7 @@ mod sequence;
 mod severity;
 #[cfg(test)]
 mod tests;
+mod texts;
 mod words;
 
 pub use bug::{Bug, Member, SetImage, Shared};
@@ -16,4 +17,5 @@ pub use characters::{is_blank, is_control};
 pub use command::{Change, Command, PlanFault, Refusal, VersionArg, Who};
 pub use sequence::{Nodes, Numbered, Numbers, Sequence};
 pub use severity::Severity;
+pub use texts::is_text;
 pub use words::is_word;

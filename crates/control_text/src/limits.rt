@@ -2,15 +2,13 @@
 
 ghost use Rattle.std.specs.Prelude.{◌≡◌, IsTrue, Decides};
 ghost use Rattle.debver.specs.Names.{IsName};
-ghost use Rattle.bug_record.specs.Texts.{IsText};
 ghost use Rattle.bug_record.specs.Commands.{IfGiven, IsGoodVersion, IsGoodPerson};
 ghost use Rattle.control_text.specs.Numbers.{IsGoodNumber};
 ghost use Rattle.control_text.specs.Bugs.{IsGoodBug};
 ghost use Rattle.control_text.specs.WellFormed.{IsPlain, IsWellFormed};
 
 use crate::named::Named;
-use crate::words::{has_control, trim};
-use bug_record::{Command, VersionArg, Who};
+use bug_record::{Command, VersionArg, Who, is_text};
 use debver::{Text, check, check_name};
 
 fn is_good_number(number: u64) -> bool
@@ -26,19 +24,6 @@ fn is_good_bug(bug: Named) -> bool
         Named::Number(number) => is_good_number(number),
         Named::Name(name) => is_good_number(u64::from(name)),
     }
-}
-
-// A text of 1 to 200 bytes, without control characters and outer blanks.
-fn is_text(text: &str) -> bool
-    ensures { Decides result (IsText text.now) }
-{
-    if text.is_empty() || text.len() > 200 {
-        return false;
-    }
-    if has_control(text) {
-        return false;
-    }
-    trim(text) == text
 }
 
 fn is_good_source(source: &Option<Text>) -> bool

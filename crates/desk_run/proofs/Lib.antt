@@ -1,5 +1,4 @@
 pub mod CommandLemmas
-pub mod LineLemmas
 pub mod EndLemmas
 pub mod MachineLemmas
 pub mod ReportLemmas
@@ -8,4 +7,3 @@ pub mod PartLemmas
 pub mod BranchLemmas
 pub mod RunLemmas
 pub mod ScriptLemmas
-pub mod ReadingLemmas

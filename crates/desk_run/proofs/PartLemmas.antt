@@ -17,8 +17,8 @@ use Rattle.desk_run.specs.Running.{AsksStore, FaultsIn, IsCarried, StopsIn, Carr
 use Rattle.desk_run.specs.Answers.{fault_of_end, report_answer, store_fault}
 use Rattle.desk_run.specs.declared.reporting.ReportFault.{ReportFault}
 use Rattle.desk_run.specs.declared.reporting.ReportFault.TheVariants as reports
-use Rattle.desk_run.specs.declared.fault.ScriptFault.{ScriptFault}
-use Rattle.desk_run.specs.declared.fault.ScriptFault.TheVariants as stops
+use Rattle.desk_lines.specs.declared.fault.ScriptFault.{ScriptFault}
+use Rattle.desk_lines.specs.declared.fault.ScriptFault.TheVariants as stops
 use Rattle.desk_run.proofs.WrittenLemmas.{appends_none}
 
 -- what a message comes to

@@ -5,8 +5,8 @@ use Rattle.bug_record.specs.Desk.{Desk}
 use Rattle.desk_run.specs.Script.{Part, Message, DirectiveLine, Standing, part_text, part_after, text_of, after_parts, parts_of, with_line, is_directive, end_of_script}
 use Rattle.desk_run.specs.Taking.{parts_from}
 use Rattle.desk_run.specs.Running.{Runs, StopsIn, Stops, EndsParts}
-use Rattle.desk_run.specs.declared.fault.ScriptFault.{ScriptFault}
-use Rattle.desk_run.specs.declared.fault.ScriptFault.TheVariants as stops
+use Rattle.desk_lines.specs.declared.fault.ScriptFault.{ScriptFault}
+use Rattle.desk_lines.specs.declared.fault.ScriptFault.TheVariants as stops
 use Rattle.desk_run.specs.declared.script.ScriptEnd.{ScriptEnd}
 use Rattle.std.proofs.KnownBytes.{Appends-trans}
 use Rattle.desk_run.proofs.WrittenLemmas.{appends_none}

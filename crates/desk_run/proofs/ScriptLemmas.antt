@@ -2,13 +2,13 @@
 use Rattle.std.proofs.Common.{◌≡◌, inl, ℕ, ◌+◌, List, [], ◌∷◌, ◌++◌, length, map, sym, ◌∙◌, ap, subst, refl, arith, Option, Result, Ok, Err, append_assoc, append-nil, length-append}
 use Rattle.std.specs.Result.{IfErr, OnOk}
 use Rattle.bug_record.specs.Desk.{Desk}
-use Rattle.desk_run.specs.Lines.{without_return, raw_lines, lines_of}
-use Rattle.desk_run.specs.Reading.{IsGoodLine, IsLineFault, IsReadingFault, Known, Left}
+use Rattle.desk_lines.specs.Lines.{without_return, raw_lines, lines_of}
+use Rattle.desk_lines.specs.Reading.{IsGoodLine, IsLineFault, IsReadingFault, Known, Left}
 use Rattle.desk_run.specs.Script.{Part, Message, Standing, parts_of, script_of, after_parts}
 use Rattle.desk_run.specs.Taking.{parts_from}
 use Rattle.desk_run.specs.Running.{Runs, Stops, StopsIn, EndsParts, Ends, AreGood, IsFirstBad, IsPlace, IsOfPart, StopsInGoodLines}
-use Rattle.desk_run.specs.declared.fault.ScriptFault.{ScriptFault}
-use Rattle.desk_run.specs.declared.fault.ScriptFault.TheVariants as stops
+use Rattle.desk_lines.specs.declared.fault.ScriptFault.{ScriptFault}
+use Rattle.desk_lines.specs.declared.fault.ScriptFault.TheVariants as stops
 use Rattle.desk_run.specs.declared.script.ScriptEnd.{ScriptEnd}
 use Rattle.desk_run.proofs.WrittenLemmas.{appends_none}
 use Rattle.desk_run.proofs.RunLemmas.{runs_then_stops, runs_then_ends, one_stops, parts_begin, runs_none, from_start}

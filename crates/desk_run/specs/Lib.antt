@@ -1,11 +1,9 @@
 pub mod Commands
 pub mod Taking
-pub mod Lines
 pub mod Transcripts
 pub mod Reports
 pub mod Branches
 pub mod Script
 pub mod Directives
-pub mod Reading
 pub mod Running
 pub mod Answers

@@ -12,7 +12,7 @@ use Rattle.desk_text.specs.declared.outcome.Outcome.TheVariants.{Refused}
 use Rattle.desk_text.specs.declared.outcome.End.{End}
 use Rattle.desk_text.specs.declared.outcome.End.TheVariants as ends
 use Rattle.desk_store.specs.Message.{Entry, Machine, after_lines, at_start, end_of}
-use Rattle.desk_run.specs.Lines.{lines_of}
+use Rattle.desk_lines.specs.Lines.{lines_of}
 use Rattle.desk_run.specs.Transcripts.{received_text}
 use Rattle.ancestry.specs.Trees.{Ancestry}
 use Rattle.desk_run.specs.Reports.{report_of}

@@ -5,15 +5,13 @@ mod answer;
 mod branch;
 mod command;
 mod directive;
-mod fault;
-mod lines;
 mod message;
 mod reporting;
 mod script;
-mod source;
 mod transcript;
 
-pub use fault::ScriptFault;
+pub use desk_lines::ScriptFault;
+pub use desk_store::{FailAt, PlainDesk, Records};
 pub use message::{Received, receive};
 pub use reporting::{ReportFault, report};
 pub use script::{ScriptEnd, run_script};

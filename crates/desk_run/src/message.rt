@@ -5,11 +5,11 @@ ghost use Rattle.bug_record.specs.Texts.{IsText};
 ghost use Rattle.desk_store.specs.Store.{Holds, faults_after};
 ghost use Rattle.desk_store.specs.Message.{is_stop, is_unreadable, unreadable_count, end_of, IsReceived, faults_after_end};
 ghost use Rattle.desk_run.specs.Taking.{goes_on, TakesLine};
-ghost use Rattle.desk_run.specs.Lines.{lines_of};
+ghost use Rattle.desk_lines.specs.Lines.{lines_of};
 ghost use Rattle.desk_run.specs.Transcripts.{IsLineOf};
 
 use crate::command::take_command;
-use crate::lines::split_lines;
+use desk_lines::split_lines;
 use bug_record::{Refusal, Sequence};
 use control_text::{Line, LineFault, read_line};
 use debver::Text;

@@ -8,18 +8,18 @@ ghost use Rattle.desk_run.specs.Script.{Report, Branch, Part, Message, Directive
 ghost use Rattle.std.specs.Io.KnownBytes.{Appends};
 ghost use Rattle.desk_run.specs.Branches.{nodes_of};
 ghost use Rattle.desk_run.specs.Taking.{parts_from};
-ghost use Rattle.desk_run.specs.Reading.{Known, Left};
+ghost use Rattle.desk_lines.specs.Reading.{Known, Left};
 ghost use Rattle.desk_run.specs.Running.{Runs, Stops, Carries, IsCounted, IsOfPart, EndsParts, Ends};
 
 use crate::answer::{
-    branch_answer, fault_of_branch, fault_of_end, refuses, refuses_branch, report_answer, store_fault,
+    branch_answer, fault_of_branch, fault_of_end, refuses, refuses_branch, report_answer,
+    store_fault,
 };
 use crate::branch::read_nodes;
 use crate::directive::{Directive, ReportWords, is_directive, read_directive};
-use crate::fault::ScriptFault;
 use crate::message::receive_lines;
 use crate::reporting::report;
-use crate::source::{Piece, Source, next_line, write_out};
+use desk_lines::{Piece, ScriptFault, Source, next_line, write_out};
 use crate::transcript::received_bytes;
 use ancestry::{Node, NodeFault};
 use debver::Text;

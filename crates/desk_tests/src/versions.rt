@@ -35,8 +35,7 @@ fn branches_are_answered(rt: HostRuntime) {
     let script =
         b"@branch foo/3 foo/2 foo/1\n@branch foo/3 foo/1\n@branch foo/2 foo/9\n@branch\n@branch foo\n\
         @branch foo/4 foo/4\n@branch foo/1 foo/3\n@branch foo/8 foo/2 foo/9\n@branch foo/5 foo bar/5 foo/5\n";
-    let written =
-        "OK\nOK\nNO conflict at 0\nNO empty branch\nNO bad version\n\
+    let written = "OK\nOK\nNO conflict at 0\nNO empty branch\nNO bad version\n\
         NO repeated version at 1\nNO conflict at 0\nNO conflict at 1\nNO bad version\n";
     assert!(rt; writes(alloc, &mut desk, script, Ok(ScriptEnd::Refused), written));
 }
@@ -52,7 +51,15 @@ fn a_branch_of_two_hundred_and_one_versions_is_refused(rt: HostRuntime) -> Resul
         script.extend_from_slice(word.as_bytes())?;
     }
     let written = "NO more than 200 versions\n";
-    assert!(rt; writes(alloc, &mut desk, script.as_slice(), Ok(ScriptEnd::Refused), written));
+    assert!(rt;
+        writes(
+            alloc,
+            &mut desk,
+            script.as_slice(),
+            Ok(ScriptEnd::Refused),
+            written
+        )
+    );
     Ok(())
 }
 
@@ -100,8 +107,7 @@ fn a_closed_bug_is_found_again_where_no_higher_version_is_fixed(
 ) -> Result<(), Fail> {
     let alloc = rt.alloc();
     let mut desk = PlainDesk::new(alloc, 1);
-    let script =
-        b"@report foo 1 normal a\nclose 1 1.0\nfixed 1 bar/3\nfound 1 2\nfound 1 0.9~\n";
+    let script = b"@report foo 1 normal a\nclose 1 1.0\nfixed 1 bar/3\nfound 1 2\nfound 1 0.9~\n";
     let written =
         "OK 1\n> close 1 1.0\nOK 1\n> fixed 1 bar/3\nOK 1\n> found 1 2\nOK 1\n> found 1 0.9~\nOK 1\n";
     assert!(rt; writes(alloc, &mut desk, script, Ok(ScriptEnd::Accepted), written));
@@ -131,7 +137,9 @@ fn marks_are_set_and_taken_back(rt: HostRuntime) -> Result<(), Fail> {
     assert!(rt; writes(alloc, &mut desk, script, Ok(ScriptEnd::Accepted), written));
     let image = first_image(&mut desk)?;
     assert!(rt; !image.shared.closed);
-    assert!(rt; image.shared.found.as_slice().is_empty() && image.shared.fixed.as_slice().is_empty());
+    assert!(rt;
+        image.shared.found.as_slice().is_empty() && image.shared.fixed.as_slice().is_empty()
+    );
     Ok(())
 }
 
@@ -151,7 +159,8 @@ fn a_bug_is_reopened_by_somebody_and_reassigned(rt: HostRuntime) -> Result<(), F
     for member in image.members.as_slice() {
         assert!(rt; member.submitter.as_str() == "bob");
     }
-    let script = b"@from ann\nclose 1\nreopen 1 !\nclose 1\nreopen 1 =\nreassign 1 bar\nreassign 1 foo\n";
+    let script =
+        b"@from ann\nclose 1\nreopen 1 !\nclose 1\nreopen 1 =\nreassign 1 bar\nreassign 1 foo\n";
     let written =
         "> close 1\nOK 1\n> reopen 1 !\nOK 1\n> close 1\nOK 1\n> reopen 1 =\nOK 1\n> reassign 1 bar\nOK, no change.\n> reassign 1 foo\nOK 1\n";
     assert!(rt; writes(alloc, &mut desk, script, Ok(ScriptEnd::Accepted), written));
@@ -171,11 +180,20 @@ fn a_reopening_by_too_long_a_text_is_refused(rt: HostRuntime) -> Result<(), Fail
     for _ in 0..201 {
         text.push('x')?;
     }
-    let script = format!(in alloc; "@report foo 1 normal a\nclose 1\nreopen 1 {text}\nreopen 1 y{text}\n")?;
-    let written =
-        format!(in alloc; "OK 1\n> close 1\nOK 1\n> reopen 1 {text}\nNO text too long\n> reopen 1 y{text}\nNO text too long\n")?;
+    let script = format!(in alloc;
+        "@report foo 1 normal a\nclose 1\nreopen 1 {text}\nreopen 1 y{text}\n"
+    )?;
+    let written = format!(in alloc;
+        "OK 1\n> close 1\nOK 1\n> reopen 1 {text}\nNO text too long\n> reopen 1 y{text}\nNO text too long\n"
+    )?;
     assert!(rt;
-        writes(alloc, &mut desk, script.as_bytes(), Ok(ScriptEnd::Refused), written.as_str())
+        writes(
+            alloc,
+            &mut desk,
+            script.as_bytes(),
+            Ok(ScriptEnd::Refused),
+            written.as_str()
+        )
     );
     assert!(rt; first_image(&mut desk)?.shared.closed);
     Ok(())

@@ -20,7 +20,7 @@ returns-in-Err c = planned-wanting c.args.from.now c.args.command.now c.args.ima
 pub returns : goal.returns
 returns c =
     let members : c.in_ok-members.members ≡ map (with_submitter (new_submitter c.args.from.now c.args.command.now c.in-Some.image.now.shared)) c.in-Some.image.now.members
-            = c.in_ok-members.ensures ∙ (λ j. map (with_submitter (c.new_submitter-submitter.ensures j)) (c.as_slice.ensures j)) in
+    = c.in_ok-members.ensures ∙ (λ j. map (with_submitter (c.new_submitter-submitter.ensures j)) (c.as_slice.ensures j)) in
     planned-set c.args.from.now c.args.command.now c.args.images.now c.args.next c.in-Some.image.now c.requires.sender c.requires.parts c.requires.apart
     (ap (image_with c.args.images.now) (sym c.bug_named-number.ensures) ∙ c.in-Some.ensures)
     c.in_ok-replace_one.field-0

@@ -1,7 +1,7 @@
 use Rattle.std.proofs.Common.{arith, ◌∙◌, sym}
 use Rattle.desk_store.proofs.HoldsLemmas.{holds_none}
 use Rattle.desk_run.proofs.MachineLemmas.{received_nothing, comes_to_nothing}
-use Rattle.desk_run.proofs.LineLemmas.{some_line, no_lines}
+use Rattle.desk_lines.proofs.LineLemmas.{some_line, no_lines}
 use Rattle.desk_run.proofs.message.receive.Goals as goal
 
 pub returns-then-is_empty-clause-answer : goal.returns-then-is_empty-clause-answer

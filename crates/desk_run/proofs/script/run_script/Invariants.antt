@@ -1,6 +1,6 @@
 use Rattle.std.proofs.Common.{◌≡◌, ◌+◌, ◌++◌, ℕ, List, length}
 use Rattle.desk_store.specs.Store.{Holds}
-use Rattle.desk_run.specs.Reading.{Left}
+use Rattle.desk_lines.specs.Reading.{Left}
 use Rattle.desk_run.specs.Script.{Part, begin, standing}
 use Rattle.desk_run.specs.Running.{Runs}
 use Rattle.desk_run.proofs.ScriptLemmas.{ReadTo, IsCut}

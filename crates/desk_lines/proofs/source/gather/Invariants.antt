@@ -1,0 +1,15 @@
+use Rattle.std.proofs.Common.{◌≡◌, ◌++◌, ◌-◌, ◌≤◌, length, false}
+use Rattle.std.specs.List.{list_any}
+use Rattle.desk_lines.specs.Reading.{Left}
+use Rattle.desk_lines.proofs.LineLemmas.{is_feed}
+use Rattle.desk_lines.proofs.source.gather.Given as goal
+
+abbrev pub invariant-loop-line : goal.invariant-loop-line
+invariant-loop-line g l = record {
+  short : length l.line.items ≤ 65536;
+  no_feed : list_any is_feed l.line.items ≡ false;
+  read : Left (g.R.Read.remaining l.fn.reader) (g.R.Read.remaining l.reader) (λ xs ys. l.fn.source ++ xs ≡ l.line.items ++ (l.source ++ ys));
+}
+
+abbrev pub decreases-loop-line : goal.decreases-loop-line
+decreases-loop-line g l = 65536 - length l.line.items

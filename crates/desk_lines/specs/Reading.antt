@@ -1,0 +1,64 @@
+-- How a script is read: line by line, each line checked as it comes. This project's own rule.
+use Rattle.std.specs.Prelude.{◌≡◌, ℕ, ◌<◌, ◌≤◌, List, [], ◌∷◌, length, Option, Some, None, IsUtf8, ⊤}
+use Rattle.desk_lines.specs.Lines.{without_return, raw_lines}
+use Rattle.desk_lines.specs.declared.fault.ScriptFault.{ScriptFault}
+use Rattle.desk_lines.specs.declared.fault.ScriptFault.TheVariants.{Read, Write, NotUtf8, LineTooLong, Memory, Store}
+use Rattle.desk_lines.specs.declared.source.Piece.{Piece}
+use Rattle.desk_lines.specs.declared.source.Piece.TheVariants as pieces
+use Rattle.desk_lines.specs.declared.source.RawLine.{RawLine}
+use Rattle.desk_lines.specs.declared.source.RawLine.TheVariants as raw_pieces
+
+-- A line is good, as it was read, if it has at most 65,536 bytes and is UTF-8. A carriage return counts; the line feed is
+-- no part of it.
+pub record IsGoodLine (raw : List ℕ) : Type 0 where
+  pub short : length raw ≤ 65536
+  pub utf8 : IsUtf8 raw
+
+-- From `all` comes this piece, and `rest` is left: a line; the last line, with which nothing is left; or nothing.
+abbrev pub GivesPiece : Piece → List ℕ → List ℕ → Type 0
+GivesPiece (pieces.Line line) all rest = (raw : List ℕ) × (raw_lines all ≡ raw ∷ raw_lines rest) × IsGoodLine raw × (line ≡ without_return raw)
+GivesPiece (pieces.Last line) all rest = (raw : List ℕ) × (raw_lines all ≡ raw ∷ []) × IsGoodLine raw × (line ≡ without_return raw) × (rest ≡ [])
+GivesPiece pieces.End all rest = (raw_lines all ≡ []) × (rest ≡ [])
+
+-- The fault is that of the first line of `all`, which has this number. A line that is too long and no UTF-8 is too long.
+abbrev pub IsLineFault : ℕ → ScriptFault → List ℕ → Type 0
+IsLineFault number (NotUtf8 line) all = (line ≡ number) × (raw : List ℕ) × (more : List (List ℕ)) × (raw_lines all ≡ raw ∷ more) × (length raw ≤ 65536) × ¬ (IsUtf8 raw)
+IsLineFault number (LineTooLong line) all = (line ≡ number) × (raw : List ℕ) × (more : List (List ℕ)) × (raw_lines all ≡ raw ∷ more) × (65536 < length raw)
+IsLineFault number Read all = ⊤
+IsLineFault number Memory all = ⊤
+IsLineFault number Write all = ⊥
+IsLineFault number (Store fault) all = ⊥
+
+-- The faults that the reading of the line with this number may have.
+abbrev pub IsReadingFault : ℕ → ScriptFault → Type 0
+IsReadingFault number Read = ⊤
+IsReadingFault number Memory = ⊤
+IsReadingFault number (NotUtf8 line) = line ≡ number
+IsReadingFault number (LineTooLong line) = line ≡ number
+IsReadingFault number Write = ⊥
+IsReadingFault number (Store fault) = ⊥
+
+-- Where the bytes that a reader has left are known, P is true of them.
+pub record Known (old : Option (List ℕ)) (P : List ℕ → Type 0) : Type 0 where
+  pub known : (xs : List ℕ) → old ≡ Some xs → P xs
+
+-- Where the bytes that a reader has left are known, it comes to known bytes, and P is true of both.
+pub record Left (old new : Option (List ℕ)) (P : List ℕ → List ℕ → Type 0) : Type 0 where
+  pub known : (xs : List ℕ) → old ≡ Some xs → (ys : List ℕ) × (new ≡ Some ys) × P xs ys
+
+-- From `all` comes this byte, or none at the end, and `rest` is left.
+abbrev pub GivesByte : Option ℕ → List ℕ → List ℕ → Type 0
+GivesByte (Some byte) all rest = all ≡ byte ∷ rest
+GivesByte None all rest = (all ≡ []) × (rest ≡ [])
+
+-- The same as `GivesPiece`, of the bytes as they were read, which may be no UTF-8.
+abbrev pub GivesRaw : RawLine → List ℕ → List ℕ → Type 0
+GivesRaw (raw_pieces.Line bytes) all rest = (raw_lines all ≡ bytes.items ∷ raw_lines rest) × (length bytes.items ≤ 65536)
+GivesRaw (raw_pieces.Last bytes) all rest = (raw_lines all ≡ bytes.items ∷ []) × (length bytes.items ≤ 65536) × (rest ≡ [])
+GivesRaw raw_pieces.End all rest = (raw_lines all ≡ []) × (rest ≡ [])
+
+-- The fault of a text of these bytes: they are no UTF-8, or there was no memory.
+abbrev pub IsTextFault : ℕ → List ℕ → ScriptFault → Type 0
+IsTextFault number bytes (NotUtf8 line) = (line ≡ number) × ¬ (IsUtf8 bytes)
+IsTextFault number bytes Memory = ⊤
+IsTextFault number bytes _ = ⊥
