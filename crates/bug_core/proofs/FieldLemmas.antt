@@ -1,5 +1,5 @@
 -- A command keeps the limits of shared fields, and those of submitters.
-use Rattle.std.proofs.Common.{◌≡◌, ℕ, Bool, true, false, cond, List, [], Option, Some, None, refl}
+use Rattle.std.proofs.Common.{ℕ, true, false, cond, List, [], Option, Some, None}
 use Rattle.std.specs.Prelude.{unwrap_or}
 use Rattle.std.specs.Str.{bytes_eq}
 use Rattle.debver.specs.Names.{IsName}

@@ -1,11 +1,11 @@
 -- Nodes of versions that are known to be versions.
-use Rattle.std.proofs.Common.{◌≡◌, ℕ, Bool, true, false, cond, ◌&&◌, ◌||◌, eqb, List, [], ◌∷◌, ◌++◌, Option, Some, None, sym, refl, ap, ◌∙◌, subst, arith}
+use Rattle.std.proofs.Common.{◌≡◌, ℕ, Bool, true, false, cond, ◌&&◌, ◌||◌, eqb, List, [], ◌∷◌, ◌++◌, Option, Some, None, sym, refl, ap, ◌∙◌}
 use Rattle.std.specs.Prelude.{unwrap_or, is_none}
 use Rattle.std.specs.List.{list_any, list_all}
-use Rattle.std.proofs.lemmas.Option.{same_Some, none-some}
+use Rattle.std.proofs.lemmas.Option.{none-some}
 use Rattle.std.proofs.lemmas.Bool.{false≢true, eqb-true, and_parts}
 use Rattle.debver.specs.Characters.{is_digit}
-use Rattle.debver.specs.Parts.{Version, in_upstream, in_revision, epoch_text, revision_text, IsEpoch, IsRevision, written}
+use Rattle.debver.specs.Parts.{in_upstream, in_revision, epoch_text, revision_text, IsEpoch, IsRevision}
 use Rattle.debver.specs.Names.{IsName, name_fault}
 use Rattle.debver.specs.Cut.{cut, IsVersion}
 use Rattle.debver.specs.Faults.{text_fault}

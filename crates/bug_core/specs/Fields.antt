@@ -1,5 +1,5 @@
 -- Fields of a set of merged bugs, as a command changes them.
-use Rattle.std.specs.Prelude.{ℕ, List, Option, Some, None, unwrap_or, ⊤}
+use Rattle.std.specs.Prelude.{ℕ, List, Option, unwrap_or, ⊤}
 use Rattle.debver.specs.Names.{IsName}
 use Rattle.bug_record.specs.declared.bug.Member.{Member}
 use Rattle.bug_record.specs.declared.command.PlanFault.{PlanFault}

@@ -1,8 +1,35 @@
 //! Severities, sequences and copies, at values known from the rules.
 
-use crate::{Member, Numbers, Sequence, SetImage, Severity, Shared};
+use crate::{Member, Nodes, Numbers, Sequence, SetImage, Severity, Shared};
+use ancestry::Node;
 use debver::Text;
+use std::alloc::Global;
 use std::test::Fail;
+
+// The nodes of the texts.
+fn nodes(alloc: Global, texts: &[&str]) -> Result<Nodes, Fail> {
+    let mut nodes = Sequence::new(alloc);
+    for text in texts {
+        let Ok(node) = Node::read(alloc, text) else {
+            return Err(Fail::new("no node"));
+        };
+        nodes.add_node(node)?;
+    }
+    Ok(nodes)
+}
+
+// Whether these are the nodes, each as its source and its version.
+fn are(nodes: &Nodes, parts: &[(&str, &str)]) -> bool {
+    if nodes.as_slice().len() != parts.len() {
+        return false;
+    }
+    for (node, (source, version)) in nodes.as_slice().iter().zip(parts) {
+        if node.source() != *source || node.version() != *version {
+            return false;
+        }
+    }
+    true
+}
 
 #[test]
 fn severities_are_read_in_any_case(rt: HostRuntime) {
@@ -62,6 +89,65 @@ fn added_numbers_ascend_without_repeats(rt: HostRuntime) -> Result<(), Fail> {
 }
 
 #[test]
+fn added_nodes_stand_in_node_order(rt: HostRuntime) -> Result<(), Fail> {
+    let orders = [
+        ["foo/1.0", "foo/1.0~rc1", "bar/9", "foo/0:1.00", "foo/1.0-0"],
+        ["foo/1.0-0", "foo/0:1.00", "bar/9", "foo/1.0~rc1", "foo/1.0"],
+        ["bar/9", "foo/1.0~rc1", "foo/0:1.00", "foo/1.0", "foo/1.0-0"],
+        ["foo/1.0-0", "foo/1.0", "foo/0:1.00", "foo/1.0~rc1", "bar/9"],
+        ["foo/0:1.00", "foo/1.0-0", "foo/1.0", "bar/9", "foo/1.0~rc1"],
+    ];
+    let parts = [
+        ("bar", "9"),
+        ("foo", "1.0~rc1"),
+        ("foo", "0:1.00"),
+        ("foo", "1.0"),
+        ("foo", "1.0-0"),
+    ];
+    for order in orders {
+        let mut added = nodes(rt.alloc(), &order)?;
+        assert!(rt; are(&added, &parts));
+        for text in order {
+            let Ok(node) = Node::read(rt.alloc(), text) else {
+                panic!(rt; "no node");
+            };
+            added.add_node(node)?;
+            assert!(rt; are(&added, &parts), "{text}");
+        }
+    }
+    Ok(())
+}
+
+#[test]
+fn the_equal_text_alone_is_removed(rt: HostRuntime) -> Result<(), Fail> {
+    let texts = ["foo/1.0", "foo/1.0-0", "foo/0:1.00", "bar/1.0"];
+    let mut nodes = nodes(rt.alloc(), &texts)?;
+    let left = [("bar", "1.0"), ("foo", "0:1.00"), ("foo", "1.0-0")];
+    // the second time it is not there
+    for _ in 0..2 {
+        let Ok(node) = Node::read(rt.alloc(), "foo/1.0") else {
+            panic!(rt; "no node");
+        };
+        nodes.remove_node(&node);
+        assert!(rt; are(&nodes, &left));
+    }
+    Ok(())
+}
+
+#[test]
+fn copied_nodes_are_kept_apart(rt: HostRuntime) -> Result<(), Fail> {
+    let mut added = nodes(rt.alloc(), &["foo/2", "foo/1"])?;
+    let copy = added.copy()?;
+    let Ok(node) = Node::read(rt.alloc(), "foo/2") else {
+        panic!(rt; "no node");
+    };
+    added.remove_node(&node);
+    assert!(rt; are(&added, &[("foo", "1")]));
+    assert!(rt; are(&copy, &[("foo", "1"), ("foo", "2")]));
+    Ok(())
+}
+
+#[test]
 fn a_copied_image_equals_it(rt: HostRuntime) -> Result<(), Fail> {
     let alloc = rt.alloc();
     let mut members = Sequence::new(alloc);
@@ -77,8 +163,8 @@ fn a_copied_image_equals_it(rt: HostRuntime) -> Result<(), Fail> {
             package: Text::of(alloc, "dpkg")?,
             severity: Severity::Grave,
             closed: true,
-            found: Sequence::new(alloc),
-            fixed: Sequence::new(alloc),
+            found: nodes(alloc, &["dpkg/1.22.5", "dpkg/1.22.4"])?,
+            fixed: nodes(alloc, &["dpkg/1.22.6"])?,
         },
         members,
     };
@@ -86,6 +172,13 @@ fn a_copied_image_equals_it(rt: HostRuntime) -> Result<(), Fail> {
     assert!(rt; copy.shared.package.as_str() == "dpkg");
     assert!(rt; copy.shared.severity == Severity::Grave);
     assert!(rt; copy.shared.closed);
+    assert!(rt;
+        are(
+            &copy.shared.found,
+            &[("dpkg", "1.22.4"), ("dpkg", "1.22.5")]
+        )
+    );
+    assert!(rt; are(&copy.shared.fixed, &[("dpkg", "1.22.6")]));
     let rows = [(2, "typo in manual"), (9, "segfault")];
     let members = copy.members.as_slice();
     assert!(rt; members.len() == 2);

@@ -9,10 +9,10 @@ ghost use Rattle.desk_lines.specs.Lines.{lines_of};
 ghost use Rattle.desk_run.specs.Transcripts.{IsLineOf};
 
 use crate::command::take_command;
-use desk_lines::split_lines;
 use bug_record::{Refusal, Sequence};
 use control_text::{Line, LineFault, read_line};
 use debver::Text;
+use desk_lines::split_lines;
 use desk_store::Records;
 use desk_text::{End, Outcome, StoreFault};
 use std::alloc::Global;

@@ -4,9 +4,9 @@ ghost use Rattle.std.specs.Prelude.{◌≡◌, ◌++◌, IfOk, OnOk, OnErr};
 ghost use Rattle.desk_lines.specs.Lines.{lines_of};
 ghost use Rattle.desk_run.specs.Transcripts.{transcript, line_of_end, received_text};
 
-use desk_lines::split_lines;
 use crate::message::Received;
 use debver::Text;
+use desk_lines::split_lines;
 use desk_text::{End, Outcome, end_text, outcome_text};
 use std::alloc::{AllocError, Global};
 

@@ -1,4 +1,4 @@
-use Rattle.std.proofs.Common.{◌≡◌, ℕ, Err, Some, ◌∷◌, sym, ap, ◌∙◌, subst}
+use Rattle.std.proofs.Common.{◌≡◌, ℕ, Err, ◌∷◌, sym, ap, ◌∙◌, subst}
 use Rattle.bug_record.specs.Commands.{bug_named}
 use Rattle.bug_record.specs.Steps.{new_submitter}
 use Rattle.std.specs.Prelude.{map}

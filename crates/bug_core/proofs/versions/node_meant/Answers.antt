@@ -1,6 +1,6 @@
-use Rattle.std.proofs.Common.{◌≡◌, Some, None, Err, Option, sym, ap, ◌∙◌, subst}
+use Rattle.std.proofs.Common.{Err, sym, ap, ◌∙◌, subst}
 use Rattle.std.specs.Prelude.{unwrap_or}
-use Rattle.ancestry.specs.Nodes.{Node, node_at, IsRead}
+use Rattle.ancestry.specs.Nodes.{node_at, IsRead}
 use Rattle.bug_core.proofs.NodeLemmas.{at-some, at-none-meant}
 use Rattle.bug_core.proofs.versions.node_meant.Goals as goal
 
