@@ -13,14 +13,18 @@ use Rattle.bug_record.specs.Severities.{rank}
 use Rattle.bug_record.specs.Desk.{Desk, IsSound}
 use Rattle.bug_record.specs.Images.{bug_in, put}
 use Rattle.std.specs.Option.{option_or}
-use Rattle.bug_record.specs.Changed.{AreChanged, same_nodes, same_shared, same_bugs, same_at, numbers_below, changed_numbers, Replaces}
+use Rattle.bug_record.specs.Tags.{same_tag}
+use Rattle.bug_record.specs.Differences.{same_text, same_state}
+use Rattle.bug_record.specs.Changed.{AreChanged, same_nodes, same_tags, same_shared, same_bugs, same_at, numbers_below, changed_numbers, Replaces}
 use Rattle.bug_record.specs.declared.bug.Bug.{Bug}
 use Rattle.bug_record.specs.declared.bug.Shared.{Shared}
 use Rattle.bug_record.specs.declared.bug.SetImage.{SetImage}
+use Rattle.bug_record.specs.declared.tag.Tag.{Tag}
 use Rattle.bug_record.specs.declared.severity.Severity.{Severity}
 use Rattle.bug_record.specs.declared.severity.Severity.TheVariants.{Critical, Grave, Serious, Important, Normal, Minor, Wishlist}
 use Rattle.bug_core.specs.Numbers.{IsJoined}
-use Rattle.bug_core.proofs.SetLemmas.{IsAscending-filter, has-filter, same-ascending, has-numbers_below, IsAscending-numbers_below}
+use Rattle.bug_record.proofs.TagLemmas.{same_tag-true, same_tag-itself}
+use Rattle.bug_record.proofs.SetLemmas.{IsAscending-filter, has-filter, same-ascending, has-numbers_below, IsAscending-numbers_below}
 use Rattle.bug_core.proofs.ImageLemmas.{shown}
 
 -- severities of one rank are one
@@ -63,26 +67,60 @@ bytes_refl a = (bytes_eq-Decides a a).1 refl
 nodes_decide : (ns ms : List Node) → Decides (same_nodes ns ms) (ns ≡ ms)
 nodes_decide ns ms = slice_eq-Decides (λ a b. (same_true a b, λ e. subst (λ (z : Node). same_node a z ≡ true) e (same_itself a))) ns ms (same_nodes ns ms) refl
 
+tags_decide : (ts us : List Tag) → Decides (same_tags ts us) (ts ≡ us)
+tags_decide ts us = slice_eq-Decides (λ a b. (same_tag-true a b, λ e. subst (λ (z : Tag). same_tag a z ≡ true) e (same_tag-itself a))) ts us (same_tags ts us) refl
+
+same_text-true : (s t : Option (List ℕ)) → same_text s t ≡ true → s ≡ t
+same_text-true None None e = refl
+same_text-true None (Some t) e = absurd (false≢true e)
+same_text-true (Some s) None e = absurd (false≢true e)
+same_text-true (Some s) (Some t) e = ap Some (bytes s t e)
+
+same_text-refl : (s : Option (List ℕ)) → same_text s s ≡ true
+same_text-refl None = refl
+same_text-refl (Some s) = bytes_refl s
+
+-- the tests of a group of fields
+abbrev one_package : Shared → Shared → Bool
+one_package s t = bytes_eq s.«package» t.«package» && eqb (rank s.severity) (rank t.severity)
+
+abbrev one_person : Shared → Shared → Bool
+one_person s t = same_text s.forwarded t.forwarded && same_text s.owner t.owner
+
+abbrev one_history : Shared → Shared → Bool
+one_history s t = same_nodes s.found t.found && same_nodes s.fixed t.fixed
+
 -- the tests tell equal records
 same_shared-true : (s t : Shared) → same_shared s t ≡ true → s ≡ t
 same_shared-true s t e =
-    let p = and_parts (bytes_eq s.«package» t.«package» && eqb (rank s.severity) (rank t.severity) && cond s.closed t.closed (not t.closed)) (same_nodes s.found t.found && same_nodes s.fixed t.fixed) e in
-    let r = and_parts (bytes_eq s.«package» t.«package» && eqb (rank s.severity) (rank t.severity)) (cond s.closed t.closed (not t.closed)) p.0 in
-    let q = and_parts (bytes_eq s.«package» t.«package») (eqb (rank s.severity) (rank t.severity)) r.0 in
+    let p = and_parts (one_package s t && same_state s t && (one_person s t && same_tags s.tags t.tags)) (one_history s t) e in
+    let q = and_parts (one_package s t && same_state s t) (one_person s t && same_tags s.tags t.tags) p.0 in
+    let r = and_parts (one_package s t) (same_state s t) q.0 in
+    let a = and_parts (bytes_eq s.«package» t.«package») (eqb (rank s.severity) (rank t.severity)) r.0 in
+    let b = and_parts (one_person s t) (same_tags s.tags t.tags) q.1 in
+    let c = and_parts (same_text s.forwarded t.forwarded) (same_text s.owner t.owner) b.0 in
     let u = and_parts (same_nodes s.found t.found) (same_nodes s.fixed t.fixed) p.1 in
     λ j. record {
-      «package» = bytes s.«package» t.«package» q.0 j;
-      severity = same_severity s.severity t.severity (eqb-true (rank s.severity) (rank t.severity) q.1) j;
+      «package» = bytes s.«package» t.«package» a.0 j;
+      severity = same_severity s.severity t.severity (eqb-true (rank s.severity) (rank t.severity) a.1) j;
       closed = same_closed s.closed t.closed r.1 j;
+      forwarded = same_text-true s.forwarded t.forwarded c.0 j;
+      owner = same_text-true s.owner t.owner c.1 j;
+      tags = (tags_decide s.tags t.tags).0 b.1 j;
       found = (nodes_decide s.found t.found).0 u.0 j;
       fixed = (nodes_decide s.fixed t.fixed).0 u.1 j;
     }
 
 same_shared-refl : (s : Shared) → same_shared s s ≡ true
-same_shared-refl s = and_from (bytes_eq s.«package» s.«package» && eqb (rank s.severity) (rank s.severity) && cond s.closed s.closed (not s.closed)) (same_nodes s.found s.found && same_nodes s.fixed s.fixed)
-    (and_from (bytes_eq s.«package» s.«package» && eqb (rank s.severity) (rank s.severity)) (cond s.closed s.closed (not s.closed))
+same_shared-refl s =
+    and_from (one_package s s && same_state s s && (one_person s s && same_tags s.tags s.tags)) (one_history s s)
+    (and_from (one_package s s && same_state s s) (one_person s s && same_tags s.tags s.tags)
+    (and_from (one_package s s) (same_state s s)
     (and_from (bytes_eq s.«package» s.«package») (eqb (rank s.severity) (rank s.severity)) (bytes_refl s.«package») (eq-eqb (rank s.severity) (rank s.severity) refl))
     (closed_same s.closed))
+    (and_from (one_person s s) (same_tags s.tags s.tags)
+    (and_from (same_text s.forwarded s.forwarded) (same_text s.owner s.owner) (same_text-refl s.forwarded) (same_text-refl s.owner))
+    ((tags_decide s.tags s.tags).1 refl)))
     (and_from (same_nodes s.found s.found) (same_nodes s.fixed s.fixed) ((nodes_decide s.found s.found).1 refl) ((nodes_decide s.fixed s.fixed).1 refl))
 
 same_bugs-true : (a b : Bug) → same_bugs a b ≡ true → a ≡ b

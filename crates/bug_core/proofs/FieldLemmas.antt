@@ -1,20 +1,26 @@
--- A command keeps the limits of shared fields, and those of submitters.
-use Rattle.std.proofs.Common.{ℕ, true, false, cond, List, [], Option, Some, None}
+-- A command keeps the limits of shared fields, and those of titles and submitters.
+use Rattle.std.proofs.Common.{ℕ, Bool, true, false, cond, eqb, List, [], ◌∷◌, Option, Some, None}
 use Rattle.std.specs.Prelude.{unwrap_or}
 use Rattle.std.specs.Str.{bytes_eq}
 use Rattle.debver.specs.Names.{IsName}
 use Rattle.ancestry.specs.Nodes.{Node, IsNode}
-use Rattle.bug_record.specs.Texts.{IsText}
+use Rattle.bug_record.specs.Texts.{IsText, IfGiven}
+use Rattle.bug_record.specs.Marks.{IsNodeSet, with_node, without_node}
+use Rattle.bug_record.specs.Tags.{IsTagSet, with_tag, without_tag}
 use Rattle.bug_record.specs.Desk.{IsGoodShared}
-use Rattle.bug_record.specs.Commands.{node_meant, person, IfGiven, IsGoodVersion, IsGoodPerson, HasGoodParts}
-use Rattle.bug_record.specs.Steps.{marked_found, marked_fixed, found_at, opened, closed, moved_to, reassigned, shared_after, new_submitter}
+use Rattle.bug_record.specs.Commands.{node_meant, person, IsGoodVersion, IsGoodPerson, HasGoodParts}
+use Rattle.bug_record.specs.Steps.{marked_found, marked_fixed, found_at, opened, closed, moved_to, reassigned, tags_after, shared_after, new_title, new_submitter}
 use Rattle.bug_record.specs.declared.bug.Shared.{Shared}
 use Rattle.bug_record.specs.declared.command.Command.{Command}
 use Rattle.bug_record.specs.declared.command.Command.TheVariants as commands
+use Rattle.bug_record.specs.declared.command.TagStep.{TagStep}
+use Rattle.bug_record.specs.declared.command.TagStep.TheVariants.{Add, Remove, Clear}
 use Rattle.bug_record.specs.declared.command.VersionArg.{VersionArg}
 use Rattle.bug_record.specs.declared.command.Who.{Who}
 use Rattle.bug_record.specs.declared.command.Who.TheVariants.{Sender, Given}
-use Rattle.bug_core.proofs.MarkLemmas.{set-none, set-with, set-without}
+use Rattle.bug_record.specs.declared.tag.Tag.{Tag}
+use Rattle.bug_record.proofs.MarkLemmas.{set-none, set-with, set-without}
+use Rattle.bug_record.proofs.TagLemmas.{set-none_tags, set-with_tag, set-without_tag}
 
 -- the node that a version means for a package name
 pub meant-valid : (package_name : List ℕ) (version : VersionArg) → IsName package_name → IsGoodVersion version → IsNode (node_meant package_name version)
@@ -24,56 +30,118 @@ meant-valid package_name version name good = record { source = source version.so
     source None h = name
     source (Some s) h = h
 
+-- fields with another state and other marks
+abbrev with_marks : Bool → List Node → List Node → Shared → Shared
+with_marks state found fixed f = record f { closed = state; found = found; fixed = fixed }
+
+good-marks : (state : Bool) (found fixed : List Node) (f : Shared) → IsNodeSet found → IsNodeSet fixed → IsGoodShared f → IsGoodShared (with_marks state found fixed f)
+good-marks state found fixed f a b h = record { package_name = h.package_name; forwarded = h.forwarded; owner = h.owner; tags = h.tags; found = a; fixed = b }
+
 good-marked_found : (n : Node) (f : Shared) → IsNode n → IsGoodShared f → IsGoodShared (marked_found n f)
-good-marked_found n f v h = record { package_name = h.package_name; found = set-with f.found n h.found v; fixed = set-without f.fixed n h.fixed }
+good-marked_found n f v h = good-marks f.closed (with_node f.found n) (without_node f.fixed n) f (set-with f.found n h.found v) (set-without f.fixed n h.fixed) h
 
 good-marked_fixed : (n : Node) (f : Shared) → IsNode n → IsGoodShared f → IsGoodShared (marked_fixed n f)
-good-marked_fixed n f v h = record { package_name = h.package_name; found = set-without f.found n h.found; fixed = set-with f.fixed n h.fixed v }
+good-marked_fixed n f v h = good-marks f.closed (without_node f.found n) (with_node f.fixed n) f (set-without f.found n h.found) (set-with f.fixed n h.fixed v) h
 
 good-found_at : (n : Node) (f : Shared) → IsNode n → IsGoodShared f → IsGoodShared (found_at n f)
-good-found_at n f v h = record { package_name = h.package_name; found = set-with f.found n h.found v; fixed = set-without f.fixed n h.fixed }
+good-found_at n f v h = good-marks (found_at n f).closed (with_node f.found n) (without_node f.fixed n) f (set-with f.found n h.found v) (set-without f.fixed n h.fixed) h
 
 good-closed : (f : Shared) → IsGoodShared f → IsGoodShared (closed f)
-good-closed f h = record { package_name = h.package_name; found = h.found; fixed = h.fixed }
+good-closed f h = good-marks true f.found f.fixed f h.found h.fixed h
 
 good-opened : (f : Shared) → IsGoodShared f → IsGoodShared (opened f)
-good-opened f h = record { package_name = h.package_name; found = h.found; fixed = set-none }
+good-opened f h = good-marks false f.found [] f h.found set-none h
 
 good-moved_to : (package_name : List ℕ) (f : Shared) → IsName package_name → IsGoodShared f → IsGoodShared (moved_to package_name f)
 good-moved_to package_name f name h =
     elim (bytes_eq package_name f.«package») as (λ t. IsGoodShared (cond t f (record f { «package» = package_name; found = []; fixed = [] })))
-    [ true ↦ h | false ↦ record { package_name = name; found = set-none; fixed = set-none } ]
+    [ true ↦ h | false ↦ record { package_name = name; forwarded = h.forwarded; owner = h.owner; tags = h.tags; found = set-none; fixed = set-none } ]
 
 good-reassigned : (package_name : List ℕ) (version : Option VersionArg) (f : Shared) → IsName package_name → IfGiven IsGoodVersion version → IsGoodShared f → IsGoodShared (reassigned package_name version f)
 good-reassigned package_name None f name good h = good-moved_to package_name f name h
 good-reassigned package_name (Some version) f name good h = good-marked_found (node_meant package_name version) (moved_to package_name f) (meant-valid package_name version name good) (good-moved_to package_name f name h)
 
-pub good-shared_after : (command : Command ℕ) → HasGoodParts command → (f : Shared) → IsGoodShared f → IsGoodShared (shared_after command f)
-good-shared_after (commands.Found n None) good f h = good-opened f h
-good-shared_after (commands.Found n (Some version)) good f h = good-found_at (node_meant f.«package» version) f (meant-valid f.«package» version h.package_name good) h
-good-shared_after (commands.NotFound n version) good f h = record { package_name = h.package_name; found = set-without f.found (node_meant f.«package» version) h.found; fixed = h.fixed }
-good-shared_after (commands.Fixed n version) good f h = good-marked_fixed (node_meant f.«package» version) f (meant-valid f.«package» version h.package_name good) h
-good-shared_after (commands.NotFixed n version) good f h = record { package_name = h.package_name; found = h.found; fixed = set-without f.fixed (node_meant f.«package» version) h.fixed }
-good-shared_after (commands.Close n None) good f h = good-closed f h
-good-shared_after (commands.Close n (Some version)) good f h =
-    let n = node_meant f.«package» version in good-closed (marked_fixed n f) (good-marked_fixed n f (meant-valid f.«package» version h.package_name good) h)
-good-shared_after (commands.Reopen n who) good f h = elim f.closed as (λ t. IsGoodShared (cond t (opened f) f)) [ true ↦ good-opened f h | false ↦ h ]
-good-shared_after (commands.Severity n severity) good f h = record { package_name = h.package_name; found = h.found; fixed = h.fixed }
-good-shared_after (commands.Reassign n package_name version) good f h = good-reassigned package_name version f good.0 good.1 h
+-- tags stay a set
+set-tags_after : (steps : List TagStep) (tags : List Tag) → IsTagSet tags → IsTagSet (tags_after steps tags)
+set-tags_after [] tags h = h
+set-tags_after (Add t ∷ steps) tags h = set-tags_after steps (with_tag tags t) (set-with_tag tags t h)
+set-tags_after (Remove t ∷ steps) tags h = set-tags_after steps (without_tag tags t) (set-without_tag tags t h)
+set-tags_after (Clear ∷ steps) tags h = set-tags_after steps [] set-none_tags
+
+-- fields forwarded to somebody, or to nobody
+good-forwarded : (text : Option (List ℕ)) (f : Shared) → IfGiven IsText text → IsGoodShared f → IsGoodShared (record f { forwarded = text })
+good-forwarded text f good h = record { package_name = h.package_name; forwarded = good; owner = h.owner; tags = h.tags; found = h.found; fixed = h.fixed }
+
+-- fields of another owner, or of none
+good-owner : (who : Option (List ℕ)) (f : Shared) → IfGiven IsText who → IsGoodShared f → IsGoodShared (record f { owner = who })
+good-owner who f good h = record { package_name = h.package_name; forwarded = h.forwarded; owner = good; tags = h.tags; found = h.found; fixed = h.fixed }
 
 -- who is meant is a text
 good-person : (sender : List ℕ) (who : Who) → IsText sender → IsGoodPerson who → IsText (person sender who)
 good-person sender Sender h good = h
 good-person sender (Given text) h good = good
 
-pub good-new_submitter : (sender : List ℕ) (command : Command ℕ) → IsText sender → HasGoodParts command → (f : Shared) → IfGiven IsText (new_submitter sender command f)
-good-new_submitter sender (commands.Found n version) h good f = tt
-good-new_submitter sender (commands.NotFound n version) h good f = tt
-good-new_submitter sender (commands.Fixed n version) h good f = tt
-good-new_submitter sender (commands.NotFixed n version) h good f = tt
-good-new_submitter sender (commands.Close n version) h good f = tt
-good-new_submitter sender (commands.Reopen n None) h good f = tt
-good-new_submitter sender (commands.Reopen n (Some who)) h good f =
+pub good-shared_after : (sender : List ℕ) (command : Command ℕ) → IsText sender → HasGoodParts command → (f : Shared) → IsGoodShared f → IsGoodShared (shared_after sender command f)
+good-shared_after sender (commands.Found n None) text good f h = good-opened f h
+good-shared_after sender (commands.Found n (Some version)) text good f h = good-found_at (node_meant f.«package» version) f (meant-valid f.«package» version h.package_name good) h
+good-shared_after sender (commands.NotFound n version) text good f h = let m = node_meant f.«package» version in good-marks f.closed (without_node f.found m) f.fixed f (set-without f.found m h.found) h.fixed h
+good-shared_after sender (commands.Fixed n version) text good f h = good-marked_fixed (node_meant f.«package» version) f (meant-valid f.«package» version h.package_name good) h
+good-shared_after sender (commands.NotFixed n version) text good f h = let m = node_meant f.«package» version in good-marks f.closed f.found (without_node f.fixed m) f h.found (set-without f.fixed m h.fixed) h
+good-shared_after sender (commands.Close n None) text good f h = good-closed f h
+good-shared_after sender (commands.Close n (Some version)) text good f h =
+    let m = node_meant f.«package» version in good-closed (marked_fixed m f) (good-marked_fixed m f (meant-valid f.«package» version h.package_name good) h)
+good-shared_after sender (commands.Reopen n who) text good f h = elim f.closed as (λ t. IsGoodShared (cond t (opened f) f)) [ true ↦ good-opened f h | false ↦ h ]
+good-shared_after sender (commands.Severity n severity) text good f h = record { package_name = h.package_name; forwarded = h.forwarded; owner = h.owner; tags = h.tags; found = h.found; fixed = h.fixed }
+good-shared_after sender (commands.Tags n steps) text good f h = record { package_name = h.package_name; forwarded = h.forwarded; owner = h.owner; tags = set-tags_after steps f.tags h.tags; found = h.found; fixed = h.fixed }
+good-shared_after sender (commands.Retitle n title) text good f h = h
+good-shared_after sender (commands.Submitter n who) text good f h = h
+good-shared_after sender (commands.Reassign n package_name version) text good f h = good-reassigned package_name version f good.0 good.1 h
+good-shared_after sender (commands.Merge n ns) text good f h = h
+good-shared_after sender (commands.ForceMerge n ns) text good f h = h
+good-shared_after sender (commands.Unmerge n) text good f h = h
+good-shared_after sender (commands.Forwarded n address) text good f h = good-forwarded (Some address) f good h
+good-shared_after sender (commands.NotForwarded n) text good f h = good-forwarded None f tt h
+good-shared_after sender (commands.Owner n who) text good f h = good-owner (Some (person sender who)) f (good-person sender who text good) h
+good-shared_after sender (commands.NoOwner n) text good f h = good-owner None f tt h
+
+pub good-new_title : (command : Command ℕ) → HasGoodParts command → (m : ℕ) → IfGiven IsText (new_title command m)
+good-new_title (commands.Found n version) good m = tt
+good-new_title (commands.NotFound n version) good m = tt
+good-new_title (commands.Fixed n version) good m = tt
+good-new_title (commands.NotFixed n version) good m = tt
+good-new_title (commands.Close n version) good m = tt
+good-new_title (commands.Reopen n who) good m = tt
+good-new_title (commands.Severity n severity) good m = tt
+good-new_title (commands.Tags n steps) good m = tt
+good-new_title (commands.Retitle n text) good m = elim (eqb m n) as (λ t. IfGiven IsText (cond t (Some text) None)) [ true ↦ good | false ↦ tt ]
+good-new_title (commands.Submitter n who) good m = tt
+good-new_title (commands.Reassign n package_name version) good m = tt
+good-new_title (commands.Merge n ns) good m = tt
+good-new_title (commands.ForceMerge n ns) good m = tt
+good-new_title (commands.Unmerge n) good m = tt
+good-new_title (commands.Forwarded n address) good m = tt
+good-new_title (commands.NotForwarded n) good m = tt
+good-new_title (commands.Owner n who) good m = tt
+good-new_title (commands.NoOwner n) good m = tt
+
+pub good-new_submitter : (sender : List ℕ) (command : Command ℕ) → IsText sender → HasGoodParts command → (f : Shared) (m : ℕ) → IfGiven IsText (new_submitter sender command f m)
+good-new_submitter sender (commands.Found n version) h good f m = tt
+good-new_submitter sender (commands.NotFound n version) h good f m = tt
+good-new_submitter sender (commands.Fixed n version) h good f m = tt
+good-new_submitter sender (commands.NotFixed n version) h good f m = tt
+good-new_submitter sender (commands.Close n version) h good f m = tt
+good-new_submitter sender (commands.Reopen n None) h good f m = tt
+good-new_submitter sender (commands.Reopen n (Some who)) h good f m =
     elim f.closed as (λ t. IfGiven IsText (cond t (Some (person sender who)) None)) [ true ↦ good-person sender who h good | false ↦ tt ]
-good-new_submitter sender (commands.Severity n severity) h good f = tt
-good-new_submitter sender (commands.Reassign n package_name version) h good f = tt
+good-new_submitter sender (commands.Severity n severity) h good f m = tt
+good-new_submitter sender (commands.Tags n steps) h good f m = tt
+good-new_submitter sender (commands.Retitle n text) h good f m = tt
+good-new_submitter sender (commands.Submitter n who) h good f m = elim (eqb m n) as (λ t. IfGiven IsText (cond t (Some (person sender who)) None)) [ true ↦ good-person sender who h good | false ↦ tt ]
+good-new_submitter sender (commands.Reassign n package_name version) h good f m = tt
+good-new_submitter sender (commands.Merge n ns) h good f m = tt
+good-new_submitter sender (commands.ForceMerge n ns) h good f m = tt
+good-new_submitter sender (commands.Unmerge n) h good f m = tt
+good-new_submitter sender (commands.Forwarded n address) h good f m = tt
+good-new_submitter sender (commands.NotForwarded n) h good f m = tt
+good-new_submitter sender (commands.Owner n who) h good f m = tt
+good-new_submitter sender (commands.NoOwner n) h good f m = tt

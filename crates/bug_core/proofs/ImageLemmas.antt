@@ -1,11 +1,11 @@
 -- What images of sets show, and of which desk.
-use Rattle.std.proofs.Common.{◌≡◌, ℕ, true, false, cond, ◌||◌, eqb, List, [], ◌∷◌, ◌++◌, Option, Some, None, sym, refl, ap, ◌∙◌, subst}
+use Rattle.std.proofs.Common.{◌≡◌, ℕ, Bool, true, false, cond, ◌||◌, eqb, List, [], ◌∷◌, ◌++◌, Option, Some, None, sym, refl, ap, ◌∙◌, subst}
 use Rattle.std.specs.Prelude.{option_map}
 use Rattle.std.proofs.lemmas.Option.{same_Some, none-some}
 use Rattle.std.proofs.lemmas.Bool.{false≢true, eqb-true}
 use Rattle.bug_record.specs.Sets.{has, Each}
 use Rattle.bug_record.specs.Desk.{Desk}
-use Rattle.bug_record.specs.Images.{numbers_of, member_at, bug_of, bug_in, IsBlockOf, AreBlocksOf}
+use Rattle.bug_record.specs.Images.{numbers_of, member_at, bug_of, bug_in, AreApart, IsBlockOf, AreBlocksOf}
 use Rattle.std.specs.Option.{option_or}
 use Rattle.bug_record.specs.declared.bug.Bug.{Bug}
 use Rattle.bug_record.specs.declared.bug.Member.{Member}
@@ -138,3 +138,34 @@ image_with-block d [] n i b h = absurd (none-some i h)
 image_with-block d (j ∷ is) n i b h =
     elim (has (numbers_of j.members) n) as (λ t. cond t (Some j) (image_with is n) ≡ Some i → IsBlockOf d i)
     [ true ↦ λ h. subst (IsBlockOf d) (same_Some _ _ h) b.0 | false ↦ λ h. image_with-block d is n i b.1 h ] h
+
+-- of images that are apart, n's shows each bug that is merged with n
+pub image_with-bug : (is : List SetImage) (n m : ℕ) (i : SetImage) (b : Bug) → AreApart is → image_with is n ≡ Some i → bug_in is m ≡ Some b → has b.block n ≡ true
+    → (x : Member) × (member_at i.members m ≡ Some x) × (b ≡ bug_of i x)
+image_with-bug [] n m i b a h e k = absurd (none-some i h)
+image_with-bug (j ∷ is) n m i b a h e k =
+    elim (member_at j.members m) as (λ o. member_at j.members m ≡ o → option_or (option_map (bug_of j) o) (bug_in is m) ≡ Some b → (x : Member) × (member_at i.members m ≡ Some x) × (b ≡ bug_of i x)) [
+      | None ↦ λ q e. image_with-bug is n m i b a.1 (later e (has (numbers_of j.members) n) refl) e k
+      | Some x ↦ λ q e.
+          let mine : has (numbers_of j.members) n ≡ true = ap (λ (z : Bug). has z.block n) (same_Some _ _ e) ∙ k in
+          let same : j ≡ i = same_Some _ _ (sym (ap (λ t. cond t (Some j) (image_with is n)) mine) ∙ h) in
+          (x, ap (λ (z : SetImage). member_at z.members m) (sym same) ∙ q, sym (same_Some _ _ e) ∙ ap (λ (z : SetImage). bug_of z x) same)
+    ] refl e
+  where
+    later : bug_in is m ≡ Some b → (t : Bool) → has (numbers_of j.members) n ≡ t → image_with is n ≡ Some i
+    later e true q = absurd (bug_in-block is m n b e k (a.0 n q))
+    later e false q = ap (λ t. cond t (Some j) (image_with is n)) (sym q) ∙ h
+
+-- and every bug that it has
+pub image_with-member : (is : List SetImage) (n m : ℕ) (i : SetImage) (x : Member) → AreApart is → image_with is n ≡ Some i → member_at i.members m ≡ Some x → bug_in is m ≡ Some (bug_of i x)
+image_with-member [] n m i x a h e = absurd (none-some i h)
+image_with-member (j ∷ is) n m i x a h e =
+    elim (has (numbers_of j.members) n) as (λ t. cond t (Some j) (image_with is n) ≡ Some i → bug_in (j ∷ is) m ≡ Some (bug_of i x)) [
+      | true ↦ λ h. let same : j ≡ i = same_Some _ _ h in
+          ap (λ (o : Option Member). option_or (option_map (bug_of j) o) (bug_in is m)) (ap (λ (z : SetImage). member_at z.members m) same ∙ e) ∙ ap (λ (z : SetImage). Some (bug_of z x)) same
+      | false ↦ λ h. beside (image_with-member is n m i x a.1 h e) (member_at j.members m) refl
+    ] h
+  where
+    beside : bug_in is m ≡ Some (bug_of i x) → (o : Option Member) → member_at j.members m ≡ o → bug_in (j ∷ is) m ≡ Some (bug_of i x)
+    beside q None r = ap (λ (o : Option Member). option_or (option_map (bug_of j) o) (bug_in is m)) r ∙ q
+    beside q (Some y) r = absurd (none-some (bug_of i x) (sym (a.0 m (has-member_some j.members m y r)) ∙ q))

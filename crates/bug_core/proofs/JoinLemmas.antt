@@ -8,7 +8,7 @@ use Rattle.std.specs.Option.{option_or}
 use Rattle.bug_record.specs.declared.bug.Member.{Member}
 use Rattle.bug_record.specs.declared.bug.SetImage.{SetImage}
 use Rattle.bug_core.specs.Numbers.{IsJoined}
-use Rattle.bug_core.proofs.SetLemmas.{has-with_item}
+use Rattle.bug_record.proofs.SetLemmas.{has-with_item}
 use Rattle.bug_core.proofs.ImageLemmas.{has-member_some, has-member_none}
 
 or_group : (a b c : Bool) → ((a || b) || c) ≡ (a || (b || c))

@@ -1,12 +1,15 @@
-pub mod SetLemmas
 pub mod ImageLemmas
 pub mod OtherLemmas
 pub mod SoundLemmas
 pub mod ReplaceLemmas
 pub mod NodeLemmas
-pub mod MarkLemmas
 pub mod FieldLemmas
 pub mod PlanLemmas
+pub mod UnmergeLemmas
+pub mod MemberLemmas
+pub mod ListedLemmas
+pub mod SharedLemmas
+pub mod MergeLemmas
 pub mod JoinLemmas
 pub mod ChangedLemmas
 pub mod ReportLemmas

@@ -9,7 +9,7 @@ use Rattle.debver.specs.Parts.{in_upstream, in_revision, epoch_text, revision_te
 use Rattle.debver.specs.Names.{IsName, name_fault}
 use Rattle.debver.specs.Cut.{cut, IsVersion}
 use Rattle.debver.specs.Faults.{text_fault}
-use Rattle.bug_record.specs.Commands.{IfGiven}
+use Rattle.bug_record.specs.Texts.{IfGiven}
 use Rattle.ancestry.specs.Nodes.{Node, node, is_slash, node_of, node_of_text, node_at}
 use Rattle.ancestry.proofs.ReadLemmas.{nodes_exactly}
 

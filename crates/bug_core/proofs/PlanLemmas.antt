@@ -1,15 +1,17 @@
 -- For each kind of command, that what is planned on images is its step on the desk.
-use Rattle.std.proofs.Common.{◌≡◌, ℕ, true, false, cond, List, [], ◌∷◌, ◌++◌, Option, Some, None, Result, Ok, Err, refl, sym, ap, ◌∙◌, subst, arith}
+use Rattle.std.proofs.Common.{◌≡◌, ℕ, Bool, true, false, cond, List, [], ◌∷◌, ◌++◌, Option, Some, None, Result, Ok, Err, refl, sym, ap, ◌∙◌, subst, arith}
 use Rattle.std.proofs.lemmas.Option.{none-some, same_Some}
 use Rattle.debver.specs.Names.{IsName}
 use Rattle.bug_record.specs.Desk.{Desk, IsSound}
-use Rattle.bug_record.specs.Commands.{bug_named, HasGoodParts}
-use Rattle.bug_record.specs.Steps.{step, at_bug, each_bug, change_set, shared_after, new_submitter}
+use Rattle.bug_record.specs.Bugs.{each_bug, at_bug}
+use Rattle.bug_record.specs.Commands.{bug_named, bugs_named, HasGoodParts}
+use Rattle.bug_record.specs.Steps.{records_changed, change_set, shared_after, new_title, new_submitter}
 use Rattle.bug_record.specs.Sets.{has, Each}
 use Rattle.bug_record.specs.Texts.{IsText}
 use Rattle.bug_record.specs.Images.{bug_of, bug_in, numbers_of, put, AreApart, AreBlocksOf}
-use Rattle.bug_record.specs.Plans.{named, AllKnown, IsShownBy}
+use Rattle.bug_record.specs.Plans.{AllKnown, IsShownBy}
 use Rattle.bug_record.specs.declared.bug.Bug.{Bug}
+use Rattle.bug_record.specs.declared.bug.Shared.{Shared}
 use Rattle.bug_record.specs.declared.bug.SetImage.{SetImage}
 use Rattle.bug_record.specs.declared.command.Change.{Change}
 use Rattle.bug_record.specs.declared.command.Command.{Command}
@@ -21,17 +23,17 @@ use Rattle.bug_core.specs.Others.{image_with, others}
 use Rattle.bug_core.specs.Planned.{HasName, IsPlanned, IsRefusedAs}
 use Rattle.bug_core.specs.Fields.{IsWanting}
 use Rattle.bug_core.proofs.ImageLemmas.{shown, image_with-shows, image_with-none}
-use Rattle.bug_core.proofs.FieldLemmas.{good-shared_after, good-new_submitter}
+use Rattle.bug_core.proofs.FieldLemmas.{good-shared_after, good-new_title, good-new_submitter}
 use Rattle.bug_core.proofs.SoundLemmas.{sound-change_set}
-use Rattle.bug_core.proofs.ReplaceLemmas.{TakesPlace, apart-replaced, members-replaced, covers-replaced, none-replaced, whole-sets, put-replaced, image_after, set-takes_place}
+use Rattle.bug_core.proofs.ReplaceLemmas.{TakesPlace, Makes, apart-replaced, members-replaced, covers-replaced, none-replaced, whole-sets, put-replaced, image_after, bug_after, set-takes_place, set-makes}
 
--- the step of each desk, sound or not, of which the images show the bugs that the command names
-abbrev pub Steps : List ℕ → Command ℕ → List SetImage → ℕ → (Desk → Result Desk Refusal) → Type 0
-Steps sender command is next after = (d : Desk) → d.next ≡ next → AllKnown d is (named command) → step d sender command ≡ after d
+-- the step of each desk, sound or not, of which the images show these bugs
+abbrev pub Steps : List ℕ → (Desk → Result Desk Refusal) → List SetImage → ℕ → (Desk → Result Desk Refusal) → Type 0
+Steps named step is next after = (d : Desk) → d.next ≡ next → AllKnown d is named → step d ≡ after d
 
 -- a refusal that is the step's
-pub planned-refused : (sender : List ℕ) (command : Command ℕ) (is : List SetImage) (next : ℕ) (refusal : Refusal) → Steps sender command is next (λ _. Err refusal) → IsPlanned sender command is next (Err (Refused refusal))
-planned-refused sender command is next refusal h = record {
+pub planned-refused : (named : List ℕ) (step : Desk → Result Desk Refusal) (is : List SetImage) (next : ℕ) (refusal : Refusal) → Steps named step is next (λ _. Err refusal) → IsPlanned named step is next (Err (Refused refusal))
+planned-refused named step is next refusal h = record {
   right = λ d sh. h d sh.next_is sh.known;
   fits = λ d sh. tt;
   brings = λ d sh. tt;
@@ -42,62 +44,76 @@ planned-refused sender command is next refusal h = record {
   later = tt;
 }
 
--- a change of n's set alone that is the step's
-pub planned-replaced : (sender : List ℕ) (command : Command ℕ) (is : List SetImage) (next n : ℕ) (i : SetImage) (new : List SetImage) (f : ℕ → Bug → Bug) → AreApart is → image_with is n ≡ Some i → TakesPlace i n new f
-    → Steps sender command is next (λ d. Ok (each_bug d f)) → ((d : Desk) → IsShownBy d is next (named command) → IsSound (each_bug d f))
-    → (change : Change) → change.images ≡ new ++ others n is → change.next ≡ next → IsPlanned sender command is next (Ok change)
-planned-replaced sender command is next n i new f a h p steps keeps change same last = subst (λ (z : Change). IsPlanned sender command is next (Ok z)) (sym whole) (record {
+-- a change of the sets of the bugs ns that is the step's
+pub planned-replaced : (named : List ℕ) (step : Desk → Result Desk Refusal) (is : List SetImage) (next : ℕ) (ns : List ℕ) (new : List SetImage) (f : ℕ → Bug → Bug) → AreApart is → TakesPlace is ns new
+    → ((d : Desk) → AllKnown d is named → AllKnown d is ns) → Steps named step is next (λ d. Ok (each_bug d f))
+    → ((d : Desk) → IsShownBy d is next named → Makes d is ns new f) → ((d : Desk) → IsShownBy d is next named → IsSound (each_bug d f))
+    → (change : Change) → change.images ≡ new ++ others ns is → change.next ≡ next → IsPlanned named step is next (Ok change)
+planned-replaced named step is next ns new f a p known steps makes keeps change same last = subst (λ (z : Change). IsPlanned named step is next (Ok z)) (sym whole) (record {
   right = λ d sh. (steps d sh.next_is sh.known ∙ ap Ok (sym (moved d sh)), sound d sh);
   fits = λ d sh. record { whole = whole-sets d is js sh.sound sh.blocks covers none; sound = sound d sh };
   brings = λ d sh m b q e. absurd (none-some b (sym (none m q) ∙ e));
   refusals = λ d e k names. subst (λ (z : Result Desk Refusal). IsRefusedAs z (Ok (record { images = js; next = next }))) (sym (steps d e k)) tt;
-  apart = apart-replaced is n i new f a h p;
-  members = members-replaced is n i new f p;
+  apart = apart-replaced is ns new a p;
+  members = members-replaced is ns new p;
   covers = covers;
   later = omega arith;
 })
   where
     js : List SetImage
-    js = new ++ others n is
+    js = new ++ others ns is
 
     whole : change ≡ record { images = js; next = next }
     whole = λ j. record { images = same j; next = last j }
 
     covers : (m : ℕ) → bug_in js m ≡ None → bug_in is m ≡ None
-    covers = covers-replaced is n i new f a h p
+    covers = covers-replaced is ns new p
 
     none : (m : ℕ) → bug_in is m ≡ None → bug_in js m ≡ None
-    none = none-replaced is n i new f h p
+    none = none-replaced is ns new p
 
-    moved : (d : Desk) → IsShownBy d is next (named command) → put d (record { images = js; next = next }) ≡ each_bug d f
-    moved d sh = put-replaced d is next n i new f sh.sound sh.next_is sh.blocks a h p
+    moved : (d : Desk) → IsShownBy d is next named → put d (record { images = js; next = next }) ≡ each_bug d f
+    moved d sh = put-replaced d is next ns new f sh.sound sh.next_is sh.blocks (known d sh.known) p (makes d sh)
 
-    sound : (d : Desk) → IsShownBy d is next (named command) → IsSound (put d (record { images = js; next = next }))
+    sound : (d : Desk) → IsShownBy d is next named → IsSound (put d (record { images = js; next = next }))
     sound d sh = subst IsSound (sym (moved d sh)) (keeps d sh)
 
--- ---- a command that changes the set of the bug that it names
+-- ---- a command that changes records of the set of the bug that it names
 
-abbrev set_after : List ℕ → Command ℕ → Desk → Desk
-set_after sender command d = change_set d (bug_named command) (shared_after command) (new_submitter sender command)
+abbrev records_after : List ℕ → Command ℕ → Desk → Desk
+records_after sender command d = change_set d (bug_named command) (shared_after sender command) (new_title command) (new_submitter sender command)
 
 -- its step, by what the images show of the bug
 steps-shown : (sender : List ℕ) (command : Command ℕ) (is : List SetImage) (next : ℕ) (o : Option Bug) → bug_in is (bug_named command) ≡ o
-    → Steps sender command is next (λ d. at_bug o (bug_named command) (λ _. Ok (set_after sender command d)))
-steps-shown sender command is next o h d e k = ap (λ (z : Option Bug). at_bug z (bug_named command) (λ _. Ok (set_after sender command d))) (sym k.0 ∙ h)
+    → Steps (bugs_named command) (records_changed sender command) is next (λ d. at_bug o (bug_named command) (λ _. Ok (records_after sender command d)))
+steps-shown sender command is next o h d e k = ap (λ (z : Option Bug). at_bug z (bug_named command) (λ _. Ok (records_after sender command d))) (sym k.0 ∙ h)
 
-pub planned-set : (sender : List ℕ) (command : Command ℕ) (is : List SetImage) (next : ℕ) (i : SetImage) → IsText sender → HasGoodParts command → AreApart is → image_with is (bug_named command) ≡ Some i
-    → (change : Change) → change.images ≡ image_after i (shared_after command) (new_submitter sender command) ∷ others (bug_named command) is → change.next ≡ next → IsPlanned sender command is next (Ok change)
-planned-set sender command is next i text good a h =
-    planned-replaced sender command is next (bug_named command) i (image_after i (shared_after command) (new_submitter sender command) ∷ []) _ a h
-    (set-takes_place is (bug_named command) i (shared_after command) (new_submitter sender command) h)
+pub planned-records : (sender : List ℕ) (command : Command ℕ) (is : List SetImage) (next : ℕ) (i : SetImage) → IsText sender → HasGoodParts command → AreApart is → image_with is (bug_named command) ≡ Some i
+    → (change : Change) → change.images ≡ image_after i (shared_after sender command) (new_title command) (new_submitter sender command) ∷ others (bug_named command ∷ []) is → change.next ≡ next
+    → IsPlanned (bugs_named command) (records_changed sender command) is next (Ok change)
+planned-records sender command is next i text good a h =
+    planned-replaced (bugs_named command) (records_changed sender command) is next (bug_named command ∷ []) (image_after i f title who ∷ []) (bug_after (bug_named command) f title who) a
+    (set-takes_place is (bug_named command) i f title who a h)
+    (λ d k. (k.0, tt))
     (let b = image_with-shows is (bug_named command) i h in steps-shown sender command is next (Some (bug_of i b.0)) b.1)
-    (λ d sh. sound-change_set d (bug_named command) (shared_after command) (new_submitter sender command) sh.sound
-    (record { fields = good-shared_after command good; texts = good-new_submitter sender command text good }))
+    (λ d sh. set-makes d is (bug_named command) i f title who a h)
+    (λ d sh. sound-change_set d (bug_named command) f title who sh.sound
+    (record { fields = good-shared_after sender command text good; titles = good-new_title command good; submitters = good-new_submitter sender command text good }))
+  where
+    f : Shared → Shared
+    f = shared_after sender command
+
+    title : ℕ → Option (List ℕ)
+    title = new_title command
+
+    who : Shared → ℕ → Option (List ℕ)
+    who = new_submitter sender command
 
 -- a bug in no image is refused
 pub planned-no_bug : (sender : List ℕ) (command : Command ℕ) (is : List SetImage) (next : ℕ) → image_with is (bug_named command) ≡ None
-    → IsPlanned sender command is next (Err (Refused (NoBug (bug_named command))))
-planned-no_bug sender command is next h = planned-refused sender command is next (NoBug (bug_named command)) (steps-shown sender command is next None (image_with-none is (bug_named command) h))
+    → IsPlanned (bugs_named command) (records_changed sender command) is next (Err (Refused (NoBug (bug_named command))))
+planned-no_bug sender command is next h =
+    planned-refused (bugs_named command) (records_changed sender command) is next (NoBug (bug_named command)) (steps-shown sender command is next None (image_with-none is (bug_named command) h))
 
 -- no desk shows an image whose package is no package name
 has_name : (is : List SetImage) (n : ℕ) (i : SetImage) → image_with is n ≡ Some i → Each HasName is → IsName i.shared.«package»
@@ -110,12 +126,12 @@ named-shown : (d : Desk) (is : List SetImage) (n : ℕ) (i : SetImage) → IsSou
 named-shown d is n i sound blocks h = let b = image_with-shows is n i h in (sound.texts n (bug_of i b.0) (shown d is blocks n (bug_of i b.0) b.1)).shared.package_name
 
 -- what is answered where memory is wanting, or the image's package is no package name
-pub planned-wanting : (sender : List ℕ) (command : Command ℕ) (is : List SetImage) (next n : ℕ) (i : SetImage) (fault : PlanFault) → image_with is n ≡ Some i → IsWanting i.shared.«package» fault → IsPlanned sender command is next (Err fault)
-planned-wanting sender command is next n i Memory h w = record {
+pub planned-wanting : (named : List ℕ) (step : Desk → Result Desk Refusal) (is : List SetImage) (next n : ℕ) (i : SetImage) (fault : PlanFault) → image_with is n ≡ Some i → IsWanting i.shared.«package» fault → IsPlanned named step is next (Err fault)
+planned-wanting named step is next n i Memory h w = record {
   right = λ d sh. tt;
   fits = λ d sh. tt;
   brings = λ d sh. tt;
-  refusals = λ d e k names. always (step d sender command);
+  refusals = λ d e k names. always (step d);
   apart = tt;
   members = tt;
   covers = tt;
@@ -125,7 +141,7 @@ planned-wanting sender command is next n i Memory h w = record {
     always : (r : Result Desk Refusal) → IsRefusedAs r (Err Memory)
     always (Ok d) = tt
     always (Err refusal) = tt
-planned-wanting sender command is next n i (Refused refusal) h w = record {
+planned-wanting named step is next n i (Refused refusal) h w = record {
   right = λ d sh. absurd (w (named-shown d is n i sh.sound sh.blocks h));
   fits = λ d sh. tt;
   brings = λ d sh. tt;

@@ -7,9 +7,8 @@ use Rattle.std.specs.List.Sorted.{IsStrictlySortedBy}
 use Rattle.debver.specs.Names.{IsName}
 use Rattle.ancestry.specs.Nodes.{Node, IsNode}
 use Rattle.bug_record.specs.Marks.{IsNodeSet}
-use Rattle.bug_record.specs.Commands.{IfGiven}
 use Rattle.bug_record.specs.Sets.{has, IsAscending}
-use Rattle.bug_record.specs.Texts.{IsText}
+use Rattle.bug_record.specs.Texts.{IsText, IfGiven}
 use Rattle.bug_record.specs.Desk.{Desk, IsSound, IsMergedWith, HasGoodTexts}
 use Rattle.bug_record.specs.Steps.{found_first, reported, new_bug}
 use Rattle.bug_record.specs.Images.{put, bug_of, CoverSets, FitsDesk}
@@ -18,8 +17,8 @@ use Rattle.bug_record.specs.declared.bug.Bug.{Bug}
 use Rattle.bug_record.specs.declared.bug.Member.{Member}
 use Rattle.bug_record.specs.declared.severity.Severity.{Severity}
 use Rattle.bug_core.specs.Reports.{image_of_report}
-use Rattle.bug_core.proofs.SetLemmas.{one_number}
-use Rattle.bug_core.proofs.MarkLemmas.{set-none}
+use Rattle.bug_record.proofs.SetLemmas.{one_number}
+use Rattle.bug_record.proofs.MarkLemmas.{set-none}
 use Rattle.bug_core.proofs.SoundLemmas.{agree, merged-from}
 
 -- the texts of a report
@@ -61,7 +60,7 @@ sound-reported d a p s t v sound left good = record {
   agree = λ n m b h k. reported-cases d a p s t v (IsMergedWith b ((reported d a p s t v).bug m)) n b h
       (λ e q. merged-from b ((reported d a p s t v).bug m) (new_bug d.next a p s t v) (reported-new d a p s t v m (one_number m d.next (ap (λ (z : Bug). has z.block m) q ∙ k))) (ap (λ (z : Bug). z.block) q) (ap (λ (z : Bug). z.shared) q))
       (λ q. let c = agree d sound n m b q k in merged-from b ((reported d a p s t v).bug m) c.0 (reported-old d a p s t v m c.0 sound c.1) c.2 c.3);
-  texts = λ m b h. reported-cases d a p s t v (HasGoodTexts b) m b h (λ e q. subst HasGoodTexts q (record { title = good.title; submitter = good.sender; shared = record { package_name = good.package_name; found = one-node v good.node; fixed = set-none } })) (λ k. sound.texts m b k);
+  texts = λ m b h. reported-cases d a p s t v (HasGoodTexts b) m b h (λ e q. subst HasGoodTexts q (record { title = good.title; submitter = good.sender; shared = record { package_name = good.package_name; forwarded = tt; owner = tt; tags = tt; found = one-node v good.node; fixed = set-none } })) (λ k. sound.texts m b k);
   in_range = λ m b h. reported-cases d a p s t v ((0 < m) × (m < d.next + 1)) m b h
       (λ e q. (subst (λ z. 0 < z) (sym e) sound.next_in_range.0, omega (arith, e)))
       (λ k. ((sound.in_range m b k).0, (let below : m < d.next = (sound.in_range m b k).1 in omega (arith, below))));

@@ -4,9 +4,9 @@ use Rattle.std.specs.Prelude.{option_map, unwrap_or}
 use Rattle.std.proofs.lemmas.Option.{same_Some, none-some}
 use Rattle.bug_record.specs.Sets.{has, IsAscending}
 use Rattle.bug_record.specs.Desk.{Desk, IsSound, IsMergedWith, IsGoodShared, HasGoodTexts}
-use Rattle.bug_record.specs.Steps.{each_bug, change_set}
-use Rattle.bug_record.specs.Texts.{IsText}
-use Rattle.bug_record.specs.Commands.{IfGiven}
+use Rattle.bug_record.specs.Steps.{change_set}
+use Rattle.bug_record.specs.Bugs.{each_bug}
+use Rattle.bug_record.specs.Texts.{IsText, IfGiven}
 use Rattle.bug_record.specs.declared.bug.Bug.{Bug}
 use Rattle.bug_record.specs.declared.bug.Shared.{Shared}
 
@@ -54,17 +54,26 @@ sound-each_bug d f sound keeps = record {
 }
 
 -- a change of the fields of a set that keeps their limits
-pub record KeepsLimits (f : Shared → Shared) (who : Shared → Option (List ℕ)) : Type 0 where
+pub record KeepsLimits (f : Shared → Shared) (title : ℕ → Option (List ℕ)) (who : Shared → ℕ → Option (List ℕ)) : Type 0 where
   pub fields : (s : Shared) → IsGoodShared s → IsGoodShared (f s)
-  pub texts : (s : Shared) → IfGiven IsText (who s)
+  pub titles : (m : ℕ) → IfGiven IsText (title m)
+  pub submitters : (s : Shared) (m : ℕ) → IfGiven IsText (who s m)
 
-pub sound-change_set : (d : Desk) (n : ℕ) (f : Shared → Shared) (who : Shared → Option (List ℕ)) → IsSound d → KeepsLimits f who → IsSound (change_set d n f who)
-sound-change_set d n f who sound keeps =
-    sound-each_bug d (λ m b. record b { shared = cond (has b.block n) (f b.shared) b.shared; submitter = cond (has b.block n) (unwrap_or (who b.shared) b.submitter) b.submitter }) sound (record {
+pub sound-change_set : (d : Desk) (n : ℕ) (f : Shared → Shared) (title : ℕ → Option (List ℕ)) (who : Shared → ℕ → Option (List ℕ)) → IsSound d → KeepsLimits f title who → IsSound (change_set d n f title who)
+sound-change_set d n f title who sound keeps =
+    sound-each_bug d (λ m b. record b {
+      shared = cond (has b.block n) (f b.shared) b.shared;
+      title = cond (has b.block n) (unwrap_or (title m) b.title) b.title;
+      submitter = cond (has b.block n) (unwrap_or (who b.shared m) b.submitter) b.submitter;
+    }) sound (record {
       own = λ m b h. sound.own m b h;
       ascending = λ m b h. sound.ascending m b h;
       agree = λ m k b h q. let a = agree d sound m k b h q in (a.0, a.1, a.2, (λ j. cond (has (a.2 j) n) (f (a.3 j)) (a.3 j)));
-      texts = λ m b h. let t = sound.texts m b h in record { title = t.title; submitter = person b (has b.block n) t.submitter; shared = fields b (has b.block n) t.shared };
+      texts = λ m b h. let t = sound.texts m b h in record {
+        title = changed (has b.block n) (title m) b.title (keeps.titles m) t.title;
+        submitter = changed (has b.block n) (who b.shared m) b.submitter (keeps.submitters b.shared m) t.submitter;
+        shared = fields b (has b.block n) t.shared;
+      };
     })
   where
     fields : (b : Bug) (t : Bool) → IsGoodShared b.shared → IsGoodShared (cond t (f b.shared) b.shared)
@@ -75,6 +84,6 @@ sound-change_set d n f who sound keeps =
     given None old g h = h
     given (Some text) old g h = g
 
-    person : (b : Bug) (t : Bool) → IsText b.submitter → IsText (cond t (unwrap_or (who b.shared) b.submitter) b.submitter)
-    person b true h = given (who b.shared) b.submitter (keeps.texts b.shared) h
-    person b false h = h
+    changed : (t : Bool) (o : Option (List ℕ)) (old : List ℕ) → IfGiven IsText o → IsText old → IsText (cond t (unwrap_or o old) old)
+    changed true o old g h = given o old g h
+    changed false o old g h = h

@@ -1,5 +1,7 @@
 pub mod Others
 pub mod Numbers
 pub mod Fields
+pub mod Agreements
+pub mod Joins
 pub mod Planned
 pub mod Reports

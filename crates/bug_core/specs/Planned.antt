@@ -3,12 +3,10 @@ use Rattle.std.specs.Prelude.{ℕ, ◌≡◌, ◌≤◌, List, Result, Ok, Err, 
 use Rattle.debver.specs.Names.{IsName}
 use Rattle.bug_record.specs.Sets.{Each}
 use Rattle.bug_record.specs.Desk.{Desk}
-use Rattle.bug_record.specs.Steps.{step}
 use Rattle.bug_record.specs.Images.{AreApart, HasMember, FitsDesk}
-use Rattle.bug_record.specs.Plans.{named, AllKnown, IsShownBy, IsPlanFor, CoverImages, BringNone}
+use Rattle.bug_record.specs.Plans.{AllKnown, IsShownBy, IsPlanOf, CoverImages, BringNone}
 use Rattle.bug_record.specs.declared.bug.SetImage.{SetImage}
 use Rattle.bug_record.specs.declared.command.Change.{Change}
-use Rattle.bug_record.specs.declared.command.Command.{Command}
 use Rattle.bug_record.specs.declared.command.PlanFault.{PlanFault}
 use Rattle.bug_record.specs.declared.command.PlanFault.TheVariants.{Refused, Memory}
 use Rattle.bug_record.specs.declared.command.Refusal.{Refusal}
@@ -26,13 +24,14 @@ IsRefusedAs (Err r) (Err Memory) = Unit {0}
 abbrev pub HasName : SetImage → Type 0
 HasName i = IsName i.shared.package
 
-pub record IsPlanned (sender : List ℕ) (command : Command ℕ) (images : List SetImage) (next : ℕ) (result : Result Change PlanFault) : Type 0 where
+-- What is planned for bugs whose step is this, a function of the desk.
+pub record IsPlanned (named : List ℕ) (after : Desk → Result Desk Refusal) (images : List SetImage) (next : ℕ) (result : Result Change PlanFault) : Type 0 where
   -- of every sound desk that the images show
-  pub right : (d : Desk) → IsShownBy d images next (named command) → IsPlanFor d sender command result
-  pub fits : (d : Desk) → IsShownBy d images next (named command) → IfOk result (λ change. FitsDesk d change)
-  pub brings : (d : Desk) → IsShownBy d images next (named command) → IfOk result (λ change. BringNone d images change.images)
-  -- of any desk, sound or not, of which the images show the bugs that the command names, where their packages are package names
-  pub refusals : (d : Desk) → d.next ≡ next → AllKnown d images (named command) → Each HasName images → IsRefusedAs (step d sender command) result
+  pub right : (d : Desk) → IsShownBy d images next named → IsPlanOf d (after d) result
+  pub fits : (d : Desk) → IsShownBy d images next named → IfOk result (λ change. FitsDesk d change)
+  pub brings : (d : Desk) → IsShownBy d images next named → IfOk result (λ change. BringNone d images change.images)
+  -- of any desk, sound or not, of which the images show these bugs, where the images' packages are package names
+  pub refusals : (d : Desk) → d.next ≡ next → AllKnown d images named → Each HasName images → IsRefusedAs (after d) result
   -- of the images alone
   pub apart : IfOk result (λ change. AreApart change.images)
   pub members : IfOk result (λ change. Each HasMember change.images)

@@ -5,12 +5,14 @@ ghost use Rattle.std.specs.Str.{bytes_eq};
 ghost use Rattle.bug_record.specs.Sets.{has};
 ghost use Rattle.bug_record.specs.Desk.{Desk};
 ghost use Rattle.bug_record.specs.Images.{numbers_of, bug_of, bug_in, put};
-ghost use Rattle.bug_record.specs.Changed.{same_nodes, same_shared, same_at, AreChanged, changed_numbers, Replaces};
+ghost use Rattle.bug_record.specs.Changed.{same_nodes, same_tags, same_shared, same_at, AreChanged, changed_numbers, Replaces};
+ghost use Rattle.bug_record.specs.Differences.{same_text, same_state};
 ghost use Rattle.bug_core.specs.Numbers.{IsJoined};
 
 use crate::images::find_member;
 use ancestry::Node;
-use bug_record::{Member, Numbers, Sequence, SetImage, Shared};
+use bug_record::{Member, Numbers, Sequence, SetImage, Shared, Tag};
+use debver::Text;
 use std::alloc::{AllocError, Global};
 
 fn same_nodes(a: &[Node], b: &[Node]) -> bool
@@ -19,12 +21,46 @@ fn same_nodes(a: &[Node], b: &[Node]) -> bool
     a == b
 }
 
+fn same_tags(a: &[Tag], b: &[Tag]) -> bool
+    ensures { result ≡ same_tags a.now b.now }
+{
+    if a.len() != b.len() {
+        return false;
+    }
+    for i in 0..a.len() {
+        if a[i].place() != b[i].place() {
+            return false;
+        }
+    }
+    true
+}
+
+/// Whether both are none, or equal.
+pub(crate) fn same_text(a: &Option<Text>, b: &Option<Text>) -> bool
+    ensures { result ≡ same_text a.now b.now }
+{
+    match (a, b) {
+        (Some(text), Some(other)) => text.as_str() == other.as_str(),
+        (None, None) => true,
+        _ => false,
+    }
+}
+
+fn same_state(a: &Shared, b: &Shared) -> bool
+    ensures { result ≡ same_state a.now b.now }
+{
+    a.closed == b.closed
+}
+
 fn same_shared(a: &Shared, b: &Shared) -> bool
     ensures { result ≡ same_shared a.now b.now }
 {
     a.package.as_str() == b.package.as_str()
         && a.severity.rank() == b.severity.rank()
-        && a.closed == b.closed
+        && same_state(a, b)
+        && same_text(&a.forwarded, &b.forwarded)
+        && same_text(&a.owner, &b.owner)
+        && same_tags(a.tags.as_slice(), b.tags.as_slice())
         && same_nodes(a.found.as_slice(), b.found.as_slice())
         && same_nodes(a.fixed.as_slice(), b.fixed.as_slice())
 }
@@ -43,8 +79,8 @@ fn same_numbers(a: &[Member], b: &[Member]) -> bool
     true
 }
 
-// The image and the member of a bug.
-fn find_bug(images: &[SetImage], number: u64) -> Option<(&SetImage, &Member)>
+/// The image and the member of a bug.
+pub(crate) fn find_bug(images: &[SetImage], number: u64) -> Option<(&SetImage, &Member)>
     ensures { MatchOption result (bug_in images.now number ≡ None) (λ p. bug_in images.now number ≡ Some (bug_of p.0.now p.1.now)) }
 {
     for image in images {

@@ -3,7 +3,7 @@
 ghost use Rattle.std.specs.Prelude.{◌≡◌, ◌∷◌, ◌++◌, IfOk, OnOk, MatchOption, Some, None};
 ghost use Rattle.bug_record.specs.Sets.{has};
 ghost use Rattle.bug_record.specs.Images.{numbers_of, member_at};
-ghost use Rattle.bug_core.specs.Others.{image_with, is_other, others};
+ghost use Rattle.bug_core.specs.Others.{image_with, has_any, is_other, others};
 
 use bug_record::{Change, Member, Sequence, SetImage};
 use std::alloc::{AllocError, Global};
@@ -44,59 +44,71 @@ pub(crate) fn find(images: &[SetImage], number: u64) -> Option<&SetImage>
     None
 }
 
-// Whether the image has a member, and is not the bug's.
-fn is_other(image: &SetImage, number: u64) -> bool
-    ensures { result ≡ is_other number image.now }
+/// Whether one of the numbers is that of a member.
+pub(crate) fn has_any_member(members: &[Member], numbers: &[u64]) -> bool
+    ensures { result ≡ has_any (numbers_of members.now) numbers.now }
 {
-    let members = image.members.as_slice();
-    !members.is_empty() && !has_member(members, number)
+    for number in numbers {
+        if has_member(members, *number) {
+            return true;
+        }
+    }
+    false
 }
 
-// Adds the images of other sets than the bug's.
+// Whether the image has a member, and none of the bugs.
+fn is_other(image: &SetImage, numbers: &[u64]) -> bool
+    ensures { result ≡ is_other numbers.now image.now }
+{
+    let members = image.members.as_slice();
+    !members.is_empty() && !has_any_member(members, numbers)
+}
+
+// Adds the images of other sets than the bugs'.
 fn add_others(
     kept: &mut Sequence<SetImage>,
     images: &[SetImage],
-    number: u64,
+    numbers: &[u64],
 ) -> Result<(), AllocError>
-    ensures { OnOk result (kept.new ≡ kept.old ++ others number images.now) }
+    ensures { OnOk result (kept.new ≡ kept.old ++ others numbers.now images.now) }
 {
     for image in images {
-        if is_other(image, number) {
+        if is_other(image, numbers) {
             kept.push(image.copy()?)?;
         }
     }
     Ok(())
 }
 
-/// The change that puts these images in the place of the bug's, and keeps the others.
+/// The change that puts these images in the place of those of the bugs' sets, and keeps the others.
 pub(crate) fn replace(
     mut parts: Sequence<SetImage>,
     images: &[SetImage],
-    number: u64,
+    numbers: &[u64],
     next: u64,
 ) -> Result<Change, AllocError>
-    ensures images { IfOk result (λ change. change.images ≡ parts ++ others number images.now) }
+    ensures images { IfOk result (λ change. change.images ≡ parts ++ others numbers.now images.now) }
     ensures next { IfOk result (λ change. change.next ≡ next) }
 {
-    add_others(&mut parts, images, number)?;
+    add_others(&mut parts, images, numbers)?;
     Ok(Change {
         images: parts,
         next,
     })
 }
 
-/// The change that puts this image in the place of the bug's, and keeps the others.
-pub(crate) fn replace_one(
+/// The change that puts this image in the place of those of the bugs' sets, and keeps the others.
+pub(crate) fn replace_by_one(
     alloc: Global,
     image: SetImage,
     images: &[SetImage],
-    number: u64,
+    numbers: &[u64],
     next: u64,
 ) -> Result<Change, AllocError>
-    ensures images { IfOk result (λ change. change.images ≡ image ∷ others number images.now) }
+    ensures images { IfOk result (λ change. change.images ≡ image ∷ others numbers.now images.now) }
     ensures next { IfOk result (λ change. change.next ≡ next) }
 {
     let mut parts = Sequence::new(alloc);
     parts.push(image)?;
-    replace(parts, images, number, next)
+    replace(parts, images, numbers, next)
 }

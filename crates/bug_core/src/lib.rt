@@ -5,19 +5,23 @@
 mod changes;
 mod fields;
 mod images;
+mod joins;
 mod laws;
+mod merges;
 mod plans;
 mod report;
+mod tags;
 #[cfg(test)]
 mod tests;
+mod unmerge;
 mod versions;
 
 pub use bug_record::{
-    Bug, Change, Command, Member, Nodes, Numbered, Numbers, PlanFault, Refusal, Sequence, SetImage,
-    Severity, Shared, VersionArg, Who, is_text,
+    Bug, Change, Command, Field, Member, Nodes, Numbered, Numbers, PlanFault, Refusal, Sequence,
+    SetImage, Severity, Shared, Tag, TagStep, Tags, VersionArg, Who, is_text,
 };
 pub use changes::changed;
-pub use fields::bug_named;
+pub use fields::{bug_named, other_bugs};
 pub use laws::changed_numbers_differ;
 pub use plans::plan;
 pub use report::report_change;

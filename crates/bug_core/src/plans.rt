@@ -4,19 +4,21 @@ ghost use Rattle.std.specs.Prelude.{◌≡◌, ◌≤◌, IfOk};
 ghost use Rattle.bug_record.specs.Sets.{Each};
 ghost use Rattle.bug_record.specs.Texts.{IsText};
 ghost use Rattle.bug_record.specs.Desk.{Desk};
-ghost use Rattle.bug_record.specs.Commands.{HasGoodParts};
-ghost use Rattle.bug_record.specs.Steps.{step};
+ghost use Rattle.bug_record.specs.Commands.{HasGoodParts, bugs_named};
+ghost use Rattle.bug_record.specs.Steps.{step, records_changed};
 ghost use Rattle.bug_record.specs.Images.{AreApart, HasMember, FitsDesk};
-ghost use Rattle.bug_record.specs.Plans.{named, AllKnown, IsShownBy, IsPlanFor, CoverImages, BringNone};
+ghost use Rattle.bug_record.specs.Plans.{AllKnown, IsShownBy, IsPlanFor, CoverImages, BringNone};
 ghost use Rattle.bug_core.specs.Planned.{HasName, IsRefusedAs, IsPlanned};
 
-use crate::fields::{bug_named, members_with, new_submitter, shared_after};
-use crate::images::{find, replace_one};
+use crate::fields::{bug_named, members_with, shared_after};
+use crate::images::{find, replace_by_one};
+use crate::merges::{Agreement, plan_merge};
+use crate::unmerge::plan_unmerge;
 use bug_record::{Change, Command, PlanFault, Refusal, SetImage};
 use std::alloc::Global;
 
-// What a command does to the set of the bug that it names.
-fn plan_set(
+// What a command does to the records of the set of the bug that it names. No block changes.
+fn plan_records(
     alloc: Global,
     command: &Command<u64>,
     from: &str,
@@ -26,20 +28,49 @@ fn plan_set(
     requires sender { IsText from.now }
     requires parts { HasGoodParts command.now }
     requires apart { AreApart images.now }
-    ensures { IsPlanned from.now command.now images.now next result }
+    ensures { IsPlanned (bugs_named command.now) (records_changed from.now command.now) images.now next result }
 {
     let number = bug_named(command);
     let Some(image) = find(images, number) else {
         return Err(PlanFault::Refused(Refusal::NoBug(number)));
     };
-    let shared = match shared_after(alloc, command, &image.shared) {
+    let old = &image.shared;
+    let shared = match shared_after(alloc, command, from, old) {
         Ok(shared) => shared,
         Err(fault) => return Err(fault),
     };
-    let submitter = new_submitter(command, from, &image.shared);
-    let members = members_with(alloc, image.members.as_slice(), submitter)?;
+    let members = members_with(alloc, command, from, old, image.members.as_slice())?;
     let image = SetImage { shared, members };
-    Ok(replace_one(alloc, image, images, number, next)?)
+    let named = [number];
+    let named = named.as_slice();
+    Ok(replace_by_one(alloc, image, images, named, next)?)
+}
+
+// What a command does, by its kind.
+fn plan_command(
+    alloc: Global,
+    command: &Command<u64>,
+    from: &str,
+    images: &[SetImage],
+    next: u64,
+) -> Result<Change, PlanFault>
+    requires sender { IsText from.now }
+    requires parts { HasGoodParts command.now }
+    requires apart { AreApart images.now }
+    ensures { IsPlanned (bugs_named command.now) (λ d. step d from.now command.now) images.now next result }
+{
+    match command {
+        Command::Merge(number, others) => {
+            let all = Agreement::FourFields;
+            plan_merge(alloc, all, *number, others.as_slice(), images, next)
+        }
+        Command::ForceMerge(number, others) => {
+            let package = Agreement::PackageAlone;
+            plan_merge(alloc, package, *number, others.as_slice(), images, next)
+        }
+        Command::Unmerge(number) => plan_unmerge(alloc, *number, images, next),
+        _ => plan_records(alloc, command, from, images, next),
+    }
 }
 
 /// The change that a command makes on a desk (the BTS page 'control and manipulation'). The images show the desk's sets of
@@ -51,8 +82,9 @@ fn plan_set(
 ///
 /// # Errors
 ///
-/// `Refused(NoBug(n))` where the command names a bug n that is in no image: n may be any number. `Memory` where there was
-/// none. `Refused(BadPackage)` where the command has a version for an image whose package is no package name: no desk
+/// `Refused(NoBug(n))` where the command names a bug n that is in no image: n may be any number. `Refused(Differ(field, n))`
+/// where the bug n is to be merged and differs from the first one in a field that has to be equal, and `Refused(NotMerged(n))`
+/// where a bug is to be taken out of its set and is merged with no other. `Memory` where there was none. `Refused(BadPackage)` where the command has a version for an image whose package is no package name: no desk
 /// shows such an image.
 pub fn plan(
     alloc: Global,
@@ -64,14 +96,14 @@ pub fn plan(
     requires sender { IsText from.now }
     requires parts { HasGoodParts command.now }
     requires apart { AreApart images.now }
-    ensures right { (d : Desk) → IsShownBy d images.now next (named command.now) → IsPlanFor d from.now command.now result }
-    ensures fits { (d : Desk) → IsShownBy d images.now next (named command.now) → IfOk result (λ change. FitsDesk d change) }
-    ensures refusals { (d : Desk) → d.next ≡ next → AllKnown d images.now (named command.now) → Each HasName images.now → IsRefusedAs (step d from.now command.now) result }
+    ensures right { (d : Desk) → IsShownBy d images.now next (bugs_named command.now) → IsPlanFor d from.now command.now result }
+    ensures fits { (d : Desk) → IsShownBy d images.now next (bugs_named command.now) → IfOk result (λ change. FitsDesk d change) }
+    ensures refusals { (d : Desk) → d.next ≡ next → AllKnown d images.now (bugs_named command.now) → Each HasName images.now → IsRefusedAs (step d from.now command.now) result }
     ensures apart { IfOk result (λ change. AreApart change.images) }
     ensures members { IfOk result (λ change. Each HasMember change.images) }
     ensures covers { IfOk result (λ change. CoverImages images.now change.images) }
-    ensures brings { (d : Desk) → IsShownBy d images.now next (named command.now) → IfOk result (λ change. BringNone d images.now change.images) }
+    ensures brings { (d : Desk) → IsShownBy d images.now next (bugs_named command.now) → IfOk result (λ change. BringNone d images.now change.images) }
     ensures later { IfOk result (λ change. next ≤ change.next) }
 {
-    plan_set(alloc, command, from, images, next)
+    plan_command(alloc, command, from, images, next)
 }

@@ -3,10 +3,9 @@
 ghost use Rattle.std.specs.Prelude.{◌≡◌, ◌<◌, IfOk};
 ghost use Rattle.debver.specs.Names.{IsName};
 ghost use Rattle.bug_record.specs.Sets.{Each};
-ghost use Rattle.bug_record.specs.Texts.{IsText};
+ghost use Rattle.bug_record.specs.Texts.{IsText, IfGiven};
 ghost use Rattle.bug_record.specs.Desk.{Desk, IsSound};
 ghost use Rattle.ancestry.specs.Nodes.{IsNode};
-ghost use Rattle.bug_record.specs.Commands.{IfGiven};
 ghost use Rattle.bug_record.specs.Steps.{found_first, reported};
 ghost use Rattle.bug_record.specs.Images.{put, AreApart, HasMember, FitsDesk};
 ghost use Rattle.bug_core.specs.Reports.{image_of_report};
@@ -50,6 +49,9 @@ fn image_of_report(
             package: Text::of(alloc, package)?,
             severity,
             closed: false,
+            forwarded: None,
+            owner: None,
+            tags: Sequence::new(alloc),
             found: found_first(alloc, node)?,
             fixed: Sequence::new(alloc),
         },

@@ -3,7 +3,8 @@
 
 ghost use Rattle.std.specs.Prelude.{◌≡◌, [], ◌∷◌, IfOk};
 ghost use Rattle.bug_record.specs.Images.{numbers_of};
-ghost use Rattle.bug_record.specs.Commands.{IfGiven, IsGoodVersion};
+ghost use Rattle.bug_record.specs.Commands.{IsGoodVersion};
+ghost use Rattle.bug_record.specs.Texts.{IfGiven};
 
 use crate::*;
 use ancestry::Node;

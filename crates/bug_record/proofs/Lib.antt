@@ -1,2 +1,6 @@
+pub mod MarkLemmas
+pub mod MergeLemmas
 pub mod PlaceLemmas
+pub mod SetLemmas
 pub mod SoundProp
+pub mod TagLemmas

@@ -1,12 +1,16 @@
 -- That a desk is sound is one fact: any two proofs of it are equal.
-use Rattle.std.proofs.Common.{ℕ, List, [], ◌∷◌, Option, Some, None}
+use Rattle.std.proofs.Common.{ℕ, List, [], ◌∷◌, map, Option, Some, None}
 use Rattle.std.proofs.Props.{props}
 use Rattle.std.specs.Coded.{×_prop, Unit-prop, le_prop}
 use Rattle.std.specs.List.Sorted.{IsStrictlySortedBy-prop}
 use Rattle.ancestry.specs.Nodes.{Node, IsNode, node_cmp}
 use Rattle.ancestry.proofs.ForestProp.{IsNode-prop, IsForest-prop}
 use Rattle.bug_record.specs.Sets.{AllAbove, IsAscending, Each}
+use Rattle.bug_record.specs.Texts.{IsText, IfGiven}
+use Rattle.bug_record.specs.Tags.{tag_place}
 use Rattle.bug_record.specs.Marks.{IsNodeSet}
+use Rattle.bug_record.specs.Tags.{tag_place}
+use Rattle.bug_record.specs.Texts.{IsText, IfGiven}
 use Rattle.bug_record.specs.Desk.{Desk, IsSound, IsMergedWith, IsGoodShared}
 use Rattle.bug_record.specs.declared.bug.Shared.{Shared}
 use Rattle.bug_record.specs.declared.bug.Bug.{Bug}
@@ -30,8 +34,15 @@ Each-prop P h (x ∷ xs) = ×_prop (h x) (Each-prop P h xs)
 pub IsNodeSet-prop : (nodes : List Node) → IsProp (IsNodeSet nodes)
 IsNodeSet-prop nodes = hlevel (props, IsStrictlySortedBy-prop node_cmp nodes, Each-prop IsNode IsNode-prop nodes)
 
+IfGiven-prop : {T : Type 0} (P : T → Type 0) → ((x : T) → IsProp (P x)) → (o : Option T) → IsProp (IfGiven P o)
+IfGiven-prop P h None = Unit-prop
+IfGiven-prop P h (Some x) = h x
+
+IsText-prop : (text : List ℕ) → IsProp (IsText text)
+IsText-prop text = hlevel props
+
 IsGoodShared-prop : (f : Shared) → IsProp (IsGoodShared f)
-IsGoodShared-prop f = hlevel (props, IsNodeSet-prop f.found, IsNodeSet-prop f.fixed)
+IsGoodShared-prop f = hlevel (props, IfGiven-prop IsText IsText-prop f.forwarded, IfGiven-prop IsText IsText-prop f.owner, IsAscending-prop (map tag_place f.tags), IsNodeSet-prop f.found, IsNodeSet-prop f.fixed)
 
 pub IsSound-prop : (d : Desk) → IsProp (IsSound d)
 IsSound-prop d = hlevel (props, IsAscending-prop, IsMergedWith-prop, IsGoodShared-prop, IsForest-prop)

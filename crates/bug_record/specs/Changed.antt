@@ -1,9 +1,11 @@
 -- The numbers at which two desks differ.
-use Rattle.std.specs.Prelude.{ℕ, suc, zero, ◌≡◌, ◌≤◌, Bool, true, false, not, ◌&&◌, ◌==◌, List, [], ◌∷◌, ◌++◌, Option, Some, None, filter, if◌then◌else◌}
+use Rattle.std.specs.Prelude.{ℕ, suc, zero, ◌≡◌, ◌≤◌, Bool, true, false, not, ◌&&◌, ◌==◌, List, [], ◌∷◌, ◌++◌, Option, Some, None, filter}
 use Rattle.std.specs.Str.{bytes_eq}
 use Rattle.std.specs.Cmp.Lexicographic.{pointwise}
 use Rattle.ancestry.specs.Nodes.{Node, same_node}
 use Rattle.bug_record.specs.Severities.{rank}
+use Rattle.bug_record.specs.Tags.{same_tag}
+use Rattle.bug_record.specs.Differences.{same_text, same_state}
 use Rattle.bug_record.specs.Sets.{has, IsAscending}
 use Rattle.bug_record.specs.Desk.{Desk, IsSound}
 use Rattle.bug_record.specs.Images.{AreBlocksOf, put}
@@ -11,14 +13,19 @@ use Rattle.bug_record.specs.Plans.{CoverImages, BringNone}
 use Rattle.bug_record.specs.declared.bug.Bug.{Bug}
 use Rattle.bug_record.specs.declared.bug.Shared.{Shared}
 use Rattle.bug_record.specs.declared.bug.SetImage.{SetImage}
+use Rattle.bug_record.specs.declared.tag.Tag.{Tag}
 
 -- tests of equality
 abbrev pub same_nodes : List Node → List Node → Bool
 same_nodes ns ms = pointwise same_node ns ms
 
+abbrev pub same_tags : List Tag → List Tag → Bool
+same_tags ts us = pointwise same_tag ts us
+
 abbrev pub same_shared : Shared → Shared → Bool
 same_shared s t =
-    (bytes_eq s.package t.package && (rank s.severity == rank t.severity)) && (if s.closed then t.closed else not t.closed)
+    (bytes_eq s.package t.package && (rank s.severity == rank t.severity)) && same_state s t
+    && (same_text s.forwarded t.forwarded && same_text s.owner t.owner && same_tags s.tags t.tags)
     && (same_nodes s.found t.found && same_nodes s.fixed t.fixed)
 
 abbrev pub same_bugs : Bug → Bug → Bool

@@ -1,9 +1,9 @@
 -- The parts of commands: the bug that one names, and the limits of what it gives. This project's own rule.
-use Rattle.std.specs.Prelude.{ℕ, List, Option, Some, None, unwrap_or, ⊤}
+use Rattle.std.specs.Prelude.{ℕ, List, [], ◌∷◌, map, unwrap_or, ⊤}
 use Rattle.debver.specs.Names.{IsName}
 use Rattle.debver.specs.Cut.{IsVersion}
 use Rattle.ancestry.specs.Nodes.{Node, node}
-use Rattle.bug_record.specs.Texts.{IsText}
+use Rattle.bug_record.specs.Texts.{IsText, IfGiven}
 use Rattle.bug_record.specs.declared.command.Command.{Command}
 use Rattle.bug_record.specs.declared.command.Command.TheVariants as commands
 use Rattle.bug_record.specs.declared.command.VersionArg.{VersionArg}
@@ -18,11 +18,6 @@ node_meant package_name version = node (unwrap_or version.source package_name) v
 abbrev pub person : List ℕ → Who → List ℕ
 person sender Sender = sender
 person sender (Given text) = text
-
--- what holds of a value, if there is one
-abbrev pub IfGiven : {T : Type 0} → (T → Type 0) → Option T → Type 0
-IfGiven P None = ⊤
-IfGiven P (Some x) = P x
 
 pub record IsGoodVersion (arg : VersionArg) : Type 0 where
   pub source : IfGiven IsName arg.source
@@ -41,9 +36,19 @@ HasGoodParts (commands.NotFixed n version) = IsGoodVersion version
 HasGoodParts (commands.Close n version) = IfGiven IsGoodVersion version
 HasGoodParts (commands.Reopen n who) = IfGiven IsGoodPerson who
 HasGoodParts (commands.Severity n severity) = ⊤
+HasGoodParts (commands.Tags n steps) = ⊤
+HasGoodParts (commands.Retitle n text) = IsText text
+HasGoodParts (commands.Submitter n who) = IsGoodPerson who
 HasGoodParts (commands.Reassign n package_name version) = IsName package_name × IfGiven IsGoodVersion version
+HasGoodParts (commands.Merge n ns) = ⊤
+HasGoodParts (commands.ForceMerge n ns) = ⊤
+HasGoodParts (commands.Unmerge n) = ⊤
+HasGoodParts (commands.Forwarded n text) = IsText text
+HasGoodParts (commands.NotForwarded n) = ⊤
+HasGoodParts (commands.Owner n who) = IsGoodPerson who
+HasGoodParts (commands.NoOwner n) = ⊤
 
--- the bug that a command names
+-- the bug that a command names first
 abbrev pub bug_named : {N : Type 0} → Command N → N
 bug_named (commands.Found n version) = n
 bug_named (commands.NotFound n version) = n
@@ -52,9 +57,29 @@ bug_named (commands.NotFixed n version) = n
 bug_named (commands.Close n version) = n
 bug_named (commands.Reopen n who) = n
 bug_named (commands.Severity n severity) = n
+bug_named (commands.Tags n steps) = n
+bug_named (commands.Retitle n text) = n
+bug_named (commands.Submitter n who) = n
 bug_named (commands.Reassign n package_name version) = n
+bug_named (commands.Merge n ns) = n
+bug_named (commands.ForceMerge n ns) = n
+bug_named (commands.Unmerge n) = n
+bug_named (commands.Forwarded n text) = n
+bug_named (commands.NotForwarded n) = n
+bug_named (commands.Owner n who) = n
+bug_named (commands.NoOwner n) = n
 
--- the same command of the bug that is meant
+-- the bugs that it names besides
+abbrev pub other_bugs : {N : Type 0} → Command N → List N
+other_bugs (commands.Merge n ns) = ns
+other_bugs (commands.ForceMerge n ns) = ns
+other_bugs command = []
+
+-- the bugs that a command names, in the order written
+abbrev pub bugs_named : {N : Type 0} → Command N → List N
+bugs_named command = bug_named command ∷ other_bugs command
+
+-- the same command of the bugs that are meant
 abbrev pub command_over : {N M : Type 0} → (N → M) → Command N → Command M
 command_over f (commands.Found n version) = commands.Found (f n) version
 command_over f (commands.NotFound n version) = commands.NotFound (f n) version
@@ -63,4 +88,14 @@ command_over f (commands.NotFixed n version) = commands.NotFixed (f n) version
 command_over f (commands.Close n version) = commands.Close (f n) version
 command_over f (commands.Reopen n who) = commands.Reopen (f n) who
 command_over f (commands.Severity n severity) = commands.Severity (f n) severity
+command_over f (commands.Tags n steps) = commands.Tags (f n) steps
+command_over f (commands.Retitle n text) = commands.Retitle (f n) text
+command_over f (commands.Submitter n who) = commands.Submitter (f n) who
 command_over f (commands.Reassign n package_name version) = commands.Reassign (f n) package_name version
+command_over f (commands.Merge n ns) = commands.Merge (f n) (map f ns)
+command_over f (commands.ForceMerge n ns) = commands.ForceMerge (f n) (map f ns)
+command_over f (commands.Unmerge n) = commands.Unmerge (f n)
+command_over f (commands.Forwarded n text) = commands.Forwarded (f n) text
+command_over f (commands.NotForwarded n) = commands.NotForwarded (f n)
+command_over f (commands.Owner n who) = commands.Owner (f n) who
+command_over f (commands.NoOwner n) = commands.NoOwner (f n)

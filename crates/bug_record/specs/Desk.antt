@@ -3,7 +3,8 @@ use Rattle.std.specs.Prelude.{ℕ, ◌≡◌, ◌<◌, ◌≤◌, true, Option, 
 use Rattle.debver.specs.Names.{IsName}
 use Rattle.ancestry.specs.Trees.{Ancestry, IsForest}
 use Rattle.bug_record.specs.Sets.{has, IsAscending}
-use Rattle.bug_record.specs.Texts.{IsText}
+use Rattle.bug_record.specs.Texts.{IsText, IfGiven}
+use Rattle.bug_record.specs.Tags.{IsTagSet}
 use Rattle.bug_record.specs.Marks.{IsNodeSet}
 use Rattle.bug_record.specs.declared.bug.Bug.{Bug}
 use Rattle.bug_record.specs.declared.bug.Shared.{Shared}
@@ -20,9 +21,12 @@ abbrev pub IsMergedWith : Bug → Option Bug → Type 0
 IsMergedWith b None = ⊥
 IsMergedWith b (Some c) = (c.block ≡ b.block) × (c.shared ≡ b.shared)
 
--- the limits of shared fields: marks are sets of nodes
+-- the limits of shared fields: tags are a set, and marks are sets of nodes
 pub record IsGoodShared (f : Shared) : Type 0 where
   pub package_name : IsName f.package
+  pub forwarded : IfGiven IsText f.forwarded
+  pub owner : IfGiven IsText f.owner
+  pub tags : IsTagSet f.tags
   pub found : IsNodeSet f.found
   pub fixed : IsNodeSet f.fixed
 

@@ -3,9 +3,13 @@ pub mod Places
 pub mod Words
 pub mod Texts
 pub mod Severities
+pub mod Tags
 pub mod Marks
 pub mod Desk
 pub mod Commands
+pub mod Bugs
+pub mod Differences
+pub mod Merges
 pub mod Steps
 pub mod Images
 pub mod Plans

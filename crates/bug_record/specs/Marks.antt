@@ -17,6 +17,14 @@ abbrev pub with_node : List Node → Node → List Node
 with_node [] n = n ∷ []
 with_node (m ∷ nodes) n = match_ordering (node_cmp n m) (n ∷ m ∷ nodes) (m ∷ nodes) (m ∷ with_node nodes n)
 
+-- the nodes of a list, each once, in node order
+abbrev pub node_set : List Node → List Node
+node_set [] = []
+node_set (n ∷ nodes) = with_node (node_set nodes) n
+
+abbrev pub has_node : List Node → Node → Bool
+has_node nodes n = list_any (same_node n) nodes
+
 -- the set without n
 abbrev pub without_node : List Node → Node → List Node
 without_node nodes n = filter (λ m. not (same_node n m)) nodes

@@ -1,19 +1,15 @@
 -- What is planned for a command on the images of sets, and what that says of a desk.
 use Rattle.std.specs.Prelude.{ℕ, ◌≡◌, List, [], ◌∷◌, Some, None, Result, Ok, Err, ⊤}
 use Rattle.bug_record.specs.Desk.{Desk, IsSound}
-use Rattle.bug_record.specs.Commands.{bug_named}
 use Rattle.bug_record.specs.Steps.{step}
 use Rattle.bug_record.specs.Images.{bug_in, put, AreBlocksOf}
 use Rattle.bug_record.specs.declared.bug.Bug.{Bug}
 use Rattle.bug_record.specs.declared.bug.SetImage.{SetImage}
 use Rattle.bug_record.specs.declared.command.Change.{Change}
 use Rattle.bug_record.specs.declared.command.Command.{Command}
+use Rattle.bug_record.specs.declared.command.Refusal.{Refusal}
 use Rattle.bug_record.specs.declared.command.PlanFault.{PlanFault}
 use Rattle.bug_record.specs.declared.command.PlanFault.TheVariants.{Refused, Memory}
-
--- the bugs that a command names
-abbrev pub named : Command ℕ → List ℕ
-named command = bug_named command ∷ []
 
 -- of each of these numbers the images say what the desk has: its bug, or that it has none
 abbrev pub AllKnown : Desk → List SetImage → List ℕ → Type 0
@@ -28,11 +24,15 @@ pub record IsShownBy (d : Desk) (is : List SetImage) (next : ℕ) (ns : List ℕ
   pub blocks : AreBlocksOf d is
   pub known : AllKnown d is ns
 
--- What is answered is the command's step: the same refusal, or a change that leaves the step's desk, which is sound.
+-- What is answered is the step of which this is the result: the same refusal, or a change that leaves the step's desk, which
+-- is sound.
+abbrev pub IsPlanOf : Desk → Result Desk Refusal → Result Change PlanFault → Type 0
+IsPlanOf d after (Ok change) = (after ≡ Ok (put d change)) × IsSound (put d change)
+IsPlanOf d after (Err (Refused refusal)) = after ≡ Err refusal
+IsPlanOf d after (Err Memory) = ⊤
+
 abbrev pub IsPlanFor : Desk → List ℕ → Command ℕ → Result Change PlanFault → Type 0
-IsPlanFor d sender command (Ok change) = (step d sender command ≡ Ok (put d change)) × IsSound (put d change)
-IsPlanFor d sender command (Err (Refused refusal)) = step d sender command ≡ Err refusal
-IsPlanFor d sender command (Err Memory) = ⊤
+IsPlanFor d sender command result = IsPlanOf d (step d sender command) result
 
 -- each bug that is in the old images is in the new ones
 abbrev pub CoverImages : List SetImage → List SetImage → Type 0

@@ -28,3 +28,8 @@ with_item number (y ∷ ys) x =
     if nat_lt (number y) (number x) then y ∷ with_item number ys x
     else if number y == number x then y ∷ ys
     else x ∷ y ∷ ys
+
+-- the numbers of a list, each once, ascending
+abbrev pub number_set : List ℕ → List ℕ
+number_set [] = []
+number_set (n ∷ ns) = with_item (λ k. k) (number_set ns) n

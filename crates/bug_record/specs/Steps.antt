@@ -1,20 +1,26 @@
 -- What a command does to a desk, over whole records (the BTS page 'control and manipulation'; the rules on versions are this
 -- project's own).
-use Rattle.std.specs.Prelude.{ℕ, ◌+◌, ◌==◌, ◌&&◌, false, true, List, [], ◌∷◌, Option, Some, None, Result, Ok, Err, option_map, unwrap_or, if◌then◌else◌}
+use Rattle.std.specs.Prelude.{ℕ, ◌+◌, ◌==◌, ◌&&◌, false, true, List, [], ◌∷◌, Option, Some, None, Result, Ok, unwrap_or, if◌then◌else◌}
 use Rattle.std.specs.Str.{bytes_eq}
 use Rattle.ancestry.specs.Nodes.{Node}
 use Rattle.bug_record.specs.Sets.{has}
 use Rattle.bug_record.specs.Marks.{with_node, without_node, is_below_some}
+use Rattle.bug_record.specs.Tags.{with_tag, without_tag}
 use Rattle.bug_record.specs.Desk.{Desk}
 use Rattle.bug_record.specs.Commands.{node_meant, person, bug_named}
+use Rattle.bug_record.specs.Bugs.{each_bug, at_bug}
+use Rattle.bug_record.specs.Differences.{first_difference, package_difference}
+use Rattle.bug_record.specs.Merges.{merged, unmerged}
 use Rattle.bug_record.specs.declared.bug.Bug.{Bug}
 use Rattle.bug_record.specs.declared.bug.Shared.{Shared}
 use Rattle.bug_record.specs.declared.severity.Severity.{Severity}
 use Rattle.bug_record.specs.declared.command.Command.{Command}
 use Rattle.bug_record.specs.declared.command.Command.TheVariants as commands
 use Rattle.bug_record.specs.declared.command.VersionArg.{VersionArg}
+use Rattle.bug_record.specs.declared.command.TagStep.{TagStep}
+use Rattle.bug_record.specs.declared.command.TagStep.TheVariants.{Add, Remove, Clear}
 use Rattle.bug_record.specs.declared.command.Refusal.{Refusal}
-use Rattle.bug_record.specs.declared.command.Refusal.TheVariants.{NoBug}
+use Rattle.bug_record.specs.declared.tag.Tag.{Tag}
 
 -- marked as found at n, and not as fixed there
 abbrev pub marked_found : Node → Shared → Shared
@@ -46,46 +52,65 @@ abbrev pub reassigned : List ℕ → Option VersionArg → Shared → Shared
 reassigned package_name None f = moved_to package_name f
 reassigned package_name (Some version) f = marked_found (node_meant package_name version) (moved_to package_name f)
 
--- what a command makes of the shared fields of the bug that it names, and of those merged with it
-abbrev pub shared_after : Command ℕ → Shared → Shared
-shared_after (commands.Found n None) f = opened f
-shared_after (commands.Found n (Some version)) f = found_at (node_meant f.package version) f
-shared_after (commands.NotFound n version) f = record f { found = without_node f.found (node_meant f.package version) }
-shared_after (commands.Fixed n version) f = marked_fixed (node_meant f.package version) f
-shared_after (commands.NotFixed n version) f = record f { fixed = without_node f.fixed (node_meant f.package version) }
-shared_after (commands.Close n None) f = closed f
-shared_after (commands.Close n (Some version)) f = closed (marked_fixed (node_meant f.package version) f)
-shared_after (commands.Reopen n who) f = if f.closed then opened f else f
-shared_after (commands.Severity n severity) f = record f { severity = severity }
-shared_after (commands.Reassign n package_name version) f = reassigned package_name version f
+-- the tags after these steps, taken in the order written
+abbrev pub tags_after : List TagStep → List Tag → List Tag
+tags_after [] tags = tags
+tags_after (Add tag ∷ steps) tags = tags_after steps (with_tag tags tag)
+tags_after (Remove tag ∷ steps) tags = tags_after steps (without_tag tags tag)
+tags_after (Clear ∷ steps) tags = tags_after steps []
 
--- the new submitter of each of these bugs, where a command gives one: a closed bug's that is reopened by somebody
-abbrev pub new_submitter : List ℕ → Command ℕ → Shared → Option (List ℕ)
-new_submitter sender (commands.Reopen n (Some who)) f = if f.closed then Some (person sender who) else None
-new_submitter sender command f = None
+-- what a command of this sender makes of the shared fields of the bug that it names, and of those merged with it
+abbrev pub shared_after : List ℕ → Command ℕ → Shared → Shared
+shared_after sender (commands.Found n None) f = opened f
+shared_after sender (commands.Found n (Some version)) f = found_at (node_meant f.package version) f
+shared_after sender (commands.NotFound n version) f = record f { found = without_node f.found (node_meant f.package version) }
+shared_after sender (commands.Fixed n version) f = marked_fixed (node_meant f.package version) f
+shared_after sender (commands.NotFixed n version) f = record f { fixed = without_node f.fixed (node_meant f.package version) }
+shared_after sender (commands.Close n None) f = closed f
+shared_after sender (commands.Close n (Some version)) f = closed (marked_fixed (node_meant f.package version) f)
+shared_after sender (commands.Reopen n who) f = if f.closed then opened f else f
+shared_after sender (commands.Severity n severity) f = record f { severity = severity }
+shared_after sender (commands.Tags n steps) f = record f { tags = tags_after steps f.tags }
+shared_after sender (commands.Reassign n package_name version) f = reassigned package_name version f
+shared_after sender (commands.Forwarded n text) f = record f { forwarded = Some text }
+shared_after sender (commands.NotForwarded n) f = record f { forwarded = None }
+shared_after sender (commands.Owner n who) f = record f { owner = Some (person sender who) }
+shared_after sender (commands.NoOwner n) f = record f { owner = None }
+shared_after sender command f = f
 
--- each bug as the function makes it
-abbrev pub each_bug : Desk → (ℕ → Bug → Bug) → Desk
-each_bug d f = record { bug = λ m. option_map (f m) (d.bug m); tree = d.tree; next = d.next }
+-- the new title of the bug m, where a command gives one: of the bug that it names alone
+abbrev pub new_title : Command ℕ → ℕ → Option (List ℕ)
+new_title (commands.Retitle n text) m = if m == n then Some text else None
+new_title command m = None
 
--- a change to the record of every bug that is merged with n: of its shared fields, and of its submitter, where there is a
--- new one
-abbrev pub change_set : Desk → ℕ → (Shared → Shared) → (Shared → Option (List ℕ)) → Desk
-change_set d n f who = each_bug d (λ m b. record b {
+-- the new submitter of the bug m, where a command gives one: of the bug that it names alone, or of each closed bug that is
+-- reopened by somebody
+abbrev pub new_submitter : List ℕ → Command ℕ → Shared → ℕ → Option (List ℕ)
+new_submitter sender (commands.Submitter n who) f m = if m == n then Some (person sender who) else None
+new_submitter sender (commands.Reopen n (Some who)) f m = if f.closed then Some (person sender who) else None
+new_submitter sender command f m = None
+
+-- a change to the record of every bug m that is merged with n: of its shared fields, and of its title and its submitter, where
+-- there is a new one
+abbrev pub change_set : Desk → ℕ → (Shared → Shared) → (ℕ → Option (List ℕ)) → (Shared → ℕ → Option (List ℕ)) → Desk
+change_set d n f title who = each_bug d (λ m b. record b {
   shared = if has b.block n then f b.shared else b.shared;
-  submitter = if has b.block n then unwrap_or (who b.shared) b.submitter else b.submitter;
+  title = if has b.block n then unwrap_or (title m) b.title else b.title;
+  submitter = if has b.block n then unwrap_or (who b.shared m) b.submitter else b.submitter;
 })
 
--- what is done with the bug n, which has to be there
-abbrev pub at_bug : {A : Type 0} → Option Bug → ℕ → (Bug → Result A Refusal) → Result A Refusal
-at_bug None n f = Err (NoBug n)
-at_bug (Some b) n f = f b
+-- a command that changes records, and no block
+abbrev pub records_changed : List ℕ → Command ℕ → Desk → Result Desk Refusal
+records_changed sender command d =
+    at_bug (d.bug (bug_named command)) (bug_named command)
+    (λ _. Ok (change_set d (bug_named command) (shared_after sender command) (new_title command) (new_submitter sender command)))
 
 -- The new desk, or the refusal, of a command by this sender.
 abbrev pub step : Desk → List ℕ → Command ℕ → Result Desk Refusal
-step d sender command =
-    at_bug (d.bug (bug_named command)) (bug_named command)
-    (λ _. Ok (change_set d (bug_named command) (shared_after command) (new_submitter sender command)))
+step d sender (commands.Merge n ns) = merged first_difference d n ns
+step d sender (commands.ForceMerge n ns) = merged package_difference d n ns
+step d sender (commands.Unmerge n) = unmerged d n
+step d sender command = records_changed sender command d
 
 abbrev pub found_first : Option Node → List Node
 found_first None = []
@@ -97,7 +122,7 @@ abbrev pub new_bug : ℕ → List ℕ → List ℕ → Severity → List ℕ →
 new_bug number sender package_name severity title node = record {
   title = title;
   submitter = sender;
-  shared = record { «package» = package_name; severity = severity; closed = false; found = found_first node; fixed = [] };
+  shared = record { «package» = package_name; severity = severity; closed = false; forwarded = None; owner = None; tags = []; found = found_first node; fixed = [] };
   block = number ∷ [];
 }
 

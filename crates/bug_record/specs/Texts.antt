@@ -1,5 +1,5 @@
 -- Texts: titles, addresses and senders. This project's own rule.
-use Rattle.std.specs.Prelude.{ℕ, ◌==◌, ◌&&◌, ◌||◌, not, nat_lt, nat_le, Bool, false, IsTrue, List, [], ◌∷◌, length, reverse}
+use Rattle.std.specs.Prelude.{ℕ, ◌==◌, ◌&&◌, ◌||◌, not, nat_lt, nat_le, Bool, false, IsTrue, List, [], ◌∷◌, length, reverse, Option, Some, None, ⊤}
 use Rattle.std.specs.List.{list_all}
 
 -- a blank is a space or a tab
@@ -27,3 +27,8 @@ is_text s =
 
 abbrev pub IsText : List ℕ → Type 0
 IsText s = IsTrue (is_text s)
+
+-- what holds of a value, if there is one
+abbrev pub IfGiven : {T : Type 0} → (T → Type 0) → Option T → Type 0
+IfGiven P None = ⊤
+IfGiven P (Some x) = P x

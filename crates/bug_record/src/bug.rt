@@ -4,6 +4,7 @@ ghost use Rattle.std.specs.Prelude.{◌≡◌, IfOk};
 
 use crate::sequence::{Nodes, Numbered, Numbers, Sequence};
 use crate::severity::Severity;
+use crate::tag::Tags;
 use debver::Text;
 use std::alloc::AllocError;
 
@@ -13,6 +14,11 @@ pub struct Shared {
     pub package: Text,
     pub severity: Severity,
     pub closed: bool,
+    /// Where the bug was forwarded to.
+    pub forwarded: Option<Text>,
+    /// Who works on it.
+    pub owner: Option<Text>,
+    pub tags: Tags,
     /// The nodes that are marked as having the bug.
     pub found: Nodes,
     /// The nodes that are marked as not having it.
@@ -52,6 +58,16 @@ impl Numbered for Member {
     }
 }
 
+// An equal text of its own, if there is one.
+fn copy_text(text: &Option<Text>) -> Result<Option<Text>, AllocError>
+    ensures { IfOk result (λ r. r ≡ text.now) }
+{
+    match text {
+        Some(text) => Ok(Some(text.copy()?)),
+        None => Ok(None),
+    }
+}
+
 impl Shared {
     /// An equal value of its own.
     pub fn copy(&self) -> Result<Shared, AllocError>
@@ -61,6 +77,9 @@ impl Shared {
             package: self.package.copy()?,
             severity: self.severity,
             closed: self.closed,
+            forwarded: copy_text(&self.forwarded)?,
+            owner: copy_text(&self.owner)?,
+            tags: self.tags.copy()?,
             found: self.found.copy()?,
             fixed: self.fixed.copy()?,
         })

@@ -3,6 +3,7 @@
 use crate::bug::SetImage;
 use crate::sequence::Sequence;
 use crate::severity::Severity;
+use crate::tag::Tag;
 use debver::Text;
 use std::alloc::AllocError;
 
@@ -22,8 +23,19 @@ pub enum Who {
     Given(Text),
 }
 
-/// A command of the BTS page 'control and manipulation', whose bugs are given as `N`. Each changes the bug and all bugs
-/// that are merged with it.
+/// A step in a change of tags.
+#[derive(Clone, Copy, Debug, PartialEq, Eq, Drop)]
+pub enum TagStep {
+    /// The tag is added.
+    Add(Tag),
+    /// The tag is taken out.
+    Remove(Tag),
+    /// All tags are taken out.
+    Clear,
+}
+
+/// A command of the BTS page 'control and manipulation', whose bugs are given as `N`. A change of a field on which merged
+/// bugs agree changes the bug and all bugs that are merged with it.
 #[derive(Debug, PartialEq, Eq, Drop)]
 pub enum Command<N> {
     /// `found n [v]`: the bug is in the version, which may reopen it; without a version it is open and nowhere fixed.
@@ -40,8 +52,40 @@ pub enum Command<N> {
     Reopen(N, Option<Who>),
     /// `severity n s`: sets the severity.
     Severity(N, Severity),
+    /// `tags n ..`: takes these steps with the tags, in the order written.
+    Tags(N, Sequence<TagStep>),
+    /// `retitle n text`: changes the title of this bug alone.
+    Retitle(N, Text),
+    /// `submitter n who`: changes the submitter of this bug alone.
+    Submitter(N, Who),
     /// `reassign n package [v]`: moves the bug to a package, and marks it found in the version there.
     Reassign(N, Text, Option<VersionArg>),
+    /// `merge n m ..`: the sets of all these bugs become one. Those after the first have to equal it in package, state,
+    /// forwarded and severity.
+    Merge(N, Sequence<N>),
+    /// `forcemerge n m ..`: as `Merge`, but the package alone has to be equal, and the first bug's state, forwarded and
+    /// severity become those of all.
+    ForceMerge(N, Sequence<N>),
+    /// `unmerge n`: takes the bug out of its set. The others stay together.
+    Unmerge(N),
+    /// `forwarded n text`: the bug was forwarded to this address.
+    Forwarded(N, Text),
+    /// `notforwarded n`: the bug was forwarded to nobody.
+    NotForwarded(N),
+    /// `owner n who`: somebody works on the bug.
+    Owner(N, Who),
+    /// `noowner n`: nobody works on the bug.
+    NoOwner(N),
+}
+
+/// A field that is compared before bugs are merged.
+#[derive(Clone, Copy, Debug, PartialEq, Eq, Drop)]
+pub enum Field {
+    Package,
+    /// Whether the bug is closed.
+    State,
+    Forwarded,
+    Severity,
 }
 
 /// Why a line is refused, in the order in which the causes are tested.
@@ -55,6 +99,8 @@ pub enum Refusal {
     TooLong,
     /// A word that names no severity.
     BadSeverity,
+    /// A word that names no tag.
+    BadTag,
     /// A word that is no version.
     BadVersion,
     /// A word that is no package name.
@@ -63,6 +109,10 @@ pub enum Refusal {
     NoName(u64),
     /// There is no bug of this number.
     NoBug(u64),
+    /// The bug differs in this field from the first bug that is to be merged.
+    Differ(Field, u64),
+    /// The bug is merged with no other.
+    NotMerged(u64),
 }
 
 /// Why nothing is planned.

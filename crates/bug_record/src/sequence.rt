@@ -1,6 +1,7 @@
 //! Lists that contracts see as lists.
 
 ghost use Rattle.std.specs.Prelude.{◌≡◌, ℕ, List, [], ◌∷◌, ◌++◌, IfOk, OnOk, OnErr, slice_get};
+ghost use Rattle.std.specs.Cmp.Lexicographic.{pointwise, lists_per, lists_equiv};
 ghost use Rattle.bug_record.specs.Sets.{with_item};
 ghost use Rattle.bug_record.specs.Places.{place_for, is_at};
 
@@ -8,6 +9,7 @@ use std::alloc::{AllocError, Global};
 use std::marker::Model;
 
 mod nodes;
+mod tags;
 
 pub use nodes::Nodes;
 
@@ -66,6 +68,21 @@ impl<T: Drop> Sequence<T> {
         self.items.push(item)?;
         Ok(())
     }
+}
+
+/// Two lists are equal where their elements are, one by one.
+impl<T: PartialEq> PartialEq for Sequence<T> {
+    ghost eq = { λ x y. pointwise T.eq x y };
+
+    ghost laws = { lists_per T.laws };
+
+    fn eq(&self, other: &Sequence<T>) -> bool {
+        self.as_slice() == other.as_slice()
+    }
+}
+
+impl<T: Eq> Eq for Sequence<T> {
+    ghost laws = { lists_equiv T.Eq.laws };
 }
 
 /// An item that has a number.

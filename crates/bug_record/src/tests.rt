@@ -1,6 +1,6 @@
 //! Severities, sequences and copies, at values known from the rules.
 
-use crate::{Member, Nodes, Numbers, Sequence, SetImage, Severity, Shared};
+use crate::{Member, Nodes, Numbers, Sequence, SetImage, Severity, Shared, Tag, Tags};
 use ancestry::Node;
 use debver::Text;
 use std::alloc::Global;
@@ -29,6 +29,23 @@ fn are(nodes: &Nodes, parts: &[(&str, &str)]) -> bool {
         }
     }
     true
+}
+
+// The tags, added one after another.
+fn tags(alloc: Global, added: &[Tag]) -> Result<Tags, Fail> {
+    let mut tags = Sequence::new(alloc);
+    for tag in added {
+        tags.add(*tag)?;
+    }
+    Ok(tags)
+}
+
+// Whether there is a text, and it is this one.
+fn is(text: &Option<Text>, wanted: &str) -> bool {
+    match text {
+        Some(text) => text.as_str() == wanted,
+        None => false,
+    }
 }
 
 #[test]
@@ -163,6 +180,9 @@ fn a_copied_image_equals_it(rt: HostRuntime) -> Result<(), Fail> {
             package: Text::of(alloc, "dpkg")?,
             severity: Severity::Grave,
             closed: true,
+            forwarded: Some(Text::of(alloc, "https://example.org/1")?),
+            owner: Some(Text::of(alloc, "guillem")?),
+            tags: tags(alloc, &[Tag::Security, Tag::Patch])?,
             found: nodes(alloc, &["dpkg/1.22.5", "dpkg/1.22.4"])?,
             fixed: nodes(alloc, &["dpkg/1.22.6"])?,
         },
@@ -172,6 +192,9 @@ fn a_copied_image_equals_it(rt: HostRuntime) -> Result<(), Fail> {
     assert!(rt; copy.shared.package.as_str() == "dpkg");
     assert!(rt; copy.shared.severity == Severity::Grave);
     assert!(rt; copy.shared.closed);
+    assert!(rt; is(&copy.shared.forwarded, "https://example.org/1"));
+    assert!(rt; is(&copy.shared.owner, "guillem"));
+    assert!(rt; copy.shared.tags.as_slice() == [Tag::Patch, Tag::Security].as_slice());
     assert!(rt;
         are(
             &copy.shared.found,
@@ -187,5 +210,119 @@ fn a_copied_image_equals_it(rt: HostRuntime) -> Result<(), Fail> {
         assert!(rt; member.title.as_str() == *title);
         assert!(rt; member.submitter.as_str() == "jdoe");
     }
+    Ok(())
+}
+
+#[test]
+fn tags_are_read_in_any_case(rt: HostRuntime) {
+    let rows = [
+        ("a11y", "A11Y", Tag::A11y),
+        ("confirmed", "Confirmed", Tag::Confirmed),
+        ("d-i", "D-I", Tag::DebianInstaller),
+        ("fixed-upstream", "Fixed-Upstream", Tag::FixedUpstream),
+        ("ftbfs", "FTBFS", Tag::Ftbfs),
+        ("help", "helP", Tag::Help),
+        ("ipv6", "IPv6", Tag::Ipv6),
+        ("l10n", "L10n", Tag::L10n),
+        ("lfs", "LFS", Tag::Lfs),
+        ("moreinfo", "MoreInfo", Tag::Moreinfo),
+        ("newcomer", "NEWCOMER", Tag::Newcomer),
+        ("patch", "pAtCh", Tag::Patch),
+        ("pending", "Pending", Tag::Pending),
+        ("security", "SECURITY", Tag::Security),
+        ("unreproducible", "UnReproducible", Tag::Unreproducible),
+        ("upstream", "upStream", Tag::Upstream),
+        ("wontfix", "WontFix", Tag::Wontfix),
+    ];
+    for (name, other, tag) in &rows {
+        assert!(rt; Tag::read(name) == Some(*tag), "{tag:?}");
+        assert!(rt; Tag::read(other) == Some(*tag), "{tag:?}");
+        assert!(rt; tag.name() == *name, "{tag:?}");
+    }
+    for word in ["bogus", "", "patch ", "patches", "fixed", "sid"] {
+        assert!(rt; Tag::read(word).is_none(), "{word}");
+    }
+}
+
+#[test]
+fn tags_stand_in_the_order_of_their_names(rt: HostRuntime) {
+    let names = [
+        "a11y",
+        "confirmed",
+        "d-i",
+        "fixed-upstream",
+        "ftbfs",
+        "help",
+        "ipv6",
+        "l10n",
+        "lfs",
+        "moreinfo",
+        "newcomer",
+        "patch",
+        "pending",
+        "security",
+        "unreproducible",
+        "upstream",
+        "wontfix",
+    ];
+    let mut before = "";
+    for (i, name) in names.iter().enumerate() {
+        let place = match Tag::read(name) {
+            Some(tag) => tag.place() as usize,
+            None => names.len(),
+        };
+        assert!(rt; place == i, "{name}");
+        assert!(rt; before < *name, "{name}");
+        before = *name;
+    }
+}
+
+#[test]
+fn added_tags_ascend_without_repeats(rt: HostRuntime) -> Result<(), Fail> {
+    let orders = [
+        [Tag::Wontfix, Tag::A11y, Tag::Patch, Tag::A11y],
+        [Tag::Patch, Tag::Wontfix, Tag::Wontfix, Tag::A11y],
+        [Tag::A11y, Tag::Patch, Tag::Wontfix, Tag::Patch],
+    ];
+    let wanted = [Tag::A11y, Tag::Patch, Tag::Wontfix];
+    for order in orders {
+        let set = tags(rt.alloc(), &order)?;
+        assert!(rt; set.as_slice() == wanted.as_slice());
+    }
+    Ok(())
+}
+
+#[test]
+fn one_tag_is_removed(rt: HostRuntime) -> Result<(), Fail> {
+    let mut set = tags(rt.alloc(), &[Tag::Patch, Tag::Help, Tag::Security])?;
+    let copy = set.copy()?;
+    // the second time it is not there
+    for _ in 0..2 {
+        set.remove_tag(Tag::Patch);
+        assert!(rt; set.as_slice() == [Tag::Help, Tag::Security].as_slice());
+    }
+    assert!(rt; copy.as_slice() == [Tag::Help, Tag::Patch, Tag::Security].as_slice());
+    Ok(())
+}
+
+#[test]
+fn sequences_are_equal_element_by_element(rt: HostRuntime) -> Result<(), Fail> {
+    let alloc = rt.alloc();
+    let set = tags(alloc, &[Tag::Help, Tag::Patch])?;
+    assert!(rt; set == set.copy()?);
+    assert!(rt; set == tags(alloc, &[Tag::Patch, Tag::Help])?);
+    let others = [
+        tags(alloc, &[])?,
+        tags(alloc, &[Tag::Help])?,
+        tags(alloc, &[Tag::Patch])?,
+        tags(alloc, &[Tag::Help, Tag::Pending])?,
+        tags(alloc, &[Tag::Help, Tag::Patch, Tag::Wontfix])?,
+    ];
+    for other in &others {
+        assert!(rt; set != *other);
+        assert!(rt; *other != set);
+    }
+    assert!(rt; Sequence::<Tag>::new(alloc) == tags(alloc, &[])?);
+    assert!(rt; Sequence::from_vec(vec![in alloc; Tag::Patch, Tag::Help]?) != set);
     Ok(())
 }

@@ -10,9 +10,9 @@ use Rattle.debver.specs.Cut.{IsVersion}
 use Rattle.debver.specs.Faults.{text_fault}
 use Rattle.ancestry.specs.Nodes.{node, is_slash, node_of}
 use Rattle.ancestry.proofs.ReadLemmas.{nodes_exactly}
-use Rattle.bug_record.specs.Texts.{is_blank, is_control, IsText}
+use Rattle.bug_record.specs.Texts.{is_blank, is_control, IsText, IfGiven}
 use Rattle.bug_record.specs.Severities.{severity_of}
-use Rattle.bug_record.specs.Commands.{IfGiven, IsGoodVersion, IsGoodPerson}
+use Rattle.bug_record.specs.Commands.{IsGoodVersion, IsGoodPerson}
 use Rattle.bug_record.specs.declared.severity.Severity.{Severity}
 use Rattle.bug_record.specs.declared.command.Command.TheVariants as commands
 use Rattle.bug_record.specs.declared.command.VersionArg.{VersionArg}

@@ -5,9 +5,9 @@ use Rattle.std.specs.Str.{bytes_eq}
 use Rattle.std.proofs.lemmas.Bool.{cond-false, le-ltb, false_from_ne_true}
 use Rattle.std.proofs.lemmas.Slice.Eq.{bytes_eq-Decides}
 use Rattle.debver.specs.Names.{IsName}
-use Rattle.bug_record.specs.Texts.{is_control, IsText}
+use Rattle.bug_record.specs.Texts.{is_control, IsText, IfGiven}
 use Rattle.bug_record.specs.Severities.{severity_of}
-use Rattle.bug_record.specs.Commands.{IfGiven, IsGoodVersion, IsGoodPerson}
+use Rattle.bug_record.specs.Commands.{IsGoodVersion, IsGoodPerson}
 use Rattle.bug_record.specs.declared.severity.Severity.{Severity}
 use Rattle.bug_record.specs.declared.command.Command.{Command}
 use Rattle.bug_record.specs.declared.command.Command.TheVariants as commands

@@ -19,7 +19,8 @@ use Rattle.debver.proofs.CutLaws.{parts_exactly}
 use Rattle.ancestry.specs.Nodes.{Node, node, is_slash}
 use Rattle.ancestry.proofs.ReadLemmas.{nodes_exactly}
 use Rattle.bug_record.specs.Severities.{severity_of}
-use Rattle.bug_record.specs.Commands.{IfGiven, IsGoodVersion}
+use Rattle.bug_record.specs.Commands.{IsGoodVersion}
+use Rattle.bug_record.specs.Texts.{IfGiven}
 use Rattle.bug_record.specs.declared.severity.Severity.{Severity}
 use Rattle.bug_record.specs.declared.severity.Severity.TheVariants as severities
 use Rattle.bug_record.specs.declared.command.VersionArg.{VersionArg}

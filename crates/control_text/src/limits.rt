@@ -2,7 +2,8 @@
 
 ghost use Rattle.std.specs.Prelude.{◌≡◌, IsTrue, Decides};
 ghost use Rattle.debver.specs.Names.{IsName};
-ghost use Rattle.bug_record.specs.Commands.{IfGiven, IsGoodVersion, IsGoodPerson};
+ghost use Rattle.bug_record.specs.Commands.{IsGoodVersion, IsGoodPerson};
+ghost use Rattle.bug_record.specs.Texts.{IfGiven};
 ghost use Rattle.control_text.specs.Numbers.{IsGoodNumber};
 ghost use Rattle.control_text.specs.Bugs.{IsGoodBug};
 ghost use Rattle.control_text.specs.WellFormed.{IsPlain, IsWellFormed};

@@ -4,8 +4,7 @@ ghost use Rattle.std.specs.Prelude.{◌≡◌, false, is_some, OnOk, IfOk, IfErr
 ghost use Rattle.std.specs.Option.{option_copied};
 ghost use Rattle.debver.specs.Names.{IsName, name_fault};
 ghost use Rattle.debver.specs.Cut.{IsVersion};
-ghost use Rattle.bug_record.specs.Texts.{IsText};
-ghost use Rattle.bug_record.specs.Commands.{IfGiven};
+ghost use Rattle.bug_record.specs.Texts.{IsText, IfGiven};
 ghost use Rattle.desk_store.specs.Store.{Holds};
 ghost use Rattle.desk_run.specs.Reports.{has_bad_version, node_reported, report_severity, IsOfWords, IsReported, faults_after_report};
 

@@ -4,7 +4,8 @@ use Rattle.std.specs.Prelude.{nat_lt, if◌then◌else◌}
 use Rattle.std.proofs.lemmas.Bool.{lt-ltb, le-ltb}
 use Rattle.bug_record.specs.Desk.{Desk, IsSound}
 use Rattle.bug_record.specs.Commands.{bug_named, command_over}
-use Rattle.bug_record.specs.Steps.{step, at_bug, change_set, shared_after, new_submitter}
+use Rattle.bug_record.specs.Steps.{step, change_set, shared_after, new_submitter}
+use Rattle.bug_record.specs.Bugs.{at_bug}
 use Rattle.bug_record.specs.declared.command.Command.{Command}
 use Rattle.bug_record.specs.declared.command.Command.TheVariants as commands
 use Rattle.bug_record.specs.declared.bug.Bug.{Bug}

@@ -1,6 +1,6 @@
 use Rattle.std.proofs.Common.{sym, ◌∙◌, subst}
 use Rattle.bug_record.specs.Sets.{IsAscending}
-use Rattle.bug_core.proofs.SetLemmas.{IsAscending-with_item}
+use Rattle.bug_record.proofs.SetLemmas.{IsAscending-with_item}
 use Rattle.bug_core.proofs.JoinLemmas.{join-member}
 use Rattle.bug_core.proofs.changes.add_members.Goals as goal
 

@@ -1,7 +1,6 @@
 use Rattle.std.proofs.Common.{◌≡◌, map, take}
-use Rattle.bug_core.specs.Fields.{with_submitter}
-use Rattle.std.specs.Option.{option_copied}
+use Rattle.bug_core.specs.Fields.{member_after}
 use Rattle.bug_core.proofs.fields.members_with.Given as goal
 
 abbrev pub invariant-loop-member : goal.invariant-loop-member
-invariant-loop-member l = l.copies ≡ map (with_submitter (option_copied l.submitter)) (take l.member-index l.members)
+invariant-loop-member l = l.after ≡ map (member_after l.from l.command l.old) (take l.member-index l.members)

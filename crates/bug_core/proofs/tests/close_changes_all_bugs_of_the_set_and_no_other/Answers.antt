@@ -6,7 +6,7 @@ use Rattle.std.specs.Option.{option_or}
 use Rattle.bug_record.specs.declared.bug.Member.{Member}
 use Rattle.bug_record.specs.declared.bug.SetImage.{SetImage}
 use Rattle.bug_core.proofs.ImageLemmas.{no_member-has}
-use Rattle.bug_core.proofs.SetLemmas.{one_number}
+use Rattle.bug_record.proofs.SetLemmas.{one_number}
 use Rattle.bug_core.proofs.tests.close_changes_all_bugs_of_the_set_and_no_other.Goals as goal
 
 three_apart : (i j : SetImage) → numbers_of i.members ≡ 3 ∷ [] → numbers_of j.members ≡ 1 ∷ 2 ∷ [] → AreApart (i ∷ j ∷ [])

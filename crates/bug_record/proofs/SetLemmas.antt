@@ -3,7 +3,7 @@ use Rattle.std.proofs.Common.{◌≡◌, ◌<◌, ℕ, suc, zero, eqb, Bool, tru
 use Rattle.std.specs.Prelude.{filter, ◌==◌, nat_lt}
 use Rattle.std.proofs.lemmas.Bool.{false≢true, eqb-true, eq-eqb, ltb-true, or_right}
 use Rattle.std.proofs.lemmas.Bool.Decides.{nat_tests}
-use Rattle.bug_record.specs.Sets.{has, AllAbove, IsAscending, with_item}
+use Rattle.bug_record.specs.Sets.{has, AllAbove, IsAscending, with_item, number_set}
 use Rattle.bug_record.specs.Changed.{numbers_below}
 
 -- what is in a list of two parts
@@ -53,7 +53,7 @@ AllAbove-with_item (x ∷ xs) k n h l =
       | false ↦ elim (x == n) as (λ t. AllAbove k (cond t (x ∷ xs) (n ∷ x ∷ xs))) [ true ↦ h | false ↦ (l, h) ]
     ]
 
-AllAbove-below : (xs : List ℕ) (j k : ℕ) → j < k → AllAbove k xs → AllAbove j xs
+pub AllAbove-below : (xs : List ℕ) (j k : ℕ) → j < k → AllAbove k xs → AllAbove j xs
 AllAbove-below [] j k l h = tt
 AllAbove-below (x ∷ xs) j k l h = (omega (arith, l, h.0), AllAbove-below xs j k l h.1)
 
@@ -92,7 +92,7 @@ has-filter p (x ∷ xs) m =
     none false b e = sym e
 
 -- two ascending lists of the same numbers are one
-has-above : (xs : List ℕ) (k m : ℕ) → AllAbove k xs → has xs m ≡ true → k < m
+pub has-above : (xs : List ℕ) (k m : ℕ) → AllAbove k xs → has xs m ≡ true → k < m
 has-above [] k m h e = absurd (false≢true e)
 has-above (x ∷ xs) k m h e =
     elim (x == m) as (λ t. (x == m) ≡ t → (t || has xs m) ≡ true → k < m)
@@ -167,3 +167,18 @@ pub IsAscending-numbers_below : (n : ℕ) → IsAscending (numbers_below n)
 unfolding numbers_below
 IsAscending-numbers_below zero = tt
 IsAscending-numbers_below (suc n) = IsAscending-append_one (numbers_below n) n (IsAscending-numbers_below n) (λ m e. ltb-true m n (sym (has-numbers_below n m) ∙ e))
+
+-- the set of the numbers of a list
+pub has-number_set : (ns : List ℕ) (m : ℕ) → has (number_set ns) m ≡ has ns m
+has-number_set [] m = refl
+has-number_set (n ∷ ns) m = has-with_item (number_set ns) n m ∙ ap (λ t. t || (n == m)) (has-number_set ns m) ∙ turned (has ns m) (n == m)
+  where
+    turned : (a b : Bool) → (a || b) ≡ (b || a)
+    turned true true = refl
+    turned true false = refl
+    turned false true = refl
+    turned false false = refl
+
+pub IsAscending-number_set : (ns : List ℕ) → IsAscending (number_set ns)
+IsAscending-number_set [] = tt
+IsAscending-number_set (n ∷ ns) = IsAscending-with_item (number_set ns) n (IsAscending-number_set ns)

@@ -1,0 +1,129 @@
+-- The fields of merged bugs, joined one image after another.
+use Rattle.std.proofs.Common.{◌≡◌, ℕ, Bool, true, false, ◌||◌, eqb, List, [], ◌∷◌, Some, map, sym, refl, ap, ◌∙◌, subst}
+use Rattle.std.specs.List.{list_any}
+use Rattle.std.specs.List.Sorted.{IsStrictlySortedBy}
+use Rattle.std.proofs.lemmas.Bool.{eqb-true, eq-eqb}
+use Rattle.ancestry.specs.Nodes.{Node, node_cmp, same_node}
+use Rattle.bug_record.specs.Sets.{has}
+use Rattle.bug_record.specs.Tags.{tag_place, same_tag, has_tag, with_tag, IsTagSet}
+use Rattle.bug_record.specs.Marks.{with_node, has_node, node_set}
+use Rattle.bug_record.specs.Bugs.{bugs_at, all_of}
+use Rattle.bug_record.specs.Merges.{first_owner, joined_tags, joined_shared}
+use Rattle.bug_record.specs.Images.{bug_of, bug_in, AreApart}
+use Rattle.bug_record.specs.declared.bug.Bug.{Bug}
+use Rattle.bug_record.specs.declared.bug.Shared.{Shared}
+use Rattle.bug_record.specs.declared.bug.Member.{Member}
+use Rattle.bug_record.specs.declared.bug.SetImage.{SetImage}
+use Rattle.bug_record.specs.declared.tag.Tag.{Tag}
+use Rattle.bug_record.proofs.TagLemmas.{has-with_tag, set-with_tag, has-joined_tags, set-joined_tags, same-tag_sets}
+use Rattle.bug_record.proofs.MarkLemmas.{has-with_node, sorted-with_node, sorted-node_set, same-sorted_nodes}
+use Rattle.bug_record.proofs.MergeLemmas.{has-joined_nodes}
+use Rattle.bug_core.specs.Others.{those_meant}
+use Rattle.bug_core.specs.Joins.{with_items, with_nodes, with_shared, with_all_shared}
+use Rattle.bug_core.proofs.ListedLemmas.{same_test, listed-from, meant-listed}
+
+or_group : (a b c : Bool) → ((a || b) || c) ≡ (a || (b || c))
+or_group true b c = refl
+or_group false b c = refl
+
+or_nothing : (a : Bool) → a ≡ (a || false)
+or_nothing true = refl
+or_nothing false = refl
+
+-- what the one test says the other does too
+absorbed : (a b : Bool) → (a ≡ true → b ≡ true) → (a || b) ≡ b
+absorbed true b h = sym (h refl)
+absorbed false b h = refl
+
+same_tag-turned : (t u : Tag) → same_tag t u ≡ same_tag u t
+same_tag-turned t u = same_test (same_tag t u) (same_tag u t)
+    (λ e. eq-eqb (tag_place u) (tag_place t) (sym (eqb-true (tag_place t) (tag_place u) e)))
+    (λ e. eq-eqb (tag_place t) (tag_place u) (sym (eqb-true (tag_place u) (tag_place t) e)))
+
+-- tags with those of a list
+has-with_tags : (ts set : List Tag) (t : Tag) → has_tag (with_items tag_place set ts) t ≡ (has_tag set t || has_tag ts t)
+has-with_tags [] set t = or_nothing (has_tag set t)
+has-with_tags (u ∷ ts) set t =
+    has-with_tags ts (with_tag set u) t ∙ ap (λ b. b || has_tag ts t) (has-with_tag set u t ∙ ap (λ b. has_tag set t || b) (same_tag-turned u t))
+    ∙ or_group (has_tag set t) (same_tag t u) (has_tag ts t)
+
+set-with_tags : (ts set : List Tag) → IsTagSet set → IsTagSet (with_items tag_place set ts)
+set-with_tags [] set h = h
+set-with_tags (u ∷ ts) set h = set-with_tags ts (with_tag set u) (set-with_tag set u h)
+
+-- nodes with those of a list
+has-with_nodes : (ns set : List Node) (m : Node) → has_node (with_nodes set ns) m ≡ (has_node set m || has_node ns m)
+has-with_nodes [] set m = or_nothing (has_node set m)
+has-with_nodes (n ∷ ns) set m =
+    has-with_nodes ns (with_node set n) m ∙ ap (λ b. b || has_node ns m) (has-with_node set n m) ∙ or_group (has_node set m) (same_node m n) (has_node ns m)
+
+sorted-with_nodes : (ns set : List Node) → IsStrictlySortedBy node_cmp set → IsStrictlySortedBy node_cmp (with_nodes set ns)
+sorted-with_nodes [] set h = h
+sorted-with_nodes (n ∷ ns) set h = sorted-with_nodes ns (with_node set n) (sorted-with_node set n h)
+
+-- the fields with those of images
+kept : (js : List SetImage) (f : Shared) → with_all_shared f js ≡ record f { tags = (with_all_shared f js).tags; found = (with_all_shared f js).found; fixed = (with_all_shared f js).fixed }
+kept [] f = refl
+kept (j ∷ js) f = kept js (with_shared f j.shared)
+
+has-all_tags : (js : List SetImage) (f : Shared) (t : Tag) → has_tag (with_all_shared f js).tags t ≡ (has_tag f.tags t || list_any (λ j. has_tag j.shared.tags t) js)
+has-all_tags [] f t = or_nothing (has_tag f.tags t)
+has-all_tags (j ∷ js) f t =
+    has-all_tags js (with_shared f j.shared) t ∙ ap (λ b. b || list_any (λ j. has_tag j.shared.tags t) js) (has-with_tags j.shared.tags f.tags t)
+    ∙ or_group (has_tag f.tags t) (has_tag j.shared.tags t) (list_any (λ j. has_tag j.shared.tags t) js)
+
+set-all_tags : (js : List SetImage) (f : Shared) → IsTagSet f.tags → IsTagSet (with_all_shared f js).tags
+set-all_tags [] f h = h
+set-all_tags (j ∷ js) f h = set-all_tags js (with_shared f j.shared) (set-with_tags j.shared.tags f.tags h)
+
+has-all_found : (js : List SetImage) (f : Shared) (m : Node) → has_node (with_all_shared f js).found m ≡ (has_node f.found m || list_any (λ j. has_node j.shared.found m) js)
+has-all_found [] f m = or_nothing (has_node f.found m)
+has-all_found (j ∷ js) f m =
+    has-all_found js (with_shared f j.shared) m ∙ ap (λ b. b || list_any (λ j. has_node j.shared.found m) js) (has-with_nodes j.shared.found f.found m)
+    ∙ or_group (has_node f.found m) (has_node j.shared.found m) (list_any (λ j. has_node j.shared.found m) js)
+
+has-all_fixed : (js : List SetImage) (f : Shared) (m : Node) → has_node (with_all_shared f js).fixed m ≡ (has_node f.fixed m || list_any (λ j. has_node j.shared.fixed m) js)
+has-all_fixed [] f m = or_nothing (has_node f.fixed m)
+has-all_fixed (j ∷ js) f m =
+    has-all_fixed js (with_shared f j.shared) m ∙ ap (λ b. b || list_any (λ j. has_node j.shared.fixed m) js) (has-with_nodes j.shared.fixed f.fixed m)
+    ∙ or_group (has_node f.fixed m) (has_node j.shared.fixed m) (list_any (λ j. has_node j.shared.fixed m) js)
+
+sorted-all_found : (js : List SetImage) (f : Shared) → IsStrictlySortedBy node_cmp f.found → IsStrictlySortedBy node_cmp (with_all_shared f js).found
+sorted-all_found [] f h = h
+sorted-all_found (j ∷ js) f h = sorted-all_found js (with_shared f j.shared) (sorted-with_nodes j.shared.found f.found h)
+
+sorted-all_fixed : (js : List SetImage) (f : Shared) → IsStrictlySortedBy node_cmp f.fixed → IsStrictlySortedBy node_cmp (with_all_shared f js).fixed
+sorted-all_fixed [] f h = h
+sorted-all_fixed (j ∷ js) f h = sorted-all_fixed js (with_shared f j.shared) (sorted-with_nodes j.shared.fixed f.fixed h)
+
+-- they are the joined fields of the listed bugs, among which is one of the first image
+pub joined-fields : (is : List SetImage) (ns : List ℕ) (n : ℕ) (i : SetImage) (x : Member) → AreApart is → has ns n ≡ true → bug_in is n ≡ Some (bug_of i x)
+    → IsTagSet i.shared.tags → IsStrictlySortedBy node_cmp i.shared.found → IsStrictlySortedBy node_cmp i.shared.fixed
+    → record (with_all_shared i.shared (those_meant ns is)) { owner = first_owner (bugs_at (bug_in is) ns) } ≡ joined_shared i.shared (bugs_at (bug_in is) ns)
+joined-fields is ns n i x a h e tags found fixed =
+    (λ j. record (kept js i.shared j) { owner = first_owner bugs })
+    ∙ (λ j. record i.shared { owner = first_owner bugs; tags = same_tags j; found = same_found j; fixed = same_fixed j })
+  where
+    js : List SetImage
+    js = those_meant ns is
+
+    bugs : List Bug
+    bugs = bugs_at (bug_in is) ns
+
+    -- a test of fields that one of the images that are meant passes, the first one's among them
+    some : (P : Shared → Bool) → (P i.shared || list_any (λ j. P j.shared) js) ≡ list_any (λ b. P b.shared) bugs
+    some P =
+        ap (λ b. P i.shared || b) (meant-listed P is ns a)
+        ∙ absorbed (P i.shared) (list_any (λ b. P b.shared) bugs) (λ p. listed-from (λ b. P b.shared) (bug_in is) ns n (bug_of i x) h e p)
+
+    same_tags : (with_all_shared i.shared js).tags ≡ joined_tags bugs
+    same_tags = same-tag_sets (with_all_shared i.shared js).tags (joined_tags bugs) (set-all_tags js i.shared tags) (set-joined_tags bugs)
+        (λ t. has-all_tags js i.shared t ∙ some (λ s. has_tag s.tags t) ∙ sym (has-joined_tags bugs t))
+
+    same_found : (with_all_shared i.shared js).found ≡ node_set (all_of (λ b. b.shared.found) bugs)
+    same_found = same-sorted_nodes (with_all_shared i.shared js).found (node_set (all_of (λ b. b.shared.found) bugs)) (sorted-all_found js i.shared found) (sorted-node_set (all_of (λ b. b.shared.found) bugs))
+        (λ m. has-all_found js i.shared m ∙ some (λ s. has_node s.found m) ∙ sym (has-joined_nodes (λ b. b.shared.found) bugs m))
+
+    same_fixed : (with_all_shared i.shared js).fixed ≡ node_set (all_of (λ b. b.shared.fixed) bugs)
+    same_fixed = same-sorted_nodes (with_all_shared i.shared js).fixed (node_set (all_of (λ b. b.shared.fixed) bugs)) (sorted-all_fixed js i.shared fixed) (sorted-node_set (all_of (λ b. b.shared.fixed) bugs))
+        (λ m. has-all_fixed js i.shared m ∙ some (λ s. has_node s.fixed m) ∙ sym (has-joined_nodes (λ b. b.shared.fixed) bugs m))

@@ -1,0 +1,43 @@
+-- What joined sets have, one image after another.
+use Rattle.std.specs.Prelude.{ℕ, Bool, not, ◌==◌, List, [], ◌∷◌, ◌++◌, if◌then◌else◌}
+use Rattle.ancestry.specs.Nodes.{Node}
+use Rattle.bug_record.specs.Sets.{with_item}
+use Rattle.bug_record.specs.Tags.{tag_place}
+use Rattle.bug_record.specs.Marks.{with_node}
+use Rattle.bug_record.specs.declared.bug.Member.{Member}
+use Rattle.bug_record.specs.declared.bug.SetImage.{SetImage}
+use Rattle.bug_record.specs.declared.bug.Shared.{Shared}
+
+-- a set with all items of a list
+abbrev pub with_items : {T : Type 0} → (T → ℕ) → List T → List T → List T
+with_items number set [] = set
+with_items number set (x ∷ xs) = with_items number (with_item number set x) xs
+
+abbrev pub with_nodes : List Node → List Node → List Node
+with_nodes set [] = set
+with_nodes set (n ∷ nodes) = with_nodes (with_node set n) nodes
+
+abbrev pub number_of : Member → ℕ
+number_of m = m.number
+
+-- the members with those of these images
+abbrev pub with_members : List Member → List SetImage → List Member
+with_members ms [] = ms
+with_members ms (i ∷ is) = with_members (with_items number_of ms i.members) is
+
+-- the fields with the tags and marks of another set
+abbrev pub with_shared : Shared → Shared → Shared
+with_shared f g = record f {
+  tags = with_items tag_place f.tags g.tags;
+  found = with_nodes f.found g.found;
+  fixed = with_nodes f.fixed g.fixed;
+}
+
+-- the fields with those of these images
+abbrev pub with_all_shared : Shared → List SetImage → Shared
+with_all_shared f [] = f
+with_all_shared f (i ∷ is) = with_all_shared (with_shared f i.shared) is
+
+-- whether the member has the number n, or, of the rest, whether it has not
+abbrev pub is_part : Bool → ℕ → Member → Bool
+is_part own n m = if own then m.number == n else not (m.number == n)

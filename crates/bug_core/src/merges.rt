@@ -1,0 +1,124 @@
+//! The commands `merge` and `forcemerge`.
+
+ghost use Rattle.std.specs.Prelude.{◌≡◌, ◌∷◌, IfOk};
+ghost use Rattle.bug_record.specs.Bugs.{missing, first_refusal};
+ghost use Rattle.bug_record.specs.Differences.{differing};
+ghost use Rattle.bug_record.specs.Images.{bug_in, AreApart};
+ghost use Rattle.bug_record.specs.Merges.{merged};
+ghost use Rattle.bug_core.specs.Agreements.{difference_of};
+ghost use Rattle.bug_core.specs.Planned.{IsPlanned};
+
+use crate::changes::{find_bug, same_text};
+use crate::images::{find, replace_by_one};
+use crate::joins::joined_image;
+use bug_record::{Change, Field, Numbers, PlanFault, Refusal, SetImage, Shared};
+use std::alloc::{AllocError, Global};
+
+/// What has to be equal before bugs are merged.
+#[derive(Clone, Copy, Debug, PartialEq, Eq, Drop)]
+pub(crate) enum Agreement {
+    /// Package, state, forwarded and severity.
+    FourFields,
+    PackageAlone,
+}
+
+// The first field in which a bug differs, of those that have to be equal.
+fn difference(agreement: Agreement, first: &Shared, shared: &Shared) -> Option<Field>
+    ensures { result ≡ difference_of agreement first.now shared.now }
+{
+    if first.package.as_str() != shared.package.as_str() {
+        return Some(Field::Package);
+    }
+    match agreement {
+        Agreement::PackageAlone => None,
+        Agreement::FourFields if first.closed != shared.closed => Some(Field::State),
+        Agreement::FourFields if !same_text(&first.forwarded, &shared.forwarded) => {
+            Some(Field::Forwarded)
+        }
+        Agreement::FourFields if first.severity.rank() != shared.severity.rank() => {
+            Some(Field::Severity)
+        }
+        Agreement::FourFields => None,
+    }
+}
+
+// The refusal of the first bug that is not there.
+fn first_missing(images: &[SetImage], numbers: &[u64]) -> Option<Refusal>
+    ensures { result ≡ first_refusal missing (bug_in images.now) numbers.now }
+{
+    for number in numbers {
+        if find_bug(images, *number).is_none() {
+            return Some(Refusal::NoBug(*number));
+        }
+    }
+    None
+}
+
+// The refusal of a bug, if it is there and differs.
+fn differing(
+    agreement: Agreement,
+    first: &Shared,
+    images: &[SetImage],
+    number: u64,
+) -> Option<Refusal>
+    ensures { result ≡ differing (difference_of agreement first.now) (bug_in images.now number) number }
+{
+    let (image, _) = find_bug(images, number)?;
+    let field = difference(agreement, first, &image.shared)?;
+    Some(Refusal::Differ(field, number))
+}
+
+// The refusal of the first bug that differs.
+fn first_differing(
+    agreement: Agreement,
+    first: &Shared,
+    images: &[SetImage],
+    numbers: &[u64],
+) -> Option<Refusal>
+    ensures { result ≡ first_refusal (differing (difference_of agreement first.now)) (bug_in images.now) numbers.now }
+{
+    for number in numbers {
+        if let Some(refusal) = differing(agreement, first, images, *number) {
+            return Some(refusal);
+        }
+    }
+    None
+}
+
+// The numbers of all bugs that are to be merged.
+fn all_numbers(alloc: Global, first: u64, others: &[u64]) -> Result<Numbers, AllocError>
+    ensures { IfOk result (λ numbers. numbers ≡ first ∷ others.now) }
+{
+    let mut numbers = Numbers::one(alloc, first)?;
+    for number in others {
+        numbers.push(*number)?;
+    }
+    Ok(numbers)
+}
+
+/// Merges bugs: their sets become one.
+pub(crate) fn plan_merge(
+    alloc: Global,
+    agreement: Agreement,
+    first: u64,
+    others: &[u64],
+    images: &[SetImage],
+    next: u64,
+) -> Result<Change, PlanFault>
+    requires apart { AreApart images.now }
+    ensures { IsPlanned (first ∷ others.now) (λ d. merged (difference_of agreement) d first others.now) images.now next result }
+{
+    let Some(image) = find(images, first) else {
+        return Err(PlanFault::Refused(Refusal::NoBug(first)));
+    };
+    if let Some(refusal) = first_missing(images, others) {
+        return Err(PlanFault::Refused(refusal));
+    }
+    if let Some(refusal) = first_differing(agreement, &image.shared, images, others) {
+        return Err(PlanFault::Refused(refusal));
+    }
+    let numbers = all_numbers(alloc, first, others)?;
+    let numbers = numbers.as_slice();
+    let image = joined_image(alloc, &image.shared, images, numbers)?;
+    Ok(replace_by_one(alloc, image, images, numbers, next)?)
+}

@@ -1,0 +1,86 @@
+//! The command `unmerge`.
+
+ghost use Rattle.std.specs.Prelude.{◌≡◌, ◌∷◌, [], filter, IfOk};
+ghost use Rattle.bug_record.specs.Images.{AreApart};
+ghost use Rattle.bug_record.specs.Merges.{unmerged};
+ghost use Rattle.bug_core.specs.Joins.{is_part};
+ghost use Rattle.bug_core.specs.Planned.{IsPlanned};
+
+use crate::images::{find, replace};
+use bug_record::{Change, Member, PlanFault, Refusal, Sequence, SetImage, Shared};
+use std::alloc::{AllocError, Global};
+
+// Whether this is the member of the number, or, of the rest, whether it is another.
+fn is_part(own: bool, number: u64, member: &Member) -> bool
+    ensures { result ≡ is_part own number member.now }
+{
+    if own {
+        member.number == number
+    } else {
+        member.number != number
+    }
+}
+
+// Copies of the members of the number, or of the rest.
+fn part(
+    alloc: Global,
+    own: bool,
+    number: u64,
+    members: &[Member],
+) -> Result<Sequence<Member>, AllocError>
+    ensures { IfOk result (λ ms. ms ≡ filter (is_part own number) members.now) }
+{
+    let mut copies = Sequence::new(alloc);
+    for member in members {
+        if is_part(own, number, member) {
+            copies.push(member.copy()?)?;
+        }
+    }
+    Ok(copies)
+}
+
+// The images of two sets with copies of the shared fields.
+fn two_images(
+    alloc: Global,
+    shared: &Shared,
+    own: Sequence<Member>,
+    rest: Sequence<Member>,
+) -> Result<Sequence<SetImage>, AllocError>
+    ensures { IfOk result (λ is. is ≡ record { shared = shared.now; members = own } ∷ record { shared = shared.now; members = rest } ∷ []) }
+{
+    let mut images = Sequence::new(alloc);
+    images.push(SetImage {
+        shared: shared.copy()?,
+        members: own,
+    })?;
+    images.push(SetImage {
+        shared: shared.copy()?,
+        members: rest,
+    })?;
+    Ok(images)
+}
+
+/// Takes a bug out of its set. Both parts keep the shared fields.
+pub(crate) fn plan_unmerge(
+    alloc: Global,
+    number: u64,
+    images: &[SetImage],
+    next: u64,
+) -> Result<Change, PlanFault>
+    requires apart { AreApart images.now }
+    ensures { IsPlanned (number ∷ []) (λ d. unmerged d number) images.now next result }
+{
+    let Some(image) = find(images, number) else {
+        return Err(PlanFault::Refused(Refusal::NoBug(number)));
+    };
+    let members = image.members.as_slice();
+    let rest = part(alloc, false, number, members)?;
+    if rest.as_slice().is_empty() {
+        return Err(PlanFault::Refused(Refusal::NotMerged(number)));
+    }
+    let own = part(alloc, true, number, members)?;
+    let parts = two_images(alloc, &image.shared, own, rest)?;
+    let named = [number];
+    let named = named.as_slice();
+    Ok(replace(parts, images, named, next)?)
+}

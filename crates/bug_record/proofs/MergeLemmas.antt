@@ -1,0 +1,27 @@
+-- What merged bugs have, by what each of them has.
+use Rattle.std.proofs.Common.{◌≡◌, ℕ, ◌||◌, List, [], ◌∷◌, refl, ap, ◌∙◌}
+use Rattle.std.specs.List.{list_any}
+use Rattle.ancestry.specs.Nodes.{Node}
+use Rattle.bug_record.specs.Sets.{has}
+use Rattle.bug_record.specs.Marks.{has_node, node_set}
+use Rattle.bug_record.specs.Bugs.{all_of}
+use Rattle.bug_record.specs.Merges.{joined_block}
+use Rattle.bug_record.specs.declared.bug.Bug.{Bug}
+use Rattle.bug_record.proofs.SetLemmas.{has-append, has-number_set}
+use Rattle.bug_record.proofs.MarkLemmas.{has_node-append, has-node_set}
+
+-- what is in what bugs have together
+pub has-all_of : (f : Bug → List ℕ) (bugs : List Bug) (m : ℕ) → has (all_of f bugs) m ≡ list_any (λ b. has (f b) m) bugs
+has-all_of f [] m = refl
+has-all_of f (b ∷ bugs) m = has-append (f b) (all_of f bugs) m ∙ ap (λ t. has (f b) m || t) (has-all_of f bugs m)
+
+pub has_node-all_of : (f : Bug → List Node) (bugs : List Bug) (n : Node) → has_node (all_of f bugs) n ≡ list_any (λ b. has_node (f b) n) bugs
+has_node-all_of f [] n = refl
+has_node-all_of f (b ∷ bugs) n = has_node-append (f b) (all_of f bugs) n ∙ ap (λ t. has_node (f b) n || t) (has_node-all_of f bugs n)
+
+-- the block of merged bugs, and their marks
+pub has-joined_block : (bugs : List Bug) (m : ℕ) → has (joined_block bugs) m ≡ list_any (λ b. has b.block m) bugs
+has-joined_block bugs m = has-number_set (all_of (λ b. b.block) bugs) m ∙ has-all_of (λ b. b.block) bugs m
+
+pub has-joined_nodes : (f : Bug → List Node) (bugs : List Bug) (n : Node) → has_node (node_set (all_of f bugs)) n ≡ list_any (λ b. has_node (f b) n) bugs
+has-joined_nodes f bugs n = has-node_set (all_of f bugs) n ∙ has_node-all_of f bugs n

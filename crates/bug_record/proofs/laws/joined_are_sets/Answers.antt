@@ -1,0 +1,17 @@
+use Rattle.bug_record.specs.Bugs.{all_of}
+use Rattle.bug_record.proofs.SetLemmas.{IsAscending-number_set}
+use Rattle.bug_record.proofs.MarkLemmas.{sorted-node_set}
+use Rattle.bug_record.proofs.TagLemmas.{set-joined_tags}
+use Rattle.bug_record.proofs.laws.joined_are_sets.Goals as goal
+
+pub returns-clause-block : goal.returns-clause-block
+returns-clause-block c = λ bugs. IsAscending-number_set (all_of (λ b. b.block) bugs)
+
+pub returns-clause-tags : goal.returns-clause-tags
+returns-clause-tags c = set-joined_tags
+
+pub returns-clause-found : goal.returns-clause-found
+returns-clause-found c = λ first bugs. sorted-node_set (all_of (λ b. b.shared.found) bugs)
+
+pub returns-clause-fixed : goal.returns-clause-fixed
+returns-clause-fixed c = λ first bugs. sorted-node_set (all_of (λ b. b.shared.fixed) bugs)

@@ -1,0 +1,15 @@
+use Rattle.bug_record.proofs.MergeLemmas.{has-joined_block, has-joined_nodes}
+use Rattle.bug_record.proofs.TagLemmas.{has-joined_tags}
+use Rattle.bug_record.proofs.laws.joined_by_membership.Goals as goal
+
+pub returns-clause-block : goal.returns-clause-block
+returns-clause-block c = has-joined_block
+
+pub returns-clause-tags : goal.returns-clause-tags
+returns-clause-tags c = has-joined_tags
+
+pub returns-clause-found : goal.returns-clause-found
+returns-clause-found c = λ first bugs n. has-joined_nodes (λ b. b.shared.found) bugs n
+
+pub returns-clause-fixed : goal.returns-clause-fixed
+returns-clause-fixed c = λ first bugs n. has-joined_nodes (λ b. b.shared.fixed) bugs n

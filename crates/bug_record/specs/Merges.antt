@@ -1,0 +1,72 @@
+-- Merging bugs, and taking one out of its set (the BTS page 'control and manipulation'; what becomes of owners and marks is
+-- this project's own rule).
+use Rattle.std.specs.Prelude.{ℕ, ◌==◌, not, List, [], ◌∷◌, filter, Option, None, Result, Ok, Err, if◌then◌else◌}
+use Rattle.std.specs.List.{list_any}
+use Rattle.std.specs.Option.{option_or}
+use Rattle.bug_record.specs.Sets.{has, number_set}
+use Rattle.bug_record.specs.Tags.{all_tags, has_tag}
+use Rattle.bug_record.specs.Marks.{node_set}
+use Rattle.bug_record.specs.Desk.{Desk}
+use Rattle.bug_record.specs.Bugs.{each_bug, at_bug, unless, missing, first_refusal, bugs_at, all_of}
+use Rattle.bug_record.specs.Differences.{differing}
+use Rattle.bug_record.specs.declared.bug.Bug.{Bug}
+use Rattle.bug_record.specs.declared.bug.Shared.{Shared}
+use Rattle.bug_record.specs.declared.command.Field.{Field}
+use Rattle.bug_record.specs.declared.command.Refusal.{Refusal}
+use Rattle.bug_record.specs.declared.command.Refusal.TheVariants.{NotMerged}
+use Rattle.bug_record.specs.declared.tag.Tag.{Tag}
+
+-- the owner of the first bug that has one
+abbrev pub first_owner : List Bug → Option (List ℕ)
+first_owner [] = None
+first_owner (b ∷ bugs) = option_or b.shared.owner (first_owner bugs)
+
+-- the tags that some bug has
+abbrev pub joined_tags : List Bug → List Tag
+joined_tags bugs = filter (λ tag. list_any (λ b. has_tag b.shared.tags tag) bugs) all_tags
+
+-- The shared fields of merged bugs: package, severity, state and forwarded are those of the first, the owner is that of the
+-- first that has one, and a tag or a mark is there where some bug has it.
+abbrev pub joined_shared : Shared → List Bug → Shared
+joined_shared first bugs = record first {
+  owner = first_owner bugs;
+  tags = joined_tags bugs;
+  found = node_set (all_of (λ b. b.shared.found) bugs);
+  fixed = node_set (all_of (λ b. b.shared.fixed) bugs);
+}
+
+-- the numbers of all bugs that are merged with some of these
+abbrev pub joined_block : List Bug → List ℕ
+joined_block bugs = number_set (all_of (λ b. b.block) bugs)
+
+-- these numbers become one block, with these shared fields
+abbrev pub with_block : Desk → List ℕ → Shared → Desk
+with_block d block shared = each_bug d (λ m b. record b {
+  shared = if has block m then shared else b.shared;
+  block = if has block m then block else b.block;
+})
+
+-- All the bugs' blocks become one. They have to be there, and those after the first may not differ from it.
+abbrev pub merged : (Shared → Shared → Option Field) → Desk → ℕ → List ℕ → Result Desk Refusal
+merged difference d n ns =
+    at_bug (d.bug n) n (λ first.
+    unless (first_refusal missing d.bug ns)
+    (unless (first_refusal (differing (difference first.shared)) d.bug ns)
+    (Ok (with_block d (joined_block (bugs_at d.bug (n ∷ ns))) (joined_shared first.shared (bugs_at d.bug (n ∷ ns)))))))
+
+-- n becomes a block by itself, and the rest of its block another
+abbrev pub parted : Desk → ℕ → List ℕ → Desk
+parted d n rest = each_bug d (λ m b. record b { block = if m == n then n ∷ [] else if has rest m then rest else b.block })
+
+-- the other numbers of a block
+abbrev pub rest_of : ℕ → List ℕ → List ℕ
+rest_of n block = filter (λ m. not (m == n)) block
+
+-- a bug that is merged with no other can't be taken out
+abbrev pub taken_out : Desk → ℕ → List ℕ → Result Desk Refusal
+taken_out d n [] = Err (NotMerged n)
+taken_out d n (m ∷ rest) = Ok (parted d n (m ∷ rest))
+
+-- The bug is taken out of its block. No field changes.
+abbrev pub unmerged : Desk → ℕ → Result Desk Refusal
+unmerged d n = at_bug (d.bug n) n (λ b. taken_out d n (rest_of n b.block))

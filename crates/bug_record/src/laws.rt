@@ -1,0 +1,39 @@
+//! Laws of the definitions that the contracts of this crate cite. Each body is empty: the contract is the law.
+
+ghost use Rattle.std.specs.Prelude.{◌≡◌, ℕ, List, ◌||◌, ◌&&◌, not};
+ghost use Rattle.std.specs.List.{list_any};
+ghost use Rattle.std.specs.List.Sorted.{IsStrictlySortedBy};
+ghost use Rattle.ancestry.specs.Nodes.{Node, same_node, node_cmp};
+ghost use Rattle.bug_record.specs.Sets.{has, IsAscending};
+ghost use Rattle.bug_record.specs.Marks.{has_node, with_node, without_node};
+ghost use Rattle.bug_record.specs.Tags.{has_tag, IsTagSet};
+ghost use Rattle.bug_record.specs.Merges.{joined_block, joined_tags, joined_shared};
+ghost use Rattle.bug_record.specs.declared.bug.Bug.{Bug};
+ghost use Rattle.bug_record.specs.declared.bug.Shared.{Shared};
+ghost use Rattle.bug_record.specs.declared.tag.Tag.{Tag};
+
+/// Merged bugs have together what some of them has: a bug is merged with them where it is merged with one of them, and a tag
+/// or a mark is theirs where one of them has it.
+pub fn joined_by_membership()
+    ensures block { (bugs : List Bug) (m : ℕ) → has (joined_block bugs) m ≡ list_any (λ b. has b.block m) bugs }
+    ensures tags { (bugs : List Bug) (t : Tag) → has_tag (joined_tags bugs) t ≡ list_any (λ b. has_tag b.shared.tags t) bugs }
+    ensures found { (first : Shared) (bugs : List Bug) (n : Node) →
+        has_node (joined_shared first bugs).found n ≡ list_any (λ b. has_node b.shared.found n) bugs }
+    ensures fixed { (first : Shared) (bugs : List Bug) (n : Node) →
+        has_node (joined_shared first bugs).fixed n ≡ list_any (λ b. has_node b.shared.fixed n) bugs }
+{}
+
+/// The block, the tags and the marks of merged bugs are sets: each item stands in its place, once.
+pub fn joined_are_sets()
+    ensures block { (bugs : List Bug) → IsAscending (joined_block bugs) }
+    ensures tags { (bugs : List Bug) → IsTagSet (joined_tags bugs) }
+    ensures found { (first : Shared) (bugs : List Bug) → IsStrictlySortedBy node_cmp (joined_shared first bugs).found }
+    ensures fixed { (first : Shared) (bugs : List Bug) → IsStrictlySortedBy node_cmp (joined_shared first bugs).fixed }
+{}
+
+/// A node is in the list with n where it is in the list or is n, and it is in the list without n where it is in the list and
+/// is not n.
+pub fn marks_by_membership()
+    ensures with { (nodes : List Node) (n m : Node) → has_node (with_node nodes n) m ≡ (has_node nodes m || same_node m n) }
+    ensures without { (nodes : List Node) (n m : Node) → has_node (without_node nodes n) m ≡ (has_node nodes m && not (same_node n m)) }
+{}

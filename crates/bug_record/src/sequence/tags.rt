@@ -1,0 +1,26 @@
+//! Sets of tags, in their order.
+
+ghost use Rattle.std.specs.Prelude.{◌≡◌, not, filter, IfOk};
+ghost use Rattle.bug_record.specs.Tags.{without_tag};
+
+use super::Sequence;
+use crate::tag::Tag;
+use std::alloc::AllocError;
+
+impl Sequence<Tag> {
+    /// Takes the tag out.
+    pub fn remove_tag(&mut self, tag: Tag)
+        ensures { self.new ≡ without_tag self.old tag }
+    {
+        self.items.retain(|other| tag.place() != other.place());
+    }
+
+    /// An equal value of its own.
+    pub fn copy(&self) -> Result<Sequence<Tag>, AllocError>
+        ensures { IfOk result (λ r. r ≡ self.now) }
+    {
+        Ok(Sequence {
+            items: Vec::from_slice(*self.items.allocator(), self.items.as_slice())?,
+        })
+    }
+}
