@@ -20,8 +20,8 @@ numbers-with_item : (set : List Member) (x : Member) → numbers_of (with_item n
 numbers-with_item [] x = refl
 numbers-with_item (y ∷ ys) x =
     elim (nat_lt y.number x.number) as (λ t.
-      numbers_of (cond t (y ∷ with_item number_of ys x) (cond (y.number == x.number) (y ∷ ys) (x ∷ y ∷ ys)))
-      ≡ cond t (y.number ∷ with_item (λ k. k) (numbers_of ys) x.number) (cond (y.number == x.number) (y.number ∷ numbers_of ys) (x.number ∷ y.number ∷ numbers_of ys))) [
+    numbers_of (cond t (y ∷ with_item number_of ys x) (cond (y.number == x.number) (y ∷ ys) (x ∷ y ∷ ys)))
+    ≡ cond t (y.number ∷ with_item (λ k. k) (numbers_of ys) x.number) (cond (y.number == x.number) (y.number ∷ numbers_of ys) (x.number ∷ y.number ∷ numbers_of ys))) [
       | true ↦ ap (λ ns. y.number ∷ ns) (numbers-with_item ys x)
       | false ↦ elim (y.number == x.number) as (λ t. numbers_of (cond t (y ∷ ys) (x ∷ y ∷ ys)) ≡ cond t (y.number ∷ numbers_of ys) (x.number ∷ y.number ∷ numbers_of ys)) [ true ↦ refl | false ↦ refl ]
     ]
@@ -38,7 +38,7 @@ member-with_item : (set : List Member) (x : Member) (m : ℕ) → IsAscending (n
 member-with_item [] x m h = refl
 member-with_item (y ∷ ys) x m h =
     elim (nat_lt y.number x.number) as (λ t. nat_lt y.number x.number ≡ t
-      → member_at (cond t (y ∷ with_item number_of ys x) (cond (y.number == x.number) (y ∷ ys) (x ∷ y ∷ ys))) m ≡ option_or (cond (eqb y.number m) (Some y) (member_at ys m)) (cond (eqb x.number m) (Some x) None)) [
+    → member_at (cond t (y ∷ with_item number_of ys x) (cond (y.number == x.number) (y ∷ ys) (x ∷ y ∷ ys))) m ≡ option_or (cond (eqb y.number m) (Some y) (member_at ys m)) (cond (eqb x.number m) (Some x) None)) [
       | true ↦ λ e. elim (eqb y.number m) as (λ t. cond t (Some y) (member_at (with_item number_of ys x) m) ≡ option_or (cond t (Some y) (member_at ys m)) (cond (eqb x.number m) (Some x) None))
           [ true ↦ refl | false ↦ member-with_item ys x m h.1 ]
       | false ↦ λ e. elim (y.number == x.number) as (λ t. (y.number == x.number) ≡ t → member_at (cond t (y ∷ ys) (x ∷ y ∷ ys)) m ≡ option_or (cond (eqb y.number m) (Some y) (member_at ys m)) (cond (eqb x.number m) (Some x) None)) [
@@ -133,7 +133,7 @@ pub meant-inside : (ns : List ℕ) (is : List SetImage) (m : ℕ) (b : Bug) → 
 meant-inside ns [] m b h k = absurd (none-some b h)
 meant-inside ns (j ∷ is) m b h k =
     elim (member_at j.members m) as (λ o. member_at j.members m ≡ o → option_or (option_map (bug_of j) o) (bug_in is m) ≡ Some b
-      → (i : SetImage) × (x : Member) × (first_member (those_meant ns (j ∷ is)) m ≡ Some x) × (b ≡ bug_of i x)) [
+    → (i : SetImage) × (x : Member) × (first_member (those_meant ns (j ∷ is)) m ≡ Some x) × (b ≡ bug_of i x)) [
       | None ↦ λ e h. let r = meant-inside ns is m b h k in (r.0, r.1, meant-beside ns j is m e ∙ r.2, r.3)
       | Some x ↦ λ e h.
           (j, x, meant-first ns j is m (ap (λ (z : Bug). has_any z.block ns) (same_Some _ _ h) ∙ k) ∙ ap (λ o. option_or o (first_member (those_meant ns is) m)) e, sym (same_Some _ _ h))

@@ -219,9 +219,9 @@ sound-joined d ns f sound good = sound-each_bug d (bug_joined block shared) soun
 -- the step, by what the images show of the bugs
 steps-merge : (difference : Shared → Shared → Option Field) (is : List SetImage) (next n : ℕ) (ns : List ℕ) (o : Option Bug) → bug_in is n ≡ o
     → Steps (n ∷ ns) (λ d. merged difference d n ns) is next (λ d. at_bug o n (λ first.
-      unless (first_refusal missing (bug_in is) ns)
-      (unless (first_refusal (differing (difference first.shared)) (bug_in is) ns)
-      (Ok (with_block d (joined_block (bugs_at (bug_in is) (n ∷ ns))) (joined_shared first.shared (bugs_at (bug_in is) (n ∷ ns))))))))
+    unless (first_refusal missing (bug_in is) ns)
+    (unless (first_refusal (differing (difference first.shared)) (bug_in is) ns)
+    (Ok (with_block d (joined_block (bugs_at (bug_in is) (n ∷ ns))) (joined_shared first.shared (bugs_at (bug_in is) (n ∷ ns))))))))
 steps-merge difference is next n ns o h d e k = λ j. at_bug ((sym k.0 ∙ h) j) n (λ first.
     unless (sym (refusal-known missing d is ns k.1) j)
     (unless (sym (refusal-known (differing (difference first.shared)) d is ns k.1) j)
@@ -260,7 +260,7 @@ merge-done difference is next n ns i a h r q =
     (λ d e k. steps-merge difference is next n ns (Some (bug_of i b.0)) b.1 d e k ∙ (λ j. unless (r j) (unless (q j) (Ok (with_block d (joined_block bugs) (joined_shared i.shared bugs))))))
     (λ d sh. joined-makes d is n ns i sh.sound sh.blocks sh.known a h)
     (λ d sh. subst (λ (bs : List Bug). IsSound (with_block d (joined_block bs) (joined_shared i.shared bs))) (sym (bugs-known d is (n ∷ ns) sh.known))
-      (sound-joined d (n ∷ ns) i.shared sh.sound (sh.sound.texts n (bug_of i b.0) (shown d is sh.blocks n (bug_of i b.0) b.1)).shared))
+    (sound-joined d (n ∷ ns) i.shared sh.sound (sh.sound.texts n (bug_of i b.0) (shown d is sh.blocks n (bug_of i b.0) b.1)).shared))
   where
     bugs : List Bug
     bugs = bugs_at (bug_in is) (n ∷ ns)

@@ -223,11 +223,11 @@ sound-parted d n b sound here = sound-each_bug d (bug_parted n rest) sound (reco
     agrees m k c e false q false r h =
         let a = agree d sound m k c e h in
         let no_n : eqb k n ≡ false = false_from_ne_true (eqb k n) (λ w.
-            false≢true (sym r ∙ to_rest m (merged-back d sound n m b c here e (ap (λ z. has c.block z) (sym (eqb-true k n w)) ∙ h)) q)) in
+        false≢true (sym r ∙ to_rest m (merged-back d sound n m b c here e (ap (λ z. has c.block z) (sym (eqb-true k n w)) ∙ h)) q)) in
         let no_rest : has rest k ≡ false = false_from_ne_true (has rest k) (λ w.
-            let z = agree d sound n k b here (in_rest k w).0 in
-            let same : c.block ≡ b.block = sym a.2 ∙ ap (λ (v : Bug). v.block) (same_value a.0 z.0 a.1 z.1) ∙ z.2 in
-            false≢true (sym r ∙ to_rest m (ap (λ v. has v m) (sym same) ∙ sound.own m c e) q)) in
+        let z = agree d sound n k b here (in_rest k w).0 in
+        let same : c.block ≡ b.block = sym a.2 ∙ ap (λ (v : Bug). v.block) (same_value a.0 z.0 a.1 z.1) ∙ z.2 in
+        false≢true (sym r ∙ to_rest m (ap (λ v. has v m) (sym same) ∙ sound.own m c e) q)) in
         (a.0, a.1, (λ j. cond (no_n j) (n ∷ []) (cond (no_rest j) rest a.0.block)) ∙ a.2, a.3)
 
 -- ---- the plan

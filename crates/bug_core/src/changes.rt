@@ -42,7 +42,7 @@ pub(crate) fn same_text(a: &Option<Text>, b: &Option<Text>) -> bool
     match (a, b) {
         (Some(text), Some(other)) => text.as_str() == other.as_str(),
         (None, None) => true,
-        _ => false,
+        (Some(_), None) | (None, Some(_)) => false,
     }
 }
 

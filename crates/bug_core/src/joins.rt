@@ -114,8 +114,8 @@ pub(crate) fn joined_image(
     numbers: &[u64],
 ) -> Result<SetImage, AllocError>
     ensures { IfOk result (λ i. i ≡ record {
-        shared = record (with_all_shared first.now (those_meant numbers.now images.now)) { owner = first_owner (bugs_at (bug_in images.now) numbers.now) };
-        members = with_members [] (those_meant numbers.now images.now);
+      shared = record (with_all_shared first.now (those_meant numbers.now images.now)) { owner = first_owner (bugs_at (bug_in images.now) numbers.now) };
+      members = with_members [] (those_meant numbers.now images.now);
     }) }
 {
     let mut shared = first.copy()?;

@@ -22,7 +22,8 @@ fn member(alloc: Global, number: u64) -> Result<Member, AllocError>
     })
 }
 
-fn one_member(alloc: Global, number: u64) -> Result<Sequence<Member>, AllocError>
+/// The member of this number, with the title a and the submitter ann.
+pub(crate) fn one_member(alloc: Global, number: u64) -> Result<Sequence<Member>, AllocError>
     ensures { IfOk result (λ ms. numbers_of ms ≡ number ∷ []) }
 {
     let mut members = Sequence::new(alloc);
@@ -30,7 +31,12 @@ fn one_member(alloc: Global, number: u64) -> Result<Sequence<Member>, AllocError
     Ok(members)
 }
 
-fn two_members(alloc: Global, first: u64, second: u64) -> Result<Sequence<Member>, AllocError>
+/// Two such members.
+pub(crate) fn two_members(
+    alloc: Global,
+    first: u64,
+    second: u64,
+) -> Result<Sequence<Member>, AllocError>
     ensures { IfOk result (λ ms. numbers_of ms ≡ first ∷ second ∷ []) }
 {
     let mut members = one_member(alloc, first)?;
@@ -38,8 +44,8 @@ fn two_members(alloc: Global, first: u64, second: u64) -> Result<Sequence<Member
     Ok(members)
 }
 
-// The image of open bugs of severity normal.
-fn image(alloc: Global, members: Sequence<Member>) -> Result<SetImage, AllocError>
+/// The image of open bugs of severity normal.
+pub(crate) fn image(alloc: Global, members: Sequence<Member>) -> Result<SetImage, AllocError>
     ensures { IfOk result (λ i. i.members ≡ members) }
 {
     Ok(SetImage {
@@ -47,6 +53,9 @@ fn image(alloc: Global, members: Sequence<Member>) -> Result<SetImage, AllocErro
             package: Text::of(alloc, "foo")?,
             severity: Severity::Normal,
             closed: false,
+            forwarded: None,
+            owner: None,
+            tags: Sequence::new(alloc),
             found: Sequence::new(alloc),
             fixed: Sequence::new(alloc),
         },
@@ -120,6 +129,23 @@ fn a_text_has_two_hundred_bytes_at_most(rt: HostRuntime) -> Result<(), Fail> {
     assert!(&rt; is_text(text.as_str()));
     text.push('a')?;
     assert!(&rt; !is_text(text.as_str()));
+    Ok(())
+}
+
+#[test]
+fn a_merge_names_its_other_bugs_too(rt: HostRuntime) -> Result<(), Fail> {
+    let alloc = rt.alloc();
+    let mut others = Sequence::one(alloc, 1)?;
+    others.push(7)?;
+    let command = Command::Merge(3, others);
+    assert_eq!(&rt; bug_named(&command), 3);
+    assert!(&rt; other_bugs(&command) == [1, 7].as_slice());
+    let command = Command::ForceMerge(2, Sequence::one(alloc, 9)?);
+    assert_eq!(&rt; bug_named(&command), 2);
+    assert!(&rt; other_bugs(&command) == [9].as_slice());
+    let command = Command::Unmerge(5);
+    assert_eq!(&rt; bug_named(&command), 5);
+    assert!(&rt; other_bugs(&command).is_empty());
     Ok(())
 }
 
@@ -275,6 +301,8 @@ fn a_report_is_an_open_bug_of_the_next_number(rt: HostRuntime) -> Result<(), Fai
     assert!(&rt; images[0].shared.severity == Severity::Serious);
     assert!(&rt; texts_are(&images[0].shared.found, &[("foo", "1.0-1")]));
     assert!(&rt; images[0].shared.fixed.as_slice().is_empty());
+    assert!(&rt; images[0].shared.forwarded.is_none() && images[0].shared.owner.is_none());
+    assert!(&rt; images[0].shared.tags.as_slice().is_empty());
     let members = images[0].members.as_slice();
     assert_eq!(&rt; members.len(), 1);
     assert_eq!(&rt; members[0].number, 7);

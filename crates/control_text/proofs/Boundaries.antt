@@ -1,5 +1,5 @@
--- A text may be cut round a blank.
-use Rattle.std.proofs.Common.{◌≡◌, ℕ, ◌+◌, ◌-◌, ◌<◌, List, length, get_or, reverse, true, not, inl, inr, sym, ap, ◌∙◌, subst, arith}
+-- A text may be cut round ASCII bytes, as blanks and commas are.
+use Rattle.std.proofs.Common.{◌≡◌, ℕ, Bool, ◌+◌, ◌-◌, ◌<◌, List, length, get_or, reverse, true, not, inl, inr, sym, ap, ◌∙◌, subst, arith}
 use Rattle.std.specs.Prelude.{IsUtf8, IsCharBoundary}
 use Rattle.std.specs.List.{prefix_len, suffix_len, position_or_len}
 use Rattle.std.proofs.lemmas.Bool.{or_cases, eqb-true, cases_lt}
@@ -8,6 +8,7 @@ use Rattle.std.proofs.lemmas.List.{get_or-reverse}
 use Rattle.std.proofs.lemmas.Str.{IsCharBoundary-start, IsCharBoundary-after_ascii}
 use Rattle.std.proofs.Common.{◌==◌}
 use Rattle.bug_record.specs.Texts.{is_blank}
+use Rattle.control_text.specs.Words.{is_gap}
 
 blank-ascii : (c : ℕ) → is_blank c ≡ true → c < 128
 blank-ascii c h =
@@ -16,30 +17,50 @@ blank-ascii c h =
       | inr e ↦ let is : c ≡ 9 = eqb-true c 9 e in omega arith
     ]
 
-pub boundary_at_blank : (s : List ℕ) → IsCharBoundary s (position_or_len is_blank s)
-boundary_at_blank s =
-    let n = position_or_len is_blank s in (
-      prefix_len-le-length (λ x. not (is_blank x)) s,
+-- a text may be cut at the first byte of a kind of ASCII bytes, and after such bytes at its beginning
+boundary_at : (p : ℕ → Bool) → ((c : ℕ) → p c ≡ true → c < 128) → (s : List ℕ) → IsCharBoundary s (position_or_len p s)
+boundary_at p ascii s =
+    let n = position_or_len p s in (
+      prefix_len-le-length (λ x. not (p x)) s,
       λ within far.
-          let near : get_or s n 0 < 128 = blank-ascii (get_or s n 0) (passes_at_first is_blank s 0 within) in
+          let near : get_or s n 0 < 128 = ascii (get_or s n 0) (passes_at_first p s 0 within) in
           absurd (omega arith),
     )
 
-pub boundary_after_blanks : (s : List ℕ) → IsUtf8 s → IsCharBoundary s (prefix_len is_blank s)
-boundary_after_blanks s u =
-    let n = prefix_len is_blank s in
-    let le = prefix_len-le-length is_blank s in
+boundary_after : (p : ℕ → Bool) → ((c : ℕ) → p c ≡ true → c < 128) → (s : List ℕ) → IsUtf8 s → IsCharBoundary s (prefix_len p s)
+boundary_after p ascii s u =
+    let n = prefix_len p s in
+    let le = prefix_len-le-length p s in
     let P : ℕ → Type 0 = IsCharBoundary s in
     elim (cases_lt 0 n) [
       | inl more ↦
           let last : n - 1 < n = omega arith in
           let next : n - 1 + 1 ≡ n = omega arith in
-          let near = blank-ascii (get_or s (n - 1) 0) (prefix_len_passes is_blank s (n - 1) 0 last) in
+          let near = ascii (get_or s (n - 1) 0) (prefix_len_passes p s (n - 1) 0 last) in
           subst P next (IsCharBoundary-after_ascii s (n - 1) u (omega arith) near)
       | inr none ↦
           let start : 0 ≡ n = omega arith in
           subst P start (IsCharBoundary-start s u)
     ]
+
+pub boundary_at_blank : (s : List ℕ) → IsCharBoundary s (position_or_len is_blank s)
+boundary_at_blank = boundary_at is_blank blank-ascii
+
+pub boundary_after_blanks : (s : List ℕ) → IsUtf8 s → IsCharBoundary s (prefix_len is_blank s)
+boundary_after_blanks = boundary_after is_blank blank-ascii
+
+gap-ascii : (c : ℕ) → is_gap c ≡ true → c < 128
+gap-ascii c h =
+    elim (or_cases (is_blank c) (c == 44) h) [
+      | inl e ↦ blank-ascii c e
+      | inr e ↦ let is : c ≡ 44 = eqb-true c 44 e in omega arith
+    ]
+
+pub boundary_at_gap : (s : List ℕ) → IsCharBoundary s (position_or_len is_gap s)
+boundary_at_gap = boundary_at is_gap gap-ascii
+
+pub boundary_after_gaps : (s : List ℕ) → IsUtf8 s → IsCharBoundary s (prefix_len is_gap s)
+boundary_after_gaps = boundary_after is_gap gap-ascii
 
 pub boundary_before_blanks : (s : List ℕ) → IsCharBoundary s (length s - suffix_len is_blank s)
 boundary_before_blanks s =

@@ -1,5 +1,5 @@
 -- What a line gives is well formed.
-use Rattle.std.proofs.Common.{◌≡◌, ℕ, ◌≤◌, List, [], ◌∷◌, length, ◌==◌, ◌&&◌, nat_lt, true, false, Option, Result, Some, None, Ok, Err, refl, cond, sym, ◌∙◌, subst, arith, codes}
+use Rattle.std.proofs.Common.{◌≡◌, ℕ, ◌≤◌, ◌<◌, List, [], ◌∷◌, length, ◌==◌, ◌&&◌, nat_lt, true, false, Option, Result, Some, None, Ok, Err, refl, cond, sym, ◌∙◌, subst, arith, codes}
 use Rattle.std.specs.Prelude.{IfOk, IfSome, is_none, option_map, ⊤}
 use Rattle.std.specs.List.{list_any, before_first, after_first, prefix_len, position_or_len}
 use Rattle.std.specs.Str.{bytes_eq}
@@ -11,10 +11,13 @@ use Rattle.debver.specs.Faults.{text_fault}
 use Rattle.ancestry.specs.Nodes.{node, is_slash, node_of}
 use Rattle.ancestry.proofs.ReadLemmas.{nodes_exactly}
 use Rattle.bug_record.specs.Texts.{is_blank, is_control, IsText, IfGiven}
+use Rattle.bug_record.specs.Sets.{Each}
 use Rattle.bug_record.specs.Severities.{severity_of}
 use Rattle.bug_record.specs.Commands.{IsGoodVersion, IsGoodPerson}
 use Rattle.bug_record.specs.declared.severity.Severity.{Severity}
+use Rattle.bug_record.specs.declared.command.Command.{Command}
 use Rattle.bug_record.specs.declared.command.Command.TheVariants as commands
+use Rattle.bug_record.specs.declared.command.TagStep.{TagStep}
 use Rattle.bug_record.specs.declared.command.VersionArg.{VersionArg}
 use Rattle.bug_record.specs.declared.command.Who.{Who}
 use Rattle.bug_record.specs.declared.command.Who.TheVariants.{Sender, Given}
@@ -26,10 +29,10 @@ use Rattle.control_text.specs.declared.commands.CommandWord.{CommandWord}
 use Rattle.control_text.specs.declared.commands.CommandWord.TheVariants as command_words
 use Rattle.control_text.specs.Numbers.{without_hash, number_of_digits}
 use Rattle.control_text.specs.Bugs.{bug_of_text, bug_of_word, IsGoodBug}
-use Rattle.control_text.specs.Words.{words, trimmed, after_word, without_first_blanks}
+use Rattle.control_text.specs.Words.{words, words_with_commas, trimmed, after_word, without_first_blanks}
 use Rattle.control_text.specs.Versions.{plain_version, sourced_version, version_of_word, without_src, package_of_word}
-use Rattle.control_text.specs.Commands.{or_refuse, and_read, bug_of, version_of, bug_and_version, bug_and_any_version, severity_command, any_version, package_of, reassign_words, reassign_command, who_of_text, any_who_of_text, bug_and_text, reopen_command, command_of}
-use Rattle.control_text.specs.WellFormed.{IsPlain, IsWellFormed}
+use Rattle.control_text.specs.Commands.{or_refuse, and_read, bug_of, version_of, bug_and_version, bug_and_any_version, severity_command, any_version, package_of, reassign_words, reassign_command, limited_text, who_of_text, some_text, some_who, any_who_of_text, bug_and_text, bug_and_some_text, bug_and_some_who, bug_alone, all_bugs, bug_and_others, some_steps, tags_command, reopen_command, command_of}
+use Rattle.control_text.specs.WellFormed.{IsPlain, IsAddress, IsWellFormed}
 use Rattle.control_text.proofs.NumberLemmas.{number_of_digits-good}
 use Rattle.control_text.proofs.TextLemmas.{none-drop, trimmed-text}
 
@@ -125,7 +128,7 @@ severity_command-good : (ws : List (List ℕ)) → IfOk (severity_command ws) Is
 severity_command-good (n ∷ s ∷ []) =
     and_read-good (bug_of n) _ IsGoodBug IsWellFormed (bug_of-good n) (λ bug good.
     or_refuse-good (severity_of s) BadSeverity (λ severity. Ok (commands.Severity bug severity)) (λ _. ⊤) IsWellFormed (any_severity (severity_of s)) (λ severity _.
-    record { bug = good; parts = tt; texts = tt }))
+    record { bugs = (good, tt); parts = tt; texts = tt; others = tt }))
 severity_command-good [] = tt
 severity_command-good (n ∷ []) = tt
 severity_command-good (n ∷ s ∷ w ∷ ws) = tt
@@ -135,7 +138,7 @@ reassign_words-good n p v =
     and_read-good (bug_of n) _ IsGoodBug IsWellFormed (bug_of-good n) (λ bug good.
     and_read-good (package_of p) _ IsName IsWellFormed (package_of-good p) (λ name named.
     and_read-good (any_version v) (λ version. Ok (commands.Reassign bug name version)) (IfGiven IsGoodVersion) IsWellFormed (any_version-good v) (λ version fine.
-    record { bug = good; parts = (named, fine); texts = tt })))
+    record { bugs = (good, tt); parts = (named, fine); texts = tt; others = tt })))
 
 reassign_command-good : (ws : List (List ℕ)) → IfOk (reassign_command ws) IsWellFormed
 reassign_command-good (n ∷ p ∷ []) = reassign_words-good n p None
@@ -151,18 +154,31 @@ IsGoodWho who = IfGiven IsGoodPerson who × IsPlain who
 unequal : (s t : List ℕ) → bytes_eq s t ≡ false → ¬ (s ≡ t)
 unequal s t e is = false≢true (sym e ∙ (bytes_eq-Decides s t).1 is)
 
-who_of_text-good : (text : List ℕ) → bytes_eq text (codes "=") ≡ false → (length text ≤ 200 → IsText text) → IfOk (who_of_text text) (λ who. IsGoodWho (Some who))
-who_of_text-good text other good =
-    let P : Result Who Refusal → Type 0 = λ r. IfOk r (λ who. IsGoodWho (Some who)) in
-    cond_both (bytes_eq text (codes "!")) (Ok Sender) (cond (nat_lt 200 (length text)) (Err TooLong) (Ok (Given text))) P (λ e. (tt, tt)) (λ e.
-    cond_both (nat_lt 200 (length text)) (Err TooLong) (Ok (Given text)) P (λ f. tt) (λ f.
-    (good (ltb-false 200 (length text) f), (unequal text (codes "!") e, unequal text (codes "=") other))))
+-- a person who was given, of whose text something more is known
+abbrev IsGoodGiven : (List ℕ → Type 0) → Who → Type 0
+IsGoodGiven Q Sender = ⊤
+IsGoodGiven Q (Given text) = IsText text × (¬ (text ≡ codes "!")) × Q text
+
+limited-good : {A : Type 0} (text : List ℕ) (f : List ℕ → A) (Q : A → Type 0) → (length text ≤ 200 → Q (f text)) → IfOk (and_read (limited_text text) (λ limited. Ok (f limited))) Q
+limited-good {A} text f Q good =
+    cond_both (nat_lt 200 (length text)) (Err TooLong) (Ok text) (λ r. IfOk (and_read {B = A} r (λ limited. Ok (f limited))) Q)
+    (λ e. tt) (λ e. good (ltb-false 200 (length text) e))
+
+who_of_text-good : (Q : List ℕ → Type 0) (text : List ℕ) → Q text → (length text ≤ 200 → IsText text) → IfOk (who_of_text text) (IsGoodGiven Q)
+who_of_text-good Q text more good =
+    cond_both (bytes_eq text (codes "!")) (Ok Sender) (and_read (limited_text text) (λ limited. Ok (Given limited))) (λ r. IfOk r (IsGoodGiven Q)) (λ e. tt) (λ e.
+    limited-good text Given (IsGoodGiven Q) (λ short. (good short, unequal text (codes "!") e, more)))
+
+plain_who : (who : Who) → IsGoodGiven (λ text. ¬ (text ≡ codes "=")) who → IsGoodWho (Some who)
+plain_who Sender h = (tt, tt)
+plain_who (Given text) h = (h.0, (h.1, h.2))
 
 any_who-good : (text : List ℕ) → (1 ≤ length text → length text ≤ 200 → IsText text) → IfOk (any_who_of_text text) IsGoodWho
 any_who-good [] good = (tt, tt)
 any_who-good (c ∷ text) good =
+    let Q : List ℕ → Type 0 = λ t. ¬ (t ≡ codes "=") in
     cond_both (bytes_eq (c ∷ text) (codes "=")) (Ok None) (and_read (who_of_text (c ∷ text)) (λ who. Ok (Some who))) (λ r. IfOk r IsGoodWho) (λ e. (tt, tt)) (λ e.
-    and_read-good (who_of_text (c ∷ text)) (λ who. Ok (Some who)) (λ who. IsGoodWho (Some who)) IsGoodWho (who_of_text-good (c ∷ text) e (good (omega arith))) (λ who fine. fine))
+    and_read-good (who_of_text (c ∷ text)) (λ who. Ok (Some who)) (IsGoodGiven Q) IsGoodWho (who_of_text-good Q (c ∷ text) (unequal (c ∷ text) (codes "=") e) (good (omega arith))) plain_who)
 
 pub clean_after_word : (text : List ℕ) → list_any is_control text ≡ false → list_any is_control (after_word text) ≡ false
 clean_after_word text clean =
@@ -183,23 +199,118 @@ bug_and_text-good arguments clean =
       | n ∷ more ↦ and_read-good (bug_of n) of_bug IsGoodBug (λ both. IsGoodBug both.0 × IsTextWithin both.1) (bug_of-good n) (λ bug fine. (fine, good))
     ]
 
+-- a text, or somebody, who has to be given
+some_text-good : (text : List ℕ) → IsTextWithin text → IfOk (some_text text) IsText
+some_text-good [] good = tt
+some_text-good (c ∷ text) good =
+    cond_both (nat_lt 200 (length (c ∷ text))) (Err TooLong) (Ok (c ∷ text)) (λ r. IfOk r IsText)
+    (λ e. tt) (λ e. good (omega arith) (ltb-false 200 (length (c ∷ text)) e))
+
+abbrev IsGoodAddress : Who → Type 0
+IsGoodAddress who = IsGoodPerson who × IsAddress who
+
+address_who : (who : Who) → IsGoodGiven (λ text. ⊤) who → IsGoodAddress who
+address_who Sender h = (tt, tt)
+address_who (Given text) h = (h.0, h.1)
+
+some_who-good : (text : List ℕ) → IsTextWithin text → IfOk (some_who text) IsGoodAddress
+some_who-good [] good = tt
+some_who-good (c ∷ text) good = if_ok (who_of_text (c ∷ text)) (IsGoodGiven (λ t. ⊤)) IsGoodAddress (who_of_text-good (λ t. ⊤) (c ∷ text) tt (good (omega arith))) address_who
+  where
+    if_ok : (r : Result Who Refusal) (P Q : Who → Type 0) → IfOk r P → ((who : Who) → P who → Q who) → IfOk r Q
+    if_ok (Ok who) P Q h each = each who h
+    if_ok (Err refusal) P Q h each = tt
+
+bug_and_some_text-good : (arguments : List ℕ) → list_any is_control arguments ≡ false → IfOk (bug_and_some_text arguments) (λ both. IsGoodBug both.0 × IsText both.1)
+bug_and_some_text-good arguments clean =
+    and_read-good (bug_and_text arguments) _ (λ both. IsGoodBug both.0 × IsTextWithin both.1) (λ both. IsGoodBug both.0 × IsText both.1) (bug_and_text-good arguments clean) (λ both good.
+    and_read-good (some_text both.1) (λ text. Ok (both.0, text)) IsText (λ read. IsGoodBug read.0 × IsText read.1) (some_text-good both.1 good.1) (λ text fine. (good.0, fine)))
+
+bug_and_some_who-good : (arguments : List ℕ) → list_any is_control arguments ≡ false → IfOk (bug_and_some_who arguments) (λ both. IsGoodBug both.0 × IsGoodAddress both.1)
+bug_and_some_who-good arguments clean =
+    and_read-good (bug_and_text arguments) _ (λ both. IsGoodBug both.0 × IsTextWithin both.1) (λ both. IsGoodBug both.0 × IsGoodAddress both.1) (bug_and_text-good arguments clean) (λ both good.
+    and_read-good (some_who both.1) (λ who. Ok (both.0, who)) IsGoodAddress (λ read. IsGoodBug read.0 × IsGoodAddress read.1) (some_who-good both.1 good.1) (λ who fine. (good.0, fine)))
+
+-- bugs
+bug_alone-good : (ws : List (List ℕ)) → IfOk (bug_alone ws) IsGoodBug
+bug_alone-good [] = tt
+bug_alone-good (n ∷ []) = bug_of-good n
+bug_alone-good (n ∷ m ∷ ws) = tt
+
+all_bugs-good : (ws : List (List ℕ)) → IfOk (all_bugs ws) (Each IsGoodBug)
+all_bugs-good [] = tt
+all_bugs-good (n ∷ ws) =
+    and_read-good (bug_of n) _ IsGoodBug (Each IsGoodBug) (bug_of-good n) (λ bug good.
+    and_read-good (all_bugs ws) (λ bugs. Ok (bug ∷ bugs)) (Each IsGoodBug) (Each IsGoodBug) (all_bugs-good ws) (λ bugs fine. (good, fine)))
+
+-- two bugs or more
+abbrev AreOthers : List Named → Type 0
+AreOthers bugs = Each IsGoodBug bugs × (0 < length bugs)
+
+some_bugs-good : (n : List ℕ) (ws : List (List ℕ)) → IfOk (all_bugs (n ∷ ws)) AreOthers
+some_bugs-good n ws =
+    and_read-good (bug_of n) _ IsGoodBug AreOthers (bug_of-good n) (λ bug good.
+    and_read-good (all_bugs ws) (λ bugs. Ok (bug ∷ bugs)) (Each IsGoodBug) AreOthers (all_bugs-good ws) (λ bugs fine. ((good, fine), omega arith)))
+
+bug_and_others-good : (ws : List (List ℕ)) → IfOk (bug_and_others ws) (λ both. IsGoodBug both.0 × AreOthers both.1)
+bug_and_others-good [] = tt
+bug_and_others-good (n ∷ []) = tt
+bug_and_others-good (n ∷ m ∷ ws) =
+    and_read-good (bug_of n) _ IsGoodBug (λ both. IsGoodBug both.0 × AreOthers both.1) (bug_of-good n) (λ bug good.
+    and_read-good (all_bugs (m ∷ ws)) (λ others. Ok (bug, others)) AreOthers (λ both. IsGoodBug both.0 × AreOthers both.1) (some_bugs-good m ws) (λ others fine. (good, fine)))
+
+-- tags
+any_steps : (r : Result (List TagStep) Refusal) → IfOk r (λ _. ⊤)
+any_steps (Ok steps) = tt
+any_steps (Err refusal) = tt
+
+tags_command-good : (arguments : List ℕ) → IfOk (tags_command arguments) IsWellFormed
+tags_command-good arguments =
+    let steps = some_steps (words_with_commas (after_word arguments)) in
+    let of_bug : Named → Result (Command Named) Refusal = λ bug. and_read steps (λ read. Ok (commands.Tags bug read)) in
+    elim (words arguments) as (λ ws. IfOk {T = Command Named} (elim ws as (λ _. Result (Command Named) Refusal) [ [] ↦ Err Malformed | n ∷ more ↦ and_read (bug_of n) of_bug ]) IsWellFormed) [
+      | [] ↦ tt
+      | n ∷ more ↦
+          and_read-good (bug_of n) of_bug IsGoodBug IsWellFormed (bug_of-good n) (λ bug good.
+          and_read-good steps (λ read. Ok (commands.Tags bug read)) (λ _. ⊤) IsWellFormed (any_steps steps) (λ read _. record { bugs = (good, tt); parts = tt; texts = tt; others = tt }))
+    ]
+
 reopen_command-good : (arguments : List ℕ) → list_any is_control arguments ≡ false → IfOk (reopen_command arguments) IsWellFormed
 reopen_command-good arguments clean =
     and_read-good (bug_and_text arguments) _ (λ both. IsGoodBug both.0 × IsTextWithin both.1) IsWellFormed (bug_and_text-good arguments clean) (λ both good.
     and_read-good (any_who_of_text both.1) (λ who. Ok (commands.Reopen both.0 who)) IsGoodWho IsWellFormed (any_who-good both.1 good.1) (λ who fine.
-    record { bug = good.0; parts = fine.0; texts = fine.1 }))
+    record { bugs = (good.0, tt); parts = fine.0; texts = fine.1; others = tt }))
 
 pub command_of-good : (word : CommandWord) (arguments : List ℕ) → list_any is_control arguments ≡ false → IfOk (command_of word arguments) IsWellFormed
 command_of-good command_words.Found arguments clean =
-    and_read-good (bug_and_any_version (words arguments)) (λ both. Ok (commands.Found both.0 both.1)) _ IsWellFormed (bug_and_any_version-good (words arguments)) (λ both good. record { bug = good.0; parts = good.1; texts = tt })
+    and_read-good (bug_and_any_version (words arguments)) (λ both. Ok (commands.Found both.0 both.1)) _ IsWellFormed (bug_and_any_version-good (words arguments)) (λ both good. record { bugs = (good.0, tt); parts = good.1; texts = tt; others = tt })
 command_of-good command_words.NotFound arguments clean =
-    and_read-good (bug_and_version (words arguments)) (λ both. Ok (commands.NotFound both.0 both.1)) _ IsWellFormed (bug_and_version-good (words arguments)) (λ both good. record { bug = good.0; parts = good.1; texts = tt })
+    and_read-good (bug_and_version (words arguments)) (λ both. Ok (commands.NotFound both.0 both.1)) _ IsWellFormed (bug_and_version-good (words arguments)) (λ both good. record { bugs = (good.0, tt); parts = good.1; texts = tt; others = tt })
 command_of-good command_words.Fixed arguments clean =
-    and_read-good (bug_and_version (words arguments)) (λ both. Ok (commands.Fixed both.0 both.1)) _ IsWellFormed (bug_and_version-good (words arguments)) (λ both good. record { bug = good.0; parts = good.1; texts = tt })
+    and_read-good (bug_and_version (words arguments)) (λ both. Ok (commands.Fixed both.0 both.1)) _ IsWellFormed (bug_and_version-good (words arguments)) (λ both good. record { bugs = (good.0, tt); parts = good.1; texts = tt; others = tt })
 command_of-good command_words.NotFixed arguments clean =
-    and_read-good (bug_and_version (words arguments)) (λ both. Ok (commands.NotFixed both.0 both.1)) _ IsWellFormed (bug_and_version-good (words arguments)) (λ both good. record { bug = good.0; parts = good.1; texts = tt })
+    and_read-good (bug_and_version (words arguments)) (λ both. Ok (commands.NotFixed both.0 both.1)) _ IsWellFormed (bug_and_version-good (words arguments)) (λ both good. record { bugs = (good.0, tt); parts = good.1; texts = tt; others = tt })
 command_of-good command_words.Close arguments clean =
-    and_read-good (bug_and_any_version (words arguments)) (λ both. Ok (commands.Close both.0 both.1)) _ IsWellFormed (bug_and_any_version-good (words arguments)) (λ both good. record { bug = good.0; parts = good.1; texts = tt })
+    and_read-good (bug_and_any_version (words arguments)) (λ both. Ok (commands.Close both.0 both.1)) _ IsWellFormed (bug_and_any_version-good (words arguments)) (λ both good. record { bugs = (good.0, tt); parts = good.1; texts = tt; others = tt })
 command_of-good command_words.Reopen arguments clean = reopen_command-good arguments clean
 command_of-good command_words.Severity arguments clean = severity_command-good (words arguments)
 command_of-good command_words.Reassign arguments clean = reassign_command-good (words arguments)
+command_of-good command_words.Tags arguments clean = tags_command-good arguments
+command_of-good command_words.Retitle arguments clean =
+    and_read-good (bug_and_some_text arguments) (λ both. Ok (commands.Retitle both.0 both.1)) _ IsWellFormed (bug_and_some_text-good arguments clean) (λ both good. record { bugs = (good.0, tt); parts = good.1; texts = tt; others = tt })
+command_of-good command_words.Submitter arguments clean =
+    and_read-good (bug_and_some_who arguments) (λ both. Ok (commands.Submitter both.0 both.1)) _ IsWellFormed (bug_and_some_who-good arguments clean) (λ both good. record { bugs = (good.0, tt); parts = good.1.0; texts = good.1.1; others = tt })
+command_of-good command_words.Merge arguments clean =
+    and_read-good (bug_and_others (words arguments)) (λ both. Ok (commands.Merge both.0 both.1)) _ IsWellFormed (bug_and_others-good (words arguments)) (λ both good. record { bugs = (good.0, good.1.0); parts = tt; texts = tt; others = good.1.1 })
+command_of-good command_words.ForceMerge arguments clean =
+    and_read-good (bug_and_others (words arguments)) (λ both. Ok (commands.ForceMerge both.0 both.1)) _ IsWellFormed (bug_and_others-good (words arguments)) (λ both good. record { bugs = (good.0, good.1.0); parts = tt; texts = tt; others = good.1.1 })
+command_of-good command_words.Unmerge arguments clean =
+    and_read-good (bug_alone (words arguments)) (λ bug. Ok (commands.Unmerge bug)) IsGoodBug IsWellFormed (bug_alone-good (words arguments)) (λ bug good. record { bugs = (good, tt); parts = tt; texts = tt; others = tt })
+command_of-good command_words.Forwarded arguments clean =
+    and_read-good (bug_and_some_text arguments) (λ both. Ok (commands.Forwarded both.0 both.1)) _ IsWellFormed (bug_and_some_text-good arguments clean) (λ both good. record { bugs = (good.0, tt); parts = good.1; texts = tt; others = tt })
+command_of-good command_words.NotForwarded arguments clean =
+    and_read-good (bug_alone (words arguments)) (λ bug. Ok (commands.NotForwarded bug)) IsGoodBug IsWellFormed (bug_alone-good (words arguments)) (λ bug good. record { bugs = (good, tt); parts = tt; texts = tt; others = tt })
+command_of-good command_words.Owner arguments clean =
+    and_read-good (bug_and_some_who arguments) (λ both. Ok (commands.Owner both.0 both.1)) _ IsWellFormed (bug_and_some_who-good arguments clean) (λ both good. record { bugs = (good.0, tt); parts = good.1.0; texts = good.1.1; others = tt })
+command_of-good command_words.NoOwner arguments clean =
+    and_read-good (bug_alone (words arguments)) (λ bug. Ok (commands.NoOwner bug)) IsGoodBug IsWellFormed (bug_alone-good (words arguments)) (λ bug good. record { bugs = (good, tt); parts = tt; texts = tt; others = tt })

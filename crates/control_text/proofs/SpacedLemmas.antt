@@ -16,15 +16,12 @@ use Rattle.control_text.specs.Words.{has_bytes, words, EndsWord, trimmed, after_
 use Rattle.control_text.specs.Commands.{command_word, command_of}
 use Rattle.control_text.specs.Lines.{begins_hash, is_stop_word, is_stop, line_of_command, command_reading, reading_of_words, reading}
 use Rattle.control_text.specs.Spelling.{after_spaces}
+use Rattle.control_text.proofs.PieceLemmas.{begins}
 use Rattle.control_text.proofs.WordLemmas.{words-nil, words-blank, words-word, drop-blank}
 use Rattle.control_text.proofs.TextLemmas.{unblanked_first}
 use Rattle.control_text.proofs.PlainWords.{IsPlainWord, graphic-blank, graphic-control}
 
 -- the first place of a byte that stands after a text without such bytes
-abbrev pub begins : (ℕ → Bool) → List ℕ → Type 0
-begins p [] = ⊤
-begins p (c ∷ s) = p c ≡ true
-
 pub position-is : (p : ℕ → Bool) (s t : List ℕ) → list_any p s ≡ false → begins p t → position_or_len p (s ++ t) ≡ length s
 position-is p [] [] h e = refl
 position-is p [] (c ∷ t) h e = cond-false (not (p c)) _ _ (not_from_true (p c) e)

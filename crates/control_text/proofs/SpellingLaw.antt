@@ -1,11 +1,8 @@
 -- Each command's spelling is read as it.
-use Rattle.std.proofs.Common.{◌≡◌, ℕ, nat_lt, false, cond, List, [], ◌∷◌, ◌++◌, length, Option, Some, None, Result, Ok, Err, codes, refl, ap, sym, ◌∙◌, append-nil, arith}
-use Rattle.std.specs.List.{list_any}
-use Rattle.std.specs.Str.{bytes_eq}
-use Rattle.std.proofs.lemmas.Bool.{cond-false, le-ltb, false_from_ne_true}
-use Rattle.std.proofs.lemmas.Slice.Eq.{bytes_eq-Decides}
+use Rattle.std.proofs.Common.{◌≡◌, ℕ, ◌<◌, List, [], ◌∷◌, ◌++◌, length, map, Option, Some, None, Result, Ok, codes, refl, ap, sym, ◌∙◌, append-nil}
 use Rattle.debver.specs.Names.{IsName}
-use Rattle.bug_record.specs.Texts.{is_control, IsText, IfGiven}
+use Rattle.bug_record.specs.Sets.{Each}
+use Rattle.bug_record.specs.Texts.{IsText, IfGiven}
 use Rattle.bug_record.specs.Severities.{severity_of}
 use Rattle.bug_record.specs.Commands.{IsGoodVersion, IsGoodPerson}
 use Rattle.bug_record.specs.declared.severity.Severity.{Severity}
@@ -13,22 +10,24 @@ use Rattle.bug_record.specs.declared.command.Command.{Command}
 use Rattle.bug_record.specs.declared.command.Command.TheVariants as commands
 use Rattle.bug_record.specs.declared.command.VersionArg.{VersionArg}
 use Rattle.bug_record.specs.declared.command.Who.{Who}
-use Rattle.bug_record.specs.declared.command.Who.TheVariants.{Sender, Given}
 use Rattle.bug_record.specs.declared.command.Refusal.{Refusal}
-use Rattle.bug_record.specs.declared.command.Refusal.TheVariants.{Malformed, TooLong, BadSeverity}
+use Rattle.bug_record.specs.declared.command.Refusal.TheVariants.{BadSeverity}
 use Rattle.control_text.specs.declared.named.Named.{Named}
 use Rattle.control_text.specs.declared.commands.CommandWord.{CommandWord}
 use Rattle.control_text.specs.declared.commands.CommandWord.TheVariants as command_words
 use Rattle.control_text.specs.declared.line.Line.TheVariants.{Do}
 use Rattle.control_text.specs.Bugs.{IsGoodBug}
 use Rattle.control_text.specs.Words.{words, trimmed, after_word}
-use Rattle.control_text.specs.Commands.{or_refuse, and_read, bug_of, version_of, package_of, any_version, bug_and_version, bug_and_any_version, severity_command, reassign_command, who_of_text, any_who_of_text, bug_and_text, reopen_command, command_of}
+use Rattle.control_text.specs.Commands.{or_refuse, and_read, version_of, package_of, any_version, bug_alone, bug_and_version, bug_and_any_version, severity_command, reassign_command, any_who_of_text, bug_and_some_text, bug_and_some_who, bug_and_others, reopen_command, command_of}
 use Rattle.control_text.specs.Lines.{reading}
-use Rattle.control_text.specs.WellFormed.{IsPlain, IsWellFormed}
-use Rattle.control_text.specs.Spelling.{bug_text, severity_text, version_text, who_text, word_if, after_spaces, spelling}
-use Rattle.control_text.proofs.TextLemmas.{text_parts, text-trimmed}
+use Rattle.control_text.specs.WellFormed.{IsPlain, IsAddress, IsWellFormed}
+use Rattle.control_text.specs.Spelling.{bug_text, severity_text, version_text, who_text, step_words, word_if, after_spaces, spelling}
+use Rattle.control_text.proofs.TextLemmas.{text_parts}
 use Rattle.control_text.proofs.PlainWords.{graphic-control, name-plain}
 use Rattle.control_text.proofs.SpacedLemmas.{IsCommandWord, reading-command, ArePlain, AreClean, plain_clean, clean-spaces, ends-after_spaces, words-space, words-spaces, after_word-spaces, trimmed-space}
+use Rattle.control_text.proofs.TextSpelling.{written_who, written_address, bug_and_text-back, bug_and_some_text-back, bug_and_some_who-back}
+use Rattle.control_text.proofs.MergeSpelling.{bugs_plain, bugs-back}
+use Rattle.control_text.proofs.StepSpelling.{steps_plain, tags-back}
 use Rattle.control_text.proofs.SpellingLemmas.{bug-back, bug-plain, version-back, version_text-plain, package-back, severity-back, severity-plain}
 
 -- a command whose arguments are plain words is read by these words
@@ -78,37 +77,7 @@ reassign_words-back n p (Some v) good name fine =
 reassign_plain : (n : Named) (p : List ℕ) (v : Option VersionArg) → IsGoodBug n → IsName p → IfGiven IsGoodVersion v → ArePlain (bug_text n ∷ p ∷ word_if version_text v)
 reassign_plain n p v good name fine = (bug-plain n good, (name-plain p name, given_plain v fine))
 
--- texts
-unequal_false : (s t : List ℕ) → ¬ (s ≡ t) → bytes_eq s t ≡ false
-unequal_false s t other = false_from_ne_true (bytes_eq s t) (λ e. other ((bytes_eq-Decides s t).0 e))
-
-given-back : (text : List ℕ) → IsText text → ¬ (text ≡ codes "!") → ¬ (text ≡ codes "=") → any_who_of_text text ≡ Ok (Some (Given text))
-given-back [] good sender nobody = let parts = text_parts [] good in let least = parts.least in absurd (omega arith)
-given-back (c ∷ s) good sender nobody =
-    let text = c ∷ s in
-    let parts = text_parts text good in
-    let who : who_of_text text ≡ Ok (Given text)
-    = cond-false (bytes_eq text (codes "!")) (Ok Sender) (cond (nat_lt 200 (length text)) (Err TooLong) (Ok (Given text))) (unequal_false text (codes "!") sender)
-    ∙ cond-false (nat_lt 200 (length text)) (Err TooLong) (Ok (Given text)) (le-ltb 200 (length text) parts.most) in
-    cond-false (bytes_eq text (codes "=")) (Ok None) (and_read (who_of_text text) (λ who. Ok (Some who))) (unequal_false text (codes "=") nobody)
-    ∙ ap (λ r. and_read r (λ who. Ok (Some who))) who
-
--- what is known of a person who can be written
-record IsWrittenWho (who : Who) : Type 0 where
-  back : any_who_of_text (who_text who) ≡ Ok (Some who)
-  trim : trimmed (who_text who) ≡ who_text who
-  clean : list_any is_control (who_text who) ≡ false
-
-written_who : (who : Who) → IsGoodPerson who → IsPlain (Some who) → IsWrittenWho who
-written_who Sender good plain = record { back = refl; trim = refl; clean = refl }
-written_who (Given text) good plain = let parts = text_parts text good in record { back = given-back text good plain.0 plain.1; trim = text-trimmed text good; clean = parts.clean }
-
-bug_and_text-back : (arguments n : List ℕ) (more : List (List ℕ)) (bug : Named) → words arguments ≡ n ∷ more → bug_of n ≡ Ok bug → bug_and_text arguments ≡ Ok (bug, trimmed (after_word arguments))
-bug_and_text-back arguments n more bug e is =
-    let of_bug : Named → Result (Named × List ℕ) Refusal = λ b. Ok (b, trimmed (after_word arguments)) in
-    ap (λ ws. elim ws as (λ _. Result (Named × List ℕ) Refusal) [ [] ↦ Err Malformed | m ∷ rest ↦ and_read (bug_of m) of_bug ]) e
-    ∙ ap (λ r. and_read r of_bug) is
-
+-- who is to be the submitter
 reopen_text-back : (n : Named) (ws : List (List ℕ)) (text : List ℕ) (who : Option Who) → IsGoodBug n → trimmed (after_spaces ws) ≡ text → any_who_of_text text ≡ Ok who → reopen_command (after_spaces (bug_text n ∷ ws)) ≡ Ok (commands.Reopen n who)
 reopen_text-back n ws text who good is read =
     let word = bug-plain n good in
@@ -157,6 +126,36 @@ severity_word = record { some = refl; whole = refl; clean = refl; hash = refl; s
 reassign_word : IsCommandWord command_words.Reassign (codes "reassign")
 reassign_word = record { some = refl; whole = refl; clean = refl; hash = refl; stop = refl; thank = refl; is = refl }
 
+tags_word : IsCommandWord command_words.Tags (codes "tags")
+tags_word = record { some = refl; whole = refl; clean = refl; hash = refl; stop = refl; thank = refl; is = refl }
+
+retitle_word : IsCommandWord command_words.Retitle (codes "retitle")
+retitle_word = record { some = refl; whole = refl; clean = refl; hash = refl; stop = refl; thank = refl; is = refl }
+
+submitter_word : IsCommandWord command_words.Submitter (codes "submitter")
+submitter_word = record { some = refl; whole = refl; clean = refl; hash = refl; stop = refl; thank = refl; is = refl }
+
+merge_word : IsCommandWord command_words.Merge (codes "merge")
+merge_word = record { some = refl; whole = refl; clean = refl; hash = refl; stop = refl; thank = refl; is = refl }
+
+forcemerge_word : IsCommandWord command_words.ForceMerge (codes "forcemerge")
+forcemerge_word = record { some = refl; whole = refl; clean = refl; hash = refl; stop = refl; thank = refl; is = refl }
+
+unmerge_word : IsCommandWord command_words.Unmerge (codes "unmerge")
+unmerge_word = record { some = refl; whole = refl; clean = refl; hash = refl; stop = refl; thank = refl; is = refl }
+
+forwarded_word : IsCommandWord command_words.Forwarded (codes "forwarded")
+forwarded_word = record { some = refl; whole = refl; clean = refl; hash = refl; stop = refl; thank = refl; is = refl }
+
+notforwarded_word : IsCommandWord command_words.NotForwarded (codes "notforwarded")
+notforwarded_word = record { some = refl; whole = refl; clean = refl; hash = refl; stop = refl; thank = refl; is = refl }
+
+owner_word : IsCommandWord command_words.Owner (codes "owner")
+owner_word = record { some = refl; whole = refl; clean = refl; hash = refl; stop = refl; thank = refl; is = refl }
+
+noowner_word : IsCommandWord command_words.NoOwner (codes "noowner")
+noowner_word = record { some = refl; whole = refl; clean = refl; hash = refl; stop = refl; thank = refl; is = refl }
+
 -- a bug and a version, or perhaps a version
 by_version : (command : CommandWord) (w : List ℕ) (make : Named → VersionArg → Command Named) (n : Named) (v : VersionArg) → IsCommandWord command w → ((s : List ℕ) → command_of command s ≡ and_read (bug_and_version (words s)) (λ both. Ok (make both.0 both.1))) → IsGoodBug n → IsGoodVersion v → reading (w ++ after_spaces (bug_text n ∷ version_text v ∷ [])) ≡ Ok (Do (make n v))
 by_version command w make n v h means good fine =
@@ -170,21 +169,67 @@ by_any_version command w make n v h means good fine =
     let ws = bug_text n ∷ word_if version_text v in
     by_words command w ws (make n v) h (bug-plain n good, given_plain v fine) (means (after_spaces ws) ∙ ap (λ r. and_read r made) (bug_and_any_version-back n v good fine))
 
+-- a bug alone, two bugs or more, a bug and a text, and a bug and somebody
+by_bug : (command : CommandWord) (w : List ℕ) (make : Named → Command Named) (n : Named) → IsCommandWord command w → ((s : List ℕ) → command_of command s ≡ and_read (bug_alone (words s)) (λ bug. Ok (make bug))) → IsGoodBug n → reading (w ++ after_spaces (bug_text n ∷ [])) ≡ Ok (Do (make n))
+by_bug command w make n h means good =
+    let ws = bug_text n ∷ [] in
+    let plain : ArePlain ws = (bug-plain n good, tt) in
+    by_words command w ws (make n) h plain
+    (means (after_spaces ws) ∙ ap (λ r. and_read {B = Command Named} r (λ bug. Ok (make bug))) (ap bug_alone (words-spaces ws plain) ∙ bug-back n good))
+
+by_bugs : (command : CommandWord) (w : List ℕ) (make : Named → List Named → Command Named) (n : Named) (ns : List Named) → IsCommandWord command w → ((s : List ℕ) → command_of command s ≡ and_read (bug_and_others (words s)) (λ both. Ok (make both.0 both.1))) → Each IsGoodBug (n ∷ ns) → 0 < length ns → reading (w ++ after_spaces (bug_text n ∷ map bug_text ns)) ≡ Ok (Do (make n ns))
+by_bugs command w make n ns h means good others =
+    let made : Named × List Named → Result (Command Named) Refusal = λ both. Ok (make both.0 both.1) in
+    let ws = bug_text n ∷ map bug_text ns in
+    let plain : ArePlain ws = bugs_plain (n ∷ ns) good in
+    by_words command w ws (make n ns) h plain
+    (means (after_spaces ws) ∙ ap (λ r. and_read r made) (ap bug_and_others (words-spaces ws plain) ∙ bugs-back n ns good others))
+
+by_text : (command : CommandWord) (w : List ℕ) (make : Named → List ℕ → Command Named) (n : Named) (text : List ℕ) → IsCommandWord command w → ((s : List ℕ) → command_of command s ≡ and_read (bug_and_some_text s) (λ both. Ok (make both.0 both.1))) → IsGoodBug n → IsText text → reading (w ++ after_spaces (bug_text n ∷ text ∷ [])) ≡ Ok (Do (make n text))
+by_text command w make n text h means good fine =
+    let made : Named × List ℕ → Result (Command Named) Refusal = λ both. Ok (make both.0 both.1) in
+    let ws = bug_text n ∷ text ∷ [] in
+    let word = bug-plain n good in
+    let parts = text_parts text fine in
+    reading-command command w (after_spaces ws) (make n text) h (ends-after_spaces ws) (clean-spaces ws (graphic-control (bug_text n) word.graphic, (parts.clean, tt)))
+    (means (after_spaces ws) ∙ ap (λ r. and_read r made) (bug_and_some_text-back n text good fine))
+
+by_who : (command : CommandWord) (w : List ℕ) (make : Named → Who → Command Named) (n : Named) (who : Who) → IsCommandWord command w → ((s : List ℕ) → command_of command s ≡ and_read (bug_and_some_who s) (λ both. Ok (make both.0 both.1))) → IsGoodBug n → IsGoodPerson who → IsAddress who → reading (w ++ after_spaces (bug_text n ∷ who_text who ∷ [])) ≡ Ok (Do (make n who))
+by_who command w make n who h means good person address =
+    let made : Named × Who → Result (Command Named) Refusal = λ both. Ok (make both.0 both.1) in
+    let ws = bug_text n ∷ who_text who ∷ [] in
+    let word = bug-plain n good in
+    let written = written_address who person address in
+    reading-command command w (after_spaces ws) (make n who) h (ends-after_spaces ws) (clean-spaces ws (graphic-control (bug_text n) word.graphic, (written.clean, tt)))
+    (means (after_spaces ws) ∙ ap (λ r. and_read r made) (bug_and_some_who-back n who good person address))
+
 pub spelling-read : (c : Command Named) → IsWellFormed c → reading (spelling c) ≡ Ok (Do c)
 unfolding spelling
-spelling-read (commands.Found n v) good = by_any_version command_words.Found (codes "found") commands.Found n v found_word (λ s. refl) good.bug good.parts
-spelling-read (commands.NotFound n v) good = by_version command_words.NotFound (codes "notfound") commands.NotFound n v notfound_word (λ s. refl) good.bug good.parts
-spelling-read (commands.Fixed n v) good = by_version command_words.Fixed (codes "fixed") commands.Fixed n v fixed_word (λ s. refl) good.bug good.parts
-spelling-read (commands.NotFixed n v) good = by_version command_words.NotFixed (codes "notfixed") commands.NotFixed n v notfixed_word (λ s. refl) good.bug good.parts
-spelling-read (commands.Close n v) good = by_any_version command_words.Close (codes "close") commands.Close n v close_word (λ s. refl) good.bug good.parts
+spelling-read (commands.Found n v) good = by_any_version command_words.Found (codes "found") commands.Found n v found_word (λ s. refl) good.bugs.0 good.parts
+spelling-read (commands.NotFound n v) good = by_version command_words.NotFound (codes "notfound") commands.NotFound n v notfound_word (λ s. refl) good.bugs.0 good.parts
+spelling-read (commands.Fixed n v) good = by_version command_words.Fixed (codes "fixed") commands.Fixed n v fixed_word (λ s. refl) good.bugs.0 good.parts
+spelling-read (commands.NotFixed n v) good = by_version command_words.NotFixed (codes "notfixed") commands.NotFixed n v notfixed_word (λ s. refl) good.bugs.0 good.parts
+spelling-read (commands.Close n v) good = by_any_version command_words.Close (codes "close") commands.Close n v close_word (λ s. refl) good.bugs.0 good.parts
 spelling-read (commands.Reopen n who) good =
     let ws = bug_text n ∷ word_if who_text who in
     reading-command command_words.Reopen (codes "reopen") (after_spaces ws) (commands.Reopen n who) reopen_word (ends-after_spaces ws)
-    (clean-spaces ws (reopen_clean n who good.bug good.parts good.texts)) (reopen_back n who good.bug good.parts good.texts)
+    (clean-spaces ws (reopen_clean n who good.bugs.0 good.parts good.texts)) (reopen_back n who good.bugs.0 good.parts good.texts)
 spelling-read (commands.Severity n s) good =
-    by_words command_words.Severity (codes "severity") (bug_text n ∷ severity_text s ∷ []) (commands.Severity n s) severity_word (bug-plain n good.bug, (severity-plain s, tt)) (severity_command-back n s good.bug)
+    by_words command_words.Severity (codes "severity") (bug_text n ∷ severity_text s ∷ []) (commands.Severity n s) severity_word (bug-plain n good.bugs.0, (severity-plain s, tt)) (severity_command-back n s good.bugs.0)
 spelling-read (commands.Reassign n p v) good =
     let ws = bug_text n ∷ p ∷ word_if version_text v in
-    let plain = reassign_plain n p v good.bug good.parts.0 good.parts.1 in
+    let plain = reassign_plain n p v good.bugs.0 good.parts.0 good.parts.1 in
     by_words command_words.Reassign (codes "reassign") ws (commands.Reassign n p v) reassign_word plain
-    (ap reassign_command (words-spaces ws plain) ∙ reassign_words-back n p v good.bug good.parts.0 good.parts.1)
+    (ap reassign_command (words-spaces ws plain) ∙ reassign_words-back n p v good.bugs.0 good.parts.0 good.parts.1)
+spelling-read (commands.Tags n steps) good =
+    let ws = bug_text n ∷ step_words steps in
+    by_words command_words.Tags (codes "tags") ws (commands.Tags n steps) tags_word (bug-plain n good.bugs.0, steps_plain steps) (tags-back n steps good.bugs.0)
+spelling-read (commands.Retitle n text) good = by_text command_words.Retitle (codes "retitle") commands.Retitle n text retitle_word (λ s. refl) good.bugs.0 good.parts
+spelling-read (commands.Submitter n who) good = by_who command_words.Submitter (codes "submitter") commands.Submitter n who submitter_word (λ s. refl) good.bugs.0 good.parts good.texts
+spelling-read (commands.Merge n ns) good = by_bugs command_words.Merge (codes "merge") commands.Merge n ns merge_word (λ s. refl) good.bugs good.others
+spelling-read (commands.ForceMerge n ns) good = by_bugs command_words.ForceMerge (codes "forcemerge") commands.ForceMerge n ns forcemerge_word (λ s. refl) good.bugs good.others
+spelling-read (commands.Unmerge n) good = by_bug command_words.Unmerge (codes "unmerge") commands.Unmerge n unmerge_word (λ s. refl) good.bugs.0
+spelling-read (commands.Forwarded n text) good = by_text command_words.Forwarded (codes "forwarded") commands.Forwarded n text forwarded_word (λ s. refl) good.bugs.0 good.parts
+spelling-read (commands.NotForwarded n) good = by_bug command_words.NotForwarded (codes "notforwarded") commands.NotForwarded n notforwarded_word (λ s. refl) good.bugs.0
+spelling-read (commands.Owner n who) good = by_who command_words.Owner (codes "owner") commands.Owner n who owner_word (λ s. refl) good.bugs.0 good.parts good.texts
+spelling-read (commands.NoOwner n) good = by_bug command_words.NoOwner (codes "noowner") commands.NoOwner n noowner_word (λ s. refl) good.bugs.0

@@ -1,21 +1,40 @@
 -- The commands, each over the text after its own word (the BTS page 'control and manipulation').
-use Rattle.std.specs.Prelude.{ℕ, nat_lt, codes, if◌then◌else◌, List, [], ◌∷◌, length, Option, Some, None, Result, Ok, Err}
+use Rattle.std.specs.Prelude.{ℕ, nat_lt, ◌==◌, ◌||◌, codes, if◌then◌else◌, Bool, true, false, List, [], ◌∷◌, ◌++◌, length, Option, Some, None, Result, Ok, Err}
 use Rattle.std.specs.Str.{bytes_eq}
 use Rattle.bug_record.specs.Words.{is_word}
 use Rattle.bug_record.specs.Severities.{severity_of}
+use Rattle.bug_record.specs.Tags.{tag_of}
 use Rattle.bug_record.specs.declared.command.Command.{Command}
 use Rattle.bug_record.specs.declared.command.Command.TheVariants as commands
+use Rattle.bug_record.specs.declared.command.TagStep.{TagStep}
+use Rattle.bug_record.specs.declared.command.TagStep.TheVariants.{Add, Remove, Clear}
 use Rattle.bug_record.specs.declared.command.VersionArg.{VersionArg}
 use Rattle.bug_record.specs.declared.command.Who.{Who}
 use Rattle.bug_record.specs.declared.command.Who.TheVariants.{Sender, Given}
+use Rattle.bug_record.specs.declared.tag.Tag.{Tag}
 use Rattle.bug_record.specs.declared.command.Refusal.{Refusal}
-use Rattle.bug_record.specs.declared.command.Refusal.TheVariants.{Malformed, TooLong, BadSeverity, BadVersion, BadPackage}
-use Rattle.control_text.specs.Words.{words, after_word, trimmed}
+use Rattle.bug_record.specs.declared.command.Refusal.TheVariants.{Malformed, TooLong, BadSeverity, BadTag, BadVersion, BadPackage}
+use Rattle.control_text.specs.Words.{words, words_with_commas, after_word, trimmed}
 use Rattle.control_text.specs.Bugs.{bug_of_word}
 use Rattle.control_text.specs.Versions.{version_of_word, package_of_word}
 use Rattle.control_text.specs.declared.commands.CommandWord.{CommandWord}
 use Rattle.control_text.specs.declared.commands.CommandWord.TheVariants as command_words
 use Rattle.control_text.specs.declared.named.Named.{Named}
+use Rattle.control_text.specs.declared.tags.Sign.{Sign}
+use Rattle.control_text.specs.declared.tags.Sign.TheVariants.{Plus, Minus, Equals}
+
+-- the command that sets one field of a bug, of the word for it; `tag` is another word for `tags`
+abbrev pub field_word : List ℕ → Option CommandWord
+field_word word =
+    if is_word word (codes "severity") then Some command_words.Severity
+    else if is_word word (codes "tags") || is_word word (codes "tag") then Some command_words.Tags
+    else if is_word word (codes "retitle") then Some command_words.Retitle
+    else if is_word word (codes "submitter") then Some command_words.Submitter
+    else if is_word word (codes "forwarded") then Some command_words.Forwarded
+    else if is_word word (codes "notforwarded") then Some command_words.NotForwarded
+    else if is_word word (codes "owner") then Some command_words.Owner
+    else if is_word word (codes "noowner") then Some command_words.NoOwner
+    else None
 
 -- the command that a word is, in any ASCII case
 abbrev pub command_word : List ℕ → Option CommandWord
@@ -26,9 +45,11 @@ command_word word =
     else if is_word word (codes "notfixed") then Some command_words.NotFixed
     else if is_word word (codes "close") then Some command_words.Close
     else if is_word word (codes "reopen") then Some command_words.Reopen
-    else if is_word word (codes "severity") then Some command_words.Severity
     else if is_word word (codes "reassign") then Some command_words.Reassign
-    else None
+    else if is_word word (codes "merge") then Some command_words.Merge
+    else if is_word word (codes "forcemerge") then Some command_words.ForceMerge
+    else if is_word word (codes "unmerge") then Some command_words.Unmerge
+    else field_word word
 
 -- what is made of the value that a word gives, or the refusal where it gives none
 abbrev pub or_refuse : {A B : Type 0} → Option A → Refusal → (A → Result B Refusal) → Result B Refusal
@@ -46,6 +67,11 @@ bug_of word = or_refuse (bug_of_word word) Malformed (λ bug. Ok bug)
 
 abbrev pub version_of : List ℕ → Result VersionArg Refusal
 version_of word = or_refuse (version_of_word word) BadVersion (λ version. Ok version)
+
+-- `n`, with no further word
+abbrev pub bug_alone : List (List ℕ) → Result Named Refusal
+bug_alone (n ∷ []) = bug_of n
+bug_alone _ = Err Malformed
 
 -- `n v`, with no further word
 abbrev pub bug_and_version : List (List ℕ) → Result (Named × VersionArg) Refusal
@@ -83,12 +109,25 @@ reassign_command (n ∷ p ∷ []) = reassign_words n p None
 reassign_command (n ∷ p ∷ v ∷ []) = reassign_words n p (Some v)
 reassign_command _ = Err Malformed
 
--- who a text of 200 bytes at most is: `!` is the sender
+-- the text itself, which has 200 bytes at most
+abbrev pub limited_text : List ℕ → Result (List ℕ) Refusal
+limited_text text = if nat_lt 200 (length text) then Err TooLong else Ok text
+
+-- who a text is: `!` is the sender
 abbrev pub who_of_text : List ℕ → Result Who Refusal
 who_of_text text =
     if bytes_eq text (codes "!") then Ok Sender
-    else if nat_lt 200 (length text) then Err TooLong
-    else Ok (Given text)
+    else and_read (limited_text text) (λ limited. Ok (Given limited))
+
+-- a text that has to be given
+abbrev pub some_text : List ℕ → Result (List ℕ) Refusal
+some_text [] = Err Malformed
+some_text (c ∷ text) = limited_text (c ∷ text)
+
+-- somebody, who has to be given
+abbrev pub some_who : List ℕ → Result Who Refusal
+some_who [] = Err Malformed
+some_who (c ∷ text) = who_of_text (c ∷ text)
 
 -- who is to be the submitter; `=` or nothing is nobody
 abbrev pub any_who_of_text : List ℕ → Result (Option Who) Refusal
@@ -109,6 +148,79 @@ bug_and_text arguments = of_words (words arguments)
 abbrev pub reopen_command : List ℕ → Result (Command Named) Refusal
 reopen_command arguments = and_read (bug_and_text arguments) (λ both. and_read (any_who_of_text both.1) (λ who. Ok (commands.Reopen both.0 who)))
 
+-- `n text`
+abbrev pub bug_and_some_text : List ℕ → Result (Named × List ℕ) Refusal
+bug_and_some_text arguments = and_read (bug_and_text arguments) (λ both. and_read (some_text both.1) (λ text. Ok (both.0, text)))
+
+-- `n who`
+abbrev pub bug_and_some_who : List ℕ → Result (Named × Who) Refusal
+bug_and_some_who arguments = and_read (bug_and_text arguments) (λ both. and_read (some_who both.1) (λ who. Ok (both.0, who)))
+
+-- the bug of each word
+abbrev pub all_bugs : List (List ℕ) → Result (List Named) Refusal
+all_bugs [] = Ok []
+all_bugs (n ∷ more) = and_read (bug_of n) (λ bug. and_read (all_bugs more) (λ bugs. Ok (bug ∷ bugs)))
+
+-- `n m ..`, two bugs or more
+abbrev pub bug_and_others : List (List ℕ) → Result (Named × List Named) Refusal
+bug_and_others (n ∷ m ∷ more) = and_read (bug_of n) (λ bug. and_read (all_bugs (m ∷ more)) (λ others. Ok (bug, others)))
+bug_and_others _ = Err Malformed
+
+-- The sign that a word begins with, and the tag that follows it: one `+`, `-` or `=`, or none. What signs say here is this
+-- project's own rule.
+abbrev pub sign_and_tag : List ℕ → Option Sign × List ℕ
+sign_and_tag [] = (None, [])
+sign_and_tag (c ∷ word) =
+    if c == 43 then (Some Plus, word)
+    else if c == 45 then (Some Minus, word)
+    else if c == 61 then (Some Equals, word)
+    else (None, c ∷ word)
+
+-- Whether tags are added, or taken out, from a sign on: `-` takes them out. Without a sign it is as before.
+abbrev pub adds_after : Option Sign → Bool → Bool
+adds_after None adds = adds
+adds_after (Some Plus) adds = true
+adds_after (Some Minus) adds = false
+adds_after (Some Equals) adds = true
+
+-- `=` takes out all tags
+abbrev pub sign_steps : Option Sign → List TagStep
+sign_steps (Some Equals) = Clear ∷ []
+sign_steps _ = []
+
+abbrev pub tag_step : Bool → Tag → TagStep
+tag_step adds tag = if adds then Add tag else Remove tag
+
+-- the step of a word's tag; a sign may stand without one
+abbrev pub tag_steps : Bool → List ℕ → Result (List TagStep) Refusal
+tag_steps adds [] = Ok []
+tag_steps adds (c ∷ word) = or_refuse (tag_of (c ∷ word)) BadTag (λ tag. Ok (tag_step adds tag ∷ []))
+
+-- the steps of a sign, then that of the tag after it
+abbrev pub word_steps : Bool → Option Sign → List ℕ → Result (List TagStep) Refusal
+word_steps adds sign tag = and_read (tag_steps adds tag) (λ steps. Ok (sign_steps sign ++ steps))
+
+-- The steps of words, which begin with adding tags, or with taking them out: a sign holds until the next one.
+abbrev pub all_steps : Bool → List (List ℕ) → Result (List TagStep) Refusal
+all_steps adds [] = Ok []
+all_steps adds (word ∷ more) =
+    and_read (word_steps (adds_after (sign_and_tag word).0 adds) (sign_and_tag word).0 (sign_and_tag word).1) (λ steps.
+    and_read (all_steps (adds_after (sign_and_tag word).0 adds) more) (λ others. Ok (steps ++ others)))
+
+-- the steps of one word or more, which begin with adding tags
+abbrev pub some_steps : List (List ℕ) → Result (List TagStep) Refusal
+some_steps [] = Err Malformed
+some_steps (word ∷ more) = all_steps true (word ∷ more)
+
+-- `tags n ..`: after the bug's word commas are blanks too
+abbrev pub tags_command : List ℕ → Result (Command Named) Refusal
+tags_command arguments = of_words (words arguments)
+  where
+    of_words : List (List ℕ) → Result (Command Named) Refusal
+    of_words [] = Err Malformed
+    of_words (n ∷ more) =
+        and_read (bug_of n) (λ bug. and_read (some_steps (words_with_commas (after_word arguments))) (λ steps. Ok (commands.Tags bug steps)))
+
 -- the command that its own word and the text after it give
 abbrev pub command_of : CommandWord → List ℕ → Result (Command Named) Refusal
 command_of command_words.Found arguments = and_read (bug_and_any_version (words arguments)) (λ both. Ok (commands.Found both.0 both.1))
@@ -119,3 +231,13 @@ command_of command_words.Close arguments = and_read (bug_and_any_version (words 
 command_of command_words.Reopen arguments = reopen_command arguments
 command_of command_words.Severity arguments = severity_command (words arguments)
 command_of command_words.Reassign arguments = reassign_command (words arguments)
+command_of command_words.Tags arguments = tags_command arguments
+command_of command_words.Retitle arguments = and_read (bug_and_some_text arguments) (λ both. Ok (commands.Retitle both.0 both.1))
+command_of command_words.Submitter arguments = and_read (bug_and_some_who arguments) (λ both. Ok (commands.Submitter both.0 both.1))
+command_of command_words.Merge arguments = and_read (bug_and_others (words arguments)) (λ both. Ok (commands.Merge both.0 both.1))
+command_of command_words.ForceMerge arguments = and_read (bug_and_others (words arguments)) (λ both. Ok (commands.ForceMerge both.0 both.1))
+command_of command_words.Unmerge arguments = and_read (bug_alone (words arguments)) (λ bug. Ok (commands.Unmerge bug))
+command_of command_words.Forwarded arguments = and_read (bug_and_some_text arguments) (λ both. Ok (commands.Forwarded both.0 both.1))
+command_of command_words.NotForwarded arguments = and_read (bug_alone (words arguments)) (λ bug. Ok (commands.NotForwarded bug))
+command_of command_words.Owner arguments = and_read (bug_and_some_who arguments) (λ both. Ok (commands.Owner both.0 both.1))
+command_of command_words.NoOwner arguments = and_read (bug_alone (words arguments)) (λ bug. Ok (commands.NoOwner bug))

@@ -1,5 +1,5 @@
 -- The lines of a control message (the BTS page 'control and manipulation').
-use Rattle.std.specs.Prelude.{ℕ, ◌≡◌, ◌==◌, ◌&&◌, ◌||◌, codes, if◌then◌else◌, Bool, false, List, [], ◌∷◌, Option, Some, None, Result, Ok, Err, ⊤}
+use Rattle.std.specs.Prelude.{ℕ, ◌≡◌, ◌==◌, ◌&&◌, ◌||◌, codes, if◌then◌else◌, Bool, false, List, [], ◌∷◌, ◌++◌, Option, Some, None, Result, Ok, Err, ⊤}
 use Rattle.std.specs.Borrow.{Bor}
 use Rattle.std.specs.List.{list_any}
 use Rattle.bug_record.specs.Texts.{is_control}
@@ -8,7 +8,7 @@ use Rattle.bug_record.specs.declared.command.Command.{Command}
 use Rattle.bug_record.specs.declared.command.Refusal.{Refusal}
 use Rattle.bug_record.specs.declared.command.Refusal.TheVariants.{Unknown, Malformed}
 use Rattle.control_text.specs.Words.{words, after_word}
-use Rattle.control_text.specs.Commands.{command_word, command_of, bug_and_text}
+use Rattle.control_text.specs.Commands.{command_word, command_of, bug_and_text, and_read}
 use Rattle.control_text.specs.declared.commands.CommandWord.{CommandWord}
 use Rattle.control_text.specs.declared.named.Named.{Named}
 use Rattle.control_text.specs.declared.line.Line.{Line}
@@ -64,6 +64,12 @@ abbrev pub Reads : {A : Type 0} → Result A Refusal → Result A LineFault → 
 Reads answer (Ok value) = answer ≡ Ok value
 Reads answer (Err (Refused refusal)) = answer ≡ Err refusal
 Reads answer (Err Memory) = ⊤
+
+-- the same where what is read goes behind what was there
+abbrev pub ReadsMore : {A U : Type 0} → Result (List A) Refusal → List A → List A → Result U LineFault → Type 0
+ReadsMore answer before after (Ok value) = and_read answer (λ more. Ok (before ++ more)) ≡ Ok after
+ReadsMore answer before after (Err (Refused refusal)) = answer ≡ Err refusal
+ReadsMore answer before after (Err Memory) = ⊤
 
 -- the same of a bug and the text after it, which is a part of the text that is read
 abbrev pub ReadsBug : List ℕ → Result (Named × Bor (List ℕ)) LineFault → Type 0

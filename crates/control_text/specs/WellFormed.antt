@@ -1,6 +1,7 @@
 -- Commands that can be written. This project's own rule.
-use Rattle.std.specs.Prelude.{◌≡◌, Option, Some, None, codes, ⊤}
-use Rattle.bug_record.specs.Commands.{bug_named, HasGoodParts}
+use Rattle.std.specs.Prelude.{◌≡◌, ◌<◌, length, Option, Some, None, codes, ⊤}
+use Rattle.bug_record.specs.Sets.{Each}
+use Rattle.bug_record.specs.Commands.{bugs_named, HasGoodParts}
 use Rattle.bug_record.specs.declared.command.Command.{Command}
 use Rattle.bug_record.specs.declared.command.Command.TheVariants as commands
 use Rattle.bug_record.specs.declared.command.Who.{Who}
@@ -10,21 +11,36 @@ use Rattle.control_text.specs.declared.line.Line.{Line}
 use Rattle.control_text.specs.declared.line.Line.TheVariants.{Do}
 use Rattle.control_text.specs.declared.named.Named.{Named}
 
--- The words `!` and `=` stand for the sender and for nobody, and are nobody's address.
+-- The word `!` stands for the sender, and is nobody's address.
+abbrev pub IsAddress : Who → Type 0
+IsAddress Sender = ⊤
+IsAddress (Given text) = ¬ (text ≡ codes "!")
+
+-- For the submitter of a bug that is opened again `=` stands for nobody.
 abbrev pub IsPlain : Option Who → Type 0
 IsPlain None = ⊤
 IsPlain (Some Sender) = ⊤
 IsPlain (Some (Given text)) = (¬ (text ≡ codes "!")) × (¬ (text ≡ codes "="))
 
+-- no text that is given for somebody stands for somebody else
 abbrev pub HasPlainTexts : Command Named → Type 0
 HasPlainTexts (commands.Reopen bug who) = IsPlain who
+HasPlainTexts (commands.Submitter bug who) = IsAddress who
+HasPlainTexts (commands.Owner bug who) = IsAddress who
 HasPlainTexts command = ⊤
 
--- the bug's number or name, and the versions, names and texts, are within their limits
+-- bugs are merged with others
+abbrev pub HasOthers : Command Named → Type 0
+HasOthers (commands.Merge bug others) = 0 < length others
+HasOthers (commands.ForceMerge bug others) = 0 < length others
+HasOthers command = ⊤
+
+-- The bugs' numbers or names, and the versions, names and texts, are within their limits, and a merge has a second bug.
 pub record IsWellFormed (command : Command Named) : Type 0 where
-  pub bug : IsGoodBug (bug_named command)
+  pub bugs : Each IsGoodBug (bugs_named command)
   pub parts : HasGoodParts command
   pub texts : HasPlainTexts command
+  pub others : HasOthers command
 
 -- a line's command can be written
 abbrev pub IsWellFormedLine : Line → Type 0

@@ -1,5 +1,5 @@
 -- The words of a text: the maximal runs of bytes that are no blanks.
-use Rattle.std.specs.Prelude.{ℕ, ◌≡◌, Bool, true, false, ◌-◌, List, [], ◌∷◌, ◌++◌, length, take, drop, filter, IsTrue, IsFalse, ⊤}
+use Rattle.std.specs.Prelude.{ℕ, ◌≡◌, ◌==◌, ◌||◌, Bool, true, false, ◌-◌, List, [], ◌∷◌, ◌++◌, length, take, drop, filter, IsTrue, IsFalse, ⊤}
 use Rattle.std.specs.List.{slice_split, list_any, list_all, prefix_len, suffix_len, position_or_len, before_first}
 use Rattle.bug_record.specs.Texts.{is_blank}
 
@@ -10,6 +10,14 @@ has_bytes (c ∷ s) = true
 -- the pieces between the blanks, without the empty ones
 unfoldable pub words : List ℕ → List (List ℕ)
 words text = filter has_bytes (slice_split is_blank text)
+
+-- a blank or a comma
+abbrev pub is_gap : ℕ → Bool
+is_gap c = is_blank c || c == 44
+
+-- the same where commas are blanks too. This project's own rule.
+unfoldable pub words_with_commas : List ℕ → List (List ℕ)
+words_with_commas text = filter has_bytes (slice_split is_gap text)
 
 -- blanks alone, or nothing
 abbrev pub AreBlanks : List ℕ → Type 0

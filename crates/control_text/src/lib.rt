@@ -2,18 +2,23 @@
 #![tactic(auto)]
 
 mod commands;
+mod gaps;
 mod laws;
 mod limits;
 mod line;
+mod merges;
 mod named;
 mod reassign;
 mod severity;
 mod shapes;
 mod spelling;
+mod tags;
 #[cfg(test)]
 mod tests;
 #[cfg(test)]
 mod tests_of_commands;
+#[cfg(test)]
+mod tests_of_fields;
 mod texts;
 mod words;
 

@@ -1,12 +1,13 @@
 //! Which commands can be written.
 
-ghost use Rattle.std.specs.Prelude.{◌≡◌, IsTrue, Decides};
+ghost use Rattle.std.specs.Prelude.{◌≡◌, ◌<◌, ◌∷◌, length, IsTrue, Decides};
 ghost use Rattle.debver.specs.Names.{IsName};
 ghost use Rattle.bug_record.specs.Commands.{IsGoodVersion, IsGoodPerson};
+ghost use Rattle.bug_record.specs.Sets.{Each};
 ghost use Rattle.bug_record.specs.Texts.{IfGiven};
 ghost use Rattle.control_text.specs.Numbers.{IsGoodNumber};
 ghost use Rattle.control_text.specs.Bugs.{IsGoodBug};
-ghost use Rattle.control_text.specs.WellFormed.{IsPlain, IsWellFormed};
+ghost use Rattle.control_text.specs.WellFormed.{IsPlain, IsAddress, IsWellFormed};
 
 use crate::named::Named;
 use bug_record::{Command, VersionArg, Who, is_text};
@@ -25,6 +26,24 @@ fn is_good_bug(bug: Named) -> bool
         Named::Number(number) => is_good_number(number),
         Named::Name(name) => is_good_number(u64::from(name)),
     }
+}
+
+fn are_good_bugs(bugs: &[Named]) -> bool
+    ensures { Decides result (Each IsGoodBug bugs.now) }
+{
+    for bug in bugs {
+        if !is_good_bug(*bug) {
+            return false;
+        }
+    }
+    true
+}
+
+// Two bugs or more.
+fn are_good_to_merge(bug: Named, others: &[Named]) -> bool
+    ensures { Decides result (Each IsGoodBug (bug ∷ others.now) × (0 < length others.now)) }
+{
+    is_good_bug(bug) && are_good_bugs(others) && !others.is_empty()
 }
 
 fn is_good_source(source: &Option<Text>) -> bool
@@ -51,6 +70,19 @@ fn is_any_good_version(version: &Option<VersionArg>) -> bool
     }
 }
 
+// Somebody whose text is a text, and not `!`.
+fn is_good_who(who: &Who) -> bool
+    ensures { Decides result (IsGoodPerson who.now × IsAddress who.now) }
+{
+    match who {
+        Who::Given(text) => {
+            let text = text.as_str();
+            is_text(text) && text != "!"
+        }
+        Who::Sender => true,
+    }
+}
+
 // Somebody, if somebody is given, whose text is a text, and neither `!` nor `=`.
 fn is_any_good_who(who: &Option<Who>) -> bool
     ensures { Decides result (IfGiven IsGoodPerson who.now × IsPlain who.now) }
@@ -65,8 +97,9 @@ fn is_any_good_who(who: &Option<Who>) -> bool
 }
 
 /// Whether a command can be written: its numbers and names are from 1 to 999,999,999, its versions, package names and texts
-/// are within their limits, and no text that is given for a submitter is `!` or `=`, which stand for the sender and for
-/// nobody. This project's own rule. It holds of all that `read_line` gives.
+/// are within their limits, no text that is given for a submitter or an owner is `!`, which stands for the sender, none that
+/// is given for `reopen` is `=`, which stands for nobody, and a merge has a second bug. This project's own rule. It holds of
+/// all that `read_line` gives.
 pub fn well_formed(command: &Command<Named>) -> bool
     ensures { Decides result (IsWellFormed command.now) }
 {
@@ -83,5 +116,15 @@ pub fn well_formed(command: &Command<Named>) -> bool
                 && check_name(package.as_str()).is_ok()
                 && is_any_good_version(version)
         }
+        Command::Tags(bug, _) => is_good_bug(*bug),
+        Command::Retitle(bug, text) => is_good_bug(*bug) && is_text(text.as_str()),
+        Command::Submitter(bug, who) => is_good_bug(*bug) && is_good_who(who),
+        Command::Merge(bug, others) => are_good_to_merge(*bug, others.as_slice()),
+        Command::ForceMerge(bug, others) => are_good_to_merge(*bug, others.as_slice()),
+        Command::Unmerge(bug) => is_good_bug(*bug),
+        Command::Forwarded(bug, text) => is_good_bug(*bug) && is_text(text.as_str()),
+        Command::NotForwarded(bug) => is_good_bug(*bug),
+        Command::Owner(bug, who) => is_good_bug(*bug) && is_good_who(who),
+        Command::NoOwner(bug) => is_good_bug(*bug),
     }
 }

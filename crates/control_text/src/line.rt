@@ -80,7 +80,7 @@ fn is_stop(word: &str, rest: &str) -> bool
 /// # Errors
 ///
 /// `Refused` with the refusal that the line has, of those that need no desk: `Unknown`, `Malformed`, `TooLong`,
-/// `BadSeverity`, `BadVersion`, `BadPackage`. `Memory` where there was none.
+/// `BadSeverity`, `BadTag`, `BadVersion`, `BadPackage`. `Memory` where there was none.
 #[tactic(auto, unfolding(crate::specs::Lines::reading))]
 pub fn read_line(alloc: Global, text: &str) -> Result<Line, LineFault>
     ensures exact { Reads (reading text.now) result }

@@ -3,7 +3,7 @@
 ghost use Rattle.std.specs.Prelude.{◌≡◌, Ok};
 ghost use Rattle.control_text.specs.Words.{words};
 ghost use Rattle.control_text.specs.Versions.{plain_version, sourced_version, without_src};
-ghost use Rattle.control_text.specs.Commands.{or_refuse, bug_of, version_of, package_of, bug_and_version, bug_and_any_version};
+ghost use Rattle.control_text.specs.Commands.{or_refuse, bug_of, version_of, package_of, bug_alone, bug_and_version, bug_and_any_version};
 ghost use Rattle.control_text.specs.Lines.{Reads};
 ghost use Rattle.bug_record.specs.declared.command.Refusal.TheVariants.{BadVersion};
 
@@ -82,6 +82,17 @@ pub(crate) fn read_package(alloc: Global, word: &str) -> Result<Text, LineFault>
         return Err(LineFault::Refused(Refusal::BadPackage));
     }
     Ok(Text::of(alloc, name)?)
+}
+
+/// `n`: a bug alone.
+pub(crate) fn bug_alone(arguments: &str) -> Result<Named, LineFault>
+    ensures { Reads (bug_alone (words arguments.now)) result }
+{
+    let (word, rest) = split_word(arguments).ok_or(MALFORMED)?;
+    match split_word(rest) {
+        None => read_bug(word),
+        Some(_) => Err(MALFORMED),
+    }
 }
 
 /// `n v`: a bug and a version.

@@ -1,11 +1,11 @@
 //! The canonical spelling of commands.
 
-ghost use Rattle.std.specs.Prelude.{◌≡◌, ◌∷◌, [], ◌++◌, IfOk, string_bytes, codes};
-ghost use Rattle.control_text.specs.Spelling.{bug_text, severity_text, version_text, who_text, word_if, after_spaces, spelling};
+ghost use Rattle.std.specs.Prelude.{◌≡◌, ◌∷◌, [], ◌++◌, map, IfOk, OnOk, string_bytes, codes};
+ghost use Rattle.control_text.specs.Spelling.{bug_text, severity_text, version_text, who_text, step_text, step_words, word_if, after_spaces, spelling};
 ghost use Rattle.control_text.specs.WellFormed.{IsWellFormed};
 
 use crate::named::Named;
-use bug_record::{Command, Severity, VersionArg, Who};
+use bug_record::{Command, Severity, TagStep, VersionArg, Who};
 use std::alloc::{AllocError, Global};
 
 fn severity_text(severity: Severity) -> &'static str
@@ -136,9 +136,61 @@ fn reassign(
     }
 }
 
+// Adds a bug after a space.
+fn push_bug(line: &mut String, bug: Named) -> Result<(), AllocError>
+    ensures { OnOk result (string_bytes line.new ≡ string_bytes line.old ++ 32 ∷ bug_text bug) }
+{
+    match bug {
+        Named::Number(number) => write!(line, " {number}"),
+        Named::Name(name) => write!(line, " -{name}"),
+    }
+}
+
+// A command's word and two bugs or more.
+fn with_bugs(alloc: Global, word: &str, bug: Named, others: &[Named]) -> Result<String, AllocError>
+    ensures { IfOk result (λ s. string_bytes s ≡ word.now ++ after_spaces (bug_text bug ∷ map bug_text others.now)) }
+{
+    let mut line = with_bug(alloc, word, bug)?;
+    for other in others {
+        push_bug(&mut line, *other)?;
+    }
+    Ok(line)
+}
+
+// Adds a step after a space.
+fn push_step(line: &mut String, step: TagStep) -> Result<(), AllocError>
+    ensures { OnOk result (string_bytes line.new ≡ string_bytes line.old ++ 32 ∷ step_text step) }
+{
+    match step {
+        TagStep::Add(tag) => {
+            line.push_str(" +")?;
+            line.push_str(tag.name())
+        }
+        TagStep::Remove(tag) => {
+            line.push_str(" -")?;
+            line.push_str(tag.name())
+        }
+        TagStep::Clear => line.push_str(" ="),
+    }
+}
+
+// `tags`, its bug and the steps; for no step a sign alone.
+fn tags(alloc: Global, bug: Named, steps: &[TagStep]) -> Result<String, AllocError>
+    ensures { IfOk result (λ s. string_bytes s ≡ codes "tags" ++ after_spaces (bug_text bug ∷ step_words steps.now)) }
+{
+    if steps.is_empty() {
+        return with_text(alloc, "tags", bug, "+");
+    }
+    let mut line = with_bug(alloc, "tags", bug)?;
+    for step in steps {
+        push_step(&mut line, *step)?;
+    }
+    Ok(line)
+}
+
 /// The canonical spelling of a command, which is read back as it: its words in lower case with one space between them,
-/// numbers without `#` and leading zeros, a version with its source as `source/version`, and the sender as `!`. This
-/// project's own rule. The command has to be well formed (see `well_formed`).
+/// numbers without `#` and leading zeros, a version with its source as `source/version`, each tag with its own sign, and the
+/// sender as `!`. This project's own rule. The command has to be well formed (see `well_formed`).
 ///
 /// # Errors
 ///
@@ -161,5 +213,15 @@ pub fn write_command(alloc: Global, command: &Command<Named>) -> Result<String, 
         Command::Reassign(bug, package, version) => {
             reassign(alloc, *bug, package.as_str(), version)
         }
+        Command::Tags(bug, steps) => tags(alloc, *bug, steps.as_slice()),
+        Command::Retitle(bug, text) => with_text(alloc, "retitle", *bug, text.as_str()),
+        Command::Submitter(bug, who) => with_text(alloc, "submitter", *bug, who_text(who)),
+        Command::Merge(bug, others) => with_bugs(alloc, "merge", *bug, others.as_slice()),
+        Command::ForceMerge(bug, others) => with_bugs(alloc, "forcemerge", *bug, others.as_slice()),
+        Command::Unmerge(bug) => with_bug(alloc, "unmerge", *bug),
+        Command::Forwarded(bug, text) => with_text(alloc, "forwarded", *bug, text.as_str()),
+        Command::NotForwarded(bug) => with_bug(alloc, "notforwarded", *bug),
+        Command::Owner(bug, who) => with_text(alloc, "owner", *bug, who_text(who)),
+        Command::NoOwner(bug) => with_bug(alloc, "noowner", *bug),
     }
 }

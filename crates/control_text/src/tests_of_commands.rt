@@ -182,8 +182,7 @@ fn commands_are_written_and_read_back(rt: HostRuntime) -> Result<(), Fail> {
 }
 
 #[test]
-fn commands_that_cannot_be_written(rt: HostRuntime) -> Result<(), Fail> {
-    let alloc = rt.alloc();
+fn bugs_out_of_range_cannot_be_written(rt: HostRuntime) {
     let bugs = [
         Named::Number(0),
         Named::Number(1_000_000_000),
@@ -191,19 +190,44 @@ fn commands_that_cannot_be_written(rt: HostRuntime) -> Result<(), Fail> {
         Named::Name(1_000_000_000),
     ];
     for bug in bugs {
-        assert!(&rt; !well_formed(&Command::Close(bug, None)));
+        assert!(rt; !well_formed(&Command::Close(bug, None)));
     }
+}
+
+#[test]
+fn submitters_that_cannot_be_written(rt: HostRuntime) -> Result<(), Fail> {
+    let alloc = rt.alloc();
     for text in ["!", "=", "", " ann", "ann ", "a\u{7}"] {
         let command = Command::Reopen(ONE, Some(given(alloc, text)?));
         assert!(&rt; !well_formed(&command), "{text}");
     }
+    Ok(())
+}
+
+#[test]
+fn versions_that_cannot_be_written(rt: HostRuntime) -> Result<(), Fail> {
+    let alloc = rt.alloc();
     for text in ["", "1_0", "foo/1", "1 2"] {
         let command = Command::Fixed(ONE, plain(alloc, text)?);
         assert!(&rt; !well_formed(&command), "{text}");
     }
+    Ok(())
+}
+
+#[test]
+fn sources_that_cannot_be_written(rt: HostRuntime) -> Result<(), Fail> {
+    let alloc = rt.alloc();
     for text in ["", "a", "Foo", "src:foo"] {
         let command = Command::Found(ONE, Some(sourced(alloc, text, "1")?));
         assert!(&rt; !well_formed(&command), "{text}");
+    }
+    Ok(())
+}
+
+#[test]
+fn packages_that_cannot_be_written(rt: HostRuntime) -> Result<(), Fail> {
+    let alloc = rt.alloc();
+    for text in ["", "a", "Foo", "src:foo"] {
         let command = Command::Reassign(ONE, Text::of(alloc, text)?, None);
         assert!(&rt; !well_formed(&command), "{text}");
     }

@@ -1,7 +1,8 @@
 //! Texts of commands: the rest of a line, without outer blanks.
 
-ghost use Rattle.control_text.specs.Commands.{who_of_text, any_who_of_text, reopen_command};
+ghost use Rattle.control_text.specs.Commands.{limited_text, who_of_text, some_text, some_who, any_who_of_text, bug_and_some_text, bug_and_some_who, reopen_command, command_of};
 ghost use Rattle.control_text.specs.Lines.{Reads, ReadsBug};
+ghost use Rattle.control_text.specs.declared.commands.CommandWord.TheVariants.{Retitle, Submitter, Forwarded, Owner};
 
 use crate::line::LineFault;
 use crate::named::{Named, bug_word};
@@ -25,6 +26,26 @@ fn bug_and_rest(arguments: &str) -> Result<(Named, &str), LineFault>
     }
 }
 
+// A text of its own, of 200 bytes at most.
+fn limited_text(alloc: Global, text: &str) -> Result<Text, LineFault>
+    ensures { Reads (limited_text text.now) result }
+{
+    if text.len() > 200 {
+        return Err(LineFault::Refused(Refusal::TooLong));
+    }
+    Ok(Text::of(alloc, text)?)
+}
+
+// A text that has to be given.
+fn some_text(alloc: Global, text: &str) -> Result<Text, LineFault>
+    ensures { Reads (some_text text.now) result }
+{
+    if text.is_empty() {
+        return Err(MALFORMED);
+    }
+    limited_text(alloc, text)
+}
+
 // Who a text is.
 fn read_who(alloc: Global, text: &str) -> Result<Who, LineFault>
     ensures { Reads (who_of_text text.now) result }
@@ -32,10 +53,17 @@ fn read_who(alloc: Global, text: &str) -> Result<Who, LineFault>
     if text == "!" {
         return Ok(Who::Sender);
     }
-    if text.len() > 200 {
-        return Err(LineFault::Refused(Refusal::TooLong));
+    Ok(Who::Given(limited_text(alloc, text)?))
+}
+
+// Somebody, who has to be given.
+fn some_who(alloc: Global, text: &str) -> Result<Who, LineFault>
+    ensures { Reads (some_who text.now) result }
+{
+    if text.is_empty() {
+        return Err(MALFORMED);
     }
-    Ok(Who::Given(Text::of(alloc, text)?))
+    read_who(alloc, text)
 }
 
 // Who is to be the submitter, if somebody is.
@@ -55,4 +83,54 @@ pub(crate) fn read_reopen(alloc: Global, arguments: &str) -> Result<Command<Name
     let (bug, text) = bug_and_rest(arguments)?;
     let who = read_any_who(alloc, text)?;
     Ok(Command::Reopen(bug, who))
+}
+
+// `n text`: a bug and a text.
+fn bug_and_some_text(alloc: Global, arguments: &str) -> Result<(Named, Text), LineFault>
+    ensures { Reads (bug_and_some_text arguments.now) result }
+{
+    let (bug, text) = bug_and_rest(arguments)?;
+    let text = some_text(alloc, text)?;
+    Ok((bug, text))
+}
+
+// `n who`: a bug and somebody.
+fn bug_and_some_who(alloc: Global, arguments: &str) -> Result<(Named, Who), LineFault>
+    ensures { Reads (bug_and_some_who arguments.now) result }
+{
+    let (bug, text) = bug_and_rest(arguments)?;
+    let who = some_who(alloc, text)?;
+    Ok((bug, who))
+}
+
+/// The command that the text after the word `retitle` gives: `retitle n text`.
+pub(crate) fn read_retitle(alloc: Global, arguments: &str) -> Result<Command<Named>, LineFault>
+    ensures { Reads (command_of Retitle arguments.now) result }
+{
+    let (bug, text) = bug_and_some_text(alloc, arguments)?;
+    Ok(Command::Retitle(bug, text))
+}
+
+/// The command that the text after the word `forwarded` gives: `forwarded n text`.
+pub(crate) fn read_forwarded(alloc: Global, arguments: &str) -> Result<Command<Named>, LineFault>
+    ensures { Reads (command_of Forwarded arguments.now) result }
+{
+    let (bug, text) = bug_and_some_text(alloc, arguments)?;
+    Ok(Command::Forwarded(bug, text))
+}
+
+/// The command that the text after the word `submitter` gives: `submitter n who`.
+pub(crate) fn read_submitter(alloc: Global, arguments: &str) -> Result<Command<Named>, LineFault>
+    ensures { Reads (command_of Submitter arguments.now) result }
+{
+    let (bug, who) = bug_and_some_who(alloc, arguments)?;
+    Ok(Command::Submitter(bug, who))
+}
+
+/// The command that the text after the word `owner` gives: `owner n who`.
+pub(crate) fn read_owner(alloc: Global, arguments: &str) -> Result<Command<Named>, LineFault>
+    ensures { Reads (command_of Owner arguments.now) result }
+{
+    let (bug, who) = bug_and_some_who(alloc, arguments)?;
+    Ok(Command::Owner(bug, who))
 }

@@ -1,6 +1,6 @@
 //! The words of a text: the maximal runs of bytes that are no blanks.
 
-ghost use Rattle.std.specs.Prelude.{◌≡◌, ◌≤◌, [], ◌∷◌, ◌++◌, length, drop, MatchOption, IsTrue, IsFalse};
+ghost use Rattle.std.specs.Prelude.{◌≡◌, ◌≤◌, ◌<◌, [], ◌∷◌, ◌++◌, length, drop, MatchOption, IfSome, IsTrue, IsFalse};
 ghost use Rattle.std.specs.List.{list_any, prefix_len, suffix_len, position_or_len, before_first};
 ghost use Rattle.bug_record.specs.Texts.{is_blank, is_control, begins_blank};
 ghost use Rattle.control_text.specs.Words.{words, has_bytes, EndsWord, without_first_blanks, without_last_blanks, first_word, after_word, trimmed};
@@ -31,6 +31,7 @@ fn without_blanks(text: &str) -> &str
     ensures same { words result.now ≡ words text.now }
     ensures start { IsFalse (begins_blank result.now) }
     ensures value { result.now ≡ without_first_blanks text.now }
+    ensures within { length result.now ≤ length text.now }
 {
     text.split_at(leading_blanks(text.as_bytes())).1
 }
@@ -53,15 +54,17 @@ pub fn next_word(text: &str) -> (&str, &str)
     ensures rest { result.1.now ≡ after_word text.now }
     ensures first { IsTrue (has_bytes result.0.now) → words text.now ≡ result.0.now ∷ words result.1.now }
     ensures none { IsFalse (has_bytes result.0.now) → words text.now ≡ [] }
+    ensures shorter { IsTrue (has_bytes result.0.now) → length result.1.now < length text.now }
 {
     at_blank(without_blanks(text))
 }
 
 /// The first word, and the text after it; `None` where there is no word.
 pub(crate) fn split_word(text: &str) -> Option<(&str, &str)>
-    ensures { MatchOption result
+    ensures cut { MatchOption result
         (words text.now ≡ [])
         (λ parts. words text.now ≡ parts.0.now ∷ words parts.1.now) }
+    ensures shorter { IfSome result (λ parts. length parts.1.now < length text.now) }
 {
     let (word, rest) = next_word(text);
     if word.is_empty() {

@@ -1,6 +1,6 @@
 -- A branch that is carried out in parts.
 use Rattle.std.proofs.Common.{◌≡◌, inl, inr, ℕ, Bool, ◌∷◌, ◌++◌, [], List, Option, Some, None, Result, Ok, Err, true, sym, ◌∙◌, ap, subst, refl, append_assoc, append-nil, false, arith}
-use Rattle.std.specs.Prelude.{option_map, codes, length, ◌==◌, ◌||◌}
+use Rattle.std.specs.Prelude.{option_map, length, ◌==◌, ◌||◌}
 use Rattle.std.proofs.lemmas.Bool.{false≢true, eqb-true}
 use Rattle.std.proofs.lemmas.Option.{none-some, same_Some}
 use Rattle.control_text.specs.Words.{words, has_bytes}
@@ -15,8 +15,8 @@ use Rattle.desk_text.specs.declared.outcome.StoreFault.{StoreFault}
 use Rattle.desk_text.specs.declared.outcome.StoreFault.TheVariants as faults
 use Rattle.desk_text.specs.Texts.{fault_text}
 use Rattle.desk_store.specs.Store.{Branches, faults_after}
-use Rattle.desk_run.specs.Branches.{BranchRefusal, BadNode, Refused, with_node, nodes_of, or_refused, branched_by, branch_of, AreRead}
-use Rattle.desk_run.specs.Script.{Part, DirectiveLine, Directive, Branch, Standing, standing, part_text, part_after, directive_of, branch_text, after_branch}
+use Rattle.desk_run.specs.Branches.{BranchRefusal, BadNode, with_node, nodes_of, or_refused, branched_by, branch_of, AreRead}
+use Rattle.desk_run.specs.Script.{DirectiveLine, Branch, Standing, standing, part_text, part_after, directive_of, branch_text, after_branch}
 use Rattle.desk_run.specs.Running.{AsksStore, FaultsIn, IsCarried}
 use Rattle.desk_run.specs.Answers.{branch_answer, refuses_branch, fault_of_branch}
 use Rattle.desk_run.proofs.PartLemmas.{order_is}

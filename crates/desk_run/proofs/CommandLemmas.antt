@@ -1,16 +1,14 @@
 -- A command that is carried out in parts is the machine's step.
-use Rattle.std.proofs.Common.{◌≡◌, ◌≤◌, ℕ, true, false, eqb, List, [], ◌∷◌, Some, None, Result, Ok, Err, sym, refl, ap, ◌∙◌, subst, arith}
-use Rattle.std.specs.Prelude.{option_map, ◌||◌, ◌==◌, length, if◌then◌else◌}
-use Rattle.std.proofs.lemmas.Bool.{false≢true, eqb-true}
-use Rattle.bug_record.specs.Sets.{has, Each}
+use Rattle.std.proofs.Common.{◌≡◌, ◌≤◌, ℕ, true, List, [], ◌∷◌, Result, Ok, Err, sym, ap, ◌∙◌, subst, arith}
+use Rattle.std.specs.Prelude.{◌==◌, length}
+use Rattle.std.proofs.lemmas.Bool.{eqb-true}
+use Rattle.bug_record.specs.Sets.{has}
 use Rattle.bug_record.specs.Desk.{Desk, IsSound}
 use Rattle.bug_record.specs.Steps.{step}
-use Rattle.bug_record.specs.Images.{numbers_of, member_at, bug_of, bug_in, put, FitsDesk}
-use Rattle.std.specs.Option.{option_or}
+use Rattle.bug_record.specs.Images.{bug_in, put, FitsDesk}
 use Rattle.bug_record.specs.Plans.{IsShownBy, CoverImages, BringNone}
 use Rattle.bug_record.specs.Changed.{changed_numbers, AreChanged, Replaces}
 use Rattle.bug_core.proofs.ChangedLemmas.{changed-on_desk}
-use Rattle.bug_record.specs.declared.bug.Member.{Member}
 use Rattle.bug_record.specs.declared.bug.SetImage.{SetImage}
 use Rattle.bug_record.specs.declared.command.Change.{Change}
 use Rattle.bug_record.specs.Commands.{HasGoodParts, command_over}
@@ -20,32 +18,18 @@ use Rattle.bug_record.specs.declared.command.Refusal.{Refusal}
 use Rattle.control_text.specs.declared.named.Named.{Named}
 use Rattle.desk_text.specs.declared.outcome.Outcome.{Outcome}
 use Rattle.desk_text.specs.declared.outcome.Outcome.TheVariants.{Changed, Refused}
-use Rattle.desk_store.specs.Store.{IsImageOf}
 use Rattle.desk_store.specs.Message.{does, outcome_of, command_meant, refusal_meant}
 use Rattle.desk_text.specs.declared.outcome.StoreFault.{StoreFault}
-use Rattle.desk_run.specs.Commands.{ShowBug, MayBeMade, CarriesOut, Does}
-
--- a member that is a bug of the desk
-member_shown : (d : Desk) (i : SetImage) (ms : List Member) (n : ℕ) → has (numbers_of ms) n ≡ true → Each (λ m. d.bug m.number ≡ Some (bug_of i m)) ms → option_or (option_map (bug_of i) (member_at ms n)) None ≡ d.bug n
-member_shown d i [] n h e = absurd (false≢true h)
-member_shown d i (m ∷ ms) n h e =
-    elim (eqb m.number n) as (λ t. eqb m.number n ≡ t → option_or (option_map (bug_of i) (if t then Some m else member_at ms n)) None ≡ d.bug n) [
-      | true ↦ λ q. sym e.0 ∙ ap d.bug (eqb-true m.number n q)
-      | false ↦ λ q. member_shown d i ms n (sym (ap (λ t. t || has (numbers_of ms) n) q) ∙ h) e.1
-    ] refl
-
--- the image of a bug shows it
-pub one_image : (d : Desk) (n : ℕ) (i : SetImage) → IsImageOf d n (Some i) → ShowBug d n (i ∷ [])
-one_image d n i h = record { blocks = (h.1, tt); known = member_shown d i i.members n h.0 h.1 }
+use Rattle.desk_run.specs.Commands.{MayBeMade, CarriesOut, DoesMeant, Does}
+use Rattle.desk_run.specs.Images.{ShowBugs}
 
 -- after the two questions
-pub shown : (d d1 d2 : Desk) (images sets : List SetImage) (n next : ℕ) (ns : List ℕ) → ns ≡ n ∷ [] → sets ≡ images → ShowBug d n images × (d1 ≡ d) → (next ≡ d1.next) × (d2 ≡ d1) → IsSound d2 → IsShownBy d2 sets next ns
-shown d d1 d2 images sets n next ns e f p q sound =
+pub shown : (d d1 d2 : Desk) (images sets : List SetImage) (next : ℕ) (ns : List ℕ) → sets ≡ images → ShowBugs d ns images × (d1 ≡ d) → (next ≡ d1.next) × (d2 ≡ d1) → IsSound d2 → IsShownBy d2 sets next ns
+shown d d1 d2 images sets next ns f p q sound =
     let same : d ≡ d2 = sym (q.1 ∙ p.1) in
-    let s : ShowBug d2 n images = subst (λ (z : Desk). ShowBug z n images) same p.0 in
-    let t : ShowBug d2 n sets = subst (ShowBug d2 n) (sym f) s in
-    subst (λ (w : List ℕ). IsShownBy d2 sets next w) (sym e)
-    (record { sound = sound; next_is = sym (q.0 ∙ ap (λ (z : Desk). z.next) (sym q.1)); blocks = t.blocks; known = (t.known, tt) })
+    let s : ShowBugs d2 ns images = subst (λ (z : Desk). ShowBugs z ns images) same p.0 in
+    let t : ShowBugs d2 ns sets = subst (ShowBugs d2 ns) (sym f) s in
+    record { sound = sound; next_is = sym (q.0 ∙ ap (λ (z : Desk). z.next) (sym q.1)); blocks = t.blocks; known = t.known }
 
 -- what is planned may be carried out
 pub planned : (d : Desk) (images : List SetImage) (next : ℕ) (ns : List ℕ) (change : Change) → IsShownBy d images next ns → FitsDesk d change → CoverImages images change.images → BringNone d images change.images → next ≤ change.next → MayBeMade d images next change
@@ -62,32 +46,34 @@ planned d images next ns change sh fits covers brings later = record {
   };
 }
 
-does_done : (sender : List ℕ) (d d1 d2 new : Desk) (command : Command Named) (meant : Command ℕ) (change : Change) (outcome : Outcome) → meant ≡ command_meant [] command → d1 ≡ d → d2 ≡ d1
-    → step d2 sender meant ≡ Ok (put d2 change) → (outcome ≡ Changed (changed_numbers d2 (put d2 change))) × (new ≡ put d2 change) → does sender [] d command ≡ (outcome, new)
-unfolding does
-does_done sender d d1 d2 new command meant change outcome e p q s c =
+done : (sender : List ℕ) (d d1 d2 new : Desk) (command : Command ℕ) (change : Change) (outcome : Outcome) → d1 ≡ d → d2 ≡ d1
+    → step d2 sender command ≡ Ok (put d2 change) → (outcome ≡ Changed (changed_numbers d2 (put d2 change))) × (new ≡ put d2 change) → outcome_of d (step d sender command) ≡ (outcome, new)
+done sender d d1 d2 new command change outcome p q s c =
     let same : d ≡ d2 = sym (q ∙ p) in
-    ap (λ (x : Command ℕ). outcome_of d (step d sender x)) (sym e)
-    ∙ (ap (λ (z : Desk). outcome_of z (step z sender meant)) same
+    ap (λ (z : Desk). outcome_of z (step z sender command)) same
     ∙ (ap (outcome_of d2) s
-    ∙ (λ i. (sym c.0 i, sym c.1 i))))
+    ∙ (λ i. (sym c.0 i, sym c.1 i)))
 
 -- a planned change that is carried out
-pub does_planned : (sender : List ℕ) (d d1 d2 new : Desk) (command : Command Named) (meant : Command ℕ) (change : Change) (result : Result Outcome StoreFault) → meant ≡ command_meant [] command → d1 ≡ d → d2 ≡ d1
-    → step d2 sender meant ≡ Ok (put d2 change) → CarriesOut d2 change result new → Does sender d command result new
-does_planned sender d d1 d2 new command meant change (Ok outcome) e p q s c = does_done sender d d1 d2 new command meant change outcome e p q s c
-does_planned sender d d1 d2 new command meant change (Err fault) e p q s c = c ∙ (q ∙ p)
+pub does_planned : (sender : List ℕ) (d d1 d2 new : Desk) (command : Command ℕ) (change : Change) (result : Result Outcome StoreFault) → d1 ≡ d → d2 ≡ d1
+    → step d2 sender command ≡ Ok (put d2 change) → CarriesOut d2 change result new → DoesMeant sender d command result new
+does_planned sender d d1 d2 new command change (Ok outcome) p q s c = done sender d d1 d2 new command change outcome p q s c
+does_planned sender d d1 d2 new command change (Err fault) p q s c = c ∙ (q ∙ p)
 
 -- a refused command
-pub does_refused : (sender : List ℕ) (d d1 d2 : Desk) (command : Command Named) (meant : Command ℕ) (refusal said : Refusal) → meant ≡ command_meant [] command → d1 ≡ d → d2 ≡ d1
-    → step d2 sender meant ≡ Err refusal → said ≡ refusal_meant refusal → does sender [] d command ≡ (Refused said, d2)
-unfolding does
-does_refused sender d d1 d2 command meant refusal said e p q s c =
+pub does_refused : (sender : List ℕ) (d d1 d2 : Desk) (command : Command ℕ) (refusal said : Refusal) → d1 ≡ d → d2 ≡ d1
+    → step d2 sender command ≡ Err refusal → said ≡ refusal_meant refusal → outcome_of d (step d sender command) ≡ (Refused said, d2)
+does_refused sender d d1 d2 command refusal said p q s c =
     let same : d ≡ d2 = sym (q ∙ p) in
-    ap (λ (x : Command ℕ). outcome_of d (step d sender x)) (sym e)
-    ∙ (ap (λ (z : Desk). outcome_of z (step z sender meant)) same
+    ap (λ (z : Desk). outcome_of z (step z sender command)) same
     ∙ (ap (outcome_of d2) s
-    ∙ (λ i. (Refused (sym c i), d2))))
+    ∙ (λ i. (Refused (sym c i), d2)))
+
+-- a command of the bugs that are meant is the line's
+pub does_meant : (sender : List ℕ) (d new : Desk) (command : Command Named) (meant : Command ℕ) (result : Result Outcome StoreFault) → meant ≡ command_meant [] command → DoesMeant sender d meant result new → Does sender d command result new
+unfolding does
+does_meant sender d new command meant (Ok outcome) e h = ap (λ (x : Command ℕ). outcome_of d (step d sender x)) (sym e) ∙ h
+does_meant sender d new command meant (Err fault) e h = h
 
 -- the numbers of a planned change are those at which the desks differ
 pub told : {d : Desk} (images sets : List SetImage) {next : ℕ} {change : Change} {numbers : List ℕ} → sets ≡ change.images
@@ -120,4 +106,14 @@ parts-meant f (commands.NotFixed n version) h = h
 parts-meant f (commands.Close n version) h = h
 parts-meant f (commands.Reopen n who) h = h
 parts-meant f (commands.Severity n severity) h = h
+parts-meant f (commands.Tags n steps) h = h
+parts-meant f (commands.Retitle n text) h = h
+parts-meant f (commands.Submitter n who) h = h
 parts-meant f (commands.Reassign n package_name version) h = h
+parts-meant f (commands.Merge n ns) h = h
+parts-meant f (commands.ForceMerge n ns) h = h
+parts-meant f (commands.Unmerge n) h = h
+parts-meant f (commands.Forwarded n text) h = h
+parts-meant f (commands.NotForwarded n) h = h
+parts-meant f (commands.Owner n who) h = h
+parts-meant f (commands.NoOwner n) h = h

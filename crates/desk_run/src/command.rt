@@ -1,20 +1,21 @@
 //! One command of a message, carried out on a store.
 
-ghost use Rattle.std.specs.Prelude.{◌≡◌, [], IfOk};
+ghost use Rattle.std.specs.Prelude.{◌≡◌, [], map, IfOk};
 ghost use Rattle.bug_record.specs.Sets.{Each};
 ghost use Rattle.bug_record.specs.Texts.{IsText};
 ghost use Rattle.bug_record.specs.Images.{AreApart, HasMember};
 ghost use Rattle.bug_record.specs.Commands.{HasGoodParts};
-ghost use Rattle.desk_store.specs.Store.{Holds, Asks, Answers, faults_after};
+ghost use Rattle.desk_store.specs.Store.{Holds, faults_after};
 ghost use Rattle.desk_store.specs.Message.{number_meant, command_meant, refusal_meant};
-ghost use Rattle.desk_run.specs.Commands.{ShowBug, MayBeMade, CarriesOut, Does};
+ghost use Rattle.desk_run.specs.Commands.{MayBeMade, CarriesOut, DoesMeant, Does};
 
-use bug_core::{bug_named, changed, plan};
+use crate::images::images_of;
+use bug_core::{changed, plan};
 use bug_record::{Change, Command, PlanFault, Refusal, Sequence, SetImage};
 use control_text::Named;
 use desk_store::Records;
 use desk_text::{Outcome, StoreFault};
-use std::alloc::Global;
+use std::alloc::{AllocError, Global};
 
 // The number that a bug word means; no name is known.
 fn number_meant(bug: Named) -> u64
@@ -26,10 +27,22 @@ fn number_meant(bug: Named) -> u64
     }
 }
 
-fn command_meant(command: Command<Named>) -> Command<u64>
-    ensures { result ≡ command_meant [] command }
+// The numbers that bug words mean.
+fn numbers_meant(alloc: Global, bugs: &[Named]) -> Result<Sequence<u64>, AllocError>
+    ensures { IfOk result (λ numbers. numbers ≡ map (number_meant []) bugs.now) }
 {
-    match command {
+    let mut numbers = Sequence::new(alloc);
+    for bug in bugs {
+        numbers.push(number_meant(*bug))?;
+    }
+    Ok(numbers)
+}
+
+// The command of the bugs that are meant.
+fn command_meant(alloc: Global, command: Command<Named>) -> Result<Command<u64>, AllocError>
+    ensures { IfOk result (λ meant. meant ≡ command_meant [] command) }
+{
+    Ok(match command {
         Command::Found(bug, version) => Command::Found(number_meant(bug), version),
         Command::NotFound(bug, version) => Command::NotFound(number_meant(bug), version),
         Command::Fixed(bug, version) => Command::Fixed(number_meant(bug), version),
@@ -37,10 +50,24 @@ fn command_meant(command: Command<Named>) -> Command<u64>
         Command::Close(bug, version) => Command::Close(number_meant(bug), version),
         Command::Reopen(bug, who) => Command::Reopen(number_meant(bug), who),
         Command::Severity(bug, severity) => Command::Severity(number_meant(bug), severity),
+        Command::Tags(bug, steps) => Command::Tags(number_meant(bug), steps),
+        Command::Retitle(bug, title) => Command::Retitle(number_meant(bug), title),
+        Command::Submitter(bug, who) => Command::Submitter(number_meant(bug), who),
         Command::Reassign(bug, package, version) => {
             Command::Reassign(number_meant(bug), package, version)
         }
-    }
+        Command::Merge(bug, bugs) => {
+            Command::Merge(number_meant(bug), numbers_meant(alloc, bugs.as_slice())?)
+        }
+        Command::ForceMerge(bug, bugs) => {
+            Command::ForceMerge(number_meant(bug), numbers_meant(alloc, bugs.as_slice())?)
+        }
+        Command::Unmerge(bug) => Command::Unmerge(number_meant(bug)),
+        Command::Forwarded(bug, address) => Command::Forwarded(number_meant(bug), address),
+        Command::NotForwarded(bug) => Command::NotForwarded(number_meant(bug)),
+        Command::Owner(bug, who) => Command::Owner(number_meant(bug), who),
+        Command::NoOwner(bug) => Command::NoOwner(number_meant(bug)),
+    })
 }
 
 // A number that no bug can have stands for a name.
@@ -52,27 +79,6 @@ fn refusal_meant(refusal: Refusal) -> Refusal
             Refusal::NoName(number - 1_000_000_000)
         }
         _ => refusal,
-    }
-}
-
-// The image of the set that the bug is in, if there is one.
-fn images_of<S: Records>(
-    alloc: Global,
-    store: &mut S,
-    number: u64,
-) -> Result<Sequence<SetImage>, StoreFault>
-    ensures answer { Asks S.is_kept S.is_honest store.old store.new (Answers (S.desk store.old) (S.desk store.new) result (ShowBug (S.desk store.old) number)) }
-    ensures apart { IfOk result AreApart }
-    ensures count { S.faults store.new ≡ faults_after result (S.faults store.old) }
-{
-    let mut images = Sequence::new(alloc);
-    match store.set_of(number) {
-        Err(fault) => Err(fault),
-        Ok(None) => Ok(images),
-        Ok(Some(image)) => match images.push(image) {
-            Ok(()) => Ok(images),
-            Err(_) => Err(StoreFault::Memory),
-        },
     }
 }
 
@@ -102,6 +108,34 @@ fn carry_out<S: Records>(
     }
 }
 
+// Carries one command out, with the bugs that are meant.
+fn take_meant<S: Records>(
+    alloc: Global,
+    store: &mut S,
+    from: &str,
+    command: &Command<u64>,
+) -> Result<Outcome, StoreFault>
+    requires sender { IsText from.now }
+    requires parts { HasGoodParts command.now }
+    ensures answer { Holds S.is_kept S.is_honest store.old store.new (DoesMeant from.now (S.desk store.old) command.now result (S.desk store.new)) }
+    ensures count { S.faults store.new ≡ faults_after result (S.faults store.old) }
+{
+    let images = match images_of(alloc, store, command) {
+        Ok(images) => images,
+        Err(fault) => return Err(fault),
+    };
+    let next = match store.next() {
+        Ok(next) => next,
+        Err(fault) => return Err(fault),
+    };
+    let sets = images.as_slice();
+    match plan(alloc, command, from, sets, next) {
+        Ok(change) => carry_out(alloc, store, sets, next, &change),
+        Err(PlanFault::Refused(refusal)) => Ok(Outcome::Refused(refusal_meant(refusal))),
+        Err(PlanFault::Memory) => Err(StoreFault::Memory),
+    }
+}
+
 /// Carries one command out: its outcome, or a fault at which nothing is changed.
 pub(crate) fn take_command<S: Records>(
     alloc: Global,
@@ -114,19 +148,8 @@ pub(crate) fn take_command<S: Records>(
     ensures answer { Holds S.is_kept S.is_honest store.old store.new (Does from.now (S.desk store.old) command result (S.desk store.new)) }
     ensures count { S.faults store.new ≡ faults_after result (S.faults store.old) }
 {
-    let command = command_meant(command);
-    let images = match images_of(alloc, store, bug_named(&command)) {
-        Ok(images) => images,
-        Err(fault) => return Err(fault),
-    };
-    let next = match store.next() {
-        Ok(next) => next,
-        Err(fault) => return Err(fault),
-    };
-    let sets = images.as_slice();
-    match plan(alloc, &command, from, sets, next) {
-        Ok(change) => carry_out(alloc, store, sets, next, &change),
-        Err(PlanFault::Refused(refusal)) => Ok(Outcome::Refused(refusal_meant(refusal))),
-        Err(PlanFault::Memory) => Err(StoreFault::Memory),
+    match command_meant(alloc, command) {
+        Ok(command) => take_meant(alloc, store, from, &command),
+        Err(_) => Err(StoreFault::Memory),
     }
 }

@@ -5,6 +5,7 @@ mod answer;
 mod branch;
 mod command;
 mod directive;
+mod images;
 mod message;
 mod reporting;
 mod script;

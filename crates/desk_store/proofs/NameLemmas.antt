@@ -1,10 +1,10 @@
 -- Unknown names, and numbers that no bug has.
-use Rattle.std.proofs.Common.{◌≡◌, ◌<◌, ◌≤◌, ◌+◌, ◌-◌, ℕ, Bool, List, true, false, Option, Some, None, Ok, Err, ◌∙◌, ap, refl, arith}
+use Rattle.std.proofs.Common.{◌≡◌, ◌<◌, ◌≤◌, ◌+◌, ◌-◌, ℕ, Bool, List, true, false, Option, Some, None, Result, Err, ◌∙◌, ap, refl, arith}
 use Rattle.std.specs.Prelude.{nat_lt, if◌then◌else◌}
 use Rattle.std.proofs.lemmas.Bool.{lt-ltb, le-ltb}
 use Rattle.bug_record.specs.Desk.{Desk, IsSound}
 use Rattle.bug_record.specs.Commands.{bug_named, command_over}
-use Rattle.bug_record.specs.Steps.{step, change_set, shared_after, new_submitter}
+use Rattle.bug_record.specs.Steps.{step}
 use Rattle.bug_record.specs.Bugs.{at_bug}
 use Rattle.bug_record.specs.declared.command.Command.{Command}
 use Rattle.bug_record.specs.declared.command.Command.TheVariants as commands
@@ -42,13 +42,42 @@ bug-meant f (commands.NotFixed n version) = refl
 bug-meant f (commands.Close n version) = refl
 bug-meant f (commands.Reopen n who) = refl
 bug-meant f (commands.Severity n severity) = refl
+bug-meant f (commands.Tags n steps) = refl
+bug-meant f (commands.Retitle n text) = refl
+bug-meant f (commands.Submitter n who) = refl
 bug-meant f (commands.Reassign n package_name version) = refl
+bug-meant f (commands.Merge n ns) = refl
+bug-meant f (commands.ForceMerge n ns) = refl
+bug-meant f (commands.Unmerge n) = refl
+bug-meant f (commands.Forwarded n text) = refl
+bug-meant f (commands.NotForwarded n) = refl
+bug-meant f (commands.Owner n who) = refl
+bug-meant f (commands.NoOwner n) = refl
+
+-- what begins with a bug that is not there
+absent : {A : Type 0} (o : Option Bug) (m n : ℕ) (f : Bug → Result A Refusal) → m ≡ n → o ≡ None → at_bug o m f ≡ Err (NoBug n)
+absent o m n f is none = ap (λ (p : Option Bug). at_bug p m f) none ∙ ap (λ (k : ℕ). Err (NoBug k)) is
 
 -- a command of a bug that is not there
 refused : (d : Desk) (command : Command ℕ) (n : ℕ) (sender : List ℕ) → bug_named command ≡ n → d.bug n ≡ None → step d sender command ≡ Err (NoBug n)
-refused d command n sender is none =
-    ap (λ (o : Option Bug). at_bug {A = Desk} o (bug_named command) (λ _. Ok (change_set d (bug_named command) (shared_after command) (new_submitter sender command)))) (ap d.bug is ∙ none)
-    ∙ ap (λ (k : ℕ). Err (NoBug k)) is
+refused d (commands.Found m version) n sender is none = absent (d.bug m) m n _ is (ap d.bug is ∙ none)
+refused d (commands.NotFound m version) n sender is none = absent (d.bug m) m n _ is (ap d.bug is ∙ none)
+refused d (commands.Fixed m version) n sender is none = absent (d.bug m) m n _ is (ap d.bug is ∙ none)
+refused d (commands.NotFixed m version) n sender is none = absent (d.bug m) m n _ is (ap d.bug is ∙ none)
+refused d (commands.Close m version) n sender is none = absent (d.bug m) m n _ is (ap d.bug is ∙ none)
+refused d (commands.Reopen m who) n sender is none = absent (d.bug m) m n _ is (ap d.bug is ∙ none)
+refused d (commands.Severity m severity) n sender is none = absent (d.bug m) m n _ is (ap d.bug is ∙ none)
+refused d (commands.Tags m steps) n sender is none = absent (d.bug m) m n _ is (ap d.bug is ∙ none)
+refused d (commands.Retitle m text) n sender is none = absent (d.bug m) m n _ is (ap d.bug is ∙ none)
+refused d (commands.Submitter m who) n sender is none = absent (d.bug m) m n _ is (ap d.bug is ∙ none)
+refused d (commands.Reassign m package_name version) n sender is none = absent (d.bug m) m n _ is (ap d.bug is ∙ none)
+refused d (commands.Merge m ns) n sender is none = absent (d.bug m) m n _ is (ap d.bug is ∙ none)
+refused d (commands.ForceMerge m ns) n sender is none = absent (d.bug m) m n _ is (ap d.bug is ∙ none)
+refused d (commands.Unmerge m) n sender is none = absent (d.bug m) m n _ is (ap d.bug is ∙ none)
+refused d (commands.Forwarded m text) n sender is none = absent (d.bug m) m n _ is (ap d.bug is ∙ none)
+refused d (commands.NotForwarded m) n sender is none = absent (d.bug m) m n _ is (ap d.bug is ∙ none)
+refused d (commands.Owner m who) n sender is none = absent (d.bug m) m n _ is (ap d.bug is ∙ none)
+refused d (commands.NoOwner m) n sender is none = absent (d.bug m) m n _ is (ap d.bug is ∙ none)
 
 pub name_refused : (d : Desk) (command : Command ℕ) (k : ℕ) (sender : List ℕ) → IsSound d → 0 < k → bug_named command ≡ 1000000000 + k → outcome_of d (step d sender command) ≡ (Refused (NoName k), d)
 name_refused d command k sender sound some is =

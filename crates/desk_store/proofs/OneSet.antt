@@ -59,6 +59,9 @@ good_texts severity ns n = record {
   submitter = refl;
   shared = record {
     package_name = record { long = omega arith; start = refl; bytes = refl; short = omega arith };
+    forwarded = tt;
+    owner = tt;
+    tags = tt;
     found = record { ascending = tt; valid = tt };
     fixed = record { ascending = tt; valid = tt };
   };

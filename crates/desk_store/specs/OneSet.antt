@@ -1,5 +1,5 @@
 -- Changes that make one set of a desk's bugs, as the tests make them.
-use Rattle.std.specs.Prelude.{ℕ, ◌≡◌, ◌<◌, true, false, List, [], ◌∷◌, map, Some, codes}
+use Rattle.std.specs.Prelude.{ℕ, ◌≡◌, ◌<◌, true, false, List, [], ◌∷◌, map, Some, None, codes}
 use Rattle.bug_record.specs.Sets.{has, Each}
 use Rattle.bug_record.specs.Desk.{Desk}
 use Rattle.bug_record.specs.declared.bug.Bug.{Bug}
@@ -13,7 +13,7 @@ member_named n = record { number = n; title = codes "dpkg -i fails"; submitter =
 
 -- bugs of dpkg that are merged
 abbrev pub set_with : Severity → List ℕ → SetImage
-set_with severity ns = record { shared = record { «package» = codes "dpkg"; severity = severity; closed = false; found = []; fixed = [] }; members = map member_named ns }
+set_with severity ns = record { shared = record { «package» = codes "dpkg"; severity = severity; closed = false; forwarded = None; owner = None; tags = []; found = []; fixed = [] }; members = map member_named ns }
 
 abbrev pub change_with : Severity → List ℕ → ℕ → Change
 change_with severity ns next = record { images = set_with severity ns ∷ []; next = next }

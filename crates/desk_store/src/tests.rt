@@ -29,6 +29,9 @@ fn set(alloc: Global, severity: Severity, numbers: &[u64]) -> Result<SetImage, A
         package: Text::of(alloc, "dpkg")?,
         severity,
         closed: false,
+        forwarded: None,
+        owner: None,
+        tags: Sequence::new(alloc),
         found: Sequence::new(alloc),
         fixed: Sequence::new(alloc),
     };
@@ -109,6 +112,14 @@ fn a_change_is_seen_by_the_questions(rt: HostRuntime) -> Result<(), Fail> {
     assert!(rt; is_set(&desk.set_of(1), Severity::Normal, &[1]));
     assert!(rt; matches!(desk.set_of(2), Ok(None)));
     assert!(rt; desk.next() == Ok(2));
+    Ok(())
+}
+
+#[test]
+fn a_later_change_takes_the_place_of_the_set(rt: HostRuntime) -> Result<(), Fail> {
+    let alloc = rt.alloc();
+    let mut desk = PlainDesk::new(alloc, 1);
+    assert!(rt; put_set(alloc, &mut desk, Severity::Normal, &[1], 2) == Ok(()));
     assert!(rt; put_set(alloc, &mut desk, Severity::Serious, &[1, 2], 3) == Ok(()));
     assert!(rt; is_set(&desk.set_of(1), Severity::Serious, &[1, 2]));
     assert!(rt; is_set(&desk.set_of(2), Severity::Serious, &[1, 2]));

@@ -2,12 +2,18 @@
 #![tactic(auto)]
 
 #[cfg(test)]
+mod merges;
+#[cfg(test)]
 mod messages;
 #[cfg(test)]
 mod reports;
 #[cfg(test)]
+mod rows;
+#[cfg(test)]
 mod scripts;
 #[cfg(test)]
 mod shown;
+#[cfg(test)]
+mod texts;
 #[cfg(test)]
 mod versions;

@@ -1,8 +1,10 @@
 -- The texts of a transcript. This project's own rule.
 use Rattle.std.specs.Prelude.{ℕ, List, [], ◌∷◌, ◌++◌, codes}
 use Rattle.std.specs.Fmt.{decimal}
+use Rattle.bug_record.specs.declared.command.Field.{Field}
+use Rattle.bug_record.specs.declared.command.Field.TheVariants as fields
 use Rattle.bug_record.specs.declared.command.Refusal.{Refusal}
-use Rattle.bug_record.specs.declared.command.Refusal.TheVariants.{Unknown, Malformed, TooLong, BadSeverity, BadVersion, BadPackage, NoName, NoBug}
+use Rattle.bug_record.specs.declared.command.Refusal.TheVariants.{Unknown, Malformed, TooLong, BadSeverity, BadTag, BadVersion, BadPackage, NoName, NoBug, Differ, NotMerged}
 use Rattle.desk_text.specs.declared.outcome.StoreFault.{StoreFault}
 use Rattle.desk_text.specs.declared.outcome.StoreFault.TheVariants as faults
 use Rattle.desk_text.specs.declared.outcome.Outcome.{Outcome}
@@ -18,16 +20,33 @@ as_line text = text ++ 10 ∷ []
 abbrev pub echo : List ℕ → List ℕ
 echo line = codes "> " ++ line
 
+-- a field that bugs to be merged have to agree on
+abbrev pub field_word : Field → List ℕ
+field_word fields.Package = codes "package"
+field_word fields.State = codes "state"
+field_word fields.Forwarded = codes "forwarded"
+field_word fields.Severity = codes "severity"
+
+-- the bugs that can't be merged, or taken out of a set
+unfoldable pub difference_text : ℕ → List ℕ → List ℕ
+difference_text n word = codes "bug " ++ (decimal n ++ (codes " differs in " ++ word))
+
+unfoldable pub not_merged_text : ℕ → List ℕ
+not_merged_text n = codes "bug " ++ (decimal n ++ codes " is not merged")
+
 -- why a line is refused
 abbrev pub refusal_text : Refusal → List ℕ
 refusal_text Unknown = codes "unknown command"
 refusal_text Malformed = codes "malformed command"
 refusal_text TooLong = codes "text too long"
 refusal_text BadSeverity = codes "unknown severity"
+refusal_text BadTag = codes "unknown tag"
 refusal_text BadVersion = codes "bad version"
 refusal_text BadPackage = codes "bad package name"
 refusal_text (NoName k) = codes "no such name -" ++ decimal k
 refusal_text (NoBug n) = codes "no such bug " ++ decimal n
+refusal_text (Differ field n) = difference_text n (field_word field)
+refusal_text (NotMerged n) = not_merged_text n
 
 -- each number after a space
 abbrev pub numbers_text : List ℕ → List ℕ

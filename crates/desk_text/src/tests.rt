@@ -1,7 +1,7 @@
 //! The texts of outcomes, ends and faults.
 
 use crate::{End, Outcome, StoreFault, end_text, fault_text, outcome_text};
-use bug_record::{Numbers, Refusal};
+use bug_record::{Field, Numbers, Refusal};
 use std::alloc::{AllocError, Global};
 use std::test::Fail;
 
@@ -39,6 +39,10 @@ fn outcomes_are_two_lines(rt: HostRuntime) -> Result<(), Fail> {
             "> close 1\nNO unknown severity\n",
         ),
         (
+            Outcome::Refused(Refusal::BadTag),
+            "> close 1\nNO unknown tag\n",
+        ),
+        (
             Outcome::Refused(Refusal::BadVersion),
             "> close 1\nNO bad version\n",
         ),
@@ -53,6 +57,26 @@ fn outcomes_are_two_lines(rt: HostRuntime) -> Result<(), Fail> {
         (
             Outcome::Refused(Refusal::NoBug(2)),
             "> close 1\nNO no such bug 2\n",
+        ),
+        (
+            Outcome::Refused(Refusal::Differ(Field::Package, 3)),
+            "> close 1\nNO bug 3 differs in package\n",
+        ),
+        (
+            Outcome::Refused(Refusal::Differ(Field::State, 3)),
+            "> close 1\nNO bug 3 differs in state\n",
+        ),
+        (
+            Outcome::Refused(Refusal::Differ(Field::Forwarded, 999999999)),
+            "> close 1\nNO bug 999999999 differs in forwarded\n",
+        ),
+        (
+            Outcome::Refused(Refusal::Differ(Field::Severity, 12)),
+            "> close 1\nNO bug 12 differs in severity\n",
+        ),
+        (
+            Outcome::Refused(Refusal::NotMerged(4)),
+            "> close 1\nNO bug 4 is not merged\n",
         ),
     ];
     for (outcome, text) in &rows {

@@ -1,11 +1,36 @@
 //! The texts of outcomes and ends, appended to a transcript.
 
 ghost use Rattle.std.specs.Prelude.{◌≡◌, ◌++◌, IfOk, OnOk, OnErr, string_bytes};
-ghost use Rattle.desk_text.specs.Texts.{refusal_text, numbers_text, answer_text, fault_word, fault_answer, fault_text, outcome_text, store_end_text, end_text};
+ghost use Rattle.desk_text.specs.Texts.{field_word, difference_text, not_merged_text, refusal_text, numbers_text, answer_text, fault_word, fault_answer, fault_text, outcome_text, store_end_text, end_text};
 
 use crate::outcome::{End, Outcome, StoreFault};
-use bug_record::Refusal;
+use bug_record::{Field, Refusal};
 use std::alloc::{AllocError, Global};
+
+fn field_word(field: Field) -> &'static str
+    ensures { result.now ≡ field_word field }
+{
+    match field {
+        Field::Package => "package",
+        Field::State => "state",
+        Field::Forwarded => "forwarded",
+        Field::Severity => "severity",
+    }
+}
+
+#[tactic(auto, unfolding(crate::specs::Texts::difference_text))]
+fn difference_text(alloc: Global, number: u64, field: &str) -> Result<String, AllocError>
+    ensures { IfOk result (λ t. string_bytes t ≡ difference_text number field.now) }
+{
+    format!(in alloc; "bug {number} differs in {field}")
+}
+
+#[tactic(auto, unfolding(crate::specs::Texts::not_merged_text))]
+fn not_merged_text(alloc: Global, number: u64) -> Result<String, AllocError>
+    ensures { IfOk result (λ t. string_bytes t ≡ not_merged_text number) }
+{
+    format!(in alloc; "bug {number} is not merged")
+}
 
 fn refusal_text(alloc: Global, refusal: Refusal) -> Result<String, AllocError>
     ensures { IfOk result (λ t. string_bytes t ≡ refusal_text refusal) }
@@ -15,10 +40,13 @@ fn refusal_text(alloc: Global, refusal: Refusal) -> Result<String, AllocError>
         Refusal::Malformed => String::from_str(alloc, "malformed command"),
         Refusal::TooLong => String::from_str(alloc, "text too long"),
         Refusal::BadSeverity => String::from_str(alloc, "unknown severity"),
+        Refusal::BadTag => String::from_str(alloc, "unknown tag"),
         Refusal::BadVersion => String::from_str(alloc, "bad version"),
         Refusal::BadPackage => String::from_str(alloc, "bad package name"),
         Refusal::NoName(name) => format!(in alloc; "no such name -{name}"),
         Refusal::NoBug(number) => format!(in alloc; "no such bug {number}"),
+        Refusal::Differ(field, number) => difference_text(alloc, number, field_word(field)),
+        Refusal::NotMerged(number) => not_merged_text(alloc, number),
     }
 }
 

@@ -1,4 +1,4 @@
-use Rattle.std.proofs.Common.{Global, rules, ◌≡◌, ◌<◌, ℕ, List, ◌∷◌, ◌++◌, [], length, sym, ap, ◌∙◌, subst, arith}
+use Rattle.std.proofs.Common.{Global, rules, ◌≡◌, ◌<◌, ℕ, List, ◌∷◌, ◌++◌, length, sym, ap, ◌∙◌, subst, arith}
 use Rattle.std.specs.Prelude.{option_map}
 use Rattle.control_text.specs.Words.{words}
 use Rattle.ancestry.specs.Nodes.{Node}

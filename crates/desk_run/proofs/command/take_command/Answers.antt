@@ -1,38 +1,13 @@
-use Rattle.std.proofs.Common.{[], ◌∷◌, sym, ◌∙◌, ap, subst}
-use Rattle.desk_store.specs.Message.{number_meant, refusal_meant}
+use Rattle.std.proofs.Common.{[], sym, subst}
 use Rattle.bug_record.specs.Commands.{HasGoodParts}
-use Rattle.desk_store.proofs.HoldsLemmas.{holds_where, holds_both}
-use Rattle.desk_run.proofs.CommandLemmas.{parts-meant, shown, planned, does_planned, does_refused}
+use Rattle.desk_store.specs.Message.{number_meant}
+use Rattle.desk_store.proofs.HoldsLemmas.{holds_weaker}
+use Rattle.desk_run.proofs.CommandLemmas.{parts-meant, does_meant}
 use Rattle.desk_run.proofs.command.take_command.Goals as goal
 
-pub carry_out-requires-clause-planned : goal.carry_out-requires-clause-planned
-carry_out-requires-clause-planned g c k h =
-    let a = c.in-Ok.ensures.answer in
-    let b = c.in-Ok-next.ensures.answer in
-    let early = b.holds.honest h in
-    let kept = b.was_kept k h in
-    let sh = shown _ _ _ _ _ _ _ _ (ap (λ n. n ∷ []) (sym c.bug_named.ensures)) c.as_slice-sets.ensures (a.holds.fact (a.was_kept kept early) early) (b.holds.fact kept h) (g.met.S.Records.sound _ k) in
-    planned _ _ _ _ _ sh (c.in-Ok-plan.ensures.fits _ sh) c.in-Ok-plan.ensures.covers (c.in-Ok-plan.ensures.brings _ sh) c.in-Ok-plan.ensures.later
+pub take_meant-requires-clause-parts : goal.take_meant-requires-clause-parts
+take_meant-requires-clause-parts g c = subst HasGoodParts (sym c.in-Ok.ensures) (parts-meant (number_meant []) c.args.command c.requires.parts)
 
-pub returns-in-Ok-plan-clause-answer : goal.returns-in-Ok-plan-clause-answer
-returns-in-Ok-plan-clause-answer g c =
-    let a = c.in-Ok.ensures.answer.holds in
-    let b = c.in-Ok-next.ensures.answer.holds in
-    let o = c.carry_out.ensures.answer in
-    let ab = holds_both a b in
-    holds_where (holds_both ab o) (λ u w p.
-    let sh = shown _ _ _ _ _ _ _ _ (ap (λ n. n ∷ []) (sym c.bug_named.ensures)) c.as_slice-sets.ensures p.0.0 p.0.1 (g.met.S.Records.sound _ (ab.kept u (o.honest w))) in
-    does_planned c.args.from.now _ _ _ _ c.args.command c.command_meant-command.result c.in-Ok-plan.change c.carry_out.result c.command_meant-command.ensures p.0.0.1 p.0.1.1 (c.in-Ok-plan.ensures.right _ sh).0 p.1)
-
-pub returns-in-Err-Refused-clause-answer : goal.returns-in-Err-Refused-clause-answer
-returns-in-Err-Refused-clause-answer g c =
-    let a = c.in-Ok.ensures.answer.holds in
-    let b = c.in-Ok-next.ensures.answer.holds in
-    let ab = holds_both a b in
-    let plans = rw c.in-Err-Refused.field-0-is at c.in-Err-Refused.ensures.right in
-    holds_where ab (λ u w p.
-    let sh = shown _ _ _ _ _ _ _ _ (ap (λ n. n ∷ []) (sym c.bug_named.ensures)) c.as_slice-sets.ensures p.0 p.1 (g.met.S.Records.sound _ (ab.kept u w)) in
-    does_refused c.args.from.now _ _ _ c.args.command c.command_meant-command.result c.in-Err-Refused.refusal c.refusal_meant.result c.command_meant-command.ensures p.0.1 p.1.1 (plans _ sh) (c.refusal_meant.ensures ∙ ap refusal_meant c.in-Err-Refused.refusal-is))
-
-pub plan-requires-clause-parts : goal.plan-requires-clause-parts
-plan-requires-clause-parts g c = subst HasGoodParts (sym c.command_meant-command.ensures) (parts-meant (number_meant []) c.args.command c.requires.parts)
+pub returns-in-Ok-clause-answer : goal.returns-in-Ok-clause-answer
+returns-in-Ok-clause-answer g c =
+    holds_weaker c.take_meant.ensures.answer (λ h. does_meant c.args.from.now _ _ c.args.command c.in-Ok.command c.take_meant.result c.in-Ok.ensures h)

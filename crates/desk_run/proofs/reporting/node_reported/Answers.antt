@@ -1,4 +1,4 @@
-use Rattle.std.proofs.Common.{◌≡◌, List, ℕ, Bor, Option, Some, None, Err, sym, ap, ◌∙◌, subst}
+use Rattle.std.proofs.Common.{List, ℕ, Bor, Option, Some, Err, sym, ap, ◌∙◌, subst}
 use Rattle.std.specs.Option.{option_copied}
 use Rattle.debver.specs.Cut.{IsVersion}
 use Rattle.ancestry.specs.Nodes.{node_at, IsRead}

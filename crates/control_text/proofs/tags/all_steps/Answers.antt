@@ -1,0 +1,9 @@
+use Rattle.std.proofs.Common.{rules}
+use Rattle.control_text.proofs.StepLemmas.{steps-preserved}
+use Rattle.control_text.proofs.tags.all_steps.Goals as goal
+
+pub loop-word-preserved : goal.loop-word-preserved
+loop-word-preserved c = (
+  search rules,
+  steps-preserved _ _ _ _ _ _ _ _ _ _ c.in-Some.ensures.cut c.sign_and_tag-sign.ensures.sign c.sign_and_tag-sign.ensures.tag c.adds_after-adds.ensures c.in_ok-push_steps.ensures c.loop-word.invariant.1,
+)

@@ -1,0 +1,20 @@
+use Rattle.std.proofs.Common.{ap, sym, lit<, None}
+use Rattle.std.proofs.lemmas.Str.Pattern.{strip_prefix_char}
+use Rattle.control_text.proofs.StepLemmas.{sign-none}
+use Rattle.control_text.proofs.tags.sign_and_tag.Goals as goal
+
+pub returns-clause-sign : goal.returns-clause-sign
+returns-clause-sign c =
+    let w = c.args.word.now in
+    sym (ap (λ x. x.0) (sign-none w
+    (strip_prefix_char 43 w None c.in_default.ensures.cases (lit< tt))
+    (strip_prefix_char 45 w None c.in_default-strip_prefix.ensures.cases (lit< tt))
+    (strip_prefix_char 61 w None c.in_default-strip_prefix-2.ensures.cases (lit< tt))))
+
+pub returns-clause-tag : goal.returns-clause-tag
+returns-clause-tag c =
+    let w = c.args.word.now in
+    sym (ap (λ x. x.1) (sign-none w
+    (strip_prefix_char 43 w None c.in_default.ensures.cases (lit< tt))
+    (strip_prefix_char 45 w None c.in_default-strip_prefix.ensures.cases (lit< tt))
+    (strip_prefix_char 61 w None c.in_default-strip_prefix-2.ensures.cases (lit< tt))))

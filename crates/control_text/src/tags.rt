@@ -1,0 +1,117 @@
+//! The command `tags`.
+
+ghost use Rattle.std.specs.Prelude.{◌≡◌, true};
+ghost use Rattle.control_text.specs.Words.{words_with_commas};
+ghost use Rattle.control_text.specs.Commands.{sign_and_tag, adds_after, tag_step, word_steps, all_steps, tags_command};
+ghost use Rattle.control_text.specs.Lines.{Reads, ReadsMore};
+
+use crate::gaps::split_at_gap;
+use crate::line::LineFault;
+use crate::named::Named;
+use crate::shapes::{MALFORMED, read_bug};
+use crate::words::next_word;
+use bug_record::{Command, Refusal, Sequence, Tag, TagStep};
+use std::alloc::Global;
+
+/// A sign that a word begins with.
+#[derive(Clone, Copy, Debug, PartialEq, Eq, Drop)]
+pub(crate) enum Sign {
+    /// `+`: the tags after it are added.
+    Plus,
+    /// `-`: the tags after it are taken out.
+    Minus,
+    /// `=`: all tags are taken out, and those after it are added.
+    Equals,
+}
+
+// The sign that a word begins with, and the tag that follows it.
+fn sign_and_tag(word: &str) -> (Option<Sign>, &str)
+    ensures sign { result.0 ≡ (sign_and_tag word.now).0 }
+    ensures tag { result.1.now ≡ (sign_and_tag word.now).1 }
+{
+    if let Some(tag) = word.strip_prefix('+') {
+        return (Some(Sign::Plus), tag);
+    }
+    if let Some(tag) = word.strip_prefix('-') {
+        return (Some(Sign::Minus), tag);
+    }
+    if let Some(tag) = word.strip_prefix('=') {
+        return (Some(Sign::Equals), tag);
+    }
+    (None, word)
+}
+
+// Whether tags are added after a sign, or without one as before.
+fn adds_after(sign: Option<Sign>, adds: bool) -> bool
+    ensures { result ≡ adds_after sign adds }
+{
+    match sign {
+        Some(Sign::Plus | Sign::Equals) => true,
+        Some(Sign::Minus) => false,
+        None => adds,
+    }
+}
+
+fn tag_step(adds: bool, tag: Tag) -> TagStep
+    ensures { result ≡ tag_step adds tag }
+{
+    if adds {
+        TagStep::Add(tag)
+    } else {
+        TagStep::Remove(tag)
+    }
+}
+
+// Puts the steps of a sign and of the tag after it behind those before them.
+fn push_steps(
+    steps: &mut Sequence<TagStep>,
+    adds: bool,
+    sign: Option<Sign>,
+    tag: &str,
+) -> Result<(), LineFault>
+    ensures { ReadsMore (word_steps adds sign tag.now) steps.old steps.new result }
+{
+    if let Some(Sign::Equals) = sign {
+        steps.push(TagStep::Clear)?;
+    }
+    if tag.is_empty() {
+        return Ok(());
+    }
+    match Tag::read(tag) {
+        Some(tag) => steps.push(tag_step(adds, tag))?,
+        None => return Err(LineFault::Refused(Refusal::BadTag)),
+    }
+    Ok(())
+}
+
+// The steps of all words of a text, which begin with adding tags.
+fn all_steps(alloc: Global, text: &str) -> Result<Sequence<TagStep>, LineFault>
+    ensures { Reads (all_steps true (words_with_commas text.now)) result }
+{
+    let mut steps = Sequence::new(alloc);
+    let mut adds = true;
+    let mut rest = text;
+    while let Some((word, more)) = split_at_gap(rest) {
+        let (sign, tag) = sign_and_tag(word);
+        adds = adds_after(sign, adds);
+        push_steps(&mut steps, adds, sign, tag)?;
+        rest = more;
+    }
+    Ok(steps)
+}
+
+/// The command that the text after the word `tags` gives: `tags n ..`, tags and signs, between which commas may stand.
+pub(crate) fn read_tags(alloc: Global, arguments: &str) -> Result<Command<Named>, LineFault>
+    ensures { Reads (tags_command arguments.now) result }
+{
+    let (first, rest) = next_word(arguments);
+    if first.is_empty() {
+        return Err(MALFORMED);
+    }
+    let bug = read_bug(first)?;
+    if split_at_gap(rest).is_none() {
+        return Err(MALFORMED);
+    }
+    let steps = all_steps(alloc, rest)?;
+    Ok(Command::Tags(bug, steps))
+}
