@@ -20,7 +20,14 @@ const REPORTS: [(&str, &str); 4] = [
 fn the_first_of_forced_bugs_decides(rt: HostRuntime) -> Result<(), Fail> {
     let alloc = rt.alloc();
     let mut desk = PlainDesk::new(alloc, 1);
-    assert!(rt; answers(alloc, &mut desk, REPORTS.as_slice(), Ok(ScriptEnd::Accepted))?);
+    assert!(rt;
+        answers(
+            alloc,
+            &mut desk,
+            REPORTS.as_slice(),
+            Ok(ScriptEnd::Accepted)
+        )?
+    );
     let rows = [
         ("severity 3 grave", "OK 3"),
         ("merge 1 2 3", "NO bug 3 differs in severity"),
@@ -51,7 +58,14 @@ fn the_first_of_forced_bugs_decides(rt: HostRuntime) -> Result<(), Fail> {
 fn a_refused_merge_joins_nothing(rt: HostRuntime) -> Result<(), Fail> {
     let alloc = rt.alloc();
     let mut desk = PlainDesk::new(alloc, 1);
-    assert!(rt; answers(alloc, &mut desk, REPORTS.as_slice(), Ok(ScriptEnd::Accepted))?);
+    assert!(rt;
+        answers(
+            alloc,
+            &mut desk,
+            REPORTS.as_slice(),
+            Ok(ScriptEnd::Accepted)
+        )?
+    );
     let rows = [
         ("severity 2 grave", "OK 2"),
         ("merge 1 3 2", "NO bug 2 differs in severity"),
@@ -64,7 +78,10 @@ fn a_refused_merge_joins_nothing(rt: HostRuntime) -> Result<(), Fail> {
     for number in [1, 2, 3] {
         assert!(rt; are_merged(&mut desk, number, &[number])?);
     }
-    let rows = [("forcemerge 1 2", "OK 1 2"), ("merge 1 2", "OK, no change.")];
+    let rows = [
+        ("forcemerge 1 2", "OK 1 2"),
+        ("merge 1 2", "OK, no change."),
+    ];
     assert!(rt; answers(alloc, &mut desk, rows.as_slice(), Ok(ScriptEnd::Accepted))?);
     assert!(rt; severity_of(&mut desk, 2) == Some((Severity::Normal, false)));
     Ok(())
@@ -74,7 +91,14 @@ fn a_refused_merge_joins_nothing(rt: HostRuntime) -> Result<(), Fail> {
 fn one_bug_is_taken_out_and_the_others_stay(rt: HostRuntime) -> Result<(), Fail> {
     let alloc = rt.alloc();
     let mut desk = PlainDesk::new(alloc, 1);
-    assert!(rt; answers(alloc, &mut desk, REPORTS.as_slice(), Ok(ScriptEnd::Accepted))?);
+    assert!(rt;
+        answers(
+            alloc,
+            &mut desk,
+            REPORTS.as_slice(),
+            Ok(ScriptEnd::Accepted)
+        )?
+    );
     let rows = [
         ("merge 1 2 3", "OK 1 2 3"),
         ("unmerge 1", "OK 1 2 3"),
@@ -102,7 +126,14 @@ fn one_bug_is_taken_out_and_the_others_stay(rt: HostRuntime) -> Result<(), Fail>
 fn marks_of_merged_bugs_are_joined(rt: HostRuntime) -> Result<(), Fail> {
     let alloc = rt.alloc();
     let mut desk = PlainDesk::new(alloc, 1);
-    assert!(rt; answers(alloc, &mut desk, REPORTS.as_slice(), Ok(ScriptEnd::Accepted))?);
+    assert!(rt;
+        answers(
+            alloc,
+            &mut desk,
+            REPORTS.as_slice(),
+            Ok(ScriptEnd::Accepted)
+        )?
+    );
     let rows = [
         ("found 1 2", "OK 1"),
         ("fixed 2 2", "OK 2"),
@@ -133,13 +164,23 @@ fn marks_of_merged_bugs_are_joined(rt: HostRuntime) -> Result<(), Fail> {
 fn a_merge_at_which_the_store_fails_joins_nothing(rt: HostRuntime) -> Result<(), Fail> {
     let alloc = rt.alloc();
     let mut desk = PlainDesk::new(alloc, 1);
-    assert!(rt; answers(alloc, &mut desk, REPORTS.as_slice(), Ok(ScriptEnd::Accepted))?);
+    assert!(rt;
+        answers(
+            alloc,
+            &mut desk,
+            REPORTS.as_slice(),
+            Ok(ScriptEnd::Accepted)
+        )?
+    );
     let mut store = FailAt::new(desk, 1);
     let rows = [("merge 1 2", "Store fault: device.")];
     let end = Err(ScriptFault::Store(StoreFault::Device));
     assert!(rt; answers(alloc, &mut store, rows.as_slice(), end)?);
     assert!(rt; store.faults() == 1);
-    let rows = [("severity 1 grave", "OK 1"), ("unmerge 2", "NO bug 2 is not merged")];
+    let rows = [
+        ("severity 1 grave", "OK 1"),
+        ("unmerge 2", "NO bug 2 is not merged"),
+    ];
     assert!(rt; answers(alloc, &mut store, rows.as_slice(), Ok(ScriptEnd::Refused))?);
     Ok(())
 }

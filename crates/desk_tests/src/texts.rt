@@ -31,11 +31,13 @@ fn tags_are_added_and_taken_out(rt: HostRuntime) -> Result<(), Fail> {
         ("tags 1 ,", "NO malformed command"),
     ];
     assert!(rt; answers(alloc, &mut desk, rows.as_slice(), Ok(ScriptEnd::Refused))?);
-    let tags = first_image(&mut desk)?.shared.tags;
-    assert!(rt; tags.as_slice() == [Tag::Moreinfo, Tag::Security].as_slice());
+    let image = first_image(&mut desk)?;
+    let tags = [Tag::Moreinfo, Tag::Security];
+    assert!(rt; image.shared.tags.as_slice() == tags.as_slice());
     let rows = [("tags 1 =", "OK 1"), ("tags 1 -", "OK, no change.")];
     assert!(rt; answers(alloc, &mut desk, rows.as_slice(), Ok(ScriptEnd::Accepted))?);
-    assert!(rt; first_image(&mut desk)?.shared.tags.as_slice().is_empty());
+    let image = first_image(&mut desk)?;
+    assert!(rt; image.shared.tags.as_slice().is_empty());
     Ok(())
 }
 
@@ -88,9 +90,9 @@ fn a_bug_changes_its_owner_and_its_package(rt: HostRuntime) -> Result<(), Fail> 
         ("forwarded 1 https://x.example/1", "OK 1"),
     ];
     assert!(rt; answers(alloc, &mut desk, rows.as_slice(), Ok(ScriptEnd::Accepted))?);
-    let shared = first_image(&mut desk)?.shared;
-    assert!(rt; shared.owner == Some(Text::of(alloc, "ann")?));
-    assert!(rt; shared.forwarded == Some(Text::of(alloc, "https://x.example/1")?));
+    let image = first_image(&mut desk)?;
+    assert!(rt; image.shared.owner == Some(Text::of(alloc, "ann")?));
+    assert!(rt; image.shared.forwarded == Some(Text::of(alloc, "https://x.example/1")?));
     let rows = [
         ("@from ann", ""),
         ("close 1 2", "OK 1"),
