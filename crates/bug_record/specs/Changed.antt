@@ -48,7 +48,7 @@ unfoldable pub numbers_below : ℕ → List ℕ
 numbers_below zero = []
 numbers_below (suc n) = numbers_below n ++ (n ∷ [])
 
--- That list, of two desks: all numbers are below the next one of the later desk.
+-- That list, of two sound desks of which the later one's next number is no lower: its numbers are all below that.
 abbrev pub changed_numbers : Desk → Desk → List ℕ
 changed_numbers old new = filter (λ n. not (same_at (old.bug n) (new.bug n))) (numbers_below new.next)
 

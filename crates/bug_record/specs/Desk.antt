@@ -30,7 +30,7 @@ pub record IsGoodShared (f : Shared) : Type 0 where
   pub found : IsNodeSet f.found
   pub fixed : IsNodeSet f.fixed
 
--- the limits of the texts, names and marks of a record
+-- the limits of the texts, names, tags and marks of a record
 pub record HasGoodTexts (b : Bug) : Type 0 where
   pub title : IsText b.title
   pub submitter : IsText b.submitter

@@ -46,7 +46,8 @@ with_block d block shared = each_bug d (λ m b. record b {
   block = if has block m then block else b.block;
 })
 
--- All the bugs' blocks become one. They have to be there, and those after the first may not differ from it.
+-- All the bugs' blocks become one. They have to be there, and those after the first may not differ from it in a field that is
+-- compared.
 abbrev pub merged : (Shared → Shared → Option Field) → Desk → ℕ → List ℕ → Result Desk Refusal
 merged difference d n ns =
     at_bug (d.bug n) n (λ first.

@@ -1,5 +1,5 @@
--- What a command does to a desk, over whole records (the BTS page 'control and manipulation'; the rules on versions are this
--- project's own).
+-- What a command does to a desk, over whole records (the BTS page 'control and manipulation'; when `found n v` opens a bug, and
+-- what an open bug's `reopen` and a `reassign` to the bug's own package do, is this project's own rule).
 use Rattle.std.specs.Prelude.{ℕ, ◌+◌, ◌==◌, ◌&&◌, false, true, List, [], ◌∷◌, Option, Some, None, Result, Ok, unwrap_or, if◌then◌else◌}
 use Rattle.std.specs.Str.{bytes_eq}
 use Rattle.ancestry.specs.Nodes.{Node}
@@ -47,7 +47,7 @@ moved_to package_name f =
     if bytes_eq package_name f.package then f
     else record f { «package» = package_name; found = []; fixed = [] }
 
--- moved to a package, and found in the version there
+-- moved to a package, and found in the version there, and not fixed there
 abbrev pub reassigned : List ℕ → Option VersionArg → Shared → Shared
 reassigned package_name None f = moved_to package_name f
 reassigned package_name (Some version) f = marked_found (node_meant package_name version) (moved_to package_name f)
@@ -90,7 +90,7 @@ new_submitter sender (commands.Submitter n who) f m = if m == n then Some (perso
 new_submitter sender (commands.Reopen n (Some who)) f m = if f.closed then Some (person sender who) else None
 new_submitter sender command f m = None
 
--- a change to the record of every bug m that is merged with n: of its shared fields, and of its title and its submitter, where
+-- a change to the record of every bug m whose block has n: of its shared fields, and of its title and its submitter, where
 -- there is a new one
 abbrev pub change_set : Desk → ℕ → (Shared → Shared) → (ℕ → Option (List ℕ)) → (Shared → ℕ → Option (List ℕ)) → Desk
 change_set d n f title who = each_bug d (λ m b. record b {
@@ -112,6 +112,7 @@ step d sender (commands.ForceMerge n ns) = merged package_difference d n ns
 step d sender (commands.Unmerge n) = unmerged d n
 step d sender command = records_changed sender command d
 
+-- the found marks of a new report
 abbrev pub found_first : Option Node → List Node
 found_first None = []
 found_first (Some n) = n ∷ []
