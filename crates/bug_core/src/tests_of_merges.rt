@@ -127,16 +127,26 @@ fn are_merged(images: &[SetImage], number: u64, block: &[u64]) -> Result<bool, F
     Ok(true)
 }
 
+// The images of the bugs 1 and 2, which are equal, each by itself.
+fn two_sets(alloc: Global) -> Result<Sequence<SetImage>, AllocError>
+    ensures { IfOk result AreApart }
+{
+    let mut images = Sequence::new(alloc);
+    images.push(image(alloc, one_member(alloc, 1)?)?)?;
+    images.push(image(alloc, one_member(alloc, 2)?)?)?;
+    Ok(images)
+}
+
 #[test]
 fn two_equal_bugs_become_one_set(rt: HostRuntime) -> Result<(), Fail> {
     let alloc = rt.alloc();
-    let sets = equal_sets(alloc)?;
-    let Ok(change) = plan(alloc, &merge(alloc, 1, &[2])?, "ann", sets.as_slice(), 4) else {
+    let sets = two_sets(alloc)?;
+    let Ok(change) = plan(alloc, &merge(alloc, 1, &[2])?, "ann", sets.as_slice(), 3) else {
         return Err(Fail::new("refused"));
     };
     let images = change.images.as_slice();
-    assert!(&rt; change.next == 4 && images.len() == 2);
-    assert!(&rt; are_merged(images, 1, &[1, 2])? && are_merged(images, 3, &[3])?);
+    assert!(&rt; change.next == 3 && images.len() == 1);
+    assert!(&rt; are_merged(images, 1, &[1, 2])?);
     let numbers = changed(alloc, sets.as_slice(), images)?;
     assert!(&rt; numbers.as_slice() == [1, 2].as_slice());
     Ok(())
