@@ -2,7 +2,7 @@
 
 use bug_record::{Refusal, SetImage, Severity};
 use desk_run::{Received, ReportFault, receive, received_text, report};
-use desk_store::Records;
+use desk_store::{PlainDesk, Records};
 use desk_text::{End, Outcome};
 use std::alloc::{AllocError, Global};
 use std::test::Fail;
@@ -103,4 +103,12 @@ pub(crate) fn came_to(
             && received.end == end
             && text.as_slice() == transcript.as_bytes(),
     )
+}
+
+/// The image of bug 1.
+pub(crate) fn first_image(desk: &mut PlainDesk) -> Result<SetImage, Fail> {
+    match desk.set_of(1)? {
+        Some(image) => Ok(image),
+        None => Err(Fail::new("no bug 1")),
+    }
 }

@@ -1,21 +1,14 @@
 //! Tags and texts of bugs, in scripts over a desk in memory.
 
 use crate::rows::answers;
-use bug_record::{SetImage, Tag};
+use crate::shown::first_image;
+use bug_record::Tag;
 use debver::Text;
 use desk_run::ScriptEnd;
-use desk_store::{PlainDesk, Records};
+use desk_store::PlainDesk;
 use std::test::Fail;
 
 const REPORT: [(&str, &str); 2] = [("@from ann", ""), ("@report foo 1 normal a", "OK 1")];
-
-// The image of bug 1.
-fn first_image(desk: &mut PlainDesk) -> Result<SetImage, Fail> {
-    match desk.set_of(1)? {
-        Some(image) => Ok(image),
-        None => Err(Fail::new("no bug 1")),
-    }
-}
 
 #[test]
 fn tags_are_added_and_taken_out(rt: HostRuntime) -> Result<(), Fail> {

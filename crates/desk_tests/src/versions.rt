@@ -1,7 +1,8 @@
 //! Branches, and the marks of versions, in scripts over a desk in memory, and over one that fails.
 
 use crate::scripts::writes;
-use bug_record::{Nodes, SetImage};
+use crate::shown::first_image;
+use bug_record::Nodes;
 use desk_run::{ScriptEnd, ScriptFault};
 use desk_store::{FailAt, PlainDesk, Records};
 use desk_text::StoreFault;
@@ -18,14 +19,6 @@ fn nodes_are(nodes: &Nodes, texts: &[(&str, &str)]) -> bool {
         }
     }
     true
-}
-
-// The image of bug 1.
-fn first_image(desk: &mut PlainDesk) -> Result<SetImage, Fail> {
-    match desk.set_of(1)? {
-        Some(image) => Ok(image),
-        None => Err(Fail::new("no bug 1")),
-    }
 }
 
 #[test]
