@@ -43,13 +43,6 @@ fn three_sets(
     Ok(images)
 }
 
-// Three equal bugs.
-fn equal_sets(alloc: Global) -> Result<Sequence<SetImage>, AllocError>
-    ensures { IfOk result AreApart }
-{
-    three_sets(alloc, plain(alloc)?, plain(alloc)?, plain(alloc)?)
-}
-
 // These numbers as a list.
 fn numbers(alloc: Global, all: &[u64]) -> Result<Numbers, AllocError> {
     let mut numbers = Sequence::new(alloc);
@@ -152,27 +145,6 @@ fn two_equal_bugs_become_one_set(rt: HostRuntime) -> Result<(), Fail> {
     Ok(())
 }
 
-#[test]
-fn merging_the_merged_changes_nothing(rt: HostRuntime) -> Result<(), Fail> {
-    let alloc = rt.alloc();
-    let sets = equal_sets(alloc)?;
-    let same = after(alloc, &merge(alloc, 1, &[1])?, sets.as_slice())?;
-    assert!(&rt;
-        changed(alloc, sets.as_slice(), same.as_slice())?
-            .as_slice()
-            .is_empty()
-    );
-    let merged = after(alloc, &merge(alloc, 3, &[1, 2])?, sets.as_slice())?;
-    assert!(&rt; are_merged(merged.as_slice(), 2, &[1, 2, 3])?);
-    let again = after(alloc, &merge(alloc, 1, &[2, 1, 3, 3])?, merged.as_slice())?;
-    assert!(&rt;
-        changed(alloc, merged.as_slice(), again.as_slice())?
-            .as_slice()
-            .is_empty()
-    );
-    Ok(())
-}
-
 // Whether bug 3, which differs so from the others, is refused in this field, in a merge and, if it is the package, in a forced
 // one.
 fn is_told_by(alloc: Global, third: Shared, field: Field) -> Result<bool, Fail> {
@@ -197,47 +169,6 @@ fn fields_are_compared_in_their_order(rt: HostRuntime) -> Result<(), Fail> {
     assert!(&rt; is_told_by(alloc, differs.copy()?, Field::State)?);
     differs.package = Text::of(alloc, "bar")?;
     assert!(&rt; is_told_by(alloc, differs, Field::Package)?);
-    Ok(())
-}
-
-#[test]
-fn each_is_compared_with_the_first(rt: HostRuntime) -> Result<(), Fail> {
-    let alloc = rt.alloc();
-    let mut grave = plain(alloc)?;
-    grave.severity = Severity::Grave;
-    let sets = three_sets(alloc, plain(alloc)?, grave.copy()?, grave)?;
-    let images = sets.as_slice();
-    let refusal = Refusal::Differ(Field::Severity, 2);
-    assert!(&rt; is_refused(alloc, &merge(alloc, 1, &[2, 3])?, images, refusal));
-    let refusal = Refusal::Differ(Field::Severity, 1);
-    assert!(&rt;
-        is_refused(
-            alloc,
-            &merge(alloc, 3, &[2, 1, 9, 1])?,
-            images,
-            Refusal::NoBug(9)
-        )
-    );
-    assert!(&rt; is_refused(alloc, &merge(alloc, 3, &[2, 1])?, images, refusal));
-    assert!(&rt; is_refused(alloc, &merge(alloc, 8, &[9])?, images, Refusal::NoBug(8)));
-    Ok(())
-}
-
-#[test]
-fn forced_bugs_have_the_fields_of_the_first(rt: HostRuntime) -> Result<(), Fail> {
-    let alloc = rt.alloc();
-    let mut first = plain(alloc)?;
-    first.severity = Severity::Grave;
-    first.closed = true;
-    first.forwarded = Some(Text::of(alloc, "upstream")?);
-    let mut other = plain(alloc)?;
-    other.forwarded = Some(Text::of(alloc, "elsewhere")?);
-    let sets = three_sets(alloc, other, plain(alloc)?, first)?;
-    let forced = after(alloc, &forcemerge(alloc, 3, &[1])?, sets.as_slice())?;
-    let image = with_bug(forced.as_slice(), 1)?;
-    assert!(&rt; are_merged(forced.as_slice(), 1, &[1, 3])?);
-    assert!(&rt; image.shared.severity == Severity::Grave && image.shared.closed);
-    assert!(&rt; image.shared.forwarded == Some(Text::of(alloc, "upstream")?));
     Ok(())
 }
 
@@ -266,25 +197,5 @@ fn tags_and_marks_are_joined_and_the_first_owner_stays(rt: HostRuntime) -> Resul
     let found = shared.found.as_slice();
     assert!(&rt; found.len() == 2 && found[0].version() == "1~rc1" && found[1].version() == "1");
     assert!(&rt; shared.fixed.as_slice().is_empty());
-    Ok(())
-}
-
-#[test]
-fn one_bug_is_taken_out_and_the_others_stay(rt: HostRuntime) -> Result<(), Fail> {
-    let alloc = rt.alloc();
-    let sets = equal_sets(alloc)?;
-    let merged = after(alloc, &merge(alloc, 1, &[2, 3])?, sets.as_slice())?;
-    let images = merged.as_slice();
-    let parted = after(alloc, &Command::Unmerge(1), images)?;
-    assert!(&rt; are_merged(parted.as_slice(), 1, &[1])?);
-    assert!(&rt; are_merged(parted.as_slice(), 3, &[2, 3])?);
-    let numbers = changed(alloc, images, parted.as_slice())?;
-    assert!(&rt; numbers.as_slice() == [1, 2, 3].as_slice());
-    let alone = Refusal::NotMerged(1);
-    assert!(&rt; is_refused(alloc, &Command::Unmerge(1), parted.as_slice(), alone));
-    assert!(&rt; is_refused(alloc, &Command::Unmerge(4), images, Refusal::NoBug(4)));
-    let middle = after(alloc, &Command::Unmerge(2), images)?;
-    assert!(&rt; are_merged(middle.as_slice(), 2, &[2])?);
-    assert!(&rt; are_merged(middle.as_slice(), 1, &[1, 3])?);
     Ok(())
 }
