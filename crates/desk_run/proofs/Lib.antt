@@ -1,8 +1,3 @@
-pub mod CommandLemmas
-pub mod GatherLemmas
-pub mod EndLemmas
-pub mod MachineLemmas
-pub mod ReportLemmas
 pub mod WrittenLemmas
 pub mod PartLemmas
 pub mod BranchLemmas

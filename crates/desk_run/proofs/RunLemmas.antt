@@ -3,7 +3,7 @@ use Rattle.std.proofs.Common.{◌≡◌, ℕ, Bool, true, false, List, [], ◌�
 use Rattle.std.specs.Io.KnownBytes.{Appends}
 use Rattle.bug_record.specs.Desk.{Desk}
 use Rattle.desk_run.specs.Script.{Part, Message, DirectiveLine, Standing, part_text, part_after, text_of, after_parts, parts_of, with_line, is_directive, end_of_script}
-use Rattle.desk_run.specs.Taking.{parts_from}
+use Rattle.desk_run.specs.Gathering.{parts_from}
 use Rattle.desk_run.specs.Running.{Runs, StopsIn, Stops, EndsParts}
 use Rattle.desk_lines.specs.declared.fault.ScriptFault.{ScriptFault}
 use Rattle.desk_lines.specs.declared.fault.ScriptFault.TheVariants as stops

@@ -5,7 +5,7 @@ use Rattle.bug_record.specs.Desk.{Desk}
 use Rattle.desk_lines.specs.Lines.{without_return, raw_lines, lines_of}
 use Rattle.desk_lines.specs.Reading.{IsGoodLine, IsLineFault, IsReadingFault, Known, Left}
 use Rattle.desk_run.specs.Script.{Part, Message, Standing, parts_of, script_of, after_parts}
-use Rattle.desk_run.specs.Taking.{parts_from}
+use Rattle.desk_run.specs.Gathering.{parts_from}
 use Rattle.desk_run.specs.Running.{Runs, Stops, StopsIn, EndsParts, Ends, AreGood, IsFirstBad, IsPlace, IsOfPart, StopsInGoodLines}
 use Rattle.desk_lines.specs.declared.fault.ScriptFault.{ScriptFault}
 use Rattle.desk_lines.specs.declared.fault.ScriptFault.TheVariants as stops

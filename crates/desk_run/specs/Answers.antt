@@ -8,8 +8,8 @@ use Rattle.desk_text.specs.declared.outcome.End.TheVariants as ends
 use Rattle.ancestry.specs.declared.fault.BranchFault.{BranchFault}
 use Rattle.desk_run.specs.Branches.{fault_words}
 use Rattle.desk_run.specs.Script.{refused_text}
-use Rattle.desk_run.specs.declared.reporting.ReportFault.{ReportFault}
-use Rattle.desk_run.specs.declared.reporting.ReportFault.TheVariants.{Store}
+use Rattle.desk_messages.specs.declared.reporting.ReportFault.{ReportFault}
+use Rattle.desk_messages.specs.declared.reporting.ReportFault.TheVariants.{Store}
 
 -- the number of the new bug, the refusal, or the fault of the store
 abbrev pub report_answer : Result ℕ ReportFault → List ℕ

@@ -11,11 +11,11 @@ use Rattle.desk_store.specs.Store.{faults_after, one_more}
 use Rattle.desk_store.specs.Message.{Entry, IsReceived}
 use Rattle.desk_lines.specs.Lines.{raw_lines, without_return}
 use Rattle.desk_lines.specs.Reading.{IsGoodLine}
-use Rattle.desk_run.specs.Transcripts.{received_text}
+use Rattle.desk_messages.specs.Transcripts.{received_text}
 use Rattle.desk_run.specs.Script.{Part, Message, DirectiveLine, Directive, From, Report, Branch, Bad, directive_of, Standing, parts_of, script_of, part_text, part_after, text_of, after_parts, end_of_script}
 use Rattle.bug_record.specs.declared.severity.Severity.{Severity}
 use Rattle.ancestry.specs.Nodes.{Node}
-use Rattle.desk_run.specs.Reports.{report_severity}
+use Rattle.desk_messages.specs.Reports.{report_severity}
 use Rattle.desk_run.specs.Branches.{nodes_of}
 use Rattle.desk_lines.specs.declared.fault.ScriptFault.{ScriptFault}
 use Rattle.desk_lines.specs.declared.fault.ScriptFault.TheVariants.{Read, Write, NotUtf8, LineTooLong, Memory, Store}

@@ -13,12 +13,12 @@ use Rattle.desk_text.specs.declared.outcome.End.{End}
 use Rattle.desk_text.specs.declared.outcome.End.TheVariants as ends
 use Rattle.desk_store.specs.Message.{Entry, Machine, after_lines, at_start, end_of}
 use Rattle.desk_lines.specs.Lines.{lines_of}
-use Rattle.desk_run.specs.Transcripts.{received_text}
+use Rattle.desk_messages.specs.Transcripts.{received_text}
 use Rattle.ancestry.specs.Trees.{Ancestry}
-use Rattle.desk_run.specs.Reports.{report_of}
+use Rattle.desk_messages.specs.Reports.{report_of}
 use Rattle.desk_run.specs.Branches.{BranchRefusal, branch_of, refusal_text}
-use Rattle.desk_run.specs.declared.reporting.ReportFault.{ReportFault}
-use Rattle.desk_run.specs.declared.reporting.ReportFault.TheVariants.{BadPackage, BadVersion, BadSeverity, BadTitle, Full, Store}
+use Rattle.desk_messages.specs.declared.reporting.ReportFault.{ReportFault}
+use Rattle.desk_messages.specs.declared.reporting.ReportFault.TheVariants.{BadPackage, BadVersion, BadSeverity, BadTitle, Full, Store}
 use Rattle.desk_run.specs.declared.script.ScriptEnd.{ScriptEnd}
 use Rattle.desk_run.specs.declared.script.ScriptEnd.TheVariants as script_ends
 

@@ -7,10 +7,9 @@ ghost use Rattle.desk_run.specs.Branches.{fault_words};
 ghost use Rattle.desk_run.specs.Script.{refused_text, is_refused, is_too_many, refuses};
 ghost use Rattle.desk_run.specs.Answers.{report_answer, branch_answer, refuses_branch, fault_of_branch, fault_of_end, store_fault};
 
-use crate::message::Received;
-use crate::reporting::ReportFault;
 use ancestry::BranchFault;
 use debver::Text;
+use desk_messages::{Received, ReportFault};
 use desk_text::{End, Outcome, StoreFault, fault_text};
 use std::alloc::{AllocError, Global};
 

@@ -1,19 +1,13 @@
-//! Messages, reports and scripts, over any store of a desk.
+//! Scripts, over any store of a desk, any reader and any writer. The names of messages and reports, of stores and of faults
+//! stand here too.
 #![tactic(auto)]
 
 mod answer;
 mod branch;
-mod command;
 mod directive;
-mod images;
-mod message;
-mod reporting;
 mod script;
-mod transcript;
 
 pub use desk_lines::ScriptFault;
+pub use desk_messages::{ReportFault, Received, receive, received_text, report};
 pub use desk_store::{FailAt, PlainDesk, Records};
-pub use message::{Received, receive};
-pub use reporting::{ReportFault, report};
 pub use script::{ScriptEnd, run_script};
-pub use transcript::received_text;

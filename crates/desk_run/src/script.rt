@@ -7,7 +7,7 @@ ghost use Rattle.desk_store.specs.Store.{Holds};
 ghost use Rattle.desk_run.specs.Script.{Report, Branch, Part, Message, DirectiveLine, standing, begin, directive_of};
 ghost use Rattle.std.specs.Io.KnownBytes.{Appends};
 ghost use Rattle.desk_run.specs.Branches.{nodes_of};
-ghost use Rattle.desk_run.specs.Taking.{parts_from};
+ghost use Rattle.desk_run.specs.Gathering.{parts_from};
 ghost use Rattle.desk_lines.specs.Reading.{Known, Left};
 ghost use Rattle.desk_run.specs.Running.{Runs, Stops, Carries, IsCounted, IsOfPart, EndsParts, Ends};
 
@@ -17,12 +17,10 @@ use crate::answer::{
 };
 use crate::branch::read_nodes;
 use crate::directive::{Directive, ReportWords, is_directive, read_directive};
-use crate::message::receive_lines;
-use crate::reporting::report;
-use crate::transcript::received_bytes;
 use ancestry::{Node, NodeFault};
 use debver::Text;
 use desk_lines::{Piece, ScriptFault, Source, next_line, write_out};
+use desk_messages::{receive_lines, received_bytes, report};
 use desk_store::Records;
 use std::alloc::Global;
 use std::io::{Read, Write};

@@ -2,7 +2,7 @@ use Rattle.std.proofs.Common.{ℕ, List, [], ◌∷◌, ◌++◌, sym, ◌∙◌
 use Rattle.bug_record.specs.Texts.{is_text, IsText}
 use Rattle.desk_store.proofs.HoldsLemmas.{holds_weaker, holds_none, holds_then, holds_both}
 use Rattle.desk_run.specs.Script.{standing, begin}
-use Rattle.desk_run.specs.Taking.{parts_from}
+use Rattle.desk_run.specs.Gathering.{parts_from}
 use Rattle.desk_lines.specs.declared.fault.ScriptFault.TheVariants.{Read}
 use Rattle.desk_run.proofs.RunLemmas.{runs_then, runs_none}
 use Rattle.desk_run.proofs.ScriptLemmas.{ReadTo, nothing_read, read_more, cut_more, ends_at, stops_reading, stops_at_once, left_more, left_same, known_before, known_of, none_right, on_ok, stops_in_line, last_line, ends_at_last, one_line_more}

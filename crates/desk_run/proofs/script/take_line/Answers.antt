@@ -1,7 +1,7 @@
 use Rattle.std.proofs.Common.{◌≡◌, ℕ, List, [], ◌∷◌, sym, ◌∙◌, ap, refl, true, false}
 use Rattle.desk_store.proofs.HoldsLemmas.{holds_weaker, holds_none, holds_then}
 use Rattle.desk_run.specs.Script.{Message, DirectiveLine, is_directive}
-use Rattle.desk_run.specs.Taking.{parts_from}
+use Rattle.desk_run.specs.Gathering.{parts_from}
 use Rattle.desk_run.proofs.RunLemmas.{stops_at_message, stops_at_order, parts_directive, parts_gathered, one_ran, runs_then, runs_none, gathered_stops}
 use Rattle.desk_run.proofs.script.take_line.Goals as goal
 

@@ -1,0 +1,5 @@
+pub mod CommandLemmas
+pub mod GatherLemmas
+pub mod EndLemmas
+pub mod MachineLemmas
+pub mod ReportLemmas

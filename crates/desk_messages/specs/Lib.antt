@@ -1,0 +1,5 @@
+pub mod Commands
+pub mod Images
+pub mod Taking
+pub mod Transcripts
+pub mod Reports

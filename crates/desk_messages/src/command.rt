@@ -1,0 +1,155 @@
+//! One command of a message, carried out on a store.
+
+ghost use Rattle.std.specs.Prelude.{◌≡◌, [], map, IfOk};
+ghost use Rattle.bug_record.specs.Sets.{Each};
+ghost use Rattle.bug_record.specs.Texts.{IsText};
+ghost use Rattle.bug_record.specs.Images.{AreApart, HasMember};
+ghost use Rattle.bug_record.specs.Commands.{HasGoodParts};
+ghost use Rattle.desk_store.specs.Store.{Holds, faults_after};
+ghost use Rattle.desk_store.specs.Message.{number_meant, command_meant, refusal_meant};
+ghost use Rattle.desk_messages.specs.Commands.{MayBeMade, CarriesOut, DoesMeant, Does};
+
+use crate::images::images_of;
+use bug_core::{changed, plan};
+use bug_record::{Change, Command, PlanFault, Refusal, Sequence, SetImage};
+use control_text::Named;
+use desk_store::Records;
+use desk_text::{Outcome, StoreFault};
+use std::alloc::{AllocError, Global};
+
+// The number that a bug word means; no name is known.
+fn number_meant(bug: Named) -> u64
+    ensures { result ≡ number_meant [] bug }
+{
+    match bug {
+        Named::Number(number) => number,
+        Named::Name(name) => 1_000_000_000 + u64::from(name),
+    }
+}
+
+// The numbers that bug words mean.
+fn numbers_meant(alloc: Global, bugs: &[Named]) -> Result<Sequence<u64>, AllocError>
+    ensures { IfOk result (λ numbers. numbers ≡ map (number_meant []) bugs.now) }
+{
+    let mut numbers = Sequence::new(alloc);
+    for bug in bugs {
+        numbers.push(number_meant(*bug))?;
+    }
+    Ok(numbers)
+}
+
+// The command of the bugs that are meant.
+fn command_meant(alloc: Global, command: Command<Named>) -> Result<Command<u64>, AllocError>
+    ensures { IfOk result (λ meant. meant ≡ command_meant [] command) }
+{
+    Ok(match command {
+        Command::Found(bug, version) => Command::Found(number_meant(bug), version),
+        Command::NotFound(bug, version) => Command::NotFound(number_meant(bug), version),
+        Command::Fixed(bug, version) => Command::Fixed(number_meant(bug), version),
+        Command::NotFixed(bug, version) => Command::NotFixed(number_meant(bug), version),
+        Command::Close(bug, version) => Command::Close(number_meant(bug), version),
+        Command::Reopen(bug, who) => Command::Reopen(number_meant(bug), who),
+        Command::Severity(bug, severity) => Command::Severity(number_meant(bug), severity),
+        Command::Tags(bug, steps) => Command::Tags(number_meant(bug), steps),
+        Command::Retitle(bug, title) => Command::Retitle(number_meant(bug), title),
+        Command::Submitter(bug, who) => Command::Submitter(number_meant(bug), who),
+        Command::Reassign(bug, package, version) => {
+            Command::Reassign(number_meant(bug), package, version)
+        }
+        Command::Merge(bug, bugs) => {
+            Command::Merge(number_meant(bug), numbers_meant(alloc, bugs.as_slice())?)
+        }
+        Command::ForceMerge(bug, bugs) => {
+            Command::ForceMerge(number_meant(bug), numbers_meant(alloc, bugs.as_slice())?)
+        }
+        Command::Unmerge(bug) => Command::Unmerge(number_meant(bug)),
+        Command::Forwarded(bug, address) => Command::Forwarded(number_meant(bug), address),
+        Command::NotForwarded(bug) => Command::NotForwarded(number_meant(bug)),
+        Command::Owner(bug, who) => Command::Owner(number_meant(bug), who),
+        Command::NoOwner(bug) => Command::NoOwner(number_meant(bug)),
+    })
+}
+
+// A number that no bug can have stands for a name.
+fn refusal_meant(refusal: Refusal) -> Refusal
+    ensures { result ≡ refusal_meant refusal }
+{
+    match refusal {
+        Refusal::NoBug(number) if number > 1_000_000_000 => {
+            Refusal::NoName(number - 1_000_000_000)
+        }
+        _ => refusal,
+    }
+}
+
+// Has the store carry a planned change out. A change of nothing isn't handed to it.
+fn carry_out<S: Records>(
+    alloc: Global,
+    store: &mut S,
+    images: &[SetImage],
+    next: u64,
+    change: &Change,
+) -> Result<Outcome, StoreFault>
+    requires apart { AreApart change.now.images }
+    requires members { Each HasMember change.now.images }
+    requires planned { S.is_kept store.old → S.is_honest store.old → MayBeMade (S.desk store.old) images.now next change.now }
+    ensures answer { Holds S.is_kept S.is_honest store.old store.new (CarriesOut (S.desk store.old) change.now result (S.desk store.new)) }
+    ensures count { S.faults store.new ≡ faults_after result (S.faults store.old) }
+{
+    let Ok(numbers) = changed(alloc, images, change.images.as_slice()) else {
+        return Err(StoreFault::Memory);
+    };
+    if numbers.as_slice().is_empty() && change.next == next {
+        return Ok(Outcome::Changed(numbers));
+    }
+    match store.apply(change) {
+        Ok(()) => Ok(Outcome::Changed(numbers)),
+        Err(fault) => Err(fault),
+    }
+}
+
+// Carries one command out, with the bugs that are meant.
+fn take_meant<S: Records>(
+    alloc: Global,
+    store: &mut S,
+    from: &str,
+    command: &Command<u64>,
+) -> Result<Outcome, StoreFault>
+    requires sender { IsText from.now }
+    requires parts { HasGoodParts command.now }
+    ensures answer { Holds S.is_kept S.is_honest store.old store.new (DoesMeant from.now (S.desk store.old) command.now result (S.desk store.new)) }
+    ensures count { S.faults store.new ≡ faults_after result (S.faults store.old) }
+{
+    let images = match images_of(alloc, store, command) {
+        Ok(images) => images,
+        Err(fault) => return Err(fault),
+    };
+    let next = match store.next() {
+        Ok(next) => next,
+        Err(fault) => return Err(fault),
+    };
+    let sets = images.as_slice();
+    match plan(alloc, command, from, sets, next) {
+        Ok(change) => carry_out(alloc, store, sets, next, &change),
+        Err(PlanFault::Refused(refusal)) => Ok(Outcome::Refused(refusal_meant(refusal))),
+        Err(PlanFault::Memory) => Err(StoreFault::Memory),
+    }
+}
+
+/// Carries one command out: its outcome, or a fault at which nothing is changed.
+pub(crate) fn take_command<S: Records>(
+    alloc: Global,
+    store: &mut S,
+    from: &str,
+    command: Command<Named>,
+) -> Result<Outcome, StoreFault>
+    requires sender { IsText from.now }
+    requires parts { HasGoodParts command }
+    ensures answer { Holds S.is_kept S.is_honest store.old store.new (Does from.now (S.desk store.old) command result (S.desk store.new)) }
+    ensures count { S.faults store.new ≡ faults_after result (S.faults store.old) }
+{
+    match command_meant(alloc, command) {
+        Ok(command) => take_meant(alloc, store, from, &command),
+        Err(_) => Err(StoreFault::Memory),
+    }
+}
