@@ -11,12 +11,6 @@ mod merges;
 mod plans;
 mod report;
 mod tags;
-#[cfg(test)]
-mod tests;
-#[cfg(test)]
-mod tests_of_merges;
-#[cfg(test)]
-mod tests_of_texts;
 mod unmerge;
 mod versions;
 

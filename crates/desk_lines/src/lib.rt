@@ -5,8 +5,6 @@
 mod fault;
 mod lines;
 mod source;
-#[cfg(test)]
-mod tests;
 
 pub use fault::ScriptFault;
 pub use lines::{split_lines, without_return};

@@ -187,6 +187,3 @@ pub fn write_out<W: Write>(writer: &mut W, bytes: &[u8]) -> Result<(), ScriptFau
     }
     Ok(())
 }
-
-#[cfg(test)]
-mod tests;
