@@ -2,15 +2,11 @@
 #![tactic(auto)]
 
 mod branch;
-#[cfg(test)]
-mod branch_tests;
 mod fault;
 mod laws;
 mod marks;
 mod node;
 mod statuses;
-#[cfg(test)]
-mod tests;
 mod tree;
 
 pub use fault::{BranchFault, NodeFault};

@@ -9,8 +9,6 @@ mod laws;
 mod sequence;
 mod severity;
 mod tag;
-#[cfg(test)]
-mod tests;
 mod texts;
 mod words;
 

@@ -13,12 +13,6 @@ mod severity;
 mod shapes;
 mod spelling;
 mod tags;
-#[cfg(test)]
-mod tests;
-#[cfg(test)]
-mod tests_of_commands;
-#[cfg(test)]
-mod tests_of_fields;
 mod texts;
 mod words;
 

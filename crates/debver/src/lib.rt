@@ -8,8 +8,6 @@ mod name;
 mod parts;
 mod precedence;
 mod strings;
-#[cfg(test)]
-mod tests;
 mod text;
 
 pub use fault::VersionFault;

@@ -1,4 +1,3 @@
-pub mod OneSet
 pub mod PlainLemmas
 pub mod RowLemmas
 pub mod HoldsLemmas

@@ -2,5 +2,4 @@ pub mod Store
 pub mod Plain
 pub mod Rows
 pub mod FailAt
-pub mod OneSet
 pub mod Message

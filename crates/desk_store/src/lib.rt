@@ -7,8 +7,6 @@ mod laws;
 mod plain;
 mod records;
 mod rows;
-#[cfg(test)]
-mod tests;
 
 pub use fail_at::FailAt;
 pub use laws::names_are_told_from_numbers;

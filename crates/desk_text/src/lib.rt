@@ -2,8 +2,6 @@
 #![tactic(auto)]
 
 mod outcome;
-#[cfg(test)]
-mod tests;
 mod texts;
 
 pub use outcome::{End, Outcome, StoreFault};
