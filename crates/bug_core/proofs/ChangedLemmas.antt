@@ -125,20 +125,20 @@ same_shared-refl s =
 
 same_bugs-true : (a b : Bug) → same_bugs a b ≡ true → a ≡ b
 same_bugs-true a b e =
-    let p = and_parts (bytes_eq a.title b.title && bytes_eq a.submitter b.submitter) (same_shared a.shared b.shared && bytes_eq a.block b.block) e in
+    let p = and_parts (bytes_eq a.title b.title && bytes_eq a.submitter b.submitter) (same_shared a.shared b.shared && bytes_eq a.merged b.merged) e in
     let q = and_parts (bytes_eq a.title b.title) (bytes_eq a.submitter b.submitter) p.0 in
-    let r = and_parts (same_shared a.shared b.shared) (bytes_eq a.block b.block) p.1 in
+    let r = and_parts (same_shared a.shared b.shared) (bytes_eq a.merged b.merged) p.1 in
     λ j. record {
       title = bytes a.title b.title q.0 j;
       submitter = bytes a.submitter b.submitter q.1 j;
       shared = same_shared-true a.shared b.shared r.0 j;
-      block = bytes a.block b.block r.1 j;
+      merged = bytes a.merged b.merged r.1 j;
     }
 
 same_bugs-refl : (a : Bug) → same_bugs a a ≡ true
-same_bugs-refl a = and_from (bytes_eq a.title a.title && bytes_eq a.submitter a.submitter) (same_shared a.shared a.shared && bytes_eq a.block a.block)
+same_bugs-refl a = and_from (bytes_eq a.title a.title && bytes_eq a.submitter a.submitter) (same_shared a.shared a.shared && bytes_eq a.merged a.merged)
     (and_from (bytes_eq a.title a.title) (bytes_eq a.submitter a.submitter) (bytes_refl a.title) (bytes_refl a.submitter))
-    (and_from (same_shared a.shared a.shared) (bytes_eq a.block a.block) (same_shared-refl a.shared) (bytes_refl a.block))
+    (and_from (same_shared a.shared a.shared) (bytes_eq a.merged a.merged) (same_shared-refl a.shared) (bytes_refl a.merged))
 
 same_at-true : (o p : Option Bug) → same_at o p ≡ true → o ≡ p
 same_at-true None None e = refl
@@ -190,12 +190,12 @@ changed-on_desk d old new next r h are = record {
   where
     others : (n : ℕ) → bug_in old n ≡ bug_in new n → (p : Option Bug) → bug_in new n ≡ p → d.bug n ≡ option_or (bug_in new n) (d.bug n)
     others n e None q = ap (λ o. option_or o (d.bug n)) (sym q)
-    others n e (Some b) q = shown d old h.blocks n b (e ∙ q) ∙ ap (λ o. option_or o (d.bug n)) (sym q)
+    others n e (Some b) q = shown d old h.sets n b (e ∙ q) ∙ ap (λ o. option_or o (d.bug n)) (sym q)
 
     listed : (n : ℕ) → (bug_in old n ≡ bug_in new n → ⊥) → (o : Option Bug) → bug_in old n ≡ o → (p : Option Bug) → bug_in new n ≡ p → d.bug n ≡ option_or (bug_in new n) (d.bug n) → ⊥
     listed n w o e None q k = absurd (w (h.covers n q ∙ sym q))
     listed n w None e (Some b) q k = absurd (none-some b (sym (h.brings n b e q) ∙ k ∙ ap (λ o. option_or o (d.bug n)) q))
-    listed n w (Some a) e (Some b) q k = absurd (w (e ∙ sym (shown d old h.blocks n a e) ∙ k ∙ ap (λ o. option_or o (d.bug n)) q ∙ sym q))
+    listed n w (Some a) e (Some b) q k = absurd (w (e ∙ sym (shown d old h.sets n a e) ∙ k ∙ ap (λ o. option_or o (d.bug n)) q ∙ sym q))
 
 -- a sound desk has no bug from the next number on
 none-from_next : (d : Desk) → IsSound d → (n k : ℕ) → d.next ≤ k → nat_lt n k ≡ false → d.bug n ≡ None

@@ -5,7 +5,7 @@ use Rattle.std.proofs.lemmas.Option.{same_Some, none-some}
 use Rattle.std.proofs.lemmas.Bool.{false≢true, eqb-true}
 use Rattle.bug_record.specs.Sets.{has, Each}
 use Rattle.bug_record.specs.Desk.{Desk}
-use Rattle.bug_record.specs.Images.{numbers_of, member_at, bug_of, bug_in, AreApart, IsBlockOf, AreBlocksOf}
+use Rattle.bug_record.specs.Images.{numbers_of, member_at, bug_of, bug_in, AreApart, IsSetOf, AreSetsOf}
 use Rattle.std.specs.Option.{option_or}
 use Rattle.bug_record.specs.declared.bug.Bug.{Bug}
 use Rattle.bug_record.specs.declared.bug.Member.{Member}
@@ -81,21 +81,21 @@ bug_in-append (i ∷ xs) ys m =
     [ None ↦ bug_in-append xs ys m | Some x ↦ refl ]
 
 -- a set that the images show is shown whole
-pub bug_in-block : (is : List SetImage) (n m : ℕ) (b : Bug) → bug_in is n ≡ Some b → has b.block m ≡ true → bug_in is m ≡ None → ⊥
-bug_in-block [] n m b h k e = absurd (none-some b h)
-bug_in-block (i ∷ is) n m b h k e =
+pub bug_in-merged : (is : List SetImage) (n m : ℕ) (b : Bug) → bug_in is n ≡ Some b → has b.merged m ≡ true → bug_in is m ≡ None → ⊥
+bug_in-merged [] n m b h k e = absurd (none-some b h)
+bug_in-merged (i ∷ is) n m b h k e =
     elim (member_at i.members n) as (λ o. member_at i.members n ≡ o → option_or (option_map (bug_of i) o) (bug_in is n) ≡ Some b → ⊥) [
-      | None ↦ λ a h. bug_in-block is n m b h k (none_right (option_map (bug_of i) (member_at i.members m)) (bug_in is m) e)
+      | None ↦ λ a h. bug_in-merged is n m b h k (none_right (option_map (bug_of i) (member_at i.members m)) (bug_in is m) e)
       | Some x ↦ λ a h.
           let none : member_at i.members m ≡ None = none_map (bug_of i) (member_at i.members m) (none_left (option_map (bug_of i) (member_at i.members m)) (bug_in is m) e) in
-          absurd (false≢true (sym (has-member_none i.members m none) ∙ ap (λ (z : Bug). has z.block m) (same_Some _ _ h) ∙ k))
+          absurd (false≢true (sym (has-member_none i.members m none) ∙ ap (λ (z : Bug). has z.merged m) (same_Some _ _ h) ∙ k))
     ] refl h
 
--- what a block of a desk shows is on the desk, and so with all the images
-pub bug-member : (d : Desk) (i : SetImage) (n : ℕ) (x : Member) → IsBlockOf d i → member_at i.members n ≡ Some x → d.bug n ≡ Some (bug_of i x)
+-- what a set of a desk shows is on the desk, and so with all the images
+pub bug-member : (d : Desk) (i : SetImage) (n : ℕ) (x : Member) → IsSetOf d i → member_at i.members n ≡ Some x → d.bug n ≡ Some (bug_of i x)
 bug-member d i n x h e = ap d.bug (sym (number-member i.members n x e)) ∙ each-member (λ (m : Member). d.bug m.number ≡ Some (bug_of i m)) i.members n x h e
 
-pub shown : (d : Desk) (is : List SetImage) → AreBlocksOf d is → (n : ℕ) (b : Bug) → bug_in is n ≡ Some b → d.bug n ≡ Some b
+pub shown : (d : Desk) (is : List SetImage) → AreSetsOf d is → (n : ℕ) (b : Bug) → bug_in is n ≡ Some b → d.bug n ≡ Some b
 shown d [] h n b e = absurd (none-some b e)
 shown d (i ∷ is) h n b e =
     elim (member_at i.members n) as (λ o. member_at i.members n ≡ o → option_or (option_map (bug_of i) o) (bug_in is n) ≡ Some b → d.bug n ≡ Some b)
@@ -133,27 +133,27 @@ image_with-lacks (j ∷ is) n m i h e =
       | false ↦ λ h. image_with-lacks is n m i h (none_right (option_map (bug_of j) (member_at j.members m)) (bug_in is m) e)
     ] h
 
-pub image_with-block : (d : Desk) (is : List SetImage) (n : ℕ) (i : SetImage) → AreBlocksOf d is → image_with is n ≡ Some i → IsBlockOf d i
-image_with-block d [] n i b h = absurd (none-some i h)
-image_with-block d (j ∷ is) n i b h =
-    elim (has (numbers_of j.members) n) as (λ t. cond t (Some j) (image_with is n) ≡ Some i → IsBlockOf d i)
-    [ true ↦ λ h. subst (IsBlockOf d) (same_Some _ _ h) b.0 | false ↦ λ h. image_with-block d is n i b.1 h ] h
+pub image_with-merged : (d : Desk) (is : List SetImage) (n : ℕ) (i : SetImage) → AreSetsOf d is → image_with is n ≡ Some i → IsSetOf d i
+image_with-merged d [] n i b h = absurd (none-some i h)
+image_with-merged d (j ∷ is) n i b h =
+    elim (has (numbers_of j.members) n) as (λ t. cond t (Some j) (image_with is n) ≡ Some i → IsSetOf d i)
+    [ true ↦ λ h. subst (IsSetOf d) (same_Some _ _ h) b.0 | false ↦ λ h. image_with-merged d is n i b.1 h ] h
 
 -- of images that are apart, n's shows each bug that is merged with n
-pub image_with-bug : (is : List SetImage) (n m : ℕ) (i : SetImage) (b : Bug) → AreApart is → image_with is n ≡ Some i → bug_in is m ≡ Some b → has b.block n ≡ true
+pub image_with-bug : (is : List SetImage) (n m : ℕ) (i : SetImage) (b : Bug) → AreApart is → image_with is n ≡ Some i → bug_in is m ≡ Some b → has b.merged n ≡ true
     → (x : Member) × (member_at i.members m ≡ Some x) × (b ≡ bug_of i x)
 image_with-bug [] n m i b a h e k = absurd (none-some i h)
 image_with-bug (j ∷ is) n m i b a h e k =
     elim (member_at j.members m) as (λ o. member_at j.members m ≡ o → option_or (option_map (bug_of j) o) (bug_in is m) ≡ Some b → (x : Member) × (member_at i.members m ≡ Some x) × (b ≡ bug_of i x)) [
       | None ↦ λ q e. image_with-bug is n m i b a.1 (later e (has (numbers_of j.members) n) refl) e k
       | Some x ↦ λ q e.
-          let mine : has (numbers_of j.members) n ≡ true = ap (λ (z : Bug). has z.block n) (same_Some _ _ e) ∙ k in
+          let mine : has (numbers_of j.members) n ≡ true = ap (λ (z : Bug). has z.merged n) (same_Some _ _ e) ∙ k in
           let same : j ≡ i = same_Some _ _ (sym (ap (λ t. cond t (Some j) (image_with is n)) mine) ∙ h) in
           (x, ap (λ (z : SetImage). member_at z.members m) (sym same) ∙ q, sym (same_Some _ _ e) ∙ ap (λ (z : SetImage). bug_of z x) same)
     ] refl e
   where
     later : bug_in is m ≡ Some b → (t : Bool) → has (numbers_of j.members) n ≡ t → image_with is n ≡ Some i
-    later e true q = absurd (bug_in-block is m n b e k (a.0 n q))
+    later e true q = absurd (bug_in-merged is m n b e k (a.0 n q))
     later e false q = ap (λ t. cond t (Some j) (image_with is n)) (sym q) ∙ h
 
 -- and every bug that it has

@@ -94,25 +94,25 @@ pub refusal-known : (refusal : Option Bug → ℕ → Option Refusal) (d : Desk)
 refusal-known refusal d is [] k = refl
 refusal-known refusal d is (n ∷ ns) k = λ j. option_or (refusal (k.0 j) n) (refusal-known refusal d is ns k.1 j)
 
--- of a sound desk: a bug is in the block of a listed one where a listed one is in its block
-pub block-listed : (d : Desk) (ns : List ℕ) (m : ℕ) (b : Bug) → IsSound d → d.bug m ≡ Some b → list_any (λ c. has c.block m) (bugs_at d.bug ns) ≡ has_any b.block ns
-block-listed d ns m b sound e = same_test (list_any (λ c. has c.block m) (bugs_at d.bug ns)) (has_any b.block ns) to from
+-- of a sound desk: a bug is merged with a listed one where a listed one is merged with it
+pub merged-listed : (d : Desk) (ns : List ℕ) (m : ℕ) (b : Bug) → IsSound d → d.bug m ≡ Some b → list_any (λ c. has c.merged m) (bugs_at d.bug ns) ≡ has_any b.merged ns
+merged-listed d ns m b sound e = same_test (list_any (λ c. has c.merged m) (bugs_at d.bug ns)) (has_any b.merged ns) to from
   where
-    to : list_any (λ c. has c.block m) (bugs_at d.bug ns) ≡ true → has_any b.block ns ≡ true
+    to : list_any (λ c. has c.merged m) (bugs_at d.bug ns) ≡ true → has_any b.merged ns ≡ true
     to h =
-        let r = listed-of (λ c. has c.block m) d.bug ns h in
+        let r = listed-of (λ c. has c.merged m) d.bug ns h in
         let a = agree d sound r.0 m r.1 r.3 r.4 in
-        any-from b.block ns r.0 (ap (λ (z : Bug). has z.block r.0) (same_value b a.0 e a.1) ∙ ap (λ z. has z r.0) a.2 ∙ sound.own r.0 r.1 r.3) r.2
+        any-from b.merged ns r.0 (ap (λ (z : Bug). has z.merged r.0) (same_value b a.0 e a.1) ∙ ap (λ z. has z r.0) a.2 ∙ sound.own r.0 r.1 r.3) r.2
 
-    from : has_any b.block ns ≡ true → list_any (λ c. has c.block m) (bugs_at d.bug ns) ≡ true
+    from : has_any b.merged ns ≡ true → list_any (λ c. has c.merged m) (bugs_at d.bug ns) ≡ true
     from h =
-        let r = any-of b.block ns h in
+        let r = any-of b.merged ns h in
         let a = agree d sound m r.0 b e r.1 in
-        listed-from (λ c. has c.block m) d.bug ns r.0 a.0 r.2 a.1 (ap (λ z. has z m) a.2 ∙ sound.own m b e)
+        listed-from (λ c. has c.merged m) d.bug ns r.0 a.0 r.2 a.1 (ap (λ z. has z m) a.2 ∙ sound.own m b e)
 
--- where a number is in the block of a listed bug it has a bug
-pub block-there : (d : Desk) (ns : List ℕ) (m : ℕ) → IsSound d → list_any (λ c. has c.block m) (bugs_at d.bug ns) ≡ true → (b : Bug) × (d.bug m ≡ Some b)
-block-there d ns m sound h = let r = listed-of (λ c. has c.block m) d.bug ns h in let a = agree d sound r.0 m r.1 r.3 r.4 in (a.0, a.1)
+-- where a number is merged with a listed bug it has a bug
+pub merged-there : (d : Desk) (ns : List ℕ) (m : ℕ) → IsSound d → list_any (λ c. has c.merged m) (bugs_at d.bug ns) ≡ true → (b : Bug) × (d.bug m ≡ Some b)
+merged-there d ns m sound h = let r = listed-of (λ c. has c.merged m) d.bug ns h in let a = agree d sound r.0 m r.1 r.3 r.4 in (a.0, a.1)
 
 -- ---- listed bugs and the images that are meant
 

@@ -128,7 +128,7 @@ meant-nowhere ns (j ∷ is) m h =
     ∙ meant-nowhere ns is m (none_right (option_map (bug_of j) (member_at j.members m)) (bug_in is m) h)
 
 -- a bug that is merged with one of those meant is a member
-pub meant-inside : (ns : List ℕ) (is : List SetImage) (m : ℕ) (b : Bug) → bug_in is m ≡ Some b → has_any b.block ns ≡ true
+pub meant-inside : (ns : List ℕ) (is : List SetImage) (m : ℕ) (b : Bug) → bug_in is m ≡ Some b → has_any b.merged ns ≡ true
     → (j : SetImage) × (x : Member) × (first_member (those_meant ns is) m ≡ Some x) × (b ≡ bug_of j x)
 meant-inside ns [] m b h k = absurd (none-some b h)
 meant-inside ns (j ∷ is) m b h k =
@@ -136,15 +136,15 @@ meant-inside ns (j ∷ is) m b h k =
     → (i : SetImage) × (x : Member) × (first_member (those_meant ns (j ∷ is)) m ≡ Some x) × (b ≡ bug_of i x)) [
       | None ↦ λ e h. let r = meant-inside ns is m b h k in (r.0, r.1, meant-beside ns j is m e ∙ r.2, r.3)
       | Some x ↦ λ e h.
-          (j, x, meant-first ns j is m (ap (λ (z : Bug). has_any z.block ns) (same_Some _ _ h) ∙ k) ∙ ap (λ o. option_or o (first_member (those_meant ns is) m)) e, sym (same_Some _ _ h))
+          (j, x, meant-first ns j is m (ap (λ (z : Bug). has_any z.merged ns) (same_Some _ _ h) ∙ k) ∙ ap (λ o. option_or o (first_member (those_meant ns is) m)) e, sym (same_Some _ _ h))
     ] refl h
 
 -- and another one is not
-pub meant-outside : (ns : List ℕ) (is : List SetImage) (m : ℕ) (b : Bug) → AreApart is → bug_in is m ≡ Some b → has_any b.block ns ≡ false → first_member (those_meant ns is) m ≡ None
+pub meant-outside : (ns : List ℕ) (is : List SetImage) (m : ℕ) (b : Bug) → AreApart is → bug_in is m ≡ Some b → has_any b.merged ns ≡ false → first_member (those_meant ns is) m ≡ None
 meant-outside ns [] m b a h k = refl
 meant-outside ns (j ∷ is) m b a h k =
     elim (member_at j.members m) as (λ o. member_at j.members m ≡ o → option_or (option_map (bug_of j) o) (bug_in is m) ≡ Some b → first_member (those_meant ns (j ∷ is)) m ≡ None) [
       | None ↦ λ e h. meant-beside ns j is m e ∙ meant-outside ns is m b a.1 h k
       | Some x ↦ λ e h.
-          meant-other ns j is m (ap (λ (z : Bug). has_any z.block ns) (same_Some _ _ h) ∙ k) ∙ meant-nowhere ns is m (a.0 m (has-member_some j.members m x e))
+          meant-other ns j is m (ap (λ (z : Bug). has_any z.merged ns) (same_Some _ _ h) ∙ k) ∙ meant-nowhere ns is m (a.0 m (has-member_some j.members m x e))
     ] refl h

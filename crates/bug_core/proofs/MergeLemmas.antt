@@ -1,4 +1,4 @@
--- Merging bugs: the joined image is that of the model's block, and the desk stays sound.
+-- Merging bugs: the joined image is that of the model's set, and the desk stays sound.
 use Rattle.std.proofs.Common.{◌≡◌, ℕ, Bool, true, false, cond, ◌||◌, eqb, List, [], ◌∷◌, Option, Some, None, Ok, Err, sym, refl, ap, ◌∙◌, subst}
 use Rattle.std.specs.Prelude.{option_map}
 use Rattle.std.specs.Option.{option_or}
@@ -10,8 +10,8 @@ use Rattle.bug_record.specs.Texts.{IsText, IfGiven}
 use Rattle.bug_record.specs.Desk.{Desk, IsSound, IsGoodShared}
 use Rattle.bug_record.specs.Bugs.{at_bug, unless, missing, first_refusal, bugs_at, all_of}
 use Rattle.bug_record.specs.Differences.{differing}
-use Rattle.bug_record.specs.Merges.{first_owner, joined_shared, joined_block, with_block, merged}
-use Rattle.bug_record.specs.Images.{numbers_of, member_at, bug_of, bug_in, AreApart, AreBlocksOf}
+use Rattle.bug_record.specs.Merges.{first_owner, joined_shared, all_merged, with_merged, sets_joined}
+use Rattle.bug_record.specs.Images.{numbers_of, member_at, bug_of, bug_in, AreApart, AreSetsOf}
 use Rattle.bug_record.specs.Plans.{AllKnown}
 use Rattle.bug_record.specs.declared.bug.Bug.{Bug}
 use Rattle.bug_record.specs.declared.bug.Shared.{Shared}
@@ -25,16 +25,16 @@ use Rattle.bug_record.specs.declared.command.Refusal.TheVariants.{NoBug}
 use Rattle.bug_record.proofs.SetLemmas.{IsAscending-number_set, same-ascending}
 use Rattle.bug_record.proofs.MarkLemmas.{set-node_set}
 use Rattle.bug_record.proofs.TagLemmas.{set-joined_tags}
-use Rattle.bug_record.proofs.MergeLemmas.{has-joined_block}
+use Rattle.bug_record.proofs.MergeLemmas.{has-all_merged}
 use Rattle.bug_core.specs.Others.{image_with, has_any, those_meant, others}
 use Rattle.bug_core.specs.Joins.{with_members, with_all_shared}
 use Rattle.bug_core.specs.Planned.{IsPlanned}
-use Rattle.bug_core.proofs.ImageLemmas.{has-member_some, has-member_none, bug_in-block, shown, image_with-has, image_with-shows, image_with-none}
+use Rattle.bug_core.proofs.ImageLemmas.{has-member_some, has-member_none, bug_in-merged, shown, image_with-has, image_with-shows, image_with-none}
 use Rattle.bug_core.proofs.SoundLemmas.{agree, sound-each_bug}
 use Rattle.bug_core.proofs.ReplaceLemmas.{TakesPlace, Makes, each-append}
 use Rattle.bug_core.proofs.PlanLemmas.{Steps, planned-refused, planned-replaced}
 use Rattle.bug_core.proofs.MemberLemmas.{first_member, ascending-with_members, member-with_members, meant-nowhere, meant-inside, meant-outside}
-use Rattle.bug_core.proofs.ListedLemmas.{any-from, listed-of, each-listed, bugs-known, refusal-known, block-listed, block-there}
+use Rattle.bug_core.proofs.ListedLemmas.{any-from, listed-of, each-listed, bugs-known, refusal-known, merged-listed, merged-there}
 use Rattle.bug_core.proofs.SharedLemmas.{joined-fields}
 
 -- the joined image
@@ -70,21 +70,21 @@ joined-takes_place is n ns i a h = record {
         let x = meant-inside (n ∷ ns) is n (bug_of i b.0) b.1 (any-from (numbers_of i.members) (n ∷ ns) n (image_with-has is n i h) (own-first n ns)) in
         none-some x.1 (sym (ap (λ ms. member_at ms n) e) ∙ member-joined is (n ∷ ns) n ∙ x.2)
 
--- ---- the block of the model
+-- ---- the set of the model
 
 -- on a sound desk a bug is in it where it is merged with one of the numbers
-in-block : (d : Desk) (ns : List ℕ) (m : ℕ) (b : Bug) → IsSound d → d.bug m ≡ Some b → has (joined_block (bugs_at d.bug ns)) m ≡ has_any b.block ns
-in-block d ns m b sound e = has-joined_block (bugs_at d.bug ns) m ∙ block-listed d ns m b sound e
+in-merged : (d : Desk) (ns : List ℕ) (m : ℕ) (b : Bug) → IsSound d → d.bug m ≡ Some b → has (all_merged (bugs_at d.bug ns)) m ≡ has_any b.merged ns
+in-merged d ns m b sound e = has-all_merged (bugs_at d.bug ns) m ∙ merged-listed d ns m b sound e
 
 -- and nothing else is
-block-bug : (d : Desk) (ns : List ℕ) (m : ℕ) → IsSound d → has (joined_block (bugs_at d.bug ns)) m ≡ true → (b : Bug) × (d.bug m ≡ Some b)
-block-bug d ns m sound h = block-there d ns m sound (sym (has-joined_block (bugs_at d.bug ns) m) ∙ h)
+merged-bug : (d : Desk) (ns : List ℕ) (m : ℕ) → IsSound d → has (all_merged (bugs_at d.bug ns)) m ≡ true → (b : Bug) × (d.bug m ≡ Some b)
+merged-bug d ns m sound h = merged-there d ns m sound (sym (has-all_merged (bugs_at d.bug ns) m) ∙ h)
 
--- the numbers of the joined members are the block
-joined-numbers : (d : Desk) (is : List SetImage) (ns : List ℕ) → IsSound d → AreBlocksOf d is → AllKnown d is ns → AreApart is → numbers_of (with_members [] (those_meant ns is)) ≡ joined_block (bugs_at d.bug ns)
-joined-numbers d is ns sound blocks known a =
-    same-ascending (numbers_of (with_members [] (those_meant ns is))) (joined_block (bugs_at d.bug ns)) (ascending-with_members (those_meant ns is) [] tt)
-    (IsAscending-number_set (all_of (λ b. b.block) (bugs_at d.bug ns))) (λ m. at m (bug_in is m) refl)
+-- the numbers of the joined members are those of the set
+joined-numbers : (d : Desk) (is : List SetImage) (ns : List ℕ) → IsSound d → AreSetsOf d is → AllKnown d is ns → AreApart is → numbers_of (with_members [] (those_meant ns is)) ≡ all_merged (bugs_at d.bug ns)
+joined-numbers d is ns sound sets known a =
+    same-ascending (numbers_of (with_members [] (those_meant ns is))) (all_merged (bugs_at d.bug ns)) (ascending-with_members (those_meant ns is) [] tt)
+    (IsAscending-number_set (all_of (λ b. b.merged) (bugs_at d.bug ns))) (λ m. at m (bug_in is m) refl)
   where
     in-members : (m : ℕ) (o : Option Member) → first_member (those_meant ns is) m ≡ o → (t : Bool) → cond t (o ≡ None → ⊥) (o ≡ None) → has (numbers_of (with_members [] (those_meant ns is))) m ≡ t
     in-members m None e true h = absurd (h refl)
@@ -92,10 +92,10 @@ joined-numbers d is ns sound blocks known a =
     in-members m (Some x) e true h = has-member_some (with_members [] (those_meant ns is)) m x (member-joined is ns m ∙ e)
     in-members m (Some x) e false h = absurd (none-some x (sym h))
 
-    lacks : (m : ℕ) → bug_in is m ≡ None → has (joined_block (bugs_at d.bug ns)) m ≡ false
-    lacks m q = false_from_ne_true (has (joined_block (bugs_at d.bug ns)) m) (λ h.
-        let r = listed-of (λ c. has c.block m) d.bug ns (sym (has-joined_block (bugs_at d.bug ns) m) ∙ h) in
-        bug_in-block is r.0 m r.1 (known-at ns known r.0 r.2 ∙ r.3) r.4 q)
+    lacks : (m : ℕ) → bug_in is m ≡ None → has (all_merged (bugs_at d.bug ns)) m ≡ false
+    lacks m q = false_from_ne_true (has (all_merged (bugs_at d.bug ns)) m) (λ h.
+        let r = listed-of (λ c. has c.merged m) d.bug ns (sym (has-all_merged (bugs_at d.bug ns) m) ∙ h) in
+        bug_in-merged is r.0 m r.1 (known-at ns known r.0 r.2 ∙ r.3) r.4 q)
       where
         known-at : (ks : List ℕ) → AllKnown d is ks → (k : ℕ) → has ks k ≡ true → bug_in is k ≡ d.bug k
         known-at [] f k h = absurd (false≢true h)
@@ -103,29 +103,29 @@ joined-numbers d is ns sound blocks known a =
             elim (eqb l k) as (λ t. eqb l k ≡ t → (t || has ks k) ≡ true → bug_in is k ≡ d.bug k)
             [ true ↦ λ q _. subst (λ (z : ℕ). bug_in is z ≡ d.bug z) (eqb-true l k q) f.0 | false ↦ λ q h. known-at ks f.1 k h ] refl h
 
-    at : (m : ℕ) (o : Option Bug) → bug_in is m ≡ o → has (numbers_of (with_members [] (those_meant ns is))) m ≡ has (joined_block (bugs_at d.bug ns)) m
+    at : (m : ℕ) (o : Option Bug) → bug_in is m ≡ o → has (numbers_of (with_members [] (those_meant ns is))) m ≡ has (all_merged (bugs_at d.bug ns)) m
     at m None q = in-members m (first_member (those_meant ns is) m) refl false (meant-nowhere ns is m q) ∙ sym (lacks m q)
     at m (Some b) q =
-        let e : d.bug m ≡ Some b = shown d is blocks m b q in
-        elim (has_any b.block ns) as (λ t. has_any b.block ns ≡ t → has (numbers_of (with_members [] (those_meant ns is))) m ≡ has (joined_block (bugs_at d.bug ns)) m) [
+        let e : d.bug m ≡ Some b = shown d is sets m b q in
+        elim (has_any b.merged ns) as (λ t. has_any b.merged ns ≡ t → has (numbers_of (with_members [] (those_meant ns is))) m ≡ has (all_merged (bugs_at d.bug ns)) m) [
           | true ↦ λ k.
               let x = meant-inside ns is m b q k in
-              in-members m (first_member (those_meant ns is) m) refl true (λ none. none-some x.1 (sym none ∙ x.2)) ∙ sym (in-block d ns m b sound e ∙ k)
-          | false ↦ λ k. in-members m (first_member (those_meant ns is) m) refl false (meant-outside ns is m b a q k) ∙ sym (in-block d ns m b sound e ∙ k)
+              in-members m (first_member (those_meant ns is) m) refl true (λ none. none-some x.1 (sym none ∙ x.2)) ∙ sym (in-merged d ns m b sound e ∙ k)
+          | false ↦ λ k. in-members m (first_member (those_meant ns is) m) refl false (meant-outside ns is m b a q k) ∙ sym (in-merged d ns m b sound e ∙ k)
         ] refl
 
 -- the change of each bug
 abbrev pub bug_joined : List ℕ → Shared → ℕ → Bug → Bug
-bug_joined block shared m b = record b { shared = cond (has block m) shared b.shared; block = cond (has block m) block b.block }
+bug_joined merged shared m b = record b { shared = cond (has merged m) shared b.shared; merged = cond (has merged m) merged b.merged }
 
-joined-makes : (d : Desk) (is : List SetImage) (n : ℕ) (ns : List ℕ) (i : SetImage) → IsSound d → AreBlocksOf d is → AllKnown d is (n ∷ ns) → AreApart is → image_with is n ≡ Some i
-    → Makes d is (n ∷ ns) (image_joined is (n ∷ ns) i ∷ []) (bug_joined (joined_block (bugs_at (bug_in is) (n ∷ ns))) (joined_shared i.shared (bugs_at (bug_in is) (n ∷ ns))))
-joined-makes d is n ns i sound blocks known a h = record {
+joined-makes : (d : Desk) (is : List SetImage) (n : ℕ) (ns : List ℕ) (i : SetImage) → IsSound d → AreSetsOf d is → AllKnown d is (n ∷ ns) → AreApart is → image_with is n ≡ Some i
+    → Makes d is (n ∷ ns) (image_joined is (n ∷ ns) i ∷ []) (bug_joined (all_merged (bugs_at (bug_in is) (n ∷ ns))) (joined_shared i.shared (bugs_at (bug_in is) (n ∷ ns))))
+joined-makes d is n ns i sound sets known a h = record {
   inside = λ m b q k.
       let x = meant-inside (n ∷ ns) is m b q k in
       shows-joined is (n ∷ ns) i m (Some x.1) x.2
-      ∙ (λ j. Some (record { title = (sym x.3 j).title; submitter = (sym x.3 j).submitter; shared = cond (sym (inner m b q k) j) (fields j) b.shared; block = cond (sym (inner m b q k) j) (numbers j) b.block }));
-  elsewhere = λ m b e k. (λ j. record b { shared = cond (outer m b e k j) (joined_shared i.shared bugs) b.shared; block = cond (outer m b e k j) (joined_block bugs) b.block });
+      ∙ (λ j. Some (record { title = (sym x.3 j).title; submitter = (sym x.3 j).submitter; shared = cond (sym (inner m b q k) j) (fields j) b.shared; merged = cond (sym (inner m b q k) j) (numbers j) b.merged }));
+  elsewhere = λ m b e k. (λ j. record b { shared = cond (outer m b e k j) (joined_shared i.shared bugs) b.shared; merged = cond (outer m b e k j) (all_merged bugs) b.merged });
 }
   where
     bugs : List Bug
@@ -134,23 +134,23 @@ joined-makes d is n ns i sound blocks known a h = record {
     same : bugs ≡ bugs_at d.bug (n ∷ ns)
     same = bugs-known d is (n ∷ ns) known
 
-    inner : (m : ℕ) (b : Bug) → bug_in is m ≡ Some b → has_any b.block (n ∷ ns) ≡ true → has (joined_block bugs) m ≡ true
-    inner m b q k = ap (λ bs. has (joined_block bs) m) same ∙ in-block d (n ∷ ns) m b sound (shown d is blocks m b q) ∙ k
+    inner : (m : ℕ) (b : Bug) → bug_in is m ≡ Some b → has_any b.merged (n ∷ ns) ≡ true → has (all_merged bugs) m ≡ true
+    inner m b q k = ap (λ bs. has (all_merged bs) m) same ∙ in-merged d (n ∷ ns) m b sound (shown d is sets m b q) ∙ k
 
-    outer : (m : ℕ) (b : Bug) → d.bug m ≡ Some b → has_any b.block (n ∷ ns) ≡ false → has (joined_block bugs) m ≡ false
-    outer m b e k = ap (λ bs. has (joined_block bs) m) same ∙ in-block d (n ∷ ns) m b sound e ∙ k
+    outer : (m : ℕ) (b : Bug) → d.bug m ≡ Some b → has_any b.merged (n ∷ ns) ≡ false → has (all_merged bugs) m ≡ false
+    outer m b e k = ap (λ bs. has (all_merged bs) m) same ∙ in-merged d (n ∷ ns) m b sound e ∙ k
 
     named : (x : Member) × (bug_in is n ≡ Some (bug_of i x))
     named = image_with-shows is n i h
 
     good : IsGoodShared i.shared
-    good = (sound.texts n (bug_of i named.0) (shown d is blocks n (bug_of i named.0) named.1)).shared
+    good = (sound.texts n (bug_of i named.0) (shown d is sets n (bug_of i named.0) named.1)).shared
 
     fields : (image_joined is (n ∷ ns) i).shared ≡ joined_shared i.shared bugs
     fields = joined-fields is (n ∷ ns) n i named.0 a (own-first n ns) named.1 good.tags good.found.ascending good.fixed.ascending
 
-    numbers : numbers_of (with_members [] (those_meant (n ∷ ns) is)) ≡ joined_block bugs
-    numbers = joined-numbers d is (n ∷ ns) sound blocks known a ∙ ap joined_block (sym same)
+    numbers : numbers_of (with_members [] (those_meant (n ∷ ns) is)) ≡ all_merged bugs
+    numbers = joined-numbers d is (n ∷ ns) sound sets known a ∙ ap all_merged (sym same)
 
 -- ---- the desk stays sound
 
@@ -179,87 +179,87 @@ good-joined d ns f sound good = record {
     bugs : List Bug
     bugs = bugs_at d.bug ns
 
-sound-joined : (d : Desk) (ns : List ℕ) (f : Shared) → IsSound d → IsGoodShared f → IsSound (with_block d (joined_block (bugs_at d.bug ns)) (joined_shared f (bugs_at d.bug ns)))
-sound-joined d ns f sound good = sound-each_bug d (bug_joined block shared) sound (record {
-  own = λ m b e. own m b e (has block m) refl;
-  ascending = λ m b e. ascending m b e (has block m);
-  agree = λ m k b e q. agrees m k b e (has block m) refl q;
-  texts = λ m b e. let t = sound.texts m b e in record { title = t.title; submitter = t.submitter; shared = fields b (has block m) t.shared };
+sound-joined : (d : Desk) (ns : List ℕ) (f : Shared) → IsSound d → IsGoodShared f → IsSound (with_merged d (all_merged (bugs_at d.bug ns)) (joined_shared f (bugs_at d.bug ns)))
+sound-joined d ns f sound good = sound-each_bug d (bug_joined merged shared) sound (record {
+  own = λ m b e. own m b e (has merged m) refl;
+  ascending = λ m b e. ascending m b e (has merged m);
+  agree = λ m k b e q. agrees m k b e (has merged m) refl q;
+  texts = λ m b e. let t = sound.texts m b e in record { title = t.title; submitter = t.submitter; shared = fields b (has merged m) t.shared };
 })
   where
-    block : List ℕ
-    block = joined_block (bugs_at d.bug ns)
+    merged : List ℕ
+    merged = all_merged (bugs_at d.bug ns)
 
     shared : Shared
     shared = joined_shared f (bugs_at d.bug ns)
 
-    own : (m : ℕ) (b : Bug) → d.bug m ≡ Some b → (t : Bool) → has block m ≡ t → has (cond t block b.block) m ≡ true
+    own : (m : ℕ) (b : Bug) → d.bug m ≡ Some b → (t : Bool) → has merged m ≡ t → has (cond t merged b.merged) m ≡ true
     own m b e true q = q
     own m b e false q = sound.own m b e
 
-    ascending : (m : ℕ) (b : Bug) → d.bug m ≡ Some b → (t : Bool) → IsAscending (cond t block b.block)
-    ascending m b e true = IsAscending-number_set (all_of (λ b. b.block) (bugs_at d.bug ns))
+    ascending : (m : ℕ) (b : Bug) → d.bug m ≡ Some b → (t : Bool) → IsAscending (cond t merged b.merged)
+    ascending m b e true = IsAscending-number_set (all_of (λ b. b.merged) (bugs_at d.bug ns))
     ascending m b e false = sound.ascending m b e
 
     fields : (b : Bug) (t : Bool) → IsGoodShared b.shared → IsGoodShared (cond t shared b.shared)
     fields b true h = good-joined d ns f sound good
     fields b false h = h
 
-    agrees : (m k : ℕ) (b : Bug) → d.bug m ≡ Some b → (t : Bool) → has block m ≡ t → has (cond t block b.block) k ≡ true
-        → (g : Bug) × (d.bug k ≡ Some g) × ((bug_joined block shared k g).block ≡ cond t block b.block) × ((bug_joined block shared k g).shared ≡ cond t shared b.shared)
-    agrees m k b e true q h = let g = block-bug d ns k sound h in (g.0, g.1, (λ j. cond (h j) block g.0.block), (λ j. cond (h j) shared g.0.shared))
+    agrees : (m k : ℕ) (b : Bug) → d.bug m ≡ Some b → (t : Bool) → has merged m ≡ t → has (cond t merged b.merged) k ≡ true
+        → (g : Bug) × (d.bug k ≡ Some g) × ((bug_joined merged shared k g).merged ≡ cond t merged b.merged) × ((bug_joined merged shared k g).shared ≡ cond t shared b.shared)
+    agrees m k b e true q h = let g = merged-bug d ns k sound h in (g.0, g.1, (λ j. cond (h j) merged g.0.merged), (λ j. cond (h j) shared g.0.shared))
     agrees m k b e false q h =
         let g = agree d sound m k b e h in
-        let out : has block k ≡ false = in-block d ns k g.0 sound g.1 ∙ ap (λ z. has_any z ns) g.2 ∙ sym (in-block d ns m b sound e) ∙ q in
-        (g.0, g.1, (λ j. cond (out j) block g.0.block) ∙ g.2, (λ j. cond (out j) shared g.0.shared) ∙ g.3)
+        let out : has merged k ≡ false = in-merged d ns k g.0 sound g.1 ∙ ap (λ z. has_any z ns) g.2 ∙ sym (in-merged d ns m b sound e) ∙ q in
+        (g.0, g.1, (λ j. cond (out j) merged g.0.merged) ∙ g.2, (λ j. cond (out j) shared g.0.shared) ∙ g.3)
 
 -- ---- the plan
 
 -- the step, by what the images show of the bugs
 steps-merge : (difference : Shared → Shared → Option Field) (is : List SetImage) (next n : ℕ) (ns : List ℕ) (o : Option Bug) → bug_in is n ≡ o
-    → Steps (n ∷ ns) (λ d. merged difference d n ns) is next (λ d. at_bug o n (λ first.
+    → Steps (n ∷ ns) (λ d. sets_joined difference d n ns) is next (λ d. at_bug o n (λ first.
     unless (first_refusal missing (bug_in is) ns)
     (unless (first_refusal (differing (difference first.shared)) (bug_in is) ns)
-    (Ok (with_block d (joined_block (bugs_at (bug_in is) (n ∷ ns))) (joined_shared first.shared (bugs_at (bug_in is) (n ∷ ns))))))))
+    (Ok (with_merged d (all_merged (bugs_at (bug_in is) (n ∷ ns))) (joined_shared first.shared (bugs_at (bug_in is) (n ∷ ns))))))))
 steps-merge difference is next n ns o h d e k = λ j. at_bug ((sym k.0 ∙ h) j) n (λ first.
     unless (sym (refusal-known missing d is ns k.1) j)
     (unless (sym (refusal-known (differing (difference first.shared)) d is ns k.1) j)
-    (Ok (with_block d (joined_block (sym (bugs-known d is (n ∷ ns) k) j)) (joined_shared first.shared (sym (bugs-known d is (n ∷ ns) k) j))))))
+    (Ok (with_merged d (all_merged (sym (bugs-known d is (n ∷ ns) k) j)) (joined_shared first.shared (sym (bugs-known d is (n ∷ ns) k) j))))))
 
-pub merge-no_bug : (difference : Shared → Shared → Option Field) (is : List SetImage) (next n : ℕ) (ns : List ℕ) → image_with is n ≡ None → IsPlanned (n ∷ ns) (λ d. merged difference d n ns) is next (Err (Refused (NoBug n)))
-merge-no_bug difference is next n ns h = planned-refused (n ∷ ns) (λ d. merged difference d n ns) is next (NoBug n) (steps-merge difference is next n ns None (image_with-none is n h))
+pub merge-no_bug : (difference : Shared → Shared → Option Field) (is : List SetImage) (next n : ℕ) (ns : List ℕ) → image_with is n ≡ None → IsPlanned (n ∷ ns) (λ d. sets_joined difference d n ns) is next (Err (Refused (NoBug n)))
+merge-no_bug difference is next n ns h = planned-refused (n ∷ ns) (λ d. sets_joined difference d n ns) is next (NoBug n) (steps-merge difference is next n ns None (image_with-none is n h))
 
 pub merge-missing : (difference : Shared → Shared → Option Field) (is : List SetImage) (next n : ℕ) (ns : List ℕ) (i : SetImage) (refusal : Refusal) → image_with is n ≡ Some i → first_refusal missing (bug_in is) ns ≡ Some refusal
-    → IsPlanned (n ∷ ns) (λ d. merged difference d n ns) is next (Err (Refused refusal))
+    → IsPlanned (n ∷ ns) (λ d. sets_joined difference d n ns) is next (Err (Refused refusal))
 merge-missing difference is next n ns i refusal h r =
     let b = image_with-shows is n i h in
-    planned-refused (n ∷ ns) (λ d. merged difference d n ns) is next refusal (λ d e k. steps-merge difference is next n ns (Some (bug_of i b.0)) b.1 d e k
+    planned-refused (n ∷ ns) (λ d. sets_joined difference d n ns) is next refusal (λ d e k. steps-merge difference is next n ns (Some (bug_of i b.0)) b.1 d e k
     ∙ ap (λ (o : Option Refusal). unless o (unless (first_refusal (differing (difference i.shared)) (bug_in is) ns) (Ok (after d)))) r)
   where
     after : Desk → Desk
-    after d = with_block d (joined_block (bugs_at (bug_in is) (n ∷ ns))) (joined_shared i.shared (bugs_at (bug_in is) (n ∷ ns)))
+    after d = with_merged d (all_merged (bugs_at (bug_in is) (n ∷ ns))) (joined_shared i.shared (bugs_at (bug_in is) (n ∷ ns)))
 
 pub merge-differs : (difference : Shared → Shared → Option Field) (is : List SetImage) (next n : ℕ) (ns : List ℕ) (i : SetImage) (refusal : Refusal) → image_with is n ≡ Some i → first_refusal missing (bug_in is) ns ≡ None
-    → first_refusal (differing (difference i.shared)) (bug_in is) ns ≡ Some refusal → IsPlanned (n ∷ ns) (λ d. merged difference d n ns) is next (Err (Refused refusal))
+    → first_refusal (differing (difference i.shared)) (bug_in is) ns ≡ Some refusal → IsPlanned (n ∷ ns) (λ d. sets_joined difference d n ns) is next (Err (Refused refusal))
 merge-differs difference is next n ns i refusal h r q =
     let b = image_with-shows is n i h in
-    planned-refused (n ∷ ns) (λ d. merged difference d n ns) is next refusal (λ d e k. steps-merge difference is next n ns (Some (bug_of i b.0)) b.1 d e k ∙ (λ j. unless (r j) (unless (q j) (Ok (after d)))))
+    planned-refused (n ∷ ns) (λ d. sets_joined difference d n ns) is next refusal (λ d e k. steps-merge difference is next n ns (Some (bug_of i b.0)) b.1 d e k ∙ (λ j. unless (r j) (unless (q j) (Ok (after d)))))
   where
     after : Desk → Desk
-    after d = with_block d (joined_block (bugs_at (bug_in is) (n ∷ ns))) (joined_shared i.shared (bugs_at (bug_in is) (n ∷ ns)))
+    after d = with_merged d (all_merged (bugs_at (bug_in is) (n ∷ ns))) (joined_shared i.shared (bugs_at (bug_in is) (n ∷ ns)))
 
 pub merge-done : (difference : Shared → Shared → Option Field) (is : List SetImage) (next n : ℕ) (ns : List ℕ) (i : SetImage) → AreApart is → image_with is n ≡ Some i → first_refusal missing (bug_in is) ns ≡ None
     → first_refusal (differing (difference i.shared)) (bug_in is) ns ≡ None
-    → (change : Change) → change.images ≡ image_joined is (n ∷ ns) i ∷ others (n ∷ ns) is → change.next ≡ next → IsPlanned (n ∷ ns) (λ d. merged difference d n ns) is next (Ok change)
+    → (change : Change) → change.images ≡ image_joined is (n ∷ ns) i ∷ others (n ∷ ns) is → change.next ≡ next → IsPlanned (n ∷ ns) (λ d. sets_joined difference d n ns) is next (Ok change)
 merge-done difference is next n ns i a h r q =
     let b = image_with-shows is n i h in
-    planned-replaced (n ∷ ns) (λ d. merged difference d n ns) is next (n ∷ ns) (image_joined is (n ∷ ns) i ∷ []) (bug_joined (joined_block bugs) (joined_shared i.shared bugs)) a
+    planned-replaced (n ∷ ns) (λ d. sets_joined difference d n ns) is next (n ∷ ns) (image_joined is (n ∷ ns) i ∷ []) (bug_joined (all_merged bugs) (joined_shared i.shared bugs)) a
     (joined-takes_place is n ns i a h)
     (λ d k. k)
-    (λ d e k. steps-merge difference is next n ns (Some (bug_of i b.0)) b.1 d e k ∙ (λ j. unless (r j) (unless (q j) (Ok (with_block d (joined_block bugs) (joined_shared i.shared bugs))))))
-    (λ d sh. joined-makes d is n ns i sh.sound sh.blocks sh.known a h)
-    (λ d sh. subst (λ (bs : List Bug). IsSound (with_block d (joined_block bs) (joined_shared i.shared bs))) (sym (bugs-known d is (n ∷ ns) sh.known))
-    (sound-joined d (n ∷ ns) i.shared sh.sound (sh.sound.texts n (bug_of i b.0) (shown d is sh.blocks n (bug_of i b.0) b.1)).shared))
+    (λ d e k. steps-merge difference is next n ns (Some (bug_of i b.0)) b.1 d e k ∙ (λ j. unless (r j) (unless (q j) (Ok (with_merged d (all_merged bugs) (joined_shared i.shared bugs))))))
+    (λ d sh. joined-makes d is n ns i sh.sound sh.sets sh.known a h)
+    (λ d sh. subst (λ (bs : List Bug). IsSound (with_merged d (all_merged bs) (joined_shared i.shared bs))) (sym (bugs-known d is (n ∷ ns) sh.known))
+    (sound-joined d (n ∷ ns) i.shared sh.sound (sh.sound.texts n (bug_of i b.0) (shown d is sh.sets n (bug_of i b.0) b.1)).shared))
   where
     bugs : List Bug
     bugs = bugs_at (bug_in is) (n ∷ ns)

@@ -45,24 +45,24 @@ others-none ns (j ∷ is) m h =
     here = option_map (bug_of j) (member_at j.members m)
 
 -- they show none that is merged with one of the bugs
-pub others-gone : (ns : List ℕ) (is : List SetImage) (m : ℕ) (b : Bug) → AreApart is → bug_in is m ≡ Some b → has_any b.block ns ≡ true → bug_in (others ns is) m ≡ None
+pub others-gone : (ns : List ℕ) (is : List SetImage) (m : ℕ) (b : Bug) → AreApart is → bug_in is m ≡ Some b → has_any b.merged ns ≡ true → bug_in (others ns is) m ≡ None
 others-gone ns [] m b a h k = refl
 others-gone ns (j ∷ is) m b a h k =
     elim (member_at j.members m) as (λ o. member_at j.members m ≡ o → option_or (option_map (bug_of j) o) (bug_in is m) ≡ Some b → bug_in (others ns (j ∷ is)) m ≡ None) [
       | None ↦ λ e h. others-beside ns j is m e ∙ others-gone ns is m b a.1 h k
       | Some x ↦ λ e h.
-          ap (λ js. bug_in js m) (others-own ns j is (ap (λ (z : Bug). has_any z.block ns) (same_Some _ _ h) ∙ k))
+          ap (λ js. bug_in js m) (others-own ns j is (ap (λ (z : Bug). has_any z.merged ns) (same_Some _ _ h) ∙ k))
           ∙ others-none ns is m (a.0 m (has-member_some j.members m x e))
     ] refl h
 
 -- and every one that is merged with none of them
-pub others-kept : (ns : List ℕ) (is : List SetImage) (m : ℕ) (b : Bug) → bug_in is m ≡ Some b → has_any b.block ns ≡ false → bug_in (others ns is) m ≡ Some b
+pub others-kept : (ns : List ℕ) (is : List SetImage) (m : ℕ) (b : Bug) → bug_in is m ≡ Some b → has_any b.merged ns ≡ false → bug_in (others ns is) m ≡ Some b
 others-kept ns [] m b h k = h
 others-kept ns (j ∷ is) m b h k =
     elim (member_at j.members m) as (λ o. member_at j.members m ≡ o → option_or (option_map (bug_of j) o) (bug_in is m) ≡ Some b → bug_in (others ns (j ∷ is)) m ≡ Some b) [
       | None ↦ λ e h. others-beside ns j is m e ∙ others-kept ns is m b h k
       | Some x ↦ λ e h.
-          others-first ns j is m (ap (λ (z : Bug). has_any z.block ns) (same_Some _ _ h) ∙ k)
+          others-first ns j is m (ap (λ (z : Bug). has_any z.merged ns) (same_Some _ _ h) ∙ k)
           ∙ ap (λ (o : Option Member). option_or (option_map (bug_of j) o) (bug_in (others ns is) m)) e ∙ h
     ] refl h
 

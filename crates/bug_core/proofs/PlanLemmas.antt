@@ -8,7 +8,7 @@ use Rattle.bug_record.specs.Commands.{bug_named, bugs_named, HasGoodParts}
 use Rattle.bug_record.specs.Steps.{records_changed, change_set, shared_after, new_title, new_submitter}
 use Rattle.bug_record.specs.Sets.{has, Each}
 use Rattle.bug_record.specs.Texts.{IsText}
-use Rattle.bug_record.specs.Images.{bug_of, bug_in, numbers_of, put, AreApart, AreBlocksOf}
+use Rattle.bug_record.specs.Images.{bug_of, bug_in, numbers_of, put, AreApart, AreSetsOf}
 use Rattle.bug_record.specs.Plans.{AllKnown, IsShownBy}
 use Rattle.bug_record.specs.declared.bug.Bug.{Bug}
 use Rattle.bug_record.specs.declared.bug.Shared.{Shared}
@@ -51,7 +51,7 @@ pub planned-replaced : (named : List ℕ) (step : Desk → Result Desk Refusal) 
     → (change : Change) → change.images ≡ new ++ others ns is → change.next ≡ next → IsPlanned named step is next (Ok change)
 planned-replaced named step is next ns new f a p known steps makes keeps change same last = subst (λ (z : Change). IsPlanned named step is next (Ok z)) (sym whole) (record {
   right = λ d sh. (steps d sh.next_is sh.known ∙ ap Ok (sym (moved d sh)), sound d sh);
-  fits = λ d sh. record { whole = whole-sets d is js sh.sound sh.blocks covers none; sound = sound d sh };
+  fits = λ d sh. record { whole = whole-sets d is js sh.sound sh.sets covers none; sound = sound d sh };
   brings = λ d sh m b q e. absurd (none-some b (sym (none m q) ∙ e));
   refusals = λ d e k names. subst (λ (z : Result Desk Refusal). IsRefusedAs z (Ok (record { images = js; next = next }))) (sym (steps d e k)) tt;
   apart = apart-replaced is ns new a p;
@@ -73,7 +73,7 @@ planned-replaced named step is next ns new f a p known steps makes keeps change 
     none = none-replaced is ns new p
 
     moved : (d : Desk) → IsShownBy d is next named → put d (record { images = js; next = next }) ≡ each_bug d f
-    moved d sh = put-replaced d is next ns new f sh.sound sh.next_is sh.blocks (known d sh.known) p (makes d sh)
+    moved d sh = put-replaced d is next ns new f sh.sound sh.next_is sh.sets (known d sh.known) p (makes d sh)
 
     sound : (d : Desk) → IsShownBy d is next named → IsSound (put d (record { images = js; next = next }))
     sound d sh = subst IsSound (sym (moved d sh)) (keeps d sh)
@@ -122,8 +122,8 @@ has_name (j ∷ is) n i h e =
     elim (has (numbers_of j.members) n) as (λ t. cond t (Some j) (image_with is n) ≡ Some i → IsName i.shared.«package»)
     [ true ↦ λ h. subst HasName (same_Some _ _ h) e.0 | false ↦ λ h. has_name is n i h e.1 ] h
 
-named-shown : (d : Desk) (is : List SetImage) (n : ℕ) (i : SetImage) → IsSound d → AreBlocksOf d is → image_with is n ≡ Some i → IsName i.shared.«package»
-named-shown d is n i sound blocks h = let b = image_with-shows is n i h in (sound.texts n (bug_of i b.0) (shown d is blocks n (bug_of i b.0) b.1)).shared.package_name
+named-shown : (d : Desk) (is : List SetImage) (n : ℕ) (i : SetImage) → IsSound d → AreSetsOf d is → image_with is n ≡ Some i → IsName i.shared.«package»
+named-shown d is n i sound sets h = let b = image_with-shows is n i h in (sound.texts n (bug_of i b.0) (shown d is sets n (bug_of i b.0) b.1)).shared.package_name
 
 -- what is answered where there is no memory, or the image's package is no package name
 pub planned-fault : (named : List ℕ) (step : Desk → Result Desk Refusal) (is : List SetImage) (next n : ℕ) (i : SetImage) (fault : PlanFault) → image_with is n ≡ Some i → IsVersionFault i.shared.«package» fault → IsPlanned named step is next (Err fault)
@@ -142,7 +142,7 @@ planned-fault named step is next n i Memory h w = record {
     always (Ok d) = tt
     always (Err refusal) = tt
 planned-fault named step is next n i (Refused refusal) h w = record {
-  right = λ d sh. absurd (w (named-shown d is n i sh.sound sh.blocks h));
+  right = λ d sh. absurd (w (named-shown d is n i sh.sound sh.sets h));
   fits = λ d sh. tt;
   brings = λ d sh. tt;
   refusals = λ d e k names. absurd (w (has_name is n i h names));

@@ -6,7 +6,7 @@ use Rattle.std.proofs.lemmas.Bool.{false≢true}
 use Rattle.bug_record.specs.Sets.{has, Each}
 use Rattle.bug_record.specs.Desk.{Desk, IsSound}
 use Rattle.bug_record.specs.Bugs.{each_bug}
-use Rattle.bug_record.specs.Images.{numbers_of, member_at, bug_of, bug_in, put, AreApart, HasMember, AreBlocksOf, CoverSets}
+use Rattle.bug_record.specs.Images.{numbers_of, member_at, bug_of, bug_in, put, AreApart, HasMember, AreSetsOf, CoverSets}
 use Rattle.std.specs.Option.{option_or}
 use Rattle.bug_record.specs.Plans.{AllKnown, CoverImages}
 use Rattle.bug_record.specs.declared.bug.Bug.{Bug}
@@ -14,22 +14,22 @@ use Rattle.bug_record.specs.declared.bug.Shared.{Shared}
 use Rattle.bug_record.specs.declared.bug.Member.{Member}
 use Rattle.bug_record.specs.declared.bug.SetImage.{SetImage}
 use Rattle.bug_core.specs.Others.{image_with, has_any, others}
-use Rattle.bug_core.proofs.ImageLemmas.{none_left, none_right, none_both, same_value, member-has, bug_in-append, bug_in-block, shown, image_with-has, image_with-lacks, image_with-bug, image_with-member, number-member}
+use Rattle.bug_core.proofs.ImageLemmas.{none_left, none_right, none_both, same_value, member-has, bug_in-append, bug_in-merged, shown, image_with-has, image_with-lacks, image_with-bug, image_with-member, number-member}
 use Rattle.bug_core.proofs.OtherLemmas.{others-none, others-gone, others-kept, others-apart, others-members}
 use Rattle.bug_core.proofs.SoundLemmas.{agree}
 
 -- The images `new` have the bugs of those images that have one of the bugs ns, and no others.
 pub record TakesPlace (is : List SetImage) (ns : List ℕ) (new : List SetImage) : Type 0 where
-  pub inside : (m : ℕ) (b : Bug) → bug_in is m ≡ Some b → has_any b.block ns ≡ true → bug_in new m ≡ None → ⊥
-  pub outside : (m : ℕ) (b : Bug) → bug_in is m ≡ Some b → has_any b.block ns ≡ false → bug_in new m ≡ None
+  pub inside : (m : ℕ) (b : Bug) → bug_in is m ≡ Some b → has_any b.merged ns ≡ true → bug_in new m ≡ None → ⊥
+  pub outside : (m : ℕ) (b : Bug) → bug_in is m ≡ Some b → has_any b.merged ns ≡ false → bug_in new m ≡ None
   pub nowhere : (m : ℕ) → bug_in is m ≡ None → bug_in new m ≡ None
   pub apart : AreApart new
   pub members : Each HasMember new
 
 -- Of a desk: they have each bug as f makes it, and f is for the bugs merged with one of ns alone.
 pub record Makes (d : Desk) (is : List SetImage) (ns : List ℕ) (new : List SetImage) (f : ℕ → Bug → Bug) : Type 0 where
-  pub inside : (m : ℕ) (b : Bug) → bug_in is m ≡ Some b → has_any b.block ns ≡ true → bug_in new m ≡ Some (f m b)
-  pub elsewhere : (m : ℕ) (b : Bug) → d.bug m ≡ Some b → has_any b.block ns ≡ false → f m b ≡ b
+  pub inside : (m : ℕ) (b : Bug) → bug_in is m ≡ Some b → has_any b.merged ns ≡ true → bug_in new m ≡ Some (f m b)
+  pub elsewhere : (m : ℕ) (b : Bug) → d.bug m ≡ Some b → has_any b.merged ns ≡ false → f m b ≡ b
 
 -- two lists of images that have no bug in common
 apart-append : (xs ys : List SetImage) → AreApart xs → AreApart ys → ((m : ℕ) → (bug_in xs m ≡ None → ⊥) → bug_in ys m ≡ None) → AreApart (xs ++ ys)
@@ -53,7 +53,7 @@ apart-replaced is ns new a p = apart-append new (others ns is) p.apart (others-a
     clear : (m : ℕ) → (bug_in new m ≡ None → ⊥) → (o : Option Bug) → bug_in is m ≡ o → bug_in (others ns is) m ≡ None
     clear m k None e = others-none ns is m e
     clear m k (Some b) e =
-        elim (has_any b.block ns) as (λ t. has_any b.block ns ≡ t → bug_in (others ns is) m ≡ None)
+        elim (has_any b.merged ns) as (λ t. has_any b.merged ns ≡ t → bug_in (others ns is) m ≡ None)
         [ true ↦ λ q. others-gone ns is m b a e q | false ↦ λ q. absurd (k (p.outside m b e q)) ] refl
 
 pub members-replaced : (is : List SetImage) (ns : List ℕ) (new : List SetImage) → TakesPlace is ns new → Each HasMember (new ++ others ns is)
@@ -69,7 +69,7 @@ covers-replaced is ns new p m e = cases (bug_in is m) refl
     cases : (o : Option Bug) → bug_in is m ≡ o → bug_in is m ≡ None
     cases None q = q
     cases (Some b) q =
-        elim (has_any b.block ns) as (λ t. has_any b.block ns ≡ t → bug_in is m ≡ None) [
+        elim (has_any b.merged ns) as (λ t. has_any b.merged ns ≡ t → bug_in is m ≡ None) [
           | true ↦ λ k. absurd (p.inside m b q k (none_left (bug_in new m) (bug_in (others ns is) m) parts))
           | false ↦ λ k. absurd (none-some b (sym (none_right (bug_in new m) (bug_in (others ns is) m) parts) ∙ others-kept ns is m b q k))
         ] refl
@@ -78,37 +78,37 @@ covers-replaced is ns new p m e = cases (bug_in is m) refl
 pub none-replaced : (is : List SetImage) (ns : List ℕ) (new : List SetImage) → TakesPlace is ns new → (m : ℕ) → bug_in is m ≡ None → bug_in (new ++ others ns is) m ≡ None
 none-replaced is ns new p m e = bug_in-append new (others ns is) m ∙ none_both (bug_in new m) (bug_in (others ns is) m) (p.nowhere m e) (others-none ns is m e)
 
--- images that have the bugs of whole blocks of a desk cover whole sets
-pub whole-sets : (d : Desk) (is js : List SetImage) → IsSound d → AreBlocksOf d is → CoverImages is js → ((m : ℕ) → bug_in is m ≡ None → bug_in js m ≡ None) → CoverSets d js
-whole-sets d is js sound blocks covers none n m b h k q e = cases (bug_in is n) refl
+-- images that have the bugs of whole sets of a desk cover whole sets
+pub whole-sets : (d : Desk) (is js : List SetImage) → IsSound d → AreSetsOf d is → CoverImages is js → ((m : ℕ) → bug_in is m ≡ None → bug_in js m ≡ None) → CoverSets d js
+whole-sets d is js sound sets covers none n m b h k q e = cases (bug_in is n) refl
   where
     cases : (o : Option Bug) → bug_in is n ≡ o → ⊥
     cases None r = k (none n r)
-    cases (Some c) r = bug_in-block is n m c r (ap (λ (z : Bug). has z.block m) (same_value c b (shown d is blocks n c r) h) ∙ q) (covers m e)
+    cases (Some c) r = bug_in-merged is n m c r (ap (λ (z : Bug). has z.merged m) (same_value c b (shown d is sets n c r) h) ∙ q) (covers m e)
 
 -- a bug of the desk that is merged with one that the images show is shown too
-shown-mate : (d : Desk) (is : List SetImage) (ns : List ℕ) (m : ℕ) (c : Bug) → IsSound d → AllKnown d is ns → d.bug m ≡ Some c → bug_in is m ≡ None → has_any c.block ns ≡ true → ⊥
+shown-mate : (d : Desk) (is : List SetImage) (ns : List ℕ) (m : ℕ) (c : Bug) → IsSound d → AllKnown d is ns → d.bug m ≡ Some c → bug_in is m ≡ None → has_any c.merged ns ≡ true → ⊥
 shown-mate d is [] m c sound k e q h = false≢true h
 shown-mate d is (n ∷ ns) m c sound k e q h =
-    elim (has c.block n) as (λ t. has c.block n ≡ t → (t || has_any c.block ns) ≡ true → ⊥) [
+    elim (has c.merged n) as (λ t. has c.merged n ≡ t → (t || has_any c.merged ns) ≡ true → ⊥) [
       | true ↦ λ r _.
           let mate = agree d sound m n c e r in
-          bug_in-block is n m mate.0 (k.0 ∙ mate.1) (ap (λ z. has z m) mate.2 ∙ sound.own m c e) q
+          bug_in-merged is n m mate.0 (k.0 ∙ mate.1) (ap (λ z. has z m) mate.2 ∙ sound.own m c e) q
       | false ↦ λ r h. shown-mate d is ns m c sound k.1 e q h
     ] refl h
 
 -- The desk after the change: each bug as f makes it.
-pub put-replaced : (d : Desk) (is : List SetImage) (next : ℕ) (ns : List ℕ) (new : List SetImage) (f : ℕ → Bug → Bug) → IsSound d → d.next ≡ next → AreBlocksOf d is → AllKnown d is ns → TakesPlace is ns new → Makes d is ns new f
+pub put-replaced : (d : Desk) (is : List SetImage) (next : ℕ) (ns : List ℕ) (new : List SetImage) (f : ℕ → Bug → Bug) → IsSound d → d.next ≡ next → AreSetsOf d is → AllKnown d is ns → TakesPlace is ns new → Makes d is ns new f
     → put d (record { images = new ++ others ns is; next = next }) ≡ each_bug d f
-put-replaced d is next ns new f sound same blocks known p makes = λ j. record { bug = λ m. at m (bug_in is m) refl j; tree = d.tree; next = sym same j }
+put-replaced d is next ns new f sound same sets known p makes = λ j. record { bug = λ m. at m (bug_in is m) refl j; tree = d.tree; next = sym same j }
   where
-    kept : (m : ℕ) (b : Bug) → d.bug m ≡ Some b → has_any b.block ns ≡ false → d.bug m ≡ option_map (f m) (d.bug m)
+    kept : (m : ℕ) (b : Bug) → d.bug m ≡ Some b → has_any b.merged ns ≡ false → d.bug m ≡ option_map (f m) (d.bug m)
     kept m b e k = e ∙ ap Some (sym (makes.elsewhere m b e k)) ∙ sym (ap (option_map (f m)) e)
 
     unshown : (m : ℕ) → bug_in is m ≡ None → (o : Option Bug) → d.bug m ≡ o → d.bug m ≡ option_map (f m) (d.bug m)
     unshown m q None e = e ∙ sym (ap (option_map (f m)) e)
     unshown m q (Some c) e =
-        elim (has_any c.block ns) as (λ t. has_any c.block ns ≡ t → d.bug m ≡ option_map (f m) (d.bug m))
+        elim (has_any c.merged ns) as (λ t. has_any c.merged ns ≡ t → d.bug m ≡ option_map (f m) (d.bug m))
         [ true ↦ λ k. absurd (shown-mate d is ns m c sound known e q k) | false ↦ λ k. kept m c e k ] refl
 
     in_others : (m : ℕ) → bug_in new m ≡ None → option_or (bug_in (new ++ others ns is) m) (d.bug m) ≡ option_or (bug_in (others ns is) m) (d.bug m)
@@ -117,8 +117,8 @@ put-replaced d is next ns new f sound same blocks known p makes = λ j. record {
     at : (m : ℕ) (o : Option Bug) → bug_in is m ≡ o → option_or (bug_in (new ++ others ns is) m) (d.bug m) ≡ option_map (f m) (d.bug m)
     at m None q = ap (λ (o : Option Bug). option_or o (d.bug m)) (none-replaced is ns new p m q) ∙ unshown m q (d.bug m) refl
     at m (Some b) q =
-        let e : d.bug m ≡ Some b = shown d is blocks m b q in
-        elim (has_any b.block ns) as (λ t. has_any b.block ns ≡ t → option_or (bug_in (new ++ others ns is) m) (d.bug m) ≡ option_map (f m) (d.bug m)) [
+        let e : d.bug m ≡ Some b = shown d is sets m b q in
+        elim (has_any b.merged ns) as (λ t. has_any b.merged ns ≡ t → option_or (bug_in (new ++ others ns is) m) (d.bug m) ≡ option_map (f m) (d.bug m)) [
           | true ↦ λ k.
               ap (λ (o : Option Bug). option_or o (d.bug m)) (bug_in-append new (others ns is) m ∙ ap (λ (o : Option Bug). option_or o (bug_in (others ns is) m)) (makes.inside m b q k))
               ∙ sym (ap (option_map (f m)) e)
@@ -148,9 +148,9 @@ image_after i f title who = record { shared = f i.shared; members = map (own_aft
 -- the change of a bug that is merged with n
 abbrev pub bug_after : ℕ → (Shared → Shared) → (ℕ → Option (List ℕ)) → (Shared → ℕ → Option (List ℕ)) → ℕ → Bug → Bug
 bug_after n f title who m b = record b {
-  shared = cond (has b.block n) (f b.shared) b.shared;
-  title = cond (has b.block n) (unwrap_or (title m) b.title) b.title;
-  submitter = cond (has b.block n) (unwrap_or (who b.shared m) b.submitter) b.submitter;
+  shared = cond (has b.merged n) (f b.shared) b.shared;
+  title = cond (has b.merged n) (unwrap_or (title m) b.title) b.title;
+  submitter = cond (has b.merged n) (unwrap_or (who b.shared m) b.submitter) b.submitter;
 }
 
 pub one_of : (xs : List ℕ) (n : ℕ) → has_any xs (n ∷ []) ≡ has xs n
@@ -166,30 +166,30 @@ pub set-takes_place : (is : List SetImage) (n : ℕ) (i : SetImage) (f : Shared 
     → TakesPlace is (n ∷ []) (image_after i f title who ∷ [])
 set-takes_place is n i f title who a h = record {
   inside = λ m b q k none.
-      let own = image_with-bug is n m i b a h q (sym (one_of b.block n) ∙ k) in
+      let own = image_with-bug is n m i b a h q (sym (one_of b.merged n) ∙ k) in
       none-some _ (sym none ∙ shows-after i f title who m (Some own.0) own.1);
-  outside = λ m b q k. lacks m b q (sym (one_of b.block n) ∙ k) (member_at i.members m) refl;
+  outside = λ m b q k. lacks m b q (sym (one_of b.merged n) ∙ k) (member_at i.members m) refl;
   nowhere = λ m q. shows-after i f title who m None (image_with-lacks is n m i h q);
   apart = ((λ m k. refl), tt);
   members = ((λ e. false≢true (ap (λ ms. has (numbers_of ms) n) (sym e) ∙ ap (λ ns. has ns n) (numbers_of-own_after title (who i.shared) i.members) ∙ image_with-has is n i h)), tt);
 }
   where
-    lacks : (m : ℕ) (b : Bug) → bug_in is m ≡ Some b → has b.block n ≡ false → (o : Option Member) → member_at i.members m ≡ o → bug_in (image_after i f title who ∷ []) m ≡ None
+    lacks : (m : ℕ) (b : Bug) → bug_in is m ≡ Some b → has b.merged n ≡ false → (o : Option Member) → member_at i.members m ≡ o → bug_in (image_after i f title who ∷ []) m ≡ None
     lacks m b q k None e = shows-after i f title who m None e
     lacks m b q k (Some x) e =
-        absurd (false≢true (sym k ∙ ap (λ (z : Bug). has z.block n) (same_value b (bug_of i x) q (image_with-member is n m i x a h e)) ∙ image_with-has is n i h))
+        absurd (false≢true (sym k ∙ ap (λ (z : Bug). has z.merged n) (same_value b (bug_of i x) q (image_with-member is n m i x a h e)) ∙ image_with-has is n i h))
 
 pub set-makes : (d : Desk) (is : List SetImage) (n : ℕ) (i : SetImage) (f : Shared → Shared) (title : ℕ → Option (List ℕ)) (who : Shared → ℕ → Option (List ℕ)) → AreApart is → image_with is n ≡ Some i
     → Makes d is (n ∷ []) (image_after i f title who ∷ []) (bug_after n f title who)
 set-makes d is n i f title who a h = record {
   inside = λ m b q k.
-      let own = image_with-bug is n m i b a h q (sym (one_of b.block n) ∙ k) in
+      let own = image_with-bug is n m i b a h q (sym (one_of b.merged n) ∙ k) in
       shows-after i f title who m (Some own.0) own.1 ∙ whole m own.0 (image_with-member is n m i own.0 a h own.1) own.1 ∙ ap (λ (z : Bug). Some (bug_after n f title who m z)) (sym own.2);
   elsewhere = λ m b q k. ap (λ t. record b {
     shared = cond t (f b.shared) b.shared;
     title = cond t (unwrap_or (title m) b.title) b.title;
     submitter = cond t (unwrap_or (who b.shared m) b.submitter) b.submitter;
-  }) (sym (one_of b.block n) ∙ k);
+  }) (sym (one_of b.merged n) ∙ k);
 }
   where
     own : has (numbers_of i.members) n ≡ true
@@ -201,5 +201,5 @@ set-makes d is n i f title who a h = record {
       shared = cond (sym own j) (f i.shared) i.shared;
       title = cond (sym own j) (unwrap_or (title (number-member i.members m x e j)) x.title) x.title;
       submitter = cond (sym own j) (unwrap_or (who i.shared (number-member i.members m x e j)) x.submitter) x.submitter;
-      block = numbers_of-own_after title (who i.shared) i.members j;
+      merged = numbers_of-own_after title (who i.shared) i.members j;
     })

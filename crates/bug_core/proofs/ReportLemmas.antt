@@ -55,10 +55,10 @@ one-node (Some n) h = record { ascending = (tt, tt); valid = (h, tt) }
 
 pub sound-reported : (d : Desk) (a p : List ℕ) (s : Severity) (t : List ℕ) (v : Option Node) → IsSound d → d.next < 1000000000 → IsReport a p t v → IsSound (reported d a p s t v)
 sound-reported d a p s t v sound left good = record {
-  own = λ m b h. reported-cases d a p s t v (has b.block m ≡ true) m b h (λ e q. ap (λ (z : Bug). has z.block m) (sym q) ∙ own_number m d.next e) (λ k. sound.own m b k);
-  ascending = λ m b h. reported-cases d a p s t v (IsAscending b.block) m b h (λ e q. subst (λ (z : Bug). IsAscending z.block) q (tt, tt)) (λ k. sound.ascending m b k);
+  own = λ m b h. reported-cases d a p s t v (has b.merged m ≡ true) m b h (λ e q. ap (λ (z : Bug). has z.merged m) (sym q) ∙ own_number m d.next e) (λ k. sound.own m b k);
+  ascending = λ m b h. reported-cases d a p s t v (IsAscending b.merged) m b h (λ e q. subst (λ (z : Bug). IsAscending z.merged) q (tt, tt)) (λ k. sound.ascending m b k);
   agree = λ n m b h k. reported-cases d a p s t v (IsMergedWith b ((reported d a p s t v).bug m)) n b h
-      (λ e q. merged-from b ((reported d a p s t v).bug m) (new_bug d.next a p s t v) (reported-new d a p s t v m (one_number m d.next (ap (λ (z : Bug). has z.block m) q ∙ k))) (ap (λ (z : Bug). z.block) q) (ap (λ (z : Bug). z.shared) q))
+      (λ e q. merged-from b ((reported d a p s t v).bug m) (new_bug d.next a p s t v) (reported-new d a p s t v m (one_number m d.next (ap (λ (z : Bug). has z.merged m) q ∙ k))) (ap (λ (z : Bug). z.merged) q) (ap (λ (z : Bug). z.shared) q))
       (λ q. let c = agree d sound n m b q k in merged-from b ((reported d a p s t v).bug m) c.0 (reported-old d a p s t v m c.0 sound c.1) c.2 c.3);
   texts = λ m b h. reported-cases d a p s t v (HasGoodTexts b) m b h (λ e q. subst HasGoodTexts q (record { title = good.title; submitter = good.sender; shared = record { package_name = good.package_name; forwarded = tt; owner = tt; tags = tt; found = one-node v good.node; fixed = set-none } })) (λ k. sound.texts m b k);
   in_range = λ m b h. reported-cases d a p s t v ((0 < m) × (m < d.next + 1)) m b h

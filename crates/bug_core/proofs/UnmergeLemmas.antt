@@ -8,7 +8,7 @@ use Rattle.bug_record.specs.Sets.{has, IsAscending}
 use Rattle.bug_record.specs.Desk.{Desk, IsSound}
 use Rattle.bug_record.specs.Bugs.{at_bug}
 use Rattle.bug_record.specs.Merges.{parted, rest_of, taken_out, unmerged}
-use Rattle.bug_record.specs.Images.{numbers_of, member_at, bug_of, bug_in, AreApart, AreBlocksOf}
+use Rattle.bug_record.specs.Images.{numbers_of, member_at, bug_of, bug_in, AreApart, AreSetsOf}
 use Rattle.bug_record.specs.declared.bug.Bug.{Bug}
 use Rattle.bug_record.specs.declared.bug.Member.{Member}
 use Rattle.bug_record.specs.declared.bug.SetImage.{SetImage}
@@ -92,17 +92,17 @@ shows-parts i n m o e t q =
 -- the images stand in the place of the bug's
 pub parts-take_place : (is : List SetImage) (n : ℕ) (i : SetImage) → AreApart is → image_with is n ≡ Some i → ((part_of i false n).members ≡ [] → ⊥) → TakesPlace is (n ∷ []) (parts i n)
 parts-take_place is n i a h some = record {
-  inside = λ m b q k none. let own = image_with-bug is n m i b a h q (sym (one_of b.block n) ∙ k) in none-some _ (sym none ∙ shows-parts i n m (Some own.0) own.1 (eqb m n) refl);
-  outside = λ m b q k. lacks m b q (sym (one_of b.block n) ∙ k) (member_at i.members m) refl;
+  inside = λ m b q k none. let own = image_with-bug is n m i b a h q (sym (one_of b.merged n) ∙ k) in none-some _ (sym none ∙ shows-parts i n m (Some own.0) own.1 (eqb m n) refl);
+  outside = λ m b q k. lacks m b q (sym (one_of b.merged n) ∙ k) (member_at i.members m) refl;
   nowhere = λ m q. shows-parts i n m None (image_with-lacks is n m i h q) (eqb m n) refl;
   apart = ((λ m k. apart m (own_number m k)), ((λ m k. refl), tt));
   members = (own_some, (some, tt));
 }
   where
-    lacks : (m : ℕ) (b : Bug) → bug_in is m ≡ Some b → has b.block n ≡ false → (o : Option Member) → member_at i.members m ≡ o → bug_in (parts i n) m ≡ None
+    lacks : (m : ℕ) (b : Bug) → bug_in is m ≡ Some b → has b.merged n ≡ false → (o : Option Member) → member_at i.members m ≡ o → bug_in (parts i n) m ≡ None
     lacks m b q k None e = shows-parts i n m None e (eqb m n) refl
     lacks m b q k (Some x) e =
-        absurd (false≢true (sym k ∙ ap (λ (z : Bug). has z.block n) (same_value b (bug_of i x) q (image_with-member is n m i x a h e)) ∙ image_with-has is n i h))
+        absurd (false≢true (sym k ∙ ap (λ (z : Bug). has z.merged n) (same_value b (bug_of i x) q (image_with-member is n m i x a h e)) ∙ image_with-has is n i h))
 
     own_number : (m : ℕ) → has (numbers_of (part_of i true n).members) m ≡ true → eqb m n ≡ true
     own_number m k = (and_parts (has (numbers_of i.members) m) (eqb m n) (sym (has-filter (λ m. m == n) (numbers_of i.members) m) ∙ ap (λ ns. has ns m) (sym (numbers-own n i.members)) ∙ k)).1
@@ -115,7 +115,7 @@ parts-take_place is n i a h some = record {
         ap (λ ms. has (numbers_of ms) n) (sym e) ∙ ap (λ ns. has ns n) (numbers-own n i.members) ∙ has-filter (λ m. m == n) (numbers_of i.members) n
         ∙ (λ j. image_with-has is n i h j && eq-eqb n n refl j))
 
--- a block has the number once
+-- a set has the number once
 own-alone : (n : ℕ) (xs : List ℕ) → IsAscending xs → has xs n ≡ true → filter (λ m. m == n) xs ≡ n ∷ []
 own-alone n xs a h = same-ascending (filter (λ m. m == n) xs) (n ∷ []) (IsAscending-filter (λ m. m == n) xs a) (tt, tt) (λ m. has-filter (λ m. m == n) xs m ∙ at m (eqb m n) refl)
   where
@@ -129,12 +129,12 @@ own-alone n xs a h = same-ascending (filter (λ m. m == n) xs) (n ∷ []) (IsAsc
 
 -- the change of each bug
 abbrev pub bug_parted : ℕ → List ℕ → ℕ → Bug → Bug
-bug_parted n rest m b = record b { block = cond (eqb m n) (n ∷ []) (cond (has rest m) rest b.block) }
+bug_parted n rest m b = record b { merged = cond (eqb m n) (n ∷ []) (cond (has rest m) rest b.merged) }
 
-pub parts-make : (d : Desk) (is : List SetImage) (n : ℕ) (i : SetImage) → IsSound d → AreBlocksOf d is → AreApart is → image_with is n ≡ Some i → Makes d is (n ∷ []) (parts i n) (bug_parted n (rest_of n (numbers_of i.members)))
-parts-make d is n i sound blocks a h = record {
-  inside = λ m b q k. let own = image_with-bug is n m i b a h q (sym (one_of b.block n) ∙ k) in inside m own.0 own.1 (eqb m n) refl ∙ ap (λ (z : Bug). Some (bug_parted n rest m z)) (sym own.2);
-  elsewhere = λ m b e k. elsewhere m b e (sym (one_of b.block n) ∙ k);
+pub parts-make : (d : Desk) (is : List SetImage) (n : ℕ) (i : SetImage) → IsSound d → AreSetsOf d is → AreApart is → image_with is n ≡ Some i → Makes d is (n ∷ []) (parts i n) (bug_parted n (rest_of n (numbers_of i.members)))
+parts-make d is n i sound sets a h = record {
+  inside = λ m b q k. let own = image_with-bug is n m i b a h q (sym (one_of b.merged n) ∙ k) in inside m own.0 own.1 (eqb m n) refl ∙ ap (λ (z : Bug). Some (bug_parted n rest m z)) (sym own.2);
+  elsewhere = λ m b e k. elsewhere m b e (sym (one_of b.merged n) ∙ k);
 }
   where
     rest : List ℕ
@@ -144,33 +144,33 @@ parts-make d is n i sound blocks a h = record {
     named = image_with-shows is n i h
 
     up : IsAscending (numbers_of i.members)
-    up = sound.ascending n (bug_of i named.0) (shown d is blocks n (bug_of i named.0) named.1)
+    up = sound.ascending n (bug_of i named.0) (shown d is sets n (bug_of i named.0) named.1)
 
     own_numbers : numbers_of (part_of i true n).members ≡ n ∷ []
     own_numbers = numbers-own n i.members ∙ own-alone n (numbers_of i.members) up (image_with-has is n i h)
 
     inside : (m : ℕ) (x : Member) → member_at i.members m ≡ Some x → (t : Bool) → eqb m n ≡ t → bug_in (parts i n) m ≡ Some (bug_parted n rest m (bug_of i x))
-    inside m x e true q = shows-parts i n m (Some x) e true q ∙ (λ j. Some (record (bug_of i x) { block = own_numbers j })) ∙ (λ j. Some (record (bug_of i x) { block = cond (sym q j) (n ∷ []) (cond (has rest m) rest (numbers_of i.members)) }))
+    inside m x e true q = shows-parts i n m (Some x) e true q ∙ (λ j. Some (record (bug_of i x) { merged = own_numbers j })) ∙ (λ j. Some (record (bug_of i x) { merged = cond (sym q j) (n ∷ []) (cond (has rest m) rest (numbers_of i.members)) }))
     inside m x e false q =
         let mine : has rest m ≡ true = has-filter (λ m. not (m == n)) (numbers_of i.members) m ∙ (λ j. has-member_some i.members m x e j && not (q j)) in
-        shows-parts i n m (Some x) e false q ∙ (λ j. Some (record (bug_of i x) { block = numbers-rest n i.members j }))
-        ∙ (λ j. Some (record (bug_of i x) { block = cond (sym q j) (n ∷ []) (cond (sym mine j) rest (numbers_of i.members)) }))
+        shows-parts i n m (Some x) e false q ∙ (λ j. Some (record (bug_of i x) { merged = numbers-rest n i.members j }))
+        ∙ (λ j. Some (record (bug_of i x) { merged = cond (sym q j) (n ∷ []) (cond (sym mine j) rest (numbers_of i.members)) }))
 
-    not_named : (m : ℕ) (b : Bug) → d.bug m ≡ Some b → has b.block n ≡ false → eqb m n ≡ false
-    not_named m b e k = false_from_ne_true (eqb m n) (λ q. false≢true (sym k ∙ ap (λ z. has b.block z) (sym (eqb-true m n q)) ∙ sound.own m b e))
+    not_named : (m : ℕ) (b : Bug) → d.bug m ≡ Some b → has b.merged n ≡ false → eqb m n ≡ false
+    not_named m b e k = false_from_ne_true (eqb m n) (λ q. false≢true (sym k ∙ ap (λ z. has b.merged z) (sym (eqb-true m n q)) ∙ sound.own m b e))
 
-    not_rest : (m : ℕ) (b : Bug) → d.bug m ≡ Some b → has b.block n ≡ false → has rest m ≡ false
+    not_rest : (m : ℕ) (b : Bug) → d.bug m ≡ Some b → has b.merged n ≡ false → has rest m ≡ false
     not_rest m b e k = false_from_ne_true (has rest m) (λ q.
         let both = and_parts (has (numbers_of i.members) m) (not (eqb m n)) (sym (has-filter (λ m. not (m == n)) (numbers_of i.members) m) ∙ q) in
         let x = member-has i.members m both.0 in
-        let same : b ≡ bug_of i x.0 = same_value b (bug_of i x.0) e (shown d is blocks m (bug_of i x.0) (image_with-member is n m i x.0 a h x.1)) in
-        false≢true (sym k ∙ ap (λ (z : Bug). has z.block n) same ∙ image_with-has is n i h))
+        let same : b ≡ bug_of i x.0 = same_value b (bug_of i x.0) e (shown d is sets m (bug_of i x.0) (image_with-member is n m i x.0 a h x.1)) in
+        false≢true (sym k ∙ ap (λ (z : Bug). has z.merged n) same ∙ image_with-has is n i h))
 
-    elsewhere : (m : ℕ) (b : Bug) → d.bug m ≡ Some b → has b.block n ≡ false → bug_parted n rest m b ≡ b
-    elsewhere m b e k = λ j. record b { block = cond (not_named m b e k j) (n ∷ []) (cond (not_rest m b e k j) rest b.block) }
+    elsewhere : (m : ℕ) (b : Bug) → d.bug m ≡ Some b → has b.merged n ≡ false → bug_parted n rest m b ≡ b
+    elsewhere m b e k = λ j. record b { merged = cond (not_named m b e k j) (n ∷ []) (cond (not_rest m b e k j) rest b.merged) }
 
 -- the desk stays sound
-pub sound-parted : (d : Desk) (n : ℕ) (b : Bug) → IsSound d → d.bug n ≡ Some b → IsSound (parted d n (rest_of n b.block))
+pub sound-parted : (d : Desk) (n : ℕ) (b : Bug) → IsSound d → d.bug n ≡ Some b → IsSound (parted d n (rest_of n b.merged))
 sound-parted d n b sound here = sound-each_bug d (bug_parted n rest) sound (record {
   own = λ m c e. own m c e (eqb m n) refl (has rest m) refl;
   ascending = λ m c e. ascending m c e (eqb m n) (has rest m);
@@ -179,13 +179,13 @@ sound-parted d n b sound here = sound-each_bug d (bug_parted n rest) sound (reco
 })
   where
     rest : List ℕ
-    rest = rest_of n b.block
+    rest = rest_of n b.merged
 
-    in_rest : (m : ℕ) → has rest m ≡ true → (has b.block m ≡ true) × (not (eqb m n) ≡ true)
-    in_rest m q = and_parts (has b.block m) (not (eqb m n)) (sym (has-filter (λ m. not (m == n)) b.block m) ∙ q)
+    in_rest : (m : ℕ) → has rest m ≡ true → (has b.merged m ≡ true) × (not (eqb m n) ≡ true)
+    in_rest m q = and_parts (has b.merged m) (not (eqb m n)) (sym (has-filter (λ m. not (m == n)) b.merged m) ∙ q)
 
-    to_rest : (m : ℕ) → has b.block m ≡ true → eqb m n ≡ false → has rest m ≡ true
-    to_rest m q e = has-filter (λ m. not (m == n)) b.block m ∙ (λ j. q j && not (e j))
+    to_rest : (m : ℕ) → has b.merged m ≡ true → eqb m n ≡ false → has rest m ≡ true
+    to_rest m q e = has-filter (λ m. not (m == n)) b.merged m ∙ (λ j. q j && not (e j))
 
     other : (m : ℕ) → not (eqb m n) ≡ true → eqb m n ≡ false
     other m q = turn (eqb m n) q
@@ -194,39 +194,39 @@ sound-parted d n b sound here = sound-each_bug d (bug_parted n rest) sound (reco
         turn true h = absurd (false≢true h)
         turn false h = refl
 
-    own : (m : ℕ) (c : Bug) → d.bug m ≡ Some c → (t : Bool) → eqb m n ≡ t → (u : Bool) → has rest m ≡ u → has (cond t (n ∷ []) (cond u rest c.block)) m ≡ true
+    own : (m : ℕ) (c : Bug) → d.bug m ≡ Some c → (t : Bool) → eqb m n ≡ t → (u : Bool) → has rest m ≡ u → has (cond t (n ∷ []) (cond u rest c.merged)) m ≡ true
     own m c e true q u r = ap (λ z. z || false) (eq-eqb n m (sym (eqb-true m n q)))
     own m c e false q true r = r
     own m c e false q false r = sound.own m c e
 
-    ascending : (m : ℕ) (c : Bug) → d.bug m ≡ Some c → (t u : Bool) → IsAscending (cond t (n ∷ []) (cond u rest c.block))
+    ascending : (m : ℕ) (c : Bug) → d.bug m ≡ Some c → (t u : Bool) → IsAscending (cond t (n ∷ []) (cond u rest c.merged))
     ascending m c e true u = (tt, tt)
-    ascending m c e false true = IsAscending-filter (λ m. not (m == n)) b.block (sound.ascending n b here)
+    ascending m c e false true = IsAscending-filter (λ m. not (m == n)) b.merged (sound.ascending n b here)
     ascending m c e false false = sound.ascending m c e
 
     Mate : ℕ → List ℕ → Bug → Type 0
-    Mate k block c = (g : Bug) × (d.bug k ≡ Some g) × ((bug_parted n rest k g).block ≡ block) × (g.shared ≡ c.shared)
+    Mate k merged c = (g : Bug) × (d.bug k ≡ Some g) × ((bug_parted n rest k g).merged ≡ merged) × (g.shared ≡ c.shared)
 
-    agrees : (m k : ℕ) (c : Bug) → d.bug m ≡ Some c → (t : Bool) → eqb m n ≡ t → (u : Bool) → has rest m ≡ u → has (cond t (n ∷ []) (cond u rest c.block)) k ≡ true → Mate k (cond t (n ∷ []) (cond u rest c.block)) c
+    agrees : (m k : ℕ) (c : Bug) → d.bug m ≡ Some c → (t : Bool) → eqb m n ≡ t → (u : Bool) → has rest m ≡ u → has (cond t (n ∷ []) (cond u rest c.merged)) k ≡ true → Mate k (cond t (n ∷ []) (cond u rest c.merged)) c
     agrees m k c e true q u r h =
         let one : k ≡ n = one_number k n h in
         let mine : m ≡ n = eqb-true m n q in
-        (c, ap d.bug (one ∙ sym mine) ∙ e, ap (λ t. cond t (n ∷ []) (cond (has rest k) rest c.block)) (eq-eqb k n one), refl)
+        (c, ap d.bug (one ∙ sym mine) ∙ e, ap (λ t. cond t (n ∷ []) (cond (has rest k) rest c.merged)) (eq-eqb k n one), refl)
     agrees m k c e false q true r h =
         let mine = in_rest m r in
         let his = in_rest k h in
         let a = agree d sound n k b here his.0 in
         let z = agree d sound n m b here mine.0 in
-        (a.0, a.1, (λ j. cond (other k his.1 j) (n ∷ []) (cond (h j) rest a.0.block)), a.3 ∙ sym z.3 ∙ ap (λ (w : Bug). w.shared) (same_value z.0 c z.1 e))
+        (a.0, a.1, (λ j. cond (other k his.1 j) (n ∷ []) (cond (h j) rest a.0.merged)), a.3 ∙ sym z.3 ∙ ap (λ (w : Bug). w.shared) (same_value z.0 c z.1 e))
     agrees m k c e false q false r h =
         let a = agree d sound m k c e h in
         let no_n : eqb k n ≡ false = false_from_ne_true (eqb k n) (λ w.
-        false≢true (sym r ∙ to_rest m (merged-back d sound n m b c here e (ap (λ z. has c.block z) (sym (eqb-true k n w)) ∙ h)) q)) in
+        false≢true (sym r ∙ to_rest m (merged-back d sound n m b c here e (ap (λ z. has c.merged z) (sym (eqb-true k n w)) ∙ h)) q)) in
         let no_rest : has rest k ≡ false = false_from_ne_true (has rest k) (λ w.
         let z = agree d sound n k b here (in_rest k w).0 in
-        let same : c.block ≡ b.block = sym a.2 ∙ ap (λ (v : Bug). v.block) (same_value a.0 z.0 a.1 z.1) ∙ z.2 in
+        let same : c.merged ≡ b.merged = sym a.2 ∙ ap (λ (v : Bug). v.merged) (same_value a.0 z.0 a.1 z.1) ∙ z.2 in
         false≢true (sym r ∙ to_rest m (ap (λ v. has v m) (sym same) ∙ sound.own m c e) q)) in
-        (a.0, a.1, (λ j. cond (no_n j) (n ∷ []) (cond (no_rest j) rest a.0.block)) ∙ a.2, a.3)
+        (a.0, a.1, (λ j. cond (no_n j) (n ∷ []) (cond (no_rest j) rest a.0.merged)) ∙ a.2, a.3)
 
 -- ---- the plan
 
@@ -240,10 +240,10 @@ taken-some d n (m ∷ rest) some = refl
 steps-unmerge : (is : List SetImage) (next n : ℕ) (i : SetImage) → image_with is n ≡ Some i → Steps (n ∷ []) (λ d. unmerged d n) is next (λ d. taken_out d n (rest_of n (numbers_of i.members)))
 steps-unmerge is next n i h d e k =
     let b = image_with-shows is n i h in
-    ap (λ (o : Option Bug). at_bug o n (λ b. taken_out d n (rest_of n b.block))) (sym k.0 ∙ b.1)
+    ap (λ (o : Option Bug). at_bug o n (λ b. taken_out d n (rest_of n b.merged))) (sym k.0 ∙ b.1)
 
 pub unmerge-no_bug : (is : List SetImage) (next n : ℕ) → image_with is n ≡ None → IsPlanned (n ∷ []) (λ d. unmerged d n) is next (Err (Refused (NoBug n)))
-unmerge-no_bug is next n h = planned-refused (n ∷ []) (λ d. unmerged d n) is next (NoBug n) (λ d e k. ap (λ (o : Option Bug). at_bug o n (λ b. taken_out d n (rest_of n b.block))) (sym k.0 ∙ image_with-none is n h))
+unmerge-no_bug is next n h = planned-refused (n ∷ []) (λ d. unmerged d n) is next (NoBug n) (λ d e k. ap (λ (o : Option Bug). at_bug o n (λ b. taken_out d n (rest_of n b.merged))) (sym k.0 ∙ image_with-none is n h))
 
 pub unmerge-alone : (is : List SetImage) (next n : ℕ) (i : SetImage) → image_with is n ≡ Some i → (part_of i false n).members ≡ [] → IsPlanned (n ∷ []) (λ d. unmerged d n) is next (Err (Refused (NotMerged n)))
 unmerge-alone is next n i h none =
@@ -263,5 +263,5 @@ unmerge-done is next n i a h some =
     (parts-take_place is n i a h some)
     (λ d k. k)
     (λ d e k. steps-unmerge is next n i h d e k ∙ taken-some d n (rest_of n (numbers_of i.members)) (λ q. some (no_numbers (part_of i false n).members (numbers-rest n i.members ∙ q))))
-    (λ d sh. parts-make d is n i sh.sound sh.blocks a h)
-    (λ d sh. let b = image_with-shows is n i h in sound-parted d n (bug_of i b.0) sh.sound (shown d is sh.blocks n (bug_of i b.0) b.1))
+    (λ d sh. parts-make d is n i sh.sound sh.sets a h)
+    (λ d sh. let b = image_with-shows is n i h in sound-parted d n (bug_of i b.0) sh.sound (shown d is sh.sets n (bug_of i b.0) b.1))

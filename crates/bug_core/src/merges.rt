@@ -4,7 +4,7 @@ ghost use Rattle.std.specs.Prelude.{◌≡◌, ◌∷◌, IfOk};
 ghost use Rattle.bug_record.specs.Bugs.{missing, first_refusal};
 ghost use Rattle.bug_record.specs.Differences.{differing};
 ghost use Rattle.bug_record.specs.Images.{bug_in, AreApart};
-ghost use Rattle.bug_record.specs.Merges.{merged};
+ghost use Rattle.bug_record.specs.Merges.{sets_joined};
 ghost use Rattle.bug_core.specs.Agreements.{difference_of};
 ghost use Rattle.bug_core.specs.Planned.{IsPlanned};
 
@@ -106,7 +106,7 @@ pub(crate) fn plan_merge(
     next: u64,
 ) -> Result<Change, PlanFault>
     requires apart { AreApart images.now }
-    ensures { IsPlanned (first ∷ others.now) (λ d. merged (difference_of agreement) d first others.now) images.now next result }
+    ensures { IsPlanned (first ∷ others.now) (λ d. sets_joined (difference_of agreement) d first others.now) images.now next result }
 {
     let Some(image) = find(images, first) else {
         return Err(PlanFault::Refused(Refusal::NoBug(first)));

@@ -18,7 +18,7 @@ use bug_record::{Change, Command, PlanFault, Refusal, SetImage};
 use record_changes::{members_with, shared_after};
 use std::alloc::Global;
 
-// What a command does to the records of the set of the bug that it names. No block changes.
+// What a command does to the records of the set of the bug that it names. No set changes.
 fn plan_records(
     alloc: Global,
     command: &Command<u64>,

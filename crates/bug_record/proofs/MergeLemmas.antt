@@ -5,7 +5,7 @@ use Rattle.ancestry.specs.Nodes.{Node}
 use Rattle.bug_record.specs.Sets.{has}
 use Rattle.bug_record.specs.Marks.{has_node, node_set}
 use Rattle.bug_record.specs.Bugs.{all_of}
-use Rattle.bug_record.specs.Merges.{joined_block}
+use Rattle.bug_record.specs.Merges.{all_merged}
 use Rattle.bug_record.specs.declared.bug.Bug.{Bug}
 use Rattle.bug_record.proofs.SetLemmas.{has-append, has-number_set}
 use Rattle.bug_record.proofs.MarkLemmas.{has_node-append, has-node_set}
@@ -19,9 +19,9 @@ pub has_node-all_of : (f : Bug → List Node) (bugs : List Bug) (n : Node) → h
 has_node-all_of f [] n = refl
 has_node-all_of f (b ∷ bugs) n = has_node-append (f b) (all_of f bugs) n ∙ ap (λ t. has_node (f b) n || t) (has_node-all_of f bugs n)
 
--- the block of merged bugs, and their marks
-pub has-joined_block : (bugs : List Bug) (m : ℕ) → has (joined_block bugs) m ≡ list_any (λ b. has b.block m) bugs
-has-joined_block bugs m = has-number_set (all_of (λ b. b.block) bugs) m ∙ has-all_of (λ b. b.block) bugs m
+-- the bugs of a joined set, and its marks
+pub has-all_merged : (bugs : List Bug) (m : ℕ) → has (all_merged bugs) m ≡ list_any (λ b. has b.merged m) bugs
+has-all_merged bugs m = has-number_set (all_of (λ b. b.merged) bugs) m ∙ has-all_of (λ b. b.merged) bugs m
 
 pub has-joined_nodes : (f : Bug → List Node) (bugs : List Bug) (n : Node) → has_node (node_set (all_of f bugs)) n ≡ list_any (λ b. has_node (f b) n) bugs
 has-joined_nodes f bugs n = has-node_set (all_of f bugs) n ∙ has_node-all_of f bugs n

@@ -8,7 +8,7 @@ use Rattle.bug_record.specs.Tags.{same_tag}
 use Rattle.bug_record.specs.Differences.{same_text, same_state}
 use Rattle.bug_record.specs.Sets.{has, IsAscending}
 use Rattle.bug_record.specs.Desk.{Desk, IsSound}
-use Rattle.bug_record.specs.Images.{AreBlocksOf, put}
+use Rattle.bug_record.specs.Images.{AreSetsOf, put}
 use Rattle.bug_record.specs.Plans.{CoverImages, BringNone}
 use Rattle.bug_record.specs.declared.bug.Bug.{Bug}
 use Rattle.bug_record.specs.declared.bug.Shared.{Shared}
@@ -29,7 +29,7 @@ same_shared s t =
     && (same_nodes s.found t.found && same_nodes s.fixed t.fixed)
 
 abbrev pub same_bugs : Bug → Bug → Bool
-same_bugs a b = (bytes_eq a.title b.title && bytes_eq a.submitter b.submitter) && (same_shared a.shared b.shared && bytes_eq a.block b.block)
+same_bugs a b = (bytes_eq a.title b.title && bytes_eq a.submitter b.submitter) && (same_shared a.shared b.shared && bytes_eq a.merged b.merged)
 
 abbrev pub same_at : Option Bug → Option Bug → Bool
 same_at None None = true
@@ -37,7 +37,7 @@ same_at None (Some b) = false
 same_at (Some a) None = false
 same_at (Some a) (Some b) = same_bugs a b
 
--- The ascending list of the numbers at which the record or the block differs; a number that only one side has differs.
+-- The ascending list of the numbers at which the record or the set differs; a number that only one side has differs.
 pub record AreChanged (old new : ℕ → Option Bug) (numbers : List ℕ) : Type 0 where
   pub ascending : IsAscending numbers
   pub listed : (n : ℕ) → has numbers n ≡ true → old n ≡ new n → ⊥
@@ -52,11 +52,11 @@ numbers_below (suc n) = numbers_below n ++ (n ∷ [])
 abbrev pub changed_numbers : Desk → Desk → List ℕ
 changed_numbers old new = filter (λ n. not (same_at (old.bug n) (new.bug n))) (numbers_below new.next)
 
--- The new images stand in the place of the old ones, which are blocks of the desk: they have every bug of the old ones,
+-- The new images stand in the place of the old ones, which are sets of the desk: they have every bug of the old ones,
 -- and no other bug of the desk, and leave a sound desk.
 pub record Replaces (d : Desk) (old new : List SetImage) (next : ℕ) : Type 0 where
   pub sound : IsSound d
-  pub blocks : AreBlocksOf d old
+  pub sets : AreSetsOf d old
   pub covers : CoverImages old new
   pub brings : BringNone d old new
   pub later : d.next ≤ next

@@ -73,7 +73,22 @@ bug_named (commands.NoOwner n) = n
 abbrev pub other_bugs : {N : Type 0} → Command N → List N
 other_bugs (commands.Merge n ns) = ns
 other_bugs (commands.ForceMerge n ns) = ns
-other_bugs command = []
+other_bugs (commands.Found n version) = []
+other_bugs (commands.NotFound n version) = []
+other_bugs (commands.Fixed n version) = []
+other_bugs (commands.NotFixed n version) = []
+other_bugs (commands.Close n version) = []
+other_bugs (commands.Reopen n who) = []
+other_bugs (commands.Severity n severity) = []
+other_bugs (commands.Tags n steps) = []
+other_bugs (commands.Retitle n text) = []
+other_bugs (commands.Submitter n who) = []
+other_bugs (commands.Reassign n package_name version) = []
+other_bugs (commands.Unmerge n) = []
+other_bugs (commands.Forwarded n text) = []
+other_bugs (commands.NotForwarded n) = []
+other_bugs (commands.Owner n who) = []
+other_bugs (commands.NoOwner n) = []
 
 -- the bugs that a command names, in the order written
 abbrev pub bugs_named : {N : Type 0} → Command N → List N

@@ -10,16 +10,16 @@ use Rattle.bug_record.specs.declared.bug.Bug.{Bug}
 use Rattle.bug_record.specs.declared.bug.Shared.{Shared}
 
 -- A desk: the bug of each number that has one, the ancestry of nodes, and the next number to give. The bug holds its whole
--- record, and as its block the numbers of the bugs merged with it, itself among them.
+-- record, and the numbers of the bugs merged with it, itself among them.
 pub record Desk : Type 0 where
   pub bug : ℕ → Option Bug
   pub tree : Ancestry
   pub next : ℕ
 
--- the bug is there, and has b's block and b's shared fields
+-- the bug is there, and is merged with the same bugs as b, and has b's shared fields
 abbrev pub IsMergedWith : Bug → Option Bug → Type 0
 IsMergedWith b None = ⊥
-IsMergedWith b (Some c) = (c.block ≡ b.block) × (c.shared ≡ b.shared)
+IsMergedWith b (Some c) = (c.merged ≡ b.merged) × (c.shared ≡ b.shared)
 
 -- the limits of shared fields: tags are a set, and marks are sets of nodes
 pub record IsGoodShared (f : Shared) : Type 0 where
@@ -38,11 +38,11 @@ pub record HasGoodTexts (b : Bug) : Type 0 where
 
 -- What a desk keeps. This project's own rule.
 pub record IsSound (d : Desk) : Type 0 where
-  -- a bug is in its own block, which is ascending
-  pub own : (n : ℕ) (b : Bug) → d.bug n ≡ Some b → has b.block n ≡ true
-  pub ascending : (n : ℕ) (b : Bug) → d.bug n ≡ Some b → IsAscending b.block
-  -- merged bugs have one block and agree on the shared fields
-  pub agree : (n m : ℕ) (b : Bug) → d.bug n ≡ Some b → has b.block m ≡ true → IsMergedWith b (d.bug m)
+  -- a bug is merged with itself, and the numbers ascend
+  pub own : (n : ℕ) (b : Bug) → d.bug n ≡ Some b → has b.merged n ≡ true
+  pub ascending : (n : ℕ) (b : Bug) → d.bug n ≡ Some b → IsAscending b.merged
+  -- merged bugs are merged with the same ones and agree on the shared fields
+  pub agree : (n m : ℕ) (b : Bug) → d.bug n ≡ Some b → has b.merged m ≡ true → IsMergedWith b (d.bug m)
   -- every text, package name and node is within its limits
   pub texts : (n : ℕ) (b : Bug) → d.bug n ≡ Some b → HasGoodTexts b
   -- numbers are from 1 to below the next one, which is from 1 to 1,000,000,000

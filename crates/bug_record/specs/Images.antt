@@ -19,7 +19,7 @@ member_at (m ∷ ms) n = if m.number == n then Some m else member_at ms n
 
 -- a member as a bug with a whole record
 abbrev pub bug_of : SetImage → Member → Bug
-bug_of i m = record { title = m.title; submitter = m.submitter; shared = i.shared; block = numbers_of i.members }
+bug_of i m = record { title = m.title; submitter = m.submitter; shared = i.shared; merged = numbers_of i.members }
 
 -- the bug n as the images show it
 abbrev pub bug_in : List SetImage → ℕ → Option Bug
@@ -34,20 +34,20 @@ AreApart (i ∷ is) = ((n : ℕ) → has (numbers_of i.members) n ≡ true → b
 abbrev pub HasMember : SetImage → Type 0
 HasMember i = i.members ≢ []
 
--- the image is a block of the desk: each member is a bug with the shared fields, merged with the members
-abbrev pub IsBlockOf : Desk → SetImage → Type 0
-IsBlockOf d i = Each (λ m. d.bug m.number ≡ Some (bug_of i m)) i.members
+-- the image is a set of the desk: each member is a bug with the shared fields, merged with the members
+abbrev pub IsSetOf : Desk → SetImage → Type 0
+IsSetOf d i = Each (λ m. d.bug m.number ≡ Some (bug_of i m)) i.members
 
-abbrev pub AreBlocksOf : Desk → List SetImage → Type 0
-AreBlocksOf d is = Each (IsBlockOf d) is
+abbrev pub AreSetsOf : Desk → List SetImage → Type 0
+AreSetsOf d is = Each (IsSetOf d) is
 
--- The desk after a change: the numbers of each image get its fields and become one block, and all else stays.
+-- The desk after a change: the numbers of each image get its fields and become one set, and all else stays.
 abbrev pub put : Desk → Change → Desk
 put d c = record { bug = λ n. option_or (bug_in c.images n) (d.bug n); tree = d.tree; next = c.next }
 
 -- the images cover whole sets: with a bug of the desk, all that are merged with it
 abbrev pub CoverSets : Desk → List SetImage → Type 0
-CoverSets d is = (n m : ℕ) (b : Bug) → d.bug n ≡ Some b → bug_in is n ≢ None → has b.block m ≡ true → bug_in is m ≢ None
+CoverSets d is = (n m : ℕ) (b : Bug) → d.bug n ≡ Some b → bug_in is n ≢ None → has b.merged m ≡ true → bug_in is m ≢ None
 
 -- The change may be made on the desk: it covers whole sets, and leaves a sound desk.
 pub record FitsDesk (d : Desk) (c : Change) : Type 0 where

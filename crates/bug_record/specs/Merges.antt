@@ -36,38 +36,38 @@ joined_shared first bugs = record first {
 }
 
 -- the numbers of all bugs that are merged with some of these
-abbrev pub joined_block : List Bug → List ℕ
-joined_block bugs = number_set (all_of (λ b. b.block) bugs)
+abbrev pub all_merged : List Bug → List ℕ
+all_merged bugs = number_set (all_of (λ b. b.merged) bugs)
 
--- these numbers become one block, with these shared fields
-abbrev pub with_block : Desk → List ℕ → Shared → Desk
-with_block d block shared = each_bug d (λ m b. record b {
-  shared = if has block m then shared else b.shared;
-  block = if has block m then block else b.block;
+-- these numbers become one set, with these shared fields
+abbrev pub with_merged : Desk → List ℕ → Shared → Desk
+with_merged d merged shared = each_bug d (λ m b. record b {
+  shared = if has merged m then shared else b.shared;
+  merged = if has merged m then merged else b.merged;
 })
 
--- All the bugs' blocks become one. They have to be there, and those after the first may not differ from it in a field that is
+-- All the bugs' sets become one. They have to be there, and those after the first may not differ from it in a field that is
 -- compared.
-abbrev pub merged : (Shared → Shared → Option Field) → Desk → ℕ → List ℕ → Result Desk Refusal
-merged difference d n ns =
+abbrev pub sets_joined : (Shared → Shared → Option Field) → Desk → ℕ → List ℕ → Result Desk Refusal
+sets_joined difference d n ns =
     at_bug (d.bug n) n (λ first.
     unless (first_refusal missing d.bug ns)
     (unless (first_refusal (differing (difference first.shared)) d.bug ns)
-    (Ok (with_block d (joined_block (bugs_at d.bug (n ∷ ns))) (joined_shared first.shared (bugs_at d.bug (n ∷ ns)))))))
+    (Ok (with_merged d (all_merged (bugs_at d.bug (n ∷ ns))) (joined_shared first.shared (bugs_at d.bug (n ∷ ns)))))))
 
--- n becomes a block by itself, and the rest of its block another
+-- n becomes a set by itself, and the rest of its set another
 abbrev pub parted : Desk → ℕ → List ℕ → Desk
-parted d n rest = each_bug d (λ m b. record b { block = if m == n then n ∷ [] else if has rest m then rest else b.block })
+parted d n rest = each_bug d (λ m b. record b { merged = if m == n then n ∷ [] else if has rest m then rest else b.merged })
 
--- the other numbers of a block
+-- the other numbers of a set
 abbrev pub rest_of : ℕ → List ℕ → List ℕ
-rest_of n block = filter (λ m. not (m == n)) block
+rest_of n merged = filter (λ m. not (m == n)) merged
 
 -- a bug that is merged with no other can't be taken out
 abbrev pub taken_out : Desk → ℕ → List ℕ → Result Desk Refusal
 taken_out d n [] = Err (NotMerged n)
 taken_out d n (m ∷ rest) = Ok (parted d n (m ∷ rest))
 
--- The bug is taken out of its block. No field changes.
+-- The bug is taken out of its set. No field changes.
 abbrev pub unmerged : Desk → ℕ → Result Desk Refusal
-unmerged d n = at_bug (d.bug n) n (λ b. taken_out d n (rest_of n b.block))
+unmerged d n = at_bug (d.bug n) n (λ b. taken_out d n (rest_of n b.merged))

@@ -2,7 +2,7 @@
 use Rattle.std.specs.Prelude.{ℕ, ◌≡◌, List, [], ◌∷◌, Some, None, Result, Ok, Err, ⊤}
 use Rattle.bug_record.specs.Desk.{Desk, IsSound}
 use Rattle.bug_record.specs.Steps.{step}
-use Rattle.bug_record.specs.Images.{bug_in, put, AreBlocksOf}
+use Rattle.bug_record.specs.Images.{bug_in, put, AreSetsOf}
 use Rattle.bug_record.specs.declared.bug.Bug.{Bug}
 use Rattle.bug_record.specs.declared.bug.SetImage.{SetImage}
 use Rattle.bug_record.specs.declared.command.Change.{Change}
@@ -16,12 +16,12 @@ abbrev pub AllKnown : Desk → List SetImage → List ℕ → Type 0
 AllKnown d is [] = ⊤
 AllKnown d is (n ∷ ns) = (bug_in is n ≡ d.bug n) × AllKnown d is ns
 
--- A sound desk that is as the images say: they are blocks of it, its next number is this, and of these bugs it has those
+-- A sound desk that is as the images say: they are sets of it, its next number is this, and of these bugs it has those
 -- that are in an image.
 pub record IsShownBy (d : Desk) (is : List SetImage) (next : ℕ) (ns : List ℕ) : Type 0 where
   pub sound : IsSound d
   pub next_is : d.next ≡ next
-  pub blocks : AreBlocksOf d is
+  pub sets : AreSetsOf d is
   pub known : AllKnown d is ns
 
 -- What is answered is what a step comes to, whose result is `after`: the same refusal, or a change that leaves the step's desk,

@@ -10,7 +10,7 @@ use Rattle.bug_record.specs.Desk.{Desk}
 use Rattle.bug_record.specs.Commands.{node_meant, person, bug_named}
 use Rattle.bug_record.specs.Bugs.{each_bug, at_bug}
 use Rattle.bug_record.specs.Differences.{first_difference, package_difference}
-use Rattle.bug_record.specs.Merges.{merged, unmerged}
+use Rattle.bug_record.specs.Merges.{sets_joined, unmerged}
 use Rattle.bug_record.specs.declared.bug.Bug.{Bug}
 use Rattle.bug_record.specs.declared.bug.Shared.{Shared}
 use Rattle.bug_record.specs.declared.severity.Severity.{Severity}
@@ -76,30 +76,66 @@ shared_after sender (commands.Forwarded n text) f = record f { forwarded = Some 
 shared_after sender (commands.NotForwarded n) f = record f { forwarded = None }
 shared_after sender (commands.Owner n who) f = record f { owner = Some (person sender who) }
 shared_after sender (commands.NoOwner n) f = record f { owner = None }
-shared_after sender command f = f
+shared_after sender (commands.Retitle n text) f = f
+shared_after sender (commands.Submitter n who) f = f
+shared_after sender (commands.Merge n ns) f = f
+shared_after sender (commands.ForceMerge n ns) f = f
+shared_after sender (commands.Unmerge n) f = f
 
 -- the new title of the bug m, where a command gives one: of the bug that it names alone
 abbrev pub new_title : Command ℕ → ℕ → Option (List ℕ)
 new_title (commands.Retitle n text) m = if m == n then Some text else None
-new_title command m = None
+new_title (commands.Found n version) m = None
+new_title (commands.NotFound n version) m = None
+new_title (commands.Fixed n version) m = None
+new_title (commands.NotFixed n version) m = None
+new_title (commands.Close n version) m = None
+new_title (commands.Reopen n who) m = None
+new_title (commands.Severity n severity) m = None
+new_title (commands.Tags n steps) m = None
+new_title (commands.Submitter n who) m = None
+new_title (commands.Reassign n package_name version) m = None
+new_title (commands.Merge n ns) m = None
+new_title (commands.ForceMerge n ns) m = None
+new_title (commands.Unmerge n) m = None
+new_title (commands.Forwarded n text) m = None
+new_title (commands.NotForwarded n) m = None
+new_title (commands.Owner n who) m = None
+new_title (commands.NoOwner n) m = None
 
 -- the new submitter of the bug m, where a command gives one: of the bug that it names alone, or of each closed bug that is
 -- reopened by somebody
 abbrev pub new_submitter : List ℕ → Command ℕ → Shared → ℕ → Option (List ℕ)
 new_submitter sender (commands.Submitter n who) f m = if m == n then Some (person sender who) else None
 new_submitter sender (commands.Reopen n (Some who)) f m = if f.closed then Some (person sender who) else None
-new_submitter sender command f m = None
+new_submitter sender (commands.Reopen n None) f m = None
+new_submitter sender (commands.Found n version) f m = None
+new_submitter sender (commands.NotFound n version) f m = None
+new_submitter sender (commands.Fixed n version) f m = None
+new_submitter sender (commands.NotFixed n version) f m = None
+new_submitter sender (commands.Close n version) f m = None
+new_submitter sender (commands.Severity n severity) f m = None
+new_submitter sender (commands.Tags n steps) f m = None
+new_submitter sender (commands.Retitle n text) f m = None
+new_submitter sender (commands.Reassign n package_name version) f m = None
+new_submitter sender (commands.Merge n ns) f m = None
+new_submitter sender (commands.ForceMerge n ns) f m = None
+new_submitter sender (commands.Unmerge n) f m = None
+new_submitter sender (commands.Forwarded n text) f m = None
+new_submitter sender (commands.NotForwarded n) f m = None
+new_submitter sender (commands.Owner n who) f m = None
+new_submitter sender (commands.NoOwner n) f m = None
 
--- a change to the record of every bug m whose block has n: of its shared fields, and of its title and its submitter, where
+-- a change to the record of every bug m that is merged with n: of its shared fields, and of its title and its submitter, where
 -- there is a new one
 abbrev pub change_set : Desk → ℕ → (Shared → Shared) → (ℕ → Option (List ℕ)) → (Shared → ℕ → Option (List ℕ)) → Desk
 change_set d n f title who = each_bug d (λ m b. record b {
-  shared = if has b.block n then f b.shared else b.shared;
-  title = if has b.block n then unwrap_or (title m) b.title else b.title;
-  submitter = if has b.block n then unwrap_or (who b.shared m) b.submitter else b.submitter;
+  shared = if has b.merged n then f b.shared else b.shared;
+  title = if has b.merged n then unwrap_or (title m) b.title else b.title;
+  submitter = if has b.merged n then unwrap_or (who b.shared m) b.submitter else b.submitter;
 })
 
--- a command that changes records, and no block
+-- a command that changes records, and no set
 abbrev pub records_changed : List ℕ → Command ℕ → Desk → Result Desk Refusal
 records_changed sender command d =
     at_bug (d.bug (bug_named command)) (bug_named command)
@@ -107,10 +143,24 @@ records_changed sender command d =
 
 -- The new desk, or the refusal, of a command by this sender.
 abbrev pub step : Desk → List ℕ → Command ℕ → Result Desk Refusal
-step d sender (commands.Merge n ns) = merged first_difference d n ns
-step d sender (commands.ForceMerge n ns) = merged package_difference d n ns
+step d sender (commands.Merge n ns) = sets_joined first_difference d n ns
+step d sender (commands.ForceMerge n ns) = sets_joined package_difference d n ns
 step d sender (commands.Unmerge n) = unmerged d n
-step d sender command = records_changed sender command d
+step d sender (commands.Found n version) = records_changed sender (commands.Found n version) d
+step d sender (commands.NotFound n version) = records_changed sender (commands.NotFound n version) d
+step d sender (commands.Fixed n version) = records_changed sender (commands.Fixed n version) d
+step d sender (commands.NotFixed n version) = records_changed sender (commands.NotFixed n version) d
+step d sender (commands.Close n version) = records_changed sender (commands.Close n version) d
+step d sender (commands.Reopen n who) = records_changed sender (commands.Reopen n who) d
+step d sender (commands.Severity n severity) = records_changed sender (commands.Severity n severity) d
+step d sender (commands.Tags n steps) = records_changed sender (commands.Tags n steps) d
+step d sender (commands.Retitle n text) = records_changed sender (commands.Retitle n text) d
+step d sender (commands.Submitter n who) = records_changed sender (commands.Submitter n who) d
+step d sender (commands.Reassign n package_name version) = records_changed sender (commands.Reassign n package_name version) d
+step d sender (commands.Forwarded n text) = records_changed sender (commands.Forwarded n text) d
+step d sender (commands.NotForwarded n) = records_changed sender (commands.NotForwarded n) d
+step d sender (commands.Owner n who) = records_changed sender (commands.Owner n who) d
+step d sender (commands.NoOwner n) = records_changed sender (commands.NoOwner n) d
 
 -- the found marks of a new report
 abbrev pub found_first : Option Node → List Node
@@ -124,7 +174,7 @@ new_bug number sender package_name severity title node = record {
   title = title;
   submitter = sender;
   shared = record { «package» = package_name; severity = severity; closed = false; forwarded = None; owner = None; tags = []; found = found_first node; fixed = [] };
-  block = number ∷ [];
+  merged = number ∷ [];
 }
 
 -- The desk after a report: the record of the next number is new.

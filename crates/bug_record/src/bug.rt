@@ -47,7 +47,7 @@ pub struct Bug {
     pub title: Text,
     pub submitter: Text,
     pub shared: Shared,
-    pub block: Numbers,
+    pub merged: Numbers,
 }
 
 impl Numbered for Member {

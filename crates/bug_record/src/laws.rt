@@ -7,7 +7,7 @@ ghost use Rattle.ancestry.specs.Nodes.{Node, same_node, node_cmp};
 ghost use Rattle.bug_record.specs.Sets.{has, IsAscending};
 ghost use Rattle.bug_record.specs.Marks.{has_node, with_node, without_node};
 ghost use Rattle.bug_record.specs.Tags.{has_tag, IsTagSet};
-ghost use Rattle.bug_record.specs.Merges.{joined_block, joined_tags, joined_shared};
+ghost use Rattle.bug_record.specs.Merges.{all_merged, joined_tags, joined_shared};
 ghost use Rattle.bug_record.specs.declared.bug.Bug.{Bug};
 ghost use Rattle.bug_record.specs.declared.bug.Shared.{Shared};
 ghost use Rattle.bug_record.specs.declared.tag.Tag.{Tag};
@@ -15,7 +15,7 @@ ghost use Rattle.bug_record.specs.declared.tag.Tag.{Tag};
 /// Merged bugs have together what some of them has: a bug is merged with them where it is merged with one of them, and a tag
 /// or a mark is theirs where one of them has it.
 pub fn joined_by_membership()
-    ensures block { (bugs : List Bug) (m : ℕ) → has (joined_block bugs) m ≡ list_any (λ b. has b.block m) bugs }
+    ensures merged { (bugs : List Bug) (m : ℕ) → has (all_merged bugs) m ≡ list_any (λ b. has b.merged m) bugs }
     ensures tags { (bugs : List Bug) (t : Tag) → has_tag (joined_tags bugs) t ≡ list_any (λ b. has_tag b.shared.tags t) bugs }
     ensures found { (first : Shared) (bugs : List Bug) (n : Node) →
         has_node (joined_shared first bugs).found n ≡ list_any (λ b. has_node b.shared.found n) bugs }
@@ -23,9 +23,9 @@ pub fn joined_by_membership()
         has_node (joined_shared first bugs).fixed n ≡ list_any (λ b. has_node b.shared.fixed n) bugs }
 {}
 
-/// The block, the tags and the marks of merged bugs are sets: each item stands in its place, once.
+/// The bugs, the tags and the marks of a joined set are sets: each item stands in its place, once.
 pub fn joined_are_sets()
-    ensures block { (bugs : List Bug) → IsAscending (joined_block bugs) }
+    ensures merged { (bugs : List Bug) → IsAscending (all_merged bugs) }
     ensures tags { (bugs : List Bug) → IsTagSet (joined_tags bugs) }
     ensures found { (first : Shared) (bugs : List Bug) → IsStrictlySortedBy node_cmp (joined_shared first bugs).found }
     ensures fixed { (first : Shared) (bugs : List Bug) → IsStrictlySortedBy node_cmp (joined_shared first bugs).fixed }

@@ -42,6 +42,13 @@ impl<T> Sequence<T> {
         Sequence { items }
     }
 
+    /// The `Vec` of the elements. It takes no memory.
+    pub fn into_vec(self) -> Vec<T>
+        ensures { result.items ≡ self }
+    {
+        self.items
+    }
+
     /// An empty list over the same allocator. It takes no memory.
     pub fn empty<U>(&self) -> Sequence<U>
         ensures { result ≡ [] }

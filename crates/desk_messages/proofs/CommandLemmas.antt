@@ -29,7 +29,7 @@ shown d d1 d2 images sets next ns f p q sound =
     let same : d ≡ d2 = sym (q.1 ∙ p.1) in
     let s : ShowBugs d2 ns images = subst (λ (z : Desk). ShowBugs z ns images) same p.0 in
     let t : ShowBugs d2 ns sets = subst (ShowBugs d2 ns) (sym f) s in
-    record { sound = sound; next_is = sym (q.0 ∙ ap (λ (z : Desk). z.next) (sym q.1)); blocks = t.blocks; known = t.known }
+    record { sound = sound; next_is = sym (q.0 ∙ ap (λ (z : Desk). z.next) (sym q.1)); sets = t.sets; known = t.known }
 
 -- what is planned may be carried out
 pub planned : (d : Desk) (images : List SetImage) (next : ℕ) (ns : List ℕ) (change : Change) → IsShownBy d images next ns → FitsDesk d change → CoverImages images change.images → BringNone d images change.images → next ≤ change.next → MayBeMade d images next change
@@ -38,7 +38,7 @@ planned d images next ns change sh fits covers brings later = record {
   fits = fits;
   replaces = record {
     sound = sh.sound;
-    blocks = sh.blocks;
+    sets = sh.sets;
     covers = covers;
     brings = brings;
     later = subst (λ (m : ℕ). m ≤ change.next) (sym sh.next_is) later;

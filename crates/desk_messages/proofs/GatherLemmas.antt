@@ -1,4 +1,4 @@
--- Images gathered one after another stay blocks of the desk, and apart.
+-- Images gathered one after another stay sets of the desk, and apart.
 use Rattle.std.proofs.Common.{◌≡◌, ◌<◌, ◌+◌, ℕ, Bool, true, false, ◌||◌, eqb, List, [], ◌∷◌, ◌++◌, take, get_or, length, Option, Some, None, sym, refl, ap, ◌∙◌, subst}
 use Rattle.std.specs.Prelude.{option_map, ◌==◌, if◌then◌else◌}
 use Rattle.std.specs.Option.{option_or}
@@ -6,12 +6,12 @@ use Rattle.std.proofs.lemmas.Bool.{false≢true, eqb-true, or_parts}
 use Rattle.std.proofs.lemmas.List.{take_more}
 use Rattle.bug_record.specs.Sets.{has, Each}
 use Rattle.bug_record.specs.Desk.{Desk}
-use Rattle.bug_record.specs.Images.{numbers_of, member_at, bug_of, bug_in, AreApart, IsBlockOf, AreBlocksOf}
+use Rattle.bug_record.specs.Images.{numbers_of, member_at, bug_of, bug_in, AreApart, IsSetOf, AreSetsOf}
 use Rattle.bug_record.specs.Plans.{AllKnown}
 use Rattle.bug_record.specs.declared.bug.Bug.{Bug}
 use Rattle.bug_record.specs.declared.bug.Member.{Member}
 use Rattle.bug_record.specs.declared.bug.SetImage.{SetImage}
-use Rattle.bug_core.proofs.ImageLemmas.{none_left, none_right, none_map, has-member_none, no_member-has, bug_in-append, bug_in-block, shown}
+use Rattle.bug_core.proofs.ImageLemmas.{none_left, none_right, none_map, has-member_none, no_member-has, bug_in-append, bug_in-merged, shown}
 use Rattle.desk_store.specs.Store.{IsImageOf}
 use Rattle.desk_messages.specs.Images.{is_member, is_gathered, meets, Gather}
 
@@ -44,12 +44,12 @@ gathered (i ∷ is) n h e =
       | false ↦ λ q h. gathered is n h (none_right (option_map (bug_of i) (member_at i.members n)) (bug_in is n) e)
     ] refl h
 
-shown_as_there : (d : Desk) (images : List SetImage) (n : ℕ) → AreBlocksOf d images → is_gathered images n ≡ true → bug_in images n ≡ d.bug n
-shown_as_there d images n blocks h = cases (bug_in images n) refl
+shown_as_there : (d : Desk) (images : List SetImage) (n : ℕ) → AreSetsOf d images → is_gathered images n ≡ true → bug_in images n ≡ d.bug n
+shown_as_there d images n sets h = cases (bug_in images n) refl
   where
     cases : (o : Option Bug) → bug_in images n ≡ o → bug_in images n ≡ d.bug n
     cases None e = absurd (gathered images n h e)
-    cases (Some b) e = e ∙ sym (shown d images blocks n b e)
+    cases (Some b) e = e ∙ sym (shown d images sets n b e)
 
 -- members that meet no image are in none
 unmet : (images : List SetImage) (ms : List Member) → meets images ms ≡ false → (k : ℕ) → has (numbers_of ms) k ≡ true → bug_in images k ≡ None
@@ -61,20 +61,20 @@ unmet images (m ∷ ms) h k e =
       | false ↦ λ q e. unmet images ms p.1 k e
     ] refl e
 
--- blocks of one desk that share a bug are the same: a bug that is in no image is in none that meets one of them
-met : (d : Desk) (images : List SetImage) (i : SetImage) (n : ℕ) → AreBlocksOf d images → bug_in images n ≡ None → has (numbers_of i.members) n ≡ true
+-- sets of one desk that share a bug are the same: a bug that is in no image is in none that meets one of them
+met : (d : Desk) (images : List SetImage) (i : SetImage) (n : ℕ) → AreSetsOf d images → bug_in images n ≡ None → has (numbers_of i.members) n ≡ true
     → (ms : List Member) → Each (λ m. d.bug m.number ≡ Some (bug_of i m)) ms → meets images ms ≡ true → ⊥
-met d images i n blocks none own [] each h = false≢true h
-met d images i n blocks none own (m ∷ ms) each h =
+met d images i n sets none own [] each h = false≢true h
+met d images i n sets none own (m ∷ ms) each h =
     elim (is_gathered images m.number) as (λ t. is_gathered images m.number ≡ t → (t || meets images ms) ≡ true → ⊥) [
-      | true ↦ λ q h. bug_in-block images m.number n (bug_of i m) (shown_as_there d images m.number blocks q ∙ each.0) own none
-      | false ↦ λ q h. met d images i n blocks none own ms each.1 h
+      | true ↦ λ q h. bug_in-merged images m.number n (bug_of i m) (shown_as_there d images m.number sets q ∙ each.0) own none
+      | false ↦ λ q h. met d images i n sets none own ms each.1 h
     ] refl h
 
 -- one image more
-blocks-more : (d : Desk) (images : List SetImage) (i : SetImage) → AreBlocksOf d images → IsBlockOf d i → AreBlocksOf d (images ++ i ∷ [])
-blocks-more d [] i h k = (k, tt)
-blocks-more d (j ∷ images) i h k = (h.0, blocks-more d images i h.1 k)
+sets-more : (d : Desk) (images : List SetImage) (i : SetImage) → AreSetsOf d images → IsSetOf d i → AreSetsOf d (images ++ i ∷ [])
+sets-more d [] i h k = (k, tt)
+sets-more d (j ∷ images) i h k = (h.0, sets-more d images i h.1 k)
 
 none_with : (images : List SetImage) (i : SetImage) (n : ℕ) → bug_in images n ≡ None → member_at i.members n ≡ None → bug_in (images ++ i ∷ []) n ≡ None
 none_with images i n e f =
@@ -96,26 +96,26 @@ apart-more images i a h = more images a (unmet images i.members h)
     )
 
 -- what an image more shows
-shows-more : (d : Desk) (images : List SetImage) (i : SetImage) (m : ℕ) → IsBlockOf d i → bug_in images m ≡ d.bug m → bug_in (images ++ i ∷ []) m ≡ d.bug m
-shows-more d images i m block h = bug_in-append images (i ∷ []) m ∙ cases (bug_in images m) refl (bug_in (i ∷ []) m) refl
+shows-more : (d : Desk) (images : List SetImage) (i : SetImage) (m : ℕ) → IsSetOf d i → bug_in images m ≡ d.bug m → bug_in (images ++ i ∷ []) m ≡ d.bug m
+shows-more d images i m merged h = bug_in-append images (i ∷ []) m ∙ cases (bug_in images m) refl (bug_in (i ∷ []) m) refl
   where
     cases : (o : Option Bug) → bug_in images m ≡ o → (p : Option Bug) → bug_in (i ∷ []) m ≡ p → option_or (bug_in images m) (bug_in (i ∷ []) m) ≡ d.bug m
     cases (Some b) e p q = ap (λ (o : Option Bug). option_or o (bug_in (i ∷ []) m)) e ∙ sym e ∙ h
     cases None e None q = ap (λ (o : Option Bug). option_or o (bug_in (i ∷ []) m)) e ∙ q ∙ sym e ∙ h
-    cases None e (Some b) q = ap (λ (o : Option Bug). option_or o (bug_in (i ∷ []) m)) e ∙ q ∙ sym (shown d (i ∷ []) (block, tt) m b q)
+    cases None e (Some b) q = ap (λ (o : Option Bug). option_or o (bug_in (i ∷ []) m)) e ∙ q ∙ sym (shown d (i ∷ []) (merged, tt) m b q)
 
 -- what is gathered for one bug: nothing, where it is in an image
 pub gather-there : (d : Desk) (images : List SetImage) (n : ℕ) → is_gathered images n ≡ true → Gather d (n ∷ []) images images
-gather-there d images n h = record { blocks = λ b. b; known = λ b. (shown_as_there d images n b h, tt); stays = λ b m e. e }
+gather-there d images n h = record { sets = λ b. b; known = λ b. (shown_as_there d images n b h, tt); stays = λ b m e. e }
 
 -- nothing, where there is no such bug
 pub gather-none : (d : Desk) (images : List SetImage) (n : ℕ) → is_gathered images n ≡ false → IsImageOf d n None → Gather d (n ∷ []) images images
-gather-none d images n h none = record { blocks = λ b. b; known = λ b. (not_gathered images n h ∙ sym none, tt); stays = λ b m e. e }
+gather-none d images n h none = record { sets = λ b. b; known = λ b. (not_gathered images n h ∙ sym none, tt); stays = λ b m e. e }
 
--- an image that meets the others is no block of this desk
+-- an image that meets the others is no set of this desk
 pub gather-met : (d : Desk) (images : List SetImage) (n : ℕ) (i : SetImage) → is_gathered images n ≡ false → IsImageOf d n (Some i) → meets images i.members ≡ true → Gather d (n ∷ []) images images
 gather-met d images n i h is t = record {
-  blocks = λ b. b;
+  sets = λ b. b;
   known = λ b. absurd (met d images i n b (not_gathered images n h) is.0 i.members is.1 t);
   stays = λ b m e. e;
 }
@@ -123,7 +123,7 @@ gather-met d images n i h is t = record {
 -- the image of its set
 pub gather-one : (d : Desk) (images : List SetImage) (n : ℕ) (i : SetImage) → is_gathered images n ≡ false → IsImageOf d n (Some i) → Gather d (n ∷ []) images (images ++ i ∷ [])
 gather-one d images n i h is = record {
-  blocks = λ b. blocks-more d images i b is.1;
+  sets = λ b. sets-more d images i b is.1;
   known = λ b. (bug_in-append images (i ∷ []) n ∙ ap (λ (o : Option Bug). option_or o (bug_in (i ∷ []) n)) (not_gathered images n h) ∙ member_shown d i i.members n is.0 is.1, tt);
   stays = λ b m e. shows-more d images i m is.1 e;
 }
@@ -131,9 +131,9 @@ gather-one d images n i h is = record {
 -- and for bugs after bugs
 pub gather-both : (d : Desk) (ns ms : List ℕ) (first second third : List SetImage) → Gather d ns first second → Gather d ms second third → Gather d (ns ++ ms) first third
 gather-both d ns ms first second third g h = record {
-  blocks = λ b. h.blocks (g.blocks b);
-  known = λ b. all ns (g.known b) (h.stays (g.blocks b)) (h.known (g.blocks b));
-  stays = λ b m e. h.stays (g.blocks b) m (g.stays b m e);
+  sets = λ b. h.sets (g.sets b);
+  known = λ b. all ns (g.known b) (h.stays (g.sets b)) (h.known (g.sets b));
+  stays = λ b m e. h.stays (g.sets b) m (g.stays b m e);
 }
   where
     all : (ns : List ℕ) → AllKnown d second ns → ((m : ℕ) → bug_in second m ≡ d.bug m → bug_in third m ≡ d.bug m) → AllKnown d third ms → AllKnown d third (ns ++ ms)

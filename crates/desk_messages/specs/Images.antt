@@ -2,7 +2,7 @@
 use Rattle.std.specs.Prelude.{ℕ, ◌≡◌, ◌==◌, Bool, List}
 use Rattle.std.specs.List.{list_any}
 use Rattle.bug_record.specs.Desk.{Desk}
-use Rattle.bug_record.specs.Images.{bug_in, AreBlocksOf}
+use Rattle.bug_record.specs.Images.{bug_in, AreSetsOf}
 use Rattle.bug_record.specs.Plans.{AllKnown}
 use Rattle.bug_record.specs.declared.bug.Member.{Member}
 use Rattle.bug_record.specs.declared.bug.SetImage.{SetImage}
@@ -19,14 +19,14 @@ is_gathered images n = list_any (λ i. is_member i.members n) images
 abbrev pub meets : List SetImage → List Member → Bool
 meets images ms = list_any (λ m. is_gathered images m.number) ms
 
--- Images gathered for these bugs besides the old ones: where the old ones are blocks of the desk, all are, they show each of
+-- Images gathered for these bugs besides the old ones: where the old ones are sets of the desk, all are, they show each of
 -- the bugs as it is there, and still show the bugs that the old ones showed so.
 pub record Gather (d : Desk) (ns : List ℕ) (old new : List SetImage) : Type 0 where
-  pub blocks : AreBlocksOf d old → AreBlocksOf d new
-  pub known : AreBlocksOf d old → AllKnown d new ns
-  pub stays : AreBlocksOf d old → (m : ℕ) → bug_in old m ≡ d.bug m → bug_in new m ≡ d.bug m
+  pub sets : AreSetsOf d old → AreSetsOf d new
+  pub known : AreSetsOf d old → AllKnown d new ns
+  pub stays : AreSetsOf d old → (m : ℕ) → bug_in old m ≡ d.bug m → bug_in new m ≡ d.bug m
 
--- the images are blocks of the desk, and show each of these bugs as it is there
+-- the images are sets of the desk, and show each of these bugs as it is there
 pub record ShowBugs (d : Desk) (ns : List ℕ) (images : List SetImage) : Type 0 where
-  pub blocks : AreBlocksOf d images
+  pub sets : AreSetsOf d images
   pub known : AllKnown d images ns

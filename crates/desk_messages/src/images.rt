@@ -38,7 +38,7 @@ fn meets(images: &[SetImage], members: &[Member]) -> bool
 }
 
 // Adds the image of the set that the bug is in, if there is one, unless the bug is in one of the images. One that shares a
-// bug with them is left out: no desk has such blocks.
+// bug with them is left out: no desk has such sets.
 fn add_image<S: Records>(
     store: &mut S,
     images: &mut Sequence<SetImage>,

@@ -16,12 +16,12 @@ use Rattle.desk_store.specs.Plain.{desk_of, member_of, members_in, set_in}
 use Rattle.desk_store.specs.Store.{IsImageOf}
 
 -- one number more
-pub members_in-more : (bugs : BTreeMap ℕ Bug) (block : List ℕ) (i n : ℕ) (ms more : List Member) → i < length block → n ≡ get_or block i 0 → more ≡ ms ++ member_of n (get nat_cmp bugs n)
-    → ms ++ members_in bugs (drop i block) ≡ members_in bugs block → more ++ members_in bugs (drop (i + 1) block) ≡ members_in bugs block
-members_in-more bugs block i n ms more lt is e h =
-    let here : drop i block ≡ n ∷ drop (i + 1) block = drop_more block i 0 lt ∙ ap (λ (k : ℕ). k ∷ drop (i + 1) block) (sym is) in
-    ap (λ (w : List Member). w ++ members_in bugs (drop (i + 1) block)) e
-    ∙ (append_assoc ms (member_of n (get nat_cmp bugs n)) (members_in bugs (drop (i + 1) block))
+pub members_in-more : (bugs : BTreeMap ℕ Bug) (merged : List ℕ) (i n : ℕ) (ms more : List Member) → i < length merged → n ≡ get_or merged i 0 → more ≡ ms ++ member_of n (get nat_cmp bugs n)
+    → ms ++ members_in bugs (drop i merged) ≡ members_in bugs merged → more ++ members_in bugs (drop (i + 1) merged) ≡ members_in bugs merged
+members_in-more bugs merged i n ms more lt is e h =
+    let here : drop i merged ≡ n ∷ drop (i + 1) merged = drop_more merged i 0 lt ∙ ap (λ (k : ℕ). k ∷ drop (i + 1) merged) (sym is) in
+    ap (λ (w : List Member). w ++ members_in bugs (drop (i + 1) merged)) e
+    ∙ (append_assoc ms (member_of n (get nat_cmp bugs n)) (members_in bugs (drop (i + 1) merged))
     ∙ (ap (λ (w : List ℕ). ms ++ members_in bugs w) (sym here) ∙ h))
 
 -- ---- on a sound desk
@@ -43,25 +43,25 @@ numbers_of-members_in bugs b (n ∷ ns) h =
     elim (get nat_cmp bugs n) as (λ o. IsMergedWith b o → numbers_of (member_of n o ++ members_in bugs ns) ≡ n ∷ ns)
     [ None ↦ λ w. absurd w | Some c ↦ λ w. ap (λ (ms : List ℕ). n ∷ ms) (numbers_of-members_in bugs b ns (rest_merged bugs b n ns h)) ] (first_merged bugs b n ns h)
 
--- each member's bug has the shared fields and the block of b
+-- each member's bug has the shared fields of b, and is merged with the same bugs
 abbrev IsLike : BTreeMap ℕ Bug → Bug → List ℕ → Member → Type 0
-IsLike bugs b block m = get nat_cmp bugs m.number ≡ Some (record { title = m.title; submitter = m.submitter; shared = b.shared; block = block })
+IsLike bugs b merged m = get nat_cmp bugs m.number ≡ Some (record { title = m.title; submitter = m.submitter; shared = b.shared; merged = merged })
 
-Each-members_in : (bugs : BTreeMap ℕ Bug) (b : Bug) (block : List ℕ) → b.block ≡ block → (ns : List ℕ) → AllMerged bugs b ns → Each (IsLike bugs b block) (members_in bugs ns)
-Each-members_in bugs b block is [] h = tt
-Each-members_in bugs b block is (n ∷ ns) h =
-    elim (get nat_cmp bugs n) as (λ o. get nat_cmp bugs n ≡ o → IsMergedWith b o → Each (IsLike bugs b block) (member_of n o ++ members_in bugs ns)) [
+Each-members_in : (bugs : BTreeMap ℕ Bug) (b : Bug) (merged : List ℕ) → b.merged ≡ merged → (ns : List ℕ) → AllMerged bugs b ns → Each (IsLike bugs b merged) (members_in bugs ns)
+Each-members_in bugs b merged is [] h = tt
+Each-members_in bugs b merged is (n ∷ ns) h =
+    elim (get nat_cmp bugs n) as (λ o. get nat_cmp bugs n ≡ o → IsMergedWith b o → Each (IsLike bugs b merged) (member_of n o ++ members_in bugs ns)) [
       | None ↦ λ e w. absurd w
-      | Some c ↦ λ e w. (e ∙ (λ i. Some (record { title = c.title; submitter = c.submitter; shared = w.1 i; block = (w.0 ∙ is) i })), Each-members_in bugs b block is ns (rest_merged bugs b n ns h))
+      | Some c ↦ λ e w. (e ∙ (λ i. Some (record { title = c.title; submitter = c.submitter; shared = w.1 i; merged = (w.0 ∙ is) i })), Each-members_in bugs b merged is ns (rest_merged bugs b n ns h))
     ]
     refl (first_merged bugs b n ns h)
 
 -- the set of a bug that is there is its image
 pub set_in-image : (bugs : BTreeMap ℕ Bug) (tree : Ancestry) (next : ℕ) → IsSound (desk_of bugs tree next) → (n : ℕ) (b : Bug) → get nat_cmp bugs n ≡ Some b → IsImageOf (desk_of bugs tree next) n (Some (set_in bugs b))
 set_in-image bugs tree next sound n b e =
-    let merged : AllMerged bugs b b.block = λ m w. sound.agree n m b e w in
-    let ns : numbers_of (members_in bugs b.block) ≡ b.block = numbers_of-members_in bugs b b.block merged in
-    (ap (λ (w : List ℕ). has w n) ns ∙ sound.own n b e, Each-members_in bugs b (numbers_of (members_in bugs b.block)) (sym ns) b.block merged)
+    let merged : AllMerged bugs b b.merged = λ m w. sound.agree n m b e w in
+    let ns : numbers_of (members_in bugs b.merged) ≡ b.merged = numbers_of-members_in bugs b b.merged merged in
+    (ap (λ (w : List ℕ). has w n) ns ∙ sound.own n b e, Each-members_in bugs b (numbers_of (members_in bugs b.merged)) (sym ns) b.merged merged)
 
 -- ---- desks with the same bugs
 

@@ -27,4 +27,4 @@ members_in bugs (n ∷ ns) = member_of n (get nat_cmp bugs n) ++ members_in bugs
 
 -- the image of the set that a bug is in
 abbrev pub set_in : BTreeMap ℕ Bug → Bug → SetImage
-set_in bugs b = record { shared = b.shared; members = members_in bugs b.block }
+set_in bugs b = record { shared = b.shared; members = members_in bugs b.merged }

@@ -6,7 +6,7 @@ use Rattle.ancestry.specs.declared.fault.BranchFault.{BranchFault}
 use Rattle.ancestry.specs.declared.fault.BranchFault.TheVariants.{Memory as WantOfMemory}
 use Rattle.bug_record.specs.Sets.{has}
 use Rattle.bug_record.specs.Desk.{Desk}
-use Rattle.bug_record.specs.Images.{numbers_of, IsBlockOf, put}
+use Rattle.bug_record.specs.Images.{numbers_of, IsSetOf, put}
 use Rattle.bug_record.specs.declared.bug.SetImage.{SetImage}
 use Rattle.bug_record.specs.declared.command.Change.{Change}
 use Rattle.desk_text.specs.declared.outcome.StoreFault.{StoreFault}
@@ -29,10 +29,10 @@ abbrev pub Answers : {T : Type 0} → Desk → Desk → Result T StoreFault → 
 Answers old new (Ok answer) P = P answer × (new ≡ old)
 Answers old new (Err fault) P = new ≡ old
 
--- the image of the bug's block: the bug is among its members, and it is a block of the desk
+-- the image of the bug's set: the bug is among its members, and it is a set of the desk
 abbrev pub IsImageOf : Desk → ℕ → Option SetImage → Type 0
 IsImageOf d n None = d.bug n ≡ None
-IsImageOf d n (Some i) = (has (numbers_of i.members) n ≡ true) × IsBlockOf d i
+IsImageOf d n (Some i) = (has (numbers_of i.members) n ≡ true) × IsSetOf d i
 
 abbrev pub IsNext : Desk → ℕ → Type 0
 IsNext d n = n ≡ d.next

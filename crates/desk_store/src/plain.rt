@@ -65,12 +65,12 @@ fn add_member(
 fn members_in(
     alloc: Global,
     bugs: &BTreeMap<u64, Bug>,
-    block: &[u64],
+    merged: &[u64],
 ) -> Result<Sequence<Member>, AllocError>
-    ensures { IfOk result (λ members. members ≡ members_in bugs.now block.now) }
+    ensures { IfOk result (λ members. members ≡ members_in bugs.now merged.now) }
 {
     let mut members = Sequence::new(alloc);
-    for number in block {
+    for number in merged {
         add_member(&mut members, bugs, *number)?;
     }
     Ok(members)
@@ -82,7 +82,7 @@ fn set_in(alloc: Global, bugs: &BTreeMap<u64, Bug>, bug: &Bug) -> Result<SetImag
 {
     Ok(SetImage {
         shared: bug.shared.copy()?,
-        members: members_in(alloc, bugs, bug.block.as_slice())?,
+        members: members_in(alloc, bugs, bug.merged.as_slice())?,
     })
 }
 

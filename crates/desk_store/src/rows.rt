@@ -20,8 +20,8 @@ pub(crate) struct Row {
 }
 
 // A member of an image as a row.
-fn row_of(image: &SetImage, block: &Numbers, member: &Member) -> Result<Row, AllocError>
-    requires { block.now ≡ numbers_of image.now.members }
+fn row_of(image: &SetImage, merged: &Numbers, member: &Member) -> Result<Row, AllocError>
+    requires { merged.now ≡ numbers_of image.now.members }
     ensures { IfOk result (λ row. row ≡ row_of image.now member.now) }
 {
     Ok(Row {
@@ -30,7 +30,7 @@ fn row_of(image: &SetImage, block: &Numbers, member: &Member) -> Result<Row, All
             title: member.title.copy()?,
             submitter: member.submitter.copy()?,
             shared: image.shared.copy()?,
-            block: block.copy()?,
+            merged: merged.copy()?,
         },
     })
 }
@@ -41,23 +41,23 @@ fn add_row(
     bugs: &BTreeMap<u64, Bug>,
     known: bool,
     image: &SetImage,
-    block: &Numbers,
+    merged: &Numbers,
     member: &Member,
 ) -> Result<(), AllocError>
-    requires { block.now ≡ numbers_of image.now.members }
+    requires { merged.now ≡ numbers_of image.now.members }
     ensures { OnOk result
         (rows.new.items ≡ rows.old.items ++ filter (is_known bugs.now known) (row_of image.now member.now ∷ [])) }
 {
     if bugs.contains_key(&member.number) != known {
         return Ok(());
     }
-    rows.push(row_of(image, block, member)?)?;
+    rows.push(row_of(image, merged, member)?)?;
     Ok(())
 }
 
 // The numbers of an image's members.
-fn block_of(alloc: Global, image: &SetImage) -> Result<Numbers, AllocError>
-    ensures { IfOk result (λ block. block ≡ numbers_of image.now.members) }
+fn merged_of(alloc: Global, image: &SetImage) -> Result<Numbers, AllocError>
+    ensures { IfOk result (λ merged. merged ≡ numbers_of image.now.members) }
 {
     let members = image.members.as_slice();
     Ok(Sequence::from_vec(members.iter().map(|member| member.number).collect(alloc)?))
@@ -74,9 +74,9 @@ fn add_rows(
     ensures { OnOk result
         (rows.new.items ≡ rows.old.items ++ filter (is_known bugs.now known) (map (row_of image.now) image.now.members)) }
 {
-    let block = block_of(alloc, image)?;
+    let merged = merged_of(alloc, image)?;
     for member in image.members.as_slice() {
-        add_row(rows, bugs, known, image, &block, member)?;
+        add_row(rows, bugs, known, image, &merged, member)?;
     }
     Ok(())
 }

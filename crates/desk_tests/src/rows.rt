@@ -39,15 +39,15 @@ pub(crate) fn answers<S: Records>(
 }
 
 /// Whether these are the members of the bug's set.
-pub(crate) fn are_merged(desk: &mut PlainDesk, number: u64, block: &[u64]) -> Result<bool, Fail> {
+pub(crate) fn are_merged(desk: &mut PlainDesk, number: u64, merged: &[u64]) -> Result<bool, Fail> {
     let Some(image) = desk.set_of(number)? else {
         return Err(Fail::new("no such bug"));
     };
     let members = image.members.as_slice();
-    if members.len() != block.len() {
+    if members.len() != merged.len() {
         return Ok(false);
     }
-    for (member, number) in members.iter().zip(block) {
+    for (member, number) in members.iter().zip(merged) {
         if member.number != *number {
             return Ok(false);
         }

@@ -1,6 +1,6 @@
 //! The texts of outcomes and ends, appended to a transcript.
 
-ghost use Rattle.std.specs.Prelude.{◌≡◌, ◌++◌, IfOk, OnOk, OnErr, string_bytes};
+ghost use Rattle.std.specs.Prelude.{◌≡◌, [], ◌++◌, IsOk, IfOk, OnOk, OnErr, string_bytes};
 ghost use Rattle.desk_text.specs.Texts.{field_word, difference_text, not_merged_text, refusal_text, numbers_text, answer_text, fault_word, fault_answer, fault_text, outcome_text, store_end_text, end_text};
 
 use crate::outcome::{End, Outcome, StoreFault};
@@ -142,10 +142,11 @@ fn store_end_text(
 
 /// Appends what follows the last outcome: nothing for `All` and `Stopped`; a line for `TooManyUnreadable`; for a store fault
 /// `> ` and the line at which it came, handed in, and the fault's line. `line` is looked at for a store fault alone. Where
-/// there is no memory, `out` is as before.
+/// there is no memory, `out` is as before. An end that appends nothing takes no memory.
 pub fn end_text(alloc: Global, out: &mut Vec<u8>, end: End, line: &str) -> Result<(), AllocError>
     ensures ok { OnOk result (out.new.items ≡ out.old.items ++ end_text end line.now) }
     ensures err { OnErr result (out.new.items ≡ out.old.items) }
+    ensures nothing { end_text end line.now ≡ [] → IsOk result }
 {
     match end {
         End::All => Ok(()),

@@ -4,8 +4,8 @@ use Rattle.bug_record.proofs.MarkLemmas.{sorted-node_set}
 use Rattle.bug_record.proofs.TagLemmas.{set-joined_tags}
 use Rattle.bug_record.proofs.laws.joined_are_sets.Goals as goal
 
-pub returns-clause-block : goal.returns-clause-block
-returns-clause-block c = λ bugs. IsAscending-number_set (all_of (λ b. b.block) bugs)
+pub returns-clause-merged : goal.returns-clause-merged
+returns-clause-merged c = λ bugs. IsAscending-number_set (all_of (λ b. b.merged) bugs)
 
 pub returns-clause-tags : goal.returns-clause-tags
 returns-clause-tags c = set-joined_tags

@@ -1,9 +1,9 @@
-use Rattle.bug_record.proofs.MergeLemmas.{has-joined_block, has-joined_nodes}
+use Rattle.bug_record.proofs.MergeLemmas.{has-all_merged, has-joined_nodes}
 use Rattle.bug_record.proofs.TagLemmas.{has-joined_tags}
 use Rattle.bug_record.proofs.laws.joined_by_membership.Goals as goal
 
-pub returns-clause-block : goal.returns-clause-block
-returns-clause-block c = has-joined_block
+pub returns-clause-merged : goal.returns-clause-merged
+returns-clause-merged c = has-all_merged
 
 pub returns-clause-tags : goal.returns-clause-tags
 returns-clause-tags c = has-joined_tags
