@@ -1,19 +1,20 @@
 //! Nodes: versions of source packages.
 
-ghost use Rattle.std.specs.Prelude.{◌≡◌, refl, is_some, IfSome, IfOk};
+ghost use Rattle.std.specs.Prelude.{◌≡◌, refl, is_some, Some, IfSome, IfOk};
 ghost use Rattle.std.specs.List.{list_any, before_first, after_first};
 ghost use Rattle.std.specs.Cmp.{po, partial_equiv_from_equiv};
 ghost use Rattle.std.specs.Ordering.{as_partial_cmp};
 ghost use Rattle.debver.specs.Names.{IsName};
 ghost use Rattle.debver.specs.Cut.{IsVersion};
 ghost use Rattle.debver.specs.Versions.{total_cmp};
-ghost use Rattle.ancestry.specs.Nodes.{node, IsNode, IsRead, is_slash, node_of, node_of_text, node_at, same_node, node_cmp};
+ghost use Rattle.ancestry.specs.Nodes.{node, IsNode, IsRead, is_slash, node_of, node_of_text, node_at, node_text, same_node, node_cmp};
 ghost use Rattle.ancestry.specs.NodeLaws.{same_node_equiv, node_cmp_total, node_ties};
 
 use crate::fault::NodeFault;
 use debver::{Text, check, check_name, total};
 use std::alloc::{AllocError, Global};
 use std::cmp::Ordering;
+use std::fmt;
 use std::marker::Model;
 
 /// A version of a source package. Contracts see both texts.
@@ -130,6 +131,17 @@ impl Node {
             (Ok(version), Ok(others)) => total(&version, &others),
             _ => Ordering::Equal,
         }
+    }
+}
+
+/// A node is written `source/version`. This project's own rule.
+impl fmt::Display for Node {
+    ghost output = { λ n. Some (node_text n) };
+
+    fn fmt<W: fmt::Write>(&self, f: &mut fmt::Formatter<W>) -> fmt::Result {
+        let source = self.source();
+        let version = self.version();
+        write!(f, "{source}/{version}")
     }
 }
 

@@ -12,7 +12,7 @@ use Rattle.bug_record.specs.declared.bug.Member.{Member}
 use Rattle.bug_record.specs.declared.bug.SetImage.{SetImage}
 use Rattle.bug_core.specs.Others.{image_with}
 
--- a value, or its want, of a choice of two
+-- a value, or none, of a choice of two
 pub none_left : {A : Type 0} (o p : Option A) → option_or o p ≡ None → o ≡ None
 none_left None p h = refl
 none_left (Some a) p h = absurd (none-some a (sym h))

@@ -2,8 +2,6 @@ pub mod ImageLemmas
 pub mod OtherLemmas
 pub mod SoundLemmas
 pub mod ReplaceLemmas
-pub mod NodeLemmas
-pub mod FieldLemmas
 pub mod PlanLemmas
 pub mod UnmergeLemmas
 pub mod MemberLemmas

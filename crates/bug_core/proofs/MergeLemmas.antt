@@ -1,19 +1,18 @@
 -- Merging bugs: the joined image is that of the model's block, and the desk stays sound.
-use Rattle.std.proofs.Common.{◌≡◌, ℕ, Bool, true, false, cond, ◌||◌, eqb, List, [], ◌∷◌, ◌++◌, Option, Some, None, Result, Ok, Err, sym, refl, ap, ◌∙◌, subst}
+use Rattle.std.proofs.Common.{◌≡◌, ℕ, Bool, true, false, cond, ◌||◌, eqb, List, [], ◌∷◌, Option, Some, None, Ok, Err, sym, refl, ap, ◌∙◌, subst}
 use Rattle.std.specs.Prelude.{option_map}
 use Rattle.std.specs.Option.{option_or}
-use Rattle.std.specs.List.{list_any}
 use Rattle.std.proofs.lemmas.Option.{none-some}
 use Rattle.std.proofs.lemmas.Bool.{false≢true, eqb-true, eq-eqb, false_from_ne_true}
 use Rattle.ancestry.specs.Nodes.{Node, IsNode}
 use Rattle.bug_record.specs.Sets.{has, IsAscending, Each}
 use Rattle.bug_record.specs.Texts.{IsText, IfGiven}
-use Rattle.bug_record.specs.Desk.{Desk, IsSound, IsGoodShared, HasGoodTexts}
-use Rattle.bug_record.specs.Bugs.{each_bug, at_bug, unless, missing, first_refusal, bugs_at, all_of}
+use Rattle.bug_record.specs.Desk.{Desk, IsSound, IsGoodShared}
+use Rattle.bug_record.specs.Bugs.{at_bug, unless, missing, first_refusal, bugs_at, all_of}
 use Rattle.bug_record.specs.Differences.{differing}
 use Rattle.bug_record.specs.Merges.{first_owner, joined_shared, joined_block, with_block, merged}
 use Rattle.bug_record.specs.Images.{numbers_of, member_at, bug_of, bug_in, AreApart, AreBlocksOf}
-use Rattle.bug_record.specs.Plans.{AllKnown, IsShownBy}
+use Rattle.bug_record.specs.Plans.{AllKnown}
 use Rattle.bug_record.specs.declared.bug.Bug.{Bug}
 use Rattle.bug_record.specs.declared.bug.Shared.{Shared}
 use Rattle.bug_record.specs.declared.bug.Member.{Member}
@@ -30,7 +29,7 @@ use Rattle.bug_record.proofs.MergeLemmas.{has-joined_block}
 use Rattle.bug_core.specs.Others.{image_with, has_any, those_meant, others}
 use Rattle.bug_core.specs.Joins.{with_members, with_all_shared}
 use Rattle.bug_core.specs.Planned.{IsPlanned}
-use Rattle.bug_core.proofs.ImageLemmas.{same_value, has-member_some, has-member_none, bug_in-block, shown, image_with-has, image_with-shows, image_with-none}
+use Rattle.bug_core.proofs.ImageLemmas.{has-member_some, has-member_none, bug_in-block, shown, image_with-has, image_with-shows, image_with-none}
 use Rattle.bug_core.proofs.SoundLemmas.{agree, sound-each_bug}
 use Rattle.bug_core.proofs.ReplaceLemmas.{TakesPlace, Makes, each-append}
 use Rattle.bug_core.proofs.PlanLemmas.{Steps, planned-refused, planned-replaced}

@@ -1,5 +1,5 @@
 -- For each kind of command, that what is planned on images is its step on the desk.
-use Rattle.std.proofs.Common.{◌≡◌, ℕ, Bool, true, false, cond, List, [], ◌∷◌, ◌++◌, Option, Some, None, Result, Ok, Err, refl, sym, ap, ◌∙◌, subst, arith}
+use Rattle.std.proofs.Common.{◌≡◌, ℕ, true, false, cond, List, [], ◌∷◌, ◌++◌, Option, Some, None, Result, Ok, Err, refl, sym, ap, ◌∙◌, subst, arith}
 use Rattle.std.proofs.lemmas.Option.{none-some, same_Some}
 use Rattle.debver.specs.Names.{IsName}
 use Rattle.bug_record.specs.Desk.{Desk, IsSound}
@@ -21,9 +21,9 @@ use Rattle.bug_record.specs.declared.command.Refusal.{Refusal}
 use Rattle.bug_record.specs.declared.command.Refusal.TheVariants.{NoBug}
 use Rattle.bug_core.specs.Others.{image_with, others}
 use Rattle.bug_core.specs.Planned.{HasName, IsPlanned, IsRefusedAs}
-use Rattle.bug_core.specs.Fields.{IsWanting}
+use Rattle.record_changes.specs.Fields.{IsVersionFault}
 use Rattle.bug_core.proofs.ImageLemmas.{shown, image_with-shows, image_with-none}
-use Rattle.bug_core.proofs.FieldLemmas.{good-shared_after, good-new_title, good-new_submitter}
+use Rattle.record_changes.proofs.FieldLemmas.{good-shared_after, good-new_title, good-new_submitter}
 use Rattle.bug_core.proofs.SoundLemmas.{sound-change_set}
 use Rattle.bug_core.proofs.ReplaceLemmas.{TakesPlace, Makes, apart-replaced, members-replaced, covers-replaced, none-replaced, whole-sets, put-replaced, image_after, bug_after, set-takes_place, set-makes}
 
@@ -125,9 +125,9 @@ has_name (j ∷ is) n i h e =
 named-shown : (d : Desk) (is : List SetImage) (n : ℕ) (i : SetImage) → IsSound d → AreBlocksOf d is → image_with is n ≡ Some i → IsName i.shared.«package»
 named-shown d is n i sound blocks h = let b = image_with-shows is n i h in (sound.texts n (bug_of i b.0) (shown d is blocks n (bug_of i b.0) b.1)).shared.package_name
 
--- what is answered where memory is wanting, or the image's package is no package name
-pub planned-wanting : (named : List ℕ) (step : Desk → Result Desk Refusal) (is : List SetImage) (next n : ℕ) (i : SetImage) (fault : PlanFault) → image_with is n ≡ Some i → IsWanting i.shared.«package» fault → IsPlanned named step is next (Err fault)
-planned-wanting named step is next n i Memory h w = record {
+-- what is answered where there is no memory, or the image's package is no package name
+pub planned-fault : (named : List ℕ) (step : Desk → Result Desk Refusal) (is : List SetImage) (next n : ℕ) (i : SetImage) (fault : PlanFault) → image_with is n ≡ Some i → IsVersionFault i.shared.«package» fault → IsPlanned named step is next (Err fault)
+planned-fault named step is next n i Memory h w = record {
   right = λ d sh. tt;
   fits = λ d sh. tt;
   brings = λ d sh. tt;
@@ -141,7 +141,7 @@ planned-wanting named step is next n i Memory h w = record {
     always : (r : Result Desk Refusal) → IsRefusedAs r (Err Memory)
     always (Ok d) = tt
     always (Err refusal) = tt
-planned-wanting named step is next n i (Refused refusal) h w = record {
+planned-fault named step is next n i (Refused refusal) h w = record {
   right = λ d sh. absurd (w (named-shown d is n i sh.sound sh.blocks h));
   fits = λ d sh. tt;
   brings = λ d sh. tt;

@@ -1,27 +1,25 @@
 -- A bug that is taken out of its set.
-use Rattle.std.proofs.Common.{◌≡◌, ℕ, Bool, true, false, cond, not, ◌||◌, ◌&&◌, eqb, List, [], ◌∷◌, ◌++◌, Option, Some, None, Result, Ok, Err, sym, refl, ap, ◌∙◌, subst}
+use Rattle.std.proofs.Common.{◌≡◌, ℕ, Bool, true, false, cond, not, ◌||◌, ◌&&◌, eqb, List, [], ◌∷◌, ◌++◌, Option, Some, None, Ok, Err, sym, refl, ap, ◌∙◌}
 use Rattle.std.specs.Prelude.{option_map, filter, ◌==◌}
 use Rattle.std.specs.Option.{option_or}
-use Rattle.std.proofs.lemmas.Option.{none-some, same_Some}
+use Rattle.std.proofs.lemmas.Option.{none-some}
 use Rattle.std.proofs.lemmas.Bool.{false≢true, eqb-true, eq-eqb, and_parts, false_from_ne_true}
-use Rattle.bug_record.specs.Sets.{has, IsAscending, Each}
-use Rattle.bug_record.specs.Desk.{Desk, IsSound, HasGoodTexts}
-use Rattle.bug_record.specs.Bugs.{each_bug, at_bug}
+use Rattle.bug_record.specs.Sets.{has, IsAscending}
+use Rattle.bug_record.specs.Desk.{Desk, IsSound}
+use Rattle.bug_record.specs.Bugs.{at_bug}
 use Rattle.bug_record.specs.Merges.{parted, rest_of, taken_out, unmerged}
 use Rattle.bug_record.specs.Images.{numbers_of, member_at, bug_of, bug_in, AreApart, AreBlocksOf}
-use Rattle.bug_record.specs.Plans.{AllKnown, IsShownBy}
 use Rattle.bug_record.specs.declared.bug.Bug.{Bug}
 use Rattle.bug_record.specs.declared.bug.Member.{Member}
 use Rattle.bug_record.specs.declared.bug.SetImage.{SetImage}
 use Rattle.bug_record.specs.declared.command.Change.{Change}
 use Rattle.bug_record.specs.declared.command.PlanFault.TheVariants.{Refused}
-use Rattle.bug_record.specs.declared.command.Refusal.{Refusal}
 use Rattle.bug_record.specs.declared.command.Refusal.TheVariants.{NoBug, NotMerged}
 use Rattle.bug_record.proofs.SetLemmas.{has-filter, IsAscending-filter, same-ascending, one_number}
-use Rattle.bug_core.specs.Others.{image_with, has_any, others}
+use Rattle.bug_core.specs.Others.{image_with, others}
 use Rattle.bug_core.specs.Joins.{is_part}
 use Rattle.bug_core.specs.Planned.{IsPlanned}
-use Rattle.bug_core.proofs.ImageLemmas.{same_value, member-has, has-member_some, has-member_none, shown, image_with-has, image_with-shows, image_with-none, image_with-lacks, image_with-bug, image_with-member}
+use Rattle.bug_core.proofs.ImageLemmas.{same_value, member-has, has-member_some, shown, image_with-has, image_with-shows, image_with-none, image_with-lacks, image_with-bug, image_with-member}
 use Rattle.bug_core.proofs.SoundLemmas.{agree, merged-back, sound-each_bug}
 use Rattle.bug_core.proofs.ReplaceLemmas.{TakesPlace, Makes, one_of}
 use Rattle.bug_core.proofs.PlanLemmas.{Steps, planned-refused, planned-replaced}

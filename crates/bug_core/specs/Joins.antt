@@ -1,5 +1,5 @@
 -- What joined sets have, one image after another.
-use Rattle.std.specs.Prelude.{ℕ, Bool, not, ◌==◌, List, [], ◌∷◌, ◌++◌, if◌then◌else◌}
+use Rattle.std.specs.Prelude.{ℕ, Bool, not, ◌==◌, List, [], ◌∷◌, if◌then◌else◌}
 use Rattle.ancestry.specs.Nodes.{Node}
 use Rattle.bug_record.specs.Sets.{with_item}
 use Rattle.bug_record.specs.Tags.{tag_place}

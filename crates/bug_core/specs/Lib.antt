@@ -1,6 +1,5 @@
 pub mod Others
 pub mod Numbers
-pub mod Fields
 pub mod Agreements
 pub mod Joins
 pub mod Planned

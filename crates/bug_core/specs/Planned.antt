@@ -11,7 +11,7 @@ use Rattle.bug_record.specs.declared.command.PlanFault.{PlanFault}
 use Rattle.bug_record.specs.declared.command.PlanFault.TheVariants.{Refused, Memory}
 use Rattle.bug_record.specs.declared.command.Refusal.{Refusal}
 
--- The answer is a refusal exactly where the step is one, and the same; that memory is wanting is always allowed.
+-- The answer is a refusal exactly where the step is one, and the same; out of memory is always allowed.
 abbrev pub IsRefusedAs : Result Desk Refusal → Result Change PlanFault → Type 0
 IsRefusedAs (Ok d) (Ok change) = Unit {0}
 IsRefusedAs (Ok d) (Err (Refused refusal)) = ⊥

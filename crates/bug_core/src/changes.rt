@@ -144,7 +144,7 @@ fn differing(numbers: &Numbers, old: &[SetImage], new: &[SetImage]) -> Result<Nu
 ///
 /// # Errors
 ///
-/// Want of memory alone.
+/// Only where there was no memory.
 pub fn changed(alloc: Global, old: &[SetImage], new: &[SetImage]) -> Result<Numbers, AllocError>
     ensures images { IfOk result (λ r. AreChanged (bug_in old.now) (bug_in new.now) r) }
     ensures desks { IfOk result (λ r. (d : Desk) (next : ℕ) → Replaces d old.now new.now next → r ≡ changed_numbers d (put d (record { images = new.now; next = next }))) }

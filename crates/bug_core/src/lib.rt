@@ -3,23 +3,21 @@
 #![tactic(auto)]
 
 mod changes;
-mod fields;
 mod images;
 mod joins;
 mod laws;
 mod merges;
+mod named;
 mod plans;
 mod report;
-mod tags;
 mod unmerge;
-mod versions;
 
 pub use bug_record::{
     Bug, Change, Command, Field, Member, Nodes, Numbered, Numbers, PlanFault, Refusal, Sequence,
     SetImage, Severity, Shared, Tag, TagStep, Tags, VersionArg, Who, is_text,
 };
 pub use changes::changed;
-pub use fields::{bug_named, other_bugs};
 pub use laws::changed_numbers_differ;
+pub use named::{bug_named, other_bugs};
 pub use plans::plan;
 pub use report::report_change;

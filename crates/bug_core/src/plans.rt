@@ -10,11 +10,12 @@ ghost use Rattle.bug_record.specs.Images.{AreApart, HasMember, FitsDesk};
 ghost use Rattle.bug_record.specs.Plans.{AllKnown, IsShownBy, IsPlanFor, CoverImages, BringNone};
 ghost use Rattle.bug_core.specs.Planned.{HasName, IsRefusedAs, IsPlanned};
 
-use crate::fields::{bug_named, members_with, shared_after};
 use crate::images::{find, replace_by_one};
 use crate::merges::{Agreement, plan_merge};
+use crate::named::bug_named;
 use crate::unmerge::plan_unmerge;
 use bug_record::{Change, Command, PlanFault, Refusal, SetImage};
+use record_changes::{members_with, shared_after};
 use std::alloc::Global;
 
 // What a command does to the records of the set of the bug that it names. No block changes.

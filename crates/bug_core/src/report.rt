@@ -65,7 +65,7 @@ fn image_of_report(
 ///
 /// # Errors
 ///
-/// Want of memory alone.
+/// Only where there was no memory.
 pub fn report_change(
     alloc: Global,
     from: &str,

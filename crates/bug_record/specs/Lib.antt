@@ -1,6 +1,7 @@
+pub use Rattle.line_words.specs.Blanks
+pub use Rattle.line_words.specs.AnyCase
 pub mod Sets
 pub mod Places
-pub mod Words
 pub mod Texts
 pub mod Severities
 pub mod Tags

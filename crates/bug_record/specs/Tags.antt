@@ -1,7 +1,7 @@
 -- Tags (the BTS page 'control and manipulation'; that the list is closed is this project's own rule).
 use Rattle.std.specs.Prelude.{ℕ, Bool, not, ◌==◌, codes, List, [], ◌∷◌, map, filter, Option}
 use Rattle.std.specs.List.{list_any, find}
-use Rattle.bug_record.specs.Words.{is_word}
+use Rattle.line_words.specs.AnyCase.{is_word}
 use Rattle.bug_record.specs.Sets.{IsAscending, with_item}
 use Rattle.bug_record.specs.declared.tag.Tag.{Tag}
 use Rattle.bug_record.specs.declared.tag.Tag.TheVariants as tags

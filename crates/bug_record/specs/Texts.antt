@@ -1,18 +1,7 @@
 -- Texts: titles, addresses and senders. This project's own rule.
-use Rattle.std.specs.Prelude.{ℕ, ◌==◌, ◌&&◌, ◌||◌, not, nat_lt, nat_le, Bool, false, IsTrue, List, [], ◌∷◌, length, reverse, Option, Some, None, ⊤}
+use Rattle.std.specs.Prelude.{ℕ, ◌&&◌, not, nat_le, Bool, IsTrue, List, length, reverse, Option, Some, None, ⊤}
 use Rattle.std.specs.List.{list_all}
-
--- a blank is a space or a tab
-abbrev pub is_blank : ℕ → Bool
-is_blank c = c == 32 || c == 9
-
--- an ASCII control character (0 to 31, and 127) other than tab
-abbrev pub is_control : ℕ → Bool
-is_control c = (nat_lt c 32 && not (c == 9)) || c == 127
-
-abbrev pub begins_blank : List ℕ → Bool
-begins_blank [] = false
-begins_blank (c ∷ s) = is_blank c
+use Rattle.line_words.specs.Blanks.{is_control, begins_blank}
 
 abbrev pub ends_blank : List ℕ → Bool
 ends_blank s = begins_blank (reverse s)

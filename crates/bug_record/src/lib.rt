@@ -3,21 +3,17 @@
 #![tactic(auto)]
 
 mod bug;
-mod characters;
 mod command;
 mod laws;
 mod sequence;
 mod severity;
 mod tag;
 mod texts;
-mod words;
 
 pub use bug::{Bug, Member, SetImage, Shared};
-pub use characters::{is_blank, is_control};
 pub use command::{Change, Command, Field, PlanFault, Refusal, TagStep, VersionArg, Who};
 pub use laws::{joined_are_sets, joined_by_membership, marks_by_membership};
 pub use sequence::{Nodes, Numbered, Numbers, Sequence};
 pub use severity::Severity;
 pub use tag::{Tag, Tags};
 pub use texts::is_text;
-pub use words::is_word;

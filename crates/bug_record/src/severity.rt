@@ -1,9 +1,9 @@
 //! Severities of bugs.
 
 ghost use Rattle.std.specs.Prelude.{◌≡◌};
-ghost use Rattle.bug_record.specs.Severities.{severity_of, rank};
+ghost use Rattle.bug_record.specs.Severities.{severity_of, severity_name, rank};
 
-use crate::words::is_word;
+use line_words::{Spelled, find_spelled};
 
 /// How severe a bug is, from `critical` down to `wishlist` (the severities of the BTS).
 #[derive(Clone, Copy, Debug, PartialEq, Eq, Drop)]
@@ -17,27 +17,37 @@ pub enum Severity {
     Wishlist,
 }
 
+// All severities, from the most severe down.
+const ALL: [Severity; 7] = [
+    Severity::Critical,
+    Severity::Grave,
+    Severity::Serious,
+    Severity::Important,
+    Severity::Normal,
+    Severity::Minor,
+    Severity::Wishlist,
+];
+
 impl Severity {
     /// The severity of this name, in any ASCII case; `None` where the word names none.
     pub fn read(word: &str) -> Option<Severity>
         ensures { result ≡ severity_of word.now }
     {
-        if is_word(word, "critical") {
-            Some(Severity::Critical)
-        } else if is_word(word, "grave") {
-            Some(Severity::Grave)
-        } else if is_word(word, "serious") {
-            Some(Severity::Serious)
-        } else if is_word(word, "important") {
-            Some(Severity::Important)
-        } else if is_word(word, "normal") {
-            Some(Severity::Normal)
-        } else if is_word(word, "minor") {
-            Some(Severity::Minor)
-        } else if is_word(word, "wishlist") {
-            Some(Severity::Wishlist)
-        } else {
-            None
+        find_spelled(ALL.as_slice(), word)
+    }
+
+    /// Its name, in lower case.
+    pub fn name(self) -> &'static str
+        ensures { result.now ≡ severity_name self }
+    {
+        match self {
+            Severity::Critical => "critical",
+            Severity::Grave => "grave",
+            Severity::Serious => "serious",
+            Severity::Important => "important",
+            Severity::Normal => "normal",
+            Severity::Minor => "minor",
+            Severity::Wishlist => "wishlist",
         }
     }
 
@@ -54,5 +64,13 @@ impl Severity {
             Severity::Minor => 5,
             Severity::Wishlist => 6,
         }
+    }
+}
+
+impl Spelled for Severity {
+    ghost spelled = { severity_name };
+
+    fn spelled(&self) -> &'static str {
+        self.name()
     }
 }

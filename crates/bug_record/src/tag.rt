@@ -4,7 +4,7 @@ ghost use Rattle.std.specs.Prelude.{◌≡◌};
 ghost use Rattle.bug_record.specs.Tags.{tag_place, tag_name, tag_of};
 
 use crate::sequence::{Numbered, Sequence};
-use crate::words::is_word;
+use line_words::{Spelled, find_spelled};
 
 /// A tag of a bug (the tags of the BTS without those that name a distribution or a version).
 #[derive(Clone, Copy, Debug, PartialEq, Eq, Drop)]
@@ -57,12 +57,7 @@ impl Tag {
     pub fn read(word: &str) -> Option<Tag>
         ensures { result ≡ tag_of word.now }
     {
-        for tag in ALL.as_slice() {
-            if is_word(word, tag.name()) {
-                return Some(*tag);
-            }
-        }
-        None
+        find_spelled(ALL.as_slice(), word)
     }
 
     /// Its name, in lower case.
@@ -113,6 +108,14 @@ impl Tag {
             Tag::Upstream => 15,
             Tag::Wontfix => 16,
         }
+    }
+}
+
+impl Spelled for Tag {
+    ghost spelled = { tag_name };
+
+    fn spelled(&self) -> &'static str {
+        self.name()
     }
 }
 

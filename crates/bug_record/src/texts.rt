@@ -2,9 +2,10 @@
 
 ghost use Rattle.std.specs.Prelude.{◌≡◌, not};
 ghost use Rattle.std.specs.List.{list_all};
-ghost use Rattle.bug_record.specs.Texts.{is_blank, is_control, begins_blank, ends_blank, is_text};
+ghost use Rattle.line_words.specs.Blanks.{is_control, begins_blank};
+ghost use Rattle.bug_record.specs.Texts.{ends_blank, is_text};
 
-use crate::characters::{is_blank, is_control};
+use line_words::{is_blank, is_control};
 
 fn is_clean(bytes: &[u8]) -> bool
     ensures { result ≡ list_all (λ c. not (is_control c)) bytes.now }

@@ -1,18 +1,17 @@
 -- Bytes read, and the lines found in them.
 use Rattle.std.proofs.Common.{◌≡◌, ℕ, ◌<◌, ◌≤◌, List, [], ◌∷◌, ◌++◌, length, Option, Some, None, Bool, Vec, false, sym, ◌∙◌, ap, subst, arith, refl, append_assoc, append-nil, length-append}
-use Rattle.std.specs.List.{list_any}
-use Rattle.std.specs.Prelude.{if◌then◌else◌}
+use Rattle.std.specs.List.{list_any, onto_first, slice_split}
 use Rattle.std.proofs.lemmas.Bool.{or_parts}
 use Rattle.std.proofs.lemmas.Grind.{common_steps}
-use Rattle.std.specs.List.{onto_first}
-use Rattle.desk_lines.specs.Lines.{raw_lines}
+use Rattle.std.proofs.lemmas.List.Splits.{slice_split-cons_no}
+use Rattle.desk_lines.specs.Lines.{is_feed, without_empty_last, raw_lines}
 use Rattle.desk_lines.specs.Reading.{Known, Left, GivesByte, GivesRaw, IsLineFault, IsTextFault}
 use Rattle.desk_lines.specs.declared.fault.ScriptFault.{ScriptFault}
 use Rattle.desk_lines.specs.declared.fault.ScriptFault.TheVariants.{Read, Write, NotUtf8, LineTooLong, Memory, Store}
 use Rattle.desk_lines.specs.declared.source.RawLine.{RawLine}
 use Rattle.desk_lines.specs.declared.source.RawLine.TheVariants.{Line}
 use Rattle.std.specs.declared.alloc.Global.{Global}
-use Rattle.desk_lines.proofs.LineLemmas.{is_feed, raw_lines-first, raw_lines-last}
+use Rattle.desk_lines.proofs.LineLemmas.{raw_lines-first, raw_lines-last}
 
 left_then : {a b c : Option (List ℕ)} {P Q R : List ℕ → List ℕ → Type 0} → Left a b P → Left b c Q
     → ((xs ys zs : List ℕ) → P xs ys → Q ys zs → R xs zs) → Left a c R
@@ -34,24 +33,37 @@ last_ended s line mid t byte free short some is p q = left_then p q
     (λ xs ys zs e f. let end : (mid ++ ys ≡ []) × (t ++ zs ≡ []) = subst (λ (o : Option ℕ). GivesByte o (mid ++ ys) (t ++ zs)) is f in
     (ap raw_lines (e ∙ (ap (λ (w : List ℕ). line ++ w) end.0 ∙ append-nil line)) ∙ raw_lines-last line some free, short, end.1))
 
--- a byte goes on to the end of its line
-onto-first : (c : ℕ) (lines : List (List ℕ)) → (raw : List ℕ) × (more : List (List ℕ)) × (onto_first c lines ≡ raw ∷ more) × (1 ≤ length raw)
+-- a byte goes on to the end of its piece
+onto-first : (c : ℕ) (pieces : List (List ℕ)) → (raw : List ℕ) × (more : List (List ℕ)) × (onto_first c pieces ≡ raw ∷ more) × (1 ≤ length raw)
 onto-first c [] = (c ∷ [], [], refl, omega arith)
-onto-first c (line ∷ lines) = (c ∷ line, lines, refl, omega arith)
+onto-first c (piece ∷ pieces) = (c ∷ piece, pieces, refl, omega arith)
+
+-- the first piece is no shorter than what of it is known
+piece_goes_on : (line rest : List ℕ) → list_any is_feed line ≡ false → 0 < length line
+    → (raw : List ℕ) × (more : List (List ℕ)) × (slice_split is_feed (line ++ rest) ≡ raw ∷ more) × (length line ≤ length raw)
+piece_goes_on [] rest free some = absurd (omega arith)
+piece_goes_on (c ∷ []) rest free some =
+    let p = or_parts (is_feed c) false free in
+    let u = onto-first c (slice_split is_feed rest) in
+    (u.0, u.1, slice_split-cons_no is_feed c rest p.0 ∙ u.2, u.3)
+piece_goes_on (c ∷ d ∷ line) rest free some =
+    let p = or_parts (is_feed c) (list_any is_feed (d ∷ line)) free in
+    let u = piece_goes_on (d ∷ line) rest p.1 (omega arith) in
+    (c ∷ u.0, u.1, slice_split-cons_no is_feed c (d ∷ (line ++ rest)) p.0 ∙ ap (onto_first c) u.2, omega (arith, u.3))
+
+-- a piece that isn't empty is a line
+first_kept : (raw : List ℕ) (more : List (List ℕ)) → 1 ≤ length raw → (others : List (List ℕ)) × (without_empty_last (raw ∷ more) ≡ raw ∷ others)
+first_kept [] more some = absurd (omega arith)
+first_kept (c ∷ raw) [] some = ([], refl)
+first_kept (c ∷ raw) (next ∷ more) some = (without_empty_last (next ∷ more), refl)
 
 -- the first line is no shorter than what of it is known
 line_goes_on : (line rest : List ℕ) → list_any is_feed line ≡ false → 0 < length line
     → (raw : List ℕ) × (more : List (List ℕ)) × (raw_lines (line ++ rest) ≡ raw ∷ more) × (length line ≤ length raw)
-line_goes_on [] rest free some = absurd (omega arith)
-line_goes_on (c ∷ []) rest free some =
-    let p = or_parts (is_feed c) false free in
-    let u = onto-first c (raw_lines rest) in
-    (u.0, u.1, ap (λ (t : Bool). if t then [] ∷ raw_lines rest else onto_first c (raw_lines rest)) p.0 ∙ u.2, u.3)
-line_goes_on (c ∷ d ∷ line) rest free some =
-    let p = or_parts (is_feed c) (list_any is_feed (d ∷ line)) free in
-    let u = line_goes_on (d ∷ line) rest p.1 (omega arith) in
-    let all = d ∷ (line ++ rest) in
-    (c ∷ u.0, u.1, ap (λ (t : Bool). if t then [] ∷ raw_lines all else onto_first c (raw_lines all)) p.0 ∙ ap (onto_first c) u.2, omega (arith, u.3))
+line_goes_on line rest free some =
+    let u = piece_goes_on line rest free some in
+    let kept = first_kept u.0 u.1 (omega (arith, u.3)) in
+    (u.0, kept.0, ap without_empty_last u.2 ∙ kept.1, u.3)
 
 -- one byte more than the limit
 pub line_too_long : {a b c : Option (List ℕ)} (number : ℕ) (s line mid t : List ℕ) (byte : Option ℕ) (x : ℕ) → list_any is_feed line ≡ false → length line ≡ 65536 → byte ≡ Some x → is_feed x ≡ false

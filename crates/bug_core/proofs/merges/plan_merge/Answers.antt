@@ -1,8 +1,4 @@
-use Rattle.std.proofs.Common.{◌≡◌, ℕ, None, Some, List, ◌∷◌, sym, ap, ◌∙◌}
-use Rattle.bug_record.specs.Bugs.{missing, first_refusal}
-use Rattle.bug_record.specs.Differences.{differing}
-use Rattle.bug_record.specs.Images.{bug_in}
-use Rattle.bug_record.specs.declared.bug.SetImage.{SetImage}
+use Rattle.std.proofs.Common.{◌≡◌, ℕ, List, ◌∷◌, sym, ap, ◌∙◌}
 use Rattle.bug_core.specs.Agreements.{difference_of}
 use Rattle.bug_core.specs.Others.{others}
 use Rattle.bug_core.proofs.MergeLemmas.{image_joined, merge-no_bug, merge-missing, merge-differs, merge-done}

@@ -2,12 +2,12 @@ use Rattle.std.proofs.Common.{◌≡◌, ℕ, Err, [], ◌∷◌, sym, ap, ◌�
 use Rattle.bug_record.specs.Commands.{bug_named, bugs_named}
 use Rattle.bug_record.specs.Steps.{records_changed}
 use Rattle.std.specs.Prelude.{map}
-use Rattle.bug_core.specs.Fields.{member_after}
+use Rattle.record_changes.specs.Members.{member_after}
 use Rattle.bug_record.specs.declared.command.PlanFault.TheVariants.{Refused}
 use Rattle.bug_record.specs.declared.command.Refusal.TheVariants.{NoBug}
 use Rattle.bug_core.specs.Others.{image_with, others}
 use Rattle.bug_core.specs.Planned.{IsPlanned}
-use Rattle.bug_core.proofs.PlanLemmas.{planned-records, planned-no_bug, planned-wanting}
+use Rattle.bug_core.proofs.PlanLemmas.{planned-records, planned-no_bug, planned-fault}
 use Rattle.bug_core.proofs.plans.plan_records.Goals as goal
 
 pub returns-in_default : goal.returns-in_default
@@ -15,7 +15,7 @@ returns-in_default c = subst (λ (n : ℕ). IsPlanned (bugs_named c.args.command
     (planned-no_bug c.args.from.now c.args.command.now c.args.images.now c.args.next (ap (image_with c.args.images.now) (sym c.bug_named-number.ensures) ∙ c.in_default.ensures))
 
 pub returns-in-Err : goal.returns-in-Err
-returns-in-Err c = planned-wanting (bugs_named c.args.command.now) (records_changed c.args.from.now c.args.command.now) c.args.images.now c.args.next (bug_named c.args.command.now) c.in-Some.image.now c.in-Err.fault (ap (image_with c.args.images.now) (sym c.bug_named-number.ensures) ∙ c.in-Some.ensures) c.in-Err.ensures.fault
+returns-in-Err c = planned-fault (bugs_named c.args.command.now) (records_changed c.args.from.now c.args.command.now) c.args.images.now c.args.next (bug_named c.args.command.now) c.in-Some.image.now c.in-Err.fault (ap (image_with c.args.images.now) (sym c.bug_named-number.ensures) ∙ c.in-Some.ensures) c.in-Err.ensures.fault
 
 pub returns : goal.returns
 returns c =

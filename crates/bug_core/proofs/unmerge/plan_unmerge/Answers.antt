@@ -2,7 +2,6 @@ use Rattle.std.proofs.Common.{◌≡◌, false, true, [], ◌∷◌, ◌++◌, L
 use Rattle.std.specs.Prelude.{filter, ◌==◌}
 use Rattle.std.proofs.lemmas.Bool.{false≢true, eqb-true}
 use Rattle.bug_record.specs.declared.bug.Member.{Member}
-use Rattle.bug_record.specs.declared.bug.SetImage.{SetImage}
 use Rattle.bug_core.specs.Joins.{is_part}
 use Rattle.bug_core.specs.Others.{others}
 use Rattle.bug_core.proofs.UnmergeLemmas.{parts, unmerge-no_bug, unmerge-alone, unmerge-done}

@@ -1,7 +1,7 @@
 use Rattle.std.proofs.Common.{◌≡◌, ◌++◌, ◌-◌, ◌≤◌, length, false}
 use Rattle.std.specs.List.{list_any}
 use Rattle.desk_lines.specs.Reading.{Left}
-use Rattle.desk_lines.proofs.LineLemmas.{is_feed}
+use Rattle.desk_lines.specs.Lines.{is_feed}
 use Rattle.desk_lines.proofs.source.gather.Given as goal
 
 abbrev pub invariant-loop-line : goal.invariant-loop-line

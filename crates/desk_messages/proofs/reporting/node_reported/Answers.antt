@@ -3,7 +3,7 @@ use Rattle.std.specs.Option.{option_copied}
 use Rattle.debver.specs.Cut.{IsVersion}
 use Rattle.ancestry.specs.Nodes.{node_at, IsRead}
 use Rattle.bug_record.specs.Texts.{IfGiven}
-use Rattle.bug_core.proofs.NodeLemmas.{at-some, at-none}
+use Rattle.record_changes.proofs.NodeLemmas.{at-some, at-none}
 use Rattle.desk_messages.specs.Reports.{node_reported}
 use Rattle.desk_messages.proofs.reporting.node_reported.Goals as goal
 

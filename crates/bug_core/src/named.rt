@@ -1,0 +1,43 @@
+//! The bugs that a command names.
+
+ghost use Rattle.std.specs.Prelude.{◌≡◌};
+ghost use Rattle.bug_record.specs.Commands.{bug_named, other_bugs};
+
+use bug_record::Command;
+
+/// The bug that a command names first.
+pub fn bug_named(command: &Command<u64>) -> u64
+    ensures { result ≡ bug_named command.now }
+{
+    match command {
+        Command::Found(number, _)
+        | Command::NotFound(number, _)
+        | Command::Fixed(number, _)
+        | Command::NotFixed(number, _)
+        | Command::Close(number, _)
+        | Command::Reopen(number, _)
+        | Command::Severity(number, _)
+        | Command::Tags(number, _)
+        | Command::Retitle(number, _)
+        | Command::Submitter(number, _)
+        | Command::Reassign(number, _, _)
+        | Command::Merge(number, _)
+        | Command::ForceMerge(number, _)
+        | Command::Unmerge(number)
+        | Command::Forwarded(number, _)
+        | Command::NotForwarded(number)
+        | Command::Owner(number, _)
+        | Command::NoOwner(number) => *number,
+    }
+}
+
+/// The bugs that a command names besides, in the order written: those that `merge` and `forcemerge`
+/// merge with the first one. Every other command names none.
+pub fn other_bugs(command: &Command<u64>) -> &[u64]
+    ensures { result.now ≡ other_bugs command.now }
+{
+    match command {
+        Command::Merge(_, numbers) | Command::ForceMerge(_, numbers) => numbers.as_slice(),
+        _ => &[],
+    }
+}

@@ -1,0 +1,4 @@
+pub mod WordLemmas
+pub mod Boundaries
+pub mod NumberLemmas
+pub mod LawLemmas

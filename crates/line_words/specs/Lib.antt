@@ -1,0 +1,5 @@
+pub mod Blanks
+pub mod AnyCase
+pub mod Words
+pub mod Numbers
+pub mod Bugs

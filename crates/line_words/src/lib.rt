@@ -1,0 +1,15 @@
+//! The words of a line: what stands between blanks, or between blanks and commas, the words that stand for numbers and bugs,
+//! and the words that are names in any ASCII case.
+#![tactic(auto)]
+
+mod any_case;
+mod blanks;
+mod laws;
+mod named;
+mod words;
+
+pub use any_case::{Spelled, find_spelled, is_word};
+pub use blanks::{has_control, is_blank, is_control};
+pub use laws::one_list_of_words;
+pub use named::{Named, bug_word, number_word};
+pub use words::{next_word, split_word, split_word_with_commas, trim};

@@ -1,0 +1,62 @@
+//! Words that stand for bugs.
+
+ghost use Rattle.std.specs.Prelude.{◌≡◌};
+ghost use Rattle.std.specs.List.{list_all};
+ghost use Rattle.std.specs.Char.{is_ascii_digit};
+ghost use Rattle.line_words.specs.Numbers.{without_hash, number_of_digits, number_of_word};
+ghost use Rattle.line_words.specs.Bugs.{bug_of_word};
+
+/// A bug as a line names it.
+#[derive(Clone, Copy, Debug, PartialEq, Eq, Drop)]
+pub enum Named {
+    /// The bug of this number, from 1 to 999,999,999.
+    Number(u64),
+    /// The bug that `clone` gave the name -k, k from 1 to 999,999,999.
+    Name(u32),
+}
+
+// The word without one `#` at its beginning.
+fn without_hash(word: &str) -> &str
+    ensures { result.now ≡ without_hash word.now }
+{
+    word.strip_prefix('#').unwrap_or(word)
+}
+
+fn all_digits(s: &[u8]) -> bool
+    ensures { result ≡ list_all is_ascii_digit s.now }
+{
+    s.iter().all(|c| c.is_ascii_digit())
+}
+
+// The value of one to nine digits, of at least 1.
+fn number_of_digits(digits: &str) -> Option<u32>
+    ensures { result ≡ number_of_digits digits.now }
+{
+    if digits.len() > 9 || !all_digits(digits.as_bytes()) {
+        return None;
+    }
+    match digits.parse::<u32>() {
+        Ok(number) if number > 0 => Some(number),
+        _ => None,
+    }
+}
+
+/// The number of a number word, an optional `#` and one to nine ASCII digits of a value of at least 1; `None` for
+/// another text.
+pub fn number_word(text: &str) -> Option<u64>
+    ensures { result ≡ number_of_word text.now }
+{
+    let number = number_of_digits(without_hash(text))?;
+    Some(u64::from(number))
+}
+
+/// The bug of a bug word, which is a number word, or an optional `#`, a `-` and such digits; `None` for another text.
+pub fn bug_word(text: &str) -> Option<Named>
+    ensures { result ≡ bug_of_word text.now }
+{
+    let word = without_hash(text);
+    match word.strip_prefix('-') {
+        Some(digits) => Some(Named::Name(number_of_digits(digits)?)),
+        None => Some(Named::Number(u64::from(number_of_digits(word)?))),
+    }
+}

@@ -1,0 +1,162 @@
+//! What a command makes of the shared fields of a set of merged bugs.
+
+ghost use Rattle.std.specs.Prelude.{◌≡◌, if◌then◌else◌, IfOk, IfErr, OnOk};
+ghost use Rattle.bug_record.specs.Commands.{person, IsGoodVersion, HasGoodParts};
+ghost use Rattle.bug_record.specs.Texts.{IfGiven};
+ghost use Rattle.bug_record.specs.Steps.{opened, moved_to, reassigned, shared_after};
+ghost use Rattle.record_changes.specs.Fields.{found_in, closed_in, IsVersionFault};
+
+use crate::tags::take_steps;
+use crate::versions::{mark_fixed, mark_found, mark_found_at, node_meant};
+use bug_record::{Command, PlanFault, Shared, VersionArg, Who};
+use debver::Text;
+use std::alloc::{AllocError, Global};
+
+// Opens a bug, which is then nowhere fixed.
+fn open_bug(shared: &mut Shared)
+    ensures { shared.new ≡ opened shared.old }
+{
+    shared.closed = false;
+    shared.fixed = shared.fixed.empty();
+}
+
+// Opens a bug, where it is closed.
+fn open_if_closed(shared: &mut Shared)
+    ensures { shared.new ≡ (if shared.old.closed then opened shared.old else shared.old) }
+{
+    if shared.closed {
+        open_bug(shared);
+    }
+}
+
+// Marks a bug found in the version; without one it is open, and nowhere fixed.
+fn mark_found_in(
+    alloc: Global,
+    shared: &mut Shared,
+    version: &Option<VersionArg>,
+) -> Result<(), PlanFault>
+    requires { IfGiven IsGoodVersion version.now }
+    ensures done { OnOk result (shared.new ≡ found_in version.now shared.old) }
+    ensures fault { IfErr result (IsVersionFault shared.old.«package») }
+{
+    let Some(version) = version else {
+        open_bug(shared);
+        return Ok(());
+    };
+    let node = node_meant(alloc, shared.package.as_str(), version)?;
+    mark_found_at(shared, node)?;
+    Ok(())
+}
+
+// Closes a bug, as one that the version, if there is one, does not have.
+fn close_in(
+    alloc: Global,
+    shared: &mut Shared,
+    version: &Option<VersionArg>,
+) -> Result<(), PlanFault>
+    requires { IfGiven IsGoodVersion version.now }
+    ensures done { OnOk result (shared.new ≡ closed_in version.now shared.old) }
+    ensures fault { IfErr result (IsVersionFault shared.old.«package») }
+{
+    if let Some(version) = version {
+        let node = node_meant(alloc, shared.package.as_str(), version)?;
+        mark_fixed(shared, node)?;
+    }
+    shared.closed = true;
+    Ok(())
+}
+
+// Moves a bug to a package: to another one without its marks.
+fn move_to(shared: &mut Shared, package: &Text) -> Result<(), AllocError>
+    ensures { OnOk result (shared.new ≡ moved_to «package».now shared.old) }
+{
+    if *package == shared.package {
+        return Ok(());
+    }
+    shared.package = package.copy()?;
+    shared.found = shared.found.empty();
+    shared.fixed = shared.fixed.empty();
+    Ok(())
+}
+
+// Moves a bug to a package, and marks it found in the version there.
+fn move_and_mark(
+    alloc: Global,
+    shared: &mut Shared,
+    package: &Text,
+    version: &Option<VersionArg>,
+) -> Result<(), PlanFault>
+    requires { IfGiven IsGoodVersion version.now }
+    ensures done { OnOk result (shared.new ≡ reassigned «package».now version.now shared.old) }
+    ensures fault { IfErr result (IsVersionFault «package».now) }
+{
+    move_to(shared, package)?;
+    if let Some(version) = version {
+        let node = node_meant(alloc, package.as_str(), version)?;
+        mark_found(shared, node)?;
+    }
+    Ok(())
+}
+
+/// Who is meant, where this is the sender.
+pub(crate) fn person<'a>(from: &'a str, who: &'a Who) -> &'a str
+    ensures { result.now ≡ person from.now who.now }
+{
+    match who {
+        Who::Sender => from,
+        Who::Given(text) => text.as_str(),
+    }
+}
+
+/// The shared fields of a set of merged bugs after a command of the sender `from`, where those
+/// before it are `old` (the BTS page 'control and manipulation'). Whether the set has the bug that
+/// the command names is not looked at. `retitle` and `submitter` leave the shared fields as they
+/// were, and so do `merge`, `forcemerge` and `unmerge`: what a merge makes of them is not told by
+/// one set alone. The command's versions, package names and texts are within their limits.
+///
+/// # Errors
+///
+/// `Memory` where there was none. `Refused(BadPackage)` where the command has a version of the
+/// set's own package and that is no package name; every package of a sound desk is one.
+pub fn shared_after(
+    alloc: Global,
+    command: &Command<u64>,
+    from: &str,
+    old: &Shared,
+) -> Result<Shared, PlanFault>
+    requires { HasGoodParts command.now }
+    ensures value { IfOk result (λ shared. shared ≡ shared_after from.now command.now old.now) }
+    ensures fault { IfErr result (IsVersionFault old.now.«package») }
+{
+    let mut shared = old.copy()?;
+    let package = old.package.as_str();
+    match command {
+        Command::Found(_, version) => mark_found_in(alloc, &mut shared, version)?,
+        Command::NotFound(_, version) => {
+            let node = node_meant(alloc, package, version)?;
+            shared.found.remove_node(&node);
+        }
+        Command::Fixed(_, version) => {
+            mark_fixed(&mut shared, node_meant(alloc, package, version)?)?;
+        }
+        Command::NotFixed(_, version) => {
+            let node = node_meant(alloc, package, version)?;
+            shared.fixed.remove_node(&node);
+        }
+        Command::Close(_, version) => close_in(alloc, &mut shared, version)?,
+        Command::Reopen(_, _) => open_if_closed(&mut shared),
+        Command::Severity(_, severity) => shared.severity = *severity,
+        Command::Tags(_, steps) => take_steps(&mut shared.tags, steps.as_slice())?,
+        Command::Reassign(_, to, version) => move_and_mark(alloc, &mut shared, to, version)?,
+        Command::Forwarded(_, text) => shared.forwarded = Some(text.copy()?),
+        Command::NotForwarded(_) => shared.forwarded = None,
+        Command::Owner(_, who) => shared.owner = Some(Text::of(alloc, person(from, who))?),
+        Command::NoOwner(_) => shared.owner = None,
+        Command::Retitle(_, _)
+        | Command::Submitter(_, _)
+        | Command::Merge(_, _)
+        | Command::ForceMerge(_, _)
+        | Command::Unmerge(_) => {}
+    }
+    Ok(shared)
+}

@@ -1,0 +1,11 @@
+//! What a command makes of the records of a set of merged bugs: of the fields that they share, and
+//! of the title and submitter of each. The values and definitions are those of `bug_record`.
+#![tactic(auto)]
+
+mod fields;
+mod members;
+mod tags;
+mod versions;
+
+pub use fields::shared_after;
+pub use members::members_with;
