@@ -58,7 +58,7 @@ fn nodes_text(alloc: Global, nodes: &[Node]) -> Result<String, AllocError> {
         if !text.is_empty() {
             text.push(' ')?;
         }
-        write!(text, "{}/{}", node.source(), node.version())?;
+        write!(text, "{node}")?;
     }
     Ok(text)
 }

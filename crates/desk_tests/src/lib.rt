@@ -1,19 +1,18 @@
-//! Tests that cross crates: reports, messages and scripts over a desk in memory, and over one that fails.
+//! Tests of what data can't show: readers and writers in pieces and failing, stores that fail, what a
+//! set holds, and calls that no program makes.
 #![tactic(auto)]
 
 #[cfg(test)]
-mod merges;
+mod commands;
+#[cfg(test)]
+mod lines;
 #[cfg(test)]
 mod messages;
 #[cfg(test)]
-mod reports;
-#[cfg(test)]
-mod rows;
+mod readers;
 #[cfg(test)]
 mod scripts;
 #[cfg(test)]
-mod shown;
+mod stores;
 #[cfg(test)]
 mod texts;
-#[cfg(test)]
-mod versions;

@@ -1,0 +1,186 @@
+//! Lines in the pieces that readers give, bytes in the pieces that writers take, and their faults.
+
+use crate::readers::{Broken, Feeds, Narrow, Trickle};
+use desk_lines::{Piece, ScriptFault, Source, next_line, split_lines, write_out};
+use std::alloc::{AllocError, Global};
+use std::io::Read;
+use std::process::Abort;
+use std::test::Fail;
+
+fn shown(piece: &Piece) -> (&str, &str) {
+    match piece {
+        Piece::Line(text) => ("line", text.as_str()),
+        Piece::Last(text) => ("last", text.as_str()),
+        Piece::End => ("end", ""),
+    }
+}
+
+fn assert_pieces<R: Read>(
+    rt: &impl Abort,
+    alloc: Global,
+    reader: &mut R,
+    want: &[(&str, &str)],
+) -> Result<(), ScriptFault> {
+    let mut source = Source::new();
+    for piece in want {
+        let given = next_line(alloc, &mut source, reader, 7)?;
+        assert!(rt; shown(&given) == *piece, "{} {}", piece.0, piece.1);
+    }
+    Ok(())
+}
+
+fn first_fault(alloc: Global, bytes: &[u8]) -> Option<ScriptFault> {
+    let mut reader = bytes;
+    next_line(alloc, &mut Source::new(), &mut reader, 7).err()
+}
+
+// So many letters, and then these bytes.
+fn long(alloc: Global, letters: usize, then: &[u8]) -> Result<Vec<u8>, AllocError> {
+    let mut bytes = Vec::new(alloc);
+    bytes.resize(letters, b'a')?;
+    bytes.extend_from_slice(then)?;
+    Ok(bytes)
+}
+
+#[test]
+fn lines_are_the_same_in_whatever_pieces_they_are_read(rt: HostRuntime) -> Result<(), Fail> {
+    let text = b"ab\r\ncd\n\n\r\r\ne";
+    let want = [
+        ("line", "ab"),
+        ("line", "cd"),
+        ("line", ""),
+        ("line", "\r"),
+        ("last", "e"),
+        ("end", ""),
+        ("end", ""),
+    ];
+    assert_pieces(&rt, rt.alloc(), &mut text.as_slice(), &want)?;
+    let mut slow = Trickle {
+        left: text,
+        good_reads: 100,
+    };
+    assert_pieces(&rt, rt.alloc(), &mut slow, &want)?;
+    Ok(())
+}
+
+#[test]
+fn a_line_has_65_536_bytes_at_most(rt: HostRuntime) -> Result<(), Fail> {
+    let alloc = rt.alloc();
+    let too_long = Some(ScriptFault::LineTooLong(7));
+    let cases = [
+        (65_536, b"\n".as_slice(), None),
+        (65_536, b"".as_slice(), None),
+        (65_535, b"\r\n".as_slice(), None),
+        (65_536, b"\r\n".as_slice(), too_long),
+        (65_537, b"\n".as_slice(), too_long),
+        (65_536, b"\xff\n".as_slice(), too_long),
+        (65_535, b"\xff\n".as_slice(), Some(ScriptFault::NotUtf8(7))),
+    ];
+    for (letters, then, want) in cases {
+        let bytes = long(alloc, letters, then)?;
+        assert!(rt; first_fault(alloc, &bytes) == want, "{letters}");
+    }
+    Ok(())
+}
+
+#[test]
+fn a_long_line_is_refused_at_its_first_byte_too_many(rt: HostRuntime) -> Result<(), Fail> {
+    let alloc = rt.alloc();
+    let bytes = long(alloc, 70_000, b"")?;
+    let mut reader = Trickle {
+        left: &bytes,
+        good_reads: 65_537,
+    };
+    let fault = next_line(alloc, &mut Source::new(), &mut reader, 7).err();
+    assert!(rt; fault == Some(ScriptFault::LineTooLong(7)));
+    Ok(())
+}
+
+#[test]
+fn a_read_that_fails_is_the_fault(rt: HostRuntime) -> Result<(), Fail> {
+    let alloc = rt.alloc();
+    let mut source = Source::new();
+    let mut reader = Trickle {
+        left: b"a\nbc\n",
+        good_reads: 3,
+    };
+    let first = next_line(alloc, &mut source, &mut reader, 1)?;
+    assert!(rt; shown(&first) == ("line", "a"));
+    let second = next_line(alloc, &mut source, &mut reader, 2);
+    assert!(rt; second.err() == Some(ScriptFault::Read));
+    Ok(())
+}
+
+// How many reads a reader that never ends is asked for, if the last line that it gives has this number,
+// and the next one is the fault Read; the line after that takes no read.
+fn reads_until(alloc: Global, last: u64) -> Result<Option<u64>, ScriptFault> {
+    let mut source = Source::new();
+    let mut reader = Feeds { reads: 0 };
+    for number in 0..last {
+        next_line(alloc, &mut source, &mut reader, number)?;
+    }
+    for _ in 0..2 {
+        if next_line(alloc, &mut source, &mut reader, last).err() != Some(ScriptFault::Read) {
+            return Ok(None);
+        }
+    }
+    Ok(Some(reader.reads))
+}
+
+#[test]
+fn a_reader_is_asked_for_16_777_216_reads_and_no_more(rt: HostRuntime) -> Result<(), Fail> {
+    assert!(rt; reads_until(rt.alloc(), 16_777_216)? == Some(16_777_216));
+    Ok(())
+}
+
+// Whether the text is split into these lines.
+fn splits(alloc: Global, text: &str, lines: &[&str]) -> Result<bool, AllocError> {
+    let found = split_lines(alloc, text)?;
+    if found.len() != lines.len() {
+        return Ok(false);
+    }
+    for (line, wanted) in found.as_slice().iter().zip(lines) {
+        if line.as_str() != *wanted {
+            return Ok(false);
+        }
+    }
+    Ok(true)
+}
+
+#[test]
+fn a_text_is_split_at_line_feeds(rt: HostRuntime) -> Result<(), Fail> {
+    let alloc = rt.alloc();
+    assert!(&rt; splits(alloc, "", &[])?);
+    assert!(&rt; splits(alloc, "a\nb", &["a", "b"])?);
+    assert!(&rt; splits(alloc, "a\r\n\nb\r\r\n", &["a", "", "b\r"])?);
+    assert!(&rt; splits(alloc, "a\n\r", &["a", ""])?);
+    Ok(())
+}
+
+#[test]
+fn all_bytes_are_written_in_any_pieces(rt: HostRuntime) -> Result<(), Fail> {
+    let alloc = rt.alloc();
+    let mut whole = Vec::new(alloc);
+    write_out(&mut whole, b"ab")?;
+    write_out(&mut whole, b"c")?;
+    assert!(rt; whole.as_slice() == b"abc".as_slice());
+    let mut narrow = Narrow {
+        taken: Vec::new(alloc),
+        room: 3,
+    };
+    write_out(&mut narrow, b"abc")?;
+    assert!(rt; narrow.taken.as_slice() == b"abc".as_slice());
+    Ok(())
+}
+
+#[test]
+fn a_write_that_fails_or_takes_no_byte_is_the_fault(rt: HostRuntime) {
+    let mut narrow = Narrow {
+        taken: Vec::new(rt.alloc()),
+        room: 2,
+    };
+    assert!(rt; write_out(&mut narrow, b"abc") == Err(ScriptFault::Write));
+    assert!(rt; narrow.taken.as_slice() == b"ab".as_slice());
+    assert!(rt; write_out(&mut Broken, b"a") == Err(ScriptFault::Write));
+    assert!(rt; write_out(&mut Broken, b"") == Ok(()));
+}

@@ -1,0 +1,179 @@
+//! Stores that fail once, and what a store holds.
+
+use crate::scripts::writes;
+use bug_record::{Nodes, SetImage};
+use desk_run::{ScriptEnd, ScriptFault, run_script};
+use desk_store::{FailAt, PlainDesk, Records};
+use desk_text::StoreFault;
+use std::alloc::Global;
+use std::test::Fail;
+
+/// Reports of three bugs of the package foo, with version 1 and severity normal.
+pub(crate) const REPORTS: &str =
+    "@from ann\n@report foo 1 normal a\n@report foo 1 normal b\n@report foo 1 normal c\n";
+
+/// What a script writes, however it ends.
+pub(crate) fn written<S: Records>(alloc: Global, store: &mut S, script: &str) -> Vec<u8> {
+    let mut reader = script.as_bytes();
+    let mut writer = Vec::new(alloc);
+    let _ = run_script(alloc, store, &mut reader, &mut writer);
+    writer
+}
+
+// Whether a script at whose second change the store fails, after the reports, writes this, and another one
+// after it that.
+fn fails_so(
+    alloc: Global,
+    script: &str,
+    answers: &str,
+    next_script: &str,
+    next_answers: &str,
+) -> bool {
+    let mut desk = PlainDesk::new(alloc, 1);
+    written(alloc, &mut desk, REPORTS);
+    let mut store = FailAt::new(desk, 2);
+    let end = Err(ScriptFault::Store(StoreFault::Device));
+    writes(alloc, &mut store, script.as_bytes(), end, answers)
+        && store.faults() == 1
+        && written(alloc, &mut store, next_script).as_slice() == next_answers.as_bytes()
+        && store.faults() == 1
+}
+
+#[test]
+fn a_command_at_which_the_store_fails_changes_nothing(rt: HostRuntime) {
+    let script = "severity 1 grave\nseverity 2 grave\nseverity 3 grave\n@from ann\nclose 3\n";
+    let answers = "> severity 1 grave\nOK 1\n> severity 2 grave\nStore fault: device.\n";
+    let next = "severity 2 normal\nseverity 3 normal\nclose 3\n";
+    let next_answers =
+        "> severity 2 normal\nOK, no change.\n> severity 3 normal\nOK, no change.\n> close 3\nOK 3\n";
+    assert!(rt; fails_so(rt.alloc(), script, answers, next, next_answers));
+}
+
+#[test]
+fn a_merge_at_which_the_store_fails_joins_nothing(rt: HostRuntime) {
+    let script = "close 3\nmerge 1 2\n";
+    let answers = "> close 3\nOK 3\n> merge 1 2\nStore fault: device.\n";
+    let next = "severity 1 grave\nunmerge 2\n";
+    let next_answers = "> severity 1 grave\nOK 1\n> unmerge 2\nNO bug 2 is not merged\n";
+    assert!(rt; fails_so(rt.alloc(), script, answers, next, next_answers));
+}
+
+#[test]
+fn a_report_at_which_the_store_fails_adds_no_bug(rt: HostRuntime) {
+    let script = "@report foo 1 normal d\n@report foo 1 normal e\n@report foo 1 normal f\n";
+    let answers = "OK 4\nStore fault: device.\n";
+    let next = "close 5\n@report foo 1 normal e\n";
+    let next_answers = "> close 5\nNO no such bug 5\nOK 5\n";
+    assert!(rt; fails_so(rt.alloc(), script, answers, next, next_answers));
+}
+
+#[test]
+fn a_branch_at_which_the_store_fails_is_not_taken(rt: HostRuntime) {
+    let script = "@branch foo/2 foo/1\n@branch foo/3 foo/2\n@branch foo/4 foo/3\n";
+    let answers = "OK\nStore fault: device.\n";
+    // the failed branch left foo/3 without a parent: it can have another one
+    let next = "@branch foo/3 foo/1\n";
+    assert!(rt; fails_so(rt.alloc(), script, answers, next, "OK\n"));
+}
+
+#[test]
+fn a_line_that_changes_nothing_writes_nothing(rt: HostRuntime) {
+    let script = "close 1\nclose 1\nseverity 1 normal\nseverity 1 minor\n";
+    let answers =
+        "> close 1\nOK 1\n> close 1\nOK, no change.\n> severity 1 normal\nOK, no change.\n\
+        > severity 1 minor\nStore fault: device.\n";
+    let next = "severity 1 normal\n";
+    let next_answers = "> severity 1 normal\nOK, no change.\n";
+    assert!(rt; fails_so(rt.alloc(), script, answers, next, next_answers));
+}
+
+#[test]
+fn no_change_fails_where_none_is_to(rt: HostRuntime) {
+    let alloc = rt.alloc();
+    let mut store = FailAt::new(PlainDesk::new(alloc, 1), 0);
+    let end = Ok(ScriptEnd::Accepted);
+    assert!(rt;
+        writes(
+            alloc,
+            &mut store,
+            REPORTS.as_bytes(),
+            end,
+            "OK 1\nOK 2\nOK 3\n"
+        )
+    );
+    assert!(rt; store.faults() == 0);
+}
+
+#[test]
+fn the_next_number_and_unknown_bugs(rt: HostRuntime) {
+    let alloc = rt.alloc();
+    let mut desk = PlainDesk::new(alloc, 999_999_999);
+    assert!(rt; desk.next() == Ok(999_999_999));
+    assert!(rt; matches!(desk.set_of(999_999_999), Ok(None)));
+    written(alloc, &mut desk, REPORTS);
+    assert!(rt; desk.next() == Ok(1_000_000_000));
+    assert!(rt; matches!(desk.set_of(999_999_999), Ok(Some(_))));
+    assert!(rt; matches!(desk.set_of(1_000_000_000), Ok(None)));
+    assert!(rt; desk.faults() == 0);
+}
+
+// Whether the nodes are these, each by its source and its version, in this order.
+fn nodes_are(nodes: &Nodes, texts: &[(&str, &str)]) -> bool {
+    if nodes.as_slice().len() != texts.len() {
+        return false;
+    }
+    for (node, (source, version)) in nodes.as_slice().iter().zip(texts) {
+        if node.source() != *source || node.version() != *version {
+            return false;
+        }
+    }
+    true
+}
+
+// Whether the members are these, each by its number, title and submitter.
+fn members_are(image: &SetImage, texts: &[(u64, &str, &str)]) -> bool {
+    if image.members.as_slice().len() != texts.len() {
+        return false;
+    }
+    for (member, (number, title, submitter)) in image.members.as_slice().iter().zip(texts) {
+        if member.number != *number
+            || member.title.as_str() != *title
+            || member.submitter.as_str() != *submitter
+        {
+            return false;
+        }
+    }
+    true
+}
+
+// The image of bug 1 after a script.
+fn first_image(alloc: Global, script: &str) -> Result<SetImage, Fail> {
+    let mut desk = PlainDesk::new(alloc, 1);
+    written(alloc, &mut desk, script);
+    match desk.set_of(1)? {
+        Some(image) => Ok(image),
+        None => Err(Fail::new("no bug 1")),
+    }
+}
+
+#[test]
+fn an_image_has_the_marks_of_an_open_bug(rt: HostRuntime) -> Result<(), Fail> {
+    let script = "@from ann\n@report foo 1 normal a\nclose 1 1.0\nfound 1 1.0-0\n";
+    let image = first_image(rt.alloc(), script)?;
+    assert!(rt; !image.shared.closed && image.shared.package.as_str() == "foo");
+    assert!(rt; nodes_are(&image.shared.found, &[("foo", "1"), ("foo", "1.0-0")]));
+    assert!(rt; nodes_are(&image.shared.fixed, &[("foo", "1.0")]));
+    assert!(rt; members_are(&image, &[(1, "a", "ann")]));
+    Ok(())
+}
+
+#[test]
+fn an_image_has_the_marks_and_the_members_of_merged_bugs(rt: HostRuntime) -> Result<(), Fail> {
+    let script =
+        "@report foo 1 normal a\n@from bob\n@report foo 1 normal b\nfound 1 2\nfixed 2 2\nmerge 2 1\n";
+    let image = first_image(rt.alloc(), script)?;
+    assert!(rt; nodes_are(&image.shared.found, &[("foo", "1"), ("foo", "2")]));
+    assert!(rt; nodes_are(&image.shared.fixed, &[("foo", "2")]));
+    assert!(rt; members_are(&image, &[(1, "a", "nobody"), (2, "b", "bob")]));
+    Ok(())
+}
