@@ -3,10 +3,10 @@ use Rattle.std.proofs.Common.{◌≡◌, ℕ, Bool, false, ◌==◌, ◌≢◌, 
 use Rattle.std.proofs.lemmas.Bool.{cond-false, ne_eqb}
 use Rattle.bug_record.specs.declared.command.TagStep.{TagStep}
 use Rattle.bug_record.specs.declared.command.Refusal.{Refusal}
-use Rattle.control_text.specs.declared.tags.Sign.{Sign}
-use Rattle.control_text.specs.declared.tags.Sign.TheVariants.{Plus, Minus, Equals}
-use Rattle.control_text.specs.Words.{words_with_commas}
-use Rattle.control_text.specs.Commands.{and_read, sign_and_tag, adds_after, word_steps, all_steps}
+use Rattle.command_grammar.specs.declared.tags.Sign.{Sign}
+use Rattle.command_grammar.specs.declared.tags.Sign.TheVariants.{Plus, Minus, Equals}
+use Rattle.line_words.specs.Words.{words_with_commas}
+use Rattle.command_grammar.specs.Commands.{and_read, sign_and_tag, adds_after, word_steps, all_steps}
 
 -- a word that begins with no sign
 other : (k c : ℕ) (s : List ℕ) → ((rest : List ℕ) → (c ∷ s) ≢ k ∷ rest) → (c == k) ≡ false

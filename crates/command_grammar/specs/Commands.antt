@@ -1,7 +1,6 @@
 -- The commands, each over the text after its own word (the BTS page 'control and manipulation').
 use Rattle.std.specs.Prelude.{ℕ, nat_lt, ◌==◌, ◌||◌, codes, if◌then◌else◌, Bool, true, false, List, [], ◌∷◌, ◌++◌, length, Option, Some, None, Result, Ok, Err}
 use Rattle.std.specs.Str.{bytes_eq}
-use Rattle.bug_record.specs.Words.{is_word}
 use Rattle.bug_record.specs.Severities.{severity_of}
 use Rattle.bug_record.specs.Tags.{tag_of}
 use Rattle.bug_record.specs.declared.command.Command.{Command}
@@ -14,42 +13,14 @@ use Rattle.bug_record.specs.declared.command.Who.TheVariants.{Sender, Given}
 use Rattle.bug_record.specs.declared.tag.Tag.{Tag}
 use Rattle.bug_record.specs.declared.command.Refusal.{Refusal}
 use Rattle.bug_record.specs.declared.command.Refusal.TheVariants.{Malformed, TooLong, BadSeverity, BadTag, BadVersion, BadPackage}
-use Rattle.control_text.specs.Words.{words, words_with_commas, after_word, trimmed}
-use Rattle.control_text.specs.Bugs.{bug_of_word}
-use Rattle.control_text.specs.Versions.{version_of_word, package_of_word}
-use Rattle.control_text.specs.declared.commands.CommandWord.{CommandWord}
-use Rattle.control_text.specs.declared.commands.CommandWord.TheVariants as command_words
-use Rattle.control_text.specs.declared.named.Named.{Named}
-use Rattle.control_text.specs.declared.tags.Sign.{Sign}
-use Rattle.control_text.specs.declared.tags.Sign.TheVariants.{Plus, Minus, Equals}
-
--- the command that sets one field of a bug, of the word for it; `tag` is another word for `tags`
-abbrev pub field_word : List ℕ → Option CommandWord
-field_word word =
-    if is_word word (codes "severity") then Some command_words.Severity
-    else if is_word word (codes "tags") || is_word word (codes "tag") then Some command_words.Tags
-    else if is_word word (codes "retitle") then Some command_words.Retitle
-    else if is_word word (codes "submitter") then Some command_words.Submitter
-    else if is_word word (codes "forwarded") then Some command_words.Forwarded
-    else if is_word word (codes "notforwarded") then Some command_words.NotForwarded
-    else if is_word word (codes "owner") then Some command_words.Owner
-    else if is_word word (codes "noowner") then Some command_words.NoOwner
-    else None
-
--- the command that a word is, in any ASCII case
-abbrev pub command_word : List ℕ → Option CommandWord
-command_word word =
-    if is_word word (codes "found") then Some command_words.Found
-    else if is_word word (codes "notfound") then Some command_words.NotFound
-    else if is_word word (codes "fixed") then Some command_words.Fixed
-    else if is_word word (codes "notfixed") then Some command_words.NotFixed
-    else if is_word word (codes "close") then Some command_words.Close
-    else if is_word word (codes "reopen") then Some command_words.Reopen
-    else if is_word word (codes "reassign") then Some command_words.Reassign
-    else if is_word word (codes "merge") then Some command_words.Merge
-    else if is_word word (codes "forcemerge") then Some command_words.ForceMerge
-    else if is_word word (codes "unmerge") then Some command_words.Unmerge
-    else field_word word
+use Rattle.line_words.specs.Words.{words, words_with_commas, after_word, trimmed}
+use Rattle.line_words.specs.Bugs.{bug_of_word}
+use Rattle.command_grammar.specs.Versions.{version_of_word, package_of_word}
+use Rattle.command_grammar.specs.declared.command_word.CommandWord.{CommandWord}
+use Rattle.command_grammar.specs.declared.command_word.CommandWord.TheVariants as command_words
+use Rattle.line_words.specs.declared.named.Named.{Named}
+use Rattle.command_grammar.specs.declared.tags.Sign.{Sign}
+use Rattle.command_grammar.specs.declared.tags.Sign.TheVariants.{Plus, Minus, Equals}
 
 -- what is made of the value that a word gives, or the refusal where it gives none
 abbrev pub or_refuse : {A B : Type 0} → Option A → Refusal → (A → Result B Refusal) → Result B Refusal
@@ -62,45 +33,45 @@ and_read (Err refusal) f = Err refusal
 and_read (Ok x) f = f x
 
 -- `n`
-abbrev pub bug_of : List ℕ → Result Named Refusal
-bug_of word = or_refuse (bug_of_word word) Malformed (λ bug. Ok bug)
+abbrev pub read_bug : List ℕ → Result Named Refusal
+read_bug word = or_refuse (bug_of_word word) Malformed (λ bug. Ok bug)
 
-abbrev pub version_of : List ℕ → Result VersionArg Refusal
-version_of word = or_refuse (version_of_word word) BadVersion (λ version. Ok version)
+abbrev pub read_version : List ℕ → Result VersionArg Refusal
+read_version word = or_refuse (version_of_word word) BadVersion (λ version. Ok version)
 
 -- `n`, with no further word
 abbrev pub bug_alone : List (List ℕ) → Result Named Refusal
-bug_alone (n ∷ []) = bug_of n
+bug_alone (n ∷ []) = read_bug n
 bug_alone _ = Err Malformed
 
 -- `n v`, with no further word
 abbrev pub bug_and_version : List (List ℕ) → Result (Named × VersionArg) Refusal
-bug_and_version (n ∷ v ∷ []) = and_read (bug_of n) (λ bug. and_read (version_of v) (λ version. Ok (bug, version)))
+bug_and_version (n ∷ v ∷ []) = and_read (read_bug n) (λ bug. and_read (read_version v) (λ version. Ok (bug, version)))
 bug_and_version _ = Err Malformed
 
 -- `n [v]`, with no further word
-abbrev pub bug_and_any_version : List (List ℕ) → Result (Named × Option VersionArg) Refusal
-bug_and_any_version (n ∷ []) = and_read (bug_of n) (λ bug. Ok (bug, None))
-bug_and_any_version arguments = and_read (bug_and_version arguments) (λ both. Ok (both.0, Some both.1))
+abbrev pub bug_and_optional_version : List (List ℕ) → Result (Named × Option VersionArg) Refusal
+bug_and_optional_version (n ∷ []) = and_read (read_bug n) (λ bug. Ok (bug, None))
+bug_and_optional_version arguments = and_read (bug_and_version arguments) (λ both. Ok (both.0, Some both.1))
 
 -- `severity n s`, with no further word
 abbrev pub severity_command : List (List ℕ) → Result (Command Named) Refusal
 severity_command (n ∷ s ∷ []) =
-    and_read (bug_of n) (λ bug. or_refuse (severity_of s) BadSeverity (λ severity. Ok (commands.Severity bug severity)))
+    and_read (read_bug n) (λ bug. or_refuse (severity_of s) BadSeverity (λ severity. Ok (commands.Severity bug severity)))
 severity_command _ = Err Malformed
 
 -- a version, if there is a word for it
-abbrev pub any_version : Option (List ℕ) → Result (Option VersionArg) Refusal
-any_version None = Ok None
-any_version (Some word) = and_read (version_of word) (λ version. Ok (Some version))
+abbrev pub optional_version : Option (List ℕ) → Result (Option VersionArg) Refusal
+optional_version None = Ok None
+optional_version (Some word) = and_read (read_version word) (λ version. Ok (Some version))
 
-abbrev pub package_of : List ℕ → Result (List ℕ) Refusal
-package_of word = or_refuse (package_of_word word) BadPackage (λ package_name. Ok package_name)
+abbrev pub read_package : List ℕ → Result (List ℕ) Refusal
+read_package word = or_refuse (package_of_word word) BadPackage (λ package_name. Ok package_name)
 
 -- a bug, a package and a version, if there is a word for it; of wrong words the first decides
 abbrev pub reassign_words : List ℕ → List ℕ → Option (List ℕ) → Result (Command Named) Refusal
 reassign_words n p v =
-    and_read (bug_of n) (λ bug. and_read (package_of p) (λ package_name. and_read (any_version v) (λ version.
+    and_read (read_bug n) (λ bug. and_read (read_package p) (λ package_name. and_read (optional_version v) (λ version.
     Ok (commands.Reassign bug package_name version))))
 
 -- `reassign n package [v]`, with no further word
@@ -130,9 +101,9 @@ some_who [] = Err Malformed
 some_who (c ∷ text) = who_of_text (c ∷ text)
 
 -- who is to be the submitter; `=` or nothing is nobody
-abbrev pub any_who_of_text : List ℕ → Result (Option Who) Refusal
-any_who_of_text [] = Ok None
-any_who_of_text (c ∷ text) =
+abbrev pub optional_who : List ℕ → Result (Option Who) Refusal
+optional_who [] = Ok None
+optional_who (c ∷ text) =
     if bytes_eq (c ∷ text) (codes "=") then Ok None
     else and_read (who_of_text (c ∷ text)) (λ who. Ok (Some who))
 
@@ -142,11 +113,11 @@ bug_and_text arguments = of_words (words arguments)
   where
     of_words : List (List ℕ) → Result (Named × List ℕ) Refusal
     of_words [] = Err Malformed
-    of_words (n ∷ more) = and_read (bug_of n) (λ bug. Ok (bug, trimmed (after_word arguments)))
+    of_words (n ∷ more) = and_read (read_bug n) (λ bug. Ok (bug, trimmed (after_word arguments)))
 
 -- `reopen n [who or =]`
 abbrev pub reopen_command : List ℕ → Result (Command Named) Refusal
-reopen_command arguments = and_read (bug_and_text arguments) (λ both. and_read (any_who_of_text both.1) (λ who. Ok (commands.Reopen both.0 who)))
+reopen_command arguments = and_read (bug_and_text arguments) (λ both. and_read (optional_who both.1) (λ who. Ok (commands.Reopen both.0 who)))
 
 -- `n text`
 abbrev pub bug_and_some_text : List ℕ → Result (Named × List ℕ) Refusal
@@ -156,14 +127,18 @@ bug_and_some_text arguments = and_read (bug_and_text arguments) (λ both. and_re
 abbrev pub bug_and_some_who : List ℕ → Result (Named × Who) Refusal
 bug_and_some_who arguments = and_read (bug_and_text arguments) (λ both. and_read (some_who both.1) (λ who. Ok (both.0, who)))
 
+-- what each of the words gives, or the refusal of the first that gives nothing
+abbrev pub each_word : {A : Type 0} → (List ℕ → Result A Refusal) → List (List ℕ) → Result (List A) Refusal
+each_word read [] = Ok []
+each_word read (word ∷ more) = and_read (read word) (λ x. and_read (each_word read more) (λ xs. Ok (x ∷ xs)))
+
 -- the bug of each word
 abbrev pub all_bugs : List (List ℕ) → Result (List Named) Refusal
-all_bugs [] = Ok []
-all_bugs (n ∷ more) = and_read (bug_of n) (λ bug. and_read (all_bugs more) (λ bugs. Ok (bug ∷ bugs)))
+all_bugs ws = each_word read_bug ws
 
 -- `n m ..`, two bugs or more
 abbrev pub bug_and_others : List (List ℕ) → Result (Named × List Named) Refusal
-bug_and_others (n ∷ m ∷ more) = and_read (bug_of n) (λ bug. and_read (all_bugs (m ∷ more)) (λ others. Ok (bug, others)))
+bug_and_others (n ∷ m ∷ more) = and_read (read_bug n) (λ bug. and_read (all_bugs (m ∷ more)) (λ others. Ok (bug, others)))
 bug_and_others _ = Err Malformed
 
 -- The sign that a word begins with, and the tag that follows it: one `+`, `-` or `=`, or none. What signs say here is this
@@ -219,19 +194,20 @@ tags_command arguments = of_words (words arguments)
     of_words : List (List ℕ) → Result (Command Named) Refusal
     of_words [] = Err Malformed
     of_words (n ∷ more) =
-        and_read (bug_of n) (λ bug. and_read (some_steps (words_with_commas (after_word arguments))) (λ steps. Ok (commands.Tags bug steps)))
+        and_read (read_bug n) (λ bug. and_read (some_steps (words_with_commas (after_word arguments))) (λ steps. Ok (commands.Tags bug steps)))
 
 -- the command that its own word and the text after it give
 abbrev pub command_of : CommandWord → List ℕ → Result (Command Named) Refusal
-command_of command_words.Found arguments = and_read (bug_and_any_version (words arguments)) (λ both. Ok (commands.Found both.0 both.1))
+command_of command_words.Found arguments = and_read (bug_and_optional_version (words arguments)) (λ both. Ok (commands.Found both.0 both.1))
 command_of command_words.NotFound arguments = and_read (bug_and_version (words arguments)) (λ both. Ok (commands.NotFound both.0 both.1))
 command_of command_words.Fixed arguments = and_read (bug_and_version (words arguments)) (λ both. Ok (commands.Fixed both.0 both.1))
 command_of command_words.NotFixed arguments = and_read (bug_and_version (words arguments)) (λ both. Ok (commands.NotFixed both.0 both.1))
-command_of command_words.Close arguments = and_read (bug_and_any_version (words arguments)) (λ both. Ok (commands.Close both.0 both.1))
+command_of command_words.Close arguments = and_read (bug_and_optional_version (words arguments)) (λ both. Ok (commands.Close both.0 both.1))
 command_of command_words.Reopen arguments = reopen_command arguments
 command_of command_words.Severity arguments = severity_command (words arguments)
 command_of command_words.Reassign arguments = reassign_command (words arguments)
 command_of command_words.Tags arguments = tags_command arguments
+command_of command_words.Tag arguments = tags_command arguments
 command_of command_words.Retitle arguments = and_read (bug_and_some_text arguments) (λ both. Ok (commands.Retitle both.0 both.1))
 command_of command_words.Submitter arguments = and_read (bug_and_some_who arguments) (λ both. Ok (commands.Submitter both.0 both.1))
 command_of command_words.Merge arguments = and_read (bug_and_others (words arguments)) (λ both. Ok (commands.Merge both.0 both.1))

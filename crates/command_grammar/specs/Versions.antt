@@ -8,9 +8,9 @@ use Rattle.debver.specs.Faults.{text_fault}
 use Rattle.ancestry.specs.Nodes.{is_slash}
 use Rattle.bug_record.specs.declared.command.VersionArg.{VersionArg}
 
--- a version of the bug's own package
-abbrev pub plain_version : List ℕ → Option VersionArg
-plain_version version = if is_none (text_fault version) then Some (record { source = None; version = version }) else None
+-- a version without its source, which is the bug's own package
+abbrev pub bare_version : List ℕ → Option VersionArg
+bare_version version = if is_none (text_fault version) then Some (record { source = None; version = version }) else None
 
 -- a version of a source package
 abbrev pub sourced_version : List ℕ → List ℕ → Option VersionArg
@@ -22,7 +22,7 @@ sourced_version source version =
 abbrev pub version_of_word : List ℕ → Option VersionArg
 version_of_word word =
     if list_any is_slash word then sourced_version (before_first is_slash word) (after_first is_slash word)
-    else plain_version word
+    else bare_version word
 
 -- without one `src:` at its beginning
 abbrev pub without_src : List ℕ → List ℕ

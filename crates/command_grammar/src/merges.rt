@@ -1,15 +1,14 @@
 //! The commands `merge` and `forcemerge`.
 
-ghost use Rattle.control_text.specs.Words.{words};
-ghost use Rattle.control_text.specs.Commands.{all_bugs, bug_and_others, command_of};
-ghost use Rattle.control_text.specs.Lines.{Reads};
-ghost use Rattle.control_text.specs.declared.commands.CommandWord.TheVariants.{Merge, ForceMerge};
+ghost use Rattle.line_words.specs.Words.{words};
+ghost use Rattle.command_grammar.specs.Commands.{all_bugs, bug_and_others, command_of};
+ghost use Rattle.command_grammar.specs.Reads.{Reads};
+ghost use Rattle.command_grammar.specs.declared.command_word.CommandWord.TheVariants.{Merge, ForceMerge};
 
-use crate::line::LineFault;
-use crate::named::Named;
+use crate::fault::LineFault;
 use crate::shapes::{MALFORMED, read_bug};
-use crate::words::split_word;
 use bug_record::{Command, Sequence};
+use line_words::{Named, split_word};
 use std::alloc::Global;
 
 // The bug of each word.

@@ -1,20 +1,19 @@
 //! The command `reassign`.
 
 ghost use Rattle.std.specs.Option.{option_copied};
-ghost use Rattle.control_text.specs.Words.{words};
-ghost use Rattle.control_text.specs.Commands.{any_version, reassign_command};
-ghost use Rattle.control_text.specs.Lines.{Reads};
+ghost use Rattle.line_words.specs.Words.{words};
+ghost use Rattle.command_grammar.specs.Commands.{optional_version, reassign_command};
+ghost use Rattle.command_grammar.specs.Reads.{Reads};
 
-use crate::line::LineFault;
-use crate::named::Named;
+use crate::fault::LineFault;
 use crate::shapes::{MALFORMED, read_bug, read_package, read_version};
-use crate::words::split_word;
 use bug_record::{Command, VersionArg};
+use line_words::{Named, split_word};
 use std::alloc::Global;
 
 // The version of a word, if there is one.
-fn any_version(alloc: Global, word: Option<&str>) -> Result<Option<VersionArg>, LineFault>
-    ensures { Reads (any_version (option_copied word.entry)) result }
+fn optional_version(alloc: Global, word: Option<&str>) -> Result<Option<VersionArg>, LineFault>
+    ensures { Reads (optional_version (option_copied word.entry)) result }
 {
     match word {
         Some(word) => Ok(Some(read_version(alloc, word)?)),
@@ -35,6 +34,6 @@ pub(crate) fn read_reassign(alloc: Global, arguments: &str) -> Result<Command<Na
     };
     let bug = read_bug(first)?;
     let package = read_package(alloc, second)?;
-    let version = any_version(alloc, third)?;
+    let version = optional_version(alloc, third)?;
     Ok(Command::Reassign(bug, package, version))
 }

@@ -1,14 +1,13 @@
 //! The command `severity`.
 
-ghost use Rattle.control_text.specs.Words.{words};
-ghost use Rattle.control_text.specs.Commands.{severity_command};
-ghost use Rattle.control_text.specs.Lines.{Reads};
+ghost use Rattle.line_words.specs.Words.{words};
+ghost use Rattle.command_grammar.specs.Commands.{severity_command};
+ghost use Rattle.command_grammar.specs.Reads.{Reads};
 
-use crate::line::LineFault;
-use crate::named::Named;
+use crate::fault::LineFault;
 use crate::shapes::{MALFORMED, read_bug};
-use crate::words::split_word;
 use bug_record::{Command, Refusal, Severity};
+use line_words::{Named, split_word};
 
 /// The command that the text after the word `severity` gives: `severity n s`.
 pub(crate) fn read_severity(arguments: &str) -> Result<Command<Named>, LineFault>

@@ -1,18 +1,17 @@
 //! Words that several commands take: a bug, a version, a package, a text.
 
 ghost use Rattle.std.specs.Prelude.{◌≡◌, Ok};
-ghost use Rattle.control_text.specs.Words.{words};
-ghost use Rattle.control_text.specs.Versions.{plain_version, sourced_version, without_src};
-ghost use Rattle.control_text.specs.Commands.{or_refuse, bug_of, version_of, package_of, bug_alone, bug_and_version, bug_and_any_version};
-ghost use Rattle.control_text.specs.Lines.{Reads};
+ghost use Rattle.line_words.specs.Words.{words};
+ghost use Rattle.command_grammar.specs.Versions.{bare_version, sourced_version, without_src};
+ghost use Rattle.command_grammar.specs.Commands.{or_refuse, read_bug, read_version, read_package, bug_alone, bug_and_version, bug_and_optional_version};
+ghost use Rattle.command_grammar.specs.Reads.{Reads};
 ghost use Rattle.bug_record.specs.declared.command.Refusal.TheVariants.{BadVersion};
 
-use crate::line::LineFault;
-use crate::named::{Named, bug_word};
-use crate::words::split_word;
+use crate::fault::LineFault;
 use ancestry::at_first_slash;
 use bug_record::{Refusal, VersionArg};
 use debver::{Text, check, check_name};
+use line_words::{Named, bug_word, split_word};
 use std::alloc::Global;
 
 /// The refusal of a line whose shape is wrong.
@@ -22,7 +21,7 @@ const BAD_VERSION: LineFault = LineFault::Refused(Refusal::BadVersion);
 
 /// The bug of a bug word.
 pub(crate) fn read_bug(word: &str) -> Result<Named, LineFault>
-    ensures { Reads (bug_of word.now) result }
+    ensures { Reads (read_bug word.now) result }
 {
     match bug_word(word) {
         Some(bug) => Ok(bug),
@@ -31,8 +30,8 @@ pub(crate) fn read_bug(word: &str) -> Result<Named, LineFault>
 }
 
 // A version of the bug's own package.
-fn read_plain(alloc: Global, version: &str) -> Result<VersionArg, LineFault>
-    ensures { Reads (or_refuse (plain_version version.now) BadVersion (λ version. Ok version)) result }
+fn read_bare(alloc: Global, version: &str) -> Result<VersionArg, LineFault>
+    ensures { Reads (or_refuse (bare_version version.now) BadVersion (λ version. Ok version)) result }
 {
     if check(version).is_err() {
         return Err(BAD_VERSION);
@@ -58,11 +57,11 @@ fn read_sourced(alloc: Global, source: &str, version: &str) -> Result<VersionArg
 
 /// The version of a version word.
 pub(crate) fn read_version(alloc: Global, word: &str) -> Result<VersionArg, LineFault>
-    ensures { Reads (version_of word.now) result }
+    ensures { Reads (read_version word.now) result }
 {
     match at_first_slash(word) {
         Some((source, version)) => read_sourced(alloc, source, version),
-        None => read_plain(alloc, word),
+        None => read_bare(alloc, word),
     }
 }
 
@@ -75,7 +74,7 @@ fn without_src(word: &str) -> &str
 
 /// The package that a word names.
 pub(crate) fn read_package(alloc: Global, word: &str) -> Result<Text, LineFault>
-    ensures { Reads (package_of word.now) result }
+    ensures { Reads (read_package word.now) result }
 {
     let name = without_src(word);
     if check_name(name).is_err() {
@@ -113,11 +112,11 @@ pub(crate) fn bug_and_version(
 }
 
 /// `n [v]`: a bug, and a version, if one is given.
-pub(crate) fn bug_and_any_version(
+pub(crate) fn bug_and_optional_version(
     alloc: Global,
     arguments: &str,
 ) -> Result<(Named, Option<VersionArg>), LineFault>
-    ensures { Reads (bug_and_any_version (words arguments.now)) result }
+    ensures { Reads (bug_and_optional_version (words arguments.now)) result }
 {
     let (first, rest) = split_word(arguments).ok_or(MALFORMED)?;
     if split_word(rest).is_none() {

@@ -1,16 +1,14 @@
 //! The command `tags`.
 
 ghost use Rattle.std.specs.Prelude.{◌≡◌, true};
-ghost use Rattle.control_text.specs.Words.{words_with_commas};
-ghost use Rattle.control_text.specs.Commands.{sign_and_tag, adds_after, tag_step, word_steps, all_steps, tags_command};
-ghost use Rattle.control_text.specs.Lines.{Reads, ReadsMore};
+ghost use Rattle.line_words.specs.Words.{words_with_commas};
+ghost use Rattle.command_grammar.specs.Commands.{sign_and_tag, adds_after, tag_step, word_steps, all_steps, tags_command};
+ghost use Rattle.command_grammar.specs.Reads.{Reads, ReadsMore};
 
-use crate::gaps::split_at_gap;
-use crate::line::LineFault;
-use crate::named::Named;
+use crate::fault::LineFault;
 use crate::shapes::{MALFORMED, read_bug};
-use crate::words::next_word;
 use bug_record::{Command, Refusal, Sequence, Tag, TagStep};
+use line_words::{Named, next_word, split_word_with_commas};
 use std::alloc::Global;
 
 /// A sign that a word begins with.
@@ -91,7 +89,7 @@ fn all_steps(alloc: Global, text: &str) -> Result<Sequence<TagStep>, LineFault>
     let mut steps = Sequence::new(alloc);
     let mut adds = true;
     let mut rest = text;
-    while let Some((word, more)) = split_at_gap(rest) {
+    while let Some((word, more)) = split_word_with_commas(rest) {
         let (sign, tag) = sign_and_tag(word);
         adds = adds_after(sign, adds);
         push_steps(&mut steps, adds, sign, tag)?;
@@ -109,7 +107,7 @@ pub(crate) fn read_tags(alloc: Global, arguments: &str) -> Result<Command<Named>
         return Err(MALFORMED);
     }
     let bug = read_bug(first)?;
-    if split_at_gap(rest).is_none() {
+    if split_word_with_commas(rest).is_none() {
         return Err(MALFORMED);
     }
     let steps = all_steps(alloc, rest)?;

@@ -1,15 +1,14 @@
 //! Texts of commands: the rest of a line, without outer blanks.
 
-ghost use Rattle.control_text.specs.Commands.{limited_text, who_of_text, some_text, some_who, any_who_of_text, bug_and_some_text, bug_and_some_who, reopen_command, command_of};
-ghost use Rattle.control_text.specs.Lines.{Reads, ReadsBug};
-ghost use Rattle.control_text.specs.declared.commands.CommandWord.TheVariants.{Retitle, Submitter, Forwarded, Owner};
+ghost use Rattle.command_grammar.specs.Commands.{limited_text, who_of_text, some_text, some_who, optional_who, bug_and_some_text, bug_and_some_who, reopen_command, command_of};
+ghost use Rattle.command_grammar.specs.Reads.{Reads, ReadsBug};
+ghost use Rattle.command_grammar.specs.declared.command_word.CommandWord.TheVariants.{Retitle, Submitter, Forwarded, Owner};
 
-use crate::line::LineFault;
-use crate::named::{Named, bug_word};
+use crate::fault::LineFault;
 use crate::shapes::MALFORMED;
-use crate::words::{next_word, trim};
 use bug_record::{Command, Refusal, Who};
 use debver::Text;
+use line_words::{Named, bug_word, next_word, trim};
 use std::alloc::Global;
 
 // A bug, and the text after its word, without outer blanks.
@@ -67,8 +66,8 @@ fn some_who(alloc: Global, text: &str) -> Result<Who, LineFault>
 }
 
 // Who is to be the submitter, if somebody is.
-fn read_any_who(alloc: Global, text: &str) -> Result<Option<Who>, LineFault>
-    ensures { Reads (any_who_of_text text.now) result }
+fn optional_who(alloc: Global, text: &str) -> Result<Option<Who>, LineFault>
+    ensures { Reads (optional_who text.now) result }
 {
     if text.is_empty() || text == "=" {
         return Ok(None);
@@ -81,7 +80,7 @@ pub(crate) fn read_reopen(alloc: Global, arguments: &str) -> Result<Command<Name
     ensures { Reads (reopen_command arguments.now) result }
 {
     let (bug, text) = bug_and_rest(arguments)?;
-    let who = read_any_who(alloc, text)?;
+    let who = optional_who(alloc, text)?;
     Ok(Command::Reopen(bug, who))
 }
 

@@ -1,9 +1,9 @@
 use Rattle.std.proofs.Common.{◌≡◌, ◌++◌, Ok, length}
 use denote.Text.{Utf8}
 use denote.Shadow.{shadow}
-use Rattle.control_text.specs.Words.{words}
-use Rattle.control_text.specs.Commands.{and_read, all_bugs}
-use Rattle.control_text.proofs.merges.all_bugs.Given as goal
+use Rattle.line_words.specs.Words.{words}
+use Rattle.command_grammar.specs.Commands.{and_read, all_bugs}
+use Rattle.command_grammar.proofs.merges.all_bugs.Given as goal
 
 abbrev pub invariant-loop-word : goal.invariant-loop-word
 invariant-loop-word l = shadow (Utf8 l.rest) × (and_read (all_bugs (words l.rest)) (λ more. Ok (l.bugs ++ more)) ≡ all_bugs (words l.text))

@@ -3,15 +3,15 @@ use Rattle.std.specs.List.{before_first, after_first}
 use Rattle.ancestry.specs.Nodes.{is_slash}
 use Rattle.bug_record.specs.declared.command.VersionArg.{VersionArg}
 use Rattle.bug_record.specs.declared.command.Refusal.TheVariants.{BadVersion}
-use Rattle.control_text.specs.Commands.{or_refuse}
-use Rattle.control_text.specs.Lines.{Reads}
-use Rattle.control_text.specs.Versions.{plain_version, sourced_version, version_of_word}
-use Rattle.control_text.proofs.shapes.read_version.Goals as goal
+use Rattle.command_grammar.specs.Commands.{or_refuse}
+use Rattle.command_grammar.specs.Reads.{Reads}
+use Rattle.command_grammar.specs.Versions.{bare_version, sourced_version, version_of_word}
+use Rattle.command_grammar.proofs.shapes.read_version.Goals as goal
 
 pub returns-in-Some : goal.returns-in-Some
 returns-in-Some c =
     let w = c.args.word.now in
     let same : sourced_version c.in-Some.source.now c.in-Some.version.now ≡ version_of_word w
     = (λ i. sourced_version (c.in-Some.ensures.before i) (c.in-Some.ensures.after i))
-    ∙ ap (λ t. cond t (sourced_version (before_first is_slash w) (after_first is_slash w)) (plain_version w)) c.in-Some.ensures.slash in
+    ∙ ap (λ t. cond t (sourced_version (before_first is_slash w) (after_first is_slash w)) (bare_version w)) c.in-Some.ensures.slash in
     subst (λ (o : Option VersionArg). Reads (or_refuse o BadVersion (λ version. Ok version)) c.read_sourced.result) same c.read_sourced.ensures

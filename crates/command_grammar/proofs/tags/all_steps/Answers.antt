@@ -1,6 +1,6 @@
 use Rattle.std.proofs.Common.{rules}
-use Rattle.control_text.proofs.StepLemmas.{steps-preserved}
-use Rattle.control_text.proofs.tags.all_steps.Goals as goal
+use Rattle.command_grammar.proofs.StepLemmas.{steps-preserved}
+use Rattle.command_grammar.proofs.tags.all_steps.Goals as goal
 
 pub loop-word-preserved : goal.loop-word-preserved
 loop-word-preserved c = (

@@ -1,9 +1,9 @@
 use Rattle.std.proofs.Common.{◌≡◌, ◌++◌, true, Ok, length}
 use denote.Text.{Utf8}
 use denote.Shadow.{shadow}
-use Rattle.control_text.specs.Words.{words_with_commas}
-use Rattle.control_text.specs.Commands.{and_read, all_steps}
-use Rattle.control_text.proofs.tags.all_steps.Given as goal
+use Rattle.line_words.specs.Words.{words_with_commas}
+use Rattle.command_grammar.specs.Commands.{and_read, all_steps}
+use Rattle.command_grammar.proofs.tags.all_steps.Given as goal
 
 abbrev pub invariant-loop-word : goal.invariant-loop-word
 invariant-loop-word l = shadow (Utf8 l.rest) × (and_read (all_steps l.adds (words_with_commas l.rest)) (λ more. Ok (l.steps ++ more)) ≡ all_steps true (words_with_commas l.text))

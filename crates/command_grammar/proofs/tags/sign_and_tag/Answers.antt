@@ -1,7 +1,7 @@
 use Rattle.std.proofs.Common.{ap, sym, lit<, None}
 use Rattle.std.proofs.lemmas.Str.Pattern.{strip_prefix_char}
-use Rattle.control_text.proofs.StepLemmas.{sign-none}
-use Rattle.control_text.proofs.tags.sign_and_tag.Goals as goal
+use Rattle.command_grammar.proofs.StepLemmas.{sign-none}
+use Rattle.command_grammar.proofs.tags.sign_and_tag.Goals as goal
 
 pub returns-clause-sign : goal.returns-clause-sign
 returns-clause-sign c =

@@ -1,0 +1,4 @@
+pub mod CommandWords
+pub mod Versions
+pub mod Commands
+pub mod Reads

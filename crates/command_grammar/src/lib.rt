@@ -1,0 +1,17 @@
+//! The commands of a control message: what a command's word and the text after it give, or why they are refused, by the BTS
+//! page 'control and manipulation'.
+#![tactic(auto)]
+
+mod command_word;
+mod commands;
+mod fault;
+mod merges;
+mod reassign;
+mod severity;
+mod shapes;
+mod tags;
+mod texts;
+
+pub use command_word::CommandWord;
+pub use commands::read_command;
+pub use fault::LineFault;
