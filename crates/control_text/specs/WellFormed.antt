@@ -6,10 +6,10 @@ use Rattle.bug_record.specs.declared.command.Command.{Command}
 use Rattle.bug_record.specs.declared.command.Command.TheVariants as commands
 use Rattle.bug_record.specs.declared.command.Who.{Who}
 use Rattle.bug_record.specs.declared.command.Who.TheVariants.{Sender, Given}
-use Rattle.control_text.specs.Bugs.{IsGoodBug}
+use Rattle.line_words.specs.Bugs.{IsGoodBug}
 use Rattle.control_text.specs.declared.line.Line.{Line}
 use Rattle.control_text.specs.declared.line.Line.TheVariants.{Do}
-use Rattle.control_text.specs.declared.named.Named.{Named}
+use Rattle.line_words.specs.declared.named.Named.{Named}
 
 -- The word `!` stands for the sender, and is nobody's address.
 abbrev pub IsAddress : Who → Type 0

@@ -15,7 +15,7 @@ use Rattle.bug_record.specs.Commands.{HasGoodParts, command_over}
 use Rattle.bug_record.specs.declared.command.Command.{Command}
 use Rattle.bug_record.specs.declared.command.Command.TheVariants as commands
 use Rattle.bug_record.specs.declared.command.Refusal.{Refusal}
-use Rattle.control_text.specs.declared.named.Named.{Named}
+use Rattle.line_words.specs.declared.named.Named.{Named}
 use Rattle.desk_text.specs.declared.outcome.Outcome.{Outcome}
 use Rattle.desk_text.specs.declared.outcome.Outcome.TheVariants.{Changed, Refused}
 use Rattle.desk_store.specs.Message.{does, outcome_of, command_meant, refusal_meant}

@@ -5,7 +5,7 @@ use Rattle.bug_record.specs.Desk.{Desk}
 use Rattle.bug_record.specs.declared.command.Command.{Command}
 use Rattle.bug_record.specs.declared.command.Refusal.{Refusal}
 use Rattle.control_text.specs.Lines.{reading}
-use Rattle.control_text.specs.declared.named.Named.{Named}
+use Rattle.line_words.specs.declared.named.Named.{Named}
 use Rattle.control_text.specs.declared.line.Line.{Line}
 use Rattle.control_text.specs.declared.line.Line.TheVariants.{Do}
 use Rattle.desk_text.specs.declared.outcome.Outcome.{Outcome}

@@ -7,7 +7,7 @@ use Rattle.bug_record.specs.Changed.{changed_numbers, Replaces}
 use Rattle.bug_record.specs.declared.bug.SetImage.{SetImage}
 use Rattle.bug_record.specs.declared.command.Change.{Change}
 use Rattle.bug_record.specs.declared.command.Command.{Command}
-use Rattle.control_text.specs.declared.named.Named.{Named}
+use Rattle.line_words.specs.declared.named.Named.{Named}
 use Rattle.desk_text.specs.declared.outcome.StoreFault.{StoreFault}
 use Rattle.desk_text.specs.declared.outcome.Outcome.{Outcome}
 use Rattle.desk_text.specs.declared.outcome.Outcome.TheVariants.{Changed}
