@@ -52,7 +52,7 @@ branched t nodes =
     else if nat_lt 200 (length nodes) then Err TooLong
     else based_unless_repeated (repeated_after [] 0 nodes) t nodes
 
--- A branch for which memory may be wanting: one that is not refused for its length or a repeat.
+-- A branch for which there may be no memory: one that is not refused for its length or a repeat.
 abbrev pub TakesMemory : Result Ancestry BranchFault → Type 0
 TakesMemory (Ok t) = ⊤
 TakesMemory (Err (Conflict place)) = ⊤

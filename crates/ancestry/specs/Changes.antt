@@ -9,7 +9,7 @@ use Rattle.ancestry.specs.declared.branch.Past.TheVariants.{Unknown, Root, Based
 use Rattle.ancestry.specs.declared.fault.BranchFault.{BranchFault}
 use Rattle.ancestry.specs.declared.fault.BranchFault.TheVariants.{Memory}
 
--- a part of the work gives what it is to give, or refuses as it is to; want of memory leaves this open
+-- a part of the work gives what it is to give, or refuses as it is to; out of memory leaves this open
 abbrev pub Makes : Result Ancestry BranchFault → Result (Unit {0}) BranchFault → Ancestry → Type 0
 Makes r (Ok _) t' = r ≡ Ok t'
 Makes r (Err Memory) t' = ⊤

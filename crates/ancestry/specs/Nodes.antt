@@ -57,7 +57,7 @@ node_at package_name word =
     then (if list_any is_slash word then node_of_text word else node_of package_name word)
     else None
 
--- what reading answers: the node, if there is one; memory is wanting only where there is one
+-- what reading answers: the node, if there is one; out of memory is answered only where there is one
 abbrev pub IsRead : Option Node → Result Node NodeFault → Type 0
 IsRead o (Ok n) = o ≡ Some n
 IsRead o (Err BadNode) = o ≡ None

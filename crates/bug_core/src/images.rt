@@ -1,7 +1,6 @@
 //! Images of sets: the one that has a bug, and the change that puts others in its place.
 
 ghost use Rattle.std.specs.Prelude.{◌≡◌, ◌∷◌, ◌++◌, IfOk, OnOk, MatchOption, Some, None};
-ghost use Rattle.bug_record.specs.Sets.{has};
 ghost use Rattle.bug_record.specs.Images.{numbers_of, member_at};
 ghost use Rattle.bug_core.specs.Others.{image_with, has_any, is_other, others};
 
@@ -20,36 +19,24 @@ pub(crate) fn find_member(members: &[Member], number: u64) -> Option<&Member>
     None
 }
 
-/// Whether one of the members has the number.
-pub(crate) fn has_member(members: &[Member], number: u64) -> bool
-    ensures { result ≡ has (numbers_of members.now) number }
-{
-    for member in members {
-        if member.number == number {
-            return true;
-        }
-    }
-    false
-}
-
 /// The image that has the bug.
 pub(crate) fn find(images: &[SetImage], number: u64) -> Option<&SetImage>
     ensures { MatchOption result (image_with images.now number ≡ None) (λ i. image_with images.now number ≡ Some i.now) }
 {
     for image in images {
-        if has_member(image.members.as_slice(), number) {
+        if image.has(number) {
             return Some(image);
         }
     }
     None
 }
 
-/// Whether one of the numbers is that of a member.
-pub(crate) fn has_any_member(members: &[Member], numbers: &[u64]) -> bool
-    ensures { result ≡ has_any (numbers_of members.now) numbers.now }
+/// Whether one of the bugs is in the image.
+pub(crate) fn has_any(image: &SetImage, numbers: &[u64]) -> bool
+    ensures { result ≡ has_any (numbers_of image.now.members) numbers.now }
 {
     for number in numbers {
-        if has_member(members, *number) {
+        if image.has(*number) {
             return true;
         }
     }
@@ -60,8 +47,7 @@ pub(crate) fn has_any_member(members: &[Member], numbers: &[u64]) -> bool
 fn is_other(image: &SetImage, numbers: &[u64]) -> bool
     ensures { result ≡ is_other numbers.now image.now }
 {
-    let members = image.members.as_slice();
-    !members.is_empty() && !has_any_member(members, numbers)
+    !image.members.as_slice().is_empty() && !has_any(image, numbers)
 }
 
 // Adds the images of other sets than the bugs'.

@@ -10,7 +10,7 @@ ghost use Rattle.bug_core.specs.Joins.{with_items, with_nodes, with_members, wit
 ghost use Rattle.bug_core.specs.Others.{those_meant};
 
 use crate::changes::find_bug;
-use crate::images::has_any_member;
+use crate::images::has_any;
 use ancestry::Node;
 use bug_record::{Member, Nodes, Sequence, SetImage, Shared, Tag, Tags};
 use debver::Text;
@@ -82,7 +82,7 @@ fn joined_members(
 {
     let mut members = Sequence::new(alloc);
     for image in images {
-        if has_any_member(image.members.as_slice(), numbers) {
+        if has_any(image, numbers) {
             add_members(&mut members, image.members.as_slice())?;
         }
     }
@@ -98,7 +98,7 @@ fn add_all_shared(
     ensures { OnOk result (shared.new ≡ with_all_shared shared.old (those_meant numbers.now images.now)) }
 {
     for image in images {
-        if has_any_member(image.members.as_slice(), numbers) {
+        if has_any(image, numbers) {
             add_shared(shared, &image.shared)?;
         }
     }

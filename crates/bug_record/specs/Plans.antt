@@ -25,7 +25,7 @@ pub record IsShownBy (d : Desk) (is : List SetImage) (next : ℕ) (ns : List ℕ
   pub known : AllKnown d is ns
 
 -- What is answered is what a step comes to, whose result is `after`: the same refusal, or a change that leaves the step's desk,
--- which is sound. Where memory was wanting nothing is said.
+-- which is sound. Out of memory, nothing is said.
 abbrev pub IsPlanOf : Desk → Result Desk Refusal → Result Change PlanFault → Type 0
 IsPlanOf d after (Ok change) = (after ≡ Ok (put d change)) × IsSound (put d change)
 IsPlanOf d after (Err (Refused refusal)) = after ≡ Err refusal

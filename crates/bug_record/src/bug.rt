@@ -1,6 +1,8 @@
 //! Bugs, and the images of sets of merged bugs.
 
 ghost use Rattle.std.specs.Prelude.{◌≡◌, IfOk};
+ghost use Rattle.bug_record.specs.Sets.{has};
+ghost use Rattle.bug_record.specs.Images.{numbers_of};
 
 use crate::sequence::{Nodes, Numbered, Numbers, Sequence};
 use crate::severity::Severity;
@@ -113,6 +115,19 @@ impl Sequence<Member> {
 }
 
 impl SetImage {
+    /// Whether the bug is in the set.
+    pub fn has(&self, number: u64) -> bool
+        ensures { result ≡ has (numbers_of self.now.members) number }
+    {
+        let members = self.members.as_slice();
+        for member in members {
+            if member.number == number {
+                return true;
+            }
+        }
+        false
+    }
+
     /// An equal value of its own.
     pub fn copy(&self) -> Result<SetImage, AllocError>
         ensures { IfOk result (λ r. r ≡ self.now) }

@@ -13,7 +13,7 @@ use Rattle.bug_record.specs.declared.bug.Member.{Member}
 use Rattle.bug_record.specs.declared.bug.SetImage.{SetImage}
 use Rattle.bug_core.proofs.ImageLemmas.{none_left, none_right, none_map, has-member_none, no_member-has, bug_in-append, bug_in-merged, shown}
 use Rattle.desk_store.specs.Store.{IsImageOf}
-use Rattle.desk_messages.specs.Images.{is_member, is_gathered, meets, Gather}
+use Rattle.desk_messages.specs.Images.{is_gathered, meets, Gather}
 
 -- a member that is a bug of the desk
 member_shown : (d : Desk) (i : SetImage) (ms : List Member) (n : ℕ) → has (numbers_of ms) n ≡ true → Each (λ m. d.bug m.number ≡ Some (bug_of i m)) ms → option_or (option_map (bug_of i) (member_at ms n)) None ≡ d.bug n
@@ -24,23 +24,18 @@ member_shown d i (m ∷ ms) n h e =
       | false ↦ λ q. member_shown d i ms n (sym (ap (λ t. t || has (numbers_of ms) n) q) ∙ h) e.1
     ] refl
 
--- the test of members is that of their numbers
-member-has : (ms : List Member) (n : ℕ) → is_member ms n ≡ has (numbers_of ms) n
-member-has [] n = refl
-member-has (m ∷ ms) n = ap (λ t. (m.number == n) || t) (member-has ms n)
-
 -- what the test of images says
 not_gathered : (images : List SetImage) (n : ℕ) → is_gathered images n ≡ false → bug_in images n ≡ None
 not_gathered [] n h = refl
 not_gathered (i ∷ is) n h =
-    let p = or_parts (is_member i.members n) (is_gathered is n) h in
-    ap (λ (o : Option Member). option_or (option_map (bug_of i) o) (bug_in is n)) (no_member-has i.members n (sym (member-has i.members n) ∙ p.0)) ∙ not_gathered is n p.1
+    let p = or_parts (has (numbers_of i.members) n) (is_gathered is n) h in
+    ap (λ (o : Option Member). option_or (option_map (bug_of i) o) (bug_in is n)) (no_member-has i.members n p.0) ∙ not_gathered is n p.1
 
 gathered : (images : List SetImage) (n : ℕ) → is_gathered images n ≡ true → bug_in images n ≡ None → ⊥
 gathered [] n h e = false≢true h
 gathered (i ∷ is) n h e =
-    elim (is_member i.members n) as (λ t. is_member i.members n ≡ t → (t || is_gathered is n) ≡ true → ⊥) [
-      | true ↦ λ q h. false≢true (sym (has-member_none i.members n (none_map (bug_of i) (member_at i.members n) (none_left (option_map (bug_of i) (member_at i.members n)) (bug_in is n) e))) ∙ sym (member-has i.members n) ∙ q)
+    elim (has (numbers_of i.members) n) as (λ t. has (numbers_of i.members) n ≡ t → (t || is_gathered is n) ≡ true → ⊥) [
+      | true ↦ λ q h. false≢true (sym (has-member_none i.members n (none_map (bug_of i) (member_at i.members n) (none_left (option_map (bug_of i) (member_at i.members n)) (bug_in is n) e))) ∙ q)
       | false ↦ λ q h. gathered is n h (none_right (option_map (bug_of i) (member_at i.members n)) (bug_in is n) e)
     ] refl h
 

@@ -1,19 +1,16 @@
 -- What the functions that gather the images of a command's bugs answer, step by step.
-use Rattle.std.specs.Prelude.{ℕ, ◌≡◌, ◌==◌, Bool, List}
+use Rattle.std.specs.Prelude.{ℕ, ◌≡◌, Bool, List}
 use Rattle.std.specs.List.{list_any}
 use Rattle.bug_record.specs.Desk.{Desk}
-use Rattle.bug_record.specs.Images.{bug_in, AreSetsOf}
+use Rattle.bug_record.specs.Sets.{has}
+use Rattle.bug_record.specs.Images.{numbers_of, bug_in, AreSetsOf}
 use Rattle.bug_record.specs.Plans.{AllKnown}
 use Rattle.bug_record.specs.declared.bug.Member.{Member}
 use Rattle.bug_record.specs.declared.bug.SetImage.{SetImage}
 
--- whether one of the members has the number
-abbrev pub is_member : List Member → ℕ → Bool
-is_member ms n = list_any (λ m. m.number == n) ms
-
 -- whether one of the images has the bug
 abbrev pub is_gathered : List SetImage → ℕ → Bool
-is_gathered images n = list_any (λ i. is_member i.members n) images
+is_gathered images n = list_any (λ i. has (numbers_of i.members) n) images
 
 -- whether one of the members is in one of the images
 abbrev pub meets : List SetImage → List Member → Bool

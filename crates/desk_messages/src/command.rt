@@ -83,7 +83,7 @@ fn refusal_meant(refusal: Refusal) -> Refusal
 }
 
 // Has the store carry a planned change out. A change of nothing isn't handed to it.
-fn carry_out<S: Records>(
+fn make_change<S: Records>(
     alloc: Global,
     store: &mut S,
     images: &[SetImage],
@@ -130,7 +130,7 @@ fn take_meant<S: Records>(
     };
     let sets = images.as_slice();
     match plan(alloc, command, from, sets, next) {
-        Ok(change) => carry_out(alloc, store, sets, next, &change),
+        Ok(change) => make_change(alloc, store, sets, next, &change),
         Err(PlanFault::Refused(refusal)) => Ok(Outcome::Refused(refusal_meant(refusal))),
         Err(PlanFault::Memory) => Err(StoreFault::Memory),
     }

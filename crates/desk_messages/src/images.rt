@@ -4,7 +4,7 @@ ghost use Rattle.std.specs.Prelude.{◌≡◌, [], ◌∷◌, IfOk, OnOk};
 ghost use Rattle.bug_record.specs.Images.{AreApart};
 ghost use Rattle.bug_record.specs.Commands.{bugs_named};
 ghost use Rattle.desk_store.specs.Store.{Asks, Answers, faults_after};
-ghost use Rattle.desk_messages.specs.Images.{is_member, is_gathered, meets, Gather, ShowBugs};
+ghost use Rattle.desk_messages.specs.Images.{is_gathered, meets, Gather, ShowBugs};
 
 use bug_core::{bug_named, other_bugs};
 use bug_record::{Command, Member, Sequence, SetImage};
@@ -12,20 +12,11 @@ use desk_store::Records;
 use desk_text::StoreFault;
 use std::alloc::Global;
 
-// Whether one of the members has the number.
-fn is_member(members: &[Member], number: u64) -> bool
-    ensures { result ≡ is_member members.now number }
-{
-    members.iter().any(|member| member.number == number)
-}
-
 // Whether one of the images has the bug.
 fn is_gathered(images: &[SetImage], number: u64) -> bool
     ensures { result ≡ is_gathered images.now number }
 {
-    images
-        .iter()
-        .any(|image| is_member(image.members.as_slice(), number))
+    images.iter().any(|image| image.has(number))
 }
 
 // Whether one of the members is in one of the images.

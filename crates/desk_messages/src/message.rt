@@ -101,7 +101,7 @@ fn settle(progress: &mut Progress, text: Text, outcome: Outcome) -> End
 }
 
 // Takes one line, and says whether it ends the message. After a fault nothing is changed.
-fn take_line<S: Records>(
+fn take_message_line<S: Records>(
     alloc: Global,
     store: &mut S,
     from: &str,
@@ -170,7 +170,7 @@ pub fn receive_lines<S: Records>(
         unreadable: 0,
     };
     for (i, line) in lines.iter().enumerate() {
-        match take_line(alloc, store, from, &mut progress, line.as_str()) {
+        match take_message_line(alloc, store, from, &mut progress, line.as_str()) {
             Ok(end) => {
                 if !goes_on(end) {
                     return Received {

@@ -99,11 +99,11 @@ order_refused line s sender refused c0 c1 text directive (Err fault) e after t a
     subst (λ (f : ScriptFault). StopsIn (DirectiveLine line) s s.desk c0 c1 f) (sym (ap (fault_of fault) write))
     (order_unwritten line s s.desk c0 c1 text some.0 directive e (ap (λ (x : Standing). x.desk) (sym after)) t some.1 some.2)
 
--- want of memory before anything was done
+-- out of memory before anything was done
 pub not_begun : (part : Part) (s : Standing) (d : Desk) (c : Option (List ℕ)) → d ≡ s.desk → StopsIn part s d c c stops.Memory
 not_begun part s d c e = (inl e, appends_none c)
 
--- want of memory for the text of what was done
+-- out of memory for the text of what was done
 pub untold : (part : Part) (s : Standing) (d : Desk) (c : Option (List ℕ)) (text : List ℕ) → IsCarried part s d text → StopsIn part s d c c stops.Memory
 untold part s d c text h = (inr (text, h), appends_none c)
 

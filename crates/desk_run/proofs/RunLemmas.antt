@@ -98,7 +98,7 @@ pub parts_begin : (gathered lines : List (List ℕ)) → (message : List (List �
 parts_begin gathered [] = (gathered, [], refl)
 parts_begin gathered (line ∷ lines) = parts_begin_at gathered line lines (is_directive line) refl (parts_begin (gathered ++ line ∷ []) lines)
 
--- want of memory while a message is gathered
+-- out of memory while a message is gathered
 pub gathered_stops : (gathered lines : List (List ℕ)) (a : Standing) (d : Desk) (c : Option (List ℕ)) → d ≡ a.desk → Stops (parts_from gathered lines) a d c c stops.Memory
 gathered_stops gathered lines a d c e =
     let p = parts_begin gathered lines in

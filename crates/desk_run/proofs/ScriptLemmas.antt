@@ -160,7 +160,7 @@ stops_reading texts before g input rest number a b d c0 c1 fault r c ran same n 
       good_stops texts before (Message g ∷ []) input rest a b d c0 c1 c1 fault r (cut_here texts before g c) ran (one_stops (Message g) b d c1 c1 fault (unbegun fault number g b d c1 o same)),
     )
 
--- nothing read, for want of memory
+-- nothing read, out of memory
 pub stops_at_once : (input : List ℕ) (a : Standing) (c : Option (List ℕ)) → Ends input a a.desk c c (Err stops.Memory)
 stops_at_once input a c = stops_reading [] [] [] input input 1 a a a.desk c c stops.Memory (nothing_read input) (λ lines. refl) (runs_none a c) refl refl tt tt
 

@@ -48,7 +48,7 @@ Branches old new (Ok (Ok done)) nodes = (branched old.tree nodes ≡ Ok new.tree
 Branches old new (Ok (Err refusal)) nodes = (branched old.tree nodes ≡ Err refusal) × (new ≡ old)
 Branches old new (Err fault) nodes = new ≡ old
 
--- the refusal of a branch is none for want of memory
+-- the refusal of a branch is not that there is no memory
 abbrev pub IsRefusal : Result (Unit {0}) BranchFault → Type 0
 IsRefusal (Ok done) = ⊤
 IsRefusal (Err WantOfMemory) = ⊥
@@ -58,7 +58,7 @@ IsRefusal (Err refusal) = ⊤
 abbrev pub one_more : ℕ → ℕ
 one_more n = min (n + 1) (2 ^ 64 - 1)
 
--- the count of faults after an answer: want of memory isn't counted
+-- the count of faults after an answer: out of memory isn't counted
 abbrev pub faults_after : {T : Type 0} → Result T StoreFault → ℕ → ℕ
 faults_after (Ok answer) n = n
 faults_after (Err Memory) n = n

@@ -24,7 +24,7 @@ pub trait Records {
     /// So far the disk has returned what was written to it. Always so of a desk in memory.
     ghost is_honest: { Self → Type 0 };
 
-    /// How often the store has failed by another cause than want of memory, up to `u64::MAX`.
+    /// How often the store has failed by another cause than out of memory, up to `u64::MAX`.
     ghost faults: { Self → ℕ };
 
     /// The image of the set that the bug is in; `None` exactly where there is no bug of this number.
@@ -47,7 +47,7 @@ pub trait Records {
         ensures count { faults self.new ≡ faults_after result (faults self.old) };
 
     /// Takes a branch, a list of 1 to 200 nodes of which each is based on the next. The inner answer is why the branch is
-    /// refused, never for want of memory; then, and after a fault, all is as before. Bugs and the next number stay.
+    /// refused, never for being out of memory; then, and after a fault, all is as before. Bugs and the next number stay.
     fn branch(&mut self, nodes: &[Node]) -> Result<Result<(), BranchFault>, StoreFault>
         ensures answer { Holds is_kept is_honest self.old self.new (Branches (desk self.old) (desk self.new) result nodes.now) }
         ensures refusal { IfOk result IsRefusal }

@@ -4,8 +4,8 @@ use Rattle.desk_store.proofs.HoldsLemmas.{holds_where, holds_both}
 use Rattle.desk_messages.proofs.CommandLemmas.{shown, planned, does_planned, does_refused}
 use Rattle.desk_messages.proofs.command.take_meant.Goals as goal
 
-pub carry_out-requires-clause-planned : goal.carry_out-requires-clause-planned
-carry_out-requires-clause-planned g c k h =
+pub make_change-requires-clause-planned : goal.make_change-requires-clause-planned
+make_change-requires-clause-planned g c k h =
     let a = c.in-Ok.ensures.answer in
     let b = c.in-Ok-next.ensures.answer in
     let early = b.holds.honest h in
@@ -17,11 +17,11 @@ pub returns-in-Ok-plan-clause-answer : goal.returns-in-Ok-plan-clause-answer
 returns-in-Ok-plan-clause-answer g c =
     let a = c.in-Ok.ensures.answer.holds in
     let b = c.in-Ok-next.ensures.answer.holds in
-    let o = c.carry_out.ensures.answer in
+    let o = c.make_change.ensures.answer in
     let ab = holds_both a b in
     holds_where (holds_both ab o) (λ u w p.
     let sh = shown _ _ _ _ _ _ _ c.as_slice-sets.ensures p.0.0 p.0.1 (g.met.S.Records.sound _ (ab.kept u (o.honest w))) in
-    does_planned c.args.from.now _ _ _ _ c.args.command.now c.in-Ok-plan.change c.carry_out.result p.0.0.1 p.0.1.1 (c.in-Ok-plan.ensures.right _ sh).0 p.1)
+    does_planned c.args.from.now _ _ _ _ c.args.command.now c.in-Ok-plan.change c.make_change.result p.0.0.1 p.0.1.1 (c.in-Ok-plan.ensures.right _ sh).0 p.1)
 
 pub returns-in-Err-Refused-clause-answer : goal.returns-in-Err-Refused-clause-answer
 returns-in-Err-Refused-clause-answer g c =

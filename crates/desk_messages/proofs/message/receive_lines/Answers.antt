@@ -40,7 +40,7 @@ returns-then-not-goes_on-clause-answer g c =
 
 pub returns-then-not-goes_on-clause-count : goal.returns-then-not-goes_on-clause-count
 returns-then-not-goes_on-clause-count g c =
-    c.in-Ok.ensures.count ∙ (c.loop-i.invariant.faults ∙ sym (settled_faults c.take_line.new.progress.outcomes.items c.in-Ok.end _ c.in-Ok.ensures.end))
+    c.in-Ok.ensures.count ∙ (c.loop-i.invariant.faults ∙ sym (settled_faults c.take_message_line.new.progress.outcomes.items c.in-Ok.end _ c.in-Ok.ensures.end))
 
 pub returns-then-not-goes_on-clause-line : goal.returns-then-not-goes_on-clause-line
-returns-then-not-goes_on-clause-line g c = settled_line c.take_line.new.progress.outcomes.items c.in-Ok.end c.args.lines.now c.in-Ok.ensures.end
+returns-then-not-goes_on-clause-line g c = settled_line c.take_message_line.new.progress.outcomes.items c.in-Ok.end c.args.lines.now c.in-Ok.ensures.end

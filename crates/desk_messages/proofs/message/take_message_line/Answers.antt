@@ -1,6 +1,6 @@
 use Rattle.desk_store.proofs.HoldsLemmas.{holds_weaker}
 use Rattle.desk_messages.proofs.MachineLemmas.{took_command}
-use Rattle.desk_messages.proofs.message.take_line.Goals as goal
+use Rattle.desk_messages.proofs.message.take_message_line.Goals as goal
 
 pub returns-in-Ok-take_command-clause-answer : goal.returns-in-Ok-take_command-clause-answer
 returns-in-Ok-take_command-clause-answer g c =

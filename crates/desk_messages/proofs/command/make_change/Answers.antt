@@ -1,7 +1,7 @@
 use Rattle.std.proofs.Common.{sym, ◌∙◌}
 use Rattle.desk_store.proofs.HoldsLemmas.{holds_where}
 use Rattle.desk_messages.proofs.CommandLemmas.{nothing, unchanged, told}
-use Rattle.desk_messages.proofs.command.carry_out.Goals as goal
+use Rattle.desk_messages.proofs.command.make_change.Goals as goal
 
 pub returns-in-Ok-apply-clause-answer : goal.returns-in-Ok-apply-clause-answer
 returns-in-Ok-apply-clause-answer g c =
