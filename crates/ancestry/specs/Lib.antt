@@ -2,5 +2,7 @@ pub mod Nodes
 pub mod NodeLaws
 pub mod Trees
 pub mod Branches
-pub mod Changes
 pub mod Statuses
+
+-- definitions that only private functions cite
+pub mod Changes

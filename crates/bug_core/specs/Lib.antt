@@ -1,6 +1,8 @@
+pub mod Planned
+
+-- definitions that only private functions cite
 pub mod Others
 pub mod Numbers
 pub mod Agreements
 pub mod Joins
-pub mod Planned
 pub mod Reports

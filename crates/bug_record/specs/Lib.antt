@@ -1,7 +1,6 @@
 pub use Rattle.line_words.specs.Blanks
 pub use Rattle.line_words.specs.AnyCase
 pub mod Sets
-pub mod Places
 pub mod Texts
 pub mod Severities
 pub mod Tags
@@ -15,3 +14,6 @@ pub mod Steps
 pub mod Images
 pub mod Plans
 pub mod Changed
+
+-- definitions that only private functions cite
+pub mod Places

@@ -4,7 +4,9 @@ pub mod Cut
 pub mod Faults
 pub mod Names
 pub mod Keys
-pub mod Walk
 pub mod Versions
 pub mod KeyLaws
 pub mod OrderLaws
+
+-- definitions that only private functions cite
+pub mod Walk

@@ -1,5 +1,7 @@
+pub mod Transcripts
+pub mod Reports
+
+-- definitions that only private functions cite
 pub mod Commands
 pub mod Images
 pub mod Taking
-pub mod Transcripts
-pub mod Reports

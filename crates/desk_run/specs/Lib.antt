@@ -2,7 +2,9 @@ pub use Rattle.desk_messages.specs.Transcripts
 pub use Rattle.desk_messages.specs.Reports
 pub mod Branches
 pub mod Script
-pub mod Directives
 pub mod Running
+
+-- definitions that only private functions cite
+pub mod Directives
 pub mod Gathering
 pub mod Answers

@@ -1,5 +1,7 @@
 pub mod Store
 pub mod Plain
-pub mod Rows
 pub mod FailAt
 pub mod Message
+
+-- definitions that only private functions cite
+pub mod Rows
