@@ -1,5 +1,5 @@
 -- The commands, each over the text after its own word (the BTS page 'control and manipulation').
-use Rattle.std.specs.Prelude.{ℕ, nat_lt, ◌==◌, ◌||◌, codes, if◌then◌else◌, Bool, true, false, List, [], ◌∷◌, ◌++◌, length, Option, Some, None, Result, Ok, Err}
+use Rattle.std.specs.Prelude.{ℕ, nat_lt, ◌==◌, codes, if◌then◌else◌, Bool, true, false, List, [], ◌∷◌, ◌++◌, length, Option, Some, None, Result, Ok, Err}
 use Rattle.std.specs.Str.{bytes_eq}
 use Rattle.bug_record.specs.Severities.{severity_of}
 use Rattle.bug_record.specs.Tags.{tag_of}

@@ -1,15 +1,8 @@
-pub mod PieceLemmas
-pub mod WordLemmas
-pub mod GapLemmas
 pub mod TextLemmas
-pub mod Boundaries
-pub mod NumberLemmas
-pub mod LawLemmas
 pub mod ReadingLemmas
 pub mod PlainWords
 pub mod SpacedLemmas
 pub mod SpellingLemmas
-pub mod StepLemmas
 pub mod TextSpelling
 pub mod MergeSpelling
 pub mod StepSpelling

@@ -1,9 +1,9 @@
 -- Bugs in a row, as they are written, are read as they are.
 use Rattle.std.proofs.Common.{◌≡◌, ◌<◌, List, [], ◌∷◌, length, map, Ok, refl, ap, ◌∙◌, arith}
 use Rattle.bug_record.specs.Sets.{Each}
-use Rattle.control_text.specs.declared.named.Named.{Named}
-use Rattle.control_text.specs.Bugs.{IsGoodBug}
-use Rattle.control_text.specs.Commands.{and_read, all_bugs, bug_and_others}
+use Rattle.line_words.specs.declared.named.Named.{Named}
+use Rattle.line_words.specs.Bugs.{IsGoodBug}
+use Rattle.command_grammar.specs.Commands.{and_read, all_bugs, bug_and_others}
 use Rattle.control_text.specs.Spelling.{bug_text}
 use Rattle.control_text.proofs.SpacedLemmas.{ArePlain}
 use Rattle.control_text.proofs.SpellingLemmas.{bug-back, bug-plain}

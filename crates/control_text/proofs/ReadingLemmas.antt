@@ -10,7 +10,8 @@ use Rattle.debver.specs.Cut.{IsVersion}
 use Rattle.debver.specs.Faults.{text_fault}
 use Rattle.ancestry.specs.Nodes.{node, is_slash, node_of}
 use Rattle.ancestry.proofs.ReadLemmas.{nodes_exactly}
-use Rattle.bug_record.specs.Texts.{is_blank, is_control, IsText, IfGiven}
+use Rattle.line_words.specs.Blanks.{is_blank, is_control}
+use Rattle.bug_record.specs.Texts.{IsText, IfGiven}
 use Rattle.bug_record.specs.Sets.{Each}
 use Rattle.bug_record.specs.Severities.{severity_of}
 use Rattle.bug_record.specs.Commands.{IsGoodVersion, IsGoodPerson}
@@ -23,17 +24,17 @@ use Rattle.bug_record.specs.declared.command.Who.{Who}
 use Rattle.bug_record.specs.declared.command.Who.TheVariants.{Sender, Given}
 use Rattle.bug_record.specs.declared.command.Refusal.{Refusal}
 use Rattle.bug_record.specs.declared.command.Refusal.TheVariants.{Malformed, TooLong, BadSeverity, BadVersion, BadPackage}
-use Rattle.control_text.specs.declared.named.Named.{Named}
-use Rattle.control_text.specs.declared.named.Named.TheVariants.{Number, Name}
-use Rattle.control_text.specs.declared.commands.CommandWord.{CommandWord}
-use Rattle.control_text.specs.declared.commands.CommandWord.TheVariants as command_words
-use Rattle.control_text.specs.Numbers.{without_hash, number_of_digits}
-use Rattle.control_text.specs.Bugs.{bug_of_text, bug_of_word, IsGoodBug}
-use Rattle.control_text.specs.Words.{words, words_with_commas, trimmed, after_word, without_first_blanks}
-use Rattle.control_text.specs.Versions.{plain_version, sourced_version, version_of_word, without_src, package_of_word}
-use Rattle.control_text.specs.Commands.{or_refuse, and_read, bug_of, version_of, bug_and_version, bug_and_any_version, severity_command, any_version, package_of, reassign_words, reassign_command, limited_text, who_of_text, some_text, some_who, any_who_of_text, bug_and_text, bug_and_some_text, bug_and_some_who, bug_alone, all_bugs, bug_and_others, some_steps, tags_command, reopen_command, command_of}
+use Rattle.line_words.specs.declared.named.Named.{Named}
+use Rattle.line_words.specs.declared.named.Named.TheVariants.{Number, Name}
+use Rattle.command_grammar.specs.declared.command_word.CommandWord.{CommandWord}
+use Rattle.command_grammar.specs.declared.command_word.CommandWord.TheVariants as command_words
+use Rattle.line_words.specs.Numbers.{without_hash, number_of_digits}
+use Rattle.line_words.specs.Bugs.{bug_of_text, bug_of_word, IsGoodBug}
+use Rattle.line_words.specs.Words.{words, words_with_commas, trimmed, after_word, without_first_blanks}
+use Rattle.command_grammar.specs.Versions.{bare_version, sourced_version, version_of_word, without_src, package_of_word}
+use Rattle.command_grammar.specs.Commands.{or_refuse, and_read, read_bug, read_version, bug_and_version, bug_and_optional_version, severity_command, optional_version, read_package, reassign_words, reassign_command, limited_text, who_of_text, some_text, some_who, optional_who, bug_and_text, bug_and_some_text, bug_and_some_who, bug_alone, all_bugs, bug_and_others, some_steps, tags_command, reopen_command, command_of}
 use Rattle.control_text.specs.WellFormed.{IsPlain, IsAddress, IsWellFormed}
-use Rattle.control_text.proofs.NumberLemmas.{number_of_digits-good}
+use Rattle.line_words.proofs.NumberLemmas.{number_of_digits-good}
 use Rattle.control_text.proofs.TextLemmas.{none-drop, trimmed-text}
 
 or_refuse-good : {A B : Type 0} (o : Option A) (refusal : Refusal) (f : A → Result B Refusal) (P : A → Type 0) (Q : B → Type 0) → IfSome o P → ((x : A) → P x → IfOk (f x) Q) → IfOk (or_refuse o refusal f) Q
@@ -56,8 +57,8 @@ bug_of_text-good (c ∷ s) =
     (λ e. good_bug_by (number_of_digits s) Name (number_of_digits-good s))
     (λ e. good_bug_by (number_of_digits (c ∷ s)) Number (number_of_digits-good (c ∷ s)))
 
-bug_of-good : (s : List ℕ) → IfOk (bug_of s) IsGoodBug
-bug_of-good s = or_refuse-good (bug_of_word s) Malformed (λ bug. Ok bug) IsGoodBug IsGoodBug (bug_of_text-good (without_hash s)) (λ bug good. good)
+read_bug-good : (s : List ℕ) → IfOk (read_bug s) IsGoodBug
+read_bug-good s = or_refuse-good (bug_of_word s) Malformed (λ bug. Ok bug) IsGoodBug IsGoodBug (bug_of_text-good (without_hash s)) (λ bug good. good)
 
 -- texts that give a node are a package name and a version
 both_good : (s v : List ℕ) → (is_none (name_fault s) && is_none (text_fault v)) ≡ true → IsName s × IsVersion v
@@ -73,8 +74,8 @@ version_good v e = (both_good (codes "a0") v e).1
 name_good : (s : List ℕ) → is_none (name_fault s) ≡ true → IsName s
 name_good s e = (both_good s (codes "0") (subst (λ b. (b && true) ≡ true) (sym e) refl)).0
 
-plain_version-good : (v : List ℕ) → IfSome (plain_version v) IsGoodVersion
-plain_version-good v =
+bare_version-good : (v : List ℕ) → IfSome (bare_version v) IsGoodVersion
+bare_version-good v =
     cond_both (is_none (text_fault v)) (Some (record { source = None; version = v })) None (λ o. IfSome o IsGoodVersion)
     (λ e. record { source = tt; version = version_good v e }) (λ e. tt)
 
@@ -83,27 +84,27 @@ sourced_version-good s v =
     cond_both (is_none (name_fault s) && is_none (text_fault v)) (Some (record { source = Some s; version = v })) None (λ o. IfSome o IsGoodVersion)
     (λ e. let both = both_good s v e in record { source = both.0; version = both.1 }) (λ e. tt)
 
-version_of-good : (w : List ℕ) → IfOk (version_of w) IsGoodVersion
-version_of-good w =
+read_version-good : (w : List ℕ) → IfOk (read_version w) IsGoodVersion
+read_version-good w =
     let some : IfSome (version_of_word w) IsGoodVersion
-    = cond_both (list_any is_slash w) (sourced_version (before_first is_slash w) (after_first is_slash w)) (plain_version w) (λ o. IfSome o IsGoodVersion)
-    (λ e. sourced_version-good (before_first is_slash w) (after_first is_slash w)) (λ e. plain_version-good w) in
+    = cond_both (list_any is_slash w) (sourced_version (before_first is_slash w) (after_first is_slash w)) (bare_version w) (λ o. IfSome o IsGoodVersion)
+    (λ e. sourced_version-good (before_first is_slash w) (after_first is_slash w)) (λ e. bare_version-good w) in
     or_refuse-good (version_of_word w) BadVersion (λ version. Ok version) IsGoodVersion IsGoodVersion some (λ version good. good)
 
-package_of-good : (w : List ℕ) → IfOk (package_of w) IsName
-package_of-good w =
+read_package-good : (w : List ℕ) → IfOk (read_package w) IsName
+read_package-good w =
     let some : IfSome (package_of_word w) IsName
     = cond_both (is_none (name_fault (without_src w))) (Some (without_src w)) None (λ o. IfSome o IsName) (name_good (without_src w)) (λ e. tt) in
     or_refuse-good (package_of_word w) BadPackage (λ name. Ok name) IsName IsName some (λ name good. good)
 
-any_version-good : (o : Option (List ℕ)) → IfOk (any_version o) (IfGiven IsGoodVersion)
-any_version-good None = tt
-any_version-good (Some w) = and_read-good (version_of w) (λ version. Ok (Some version)) IsGoodVersion (IfGiven IsGoodVersion) (version_of-good w) (λ version good. good)
+optional_version-good : (o : Option (List ℕ)) → IfOk (optional_version o) (IfGiven IsGoodVersion)
+optional_version-good None = tt
+optional_version-good (Some w) = and_read-good (read_version w) (λ version. Ok (Some version)) IsGoodVersion (IfGiven IsGoodVersion) (read_version-good w) (λ version good. good)
 
 bug_and_version-good : (ws : List (List ℕ)) → IfOk (bug_and_version ws) (λ both. IsGoodBug both.0 × IsGoodVersion both.1)
 bug_and_version-good (n ∷ v ∷ []) =
-    and_read-good (bug_of n) _ IsGoodBug (λ both. IsGoodBug both.0 × IsGoodVersion both.1) (bug_of-good n) (λ bug good.
-    and_read-good (version_of v) (λ version. Ok (bug, version)) IsGoodVersion (λ both. IsGoodBug both.0 × IsGoodVersion both.1) (version_of-good v) (λ version fine. (good, fine)))
+    and_read-good (read_bug n) _ IsGoodBug (λ both. IsGoodBug both.0 × IsGoodVersion both.1) (read_bug-good n) (λ bug good.
+    and_read-good (read_version v) (λ version. Ok (bug, version)) IsGoodVersion (λ both. IsGoodBug both.0 × IsGoodVersion both.1) (read_version-good v) (λ version fine. (good, fine)))
 bug_and_version-good [] = tt
 bug_and_version-good (n ∷ []) = tt
 bug_and_version-good (n ∷ v ∷ w ∷ ws) = tt
@@ -114,11 +115,11 @@ given both = Ok (both.0, Some both.1)
 given-good : (ws : List (List ℕ)) → IfOk (and_read (bug_and_version ws) given) (λ both. IsGoodBug both.0 × IfGiven IsGoodVersion both.1)
 given-good ws = and_read-good (bug_and_version ws) given (λ both. IsGoodBug both.0 × IsGoodVersion both.1) (λ both. IsGoodBug both.0 × IfGiven IsGoodVersion both.1) (bug_and_version-good ws) (λ both good. good)
 
-bug_and_any_version-good : (ws : List (List ℕ)) → IfOk (bug_and_any_version ws) (λ both. IsGoodBug both.0 × IfGiven IsGoodVersion both.1)
-bug_and_any_version-good (n ∷ []) =
-    and_read-good (bug_of n) (λ bug. Ok (bug, None)) IsGoodBug (λ both. IsGoodBug both.0 × IfGiven IsGoodVersion both.1) (bug_of-good n) (λ bug good. (good, tt))
-bug_and_any_version-good [] = tt
-bug_and_any_version-good (n ∷ v ∷ ws) = given-good (n ∷ v ∷ ws)
+bug_and_optional_version-good : (ws : List (List ℕ)) → IfOk (bug_and_optional_version ws) (λ both. IsGoodBug both.0 × IfGiven IsGoodVersion both.1)
+bug_and_optional_version-good (n ∷ []) =
+    and_read-good (read_bug n) (λ bug. Ok (bug, None)) IsGoodBug (λ both. IsGoodBug both.0 × IfGiven IsGoodVersion both.1) (read_bug-good n) (λ bug good. (good, tt))
+bug_and_optional_version-good [] = tt
+bug_and_optional_version-good (n ∷ v ∷ ws) = given-good (n ∷ v ∷ ws)
 
 any_severity : (o : Option Severity) → IfSome o (λ _. ⊤)
 any_severity None = tt
@@ -126,7 +127,7 @@ any_severity (Some severity) = tt
 
 severity_command-good : (ws : List (List ℕ)) → IfOk (severity_command ws) IsWellFormed
 severity_command-good (n ∷ s ∷ []) =
-    and_read-good (bug_of n) _ IsGoodBug IsWellFormed (bug_of-good n) (λ bug good.
+    and_read-good (read_bug n) _ IsGoodBug IsWellFormed (read_bug-good n) (λ bug good.
     or_refuse-good (severity_of s) BadSeverity (λ severity. Ok (commands.Severity bug severity)) (λ _. ⊤) IsWellFormed (any_severity (severity_of s)) (λ severity _.
     record { bugs = (good, tt); parts = tt; texts = tt; others = tt }))
 severity_command-good [] = tt
@@ -135,9 +136,9 @@ severity_command-good (n ∷ s ∷ w ∷ ws) = tt
 
 reassign_words-good : (n p : List ℕ) (v : Option (List ℕ)) → IfOk (reassign_words n p v) IsWellFormed
 reassign_words-good n p v =
-    and_read-good (bug_of n) _ IsGoodBug IsWellFormed (bug_of-good n) (λ bug good.
-    and_read-good (package_of p) _ IsName IsWellFormed (package_of-good p) (λ name named.
-    and_read-good (any_version v) (λ version. Ok (commands.Reassign bug name version)) (IfGiven IsGoodVersion) IsWellFormed (any_version-good v) (λ version fine.
+    and_read-good (read_bug n) _ IsGoodBug IsWellFormed (read_bug-good n) (λ bug good.
+    and_read-good (read_package p) _ IsName IsWellFormed (read_package-good p) (λ name named.
+    and_read-good (optional_version v) (λ version. Ok (commands.Reassign bug name version)) (IfGiven IsGoodVersion) IsWellFormed (optional_version-good v) (λ version fine.
     record { bugs = (good, tt); parts = (named, fine); texts = tt; others = tt })))
 
 reassign_command-good : (ws : List (List ℕ)) → IfOk (reassign_command ws) IsWellFormed
@@ -173,9 +174,9 @@ plain_who : (who : Who) → IsGoodGiven (λ text. ¬ (text ≡ codes "=")) who �
 plain_who Sender h = (tt, tt)
 plain_who (Given text) h = (h.0, (h.1, h.2))
 
-any_who-good : (text : List ℕ) → (1 ≤ length text → length text ≤ 200 → IsText text) → IfOk (any_who_of_text text) IsGoodWho
-any_who-good [] good = (tt, tt)
-any_who-good (c ∷ text) good =
+optional_who-good : (text : List ℕ) → (1 ≤ length text → length text ≤ 200 → IsText text) → IfOk (optional_who text) IsGoodWho
+optional_who-good [] good = (tt, tt)
+optional_who-good (c ∷ text) good =
     let Q : List ℕ → Type 0 = λ t. ¬ (t ≡ codes "=") in
     cond_both (bytes_eq (c ∷ text) (codes "=")) (Ok None) (and_read (who_of_text (c ∷ text)) (λ who. Ok (Some who))) (λ r. IfOk r IsGoodWho) (λ e. (tt, tt)) (λ e.
     and_read-good (who_of_text (c ∷ text)) (λ who. Ok (Some who)) (IsGoodGiven Q) IsGoodWho (who_of_text-good Q (c ∷ text) (unequal (c ∷ text) (codes "=") e) (good (omega arith))) plain_who)
@@ -194,9 +195,9 @@ bug_and_text-good arguments clean =
     let text = trimmed (after_word arguments) in
     let good : IsTextWithin text = λ least most. trimmed-text (after_word arguments) least most (clean_after_word arguments clean) in
     let of_bug : Named → Result (Named × List ℕ) Refusal = λ bug. Ok (bug, text) in
-    elim (words arguments) as (λ ws. IfOk {T = Named × List ℕ} (elim ws as (λ _. Result (Named × List ℕ) Refusal) [ [] ↦ Err Malformed | n ∷ more ↦ and_read (bug_of n) of_bug ]) (λ both. IsGoodBug both.0 × IsTextWithin both.1)) [
+    elim (words arguments) as (λ ws. IfOk {T = Named × List ℕ} (elim ws as (λ _. Result (Named × List ℕ) Refusal) [ [] ↦ Err Malformed | n ∷ more ↦ and_read (read_bug n) of_bug ]) (λ both. IsGoodBug both.0 × IsTextWithin both.1)) [
       | [] ↦ tt
-      | n ∷ more ↦ and_read-good (bug_of n) of_bug IsGoodBug (λ both. IsGoodBug both.0 × IsTextWithin both.1) (bug_of-good n) (λ bug fine. (fine, good))
+      | n ∷ more ↦ and_read-good (read_bug n) of_bug IsGoodBug (λ both. IsGoodBug both.0 × IsTextWithin both.1) (read_bug-good n) (λ bug fine. (fine, good))
     ]
 
 -- a text, or somebody, who has to be given
@@ -234,13 +235,13 @@ bug_and_some_who-good arguments clean =
 -- bugs
 bug_alone-good : (ws : List (List ℕ)) → IfOk (bug_alone ws) IsGoodBug
 bug_alone-good [] = tt
-bug_alone-good (n ∷ []) = bug_of-good n
+bug_alone-good (n ∷ []) = read_bug-good n
 bug_alone-good (n ∷ m ∷ ws) = tt
 
 all_bugs-good : (ws : List (List ℕ)) → IfOk (all_bugs ws) (Each IsGoodBug)
 all_bugs-good [] = tt
 all_bugs-good (n ∷ ws) =
-    and_read-good (bug_of n) _ IsGoodBug (Each IsGoodBug) (bug_of-good n) (λ bug good.
+    and_read-good (read_bug n) _ IsGoodBug (Each IsGoodBug) (read_bug-good n) (λ bug good.
     and_read-good (all_bugs ws) (λ bugs. Ok (bug ∷ bugs)) (Each IsGoodBug) (Each IsGoodBug) (all_bugs-good ws) (λ bugs fine. (good, fine)))
 
 -- two bugs or more
@@ -249,14 +250,14 @@ AreOthers bugs = Each IsGoodBug bugs × (0 < length bugs)
 
 some_bugs-good : (n : List ℕ) (ws : List (List ℕ)) → IfOk (all_bugs (n ∷ ws)) AreOthers
 some_bugs-good n ws =
-    and_read-good (bug_of n) _ IsGoodBug AreOthers (bug_of-good n) (λ bug good.
+    and_read-good (read_bug n) _ IsGoodBug AreOthers (read_bug-good n) (λ bug good.
     and_read-good (all_bugs ws) (λ bugs. Ok (bug ∷ bugs)) (Each IsGoodBug) AreOthers (all_bugs-good ws) (λ bugs fine. ((good, fine), omega arith)))
 
 bug_and_others-good : (ws : List (List ℕ)) → IfOk (bug_and_others ws) (λ both. IsGoodBug both.0 × AreOthers both.1)
 bug_and_others-good [] = tt
 bug_and_others-good (n ∷ []) = tt
 bug_and_others-good (n ∷ m ∷ ws) =
-    and_read-good (bug_of n) _ IsGoodBug (λ both. IsGoodBug both.0 × AreOthers both.1) (bug_of-good n) (λ bug good.
+    and_read-good (read_bug n) _ IsGoodBug (λ both. IsGoodBug both.0 × AreOthers both.1) (read_bug-good n) (λ bug good.
     and_read-good (all_bugs (m ∷ ws)) (λ others. Ok (bug, others)) AreOthers (λ both. IsGoodBug both.0 × AreOthers both.1) (some_bugs-good m ws) (λ others fine. (good, fine)))
 
 -- tags
@@ -268,22 +269,22 @@ tags_command-good : (arguments : List ℕ) → IfOk (tags_command arguments) IsW
 tags_command-good arguments =
     let steps = some_steps (words_with_commas (after_word arguments)) in
     let of_bug : Named → Result (Command Named) Refusal = λ bug. and_read steps (λ read. Ok (commands.Tags bug read)) in
-    elim (words arguments) as (λ ws. IfOk {T = Command Named} (elim ws as (λ _. Result (Command Named) Refusal) [ [] ↦ Err Malformed | n ∷ more ↦ and_read (bug_of n) of_bug ]) IsWellFormed) [
+    elim (words arguments) as (λ ws. IfOk {T = Command Named} (elim ws as (λ _. Result (Command Named) Refusal) [ [] ↦ Err Malformed | n ∷ more ↦ and_read (read_bug n) of_bug ]) IsWellFormed) [
       | [] ↦ tt
       | n ∷ more ↦
-          and_read-good (bug_of n) of_bug IsGoodBug IsWellFormed (bug_of-good n) (λ bug good.
+          and_read-good (read_bug n) of_bug IsGoodBug IsWellFormed (read_bug-good n) (λ bug good.
           and_read-good steps (λ read. Ok (commands.Tags bug read)) (λ _. ⊤) IsWellFormed (any_steps steps) (λ read _. record { bugs = (good, tt); parts = tt; texts = tt; others = tt }))
     ]
 
 reopen_command-good : (arguments : List ℕ) → list_any is_control arguments ≡ false → IfOk (reopen_command arguments) IsWellFormed
 reopen_command-good arguments clean =
     and_read-good (bug_and_text arguments) _ (λ both. IsGoodBug both.0 × IsTextWithin both.1) IsWellFormed (bug_and_text-good arguments clean) (λ both good.
-    and_read-good (any_who_of_text both.1) (λ who. Ok (commands.Reopen both.0 who)) IsGoodWho IsWellFormed (any_who-good both.1 good.1) (λ who fine.
+    and_read-good (optional_who both.1) (λ who. Ok (commands.Reopen both.0 who)) IsGoodWho IsWellFormed (optional_who-good both.1 good.1) (λ who fine.
     record { bugs = (good.0, tt); parts = fine.0; texts = fine.1; others = tt }))
 
 pub command_of-good : (word : CommandWord) (arguments : List ℕ) → list_any is_control arguments ≡ false → IfOk (command_of word arguments) IsWellFormed
 command_of-good command_words.Found arguments clean =
-    and_read-good (bug_and_any_version (words arguments)) (λ both. Ok (commands.Found both.0 both.1)) _ IsWellFormed (bug_and_any_version-good (words arguments)) (λ both good. record { bugs = (good.0, tt); parts = good.1; texts = tt; others = tt })
+    and_read-good (bug_and_optional_version (words arguments)) (λ both. Ok (commands.Found both.0 both.1)) _ IsWellFormed (bug_and_optional_version-good (words arguments)) (λ both good. record { bugs = (good.0, tt); parts = good.1; texts = tt; others = tt })
 command_of-good command_words.NotFound arguments clean =
     and_read-good (bug_and_version (words arguments)) (λ both. Ok (commands.NotFound both.0 both.1)) _ IsWellFormed (bug_and_version-good (words arguments)) (λ both good. record { bugs = (good.0, tt); parts = good.1; texts = tt; others = tt })
 command_of-good command_words.Fixed arguments clean =
@@ -291,11 +292,12 @@ command_of-good command_words.Fixed arguments clean =
 command_of-good command_words.NotFixed arguments clean =
     and_read-good (bug_and_version (words arguments)) (λ both. Ok (commands.NotFixed both.0 both.1)) _ IsWellFormed (bug_and_version-good (words arguments)) (λ both good. record { bugs = (good.0, tt); parts = good.1; texts = tt; others = tt })
 command_of-good command_words.Close arguments clean =
-    and_read-good (bug_and_any_version (words arguments)) (λ both. Ok (commands.Close both.0 both.1)) _ IsWellFormed (bug_and_any_version-good (words arguments)) (λ both good. record { bugs = (good.0, tt); parts = good.1; texts = tt; others = tt })
+    and_read-good (bug_and_optional_version (words arguments)) (λ both. Ok (commands.Close both.0 both.1)) _ IsWellFormed (bug_and_optional_version-good (words arguments)) (λ both good. record { bugs = (good.0, tt); parts = good.1; texts = tt; others = tt })
 command_of-good command_words.Reopen arguments clean = reopen_command-good arguments clean
 command_of-good command_words.Severity arguments clean = severity_command-good (words arguments)
 command_of-good command_words.Reassign arguments clean = reassign_command-good (words arguments)
 command_of-good command_words.Tags arguments clean = tags_command-good arguments
+command_of-good command_words.Tag arguments clean = tags_command-good arguments
 command_of-good command_words.Retitle arguments clean =
     and_read-good (bug_and_some_text arguments) (λ both. Ok (commands.Retitle both.0 both.1)) _ IsWellFormed (bug_and_some_text-good arguments clean) (λ both good. record { bugs = (good.0, tt); parts = good.1; texts = tt; others = tt })
 command_of-good command_words.Submitter arguments clean =

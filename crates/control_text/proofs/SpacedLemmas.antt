@@ -5,24 +5,24 @@ use Rattle.std.specs.List.{list_any, position_or_len}
 use Rattle.std.proofs.lemmas.Bool.{cond-true, cond-false, or_parts, and_left, or_from, not_from_true, not_from_false, false≢true}
 use Rattle.std.proofs.lemmas.List.Folds.{list_any-append}
 use Rattle.std.proofs.Math.Seq.{drop-append_seam}
-use Rattle.bug_record.specs.Texts.{is_blank, is_control, begins_blank}
-use Rattle.bug_record.specs.Words.{is_word}
+use Rattle.line_words.specs.Blanks.{is_blank, is_control, begins_blank}
+use Rattle.line_words.specs.AnyCase.{is_word}
 use Rattle.bug_record.specs.declared.command.Command.{Command}
 use Rattle.bug_record.specs.declared.command.Refusal.TheVariants.{Malformed}
-use Rattle.control_text.specs.declared.named.Named.{Named}
-use Rattle.control_text.specs.declared.commands.CommandWord.{CommandWord}
+use Rattle.line_words.specs.declared.named.Named.{Named}
+use Rattle.command_grammar.specs.declared.command_word.CommandWord.{CommandWord}
 use Rattle.control_text.specs.declared.line.Line.TheVariants.{Comment, Stop, Do}
-use Rattle.control_text.specs.Words.{has_bytes, words, EndsWord, trimmed, after_word, without_last_blanks}
-use Rattle.control_text.specs.Commands.{command_word, command_of}
-use Rattle.control_text.specs.Lines.{begins_hash, is_stop_word, is_stop, line_of_command, command_reading, reading_of_words, reading}
+use Rattle.line_words.specs.Words.{has_bytes, words, EndsWord, trimmed, after_word, without_last_blanks}
+use Rattle.command_grammar.specs.CommandWords.{command_word}
+use Rattle.command_grammar.specs.Commands.{command_of}
+use Rattle.control_text.specs.Lines.{begins_hash, is_stop_word, is_stop_line, line_of_command, command_reading, reading_of_words, reading}
 use Rattle.control_text.specs.Spelling.{after_spaces}
-use Rattle.control_text.proofs.PieceLemmas.{begins}
-use Rattle.control_text.proofs.WordLemmas.{words-nil, words-blank, words-word, drop-blank}
+use Rattle.line_words.proofs.WordLemmas.{words-nil, words-separator, words-word, without_first-separator}
 use Rattle.control_text.proofs.TextLemmas.{unblanked_first}
 use Rattle.control_text.proofs.PlainWords.{IsPlainWord, graphic-blank, graphic-control}
 
 -- the first place of a byte that stands after a text without such bytes
-pub position-is : (p : ℕ → Bool) (s t : List ℕ) → list_any p s ≡ false → begins p t → position_or_len p (s ++ t) ≡ length s
+pub position-is : (p : ℕ → Bool) (s t : List ℕ) → list_any p s ≡ false → EndsWord p t → position_or_len p (s ++ t) ≡ length s
 position-is p [] [] h e = refl
 position-is p [] (c ∷ t) h e = cond-false (not (p c)) _ _ (not_from_true (p c) e)
 position-is p (c ∷ s) t h e =
@@ -31,26 +31,22 @@ position-is p (c ∷ s) t h e =
     let more = position-is p s t q.1 e in
     one ∙ omega arith
 
-ends_begins : (rest : List ℕ) → EndsWord rest → begins is_blank rest
-ends_begins [] h = tt
-ends_begins (c ∷ s) h = h
-
 begins_word : (w rest : List ℕ) → has_bytes w ≡ true → list_any is_blank w ≡ false → begins_blank (w ++ rest) ≡ false
 begins_word [] rest some whole = absurd (false≢true some)
 begins_word (c ∷ w) rest some whole = (or_parts (is_blank c) (list_any is_blank w) whole).0
 
 -- the text after a word
-pub after_word-is : (w rest : List ℕ) → has_bytes w ≡ true → list_any is_blank w ≡ false → EndsWord rest → after_word (w ++ rest) ≡ rest
+pub after_word-is : (w rest : List ℕ) → has_bytes w ≡ true → list_any is_blank w ≡ false → EndsWord is_blank rest → after_word (w ++ rest) ≡ rest
 after_word-is w rest some whole ends =
     ap (λ t. drop (position_or_len is_blank t) t) (unblanked_first (w ++ rest) (begins_word w rest some whole))
-    ∙ ap (λ n. drop n (w ++ rest)) (position-is is_blank w rest whole (ends_begins rest ends))
+    ∙ ap (λ n. drop n (w ++ rest)) (position-is is_blank w rest whole ends)
     ∙ drop-append_seam w rest
 
 pub after_word-space : (s : List ℕ) → after_word (32 ∷ s) ≡ after_word s
-after_word-space s = ap (λ t. drop (position_or_len is_blank t) t) (drop-blank 32 s refl)
+after_word-space s = ap (λ t. drop (position_or_len is_blank t) t) (without_first-separator is_blank 32 s refl)
 
 pub trimmed-space : (s : List ℕ) → trimmed (32 ∷ s) ≡ trimmed s
-trimmed-space s = ap without_last_blanks (drop-blank 32 s refl)
+trimmed-space s = ap without_last_blanks (without_first-separator is_blank 32 s refl)
 
 -- a line that begins with a command's word
 pub record IsCommandWord (command : CommandWord) (w : List ℕ) : Type 0 where
@@ -62,19 +58,19 @@ pub record IsCommandWord (command : CommandWord) (w : List ℕ) : Type 0 where
   pub thank : is_word w (codes "thank") ≡ false
   pub is : command_word w ≡ Some command
 
-no_stop : (w : List ℕ) (ws : List (List ℕ)) → is_stop_word w ≡ false → is_word w (codes "thank") ≡ false → is_stop (w ∷ ws) ≡ false
+no_stop : (w : List ℕ) (ws : List (List ℕ)) → is_stop_word w ≡ false → is_word w (codes "thank") ≡ false → is_stop_line (w ∷ ws) ≡ false
 no_stop w [] stop thank = stop
 no_stop w (s ∷ []) stop thank = and_left (is_word w (codes "thank")) (is_word s (codes "you")) thank
 no_stop w (s ∷ t ∷ ws) stop thank = refl
 
-pub reading-command : (command : CommandWord) (w rest : List ℕ) (c : Command Named) → IsCommandWord command w → EndsWord rest → list_any is_control rest ≡ false → command_of command rest ≡ Ok c → reading (w ++ rest) ≡ Ok (Do c)
+pub reading-command : (command : CommandWord) (w rest : List ℕ) (c : Command Named) → IsCommandWord command w → EndsWord is_blank rest → list_any is_control rest ≡ false → command_of command rest ≡ Ok c → reading (w ++ rest) ≡ Ok (Do c)
 unfolding reading
 reading-command command w rest c h ends clean is =
     let text = w ++ rest in
     let all : list_any is_control text ≡ false = list_any-append is_control w rest ∙ or_from (list_any is_control w) (list_any is_control rest) h.clean clean in
-    ap (reading_of_words text) (words-word w rest h.some h.whole ends)
-    ∙ cond-false (begins_hash w) (Ok Comment) (cond (is_stop (w ∷ words rest)) (Ok Stop) (command_reading (command_word w) text)) h.hash
-    ∙ cond-false (is_stop (w ∷ words rest)) (Ok Stop) (command_reading (command_word w) text) (no_stop w (words rest) h.stop h.thank)
+    ap (reading_of_words text) (words-word is_blank w rest h.some h.whole ends)
+    ∙ cond-false (begins_hash w) (Ok Comment) (cond (is_stop_line (w ∷ words rest)) (Ok Stop) (command_reading (command_word w) text)) h.hash
+    ∙ cond-false (is_stop_line (w ∷ words rest)) (Ok Stop) (command_reading (command_word w) text) (no_stop w (words rest) h.stop h.thank)
     ∙ ap (λ o. command_reading o text) h.is
     ∙ cond-false (list_any is_control text) (Err Malformed) (line_of_command (command_of command (after_word text))) all
     ∙ ap (λ s. line_of_command (command_of command s)) (after_word-is w rest h.some h.whole ends)
@@ -85,18 +81,18 @@ abbrev pub ArePlain : List (List ℕ) → Type 0
 ArePlain [] = ⊤
 ArePlain (w ∷ ws) = IsPlainWord w × ArePlain ws
 
-pub ends-after_spaces : (ws : List (List ℕ)) → EndsWord (after_spaces ws)
+pub ends-after_spaces : (ws : List (List ℕ)) → EndsWord is_blank (after_spaces ws)
 ends-after_spaces [] = tt
 ends-after_spaces (w ∷ ws) = refl
 
 -- one such word, and what follows it
 pub words-space : (w : List ℕ) (ws : List (List ℕ)) → IsPlainWord w → words (after_spaces (w ∷ ws)) ≡ w ∷ words (after_spaces ws)
 words-space w ws h =
-    words-blank 32 (w ++ after_spaces ws) refl
-    ∙ words-word w (after_spaces ws) h.some (graphic-blank w h.graphic) (ends-after_spaces ws)
+    words-separator is_blank 32 (w ++ after_spaces ws) refl
+    ∙ words-word is_blank w (after_spaces ws) h.some (graphic-blank w h.graphic) (ends-after_spaces ws)
 
 pub words-spaces : (ws : List (List ℕ)) → ArePlain ws → words (after_spaces ws) ≡ ws
-words-spaces [] h = words-nil
+words-spaces [] h = words-nil is_blank
 words-spaces (w ∷ ws) h = words-space w ws h.0 ∙ ap (λ r. w ∷ r) (words-spaces ws h.1)
 
 pub after_word-spaces : (w : List ℕ) (ws : List (List ℕ)) → IsPlainWord w → after_word (after_spaces (w ∷ ws)) ≡ after_spaces ws

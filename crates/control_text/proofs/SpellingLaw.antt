@@ -3,7 +3,7 @@ use Rattle.std.proofs.Common.{◌≡◌, ℕ, ◌<◌, List, [], ◌∷◌, ◌+
 use Rattle.debver.specs.Names.{IsName}
 use Rattle.bug_record.specs.Sets.{Each}
 use Rattle.bug_record.specs.Texts.{IsText, IfGiven}
-use Rattle.bug_record.specs.Severities.{severity_of}
+use Rattle.bug_record.specs.Severities.{severity_name, severity_of}
 use Rattle.bug_record.specs.Commands.{IsGoodVersion, IsGoodPerson}
 use Rattle.bug_record.specs.declared.severity.Severity.{Severity}
 use Rattle.bug_record.specs.declared.command.Command.{Command}
@@ -12,16 +12,16 @@ use Rattle.bug_record.specs.declared.command.VersionArg.{VersionArg}
 use Rattle.bug_record.specs.declared.command.Who.{Who}
 use Rattle.bug_record.specs.declared.command.Refusal.{Refusal}
 use Rattle.bug_record.specs.declared.command.Refusal.TheVariants.{BadSeverity}
-use Rattle.control_text.specs.declared.named.Named.{Named}
-use Rattle.control_text.specs.declared.commands.CommandWord.{CommandWord}
-use Rattle.control_text.specs.declared.commands.CommandWord.TheVariants as command_words
+use Rattle.line_words.specs.declared.named.Named.{Named}
+use Rattle.command_grammar.specs.declared.command_word.CommandWord.{CommandWord}
+use Rattle.command_grammar.specs.declared.command_word.CommandWord.TheVariants as command_words
 use Rattle.control_text.specs.declared.line.Line.TheVariants.{Do}
-use Rattle.control_text.specs.Bugs.{IsGoodBug}
-use Rattle.control_text.specs.Words.{words, trimmed, after_word}
-use Rattle.control_text.specs.Commands.{or_refuse, and_read, version_of, package_of, any_version, bug_alone, bug_and_version, bug_and_any_version, severity_command, reassign_command, any_who_of_text, bug_and_some_text, bug_and_some_who, bug_and_others, reopen_command, command_of}
+use Rattle.line_words.specs.Bugs.{IsGoodBug}
+use Rattle.line_words.specs.Words.{words, trimmed, after_word}
+use Rattle.command_grammar.specs.Commands.{or_refuse, and_read, read_version, read_package, optional_version, bug_alone, bug_and_version, bug_and_optional_version, severity_command, reassign_command, optional_who, bug_and_some_text, bug_and_some_who, bug_and_others, reopen_command, command_of}
 use Rattle.control_text.specs.Lines.{reading}
 use Rattle.control_text.specs.WellFormed.{IsPlain, IsAddress, IsWellFormed}
-use Rattle.control_text.specs.Spelling.{bug_text, severity_text, version_text, who_text, step_words, word_if, after_spaces, spelling}
+use Rattle.control_text.specs.Spelling.{bug_text, version_text, who_text, step_words, word_if, after_spaces, spelling}
 use Rattle.control_text.proofs.TextLemmas.{text_parts}
 use Rattle.control_text.proofs.PlainWords.{graphic-control, name-plain}
 use Rattle.control_text.proofs.SpacedLemmas.{IsCommandWord, reading-command, ArePlain, AreClean, plain_clean, clean-spaces, ends-after_spaces, words-space, words-spaces, after_word-spaces, trimmed-space}
@@ -38,52 +38,52 @@ bug_and_version-back : (n : Named) (v : VersionArg) → IsGoodBug n → IsGoodVe
 bug_and_version-back n v good fine =
     let both : VersionArg → Result (Named × VersionArg) Refusal = λ version. Ok (n, version) in
     ap bug_and_version (words-spaces (bug_text n ∷ version_text v ∷ []) (bug-plain n good, (version_text-plain v fine, tt)))
-    ∙ ap (λ r. and_read {B = Named × VersionArg} r (λ bug. and_read (version_of (version_text v)) (λ version. Ok (bug, version)))) (bug-back n good)
+    ∙ ap (λ r. and_read {B = Named × VersionArg} r (λ bug. and_read (read_version (version_text v)) (λ version. Ok (bug, version)))) (bug-back n good)
     ∙ ap (λ r. and_read r both) (version-back v fine)
 
 given_plain : (v : Option VersionArg) → IfGiven IsGoodVersion v → ArePlain (word_if version_text v)
 given_plain None fine = tt
 given_plain (Some v) fine = (version_text-plain v fine, tt)
 
-any_version_words-back : (n : Named) (v : Option VersionArg) → IsGoodBug n → IfGiven IsGoodVersion v → bug_and_any_version (bug_text n ∷ word_if version_text v) ≡ Ok (n, v)
-any_version_words-back n None good fine = ap (λ r. and_read {B = Named × Option VersionArg} r (λ bug. Ok (bug, None))) (bug-back n good)
-any_version_words-back n (Some v) good fine =
+optional_version_words-back : (n : Named) (v : Option VersionArg) → IsGoodBug n → IfGiven IsGoodVersion v → bug_and_optional_version (bug_text n ∷ word_if version_text v) ≡ Ok (n, v)
+optional_version_words-back n None good fine = ap (λ r. and_read {B = Named × Option VersionArg} r (λ bug. Ok (bug, None))) (bug-back n good)
+optional_version_words-back n (Some v) good fine =
     let more : Named × VersionArg → Result (Named × Option VersionArg) Refusal = λ both. Ok (both.0, Some both.1) in
     ap (λ r. and_read r more) (ap bug_and_version (sym (words-spaces (bug_text n ∷ version_text v ∷ []) (bug-plain n good, (version_text-plain v fine, tt)))) ∙ bug_and_version-back n v good fine)
 
-bug_and_any_version-back : (n : Named) (v : Option VersionArg) → IsGoodBug n → IfGiven IsGoodVersion v → bug_and_any_version (words (after_spaces (bug_text n ∷ word_if version_text v))) ≡ Ok (n, v)
-bug_and_any_version-back n v good fine =
-    ap bug_and_any_version (words-spaces (bug_text n ∷ word_if version_text v) (bug-plain n good, given_plain v fine))
-    ∙ any_version_words-back n v good fine
+bug_and_optional_version-back : (n : Named) (v : Option VersionArg) → IsGoodBug n → IfGiven IsGoodVersion v → bug_and_optional_version (words (after_spaces (bug_text n ∷ word_if version_text v))) ≡ Ok (n, v)
+bug_and_optional_version-back n v good fine =
+    ap bug_and_optional_version (words-spaces (bug_text n ∷ word_if version_text v) (bug-plain n good, given_plain v fine))
+    ∙ optional_version_words-back n v good fine
 
-severity_command-back : (n : Named) (s : Severity) → IsGoodBug n → severity_command (words (after_spaces (bug_text n ∷ severity_text s ∷ []))) ≡ Ok (commands.Severity n s)
+severity_command-back : (n : Named) (s : Severity) → IsGoodBug n → severity_command (words (after_spaces (bug_text n ∷ severity_name s ∷ []))) ≡ Ok (commands.Severity n s)
 severity_command-back n s good =
-    ap severity_command (words-spaces (bug_text n ∷ severity_text s ∷ []) (bug-plain n good, (severity-plain s, tt)))
-    ∙ ap (λ r. and_read r (λ bug. or_refuse (severity_of (severity_text s)) BadSeverity (λ severity. Ok (commands.Severity bug severity)))) (bug-back n good)
+    ap severity_command (words-spaces (bug_text n ∷ severity_name s ∷ []) (bug-plain n good, (severity-plain s, tt)))
+    ∙ ap (λ r. and_read r (λ bug. or_refuse (severity_of (severity_name s)) BadSeverity (λ severity. Ok (commands.Severity bug severity)))) (bug-back n good)
     ∙ ap (λ o. or_refuse o BadSeverity (λ severity. Ok (commands.Severity n severity))) (severity-back s)
 
-any_version-back : (v : VersionArg) → IsGoodVersion v → any_version (Some (version_text v)) ≡ Ok (Some v)
-any_version-back v fine = ap (λ r. and_read r (λ version. Ok (Some version))) (version-back v fine)
+optional_version-back : (v : VersionArg) → IsGoodVersion v → optional_version (Some (version_text v)) ≡ Ok (Some v)
+optional_version-back v fine = ap (λ r. and_read r (λ version. Ok (Some version))) (version-back v fine)
 
 reassign_words-back : (n : Named) (p : List ℕ) (v : Option VersionArg) → IsGoodBug n → IsName p → IfGiven IsGoodVersion v → reassign_command (bug_text n ∷ p ∷ word_if version_text v) ≡ Ok (commands.Reassign n p v)
 reassign_words-back n p None good name fine =
-    ap (λ r. and_read r (λ bug. and_read (package_of p) (λ q. and_read (any_version None) (λ version. Ok (commands.Reassign bug q version))))) (bug-back n good)
-    ∙ ap (λ r. and_read r (λ q. and_read (any_version None) (λ version. Ok (commands.Reassign n q version)))) (package-back p name)
+    ap (λ r. and_read r (λ bug. and_read (read_package p) (λ q. and_read (optional_version None) (λ version. Ok (commands.Reassign bug q version))))) (bug-back n good)
+    ∙ ap (λ r. and_read r (λ q. and_read (optional_version None) (λ version. Ok (commands.Reassign n q version)))) (package-back p name)
 reassign_words-back n p (Some v) good name fine =
-    ap (λ r. and_read r (λ bug. and_read (package_of p) (λ q. and_read (any_version (Some (version_text v))) (λ version. Ok (commands.Reassign bug q version))))) (bug-back n good)
-    ∙ ap (λ r. and_read r (λ q. and_read (any_version (Some (version_text v))) (λ version. Ok (commands.Reassign n q version)))) (package-back p name)
-    ∙ ap (λ r. and_read r (λ version. Ok (commands.Reassign n p version))) (any_version-back v fine)
+    ap (λ r. and_read r (λ bug. and_read (read_package p) (λ q. and_read (optional_version (Some (version_text v))) (λ version. Ok (commands.Reassign bug q version))))) (bug-back n good)
+    ∙ ap (λ r. and_read r (λ q. and_read (optional_version (Some (version_text v))) (λ version. Ok (commands.Reassign n q version)))) (package-back p name)
+    ∙ ap (λ r. and_read r (λ version. Ok (commands.Reassign n p version))) (optional_version-back v fine)
 
 reassign_plain : (n : Named) (p : List ℕ) (v : Option VersionArg) → IsGoodBug n → IsName p → IfGiven IsGoodVersion v → ArePlain (bug_text n ∷ p ∷ word_if version_text v)
 reassign_plain n p v good name fine = (bug-plain n good, (name-plain p name, given_plain v fine))
 
 -- who is to be the submitter
-reopen_text-back : (n : Named) (ws : List (List ℕ)) (text : List ℕ) (who : Option Who) → IsGoodBug n → trimmed (after_spaces ws) ≡ text → any_who_of_text text ≡ Ok who → reopen_command (after_spaces (bug_text n ∷ ws)) ≡ Ok (commands.Reopen n who)
+reopen_text-back : (n : Named) (ws : List (List ℕ)) (text : List ℕ) (who : Option Who) → IsGoodBug n → trimmed (after_spaces ws) ≡ text → optional_who text ≡ Ok who → reopen_command (after_spaces (bug_text n ∷ ws)) ≡ Ok (commands.Reopen n who)
 reopen_text-back n ws text who good is read =
     let word = bug-plain n good in
     let arguments = after_spaces (bug_text n ∷ ws) in
     let rest : trimmed (after_word arguments) ≡ text = ap trimmed (after_word-spaces (bug_text n) ws word) ∙ is in
-    let command : Named × List ℕ → Result (Command Named) Refusal = λ both. and_read (any_who_of_text both.1) (λ w. Ok (commands.Reopen both.0 w)) in
+    let command : Named × List ℕ → Result (Command Named) Refusal = λ both. and_read (optional_who both.1) (λ w. Ok (commands.Reopen both.0 w)) in
     ap (λ r. and_read r command) (bug_and_text-back arguments (bug_text n) (words (after_spaces ws)) n (words-space (bug_text n) ws word) (bug-back n good))
     ∙ ap (λ t. command (n, t)) rest
     ∙ ap (λ r. and_read r (λ w. Ok (commands.Reopen n w))) read
@@ -163,11 +163,11 @@ by_version command w make n v h means good fine =
     let ws = bug_text n ∷ version_text v ∷ [] in
     by_words command w ws (make n v) h (bug-plain n good, (version_text-plain v fine, tt)) (means (after_spaces ws) ∙ ap (λ r. and_read r made) (bug_and_version-back n v good fine))
 
-by_any_version : (command : CommandWord) (w : List ℕ) (make : Named → Option VersionArg → Command Named) (n : Named) (v : Option VersionArg) → IsCommandWord command w → ((s : List ℕ) → command_of command s ≡ and_read (bug_and_any_version (words s)) (λ both. Ok (make both.0 both.1))) → IsGoodBug n → IfGiven IsGoodVersion v → reading (w ++ after_spaces (bug_text n ∷ word_if version_text v)) ≡ Ok (Do (make n v))
-by_any_version command w make n v h means good fine =
+by_optional_version : (command : CommandWord) (w : List ℕ) (make : Named → Option VersionArg → Command Named) (n : Named) (v : Option VersionArg) → IsCommandWord command w → ((s : List ℕ) → command_of command s ≡ and_read (bug_and_optional_version (words s)) (λ both. Ok (make both.0 both.1))) → IsGoodBug n → IfGiven IsGoodVersion v → reading (w ++ after_spaces (bug_text n ∷ word_if version_text v)) ≡ Ok (Do (make n v))
+by_optional_version command w make n v h means good fine =
     let made : Named × Option VersionArg → Result (Command Named) Refusal = λ both. Ok (make both.0 both.1) in
     let ws = bug_text n ∷ word_if version_text v in
-    by_words command w ws (make n v) h (bug-plain n good, given_plain v fine) (means (after_spaces ws) ∙ ap (λ r. and_read r made) (bug_and_any_version-back n v good fine))
+    by_words command w ws (make n v) h (bug-plain n good, given_plain v fine) (means (after_spaces ws) ∙ ap (λ r. and_read r made) (bug_and_optional_version-back n v good fine))
 
 -- a bug alone, two bugs or more, a bug and a text, and a bug and somebody
 by_bug : (command : CommandWord) (w : List ℕ) (make : Named → Command Named) (n : Named) → IsCommandWord command w → ((s : List ℕ) → command_of command s ≡ and_read (bug_alone (words s)) (λ bug. Ok (make bug))) → IsGoodBug n → reading (w ++ after_spaces (bug_text n ∷ [])) ≡ Ok (Do (make n))
@@ -205,17 +205,17 @@ by_who command w make n who h means good person address =
 
 pub spelling-read : (c : Command Named) → IsWellFormed c → reading (spelling c) ≡ Ok (Do c)
 unfolding spelling
-spelling-read (commands.Found n v) good = by_any_version command_words.Found (codes "found") commands.Found n v found_word (λ s. refl) good.bugs.0 good.parts
+spelling-read (commands.Found n v) good = by_optional_version command_words.Found (codes "found") commands.Found n v found_word (λ s. refl) good.bugs.0 good.parts
 spelling-read (commands.NotFound n v) good = by_version command_words.NotFound (codes "notfound") commands.NotFound n v notfound_word (λ s. refl) good.bugs.0 good.parts
 spelling-read (commands.Fixed n v) good = by_version command_words.Fixed (codes "fixed") commands.Fixed n v fixed_word (λ s. refl) good.bugs.0 good.parts
 spelling-read (commands.NotFixed n v) good = by_version command_words.NotFixed (codes "notfixed") commands.NotFixed n v notfixed_word (λ s. refl) good.bugs.0 good.parts
-spelling-read (commands.Close n v) good = by_any_version command_words.Close (codes "close") commands.Close n v close_word (λ s. refl) good.bugs.0 good.parts
+spelling-read (commands.Close n v) good = by_optional_version command_words.Close (codes "close") commands.Close n v close_word (λ s. refl) good.bugs.0 good.parts
 spelling-read (commands.Reopen n who) good =
     let ws = bug_text n ∷ word_if who_text who in
     reading-command command_words.Reopen (codes "reopen") (after_spaces ws) (commands.Reopen n who) reopen_word (ends-after_spaces ws)
     (clean-spaces ws (reopen_clean n who good.bugs.0 good.parts good.texts)) (reopen_back n who good.bugs.0 good.parts good.texts)
 spelling-read (commands.Severity n s) good =
-    by_words command_words.Severity (codes "severity") (bug_text n ∷ severity_text s ∷ []) (commands.Severity n s) severity_word (bug-plain n good.bugs.0, (severity-plain s, tt)) (severity_command-back n s good.bugs.0)
+    by_words command_words.Severity (codes "severity") (bug_text n ∷ severity_name s ∷ []) (commands.Severity n s) severity_word (bug-plain n good.bugs.0, (severity-plain s, tt)) (severity_command-back n s good.bugs.0)
 spelling-read (commands.Reassign n p v) good =
     let ws = bug_text n ∷ p ∷ word_if version_text v in
     let plain = reassign_plain n p v good.bugs.0 good.parts.0 good.parts.1 in

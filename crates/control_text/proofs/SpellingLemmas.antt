@@ -18,21 +18,21 @@ use Rattle.debver.specs.Faults.{text_fault}
 use Rattle.debver.proofs.CutLaws.{parts_exactly}
 use Rattle.ancestry.specs.Nodes.{Node, node, is_slash}
 use Rattle.ancestry.proofs.ReadLemmas.{nodes_exactly}
-use Rattle.bug_record.specs.Severities.{severity_of}
+use Rattle.bug_record.specs.Severities.{severity_name, severity_of}
 use Rattle.bug_record.specs.Commands.{IsGoodVersion}
 use Rattle.bug_record.specs.Texts.{IfGiven}
 use Rattle.bug_record.specs.declared.severity.Severity.{Severity}
 use Rattle.bug_record.specs.declared.severity.Severity.TheVariants as severities
 use Rattle.bug_record.specs.declared.command.VersionArg.{VersionArg}
 use Rattle.bug_record.specs.declared.command.Refusal.TheVariants.{Malformed, BadVersion, BadPackage}
-use Rattle.control_text.specs.declared.named.Named.{Named}
-use Rattle.control_text.specs.declared.named.Named.TheVariants.{Number, Name}
-use Rattle.control_text.specs.Numbers.{number_of_digits, IsGoodNumber}
-use Rattle.control_text.specs.Bugs.{bug_of_word, bug_of_text, IsGoodBug}
-use Rattle.control_text.specs.Words.{has_bytes}
-use Rattle.control_text.specs.Versions.{plain_version, sourced_version, version_of_word, without_src, package_of_word}
-use Rattle.control_text.specs.Commands.{or_refuse, bug_of, version_of, package_of}
-use Rattle.control_text.specs.Spelling.{bug_text, severity_text, sourced_text, version_text}
+use Rattle.line_words.specs.declared.named.Named.{Named}
+use Rattle.line_words.specs.declared.named.Named.TheVariants.{Number, Name}
+use Rattle.line_words.specs.Numbers.{number_of_digits, IsGoodNumber}
+use Rattle.line_words.specs.Bugs.{bug_of_word, bug_of_text, IsGoodBug}
+use Rattle.line_words.specs.Words.{has_bytes}
+use Rattle.command_grammar.specs.Versions.{bare_version, sourced_version, version_of_word, without_src, package_of_word}
+use Rattle.command_grammar.specs.Commands.{or_refuse, read_bug, read_version, read_package}
+use Rattle.control_text.specs.Spelling.{bug_text, sourced_text, version_text}
 use Rattle.control_text.proofs.TextLemmas.{none-take}
 use Rattle.control_text.proofs.ReadingLemmas.{version_good}
 use Rattle.control_text.proofs.PlainWords.{IsPlainWord, graphic-append, name-plain, version-plain, decimal-plain, written_is}
@@ -63,7 +63,7 @@ bug_word-back : (n : Named) → IsGoodBug n → bug_of_word (bug_text n) ≡ Som
 bug_word-back (Number n) good = let w = written_is n good.most in digits-back (decimal n) n w.some w.digits (number-back n good)
 bug_word-back (Name k) good = ap (option_map Name) (number-back k good)
 
-pub bug-back : (n : Named) → IsGoodBug n → bug_of (bug_text n) ≡ Ok n
+pub bug-back : (n : Named) → IsGoodBug n → read_bug (bug_text n) ≡ Ok n
 bug-back n good = ap (λ o. or_refuse o Malformed (λ bug. Ok bug)) (bug_word-back n good)
 
 pub bug-plain : (n : Named) → IsGoodBug n → IsPlainWord (bug_text n)
@@ -111,7 +111,7 @@ name-faultless s name = (and_parts (is_none (name_fault s)) (is_none (text_fault
 
 sourced-back : (source : Option (List ℕ)) (version : List ℕ) → IfGiven IsName source → IsVersion version → version_of_word (sourced_text source version) ≡ Some (record { source = source; version = version })
 sourced-back None version given good =
-    cond-false (list_any is_slash version) (sourced_version (before_first is_slash version) (after_first is_slash version)) (plain_version version) (version-slash version good)
+    cond-false (list_any is_slash version) (sourced_version (before_first is_slash version) (after_first is_slash version)) (bare_version version) (version-slash version good)
     ∙ cond-true (is_none (text_fault version)) (Some (record { source = None; version = version })) None (ap is_none ((parts_exactly version (cut version)).0 good).1)
 sourced-back (Some s) version given good =
     let w = s ++ 47 ∷ version in
@@ -119,11 +119,11 @@ sourced-back (Some s) version given good =
     let at : position_or_len is_slash w ≡ length s = position-is is_slash s (47 ∷ version) (no_byte 47 in_name refl s given.bytes) refl in
     let before : before_first is_slash w ≡ s = ap (λ n. take n w) at ∙ take-append_seam s (47 ∷ version) in
     let after : after_first is_slash w ≡ version = ap (λ n. drop (n + 1) w) at ∙ drop-append-add s (47 ∷ version) 1 in
-    cond-true (list_any is_slash w) (sourced_version (before_first is_slash w) (after_first is_slash w)) (plain_version w) slash
+    cond-true (list_any is_slash w) (sourced_version (before_first is_slash w) (after_first is_slash w)) (bare_version w) slash
     ∙ ap (λ x. sourced_version x (after_first is_slash w)) before ∙ ap (sourced_version s) after
     ∙ cond-true (is_none (name_fault s) && is_none (text_fault version)) (Some (record { source = Some s; version = version })) None (both-faultless s version given good)
 
-pub version-back : (v : VersionArg) → IsGoodVersion v → version_of (version_text v) ≡ Ok v
+pub version-back : (v : VersionArg) → IsGoodVersion v → read_version (version_text v) ≡ Ok v
 version-back v good = ap (λ o. or_refuse o BadVersion (λ version. Ok version)) (sourced-back v.source v.version good.source good.version)
 
 sourced-plain : (source : Option (List ℕ)) (version : List ℕ) → IfGiven IsName source → IsVersion version → IsPlainWord (sourced_text source version)
@@ -146,14 +146,14 @@ no_src p name =
     let is = (bytes_eq-Decides (take 4 p) (codes "src:")).0 e in
     false≢true (sym (none-take is_colon 4 p (no_byte 58 in_name refl p name.bytes)) ∙ ap (list_any is_colon) is)))
 
-pub package-back : (p : List ℕ) → IsName p → package_of p ≡ Ok p
+pub package-back : (p : List ℕ) → IsName p → read_package p ≡ Ok p
 package-back p name =
     let read : package_of_word p ≡ Some p
     = ap (λ q. cond (is_none (name_fault q)) (Some q) None) (no_src p name) ∙ cond-true (is_none (name_fault p)) (Some p) None (name-faultless p name) in
     ap (λ o. or_refuse o BadPackage (λ name. Ok name)) read
 
 -- severities
-pub severity-back : (s : Severity) → severity_of (severity_text s) ≡ Some s
+pub severity-back : (s : Severity) → severity_of (severity_name s) ≡ Some s
 severity-back severities.Critical = refl
 severity-back severities.Grave = refl
 severity-back severities.Serious = refl
@@ -162,7 +162,7 @@ severity-back severities.Normal = refl
 severity-back severities.Minor = refl
 severity-back severities.Wishlist = refl
 
-pub severity-plain : (s : Severity) → IsPlainWord (severity_text s)
+pub severity-plain : (s : Severity) → IsPlainWord (severity_name s)
 severity-plain severities.Critical = record { some = refl; graphic = refl }
 severity-plain severities.Grave = record { some = refl; graphic = refl }
 severity-plain severities.Serious = record { some = refl; graphic = refl }

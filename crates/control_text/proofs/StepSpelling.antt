@@ -11,13 +11,12 @@ use Rattle.bug_record.specs.declared.command.TagStep.{TagStep}
 use Rattle.bug_record.specs.declared.command.TagStep.TheVariants.{Add, Remove, Clear}
 use Rattle.bug_record.specs.declared.command.Refusal.{Refusal}
 use Rattle.bug_record.specs.declared.command.Refusal.TheVariants.{Malformed}
-use Rattle.control_text.specs.declared.named.Named.{Named}
-use Rattle.control_text.specs.Bugs.{IsGoodBug}
-use Rattle.control_text.specs.Words.{is_gap, words_with_commas, after_word}
-use Rattle.control_text.specs.Commands.{and_read, bug_of, tag_step, tag_steps, all_steps, some_steps, tags_command}
+use Rattle.line_words.specs.declared.named.Named.{Named}
+use Rattle.line_words.specs.Bugs.{IsGoodBug}
+use Rattle.line_words.specs.Words.{is_blank_or_comma, EndsWord, words_with_commas, after_word}
+use Rattle.command_grammar.specs.Commands.{and_read, read_bug, tag_step, tag_steps, all_steps, some_steps, tags_command}
 use Rattle.control_text.specs.Spelling.{bug_text, step_text, step_words, after_spaces}
-use Rattle.control_text.proofs.PieceLemmas.{begins}
-use Rattle.control_text.proofs.GapLemmas.{gaps-nil, gaps-space, gaps-word}
+use Rattle.line_words.proofs.WordLemmas.{words-nil, words-separator, words-word}
 use Rattle.control_text.proofs.PlainWords.{IsGraphic, IsPlainWord}
 use Rattle.control_text.proofs.SpacedLemmas.{ArePlain, words-space, after_word-spaces}
 use Rattle.control_text.proofs.SpellingLemmas.{bug-back, bug-plain}
@@ -25,7 +24,7 @@ use Rattle.control_text.proofs.SpellingLemmas.{bug-back, bug-plain}
 -- what is known of the name of a tag
 record IsTagName (tag : Tag) : Type 0 where
   graphic : IsGraphic (tag_name tag)
-  whole : list_any is_gap (tag_name tag) ≡ false
+  whole : list_any is_blank_or_comma (tag_name tag) ≡ false
   back : (adds : Bool) → tag_steps adds (tag_name tag) ≡ Ok (tag_step adds tag ∷ [])
 
 tag_word : (tag : Tag) → IsTagName tag
@@ -50,9 +49,9 @@ tag_word tags.Wontfix = record { graphic = refl; whole = refl; back = λ adds. r
 -- words between which no comma stands
 abbrev AreWhole : List (List ℕ) → Type 0
 AreWhole [] = ⊤
-AreWhole (w ∷ ws) = IsPlainWord w × (list_any is_gap w ≡ false) × AreWhole ws
+AreWhole (w ∷ ws) = IsPlainWord w × (list_any is_blank_or_comma w ≡ false) × AreWhole ws
 
-step_whole : (step : TagStep) → IsPlainWord (step_text step) × (list_any is_gap (step_text step) ≡ false)
+step_whole : (step : TagStep) → IsPlainWord (step_text step) × (list_any is_blank_or_comma (step_text step) ≡ false)
 step_whole (Add tag) = let name = tag_word tag in (record { some = refl; graphic = name.graphic }, name.whole)
 step_whole (Remove tag) = let name = tag_word tag in (record { some = refl; graphic = name.graphic }, name.whole)
 step_whole Clear = (record { some = refl; graphic = refl }, refl)
@@ -72,15 +71,15 @@ whole_plain (w ∷ ws) h = (h.0, whole_plain ws h.2)
 pub steps_plain : (steps : List TagStep) → ArePlain (step_words steps)
 steps_plain steps = whole_plain (step_words steps) (steps_whole steps)
 
-begins-spaces : (ws : List (List ℕ)) → begins is_gap (after_spaces ws)
-begins-spaces [] = tt
-begins-spaces (w ∷ ws) = refl
+ends-spaces : (ws : List (List ℕ)) → EndsWord is_blank_or_comma (after_spaces ws)
+ends-spaces [] = tt
+ends-spaces (w ∷ ws) = refl
 
-gaps-spaces : (ws : List (List ℕ)) → AreWhole ws → words_with_commas (after_spaces ws) ≡ ws
-gaps-spaces [] h = gaps-nil
-gaps-spaces (w ∷ ws) h =
+commas-spaces : (ws : List (List ℕ)) → AreWhole ws → words_with_commas (after_spaces ws) ≡ ws
+commas-spaces [] h = words-nil is_blank_or_comma
+commas-spaces (w ∷ ws) h =
     let word = h.0 in
-    gaps-space (w ++ after_spaces ws) ∙ gaps-word w (after_spaces ws) word.some h.1 (begins-spaces ws) ∙ ap (λ r. w ∷ r) (gaps-spaces ws h.2)
+    words-separator is_blank_or_comma 32 (w ++ after_spaces ws) refl ∙ words-word is_blank_or_comma w (after_spaces ws) word.some h.1 (ends-spaces ws) ∙ ap (λ r. w ∷ r) (commas-spaces ws h.2)
 
 -- each step's own sign says what it does
 all-back : (adds : Bool) (steps : List TagStep) → all_steps adds (map step_text steps) ≡ Ok steps
@@ -105,9 +104,9 @@ tags-back n steps good =
     let ws = step_words steps in
     let arguments = after_spaces (bug_text n ∷ ws) in
     let of_steps : List (List ℕ) → Named → Result (Command Named) Refusal = λ vs bug. and_read (some_steps vs) (λ read. Ok (commands.Tags bug read)) in
-    let rest : words_with_commas (after_word arguments) ≡ ws = ap words_with_commas (after_word-spaces (bug_text n) ws word) ∙ gaps-spaces ws (steps_whole steps) in
+    let rest : words_with_commas (after_word arguments) ≡ ws = ap words_with_commas (after_word-spaces (bug_text n) ws word) ∙ commas-spaces ws (steps_whole steps) in
     let of_bug = of_steps (words_with_commas (after_word arguments)) in
-    ap (λ vs. elim vs as (λ _. Result (Command Named) Refusal) [ [] ↦ Err Malformed | m ∷ more ↦ and_read (bug_of m) of_bug ]) (words-space (bug_text n) ws word)
+    ap (λ vs. elim vs as (λ _. Result (Command Named) Refusal) [ [] ↦ Err Malformed | m ∷ more ↦ and_read (read_bug m) of_bug ]) (words-space (bug_text n) ws word)
     ∙ ap (λ r. and_read r of_bug) (bug-back n good)
     ∙ ap (λ vs. of_steps vs n) rest
     ∙ ap (λ r. and_read {B = Command Named} r (λ read. Ok (commands.Tags n read))) (some-back steps)

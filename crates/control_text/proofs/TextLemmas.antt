@@ -6,9 +6,10 @@ use Rattle.std.proofs.lemmas.List.{take-append-drop, reverse-append, length-reve
 use Rattle.std.proofs.lemmas.List.Folds.{list_any-append}
 use Rattle.std.proofs.lemmas.List.Sums.{suffix_len-le-length}
 use Rattle.std.proofs.Math.Seq.{drop-append_seam}
-use Rattle.bug_record.specs.Texts.{is_blank, is_control, begins_blank, ends_blank, is_text, IsText}
-use Rattle.control_text.specs.Words.{without_first_blanks, without_last_blanks, trimmed}
-use Rattle.control_text.proofs.WordLemmas.{begins_blank-drop}
+use Rattle.line_words.specs.Blanks.{is_blank, is_control, begins_blank}
+use Rattle.bug_record.specs.Texts.{ends_blank, is_text, IsText}
+use Rattle.line_words.specs.Words.{without_first_blanks, without_last_blanks, trimmed}
+use Rattle.line_words.proofs.WordLemmas.{begins_blank-without_first}
 
 -- what no byte of a text is, no byte of a part of it is
 pub none-take : (p : ℕ → Bool) (n : ℕ) (s : List ℕ) → list_any p s ≡ false → list_any p (take n s) ≡ false
@@ -47,7 +48,7 @@ ends_blank-last s =
     let whole : reverse s ≡ reverse (drop n s) ++ reverse (take n s) = ap reverse (sym (take-append-drop n s)) ∙ reverse-append (take n s) (drop n s) in
     let rest : drop k (reverse s) ≡ reverse (take n s)
     = ap (drop k) whole ∙ ap (λ i. drop i (reverse (drop n s) ++ reverse (take n s))) (sym long) ∙ drop-append_seam (reverse (drop n s)) (reverse (take n s)) in
-    ap begins_blank (sym rest) ∙ begins_blank-drop (reverse s)
+    ap begins_blank (sym rest) ∙ begins_blank-without_first (reverse s)
 
 begins_blank-last : (s : List ℕ) → begins_blank s ≡ false → begins_blank (without_last_blanks s) ≡ false
 begins_blank-last s h =
@@ -70,7 +71,7 @@ text_from s least most clean first last =
 -- a text without outer blanks is a text, where it has 1 to 200 bytes and no control character
 pub trimmed-text : (s : List ℕ) → 1 ≤ length (trimmed s) → length (trimmed s) ≤ 200 → list_any is_control s ≡ false → IsText (trimmed s)
 trimmed-text s least most clean =
-    text_from (trimmed s) least most (control-trimmed s clean) (begins_blank-last (without_first_blanks s) (begins_blank-drop s)) (ends_blank-last (without_first_blanks s))
+    text_from (trimmed s) least most (control-trimmed s clean) (begins_blank-last (without_first_blanks s) (begins_blank-without_first s)) (ends_blank-last (without_first_blanks s))
 
 -- what a text is
 pub record TextParts (s : List ℕ) : Type 0 where

@@ -4,16 +4,17 @@ use Rattle.std.specs.List.{list_any}
 use Rattle.std.specs.Str.{bytes_eq}
 use Rattle.std.proofs.lemmas.Bool.{cond-false, le-ltb, false_from_ne_true}
 use Rattle.std.proofs.lemmas.Slice.Eq.{bytes_eq-Decides}
-use Rattle.bug_record.specs.Texts.{is_control, IsText}
+use Rattle.line_words.specs.Blanks.{is_control}
+use Rattle.bug_record.specs.Texts.{IsText}
 use Rattle.bug_record.specs.Commands.{IsGoodPerson}
 use Rattle.bug_record.specs.declared.command.Who.{Who}
 use Rattle.bug_record.specs.declared.command.Who.TheVariants.{Sender, Given}
 use Rattle.bug_record.specs.declared.command.Refusal.{Refusal}
 use Rattle.bug_record.specs.declared.command.Refusal.TheVariants.{Malformed, TooLong}
-use Rattle.control_text.specs.declared.named.Named.{Named}
-use Rattle.control_text.specs.Bugs.{IsGoodBug}
-use Rattle.control_text.specs.Words.{words, trimmed, after_word}
-use Rattle.control_text.specs.Commands.{and_read, bug_of, limited_text, who_of_text, some_text, some_who, any_who_of_text, bug_and_text, bug_and_some_text, bug_and_some_who}
+use Rattle.line_words.specs.declared.named.Named.{Named}
+use Rattle.line_words.specs.Bugs.{IsGoodBug}
+use Rattle.line_words.specs.Words.{words, trimmed, after_word}
+use Rattle.command_grammar.specs.Commands.{and_read, read_bug, limited_text, who_of_text, some_text, some_who, optional_who, bug_and_text, bug_and_some_text, bug_and_some_who}
 use Rattle.control_text.specs.WellFormed.{IsPlain, IsAddress}
 use Rattle.control_text.specs.Spelling.{bug_text, who_text, after_spaces}
 use Rattle.control_text.proofs.TextLemmas.{text_parts, text-trimmed}
@@ -32,7 +33,7 @@ who-back text most sender =
     cond-false (bytes_eq text (codes "!")) (Ok Sender) limited (unequal_false text (codes "!") sender)
     ∙ ap (λ r. and_read {B = Who} r (λ t. Ok (Given t))) (limited-back text most)
 
-given-back : (text : List ℕ) → IsText text → ¬ (text ≡ codes "!") → ¬ (text ≡ codes "=") → any_who_of_text text ≡ Ok (Some (Given text))
+given-back : (text : List ℕ) → IsText text → ¬ (text ≡ codes "!") → ¬ (text ≡ codes "=") → optional_who text ≡ Ok (Some (Given text))
 given-back [] good sender nobody = let parts = text_parts [] good in let least = parts.least in absurd (omega arith)
 given-back (c ∷ s) good sender nobody =
     let text = c ∷ s in
@@ -50,7 +51,7 @@ address-back (c ∷ s) good sender = let parts = text_parts (c ∷ s) good in wh
 
 -- what is known of a person who can be written as the submitter of a bug that is opened again
 pub record IsWrittenWho (who : Who) : Type 0 where
-  pub back : any_who_of_text (who_text who) ≡ Ok (Some who)
+  pub back : optional_who (who_text who) ≡ Ok (Some who)
   pub trim : trimmed (who_text who) ≡ who_text who
   pub clean : list_any is_control (who_text who) ≡ false
 
@@ -69,10 +70,10 @@ written_address Sender good address = record { back = refl; trim = refl; clean =
 written_address (Given text) good address = let parts = text_parts text good in record { back = address-back text good address; trim = text-trimmed text good; clean = parts.clean }
 
 -- a bug and the text after it
-pub bug_and_text-back : (arguments n : List ℕ) (more : List (List ℕ)) (bug : Named) → words arguments ≡ n ∷ more → bug_of n ≡ Ok bug → bug_and_text arguments ≡ Ok (bug, trimmed (after_word arguments))
+pub bug_and_text-back : (arguments n : List ℕ) (more : List (List ℕ)) (bug : Named) → words arguments ≡ n ∷ more → read_bug n ≡ Ok bug → bug_and_text arguments ≡ Ok (bug, trimmed (after_word arguments))
 bug_and_text-back arguments n more bug e is =
     let of_bug : Named → Result (Named × List ℕ) Refusal = λ b. Ok (b, trimmed (after_word arguments)) in
-    ap (λ ws. elim ws as (λ _. Result (Named × List ℕ) Refusal) [ [] ↦ Err Malformed | m ∷ rest ↦ and_read (bug_of m) of_bug ]) e
+    ap (λ ws. elim ws as (λ _. Result (Named × List ℕ) Refusal) [ [] ↦ Err Malformed | m ∷ rest ↦ and_read (read_bug m) of_bug ]) e
     ∙ ap (λ r. and_read r of_bug) is
 
 pub bug_and_written-back : (n : Named) (text : List ℕ) → IsGoodBug n → trimmed text ≡ text → bug_and_text (after_spaces (bug_text n ∷ text ∷ [])) ≡ Ok (n, text)

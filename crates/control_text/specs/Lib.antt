@@ -1,8 +1,10 @@
-pub mod Words
-pub mod Numbers
-pub mod Bugs
-pub mod Versions
-pub mod Commands
+pub use Rattle.line_words.specs.Words
+pub use Rattle.line_words.specs.Numbers
+pub use Rattle.line_words.specs.Bugs
+pub use Rattle.command_grammar.specs.CommandWords
+pub use Rattle.command_grammar.specs.Versions
+pub use Rattle.command_grammar.specs.Commands
+pub use Rattle.command_grammar.specs.Reads
 pub mod Lines
 pub mod WellFormed
 pub mod Spelling

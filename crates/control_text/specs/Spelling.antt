@@ -1,6 +1,7 @@
 -- The canonical spelling of a command: its words in lower case, with one space between them. This project's own rule.
 use Rattle.std.specs.Prelude.{ℕ, codes, List, [], ◌∷◌, ◌++◌, map, Option, Some, None}
 use Rattle.std.specs.Fmt.{decimal}
+use Rattle.bug_record.specs.Severities.{severity_name}
 use Rattle.bug_record.specs.Tags.{tag_name}
 use Rattle.bug_record.specs.declared.command.Command.{Command}
 use Rattle.bug_record.specs.declared.command.Command.TheVariants as commands
@@ -9,24 +10,13 @@ use Rattle.bug_record.specs.declared.command.TagStep.TheVariants.{Add, Remove, C
 use Rattle.bug_record.specs.declared.command.VersionArg.{VersionArg}
 use Rattle.bug_record.specs.declared.command.Who.{Who}
 use Rattle.bug_record.specs.declared.command.Who.TheVariants.{Sender, Given}
-use Rattle.bug_record.specs.declared.severity.Severity.{Severity}
-use Rattle.bug_record.specs.declared.severity.Severity.TheVariants as severities
-use Rattle.control_text.specs.declared.named.Named.{Named}
-use Rattle.control_text.specs.declared.named.Named.TheVariants.{Number, Name}
+use Rattle.line_words.specs.declared.named.Named.{Named}
+use Rattle.line_words.specs.declared.named.Named.TheVariants.{Number, Name}
 
 -- a number without `#` and leading zeros; a name with its `-`
 abbrev pub bug_text : Named → List ℕ
 bug_text (Number n) = decimal n
 bug_text (Name k) = 45 ∷ decimal k
-
-abbrev pub severity_text : Severity → List ℕ
-severity_text severities.Critical = codes "critical"
-severity_text severities.Grave = codes "grave"
-severity_text severities.Serious = codes "serious"
-severity_text severities.Important = codes "important"
-severity_text severities.Normal = codes "normal"
-severity_text severities.Minor = codes "minor"
-severity_text severities.Wishlist = codes "wishlist"
 
 -- a version with a source is written `source/version`
 abbrev pub sourced_text : Option (List ℕ) → List ℕ → List ℕ
@@ -69,7 +59,7 @@ spelling (commands.Fixed bug version) = codes "fixed" ++ after_spaces (bug_text 
 spelling (commands.NotFixed bug version) = codes "notfixed" ++ after_spaces (bug_text bug ∷ version_text version ∷ [])
 spelling (commands.Close bug version) = codes "close" ++ after_spaces (bug_text bug ∷ word_if version_text version)
 spelling (commands.Reopen bug who) = codes "reopen" ++ after_spaces (bug_text bug ∷ word_if who_text who)
-spelling (commands.Severity bug severity) = codes "severity" ++ after_spaces (bug_text bug ∷ severity_text severity ∷ [])
+spelling (commands.Severity bug severity) = codes "severity" ++ after_spaces (bug_text bug ∷ severity_name severity ∷ [])
 spelling (commands.Reassign bug package_name version) = codes "reassign" ++ after_spaces (bug_text bug ∷ package_name ∷ word_if version_text version)
 spelling (commands.Tags bug steps) = codes "tags" ++ after_spaces (bug_text bug ∷ step_words steps)
 spelling (commands.Retitle bug text) = codes "retitle" ++ after_spaces (bug_text bug ∷ text ∷ [])

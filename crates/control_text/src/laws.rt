@@ -1,18 +1,12 @@
 //! Laws of the definitions that the contracts of this crate cite. Each body is empty: the contract is the law.
 
-ghost use Rattle.std.specs.Prelude.{◌≡◌, ◌↔◌, ℕ, List, Ok};
-ghost use Rattle.control_text.specs.Words.{words, IsCutInto};
+ghost use Rattle.std.specs.Prelude.{◌≡◌, Ok};
 ghost use Rattle.control_text.specs.Lines.{reading};
 ghost use Rattle.control_text.specs.WellFormed.{IsWellFormed};
 ghost use Rattle.control_text.specs.Spelling.{spelling};
 ghost use Rattle.control_text.specs.declared.line.Line.TheVariants.{Do};
-ghost use Rattle.control_text.specs.declared.named.Named.{Named};
+ghost use Rattle.line_words.specs.declared.named.Named.{Named};
 ghost use Rattle.bug_record.specs.declared.command.Command.{Command};
-
-/// A text is cut into words in just one way.
-pub fn one_list_of_words()
-    ensures { (text : List ℕ) (ws : List (List ℕ)) → IsCutInto text ws ↔ (ws ≡ words text) }
-{}
 
 /// What is written of a well-formed command is read as it.
 pub fn spelling_is_read_back()

@@ -5,13 +5,13 @@ ghost use Rattle.debver.specs.Names.{IsName};
 ghost use Rattle.bug_record.specs.Commands.{IsGoodVersion, IsGoodPerson};
 ghost use Rattle.bug_record.specs.Sets.{Each};
 ghost use Rattle.bug_record.specs.Texts.{IfGiven};
-ghost use Rattle.control_text.specs.Numbers.{IsGoodNumber};
-ghost use Rattle.control_text.specs.Bugs.{IsGoodBug};
+ghost use Rattle.line_words.specs.Numbers.{IsGoodNumber};
+ghost use Rattle.line_words.specs.Bugs.{IsGoodBug};
 ghost use Rattle.control_text.specs.WellFormed.{IsPlain, IsAddress, IsWellFormed};
 
-use crate::named::Named;
 use bug_record::{Command, VersionArg, Who, is_text};
 use debver::{Text, check, check_name};
+use line_words::Named;
 
 fn is_good_number(number: u64) -> bool
     ensures { Decides result (IsGoodNumber number) }
@@ -61,7 +61,7 @@ fn is_good_version(version: &VersionArg) -> bool
     is_good_source(&version.source) && check(version.version.as_str()).is_ok()
 }
 
-fn is_any_good_version(version: &Option<VersionArg>) -> bool
+fn is_good_optional_version(version: &Option<VersionArg>) -> bool
     ensures { Decides result (IfGiven IsGoodVersion version.now) }
 {
     match version {
@@ -84,7 +84,7 @@ fn is_good_who(who: &Who) -> bool
 }
 
 // Somebody, if somebody is given, whose text is a text, and neither `!` nor `=`.
-fn is_any_good_who(who: &Option<Who>) -> bool
+fn is_good_optional_who(who: &Option<Who>) -> bool
     ensures { Decides result (IfGiven IsGoodPerson who.now × IsPlain who.now) }
 {
     match who {
@@ -104,17 +104,17 @@ pub fn well_formed(command: &Command<Named>) -> bool
     ensures { Decides result (IsWellFormed command.now) }
 {
     match command {
-        Command::Found(bug, version) => is_good_bug(*bug) && is_any_good_version(version),
+        Command::Found(bug, version) => is_good_bug(*bug) && is_good_optional_version(version),
         Command::NotFound(bug, version) => is_good_bug(*bug) && is_good_version(version),
         Command::Fixed(bug, version) => is_good_bug(*bug) && is_good_version(version),
         Command::NotFixed(bug, version) => is_good_bug(*bug) && is_good_version(version),
-        Command::Close(bug, version) => is_good_bug(*bug) && is_any_good_version(version),
-        Command::Reopen(bug, who) => is_good_bug(*bug) && is_any_good_who(who),
+        Command::Close(bug, version) => is_good_bug(*bug) && is_good_optional_version(version),
+        Command::Reopen(bug, who) => is_good_bug(*bug) && is_good_optional_who(who),
         Command::Severity(bug, _) => is_good_bug(*bug),
         Command::Reassign(bug, package, version) => {
             is_good_bug(*bug)
                 && check_name(package.as_str()).is_ok()
-                && is_any_good_version(version)
+                && is_good_optional_version(version)
         }
         Command::Tags(bug, _) => is_good_bug(*bug),
         Command::Retitle(bug, text) => is_good_bug(*bug) && is_text(text.as_str()),

@@ -1,15 +1,15 @@
 //! A line of a control message.
 
 ghost use Rattle.std.specs.Prelude.{◌≡◌, ◌∷◌, IfOk};
-ghost use Rattle.control_text.specs.Words.{words};
-ghost use Rattle.control_text.specs.Lines.{begins_hash, is_stop_word, is_stop, reading, Reads};
+ghost use Rattle.line_words.specs.Words.{words};
+ghost use Rattle.command_grammar.specs.Reads.{Reads};
+ghost use Rattle.control_text.specs.Lines.{begins_hash, is_stop_word, is_stop_line, reading};
 ghost use Rattle.control_text.specs.WellFormed.{IsWellFormedLine};
 
-use crate::commands::{command_word, read_command};
-use crate::named::Named;
-use crate::words::{has_control, next_word, split_word};
-use bug_record::{Command, Refusal, is_word};
-use std::alloc::{AllocError, Global};
+use bug_record::{Command, Refusal};
+use command_grammar::{CommandWord, LineFault, read_command};
+use line_words::{Named, has_control, is_word, next_word, split_word};
+use std::alloc::Global;
 
 /// What a line says.
 #[derive(Debug, PartialEq, Eq, Drop)]
@@ -22,15 +22,6 @@ pub enum Line {
     Stop,
     /// A command.
     Do(Command<Named>),
-}
-
-/// Why a line gives nothing.
-#[derive(Clone, Copy, Debug, PartialEq, Eq, Drop)]
-pub enum LineFault {
-    /// The line is refused.
-    Refused(Refusal),
-    /// There was no memory.
-    Memory,
 }
 
 fn begins_hash(word: &str) -> bool
@@ -50,20 +41,9 @@ fn is_stop_word(word: &str) -> bool
         || is_word(word, "--")
 }
 
-impl From<AllocError> for LineFault {
-    ghost use Rattle.std.specs.Prelude.{◌≡◌};
-    ghost use Rattle.control_text.specs.declared.line.LineFault.TheVariants.{Memory};
-
-    ghost from_gives = { λ _ e. e ≡ Memory };
-
-    fn from(_error: AllocError) -> LineFault {
-        LineFault::Memory
-    }
-}
-
 // Whether the first word and the text after it are a stop.
-fn is_stop(word: &str, rest: &str) -> bool
-    ensures { result ≡ is_stop (word.now ∷ words rest.now) }
+fn is_stop_line(word: &str, rest: &str) -> bool
+    ensures { result ≡ is_stop_line (word.now ∷ words rest.now) }
 {
     let Some((second, rest)) = split_word(rest) else {
         return is_stop_word(word);
@@ -93,10 +73,10 @@ pub fn read_line(alloc: Global, text: &str) -> Result<Line, LineFault>
     if begins_hash(word) {
         return Ok(Line::Comment);
     }
-    if is_stop(word, rest) {
+    if is_stop_line(word, rest) {
         return Ok(Line::Stop);
     }
-    let Some(command) = command_word(word) else {
+    let Some(command) = CommandWord::read(word) else {
         return Err(LineFault::Refused(Refusal::Unknown));
     };
     if has_control(text) {

@@ -1,26 +1,12 @@
 //! The canonical spelling of commands.
 
 ghost use Rattle.std.specs.Prelude.{◌≡◌, ◌∷◌, [], ◌++◌, map, IfOk, OnOk, string_bytes, codes};
-ghost use Rattle.control_text.specs.Spelling.{bug_text, severity_text, version_text, who_text, step_text, step_words, word_if, after_spaces, spelling};
+ghost use Rattle.control_text.specs.Spelling.{bug_text, version_text, who_text, step_text, step_words, word_if, after_spaces, spelling};
 ghost use Rattle.control_text.specs.WellFormed.{IsWellFormed};
 
-use crate::named::Named;
-use bug_record::{Command, Severity, TagStep, VersionArg, Who};
+use bug_record::{Command, TagStep, VersionArg, Who};
+use line_words::Named;
 use std::alloc::{AllocError, Global};
-
-fn severity_text(severity: Severity) -> &'static str
-    ensures { result.now ≡ severity_text severity }
-{
-    match severity {
-        Severity::Critical => "critical",
-        Severity::Grave => "grave",
-        Severity::Serious => "serious",
-        Severity::Important => "important",
-        Severity::Normal => "normal",
-        Severity::Minor => "minor",
-        Severity::Wishlist => "wishlist",
-    }
-}
 
 fn bug_text(alloc: Global, bug: Named) -> Result<String, AllocError>
     ensures { IfOk result (λ s. string_bytes s ≡ bug_text bug) }
@@ -93,7 +79,7 @@ fn with_version(
 }
 
 // The same with a version, if there is one.
-fn with_any_version(
+fn with_optional_version(
     alloc: Global,
     word: &str,
     bug: Named,
@@ -201,15 +187,13 @@ pub fn write_command(alloc: Global, command: &Command<Named>) -> Result<String, 
     ensures { IfOk result (λ s. string_bytes s ≡ spelling command.now) }
 {
     match command {
-        Command::Found(bug, version) => with_any_version(alloc, "found", *bug, version),
+        Command::Found(bug, version) => with_optional_version(alloc, "found", *bug, version),
         Command::NotFound(bug, version) => with_version(alloc, "notfound", *bug, version),
         Command::Fixed(bug, version) => with_version(alloc, "fixed", *bug, version),
         Command::NotFixed(bug, version) => with_version(alloc, "notfixed", *bug, version),
-        Command::Close(bug, version) => with_any_version(alloc, "close", *bug, version),
+        Command::Close(bug, version) => with_optional_version(alloc, "close", *bug, version),
         Command::Reopen(bug, who) => reopen(alloc, *bug, who),
-        Command::Severity(bug, severity) => {
-            with_text(alloc, "severity", *bug, severity_text(*severity))
-        }
+        Command::Severity(bug, severity) => { with_text(alloc, "severity", *bug, severity.name()) }
         Command::Reassign(bug, package, version) => {
             reassign(alloc, *bug, package.as_str(), version)
         }

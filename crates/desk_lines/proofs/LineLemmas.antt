@@ -3,6 +3,7 @@ use Rattle.std.proofs.Common.{◌≡◌, ◌≢◌, ℕ, ◌<◌, ◌≤◌, Lis
 use Rattle.std.specs.Prelude.{if◌then◌else◌}
 use Rattle.std.specs.List.{list_any, onto_first, slice_split}
 use Rattle.std.proofs.lemmas.List.{get_or_default}
+use Rattle.std.proofs.lemmas.List.Elements.{All-cons}
 use Rattle.std.proofs.lemmas.List.Folds.{list_any_none}
 use Rattle.std.proofs.lemmas.Bool.{ne_eqb, eqb-true, or_parts}
 use Rattle.std.proofs.lemmas.List.Splits.{length-slice_split, slice_split_at, slice_split_none, slice_split-cons_yes, slice_split-cons_no}
@@ -13,8 +14,8 @@ pub no_feed : (s : List ℕ) → ((i : ℕ) → i < length s → get_or s i 0 �
 no_feed s h = list_any_none is_feed s (λ k d l. ap is_feed (get_or_default s k d 0 l) ∙ ne_eqb (get_or s k 0) 10 (h k l))
 
 all_others : (s : List ℕ) → list_any is_feed s ≡ false → All (λ c. is_feed c ≡ false) s
-all_others [] h = tt
-all_others (c ∷ s) h = let p = or_parts (is_feed c) (list_any is_feed s) h in (p.0, all_others s p.1)
+all_others [] h = λ k d l. absurd (omega arith)
+all_others (c ∷ s) h = let p = or_parts (is_feed c) (list_any is_feed s) h in All-cons (λ x. is_feed x ≡ false) c s p.0 (all_others s p.1)
 
 -- a piece that isn't the last one is a line
 not_last : (piece : List ℕ) (pieces : List (List ℕ)) → 1 ≤ length pieces → without_empty_last (piece ∷ pieces) ≡ piece ∷ without_empty_last pieces

@@ -10,8 +10,8 @@ use Rattle.bug_record.specs.declared.command.Command.{Command}
 use Rattle.bug_record.specs.declared.command.Refusal.{Refusal}
 use Rattle.bug_record.specs.declared.command.Refusal.TheVariants.{Unknown, Malformed, NoName, NoBug}
 use Rattle.control_text.specs.Lines.{reading}
-use Rattle.control_text.specs.declared.named.Named.{Named}
-use Rattle.control_text.specs.declared.named.Named.TheVariants.{Number, Name}
+use Rattle.line_words.specs.declared.named.Named.{Named}
+use Rattle.line_words.specs.declared.named.Named.TheVariants.{Number, Name}
 use Rattle.control_text.specs.declared.line.Line.{Line}
 use Rattle.control_text.specs.declared.line.Line.TheVariants.{Blank, Comment, Stop, Do}
 use Rattle.desk_text.specs.declared.outcome.Outcome.{Outcome}

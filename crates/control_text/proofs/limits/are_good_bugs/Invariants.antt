@@ -1,6 +1,6 @@
 use Rattle.std.proofs.Common.{drop}
 use Rattle.bug_record.specs.Sets.{Each}
-use Rattle.control_text.specs.Bugs.{IsGoodBug}
+use Rattle.line_words.specs.Bugs.{IsGoodBug}
 use Rattle.control_text.proofs.limits.are_good_bugs.Given as goal
 
 abbrev pub invariant-loop-bug : goal.invariant-loop-bug

@@ -1,10 +1,10 @@
 use Rattle.std.proofs.Common.{List, ℕ, false, ◌≡◌, sym, ◌∙◌, subst, Result}
 use Rattle.std.specs.Prelude.{IfOk}
 use Rattle.std.specs.List.{list_any}
-use Rattle.bug_record.specs.Texts.{is_control}
+use Rattle.line_words.specs.Blanks.{is_control}
 use Rattle.bug_record.specs.declared.command.Command.{Command}
 use Rattle.bug_record.specs.declared.command.Refusal.{Refusal}
-use Rattle.control_text.specs.declared.named.Named.{Named}
+use Rattle.line_words.specs.declared.named.Named.{Named}
 use Rattle.control_text.specs.WellFormed.{IsWellFormed}
 use Rattle.control_text.proofs.ReadingLemmas.{command_of-good, clean_after_word}
 use Rattle.control_text.proofs.line.read_line.Goals as goal
