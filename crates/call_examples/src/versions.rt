@@ -1,5 +1,7 @@
 //! Versions, their order, and package names.
 
+ghost use Rattle.std.specs.Prelude.{◌≤◌, length};
+
 use debver::{Parts, check, check_name, order, total};
 use std::alloc::{AllocError, Global};
 use std::cmp::Ordering;
@@ -33,11 +35,15 @@ pub(crate) fn name_answer(alloc: Global, text: &str) -> Result<String, AllocErro
 }
 
 // Where a version belongs among versions in total order.
-fn place_for(sorted: &[Parts<'_>], parts: &Parts<'_>) -> usize {
-    sorted
-        .iter()
-        .position(|other| total(parts, other) == Ordering::Less)
-        .unwrap_or(sorted.len())
+fn place_for(sorted: &[Parts<'_>], parts: &Parts<'_>) -> usize
+    ensures { result ≤ length sorted.now }
+{
+    for (place, other) in sorted.iter().enumerate() {
+        if total(parts, other) == Ordering::Less {
+            return place;
+        }
+    }
+    sorted.len()
 }
 
 // How a version compares with the next one.

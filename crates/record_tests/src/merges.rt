@@ -1,7 +1,6 @@
 //! The plan of a merge, as a call.
 
 ghost use Rattle.std.specs.Prelude.{◌≡◌, [], ◌∷◌, IfOk};
-ghost use Rattle.bug_record.specs.Commands.{HasGoodParts};
 ghost use Rattle.bug_record.specs.Images.{numbers_of, AreApart};
 
 use bug_core::{changed, plan};
