@@ -3,6 +3,5 @@ pub mod NodeLaws
 pub mod Trees
 pub mod Branches
 pub mod Statuses
-
 -- definitions that only private functions cite
 pub mod Changes

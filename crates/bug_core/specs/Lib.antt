@@ -1,5 +1,4 @@
 pub mod Planned
-
 -- definitions that only private functions cite
 pub mod Others
 pub mod Numbers

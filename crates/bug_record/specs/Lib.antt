@@ -14,6 +14,5 @@ pub mod Steps
 pub mod Images
 pub mod Plans
 pub mod Changed
-
 -- definitions that only private functions cite
 pub mod Places

@@ -7,6 +7,5 @@ pub mod Keys
 pub mod Versions
 pub mod KeyLaws
 pub mod OrderLaws
-
 -- definitions that only private functions cite
 pub mod Walk

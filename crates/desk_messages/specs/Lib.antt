@@ -1,6 +1,5 @@
 pub mod Transcripts
 pub mod Reports
-
 -- definitions that only private functions cite
 pub mod Commands
 pub mod Images

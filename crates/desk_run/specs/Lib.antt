@@ -3,7 +3,6 @@ pub use Rattle.desk_messages.specs.Reports
 pub mod Branches
 pub mod Script
 pub mod Running
-
 -- definitions that only private functions cite
 pub mod Directives
 pub mod Gathering

@@ -8,6 +8,6 @@ mod directive;
 mod script;
 
 pub use desk_lines::ScriptFault;
-pub use desk_messages::{ReportFault, Received, receive, received_text, report};
+pub use desk_messages::{Received, ReportFault, receive, received_text, report};
 pub use desk_store::{FailAt, PlainDesk, Records};
 pub use script::{ScriptEnd, run_script};

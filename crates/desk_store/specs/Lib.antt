@@ -2,6 +2,5 @@ pub mod Store
 pub mod Plain
 pub mod FailAt
 pub mod Message
-
 -- definitions that only private functions cite
 pub mod Rows
