@@ -6,7 +6,8 @@ use Rattle.std.proofs.lemmas.Bool.{eqb-true, eq-eqb}
 use Rattle.ancestry.specs.Nodes.{Node, node_cmp, same_node}
 use Rattle.bug_record.specs.Sets.{has}
 use Rattle.bug_record.specs.Tags.{tag_place, same_tag, has_tag, with_tag, IsTagSet}
-use Rattle.bug_record.specs.Marks.{with_node, has_node, node_set}
+use Rattle.bug_record.specs.Marks.{with_node, node_set}
+use Rattle.ancestry.specs.Trees.{has_node}
 use Rattle.bug_record.specs.Bugs.{bugs_at, all_of}
 use Rattle.bug_record.specs.Merges.{first_owner, joined_tags, joined_shared}
 use Rattle.bug_record.specs.Images.{bug_of, bug_in, AreApart}

@@ -7,7 +7,7 @@ use Rattle.std.proofs.lemmas.Bool.{false≢true, eqb-true, eq-eqb, and_parts, fa
 use Rattle.bug_record.specs.Sets.{has, IsAscending}
 use Rattle.bug_record.specs.Desk.{Desk, IsSound}
 use Rattle.bug_record.specs.Bugs.{at_bug}
-use Rattle.bug_record.specs.Merges.{parted, rest_of, taken_out, unmerged}
+use Rattle.bug_record.specs.Merges.{parted, others_merged, taken_out, unmerged}
 use Rattle.bug_record.specs.Images.{numbers_of, member_at, bug_of, bug_in, AreApart, AreSetsOf}
 use Rattle.bug_record.specs.declared.bug.Bug.{Bug}
 use Rattle.bug_record.specs.declared.bug.Member.{Member}
@@ -38,10 +38,10 @@ numbers-own n (x ∷ ms) =
     elim (eqb x.number n) as (λ t. numbers_of (cond t (x ∷ filter (is_part true n) ms) (filter (is_part true n) ms)) ≡ cond t (x.number ∷ filter (λ m. m == n) (numbers_of ms)) (filter (λ m. m == n) (numbers_of ms)))
     [ true ↦ ap (λ ns. x.number ∷ ns) (numbers-own n ms) | false ↦ numbers-own n ms ]
 
-pub numbers-rest : (n : ℕ) (ms : List Member) → numbers_of (filter (is_part false n) ms) ≡ rest_of n (numbers_of ms)
+pub numbers-rest : (n : ℕ) (ms : List Member) → numbers_of (filter (is_part false n) ms) ≡ others_merged n (numbers_of ms)
 numbers-rest n [] = refl
 numbers-rest n (x ∷ ms) =
-    elim (not (eqb x.number n)) as (λ t. numbers_of (cond t (x ∷ filter (is_part false n) ms) (filter (is_part false n) ms)) ≡ cond t (x.number ∷ rest_of n (numbers_of ms)) (rest_of n (numbers_of ms)))
+    elim (not (eqb x.number n)) as (λ t. numbers_of (cond t (x ∷ filter (is_part false n) ms) (filter (is_part false n) ms)) ≡ cond t (x.number ∷ others_merged n (numbers_of ms)) (others_merged n (numbers_of ms)))
     [ true ↦ ap (λ ns. x.number ∷ ns) (numbers-rest n ms) | false ↦ numbers-rest n ms ]
 
 either : (t : Bool) (o : Option Member) → o ≡ cond t o o
@@ -131,14 +131,14 @@ own-alone n xs a h = same-ascending (filter (λ m. m == n) xs) (n ∷ []) (IsAsc
 abbrev pub bug_parted : ℕ → List ℕ → ℕ → Bug → Bug
 bug_parted n rest m b = record b { merged = cond (eqb m n) (n ∷ []) (cond (has rest m) rest b.merged) }
 
-pub parts-make : (d : Desk) (is : List SetImage) (n : ℕ) (i : SetImage) → IsSound d → AreSetsOf d is → AreApart is → image_with is n ≡ Some i → Makes d is (n ∷ []) (parts i n) (bug_parted n (rest_of n (numbers_of i.members)))
+pub parts-make : (d : Desk) (is : List SetImage) (n : ℕ) (i : SetImage) → IsSound d → AreSetsOf d is → AreApart is → image_with is n ≡ Some i → Makes d is (n ∷ []) (parts i n) (bug_parted n (others_merged n (numbers_of i.members)))
 parts-make d is n i sound sets a h = record {
   inside = λ m b q k. let own = image_with-bug is n m i b a h q (sym (one_of b.merged n) ∙ k) in inside m own.0 own.1 (eqb m n) refl ∙ ap (λ (z : Bug). Some (bug_parted n rest m z)) (sym own.2);
   elsewhere = λ m b e k. elsewhere m b e (sym (one_of b.merged n) ∙ k);
 }
   where
     rest : List ℕ
-    rest = rest_of n (numbers_of i.members)
+    rest = others_merged n (numbers_of i.members)
 
     named : (x : Member) × (bug_in is n ≡ Some (bug_of i x))
     named = image_with-shows is n i h
@@ -170,7 +170,7 @@ parts-make d is n i sound sets a h = record {
     elsewhere m b e k = λ j. record b { merged = cond (not_named m b e k j) (n ∷ []) (cond (not_rest m b e k j) rest b.merged) }
 
 -- the desk stays sound
-pub sound-parted : (d : Desk) (n : ℕ) (b : Bug) → IsSound d → d.bug n ≡ Some b → IsSound (parted d n (rest_of n b.merged))
+pub sound-parted : (d : Desk) (n : ℕ) (b : Bug) → IsSound d → d.bug n ≡ Some b → IsSound (parted d n (others_merged n b.merged))
 sound-parted d n b sound here = sound-each_bug d (bug_parted n rest) sound (record {
   own = λ m c e. own m c e (eqb m n) refl (has rest m) refl;
   ascending = λ m c e. ascending m c e (eqb m n) (has rest m);
@@ -179,7 +179,7 @@ sound-parted d n b sound here = sound-each_bug d (bug_parted n rest) sound (reco
 })
   where
     rest : List ℕ
-    rest = rest_of n b.merged
+    rest = others_merged n b.merged
 
     in_rest : (m : ℕ) → has rest m ≡ true → (has b.merged m ≡ true) × (not (eqb m n) ≡ true)
     in_rest m q = and_parts (has b.merged m) (not (eqb m n)) (sym (has-filter (λ m. not (m == n)) b.merged m) ∙ q)
@@ -237,17 +237,17 @@ taken-some : (d : Desk) (n : ℕ) (rest : List ℕ) → (rest ≡ [] → ⊥) �
 taken-some d n [] some = absurd (some refl)
 taken-some d n (m ∷ rest) some = refl
 
-steps-unmerge : (is : List SetImage) (next n : ℕ) (i : SetImage) → image_with is n ≡ Some i → Steps (n ∷ []) (λ d. unmerged d n) is next (λ d. taken_out d n (rest_of n (numbers_of i.members)))
+steps-unmerge : (is : List SetImage) (next n : ℕ) (i : SetImage) → image_with is n ≡ Some i → Steps (n ∷ []) (λ d. unmerged d n) is next (λ d. taken_out d n (others_merged n (numbers_of i.members)))
 steps-unmerge is next n i h d e k =
     let b = image_with-shows is n i h in
-    ap (λ (o : Option Bug). at_bug o n (λ b. taken_out d n (rest_of n b.merged))) (sym k.0 ∙ b.1)
+    ap (λ (o : Option Bug). at_bug o n (λ b. taken_out d n (others_merged n b.merged))) (sym k.0 ∙ b.1)
 
 pub unmerge-no_bug : (is : List SetImage) (next n : ℕ) → image_with is n ≡ None → IsPlanned (n ∷ []) (λ d. unmerged d n) is next (Err (Refused (NoBug n)))
-unmerge-no_bug is next n h = planned-refused (n ∷ []) (λ d. unmerged d n) is next (NoBug n) (λ d e k. ap (λ (o : Option Bug). at_bug o n (λ b. taken_out d n (rest_of n b.merged))) (sym k.0 ∙ image_with-none is n h))
+unmerge-no_bug is next n h = planned-refused (n ∷ []) (λ d. unmerged d n) is next (NoBug n) (λ d e k. ap (λ (o : Option Bug). at_bug o n (λ b. taken_out d n (others_merged n b.merged))) (sym k.0 ∙ image_with-none is n h))
 
 pub unmerge-alone : (is : List SetImage) (next n : ℕ) (i : SetImage) → image_with is n ≡ Some i → (part_of i false n).members ≡ [] → IsPlanned (n ∷ []) (λ d. unmerged d n) is next (Err (Refused (NotMerged n)))
 unmerge-alone is next n i h none =
-    planned-refused (n ∷ []) (λ d. unmerged d n) is next (NotMerged n) (λ d e k. steps-unmerge is next n i h d e k ∙ taken-none d n (rest_of n (numbers_of i.members)) (sym (numbers-rest n i.members) ∙ ap numbers_of none))
+    planned-refused (n ∷ []) (λ d. unmerged d n) is next (NotMerged n) (λ d e k. steps-unmerge is next n i h d e k ∙ taken-none d n (others_merged n (numbers_of i.members)) (sym (numbers-rest n i.members) ∙ ap numbers_of none))
 
 no_numbers : (ms : List Member) → numbers_of ms ≡ [] → ms ≡ []
 no_numbers [] e = refl
@@ -259,9 +259,9 @@ no_numbers (m ∷ ms) e = absurd (cons_nil m.number (numbers_of ms) e)
 pub unmerge-done : (is : List SetImage) (next n : ℕ) (i : SetImage) → AreApart is → image_with is n ≡ Some i → ((part_of i false n).members ≡ [] → ⊥)
     → (change : Change) → change.images ≡ parts i n ++ others (n ∷ []) is → change.next ≡ next → IsPlanned (n ∷ []) (λ d. unmerged d n) is next (Ok change)
 unmerge-done is next n i a h some =
-    planned-replaced (n ∷ []) (λ d. unmerged d n) is next (n ∷ []) (parts i n) (bug_parted n (rest_of n (numbers_of i.members))) a
+    planned-replaced (n ∷ []) (λ d. unmerged d n) is next (n ∷ []) (parts i n) (bug_parted n (others_merged n (numbers_of i.members))) a
     (parts-take_place is n i a h some)
     (λ d k. k)
-    (λ d e k. steps-unmerge is next n i h d e k ∙ taken-some d n (rest_of n (numbers_of i.members)) (λ q. some (no_numbers (part_of i false n).members (numbers-rest n i.members ∙ q))))
+    (λ d e k. steps-unmerge is next n i h d e k ∙ taken-some d n (others_merged n (numbers_of i.members)) (λ q. some (no_numbers (part_of i false n).members (numbers-rest n i.members ∙ q))))
     (λ d sh. parts-make d is n i sh.sound sh.sets a h)
     (λ d sh. let b = image_with-shows is n i h in sound-parted d n (bug_of i b.0) sh.sound (shown d is sh.sets n (bug_of i b.0) b.1))

@@ -12,7 +12,8 @@ use Rattle.ancestry.specs.Nodes.{Node, IsNode, same_node, node_cmp}
 use Rattle.ancestry.specs.NodeLaws.{same_node_equiv, node_cmp_total, node_ties}
 use Rattle.ancestry.proofs.NodeLemmas.{same_true, same_itself}
 use Rattle.bug_record.specs.Sets.{Each}
-use Rattle.bug_record.specs.Marks.{IsNodeSet, with_node, node_set, has_node, without_node}
+use Rattle.bug_record.specs.Marks.{IsNodeSet, with_node, node_set, without_node}
+use Rattle.ancestry.specs.Trees.{has_node}
 
 -- nodes above k
 abbrev AllAfter : Node → List Node → Type 0

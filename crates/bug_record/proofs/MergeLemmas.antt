@@ -3,7 +3,8 @@ use Rattle.std.proofs.Common.{◌≡◌, ℕ, ◌||◌, List, [], ◌∷◌, ref
 use Rattle.std.specs.List.{list_any}
 use Rattle.ancestry.specs.Nodes.{Node}
 use Rattle.bug_record.specs.Sets.{has}
-use Rattle.bug_record.specs.Marks.{has_node, node_set}
+use Rattle.bug_record.specs.Marks.{node_set}
+use Rattle.ancestry.specs.Trees.{has_node}
 use Rattle.bug_record.specs.Bugs.{all_of}
 use Rattle.bug_record.specs.Merges.{all_merged}
 use Rattle.bug_record.specs.declared.bug.Bug.{Bug}

@@ -22,9 +22,6 @@ abbrev pub node_set : List Node → List Node
 node_set [] = []
 node_set (n ∷ nodes) = with_node (node_set nodes) n
 
-abbrev pub has_node : List Node → Node → Bool
-has_node nodes n = list_any (same_node n) nodes
-
 -- the set without n
 abbrev pub without_node : List Node → Node → List Node
 without_node nodes n = filter (λ m. not (same_node n m)) nodes

@@ -60,8 +60,8 @@ abbrev pub parted : Desk → ℕ → List ℕ → Desk
 parted d n rest = each_bug d (λ m b. record b { merged = if m == n then n ∷ [] else if has rest m then rest else b.merged })
 
 -- the other numbers of a set
-abbrev pub rest_of : ℕ → List ℕ → List ℕ
-rest_of n merged = filter (λ m. not (m == n)) merged
+abbrev pub others_merged : ℕ → List ℕ → List ℕ
+others_merged n merged = filter (λ m. not (m == n)) merged
 
 -- a bug that is merged with no other can't be taken out
 abbrev pub taken_out : Desk → ℕ → List ℕ → Result Desk Refusal
@@ -70,4 +70,4 @@ taken_out d n (m ∷ rest) = Ok (parted d n (m ∷ rest))
 
 -- The bug is taken out of its set. No field changes.
 abbrev pub unmerged : Desk → ℕ → Result Desk Refusal
-unmerged d n = at_bug (d.bug n) n (λ b. taken_out d n (rest_of n b.merged))
+unmerged d n = at_bug (d.bug n) n (λ b. taken_out d n (others_merged n b.merged))

@@ -1,5 +1,6 @@
 pub mod TextLemmas
 pub mod ReadingLemmas
+pub mod RefusalLemmas
 pub mod PlainWords
 pub mod SpacedLemmas
 pub mod SpellingLemmas

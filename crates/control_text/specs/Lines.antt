@@ -1,12 +1,12 @@
 -- The lines of a control message (the BTS page 'control and manipulation').
-use Rattle.std.specs.Prelude.{ℕ, ◌==◌, ◌&&◌, ◌||◌, codes, if◌then◌else◌, Bool, false, List, [], ◌∷◌, Option, Some, None, Result, Ok, Err}
+use Rattle.std.specs.Prelude.{ℕ, ◌==◌, ◌&&◌, ◌||◌, codes, if◌then◌else◌, Bool, false, List, [], ◌∷◌, Option, Some, None, IsSome, Result, Ok, Err, ⊤}
 use Rattle.std.specs.List.{list_any}
 use Rattle.line_words.specs.Blanks.{is_control}
 use Rattle.line_words.specs.AnyCase.{is_word}
 use Rattle.bug_record.specs.declared.command.Command.{Command}
 use Rattle.bug_record.specs.declared.command.Refusal.{Refusal}
-use Rattle.bug_record.specs.declared.command.Refusal.TheVariants.{Unknown, Malformed}
-use Rattle.line_words.specs.Words.{words, after_word}
+use Rattle.bug_record.specs.declared.command.Refusal.TheVariants.{Unknown, Malformed, TooLong, BadSeverity, BadTag, BadVersion, BadPackage, NoName, NoBug, Differ, NotMerged}
+use Rattle.line_words.specs.Words.{words, first_word, after_word}
 use Rattle.command_grammar.specs.CommandWords.{command_word}
 use Rattle.command_grammar.specs.Commands.{command_of}
 use Rattle.command_grammar.specs.declared.command_word.CommandWord.{CommandWord}
@@ -56,3 +56,21 @@ reading_of_words text (word ∷ arguments) =
 -- The line, or the refusal, that a text gives: every text gives just one.
 unfoldable pub reading : List ℕ → Result Line Refusal
 reading text = reading_of_words text (words text)
+
+-- the refusals of a line, which need no desk
+abbrev pub IsRefusalOfLine : Refusal → Type 0
+IsRefusalOfLine Unknown = ⊤
+IsRefusalOfLine Malformed = ⊤
+IsRefusalOfLine TooLong = ⊤
+IsRefusalOfLine BadSeverity = ⊤
+IsRefusalOfLine BadTag = ⊤
+IsRefusalOfLine BadVersion = ⊤
+IsRefusalOfLine BadPackage = ⊤
+IsRefusalOfLine (NoName k) = ⊥
+IsRefusalOfLine (NoBug n) = ⊥
+IsRefusalOfLine (Differ field n) = ⊥
+IsRefusalOfLine (NotMerged n) = ⊥
+
+-- the line's first word is a command
+abbrev pub BeginsWithCommand : List ℕ → Type 0
+BeginsWithCommand text = IsSome (command_word (first_word text))

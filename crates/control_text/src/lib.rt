@@ -8,7 +8,7 @@ mod line;
 mod spelling;
 
 pub use command_grammar::LineFault;
-pub use laws::spelling_is_read_back;
+pub use laws::{refusals_of_lines, spelling_is_read_back};
 pub use limits::well_formed;
 pub use line::{Line, read_line};
 pub use line_words::{Named, next_word, number_word, trim};

@@ -1,9 +1,9 @@
 //! A line of a control message.
 
-ghost use Rattle.std.specs.Prelude.{◌≡◌, ◌∷◌, IfOk};
+ghost use Rattle.std.specs.Prelude.{◌≡◌, ◌∷◌, IfOk, IfErr};
 ghost use Rattle.line_words.specs.Words.{words};
 ghost use Rattle.command_grammar.specs.Reads.{Reads};
-ghost use Rattle.control_text.specs.Lines.{begins_hash, is_stop_word, is_stop_line, reading};
+ghost use Rattle.control_text.specs.Lines.{begins_hash, is_stop_word, is_stop_line, reading, BeginsWithCommand};
 ghost use Rattle.control_text.specs.WellFormed.{IsWellFormedLine};
 
 use bug_record::{Command, Refusal};
@@ -60,11 +60,13 @@ fn is_stop_line(word: &str, rest: &str) -> bool
 /// # Errors
 ///
 /// `Refused` with the refusal that the line has, of those that need no desk: `Unknown`, `Malformed`, `TooLong`,
-/// `BadSeverity`, `BadTag`, `BadVersion`, `BadPackage`. `Memory` where there was none.
+/// `BadSeverity`, `BadTag`, `BadVersion`, `BadPackage`. `Memory` where there was none, which a line asks for only where its
+/// first word is a command.
 #[tactic(auto, unfolding(crate::specs::Lines::reading))]
 pub fn read_line(alloc: Global, text: &str) -> Result<Line, LineFault>
     ensures exact { Reads (reading text.now) result }
     ensures well_formed { IfOk result IsWellFormedLine }
+    ensures memory { IfErr result (λ fault. fault ≡ LineFault.Memory → BeginsWithCommand text.now) }
 {
     let (word, rest) = next_word(text);
     if word.is_empty() {

@@ -15,7 +15,7 @@ use Rattle.desk_text.specs.declared.outcome.StoreFault.{StoreFault}
 use Rattle.desk_text.specs.declared.outcome.StoreFault.TheVariants as faults
 use Rattle.desk_text.specs.Texts.{fault_text}
 use Rattle.desk_store.specs.Store.{Branches, faults_after}
-use Rattle.desk_run.specs.Branches.{BranchRefusal, BadNode, with_node, nodes_of, or_refused, branched_by, branch_of, AreRead}
+use Rattle.desk_run.specs.Branches.{BranchRefusal, BadNode, node_before, nodes_of, or_refused, branched_by, branch_of, AreRead}
 use Rattle.desk_run.specs.Script.{DirectiveLine, Branch, Standing, standing, part_text, part_after, directive_of, branch_text, after_branch}
 use Rattle.desk_run.specs.Running.{AsksStore, FaultsIn, IsCarried}
 use Rattle.desk_run.specs.Answers.{branch_answer, refuses_branch, fault_of_branch}
@@ -91,16 +91,16 @@ branch_count (Err told) fault n f = faults_same told fault n (same_Some told fau
 -- the nodes of words, after others
 pub nodes-more : (word : List ℕ) (words : List (List ℕ)) (n : Node) (before : List Node) → node_of_text word ≡ Some n
     → option_map (λ nodes. before ++ nodes) (nodes_of (word ∷ words)) ≡ option_map (λ nodes. (before ++ n ∷ []) ++ nodes) (nodes_of words)
-nodes-more word words n before e = ap (λ (o : Option Node). option_map (λ nodes. before ++ nodes) (with_node o (nodes_of words))) e ∙ rest (nodes_of words)
+nodes-more word words n before e = ap (λ (o : Option Node). option_map (λ nodes. before ++ nodes) (node_before o (nodes_of words))) e ∙ rest (nodes_of words)
   where
-    rest : (o : Option (List Node)) → option_map (λ nodes. before ++ nodes) (with_node (Some n) o) ≡ option_map (λ nodes. (before ++ n ∷ []) ++ nodes) o
+    rest : (o : Option (List Node)) → option_map (λ nodes. before ++ nodes) (node_before (Some n) o) ≡ option_map (λ nodes. (before ++ n ∷ []) ++ nodes) o
     rest None = refl
     rest (Some nodes) = ap Some (sym (append_assoc before (n ∷ []) nodes))
 
 pub nodes-none : (word : List ℕ) (words : List (List ℕ)) (before : List Node) → node_of_text word ≡ None → option_map (λ nodes. before ++ nodes) (nodes_of (word ∷ words)) ≡ None
-nodes-none word words before e = ap (λ (o : Option Node). option_map (λ nodes. before ++ nodes) (with_node o (nodes_of words))) e ∙ rest (nodes_of words)
+nodes-none word words before e = ap (λ (o : Option Node). option_map (λ nodes. before ++ nodes) (node_before o (nodes_of words))) e ∙ rest (nodes_of words)
   where
-    rest : (o : Option (List Node)) → option_map (λ nodes. before ++ nodes) (with_node None o) ≡ None
+    rest : (o : Option (List Node)) → option_map (λ nodes. before ++ nodes) (node_before None o) ≡ None
     rest None = refl
     rest (Some nodes) = refl
 

@@ -2,7 +2,7 @@
 use Rattle.std.proofs.Common.{◌≡◌, ℕ, Bool, true, false, List, [], ◌∷◌, ◌++◌, sym, ◌∙◌, ap, subst, refl, append_assoc, append-nil, Option, Result, Ok, Err}
 use Rattle.std.specs.Io.KnownBytes.{Appends}
 use Rattle.bug_record.specs.Desk.{Desk}
-use Rattle.desk_run.specs.Script.{Part, Message, DirectiveLine, Standing, part_text, part_after, text_of, after_parts, parts_of, with_line, is_directive, end_of_script}
+use Rattle.desk_run.specs.Script.{Part, Message, DirectiveLine, Standing, part_text, part_after, text_of, after_parts, parts_of_lines, with_line, is_directive, end_of_script}
 use Rattle.desk_run.specs.Gathering.{parts_from}
 use Rattle.desk_run.specs.Running.{Runs, StopsIn, Stops, EndsParts}
 use Rattle.desk_lines.specs.declared.fault.ScriptFault.{ScriptFault}
@@ -137,11 +137,11 @@ runs_then_ends ps qs a b d c0 c1 c2 (Ok end) p q =
     )
 
 -- the parts of lines begin with a message
-begins_at : (line : List ℕ) (lines : List (List ℕ)) (b : Bool) → is_directive line ≡ b → (message : List (List ℕ)) × (rest : List Part) × (parts_of lines ≡ Message message ∷ rest) → (message : List (List ℕ)) × (rest : List Part) × (parts_of (line ∷ lines) ≡ Message message ∷ rest)
-begins_at line lines true e r = ([], DirectiveLine line ∷ parts_of lines, rw e refl)
+begins_at : (line : List ℕ) (lines : List (List ℕ)) (b : Bool) → is_directive line ≡ b → (message : List (List ℕ)) × (rest : List Part) × (parts_of_lines lines ≡ Message message ∷ rest) → (message : List (List ℕ)) × (rest : List Part) × (parts_of_lines (line ∷ lines) ≡ Message message ∷ rest)
+begins_at line lines true e r = ([], DirectiveLine line ∷ parts_of_lines lines, rw e refl)
 begins_at line lines false e r = (line ∷ r.0, r.1, rw e (ap (with_line line) r.2))
 
-begins : (lines : List (List ℕ)) → (message : List (List ℕ)) × (rest : List Part) × (parts_of lines ≡ Message message ∷ rest)
+begins : (lines : List (List ℕ)) → (message : List (List ℕ)) × (rest : List Part) × (parts_of_lines lines ≡ Message message ∷ rest)
 begins [] = ([], [], refl)
 begins (line ∷ lines) = begins_at line lines (is_directive line) refl (begins lines)
 
@@ -150,27 +150,27 @@ abbrev with_lines : List (List ℕ) → List Part → List Part
 with_lines gathered (Message lines ∷ parts) = Message (gathered ++ lines) ∷ parts
 with_lines gathered parts = Message gathered ∷ parts
 
-with_none : (lines : List (List ℕ)) → with_lines [] (parts_of lines) ≡ parts_of lines
+with_none : (lines : List (List ℕ)) → with_lines [] (parts_of_lines lines) ≡ parts_of_lines lines
 with_none lines = let r = begins lines in ap (with_lines []) r.2 ∙ sym r.2
 
-with_one_more : (gathered : List (List ℕ)) (line : List ℕ) (lines : List (List ℕ)) → with_lines (gathered ++ line ∷ []) (parts_of lines) ≡ with_lines gathered (with_line line (parts_of lines))
+with_one_more : (gathered : List (List ℕ)) (line : List ℕ) (lines : List (List ℕ)) → with_lines (gathered ++ line ∷ []) (parts_of_lines lines) ≡ with_lines gathered (with_line line (parts_of_lines lines))
 with_one_more gathered line lines =
     let r = begins lines in
     ap (with_lines (gathered ++ line ∷ [])) r.2
     ∙ (ap (λ (w : List (List ℕ)). Message w ∷ r.1) (append_assoc gathered (line ∷ []) r.0)
     ∙ sym (ap (λ (ps : List Part). with_lines gathered (with_line line ps)) r.2))
 
-from_line : (gathered : List (List ℕ)) (line : List ℕ) (lines : List (List ℕ)) (b : Bool) → is_directive line ≡ b → parts_from [] lines ≡ with_lines [] (parts_of lines)
-    → parts_from (gathered ++ line ∷ []) lines ≡ with_lines (gathered ++ line ∷ []) (parts_of lines) → parts_from gathered (line ∷ lines) ≡ with_lines gathered (parts_of (line ∷ lines))
+from_line : (gathered : List (List ℕ)) (line : List ℕ) (lines : List (List ℕ)) (b : Bool) → is_directive line ≡ b → parts_from [] lines ≡ with_lines [] (parts_of_lines lines)
+    → parts_from (gathered ++ line ∷ []) lines ≡ with_lines (gathered ++ line ∷ []) (parts_of_lines lines) → parts_from gathered (line ∷ lines) ≡ with_lines gathered (parts_of_lines (line ∷ lines))
 from_line gathered line lines true e none more =
     rw e (ap (λ (ps : List Part). Message gathered ∷ DirectiveLine line ∷ ps) (none ∙ with_none lines)
-    ∙ ap (λ (w : List (List ℕ)). Message w ∷ DirectiveLine line ∷ parts_of lines) (sym (append-nil gathered)))
+    ∙ ap (λ (w : List (List ℕ)). Message w ∷ DirectiveLine line ∷ parts_of_lines lines) (sym (append-nil gathered)))
 from_line gathered line lines false e none more = rw e (more ∙ with_one_more gathered line lines)
 
-from_gathered : (gathered lines : List (List ℕ)) → parts_from gathered lines ≡ with_lines gathered (parts_of lines)
+from_gathered : (gathered lines : List (List ℕ)) → parts_from gathered lines ≡ with_lines gathered (parts_of_lines lines)
 from_gathered gathered [] = ap (λ (w : List (List ℕ)). Message w ∷ []) (sym (append-nil gathered))
 from_gathered gathered (line ∷ lines) = from_line gathered line lines (is_directive line) refl (from_gathered [] lines) (from_gathered (gathered ++ line ∷ []) lines)
 
 -- the parts of all lines
-pub from_start : (lines : List (List ℕ)) → parts_from [] lines ≡ parts_of lines
+pub from_start : (lines : List (List ℕ)) → parts_from [] lines ≡ parts_of_lines lines
 from_start lines = from_gathered [] lines ∙ with_none lines

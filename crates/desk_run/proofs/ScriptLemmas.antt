@@ -4,7 +4,7 @@ use Rattle.std.specs.Result.{IfErr, OnOk}
 use Rattle.bug_record.specs.Desk.{Desk}
 use Rattle.desk_lines.specs.Lines.{without_return, raw_lines, lines_of}
 use Rattle.desk_lines.specs.Reading.{IsGoodLine, IsLineFault, IsReadingFault, Known, Left}
-use Rattle.desk_run.specs.Script.{Part, Message, Standing, parts_of, script_of, after_parts}
+use Rattle.desk_run.specs.Script.{Part, Message, Standing, parts_of_lines, script_of, after_parts}
 use Rattle.desk_run.specs.Gathering.{parts_from}
 use Rattle.desk_run.specs.Running.{Runs, Stops, StopsIn, EndsParts, Ends, AreGood, IsFirstBad, IsPlace, IsOfPart, StopsInGoodLines}
 use Rattle.desk_lines.specs.declared.fault.ScriptFault.{ScriptFault}
@@ -62,7 +62,7 @@ script_cut texts before g input rest r c =
     ∙ c (map without_return (raw_lines rest))))
 
 -- the parts of the lines that are read
-read_cut : (texts : List (List ℕ)) (tail before : List Part) (input rest : List ℕ) → (r : ReadTo texts input rest) → parts_from [] texts ≡ before ++ tail → parts_of (map without_return r.raws) ≡ before ++ tail
+read_cut : (texts : List (List ℕ)) (tail before : List Part) (input rest : List ℕ) → (r : ReadTo texts input rest) → parts_from [] texts ≡ before ++ tail → parts_of_lines (map without_return r.raws) ≡ before ++ tail
 read_cut texts tail before input rest r e = sym (from_start (map without_return r.raws)) ∙ (ap (parts_from []) r.texts_are ∙ e)
 
 cut_here : (texts : List (List ℕ)) (before : List Part) (g : List (List ℕ)) → IsCut texts before g → parts_from [] texts ≡ before ++ Message g ∷ []

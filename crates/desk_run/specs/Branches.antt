@@ -10,14 +10,14 @@ use Rattle.ancestry.specs.declared.fault.BranchFault.{BranchFault}
 use Rattle.ancestry.specs.declared.fault.BranchFault.TheVariants.{EmptyBranch, Repeated, Conflict, TooLong, Memory}
 
 -- a node before others, if all are nodes
-abbrev pub with_node : Option Node → Option (List Node) → Option (List Node)
-with_node (Some n) (Some nodes) = Some (n ∷ nodes)
-with_node _ _ = None
+abbrev pub node_before : Option Node → Option (List Node) → Option (List Node)
+node_before (Some n) (Some nodes) = Some (n ∷ nodes)
+node_before _ _ = None
 
 -- the nodes of these words, where each is one
 abbrev pub nodes_of : List (List ℕ) → Option (List Node)
 nodes_of [] = Some []
-nodes_of (word ∷ words) = with_node (node_of_text word) (nodes_of words)
+nodes_of (word ∷ words) = node_before (node_of_text word) (nodes_of words)
 
 -- why a branch is refused: a word is no node, or its nodes are no branch
 pub data BranchRefusal : Type 0 where
@@ -43,9 +43,9 @@ fault_words (Repeated place) = codes "repeated version at " ++ decimal place
 fault_words (Conflict place) = codes "conflict at " ++ decimal place
 fault_words Memory = []  -- no refusal
 
-abbrev pub refusal_text : BranchRefusal → List ℕ
-refusal_text BadNode = codes "bad version"
-refusal_text (Refused fault) = fault_words fault
+abbrev pub branch_refusal_text : BranchRefusal → List ℕ
+branch_refusal_text BadNode = codes "bad version"
+branch_refusal_text (Refused fault) = fault_words fault
 
 -- what is read of the words of a branch, unless there was no memory
 abbrev pub AreRead : {A : Type 0} → Option (List Node) → Result (Vec Node A) NodeFault → Type 0

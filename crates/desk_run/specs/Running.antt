@@ -12,7 +12,7 @@ use Rattle.desk_store.specs.Message.{Entry, IsReceived}
 use Rattle.desk_lines.specs.Lines.{raw_lines, without_return}
 use Rattle.desk_lines.specs.Reading.{IsGoodLine}
 use Rattle.desk_messages.specs.Transcripts.{received_text}
-use Rattle.desk_run.specs.Script.{Part, Message, DirectiveLine, Directive, From, Report, Branch, Bad, directive_of, Standing, parts_of, script_of, part_text, part_after, text_of, after_parts, end_of_script}
+use Rattle.desk_run.specs.Script.{Part, Message, DirectiveLine, Directive, From, Report, Branch, Bad, directive_of, Standing, parts_of_lines, script_of, part_text, part_after, text_of, after_parts, end_of_script}
 use Rattle.bug_record.specs.declared.severity.Severity.{Severity}
 use Rattle.ancestry.specs.Nodes.{Node}
 use Rattle.desk_messages.specs.Reports.{report_severity}
@@ -85,7 +85,7 @@ pub record IsFirstBad (raws : List (List ℕ)) (number : ℕ) (before : List Par
   pub are_good : AreGood good
   pub is_bad : P bad
   pub gathered : List (List ℕ)
-  pub parts : parts_of (map without_return good) ≡ before ++ Message gathered ∷ []
+  pub parts : parts_of_lines (map without_return good) ≡ before ++ Message gathered ∷ []
 
 -- No line beyond the good ones played a part in a stop: the first lines, which are good, are a script that stops so too.
 pub record StopsInGoodLines (raws : List (List ℕ)) (a : Standing) (d : Desk) (c0 c1 : Option (List ℕ)) (fault : ScriptFault) : Type 0 where
@@ -93,7 +93,7 @@ pub record StopsInGoodLines (raws : List (List ℕ)) (a : Standing) (d : Desk) (
   pub more : List (List ℕ)
   pub lines : raws ≡ good ++ more
   pub are_good : AreGood good
-  pub stops : Stops (parts_of (map without_return good)) a d c0 c1 fault
+  pub stops : Stops (parts_of_lines (map without_return good)) a d c0 c1 fault
 
 -- where a fault of a line comes
 abbrev pub IsPlace : ScriptFault → List (List ℕ) → List Part → Type 0

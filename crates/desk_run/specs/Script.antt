@@ -16,7 +16,7 @@ use Rattle.desk_lines.specs.Lines.{lines_of}
 use Rattle.desk_messages.specs.Transcripts.{received_text}
 use Rattle.ancestry.specs.Trees.{Ancestry}
 use Rattle.desk_messages.specs.Reports.{report_of}
-use Rattle.desk_run.specs.Branches.{BranchRefusal, branch_of, refusal_text}
+use Rattle.desk_run.specs.Branches.{BranchRefusal, branch_of, branch_refusal_text}
 use Rattle.desk_messages.specs.declared.reporting.ReportFault.{ReportFault}
 use Rattle.desk_messages.specs.declared.reporting.ReportFault.TheVariants.{BadPackage, BadVersion, BadSeverity, BadTitle, Full, Store}
 use Rattle.desk_run.specs.declared.script.ScriptEnd.{ScriptEnd}
@@ -39,13 +39,13 @@ with_line line parts = Message (line ∷ []) ∷ parts
 
 -- The parts of these lines: each line that begins with `@` is a directive, and the lines before, between and after
 -- directives are messages, which may have no line.
-abbrev pub parts_of : List (List ℕ) → List Part
-parts_of [] = Message [] ∷ []
-parts_of (line ∷ lines) =
-    if is_directive line then Message [] ∷ DirectiveLine line ∷ parts_of lines else with_line line (parts_of lines)
+abbrev pub parts_of_lines : List (List ℕ) → List Part
+parts_of_lines [] = Message [] ∷ []
+parts_of_lines (line ∷ lines) =
+    if is_directive line then Message [] ∷ DirectiveLine line ∷ parts_of_lines lines else with_line line (parts_of_lines lines)
 
 unfoldable pub script_of : List ℕ → List Part
-script_of input = parts_of (lines_of input)
+script_of input = parts_of_lines (lines_of input)
 
 -- what a directive's line says
 pub data Directive : Type 0 where
@@ -119,7 +119,7 @@ after_report (Err refusal) s = standing s.desk s.sender true
 -- the answer to a branch: `OK`, or the refusal
 abbrev pub branch_text : Result Ancestry BranchRefusal → List ℕ
 branch_text (Ok tree) = as_line (codes "OK")
-branch_text (Err refusal) = as_line (codes "NO " ++ refusal_text refusal)
+branch_text (Err refusal) = as_line (codes "NO " ++ branch_refusal_text refusal)
 
 abbrev pub after_branch : Result Ancestry BranchRefusal → Standing → Standing
 after_branch (Ok tree) s = standing (record s.desk { tree = tree }) s.sender s.refused
