@@ -1,14 +1,15 @@
 //! What a command makes of the shared fields of a set of merged bugs.
 
-ghost use Rattle.std.specs.Prelude.{◌≡◌, if◌then◌else◌, IfOk, IfErr, OnOk};
-ghost use Rattle.bug_record.specs.Commands.{person, IsGoodVersion, HasGoodParts};
+ghost use Rattle.std.specs.Prelude.{◌≡◌, if◌then◌else◌, Some, None, IfOk, IfErr, OnOk};
+ghost use Rattle.bug_record.specs.Commands.{node_meant, person, IsGoodVersion, HasGoodParts};
+ghost use Rattle.bug_record.specs.Marks.{without_node};
 ghost use Rattle.bug_record.specs.Texts.{IfGiven};
-ghost use Rattle.bug_record.specs.Steps.{opened, moved_to, reassigned, shared_after};
+ghost use Rattle.bug_record.specs.Steps.{marked_fixed, opened, moved_to, reassigned, shared_after};
 ghost use Rattle.record_changes.specs.Fields.{found_in, closed_in, IsVersionFault};
 
 use crate::tags::take_steps;
 use crate::versions::{mark_fixed, mark_found, mark_found_at, node_meant};
-use bug_record::{Command, PlanFault, Shared, VersionArg, Who};
+use bug_record::{Command, PlanFault, Severity, Shared, VersionArg, Who};
 use debver::Text;
 use std::alloc::{AllocError, Global};
 
@@ -45,6 +46,55 @@ fn mark_found_in(
     };
     let node = node_meant(alloc, shared.package.as_str(), version)?;
     mark_found_at(shared, node)?;
+    Ok(())
+}
+
+// Takes back the mark that a bug is found in the version.
+fn unmark_found(
+    alloc: Global,
+    shared: &mut Shared,
+    version: &VersionArg,
+) -> Result<(), PlanFault>
+    requires { IsGoodVersion version.now }
+    ensures done { OnOk result (shared.new ≡ record shared.old {
+      found = without_node shared.old.found (node_meant shared.old.«package» version.now);
+    }) }
+    ensures fault { IfErr result (IsVersionFault shared.old.«package») }
+{
+    let node = node_meant(alloc, shared.package.as_str(), version)?;
+    shared.found.remove_node(&node);
+    Ok(())
+}
+
+// Marks the version as one that does not have the bug.
+fn mark_fixed_in(
+    alloc: Global,
+    shared: &mut Shared,
+    version: &VersionArg,
+) -> Result<(), PlanFault>
+    requires { IsGoodVersion version.now }
+    ensures done { OnOk result (shared.new ≡ marked_fixed (node_meant shared.old.«package» version.now) shared.old) }
+    ensures fault { IfErr result (IsVersionFault shared.old.«package») }
+{
+    let node = node_meant(alloc, shared.package.as_str(), version)?;
+    mark_fixed(shared, node)?;
+    Ok(())
+}
+
+// Takes that mark back.
+fn unmark_fixed(
+    alloc: Global,
+    shared: &mut Shared,
+    version: &VersionArg,
+) -> Result<(), PlanFault>
+    requires { IsGoodVersion version.now }
+    ensures done { OnOk result (shared.new ≡ record shared.old {
+      fixed = without_node shared.old.fixed (node_meant shared.old.«package» version.now);
+    }) }
+    ensures fault { IfErr result (IsVersionFault shared.old.«package») }
+{
+    let node = node_meant(alloc, shared.package.as_str(), version)?;
+    shared.fixed.remove_node(&node);
     Ok(())
 }
 
@@ -108,6 +158,43 @@ pub(crate) fn person<'a>(from: &'a str, who: &'a Who) -> &'a str
     }
 }
 
+fn set_severity(shared: &mut Shared, severity: Severity)
+    ensures { shared.new ≡ record shared.old { severity = severity } }
+{
+    shared.severity = severity;
+}
+
+fn set_forwarded(shared: &mut Shared, text: &Text) -> Result<(), AllocError>
+    ensures { OnOk result (shared.new ≡ record shared.old { forwarded = Some text.now }) }
+{
+    shared.forwarded = Some(text.copy()?);
+    Ok(())
+}
+
+fn clear_forwarded(shared: &mut Shared)
+    ensures { shared.new ≡ record shared.old { forwarded = None } }
+{
+    shared.forwarded = None;
+}
+
+fn set_owner(
+    alloc: Global,
+    shared: &mut Shared,
+    from: &str,
+    who: &Who,
+) -> Result<(), AllocError>
+    ensures { OnOk result (shared.new ≡ record shared.old { owner = Some (person from.now who.now) }) }
+{
+    shared.owner = Some(Text::of(alloc, person(from, who))?);
+    Ok(())
+}
+
+fn clear_owner(shared: &mut Shared)
+    ensures { shared.new ≡ record shared.old { owner = None } }
+{
+    shared.owner = None;
+}
+
 /// The shared fields of a set of merged bugs after a command of the sender `from`, where those
 /// before it are `old` (the BTS page 'control and manipulation'). Whether the set has the bug that
 /// the command names is not looked at. `retitle` and `submitter` leave the shared fields as they
@@ -129,29 +216,20 @@ pub fn shared_after(
     ensures fault { IfErr result (IsVersionFault old.now.«package») }
 {
     let mut shared = old.copy()?;
-    let package = old.package.as_str();
     match command {
         Command::Found(_, version) => mark_found_in(alloc, &mut shared, version)?,
-        Command::NotFound(_, version) => {
-            let node = node_meant(alloc, package, version)?;
-            shared.found.remove_node(&node);
-        }
-        Command::Fixed(_, version) => {
-            mark_fixed(&mut shared, node_meant(alloc, package, version)?)?;
-        }
-        Command::NotFixed(_, version) => {
-            let node = node_meant(alloc, package, version)?;
-            shared.fixed.remove_node(&node);
-        }
+        Command::NotFound(_, version) => unmark_found(alloc, &mut shared, version)?,
+        Command::Fixed(_, version) => mark_fixed_in(alloc, &mut shared, version)?,
+        Command::NotFixed(_, version) => unmark_fixed(alloc, &mut shared, version)?,
         Command::Close(_, version) => close_in(alloc, &mut shared, version)?,
         Command::Reopen(_, _) => open_if_closed(&mut shared),
-        Command::Severity(_, severity) => shared.severity = *severity,
+        Command::Severity(_, severity) => set_severity(&mut shared, *severity),
         Command::Tags(_, steps) => take_steps(&mut shared.tags, steps.as_slice())?,
         Command::Reassign(_, to, version) => move_and_mark(alloc, &mut shared, to, version)?,
-        Command::Forwarded(_, text) => shared.forwarded = Some(text.copy()?),
-        Command::NotForwarded(_) => shared.forwarded = None,
-        Command::Owner(_, who) => shared.owner = Some(Text::of(alloc, person(from, who))?),
-        Command::NoOwner(_) => shared.owner = None,
+        Command::Forwarded(_, text) => set_forwarded(&mut shared, text)?,
+        Command::NotForwarded(_) => clear_forwarded(&mut shared),
+        Command::Owner(_, who) => set_owner(alloc, &mut shared, from, who)?,
+        Command::NoOwner(_) => clear_owner(&mut shared),
         Command::Retitle(_, _)
         | Command::Submitter(_, _)
         | Command::Merge(_, _)
