@@ -20,10 +20,9 @@ use Rattle.bug_record.specs.declared.command.Who.{Who}
 use Rattle.bug_record.specs.declared.command.Who.TheVariants.{Sender, Given}
 use Rattle.command_grammar.specs.declared.command_word.CommandWord.{CommandWord}
 use Rattle.command_grammar.specs.declared.command_word.CommandWord.TheVariants as command_words
-use Rattle.command_grammar.specs.declared.tags.Sign.{Sign}
 use Rattle.command_grammar.specs.CommandWords.{command_word}
 use Rattle.command_grammar.specs.Versions.{version_of_word, package_of_word}
-use Rattle.command_grammar.specs.Commands.{or_refuse, and_read, read_bug, read_version, read_package, bug_alone, bug_and_version, bug_and_optional_version, severity_command, optional_version, reassign_words, reassign_command, limited_text, who_of_text, some_text, some_who, optional_who, bug_and_text, bug_and_some_text, bug_and_some_who, each_word, bug_and_others, sign_and_tag, adds_after, sign_steps, tag_step, tag_steps, word_steps, all_steps, some_steps, tags_command, reopen_command, command_of}
+use Rattle.command_grammar.specs.Commands.{or_refuse, and_read, read_bug, read_version, read_package, bug_alone, bug_and_version, bug_and_optional_version, severity_command, optional_version, reassign_words, reassign_command, limited_text, who_of_text, some_text, some_who, optional_who, bug_and_text, bug_and_some_text, bug_and_some_who, each_word, bug_and_others, sign_and_tag, adds_after, tag_step, tag_steps, word_steps, all_steps, some_steps, tags_command, reopen_command, command_of}
 use Rattle.control_text.specs.declared.line.Line.{Line}
 use Rattle.control_text.specs.declared.line.Line.TheVariants.{Blank, Comment, Stop, Do}
 use Rattle.control_text.specs.Lines.{begins_hash, is_stop_line, line_of_command, command_reading, reading_of_words, reading, IsRefusalOfLine}
@@ -150,14 +149,11 @@ tag_steps-of : (adds : Bool) (word : List ℕ) → IsOfLine (tag_steps adds word
 tag_steps-of adds [] = tt
 tag_steps-of adds (c ∷ word) = or_refuse-of (tag_of (c ∷ word)) BadTag (λ tag. Ok (tag_step adds tag ∷ [])) tt (λ tag. tt)
 
-word_steps-of : (adds : Bool) (sign : Option Sign) (tag : List ℕ) → IsOfLine (word_steps adds sign tag)
-word_steps-of adds sign tag = and_read-of (tag_steps adds tag) _ (tag_steps-of adds tag) (λ steps. tt)
-
 all_steps-of : (adds : Bool) (ws : List (List ℕ)) → IsOfLine (all_steps adds ws)
 all_steps-of adds [] = tt
 all_steps-of adds (word ∷ ws) =
     let now = adds_after (sign_and_tag word).0 adds in
-    and_read-of (word_steps now (sign_and_tag word).0 (sign_and_tag word).1) _ (word_steps-of now (sign_and_tag word).0 (sign_and_tag word).1) (λ steps.
+    and_read-of (word_steps now (sign_and_tag word).0 (sign_and_tag word).1) _ (and_read-of (tag_steps now (sign_and_tag word).1) _ (tag_steps-of now (sign_and_tag word).1) (λ steps. tt)) (λ steps.
     and_read-of (all_steps now ws) _ (all_steps-of now ws) (λ others. tt))
 
 some_steps-of : (ws : List (List ℕ)) → IsOfLine (some_steps ws)
