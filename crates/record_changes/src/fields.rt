@@ -50,11 +50,7 @@ fn mark_found_in(
 }
 
 // Takes back the mark that a bug is found in the version.
-fn unmark_found(
-    alloc: Global,
-    shared: &mut Shared,
-    version: &VersionArg,
-) -> Result<(), PlanFault>
+fn unmark_found(alloc: Global, shared: &mut Shared, version: &VersionArg) -> Result<(), PlanFault>
     requires { IsGoodVersion version.now }
     ensures done { OnOk result (shared.new ≡ record shared.old {
       found = without_node shared.old.found (node_meant shared.old.«package» version.now);
@@ -67,11 +63,7 @@ fn unmark_found(
 }
 
 // Marks the version as one that does not have the bug.
-fn mark_fixed_in(
-    alloc: Global,
-    shared: &mut Shared,
-    version: &VersionArg,
-) -> Result<(), PlanFault>
+fn mark_fixed_in(alloc: Global, shared: &mut Shared, version: &VersionArg) -> Result<(), PlanFault>
     requires { IsGoodVersion version.now }
     ensures done { OnOk result (shared.new ≡ marked_fixed (node_meant shared.old.«package» version.now) shared.old) }
     ensures fault { IfErr result (IsVersionFault shared.old.«package») }
@@ -82,11 +74,7 @@ fn mark_fixed_in(
 }
 
 // Takes that mark back.
-fn unmark_fixed(
-    alloc: Global,
-    shared: &mut Shared,
-    version: &VersionArg,
-) -> Result<(), PlanFault>
+fn unmark_fixed(alloc: Global, shared: &mut Shared, version: &VersionArg) -> Result<(), PlanFault>
     requires { IsGoodVersion version.now }
     ensures done { OnOk result (shared.new ≡ record shared.old {
       fixed = without_node shared.old.fixed (node_meant shared.old.«package» version.now);
@@ -177,12 +165,7 @@ fn clear_forwarded(shared: &mut Shared)
     shared.forwarded = None;
 }
 
-fn set_owner(
-    alloc: Global,
-    shared: &mut Shared,
-    from: &str,
-    who: &Who,
-) -> Result<(), AllocError>
+fn set_owner(alloc: Global, shared: &mut Shared, from: &str, who: &Who) -> Result<(), AllocError>
     ensures { OnOk result (shared.new ≡ record shared.old { owner = Some (person from.now who.now) }) }
 {
     shared.owner = Some(Text::of(alloc, person(from, who))?);
