@@ -5,8 +5,8 @@ use Rattle.std.proofs.lemmas.Bool.Decides.{nat_tests}
 use Rattle.bug_record.specs.Desk.{Desk}
 use Rattle.bug_record.specs.Steps.{reported}
 use Rattle.bug_record.specs.declared.severity.Severity.{Severity}
-use Rattle.desk_messages.specs.declared.reporting.ReportFault.{ReportFault}
-use Rattle.desk_messages.specs.declared.reporting.ReportFault.TheVariants.{BadPackage, BadVersion, BadSeverity, BadTitle, Full, Store}
+use Rattle.desk_text.specs.declared.outcome.ReportFault.{ReportFault}
+use Rattle.desk_text.specs.declared.outcome.ReportFault.TheVariants.{BadPackage, BadVersion, BadSeverity, BadTitle, Full, Store}
 use Rattle.desk_messages.specs.Reports.{node_reported, report_severity, desk_reported, report_of, IsOfWords, IsReported, faults_after_report}
 
 -- words that are refused

@@ -9,8 +9,8 @@ use Rattle.bug_record.specs.Desk.{Desk}
 use Rattle.bug_record.specs.Steps.{reported}
 use Rattle.bug_record.specs.declared.severity.Severity.{Severity}
 use Rattle.desk_store.specs.Store.{faults_after}
-use Rattle.desk_messages.specs.declared.reporting.ReportFault.{ReportFault}
-use Rattle.desk_messages.specs.declared.reporting.ReportFault.TheVariants.{BadPackage, BadVersion, BadSeverity, BadTitle, Full, Store}
+use Rattle.desk_text.specs.declared.outcome.ReportFault.{ReportFault}
+use Rattle.desk_text.specs.declared.outcome.ReportFault.TheVariants.{BadPackage, BadVersion, BadSeverity, BadTitle, Full, Store}
 
 -- a version that is given, and is none
 abbrev pub has_bad_version : Option (List ℕ) → Bool

@@ -7,6 +7,7 @@ mod message;
 mod reporting;
 mod transcript;
 
+pub use desk_text::ReportFault;
 pub use message::{Received, receive, receive_lines};
-pub use reporting::{ReportFault, report};
+pub use reporting::report;
 pub use transcript::{received_bytes, received_text};

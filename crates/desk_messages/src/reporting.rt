@@ -13,26 +13,8 @@ use bug_core::{is_text, report_change};
 use bug_record::Severity;
 use debver::{check, check_name};
 use desk_store::Records;
-use desk_text::StoreFault;
+use desk_text::{ReportFault, StoreFault};
 use std::alloc::Global;
-
-/// Why a report is not taken, in the order in which the causes are tested; a store fault at which the next number could
-/// not be read comes before `Full`.
-#[derive(Clone, Copy, Debug, PartialEq, Eq, Drop)]
-pub enum ReportFault {
-    /// The package is no package name.
-    BadPackage,
-    /// The version is no version.
-    BadVersion,
-    /// The word names no severity.
-    BadSeverity,
-    /// The title is no text of 1 to 200 bytes.
-    BadTitle,
-    /// No bug number is left.
-    Full,
-    /// The store failed; nothing is changed.
-    Store(StoreFault),
-}
 
 fn has_bad_version(version: Option<&str>) -> bool
     ensures value { result ≡ has_bad_version (option_copied version.entry) }

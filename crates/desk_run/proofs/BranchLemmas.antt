@@ -18,7 +18,8 @@ use Rattle.desk_store.specs.Store.{Branches, faults_after}
 use Rattle.desk_run.specs.Branches.{BranchRefusal, BadNode, node_before, nodes_of, or_refused, branched_by, branch_of, AreRead}
 use Rattle.desk_run.specs.Script.{DirectiveLine, Branch, Standing, standing, part_text, part_after, directive_of, branch_text, after_branch}
 use Rattle.desk_run.specs.Running.{AsksStore, FaultsIn, IsCarried}
-use Rattle.desk_run.specs.Answers.{branch_answer, refuses_branch, fault_of_branch}
+use Rattle.desk_text.specs.Answers.{branch_answer}
+use Rattle.desk_run.specs.Answers.{refuses_branch, fault_of_branch}
 use Rattle.desk_run.proofs.PartLemmas.{order_is}
 
 or_false : (b : Bool) → (b || false) ≡ b

@@ -14,9 +14,10 @@ use Rattle.desk_messages.specs.Transcripts.{received_text}
 use Rattle.desk_messages.specs.Reports.{report_of, IsReported, faults_after_report}
 use Rattle.desk_run.specs.Script.{Part, Message, DirectiveLine, Directive, Report, Standing, standing, part_text, part_after, message_text, after_message, refuses, directive_of, directive_text, after_directive, report_text, after_report}
 use Rattle.desk_run.specs.Running.{AsksStore, FaultsIn, IsCarried, StopsIn, Carries}
-use Rattle.desk_run.specs.Answers.{fault_of_end, report_answer, store_fault}
-use Rattle.desk_messages.specs.declared.reporting.ReportFault.{ReportFault}
-use Rattle.desk_messages.specs.declared.reporting.ReportFault.TheVariants as reports
+use Rattle.desk_text.specs.Answers.{report_answer}
+use Rattle.desk_run.specs.Answers.{fault_of_end, store_fault}
+use Rattle.desk_text.specs.declared.outcome.ReportFault.{ReportFault}
+use Rattle.desk_text.specs.declared.outcome.ReportFault.TheVariants as reports
 use Rattle.desk_lines.specs.declared.fault.ScriptFault.{ScriptFault}
 use Rattle.desk_lines.specs.declared.fault.ScriptFault.TheVariants as stops
 use Rattle.desk_run.proofs.WrittenLemmas.{appends_none}

@@ -1,13 +1,11 @@
 -- Branches in a script, by the words of their nodes. This project's own rule.
-use Rattle.std.specs.Prelude.{ℕ, ◌≡◌, List, [], ◌∷◌, ◌++◌, Option, Some, None, Result, Ok, Err, codes, Vec, ⊤}
-use Rattle.std.specs.Fmt.{decimal}
+use Rattle.std.specs.Prelude.{ℕ, ◌≡◌, List, [], ◌∷◌, Option, Some, None, Result, Ok, Err, Vec, ⊤}
 use Rattle.ancestry.specs.Nodes.{Node, node_of_text}
 use Rattle.ancestry.specs.Trees.{Ancestry}
 use Rattle.ancestry.specs.Branches.{branched}
 use Rattle.ancestry.specs.declared.fault.NodeFault.{NodeFault}
 use Rattle.ancestry.specs.declared.fault.NodeFault.TheVariants.{BadNode as WordIsNoNode, Memory as NoMemory}
 use Rattle.ancestry.specs.declared.fault.BranchFault.{BranchFault}
-use Rattle.ancestry.specs.declared.fault.BranchFault.TheVariants.{EmptyBranch, Repeated, Conflict, TooLong, Memory}
 
 -- a node before others, if all are nodes
 abbrev pub node_before : Option Node → Option (List Node) → Option (List Node)
@@ -35,17 +33,6 @@ branched_by tree (Some nodes) = or_refused (branched tree nodes)
 -- The ancestry after a branch of these words, or the refusal: a word that is no node decides before the branch is looked at.
 unfoldable pub branch_of : Ancestry → List (List ℕ) → Result Ancestry BranchRefusal
 branch_of tree words = branched_by tree (nodes_of words)
-
-abbrev pub fault_words : BranchFault → List ℕ
-fault_words EmptyBranch = codes "empty branch"
-fault_words TooLong = codes "more than 200 versions"
-fault_words (Repeated place) = codes "repeated version at " ++ decimal place
-fault_words (Conflict place) = codes "conflict at " ++ decimal place
-fault_words Memory = []  -- no refusal
-
-abbrev pub branch_refusal_text : BranchRefusal → List ℕ
-branch_refusal_text BadNode = codes "bad version"
-branch_refusal_text (Refused fault) = fault_words fault
 
 -- what is read of the words of a branch, unless there was no memory
 abbrev pub AreRead : {A : Type 0} → Option (List Node) → Result (Vec Node A) NodeFault → Type 0

@@ -2,13 +2,12 @@
 use Rattle.std.specs.Prelude.{ℕ, ◌==◌, Bool, true, false, ◌||◌, List, [], ◌∷◌, ◌++◌, Option, Some, None, Result, Ok, Err, codes, if◌then◌else◌, ⊤}
 use Rattle.std.specs.List.{list_any}
 use Rattle.std.specs.Str.{bytes_eq}
-use Rattle.std.specs.Fmt.{decimal}
 use Rattle.bug_record.specs.Texts.{is_text, IsText}
 use Rattle.bug_record.specs.Desk.{Desk}
 use Rattle.control_text.specs.Words.{has_bytes, words, trimmed, first_word, after_word}
-use Rattle.desk_text.specs.Texts.{as_line}
+use Rattle.desk_text.specs.Answers.{report_answer, branch_answer, bad_version_answer, bad_directive_answer}
 use Rattle.desk_text.specs.declared.outcome.Outcome.{Outcome}
-use Rattle.desk_text.specs.declared.outcome.Outcome.TheVariants.{Refused}
+use Rattle.desk_text.specs.declared.outcome.Outcome.TheVariants as outcomes
 use Rattle.desk_text.specs.declared.outcome.End.{End}
 use Rattle.desk_text.specs.declared.outcome.End.TheVariants as ends
 use Rattle.desk_store.specs.Message.{Entry, Machine, after_lines, at_start, end_of}
@@ -16,9 +15,8 @@ use Rattle.desk_lines.specs.Lines.{lines_of}
 use Rattle.desk_messages.specs.Transcripts.{received_text}
 use Rattle.ancestry.specs.Trees.{Ancestry}
 use Rattle.desk_messages.specs.Reports.{report_of}
-use Rattle.desk_run.specs.Branches.{BranchRefusal, branch_of, branch_refusal_text}
-use Rattle.desk_messages.specs.declared.reporting.ReportFault.{ReportFault}
-use Rattle.desk_messages.specs.declared.reporting.ReportFault.TheVariants.{BadPackage, BadVersion, BadSeverity, BadTitle, Full, Store}
+use Rattle.desk_run.specs.Branches.{BranchRefusal, BadNode, Refused, branch_of}
+use Rattle.desk_text.specs.declared.outcome.ReportFault.{ReportFault}
 use Rattle.desk_run.specs.declared.script.ScriptEnd.{ScriptEnd}
 use Rattle.desk_run.specs.declared.script.ScriptEnd.TheVariants as script_ends
 
@@ -98,19 +96,10 @@ standing d sender refused = record { desk = d; sender = sender; refused = refuse
 abbrev pub begin : Desk → Standing
 begin d = standing d (codes "nobody") false
 
--- why a report is refused
-abbrev pub refused_text : ReportFault → List ℕ
-refused_text BadPackage = codes "bad package name"
-refused_text BadVersion = codes "bad version"
-refused_text BadSeverity = codes "unknown severity"
-refused_text BadTitle = codes "bad title"
-refused_text Full = codes "no bug number is left"
-refused_text (Store fault) = []  -- no refusal
-
 -- the answer to a report: the number of the new bug, or the refusal
 abbrev pub report_text : Result Desk ReportFault → ℕ → List ℕ
-report_text (Ok new) number = as_line (codes "OK " ++ decimal number)
-report_text (Err refusal) number = as_line (codes "NO " ++ refused_text refusal)
+report_text (Ok new) number = report_answer (Ok number)
+report_text (Err refusal) number = report_answer (Err refusal)
 
 abbrev pub after_report : Result Desk ReportFault → Standing → Standing
 after_report (Ok new) s = standing new s.sender s.refused
@@ -118,8 +107,9 @@ after_report (Err refusal) s = standing s.desk s.sender true
 
 -- the answer to a branch: `OK`, or the refusal
 abbrev pub branch_text : Result Ancestry BranchRefusal → List ℕ
-branch_text (Ok tree) = as_line (codes "OK")
-branch_text (Err refusal) = as_line (codes "NO " ++ branch_refusal_text refusal)
+branch_text (Ok tree) = branch_answer (Ok (Ok tt))
+branch_text (Err BadNode) = bad_version_answer
+branch_text (Err (Refused fault)) = branch_answer (Ok (Err fault))
 
 abbrev pub after_branch : Result Ancestry BranchRefusal → Standing → Standing
 after_branch (Ok tree) s = standing (record s.desk { tree = tree }) s.sender s.refused
@@ -130,7 +120,7 @@ abbrev pub directive_text : Directive → Standing → List ℕ
 directive_text (From sender) s = []
 directive_text (Report package_name version severity title) s = report_text (report_of s.desk s.sender package_name version severity title) s.desk.next
 directive_text (Branch words) s = branch_text (branch_of s.desk.tree words)
-directive_text Bad s = as_line (codes "Bad directive.")
+directive_text Bad s = bad_directive_answer
 
 abbrev pub after_directive : Directive → Standing → Standing
 after_directive (From sender) s = standing s.desk sender s.refused
@@ -140,7 +130,7 @@ after_directive Bad s = standing s.desk s.sender true
 
 -- whether an answer `NO ..` or `Too many unreadable lines.` is among those of a message
 abbrev pub is_refused : Outcome → Bool
-is_refused (Refused refusal) = true
+is_refused (outcomes.Refused refusal) = true
 is_refused outcome = false
 
 abbrev pub is_too_many : End → Bool

@@ -11,10 +11,7 @@ ghost use Rattle.desk_run.specs.Gathering.{parts_from};
 ghost use Rattle.desk_lines.specs.Reading.{Known, Left};
 ghost use Rattle.desk_run.specs.Running.{Runs, Stops, Carries, IsCounted, IsOfPart, EndsParts, Ends};
 
-use crate::answer::{
-    branch_answer, fault_of_branch, fault_of_end, refuses, refuses_branch, report_answer,
-    store_fault,
-};
+use crate::answer::{fault_of_branch, fault_of_end, refuses, refuses_branch, store_fault};
 use crate::branch::read_nodes;
 use crate::directive::{Directive, ReportWords, is_directive, read_directive};
 use ancestry::{Node, NodeFault};
@@ -22,6 +19,7 @@ use debver::Text;
 use desk_lines::{Piece, ScriptFault, Source, next_line, write_out};
 use desk_messages::{receive_lines, received_bytes, report};
 use desk_store::Records;
+use desk_text::{bad_directive_answer, bad_version_answer, branch_answer, report_answer};
 use std::alloc::Global;
 use std::io::{Read, Write};
 
@@ -81,7 +79,7 @@ fn finish_message<S: Records, W: Write>(
 }
 
 // Writes the answer to a directive that is refused before the store is asked.
-fn refuse<W: Write>(writer: &mut W, run: &mut Run, answer: &[u8]) -> Result<(), ScriptFault>
+fn refuse<W: Write>(writer: &mut W, run: &mut Run, answer: &str) -> Result<(), ScriptFault>
     ensures all { OnOk result (Appends (W.contents writer.old) (W.contents writer.new) answer.now) }
     ensures unfinished { OnErr result ((n : ℕ) × (n < length answer.now) × Appends (W.contents writer.old) (W.contents writer.new) (take n answer.now)) }
     ensures write { OnErr result (result ≡ Result.Err ScriptFault.Write) }
@@ -89,7 +87,7 @@ fn refuse<W: Write>(writer: &mut W, run: &mut Run, answer: &[u8]) -> Result<(), 
     ensures sender { run.new.sender ≡ run.old.sender }
     ensures gathered { run.new.gathered.items ≡ run.old.gathered.items }
 {
-    match write_out(writer, answer) {
+    match write_out(writer, answer.as_bytes()) {
         Ok(()) => {
             run.refused = true;
             Ok(())
@@ -201,10 +199,10 @@ fn carry_out<S: Records, W: Write>(
         Directive::Report(words) => carry_report(alloc, store, writer, run, line, words),
         Directive::Branch(words) => match read_nodes(alloc, words) {
             Ok(nodes) => carry_nodes(alloc, store, writer, run, line, nodes.as_slice()),
-            Err(NodeFault::BadNode) => refuse(writer, run, b"NO bad version\n"),
+            Err(NodeFault::BadNode) => refuse(writer, run, bad_version_answer()),
             Err(NodeFault::Memory) => Err(ScriptFault::Memory),
         },
-        Directive::Bad => refuse(writer, run, b"Bad directive.\n"),
+        Directive::Bad => refuse(writer, run, bad_directive_answer()),
     }
 }
 

@@ -1,8 +1,10 @@
-//! The exact texts of outcomes and ends.
+//! The exact texts of outcomes, of ends, and of the answers to directives.
 #![tactic(auto)]
 
+mod answers;
 mod outcome;
 mod texts;
 
-pub use outcome::{End, Outcome, StoreFault};
+pub use answers::{bad_directive_answer, bad_version_answer, branch_answer, report_answer};
+pub use outcome::{End, Outcome, ReportFault, StoreFault};
 pub use texts::{end_text, fault_text, outcome_text};

@@ -1,4 +1,4 @@
-//! What comes of a line, and of a message.
+//! What comes of a line, of a message, and of a report.
 
 use bug_record::{Numbers, Refusal};
 
@@ -37,4 +37,22 @@ pub enum End {
     TooManyUnreadable,
     /// The store failed at this line, counted from 1: the lines before it were carried out, it and the later ones not.
     Store(StoreFault, u64),
+}
+
+/// Why a report is not taken, in the order in which the causes are tested; a store fault at which the next number could
+/// not be read comes before `Full`.
+#[derive(Clone, Copy, Debug, PartialEq, Eq, Drop)]
+pub enum ReportFault {
+    /// The package is no package name.
+    BadPackage,
+    /// The version is no version.
+    BadVersion,
+    /// The word names no severity.
+    BadSeverity,
+    /// The title is no text of 1 to 200 bytes.
+    BadTitle,
+    /// No bug number is left.
+    Full,
+    /// The store failed; nothing is changed.
+    Store(StoreFault),
 }

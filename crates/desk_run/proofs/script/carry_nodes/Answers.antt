@@ -3,7 +3,7 @@ use Rattle.std.specs.Prelude.{◌||◌}
 use Rattle.std.specs.Io.KnownBytes.{Appends}
 use Rattle.desk_store.proofs.HoldsLemmas.{holds_weaker}
 use Rattle.desk_run.specs.Script.{DirectiveLine, standing}
-use Rattle.desk_run.specs.Answers.{branch_answer}
+use Rattle.desk_text.specs.Answers.{branch_answer}
 use Rattle.desk_run.proofs.PartLemmas.{untold}
 use Rattle.desk_run.proofs.BranchLemmas.{branch_whole, branch_fault, branch_carried, whole_count, branch_count}
 use Rattle.desk_run.proofs.script.carry_nodes.Goals as goal

@@ -2,7 +2,7 @@ use Rattle.std.proofs.Common.{ℕ, ◌<◌, length, List, take, ◌∙◌, sym, 
 use Rattle.std.specs.Io.KnownBytes.{Appends}
 use Rattle.desk_store.proofs.HoldsLemmas.{holds_weaker}
 use Rattle.desk_run.specs.Script.{DirectiveLine, standing}
-use Rattle.desk_run.specs.Answers.{report_answer}
+use Rattle.desk_text.specs.Answers.{report_answer}
 use Rattle.desk_run.proofs.PartLemmas.{untold, reported_carried, reported_whole, reported_refused, reported_fault, fault_count, refused_count}
 use Rattle.desk_run.proofs.script.carry_report.Goals as goal
 
