@@ -4,6 +4,10 @@ use Rattle.ancestry.specs.Nodes.{Node}
 use Rattle.bug_record.specs.Sets.{with_item}
 use Rattle.bug_record.specs.Tags.{tag_place}
 use Rattle.bug_record.specs.Marks.{with_node}
+use Rattle.bug_record.specs.Bugs.{bugs_at}
+use Rattle.bug_record.specs.Images.{bug_in}
+use Rattle.bug_record.specs.Merges.{first_owner}
+use Rattle.bug_core.specs.Others.{those_meant}
 use Rattle.bug_record.specs.declared.bug.Member.{Member}
 use Rattle.bug_record.specs.declared.bug.SetImage.{SetImage}
 use Rattle.bug_record.specs.declared.bug.Shared.{Shared}
@@ -37,6 +41,11 @@ with_shared f g = record f {
 abbrev pub with_all_shared : Shared → List SetImage → Shared
 with_all_shared f [] = f
 with_all_shared f (i ∷ is) = with_all_shared (with_shared f i.shared) is
+
+-- the fields with those of the images of these bugs, and the owner of the first bug that has one
+abbrev pub joined_shared : Shared → List SetImage → List ℕ → Shared
+joined_shared f images numbers =
+    record (with_all_shared f (those_meant numbers images)) { owner = first_owner (bugs_at (bug_in images) numbers) }
 
 -- whether the member has the number n, or, of the rest, whether it has not
 abbrev pub is_part : Bool → ℕ → Member → Bool

@@ -2,11 +2,20 @@
 use Rattle.std.specs.Prelude.{ℕ, false, List, [], ◌∷◌, Option, None}
 use Rattle.ancestry.specs.Nodes.{Node}
 use Rattle.bug_record.specs.Steps.{found_first}
+use Rattle.bug_record.specs.declared.bug.Member.{Member}
 use Rattle.bug_record.specs.declared.bug.SetImage.{SetImage}
+use Rattle.bug_record.specs.declared.bug.Shared.{Shared}
 use Rattle.bug_record.specs.declared.severity.Severity.{Severity}
+
+abbrev pub only_member : ℕ → List ℕ → List ℕ → List Member
+only_member number title sender = record { number = number; title = title; submitter = sender } ∷ []
+
+abbrev pub shared_of_report : List ℕ → Severity → List Node → Shared
+shared_of_report package_name severity found =
+    record { «package» = package_name; severity = severity; closed = false; forwarded = None; owner = None; tags = []; found = found; fixed = [] }
 
 abbrev pub image_of_report : List ℕ → List ℕ → Severity → List ℕ → Option Node → ℕ → SetImage
 image_of_report sender package_name severity title node number = record {
-  shared = record { «package» = package_name; severity = severity; closed = false; forwarded = None; owner = None; tags = []; found = found_first node; fixed = [] };
-  members = record { number = number; title = title; submitter = sender } ∷ [];
+  shared = shared_of_report package_name severity (found_first node);
+  members = only_member number title sender;
 }

@@ -6,7 +6,7 @@ ghost use Rattle.bug_record.specs.Bugs.{bugs_at};
 ghost use Rattle.bug_record.specs.Images.{bug_in};
 ghost use Rattle.bug_record.specs.Merges.{first_owner};
 ghost use Rattle.bug_record.specs.Tags.{tag_place};
-ghost use Rattle.bug_core.specs.Joins.{with_items, with_nodes, with_members, with_shared, with_all_shared, number_of};
+ghost use Rattle.bug_core.specs.Joins.{with_items, with_nodes, with_members, with_shared, with_all_shared, joined_shared, number_of};
 ghost use Rattle.bug_core.specs.Others.{those_meant};
 
 use crate::changes::find_bug;
@@ -105,6 +105,16 @@ fn add_all_shared(
     Ok(())
 }
 
+// The shared fields of that set.
+fn joined_shared(first: &Shared, images: &[SetImage], numbers: &[u64]) -> Result<Shared, AllocError>
+    ensures { IfOk result (λ f. f ≡ joined_shared first.now images.now numbers.now) }
+{
+    let mut shared = first.copy()?;
+    add_all_shared(&mut shared, images, numbers)?;
+    shared.owner = first_owner(images, numbers)?;
+    Ok(shared)
+}
+
 /// The image of the set that the bugs' sets become: with the fields of the first one, the tags and marks of all, and the owner
 /// of the first bug that has one.
 pub(crate) fn joined_image(
@@ -114,13 +124,12 @@ pub(crate) fn joined_image(
     numbers: &[u64],
 ) -> Result<SetImage, AllocError>
     ensures { IfOk result (λ i. i ≡ record {
-      shared = record (with_all_shared first.now (those_meant numbers.now images.now)) { owner = first_owner (bugs_at (bug_in images.now) numbers.now) };
+      shared = joined_shared first.now images.now numbers.now;
       members = with_members [] (those_meant numbers.now images.now);
     }) }
 {
-    let mut shared = first.copy()?;
-    add_all_shared(&mut shared, images, numbers)?;
-    shared.owner = first_owner(images, numbers)?;
-    let members = joined_members(alloc, images, numbers)?;
-    Ok(SetImage { shared, members })
+    Ok(SetImage {
+        shared: joined_shared(first, images, numbers)?,
+        members: joined_members(alloc, images, numbers)?,
+    })
 }

@@ -8,7 +8,7 @@ ghost use Rattle.bug_record.specs.Desk.{Desk, IsSound};
 ghost use Rattle.ancestry.specs.Nodes.{IsNode};
 ghost use Rattle.bug_record.specs.Steps.{found_first, reported};
 ghost use Rattle.bug_record.specs.Images.{put, AreApart, HasMember, FitsDesk};
-ghost use Rattle.bug_core.specs.Reports.{image_of_report};
+ghost use Rattle.bug_core.specs.Reports.{only_member, shared_of_report, image_of_report};
 
 use ancestry::Node;
 use bug_record::{Change, Member, Nodes, Sequence, SetImage, Severity, Shared};
@@ -26,6 +26,45 @@ fn found_first(alloc: Global, node: Option<Node>) -> Result<Nodes, AllocError>
     Ok(nodes)
 }
 
+// The new bug, as the only member of its set.
+fn only_member(
+    alloc: Global,
+    number: u64,
+    title: &str,
+    from: &str,
+) -> Result<Sequence<Member>, AllocError>
+    ensures { IfOk result (λ members. members ≡ only_member number title.now from.now) }
+{
+    let mut members = Sequence::new(alloc);
+    members.push(Member {
+        number,
+        title: Text::of(alloc, title)?,
+        submitter: Text::of(alloc, from)?,
+    })?;
+    Ok(members)
+}
+
+// The shared fields of a new bug, which is open.
+fn shared_of_report(
+    alloc: Global,
+    package: &str,
+    severity: Severity,
+    found: Nodes,
+) -> Result<Shared, AllocError>
+    ensures { IfOk result (λ shared. shared ≡ shared_of_report «package».now severity found) }
+{
+    Ok(Shared {
+        package: Text::of(alloc, package)?,
+        severity,
+        closed: false,
+        forwarded: None,
+        owner: None,
+        tags: Sequence::new(alloc),
+        found,
+        fixed: Sequence::new(alloc),
+    })
+}
+
 // The image of the new bug, alone in its set.
 fn image_of_report(
     alloc: Global,
@@ -38,24 +77,10 @@ fn image_of_report(
 ) -> Result<SetImage, AllocError>
     ensures { IfOk result (λ i. i ≡ image_of_report from.now «package».now severity title.now node number) }
 {
-    let mut members = Sequence::new(alloc);
-    members.push(Member {
-        number,
-        title: Text::of(alloc, title)?,
-        submitter: Text::of(alloc, from)?,
-    })?;
+    let shared = shared_of_report(alloc, package, severity, found_first(alloc, node)?)?;
     Ok(SetImage {
-        shared: Shared {
-            package: Text::of(alloc, package)?,
-            severity,
-            closed: false,
-            forwarded: None,
-            owner: None,
-            tags: Sequence::new(alloc),
-            found: found_first(alloc, node)?,
-            fixed: Sequence::new(alloc),
-        },
-        members,
+        shared,
+        members: only_member(alloc, number, title, from)?,
     })
 }
 

@@ -1,5 +1,7 @@
 //! Texts, number words, and lines of messages.
 
+ghost use Rattle.control_text.specs.WellFormed.{IsWellFormedLine};
+
 use bug_record::{Refusal, is_text};
 use control_text::{Line, LineFault, number_word, read_line, write_command};
 use desk_text::{Outcome, outcome_text};
@@ -26,14 +28,23 @@ fn refusal_answer(alloc: Global, refusal: Refusal) -> Result<String, AllocError>
     String::from_str(alloc, text.trim_start_matches("> \n").trim_end())
 }
 
+// The canonical spelling of a line, or what the line is.
+fn line_text(alloc: Global, line: &Line) -> Result<String, AllocError>
+    requires { IsWellFormedLine line.now }
+{
+    match line {
+        Line::Blank => String::from_str(alloc, "blank"),
+        Line::Comment => String::from_str(alloc, "comment"),
+        Line::Stop => String::from_str(alloc, "stop"),
+        Line::Do(command) => write_command(alloc, command),
+    }
+}
+
 /// The canonical spelling of a line of a message, or what the line is, or the answer where it is
 /// refused.
 pub(crate) fn line_read(alloc: Global, text: &str) -> Result<String, AllocError> {
     match read_line(alloc, text) {
-        Ok(Line::Blank) => String::from_str(alloc, "blank"),
-        Ok(Line::Comment) => String::from_str(alloc, "comment"),
-        Ok(Line::Stop) => String::from_str(alloc, "stop"),
-        Ok(Line::Do(command)) => write_command(alloc, &command),
+        Ok(line) => line_text(alloc, &line),
         Err(LineFault::Refused(refusal)) => refusal_answer(alloc, refusal),
         Err(LineFault::Memory) => Err(AllocError),
     }

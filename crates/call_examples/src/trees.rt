@@ -14,13 +14,11 @@ fn given(node: Result<Node, NodeFault>) -> Result<Option<Node>, AllocError> {
 }
 
 fn node_answer(alloc: Global, node: Result<Node, NodeFault>) -> Result<Option<String>, AllocError> {
-    match given(node)? {
-        Some(node) => {
-            let (source, version) = (node.source(), node.version());
-            Ok(Some(format!(in alloc; "source {source}, version {version}")?))
-        }
-        None => Ok(Some(String::from_str(alloc, "BadNode")?)),
-    }
+    let Some(node) = given(node)? else {
+        return String::from_str(alloc, "BadNode").map(Some);
+    };
+    let (source, version) = (node.source(), node.version());
+    format!(in alloc; "source {source}, version {version}").map(Some)
 }
 
 /// The source and the version of a node that is written so.
@@ -97,11 +95,11 @@ pub(crate) fn is_known(
     tree: &Tree,
     text: &str,
 ) -> Result<Option<String>, AllocError> {
-    match given(Node::read(alloc, text))? {
-        Some(node) if tree.knows(&node) => Ok(Some(String::from_str(alloc, "yes")?)),
-        Some(_) => Ok(Some(String::from_str(alloc, "no")?)),
-        None => Ok(None),
-    }
+    let Some(node) = given(Node::read(alloc, text))? else {
+        return Ok(None);
+    };
+    let known = if tree.knows(&node) { "yes" } else { "no" };
+    String::from_str(alloc, known).map(Some)
 }
 
 /// The line of a node.
@@ -110,10 +108,10 @@ pub(crate) fn line_of(
     tree: &Tree,
     text: &str,
 ) -> Result<Option<String>, AllocError> {
-    match given(Node::read(alloc, text))? {
-        Some(node) => Ok(Some(nodes_text(alloc, &tree.line(&node)?)?)),
-        None => Ok(None),
-    }
+    let Some(node) = given(Node::read(alloc, text))? else {
+        return Ok(None);
+    };
+    nodes_text(alloc, &tree.line(&node)?).map(Some)
 }
 
 /// The heads of a package.
@@ -129,6 +127,34 @@ fn status_parts(text: &str) -> Option<(&str, &str, &str, &str)> {
     Some((node, state, found, fixed))
 }
 
+// The status of a bug at a node, where it is found and fixed at the nodes that are written so.
+fn marked_status(
+    alloc: Global,
+    tree: &Tree,
+    found: &str,
+    fixed: &str,
+    closed: bool,
+    node: &Node,
+) -> Result<Option<String>, AllocError> {
+    let Some(found) = nodes(alloc, found)? else {
+        return Ok(None);
+    };
+    let Some(fixed) = nodes(alloc, fixed)? else {
+        return Ok(None);
+    };
+    let status = status(tree, &found, &fixed, closed, node);
+    format!(in alloc; "{status:?}").map(Some)
+}
+
+// Whether a state is that of a closed bug; `None` where it is no state.
+fn is_closed(state: &str) -> Option<bool> {
+    match state {
+        "open" => Some(false),
+        "closed" => Some(true),
+        _ => None,
+    }
+}
+
 /// The status, at a node, of a bug in a state, with nodes where it is found and fixed.
 pub(crate) fn status_at(
     alloc: Global,
@@ -138,20 +164,11 @@ pub(crate) fn status_at(
     let Some((node, state, found, fixed)) = status_parts(text) else {
         return Ok(None);
     };
-    let closed = match state {
-        "open" => false,
-        "closed" => true,
-        _ => return Ok(None),
+    let Some(closed) = is_closed(state) else {
+        return Ok(None);
     };
-    match (
-        given(Node::read(alloc, node))?,
-        nodes(alloc, found)?,
-        nodes(alloc, fixed)?,
-    ) {
-        (Some(node), Some(found), Some(fixed)) => {
-            let status = status(tree, &found, &fixed, closed, &node);
-            Ok(Some(format!(in alloc; "{status:?}")?))
-        }
-        _ => Ok(None),
-    }
+    let Some(node) = given(Node::read(alloc, node))? else {
+        return Ok(None);
+    };
+    marked_status(alloc, tree, found, fixed, closed, &node)
 }

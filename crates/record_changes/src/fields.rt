@@ -178,6 +178,40 @@ fn clear_owner(shared: &mut Shared)
     shared.owner = None;
 }
 
+// Makes of the shared fields of a set what a command makes of them.
+fn change(
+    alloc: Global,
+    shared: &mut Shared,
+    command: &Command<u64>,
+    from: &str,
+) -> Result<(), PlanFault>
+    requires { HasGoodParts command.now }
+    ensures value { OnOk result (shared.new ≡ shared_after from.now command.now shared.old) }
+    ensures fault { IfErr result (IsVersionFault shared.old.«package») }
+{
+    match command {
+        Command::Found(_, version) => mark_found_in(alloc, shared, version)?,
+        Command::NotFound(_, version) => unmark_found(alloc, shared, version)?,
+        Command::Fixed(_, version) => mark_fixed_in(alloc, shared, version)?,
+        Command::NotFixed(_, version) => unmark_fixed(alloc, shared, version)?,
+        Command::Close(_, version) => close_in(alloc, shared, version)?,
+        Command::Reopen(_, _) => open_if_closed(shared),
+        Command::Severity(_, severity) => set_severity(shared, *severity),
+        Command::Tags(_, steps) => take_steps(&mut shared.tags, steps.as_slice())?,
+        Command::Reassign(_, to, version) => move_and_mark(alloc, shared, to, version)?,
+        Command::Forwarded(_, text) => set_forwarded(shared, text)?,
+        Command::NotForwarded(_) => clear_forwarded(shared),
+        Command::Owner(_, who) => set_owner(alloc, shared, from, who)?,
+        Command::NoOwner(_) => clear_owner(shared),
+        Command::Retitle(_, _)
+        | Command::Submitter(_, _)
+        | Command::Merge(_, _)
+        | Command::ForceMerge(_, _)
+        | Command::Unmerge(_) => {}
+    }
+    Ok(())
+}
+
 /// The shared fields of a set of merged bugs after a command of the sender `from`, where those
 /// before it are `old` (the BTS page 'control and manipulation'). Whether the set has the bug that
 /// the command names is not looked at. `retitle` and `submitter` leave the shared fields as they
@@ -199,25 +233,6 @@ pub fn shared_after(
     ensures fault { IfErr result (IsVersionFault old.now.«package») }
 {
     let mut shared = old.copy()?;
-    match command {
-        Command::Found(_, version) => mark_found_in(alloc, &mut shared, version)?,
-        Command::NotFound(_, version) => unmark_found(alloc, &mut shared, version)?,
-        Command::Fixed(_, version) => mark_fixed_in(alloc, &mut shared, version)?,
-        Command::NotFixed(_, version) => unmark_fixed(alloc, &mut shared, version)?,
-        Command::Close(_, version) => close_in(alloc, &mut shared, version)?,
-        Command::Reopen(_, _) => open_if_closed(&mut shared),
-        Command::Severity(_, severity) => set_severity(&mut shared, *severity),
-        Command::Tags(_, steps) => take_steps(&mut shared.tags, steps.as_slice())?,
-        Command::Reassign(_, to, version) => move_and_mark(alloc, &mut shared, to, version)?,
-        Command::Forwarded(_, text) => set_forwarded(&mut shared, text)?,
-        Command::NotForwarded(_) => clear_forwarded(&mut shared),
-        Command::Owner(_, who) => set_owner(alloc, &mut shared, from, who)?,
-        Command::NoOwner(_) => clear_owner(&mut shared),
-        Command::Retitle(_, _)
-        | Command::Submitter(_, _)
-        | Command::Merge(_, _)
-        | Command::ForceMerge(_, _)
-        | Command::Unmerge(_) => {}
-    }
+    change(alloc, &mut shared, command, from)?;
     Ok(shared)
 }

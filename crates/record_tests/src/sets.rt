@@ -1,24 +1,8 @@
-//! Lists and sets: what is added, what is taken out, and copies.
+//! Lists that are equal, and the orders of severities and tags.
 
-use bug_record::{Numbers, Sequence, Severity, Tag, Tags};
+use bug_record::{Sequence, Severity, Tag, Tags};
 use std::alloc::{AllocError, Global};
 use std::test::Fail;
-
-#[test]
-fn added_numbers_ascend_without_repeats(rt: HostRuntime) -> Result<(), Fail> {
-    let mut numbers = Numbers::one(rt.alloc(), 20)?;
-    assert!(rt; numbers.as_slice() == [20].as_slice());
-    for number in [3, 20, 100, 3, 7] {
-        numbers.add(number)?;
-    }
-    let copy = numbers.copy()?;
-    numbers.push(5)?;
-    assert!(rt; numbers.as_slice() == [3, 7, 20, 100, 5].as_slice());
-    assert!(rt; copy.as_slice() == [3, 7, 20, 100].as_slice());
-    let none: Numbers = numbers.empty();
-    assert!(rt; none.as_slice().is_empty());
-    Ok(())
-}
 
 // The tags, added one after another.
 fn tags(alloc: Global, added: &[Tag]) -> Result<Tags, AllocError> {
@@ -27,22 +11,6 @@ fn tags(alloc: Global, added: &[Tag]) -> Result<Tags, AllocError> {
         tags.add(*tag)?;
     }
     Ok(tags)
-}
-
-#[test]
-fn added_tags_ascend_and_one_is_taken_out(rt: HostRuntime) -> Result<(), Fail> {
-    let mut set = tags(
-        rt.alloc(),
-        &[Tag::Wontfix, Tag::A11y, Tag::Patch, Tag::A11y],
-    )?;
-    let copy = set.copy()?;
-    // the second time it is not there
-    for _ in 0..2 {
-        set.remove_tag(Tag::Patch);
-        assert!(rt; set.as_slice() == [Tag::A11y, Tag::Wontfix].as_slice());
-    }
-    assert!(rt; copy.as_slice() == [Tag::A11y, Tag::Patch, Tag::Wontfix].as_slice());
-    Ok(())
 }
 
 #[test]
