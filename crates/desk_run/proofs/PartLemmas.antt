@@ -6,10 +6,11 @@ use Rattle.std.specs.Io.KnownBytes.{Appends}
 use Rattle.bug_record.specs.Desk.{Desk}
 use Rattle.desk_text.specs.Texts.{fault_text}
 use Rattle.desk_text.specs.declared.outcome.StoreFault.{StoreFault}
+use Rattle.desk_text.specs.declared.outcome.StoreFault.TheVariants as faults
 use Rattle.desk_text.specs.declared.outcome.End.{End}
 use Rattle.desk_text.specs.declared.outcome.End.TheVariants as ends
-use Rattle.desk_store.specs.Store.{faults_after}
-use Rattle.desk_store.specs.Message.{Entry, Machine, machine, after_lines, at_start, IsReceived, Comes}
+use Rattle.desk_store.specs.Store.{Faults, counted}
+use Rattle.desk_store.specs.Message.{Entry, Machine, machine, after_lines, at_start, IsReceived, Comes, faults_after_end}
 use Rattle.desk_messages.specs.Transcripts.{received_text}
 use Rattle.desk_messages.specs.Reports.{report_of, IsReported, faults_after_report}
 use Rattle.desk_run.specs.Script.{Part, Message, DirectiveLine, Directive, Report, Standing, standing, part_text, part_after, message_text, after_message, refuses, directive_of, directive_text, after_directive, report_text, after_report}
@@ -163,7 +164,7 @@ reported_fault line p v sev t s d reports.BadTitle f e says h = absurd (none-som
 reported_fault line p v sev t s d reports.Full f e says h = absurd (none-some f e)
 
 -- how it is counted
-pub refused_count : (fault : ReportFault) (n : ℕ) → store_fault fault ≡ None → faults_after_report (Err fault) n ≡ n
+pub refused_count : (fault : ReportFault) (n : Faults) → store_fault fault ≡ None → faults_after_report (Err fault) n ≡ n
 refused_count (reports.Store fault) n e = absurd (none-some fault (sym e))
 refused_count reports.BadPackage n e = refl
 refused_count reports.BadVersion n e = refl
@@ -171,10 +172,26 @@ refused_count reports.BadSeverity n e = refl
 refused_count reports.BadTitle n e = refl
 refused_count reports.Full n e = refl
 
-pub fault_count : (fault : ReportFault) (f : StoreFault) (n : ℕ) → store_fault fault ≡ Some f → faults_after_report (Err fault) n ≡ faults_after {T = Unit {0}} (Err f) n
-fault_count (reports.Store fault) f n e = ap (λ (x : StoreFault). faults_after {T = Unit {0}} (Err x) n) (same_Some fault f e)
+pub fault_count : (fault : ReportFault) (f : StoreFault) (n : Faults) → store_fault fault ≡ Some f → faults_after_report (Err fault) n ≡ counted f n
+fault_count (reports.Store fault) f n e = ap (λ (x : StoreFault). counted x n) (same_Some fault f e)
 fault_count reports.BadPackage f n e = absurd (none-some f e)
 fault_count reports.BadVersion f n e = absurd (none-some f e)
 fault_count reports.BadSeverity f n e = absurd (none-some f e)
 fault_count reports.BadTitle f n e = absurd (none-some f e)
 fault_count reports.Full f n e = absurd (none-some f e)
+
+-- at most one fault is counted
+pub report_count : (answer : Result ℕ ReportFault) (n : Faults) → (fault : StoreFault) × (faults_after_report answer n ≡ counted fault n)
+report_count (Ok number) n = (faults.Memory, refl)
+report_count (Err (reports.Store fault)) n = (fault, refl)
+report_count (Err reports.BadPackage) n = (faults.Memory, refl)
+report_count (Err reports.BadVersion) n = (faults.Memory, refl)
+report_count (Err reports.BadSeverity) n = (faults.Memory, refl)
+report_count (Err reports.BadTitle) n = (faults.Memory, refl)
+report_count (Err reports.Full) n = (faults.Memory, refl)
+
+pub message_count : (end : End) (n : Faults) → (fault : StoreFault) × (faults_after_end end n ≡ counted fault n)
+message_count ends.All n = (faults.Memory, refl)
+message_count ends.Stopped n = (faults.Memory, refl)
+message_count ends.TooManyUnreadable n = (faults.Memory, refl)
+message_count (ends.Store fault k) n = (fault, refl)

@@ -7,7 +7,7 @@ use Rattle.bug_record.specs.Desk.{Desk}
 use Rattle.desk_text.specs.Texts.{fault_text}
 use Rattle.desk_text.specs.declared.outcome.StoreFault.{StoreFault}
 use Rattle.desk_text.specs.declared.outcome.End.TheVariants as ends
-use Rattle.desk_store.specs.Store.{faults_after, one_more}
+use Rattle.desk_store.specs.Store.{Faults, counted}
 use Rattle.desk_store.specs.Message.{Entry, IsReceived}
 use Rattle.desk_lines.specs.Lines.{raw_lines, without_return}
 use Rattle.desk_lines.specs.Reading.{IsGoodLine}
@@ -127,11 +127,11 @@ abbrev pub Carries : {T : Type 0} → Part → Standing → Standing → Option 
 Carries part a b c0 c1 (Ok done) = (b ≡ part_after part a) × Appends c0 c1 (part_text part a)
 Carries part a b c0 c1 (Err fault) = StopsIn part a b.desk c0 c1 fault
 
--- The store's count of faults after a script, or a part of one: a fault of the store is counted, also where its text could
--- not be built or written.
-abbrev pub IsCounted : {T : Type 0} → Result T ScriptFault → ℕ → ℕ → Type 0
+-- The store's faults after a script, or a part of one. Where no text could be built or written, a fault of the store of
+-- any kind may have come before (at `Memory`, which is not counted, or at none, they are as before).
+abbrev pub IsCounted : {T : Type 0} → Result T ScriptFault → Faults → Faults → Type 0
 IsCounted (Ok end) before now = now ≡ before
-IsCounted (Err (Store fault)) before now = now ≡ faults_after {T = ⊤} (Err fault) before
-IsCounted (Err Write) before now = (now ≡ before) ⊎ (now ≡ one_more before)
-IsCounted (Err Memory) before now = (now ≡ before) ⊎ (now ≡ one_more before)
+IsCounted (Err (Store fault)) before now = now ≡ counted fault before
+IsCounted (Err Write) before now = (fault : StoreFault) × (now ≡ counted fault before)
+IsCounted (Err Memory) before now = (fault : StoreFault) × (now ≡ counted fault before)
 IsCounted (Err fault) before now = now ≡ before

@@ -5,7 +5,7 @@ use Rattle.desk_store.proofs.HoldsLemmas.{holds_weaker}
 use Rattle.desk_run.specs.Script.{DirectiveLine, standing}
 use Rattle.desk_text.specs.Answers.{branch_answer}
 use Rattle.desk_run.proofs.PartLemmas.{untold}
-use Rattle.desk_run.proofs.BranchLemmas.{branch_whole, branch_fault, branch_carried, whole_count, branch_count}
+use Rattle.desk_run.proofs.BranchLemmas.{branch_whole, branch_fault, branch_carried, whole_count, fault_count, branch_count}
 use Rattle.desk_run.proofs.script.carry_nodes.Goals as goal
 
 pub returns-in_default-clause-answer : goal.returns-in_default-clause-answer
@@ -43,7 +43,7 @@ returns-in-Some-clause-answer g c =
 pub returns-in-Some-clause-count : goal.returns-in-Some-clause-count
 returns-in-Some-clause-count g c =
     let of_store = sym c.fault_of_branch.ensures ∙ c.in-Some.is in
-    c.branch-answer.ensures.count ∙ branch_count c.branch-answer.result c.in-Some.fault _ of_store
+    c.branch-answer.ensures.count ∙ fault_count c.branch-answer.result c.in-Some.fault _ of_store
 
 pub returns-clause-answer : goal.returns-clause-answer
 returns-clause-answer g c =
@@ -59,3 +59,13 @@ pub returns-clause-count : goal.returns-clause-count
 returns-clause-count g c =
     let not_of_store = sym c.fault_of_branch.ensures ∙ c.in_default-fault_of_branch.is in
     c.branch-answer.ensures.count ∙ whole_count c.branch-answer.result _ not_of_store
+
+pub returns-in_default-clause-count : goal.returns-in_default-clause-count
+returns-in_default-clause-count g c =
+    let n = branch_count c.branch-answer.result (g.S.Records.faults c.args.store.now) in
+    (n.0, c.branch-answer.ensures.count ∙ n.1)
+
+pub returns-in-Err-clause-count : goal.returns-in-Err-clause-count
+returns-in-Err-clause-count g c =
+    let n = branch_count c.branch-answer.result (g.S.Records.faults c.args.store.now) in
+    (n.0, c.branch-answer.ensures.count ∙ n.1)

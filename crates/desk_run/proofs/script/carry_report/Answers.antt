@@ -3,7 +3,7 @@ use Rattle.std.specs.Io.KnownBytes.{Appends}
 use Rattle.desk_store.proofs.HoldsLemmas.{holds_weaker}
 use Rattle.desk_run.specs.Script.{DirectiveLine, standing}
 use Rattle.desk_text.specs.Answers.{report_answer}
-use Rattle.desk_run.proofs.PartLemmas.{untold, reported_carried, reported_whole, reported_refused, reported_fault, fault_count, refused_count}
+use Rattle.desk_run.proofs.PartLemmas.{untold, reported_carried, reported_whole, reported_refused, reported_fault, fault_count, refused_count, report_count}
 use Rattle.desk_run.proofs.script.carry_report.Goals as goal
 
 pub returns-in_default-clause-answer : goal.returns-in_default-clause-answer
@@ -67,3 +67,13 @@ pub returns-clause-count : goal.returns-clause-count
 returns-clause-count g c =
     let not_of_store = sym c.store_fault.ensures ∙ c.in-None.is in
     rw c.in-Err-answer.is at c.report-answer.ensures.count ∙ refused_count c.in-Err-answer.fault _ not_of_store
+
+pub returns-in_default-clause-count : goal.returns-in_default-clause-count
+returns-in_default-clause-count g c =
+    let n = report_count c.report-answer.result (g.S.Records.faults c.args.store.now) in
+    (n.0, c.report-answer.ensures.count ∙ n.1)
+
+pub returns-in-Err-clause-count : goal.returns-in-Err-clause-count
+returns-in-Err-clause-count g c =
+    let n = report_count c.report-answer.result (g.S.Records.faults c.args.store.now) in
+    (n.0, c.report-answer.ensures.count ∙ n.1)

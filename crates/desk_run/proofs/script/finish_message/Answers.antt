@@ -4,7 +4,7 @@ use Rattle.std.specs.Io.KnownBytes.{Appends}
 use Rattle.desk_store.proofs.HoldsLemmas.{holds_weaker}
 use Rattle.desk_messages.specs.Transcripts.{received_text}
 use Rattle.desk_run.specs.Script.{Message, standing}
-use Rattle.desk_run.proofs.PartLemmas.{untold, received_carried, received_fault, received_whole}
+use Rattle.desk_run.proofs.PartLemmas.{untold, received_carried, received_fault, received_whole, message_count}
 use Rattle.desk_run.proofs.script.finish_message.Goals as goal
 
 pub returns-in_default-clause-answer : goal.returns-in_default-clause-answer
@@ -48,3 +48,13 @@ returns-clause-answer g c =
     (λ r.
     let w = received_whole c.args.run.now.gathered.items s c.receive_lines-received.result.outcomes c.receive_lines-received.result.end _ c.either-run.result none either (rw (c.as_str.ensures, c.as_slice-lines.ensures.value) at r) in
     (w.0, subst (Appends (g.W.Write.contents c.args.writer.now) (g.W.Write.contents c.write_out.new.writer)) (text ∙ ap (received_text c.receive_lines-received.result.outcomes c.receive_lines-received.result.end) c.as_slice-lines.ensures.value ∙ w.1) c.in-Ok-write_out.ensures.all))
+
+pub returns-in_default-clause-count : goal.returns-in_default-clause-count
+returns-in_default-clause-count g c =
+    let n = message_count c.receive_lines-received.result.end (g.S.Records.faults c.args.store.now) in
+    (n.0, c.receive_lines-received.ensures.count ∙ n.1)
+
+pub returns-in-Err-clause-count : goal.returns-in-Err-clause-count
+returns-in-Err-clause-count g c =
+    let n = message_count c.receive_lines-received.result.end (g.S.Records.faults c.args.store.now) in
+    (n.0, c.receive_lines-received.ensures.count ∙ n.1)
