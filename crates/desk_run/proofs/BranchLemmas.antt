@@ -62,12 +62,12 @@ pub branch_fault : (line : List ℕ) (names : List (List ℕ)) (nodes : List Nod
 branch_fault line names nodes s d (Ok answer) fault e n f h = absurd (none-some fault f)
 branch_fault line names nodes s d (Err told) fault e n f h = (subst AsksStore (sym e) (nodes, n), h, ap fault_text (same_Some told fault f))
 
-pub branch_carried : (line : List ℕ) (names : List (List ℕ)) (nodes : List Node) (s : Standing) (d : Desk) (answer : Result (Result (Unit {0}) BranchFault) StoreFault) → directive_of line ≡ Branch names → nodes_of names ≡ Some nodes
-    → Branches s.desk d answer nodes → IsCarried (DirectiveLine line) s d (branch_answer answer)
-branch_carried line names nodes s d (Ok answer) e n h =
+pub branch_carried : (line : List ℕ) (names : List (List ℕ)) (nodes : List Node) (s : Standing) (d : Desk) (n0 n1 : Faults) (answer : Result (Result (Unit {0}) BranchFault) StoreFault) → directive_of line ≡ Branch names → nodes_of names ≡ Some nodes → n1 ≡ faults_after answer n0
+    → Branches s.desk d answer nodes → IsCarried (DirectiveLine line) s d n0 n1 (branch_answer answer)
+branch_carried line names nodes s d n0 n1 (Ok answer) e n counted h =
     let w = branch_whole line names nodes s d (Ok answer) (s.refused || refuses_branch (Ok answer)) e n refl refl h in
-    inl (ap (λ (x : Standing). x.desk) w.0, w.1)
-branch_carried line names nodes s d (Err fault) e n h = inr (fault, branch_fault line names nodes s d (Err fault) fault e n refl h)
+    inl (ap (λ (x : Standing). x.desk) w.0, w.1, counted)
+branch_carried line names nodes s d n0 n1 (Err fault) e n counted h = inr (fault, branch_fault line names nodes s d (Err fault) fault e n refl h, counted)
 
 -- how it is counted
 pub whole_count : (answer : Result (Result (Unit {0}) BranchFault) StoreFault) (n : Faults) → fault_of_branch answer ≡ None → faults_after answer n ≡ n

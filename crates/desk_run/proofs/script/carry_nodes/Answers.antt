@@ -12,8 +12,8 @@ pub returns-in_default-clause-answer : goal.returns-in_default-clause-answer
 returns-in_default-clause-answer g c =
     let s = standing (g.S.Records.desk c.args.store.now) c.args.run.now.sender c.args.run.now.refused in
     holds_weaker c.branch-answer.ensures.answer
-    (λ r. untold (DirectiveLine c.args.line.now) s _ _ (branch_answer c.branch-answer.result)
-    (branch_carried c.args.line.now c.requires.0 c.args.nodes.now s _ c.branch-answer.result c.requires.1 c.requires.2 r))
+    (λ r. untold (DirectiveLine c.args.line.now) s _ _ _ _ (branch_answer c.branch-answer.result)
+    (branch_carried c.args.line.now c.requires.0 c.args.nodes.now s _ _ _ c.branch-answer.result c.requires.1 c.requires.2 c.branch-answer.ensures.count r))
 
 pub returns-in-Err-clause-answer : goal.returns-in-Err-clause-answer
 returns-in-Err-clause-answer g c =
@@ -24,7 +24,7 @@ returns-in-Err-clause-answer g c =
       branch_answer c.branch-answer.result,
       c.in-Err.ensures.unfinished.0,
       subst (λ (w : List ℕ). c.in-Err.ensures.unfinished.0 < length w) text c.in-Err.ensures.unfinished.1,
-      branch_carried c.args.line.now c.requires.0 c.args.nodes.now s _ c.branch-answer.result c.requires.1 c.requires.2 r,
+      branch_carried c.args.line.now c.requires.0 c.args.nodes.now s _ _ _ c.branch-answer.result c.requires.1 c.requires.2 c.branch-answer.ensures.count r,
       subst (λ (w : List ℕ). Appends (g.W.Write.contents c.args.writer.now) (g.W.Write.contents c.write_out.new.writer) (take c.in-Err.ensures.unfinished.0 w)) text c.in-Err.ensures.unfinished.2,
     ))
 
@@ -37,6 +37,7 @@ returns-in-Some-clause-answer g c =
     (λ r. (
       branch_answer c.branch-answer.result,
       branch_fault c.args.line.now c.requires.0 c.args.nodes.now s _ c.branch-answer.result c.in-Some.fault c.requires.1 c.requires.2 of_store r,
+      c.branch-answer.ensures.count ∙ fault_count c.branch-answer.result c.in-Some.fault _ of_store,
       subst (Appends (g.W.Write.contents c.args.writer.now) (g.W.Write.contents c.write_out.new.writer)) text c.in-Ok-write_out.ensures.all,
     ))
 
