@@ -1,6 +1,7 @@
 -- What the program does. This project's own rule.
 use Rattle.std.specs.Prelude.{ℕ, ◌≡◌, List, Option, Some, None, Result, Ok, Err, if◌then◌else◌, ◌==◌}
 use Rattle.bug_record.specs.Desk.{Desk}
+use Rattle.desk_store.specs.Store.{no_faults}
 use Rattle.desk_store.specs.Plain.{empty_desk}
 use Rattle.desk_run.specs.Script.{begin}
 use Rattle.desk_run.specs.Running.{Ends}
@@ -21,9 +22,10 @@ status_of (Ok Accepted) = 0
 status_of (Ok Refused) = 1
 status_of (Err fault) = 3
 
--- The script of this input was run over an empty desk whose first number is 1, with this exit status.
+-- The script of this input was run over an empty desk whose first number is 1, with this exit status. A desk in memory counts
+-- no fault, since it fails only where there is no memory.
 pub record IsRun (input : List ℕ) (c0 c1 : Option (List ℕ)) (status : ℕ) : Type 0 where
   pub result : Result ScriptEnd ScriptFault
   pub desk : Desk
-  pub ends : Ends input (begin (empty_desk 1)) desk c0 c1 result
+  pub ends : Ends input (begin (empty_desk 1)) desk no_faults no_faults c0 c1 result
   pub status_is : status ≡ status_of result

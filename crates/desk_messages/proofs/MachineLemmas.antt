@@ -11,6 +11,7 @@ use Rattle.control_text.specs.declared.line.Line.TheVariants.{Do}
 use Rattle.desk_text.specs.declared.outcome.Outcome.{Outcome}
 use Rattle.desk_text.specs.declared.outcome.End.{End}
 use Rattle.desk_text.specs.declared.outcome.End.TheVariants as ends
+use Rattle.desk_store.specs.Store.{Faults}
 use Rattle.desk_store.specs.Message.{Entry, Machine, machine, after_lines, at_start, takes, takes_at, end_of, does, with_outcome, Comes, IsReceived, faults_after_end}
 use Rattle.desk_messages.specs.Taking.{goes_on}
 use Rattle.desk_messages.specs.Transcripts.{IsLineOf}
@@ -69,11 +70,11 @@ goes_on-all ends.TooManyUnreadable h = absurd (cc)
 goes_on-all (ends.Store fault k) h = absurd (cc)
 
 -- a message that ended without a fault has counted none
-pub settled_faults : (es : List Entry) (end : End) (n : ℕ) → end_of es ≡ end → faults_after_end end n ≡ n
-settled_faults es ends.All n h = refl
-settled_faults es ends.Stopped n h = refl
-settled_faults es ends.TooManyUnreadable n h = refl
-settled_faults es (ends.Store fault k) n h = absurd (never_store es fault k h)
+pub settled_faults : (es : List Entry) (end : End) (faults : Faults) → end_of es ≡ end → faults_after_end end faults ≡ faults
+settled_faults es ends.All faults h = refl
+settled_faults es ends.Stopped faults h = refl
+settled_faults es ends.TooManyUnreadable faults h = refl
+settled_faults es (ends.Store fault k) faults h = absurd (never_store es fault k h)
 
 -- the text of the line at an index
 pub line_at : (lines : List (List ℕ)) (i : ℕ) (line text : List ℕ) → text ≡ line → line ≡ get_or lines i line → text ≡ get_or lines i text

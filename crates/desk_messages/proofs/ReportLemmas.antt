@@ -7,6 +7,7 @@ use Rattle.bug_record.specs.Steps.{reported}
 use Rattle.bug_record.specs.declared.severity.Severity.{Severity}
 use Rattle.desk_text.specs.declared.outcome.ReportFault.{ReportFault}
 use Rattle.desk_text.specs.declared.outcome.ReportFault.TheVariants.{BadPackage, BadVersion, BadSeverity, BadTitle, Full, Store}
+use Rattle.desk_store.specs.Store.{Faults}
 use Rattle.desk_messages.specs.Reports.{node_reported, report_severity, desk_reported, report_of, IsOfWords, IsReported, faults_after_report}
 
 -- words that are refused
@@ -22,13 +23,13 @@ words_refused sender p v s t d BadTitle o e = (words_of sender p v s t d BadTitl
 words_refused sender p v s t d Full o e = absurd o
 words_refused sender p v s t d (Store fault) o e = absurd o
 
-pub words_not_counted : (fault : ReportFault) (n : ℕ) → IsOfWords fault → n ≡ faults_after_report (Err fault) n
-words_not_counted BadPackage n o = refl
-words_not_counted BadVersion n o = refl
-words_not_counted BadSeverity n o = refl
-words_not_counted BadTitle n o = refl
-words_not_counted Full n o = absurd o
-words_not_counted (Store fault) n o = absurd o
+pub words_not_counted : (fault : ReportFault) (faults : Faults) → IsOfWords fault → faults ≡ faults_after_report (Err fault) faults
+words_not_counted BadPackage faults o = refl
+words_not_counted BadVersion faults o = refl
+words_not_counted BadSeverity faults o = refl
+words_not_counted BadTitle faults o = refl
+words_not_counted Full faults o = absurd o
+words_not_counted (Store fault) faults o = absurd o
 
 -- no number is left
 pub report_full : (sender p : List ℕ) (v : Option (List ℕ)) (s t : List ℕ) (d e : Desk) (severity : Severity) (next : ℕ) → Ok severity ≡ report_severity p v s t → (next ≡ d.next) × (e ≡ d) → 1000000000 ≤ next → IsReported sender p v s t d (Err Full) e

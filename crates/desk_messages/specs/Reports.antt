@@ -8,9 +8,9 @@ use Rattle.bug_record.specs.Severities.{severity_of}
 use Rattle.bug_record.specs.Desk.{Desk}
 use Rattle.bug_record.specs.Steps.{reported}
 use Rattle.bug_record.specs.declared.severity.Severity.{Severity}
-use Rattle.desk_store.specs.Store.{faults_after}
 use Rattle.desk_text.specs.declared.outcome.ReportFault.{ReportFault}
 use Rattle.desk_text.specs.declared.outcome.ReportFault.TheVariants.{BadPackage, BadVersion, BadSeverity, BadTitle, Full, Store}
+use Rattle.desk_store.specs.Store.{Faults, counted}
 
 -- a version that is given, and is none
 abbrev pub has_bad_version : Option (List ℕ) → Bool
@@ -57,8 +57,8 @@ IsReported sender package_name version severity title old (Ok number) new = (rep
 IsReported sender package_name version severity title old (Err (Store fault)) new = (s : Severity) × (report_severity package_name version severity title ≡ Ok s) × (new ≡ old)
 IsReported sender package_name version severity title old (Err refusal) new = (report_of old sender package_name version severity title ≡ Err refusal) × (new ≡ old)
 
--- the store's count of faults after a report
-abbrev pub faults_after_report : Result ℕ ReportFault → ℕ → ℕ
-faults_after_report (Ok number) n = n
-faults_after_report (Err (Store fault)) n = faults_after {T = ⊤} (Err fault) n
-faults_after_report (Err refusal) n = n
+-- the store's faults after a report
+abbrev pub faults_after_report : Result ℕ ReportFault → Faults → Faults
+faults_after_report (Ok number) faults = faults
+faults_after_report (Err (Store fault)) faults = counted fault faults
+faults_after_report (Err refusal) faults = faults

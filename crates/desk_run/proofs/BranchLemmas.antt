@@ -14,7 +14,7 @@ use Rattle.bug_record.specs.Desk.{Desk}
 use Rattle.desk_text.specs.declared.outcome.StoreFault.{StoreFault}
 use Rattle.desk_text.specs.declared.outcome.StoreFault.TheVariants as faults
 use Rattle.desk_text.specs.Texts.{fault_text}
-use Rattle.desk_store.specs.Store.{Branches, faults_after}
+use Rattle.desk_store.specs.Store.{Branches, Faults, counted, faults_after}
 use Rattle.desk_run.specs.Branches.{BranchRefusal, BadNode, node_before, nodes_of, or_refused, branched_by, branch_of, AreRead}
 use Rattle.desk_run.specs.Script.{DirectiveLine, Branch, Standing, standing, part_text, part_after, directive_of, branch_text, after_branch}
 use Rattle.desk_run.specs.Running.{AsksStore, FaultsIn, IsCarried}
@@ -29,15 +29,6 @@ or_false false = refl
 or_true : (b : Bool) → (b || true) ≡ true
 or_true true = refl
 or_true false = refl
-
-faults_same : (told fault : StoreFault) (n : ℕ) → told ≡ fault → faults_after {T = Result (Unit {0}) BranchFault} (Err told) n ≡ faults_after {T = Unit {0}} (Err fault) n
-faults_same told fault n e = of_kind told ∙ ap (λ (f : StoreFault). faults_after {T = Unit {0}} (Err f) n) e
-  where
-    of_kind : (f : StoreFault) → faults_after {T = Result (Unit {0}) BranchFault} (Err f) n ≡ faults_after {T = Unit {0}} (Err f) n
-    of_kind faults.Memory = refl
-    of_kind faults.Device = refl
-    of_kind faults.Full = refl
-    of_kind faults.Foreign = refl
 
 -- what a branch of these nodes comes to
 branch_is : (line : List ℕ) (names : List (List ℕ)) (nodes : List Node) (s : Standing) (r : Result Ancestry BranchFault) → directive_of line ≡ Branch names → nodes_of names ≡ Some nodes → branched s.desk.tree nodes ≡ r
@@ -71,21 +62,26 @@ pub branch_fault : (line : List ℕ) (names : List (List ℕ)) (nodes : List Nod
 branch_fault line names nodes s d (Ok answer) fault e n f h = absurd (none-some fault f)
 branch_fault line names nodes s d (Err told) fault e n f h = (subst AsksStore (sym e) (nodes, n), h, ap fault_text (same_Some told fault f))
 
-pub branch_carried : (line : List ℕ) (names : List (List ℕ)) (nodes : List Node) (s : Standing) (d : Desk) (answer : Result (Result (Unit {0}) BranchFault) StoreFault) → directive_of line ≡ Branch names → nodes_of names ≡ Some nodes
-    → Branches s.desk d answer nodes → IsCarried (DirectiveLine line) s d (branch_answer answer)
-branch_carried line names nodes s d (Ok answer) e n h =
+pub branch_carried : (line : List ℕ) (names : List (List ℕ)) (nodes : List Node) (s : Standing) (d : Desk) (n0 n1 : Faults) (answer : Result (Result (Unit {0}) BranchFault) StoreFault) → directive_of line ≡ Branch names → nodes_of names ≡ Some nodes → n1 ≡ faults_after answer n0
+    → Branches s.desk d answer nodes → IsCarried (DirectiveLine line) s d n0 n1 (branch_answer answer)
+branch_carried line names nodes s d n0 n1 (Ok answer) e n counted h =
     let w = branch_whole line names nodes s d (Ok answer) (s.refused || refuses_branch (Ok answer)) e n refl refl h in
-    inl (ap (λ (x : Standing). x.desk) w.0, w.1)
-branch_carried line names nodes s d (Err fault) e n h = inr (fault, branch_fault line names nodes s d (Err fault) fault e n refl h)
+    inl (ap (λ (x : Standing). x.desk) w.0, w.1, counted)
+branch_carried line names nodes s d n0 n1 (Err fault) e n counted h = inr (fault, branch_fault line names nodes s d (Err fault) fault e n refl h, counted)
 
 -- how it is counted
-pub whole_count : (answer : Result (Result (Unit {0}) BranchFault) StoreFault) (n : ℕ) → fault_of_branch answer ≡ None → faults_after answer n ≡ n
+pub whole_count : (answer : Result (Result (Unit {0}) BranchFault) StoreFault) (n : Faults) → fault_of_branch answer ≡ None → faults_after answer n ≡ n
 whole_count (Ok answer) n f = refl
 whole_count (Err fault) n f = absurd (none-some fault (sym f))
 
-pub branch_count : (answer : Result (Result (Unit {0}) BranchFault) StoreFault) (fault : StoreFault) (n : ℕ) → fault_of_branch answer ≡ Some fault → faults_after answer n ≡ faults_after {T = Unit {0}} (Err fault) n
-branch_count (Ok answer) fault n f = absurd (none-some fault f)
-branch_count (Err told) fault n f = faults_same told fault n (same_Some told fault f)
+pub fault_count : (answer : Result (Result (Unit {0}) BranchFault) StoreFault) (fault : StoreFault) (n : Faults) → fault_of_branch answer ≡ Some fault → faults_after answer n ≡ counted fault n
+fault_count (Ok answer) fault n f = absurd (none-some fault f)
+fault_count (Err told) fault n f = ap (λ (x : StoreFault). counted x n) (same_Some told fault f)
+
+-- at most one fault is counted
+pub branch_count : (answer : Result (Result (Unit {0}) BranchFault) StoreFault) (n : Faults) → (fault : StoreFault) × (faults_after answer n ≡ counted fault n)
+branch_count (Ok answer) n = (faults.Memory, refl)
+branch_count (Err fault) n = (fault, refl)
 
 -- ---- reading the words
 

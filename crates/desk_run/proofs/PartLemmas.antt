@@ -6,10 +6,11 @@ use Rattle.std.specs.Io.KnownBytes.{Appends}
 use Rattle.bug_record.specs.Desk.{Desk}
 use Rattle.desk_text.specs.Texts.{fault_text}
 use Rattle.desk_text.specs.declared.outcome.StoreFault.{StoreFault}
+use Rattle.desk_text.specs.declared.outcome.StoreFault.TheVariants as faults
 use Rattle.desk_text.specs.declared.outcome.End.{End}
 use Rattle.desk_text.specs.declared.outcome.End.TheVariants as ends
-use Rattle.desk_store.specs.Store.{faults_after}
-use Rattle.desk_store.specs.Message.{Entry, Machine, machine, after_lines, at_start, IsReceived, Comes}
+use Rattle.desk_store.specs.Store.{Faults, counted}
+use Rattle.desk_store.specs.Message.{Entry, Machine, machine, after_lines, at_start, IsReceived, Comes, faults_after_end}
 use Rattle.desk_messages.specs.Transcripts.{received_text}
 use Rattle.desk_messages.specs.Reports.{report_of, IsReported, faults_after_report}
 use Rattle.desk_run.specs.Script.{Part, Message, DirectiveLine, Directive, Report, Standing, standing, part_text, part_after, message_text, after_message, refuses, directive_of, directive_text, after_directive, report_text, after_report}
@@ -35,17 +36,18 @@ message_whole lines s outcomes end d h =
       m.1 ∙ ap (λ (x : End). standing d s.sender (s.refused || refuses outcomes x)) h.end_is,
     )
 
-carried_whole : (lines : List (List ℕ)) (s : Standing) (outcomes : List Entry) (end : End) (d : Desk) → Comes s.sender lines s.desk outcomes end d → IsCarried (Message lines) s d (received_text outcomes end lines)
-carried_whole lines s outcomes end d h =
+carried_whole : (lines : List (List ℕ)) (s : Standing) (outcomes : List Entry) (end : End) (d : Desk) (n0 n1 : Faults) → n1 ≡ n0 → Comes s.sender lines s.desk outcomes end d → IsCarried (Message lines) s d n0 n1 (received_text outcomes end lines)
+carried_whole lines s outcomes end d n0 n1 n h =
     let w = message_whole lines s outcomes end d h in
-    inl (sym (ap (λ (x : Standing). x.desk) w.1), sym w.0)
+    inl (sym (ap (λ (x : Standing). x.desk) w.1), sym w.0, n)
 
 -- a message that was received is carried out, whole or up to a fault
-pub received_carried : (lines : List (List ℕ)) (s : Standing) (outcomes : List Entry) (end : End) (d : Desk) → IsReceived s.sender lines s.desk outcomes end d → IsCarried (Message lines) s d (received_text outcomes end lines)
-received_carried lines s outcomes ends.All d h = carried_whole lines s outcomes ends.All d h
-received_carried lines s outcomes ends.Stopped d h = carried_whole lines s outcomes ends.Stopped d h
-received_carried lines s outcomes ends.TooManyUnreadable d h = carried_whole lines s outcomes ends.TooManyUnreadable d h
-received_carried lines s outcomes (ends.Store fault k) d h = inr (fault, (outcomes, k, h, refl))
+pub received_carried : (lines : List (List ℕ)) (s : Standing) (outcomes : List Entry) (end : End) (d : Desk) (n0 n1 : Faults) → n1 ≡ faults_after_end end n0 → IsReceived s.sender lines s.desk outcomes end d
+    → IsCarried (Message lines) s d n0 n1 (received_text outcomes end lines)
+received_carried lines s outcomes ends.All d n0 n1 n h = carried_whole lines s outcomes ends.All d n0 n1 n h
+received_carried lines s outcomes ends.Stopped d n0 n1 n h = carried_whole lines s outcomes ends.Stopped d n0 n1 n h
+received_carried lines s outcomes ends.TooManyUnreadable d n0 n1 n h = carried_whole lines s outcomes ends.TooManyUnreadable d n0 n1 n h
+received_carried lines s outcomes (ends.Store fault k) d n0 n1 n h = inr (fault, (outcomes, k, h, refl), n)
 
 -- at a fault of the store
 pub received_fault : (lines : List (List ℕ)) (s : Standing) (outcomes : List Entry) (end : End) (d : Desk) (fault : StoreFault) → fault_of_end end ≡ Some fault → IsReceived s.sender lines s.desk outcomes end d → FaultsIn (Message lines) s fault d (received_text outcomes end lines)
@@ -80,33 +82,34 @@ order_done line s b c0 c1 text directive e f t h =
     (f ∙ sym o.1, subst (Appends c0 c1) (t ∙ sym o.0) h)
 
 -- its text not all written
-pub order_unwritten : (line : List ℕ) (s : Standing) (d : Desk) (c0 c1 : Option (List ℕ)) (text : List ℕ) (n : ℕ) (directive : Directive) → directive ≡ directive_of line → d ≡ (after_directive directive s).desk → text ≡ directive_text directive s → n < length text → Appends c0 c1 (take n text) → StopsIn (DirectiveLine line) s d c0 c1 stops.Write
-order_unwritten line s d c0 c1 text n directive e f t few h =
+pub order_unwritten : (line : List ℕ) (s : Standing) (d : Desk) (faults : Faults) (c0 c1 : Option (List ℕ)) (text : List ℕ) (n : ℕ) (directive : Directive) → directive ≡ directive_of line → d ≡ (after_directive directive s).desk → text ≡ directive_text directive s → n < length text → Appends c0 c1 (take n text)
+    → StopsIn (DirectiveLine line) s d faults faults c0 c1 stops.Write
+order_unwritten line s d faults c0 c1 text n directive e f t few h =
     let o = order_is line s directive (sym e) in
-    (text, n, few, inl (f ∙ sym (ap (λ (x : Standing). x.desk) o.1), t ∙ sym o.0), h)
+    (text, n, few, inl (f ∙ sym (ap (λ (x : Standing). x.desk) o.1), t ∙ sym o.0, refl), h)
 
 -- a directive that is refused before the store is asked
 abbrev fault_of : ScriptFault → Result (Unit {0}) ScriptFault → ScriptFault
 fault_of other (Ok done) = other
 fault_of other (Err fault) = fault
 
-pub order_refused : (line : List ℕ) (s : Standing) (sender : List ℕ) (refused : Bool) (c0 c1 : Option (List ℕ)) (text : List ℕ) (directive : Directive) (r : Result (Unit {0}) ScriptFault)
+pub order_refused : (line : List ℕ) (s : Standing) (sender : List ℕ) (refused : Bool) (faults : Faults) (c0 c1 : Option (List ℕ)) (text : List ℕ) (directive : Directive) (r : Result (Unit {0}) ScriptFault)
     → directive ≡ directive_of line → after_directive directive s ≡ standing s.desk s.sender true → text ≡ directive_text directive s
     → OnOk r (Appends c0 c1 text) → OnErr r ((n : ℕ) × (n < length text) × Appends c0 c1 (take n text)) → OnErr r (r ≡ Err stops.Write) → OnOk r (refused ≡ true) → sender ≡ s.sender
-    → Carries (DirectiveLine line) s (standing s.desk sender refused) c0 c1 r
-order_refused line s sender refused c0 c1 text directive (Ok done) e after t all some write told same =
+    → Carries (DirectiveLine line) s (standing s.desk sender refused) faults faults c0 c1 r
+order_refused line s sender refused faults c0 c1 text directive (Ok done) e after t all some write told same =
     order_done line s (standing s.desk sender refused) c0 c1 text directive e ((λ i. standing s.desk (same i) (told i)) ∙ sym after) t all
-order_refused line s sender refused c0 c1 text directive (Err fault) e after t all some write told same =
-    subst (λ (f : ScriptFault). StopsIn (DirectiveLine line) s s.desk c0 c1 f) (sym (ap (fault_of fault) write))
-    (order_unwritten line s s.desk c0 c1 text some.0 directive e (ap (λ (x : Standing). x.desk) (sym after)) t some.1 some.2)
+order_refused line s sender refused faults c0 c1 text directive (Err fault) e after t all some write told same =
+    subst (λ (f : ScriptFault). StopsIn (DirectiveLine line) s s.desk faults faults c0 c1 f) (sym (ap (fault_of fault) write))
+    (order_unwritten line s s.desk faults c0 c1 text some.0 directive e (ap (λ (x : Standing). x.desk) (sym after)) t some.1 some.2)
 
 -- out of memory before anything was done
-pub not_begun : (part : Part) (s : Standing) (d : Desk) (c : Option (List ℕ)) → d ≡ s.desk → StopsIn part s d c c stops.Memory
-not_begun part s d c e = (inl e, appends_none c)
+pub not_begun : (part : Part) (s : Standing) (d : Desk) (n0 n1 : Faults) (c : Option (List ℕ)) → d ≡ s.desk → n1 ≡ n0 → StopsIn part s d n0 n1 c c stops.Memory
+not_begun part s d n0 n1 c e n = (inl (e, n), appends_none c)
 
 -- out of memory for the text of what was done
-pub untold : (part : Part) (s : Standing) (d : Desk) (c : Option (List ℕ)) (text : List ℕ) → IsCarried part s d text → StopsIn part s d c c stops.Memory
-untold part s d c text h = (inr (text, h), appends_none c)
+pub untold : (part : Part) (s : Standing) (d : Desk) (n0 n1 : Faults) (c : Option (List ℕ)) (text : List ℕ) → IsCarried part s d n0 n1 text → StopsIn part s d n0 n1 c c stops.Memory
+untold part s d n0 n1 c text h = (inr (text, h), appends_none c)
 
 -- what a report comes to
 report_is : (line p : List ℕ) (v : Option (List ℕ)) (sev t : List ℕ) (s : Standing) (r : Result Desk ReportFault) → directive_of line ≡ Report p v sev t → report_of s.desk s.sender p v sev t ≡ r
@@ -115,21 +118,23 @@ report_is line p v sev t s r e h =
     let o = order_is line s (Report p v sev t) e in
     (o.0 ∙ ap (λ (x : Result Desk ReportFault). report_text x s.desk.next) h, o.1 ∙ ap (λ (x : Result Desk ReportFault). after_report x s) h)
 
-refused_carried : (line p : List ℕ) (v : Option (List ℕ)) (sev t : List ℕ) (s : Standing) (d : Desk) (fault : ReportFault) → directive_of line ≡ Report p v sev t → (report_of s.desk s.sender p v sev t ≡ Err fault) × (d ≡ s.desk) → IsCarried (DirectiveLine line) s d (report_text (Err fault) s.desk.next)
-refused_carried line p v sev t s d fault e h =
+refused_carried : (line p : List ℕ) (v : Option (List ℕ)) (sev t : List ℕ) (s : Standing) (d : Desk) (n0 n1 : Faults) (fault : ReportFault) → directive_of line ≡ Report p v sev t → n1 ≡ n0 → (report_of s.desk s.sender p v sev t ≡ Err fault) × (d ≡ s.desk)
+    → IsCarried (DirectiveLine line) s d n0 n1 (report_text (Err fault) s.desk.next)
+refused_carried line p v sev t s d n0 n1 fault e n h =
     let o = report_is line p v sev t s (Err fault) e h.0 in
-    inl (h.1 ∙ sym (ap (λ (x : Standing). x.desk) o.1), sym o.0)
+    inl (h.1 ∙ sym (ap (λ (x : Standing). x.desk) o.1), sym o.0, n)
 
-pub reported_carried : (line p : List ℕ) (v : Option (List ℕ)) (sev t : List ℕ) (s : Standing) (d : Desk) (answer : Result ℕ ReportFault) → directive_of line ≡ Report p v sev t → IsReported s.sender p v sev t s.desk answer d → IsCarried (DirectiveLine line) s d (report_answer answer)
-reported_carried line p v sev t s d (Ok number) e h =
+pub reported_carried : (line p : List ℕ) (v : Option (List ℕ)) (sev t : List ℕ) (s : Standing) (d : Desk) (n0 n1 : Faults) (answer : Result ℕ ReportFault) → directive_of line ≡ Report p v sev t → n1 ≡ faults_after_report answer n0 → IsReported s.sender p v sev t s.desk answer d
+    → IsCarried (DirectiveLine line) s d n0 n1 (report_answer answer)
+reported_carried line p v sev t s d n0 n1 (Ok number) e n h =
     let o = report_is line p v sev t s (Ok d) e h.0 in
-    inl (sym (ap (λ (x : Standing). x.desk) o.1), ap (λ (n : ℕ). report_text (Ok d) n) h.1 ∙ sym o.0)
-reported_carried line p v sev t s d (Err (reports.Store fault)) e h = inr (fault, (subst AsksStore (sym e) (h.0, h.1), h.2, refl))
-reported_carried line p v sev t s d (Err reports.BadPackage) e h = refused_carried line p v sev t s d reports.BadPackage e h
-reported_carried line p v sev t s d (Err reports.BadVersion) e h = refused_carried line p v sev t s d reports.BadVersion e h
-reported_carried line p v sev t s d (Err reports.BadSeverity) e h = refused_carried line p v sev t s d reports.BadSeverity e h
-reported_carried line p v sev t s d (Err reports.BadTitle) e h = refused_carried line p v sev t s d reports.BadTitle e h
-reported_carried line p v sev t s d (Err reports.Full) e h = refused_carried line p v sev t s d reports.Full e h
+    inl (sym (ap (λ (x : Standing). x.desk) o.1), ap (λ (k : ℕ). report_text (Ok d) k) h.1 ∙ sym o.0, n)
+reported_carried line p v sev t s d n0 n1 (Err (reports.Store fault)) e n h = inr (fault, (subst AsksStore (sym e) (h.0, h.1), h.2, refl), n)
+reported_carried line p v sev t s d n0 n1 (Err reports.BadPackage) e n h = refused_carried line p v sev t s d n0 n1 reports.BadPackage e n h
+reported_carried line p v sev t s d n0 n1 (Err reports.BadVersion) e n h = refused_carried line p v sev t s d n0 n1 reports.BadVersion e n h
+reported_carried line p v sev t s d n0 n1 (Err reports.BadSeverity) e n h = refused_carried line p v sev t s d n0 n1 reports.BadSeverity e n h
+reported_carried line p v sev t s d n0 n1 (Err reports.BadTitle) e n h = refused_carried line p v sev t s d n0 n1 reports.BadTitle e n h
+reported_carried line p v sev t s d n0 n1 (Err reports.Full) e n h = refused_carried line p v sev t s d n0 n1 reports.Full e n h
 
 pub reported_whole : (line p : List ℕ) (v : Option (List ℕ)) (sev t : List ℕ) (s : Standing) (d : Desk) (number : ℕ) → directive_of line ≡ Report p v sev t → IsReported s.sender p v sev t s.desk (Ok number) d
     → (standing d s.sender s.refused ≡ part_after (DirectiveLine line) s) × (report_answer (Ok number) ≡ part_text (DirectiveLine line) s)
@@ -163,7 +168,7 @@ reported_fault line p v sev t s d reports.BadTitle f e says h = absurd (none-som
 reported_fault line p v sev t s d reports.Full f e says h = absurd (none-some f e)
 
 -- how it is counted
-pub refused_count : (fault : ReportFault) (n : ℕ) → store_fault fault ≡ None → faults_after_report (Err fault) n ≡ n
+pub refused_count : (fault : ReportFault) (n : Faults) → store_fault fault ≡ None → faults_after_report (Err fault) n ≡ n
 refused_count (reports.Store fault) n e = absurd (none-some fault (sym e))
 refused_count reports.BadPackage n e = refl
 refused_count reports.BadVersion n e = refl
@@ -171,10 +176,32 @@ refused_count reports.BadSeverity n e = refl
 refused_count reports.BadTitle n e = refl
 refused_count reports.Full n e = refl
 
-pub fault_count : (fault : ReportFault) (f : StoreFault) (n : ℕ) → store_fault fault ≡ Some f → faults_after_report (Err fault) n ≡ faults_after {T = Unit {0}} (Err f) n
-fault_count (reports.Store fault) f n e = ap (λ (x : StoreFault). faults_after {T = Unit {0}} (Err x) n) (same_Some fault f e)
+pub fault_count : (fault : ReportFault) (f : StoreFault) (n : Faults) → store_fault fault ≡ Some f → faults_after_report (Err fault) n ≡ counted f n
+fault_count (reports.Store fault) f n e = ap (λ (x : StoreFault). counted x n) (same_Some fault f e)
 fault_count reports.BadPackage f n e = absurd (none-some f e)
 fault_count reports.BadVersion f n e = absurd (none-some f e)
 fault_count reports.BadSeverity f n e = absurd (none-some f e)
 fault_count reports.BadTitle f n e = absurd (none-some f e)
 fault_count reports.Full f n e = absurd (none-some f e)
+
+pub end_count : (end : End) (fault : StoreFault) (n : Faults) → fault_of_end end ≡ Some fault → faults_after_end end n ≡ counted fault n
+end_count ends.All fault n e = absurd (none-some fault e)
+end_count ends.Stopped fault n e = absurd (none-some fault e)
+end_count ends.TooManyUnreadable fault n e = absurd (none-some fault e)
+end_count (ends.Store told k) fault n e = ap (λ (x : StoreFault). counted x n) (same_Some told fault e)
+
+-- at most one fault is counted
+pub report_count : (answer : Result ℕ ReportFault) (n : Faults) → (fault : StoreFault) × (faults_after_report answer n ≡ counted fault n)
+report_count (Ok number) n = (faults.Memory, refl)
+report_count (Err (reports.Store fault)) n = (fault, refl)
+report_count (Err reports.BadPackage) n = (faults.Memory, refl)
+report_count (Err reports.BadVersion) n = (faults.Memory, refl)
+report_count (Err reports.BadSeverity) n = (faults.Memory, refl)
+report_count (Err reports.BadTitle) n = (faults.Memory, refl)
+report_count (Err reports.Full) n = (faults.Memory, refl)
+
+pub message_count : (end : End) (n : Faults) → (fault : StoreFault) × (faults_after_end end n ≡ counted fault n)
+message_count ends.All n = (faults.Memory, refl)
+message_count ends.Stopped n = (faults.Memory, refl)
+message_count ends.TooManyUnreadable n = (faults.Memory, refl)
+message_count (ends.Store fault k) n = (fault, refl)

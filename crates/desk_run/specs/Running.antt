@@ -7,7 +7,7 @@ use Rattle.bug_record.specs.Desk.{Desk}
 use Rattle.desk_text.specs.Texts.{fault_text}
 use Rattle.desk_text.specs.declared.outcome.StoreFault.{StoreFault}
 use Rattle.desk_text.specs.declared.outcome.End.TheVariants as ends
-use Rattle.desk_store.specs.Store.{faults_after, one_more}
+use Rattle.desk_store.specs.Store.{Faults, counted}
 use Rattle.desk_store.specs.Message.{Entry, IsReceived}
 use Rattle.desk_lines.specs.Lines.{raw_lines, without_return}
 use Rattle.desk_lines.specs.Reading.{IsGoodLine}
@@ -39,28 +39,32 @@ FaultsIn (Message lines) s fault d text =
     (outcomes : List Entry) × (k : ℕ) × IsReceived s.sender lines s.desk outcomes (ends.Store fault k) d × (text ≡ received_text outcomes (ends.Store fault k) lines)
 FaultsIn (DirectiveLine line) s fault d text = AsksStore (directive_of line) × (d ≡ s.desk) × (text ≡ fault_text fault)
 
--- a part was carried out, whole or up to a fault of the store, and this is to be written for it
-abbrev pub IsCarried : Part → Standing → Desk → List ℕ → Type 0
-IsCarried part s d text = ((d ≡ (part_after part s).desk) × (text ≡ part_text part s)) ⊎ ((fault : StoreFault) × FaultsIn part s fault d text)
+-- A part was carried out, whole and with no fault, or up to a fault of the store, which is counted; and this is to be
+-- written for it.
+abbrev pub IsCarried : Part → Standing → Desk → Faults → Faults → List ℕ → Type 0
+IsCarried part s d n0 n1 text =
+    ((d ≡ (part_after part s).desk) × (text ≡ part_text part s) × (n1 ≡ n0))
+    ⊎ ((fault : StoreFault) × FaultsIn part s fault d text × (n1 ≡ counted fault n0))
 
 -- the part is a message
 abbrev pub IsMessage : Part → Type 0
 IsMessage (Message lines) = ⊤
 IsMessage (DirectiveLine line) = ⊥
 
--- How a script stops in a part. At a fault of the store all that is to be written for the part is written; at `Write` a
--- front of it, not all; at `Memory` nothing of it, and the part may not have been begun; at a fault of reading the part is a
--- message that was not begun.
-abbrev pub StopsIn : Part → Standing → Desk → Option (List ℕ) → Option (List ℕ) → ScriptFault → Type 0
-StopsIn part s d c0 c1 (Store fault) = (text : List ℕ) × FaultsIn part s fault d text × Appends c0 c1 text
-StopsIn part s d c0 c1 Write = (text : List ℕ) × (n : ℕ) × (n < length text) × IsCarried part s d text × Appends c0 c1 (take n text)
-StopsIn part s d c0 c1 Memory = ((d ≡ s.desk) ⊎ ((text : List ℕ) × IsCarried part s d text)) × Appends c0 c1 []
-StopsIn part s d c0 c1 Read = IsMessage part × (d ≡ s.desk) × Appends c0 c1 []
-StopsIn part s d c0 c1 (NotUtf8 line) = IsMessage part × (d ≡ s.desk) × Appends c0 c1 []
-StopsIn part s d c0 c1 (LineTooLong line) = IsMessage part × (d ≡ s.desk) × Appends c0 c1 []
+-- How a script stops in a part, and counts the store's faults from n0 to n1. At a fault of the store all that is to be
+-- written for the part is written; at `Write` a front of it, not all; at `Memory` nothing of it, and the part may not have
+-- been begun; at a fault of reading the part is a message that was not begun.
+abbrev pub StopsIn : Part → Standing → Desk → Faults → Faults → Option (List ℕ) → Option (List ℕ) → ScriptFault → Type 0
+StopsIn part s d n0 n1 c0 c1 (Store fault) = (text : List ℕ) × FaultsIn part s fault d text × (n1 ≡ counted fault n0) × Appends c0 c1 text
+StopsIn part s d n0 n1 c0 c1 Write = (text : List ℕ) × (n : ℕ) × (n < length text) × IsCarried part s d n0 n1 text × Appends c0 c1 (take n text)
+StopsIn part s d n0 n1 c0 c1 Memory =
+    (((d ≡ s.desk) × (n1 ≡ n0)) ⊎ ((text : List ℕ) × IsCarried part s d n0 n1 text)) × Appends c0 c1 []
+StopsIn part s d n0 n1 c0 c1 Read = IsMessage part × (d ≡ s.desk) × (n1 ≡ n0) × Appends c0 c1 []
+StopsIn part s d n0 n1 c0 c1 (NotUtf8 line) = IsMessage part × (d ≡ s.desk) × (n1 ≡ n0) × Appends c0 c1 []
+StopsIn part s d n0 n1 c0 c1 (LineTooLong line) = IsMessage part × (d ≡ s.desk) × (n1 ≡ n0) × Appends c0 c1 []
 
 -- The parts before one were carried out and their texts written, and in that one the script stops.
-pub record Stops (parts : List Part) (a : Standing) (d : Desk) (c0 c1 : Option (List ℕ)) (fault : ScriptFault) : Type 0 where
+pub record Stops (parts : List Part) (a : Standing) (d : Desk) (n0 n1 : Faults) (c0 c1 : Option (List ℕ)) (fault : ScriptFault) : Type 0 where
   pub before : List Part
   pub part : Part
   pub after : List Part
@@ -68,7 +72,7 @@ pub record Stops (parts : List Part) (a : Standing) (d : Desk) (c0 c1 : Option (
   -- the bytes written before that part
   pub between : Option (List ℕ)
   pub ran : Appends c0 between (text_of before a)
-  pub stops : StopsIn part (after_parts before a) d between c1 fault
+  pub stops : StopsIn part (after_parts before a) d n0 n1 between c1 fault
 
 -- each line is good: at most 65,536 bytes, and UTF-8
 abbrev pub AreGood : List (List ℕ) → Type 0
@@ -88,12 +92,12 @@ pub record IsFirstBad (raws : List (List ℕ)) (number : ℕ) (before : List Par
   pub parts : parts_of_lines (map without_return good) ≡ before ++ Message gathered ∷ []
 
 -- No line beyond the good ones played a part in a stop: the first lines, which are good, are a script that stops so too.
-pub record StopsInGoodLines (raws : List (List ℕ)) (a : Standing) (d : Desk) (c0 c1 : Option (List ℕ)) (fault : ScriptFault) : Type 0 where
+pub record StopsInGoodLines (raws : List (List ℕ)) (a : Standing) (d : Desk) (n0 n1 : Faults) (c0 c1 : Option (List ℕ)) (fault : ScriptFault) : Type 0 where
   pub good : List (List ℕ)
   pub more : List (List ℕ)
   pub lines : raws ≡ good ++ more
   pub are_good : AreGood good
-  pub stops : Stops (parts_of_lines (map without_return good)) a d c0 c1 fault
+  pub stops : Stops (parts_of_lines (map without_return good)) a d n0 n1 c0 c1 fault
 
 -- where a fault of a line comes
 abbrev pub IsPlace : ScriptFault → List (List ℕ) → List Part → Type 0
@@ -103,9 +107,9 @@ IsPlace fault raws before = ⊤
 
 -- What these parts leave and have written: at their end all are carried out and their texts written, and the end says
 -- whether anything was refused; at a fault the script stops in one.
-abbrev pub EndsParts : List Part → Standing → Desk → Option (List ℕ) → Option (List ℕ) → Result ScriptEnd ScriptFault → Type 0
-EndsParts parts a d c0 c1 (Ok end) = (d ≡ (after_parts parts a).desk) × (end ≡ end_of_script (after_parts parts a).refused) × Appends c0 c1 (text_of parts a)
-EndsParts parts a d c0 c1 (Err fault) = Stops parts a d c0 c1 fault
+abbrev pub EndsParts : List Part → Standing → Desk → Faults → Faults → Option (List ℕ) → Option (List ℕ) → Result ScriptEnd ScriptFault → Type 0
+EndsParts parts a d n0 n1 c0 c1 (Ok end) = (d ≡ (after_parts parts a).desk) × (end ≡ end_of_script (after_parts parts a).refused) × Appends c0 c1 (text_of parts a)
+EndsParts parts a d n0 n1 c0 c1 (Err fault) = Stops parts a d n0 n1 c0 c1 fault
 
 -- a fault of a part, and not of the reading
 abbrev pub IsOfPart : ScriptFault → Type 0
@@ -117,21 +121,21 @@ IsOfPart fault = ⊥
 -- What a script over this input leaves and has written. At its end all lines are good, all parts are carried out and
 -- their texts written, and the end says whether anything was refused; at a fault it stops in a part, and did nothing for
 -- a line that is not good.
-abbrev pub Ends : List ℕ → Standing → Desk → Option (List ℕ) → Option (List ℕ) → Result ScriptEnd ScriptFault → Type 0
-Ends input a d c0 c1 (Ok end) =
+abbrev pub Ends : List ℕ → Standing → Desk → Faults → Faults → Option (List ℕ) → Option (List ℕ) → Result ScriptEnd ScriptFault → Type 0
+Ends input a d n0 n1 c0 c1 (Ok end) =
     AreGood (raw_lines input) × (d ≡ (after_parts (script_of input) a).desk) × (end ≡ end_of_script (after_parts (script_of input) a).refused) × Appends c0 c1 (text_of (script_of input) a)
-Ends input a d c0 c1 (Err fault) = (stop : Stops (script_of input) a d c0 c1 fault) × IsPlace fault (raw_lines input) stop.before × StopsInGoodLines (raw_lines input) a d c0 c1 fault
+Ends input a d n0 n1 c0 c1 (Err fault) = (stop : Stops (script_of input) a d n0 n1 c0 c1 fault) × IsPlace fault (raw_lines input) stop.before × StopsInGoodLines (raw_lines input) a d n0 n1 c0 c1 fault
 
 -- a part was carried out, or the script stops in it
-abbrev pub Carries : {T : Type 0} → Part → Standing → Standing → Option (List ℕ) → Option (List ℕ) → Result T ScriptFault → Type 0
-Carries part a b c0 c1 (Ok done) = (b ≡ part_after part a) × Appends c0 c1 (part_text part a)
-Carries part a b c0 c1 (Err fault) = StopsIn part a b.desk c0 c1 fault
+abbrev pub Carries : {T : Type 0} → Part → Standing → Standing → Faults → Faults → Option (List ℕ) → Option (List ℕ) → Result T ScriptFault → Type 0
+Carries part a b n0 n1 c0 c1 (Ok done) = (b ≡ part_after part a) × Appends c0 c1 (part_text part a)
+Carries part a b n0 n1 c0 c1 (Err fault) = StopsIn part a b.desk n0 n1 c0 c1 fault
 
--- The store's count of faults after a script, or a part of one: a fault of the store is counted, also where its text could
--- not be built or written.
-abbrev pub IsCounted : {T : Type 0} → Result T ScriptFault → ℕ → ℕ → Type 0
+-- The store's faults after a script, or a part of one. Where no text could be built or written, a fault of the store of
+-- any kind may have come before (at `Memory`, which is not counted, or at none, they are as before).
+abbrev pub IsCounted : {T : Type 0} → Result T ScriptFault → Faults → Faults → Type 0
 IsCounted (Ok end) before now = now ≡ before
-IsCounted (Err (Store fault)) before now = now ≡ faults_after {T = ⊤} (Err fault) before
-IsCounted (Err Write) before now = (now ≡ before) ⊎ (now ≡ one_more before)
-IsCounted (Err Memory) before now = (now ≡ before) ⊎ (now ≡ one_more before)
+IsCounted (Err (Store fault)) before now = now ≡ counted fault before
+IsCounted (Err Write) before now = (fault : StoreFault) × (now ≡ counted fault before)
+IsCounted (Err Memory) before now = (fault : StoreFault) × (now ≡ counted fault before)
 IsCounted (Err fault) before now = now ≡ before

@@ -56,7 +56,7 @@ fn finish_message<S: Records, W: Write>(
 ) -> Result<(), ScriptFault>
     ensures answer { Holds S.is_kept S.is_honest store.old store.new (Carries (Message run.old.gathered.items)
         (standing (S.desk store.old) run.old.sender run.old.refused) (standing (S.desk store.new) run.new.sender run.new.refused)
-        (W.contents writer.old) (W.contents writer.new) result) }
+        (S.faults store.old) (S.faults store.new) (W.contents writer.old) (W.contents writer.new) result) }
     ensures own { IfErr result IsOfPart }
     ensures count { IsCounted result (S.faults store.old) (S.faults store.new) }
     ensures cleared { OnOk result (run.new.gathered.items ≡ []) }
@@ -108,7 +108,7 @@ fn carry_report<S: Records, W: Write>(
     requires { directive_of line.now ≡ Report words.package.now (option_copied words.version) words.severity.now words.title.now }
     ensures answer { Holds S.is_kept S.is_honest store.old store.new (Carries (DirectiveLine line.now)
         (standing (S.desk store.old) run.old.sender run.old.refused) (standing (S.desk store.new) run.new.sender run.new.refused)
-        (W.contents writer.old) (W.contents writer.new) result) }
+        (S.faults store.old) (S.faults store.new) (W.contents writer.old) (W.contents writer.new) result) }
     ensures own { IfErr result IsOfPart }
     ensures count { IsCounted result (S.faults store.old) (S.faults store.new) }
     ensures gathered { run.new.gathered.items ≡ run.old.gathered.items }
@@ -153,7 +153,7 @@ fn carry_nodes<S: Records, W: Write>(
     requires { (names : List (List ℕ)) × (directive_of line.now ≡ Branch names) × (nodes_of names ≡ Some nodes.now) }
     ensures answer { Holds S.is_kept S.is_honest store.old store.new (Carries (DirectiveLine line.now)
         (standing (S.desk store.old) run.old.sender run.old.refused) (standing (S.desk store.new) run.new.sender run.new.refused)
-        (W.contents writer.old) (W.contents writer.new) result) }
+        (S.faults store.old) (S.faults store.new) (W.contents writer.old) (W.contents writer.new) result) }
     ensures own { IfErr result IsOfPart }
     ensures count { IsCounted result (S.faults store.old) (S.faults store.new) }
     ensures gathered { run.new.gathered.items ≡ run.old.gathered.items }
@@ -183,7 +183,7 @@ fn carry_out<S: Records, W: Write>(
 ) -> Result<(), ScriptFault>
     ensures answer { Holds S.is_kept S.is_honest store.old store.new (Carries (DirectiveLine line.now)
         (standing (S.desk store.old) run.old.sender run.old.refused) (standing (S.desk store.new) run.new.sender run.new.refused)
-        (W.contents writer.old) (W.contents writer.new) result) }
+        (S.faults store.old) (S.faults store.new) (W.contents writer.old) (W.contents writer.new) result) }
     ensures own { IfErr result IsOfPart }
     ensures count { IsCounted result (S.faults store.old) (S.faults store.new) }
     ensures gathered { run.new.gathered.items ≡ run.old.gathered.items }
@@ -222,7 +222,7 @@ fn take_line<S: Records, W: Write>(
     ensures err { IfErr result (λ fault. Holds S.is_kept S.is_honest store.old store.new
         ((lines : List (List ℕ)) → Stops (parts_from run.old.gathered.items (line ∷ lines))
         (standing (S.desk store.old) run.old.sender run.old.refused) (S.desk store.new)
-        (W.contents writer.old) (W.contents writer.new) fault)) }
+        (S.faults store.old) (S.faults store.new) (W.contents writer.old) (W.contents writer.new) fault)) }
     ensures own { IfErr result IsOfPart }
     ensures count { IsCounted result (S.faults store.old) (S.faults store.new) }
 {
@@ -252,7 +252,7 @@ fn finish_script<S: Records, W: Write>(
 ) -> Result<ScriptEnd, ScriptFault>
     ensures answer { Holds S.is_kept S.is_honest store.old store.new (EndsParts (Message run.old.gathered.items ∷ [])
         (standing (S.desk store.old) run.old.sender run.old.refused) (S.desk store.new)
-        (W.contents writer.old) (W.contents writer.new) result) }
+        (S.faults store.old) (S.faults store.new) (W.contents writer.old) (W.contents writer.new) result) }
     ensures own { IfErr result IsOfPart }
     ensures count { IsCounted result (S.faults store.old) (S.faults store.new) }
 {
@@ -269,11 +269,13 @@ fn finish_script<S: Records, W: Write>(
 
 /// Runs a script: reads its lines to the end, carries messages and directives out in turn, and writes their answers.
 ///
-/// Where it answers `Ok` it has read to the end, and has written the script's output and nothing else. After a fault of the
-/// store what was written is the output up to there with the fault's text; after `Read` (also where more than 16,777,216
-/// reads were needed), `NotUtf8` and `LineTooLong` the text of all earlier parts, whole, and the message whose lines were being
-/// gathered was not begun; after `Memory` the same, and the part at hand may have been carried out; after `Write` a front of
-/// the output, and not all of what was to be written for the part at hand. `NotUtf8` and `LineTooLong` name the first line of either kind; one that is both is too long.
+/// Where it answers `Ok` it has read to the end, and has written the script's output and nothing else. A fault of the store
+/// ends the script as `Store` of that very fault, and what was written is the output up to there with the fault's text; where
+/// that text could not be built or written, as `Memory` or `Write`. After `Read` (also where more than 16,777,216
+/// reads were needed), `NotUtf8` and `LineTooLong` the text of all earlier parts was written, whole, and the message whose lines
+/// were being gathered was not begun; after `Memory` the same, and the part at hand may have been carried out; after `Write` a
+/// front of the output, and not all of what was to be written for the part at hand. `NotUtf8` and `LineTooLong` name the first
+/// line of either kind; one that is both is too long.
 pub fn run_script<S: Records, R: Read, W: Write>(
     alloc: Global,
     store: &mut S,
@@ -281,7 +283,8 @@ pub fn run_script<S: Records, R: Read, W: Write>(
     writer: &mut W,
 ) -> Result<ScriptEnd, ScriptFault>
     ensures answer { Holds S.is_kept S.is_honest store.old store.new (Known (R.remaining reader.old) (λ input.
-        Ends input (begin (S.desk store.old)) (S.desk store.new) (W.contents writer.old) (W.contents writer.new) result)) }
+        Ends input (begin (S.desk store.old)) (S.desk store.new) (S.faults store.old) (S.faults store.new)
+        (W.contents writer.old) (W.contents writer.new) result)) }
     ensures read { OnOk result (Left (R.remaining reader.old) (R.remaining reader.new) (λ input rest. rest ≡ [])) }
     ensures count { IsCounted result (S.faults store.old) (S.faults store.new) }
 {

@@ -1,7 +1,8 @@
--- The count of faults of a store that fails once.
-use Rattle.std.specs.Prelude.{ℕ, Bool, if◌then◌else◌}
-use Rattle.desk_store.specs.Store.{one_more}
+-- The faults of a store that fails once.
+use Rattle.std.specs.Prelude.{Bool, if◌then◌else◌}
+use Rattle.desk_text.specs.declared.outcome.StoreFault.TheVariants.{Device}
+use Rattle.desk_store.specs.Store.{Faults, counted}
 
--- one more than the other store's, where it has failed
-abbrev pub faults_with : Bool → ℕ → ℕ
-faults_with has_failed n = if has_failed then one_more n else n
+-- the other store's, and its own where it has failed
+abbrev pub faults_with : Bool → Faults → Faults
+faults_with has_failed faults = if has_failed then counted Device faults else faults

@@ -1,6 +1,6 @@
 -- A message, as a machine that takes its lines one at a time (stops: the BTS page 'control and manipulation'; the rest is
 -- this project's own rule).
-use Rattle.std.specs.Prelude.{ℕ, ◌≡◌, ◌+◌, ◌-◌, ◌<◌, ◌≤◌, ◌==◌, nat_lt, nat_le, Bool, true, false, List, [], ◌∷◌, ◌++◌, length, take, count_by, Option, Some, None, Result, Ok, Err, unwrap_or, if◌then◌else◌, ⊤}
+use Rattle.std.specs.Prelude.{ℕ, ◌≡◌, ◌+◌, ◌-◌, ◌<◌, ◌≤◌, ◌==◌, nat_lt, nat_le, Bool, true, false, List, [], ◌∷◌, ◌++◌, length, take, count_by, Option, Some, None, Result, Ok, Err, unwrap_or, if◌then◌else◌}
 use Rattle.std.specs.List.{list_any}
 use Rattle.bug_record.specs.Desk.{Desk}
 use Rattle.bug_record.specs.Commands.{command_over}
@@ -18,7 +18,7 @@ use Rattle.desk_text.specs.declared.outcome.Outcome.{Outcome}
 use Rattle.desk_text.specs.declared.outcome.Outcome.TheVariants.{Changed, Refused, Stopped}
 use Rattle.desk_text.specs.declared.outcome.End.{End}
 use Rattle.desk_text.specs.declared.outcome.End.TheVariants as ends
-use Rattle.desk_store.specs.Store.{faults_after}
+use Rattle.desk_store.specs.Store.{Faults, counted}
 
 -- a line as it was written, and what came of it
 abbrev pub Entry : Type 0
@@ -127,9 +127,9 @@ IsReceived sender lines old outcomes ends.Stopped new = Comes sender lines old o
 IsReceived sender lines old outcomes ends.TooManyUnreadable new = Comes sender lines old outcomes ends.TooManyUnreadable new
 IsReceived sender lines old outcomes (ends.Store fault k) new = (0 < k) × (k ≤ length lines) × Comes sender (take (k - 1) lines) old outcomes ends.All new
 
--- the store's count of faults after a message
-abbrev pub faults_after_end : End → ℕ → ℕ
-faults_after_end ends.All n = n
-faults_after_end ends.Stopped n = n
-faults_after_end ends.TooManyUnreadable n = n
-faults_after_end (ends.Store fault k) n = faults_after {T = ⊤} (Err fault) n
+-- the store's faults after a message
+abbrev pub faults_after_end : End → Faults → Faults
+faults_after_end ends.All faults = faults
+faults_after_end ends.Stopped faults = faults
+faults_after_end ends.TooManyUnreadable faults = faults
+faults_after_end (ends.Store fault k) faults = counted fault faults

@@ -54,14 +54,32 @@ IsRefusal (Ok done) = ⊤
 IsRefusal (Err WantOfMemory) = ⊥
 IsRefusal (Err refusal) = ⊤
 
+-- How often a store has failed, by the kind of the fault; out of memory isn't counted.
+pub record Faults : Type 0 where
+  pub device : ℕ
+  pub full : ℕ
+  pub foreign : ℕ
+
+abbrev pub no_faults : Faults
+no_faults = record { device = 0; full = 0; foreign = 0 }
+
 -- one more, up to the largest u64
 abbrev pub one_more : ℕ → ℕ
 one_more n = min (n + 1) (2 ^ 64 - 1)
 
--- the count of faults after an answer: out of memory isn't counted
-abbrev pub faults_after : {T : Type 0} → Result T StoreFault → ℕ → ℕ
-faults_after (Ok answer) n = n
-faults_after (Err Memory) n = n
-faults_after (Err Device) n = one_more n
-faults_after (Err Full) n = one_more n
-faults_after (Err Foreign) n = one_more n
+-- The counts after a fault: its own kind is counted once more. A kind that stands at its largest count is told apart no
+-- more.
+abbrev pub counted : StoreFault → Faults → Faults
+counted Memory faults = faults
+counted Device faults = record faults { device = one_more faults.device }
+counted Full faults = record faults { full = one_more faults.full }
+counted Foreign faults = record faults { foreign = one_more faults.foreign }
+
+-- the counts after an answer
+abbrev pub faults_after : {T : Type 0} → Result T StoreFault → Faults → Faults
+faults_after (Ok answer) faults = faults
+faults_after (Err fault) faults = counted fault faults
+
+-- the faults of all kinds together, up to the largest u64
+abbrev pub total : Faults → ℕ
+total faults = min (faults.device + faults.full + faults.foreign) (2 ^ 64 - 1)

@@ -6,7 +6,7 @@ ghost use Rattle.std.specs.Ordering.{nat_cmp};
 ghost use Rattle.bug_record.specs.Desk.{IsSound};
 ghost use Rattle.bug_record.specs.Images.{FitsDesk, put};
 ghost use Rattle.bug_record.proofs.SoundProp.{IsSound-prop};
-ghost use Rattle.desk_store.specs.Store.{IsImageOf, Branches, IsRefusal};
+ghost use Rattle.desk_store.specs.Store.{IsImageOf, Branches, IsRefusal, no_faults};
 ghost use Rattle.desk_store.specs.Plain.{desk_of, empty_desk, member_of, members_in, set_in};
 
 use crate::records::Records;
@@ -93,7 +93,7 @@ impl Records for PlainDesk {
 
     ghost is_honest = { λ _. Unit {0} };
 
-    ghost faults = { λ _. 0 };
+    ghost faults = { λ _. no_faults };
 
     fn set_of(&mut self, number: u64) -> Result<Option<SetImage>, StoreFault>
         ensures same { self.new ≡ self.old }

@@ -1,10 +1,10 @@
 //! What a store of a desk does, whatever keeps the desk.
 
-ghost use Rattle.std.specs.Prelude.{◌≡◌, ℕ, Option, Result, IfOk};
+ghost use Rattle.std.specs.Prelude.{◌≡◌, Option, Result, IfOk};
 ghost use Rattle.bug_record.specs.Sets.{Each};
 ghost use Rattle.bug_record.specs.Desk.{Desk, IsSound};
 ghost use Rattle.bug_record.specs.Images.{AreApart, HasMember, FitsDesk};
-ghost use Rattle.desk_store.specs.Store.{Holds, Asks, Answers, IsImageOf, IsNext, Applies, Branches, IsRefusal, faults_after};
+ghost use Rattle.desk_store.specs.Store.{Holds, Asks, Answers, IsImageOf, IsNext, Applies, Branches, IsRefusal, Faults, faults_after, total};
 
 use ancestry::{BranchFault, Node};
 use bug_record::{Change, SetImage};
@@ -24,8 +24,8 @@ pub trait Records {
     /// So far the disk has returned what was written to it. Always so of a desk in memory.
     ghost is_honest: { Self → Type 0 };
 
-    /// How often the store has failed by another cause than out of memory, up to `u64::MAX`.
-    ghost faults: { Self → ℕ };
+    /// How often the store has answered `Device`, `Full` and `Foreign`, each up to `u64::MAX`.
+    ghost faults: { Self → Faults };
 
     /// The image of the set that the bug is in; `None` exactly where there is no bug of this number.
     fn set_of(&mut self, number: u64) -> Result<Option<SetImage>, StoreFault>
@@ -53,9 +53,9 @@ pub trait Records {
         ensures refusal { IfOk result IsRefusal }
         ensures count { faults self.new ≡ faults_after result (faults self.old) };
 
-    /// How often the store has answered `Device`, `Full` or `Foreign`, up to `u64::MAX`.
+    /// How often the store has answered `Device`, `Full` or `Foreign` in all, up to `u64::MAX`.
     fn faults(&self) -> u64
-        ensures { result ≡ faults self.now };
+        ensures { result ≡ total (faults self.now) };
 
     /// A desk that is kept is sound.
     ghost sound: { (s : Self) → is_kept s → IsSound (desk s) };

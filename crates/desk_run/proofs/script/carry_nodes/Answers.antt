@@ -5,15 +5,15 @@ use Rattle.desk_store.proofs.HoldsLemmas.{holds_weaker}
 use Rattle.desk_run.specs.Script.{DirectiveLine, standing}
 use Rattle.desk_text.specs.Answers.{branch_answer}
 use Rattle.desk_run.proofs.PartLemmas.{untold}
-use Rattle.desk_run.proofs.BranchLemmas.{branch_whole, branch_fault, branch_carried, whole_count, branch_count}
+use Rattle.desk_run.proofs.BranchLemmas.{branch_whole, branch_fault, branch_carried, whole_count, fault_count, branch_count}
 use Rattle.desk_run.proofs.script.carry_nodes.Goals as goal
 
 pub returns-in_default-clause-answer : goal.returns-in_default-clause-answer
 returns-in_default-clause-answer g c =
     let s = standing (g.S.Records.desk c.args.store.now) c.args.run.now.sender c.args.run.now.refused in
     holds_weaker c.branch-answer.ensures.answer
-    (λ r. untold (DirectiveLine c.args.line.now) s _ _ (branch_answer c.branch-answer.result)
-    (branch_carried c.args.line.now c.requires.0 c.args.nodes.now s _ c.branch-answer.result c.requires.1 c.requires.2 r))
+    (λ r. untold (DirectiveLine c.args.line.now) s _ _ _ _ (branch_answer c.branch-answer.result)
+    (branch_carried c.args.line.now c.requires.0 c.args.nodes.now s _ _ _ c.branch-answer.result c.requires.1 c.requires.2 c.branch-answer.ensures.count r))
 
 pub returns-in-Err-clause-answer : goal.returns-in-Err-clause-answer
 returns-in-Err-clause-answer g c =
@@ -24,7 +24,7 @@ returns-in-Err-clause-answer g c =
       branch_answer c.branch-answer.result,
       c.in-Err.ensures.unfinished.0,
       subst (λ (w : List ℕ). c.in-Err.ensures.unfinished.0 < length w) text c.in-Err.ensures.unfinished.1,
-      branch_carried c.args.line.now c.requires.0 c.args.nodes.now s _ c.branch-answer.result c.requires.1 c.requires.2 r,
+      branch_carried c.args.line.now c.requires.0 c.args.nodes.now s _ _ _ c.branch-answer.result c.requires.1 c.requires.2 c.branch-answer.ensures.count r,
       subst (λ (w : List ℕ). Appends (g.W.Write.contents c.args.writer.now) (g.W.Write.contents c.write_out.new.writer) (take c.in-Err.ensures.unfinished.0 w)) text c.in-Err.ensures.unfinished.2,
     ))
 
@@ -37,13 +37,14 @@ returns-in-Some-clause-answer g c =
     (λ r. (
       branch_answer c.branch-answer.result,
       branch_fault c.args.line.now c.requires.0 c.args.nodes.now s _ c.branch-answer.result c.in-Some.fault c.requires.1 c.requires.2 of_store r,
+      c.branch-answer.ensures.count ∙ fault_count c.branch-answer.result c.in-Some.fault _ of_store,
       subst (Appends (g.W.Write.contents c.args.writer.now) (g.W.Write.contents c.write_out.new.writer)) text c.in-Ok-write_out.ensures.all,
     ))
 
 pub returns-in-Some-clause-count : goal.returns-in-Some-clause-count
 returns-in-Some-clause-count g c =
     let of_store = sym c.fault_of_branch.ensures ∙ c.in-Some.is in
-    c.branch-answer.ensures.count ∙ branch_count c.branch-answer.result c.in-Some.fault _ of_store
+    c.branch-answer.ensures.count ∙ fault_count c.branch-answer.result c.in-Some.fault _ of_store
 
 pub returns-clause-answer : goal.returns-clause-answer
 returns-clause-answer g c =
@@ -59,3 +60,13 @@ pub returns-clause-count : goal.returns-clause-count
 returns-clause-count g c =
     let not_of_store = sym c.fault_of_branch.ensures ∙ c.in_default-fault_of_branch.is in
     c.branch-answer.ensures.count ∙ whole_count c.branch-answer.result _ not_of_store
+
+pub returns-in_default-clause-count : goal.returns-in_default-clause-count
+returns-in_default-clause-count g c =
+    let n = branch_count c.branch-answer.result (g.S.Records.faults c.args.store.now) in
+    (n.0, c.branch-answer.ensures.count ∙ n.1)
+
+pub returns-in-Err-clause-count : goal.returns-in-Err-clause-count
+returns-in-Err-clause-count g c =
+    let n = branch_count c.branch-answer.result (g.S.Records.faults c.args.store.now) in
+    (n.0, c.branch-answer.ensures.count ∙ n.1)

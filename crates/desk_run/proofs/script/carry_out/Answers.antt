@@ -22,11 +22,11 @@ returns-in-Err-BadNode-clause-answer g c =
     let none : nodes_of names ≡ None = subst (λ z. AreRead {A = Global} (nodes_of names) (Err z)) c.in-Err-BadNode.field-0-is c.in-Err-BadNode.ensures in
     let refused = branch_of_none s.desk.tree names none in
     let done = c.refuse.ensures in
-    holds_none _ _ _ (order_refused c.args.line.now s _ _ _ _ _ (Branch names) c.refuse.result c.in-Branch.ensures.value
+    holds_none _ _ _ (order_refused c.args.line.now s _ _ _ _ _ _ (Branch names) c.refuse.result c.in-Branch.ensures.value
     (ap (λ (r : Result Ancestry BranchRefusal). after_branch r s) refused) (c.bad_version_answer.ensures ∙ ap branch_text (sym refused)) done.all done.unfinished done.write done.refused done.sender)
 
 pub returns-in-Bad-clause-answer : goal.returns-in-Bad-clause-answer
 returns-in-Bad-clause-answer g c =
     let s = standing (g.S.Records.desk c.args.store.now) c.args.run.now.sender c.args.run.now.refused in
     let done = c.refuse-in-Bad.ensures in
-    holds_none _ _ _ (order_refused c.args.line.now s _ _ _ _ _ Bad c.refuse-in-Bad.result c.in-Bad.ensures.value refl c.bad_directive_answer.ensures done.all done.unfinished done.write done.refused done.sender)
+    holds_none _ _ _ (order_refused c.args.line.now s _ _ _ _ _ _ Bad c.refuse-in-Bad.result c.in-Bad.ensures.value refl c.bad_directive_answer.ensures done.all done.unfinished done.write done.refused done.sender)

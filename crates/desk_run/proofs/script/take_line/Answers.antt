@@ -8,7 +8,7 @@ use Rattle.desk_run.proofs.script.take_line.Goals as goal
 pub returns-in-Err-clause-err : goal.returns-in-Err-clause-err
 returns-in-Err-clause-err g c =
     let e : is_directive c.args.line ≡ true = sym (c.is_directive.ensures ∙ ap is_directive c.as_str.ensures) ∙ c.if-is_directive.true in
-    holds_weaker c.in-Err.ensures.answer (λ s lines. stops_at_message c.args.run.now.gathered.items c.args.line lines _ _ _ _ _ e s)
+    holds_weaker c.in-Err.ensures.answer (λ s lines. stops_at_message c.args.run.now.gathered.items c.args.line lines _ _ _ _ _ _ _ e s)
 
 pub returns-in-Ok-carry_out-clause-ok : goal.returns-in-Ok-carry_out-clause-ok
 returns-in-Ok-carry_out-clause-ok g c =
@@ -24,7 +24,7 @@ pub returns-then-is_directive-clause-err : goal.returns-then-is_directive-clause
 returns-then-is_directive-clause-err g c =
     let e : is_directive c.args.line ≡ true = sym (c.is_directive.ensures ∙ ap is_directive c.as_str.ensures) ∙ c.if-is_directive.true in
     holds_then c.in-Ok.ensures.answer (rw c.as_str-then-is_directive.ensures at c.in-Err-carry_out.ensures.answer)
-    (λ p s lines. stops_at_order c.args.run.now.gathered.items c.args.line lines _ _ _ _ _ _ _ e p s)
+    (λ p s lines. stops_at_order c.args.run.now.gathered.items c.args.line lines _ _ _ _ _ _ _ _ _ _ e c.in-Ok.ensures.count p s)
 
 pub returns-in-Ok-push-clause-ok : goal.returns-in-Ok-push-clause-ok
 returns-in-Ok-push-clause-ok g c =
@@ -36,4 +36,4 @@ returns-in-Ok-push-clause-ok g c =
 
 pub returns-clause-err : goal.returns-clause-err
 returns-clause-err g c =
-    holds_none _ _ _ (λ lines. gathered_stops c.args.run.now.gathered.items (c.args.line ∷ lines) _ _ _ refl)
+    holds_none _ _ _ (λ lines. gathered_stops c.args.run.now.gathered.items (c.args.line ∷ lines) _ _ _ _ refl)
