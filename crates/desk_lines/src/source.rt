@@ -3,7 +3,7 @@
 ghost use Rattle.std.specs.Prelude.{◌≡◌, ℕ, ◌+◌, ◌<◌, ◌≤◌, ◌++◌, [], length, take, IsOk, IfOk, IfErr, OnOk, OnErr, IsUtf8, Result};
 ghost use Rattle.std.specs.Io.KnownBytes.{Appends};
 ghost use Rattle.desk_lines.specs.Lines.{without_return};
-ghost use Rattle.desk_lines.specs.Reading.{Known, Left, GivesByte, GivesRaw, GivesPiece, IsLineFault, IsReadingFault, IsTextFault};
+ghost use Rattle.desk_lines.specs.Reading.{Known, Left, GivesByte, GivesRaw, GivesPiece, IsLineFault, IsReadingFault, IsBegun, IsTextFault};
 
 use crate::fault::ScriptFault;
 use crate::lines::without_return;
@@ -81,6 +81,8 @@ fn next_byte<R: Read>(source: &mut Source, reader: &mut R) -> Result<Option<u8>,
     ensures byte { IfOk result (λ byte. Left (R.remaining reader.old) (R.remaining reader.new) (λ xs ys. GivesByte byte (source.old.unread ++ xs) (source.new.unread ++ ys))) }
     ensures kept { 0 < length source.old.unread → IsOk result }
     ensures fault { OnErr result (result ≡ Result.Err ScriptFault.Read) }
+    ensures untaken { OnErr result (Left (R.remaining reader.old) (R.remaining reader.new) (λ xs ys. source.new.unread ++ ys ≡ source.old.unread ++ xs)) }
+    ensures emptied { OnErr result (source.new.unread ≡ []) }
     ensures buffered { 0 < length source.old.unread → (source.new.reads_left ≡ source.old.reads_left) × (reader.new ≡ reader.old) }
     ensures counted { source.old.unread ≡ [] → 0 < source.old.reads_left → source.new.reads_left + 1 ≡ source.old.reads_left }
     ensures spent { source.old.unread ≡ [] → source.old.reads_left ≡ 0 → (result ≡ Result.Err ScriptFault.Read) × (source.new ≡ source.old) × (reader.new ≡ reader.old) }
@@ -119,6 +121,8 @@ fn gather<R: Read>(
     ensures raw { IfOk result (λ raw. Left (R.remaining reader.old) (R.remaining reader.new) (λ xs ys. GivesRaw raw (source.old.unread ++ xs) (source.new.unread ++ ys))) }
     ensures fault { IfErr result (λ fault. Known (R.remaining reader.old) (λ xs. IsLineFault number fault (source.old.unread ++ xs))) }
     ensures outside { IfErr result (IsReadingFault number) }
+    ensures begun { result ≡ Result.Err ScriptFault.Read → Left (R.remaining reader.old) (R.remaining reader.new) (λ xs ys. IsBegun (source.old.unread ++ xs) (source.new.unread ++ ys)) }
+    ensures emptied { result ≡ Result.Err ScriptFault.Read → source.new.unread ≡ [] }
     ensures reads { source.new.reads_left ≤ source.old.reads_left }
     ensures unasked { source.new.reads_left ≡ source.old.reads_left → reader.new ≡ reader.old }
     ensures spent { source.old.unread ≡ [] → source.old.reads_left ≡ 0 → (result ≡ Result.Err ScriptFault.Read) × (source.new ≡ source.old) × (reader.new ≡ reader.old) }
@@ -157,7 +161,8 @@ fn text_of(alloc: Global, bytes: &[u8], number: u64) -> Result<Text, ScriptFault
 /// The next line of a script, which has this number, counted from 1.
 ///
 /// The faults are those of this line alone: Read, where a read fails, an interrupted one too, or is the 16,777,217th;
-/// LineTooLong, as soon as the line has 65,537 bytes; NotUtf8; Memory. Where no read is left, the reader is called no more.
+/// LineTooLong, as soon as the line has 65,537 bytes; NotUtf8; Memory. At Read at most 65,536 bytes of the line were taken from
+/// the reader, and nothing else. Where no read is left, the reader is called no more.
 pub fn next_line<R: Read>(
     alloc: Global,
     source: &mut Source,
@@ -167,6 +172,8 @@ pub fn next_line<R: Read>(
     ensures piece { IfOk result (λ piece. Left (R.remaining reader.old) (R.remaining reader.new) (λ xs ys. GivesPiece piece (source.old.unread ++ xs) (source.new.unread ++ ys))) }
     ensures fault { IfErr result (λ fault. Known (R.remaining reader.old) (λ xs. IsLineFault number fault (source.old.unread ++ xs))) }
     ensures outside { IfErr result (IsReadingFault number) }
+    ensures begun { result ≡ Result.Err ScriptFault.Read → Left (R.remaining reader.old) (R.remaining reader.new) (λ xs ys. IsBegun (source.old.unread ++ xs) (source.new.unread ++ ys)) }
+    ensures emptied { result ≡ Result.Err ScriptFault.Read → source.new.unread ≡ [] }
     ensures reads { source.new.reads_left ≤ source.old.reads_left }
     ensures unasked { source.new.reads_left ≡ source.old.reads_left → reader.new ≡ reader.old }
     ensures spent { source.old.unread ≡ [] → source.old.reads_left ≡ 0 → (result ≡ Result.Err ScriptFault.Read) × (source.new ≡ source.old) × (reader.new ≡ reader.old) }
