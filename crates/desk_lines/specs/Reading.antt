@@ -1,6 +1,7 @@
 -- How a script is read: line by line, each line checked as it comes. This project's own rule.
-use Rattle.std.specs.Prelude.{◌≡◌, ℕ, ◌<◌, ◌≤◌, List, [], ◌∷◌, length, Option, Some, None, IsUtf8, ⊤}
-use Rattle.desk_lines.specs.Lines.{without_return, raw_lines}
+use Rattle.std.specs.Prelude.{◌≡◌, ℕ, ◌<◌, ◌≤◌, List, [], ◌∷◌, ◌++◌, length, false, Option, Some, None, IsUtf8, ⊤}
+use Rattle.std.specs.List.{list_any}
+use Rattle.desk_lines.specs.Lines.{without_return, is_feed, raw_lines}
 use Rattle.desk_lines.specs.declared.fault.ScriptFault.{ScriptFault}
 use Rattle.desk_lines.specs.declared.fault.ScriptFault.TheVariants.{Read, Write, NotUtf8, LineTooLong, Memory, Store}
 use Rattle.desk_lines.specs.declared.source.Piece.{Piece}
@@ -45,6 +46,13 @@ pub record Known (old : Option (List ℕ)) (P : List ℕ → Type 0) : Type 0 wh
 -- Where the bytes that a reader has left are known, it comes to known bytes, and P is true of both.
 pub record Left (old new : Option (List ℕ)) (P : List ℕ → List ℕ → Type 0) : Type 0 where
   pub known : (xs : List ℕ) → old ≡ Some xs → (ys : List ℕ) × (new ≡ Some ys) × P xs ys
+
+-- From `all` a front of its first line was taken, and `rest` is left: at most 65,536 bytes, and no line feed.
+pub record IsBegun (all rest : List ℕ) : Type 0 where
+  pub front : List ℕ
+  pub together : all ≡ front ++ rest
+  pub short : length front ≤ 65536
+  pub unended : list_any is_feed front ≡ false
 
 -- From `all` comes this byte, or none at the end, and `rest` is left.
 abbrev pub GivesByte : Option ℕ → List ℕ → List ℕ → Type 0

@@ -1,9 +1,9 @@
 //! Lines of a reader, and bytes to a writer.
 
-ghost use Rattle.std.specs.Prelude.{◌≡◌, ℕ, ◌<◌, ◌++◌, [], length, take, IsOk, IfOk, IfErr, OnOk, OnErr, IsUtf8, Result};
+ghost use Rattle.std.specs.Prelude.{◌≡◌, ℕ, ◌+◌, ◌<◌, ◌≤◌, ◌++◌, [], length, take, IsOk, IfOk, IfErr, OnOk, OnErr, IsUtf8, Result};
 ghost use Rattle.std.specs.Io.KnownBytes.{Appends};
 ghost use Rattle.desk_lines.specs.Lines.{without_return};
-ghost use Rattle.desk_lines.specs.Reading.{Known, Left, GivesByte, GivesRaw, GivesPiece, IsLineFault, IsReadingFault, IsTextFault};
+ghost use Rattle.desk_lines.specs.Reading.{Known, Left, GivesByte, GivesRaw, GivesPiece, IsLineFault, IsReadingFault, IsBegun, IsTextFault};
 
 use crate::fault::ScriptFault;
 use crate::lines::without_return;
@@ -33,19 +33,20 @@ pub struct Source {
 }
 
 impl Model for Source {
-    ghost use Rattle.std.specs.Prelude.{List, ℕ, length, take, drop, ◌≤◌};
+    ghost use Rattle.std.specs.Prelude.{length, take, drop, ◌≤◌};
+    ghost use Rattle.desk_lines.specs.Buffered.{Buffered};
 
-    ghost Value = { List ℕ };
+    ghost Value = { Buffered };
 
-    ghost view = { λ s. drop s.at (take s.len s.buffer) };
+    ghost view = { λ s. record { unread = drop s.at (take s.len s.buffer); reads_left = s.reads_left } };
 
     ghost invariant = { λ s. (s.at ≤ s.len) × (s.len ≤ length s.buffer) };
 }
 
 impl Source {
-    /// Nothing is read yet.
+    /// Nothing is read yet, and 16,777,216 reads may follow.
     pub fn new() -> Source
-        ensures { result ≡ [] }
+        ensures { result ≡ record { unread = []; reads_left = 16777216 } }
     {
         Source {
             buffer: [0; BUFFER],
@@ -77,9 +78,14 @@ enum RawLine {
 
 // The next byte. A read that fails, an interrupted one too, or one more than the bound is the fault.
 fn next_byte<R: Read>(source: &mut Source, reader: &mut R) -> Result<Option<u8>, ScriptFault>
-    ensures byte { IfOk result (λ byte. Left (R.remaining reader.old) (R.remaining reader.new) (λ xs ys. GivesByte byte (source.old ++ xs) (source.new ++ ys))) }
-    ensures kept { 0 < length source.old → IsOk result }
+    ensures byte { IfOk result (λ byte. Left (R.remaining reader.old) (R.remaining reader.new) (λ xs ys. GivesByte byte (source.old.unread ++ xs) (source.new.unread ++ ys))) }
+    ensures kept { 0 < length source.old.unread → IsOk result }
     ensures fault { OnErr result (result ≡ Result.Err ScriptFault.Read) }
+    ensures untaken { OnErr result (Left (R.remaining reader.old) (R.remaining reader.new) (λ xs ys. source.new.unread ++ ys ≡ source.old.unread ++ xs)) }
+    ensures emptied { OnErr result (source.new.unread ≡ []) }
+    ensures buffered { 0 < length source.old.unread → (source.new.reads_left ≡ source.old.reads_left) × (reader.new ≡ reader.old) }
+    ensures counted { source.old.unread ≡ [] → 0 < source.old.reads_left → source.new.reads_left + 1 ≡ source.old.reads_left }
+    ensures spent { source.old.unread ≡ [] → source.old.reads_left ≡ 0 → (result ≡ Result.Err ScriptFault.Read) × (source.new ≡ source.old) × (reader.new ≡ reader.old) }
 {
     if source.at < source.len {
         let byte = source.buffer[source.at];
@@ -112,9 +118,14 @@ fn gather<R: Read>(
     reader: &mut R,
     number: u64,
 ) -> Result<RawLine, ScriptFault>
-    ensures raw { IfOk result (λ raw. Left (R.remaining reader.old) (R.remaining reader.new) (λ xs ys. GivesRaw raw (source.old ++ xs) (source.new ++ ys))) }
-    ensures fault { IfErr result (λ fault. Known (R.remaining reader.old) (λ xs. IsLineFault number fault (source.old ++ xs))) }
+    ensures raw { IfOk result (λ raw. Left (R.remaining reader.old) (R.remaining reader.new) (λ xs ys. GivesRaw raw (source.old.unread ++ xs) (source.new.unread ++ ys))) }
+    ensures fault { IfErr result (λ fault. Known (R.remaining reader.old) (λ xs. IsLineFault number fault (source.old.unread ++ xs))) }
     ensures outside { IfErr result (IsReadingFault number) }
+    ensures begun { result ≡ Result.Err ScriptFault.Read → Left (R.remaining reader.old) (R.remaining reader.new) (λ xs ys. IsBegun (source.old.unread ++ xs) (source.new.unread ++ ys)) }
+    ensures emptied { result ≡ Result.Err ScriptFault.Read → source.new.unread ≡ [] }
+    ensures reads { source.new.reads_left ≤ source.old.reads_left }
+    ensures unasked { source.new.reads_left ≡ source.old.reads_left → reader.new ≡ reader.old }
+    ensures spent { source.old.unread ≡ [] → source.old.reads_left ≡ 0 → (result ≡ Result.Err ScriptFault.Read) × (source.new ≡ source.old) × (reader.new ≡ reader.old) }
 {
     let mut line = Vec::new(alloc);
     loop {
@@ -150,16 +161,22 @@ fn text_of(alloc: Global, bytes: &[u8], number: u64) -> Result<Text, ScriptFault
 /// The next line of a script, which has this number, counted from 1.
 ///
 /// The faults are those of this line alone: Read, where a read fails, an interrupted one too, or is the 16,777,217th;
-/// LineTooLong, as soon as the line has 65,537 bytes; NotUtf8; Memory.
+/// LineTooLong, as soon as the line has 65,537 bytes; NotUtf8; Memory. At Read at most 65,536 bytes of the line were taken from
+/// the reader, and nothing else. Where no read is left, the reader is called no more.
 pub fn next_line<R: Read>(
     alloc: Global,
     source: &mut Source,
     reader: &mut R,
     number: u64,
 ) -> Result<Piece, ScriptFault>
-    ensures piece { IfOk result (λ piece. Left (R.remaining reader.old) (R.remaining reader.new) (λ xs ys. GivesPiece piece (source.old ++ xs) (source.new ++ ys))) }
-    ensures fault { IfErr result (λ fault. Known (R.remaining reader.old) (λ xs. IsLineFault number fault (source.old ++ xs))) }
+    ensures piece { IfOk result (λ piece. Left (R.remaining reader.old) (R.remaining reader.new) (λ xs ys. GivesPiece piece (source.old.unread ++ xs) (source.new.unread ++ ys))) }
+    ensures fault { IfErr result (λ fault. Known (R.remaining reader.old) (λ xs. IsLineFault number fault (source.old.unread ++ xs))) }
     ensures outside { IfErr result (IsReadingFault number) }
+    ensures begun { result ≡ Result.Err ScriptFault.Read → Left (R.remaining reader.old) (R.remaining reader.new) (λ xs ys. IsBegun (source.old.unread ++ xs) (source.new.unread ++ ys)) }
+    ensures emptied { result ≡ Result.Err ScriptFault.Read → source.new.unread ≡ [] }
+    ensures reads { source.new.reads_left ≤ source.old.reads_left }
+    ensures unasked { source.new.reads_left ≡ source.old.reads_left → reader.new ≡ reader.old }
+    ensures spent { source.old.unread ≡ [] → source.old.reads_left ≡ 0 → (result ≡ Result.Err ScriptFault.Read) × (source.new ≡ source.old) × (reader.new ≡ reader.old) }
 {
     let raw = gather(alloc, source, reader, number)?;
     match raw {

@@ -1,4 +1,4 @@
-use Rattle.std.proofs.Common.{◌≡◌, ◌++◌, ◌-◌, ◌≤◌, length, false}
+use Rattle.std.proofs.Common.{◌≡◌, [], ◌++◌, ◌-◌, ◌≤◌, length, false}
 use Rattle.std.specs.List.{list_any}
 use Rattle.desk_lines.specs.Reading.{Left}
 use Rattle.desk_lines.specs.Lines.{is_feed}
@@ -8,7 +8,10 @@ abbrev pub invariant-loop-line : goal.invariant-loop-line
 invariant-loop-line g l = record {
   short : length l.line.items ≤ 65536;
   no_feed : list_any is_feed l.line.items ≡ false;
-  read : Left (g.R.Read.remaining l.fn.reader) (g.R.Read.remaining l.reader) (λ xs ys. l.fn.source ++ xs ≡ l.line.items ++ (l.source ++ ys));
+  read : Left (g.R.Read.remaining l.fn.reader) (g.R.Read.remaining l.reader) (λ xs ys. l.fn.source.unread ++ xs ≡ l.line.items ++ (l.source.unread ++ ys));
+  reads : l.source.reads_left ≤ l.fn.source.reads_left;
+  unasked : l.source.reads_left ≡ l.fn.source.reads_left → l.reader ≡ l.fn.reader;
+  spent : l.fn.source.unread ≡ [] → l.fn.source.reads_left ≡ 0 → (l.source ≡ l.fn.source) × (l.reader ≡ l.fn.reader);
 }
 
 abbrev pub decreases-loop-line : goal.decreases-loop-line
