@@ -1,7 +1,10 @@
 //! A message: its lines, taken one at a time.
 
-ghost use Rattle.std.specs.Prelude.{◌≡◌, ◌∷◌, ◌++◌, ◌<◌, [], vec_len, vec_capacity, IfOk, OnOk, OnErr, Result, if◌then◌else◌};
+ghost use Rattle.std.specs.Prelude.{◌≡◌, ◌∷◌, ◌++◌, ◌<◌, [], vec_len, vec_capacity, IfOk, OnOk, OnErr, Result, Ok, if◌then◌else◌};
 ghost use Rattle.bug_record.specs.Texts.{IsText};
+ghost use Rattle.bug_record.specs.Commands.{HasGoodParts};
+ghost use Rattle.control_text.specs.Lines.{reading};
+ghost use Rattle.control_text.specs.declared.line.Line.TheVariants.{Do};
 ghost use Rattle.desk_store.specs.Store.{Holds, faults_after};
 ghost use Rattle.desk_store.specs.Message.{is_stop, is_unreadable, unreadable_count, end_of, IsReceived, faults_after_end};
 ghost use Rattle.desk_messages.specs.Taking.{goes_on, TakesLine};
@@ -9,8 +12,8 @@ ghost use Rattle.desk_lines.specs.Lines.{lines_of};
 ghost use Rattle.desk_messages.specs.Transcripts.{IsLineOf};
 
 use crate::command::take_command;
-use bug_record::{Refusal, Sequence};
-use control_text::{Line, LineFault, read_line};
+use bug_record::{Command, Refusal, Sequence};
+use control_text::{Line, LineFault, Named, read_line};
 use debver::Text;
 use desk_lines::split_lines;
 use desk_store::Records;
@@ -100,6 +103,57 @@ fn settle(progress: &mut Progress, text: Text, outcome: Outcome) -> End
     }
 }
 
+// Answers a line with an outcome that changes no bug, and says whether it ends the message.
+fn answer_line(
+    alloc: Global,
+    progress: &mut Progress,
+    line: &str,
+    outcome: Outcome,
+) -> Result<End, StoreFault>
+    requires counted { progress.old.unreadable ≡ unreadable_count progress.old.outcomes.items }
+    requires goes_on { end_of progress.old.outcomes.items ≡ End.All }
+    ensures added { OnOk result (progress.new.outcomes.items ≡ progress.old.outcomes.items ++ (line.now, outcome) ∷ []) }
+    ensures counted { progress.new.unreadable ≡ unreadable_count progress.new.outcomes.items }
+    ensures end { IfOk result (λ end. end_of progress.new.outcomes.items ≡ end) }
+    ensures same { OnErr result (progress.new.outcomes.items ≡ progress.old.outcomes.items) }
+    ensures memory { OnErr result (result ≡ Result.Err StoreFault.Memory) }
+{
+    match make_room(alloc, &mut progress.outcomes, line) {
+        Ok(text) => Ok(settle(progress, text, outcome)),
+        Err(fault) => Err(fault),
+    }
+}
+
+// Carries a line's command out, and says whether that ends the message. After a fault nothing is changed.
+fn take_command_line<S: Records>(
+    alloc: Global,
+    store: &mut S,
+    from: &str,
+    progress: &mut Progress,
+    line: &str,
+    command: Command<Named>,
+) -> Result<End, StoreFault>
+    requires sender { IsText from.now }
+    requires parts { HasGoodParts command }
+    requires counted { progress.old.unreadable ≡ unreadable_count progress.old.outcomes.items }
+    requires goes_on { end_of progress.old.outcomes.items ≡ End.All }
+    ensures answer { Holds S.is_kept S.is_honest store.old store.new (TakesLine from.now
+        (S.desk store.old) progress.old.outcomes.items (S.desk store.new) progress.new.outcomes.items result line.now (Ok (Do command))) }
+    ensures count { S.faults store.new ≡ faults_after result (S.faults store.old) }
+    ensures counted { progress.new.unreadable ≡ unreadable_count progress.new.outcomes.items }
+    ensures end { IfOk result (λ end. end_of progress.new.outcomes.items ≡ end) }
+    ensures same { OnErr result (progress.new.outcomes.items ≡ progress.old.outcomes.items) }
+{
+    let text = match make_room(alloc, &mut progress.outcomes, line) {
+        Ok(text) => text,
+        Err(fault) => return Err(fault),
+    };
+    match take_command(alloc, store, from, command) {
+        Ok(outcome) => Ok(settle(progress, text, outcome)),
+        Err(fault) => Err(fault),
+    }
+}
+
 // Takes one line, and says whether it ends the message. After a fault nothing is changed.
 fn take_message_line<S: Records>(
     alloc: Global,
@@ -112,7 +166,7 @@ fn take_message_line<S: Records>(
     requires counted { progress.old.unreadable ≡ unreadable_count progress.old.outcomes.items }
     requires goes_on { end_of progress.old.outcomes.items ≡ End.All }
     ensures answer { Holds S.is_kept S.is_honest store.old store.new (TakesLine from.now
-        (S.desk store.old) progress.old.outcomes.items (S.desk store.new) progress.new.outcomes.items result line.now) }
+        (S.desk store.old) progress.old.outcomes.items (S.desk store.new) progress.new.outcomes.items result line.now (reading line.now)) }
     ensures count { S.faults store.new ≡ faults_after result (S.faults store.old) }
     ensures counted { progress.new.unreadable ≡ unreadable_count progress.new.outcomes.items }
     ensures end { IfOk result (λ end. end_of progress.new.outcomes.items ≡ end) }
@@ -121,22 +175,10 @@ fn take_message_line<S: Records>(
     match read_line(alloc, line) {
         Ok(Line::Blank) => Ok(End::All),
         Ok(Line::Comment) => Ok(End::All),
-        Ok(Line::Stop) => match make_room(alloc, &mut progress.outcomes, line) {
-            Ok(text) => Ok(settle(progress, text, Outcome::Stopped)),
-            Err(fault) => Err(fault),
-        },
-        Ok(Line::Do(command)) => match make_room(alloc, &mut progress.outcomes, line) {
-            Ok(text) => match take_command(alloc, store, from, command) {
-                Ok(outcome) => Ok(settle(progress, text, outcome)),
-                Err(fault) => Err(fault),
-            },
-            Err(fault) => Err(fault),
-        },
+        Ok(Line::Stop) => answer_line(alloc, progress, line, Outcome::Stopped),
+        Ok(Line::Do(command)) => take_command_line(alloc, store, from, progress, line, command),
         Err(LineFault::Refused(refusal)) => {
-            match make_room(alloc, &mut progress.outcomes, line) {
-                Ok(text) => Ok(settle(progress, text, Outcome::Refused(refusal))),
-                Err(fault) => Err(fault),
-            }
+            answer_line(alloc, progress, line, Outcome::Refused(refusal))
         }
         Err(LineFault::Memory) => Err(StoreFault::Memory),
     }
