@@ -1,6 +1,6 @@
 //! Lines in the pieces that readers give, bytes in the pieces that writers take, and their faults.
 
-use crate::readers::{Broken, Feeds, Narrow, Trickle};
+use crate::readers::{Broken, Narrow, Pieces, Trickle};
 use desk_lines::{Piece, ScriptFault, Source, next_line, split_lines, write_out};
 use std::alloc::{AllocError, Global};
 use std::io::Read;
@@ -55,10 +55,7 @@ fn lines_are_the_same_in_whatever_pieces_they_are_read(rt: HostRuntime) -> Resul
         ("end", ""),
     ];
     assert_pieces(&rt, rt.alloc(), &mut text.as_slice(), &want)?;
-    let mut slow = Trickle {
-        left: text,
-        good_reads: 100,
-    };
+    let mut slow = Trickle::new(text, 100);
     assert_pieces(&rt, rt.alloc(), &mut slow, &want)?;
     Ok(())
 }
@@ -87,10 +84,7 @@ fn a_line_has_65_536_bytes_at_most(rt: HostRuntime) -> Result<(), Fail> {
 fn a_long_line_is_refused_at_its_first_byte_too_many(rt: HostRuntime) -> Result<(), Fail> {
     let alloc = rt.alloc();
     let bytes = long(alloc, 70_000, b"")?;
-    let mut reader = Trickle {
-        left: &bytes,
-        good_reads: 65_537,
-    };
+    let mut reader = Trickle::new(&bytes, 65_537);
     let fault = next_line(alloc, &mut Source::new(), &mut reader, 7).err();
     assert!(rt; fault == Some(ScriptFault::LineTooLong(7)));
     Ok(())
@@ -100,22 +94,20 @@ fn a_long_line_is_refused_at_its_first_byte_too_many(rt: HostRuntime) -> Result<
 fn a_read_that_fails_is_the_fault(rt: HostRuntime) -> Result<(), Fail> {
     let alloc = rt.alloc();
     let mut source = Source::new();
-    let mut reader = Trickle {
-        left: b"a\nbc\n",
-        good_reads: 3,
-    };
+    let mut reader = Trickle::new(b"a\nbc\n", 3);
     let first = next_line(alloc, &mut source, &mut reader, 1)?;
     assert!(rt; shown(&first) == ("line", "a"));
     let second = next_line(alloc, &mut source, &mut reader, 2);
     assert!(rt; second.err() == Some(ScriptFault::Read));
+    assert!(rt; reader.later() == Some(0));
     Ok(())
 }
 
-// How many reads a reader that never ends is asked for, if the last line that it gives has this number,
-// and the next one is the fault Read; the line after that takes no read.
-fn reads_until(alloc: Global, last: u64) -> Result<Option<u64>, ScriptFault> {
+// How many reads a reader that never ends, and gives this piece a read, is asked for, if the last line that it gives has
+// this number, and the next one is the fault Read; the line after that takes no read.
+fn reads_until(alloc: Global, piece: &[u8], last: u64) -> Result<Option<u64>, ScriptFault> {
     let mut source = Source::new();
-    let mut reader = Feeds { reads: 0 };
+    let mut reader = Pieces { piece, reads: 0 };
     for number in 0..last {
         next_line(alloc, &mut source, &mut reader, number)?;
     }
@@ -129,7 +121,9 @@ fn reads_until(alloc: Global, last: u64) -> Result<Option<u64>, ScriptFault> {
 
 #[test]
 fn a_reader_is_asked_for_16_777_216_reads_and_no_more(rt: HostRuntime) -> Result<(), Fail> {
-    assert!(rt; reads_until(rt.alloc(), 16_777_216)? == Some(16_777_216));
+    assert!(rt; reads_until(rt.alloc(), b"\n", 16_777_216)? == Some(16_777_216));
+    // a line more is begun with the last piece
+    assert!(rt; reads_until(rt.alloc(), b"b\na", 16_777_216)? == Some(16_777_216));
     Ok(())
 }
 
@@ -164,10 +158,7 @@ fn all_bytes_are_written_in_any_pieces(rt: HostRuntime) -> Result<(), Fail> {
     write_out(&mut whole, b"ab")?;
     write_out(&mut whole, b"c")?;
     assert!(rt; whole.as_slice() == b"abc".as_slice());
-    let mut narrow = Narrow {
-        taken: Vec::new(alloc),
-        room: 3,
-    };
+    let mut narrow = Narrow::new(Vec::new(alloc), 3);
     write_out(&mut narrow, b"abc")?;
     assert!(rt; narrow.taken.as_slice() == b"abc".as_slice());
     Ok(())
@@ -175,12 +166,12 @@ fn all_bytes_are_written_in_any_pieces(rt: HostRuntime) -> Result<(), Fail> {
 
 #[test]
 fn a_write_that_fails_or_takes_no_byte_is_the_fault(rt: HostRuntime) {
-    let mut narrow = Narrow {
-        taken: Vec::new(rt.alloc()),
-        room: 2,
-    };
+    let mut narrow = Narrow::new(Vec::new(rt.alloc()), 2);
     assert!(rt; write_out(&mut narrow, b"abc") == Err(ScriptFault::Write));
     assert!(rt; narrow.taken.as_slice() == b"ab".as_slice());
-    assert!(rt; write_out(&mut Broken, b"a") == Err(ScriptFault::Write));
-    assert!(rt; write_out(&mut Broken, b"") == Ok(()));
+    assert!(rt; narrow.later() == Some(0));
+    let mut broken = Broken { writes: 0 };
+    assert!(rt; write_out(&mut broken, b"") == Ok(()));
+    assert!(rt; write_out(&mut broken, b"a") == Err(ScriptFault::Write));
+    assert!(rt; broken.writes == 1);
 }

@@ -31,16 +31,15 @@ pub(crate) fn writes<S: Records>(
     ended == end && writer.as_slice() == written.as_bytes()
 }
 
-// What the script writes where a read fails after so many bytes; `None` where it ends otherwise.
+// What the script writes where a read fails after so many bytes; `None` where it ends otherwise, or reads on.
 fn written_until(alloc: Global, desk: &mut PlainDesk, bytes: usize) -> Option<Vec<u8>> {
-    let mut reader = Trickle {
-        left: SCRIPT.as_bytes(),
-        good_reads: bytes,
-    };
+    let mut reader = Trickle::new(SCRIPT.as_bytes(), bytes);
     let mut writer = Vec::new(alloc);
-    match run_script(alloc, desk, &mut reader, &mut writer) {
-        Err(ScriptFault::Read) => Some(writer),
-        _ => None,
+    let end = run_script(alloc, desk, &mut reader, &mut writer);
+    if end == Err(ScriptFault::Read) && reader.later() == Some(0) {
+        Some(writer)
+    } else {
+        None
     }
 }
 
@@ -68,16 +67,20 @@ fn a_read_that_fails_leaves_the_message_that_is_gathered(rt: HostRuntime) {
     assert!(rt; writes(alloc, &mut desk, script, Ok(ScriptEnd::Refused), written));
 }
 
-// Whether the script ends so and a writer that takes so many bytes has taken all of them.
-fn fills(alloc: Global, room: usize, end: Result<ScriptEnd, ScriptFault>) -> bool {
+// Whether the script ends so, a writer that takes so many bytes has taken all of them, and there were so many writes
+// after the one that failed.
+fn fills(
+    alloc: Global,
+    room: usize,
+    end: Result<ScriptEnd, ScriptFault>,
+    later: Option<u64>,
+) -> bool {
     let mut desk = PlainDesk::new(alloc, 1);
     let mut reader = SCRIPT.as_bytes();
-    let mut writer = Narrow {
-        taken: Vec::new(alloc),
-        room,
-    };
+    let mut writer = Narrow::new(Vec::new(alloc), room);
     let ended = run_script(alloc, &mut desk, &mut reader, &mut writer);
     ended == end
+        && writer.later() == later
         && writer.taken.len() == room
         && WRITTEN.as_bytes().starts_with(writer.taken.as_slice())
 }
@@ -86,16 +89,20 @@ fn fills(alloc: Global, room: usize, end: Result<ScriptEnd, ScriptFault>) -> boo
 fn a_writer_that_is_full_has_a_front_of_the_answers(rt: HostRuntime) {
     let alloc = rt.alloc();
     for room in 0..WRITTEN.len() {
-        assert!(rt; fills(alloc, room, Err(ScriptFault::Write)), "{room}");
+        assert!(rt;
+            fills(alloc, room, Err(ScriptFault::Write), Some(0)),
+            "{room}"
+        );
     }
-    assert!(rt; fills(alloc, WRITTEN.len(), Ok(ScriptEnd::Refused)));
+    assert!(rt; fills(alloc, WRITTEN.len(), Ok(ScriptEnd::Refused), None));
 }
 
-// A report, a command, and a comment of so many bytes.
-fn with_comment(alloc: Global, length: usize) -> Result<Vec<u8>, AllocError> {
+// A report, a command, so many times this byte, and then these bytes.
+fn with_many(alloc: Global, length: usize, byte: u8, then: &[u8]) -> Result<Vec<u8>, AllocError> {
     let mut script = Vec::from_slice(alloc, b"@report foo 1 normal a\nclose 1\n")?;
     let before = script.len();
-    script.resize(before.saturating_add(length), b'#')?;
+    script.resize(before.saturating_add(length), byte)?;
+    script.extend_from_slice(then)?;
     Ok(script)
 }
 
@@ -103,12 +110,26 @@ fn with_comment(alloc: Global, length: usize) -> Result<Vec<u8>, AllocError> {
 fn a_line_that_is_too_long_ends_the_script(rt: HostRuntime) -> Result<(), Fail> {
     let alloc = rt.alloc();
     let mut desk = PlainDesk::new(alloc, 1);
-    let script = with_comment(alloc, 65_536)?;
+    let script = with_many(alloc, 65_536, b'#', b"")?;
     let end = Ok(ScriptEnd::Accepted);
     let written = "OK 1\n> close 1\nOK 1\n";
     assert!(rt; writes(alloc, &mut desk, &script, end, written));
-    let script = with_comment(alloc, 65_537)?;
+    let script = with_many(alloc, 65_537, b'#', b"")?;
     let end = Err(ScriptFault::LineTooLong(3));
+    assert!(rt; writes(alloc, &mut desk, &script, end, "OK 2\n"));
+    Ok(())
+}
+
+#[test]
+fn a_script_of_70_000_lines_is_run_to_its_end(rt: HostRuntime) -> Result<(), Fail> {
+    let alloc = rt.alloc();
+    let mut desk = PlainDesk::new(alloc, 1);
+    let script = with_many(alloc, 69_997, b'\n', b"close 1\n")?;
+    let end = Ok(ScriptEnd::Accepted);
+    let written = "OK 1\n> close 1\nOK 1\n> close 1\nOK, no change.\n";
+    assert!(rt; writes(alloc, &mut desk, &script, end, written));
+    let script = with_many(alloc, 69_997, b'\n', b"\xff\n")?;
+    let end = Err(ScriptFault::NotUtf8(70_000));
     assert!(rt; writes(alloc, &mut desk, &script, end, "OK 2\n"));
     Ok(())
 }

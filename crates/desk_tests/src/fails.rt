@@ -1,0 +1,105 @@
+//! A store that fails once, at any of its calls, in any way.
+
+ghost use Rattle.std.specs.Prelude.{◌≡◌, ◌||◌, true, false};
+ghost use Rattle.desk_tests.specs.Fails.{faults_with};
+
+use ancestry::{BranchFault, Node};
+use bug_record::{Change, SetImage};
+use desk_store::Records;
+use desk_text::StoreFault;
+
+/// A store round another. One call of `set_of`, `next`, `apply` or `branch` answers this fault, and changes nothing; every
+/// other call is the other store's. Its calls are counted.
+#[derive(Drop)]
+pub(crate) struct Fails<S> {
+    inner: S,
+    fault: StoreFault,
+    // Which call is to fail, counted from 1.
+    at: u64,
+    calls: u64,
+    has_failed: bool,
+}
+
+impl<S: Records> Fails<S> {
+    /// The call of this number is to fail, counted from 1; none where it is 0.
+    pub fn new(inner: S, at: u64, fault: StoreFault) -> Fails<S> {
+        Fails {
+            inner,
+            fault,
+            at,
+            calls: 0,
+            has_failed: false,
+        }
+    }
+
+    /// How often the store has been called.
+    pub fn calls(&self) -> u64 {
+        self.calls
+    }
+
+    // Counts a call, and says whether it is the one that is to fail.
+    fn is_due(&mut self) -> bool
+        ensures first { result ≡ true → self.old.has_failed ≡ false }
+        ensures has_failed { self.new.has_failed ≡ (self.old.has_failed || result) }
+        ensures inner { self.new.inner ≡ self.old.inner }
+        ensures fault { self.new.fault ≡ self.old.fault }
+    {
+        self.calls = self.calls.saturating_add(1);
+        let due = !self.has_failed && self.calls == self.at;
+        self.has_failed = self.has_failed || due;
+        due
+    }
+}
+
+impl<S: Records> Records for Fails<S> {
+    ghost desk = { λ s. S.desk s.inner };
+
+    ghost is_kept = { λ s. S.is_kept s.inner };
+
+    ghost is_honest = { λ s. S.is_honest s.inner };
+
+    ghost faults = { λ s. faults_with s.has_failed s.fault (S.faults s.inner) };
+
+    fn set_of(&mut self, number: u64) -> Result<Option<SetImage>, StoreFault> {
+        if self.is_due() {
+            return Err(self.fault);
+        }
+        self.inner.set_of(number)
+    }
+
+    fn next(&mut self) -> Result<u64, StoreFault> {
+        if self.is_due() {
+            return Err(self.fault);
+        }
+        self.inner.next()
+    }
+
+    fn apply(&mut self, change: &Change) -> Result<(), StoreFault> {
+        if self.is_due() {
+            return Err(self.fault);
+        }
+        self.inner.apply(change)
+    }
+
+    fn branch(&mut self, nodes: &[Node]) -> Result<Result<(), BranchFault>, StoreFault> {
+        if self.is_due() {
+            return Err(self.fault);
+        }
+        self.inner.branch(nodes)
+    }
+
+    fn faults(&self) -> u64 {
+        let faults = self.inner.faults();
+        if !self.has_failed {
+            return faults;
+        }
+        match self.fault {
+            StoreFault::Memory => faults,
+            StoreFault::Device => faults.saturating_add(1),
+            StoreFault::Full => faults.saturating_add(1),
+            StoreFault::Foreign => faults.saturating_add(1),
+        }
+    }
+
+    ghost sound = { λ s kept. S.sound s.inner kept };
+}

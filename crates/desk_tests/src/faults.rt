@@ -1,0 +1,67 @@
+//! Each fault of a store, at each call that a script makes of it.
+
+use crate::fails::Fails;
+use crate::scripts::writes;
+use desk_run::{ScriptEnd, ScriptFault, run_script};
+use desk_store::PlainDesk;
+use desk_text::StoreFault;
+use std::alloc::Global;
+
+// Two reports, a merge, a command for both bugs, and a branch: twelve calls of the store.
+const SCRIPT: &str =
+    "@report foo 1 normal a\n@report foo 1 normal b\nmerge 1 2\nclose 1\n@branch foo/2 foo/1\n";
+
+// What is written where a call fails, before the line of the fault.
+const BEFORE: [(u64, &str); 12] = [
+    (1, ""),
+    (2, ""),
+    (3, "OK 1\n"),
+    (4, "OK 1\n"),
+    (5, "OK 1\nOK 2\n> merge 1 2\n"),
+    (6, "OK 1\nOK 2\n> merge 1 2\n"),
+    (7, "OK 1\nOK 2\n> merge 1 2\n"),
+    (8, "OK 1\nOK 2\n> merge 1 2\n"),
+    (9, "OK 1\nOK 2\n> merge 1 2\nOK 1 2\n> close 1\n"),
+    (10, "OK 1\nOK 2\n> merge 1 2\nOK 1 2\n> close 1\n"),
+    (11, "OK 1\nOK 2\n> merge 1 2\nOK 1 2\n> close 1\n"),
+    (12, "OK 1\nOK 2\n> merge 1 2\nOK 1 2\n> close 1\nOK 1 2\n"),
+];
+
+const FAULTS: [(StoreFault, &str); 4] = [
+    (StoreFault::Memory, "Store fault: memory.\n"),
+    (StoreFault::Device, "Store fault: device.\n"),
+    (StoreFault::Full, "Store fault: full.\n"),
+    (StoreFault::Foreign, "Store fault: foreign.\n"),
+];
+
+// Whether the script ends with this fault where it is the answer to this call of the store, which is the last one, and
+// writes this text and then the fault's line.
+fn ends_so(alloc: Global, at: u64, fault: StoreFault, before: &str, line: &str) -> bool {
+    let mut store = Fails::new(PlainDesk::new(alloc, 1), at, fault);
+    let mut reader = SCRIPT.as_bytes();
+    let mut writer = Vec::new(alloc);
+    let end = run_script(alloc, &mut store, &mut reader, &mut writer);
+    end == Err(ScriptFault::Store(fault))
+        && writer.as_slice().strip_prefix(before.as_bytes()) == Some(line.as_bytes())
+        && store.calls() == at
+}
+
+#[test]
+fn a_fault_of_the_store_ends_the_script_as_that_fault(rt: HostRuntime) {
+    let alloc = rt.alloc();
+    for (fault, line) in FAULTS {
+        for (at, before) in BEFORE {
+            assert!(rt; ends_so(alloc, at, fault, before, line), "{at} {line}");
+        }
+    }
+}
+
+#[test]
+fn a_script_whose_store_does_not_fail_makes_twelve_calls(rt: HostRuntime) {
+    let alloc = rt.alloc();
+    let mut store = Fails::new(PlainDesk::new(alloc, 1), 13, StoreFault::Device);
+    let end = Ok(ScriptEnd::Accepted);
+    let written = "OK 1\nOK 2\n> merge 1 2\nOK 1 2\n> close 1\nOK 1 2\nOK\n";
+    assert!(rt; writes(alloc, &mut store, SCRIPT.as_bytes(), end, written));
+    assert!(rt; store.calls() == 12);
+}
