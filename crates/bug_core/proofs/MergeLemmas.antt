@@ -6,7 +6,7 @@ use Rattle.std.proofs.lemmas.Option.{none-some}
 use Rattle.std.proofs.lemmas.Bool.{false≢true, eqb-true, eq-eqb, false_from_ne_true}
 use Rattle.ancestry.specs.Nodes.{Node, IsNode}
 use Rattle.bug_record.specs.Sets.{has, IsAscending, Each}
-use Rattle.bug_record.specs.Texts.{IsText, IfGiven}
+use Rattle.bug_record.specs.Texts.{IsGoodText, IfGiven}
 use Rattle.bug_record.specs.Desk.{Desk, IsSound, IsGoodShared}
 use Rattle.bug_record.specs.Bugs.{at_bug, unless, missing, first_refusal, bugs_at, all_of}
 use Rattle.bug_record.specs.Differences.{differing}
@@ -154,11 +154,11 @@ joined-makes d is n ns i sound sets known a h = record {
 
 -- ---- the desk stays sound
 
-good-owner : (bugs : List Bug) → Each (λ b. IsGoodShared b.shared) bugs → IfGiven IsText (first_owner bugs)
+good-owner : (bugs : List Bug) → Each (λ b. IsGoodShared b.shared) bugs → IfGiven IsGoodText (first_owner bugs)
 good-owner [] h = tt
 good-owner (b ∷ bugs) h = cases b.shared.owner h.0.owner (good-owner bugs h.1)
   where
-    cases : (o : Option (List ℕ)) → IfGiven IsText o → IfGiven IsText (first_owner bugs) → IfGiven IsText (option_or o (first_owner bugs))
+    cases : (o : Option (List ℕ)) → IfGiven IsGoodText o → IfGiven IsGoodText (first_owner bugs) → IfGiven IsGoodText (option_or o (first_owner bugs))
     cases None g r = r
     cases (Some who) g r = g
 

@@ -4,10 +4,10 @@ use Rattle.std.proofs.lemmas.Option.{none-some, same_Some}
 use Rattle.debver.specs.Names.{IsName}
 use Rattle.bug_record.specs.Desk.{Desk, IsSound}
 use Rattle.bug_record.specs.Bugs.{each_bug, at_bug}
-use Rattle.bug_record.specs.Commands.{bug_named, bugs_named, HasGoodParts}
+use Rattle.bug_record.specs.Commands.{bug_named, bugs_named, HasGoodParts, HasUtf8Texts}
 use Rattle.bug_record.specs.Steps.{records_changed, change_set, shared_after, new_title, new_submitter}
 use Rattle.bug_record.specs.Sets.{has, Each}
-use Rattle.bug_record.specs.Texts.{IsText}
+use Rattle.bug_record.specs.Texts.{IsGoodText}
 use Rattle.bug_record.specs.Images.{bug_of, bug_in, numbers_of, put, AreApart, AreSetsOf}
 use Rattle.bug_record.specs.Plans.{AllKnown, IsShownBy}
 use Rattle.bug_record.specs.declared.bug.Bug.{Bug}
@@ -88,17 +88,17 @@ steps-shown : (sender : List ℕ) (command : Command ℕ) (is : List SetImage) (
     → Steps (bugs_named command) (records_changed sender command) is next (λ d. at_bug o (bug_named command) (λ _. Ok (records_after sender command d)))
 steps-shown sender command is next o h d e k = ap (λ (z : Option Bug). at_bug z (bug_named command) (λ _. Ok (records_after sender command d))) (sym k.0 ∙ h)
 
-pub planned-records : (sender : List ℕ) (command : Command ℕ) (is : List SetImage) (next : ℕ) (i : SetImage) → IsText sender → HasGoodParts command → AreApart is → image_with is (bug_named command) ≡ Some i
+pub planned-records : (sender : List ℕ) (command : Command ℕ) (is : List SetImage) (next : ℕ) (i : SetImage) → IsGoodText sender → HasGoodParts command → HasUtf8Texts command → AreApart is → image_with is (bug_named command) ≡ Some i
     → (change : Change) → change.images ≡ image_after i (shared_after sender command) (new_title command) (new_submitter sender command) ∷ others (bug_named command ∷ []) is → change.next ≡ next
     → IsPlanned (bugs_named command) (records_changed sender command) is next (Ok change)
-planned-records sender command is next i text good a h =
+planned-records sender command is next i text good utf8 a h =
     planned-replaced (bugs_named command) (records_changed sender command) is next (bug_named command ∷ []) (image_after i f title who ∷ []) (bug_after (bug_named command) f title who) a
     (set-takes_place is (bug_named command) i f title who a h)
     (λ d k. (k.0, tt))
     (let b = image_with-shows is (bug_named command) i h in steps-shown sender command is next (Some (bug_of i b.0)) b.1)
     (λ d sh. set-makes d is (bug_named command) i f title who a h)
     (λ d sh. sound-change_set d (bug_named command) f title who sh.sound
-    (record { fields = good-shared_after sender command text good; titles = good-new_title command good; submitters = good-new_submitter sender command text good }))
+    (record { fields = good-shared_after sender command text good utf8; titles = good-new_title command good utf8; submitters = good-new_submitter sender command text good utf8 }))
   where
     f : Shared → Shared
     f = shared_after sender command

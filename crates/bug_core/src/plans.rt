@@ -42,6 +42,7 @@ fn plan_records(
         // The image's package is no package name: no desk has such a bug.
         Err(PlanFault::Refused(_)) => return Err(PlanFault::Refused(Refusal::NoBug(number))),
     };
+    command.texts_are_utf8();
     let members = members_with(alloc, command, from, old, image.members.as_slice())?;
     let image = SetImage { shared, members };
     let named = [number];
