@@ -49,11 +49,11 @@ pub record IsPlanned (named : List ℕ) (after : Desk → Result Desk Refusal) (
   pub right : (d : Desk) → IsShownBy d images next named → IsPlanOf d (after d) result
   pub fits : (d : Desk) → IsShownBy d images next named → IfOk result (λ change. FitsDesk d change)
   pub brings : (d : Desk) → IsShownBy d images next named → IfOk result (λ change. BringNone d images change.images)
+  pub apart : (d : Desk) → IsShownBy d images next named → IfOk result (λ change. AreApart change.images)
   -- of any desk, sound or not, of which the images show these bugs, where the images' packages are package names
   pub refusals : (d : Desk) → d.next ≡ next → AllKnown d images named → Each HasName images → IsRefusedAs (after d) result
   -- whatever the images
   pub own : IfErr result IsFaultOfPlan
-  pub apart : IfOk result (λ change. AreApart change.images)
   pub members : IfOk result (λ change. Each HasMember change.images)
   pub covers : IfOk result (λ change. CoverImages images change.images)
   pub later : IfOk result (λ change. next ≤ change.next)
