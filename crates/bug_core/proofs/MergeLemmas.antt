@@ -6,7 +6,7 @@ use Rattle.std.proofs.lemmas.Option.{none-some}
 use Rattle.std.proofs.lemmas.Bool.{false≢true, eqb-true, eq-eqb, false_from_ne_true}
 use Rattle.ancestry.specs.Nodes.{Node, IsNode}
 use Rattle.bug_record.specs.Sets.{has, IsAscending, Each}
-use Rattle.bug_record.specs.Texts.{IsText, IfGiven}
+use Rattle.bug_record.specs.Texts.{IsGoodText, IfGiven}
 use Rattle.bug_record.specs.Desk.{Desk, IsSound, IsGoodShared}
 use Rattle.bug_record.specs.Bugs.{at_bug, unless, missing, first_refusal, bugs_at, all_of}
 use Rattle.bug_record.specs.Differences.{differing}
@@ -28,7 +28,7 @@ use Rattle.bug_record.proofs.TagLemmas.{set-joined_tags}
 use Rattle.bug_record.proofs.MergeLemmas.{has-all_merged}
 use Rattle.bug_core.specs.Others.{image_with, has_any, those_meant, others}
 use Rattle.bug_core.specs.Joins.{with_members, with_all_shared}
-use Rattle.bug_core.specs.Planned.{IsPlanned}
+use Rattle.bug_core.specs.Planned.{IsPlanned, IsRefusalOfPlan}
 use Rattle.bug_core.proofs.ImageLemmas.{has-member_some, has-member_none, bug_in-merged, shown, image_with-has, image_with-shows, image_with-none}
 use Rattle.bug_core.proofs.SoundLemmas.{agree, sound-each_bug}
 use Rattle.bug_core.proofs.ReplaceLemmas.{TakesPlace, Makes, each-append}
@@ -154,11 +154,11 @@ joined-makes d is n ns i sound sets known a h = record {
 
 -- ---- the desk stays sound
 
-good-owner : (bugs : List Bug) → Each (λ b. IsGoodShared b.shared) bugs → IfGiven IsText (first_owner bugs)
+good-owner : (bugs : List Bug) → Each (λ b. IsGoodShared b.shared) bugs → IfGiven IsGoodText (first_owner bugs)
 good-owner [] h = tt
 good-owner (b ∷ bugs) h = cases b.shared.owner h.0.owner (good-owner bugs h.1)
   where
-    cases : (o : Option (List ℕ)) → IfGiven IsText o → IfGiven IsText (first_owner bugs) → IfGiven IsText (option_or o (first_owner bugs))
+    cases : (o : Option (List ℕ)) → IfGiven IsGoodText o → IfGiven IsGoodText (first_owner bugs) → IfGiven IsGoodText (option_or o (first_owner bugs))
     cases None g r = r
     cases (Some who) g r = g
 
@@ -227,13 +227,36 @@ steps-merge difference is next n ns o h d e k = λ j. at_bug ((sym k.0 ∙ h) j)
     (Ok (with_merged d (all_merged (sym (bugs-known d is (n ∷ ns) k) j)) (joined_shared first.shared (sym (bugs-known d is (n ∷ ns) k) j))))))
 
 pub merge-no_bug : (difference : Shared → Shared → Option Field) (is : List SetImage) (next n : ℕ) (ns : List ℕ) → image_with is n ≡ None → IsPlanned (n ∷ ns) (λ d. sets_joined difference d n ns) is next (Err (Refused (NoBug n)))
-merge-no_bug difference is next n ns h = planned-refused (n ∷ ns) (λ d. sets_joined difference d n ns) is next (NoBug n) (steps-merge difference is next n ns None (image_with-none is n h))
+merge-no_bug difference is next n ns h = planned-refused (n ∷ ns) (λ d. sets_joined difference d n ns) is next (NoBug n) tt (steps-merge difference is next n ns None (image_with-none is n h))
+
+-- the first refusal of a list is one of those that its bugs have
+own-first_refusal : (refuse : Option Bug → ℕ → Option Refusal) → ((o : Option Bug) (n : ℕ) → IfGiven IsRefusalOfPlan (refuse o n)) → (bug : ℕ → Option Bug) (ns : List ℕ) → IfGiven IsRefusalOfPlan (first_refusal refuse bug ns)
+own-first_refusal refuse h bug [] = tt
+own-first_refusal refuse h bug (n ∷ ns) = either (refuse (bug n) n) (first_refusal refuse bug ns) (h (bug n) n) (own-first_refusal refuse h bug ns)
+  where
+    either : (o p : Option Refusal) → IfGiven IsRefusalOfPlan o → IfGiven IsRefusalOfPlan p → IfGiven IsRefusalOfPlan (option_or o p)
+    either None p h k = k
+    either (Some refusal) p h k = h
+
+own-missing : (bug : ℕ → Option Bug) (ns : List ℕ) (refusal : Refusal) → first_refusal missing bug ns ≡ Some refusal → IsRefusalOfPlan refusal
+own-missing bug ns refusal e = subst (IfGiven IsRefusalOfPlan) e (own-first_refusal missing one bug ns)
+  where
+    one : (o : Option Bug) (n : ℕ) → IfGiven IsRefusalOfPlan (missing o n)
+    one None n = tt
+    one (Some b) n = tt
+
+own-differing : (difference : Shared → Option Field) (bug : ℕ → Option Bug) (ns : List ℕ) (refusal : Refusal) → first_refusal (differing difference) bug ns ≡ Some refusal → IsRefusalOfPlan refusal
+own-differing difference bug ns refusal e = subst (IfGiven IsRefusalOfPlan) e (own-first_refusal (differing difference) one bug ns)
+  where
+    one : (o : Option Bug) (n : ℕ) → IfGiven IsRefusalOfPlan (differing difference o n)
+    one None n = tt
+    one (Some b) n = elim (difference b.shared) as (λ f. IfGiven IsRefusalOfPlan (differing (λ _. f) (Some b) n)) [ None ↦ tt | Some field ↦ tt ]
 
 pub merge-missing : (difference : Shared → Shared → Option Field) (is : List SetImage) (next n : ℕ) (ns : List ℕ) (i : SetImage) (refusal : Refusal) → image_with is n ≡ Some i → first_refusal missing (bug_in is) ns ≡ Some refusal
     → IsPlanned (n ∷ ns) (λ d. sets_joined difference d n ns) is next (Err (Refused refusal))
 merge-missing difference is next n ns i refusal h r =
     let b = image_with-shows is n i h in
-    planned-refused (n ∷ ns) (λ d. sets_joined difference d n ns) is next refusal (λ d e k. steps-merge difference is next n ns (Some (bug_of i b.0)) b.1 d e k
+    planned-refused (n ∷ ns) (λ d. sets_joined difference d n ns) is next refusal (own-missing (bug_in is) ns refusal r) (λ d e k. steps-merge difference is next n ns (Some (bug_of i b.0)) b.1 d e k
     ∙ ap (λ (o : Option Refusal). unless o (unless (first_refusal (differing (difference i.shared)) (bug_in is) ns) (Ok (after d)))) r)
   where
     after : Desk → Desk
@@ -243,7 +266,7 @@ pub merge-differs : (difference : Shared → Shared → Option Field) (is : List
     → first_refusal (differing (difference i.shared)) (bug_in is) ns ≡ Some refusal → IsPlanned (n ∷ ns) (λ d. sets_joined difference d n ns) is next (Err (Refused refusal))
 merge-differs difference is next n ns i refusal h r q =
     let b = image_with-shows is n i h in
-    planned-refused (n ∷ ns) (λ d. sets_joined difference d n ns) is next refusal (λ d e k. steps-merge difference is next n ns (Some (bug_of i b.0)) b.1 d e k ∙ (λ j. unless (r j) (unless (q j) (Ok (after d)))))
+    planned-refused (n ∷ ns) (λ d. sets_joined difference d n ns) is next refusal (own-differing (difference i.shared) (bug_in is) ns refusal q) (λ d e k. steps-merge difference is next n ns (Some (bug_of i b.0)) b.1 d e k ∙ (λ j. unless (r j) (unless (q j) (Ok (after d)))))
   where
     after : Desk → Desk
     after d = with_merged d (all_merged (bugs_at (bug_in is) (n ∷ ns))) (joined_shared i.shared (bugs_at (bug_in is) (n ∷ ns)))

@@ -4,10 +4,10 @@ use Rattle.std.proofs.lemmas.Option.{none-some, same_Some}
 use Rattle.debver.specs.Names.{IsName}
 use Rattle.bug_record.specs.Desk.{Desk, IsSound}
 use Rattle.bug_record.specs.Bugs.{each_bug, at_bug}
-use Rattle.bug_record.specs.Commands.{bug_named, bugs_named, HasGoodParts}
+use Rattle.bug_record.specs.Commands.{bug_named, bugs_named, HasGoodParts, HasUtf8Texts}
 use Rattle.bug_record.specs.Steps.{records_changed, change_set, shared_after, new_title, new_submitter}
 use Rattle.bug_record.specs.Sets.{has, Each}
-use Rattle.bug_record.specs.Texts.{IsText}
+use Rattle.bug_record.specs.Texts.{IsGoodText}
 use Rattle.bug_record.specs.Images.{bug_of, bug_in, numbers_of, put, AreApart, AreSetsOf}
 use Rattle.bug_record.specs.Plans.{AllKnown, IsShownBy}
 use Rattle.bug_record.specs.declared.bug.Bug.{Bug}
@@ -15,13 +15,11 @@ use Rattle.bug_record.specs.declared.bug.Shared.{Shared}
 use Rattle.bug_record.specs.declared.bug.SetImage.{SetImage}
 use Rattle.bug_record.specs.declared.command.Change.{Change}
 use Rattle.bug_record.specs.declared.command.Command.{Command}
-use Rattle.bug_record.specs.declared.command.PlanFault.{PlanFault}
 use Rattle.bug_record.specs.declared.command.PlanFault.TheVariants.{Refused, Memory}
 use Rattle.bug_record.specs.declared.command.Refusal.{Refusal}
 use Rattle.bug_record.specs.declared.command.Refusal.TheVariants.{NoBug}
 use Rattle.bug_core.specs.Others.{image_with, others}
-use Rattle.bug_core.specs.Planned.{HasName, IsPlanned, IsRefusedAs}
-use Rattle.record_changes.specs.Fields.{IsVersionFault}
+use Rattle.bug_core.specs.Planned.{HasName, IsPlanned, IsRefusedAs, IsRefusalOfPlan}
 use Rattle.bug_core.proofs.ImageLemmas.{shown, image_with-shows, image_with-none}
 use Rattle.record_changes.proofs.FieldLemmas.{good-shared_after, good-new_title, good-new_submitter}
 use Rattle.bug_core.proofs.SoundLemmas.{sound-change_set}
@@ -32,13 +30,14 @@ abbrev pub Steps : List ℕ → (Desk → Result Desk Refusal) → List SetImage
 Steps named step is next after = (d : Desk) → d.next ≡ next → AllKnown d is named → step d ≡ after d
 
 -- a refusal that is the step's
-pub planned-refused : (named : List ℕ) (step : Desk → Result Desk Refusal) (is : List SetImage) (next : ℕ) (refusal : Refusal) → Steps named step is next (λ _. Err refusal) → IsPlanned named step is next (Err (Refused refusal))
-planned-refused named step is next refusal h = record {
+pub planned-refused : (named : List ℕ) (step : Desk → Result Desk Refusal) (is : List SetImage) (next : ℕ) (refusal : Refusal) → IsRefusalOfPlan refusal → Steps named step is next (λ _. Err refusal) → IsPlanned named step is next (Err (Refused refusal))
+planned-refused named step is next refusal own h = record {
   right = λ d sh. h d sh.next_is sh.known;
   fits = λ d sh. tt;
   brings = λ d sh. tt;
   refusals = λ d e k names. subst (λ (z : Result Desk Refusal). IsRefusedAs z (Err (Refused refusal))) (sym (h d e k)) refl;
-  apart = tt;
+  own = own;
+  apart = λ d sh. tt;
   members = tt;
   covers = tt;
   later = tt;
@@ -54,7 +53,8 @@ planned-replaced named step is next ns new f a p known steps makes keeps change 
   fits = λ d sh. record { whole = whole-sets d is js sh.sound sh.sets covers none; sound = sound d sh };
   brings = λ d sh m b q e. absurd (none-some b (sym (none m q) ∙ e));
   refusals = λ d e k names. subst (λ (z : Result Desk Refusal). IsRefusedAs z (Ok (record { images = js; next = next }))) (sym (steps d e k)) tt;
-  apart = apart-replaced is ns new a p;
+  own = tt;
+  apart = λ d sh. apart-replaced is ns new a p;
   members = members-replaced is ns new p;
   covers = covers;
   later = omega arith;
@@ -88,17 +88,17 @@ steps-shown : (sender : List ℕ) (command : Command ℕ) (is : List SetImage) (
     → Steps (bugs_named command) (records_changed sender command) is next (λ d. at_bug o (bug_named command) (λ _. Ok (records_after sender command d)))
 steps-shown sender command is next o h d e k = ap (λ (z : Option Bug). at_bug z (bug_named command) (λ _. Ok (records_after sender command d))) (sym k.0 ∙ h)
 
-pub planned-records : (sender : List ℕ) (command : Command ℕ) (is : List SetImage) (next : ℕ) (i : SetImage) → IsText sender → HasGoodParts command → AreApart is → image_with is (bug_named command) ≡ Some i
+pub planned-records : (sender : List ℕ) (command : Command ℕ) (is : List SetImage) (next : ℕ) (i : SetImage) → IsGoodText sender → HasGoodParts command → HasUtf8Texts command → AreApart is → image_with is (bug_named command) ≡ Some i
     → (change : Change) → change.images ≡ image_after i (shared_after sender command) (new_title command) (new_submitter sender command) ∷ others (bug_named command ∷ []) is → change.next ≡ next
     → IsPlanned (bugs_named command) (records_changed sender command) is next (Ok change)
-planned-records sender command is next i text good a h =
+planned-records sender command is next i text good utf8 a h =
     planned-replaced (bugs_named command) (records_changed sender command) is next (bug_named command ∷ []) (image_after i f title who ∷ []) (bug_after (bug_named command) f title who) a
     (set-takes_place is (bug_named command) i f title who a h)
     (λ d k. (k.0, tt))
     (let b = image_with-shows is (bug_named command) i h in steps-shown sender command is next (Some (bug_of i b.0)) b.1)
     (λ d sh. set-makes d is (bug_named command) i f title who a h)
     (λ d sh. sound-change_set d (bug_named command) f title who sh.sound
-    (record { fields = good-shared_after sender command text good; titles = good-new_title command good; submitters = good-new_submitter sender command text good }))
+    (record { fields = good-shared_after sender command text good utf8; titles = good-new_title command good utf8; submitters = good-new_submitter sender command text good utf8 }))
   where
     f : Shared → Shared
     f = shared_after sender command
@@ -113,7 +113,7 @@ planned-records sender command is next i text good a h =
 pub planned-no_bug : (sender : List ℕ) (command : Command ℕ) (is : List SetImage) (next : ℕ) → image_with is (bug_named command) ≡ None
     → IsPlanned (bugs_named command) (records_changed sender command) is next (Err (Refused (NoBug (bug_named command))))
 planned-no_bug sender command is next h =
-    planned-refused (bugs_named command) (records_changed sender command) is next (NoBug (bug_named command)) (steps-shown sender command is next None (image_with-none is (bug_named command) h))
+    planned-refused (bugs_named command) (records_changed sender command) is next (NoBug (bug_named command)) tt (steps-shown sender command is next None (image_with-none is (bug_named command) h))
 
 -- no desk shows an image whose package is no package name
 has_name : (is : List SetImage) (n : ℕ) (i : SetImage) → image_with is n ≡ Some i → Each HasName is → IsName i.shared.«package»
@@ -125,14 +125,15 @@ has_name (j ∷ is) n i h e =
 named-shown : (d : Desk) (is : List SetImage) (n : ℕ) (i : SetImage) → IsSound d → AreSetsOf d is → image_with is n ≡ Some i → IsName i.shared.«package»
 named-shown d is n i sound sets h = let b = image_with-shows is n i h in (sound.texts n (bug_of i b.0) (shown d is sets n (bug_of i b.0) b.1)).shared.package_name
 
--- what is answered where there is no memory, or the image's package is no package name
-pub planned-fault : (named : List ℕ) (step : Desk → Result Desk Refusal) (is : List SetImage) (next n : ℕ) (i : SetImage) (fault : PlanFault) → image_with is n ≡ Some i → IsVersionFault i.shared.«package» fault → IsPlanned named step is next (Err fault)
-planned-fault named step is next n i Memory h w = record {
+-- what is answered where there is no memory
+pub planned-memory : (named : List ℕ) (step : Desk → Result Desk Refusal) (is : List SetImage) (next : ℕ) → IsPlanned named step is next (Err Memory)
+planned-memory named step is next = record {
   right = λ d sh. tt;
   fits = λ d sh. tt;
   brings = λ d sh. tt;
   refusals = λ d e k names. always (step d);
-  apart = tt;
+  own = tt;
+  apart = λ d sh. tt;
   members = tt;
   covers = tt;
   later = tt;
@@ -141,12 +142,17 @@ planned-fault named step is next n i Memory h w = record {
     always : (r : Result Desk Refusal) → IsRefusedAs r (Err Memory)
     always (Ok d) = tt
     always (Err refusal) = tt
-planned-fault named step is next n i (Refused refusal) h w = record {
+
+-- what is answered where the image's package is no package name
+pub planned-nameless : (named : List ℕ) (step : Desk → Result Desk Refusal) (is : List SetImage) (next n : ℕ) (i : SetImage) (refusal : Refusal) → IsRefusalOfPlan refusal → image_with is n ≡ Some i → ¬ (IsName i.shared.«package»)
+    → IsPlanned named step is next (Err (Refused refusal))
+planned-nameless named step is next n i refusal own h w = record {
   right = λ d sh. absurd (w (named-shown d is n i sh.sound sh.sets h));
   fits = λ d sh. tt;
   brings = λ d sh. tt;
   refusals = λ d e k names. absurd (w (has_name is n i h names));
-  apart = tt;
+  own = own;
+  apart = λ d sh. tt;
   members = tt;
   covers = tt;
   later = tt;

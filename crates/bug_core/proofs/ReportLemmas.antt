@@ -8,7 +8,7 @@ use Rattle.debver.specs.Names.{IsName}
 use Rattle.ancestry.specs.Nodes.{Node, IsNode}
 use Rattle.bug_record.specs.Marks.{IsNodeSet}
 use Rattle.bug_record.specs.Sets.{has, IsAscending}
-use Rattle.bug_record.specs.Texts.{IsText, IfGiven}
+use Rattle.bug_record.specs.Texts.{IsGoodText, IfGiven}
 use Rattle.bug_record.specs.Desk.{Desk, IsSound, IsMergedWith, HasGoodTexts}
 use Rattle.bug_record.specs.Steps.{found_first, reported, new_bug}
 use Rattle.bug_record.specs.Images.{put, bug_of, CoverSets, FitsDesk}
@@ -23,9 +23,9 @@ use Rattle.bug_core.proofs.SoundLemmas.{agree, merged-from}
 
 -- the texts of a report
 pub record IsReport (a p t : List ℕ) (v : Option Node) : Type 0 where
-  pub sender : IsText a
+  pub sender : IsGoodText a
   pub package_name : IsName p
-  pub title : IsText t
+  pub title : IsGoodText t
   pub node : IfGiven IsNode v
 
 -- a bug after the report is the new one, or was there

@@ -6,7 +6,7 @@ use Rattle.bug_record.specs.Sets.{has, IsAscending}
 use Rattle.bug_record.specs.Desk.{Desk, IsSound, IsMergedWith, IsGoodShared, HasGoodTexts}
 use Rattle.bug_record.specs.Steps.{change_set}
 use Rattle.bug_record.specs.Bugs.{each_bug}
-use Rattle.bug_record.specs.Texts.{IsText, IfGiven}
+use Rattle.bug_record.specs.Texts.{IsGoodText, IfGiven}
 use Rattle.bug_record.specs.declared.bug.Bug.{Bug}
 use Rattle.bug_record.specs.declared.bug.Shared.{Shared}
 
@@ -56,8 +56,8 @@ sound-each_bug d f sound keeps = record {
 -- a change of the fields of a set that keeps their limits
 pub record KeepsLimits (f : Shared → Shared) (title : ℕ → Option (List ℕ)) (who : Shared → ℕ → Option (List ℕ)) : Type 0 where
   pub fields : (s : Shared) → IsGoodShared s → IsGoodShared (f s)
-  pub titles : (m : ℕ) → IfGiven IsText (title m)
-  pub submitters : (s : Shared) (m : ℕ) → IfGiven IsText (who s m)
+  pub titles : (m : ℕ) → IfGiven IsGoodText (title m)
+  pub submitters : (s : Shared) (m : ℕ) → IfGiven IsGoodText (who s m)
 
 pub sound-change_set : (d : Desk) (n : ℕ) (f : Shared → Shared) (title : ℕ → Option (List ℕ)) (who : Shared → ℕ → Option (List ℕ)) → IsSound d → KeepsLimits f title who → IsSound (change_set d n f title who)
 sound-change_set d n f title who sound keeps =
@@ -80,10 +80,10 @@ sound-change_set d n f title who sound keeps =
     fields b true h = keeps.fields b.shared h
     fields b false h = h
 
-    given : (o : Option (List ℕ)) (old : List ℕ) → IfGiven IsText o → IsText old → IsText (unwrap_or o old)
+    given : (o : Option (List ℕ)) (old : List ℕ) → IfGiven IsGoodText o → IsGoodText old → IsGoodText (unwrap_or o old)
     given None old g h = h
     given (Some text) old g h = g
 
-    changed : (t : Bool) (o : Option (List ℕ)) (old : List ℕ) → IfGiven IsText o → IsText old → IsText (cond t (unwrap_or o old) old)
+    changed : (t : Bool) (o : Option (List ℕ)) (old : List ℕ) → IfGiven IsGoodText o → IsGoodText old → IsGoodText (cond t (unwrap_or o old) old)
     changed true o old g h = given o old g h
     changed false o old g h = h

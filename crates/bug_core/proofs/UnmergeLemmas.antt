@@ -243,11 +243,11 @@ steps-unmerge is next n i h d e k =
     ap (λ (o : Option Bug). at_bug o n (λ b. taken_out d n (others_merged n b.merged))) (sym k.0 ∙ b.1)
 
 pub unmerge-no_bug : (is : List SetImage) (next n : ℕ) → image_with is n ≡ None → IsPlanned (n ∷ []) (λ d. unmerged d n) is next (Err (Refused (NoBug n)))
-unmerge-no_bug is next n h = planned-refused (n ∷ []) (λ d. unmerged d n) is next (NoBug n) (λ d e k. ap (λ (o : Option Bug). at_bug o n (λ b. taken_out d n (others_merged n b.merged))) (sym k.0 ∙ image_with-none is n h))
+unmerge-no_bug is next n h = planned-refused (n ∷ []) (λ d. unmerged d n) is next (NoBug n) tt (λ d e k. ap (λ (o : Option Bug). at_bug o n (λ b. taken_out d n (others_merged n b.merged))) (sym k.0 ∙ image_with-none is n h))
 
 pub unmerge-alone : (is : List SetImage) (next n : ℕ) (i : SetImage) → image_with is n ≡ Some i → (part_of i false n).members ≡ [] → IsPlanned (n ∷ []) (λ d. unmerged d n) is next (Err (Refused (NotMerged n)))
 unmerge-alone is next n i h none =
-    planned-refused (n ∷ []) (λ d. unmerged d n) is next (NotMerged n) (λ d e k. steps-unmerge is next n i h d e k ∙ taken-none d n (others_merged n (numbers_of i.members)) (sym (numbers-rest n i.members) ∙ ap numbers_of none))
+    planned-refused (n ∷ []) (λ d. unmerged d n) is next (NotMerged n) tt (λ d e k. steps-unmerge is next n i h d e k ∙ taken-none d n (others_merged n (numbers_of i.members)) (sym (numbers-rest n i.members) ∙ ap numbers_of none))
 
 no_numbers : (ms : List Member) → numbers_of ms ≡ [] → ms ≡ []
 no_numbers [] e = refl

@@ -1,5 +1,5 @@
 -- What is promised of the plan of each command.
-use Rattle.std.specs.Prelude.{ℕ, ◌≡◌, ◌≤◌, List, Result, Ok, Err, IfOk}
+use Rattle.std.specs.Prelude.{ℕ, ◌≡◌, ◌≤◌, List, Result, Ok, Err, IfOk, IfErr, ⊤}
 use Rattle.debver.specs.Names.{IsName}
 use Rattle.bug_record.specs.Sets.{Each}
 use Rattle.bug_record.specs.Desk.{Desk}
@@ -10,6 +10,7 @@ use Rattle.bug_record.specs.declared.command.Change.{Change}
 use Rattle.bug_record.specs.declared.command.PlanFault.{PlanFault}
 use Rattle.bug_record.specs.declared.command.PlanFault.TheVariants.{Refused, Memory}
 use Rattle.bug_record.specs.declared.command.Refusal.{Refusal}
+use Rattle.bug_record.specs.declared.command.Refusal.TheVariants.{Unknown, Malformed, TooLong, BadSeverity, BadTag, BadVersion, BadPackage, NoName, NoBug, Differ, NotMerged}
 
 -- The answer is a refusal exactly where the step is one, and the same; out of memory is always allowed.
 abbrev pub IsRefusedAs : Result Desk Refusal → Result Change PlanFault → Type 0
@@ -19,6 +20,24 @@ IsRefusedAs (Ok d) (Err Memory) = Unit {0}
 IsRefusedAs (Err r) (Ok change) = ⊥
 IsRefusedAs (Err r) (Err (Refused refusal)) = r ≡ refusal
 IsRefusedAs (Err r) (Err Memory) = Unit {0}
+
+-- The refusals of a plan: a bug is not there, one differs from that with which it is to be merged, or is merged with no other.
+abbrev pub IsRefusalOfPlan : Refusal → Type 0
+IsRefusalOfPlan (NoBug n) = ⊤
+IsRefusalOfPlan (Differ field n) = ⊤
+IsRefusalOfPlan (NotMerged n) = ⊤
+IsRefusalOfPlan Unknown = ⊥
+IsRefusalOfPlan Malformed = ⊥
+IsRefusalOfPlan TooLong = ⊥
+IsRefusalOfPlan BadSeverity = ⊥
+IsRefusalOfPlan BadTag = ⊥
+IsRefusalOfPlan BadVersion = ⊥
+IsRefusalOfPlan BadPackage = ⊥
+IsRefusalOfPlan (NoName k) = ⊥
+
+abbrev pub IsFaultOfPlan : PlanFault → Type 0
+IsFaultOfPlan Memory = ⊤
+IsFaultOfPlan (Refused refusal) = IsRefusalOfPlan refusal
 
 -- the image's package is a package name
 abbrev pub HasName : SetImage → Type 0
@@ -30,10 +49,11 @@ pub record IsPlanned (named : List ℕ) (after : Desk → Result Desk Refusal) (
   pub right : (d : Desk) → IsShownBy d images next named → IsPlanOf d (after d) result
   pub fits : (d : Desk) → IsShownBy d images next named → IfOk result (λ change. FitsDesk d change)
   pub brings : (d : Desk) → IsShownBy d images next named → IfOk result (λ change. BringNone d images change.images)
+  pub apart : (d : Desk) → IsShownBy d images next named → IfOk result (λ change. AreApart change.images)
   -- of any desk, sound or not, of which the images show these bugs, where the images' packages are package names
   pub refusals : (d : Desk) → d.next ≡ next → AllKnown d images named → Each HasName images → IsRefusedAs (after d) result
-  -- of the images alone
-  pub apart : IfOk result (λ change. AreApart change.images)
+  -- whatever the images
+  pub own : IfErr result IsFaultOfPlan
   pub members : IfOk result (λ change. Each HasMember change.images)
   pub covers : IfOk result (λ change. CoverImages images change.images)
   pub later : IfOk result (λ change. next ≤ change.next)

@@ -1,6 +1,6 @@
 //! What a command does, planned on the images of the sets of merged bugs that it names.
 
-ghost use Rattle.std.specs.Prelude.{◌≡◌, ◌≤◌, IfOk};
+ghost use Rattle.std.specs.Prelude.{◌≡◌, ◌≤◌, IfOk, IfErr};
 ghost use Rattle.bug_record.specs.Sets.{Each};
 ghost use Rattle.bug_record.specs.Texts.{IsText};
 ghost use Rattle.bug_record.specs.Desk.{Desk};
@@ -8,7 +8,7 @@ ghost use Rattle.bug_record.specs.Commands.{HasGoodParts, bugs_named};
 ghost use Rattle.bug_record.specs.Steps.{step, records_changed};
 ghost use Rattle.bug_record.specs.Images.{AreApart, HasMember, FitsDesk};
 ghost use Rattle.bug_record.specs.Plans.{AllKnown, IsShownBy, IsPlanFor, CoverImages, BringNone};
-ghost use Rattle.bug_core.specs.Planned.{HasName, IsRefusedAs, IsPlanned};
+ghost use Rattle.bug_core.specs.Planned.{HasName, IsRefusedAs, IsFaultOfPlan, IsPlanned};
 
 use crate::images::{find, replace_by_one};
 use crate::merges::{Agreement, plan_merge};
@@ -38,8 +38,11 @@ fn plan_records(
     let old = &image.shared;
     let shared = match shared_after(alloc, command, from, old) {
         Ok(shared) => shared,
-        Err(fault) => return Err(fault),
+        Err(PlanFault::Memory) => return Err(PlanFault::Memory),
+        // The image's package is no package name: no desk has such a bug.
+        Err(PlanFault::Refused(_)) => return Err(PlanFault::Refused(Refusal::NoBug(number))),
     };
+    command.texts_are_utf8();
     let members = members_with(alloc, command, from, old, image.members.as_slice())?;
     let image = SetImage { shared, members };
     let named = [number];
@@ -85,8 +88,9 @@ fn plan_command(
 ///
 /// `Refused(NoBug(n))` where the command names a bug n that is in no image: n may be any number. `Refused(Differ(field, n))`
 /// where the bug n is to be merged and differs from the first one in a field that has to be equal, and `Refused(NotMerged(n))`
-/// where a bug is to be taken out of its set and is merged with no other. `Memory` where there was none. `Refused(BadPackage)` where the command has a version for an image whose package is no package name: no desk
-/// shows such an image.
+/// where a bug is to be taken out of its set and is merged with no other. There is no other refusal: where the command has a
+/// version for an image whose package is no package name, as no desk shows one, it is `Refused(NoBug(n))` of the bug named.
+/// `Memory` where there was none.
 pub fn plan(
     alloc: Global,
     command: &Command<u64>,
@@ -100,7 +104,8 @@ pub fn plan(
     ensures right { (d : Desk) → IsShownBy d images.now next (bugs_named command.now) → IsPlanFor d from.now command.now result }
     ensures fits { (d : Desk) → IsShownBy d images.now next (bugs_named command.now) → IfOk result (λ change. FitsDesk d change) }
     ensures refusals { (d : Desk) → d.next ≡ next → AllKnown d images.now (bugs_named command.now) → Each HasName images.now → IsRefusedAs (step d from.now command.now) result }
-    ensures apart { IfOk result (λ change. AreApart change.images) }
+    ensures own { IfErr result IsFaultOfPlan }
+    ensures apart { (d : Desk) → IsShownBy d images.now next (bugs_named command.now) → IfOk result (λ change. AreApart change.images) }
     ensures members { IfOk result (λ change. Each HasMember change.images) }
     ensures covers { IfOk result (λ change. CoverImages images.now change.images) }
     ensures brings { (d : Desk) → IsShownBy d images.now next (bugs_named command.now) → IfOk result (λ change. BringNone d images.now change.images) }

@@ -6,11 +6,11 @@ use Rattle.std.specs.List.Sorted.{IsStrictlySortedBy-prop}
 use Rattle.ancestry.specs.Nodes.{Node, IsNode, node_cmp}
 use Rattle.ancestry.proofs.ForestProp.{IsNode-prop, IsForest-prop}
 use Rattle.bug_record.specs.Sets.{AllAbove, IsAscending, Each}
-use Rattle.bug_record.specs.Texts.{IsText, IfGiven}
+use Rattle.bug_record.specs.Texts.{IsGoodText, IfGiven}
 use Rattle.bug_record.specs.Tags.{tag_place}
 use Rattle.bug_record.specs.Marks.{IsNodeSet}
 use Rattle.bug_record.specs.Tags.{tag_place}
-use Rattle.bug_record.specs.Texts.{IsText, IfGiven}
+use Rattle.bug_record.specs.Texts.{IsGoodText, IfGiven}
 use Rattle.bug_record.specs.Desk.{Desk, IsSound, IsMergedWith, IsGoodShared}
 use Rattle.bug_record.specs.declared.bug.Shared.{Shared}
 use Rattle.bug_record.specs.declared.bug.Bug.{Bug}
@@ -38,11 +38,11 @@ IfGiven-prop : {T : Type 0} (P : T → Type 0) → ((x : T) → IsProp (P x)) �
 IfGiven-prop P h None = Unit-prop
 IfGiven-prop P h (Some x) = h x
 
-IsText-prop : (text : List ℕ) → IsProp (IsText text)
-IsText-prop text = hlevel props
+IsGoodText-prop : (text : List ℕ) → IsProp (IsGoodText text)
+IsGoodText-prop text = hlevel props
 
 IsGoodShared-prop : (f : Shared) → IsProp (IsGoodShared f)
-IsGoodShared-prop f = hlevel (props, IfGiven-prop IsText IsText-prop f.forwarded, IfGiven-prop IsText IsText-prop f.owner, IsAscending-prop (map tag_place f.tags), IsNodeSet-prop f.found, IsNodeSet-prop f.fixed)
+IsGoodShared-prop f = hlevel (props, IfGiven-prop IsGoodText IsGoodText-prop f.forwarded, IfGiven-prop IsGoodText IsGoodText-prop f.owner, IsAscending-prop (map tag_place f.tags), IsNodeSet-prop f.found, IsNodeSet-prop f.fixed)
 
 pub IsSound-prop : (d : Desk) → IsProp (IsSound d)
 IsSound-prop d = hlevel (props, IsAscending-prop, IsMergedWith-prop, IsGoodShared-prop, IsForest-prop)

@@ -1,5 +1,6 @@
 -- The parts of commands: the bug that one names, and the limits of what it gives. This project's own rule.
-use Rattle.std.specs.Prelude.{ℕ, List, [], ◌∷◌, map, unwrap_or, ⊤}
+use Rattle.std.specs.Prelude.{ℕ, IsTrue, List, [], ◌∷◌, map, unwrap_or, ⊤}
+use Rattle.std.specs.Str.{is_utf8}
 use Rattle.debver.specs.Names.{IsName}
 use Rattle.debver.specs.Cut.{IsVersion}
 use Rattle.ancestry.specs.Nodes.{Node, node}
@@ -47,6 +48,31 @@ HasGoodParts (commands.Forwarded n text) = IsText text
 HasGoodParts (commands.NotForwarded n) = ⊤
 HasGoodParts (commands.Owner n who) = IsGoodPerson who
 HasGoodParts (commands.NoOwner n) = ⊤
+
+abbrev pub IsUtf8Person : Who → Type 0
+IsUtf8Person Sender = ⊤
+IsUtf8Person (Given text) = IsTrue (is_utf8 text)
+
+-- the texts that a command gives are UTF-8
+abbrev pub HasUtf8Texts : {N : Type 0} → Command N → Type 0
+HasUtf8Texts (commands.Reopen n who) = IfGiven IsUtf8Person who
+HasUtf8Texts (commands.Retitle n text) = IsTrue (is_utf8 text)
+HasUtf8Texts (commands.Submitter n who) = IsUtf8Person who
+HasUtf8Texts (commands.Forwarded n text) = IsTrue (is_utf8 text)
+HasUtf8Texts (commands.Owner n who) = IsUtf8Person who
+HasUtf8Texts (commands.Found n version) = ⊤
+HasUtf8Texts (commands.NotFound n version) = ⊤
+HasUtf8Texts (commands.Fixed n version) = ⊤
+HasUtf8Texts (commands.NotFixed n version) = ⊤
+HasUtf8Texts (commands.Close n version) = ⊤
+HasUtf8Texts (commands.Severity n severity) = ⊤
+HasUtf8Texts (commands.Tags n steps) = ⊤
+HasUtf8Texts (commands.Reassign n package_name version) = ⊤
+HasUtf8Texts (commands.Merge n ns) = ⊤
+HasUtf8Texts (commands.ForceMerge n ns) = ⊤
+HasUtf8Texts (commands.Unmerge n) = ⊤
+HasUtf8Texts (commands.NotForwarded n) = ⊤
+HasUtf8Texts (commands.NoOwner n) = ⊤
 
 -- the bug that a command names first
 abbrev pub bug_named : {N : Type 0} → Command N → N

@@ -3,7 +3,7 @@ use Rattle.std.specs.Prelude.{ℕ, ◌≡◌, ◌<◌, ◌≤◌, true, Option, 
 use Rattle.debver.specs.Names.{IsName}
 use Rattle.ancestry.specs.Trees.{Ancestry, IsForest}
 use Rattle.bug_record.specs.Sets.{has, IsAscending}
-use Rattle.bug_record.specs.Texts.{IsText, IfGiven}
+use Rattle.bug_record.specs.Texts.{IsGoodText, IfGiven}
 use Rattle.bug_record.specs.Tags.{IsTagSet}
 use Rattle.bug_record.specs.Marks.{IsNodeSet}
 use Rattle.bug_record.specs.declared.bug.Bug.{Bug}
@@ -24,16 +24,16 @@ IsMergedWith b (Some c) = (c.merged ≡ b.merged) × (c.shared ≡ b.shared)
 -- the limits of shared fields: tags are a set, and marks are sets of nodes
 pub record IsGoodShared (f : Shared) : Type 0 where
   pub package_name : IsName f.package
-  pub forwarded : IfGiven IsText f.forwarded
-  pub owner : IfGiven IsText f.owner
+  pub forwarded : IfGiven IsGoodText f.forwarded
+  pub owner : IfGiven IsGoodText f.owner
   pub tags : IsTagSet f.tags
   pub found : IsNodeSet f.found
   pub fixed : IsNodeSet f.fixed
 
 -- the limits of the texts, names, tags and marks of a record
 pub record HasGoodTexts (b : Bug) : Type 0 where
-  pub title : IsText b.title
-  pub submitter : IsText b.submitter
+  pub title : IsGoodText b.title
+  pub submitter : IsGoodText b.submitter
   pub shared : IsGoodShared b.shared
 
 -- What a desk keeps. This project's own rule.
@@ -43,7 +43,7 @@ pub record IsSound (d : Desk) : Type 0 where
   pub ascending : (n : ℕ) (b : Bug) → d.bug n ≡ Some b → IsAscending b.merged
   -- merged bugs are merged with the same ones and agree on the shared fields
   pub agree : (n m : ℕ) (b : Bug) → d.bug n ≡ Some b → has b.merged m ≡ true → IsMergedWith b (d.bug m)
-  -- every text, package name and node is within its limits
+  -- every text, package name and node is within its limits, and every text is UTF-8
   pub texts : (n : ℕ) (b : Bug) → d.bug n ≡ Some b → HasGoodTexts b
   -- numbers are from 1 to below the next one, which is from 1 to 1,000,000,000
   pub in_range : (n : ℕ) (b : Bug) → d.bug n ≡ Some b → (0 < n) × (n < d.next)

@@ -1,5 +1,9 @@
 //! Commands on bugs, why one is refused, and what one changes.
 
+ghost use Rattle.std.specs.Prelude.{IsTrue};
+ghost use Rattle.std.specs.Str.{is_utf8};
+ghost use Rattle.bug_record.specs.Commands.{IsUtf8Person, HasUtf8Texts};
+
 use crate::bug::SetImage;
 use crate::sequence::Sequence;
 use crate::severity::Severity;
@@ -76,6 +80,50 @@ pub enum Command<N> {
     Owner(N, Who),
     /// `noowner n`: nobody works on the bug.
     NoOwner(N),
+}
+
+// A text is UTF-8, as the `str` that it keeps.
+fn text_is_utf8(text: &Text)
+    ensures { IsTrue (is_utf8 text.now) }
+{
+    let _kept = text.as_str();
+}
+
+// So is the address of somebody.
+fn person_is_utf8(who: &Who)
+    ensures { IsUtf8Person who.now }
+{
+    match who {
+        Who::Sender => {}
+        Who::Given(text) => text_is_utf8(text),
+    }
+}
+
+impl Command<u64> {
+    /// The law that the texts of a command are UTF-8, as every `Text` is. Nothing is done.
+    pub fn texts_are_utf8(&self)
+        ensures { HasUtf8Texts self.now }
+    {
+        match self {
+            Command::Retitle(_, text) | Command::Forwarded(_, text) => text_is_utf8(text),
+            Command::Submitter(_, who) | Command::Owner(_, who) => person_is_utf8(who),
+            Command::Reopen(_, Some(who)) => person_is_utf8(who),
+            Command::Reopen(_, None)
+            | Command::Found(_, _)
+            | Command::NotFound(_, _)
+            | Command::Fixed(_, _)
+            | Command::NotFixed(_, _)
+            | Command::Close(_, _)
+            | Command::Severity(_, _)
+            | Command::Tags(_, _)
+            | Command::Reassign(_, _, _)
+            | Command::Merge(_, _)
+            | Command::ForceMerge(_, _)
+            | Command::Unmerge(_)
+            | Command::NotForwarded(_)
+            | Command::NoOwner(_) => {}
+        }
+    }
 }
 
 /// A field that is compared before bugs are merged.

@@ -4,11 +4,11 @@ use Rattle.std.specs.Prelude.{unwrap_or}
 use Rattle.std.specs.Str.{bytes_eq}
 use Rattle.debver.specs.Names.{IsName}
 use Rattle.ancestry.specs.Nodes.{Node, IsNode}
-use Rattle.bug_record.specs.Texts.{IsText, IfGiven}
+use Rattle.bug_record.specs.Texts.{IsGoodText, IfGiven}
 use Rattle.bug_record.specs.Marks.{IsNodeSet, with_node, without_node}
 use Rattle.bug_record.specs.Tags.{IsTagSet, with_tag, without_tag}
 use Rattle.bug_record.specs.Desk.{IsGoodShared}
-use Rattle.bug_record.specs.Commands.{node_meant, person, IsGoodVersion, IsGoodPerson, HasGoodParts}
+use Rattle.bug_record.specs.Commands.{node_meant, person, IsGoodVersion, IsGoodPerson, HasGoodParts, IsUtf8Person, HasUtf8Texts}
 use Rattle.bug_record.specs.Steps.{marked_found, marked_fixed, found_at, opened, closed, moved_to, reassigned, tags_after, shared_after, new_title, new_submitter}
 use Rattle.bug_record.specs.declared.bug.Shared.{Shared}
 use Rattle.bug_record.specs.declared.command.Command.{Command}
@@ -69,79 +69,79 @@ set-tags_after (Remove t ∷ steps) tags h = set-tags_after steps (without_tag t
 set-tags_after (Clear ∷ steps) tags h = set-tags_after steps [] set-none_tags
 
 -- fields forwarded to somebody, or to nobody
-good-forwarded : (text : Option (List ℕ)) (f : Shared) → IfGiven IsText text → IsGoodShared f → IsGoodShared (record f { forwarded = text })
+good-forwarded : (text : Option (List ℕ)) (f : Shared) → IfGiven IsGoodText text → IsGoodShared f → IsGoodShared (record f { forwarded = text })
 good-forwarded text f good h = record { package_name = h.package_name; forwarded = good; owner = h.owner; tags = h.tags; found = h.found; fixed = h.fixed }
 
 -- fields of another owner, or of none
-good-owner : (who : Option (List ℕ)) (f : Shared) → IfGiven IsText who → IsGoodShared f → IsGoodShared (record f { owner = who })
+good-owner : (who : Option (List ℕ)) (f : Shared) → IfGiven IsGoodText who → IsGoodShared f → IsGoodShared (record f { owner = who })
 good-owner who f good h = record { package_name = h.package_name; forwarded = h.forwarded; owner = good; tags = h.tags; found = h.found; fixed = h.fixed }
 
 -- who is meant is a text
-good-person : (sender : List ℕ) (who : Who) → IsText sender → IsGoodPerson who → IsText (person sender who)
-good-person sender Sender h good = h
-good-person sender (Given text) h good = good
+good-person : (sender : List ℕ) (who : Who) → IsGoodText sender → IsGoodPerson who → IsUtf8Person who → IsGoodText (person sender who)
+good-person sender Sender h good utf8 = h
+good-person sender (Given text) h good utf8 = (good, utf8)
 
-pub good-shared_after : (sender : List ℕ) (command : Command ℕ) → IsText sender → HasGoodParts command → (f : Shared) → IsGoodShared f → IsGoodShared (shared_after sender command f)
-good-shared_after sender (commands.Found n None) text good f h = good-opened f h
-good-shared_after sender (commands.Found n (Some version)) text good f h = good-found_at (node_meant f.«package» version) f (meant-valid f.«package» version h.package_name good) h
-good-shared_after sender (commands.NotFound n version) text good f h = let m = node_meant f.«package» version in good-marks f.closed (without_node f.found m) f.fixed f (set-without f.found m h.found) h.fixed h
-good-shared_after sender (commands.Fixed n version) text good f h = good-marked_fixed (node_meant f.«package» version) f (meant-valid f.«package» version h.package_name good) h
-good-shared_after sender (commands.NotFixed n version) text good f h = let m = node_meant f.«package» version in good-marks f.closed f.found (without_node f.fixed m) f h.found (set-without f.fixed m h.fixed) h
-good-shared_after sender (commands.Close n None) text good f h = good-closed f h
-good-shared_after sender (commands.Close n (Some version)) text good f h =
+pub good-shared_after : (sender : List ℕ) (command : Command ℕ) → IsGoodText sender → HasGoodParts command → HasUtf8Texts command → (f : Shared) → IsGoodShared f → IsGoodShared (shared_after sender command f)
+good-shared_after sender (commands.Found n None) text good utf8 f h = good-opened f h
+good-shared_after sender (commands.Found n (Some version)) text good utf8 f h = good-found_at (node_meant f.«package» version) f (meant-valid f.«package» version h.package_name good) h
+good-shared_after sender (commands.NotFound n version) text good utf8 f h = let m = node_meant f.«package» version in good-marks f.closed (without_node f.found m) f.fixed f (set-without f.found m h.found) h.fixed h
+good-shared_after sender (commands.Fixed n version) text good utf8 f h = good-marked_fixed (node_meant f.«package» version) f (meant-valid f.«package» version h.package_name good) h
+good-shared_after sender (commands.NotFixed n version) text good utf8 f h = let m = node_meant f.«package» version in good-marks f.closed f.found (without_node f.fixed m) f h.found (set-without f.fixed m h.fixed) h
+good-shared_after sender (commands.Close n None) text good utf8 f h = good-closed f h
+good-shared_after sender (commands.Close n (Some version)) text good utf8 f h =
     let m = node_meant f.«package» version in good-closed (marked_fixed m f) (good-marked_fixed m f (meant-valid f.«package» version h.package_name good) h)
-good-shared_after sender (commands.Reopen n who) text good f h = elim f.closed as (λ t. IsGoodShared (cond t (opened f) f)) [ true ↦ good-opened f h | false ↦ h ]
-good-shared_after sender (commands.Severity n severity) text good f h = record { package_name = h.package_name; forwarded = h.forwarded; owner = h.owner; tags = h.tags; found = h.found; fixed = h.fixed }
-good-shared_after sender (commands.Tags n steps) text good f h = record { package_name = h.package_name; forwarded = h.forwarded; owner = h.owner; tags = set-tags_after steps f.tags h.tags; found = h.found; fixed = h.fixed }
-good-shared_after sender (commands.Retitle n title) text good f h = h
-good-shared_after sender (commands.Submitter n who) text good f h = h
-good-shared_after sender (commands.Reassign n package_name version) text good f h = good-reassigned package_name version f good.0 good.1 h
-good-shared_after sender (commands.Merge n ns) text good f h = h
-good-shared_after sender (commands.ForceMerge n ns) text good f h = h
-good-shared_after sender (commands.Unmerge n) text good f h = h
-good-shared_after sender (commands.Forwarded n address) text good f h = good-forwarded (Some address) f good h
-good-shared_after sender (commands.NotForwarded n) text good f h = good-forwarded None f tt h
-good-shared_after sender (commands.Owner n who) text good f h = good-owner (Some (person sender who)) f (good-person sender who text good) h
-good-shared_after sender (commands.NoOwner n) text good f h = good-owner None f tt h
+good-shared_after sender (commands.Reopen n who) text good utf8 f h = elim f.closed as (λ t. IsGoodShared (cond t (opened f) f)) [ true ↦ good-opened f h | false ↦ h ]
+good-shared_after sender (commands.Severity n severity) text good utf8 f h = record { package_name = h.package_name; forwarded = h.forwarded; owner = h.owner; tags = h.tags; found = h.found; fixed = h.fixed }
+good-shared_after sender (commands.Tags n steps) text good utf8 f h = record { package_name = h.package_name; forwarded = h.forwarded; owner = h.owner; tags = set-tags_after steps f.tags h.tags; found = h.found; fixed = h.fixed }
+good-shared_after sender (commands.Retitle n title) text good utf8 f h = h
+good-shared_after sender (commands.Submitter n who) text good utf8 f h = h
+good-shared_after sender (commands.Reassign n package_name version) text good utf8 f h = good-reassigned package_name version f good.0 good.1 h
+good-shared_after sender (commands.Merge n ns) text good utf8 f h = h
+good-shared_after sender (commands.ForceMerge n ns) text good utf8 f h = h
+good-shared_after sender (commands.Unmerge n) text good utf8 f h = h
+good-shared_after sender (commands.Forwarded n address) text good utf8 f h = good-forwarded (Some address) f (good, utf8) h
+good-shared_after sender (commands.NotForwarded n) text good utf8 f h = good-forwarded None f tt h
+good-shared_after sender (commands.Owner n who) text good utf8 f h = good-owner (Some (person sender who)) f (good-person sender who text good utf8) h
+good-shared_after sender (commands.NoOwner n) text good utf8 f h = good-owner None f tt h
 
-pub good-new_title : (command : Command ℕ) → HasGoodParts command → (m : ℕ) → IfGiven IsText (new_title command m)
-good-new_title (commands.Found n version) good m = tt
-good-new_title (commands.NotFound n version) good m = tt
-good-new_title (commands.Fixed n version) good m = tt
-good-new_title (commands.NotFixed n version) good m = tt
-good-new_title (commands.Close n version) good m = tt
-good-new_title (commands.Reopen n who) good m = tt
-good-new_title (commands.Severity n severity) good m = tt
-good-new_title (commands.Tags n steps) good m = tt
-good-new_title (commands.Retitle n text) good m = elim (eqb m n) as (λ t. IfGiven IsText (cond t (Some text) None)) [ true ↦ good | false ↦ tt ]
-good-new_title (commands.Submitter n who) good m = tt
-good-new_title (commands.Reassign n package_name version) good m = tt
-good-new_title (commands.Merge n ns) good m = tt
-good-new_title (commands.ForceMerge n ns) good m = tt
-good-new_title (commands.Unmerge n) good m = tt
-good-new_title (commands.Forwarded n address) good m = tt
-good-new_title (commands.NotForwarded n) good m = tt
-good-new_title (commands.Owner n who) good m = tt
-good-new_title (commands.NoOwner n) good m = tt
+pub good-new_title : (command : Command ℕ) → HasGoodParts command → HasUtf8Texts command → (m : ℕ) → IfGiven IsGoodText (new_title command m)
+good-new_title (commands.Found n version) good utf8 m = tt
+good-new_title (commands.NotFound n version) good utf8 m = tt
+good-new_title (commands.Fixed n version) good utf8 m = tt
+good-new_title (commands.NotFixed n version) good utf8 m = tt
+good-new_title (commands.Close n version) good utf8 m = tt
+good-new_title (commands.Reopen n who) good utf8 m = tt
+good-new_title (commands.Severity n severity) good utf8 m = tt
+good-new_title (commands.Tags n steps) good utf8 m = tt
+good-new_title (commands.Retitle n text) good utf8 m = elim (eqb m n) as (λ t. IfGiven IsGoodText (cond t (Some text) None)) [ true ↦ (good, utf8) | false ↦ tt ]
+good-new_title (commands.Submitter n who) good utf8 m = tt
+good-new_title (commands.Reassign n package_name version) good utf8 m = tt
+good-new_title (commands.Merge n ns) good utf8 m = tt
+good-new_title (commands.ForceMerge n ns) good utf8 m = tt
+good-new_title (commands.Unmerge n) good utf8 m = tt
+good-new_title (commands.Forwarded n address) good utf8 m = tt
+good-new_title (commands.NotForwarded n) good utf8 m = tt
+good-new_title (commands.Owner n who) good utf8 m = tt
+good-new_title (commands.NoOwner n) good utf8 m = tt
 
-pub good-new_submitter : (sender : List ℕ) (command : Command ℕ) → IsText sender → HasGoodParts command → (f : Shared) (m : ℕ) → IfGiven IsText (new_submitter sender command f m)
-good-new_submitter sender (commands.Found n version) h good f m = tt
-good-new_submitter sender (commands.NotFound n version) h good f m = tt
-good-new_submitter sender (commands.Fixed n version) h good f m = tt
-good-new_submitter sender (commands.NotFixed n version) h good f m = tt
-good-new_submitter sender (commands.Close n version) h good f m = tt
-good-new_submitter sender (commands.Reopen n None) h good f m = tt
-good-new_submitter sender (commands.Reopen n (Some who)) h good f m =
-    elim f.closed as (λ t. IfGiven IsText (cond t (Some (person sender who)) None)) [ true ↦ good-person sender who h good | false ↦ tt ]
-good-new_submitter sender (commands.Severity n severity) h good f m = tt
-good-new_submitter sender (commands.Tags n steps) h good f m = tt
-good-new_submitter sender (commands.Retitle n text) h good f m = tt
-good-new_submitter sender (commands.Submitter n who) h good f m = elim (eqb m n) as (λ t. IfGiven IsText (cond t (Some (person sender who)) None)) [ true ↦ good-person sender who h good | false ↦ tt ]
-good-new_submitter sender (commands.Reassign n package_name version) h good f m = tt
-good-new_submitter sender (commands.Merge n ns) h good f m = tt
-good-new_submitter sender (commands.ForceMerge n ns) h good f m = tt
-good-new_submitter sender (commands.Unmerge n) h good f m = tt
-good-new_submitter sender (commands.Forwarded n address) h good f m = tt
-good-new_submitter sender (commands.NotForwarded n) h good f m = tt
-good-new_submitter sender (commands.Owner n who) h good f m = tt
-good-new_submitter sender (commands.NoOwner n) h good f m = tt
+pub good-new_submitter : (sender : List ℕ) (command : Command ℕ) → IsGoodText sender → HasGoodParts command → HasUtf8Texts command → (f : Shared) (m : ℕ) → IfGiven IsGoodText (new_submitter sender command f m)
+good-new_submitter sender (commands.Found n version) h good utf8 f m = tt
+good-new_submitter sender (commands.NotFound n version) h good utf8 f m = tt
+good-new_submitter sender (commands.Fixed n version) h good utf8 f m = tt
+good-new_submitter sender (commands.NotFixed n version) h good utf8 f m = tt
+good-new_submitter sender (commands.Close n version) h good utf8 f m = tt
+good-new_submitter sender (commands.Reopen n None) h good utf8 f m = tt
+good-new_submitter sender (commands.Reopen n (Some who)) h good utf8 f m =
+    elim f.closed as (λ t. IfGiven IsGoodText (cond t (Some (person sender who)) None)) [ true ↦ good-person sender who h good utf8 | false ↦ tt ]
+good-new_submitter sender (commands.Severity n severity) h good utf8 f m = tt
+good-new_submitter sender (commands.Tags n steps) h good utf8 f m = tt
+good-new_submitter sender (commands.Retitle n text) h good utf8 f m = tt
+good-new_submitter sender (commands.Submitter n who) h good utf8 f m = elim (eqb m n) as (λ t. IfGiven IsGoodText (cond t (Some (person sender who)) None)) [ true ↦ good-person sender who h good utf8 | false ↦ tt ]
+good-new_submitter sender (commands.Reassign n package_name version) h good utf8 f m = tt
+good-new_submitter sender (commands.Merge n ns) h good utf8 f m = tt
+good-new_submitter sender (commands.ForceMerge n ns) h good utf8 f m = tt
+good-new_submitter sender (commands.Unmerge n) h good utf8 f m = tt
+good-new_submitter sender (commands.Forwarded n address) h good utf8 f m = tt
+good-new_submitter sender (commands.NotForwarded n) h good utf8 f m = tt
+good-new_submitter sender (commands.Owner n who) h good utf8 f m = tt
+good-new_submitter sender (commands.NoOwner n) h good utf8 f m = tt

@@ -1,4 +1,5 @@
 use Rattle.std.proofs.Common.{◌≡◌, ◌+◌, List, ◌∷◌, [], ◌++◌, sym, ap, ◌∙◌, subst}
+use Rattle.std.proofs.lemmas.Str.{is_utf8-from_IsUtf8}
 use Rattle.bug_record.specs.Images.{put, FitsDesk}
 use Rattle.bug_record.specs.declared.bug.SetImage.{SetImage}
 use Rattle.bug_core.specs.Reports.{image_of_report}
@@ -16,4 +17,4 @@ returns-clause-right c = λ d sound same. ap (λ (z : List SetImage). put d (rec
 pub returns-clause-fits : goal.returns-clause-fits
 returns-clause-fits c = λ d sound same. subst (λ (z : List SetImage). FitsDesk d (record { images = z; next = c.args.next + 1 })) (sym (one c))
     (fits-report d c.args.from.now c.args.package.now c.args.severity c.args.title.now c.args.node c.args.next sound same c.requires.some_left
-    (record { sender = c.requires.sender; package_name = c.requires.name; title = c.requires.title; node = c.requires.node }))
+    (record { sender = (c.requires.sender, is_utf8-from_IsUtf8 c.args.from.now c.utf8.from); package_name = c.requires.name; title = (c.requires.title, is_utf8-from_IsUtf8 c.args.title.now c.utf8.title); node = c.requires.node }))
