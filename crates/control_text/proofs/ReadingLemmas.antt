@@ -122,7 +122,7 @@ severity_command-good : (ws : List (List ℕ)) → IfOk (severity_command ws) Is
 severity_command-good (n ∷ s ∷ []) =
     and_read-good (read_bug n) _ IsGoodBug IsWellFormed (read_bug-good n) (λ bug good.
     and_read-good (ok_or (severity_of s) BadSeverity) (λ severity. Ok (commands.Severity bug severity)) (λ _. ⊤) IsWellFormed (ok_or-good (severity_of s) BadSeverity (λ _. ⊤) (any_severity (severity_of s))) (λ severity _.
-    record { bugs = (good, tt); parts = tt; texts = tt; others = tt }))
+    record { bugs = (good, tt); parts = tt; spellable = tt }))
 severity_command-good [] = tt
 severity_command-good (n ∷ []) = tt
 severity_command-good (n ∷ s ∷ w ∷ ws) = tt
@@ -131,12 +131,12 @@ reassign_command-good : (ws : List (List ℕ)) → IfOk (reassign_command ws) Is
 reassign_command-good (n ∷ p ∷ []) =
     and_read-good (read_bug n) _ IsGoodBug IsWellFormed (read_bug-good n) (λ bug good.
     and_read-good (read_package p) (λ name. Ok (commands.Reassign bug name None)) IsName IsWellFormed (read_package-good p) (λ name named.
-    record { bugs = (good, tt); parts = (named, tt); texts = tt; others = tt }))
+    record { bugs = (good, tt); parts = (named, tt); spellable = tt }))
 reassign_command-good (n ∷ p ∷ v ∷ []) =
     and_read-good (read_bug n) _ IsGoodBug IsWellFormed (read_bug-good n) (λ bug good.
     and_read-good (read_package p) _ IsName IsWellFormed (read_package-good p) (λ name named.
     and_read-good (read_version v) (λ version. Ok (commands.Reassign bug name (Some version))) IsGoodVersion IsWellFormed (read_version-good v) (λ version fine.
-    record { bugs = (good, tt); parts = (named, fine); texts = tt; others = tt })))
+    record { bugs = (good, tt); parts = (named, fine); spellable = tt })))
 reassign_command-good [] = tt
 reassign_command-good (n ∷ []) = tt
 reassign_command-good (n ∷ p ∷ v ∷ w ∷ ws) = tt
@@ -260,45 +260,45 @@ tags_command-good arguments =
     let steps = some_steps (words_with_commas (after_word arguments)) in
     let of_bug : Named → Result (Command Named) Refusal = λ bug. and_read steps (λ read. Ok (commands.Tags bug read)) in
     and_read-good (read_bug (first_word arguments)) of_bug IsGoodBug IsWellFormed (read_bug-good (first_word arguments)) (λ bug good.
-    and_read-good steps (λ read. Ok (commands.Tags bug read)) (λ _. ⊤) IsWellFormed (any_steps steps) (λ read _. record { bugs = (good, tt); parts = tt; texts = tt; others = tt }))
+    and_read-good steps (λ read. Ok (commands.Tags bug read)) (λ _. ⊤) IsWellFormed (any_steps steps) (λ read _. record { bugs = (good, tt); parts = tt; spellable = tt }))
 
 reopen_command-good : (arguments : List ℕ) → list_any is_control arguments ≡ false → IfOk (reopen_command arguments) IsWellFormed
 reopen_command-good arguments clean =
     and_read-good (bug_and_text arguments) _ (λ both. IsGoodBug both.0 × IsTextWithin both.1) IsWellFormed (bug_and_text-good arguments clean) (λ both good.
     and_read-good (optional_who both.1) (λ who. Ok (commands.Reopen both.0 who)) IsGoodWho IsWellFormed (optional_who-good both.1 good.1) (λ who fine.
-    record { bugs = (good.0, tt); parts = fine.0; texts = fine.1; others = tt }))
+    record { bugs = (good.0, tt); parts = fine.0; spellable = fine.1 }))
 
 pub command_of-good : (word : CommandWord) (arguments : List ℕ) → list_any is_control arguments ≡ false → IfOk (command_of word arguments) IsWellFormed
 command_of-good command_words.Found arguments clean =
-    and_read-good (bug_and_optional_version (words arguments)) (λ both. Ok (commands.Found both.0 both.1)) _ IsWellFormed (bug_and_optional_version-good (words arguments)) (λ both good. record { bugs = (good.0, tt); parts = good.1; texts = tt; others = tt })
+    and_read-good (bug_and_optional_version (words arguments)) (λ both. Ok (commands.Found both.0 both.1)) _ IsWellFormed (bug_and_optional_version-good (words arguments)) (λ both good. record { bugs = (good.0, tt); parts = good.1; spellable = tt })
 command_of-good command_words.NotFound arguments clean =
-    and_read-good (bug_and_version (words arguments)) (λ both. Ok (commands.NotFound both.0 both.1)) _ IsWellFormed (bug_and_version-good (words arguments)) (λ both good. record { bugs = (good.0, tt); parts = good.1; texts = tt; others = tt })
+    and_read-good (bug_and_version (words arguments)) (λ both. Ok (commands.NotFound both.0 both.1)) _ IsWellFormed (bug_and_version-good (words arguments)) (λ both good. record { bugs = (good.0, tt); parts = good.1; spellable = tt })
 command_of-good command_words.Fixed arguments clean =
-    and_read-good (bug_and_version (words arguments)) (λ both. Ok (commands.Fixed both.0 both.1)) _ IsWellFormed (bug_and_version-good (words arguments)) (λ both good. record { bugs = (good.0, tt); parts = good.1; texts = tt; others = tt })
+    and_read-good (bug_and_version (words arguments)) (λ both. Ok (commands.Fixed both.0 both.1)) _ IsWellFormed (bug_and_version-good (words arguments)) (λ both good. record { bugs = (good.0, tt); parts = good.1; spellable = tt })
 command_of-good command_words.NotFixed arguments clean =
-    and_read-good (bug_and_version (words arguments)) (λ both. Ok (commands.NotFixed both.0 both.1)) _ IsWellFormed (bug_and_version-good (words arguments)) (λ both good. record { bugs = (good.0, tt); parts = good.1; texts = tt; others = tt })
+    and_read-good (bug_and_version (words arguments)) (λ both. Ok (commands.NotFixed both.0 both.1)) _ IsWellFormed (bug_and_version-good (words arguments)) (λ both good. record { bugs = (good.0, tt); parts = good.1; spellable = tt })
 command_of-good command_words.Close arguments clean =
-    and_read-good (bug_and_optional_version (words arguments)) (λ both. Ok (commands.Close both.0 both.1)) _ IsWellFormed (bug_and_optional_version-good (words arguments)) (λ both good. record { bugs = (good.0, tt); parts = good.1; texts = tt; others = tt })
+    and_read-good (bug_and_optional_version (words arguments)) (λ both. Ok (commands.Close both.0 both.1)) _ IsWellFormed (bug_and_optional_version-good (words arguments)) (λ both good. record { bugs = (good.0, tt); parts = good.1; spellable = tt })
 command_of-good command_words.Reopen arguments clean = reopen_command-good arguments clean
 command_of-good command_words.Severity arguments clean = severity_command-good (words arguments)
 command_of-good command_words.Reassign arguments clean = reassign_command-good (words arguments)
 command_of-good command_words.Tags arguments clean = tags_command-good arguments
 command_of-good command_words.Tag arguments clean = tags_command-good arguments
 command_of-good command_words.Retitle arguments clean =
-    and_read-good (bug_and_some_text arguments) (λ both. Ok (commands.Retitle both.0 both.1)) _ IsWellFormed (bug_and_some_text-good arguments clean) (λ both good. record { bugs = (good.0, tt); parts = good.1; texts = tt; others = tt })
+    and_read-good (bug_and_some_text arguments) (λ both. Ok (commands.Retitle both.0 both.1)) _ IsWellFormed (bug_and_some_text-good arguments clean) (λ both good. record { bugs = (good.0, tt); parts = good.1; spellable = tt })
 command_of-good command_words.Submitter arguments clean =
-    and_read-good (bug_and_some_who arguments) (λ both. Ok (commands.Submitter both.0 both.1)) _ IsWellFormed (bug_and_some_who-good arguments clean) (λ both good. record { bugs = (good.0, tt); parts = good.1.0; texts = good.1.1; others = tt })
+    and_read-good (bug_and_some_who arguments) (λ both. Ok (commands.Submitter both.0 both.1)) _ IsWellFormed (bug_and_some_who-good arguments clean) (λ both good. record { bugs = (good.0, tt); parts = good.1.0; spellable = good.1.1 })
 command_of-good command_words.Merge arguments clean =
-    and_read-good (bug_and_others (words arguments)) (λ both. Ok (commands.Merge both.0 both.1)) _ IsWellFormed (bug_and_others-good (words arguments)) (λ both good. record { bugs = (good.0, good.1.0); parts = tt; texts = tt; others = good.1.1 })
+    and_read-good (bug_and_others (words arguments)) (λ both. Ok (commands.Merge both.0 both.1)) _ IsWellFormed (bug_and_others-good (words arguments)) (λ both good. record { bugs = (good.0, good.1.0); parts = tt; spellable = good.1.1 })
 command_of-good command_words.ForceMerge arguments clean =
-    and_read-good (bug_and_others (words arguments)) (λ both. Ok (commands.ForceMerge both.0 both.1)) _ IsWellFormed (bug_and_others-good (words arguments)) (λ both good. record { bugs = (good.0, good.1.0); parts = tt; texts = tt; others = good.1.1 })
+    and_read-good (bug_and_others (words arguments)) (λ both. Ok (commands.ForceMerge both.0 both.1)) _ IsWellFormed (bug_and_others-good (words arguments)) (λ both good. record { bugs = (good.0, good.1.0); parts = tt; spellable = good.1.1 })
 command_of-good command_words.Unmerge arguments clean =
-    and_read-good (bug_alone (words arguments)) (λ bug. Ok (commands.Unmerge bug)) IsGoodBug IsWellFormed (bug_alone-good (words arguments)) (λ bug good. record { bugs = (good, tt); parts = tt; texts = tt; others = tt })
+    and_read-good (bug_alone (words arguments)) (λ bug. Ok (commands.Unmerge bug)) IsGoodBug IsWellFormed (bug_alone-good (words arguments)) (λ bug good. record { bugs = (good, tt); parts = tt; spellable = tt })
 command_of-good command_words.Forwarded arguments clean =
-    and_read-good (bug_and_some_text arguments) (λ both. Ok (commands.Forwarded both.0 both.1)) _ IsWellFormed (bug_and_some_text-good arguments clean) (λ both good. record { bugs = (good.0, tt); parts = good.1; texts = tt; others = tt })
+    and_read-good (bug_and_some_text arguments) (λ both. Ok (commands.Forwarded both.0 both.1)) _ IsWellFormed (bug_and_some_text-good arguments clean) (λ both good. record { bugs = (good.0, tt); parts = good.1; spellable = tt })
 command_of-good command_words.NotForwarded arguments clean =
-    and_read-good (bug_alone (words arguments)) (λ bug. Ok (commands.NotForwarded bug)) IsGoodBug IsWellFormed (bug_alone-good (words arguments)) (λ bug good. record { bugs = (good, tt); parts = tt; texts = tt; others = tt })
+    and_read-good (bug_alone (words arguments)) (λ bug. Ok (commands.NotForwarded bug)) IsGoodBug IsWellFormed (bug_alone-good (words arguments)) (λ bug good. record { bugs = (good, tt); parts = tt; spellable = tt })
 command_of-good command_words.Owner arguments clean =
-    and_read-good (bug_and_some_who arguments) (λ both. Ok (commands.Owner both.0 both.1)) _ IsWellFormed (bug_and_some_who-good arguments clean) (λ both good. record { bugs = (good.0, tt); parts = good.1.0; texts = good.1.1; others = tt })
+    and_read-good (bug_and_some_who arguments) (λ both. Ok (commands.Owner both.0 both.1)) _ IsWellFormed (bug_and_some_who-good arguments clean) (λ both good. record { bugs = (good.0, tt); parts = good.1.0; spellable = good.1.1 })
 command_of-good command_words.NoOwner arguments clean =
-    and_read-good (bug_alone (words arguments)) (λ bug. Ok (commands.NoOwner bug)) IsGoodBug IsWellFormed (bug_alone-good (words arguments)) (λ bug good. record { bugs = (good, tt); parts = tt; texts = tt; others = tt })
+    and_read-good (bug_alone (words arguments)) (λ bug. Ok (commands.NoOwner bug)) IsGoodBug IsWellFormed (bug_alone-good (words arguments)) (λ bug good. record { bugs = (good, tt); parts = tt; spellable = tt })

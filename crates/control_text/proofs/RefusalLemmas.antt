@@ -14,15 +14,16 @@ use Rattle.bug_record.specs.Tags.{tag_of}
 use Rattle.bug_record.specs.declared.command.Command.{Command}
 use Rattle.bug_record.specs.declared.command.Command.TheVariants as commands
 use Rattle.bug_record.specs.declared.command.Refusal.{Refusal}
-use Rattle.bug_record.specs.declared.command.Refusal.TheVariants.{Malformed, TooLong, BadSeverity, BadTag, BadVersion, BadPackage}
+use Rattle.bug_record.specs.declared.command.Refusal.TheVariants.{Unknown, Malformed, TooLong, BadSeverity, BadTag, BadVersion, BadPackage}
 use Rattle.bug_record.specs.declared.command.Who.TheVariants.{Sender, Given}
 use Rattle.command_grammar.specs.declared.command_word.CommandWord.{CommandWord}
 use Rattle.command_grammar.specs.declared.command_word.CommandWord.TheVariants as command_words
 use Rattle.command_grammar.specs.CommandWords.{command_word}
 use Rattle.command_grammar.specs.Versions.{version_of_word, package_of_word}
 use Rattle.command_grammar.specs.Commands.{and_read, read_bug, read_version, read_package, bug_alone, bug_and_version, bug_and_optional_version, severity_command, reassign_command, limited_text, who_of_text, some_text, some_who, optional_who, bug_and_text, bug_and_some_text, bug_and_some_who, each_word, bug_and_others, sign_and_tag, adds_after, tag_step, tag_steps, word_steps, all_steps, some_steps, tags_command, reopen_command, command_of}
-use Rattle.control_text.specs.declared.line.Line.TheVariants.{Comment, Stop}
-use Rattle.control_text.specs.Lines.{begins_hash, is_stop_line, line_of_command, command_reading, reading_of_words, reading, IsRefusalOfLine}
+use Rattle.control_text.specs.declared.line.Line.{Line}
+use Rattle.control_text.specs.declared.line.Line.TheVariants.{Comment, Stop, Do}
+use Rattle.control_text.specs.Lines.{begins_hash, is_stop_line, command_reading, reading_of_words, reading, IsRefusalOfLine}
 
 -- what is read, or a refusal of a line
 abbrev IsOfLine : {A : Type 0} → Result A Refusal → Type 0
@@ -173,22 +174,21 @@ command_of-of command_words.NotForwarded arguments = and_read-of (bug_alone (wor
 command_of-of command_words.Owner arguments = and_read-of (bug_and_some_who arguments) _ (bug_and_some_who-of arguments) (λ both. tt)
 command_of-of command_words.NoOwner arguments = and_read-of (bug_alone (words arguments)) _ (bug_alone-of (words arguments)) (λ bug. tt)
 
-line_of_command-of : (r : Result (Command Named) Refusal) → IsOfLine r → IsOfLine (line_of_command r)
-line_of_command-of (Ok command) h = tt
-line_of_command-of (Err refusal) h = h
+abbrev as_line : Command Named → Result Line Refusal
+as_line meant = Ok (Do meant)
 
-command_reading-of : (command : Option CommandWord) (text : List ℕ) → IsOfLine (command_reading command text)
-command_reading-of None text = tt
-command_reading-of (Some command) text =
-    cond_both (list_any is_control text) (Err Malformed) (line_of_command (command_of command (after_word text))) (λ r. IsOfLine r)
-    (λ e. tt) (λ e. line_of_command-of (command_of command (after_word text)) (command_of-of command (after_word text)))
+command_reading-of : (command : CommandWord) (text : List ℕ) → IsOfLine (command_reading command text)
+command_reading-of command text =
+    cond_both (list_any is_control text) (Err Malformed) (and_read (command_of command (after_word text)) as_line) (λ r. IsOfLine r)
+    (λ e. tt) (λ e. and_read-of (command_of command (after_word text)) as_line (command_of-of command (after_word text)) (λ meant. tt))
 
 reading_of_words-of : (text : List ℕ) (ws : List (List ℕ)) → IsOfLine (reading_of_words text ws)
 reading_of_words-of text [] = tt
 reading_of_words-of text (word ∷ ws) =
-    let command = command_reading (command_word word) text in
+    let reads : CommandWord → Result Line Refusal = λ command. command_reading command text in
+    let command = and_read (ok_or (command_word word) Unknown) reads in
     cond_both (begins_hash word) (Ok Comment) (if is_stop_line (word ∷ ws) then Ok Stop else command) (λ r. IsOfLine r) (λ e. tt)
-    (λ e. cond_both (is_stop_line (word ∷ ws)) (Ok Stop) command (λ r. IsOfLine r) (λ f. tt) (λ f. command_reading-of (command_word word) text))
+    (λ e. cond_both (is_stop_line (word ∷ ws)) (Ok Stop) command (λ r. IsOfLine r) (λ f. tt) (λ f. and_read-of (ok_or (command_word word) Unknown) reads (ok_or-of (command_word word) Unknown tt) (λ found. command_reading-of found text)))
 
 pub reading-of : (text : List ℕ) → IfErr (reading text) IsRefusalOfLine
 unfolding reading

@@ -1,6 +1,7 @@
 -- Lines of a command's word and words after spaces.
-use Rattle.std.proofs.Common.{◌≡◌, ℕ, ◌+◌, Bool, true, false, not, cond, List, [], ◌∷◌, ◌++◌, length, drop, Some, Result, Ok, Err, codes, refl, ap, sym, ◌∙◌, subst, append-nil, arith}
+use Rattle.std.proofs.Common.{◌≡◌, ℕ, ◌+◌, Bool, true, false, not, cond, List, [], ◌∷◌, ◌++◌, length, drop, Option, Some, Result, Ok, Err, codes, refl, ap, sym, ◌∙◌, subst, append-nil, arith}
 use Rattle.std.specs.Prelude.{IfOk, String, string_bytes, ⊤}
+use Rattle.std.specs.Option.{ok_or}
 use Rattle.std.specs.List.{list_any, position_or_len}
 use Rattle.std.proofs.lemmas.Bool.{cond-true, cond-false, or_parts, and_left, or_from, not_from_true, not_from_false, false≢true}
 use Rattle.std.proofs.lemmas.List.Folds.{list_any-append}
@@ -8,14 +9,16 @@ use Rattle.std.proofs.Math.Seq.{drop-append_seam}
 use Rattle.line_words.specs.Blanks.{is_blank, is_control, begins_blank}
 use Rattle.line_words.specs.AnyCase.{is_word}
 use Rattle.bug_record.specs.declared.command.Command.{Command}
-use Rattle.bug_record.specs.declared.command.Refusal.TheVariants.{Malformed}
+use Rattle.bug_record.specs.declared.command.Refusal.{Refusal}
+use Rattle.bug_record.specs.declared.command.Refusal.TheVariants.{Unknown, Malformed}
 use Rattle.line_words.specs.declared.named.Named.{Named}
 use Rattle.command_grammar.specs.declared.command_word.CommandWord.{CommandWord}
+use Rattle.control_text.specs.declared.line.Line.{Line}
 use Rattle.control_text.specs.declared.line.Line.TheVariants.{Comment, Stop, Do}
 use Rattle.line_words.specs.Words.{has_bytes, words, EndsWord, trimmed, first_word, after_word, without_last_blanks}
 use Rattle.command_grammar.specs.CommandWords.{command_word}
-use Rattle.command_grammar.specs.Commands.{command_of}
-use Rattle.control_text.specs.Lines.{begins_hash, is_stop_word, is_stop_line, line_of_command, command_reading, reading_of_words, reading}
+use Rattle.command_grammar.specs.Commands.{and_read, command_of}
+use Rattle.control_text.specs.Lines.{begins_hash, is_stop_word, is_stop_line, command_reading, reading_of_words, reading}
 use Rattle.control_text.specs.Spelling.{joined_by_blanks}
 use Rattle.line_words.proofs.WordLemmas.{words-nil, words-separator, words-word, without_first-separator, words-first, words-none}
 use Rattle.control_text.proofs.TextLemmas.{unblanked_first}
@@ -75,14 +78,16 @@ pub reading-command : (command : CommandWord) (w rest : List ℕ) (c : Command N
 unfolding reading
 reading-command command w rest c h ends clean is =
     let text = w ++ rest in
+    let as_line : Result (Command Named) Refusal → Result Line Refusal = λ r. and_read r (λ meant. Ok (Do meant)) in
+    let of_word : Option CommandWord → Result Line Refusal = λ o. and_read (ok_or o Unknown) (λ found. command_reading found text) in
     let all : list_any is_control text ≡ false = list_any-append is_control w rest ∙ or_from (list_any is_control w) (list_any is_control rest) h.clean clean in
     ap (reading_of_words text) (words-word is_blank w rest h.some h.whole ends)
-    ∙ cond-false (begins_hash w) (Ok Comment) (cond (is_stop_line (w ∷ words rest)) (Ok Stop) (command_reading (command_word w) text)) h.hash
-    ∙ cond-false (is_stop_line (w ∷ words rest)) (Ok Stop) (command_reading (command_word w) text) (no_stop w (words rest) h.stop h.thank)
-    ∙ ap (λ o. command_reading o text) h.is
-    ∙ cond-false (list_any is_control text) (Err Malformed) (line_of_command (command_of command (after_word text))) all
-    ∙ ap (λ s. line_of_command (command_of command s)) (after_word-is w rest h.some h.whole ends)
-    ∙ ap line_of_command is
+    ∙ cond-false (begins_hash w) (Ok Comment) (cond (is_stop_line (w ∷ words rest)) (Ok Stop) (of_word (command_word w))) h.hash
+    ∙ cond-false (is_stop_line (w ∷ words rest)) (Ok Stop) (of_word (command_word w)) (no_stop w (words rest) h.stop h.thank)
+    ∙ ap of_word h.is
+    ∙ cond-false (list_any is_control text) (Err Malformed) (as_line (command_of command (after_word text))) all
+    ∙ ap (λ s. as_line (command_of command s)) (after_word-is w rest h.some h.whole ends)
+    ∙ ap as_line is
 
 -- each word after a space
 abbrev pub after_spaces : List (List ℕ) → List ℕ

@@ -219,7 +219,7 @@ spaced-read (commands.Close n v) good = by_optional_version command_words.Close 
 spaced-read (commands.Reopen n who) good =
     let ws = bug_text n ∷ word_if who_text who in
     reading-command command_words.Reopen (codes "reopen") (after_spaces ws) (commands.Reopen n who) reopen_word (ends-after_spaces ws)
-    (clean-spaces ws (reopen_clean n who good.bugs.0 good.parts good.texts)) (reopen_back n who good.bugs.0 good.parts good.texts)
+    (clean-spaces ws (reopen_clean n who good.bugs.0 good.parts good.spellable)) (reopen_back n who good.bugs.0 good.parts good.spellable)
 spaced-read (commands.Severity n s) good =
     by_words command_words.Severity (codes "severity") (bug_text n ∷ severity_name s ∷ []) (commands.Severity n s) severity_word (bug-plain n good.bugs.0, (severity-plain s, tt)) (severity_command-back n s good.bugs.0)
 spaced-read (commands.Reassign n p v) good =
@@ -231,13 +231,13 @@ spaced-read (commands.Tags n steps) good =
     let ws = bug_text n ∷ step_words steps in
     by_words command_words.Tags (codes "tags") ws (commands.Tags n steps) tags_word (bug-plain n good.bugs.0, steps_plain steps) (tags-back n steps good.bugs.0)
 spaced-read (commands.Retitle n text) good = by_text command_words.Retitle (codes "retitle") commands.Retitle n text retitle_word (λ s. refl) good.bugs.0 good.parts
-spaced-read (commands.Submitter n who) good = by_who command_words.Submitter (codes "submitter") commands.Submitter n who submitter_word (λ s. refl) good.bugs.0 good.parts good.texts
-spaced-read (commands.Merge n ns) good = by_bugs command_words.Merge (codes "merge") commands.Merge n ns merge_word (λ s. refl) good.bugs good.others
-spaced-read (commands.ForceMerge n ns) good = by_bugs command_words.ForceMerge (codes "forcemerge") commands.ForceMerge n ns forcemerge_word (λ s. refl) good.bugs good.others
+spaced-read (commands.Submitter n who) good = by_who command_words.Submitter (codes "submitter") commands.Submitter n who submitter_word (λ s. refl) good.bugs.0 good.parts good.spellable
+spaced-read (commands.Merge n ns) good = by_bugs command_words.Merge (codes "merge") commands.Merge n ns merge_word (λ s. refl) good.bugs good.spellable
+spaced-read (commands.ForceMerge n ns) good = by_bugs command_words.ForceMerge (codes "forcemerge") commands.ForceMerge n ns forcemerge_word (λ s. refl) good.bugs good.spellable
 spaced-read (commands.Unmerge n) good = by_bug command_words.Unmerge (codes "unmerge") commands.Unmerge n unmerge_word (λ s. refl) good.bugs.0
 spaced-read (commands.Forwarded n text) good = by_text command_words.Forwarded (codes "forwarded") commands.Forwarded n text forwarded_word (λ s. refl) good.bugs.0 good.parts
 spaced-read (commands.NotForwarded n) good = by_bug command_words.NotForwarded (codes "notforwarded") commands.NotForwarded n notforwarded_word (λ s. refl) good.bugs.0
-spaced-read (commands.Owner n who) good = by_who command_words.Owner (codes "owner") commands.Owner n who owner_word (λ s. refl) good.bugs.0 good.parts good.texts
+spaced-read (commands.Owner n who) good = by_who command_words.Owner (codes "owner") commands.Owner n who owner_word (λ s. refl) good.bugs.0 good.parts good.spellable
 spaced-read (commands.NoOwner n) good = by_bug command_words.NoOwner (codes "noowner") commands.NoOwner n noowner_word (λ s. refl) good.bugs.0
 
 pub spelling-read : (c : Command Named) → IsWellFormed c → reading (spelling c) ≡ Ok (Do c)
