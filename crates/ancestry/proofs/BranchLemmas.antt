@@ -3,7 +3,8 @@ use Rattle.std.proofs.Common.{◌≡◌, true, false, List, [], ◌∷◌, ◌++
 use Rattle.std.proofs.lemmas.Bool.{cases_Bool, false≢true, or_parts}
 use Rattle.std.specs.BTreeMap.{insert_entry}
 use Rattle.ancestry.specs.Nodes.{Node, IsNode, same_node, node_cmp}
-use Rattle.ancestry.specs.Trees.{Ancestry, has_node, knows, known_parent, parent_of, IsLine, line, IsForest}
+use Rattle.std.specs.Option.{option_flatten}
+use Rattle.ancestry.specs.Trees.{Ancestry, has_node, knows, parent_of, IsLine, line, IsForest}
 use Rattle.ancestry.specs.Branches.{with_parent}
 use Rattle.ancestry.proofs.NodeLemmas.{same_true, known_put, known_others}
 use Rattle.ancestry.proofs.LinkLemmas.{ascends_put}
@@ -26,10 +27,10 @@ module _ (t : Ancestry) (n : Node) (v : Option Node) where
       (cases_Bool (same_node q n))
 
   pub parent_put : parent_of put n ≡ v
-  parent_put = ap known_parent (known_put t n v)
+  parent_put = ap option_flatten (known_put t n v)
 
   parent_others : (q : Node) → same_node q n ≡ false → parent_of put q ≡ parent_of t q
-  parent_others q other = ap known_parent (known_others t n v q other)
+  parent_others q other = ap option_flatten (known_others t n v q other)
 
 module _ (t : Ancestry) (n : Node) (unknown : knows t n ≡ false) where
   pub learnt_parents : (q : Node) → parent_of (insert_entry node_cmp t n None) q ≡ parent_of t q

@@ -8,7 +8,8 @@ use Rattle.std.specs.List.Sorted.{IsStrictlySortedBy}
 use Rattle.std.specs.Map.{keys_of}
 use Rattle.std.specs.Ordering.{is_eq}
 use Rattle.ancestry.specs.Nodes.{Node, same_node, node_cmp}
-use Rattle.ancestry.specs.Trees.{Ancestry, has_node, known_at, knows, known_parent, parent_of, line, is_ancestor, IsForest}
+use Rattle.std.specs.Option.{option_flatten}
+use Rattle.ancestry.specs.Trees.{Ancestry, has_node, known_at, knows, parent_of, line, is_ancestor, IsForest}
 use Rattle.ancestry.specs.Branches.{learn, with_parent, base_on}
 use Rattle.ancestry.specs.Changes.{Extends, past_of}
 use Rattle.ancestry.specs.declared.branch.Past.{Past}
@@ -33,7 +34,7 @@ extends_same t nodes ascending = record { others = λ q h. refl; kept = λ q h. 
 
 pub extends_also : (t u w : Ancestry) (nodes : List Node) → Extends t nodes u → Extends u nodes w → Extends t nodes w
 extends_also t u w nodes f g = record {
-  others = λ q h. let e = f.others q h in g.others q (ap (λ o. has_node nodes q && is_none (known_parent o)) e ∙ h) ∙ e;
+  others = λ q h. let e = f.others q h in g.others q (ap (λ o. has_node nodes q && is_none (option_flatten o)) e ∙ h) ∙ e;
   kept = λ q h. g.kept q (f.kept q h);
   ascending = g.ascending;
 }
@@ -96,7 +97,7 @@ past_root None h = absurd (cc)
 past_root (Some None) h = refl
 past_root (Some (Some p)) h = absurd (cc)
 
-past_based : (o : Option (Option Node)) → past_of o ≡ Based → is_none (known_parent o) ≡ false
+past_based : (o : Option (Option Node)) → past_of o ≡ Based → is_none (option_flatten o) ≡ false
 past_based None h = absurd (cc)
 past_based (Some None) h = absurd (cc)
 past_based (Some (Some p)) h = refl

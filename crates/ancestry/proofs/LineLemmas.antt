@@ -3,14 +3,19 @@ use Rattle.std.proofs.Common.{◌≡◌, ℕ, ◌+◌, ◌≤◌, ◌<◌, zero,
 use Rattle.std.proofs.lemmas.Bool.{cases_Bool, false≢true, or_left, or_parts}
 use Rattle.std.proofs.lemmas.Map.Steps.{length-le_from_keys}
 use Rattle.std.specs.Cmp.{eq_by_cmp_equiv}
+use Rattle.std.specs.Option.{option_flatten, option_map_or}
 use Rattle.std.specs.List.{AllByRecursion, IsDistinct, list_any}
 use Rattle.std.specs.List.Sorted.{IsStrictlySortedBy}
 use Rattle.std.specs.Map.{keys_of}
 use Rattle.std.specs.Ordering.{eq_by_cmp}
 use Rattle.ancestry.specs.Nodes.{Node, IsNode, same_node, node_cmp}
 use Rattle.ancestry.specs.NodeLaws.{node_cmp_total, node_ties}
-use Rattle.ancestry.specs.Trees.{Ancestry, has_node, known_at, knows, known_parent, parent_of, IsLine, line_above, line_within, line, is_ancestor, IsForest}
+use Rattle.ancestry.specs.Trees.{Ancestry, has_node, known_at, knows, parent_of, IsLine, line_within, line, is_ancestor, IsForest}
 use Rattle.ancestry.proofs.NodeLemmas.{has_head, has_tail, has_cases}
+
+-- the line from a parent on, where there is one
+abbrev pub line_above : (Node → List Node) → Option Node → List Node
+line_above line_of parent = option_map_or line_of parent []
 
 -- ---- there is one line from a node
 
@@ -108,7 +113,7 @@ line_known t parents n (a ∷ p ∷ more) h k q g =
 pub unknown_has_none : (t : Ancestry) (n : Node) → knows t n ≡ false → parent_of t n ≡ None
 unknown_has_none t n h = of_known (known_at t n) h
   where
-    of_known : (o : Option (Option Node)) → is_some o ≡ false → known_parent o ≡ None
+    of_known : (o : Option (Option Node)) → is_some o ≡ false → option_flatten o ≡ None
     of_known None h = refl
     of_known (Some v) h = absurd (cc)
 

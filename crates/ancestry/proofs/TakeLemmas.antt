@@ -1,9 +1,10 @@
 -- The steps by which a branch is taken, against what is to be made of the ancestry.
 use Rattle.std.proofs.Common.{◌≡◌, ◌==◌, ℕ, ◌+◌, ◌<◌, ◌≤◌, true, false, cond, nat_lt, All, OnOk, lt-ltb, le-ltb, List, [], ◌∷◌, length, get_or, drop, Option, Some, None, Result, Ok, Err, sym, ap, ◌∙◌, subst}
 use Rattle.std.proofs.lemmas.List.{at_drop_more}
+use Rattle.std.specs.Option.{option_map_or}
 use Rattle.ancestry.specs.Nodes.{Node}
 use Rattle.ancestry.specs.Trees.{Ancestry, knows, IsForest}
-use Rattle.ancestry.specs.Branches.{learn_all, or_conflict, base_on, base_all, repeated_after, based_unless_repeated, branched, IsBranched, TakesMemory}
+use Rattle.ancestry.specs.Branches.{learn_all, or_conflict, base_on, base_all, first_repeat, branched, IsBranched, TakesMemory}
 use Rattle.ancestry.specs.Changes.{Makes}
 use Rattle.ancestry.specs.declared.fault.BranchFault.{BranchFault}
 use Rattle.ancestry.specs.declared.fault.BranchFault.TheVariants.{EmptyBranch, Repeated, Conflict, TooLong, Memory}
@@ -50,26 +51,29 @@ course_made t nodes (Err fault) u forest known h = tt
 
 -- ---- what is to be made of the ancestry, by the tests in their order
 
+abbrev based_unless_repeated : Option ℕ → Ancestry → List Node → Result Ancestry BranchFault
+based_unless_repeated repeat t nodes = option_map_or (λ place. Err (Repeated place)) repeat (base_all 0 (learn_all t nodes) nodes)
+
 pub branched_empty : (t : Ancestry) (nodes : List Node) → (length nodes == 0) ≡ true → branched t nodes ≡ Err EmptyBranch
 unfolding branched
-branched_empty t nodes h = ap (λ b. cond b (Err EmptyBranch) (cond (nat_lt 200 (length nodes)) (Err TooLong) (based_unless_repeated (repeated_after [] 0 nodes) t nodes))) h
+branched_empty t nodes h = ap (λ b. cond b (Err EmptyBranch) (cond (nat_lt 200 (length nodes)) (Err TooLong) (based_unless_repeated (first_repeat nodes) t nodes))) h
 
-branched_some : (t : Ancestry) (nodes : List Node) → (length nodes == 0) ≡ false → branched t nodes ≡ cond (nat_lt 200 (length nodes)) (Err TooLong) (based_unless_repeated (repeated_after [] 0 nodes) t nodes)
+branched_some : (t : Ancestry) (nodes : List Node) → (length nodes == 0) ≡ false → branched t nodes ≡ cond (nat_lt 200 (length nodes)) (Err TooLong) (based_unless_repeated (first_repeat nodes) t nodes)
 unfolding branched
-branched_some t nodes h = ap (λ b. cond b (Err EmptyBranch) (cond (nat_lt 200 (length nodes)) (Err TooLong) (based_unless_repeated (repeated_after [] 0 nodes) t nodes))) h
+branched_some t nodes h = ap (λ b. cond b (Err EmptyBranch) (cond (nat_lt 200 (length nodes)) (Err TooLong) (based_unless_repeated (first_repeat nodes) t nodes))) h
 
 pub branched_long : (t : Ancestry) (nodes : List Node) → (length nodes == 0) ≡ false → 200 < length nodes → branched t nodes ≡ Err TooLong
 branched_long t nodes some long =
-    branched_some t nodes some ∙ ap (λ b. cond b (Err TooLong) (based_unless_repeated (repeated_after [] 0 nodes) t nodes)) (lt-ltb 200 (length nodes) long)
+    branched_some t nodes some ∙ ap (λ b. cond b (Err TooLong) (based_unless_repeated (first_repeat nodes) t nodes)) (lt-ltb 200 (length nodes) long)
 
-branched_short : (t : Ancestry) (nodes : List Node) → (length nodes == 0) ≡ false → length nodes ≤ 200 → branched t nodes ≡ based_unless_repeated (repeated_after [] 0 nodes) t nodes
+branched_short : (t : Ancestry) (nodes : List Node) → (length nodes == 0) ≡ false → length nodes ≤ 200 → branched t nodes ≡ based_unless_repeated (first_repeat nodes) t nodes
 branched_short t nodes some short =
-    branched_some t nodes some ∙ ap (λ b. cond b (Err TooLong) (based_unless_repeated (repeated_after [] 0 nodes) t nodes)) (le-ltb 200 (length nodes) short)
+    branched_some t nodes some ∙ ap (λ b. cond b (Err TooLong) (based_unless_repeated (first_repeat nodes) t nodes)) (le-ltb 200 (length nodes) short)
 
-pub branched_repeated : (t : Ancestry) (nodes : List Node) (place : ℕ) → (length nodes == 0) ≡ false → length nodes ≤ 200 → Some place ≡ repeated_after [] 0 nodes → branched t nodes ≡ Err (Repeated place)
+pub branched_repeated : (t : Ancestry) (nodes : List Node) (place : ℕ) → (length nodes == 0) ≡ false → length nodes ≤ 200 → Some place ≡ first_repeat nodes → branched t nodes ≡ Err (Repeated place)
 branched_repeated t nodes place some short h = branched_short t nodes some short ∙ ap (λ o. based_unless_repeated o t nodes) (sym h)
 
-pub branched_taken : (t : Ancestry) (nodes : List Node) → (length nodes == 0) ≡ false → length nodes ≤ 200 → None ≡ repeated_after [] 0 nodes → branched t nodes ≡ base_all 0 (learn_all t nodes) nodes
+pub branched_taken : (t : Ancestry) (nodes : List Node) → (length nodes == 0) ≡ false → length nodes ≤ 200 → None ≡ first_repeat nodes → branched t nodes ≡ base_all 0 (learn_all t nodes) nodes
 branched_taken t nodes some short h = branched_short t nodes some short ∙ ap (λ o. based_unless_repeated o t nodes) (sym h)
 
 -- a refusal, after which all is as before
@@ -90,5 +94,5 @@ base_takes place t (n ∷ p ∷ nodes) = at_pair_takes place (base_on t n p) (λ
     at_pair_takes place None f h = tt
     at_pair_takes place (Some u) f h = h u
 
-pub taken_takes : (t : Ancestry) (nodes : List Node) → (length nodes == 0) ≡ false → length nodes ≤ 200 → None ≡ repeated_after [] 0 nodes → TakesMemory (branched t nodes)
+pub taken_takes : (t : Ancestry) (nodes : List Node) → (length nodes == 0) ≡ false → length nodes ≤ 200 → None ≡ first_repeat nodes → TakesMemory (branched t nodes)
 taken_takes t nodes some short h = subst TakesMemory (sym (branched_taken t nodes some short h)) (base_takes 0 (learn_all t nodes) nodes)

@@ -3,9 +3,9 @@ use Rattle.std.proofs.Common.{◌≡◌, ◌∷◌, List, Option, Some, Bor, fal
 use Rattle.std.specs.Prelude.{if◌then◌else◌}
 use Rattle.std.specs.Option.{option_copied}
 use Rattle.ancestry.specs.Nodes.{Node}
-use Rattle.ancestry.specs.Trees.{Ancestry, has_node, parent_of, line, line_above, IsForest}
+use Rattle.ancestry.specs.Trees.{Ancestry, has_node, parent_of, line, IsForest}
 use Rattle.ancestry.specs.Statuses.{first_marked}
-use Rattle.ancestry.proofs.LineLemmas.{line_step}
+use Rattle.ancestry.proofs.LineLemmas.{line_above, line_step}
 
 -- the line from where the walk is, and that from where it goes on
 pub walk_step : (t : Ancestry) (at above : Option (Bor Node)) (here : Bor Node) → IsForest t → at ≡ Some here → option_copied above ≡ parent_of t here.now

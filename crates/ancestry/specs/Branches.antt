@@ -1,5 +1,7 @@
 -- Branches: lists of nodes, each based on the next. This project's own rule.
-use Rattle.std.specs.Prelude.{ℕ, ◌+◌, ◌==◌, ◌≡◌, ◌||◌, ⊤, true, nat_lt, List, [], ◌∷◌, length, Option, Some, None, is_some, All, Result, Ok, Err, if◌then◌else◌}
+use Rattle.std.specs.Prelude.{ℕ, ◌+◌, ◌==◌, ◌≡◌, ◌||◌, ⊤, Bool, true, false, nat_lt, List, [], ◌∷◌, length, take, slice_get, Option, Some, None, is_some, All, Result, Ok, Err, if◌then◌else◌}
+use Rattle.std.specs.List.{find, range_with_len}
+use Rattle.std.specs.Option.{option_map_or}
 use Rattle.std.specs.BTreeMap.{insert_entry}
 use Rattle.ancestry.specs.Nodes.{Node, node_cmp}
 use Rattle.ancestry.specs.Trees.{Ancestry, has_node, knows, parent_of, line, is_ancestor}
@@ -36,21 +38,20 @@ base_all place t [] = Ok t
 base_all place t (n ∷ []) = Ok t
 base_all place t (n ∷ p ∷ nodes) = or_conflict place (base_on t n p) (λ t'. base_all (place + 1) t' (p ∷ nodes))
 
--- the first place whose node stands earlier; the first node has this place, and those before it are given
-abbrev pub repeated_after : List Node → ℕ → List Node → Option ℕ
-repeated_after before place [] = None
-repeated_after before place (n ∷ nodes) = if has_node before n then Some place else repeated_after (n ∷ before) (place + 1) nodes
+-- whether the node at this place stands earlier, too
+abbrev pub is_repeat : List Node → ℕ → Bool
+is_repeat nodes place = option_map_or (has_node (take place nodes)) (slice_get nodes place) false
 
-abbrev pub based_unless_repeated : Option ℕ → Ancestry → List Node → Result Ancestry BranchFault
-based_unless_repeated (Some place) t nodes = Err (Repeated place)
-based_unless_repeated None t nodes = base_all 0 (learn_all t nodes) nodes
+-- the first place whose node stands earlier
+abbrev pub first_repeat : List Node → Option ℕ
+first_repeat nodes = find (is_repeat nodes) (range_with_len 0 (length nodes))
 
 -- The ancestry after a branch, or why it is refused, in this order. All nodes of a branch are known after it.
 unfoldable pub branched : Ancestry → List Node → Result Ancestry BranchFault
 branched t nodes =
     if length nodes == 0 then Err EmptyBranch
     else if nat_lt 200 (length nodes) then Err TooLong
-    else based_unless_repeated (repeated_after [] 0 nodes) t nodes
+    else option_map_or (λ place. Err (Repeated place)) (first_repeat nodes) (base_all 0 (learn_all t nodes) nodes)
 
 -- A branch for which there may be no memory: one that is not refused for its length or a repeat.
 abbrev pub TakesMemory : Result Ancestry BranchFault → Type 0

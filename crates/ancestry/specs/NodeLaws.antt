@@ -3,7 +3,7 @@ use Rattle.std.proofs.Common.{◌≡◌}
 use Rattle.std.specs.Cmp.{IsEquivalence, IsTotalOrder, and_equiv, on_equiv, on_total, then_total, both_tied}
 use Rattle.std.specs.Cmp.Lexicographic.{nat_list_eq_equiv, nat_list_cmp_total, texts_ties}
 use Rattle.std.specs.Ordering.{eq_by_cmp}
-use Rattle.debver.specs.OrderLaws.{total_cmp_total, total_eq}
+use Rattle.debver.proofs.OrderLaws.{total_cmp_total, total_eq}
 use Rattle.ancestry.specs.Nodes.{Node, same_node, node_cmp}
 
 pub same_node_equiv : IsEquivalence same_node

@@ -1,5 +1,6 @@
 -- The status of a bug at a version. This project's own rule.
-use Rattle.std.specs.Prelude.{◌==◌, ◌&&◌, ◌||◌, Bool, List, [], ◌∷◌, length, Option, Some, None, if◌then◌else◌}
+use Rattle.std.specs.Prelude.{◌==◌, ◌&&◌, ◌||◌, Bool, List, length, Option, Some, None, if◌then◌else◌}
+use Rattle.std.specs.List.{find}
 use Rattle.ancestry.specs.Nodes.{Node}
 use Rattle.ancestry.specs.Trees.{Ancestry, has_node, line}
 use Rattle.ancestry.specs.declared.statuses.Status.{Status}
@@ -7,8 +8,7 @@ use Rattle.ancestry.specs.declared.statuses.Status.TheVariants.{Found, Fixed, Ab
 
 -- the first node of a line that is in one of the lists
 abbrev pub first_marked : List Node → List Node → List Node → Option Node
-first_marked found fixed [] = None
-first_marked found fixed (n ∷ line) = if has_node found n || has_node fixed n then Some n else first_marked found fixed line
+first_marked found fixed line = find (λ n. has_node found n || has_node fixed n) line
 
 -- that node decides, found before fixed; with no such node the bug is found where the found list is empty
 abbrev pub status_by : List Node → Option Node → Status

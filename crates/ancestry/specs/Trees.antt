@@ -1,6 +1,7 @@
 -- Which node is based on which. This project's own rule.
 use Rattle.std.specs.Prelude.{ℕ, suc, zero, ◌≡◌, ◌&&◌, Bool, true, false, not, List, [], ◌∷◌, length, drop, filter, Option, Some, None, is_some}
 use Rattle.std.specs.List.{list_any}
+use Rattle.std.specs.Option.{option_flatten, option_map_or}
 use Rattle.std.specs.List.Sorted.{IsStrictlySortedBy}
 use Rattle.std.specs.Str.{bytes_eq}
 use Rattle.std.specs.Map.{keys_of, values_of, lookup}
@@ -25,12 +26,8 @@ known_at t n = lookup (is_at (node_cmp n)) t
 abbrev pub knows : Ancestry → Node → Bool
 knows t n = is_some (known_at t n)
 
-abbrev pub known_parent : Option (Option Node) → Option Node
-known_parent None = None
-known_parent (Some parent) = parent
-
 abbrev pub parent_of : Ancestry → Node → Option Node
-parent_of t n = known_parent (known_at t n)
+parent_of t n = option_flatten (known_at t n)
 
 -- The list is the node's line: the node, its parent, and so on to one that has none.
 abbrev pub IsLine : Ancestry → Node → List Node → Type 0
@@ -38,15 +35,10 @@ IsLine t n [] = ⊥
 IsLine t n (m ∷ []) = (m ≡ n) × (parent_of t n ≡ None)
 IsLine t n (m ∷ p ∷ more) = (m ≡ n) × (parent_of t n ≡ Some p) × IsLine t p (p ∷ more)
 
--- the line from a parent on, where there is one
-abbrev pub line_above : (Node → List Node) → Option Node → List Node
-line_above line_of None = []
-line_above line_of (Some p) = line_of p
-
 -- a node's line, as far as so many steps go
 abbrev pub line_within : ℕ → Ancestry → Node → List Node
 line_within zero t n = n ∷ []
-line_within (suc steps) t n = n ∷ line_above (λ p. line_within steps t p) (parent_of t n)
+line_within (suc steps) t n = n ∷ option_map_or (line_within steps t) (parent_of t n) []
 
 -- The line of a node; an unknown node's is itself alone. It has no more steps than there are known nodes.
 abbrev pub line : Ancestry → Node → List Node
@@ -69,13 +61,9 @@ pub record IsForest (t : Ancestry) : Type 0 where
   -- no cycles: from each node the parents lead to one that has none
   pub lines : (n : Node) → IsLine t n (line t n)
 
-abbrev pub is_this : Node → Option Node → Bool
-is_this n None = false
-is_this n (Some p) = same_node n p
-
 -- whether the node is some node's parent, whatever the source of that one
 abbrev pub is_parent : Ancestry → Node → Bool
-is_parent t n = list_any (is_this n) (values_of t)
+is_parent t n = list_any (λ parent. option_map_or (same_node n) parent false) (values_of t)
 
 -- the heads of a source package: its known nodes that are no node's parent, in total order
 abbrev pub heads : Ancestry → List ℕ → List Node

@@ -5,7 +5,7 @@ ghost use Rattle.std.specs.List.Sorted.{IsStrictlySortedBy};
 ghost use Rattle.std.specs.Map.{keys_of};
 ghost use Rattle.ancestry.specs.Nodes.{Node, same_node, node_cmp};
 ghost use Rattle.ancestry.specs.Trees.{Ancestry, has_node, known_at, knows, parent_of, line, is_ancestor, IsForest};
-ghost use Rattle.ancestry.specs.Branches.{learn, learn_all, with_parent, or_conflict, base_on, base_all, repeated_after, branched, IsBranched, TakesMemory, AreBased};
+ghost use Rattle.ancestry.specs.Branches.{learn, learn_all, with_parent, or_conflict, base_on, base_all, is_repeat, first_repeat, branched, IsBranched, TakesMemory, AreBased};
 ghost use Rattle.ancestry.specs.Changes.{Makes, Extends, past_of};
 ghost use Rattle.ancestry.specs.declared.fault.BranchFault.TheVariants.{Memory};
 
@@ -29,16 +29,21 @@ pub(crate) enum Past {
     Based,
 }
 
+// Whether the node at a place stands earlier, too.
+fn is_repeat(nodes: &[Node], place: usize) -> bool
+    ensures { result ≡ is_repeat nodes.now place }
+{
+    match nodes.get(place) {
+        Some(node) => nodes[..place].contains(node),
+        None => false,
+    }
+}
+
 // The first place whose node stands earlier.
 fn first_repeat(nodes: &[Node]) -> Option<usize>
-    ensures { result ≡ repeated_after [] 0 nodes.now }
+    ensures { result ≡ first_repeat nodes.now }
 {
-    for (place, node) in nodes.iter().enumerate() {
-        if nodes[..place].contains(node) {
-            return Some(place);
-        }
-    }
-    None
+    (0..nodes.len()).find(|place| is_repeat(nodes, *place))
 }
 
 // Takes a node's parent away, where the node is known.

@@ -1,10 +1,10 @@
 //! Which node is based on which.
 
-ghost use Rattle.std.specs.Prelude.{◌≡◌, IfOk};
+ghost use Rattle.std.specs.Prelude.{◌≡◌, IfOk, false};
 ghost use Rattle.std.specs.List.Sorted.{IsStrictlySortedBy};
-ghost use Rattle.std.specs.Option.{option_copied};
-ghost use Rattle.ancestry.specs.Nodes.{node_cmp};
-ghost use Rattle.ancestry.specs.Trees.{no_nodes, knows, parent_of, IsLine, line, is_this, is_parent, heads, IsForest};
+ghost use Rattle.std.specs.Option.{option_copied, option_map_or};
+ghost use Rattle.ancestry.specs.Nodes.{same_node, node_cmp};
+ghost use Rattle.ancestry.specs.Trees.{no_nodes, knows, parent_of, IsLine, line, is_parent, heads, IsForest};
 
 use crate::node::Node;
 use std::alloc::{AllocError, Global};
@@ -30,7 +30,7 @@ impl Model for Tree {
 }
 
 fn is_this(node: &Node, parent: &Option<Node>) -> bool
-    ensures { result ≡ is_this node.now parent.now }
+    ensures { result ≡ option_map_or (same_node node.now) parent.now false }
 {
     match parent {
         Some(parent) => node == parent,

@@ -1,5 +1,6 @@
 -- The commands, each over the text after its own word (the BTS page 'control and manipulation').
 use Rattle.std.specs.Prelude.{ℕ, nat_lt, ◌==◌, codes, if◌then◌else◌, Bool, true, false, List, [], ◌∷◌, ◌++◌, length, Option, Some, None, Result, Ok, Err}
+use Rattle.std.specs.Option.{ok_or}
 use Rattle.std.specs.Str.{bytes_eq}
 use Rattle.bug_record.specs.Severities.{severity_of}
 use Rattle.bug_record.specs.Tags.{tag_of}
@@ -13,7 +14,7 @@ use Rattle.bug_record.specs.declared.command.Who.TheVariants.{Sender, Given}
 use Rattle.bug_record.specs.declared.tag.Tag.{Tag}
 use Rattle.bug_record.specs.declared.command.Refusal.{Refusal}
 use Rattle.bug_record.specs.declared.command.Refusal.TheVariants.{Malformed, TooLong, BadSeverity, BadTag, BadVersion, BadPackage}
-use Rattle.line_words.specs.Words.{words, words_with_commas, after_word, trimmed}
+use Rattle.line_words.specs.Words.{words, words_with_commas, first_word, after_word, trimmed}
 use Rattle.line_words.specs.Bugs.{bug_of_word}
 use Rattle.command_grammar.specs.Versions.{version_of_word, package_of_word}
 use Rattle.command_grammar.specs.declared.command_word.CommandWord.{CommandWord}
@@ -22,11 +23,6 @@ use Rattle.line_words.specs.declared.named.Named.{Named}
 use Rattle.command_grammar.specs.declared.tags.Sign.{Sign}
 use Rattle.command_grammar.specs.declared.tags.Sign.TheVariants.{Plus, Minus, Equals}
 
--- what is made of the value that a word gives, or the refusal where it gives none
-abbrev pub or_refuse : {A B : Type 0} → Option A → Refusal → (A → Result B Refusal) → Result B Refusal
-or_refuse None refusal f = Err refusal
-or_refuse (Some x) refusal f = f x
-
 -- what is made of what was read, or its refusal
 abbrev pub and_read : {A B : Type 0} → Result A Refusal → (A → Result B Refusal) → Result B Refusal
 and_read (Err refusal) f = Err refusal
@@ -34,10 +30,13 @@ and_read (Ok x) f = f x
 
 -- `n`
 abbrev pub read_bug : List ℕ → Result Named Refusal
-read_bug word = or_refuse (bug_of_word word) Malformed (λ bug. Ok bug)
+read_bug word = ok_or (bug_of_word word) Malformed
 
 abbrev pub read_version : List ℕ → Result VersionArg Refusal
-read_version word = or_refuse (version_of_word word) BadVersion (λ version. Ok version)
+read_version word = ok_or (version_of_word word) BadVersion
+
+abbrev pub read_package : List ℕ → Result (List ℕ) Refusal
+read_package word = ok_or (package_of_word word) BadPackage
 
 -- `n`, with no further word
 abbrev pub bug_alone : List (List ℕ) → Result Named Refusal
@@ -52,32 +51,23 @@ bug_and_version _ = Err Malformed
 -- `n [v]`, with no further word
 abbrev pub bug_and_optional_version : List (List ℕ) → Result (Named × Option VersionArg) Refusal
 bug_and_optional_version (n ∷ []) = and_read (read_bug n) (λ bug. Ok (bug, None))
-bug_and_optional_version arguments = and_read (bug_and_version arguments) (λ both. Ok (both.0, Some both.1))
+bug_and_optional_version (n ∷ v ∷ []) =
+    and_read (read_bug n) (λ bug. and_read (read_version v) (λ version. Ok (bug, Some version)))
+bug_and_optional_version _ = Err Malformed
 
 -- `severity n s`, with no further word
 abbrev pub severity_command : List (List ℕ) → Result (Command Named) Refusal
 severity_command (n ∷ s ∷ []) =
-    and_read (read_bug n) (λ bug. or_refuse (severity_of s) BadSeverity (λ severity. Ok (commands.Severity bug severity)))
+    and_read (read_bug n) (λ bug. and_read (ok_or (severity_of s) BadSeverity) (λ severity. Ok (commands.Severity bug severity)))
 severity_command _ = Err Malformed
 
--- a version, if there is a word for it
-abbrev pub optional_version : Option (List ℕ) → Result (Option VersionArg) Refusal
-optional_version None = Ok None
-optional_version (Some word) = and_read (read_version word) (λ version. Ok (Some version))
-
-abbrev pub read_package : List ℕ → Result (List ℕ) Refusal
-read_package word = or_refuse (package_of_word word) BadPackage (λ package_name. Ok package_name)
-
--- a bug, a package and a version, if there is a word for it; of wrong words the first decides
-abbrev pub reassign_words : List ℕ → List ℕ → Option (List ℕ) → Result (Command Named) Refusal
-reassign_words n p v =
-    and_read (read_bug n) (λ bug. and_read (read_package p) (λ package_name. and_read (optional_version v) (λ version.
-    Ok (commands.Reassign bug package_name version))))
-
--- `reassign n package [v]`, with no further word
+-- `reassign n package [v]`, with no further word; of wrong words the first decides
 abbrev pub reassign_command : List (List ℕ) → Result (Command Named) Refusal
-reassign_command (n ∷ p ∷ []) = reassign_words n p None
-reassign_command (n ∷ p ∷ v ∷ []) = reassign_words n p (Some v)
+reassign_command (n ∷ p ∷ []) =
+    and_read (read_bug n) (λ bug. and_read (read_package p) (λ package_name. Ok (commands.Reassign bug package_name None)))
+reassign_command (n ∷ p ∷ v ∷ []) =
+    and_read (read_bug n) (λ bug. and_read (read_package p) (λ package_name. and_read (read_version v) (λ version.
+    Ok (commands.Reassign bug package_name (Some version)))))
 reassign_command _ = Err Malformed
 
 -- the text itself, which has 200 bytes at most
@@ -109,11 +99,7 @@ optional_who (c ∷ text) =
 
 -- the bug of the first word, and the text after it, without outer blanks
 abbrev pub bug_and_text : List ℕ → Result (Named × List ℕ) Refusal
-bug_and_text arguments = of_words (words arguments)
-  where
-    of_words : List (List ℕ) → Result (Named × List ℕ) Refusal
-    of_words [] = Err Malformed
-    of_words (n ∷ more) = and_read (read_bug n) (λ bug. Ok (bug, trimmed (after_word arguments)))
+bug_and_text arguments = and_read (read_bug (first_word arguments)) (λ bug. Ok (bug, trimmed (after_word arguments)))
 
 -- `reopen n [who or =]`
 abbrev pub reopen_command : List ℕ → Result (Command Named) Refusal
@@ -132,13 +118,9 @@ abbrev pub each_word : {A : Type 0} → (List ℕ → Result A Refusal) → List
 each_word read [] = Ok []
 each_word read (word ∷ more) = and_read (read word) (λ x. and_read (each_word read more) (λ xs. Ok (x ∷ xs)))
 
--- the bug of each word
-abbrev pub all_bugs : List (List ℕ) → Result (List Named) Refusal
-all_bugs ws = each_word read_bug ws
-
 -- `n m ..`, two bugs or more
 abbrev pub bug_and_others : List (List ℕ) → Result (Named × List Named) Refusal
-bug_and_others (n ∷ m ∷ more) = and_read (read_bug n) (λ bug. and_read (all_bugs (m ∷ more)) (λ others. Ok (bug, others)))
+bug_and_others (n ∷ m ∷ more) = and_read (read_bug n) (λ bug. and_read (each_word read_bug (m ∷ more)) (λ others. Ok (bug, others)))
 bug_and_others _ = Err Malformed
 
 -- The sign that a word begins with, and the tag that follows it: one `+`, `-` or `=`, or none. What signs say here is this
@@ -169,7 +151,7 @@ tag_step adds tag = if adds then Add tag else Remove tag
 -- the step of a word's tag; a sign may stand without one
 abbrev pub tag_steps : Bool → List ℕ → Result (List TagStep) Refusal
 tag_steps adds [] = Ok []
-tag_steps adds (c ∷ word) = or_refuse (tag_of (c ∷ word)) BadTag (λ tag. Ok (tag_step adds tag ∷ []))
+tag_steps adds (c ∷ word) = and_read (ok_or (tag_of (c ∷ word)) BadTag) (λ tag. Ok (tag_step adds tag ∷ []))
 
 -- the steps of a sign, then that of the tag after it
 abbrev pub word_steps : Bool → Option Sign → List ℕ → Result (List TagStep) Refusal
@@ -179,8 +161,9 @@ word_steps adds sign tag = and_read (tag_steps adds tag) (λ steps. Ok (sign_ste
 abbrev pub all_steps : Bool → List (List ℕ) → Result (List TagStep) Refusal
 all_steps adds [] = Ok []
 all_steps adds (word ∷ more) =
-    and_read (word_steps (adds_after (sign_and_tag word).0 adds) (sign_and_tag word).0 (sign_and_tag word).1) (λ steps.
-    and_read (all_steps (adds_after (sign_and_tag word).0 adds) more) (λ others. Ok (steps ++ others)))
+    let signed = sign_and_tag word in
+    let now = adds_after signed.0 adds in
+    and_read (word_steps now signed.0 signed.1) (λ steps. and_read (all_steps now more) (λ others. Ok (steps ++ others)))
 
 -- the steps of one word or more, which begin with adding tags
 abbrev pub some_steps : List (List ℕ) → Result (List TagStep) Refusal
@@ -189,12 +172,9 @@ some_steps (word ∷ more) = all_steps true (word ∷ more)
 
 -- `tags n ..`: after the bug's word commas are blanks too
 abbrev pub tags_command : List ℕ → Result (Command Named) Refusal
-tags_command arguments = of_words (words arguments)
-  where
-    of_words : List (List ℕ) → Result (Command Named) Refusal
-    of_words [] = Err Malformed
-    of_words (n ∷ more) =
-        and_read (read_bug n) (λ bug. and_read (some_steps (words_with_commas (after_word arguments))) (λ steps. Ok (commands.Tags bug steps)))
+tags_command arguments =
+    and_read (read_bug (first_word arguments)) (λ bug. and_read (some_steps (words_with_commas (after_word arguments))) (λ steps.
+    Ok (commands.Tags bug steps)))
 
 -- the command that its own word and the text after it give
 abbrev pub command_of : CommandWord → List ℕ → Result (Command Named) Refusal

@@ -1,9 +1,7 @@
 -- How an answer says what is read.
-use Rattle.std.specs.Prelude.{ℕ, ◌≡◌, List, ◌++◌, Result, Ok, Err, ⊤}
-use Rattle.std.specs.Borrow.{Bor}
+use Rattle.std.specs.Prelude.{◌≡◌, List, ◌++◌, Result, Ok, Err, ⊤}
 use Rattle.bug_record.specs.declared.command.Refusal.{Refusal}
-use Rattle.line_words.specs.declared.named.Named.{Named}
-use Rattle.command_grammar.specs.Commands.{bug_and_text, and_read}
+use Rattle.command_grammar.specs.Commands.{and_read}
 use Rattle.command_grammar.specs.declared.fault.LineFault.{LineFault}
 use Rattle.command_grammar.specs.declared.fault.LineFault.TheVariants.{Refused, Memory}
 
@@ -18,9 +16,3 @@ abbrev pub ReadsMore : {A U : Type 0} → Result (List A) Refusal → List A →
 ReadsMore answer before after (Ok value) = and_read answer (λ more. Ok (before ++ more)) ≡ Ok after
 ReadsMore answer before after (Err (Refused refusal)) = answer ≡ Err refusal
 ReadsMore answer before after (Err Memory) = ⊤
-
--- the same of a bug and the text after it, which is a part of the text that is read
-abbrev pub ReadsBug : List ℕ → Result (Named × Bor (List ℕ)) LineFault → Type 0
-ReadsBug arguments (Ok both) = bug_and_text arguments ≡ Ok (both.0, both.1.now)
-ReadsBug arguments (Err (Refused refusal)) = bug_and_text arguments ≡ Err refusal
-ReadsBug arguments (Err Memory) = ⊥

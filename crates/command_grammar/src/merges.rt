@@ -1,7 +1,7 @@
 //! The commands `merge` and `forcemerge`.
 
 ghost use Rattle.line_words.specs.Words.{words};
-ghost use Rattle.command_grammar.specs.Commands.{all_bugs, bug_and_others, command_of};
+ghost use Rattle.command_grammar.specs.Commands.{read_bug, each_word, bug_and_others, command_of};
 ghost use Rattle.command_grammar.specs.Reads.{Reads};
 ghost use Rattle.command_grammar.specs.declared.command_word.CommandWord.TheVariants.{Merge, ForceMerge};
 
@@ -13,7 +13,7 @@ use std::alloc::Global;
 
 // The bug of each word.
 fn all_bugs(alloc: Global, text: &str) -> Result<Sequence<Named>, LineFault>
-    ensures { Reads (all_bugs (words text.now)) result }
+    ensures { Reads (each_word read_bug (words text.now)) result }
 {
     let mut bugs = Sequence::new(alloc);
     let mut rest = text;

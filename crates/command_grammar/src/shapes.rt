@@ -1,9 +1,10 @@
 //! Words that several commands take: a bug, a version, a package, a text.
 
-ghost use Rattle.std.specs.Prelude.{◌≡◌, Ok};
+ghost use Rattle.std.specs.Prelude.{◌≡◌};
+ghost use Rattle.std.specs.Option.{ok_or};
 ghost use Rattle.line_words.specs.Words.{words};
 ghost use Rattle.command_grammar.specs.Versions.{bare_version, sourced_version, without_src};
-ghost use Rattle.command_grammar.specs.Commands.{or_refuse, read_bug, read_version, read_package, bug_alone, bug_and_version, bug_and_optional_version};
+ghost use Rattle.command_grammar.specs.Commands.{read_bug, read_version, read_package, bug_alone, bug_and_version, bug_and_optional_version};
 ghost use Rattle.command_grammar.specs.Reads.{Reads};
 ghost use Rattle.bug_record.specs.declared.command.Refusal.TheVariants.{BadVersion};
 
@@ -23,15 +24,12 @@ const BAD_VERSION: LineFault = LineFault::Refused(Refusal::BadVersion);
 pub(crate) fn read_bug(word: &str) -> Result<Named, LineFault>
     ensures { Reads (read_bug word.now) result }
 {
-    match bug_word(word) {
-        Some(bug) => Ok(bug),
-        None => Err(MALFORMED),
-    }
+    bug_word(word).ok_or(MALFORMED)
 }
 
 // A version of the bug's own package.
 fn read_bare(alloc: Global, version: &str) -> Result<VersionArg, LineFault>
-    ensures { Reads (or_refuse (bare_version version.now) BadVersion (λ version. Ok version)) result }
+    ensures { Reads (ok_or (bare_version version.now) BadVersion) result }
 {
     if check(version).is_err() {
         return Err(BAD_VERSION);
@@ -44,7 +42,7 @@ fn read_bare(alloc: Global, version: &str) -> Result<VersionArg, LineFault>
 
 // A version of a source package.
 fn read_sourced(alloc: Global, source: &str, version: &str) -> Result<VersionArg, LineFault>
-    ensures { Reads (or_refuse (sourced_version source.now version.now) BadVersion (λ version. Ok version)) result }
+    ensures { Reads (ok_or (sourced_version source.now version.now) BadVersion) result }
 {
     if check_name(source).is_err() || check(version).is_err() {
         return Err(BAD_VERSION);
@@ -119,9 +117,13 @@ pub(crate) fn bug_and_optional_version(
     ensures { Reads (bug_and_optional_version (words arguments.now)) result }
 {
     let (first, rest) = split_word(arguments).ok_or(MALFORMED)?;
-    if split_word(rest).is_none() {
+    let Some((second, more)) = split_word(rest) else {
         return Ok((read_bug(first)?, None));
+    };
+    if split_word(more).is_some() {
+        return Err(MALFORMED);
     }
-    let (bug, version) = bug_and_version(alloc, arguments)?;
+    let bug = read_bug(first)?;
+    let version = read_version(alloc, second)?;
     Ok((bug, Some(version)))
 }

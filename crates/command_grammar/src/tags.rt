@@ -103,9 +103,6 @@ pub(crate) fn read_tags(alloc: Global, arguments: &str) -> Result<Command<Named>
     ensures { Reads (tags_command arguments.now) result }
 {
     let (first, rest) = next_word(arguments);
-    if first.is_empty() {
-        return Err(MALFORMED);
-    }
     let bug = read_bug(first)?;
     if split_word_with_commas(rest).is_none() {
         return Err(MALFORMED);

@@ -1,7 +1,9 @@
 //! Texts of commands: the rest of a line, without outer blanks.
 
-ghost use Rattle.command_grammar.specs.Commands.{limited_text, who_of_text, some_text, some_who, optional_who, bug_and_some_text, bug_and_some_who, reopen_command, command_of};
-ghost use Rattle.command_grammar.specs.Reads.{Reads, ReadsBug};
+ghost use Rattle.std.specs.Prelude.{◌≡◌, MatchOption, Ok, Err};
+ghost use Rattle.bug_record.specs.declared.command.Refusal.TheVariants.{Malformed};
+ghost use Rattle.command_grammar.specs.Commands.{limited_text, who_of_text, some_text, some_who, optional_who, bug_and_text, bug_and_some_text, bug_and_some_who, reopen_command, command_of};
+ghost use Rattle.command_grammar.specs.Reads.{Reads};
 ghost use Rattle.command_grammar.specs.declared.command_word.CommandWord.TheVariants.{Retitle, Submitter, Forwarded, Owner};
 
 use crate::fault::LineFault;
@@ -12,17 +14,13 @@ use line_words::{Named, bug_word, next_word, trim};
 use std::alloc::Global;
 
 // A bug, and the text after its word, without outer blanks.
-fn bug_and_rest(arguments: &str) -> Result<(Named, &str), LineFault>
-    ensures { ReadsBug arguments.now result }
+fn bug_and_rest(arguments: &str) -> Option<(Named, &str)>
+    ensures { MatchOption result
+        (bug_and_text arguments.now ≡ Err Malformed)
+        (λ both. bug_and_text arguments.now ≡ Ok (both.0, both.1.now)) }
 {
     let (first, rest) = next_word(arguments);
-    if first.is_empty() {
-        return Err(MALFORMED);
-    }
-    match bug_word(first) {
-        Some(bug) => Ok((bug, trim(rest))),
-        None => Err(MALFORMED),
-    }
+    Some((bug_word(first)?, trim(rest)))
 }
 
 // A text of its own, of 200 bytes at most.
@@ -79,7 +77,7 @@ fn optional_who(alloc: Global, text: &str) -> Result<Option<Who>, LineFault>
 pub(crate) fn read_reopen(alloc: Global, arguments: &str) -> Result<Command<Named>, LineFault>
     ensures { Reads (reopen_command arguments.now) result }
 {
-    let (bug, text) = bug_and_rest(arguments)?;
+    let (bug, text) = bug_and_rest(arguments).ok_or(MALFORMED)?;
     let who = optional_who(alloc, text)?;
     Ok(Command::Reopen(bug, who))
 }
@@ -88,7 +86,7 @@ pub(crate) fn read_reopen(alloc: Global, arguments: &str) -> Result<Command<Name
 fn bug_and_some_text(alloc: Global, arguments: &str) -> Result<(Named, Text), LineFault>
     ensures { Reads (bug_and_some_text arguments.now) result }
 {
-    let (bug, text) = bug_and_rest(arguments)?;
+    let (bug, text) = bug_and_rest(arguments).ok_or(MALFORMED)?;
     let text = some_text(alloc, text)?;
     Ok((bug, text))
 }
@@ -97,7 +95,7 @@ fn bug_and_some_text(alloc: Global, arguments: &str) -> Result<(Named, Text), Li
 fn bug_and_some_who(alloc: Global, arguments: &str) -> Result<(Named, Who), LineFault>
     ensures { Reads (bug_and_some_who arguments.now) result }
 {
-    let (bug, text) = bug_and_rest(arguments)?;
+    let (bug, text) = bug_and_rest(arguments).ok_or(MALFORMED)?;
     let who = some_who(alloc, text)?;
     Ok((bug, who))
 }

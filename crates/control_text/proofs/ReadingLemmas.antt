@@ -1,6 +1,7 @@
 -- What a line gives is well formed.
 use Rattle.std.proofs.Common.{◌≡◌, ℕ, ◌≤◌, ◌<◌, List, [], ◌∷◌, length, ◌==◌, ◌&&◌, nat_lt, true, false, Option, Result, Some, None, Ok, Err, refl, cond, sym, ◌∙◌, subst, arith, codes}
 use Rattle.std.specs.Prelude.{IfOk, IfSome, is_none, option_map, ⊤}
+use Rattle.std.specs.Option.{ok_or}
 use Rattle.std.specs.List.{list_any, before_first, after_first, prefix_len, position_or_len}
 use Rattle.std.specs.Str.{bytes_eq}
 use Rattle.std.proofs.lemmas.Bool.{cond_both, ltb-false, false≢true}
@@ -19,7 +20,6 @@ use Rattle.bug_record.specs.declared.severity.Severity.{Severity}
 use Rattle.bug_record.specs.declared.command.Command.{Command}
 use Rattle.bug_record.specs.declared.command.Command.TheVariants as commands
 use Rattle.bug_record.specs.declared.command.TagStep.{TagStep}
-use Rattle.bug_record.specs.declared.command.VersionArg.{VersionArg}
 use Rattle.bug_record.specs.declared.command.Who.{Who}
 use Rattle.bug_record.specs.declared.command.Who.TheVariants.{Sender, Given}
 use Rattle.bug_record.specs.declared.command.Refusal.{Refusal}
@@ -30,16 +30,16 @@ use Rattle.command_grammar.specs.declared.command_word.CommandWord.{CommandWord}
 use Rattle.command_grammar.specs.declared.command_word.CommandWord.TheVariants as command_words
 use Rattle.line_words.specs.Numbers.{without_hash, number_of_digits}
 use Rattle.line_words.specs.Bugs.{bug_of_text, bug_of_word, IsGoodBug}
-use Rattle.line_words.specs.Words.{words, words_with_commas, trimmed, after_word, without_first_blanks}
+use Rattle.line_words.specs.Words.{words, words_with_commas, trimmed, first_word, after_word, without_first_blanks}
 use Rattle.command_grammar.specs.Versions.{bare_version, sourced_version, version_of_word, without_src, package_of_word}
-use Rattle.command_grammar.specs.Commands.{or_refuse, and_read, read_bug, read_version, bug_and_version, bug_and_optional_version, severity_command, optional_version, read_package, reassign_words, reassign_command, limited_text, who_of_text, some_text, some_who, optional_who, bug_and_text, bug_and_some_text, bug_and_some_who, bug_alone, all_bugs, bug_and_others, some_steps, tags_command, reopen_command, command_of}
+use Rattle.command_grammar.specs.Commands.{and_read, read_bug, read_version, bug_and_version, bug_and_optional_version, severity_command, read_package, reassign_command, limited_text, who_of_text, some_text, some_who, optional_who, bug_and_text, bug_and_some_text, bug_and_some_who, bug_alone, each_word, bug_and_others, some_steps, tags_command, reopen_command, command_of}
 use Rattle.control_text.specs.WellFormed.{IsPlain, IsAddress, IsWellFormed}
 use Rattle.line_words.proofs.NumberLemmas.{number_of_digits-good}
 use Rattle.control_text.proofs.TextLemmas.{none-drop, trimmed-text}
 
-or_refuse-good : {A B : Type 0} (o : Option A) (refusal : Refusal) (f : A → Result B Refusal) (P : A → Type 0) (Q : B → Type 0) → IfSome o P → ((x : A) → P x → IfOk (f x) Q) → IfOk (or_refuse o refusal f) Q
-or_refuse-good None refusal f P Q h each = tt
-or_refuse-good (Some x) refusal f P Q h each = each x h
+ok_or-good : {A : Type 0} (o : Option A) (refusal : Refusal) (P : A → Type 0) → IfSome o P → IfOk (ok_or o refusal) P
+ok_or-good None refusal P h = tt
+ok_or-good (Some x) refusal P h = h
 
 and_read-good : {A B : Type 0} (r : Result A Refusal) (f : A → Result B Refusal) (P : A → Type 0) (Q : B → Type 0) → IfOk r P → ((x : A) → P x → IfOk (f x) Q) → IfOk (and_read r f) Q
 and_read-good (Err refusal) f P Q h each = tt
@@ -58,7 +58,7 @@ bug_of_text-good (c ∷ s) =
     (λ e. good_bug_by (number_of_digits (c ∷ s)) Number (number_of_digits-good (c ∷ s)))
 
 read_bug-good : (s : List ℕ) → IfOk (read_bug s) IsGoodBug
-read_bug-good s = or_refuse-good (bug_of_word s) Malformed (λ bug. Ok bug) IsGoodBug IsGoodBug (bug_of_text-good (without_hash s)) (λ bug good. good)
+read_bug-good s = ok_or-good (bug_of_word s) Malformed IsGoodBug (bug_of_text-good (without_hash s))
 
 -- texts that give a node are a package name and a version
 both_good : (s v : List ℕ) → (is_none (name_fault s) && is_none (text_fault v)) ≡ true → IsName s × IsVersion v
@@ -89,17 +89,13 @@ read_version-good w =
     let some : IfSome (version_of_word w) IsGoodVersion
     = cond_both (list_any is_slash w) (sourced_version (before_first is_slash w) (after_first is_slash w)) (bare_version w) (λ o. IfSome o IsGoodVersion)
     (λ e. sourced_version-good (before_first is_slash w) (after_first is_slash w)) (λ e. bare_version-good w) in
-    or_refuse-good (version_of_word w) BadVersion (λ version. Ok version) IsGoodVersion IsGoodVersion some (λ version good. good)
+    ok_or-good (version_of_word w) BadVersion IsGoodVersion some
 
 read_package-good : (w : List ℕ) → IfOk (read_package w) IsName
 read_package-good w =
     let some : IfSome (package_of_word w) IsName
     = cond_both (is_none (name_fault (without_src w))) (Some (without_src w)) None (λ o. IfSome o IsName) (name_good (without_src w)) (λ e. tt) in
-    or_refuse-good (package_of_word w) BadPackage (λ name. Ok name) IsName IsName some (λ name good. good)
-
-optional_version-good : (o : Option (List ℕ)) → IfOk (optional_version o) (IfGiven IsGoodVersion)
-optional_version-good None = tt
-optional_version-good (Some w) = and_read-good (read_version w) (λ version. Ok (Some version)) IsGoodVersion (IfGiven IsGoodVersion) (read_version-good w) (λ version good. good)
+    ok_or-good (package_of_word w) BadPackage IsName some
 
 bug_and_version-good : (ws : List (List ℕ)) → IfOk (bug_and_version ws) (λ both. IsGoodBug both.0 × IsGoodVersion both.1)
 bug_and_version-good (n ∷ v ∷ []) =
@@ -109,17 +105,14 @@ bug_and_version-good [] = tt
 bug_and_version-good (n ∷ []) = tt
 bug_and_version-good (n ∷ v ∷ w ∷ ws) = tt
 
-abbrev given : Named × VersionArg → Result (Named × Option VersionArg) Refusal
-given both = Ok (both.0, Some both.1)
-
-given-good : (ws : List (List ℕ)) → IfOk (and_read (bug_and_version ws) given) (λ both. IsGoodBug both.0 × IfGiven IsGoodVersion both.1)
-given-good ws = and_read-good (bug_and_version ws) given (λ both. IsGoodBug both.0 × IsGoodVersion both.1) (λ both. IsGoodBug both.0 × IfGiven IsGoodVersion both.1) (bug_and_version-good ws) (λ both good. good)
-
 bug_and_optional_version-good : (ws : List (List ℕ)) → IfOk (bug_and_optional_version ws) (λ both. IsGoodBug both.0 × IfGiven IsGoodVersion both.1)
 bug_and_optional_version-good (n ∷ []) =
     and_read-good (read_bug n) (λ bug. Ok (bug, None)) IsGoodBug (λ both. IsGoodBug both.0 × IfGiven IsGoodVersion both.1) (read_bug-good n) (λ bug good. (good, tt))
 bug_and_optional_version-good [] = tt
-bug_and_optional_version-good (n ∷ v ∷ ws) = given-good (n ∷ v ∷ ws)
+bug_and_optional_version-good (n ∷ v ∷ []) =
+    and_read-good (read_bug n) _ IsGoodBug (λ both. IsGoodBug both.0 × IfGiven IsGoodVersion both.1) (read_bug-good n) (λ bug good.
+    and_read-good (read_version v) (λ version. Ok (bug, Some version)) IsGoodVersion (λ both. IsGoodBug both.0 × IfGiven IsGoodVersion both.1) (read_version-good v) (λ version fine. (good, fine)))
+bug_and_optional_version-good (n ∷ v ∷ w ∷ ws) = tt
 
 any_severity : (o : Option Severity) → IfSome o (λ _. ⊤)
 any_severity None = tt
@@ -128,22 +121,22 @@ any_severity (Some severity) = tt
 severity_command-good : (ws : List (List ℕ)) → IfOk (severity_command ws) IsWellFormed
 severity_command-good (n ∷ s ∷ []) =
     and_read-good (read_bug n) _ IsGoodBug IsWellFormed (read_bug-good n) (λ bug good.
-    or_refuse-good (severity_of s) BadSeverity (λ severity. Ok (commands.Severity bug severity)) (λ _. ⊤) IsWellFormed (any_severity (severity_of s)) (λ severity _.
-    record { bugs = (good, tt); parts = tt; texts = tt; others = tt }))
+    and_read-good (ok_or (severity_of s) BadSeverity) (λ severity. Ok (commands.Severity bug severity)) (λ _. ⊤) IsWellFormed (ok_or-good (severity_of s) BadSeverity (λ _. ⊤) (any_severity (severity_of s))) (λ severity _.
+    record { bugs = (good, tt); parts = tt; spellable = tt }))
 severity_command-good [] = tt
 severity_command-good (n ∷ []) = tt
 severity_command-good (n ∷ s ∷ w ∷ ws) = tt
 
-reassign_words-good : (n p : List ℕ) (v : Option (List ℕ)) → IfOk (reassign_words n p v) IsWellFormed
-reassign_words-good n p v =
+reassign_command-good : (ws : List (List ℕ)) → IfOk (reassign_command ws) IsWellFormed
+reassign_command-good (n ∷ p ∷ []) =
+    and_read-good (read_bug n) _ IsGoodBug IsWellFormed (read_bug-good n) (λ bug good.
+    and_read-good (read_package p) (λ name. Ok (commands.Reassign bug name None)) IsName IsWellFormed (read_package-good p) (λ name named.
+    record { bugs = (good, tt); parts = (named, tt); spellable = tt }))
+reassign_command-good (n ∷ p ∷ v ∷ []) =
     and_read-good (read_bug n) _ IsGoodBug IsWellFormed (read_bug-good n) (λ bug good.
     and_read-good (read_package p) _ IsName IsWellFormed (read_package-good p) (λ name named.
-    and_read-good (optional_version v) (λ version. Ok (commands.Reassign bug name version)) (IfGiven IsGoodVersion) IsWellFormed (optional_version-good v) (λ version fine.
-    record { bugs = (good, tt); parts = (named, fine); texts = tt; others = tt })))
-
-reassign_command-good : (ws : List (List ℕ)) → IfOk (reassign_command ws) IsWellFormed
-reassign_command-good (n ∷ p ∷ []) = reassign_words-good n p None
-reassign_command-good (n ∷ p ∷ v ∷ []) = reassign_words-good n p (Some v)
+    and_read-good (read_version v) (λ version. Ok (commands.Reassign bug name (Some version))) IsGoodVersion IsWellFormed (read_version-good v) (λ version fine.
+    record { bugs = (good, tt); parts = (named, fine); spellable = tt })))
 reassign_command-good [] = tt
 reassign_command-good (n ∷ []) = tt
 reassign_command-good (n ∷ p ∷ v ∷ w ∷ ws) = tt
@@ -195,10 +188,7 @@ bug_and_text-good arguments clean =
     let text = trimmed (after_word arguments) in
     let good : IsTextWithin text = λ least most. trimmed-text (after_word arguments) least most (clean_after_word arguments clean) in
     let of_bug : Named → Result (Named × List ℕ) Refusal = λ bug. Ok (bug, text) in
-    elim (words arguments) as (λ ws. IfOk {T = Named × List ℕ} (elim ws as (λ _. Result (Named × List ℕ) Refusal) [ [] ↦ Err Malformed | n ∷ more ↦ and_read (read_bug n) of_bug ]) (λ both. IsGoodBug both.0 × IsTextWithin both.1)) [
-      | [] ↦ tt
-      | n ∷ more ↦ and_read-good (read_bug n) of_bug IsGoodBug (λ both. IsGoodBug both.0 × IsTextWithin both.1) (read_bug-good n) (λ bug fine. (fine, good))
-    ]
+    and_read-good (read_bug (first_word arguments)) of_bug IsGoodBug (λ both. IsGoodBug both.0 × IsTextWithin both.1) (read_bug-good (first_word arguments)) (λ bug fine. (fine, good))
 
 -- a text, or somebody, who has to be given
 some_text-good : (text : List ℕ) → IsTextWithin text → IfOk (some_text text) IsText
@@ -238,27 +228,27 @@ bug_alone-good [] = tt
 bug_alone-good (n ∷ []) = read_bug-good n
 bug_alone-good (n ∷ m ∷ ws) = tt
 
-all_bugs-good : (ws : List (List ℕ)) → IfOk (all_bugs ws) (Each IsGoodBug)
+all_bugs-good : (ws : List (List ℕ)) → IfOk (each_word read_bug ws) (Each IsGoodBug)
 all_bugs-good [] = tt
 all_bugs-good (n ∷ ws) =
     and_read-good (read_bug n) _ IsGoodBug (Each IsGoodBug) (read_bug-good n) (λ bug good.
-    and_read-good (all_bugs ws) (λ bugs. Ok (bug ∷ bugs)) (Each IsGoodBug) (Each IsGoodBug) (all_bugs-good ws) (λ bugs fine. (good, fine)))
+    and_read-good (each_word read_bug ws) (λ bugs. Ok (bug ∷ bugs)) (Each IsGoodBug) (Each IsGoodBug) (all_bugs-good ws) (λ bugs fine. (good, fine)))
 
 -- two bugs or more
 abbrev AreOthers : List Named → Type 0
 AreOthers bugs = Each IsGoodBug bugs × (0 < length bugs)
 
-some_bugs-good : (n : List ℕ) (ws : List (List ℕ)) → IfOk (all_bugs (n ∷ ws)) AreOthers
+some_bugs-good : (n : List ℕ) (ws : List (List ℕ)) → IfOk (each_word read_bug (n ∷ ws)) AreOthers
 some_bugs-good n ws =
     and_read-good (read_bug n) _ IsGoodBug AreOthers (read_bug-good n) (λ bug good.
-    and_read-good (all_bugs ws) (λ bugs. Ok (bug ∷ bugs)) (Each IsGoodBug) AreOthers (all_bugs-good ws) (λ bugs fine. ((good, fine), omega arith)))
+    and_read-good (each_word read_bug ws) (λ bugs. Ok (bug ∷ bugs)) (Each IsGoodBug) AreOthers (all_bugs-good ws) (λ bugs fine. ((good, fine), omega arith)))
 
 bug_and_others-good : (ws : List (List ℕ)) → IfOk (bug_and_others ws) (λ both. IsGoodBug both.0 × AreOthers both.1)
 bug_and_others-good [] = tt
 bug_and_others-good (n ∷ []) = tt
 bug_and_others-good (n ∷ m ∷ ws) =
     and_read-good (read_bug n) _ IsGoodBug (λ both. IsGoodBug both.0 × AreOthers both.1) (read_bug-good n) (λ bug good.
-    and_read-good (all_bugs (m ∷ ws)) (λ others. Ok (bug, others)) AreOthers (λ both. IsGoodBug both.0 × AreOthers both.1) (some_bugs-good m ws) (λ others fine. (good, fine)))
+    and_read-good (each_word read_bug (m ∷ ws)) (λ others. Ok (bug, others)) AreOthers (λ both. IsGoodBug both.0 × AreOthers both.1) (some_bugs-good m ws) (λ others fine. (good, fine)))
 
 -- tags
 any_steps : (r : Result (List TagStep) Refusal) → IfOk r (λ _. ⊤)
@@ -269,50 +259,46 @@ tags_command-good : (arguments : List ℕ) → IfOk (tags_command arguments) IsW
 tags_command-good arguments =
     let steps = some_steps (words_with_commas (after_word arguments)) in
     let of_bug : Named → Result (Command Named) Refusal = λ bug. and_read steps (λ read. Ok (commands.Tags bug read)) in
-    elim (words arguments) as (λ ws. IfOk {T = Command Named} (elim ws as (λ _. Result (Command Named) Refusal) [ [] ↦ Err Malformed | n ∷ more ↦ and_read (read_bug n) of_bug ]) IsWellFormed) [
-      | [] ↦ tt
-      | n ∷ more ↦
-          and_read-good (read_bug n) of_bug IsGoodBug IsWellFormed (read_bug-good n) (λ bug good.
-          and_read-good steps (λ read. Ok (commands.Tags bug read)) (λ _. ⊤) IsWellFormed (any_steps steps) (λ read _. record { bugs = (good, tt); parts = tt; texts = tt; others = tt }))
-    ]
+    and_read-good (read_bug (first_word arguments)) of_bug IsGoodBug IsWellFormed (read_bug-good (first_word arguments)) (λ bug good.
+    and_read-good steps (λ read. Ok (commands.Tags bug read)) (λ _. ⊤) IsWellFormed (any_steps steps) (λ read _. record { bugs = (good, tt); parts = tt; spellable = tt }))
 
 reopen_command-good : (arguments : List ℕ) → list_any is_control arguments ≡ false → IfOk (reopen_command arguments) IsWellFormed
 reopen_command-good arguments clean =
     and_read-good (bug_and_text arguments) _ (λ both. IsGoodBug both.0 × IsTextWithin both.1) IsWellFormed (bug_and_text-good arguments clean) (λ both good.
     and_read-good (optional_who both.1) (λ who. Ok (commands.Reopen both.0 who)) IsGoodWho IsWellFormed (optional_who-good both.1 good.1) (λ who fine.
-    record { bugs = (good.0, tt); parts = fine.0; texts = fine.1; others = tt }))
+    record { bugs = (good.0, tt); parts = fine.0; spellable = fine.1 }))
 
 pub command_of-good : (word : CommandWord) (arguments : List ℕ) → list_any is_control arguments ≡ false → IfOk (command_of word arguments) IsWellFormed
 command_of-good command_words.Found arguments clean =
-    and_read-good (bug_and_optional_version (words arguments)) (λ both. Ok (commands.Found both.0 both.1)) _ IsWellFormed (bug_and_optional_version-good (words arguments)) (λ both good. record { bugs = (good.0, tt); parts = good.1; texts = tt; others = tt })
+    and_read-good (bug_and_optional_version (words arguments)) (λ both. Ok (commands.Found both.0 both.1)) _ IsWellFormed (bug_and_optional_version-good (words arguments)) (λ both good. record { bugs = (good.0, tt); parts = good.1; spellable = tt })
 command_of-good command_words.NotFound arguments clean =
-    and_read-good (bug_and_version (words arguments)) (λ both. Ok (commands.NotFound both.0 both.1)) _ IsWellFormed (bug_and_version-good (words arguments)) (λ both good. record { bugs = (good.0, tt); parts = good.1; texts = tt; others = tt })
+    and_read-good (bug_and_version (words arguments)) (λ both. Ok (commands.NotFound both.0 both.1)) _ IsWellFormed (bug_and_version-good (words arguments)) (λ both good. record { bugs = (good.0, tt); parts = good.1; spellable = tt })
 command_of-good command_words.Fixed arguments clean =
-    and_read-good (bug_and_version (words arguments)) (λ both. Ok (commands.Fixed both.0 both.1)) _ IsWellFormed (bug_and_version-good (words arguments)) (λ both good. record { bugs = (good.0, tt); parts = good.1; texts = tt; others = tt })
+    and_read-good (bug_and_version (words arguments)) (λ both. Ok (commands.Fixed both.0 both.1)) _ IsWellFormed (bug_and_version-good (words arguments)) (λ both good. record { bugs = (good.0, tt); parts = good.1; spellable = tt })
 command_of-good command_words.NotFixed arguments clean =
-    and_read-good (bug_and_version (words arguments)) (λ both. Ok (commands.NotFixed both.0 both.1)) _ IsWellFormed (bug_and_version-good (words arguments)) (λ both good. record { bugs = (good.0, tt); parts = good.1; texts = tt; others = tt })
+    and_read-good (bug_and_version (words arguments)) (λ both. Ok (commands.NotFixed both.0 both.1)) _ IsWellFormed (bug_and_version-good (words arguments)) (λ both good. record { bugs = (good.0, tt); parts = good.1; spellable = tt })
 command_of-good command_words.Close arguments clean =
-    and_read-good (bug_and_optional_version (words arguments)) (λ both. Ok (commands.Close both.0 both.1)) _ IsWellFormed (bug_and_optional_version-good (words arguments)) (λ both good. record { bugs = (good.0, tt); parts = good.1; texts = tt; others = tt })
+    and_read-good (bug_and_optional_version (words arguments)) (λ both. Ok (commands.Close both.0 both.1)) _ IsWellFormed (bug_and_optional_version-good (words arguments)) (λ both good. record { bugs = (good.0, tt); parts = good.1; spellable = tt })
 command_of-good command_words.Reopen arguments clean = reopen_command-good arguments clean
 command_of-good command_words.Severity arguments clean = severity_command-good (words arguments)
 command_of-good command_words.Reassign arguments clean = reassign_command-good (words arguments)
 command_of-good command_words.Tags arguments clean = tags_command-good arguments
 command_of-good command_words.Tag arguments clean = tags_command-good arguments
 command_of-good command_words.Retitle arguments clean =
-    and_read-good (bug_and_some_text arguments) (λ both. Ok (commands.Retitle both.0 both.1)) _ IsWellFormed (bug_and_some_text-good arguments clean) (λ both good. record { bugs = (good.0, tt); parts = good.1; texts = tt; others = tt })
+    and_read-good (bug_and_some_text arguments) (λ both. Ok (commands.Retitle both.0 both.1)) _ IsWellFormed (bug_and_some_text-good arguments clean) (λ both good. record { bugs = (good.0, tt); parts = good.1; spellable = tt })
 command_of-good command_words.Submitter arguments clean =
-    and_read-good (bug_and_some_who arguments) (λ both. Ok (commands.Submitter both.0 both.1)) _ IsWellFormed (bug_and_some_who-good arguments clean) (λ both good. record { bugs = (good.0, tt); parts = good.1.0; texts = good.1.1; others = tt })
+    and_read-good (bug_and_some_who arguments) (λ both. Ok (commands.Submitter both.0 both.1)) _ IsWellFormed (bug_and_some_who-good arguments clean) (λ both good. record { bugs = (good.0, tt); parts = good.1.0; spellable = good.1.1 })
 command_of-good command_words.Merge arguments clean =
-    and_read-good (bug_and_others (words arguments)) (λ both. Ok (commands.Merge both.0 both.1)) _ IsWellFormed (bug_and_others-good (words arguments)) (λ both good. record { bugs = (good.0, good.1.0); parts = tt; texts = tt; others = good.1.1 })
+    and_read-good (bug_and_others (words arguments)) (λ both. Ok (commands.Merge both.0 both.1)) _ IsWellFormed (bug_and_others-good (words arguments)) (λ both good. record { bugs = (good.0, good.1.0); parts = tt; spellable = good.1.1 })
 command_of-good command_words.ForceMerge arguments clean =
-    and_read-good (bug_and_others (words arguments)) (λ both. Ok (commands.ForceMerge both.0 both.1)) _ IsWellFormed (bug_and_others-good (words arguments)) (λ both good. record { bugs = (good.0, good.1.0); parts = tt; texts = tt; others = good.1.1 })
+    and_read-good (bug_and_others (words arguments)) (λ both. Ok (commands.ForceMerge both.0 both.1)) _ IsWellFormed (bug_and_others-good (words arguments)) (λ both good. record { bugs = (good.0, good.1.0); parts = tt; spellable = good.1.1 })
 command_of-good command_words.Unmerge arguments clean =
-    and_read-good (bug_alone (words arguments)) (λ bug. Ok (commands.Unmerge bug)) IsGoodBug IsWellFormed (bug_alone-good (words arguments)) (λ bug good. record { bugs = (good, tt); parts = tt; texts = tt; others = tt })
+    and_read-good (bug_alone (words arguments)) (λ bug. Ok (commands.Unmerge bug)) IsGoodBug IsWellFormed (bug_alone-good (words arguments)) (λ bug good. record { bugs = (good, tt); parts = tt; spellable = tt })
 command_of-good command_words.Forwarded arguments clean =
-    and_read-good (bug_and_some_text arguments) (λ both. Ok (commands.Forwarded both.0 both.1)) _ IsWellFormed (bug_and_some_text-good arguments clean) (λ both good. record { bugs = (good.0, tt); parts = good.1; texts = tt; others = tt })
+    and_read-good (bug_and_some_text arguments) (λ both. Ok (commands.Forwarded both.0 both.1)) _ IsWellFormed (bug_and_some_text-good arguments clean) (λ both good. record { bugs = (good.0, tt); parts = good.1; spellable = tt })
 command_of-good command_words.NotForwarded arguments clean =
-    and_read-good (bug_alone (words arguments)) (λ bug. Ok (commands.NotForwarded bug)) IsGoodBug IsWellFormed (bug_alone-good (words arguments)) (λ bug good. record { bugs = (good, tt); parts = tt; texts = tt; others = tt })
+    and_read-good (bug_alone (words arguments)) (λ bug. Ok (commands.NotForwarded bug)) IsGoodBug IsWellFormed (bug_alone-good (words arguments)) (λ bug good. record { bugs = (good, tt); parts = tt; spellable = tt })
 command_of-good command_words.Owner arguments clean =
-    and_read-good (bug_and_some_who arguments) (λ both. Ok (commands.Owner both.0 both.1)) _ IsWellFormed (bug_and_some_who-good arguments clean) (λ both good. record { bugs = (good.0, tt); parts = good.1.0; texts = good.1.1; others = tt })
+    and_read-good (bug_and_some_who arguments) (λ both. Ok (commands.Owner both.0 both.1)) _ IsWellFormed (bug_and_some_who-good arguments clean) (λ both good. record { bugs = (good.0, tt); parts = good.1.0; spellable = good.1.1 })
 command_of-good command_words.NoOwner arguments clean =
-    and_read-good (bug_alone (words arguments)) (λ bug. Ok (commands.NoOwner bug)) IsGoodBug IsWellFormed (bug_alone-good (words arguments)) (λ bug good. record { bugs = (good, tt); parts = tt; texts = tt; others = tt })
+    and_read-good (bug_alone (words arguments)) (λ bug. Ok (commands.NoOwner bug)) IsGoodBug IsWellFormed (bug_alone-good (words arguments)) (λ bug good. record { bugs = (good, tt); parts = tt; spellable = tt })

@@ -1,52 +1,50 @@
 -- What refuses a line.
-use Rattle.std.proofs.Common.{ℕ, List, [], ◌∷◌, length, ◌==◌, nat_lt, Bool, true, Option, Result, Some, None, Ok, Err, codes}
+use Rattle.std.proofs.Common.{ℕ, List, [], ◌∷◌, length, nat_lt, Bool, true, Option, Result, Some, None, Ok, Err, codes}
 use Rattle.std.specs.Prelude.{IfErr, if◌then◌else◌}
 use Rattle.std.specs.List.{list_any}
 use Rattle.std.specs.Str.{bytes_eq}
 use Rattle.std.proofs.lemmas.Bool.{cond_both}
 use Rattle.line_words.specs.Blanks.{is_control}
 use Rattle.line_words.specs.Bugs.{bug_of_word}
-use Rattle.line_words.specs.Words.{words, words_with_commas, trimmed, after_word}
+use Rattle.line_words.specs.Words.{first_word, words, words_with_commas, trimmed, after_word}
 use Rattle.line_words.specs.declared.named.Named.{Named}
+use Rattle.std.specs.Option.{ok_or}
 use Rattle.bug_record.specs.Severities.{severity_of}
 use Rattle.bug_record.specs.Tags.{tag_of}
 use Rattle.bug_record.specs.declared.command.Command.{Command}
 use Rattle.bug_record.specs.declared.command.Command.TheVariants as commands
 use Rattle.bug_record.specs.declared.command.Refusal.{Refusal}
 use Rattle.bug_record.specs.declared.command.Refusal.TheVariants.{Unknown, Malformed, TooLong, BadSeverity, BadTag, BadVersion, BadPackage}
-use Rattle.bug_record.specs.declared.command.TagStep.{TagStep}
-use Rattle.bug_record.specs.declared.command.VersionArg.{VersionArg}
-use Rattle.bug_record.specs.declared.command.Who.{Who}
 use Rattle.bug_record.specs.declared.command.Who.TheVariants.{Sender, Given}
 use Rattle.command_grammar.specs.declared.command_word.CommandWord.{CommandWord}
 use Rattle.command_grammar.specs.declared.command_word.CommandWord.TheVariants as command_words
 use Rattle.command_grammar.specs.CommandWords.{command_word}
 use Rattle.command_grammar.specs.Versions.{version_of_word, package_of_word}
-use Rattle.command_grammar.specs.Commands.{or_refuse, and_read, read_bug, read_version, read_package, bug_alone, bug_and_version, bug_and_optional_version, severity_command, optional_version, reassign_words, reassign_command, limited_text, who_of_text, some_text, some_who, optional_who, bug_and_text, bug_and_some_text, bug_and_some_who, each_word, bug_and_others, sign_and_tag, adds_after, tag_step, tag_steps, word_steps, all_steps, some_steps, tags_command, reopen_command, command_of}
+use Rattle.command_grammar.specs.Commands.{and_read, read_bug, read_version, read_package, bug_alone, bug_and_version, bug_and_optional_version, severity_command, reassign_command, limited_text, who_of_text, some_text, some_who, optional_who, bug_and_text, bug_and_some_text, bug_and_some_who, each_word, bug_and_others, sign_and_tag, adds_after, tag_step, tag_steps, word_steps, all_steps, some_steps, tags_command, reopen_command, command_of}
 use Rattle.control_text.specs.declared.line.Line.{Line}
-use Rattle.control_text.specs.declared.line.Line.TheVariants.{Blank, Comment, Stop, Do}
-use Rattle.control_text.specs.Lines.{begins_hash, is_stop_line, line_of_command, command_reading, reading_of_words, reading, IsRefusalOfLine}
+use Rattle.control_text.specs.declared.line.Line.TheVariants.{Comment, Stop, Do}
+use Rattle.control_text.specs.Lines.{begins_hash, is_stop_line, command_reading, reading_of_words, reading, IsRefusalOfLine}
 
 -- what is read, or a refusal of a line
 abbrev IsOfLine : {A : Type 0} → Result A Refusal → Type 0
 IsOfLine r = IfErr r IsRefusalOfLine
 
-or_refuse-of : {A B : Type 0} (o : Option A) (refusal : Refusal) (f : A → Result B Refusal) → IsRefusalOfLine refusal → ((x : A) → IsOfLine (f x)) → IsOfLine (or_refuse o refusal f)
-or_refuse-of None refusal f h each = h
-or_refuse-of (Some x) refusal f h each = each x
+ok_or-of : {A : Type 0} (o : Option A) (refusal : Refusal) → IsRefusalOfLine refusal → IsOfLine (ok_or o refusal)
+ok_or-of None refusal h = h
+ok_or-of (Some x) refusal h = tt
 
 and_read-of : {A B : Type 0} (r : Result A Refusal) (f : A → Result B Refusal) → IsOfLine r → ((x : A) → IsOfLine (f x)) → IsOfLine (and_read r f)
 and_read-of (Err refusal) f h each = h
 and_read-of (Ok x) f h each = each x
 
 read_bug-of : (word : List ℕ) → IsOfLine (read_bug word)
-read_bug-of word = or_refuse-of (bug_of_word word) Malformed (λ bug. Ok bug) tt (λ bug. tt)
+read_bug-of word = ok_or-of (bug_of_word word) Malformed tt
 
 read_version-of : (word : List ℕ) → IsOfLine (read_version word)
-read_version-of word = or_refuse-of (version_of_word word) BadVersion (λ version. Ok version) tt (λ version. tt)
+read_version-of word = ok_or-of (version_of_word word) BadVersion tt
 
 read_package-of : (word : List ℕ) → IsOfLine (read_package word)
-read_package-of word = or_refuse-of (package_of_word word) BadPackage (λ name. Ok name) tt (λ name. tt)
+read_package-of word = ok_or-of (package_of_word word) BadPackage tt
 
 bug_alone-of : (ws : List (List ℕ)) → IsOfLine (bug_alone ws)
 bug_alone-of [] = tt
@@ -59,35 +57,27 @@ bug_and_version-of (n ∷ []) = tt
 bug_and_version-of (n ∷ v ∷ []) = and_read-of (read_bug n) _ (read_bug-of n) (λ bug. and_read-of (read_version v) (λ version. Ok (bug, version)) (read_version-of v) (λ version. tt))
 bug_and_version-of (n ∷ v ∷ w ∷ ws) = tt
 
-abbrev given : Named × VersionArg → Result (Named × Option VersionArg) Refusal
-given both = Ok (both.0, Some both.1)
-
 bug_and_optional_version-of : (ws : List (List ℕ)) → IsOfLine (bug_and_optional_version ws)
 bug_and_optional_version-of [] = tt
 bug_and_optional_version-of (n ∷ []) = and_read-of (read_bug n) (λ bug. Ok (bug, None)) (read_bug-of n) (λ bug. tt)
-bug_and_optional_version-of (n ∷ v ∷ ws) = and_read-of (bug_and_version (n ∷ v ∷ ws)) given (bug_and_version-of (n ∷ v ∷ ws)) (λ both. tt)
+bug_and_optional_version-of (n ∷ v ∷ []) = and_read-of (read_bug n) _ (read_bug-of n) (λ bug. and_read-of (read_version v) (λ version. Ok (bug, Some version)) (read_version-of v) (λ version. tt))
+bug_and_optional_version-of (n ∷ v ∷ w ∷ ws) = tt
 
 severity_command-of : (ws : List (List ℕ)) → IsOfLine (severity_command ws)
 severity_command-of [] = tt
 severity_command-of (n ∷ []) = tt
 severity_command-of (n ∷ s ∷ []) =
-    and_read-of (read_bug n) _ (read_bug-of n) (λ bug. or_refuse-of (severity_of s) BadSeverity (λ severity. Ok (commands.Severity bug severity)) tt (λ severity. tt))
+    and_read-of (read_bug n) _ (read_bug-of n) (λ bug. and_read-of (ok_or (severity_of s) BadSeverity) (λ severity. Ok (commands.Severity bug severity)) (ok_or-of (severity_of s) BadSeverity tt) (λ severity. tt))
 severity_command-of (n ∷ s ∷ w ∷ ws) = tt
-
-optional_version-of : (o : Option (List ℕ)) → IsOfLine (optional_version o)
-optional_version-of None = tt
-optional_version-of (Some word) = and_read-of (read_version word) (λ version. Ok (Some version)) (read_version-of word) (λ version. tt)
-
-reassign_words-of : (n p : List ℕ) (v : Option (List ℕ)) → IsOfLine (reassign_words n p v)
-reassign_words-of n p v =
-    and_read-of (read_bug n) _ (read_bug-of n) (λ bug. and_read-of (read_package p) _ (read_package-of p) (λ name.
-    and_read-of (optional_version v) (λ version. Ok (commands.Reassign bug name version)) (optional_version-of v) (λ version. tt)))
 
 reassign_command-of : (ws : List (List ℕ)) → IsOfLine (reassign_command ws)
 reassign_command-of [] = tt
 reassign_command-of (n ∷ []) = tt
-reassign_command-of (n ∷ p ∷ []) = reassign_words-of n p None
-reassign_command-of (n ∷ p ∷ v ∷ []) = reassign_words-of n p (Some v)
+reassign_command-of (n ∷ p ∷ []) =
+    and_read-of (read_bug n) _ (read_bug-of n) (λ bug. and_read-of (read_package p) (λ name. Ok (commands.Reassign bug name None)) (read_package-of p) (λ name. tt))
+reassign_command-of (n ∷ p ∷ v ∷ []) =
+    and_read-of (read_bug n) _ (read_bug-of n) (λ bug. and_read-of (read_package p) _ (read_package-of p) (λ name.
+    and_read-of (read_version v) (λ version. Ok (commands.Reassign bug name (Some version))) (read_version-of v) (λ version. tt)))
 reassign_command-of (n ∷ p ∷ v ∷ w ∷ ws) = tt
 
 limited_text-of : (text : List ℕ) → IsOfLine (limited_text text)
@@ -116,10 +106,7 @@ bug_and_text-of : (arguments : List ℕ) → IsOfLine (bug_and_text arguments)
 bug_and_text-of arguments =
     let text = trimmed (after_word arguments) in
     let of_bug : Named → Result (Named × List ℕ) Refusal = λ bug. Ok (bug, text) in
-    elim (words arguments) as (λ ws. IsOfLine {A = Named × List ℕ} (elim ws as (λ _. Result (Named × List ℕ) Refusal) [ [] ↦ Err Malformed | n ∷ more ↦ and_read (read_bug n) of_bug ])) [
-      | [] ↦ tt
-      | n ∷ more ↦ and_read-of (read_bug n) of_bug (read_bug-of n) (λ bug. tt)
-    ]
+    and_read-of (read_bug (first_word arguments)) of_bug (read_bug-of (first_word arguments)) (λ bug. tt)
 
 bug_and_some_text-of : (arguments : List ℕ) → IsOfLine (bug_and_some_text arguments)
 bug_and_some_text-of arguments =
@@ -147,7 +134,7 @@ bug_and_others-of (n ∷ m ∷ ws) =
 
 tag_steps-of : (adds : Bool) (word : List ℕ) → IsOfLine (tag_steps adds word)
 tag_steps-of adds [] = tt
-tag_steps-of adds (c ∷ word) = or_refuse-of (tag_of (c ∷ word)) BadTag (λ tag. Ok (tag_step adds tag ∷ [])) tt (λ tag. tt)
+tag_steps-of adds (c ∷ word) = and_read-of (ok_or (tag_of (c ∷ word)) BadTag) (λ tag. Ok (tag_step adds tag ∷ [])) (ok_or-of (tag_of (c ∷ word)) BadTag tt) (λ tag. tt)
 
 all_steps-of : (adds : Bool) (ws : List (List ℕ)) → IsOfLine (all_steps adds ws)
 all_steps-of adds [] = tt
@@ -164,10 +151,7 @@ tags_command-of : (arguments : List ℕ) → IsOfLine (tags_command arguments)
 tags_command-of arguments =
     let tags = words_with_commas (after_word arguments) in
     let of_bug : Named → Result (Command Named) Refusal = λ bug. and_read (some_steps tags) (λ read. Ok (commands.Tags bug read)) in
-    elim (words arguments) as (λ ws. IsOfLine {A = Command Named} (elim ws as (λ _. Result (Command Named) Refusal) [ [] ↦ Err Malformed | n ∷ more ↦ and_read (read_bug n) of_bug ])) [
-      | [] ↦ tt
-      | n ∷ more ↦ and_read-of (read_bug n) of_bug (read_bug-of n) (λ bug. and_read-of (some_steps tags) (λ read. Ok (commands.Tags bug read)) (some_steps-of tags) (λ read. tt))
-    ]
+    and_read-of (read_bug (first_word arguments)) of_bug (read_bug-of (first_word arguments)) (λ bug. and_read-of (some_steps tags) (λ read. Ok (commands.Tags bug read)) (some_steps-of tags) (λ read. tt))
 
 command_of-of : (word : CommandWord) (arguments : List ℕ) → IsOfLine (command_of word arguments)
 command_of-of command_words.Found arguments = and_read-of (bug_and_optional_version (words arguments)) _ (bug_and_optional_version-of (words arguments)) (λ both. tt)
@@ -190,22 +174,21 @@ command_of-of command_words.NotForwarded arguments = and_read-of (bug_alone (wor
 command_of-of command_words.Owner arguments = and_read-of (bug_and_some_who arguments) _ (bug_and_some_who-of arguments) (λ both. tt)
 command_of-of command_words.NoOwner arguments = and_read-of (bug_alone (words arguments)) _ (bug_alone-of (words arguments)) (λ bug. tt)
 
-line_of_command-of : (r : Result (Command Named) Refusal) → IsOfLine r → IsOfLine (line_of_command r)
-line_of_command-of (Ok command) h = tt
-line_of_command-of (Err refusal) h = h
+abbrev as_line : Command Named → Result Line Refusal
+as_line meant = Ok (Do meant)
 
-command_reading-of : (command : Option CommandWord) (text : List ℕ) → IsOfLine (command_reading command text)
-command_reading-of None text = tt
-command_reading-of (Some command) text =
-    cond_both (list_any is_control text) (Err Malformed) (line_of_command (command_of command (after_word text))) (λ r. IsOfLine r)
-    (λ e. tt) (λ e. line_of_command-of (command_of command (after_word text)) (command_of-of command (after_word text)))
+command_reading-of : (command : CommandWord) (text : List ℕ) → IsOfLine (command_reading command text)
+command_reading-of command text =
+    cond_both (list_any is_control text) (Err Malformed) (and_read (command_of command (after_word text)) as_line) (λ r. IsOfLine r)
+    (λ e. tt) (λ e. and_read-of (command_of command (after_word text)) as_line (command_of-of command (after_word text)) (λ meant. tt))
 
 reading_of_words-of : (text : List ℕ) (ws : List (List ℕ)) → IsOfLine (reading_of_words text ws)
 reading_of_words-of text [] = tt
 reading_of_words-of text (word ∷ ws) =
-    let command = command_reading (command_word word) text in
+    let reads : CommandWord → Result Line Refusal = λ command. command_reading command text in
+    let command = and_read (ok_or (command_word word) Unknown) reads in
     cond_both (begins_hash word) (Ok Comment) (if is_stop_line (word ∷ ws) then Ok Stop else command) (λ r. IsOfLine r) (λ e. tt)
-    (λ e. cond_both (is_stop_line (word ∷ ws)) (Ok Stop) command (λ r. IsOfLine r) (λ f. tt) (λ f. command_reading-of (command_word word) text))
+    (λ e. cond_both (is_stop_line (word ∷ ws)) (Ok Stop) command (λ r. IsOfLine r) (λ f. tt) (λ f. and_read-of (ok_or (command_word word) Unknown) reads (ok_or-of (command_word word) Unknown tt) (λ found. command_reading-of found text)))
 
 pub reading-of : (text : List ℕ) → IfErr (reading text) IsRefusalOfLine
 unfolding reading

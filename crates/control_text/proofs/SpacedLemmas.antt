@@ -1,6 +1,7 @@
 -- Lines of a command's word and words after spaces.
-use Rattle.std.proofs.Common.{◌≡◌, ℕ, ◌+◌, Bool, true, false, not, cond, List, [], ◌∷◌, ◌++◌, length, drop, Some, Result, Ok, Err, codes, refl, ap, sym, ◌∙◌, subst, append-nil, append_assoc, arith}
+use Rattle.std.proofs.Common.{◌≡◌, ℕ, ◌+◌, Bool, true, false, not, cond, List, [], ◌∷◌, ◌++◌, length, drop, Option, Some, Result, Ok, Err, codes, refl, ap, sym, ◌∙◌, subst, append-nil, arith}
 use Rattle.std.specs.Prelude.{IfOk, String, string_bytes, ⊤}
+use Rattle.std.specs.Option.{ok_or}
 use Rattle.std.specs.List.{list_any, position_or_len}
 use Rattle.std.proofs.lemmas.Bool.{cond-true, cond-false, or_parts, and_left, or_from, not_from_true, not_from_false, false≢true}
 use Rattle.std.proofs.lemmas.List.Folds.{list_any-append}
@@ -8,16 +9,18 @@ use Rattle.std.proofs.Math.Seq.{drop-append_seam}
 use Rattle.line_words.specs.Blanks.{is_blank, is_control, begins_blank}
 use Rattle.line_words.specs.AnyCase.{is_word}
 use Rattle.bug_record.specs.declared.command.Command.{Command}
-use Rattle.bug_record.specs.declared.command.Refusal.TheVariants.{Malformed}
+use Rattle.bug_record.specs.declared.command.Refusal.{Refusal}
+use Rattle.bug_record.specs.declared.command.Refusal.TheVariants.{Unknown, Malformed}
 use Rattle.line_words.specs.declared.named.Named.{Named}
 use Rattle.command_grammar.specs.declared.command_word.CommandWord.{CommandWord}
+use Rattle.control_text.specs.declared.line.Line.{Line}
 use Rattle.control_text.specs.declared.line.Line.TheVariants.{Comment, Stop, Do}
-use Rattle.line_words.specs.Words.{has_bytes, words, EndsWord, trimmed, after_word, without_last_blanks}
+use Rattle.line_words.specs.Words.{has_bytes, words, EndsWord, trimmed, first_word, after_word, without_last_blanks}
 use Rattle.command_grammar.specs.CommandWords.{command_word}
-use Rattle.command_grammar.specs.Commands.{command_of}
-use Rattle.control_text.specs.Lines.{begins_hash, is_stop_word, is_stop_line, line_of_command, command_reading, reading_of_words, reading}
-use Rattle.control_text.specs.Spelling.{after_spaces}
-use Rattle.line_words.proofs.WordLemmas.{words-nil, words-separator, words-word, without_first-separator}
+use Rattle.command_grammar.specs.Commands.{and_read, command_of}
+use Rattle.control_text.specs.Lines.{begins_hash, is_stop_word, is_stop_line, command_reading, reading_of_words, reading}
+use Rattle.control_text.specs.Spelling.{joined_by_blanks}
+use Rattle.line_words.proofs.WordLemmas.{words-nil, words-separator, words-word, without_first-separator, words-first, words-none}
 use Rattle.control_text.proofs.TextLemmas.{unblanked_first}
 use Rattle.control_text.proofs.PlainWords.{IsPlainWord, graphic-blank, graphic-control}
 
@@ -41,6 +44,14 @@ after_word-is w rest some whole ends =
     ap (λ t. drop (position_or_len is_blank t) t) (unblanked_first (w ++ rest) (begins_word w rest some whole))
     ∙ ap (λ n. drop n (w ++ rest)) (position-is is_blank w rest whole ends)
     ∙ drop-append_seam w rest
+
+-- the first word of a text is the first of its words
+pub first_word-is : (s n : List ℕ) (more : List (List ℕ)) → words s ≡ n ∷ more → first_word s ≡ n
+first_word-is s n more e = by_bytes (has_bytes (first_word s)) refl
+  where
+    by_bytes : (some : Bool) → has_bytes (first_word s) ≡ some → first_word s ≡ n
+    by_bytes true h = let first = words-first is_blank s (first_word s) (after_word s) refl refl h in cc (first, e)
+    by_bytes false h = let none = words-none is_blank s (first_word s) refl h in absurd (cc (none, e))
 
 pub after_word-space : (s : List ℕ) → after_word (32 ∷ s) ≡ after_word s
 after_word-space s = ap (λ t. drop (position_or_len is_blank t) t) (without_first-separator is_blank 32 s refl)
@@ -67,14 +78,30 @@ pub reading-command : (command : CommandWord) (w rest : List ℕ) (c : Command N
 unfolding reading
 reading-command command w rest c h ends clean is =
     let text = w ++ rest in
+    let as_line : Result (Command Named) Refusal → Result Line Refusal = λ r. and_read r (λ meant. Ok (Do meant)) in
+    let of_word : Option CommandWord → Result Line Refusal = λ o. and_read (ok_or o Unknown) (λ found. command_reading found text) in
     let all : list_any is_control text ≡ false = list_any-append is_control w rest ∙ or_from (list_any is_control w) (list_any is_control rest) h.clean clean in
     ap (reading_of_words text) (words-word is_blank w rest h.some h.whole ends)
-    ∙ cond-false (begins_hash w) (Ok Comment) (cond (is_stop_line (w ∷ words rest)) (Ok Stop) (command_reading (command_word w) text)) h.hash
-    ∙ cond-false (is_stop_line (w ∷ words rest)) (Ok Stop) (command_reading (command_word w) text) (no_stop w (words rest) h.stop h.thank)
-    ∙ ap (λ o. command_reading o text) h.is
-    ∙ cond-false (list_any is_control text) (Err Malformed) (line_of_command (command_of command (after_word text))) all
-    ∙ ap (λ s. line_of_command (command_of command s)) (after_word-is w rest h.some h.whole ends)
-    ∙ ap line_of_command is
+    ∙ cond-false (begins_hash w) (Ok Comment) (cond (is_stop_line (w ∷ words rest)) (Ok Stop) (of_word (command_word w))) h.hash
+    ∙ cond-false (is_stop_line (w ∷ words rest)) (Ok Stop) (of_word (command_word w)) (no_stop w (words rest) h.stop h.thank)
+    ∙ ap of_word h.is
+    ∙ cond-false (list_any is_control text) (Err Malformed) (as_line (command_of command (after_word text))) all
+    ∙ ap (λ s. as_line (command_of command s)) (after_word-is w rest h.some h.whole ends)
+    ∙ ap as_line is
+
+-- each word after a space
+abbrev pub after_spaces : List (List ℕ) → List ℕ
+after_spaces [] = []
+after_spaces (word ∷ more) = 32 ∷ (word ++ after_spaces more)
+
+pub joined_spaces : (word : List ℕ) (more : List (List ℕ)) → joined_by_blanks (word ∷ more) ≡ word ++ after_spaces more
+joined_spaces word [] = sym (append-nil word)
+joined_spaces word (next ∷ more) = ap (λ s. word ++ 32 ∷ s) (joined_spaces next more)
+
+-- what is written word by word, once no word is left
+pub joined_last : (line word : List ℕ) (more rest : List (List ℕ)) → line ++ after_spaces rest ≡ word ++ after_spaces more → rest ≡ [] → line ≡ joined_by_blanks (word ∷ more)
+joined_last line word more rest h none =
+    sym (append-nil line) ∙ ap (λ ws. line ++ after_spaces ws) (sym none) ∙ h ∙ sym (joined_spaces word more)
 
 -- words after spaces
 abbrev pub ArePlain : List (List ℕ) → Type 0
@@ -109,17 +136,6 @@ clean-spaces (w ∷ ws) h = list_any-append is_control w (after_spaces ws) ∙ o
 pub plain_clean : (ws : List (List ℕ)) → ArePlain ws → AreClean ws
 plain_clean [] h = tt
 plain_clean (w ∷ ws) h = let first = h.0 in (graphic-control w first.graphic, plain_clean ws h.1)
-
--- one more word
-after_spaces-more : (words : List (List ℕ)) (word : List ℕ) → after_spaces words ++ 32 ∷ word ≡ after_spaces (words ++ word ∷ [])
-after_spaces-more [] word = ap (λ s. 32 ∷ s) (sym (append-nil word))
-after_spaces-more (first ∷ words) word = ap (λ s. 32 ∷ s) (append_assoc first (after_spaces words) (32 ∷ word) ∙ ap (λ s. first ++ s) (after_spaces-more words word))
-
-pub spaced-more : (begun : List ℕ) (words : List (List ℕ)) (word : List ℕ) → (begun ++ after_spaces words) ++ 32 ∷ word ≡ begun ++ after_spaces (words ++ word ∷ [])
-spaced-more begun words word = append_assoc begun (after_spaces words) (32 ∷ word) ∙ ap (λ s. begun ++ s) (after_spaces-more words word)
-
-pub spaced-one : (begun word : List ℕ) → begun ++ 32 ∷ word ≡ begun ++ after_spaces (word ∷ [])
-spaced-one begun word = ap (λ s. begun ++ 32 ∷ s) (sym (append-nil word))
 
 -- what is written is equal to what was to be written
 pub written_as : {X E : Type 0} (r : Result (String X) E) (s t : List ℕ) → s ≡ t → IfOk r (λ w. string_bytes w ≡ s) → IfOk r (λ w. string_bytes w ≡ t)

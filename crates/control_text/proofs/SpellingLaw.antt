@@ -1,6 +1,7 @@
 -- Each command's spelling is read as it.
-use Rattle.std.proofs.Common.{◌≡◌, ℕ, ◌<◌, List, [], ◌∷◌, ◌++◌, length, map, Option, Some, None, Result, Ok, codes, refl, ap, sym, ◌∙◌, append-nil}
+use Rattle.std.proofs.Common.{◌≡◌, ℕ, ◌<◌, List, [], ◌∷◌, ◌++◌, length, map, Option, Some, None, Result, Ok, codes, refl, ap, ◌∙◌, append-nil}
 use Rattle.debver.specs.Names.{IsName}
+use Rattle.std.specs.Option.{ok_or}
 use Rattle.bug_record.specs.Sets.{Each}
 use Rattle.bug_record.specs.Texts.{IsText, IfGiven}
 use Rattle.bug_record.specs.Severities.{severity_name, severity_of}
@@ -18,13 +19,13 @@ use Rattle.command_grammar.specs.declared.command_word.CommandWord.TheVariants a
 use Rattle.control_text.specs.declared.line.Line.TheVariants.{Do}
 use Rattle.line_words.specs.Bugs.{IsGoodBug}
 use Rattle.line_words.specs.Words.{words, trimmed, after_word}
-use Rattle.command_grammar.specs.Commands.{or_refuse, and_read, read_version, read_package, optional_version, bug_alone, bug_and_version, bug_and_optional_version, severity_command, reassign_command, optional_who, bug_and_some_text, bug_and_some_who, bug_and_others, reopen_command, command_of}
+use Rattle.command_grammar.specs.Commands.{and_read, read_version, read_package, bug_alone, bug_and_version, bug_and_optional_version, severity_command, reassign_command, optional_who, bug_and_some_text, bug_and_some_who, bug_and_others, reopen_command, command_of}
 use Rattle.control_text.specs.Lines.{reading}
 use Rattle.control_text.specs.WellFormed.{IsPlain, IsAddress, IsWellFormed}
-use Rattle.control_text.specs.Spelling.{bug_text, version_text, who_text, step_words, word_if, after_spaces, spelling}
+use Rattle.control_text.specs.Spelling.{bug_text, version_text, who_text, step_words, word_if, spelling, spelled_words, joined_by_blanks}
 use Rattle.control_text.proofs.TextLemmas.{text_parts}
 use Rattle.control_text.proofs.PlainWords.{graphic-control, name-plain}
-use Rattle.control_text.proofs.SpacedLemmas.{IsCommandWord, reading-command, ArePlain, AreClean, plain_clean, clean-spaces, ends-after_spaces, words-space, words-spaces, after_word-spaces, trimmed-space}
+use Rattle.control_text.proofs.SpacedLemmas.{IsCommandWord, reading-command, ArePlain, AreClean, plain_clean, clean-spaces, ends-after_spaces, words-space, words-spaces, after_word-spaces, trimmed-space, after_spaces, joined_spaces}
 use Rattle.control_text.proofs.TextSpelling.{written_who, written_address, bug_and_text-back, bug_and_some_text-back, bug_and_some_who-back}
 use Rattle.control_text.proofs.MergeSpelling.{bugs_plain, bugs-back}
 use Rattle.control_text.proofs.StepSpelling.{steps_plain, tags-back}
@@ -48,8 +49,8 @@ given_plain (Some v) fine = (version_text-plain v fine, tt)
 optional_version_words-back : (n : Named) (v : Option VersionArg) → IsGoodBug n → IfGiven IsGoodVersion v → bug_and_optional_version (bug_text n ∷ word_if version_text v) ≡ Ok (n, v)
 optional_version_words-back n None good fine = ap (λ r. and_read {B = Named × Option VersionArg} r (λ bug. Ok (bug, None))) (bug-back n good)
 optional_version_words-back n (Some v) good fine =
-    let more : Named × VersionArg → Result (Named × Option VersionArg) Refusal = λ both. Ok (both.0, Some both.1) in
-    ap (λ r. and_read r more) (ap bug_and_version (sym (words-spaces (bug_text n ∷ version_text v ∷ []) (bug-plain n good, (version_text-plain v fine, tt)))) ∙ bug_and_version-back n v good fine)
+    ap (λ r. and_read {B = Named × Option VersionArg} r (λ bug. and_read (read_version (version_text v)) (λ version. Ok (bug, Some version)))) (bug-back n good)
+    ∙ ap (λ r. and_read {B = Named × Option VersionArg} r (λ version. Ok (n, Some version))) (version-back v fine)
 
 bug_and_optional_version-back : (n : Named) (v : Option VersionArg) → IsGoodBug n → IfGiven IsGoodVersion v → bug_and_optional_version (words (after_spaces (bug_text n ∷ word_if version_text v))) ≡ Ok (n, v)
 bug_and_optional_version-back n v good fine =
@@ -59,20 +60,17 @@ bug_and_optional_version-back n v good fine =
 severity_command-back : (n : Named) (s : Severity) → IsGoodBug n → severity_command (words (after_spaces (bug_text n ∷ severity_name s ∷ []))) ≡ Ok (commands.Severity n s)
 severity_command-back n s good =
     ap severity_command (words-spaces (bug_text n ∷ severity_name s ∷ []) (bug-plain n good, (severity-plain s, tt)))
-    ∙ ap (λ r. and_read r (λ bug. or_refuse (severity_of (severity_name s)) BadSeverity (λ severity. Ok (commands.Severity bug severity)))) (bug-back n good)
-    ∙ ap (λ o. or_refuse o BadSeverity (λ severity. Ok (commands.Severity n severity))) (severity-back s)
-
-optional_version-back : (v : VersionArg) → IsGoodVersion v → optional_version (Some (version_text v)) ≡ Ok (Some v)
-optional_version-back v fine = ap (λ r. and_read r (λ version. Ok (Some version))) (version-back v fine)
+    ∙ ap (λ r. and_read {B = Command Named} r (λ bug. and_read (ok_or (severity_of (severity_name s)) BadSeverity) (λ severity. Ok (commands.Severity bug severity)))) (bug-back n good)
+    ∙ ap (λ o. and_read {B = Command Named} (ok_or o BadSeverity) (λ severity. Ok (commands.Severity n severity))) (severity-back s)
 
 reassign_words-back : (n : Named) (p : List ℕ) (v : Option VersionArg) → IsGoodBug n → IsName p → IfGiven IsGoodVersion v → reassign_command (bug_text n ∷ p ∷ word_if version_text v) ≡ Ok (commands.Reassign n p v)
 reassign_words-back n p None good name fine =
-    ap (λ r. and_read r (λ bug. and_read (read_package p) (λ q. and_read (optional_version None) (λ version. Ok (commands.Reassign bug q version))))) (bug-back n good)
-    ∙ ap (λ r. and_read r (λ q. and_read (optional_version None) (λ version. Ok (commands.Reassign n q version)))) (package-back p name)
+    ap (λ r. and_read {B = Command Named} r (λ bug. and_read (read_package p) (λ q. Ok (commands.Reassign bug q None)))) (bug-back n good)
+    ∙ ap (λ r. and_read {B = Command Named} r (λ q. Ok (commands.Reassign n q None))) (package-back p name)
 reassign_words-back n p (Some v) good name fine =
-    ap (λ r. and_read r (λ bug. and_read (read_package p) (λ q. and_read (optional_version (Some (version_text v))) (λ version. Ok (commands.Reassign bug q version))))) (bug-back n good)
-    ∙ ap (λ r. and_read r (λ q. and_read (optional_version (Some (version_text v))) (λ version. Ok (commands.Reassign n q version)))) (package-back p name)
-    ∙ ap (λ r. and_read r (λ version. Ok (commands.Reassign n p version))) (optional_version-back v fine)
+    ap (λ r. and_read {B = Command Named} r (λ bug. and_read (read_package p) (λ q. and_read (read_version (version_text v)) (λ version. Ok (commands.Reassign bug q (Some version)))))) (bug-back n good)
+    ∙ ap (λ r. and_read {B = Command Named} r (λ q. and_read (read_version (version_text v)) (λ version. Ok (commands.Reassign n q (Some version))))) (package-back p name)
+    ∙ ap (λ r. and_read {B = Command Named} r (λ version. Ok (commands.Reassign n p (Some version)))) (version-back v fine)
 
 reassign_plain : (n : Named) (p : List ℕ) (v : Option VersionArg) → IsGoodBug n → IsName p → IfGiven IsGoodVersion v → ArePlain (bug_text n ∷ p ∷ word_if version_text v)
 reassign_plain n p v good name fine = (bug-plain n good, (name-plain p name, given_plain v fine))
@@ -203,33 +201,45 @@ by_who command w make n who h means good person address =
     reading-command command w (after_spaces ws) (make n who) h (ends-after_spaces ws) (clean-spaces ws (graphic-control (bug_text n) word.graphic, (written.clean, tt)))
     (means (after_spaces ws) ∙ ap (λ r. and_read r made) (bug_and_some_who-back n who good person address))
 
-pub spelling-read : (c : Command Named) → IsWellFormed c → reading (spelling c) ≡ Ok (Do c)
-unfolding spelling
-spelling-read (commands.Found n v) good = by_optional_version command_words.Found (codes "found") commands.Found n v found_word (λ s. refl) good.bugs.0 good.parts
-spelling-read (commands.NotFound n v) good = by_version command_words.NotFound (codes "notfound") commands.NotFound n v notfound_word (λ s. refl) good.bugs.0 good.parts
-spelling-read (commands.Fixed n v) good = by_version command_words.Fixed (codes "fixed") commands.Fixed n v fixed_word (λ s. refl) good.bugs.0 good.parts
-spelling-read (commands.NotFixed n v) good = by_version command_words.NotFixed (codes "notfixed") commands.NotFixed n v notfixed_word (λ s. refl) good.bugs.0 good.parts
-spelling-read (commands.Close n v) good = by_optional_version command_words.Close (codes "close") commands.Close n v close_word (λ s. refl) good.bugs.0 good.parts
-spelling-read (commands.Reopen n who) good =
+-- the first of words, and the others after spaces
+abbrev spaced : List (List ℕ) → List ℕ
+spaced [] = []
+spaced (word ∷ more) = word ++ after_spaces more
+
+joined-spaced : (words : List (List ℕ)) → joined_by_blanks words ≡ spaced words
+joined-spaced [] = refl
+joined-spaced (word ∷ more) = joined_spaces word more
+
+spaced-read : (c : Command Named) → IsWellFormed c → reading (spaced (spelled_words c)) ≡ Ok (Do c)
+spaced-read (commands.Found n v) good = by_optional_version command_words.Found (codes "found") commands.Found n v found_word (λ s. refl) good.bugs.0 good.parts
+spaced-read (commands.NotFound n v) good = by_version command_words.NotFound (codes "notfound") commands.NotFound n v notfound_word (λ s. refl) good.bugs.0 good.parts
+spaced-read (commands.Fixed n v) good = by_version command_words.Fixed (codes "fixed") commands.Fixed n v fixed_word (λ s. refl) good.bugs.0 good.parts
+spaced-read (commands.NotFixed n v) good = by_version command_words.NotFixed (codes "notfixed") commands.NotFixed n v notfixed_word (λ s. refl) good.bugs.0 good.parts
+spaced-read (commands.Close n v) good = by_optional_version command_words.Close (codes "close") commands.Close n v close_word (λ s. refl) good.bugs.0 good.parts
+spaced-read (commands.Reopen n who) good =
     let ws = bug_text n ∷ word_if who_text who in
     reading-command command_words.Reopen (codes "reopen") (after_spaces ws) (commands.Reopen n who) reopen_word (ends-after_spaces ws)
-    (clean-spaces ws (reopen_clean n who good.bugs.0 good.parts good.texts)) (reopen_back n who good.bugs.0 good.parts good.texts)
-spelling-read (commands.Severity n s) good =
+    (clean-spaces ws (reopen_clean n who good.bugs.0 good.parts good.spellable)) (reopen_back n who good.bugs.0 good.parts good.spellable)
+spaced-read (commands.Severity n s) good =
     by_words command_words.Severity (codes "severity") (bug_text n ∷ severity_name s ∷ []) (commands.Severity n s) severity_word (bug-plain n good.bugs.0, (severity-plain s, tt)) (severity_command-back n s good.bugs.0)
-spelling-read (commands.Reassign n p v) good =
+spaced-read (commands.Reassign n p v) good =
     let ws = bug_text n ∷ p ∷ word_if version_text v in
     let plain = reassign_plain n p v good.bugs.0 good.parts.0 good.parts.1 in
     by_words command_words.Reassign (codes "reassign") ws (commands.Reassign n p v) reassign_word plain
     (ap reassign_command (words-spaces ws plain) ∙ reassign_words-back n p v good.bugs.0 good.parts.0 good.parts.1)
-spelling-read (commands.Tags n steps) good =
+spaced-read (commands.Tags n steps) good =
     let ws = bug_text n ∷ step_words steps in
     by_words command_words.Tags (codes "tags") ws (commands.Tags n steps) tags_word (bug-plain n good.bugs.0, steps_plain steps) (tags-back n steps good.bugs.0)
-spelling-read (commands.Retitle n text) good = by_text command_words.Retitle (codes "retitle") commands.Retitle n text retitle_word (λ s. refl) good.bugs.0 good.parts
-spelling-read (commands.Submitter n who) good = by_who command_words.Submitter (codes "submitter") commands.Submitter n who submitter_word (λ s. refl) good.bugs.0 good.parts good.texts
-spelling-read (commands.Merge n ns) good = by_bugs command_words.Merge (codes "merge") commands.Merge n ns merge_word (λ s. refl) good.bugs good.others
-spelling-read (commands.ForceMerge n ns) good = by_bugs command_words.ForceMerge (codes "forcemerge") commands.ForceMerge n ns forcemerge_word (λ s. refl) good.bugs good.others
-spelling-read (commands.Unmerge n) good = by_bug command_words.Unmerge (codes "unmerge") commands.Unmerge n unmerge_word (λ s. refl) good.bugs.0
-spelling-read (commands.Forwarded n text) good = by_text command_words.Forwarded (codes "forwarded") commands.Forwarded n text forwarded_word (λ s. refl) good.bugs.0 good.parts
-spelling-read (commands.NotForwarded n) good = by_bug command_words.NotForwarded (codes "notforwarded") commands.NotForwarded n notforwarded_word (λ s. refl) good.bugs.0
-spelling-read (commands.Owner n who) good = by_who command_words.Owner (codes "owner") commands.Owner n who owner_word (λ s. refl) good.bugs.0 good.parts good.texts
-spelling-read (commands.NoOwner n) good = by_bug command_words.NoOwner (codes "noowner") commands.NoOwner n noowner_word (λ s. refl) good.bugs.0
+spaced-read (commands.Retitle n text) good = by_text command_words.Retitle (codes "retitle") commands.Retitle n text retitle_word (λ s. refl) good.bugs.0 good.parts
+spaced-read (commands.Submitter n who) good = by_who command_words.Submitter (codes "submitter") commands.Submitter n who submitter_word (λ s. refl) good.bugs.0 good.parts good.spellable
+spaced-read (commands.Merge n ns) good = by_bugs command_words.Merge (codes "merge") commands.Merge n ns merge_word (λ s. refl) good.bugs good.spellable
+spaced-read (commands.ForceMerge n ns) good = by_bugs command_words.ForceMerge (codes "forcemerge") commands.ForceMerge n ns forcemerge_word (λ s. refl) good.bugs good.spellable
+spaced-read (commands.Unmerge n) good = by_bug command_words.Unmerge (codes "unmerge") commands.Unmerge n unmerge_word (λ s. refl) good.bugs.0
+spaced-read (commands.Forwarded n text) good = by_text command_words.Forwarded (codes "forwarded") commands.Forwarded n text forwarded_word (λ s. refl) good.bugs.0 good.parts
+spaced-read (commands.NotForwarded n) good = by_bug command_words.NotForwarded (codes "notforwarded") commands.NotForwarded n notforwarded_word (λ s. refl) good.bugs.0
+spaced-read (commands.Owner n who) good = by_who command_words.Owner (codes "owner") commands.Owner n who owner_word (λ s. refl) good.bugs.0 good.parts good.spellable
+spaced-read (commands.NoOwner n) good = by_bug command_words.NoOwner (codes "noowner") commands.NoOwner n noowner_word (λ s. refl) good.bugs.0
+
+pub spelling-read : (c : Command Named) → IsWellFormed c → reading (spelling c) ≡ Ok (Do c)
+unfolding spelling
+spelling-read c good = ap reading (joined-spaced (spelled_words c)) ∙ spaced-read c good

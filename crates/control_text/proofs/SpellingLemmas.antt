@@ -2,6 +2,7 @@
 use Rattle.std.proofs.Common.{◌≡◌, ℕ, ◌+◌, ◌<◌, ◌&&◌, ◌==◌, nat_le, Bool, true, false, cond, List, [], ◌∷◌, ◌++◌, length, take, drop, Option, Some, None, Ok, codes, refl, ap, sym, ◌∙◌, arith}
 use Rattle.std.specs.Prelude.{option_map, is_none}
 use Rattle.std.specs.List.{list_any, list_all, position_or_len, before_first, after_first}
+use Rattle.std.specs.Option.{option_map_or, ok_or}
 use Rattle.std.specs.Str.{bytes_eq}
 use Rattle.std.specs.Char.{is_ascii_digit}
 use Rattle.std.specs.Fmt.{decimal}
@@ -31,8 +32,8 @@ use Rattle.line_words.specs.Numbers.{number_of_digits, IsGoodNumber}
 use Rattle.line_words.specs.Bugs.{bug_of_word, bug_of_text, IsGoodBug}
 use Rattle.line_words.specs.Words.{has_bytes}
 use Rattle.command_grammar.specs.Versions.{bare_version, sourced_version, version_of_word, without_src, package_of_word}
-use Rattle.command_grammar.specs.Commands.{or_refuse, read_bug, read_version, read_package}
-use Rattle.control_text.specs.Spelling.{bug_text, sourced_text, version_text}
+use Rattle.command_grammar.specs.Commands.{read_bug, read_version, read_package}
+use Rattle.control_text.specs.Spelling.{bug_text, version_text}
 use Rattle.control_text.proofs.TextLemmas.{none-take}
 use Rattle.control_text.proofs.ReadingLemmas.{version_good}
 use Rattle.control_text.proofs.PlainWords.{IsPlainWord, graphic-append, name-plain, version-plain, decimal-plain, written_is}
@@ -64,7 +65,7 @@ bug_word-back (Number n) good = let w = written_is n good.most in digits-back (d
 bug_word-back (Name k) good = ap (option_map Name) (number-back k good)
 
 pub bug-back : (n : Named) → IsGoodBug n → read_bug (bug_text n) ≡ Ok n
-bug-back n good = ap (λ o. or_refuse o Malformed (λ bug. Ok bug)) (bug_word-back n good)
+bug-back n good = ap (λ o. ok_or o Malformed) (bug_word-back n good)
 
 pub bug-plain : (n : Named) → IsGoodBug n → IsPlainWord (bug_text n)
 bug-plain (Number n) good = decimal-plain n good.most
@@ -109,6 +110,10 @@ both-faultless s v name version = test_is (is_none (name_fault s) && is_none (te
 name-faultless : (s : List ℕ) → IsName s → is_none (name_fault s) ≡ true
 name-faultless s name = (and_parts (is_none (name_fault s)) (is_none (text_fault (codes "0"))) (both-faultless s (codes "0") name (version_good (codes "0") refl))).0
 
+-- the spelling of a version by its parts
+abbrev sourced_text : Option (List ℕ) → List ℕ → List ℕ
+sourced_text source version = option_map_or (λ s. s ++ 47 ∷ version) source version
+
 sourced-back : (source : Option (List ℕ)) (version : List ℕ) → IfGiven IsName source → IsVersion version → version_of_word (sourced_text source version) ≡ Some (record { source = source; version = version })
 sourced-back None version given good =
     cond-false (list_any is_slash version) (sourced_version (before_first is_slash version) (after_first is_slash version)) (bare_version version) (version-slash version good)
@@ -124,7 +129,7 @@ sourced-back (Some s) version given good =
     ∙ cond-true (is_none (name_fault s) && is_none (text_fault version)) (Some (record { source = Some s; version = version })) None (both-faultless s version given good)
 
 pub version-back : (v : VersionArg) → IsGoodVersion v → read_version (version_text v) ≡ Ok v
-version-back v good = ap (λ o. or_refuse o BadVersion (λ version. Ok version)) (sourced-back v.source v.version good.source good.version)
+version-back v good = ap (λ o. ok_or o BadVersion) (sourced-back v.source v.version good.source good.version)
 
 sourced-plain : (source : Option (List ℕ)) (version : List ℕ) → IfGiven IsName source → IsVersion version → IsPlainWord (sourced_text source version)
 sourced-plain None version given good = version-plain version good
@@ -150,7 +155,7 @@ pub package-back : (p : List ℕ) → IsName p → read_package p ≡ Ok p
 package-back p name =
     let read : package_of_word p ≡ Some p
     = ap (λ q. cond (is_none (name_fault q)) (Some q) None) (no_src p name) ∙ cond-true (is_none (name_fault p)) (Some p) None (name-faultless p name) in
-    ap (λ o. or_refuse o BadPackage (λ name. Ok name)) read
+    ap (λ o. ok_or o BadPackage) read
 
 -- severities
 pub severity-back : (s : Severity) → severity_of (severity_name s) ≡ Some s

@@ -1,5 +1,5 @@
 -- Steps of tags, as they are written, are read as they are.
-use Rattle.std.proofs.Common.{◌≡◌, ℕ, Bool, true, false, List, [], ◌∷◌, ◌++◌, map, Result, Ok, Err, refl, ap, ◌∙◌}
+use Rattle.std.proofs.Common.{◌≡◌, ℕ, Bool, true, false, List, [], ◌∷◌, ◌++◌, map, Result, Ok, refl, ap, ◌∙◌}
 use Rattle.std.specs.Prelude.{⊤}
 use Rattle.std.specs.List.{list_any}
 use Rattle.bug_record.specs.Tags.{tag_name}
@@ -10,15 +10,14 @@ use Rattle.bug_record.specs.declared.command.Command.TheVariants as commands
 use Rattle.bug_record.specs.declared.command.TagStep.{TagStep}
 use Rattle.bug_record.specs.declared.command.TagStep.TheVariants.{Add, Remove, Clear}
 use Rattle.bug_record.specs.declared.command.Refusal.{Refusal}
-use Rattle.bug_record.specs.declared.command.Refusal.TheVariants.{Malformed}
 use Rattle.line_words.specs.declared.named.Named.{Named}
 use Rattle.line_words.specs.Bugs.{IsGoodBug}
-use Rattle.line_words.specs.Words.{is_blank_or_comma, EndsWord, words_with_commas, after_word}
+use Rattle.line_words.specs.Words.{is_blank_or_comma, EndsWord, words, words_with_commas, after_word}
 use Rattle.command_grammar.specs.Commands.{and_read, read_bug, tag_step, tag_steps, all_steps, some_steps, tags_command}
-use Rattle.control_text.specs.Spelling.{bug_text, step_text, step_words, after_spaces}
+use Rattle.control_text.specs.Spelling.{bug_text, step_text, step_words}
 use Rattle.line_words.proofs.WordLemmas.{words-nil, words-separator, words-word}
 use Rattle.control_text.proofs.PlainWords.{IsGraphic, IsPlainWord}
-use Rattle.control_text.proofs.SpacedLemmas.{ArePlain, words-space, after_word-spaces}
+use Rattle.control_text.proofs.SpacedLemmas.{after_spaces, first_word-is, ArePlain, words-space, after_word-spaces}
 use Rattle.control_text.proofs.SpellingLemmas.{bug-back, bug-plain}
 
 -- what is known of the name of a tag
@@ -106,7 +105,7 @@ tags-back n steps good =
     let of_steps : List (List ℕ) → Named → Result (Command Named) Refusal = λ vs bug. and_read (some_steps vs) (λ read. Ok (commands.Tags bug read)) in
     let rest : words_with_commas (after_word arguments) ≡ ws = ap words_with_commas (after_word-spaces (bug_text n) ws word) ∙ commas-spaces ws (steps_whole steps) in
     let of_bug = of_steps (words_with_commas (after_word arguments)) in
-    ap (λ vs. elim vs as (λ _. Result (Command Named) Refusal) [ [] ↦ Err Malformed | m ∷ more ↦ and_read (read_bug m) of_bug ]) (words-space (bug_text n) ws word)
+    ap (λ w. and_read (read_bug w) of_bug) (first_word-is arguments (bug_text n) (words (after_spaces ws)) (words-space (bug_text n) ws word))
     ∙ ap (λ r. and_read r of_bug) (bug-back n good)
     ∙ ap (λ vs. of_steps vs n) rest
     ∙ ap (λ r. and_read {B = Command Named} r (λ read. Ok (commands.Tags n read))) (some-back steps)

@@ -10,15 +10,15 @@ use Rattle.bug_record.specs.Commands.{IsGoodPerson}
 use Rattle.bug_record.specs.declared.command.Who.{Who}
 use Rattle.bug_record.specs.declared.command.Who.TheVariants.{Sender, Given}
 use Rattle.bug_record.specs.declared.command.Refusal.{Refusal}
-use Rattle.bug_record.specs.declared.command.Refusal.TheVariants.{Malformed, TooLong}
+use Rattle.bug_record.specs.declared.command.Refusal.TheVariants.{TooLong}
 use Rattle.line_words.specs.declared.named.Named.{Named}
 use Rattle.line_words.specs.Bugs.{IsGoodBug}
 use Rattle.line_words.specs.Words.{words, trimmed, after_word}
 use Rattle.command_grammar.specs.Commands.{and_read, read_bug, limited_text, who_of_text, some_text, some_who, optional_who, bug_and_text, bug_and_some_text, bug_and_some_who}
 use Rattle.control_text.specs.WellFormed.{IsPlain, IsAddress}
-use Rattle.control_text.specs.Spelling.{bug_text, who_text, after_spaces}
+use Rattle.control_text.specs.Spelling.{bug_text, who_text}
 use Rattle.control_text.proofs.TextLemmas.{text_parts, text-trimmed}
-use Rattle.control_text.proofs.SpacedLemmas.{words-space, after_word-spaces, trimmed-space}
+use Rattle.control_text.proofs.SpacedLemmas.{words-space, after_word-spaces, trimmed-space, after_spaces, first_word-is}
 use Rattle.control_text.proofs.SpellingLemmas.{bug-back, bug-plain}
 
 unequal_false : (s t : List ℕ) → ¬ (s ≡ t) → bytes_eq s t ≡ false
@@ -73,7 +73,7 @@ written_address (Given text) good address = let parts = text_parts text good in 
 pub bug_and_text-back : (arguments n : List ℕ) (more : List (List ℕ)) (bug : Named) → words arguments ≡ n ∷ more → read_bug n ≡ Ok bug → bug_and_text arguments ≡ Ok (bug, trimmed (after_word arguments))
 bug_and_text-back arguments n more bug e is =
     let of_bug : Named → Result (Named × List ℕ) Refusal = λ b. Ok (b, trimmed (after_word arguments)) in
-    ap (λ ws. elim ws as (λ _. Result (Named × List ℕ) Refusal) [ [] ↦ Err Malformed | m ∷ rest ↦ and_read (read_bug m) of_bug ]) e
+    ap (λ w. and_read (read_bug w) of_bug) (first_word-is arguments n more e)
     ∙ ap (λ r. and_read r of_bug) is
 
 pub bug_and_written-back : (n : Named) (text : List ℕ) → IsGoodBug n → trimmed text ≡ text → bug_and_text (after_spaces (bug_text n ∷ text ∷ [])) ≡ Ok (n, text)

@@ -1,16 +1,15 @@
 -- The lines of a control message (the BTS page 'control and manipulation').
-use Rattle.std.specs.Prelude.{ℕ, ◌==◌, ◌&&◌, ◌||◌, codes, if◌then◌else◌, Bool, false, List, [], ◌∷◌, Option, Some, None, IsSome, Result, Ok, Err, ⊤}
+use Rattle.std.specs.Prelude.{ℕ, ◌==◌, ◌&&◌, ◌||◌, codes, if◌then◌else◌, Bool, false, List, [], ◌∷◌, IsSome, Result, Ok, Err, ⊤}
 use Rattle.std.specs.List.{list_any}
+use Rattle.std.specs.Option.{ok_or}
 use Rattle.line_words.specs.Blanks.{is_control}
 use Rattle.line_words.specs.AnyCase.{is_word}
-use Rattle.bug_record.specs.declared.command.Command.{Command}
 use Rattle.bug_record.specs.declared.command.Refusal.{Refusal}
 use Rattle.bug_record.specs.declared.command.Refusal.TheVariants.{Unknown, Malformed, TooLong, BadSeverity, BadTag, BadVersion, BadPackage, NoName, NoBug, Differ, NotMerged}
 use Rattle.line_words.specs.Words.{words, first_word, after_word}
 use Rattle.command_grammar.specs.CommandWords.{command_word}
-use Rattle.command_grammar.specs.Commands.{command_of}
+use Rattle.command_grammar.specs.Commands.{and_read, command_of}
 use Rattle.command_grammar.specs.declared.command_word.CommandWord.{CommandWord}
-use Rattle.line_words.specs.declared.named.Named.{Named}
 use Rattle.control_text.specs.declared.line.Line.{Line}
 use Rattle.control_text.specs.declared.line.Line.TheVariants.{Blank, Comment, Stop, Do}
 
@@ -31,18 +30,12 @@ is_stop_line (word ∷ []) = is_stop_word word
 is_stop_line (word ∷ second ∷ []) = is_word word (codes "thank") && is_word second (codes "you")
 is_stop_line _ = false
 
--- a command as a line, or its refusal
-abbrev pub line_of_command : Result (Command Named) Refusal → Result Line Refusal
-line_of_command (Ok command) = Ok (Do command)
-line_of_command (Err refusal) = Err refusal
-
--- A line whose first word is this command, or none: it may hold no control character other than tab. The arguments are the
--- text after that word.
-abbrev pub command_reading : Option CommandWord → List ℕ → Result Line Refusal
-command_reading None text = Err Unknown
-command_reading (Some command) text =
+-- A line that begins with this command: it may hold no control character other than tab. The arguments are the text after
+-- the first word.
+abbrev pub command_reading : CommandWord → List ℕ → Result Line Refusal
+command_reading command text =
     if list_any is_control text then Err Malformed
-    else line_of_command (command_of command (after_word text))
+    else and_read (command_of command (after_word text)) (λ meant. Ok (Do meant))
 
 -- What a line of these words says: the first of these cases that fits. That only a command's line is tested for control
 -- characters is this project's own rule.
@@ -51,7 +44,7 @@ reading_of_words text [] = Ok Blank
 reading_of_words text (word ∷ arguments) =
     if begins_hash word then Ok Comment
     else if is_stop_line (word ∷ arguments) then Ok Stop
-    else command_reading (command_word word) text
+    else and_read (ok_or (command_word word) Unknown) (λ command. command_reading command text)
 
 -- The line, or the refusal, that a text gives: every text gives just one.
 unfoldable pub reading : List ℕ → Result Line Refusal

@@ -1,5 +1,7 @@
 -- The canonical spelling of a command: its words in lower case, with one space between them. This project's own rule.
 use Rattle.std.specs.Prelude.{ℕ, codes, List, [], ◌∷◌, ◌++◌, map, Option, Some, None}
+use Rattle.std.specs.List.{join_with_byte}
+use Rattle.std.specs.Option.{option_map_or}
 use Rattle.std.specs.Fmt.{decimal}
 use Rattle.bug_record.specs.Severities.{severity_name}
 use Rattle.bug_record.specs.Tags.{tag_name}
@@ -19,12 +21,8 @@ bug_text (Number n) = decimal n
 bug_text (Name k) = 45 ∷ decimal k
 
 -- a version with a source is written `source/version`
-abbrev pub sourced_text : Option (List ℕ) → List ℕ → List ℕ
-sourced_text None version = version
-sourced_text (Some source) version = source ++ 47 ∷ version
-
 abbrev pub version_text : VersionArg → List ℕ
-version_text version = sourced_text version.source version.version
+version_text version = option_map_or (λ source. source ++ 47 ∷ version.version) version.source version.version
 
 abbrev pub who_text : Who → List ℕ
 who_text Sender = codes "!"
@@ -46,28 +44,30 @@ abbrev pub word_if : {A : Type 0} → (A → List ℕ) → Option A → List (Li
 word_if f None = []
 word_if f (Some x) = f x ∷ []
 
--- each word after a space
-abbrev pub after_spaces : List (List ℕ) → List ℕ
-after_spaces [] = []
-after_spaces (word ∷ more) = 32 ∷ (word ++ after_spaces more)
+-- words with one blank between them
+abbrev pub joined_by_blanks : List (List ℕ) → List ℕ
+joined_by_blanks words = join_with_byte 32 words
 
 -- the command's word and its arguments, of which the last may be a text with blanks of its own
+abbrev pub spelled_words : Command Named → List (List ℕ)
+spelled_words (commands.Found bug version) = codes "found" ∷ bug_text bug ∷ word_if version_text version
+spelled_words (commands.NotFound bug version) = codes "notfound" ∷ bug_text bug ∷ version_text version ∷ []
+spelled_words (commands.Fixed bug version) = codes "fixed" ∷ bug_text bug ∷ version_text version ∷ []
+spelled_words (commands.NotFixed bug version) = codes "notfixed" ∷ bug_text bug ∷ version_text version ∷ []
+spelled_words (commands.Close bug version) = codes "close" ∷ bug_text bug ∷ word_if version_text version
+spelled_words (commands.Reopen bug who) = codes "reopen" ∷ bug_text bug ∷ word_if who_text who
+spelled_words (commands.Severity bug severity) = codes "severity" ∷ bug_text bug ∷ severity_name severity ∷ []
+spelled_words (commands.Reassign bug package_name version) = codes "reassign" ∷ bug_text bug ∷ package_name ∷ word_if version_text version
+spelled_words (commands.Tags bug steps) = codes "tags" ∷ bug_text bug ∷ step_words steps
+spelled_words (commands.Retitle bug text) = codes "retitle" ∷ bug_text bug ∷ text ∷ []
+spelled_words (commands.Submitter bug who) = codes "submitter" ∷ bug_text bug ∷ who_text who ∷ []
+spelled_words (commands.Merge bug others) = codes "merge" ∷ bug_text bug ∷ map bug_text others
+spelled_words (commands.ForceMerge bug others) = codes "forcemerge" ∷ bug_text bug ∷ map bug_text others
+spelled_words (commands.Unmerge bug) = codes "unmerge" ∷ bug_text bug ∷ []
+spelled_words (commands.Forwarded bug text) = codes "forwarded" ∷ bug_text bug ∷ text ∷ []
+spelled_words (commands.NotForwarded bug) = codes "notforwarded" ∷ bug_text bug ∷ []
+spelled_words (commands.Owner bug who) = codes "owner" ∷ bug_text bug ∷ who_text who ∷ []
+spelled_words (commands.NoOwner bug) = codes "noowner" ∷ bug_text bug ∷ []
+
 unfoldable pub spelling : Command Named → List ℕ
-spelling (commands.Found bug version) = codes "found" ++ after_spaces (bug_text bug ∷ word_if version_text version)
-spelling (commands.NotFound bug version) = codes "notfound" ++ after_spaces (bug_text bug ∷ version_text version ∷ [])
-spelling (commands.Fixed bug version) = codes "fixed" ++ after_spaces (bug_text bug ∷ version_text version ∷ [])
-spelling (commands.NotFixed bug version) = codes "notfixed" ++ after_spaces (bug_text bug ∷ version_text version ∷ [])
-spelling (commands.Close bug version) = codes "close" ++ after_spaces (bug_text bug ∷ word_if version_text version)
-spelling (commands.Reopen bug who) = codes "reopen" ++ after_spaces (bug_text bug ∷ word_if who_text who)
-spelling (commands.Severity bug severity) = codes "severity" ++ after_spaces (bug_text bug ∷ severity_name severity ∷ [])
-spelling (commands.Reassign bug package_name version) = codes "reassign" ++ after_spaces (bug_text bug ∷ package_name ∷ word_if version_text version)
-spelling (commands.Tags bug steps) = codes "tags" ++ after_spaces (bug_text bug ∷ step_words steps)
-spelling (commands.Retitle bug text) = codes "retitle" ++ after_spaces (bug_text bug ∷ text ∷ [])
-spelling (commands.Submitter bug who) = codes "submitter" ++ after_spaces (bug_text bug ∷ who_text who ∷ [])
-spelling (commands.Merge bug others) = codes "merge" ++ after_spaces (bug_text bug ∷ map bug_text others)
-spelling (commands.ForceMerge bug others) = codes "forcemerge" ++ after_spaces (bug_text bug ∷ map bug_text others)
-spelling (commands.Unmerge bug) = codes "unmerge" ++ after_spaces (bug_text bug ∷ [])
-spelling (commands.Forwarded bug text) = codes "forwarded" ++ after_spaces (bug_text bug ∷ text ∷ [])
-spelling (commands.NotForwarded bug) = codes "notforwarded" ++ after_spaces (bug_text bug ∷ [])
-spelling (commands.Owner bug who) = codes "owner" ++ after_spaces (bug_text bug ∷ who_text who ∷ [])
-spelling (commands.NoOwner bug) = codes "noowner" ++ after_spaces (bug_text bug ∷ [])
+spelling command = joined_by_blanks (spelled_words command)

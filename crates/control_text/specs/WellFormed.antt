@@ -22,54 +22,32 @@ IsPlain None = ⊤
 IsPlain (Some Sender) = ⊤
 IsPlain (Some (Given text)) = (¬ (text ≡ codes "!")) × (¬ (text ≡ codes "="))
 
--- no text that is given for somebody stands for somebody else
-abbrev pub HasPlainTexts : Command Named → Type 0
-HasPlainTexts (commands.Reopen bug who) = IsPlain who
-HasPlainTexts (commands.Submitter bug who) = IsAddress who
-HasPlainTexts (commands.Owner bug who) = IsAddress who
-HasPlainTexts (commands.Found bug version) = ⊤
-HasPlainTexts (commands.NotFound bug version) = ⊤
-HasPlainTexts (commands.Fixed bug version) = ⊤
-HasPlainTexts (commands.NotFixed bug version) = ⊤
-HasPlainTexts (commands.Close bug version) = ⊤
-HasPlainTexts (commands.Severity bug severity) = ⊤
-HasPlainTexts (commands.Tags bug steps) = ⊤
-HasPlainTexts (commands.Retitle bug text) = ⊤
-HasPlainTexts (commands.Reassign bug package_name version) = ⊤
-HasPlainTexts (commands.Merge bug others) = ⊤
-HasPlainTexts (commands.ForceMerge bug others) = ⊤
-HasPlainTexts (commands.Unmerge bug) = ⊤
-HasPlainTexts (commands.Forwarded bug text) = ⊤
-HasPlainTexts (commands.NotForwarded bug) = ⊤
-HasPlainTexts (commands.NoOwner bug) = ⊤
+-- no text that is given for somebody stands for somebody else, and a merge has a second bug
+abbrev pub IsSpellable : Command Named → Type 0
+IsSpellable (commands.Reopen bug who) = IsPlain who
+IsSpellable (commands.Submitter bug who) = IsAddress who
+IsSpellable (commands.Owner bug who) = IsAddress who
+IsSpellable (commands.Merge bug others) = 0 < length others
+IsSpellable (commands.ForceMerge bug others) = 0 < length others
+IsSpellable (commands.Found bug version) = ⊤
+IsSpellable (commands.NotFound bug version) = ⊤
+IsSpellable (commands.Fixed bug version) = ⊤
+IsSpellable (commands.NotFixed bug version) = ⊤
+IsSpellable (commands.Close bug version) = ⊤
+IsSpellable (commands.Severity bug severity) = ⊤
+IsSpellable (commands.Tags bug steps) = ⊤
+IsSpellable (commands.Retitle bug text) = ⊤
+IsSpellable (commands.Reassign bug package_name version) = ⊤
+IsSpellable (commands.Unmerge bug) = ⊤
+IsSpellable (commands.Forwarded bug text) = ⊤
+IsSpellable (commands.NotForwarded bug) = ⊤
+IsSpellable (commands.NoOwner bug) = ⊤
 
--- bugs are merged with others
-abbrev pub HasOthers : Command Named → Type 0
-HasOthers (commands.Merge bug others) = 0 < length others
-HasOthers (commands.ForceMerge bug others) = 0 < length others
-HasOthers (commands.Found bug version) = ⊤
-HasOthers (commands.NotFound bug version) = ⊤
-HasOthers (commands.Fixed bug version) = ⊤
-HasOthers (commands.NotFixed bug version) = ⊤
-HasOthers (commands.Close bug version) = ⊤
-HasOthers (commands.Reopen bug who) = ⊤
-HasOthers (commands.Severity bug severity) = ⊤
-HasOthers (commands.Tags bug steps) = ⊤
-HasOthers (commands.Retitle bug text) = ⊤
-HasOthers (commands.Submitter bug who) = ⊤
-HasOthers (commands.Reassign bug package_name version) = ⊤
-HasOthers (commands.Unmerge bug) = ⊤
-HasOthers (commands.Forwarded bug text) = ⊤
-HasOthers (commands.NotForwarded bug) = ⊤
-HasOthers (commands.Owner bug who) = ⊤
-HasOthers (commands.NoOwner bug) = ⊤
-
--- The bugs' numbers or names, and the versions, names and texts, are within their limits, and a merge has a second bug.
+-- The bugs' numbers or names, and the versions, names and texts, are within their limits, and the command is spellable.
 pub record IsWellFormed (command : Command Named) : Type 0 where
   pub bugs : Each IsGoodBug (bugs_named command)
   pub parts : HasGoodParts command
-  pub texts : HasPlainTexts command
-  pub others : HasOthers command
+  pub spellable : IsSpellable command
 
 -- a line's command can be written
 abbrev pub IsWellFormedLine : Line → Type 0

@@ -1,37 +1,12 @@
 //! The canonical spelling of commands.
 
 ghost use Rattle.std.specs.Prelude.{◌≡◌, ◌∷◌, [], ◌++◌, map, IfOk, OnOk, string_bytes, codes};
-ghost use Rattle.control_text.specs.Spelling.{bug_text, version_text, who_text, step_text, step_words, word_if, after_spaces, spelling};
+ghost use Rattle.control_text.specs.Spelling.{bug_text, version_text, who_text, step_text, step_words, word_if, joined_by_blanks, spelling};
 ghost use Rattle.control_text.specs.WellFormed.{IsWellFormed};
 
 use bug_record::{Command, TagStep, VersionArg, Who};
 use line_words::Named;
 use std::alloc::{AllocError, Global};
-
-fn bug_text(alloc: Global, bug: Named) -> Result<String, AllocError>
-    ensures { IfOk result (λ s. string_bytes s ≡ bug_text bug) }
-{
-    match bug {
-        Named::Number(number) => format!(in alloc; "{number}"),
-        Named::Name(name) => format!(in alloc; "-{name}"),
-    }
-}
-
-fn sourced_text(alloc: Global, source: &str, version: &str) -> Result<String, AllocError>
-    ensures { IfOk result (λ s. string_bytes s ≡ source.now ++ 47 ∷ version.now) }
-{
-    format!(in alloc; "{source}/{version}")
-}
-
-fn version_text(alloc: Global, version: &VersionArg) -> Result<String, AllocError>
-    ensures { IfOk result (λ s. string_bytes s ≡ version_text version.now) }
-{
-    let text = version.version.as_str();
-    match &version.source {
-        Some(source) => sourced_text(alloc, source.as_str(), text),
-        None => String::from_str(alloc, text),
-    }
-}
 
 fn who_text(who: &Who) -> &str
     ensures { result.now ≡ who_text who.now }
@@ -42,27 +17,53 @@ fn who_text(who: &Who) -> &str
     }
 }
 
-// One more word after a space.
-fn with_word(alloc: Global, begun: &str, word: &str) -> Result<String, AllocError>
-    ensures { IfOk result (λ s. string_bytes s ≡ begun.now ++ 32 ∷ word.now) }
+// Adds a word after a space.
+fn push_word(line: &mut String, word: &str) -> Result<(), AllocError>
+    ensures { OnOk result (string_bytes line.new ≡ string_bytes line.old ++ 32 ∷ word.now) }
 {
-    format!(in alloc; "{begun} {word}")
+    write!(line, " {word}")
+}
+
+// Adds a bug after a space.
+fn push_bug(line: &mut String, bug: Named) -> Result<(), AllocError>
+    ensures { OnOk result (string_bytes line.new ≡ string_bytes line.old ++ 32 ∷ bug_text bug) }
+{
+    match bug {
+        Named::Number(number) => write!(line, " {number}"),
+        Named::Name(name) => write!(line, " -{name}"),
+    }
+}
+
+// Adds a version after a space.
+fn push_version(line: &mut String, version: &VersionArg) -> Result<(), AllocError>
+    ensures { OnOk result (string_bytes line.new ≡ string_bytes line.old ++ 32 ∷ version_text version.now) }
+{
+    let text = version.version.as_str();
+    match &version.source {
+        Some(source) => {
+            let source = source.as_str();
+            write!(line, " {source}/{text}")
+        }
+        None => write!(line, " {text}"),
+    }
 }
 
 // A command's word and its bug.
 fn with_bug(alloc: Global, word: &str, bug: Named) -> Result<String, AllocError>
-    ensures { IfOk result (λ s. string_bytes s ≡ word.now ++ after_spaces (bug_text bug ∷ [])) }
+    ensures { IfOk result (λ s. string_bytes s ≡ joined_by_blanks (word.now ∷ bug_text bug ∷ [])) }
 {
-    let bug = bug_text(alloc, bug)?;
-    with_word(alloc, word, bug.as_str())
+    let mut line = String::from_str(alloc, word)?;
+    push_bug(&mut line, bug)?;
+    Ok(line)
 }
 
 // The same, and a text.
 fn with_text(alloc: Global, word: &str, bug: Named, text: &str) -> Result<String, AllocError>
-    ensures { IfOk result (λ s. string_bytes s ≡ word.now ++ after_spaces (bug_text bug ∷ text.now ∷ [])) }
+    ensures { IfOk result (λ s. string_bytes s ≡ joined_by_blanks (word.now ∷ bug_text bug ∷ text.now ∷ [])) }
 {
-    let begun = with_bug(alloc, word, bug)?;
-    with_word(alloc, begun.as_str(), text)
+    let mut line = with_bug(alloc, word, bug)?;
+    push_word(&mut line, text)?;
+    Ok(line)
 }
 
 // The same with a version.
@@ -72,10 +73,11 @@ fn with_version(
     bug: Named,
     version: &VersionArg,
 ) -> Result<String, AllocError>
-    ensures { IfOk result (λ s. string_bytes s ≡ word.now ++ after_spaces (bug_text bug ∷ version_text version.now ∷ [])) }
+    ensures { IfOk result (λ s. string_bytes s ≡ joined_by_blanks (word.now ∷ bug_text bug ∷ version_text version.now ∷ [])) }
 {
-    let version = version_text(alloc, version)?;
-    with_text(alloc, word, bug, version.as_str())
+    let mut line = with_bug(alloc, word, bug)?;
+    push_version(&mut line, version)?;
+    Ok(line)
 }
 
 // The same with a version, if there is one.
@@ -85,7 +87,7 @@ fn with_optional_version(
     bug: Named,
     version: &Option<VersionArg>,
 ) -> Result<String, AllocError>
-    ensures { IfOk result (λ s. string_bytes s ≡ word.now ++ after_spaces (bug_text bug ∷ word_if version_text version.now)) }
+    ensures { IfOk result (λ s. string_bytes s ≡ joined_by_blanks (word.now ∷ bug_text bug ∷ word_if version_text version.now)) }
 {
     match version {
         Some(version) => with_version(alloc, word, bug, version),
@@ -95,7 +97,7 @@ fn with_optional_version(
 
 // `reopen`, its bug and who is to be the submitter, if somebody is.
 fn reopen(alloc: Global, bug: Named, who: &Option<Who>) -> Result<String, AllocError>
-    ensures { IfOk result (λ s. string_bytes s ≡ codes "reopen" ++ after_spaces (bug_text bug ∷ word_if who_text who.now)) }
+    ensures { IfOk result (λ s. string_bytes s ≡ joined_by_blanks (codes "reopen" ∷ bug_text bug ∷ word_if who_text who.now)) }
 {
     match who {
         Some(who) => with_text(alloc, "reopen", bug, who_text(who)),
@@ -110,31 +112,22 @@ fn reassign(
     package: &str,
     version: &Option<VersionArg>,
 ) -> Result<String, AllocError>
-    ensures { IfOk result (λ s. string_bytes s ≡ codes "reassign" ++ after_spaces (bug_text bug ∷ «package».now ∷ word_if version_text version.now)) }
+    ensures { IfOk result (λ s. string_bytes s
+        ≡ joined_by_blanks (codes "reassign" ∷ bug_text bug ∷ «package».now ∷ word_if version_text version.now)) }
 {
-    let begun = with_text(alloc, "reassign", bug, package)?;
+    let mut line = with_text(alloc, "reassign", bug, package)?;
     match version {
         Some(version) => {
-            let version = version_text(alloc, version)?;
-            with_word(alloc, begun.as_str(), version.as_str())
+            push_version(&mut line, version)?;
+            Ok(line)
         }
-        None => Ok(begun),
-    }
-}
-
-// Adds a bug after a space.
-fn push_bug(line: &mut String, bug: Named) -> Result<(), AllocError>
-    ensures { OnOk result (string_bytes line.new ≡ string_bytes line.old ++ 32 ∷ bug_text bug) }
-{
-    match bug {
-        Named::Number(number) => write!(line, " {number}"),
-        Named::Name(name) => write!(line, " -{name}"),
+        None => Ok(line),
     }
 }
 
 // A command's word and two bugs or more.
 fn with_bugs(alloc: Global, word: &str, bug: Named, others: &[Named]) -> Result<String, AllocError>
-    ensures { IfOk result (λ s. string_bytes s ≡ word.now ++ after_spaces (bug_text bug ∷ map bug_text others.now)) }
+    ensures { IfOk result (λ s. string_bytes s ≡ joined_by_blanks (word.now ∷ bug_text bug ∷ map bug_text others.now)) }
 {
     let mut line = with_bug(alloc, word, bug)?;
     for other in others {
@@ -162,7 +155,7 @@ fn push_step(line: &mut String, step: TagStep) -> Result<(), AllocError>
 
 // `tags`, its bug and the steps; for no step a sign alone.
 fn tags(alloc: Global, bug: Named, steps: &[TagStep]) -> Result<String, AllocError>
-    ensures { IfOk result (λ s. string_bytes s ≡ codes "tags" ++ after_spaces (bug_text bug ∷ step_words steps.now)) }
+    ensures { IfOk result (λ s. string_bytes s ≡ joined_by_blanks (codes "tags" ∷ bug_text bug ∷ step_words steps.now)) }
 {
     if steps.is_empty() {
         return with_text(alloc, "tags", bug, "+");

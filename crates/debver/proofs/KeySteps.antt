@@ -10,7 +10,7 @@ use Rattle.std.proofs.lemmas.Bool.{cases_Bool}
 use Rattle.debver.specs.Characters.{is_digit}
 use Rattle.debver.specs.Keys.{key_cmp, key, key_from, string_cmp, weight, value, value_from, key_after}
 use Rattle.debver.specs.Walk.{head_weight, starts_word}
-use Rattle.debver.specs.KeyLaws.{key_cmp_walk, key_cmp_at}
+use Rattle.debver.proofs.KeyLaws.{key_cmp_walk, key_cmp_at}
 
 -- an ended key goes on with 1, 0
 key_cmp_ended_left : (l : List ℕ) → key_cmp [] l ≡ key_cmp (1 ∷ 0 ∷ []) l

@@ -4,6 +4,8 @@ pub mod Cuts
 pub mod Faultless
 pub mod CutLaws
 pub mod NameLaws
+pub mod KeyLaws
+pub mod OrderLaws
 pub mod KeySteps
 pub mod KeyNumbers
 pub mod KeyParts

@@ -5,7 +5,5 @@ pub mod Faults
 pub mod Names
 pub mod Keys
 pub mod Versions
-pub mod KeyLaws
-pub mod OrderLaws
 -- definitions that only private functions cite
 pub mod Walk

@@ -1,6 +1,7 @@
 use Rattle.std.proofs.Common.{length, ap, sym, ◌∙◌, arith}
 use Rattle.std.specs.Option.{option_copied}
-use Rattle.ancestry.specs.Trees.{line, line_above}
+use Rattle.ancestry.specs.Trees.{line}
+use Rattle.ancestry.proofs.LineLemmas.{line_above}
 use Rattle.ancestry.specs.Statuses.{first_marked, status_by}
 use Rattle.ancestry.proofs.WalkLemmas.{walk_step, unmarked}
 use Rattle.ancestry.proofs.marks.marked.Goals as goal

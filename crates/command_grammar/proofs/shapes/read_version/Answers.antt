@@ -1,9 +1,9 @@
-use Rattle.std.proofs.Common.{◌≡◌, Option, Ok, cond, ap, ◌∙◌, subst}
+use Rattle.std.proofs.Common.{◌≡◌, Option, cond, ap, ◌∙◌, subst}
 use Rattle.std.specs.List.{before_first, after_first}
 use Rattle.ancestry.specs.Nodes.{is_slash}
 use Rattle.bug_record.specs.declared.command.VersionArg.{VersionArg}
 use Rattle.bug_record.specs.declared.command.Refusal.TheVariants.{BadVersion}
-use Rattle.command_grammar.specs.Commands.{or_refuse}
+use Rattle.std.specs.Option.{ok_or}
 use Rattle.command_grammar.specs.Reads.{Reads}
 use Rattle.command_grammar.specs.Versions.{bare_version, sourced_version, version_of_word}
 use Rattle.command_grammar.proofs.shapes.read_version.Goals as goal
@@ -14,4 +14,4 @@ returns-in-Some c =
     let same : sourced_version c.in-Some.source.now c.in-Some.version.now ≡ version_of_word w
     = (λ i. sourced_version (c.in-Some.ensures.before i) (c.in-Some.ensures.after i))
     ∙ ap (λ t. cond t (sourced_version (before_first is_slash w) (after_first is_slash w)) (bare_version w)) c.in-Some.ensures.slash in
-    subst (λ (o : Option VersionArg). Reads (or_refuse o BadVersion (λ version. Ok version)) c.read_sourced.result) same c.read_sourced.ensures
+    subst (λ (o : Option VersionArg). Reads (ok_or o BadVersion) c.read_sourced.result) same c.read_sourced.ensures

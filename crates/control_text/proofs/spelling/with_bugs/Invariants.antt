@@ -1,5 +1,6 @@
 use Rattle.std.proofs.Common.{◌≡◌, ◌∷◌, ◌++◌, map, drop, string_bytes}
-use Rattle.control_text.specs.Spelling.{bug_text, after_spaces}
+use Rattle.control_text.specs.Spelling.{bug_text}
+use Rattle.control_text.proofs.SpacedLemmas.{after_spaces}
 use Rattle.control_text.proofs.spelling.with_bugs.Given as goal
 
 abbrev pub invariant-loop-other : goal.invariant-loop-other

@@ -1,6 +1,6 @@
 use Rattle.std.proofs.lemmas.Cmp.{tied_itself, upto}
 use Rattle.debver.specs.Versions.{text_cmp}
-use Rattle.debver.specs.OrderLaws.{text_cmp_total}
+use Rattle.debver.proofs.OrderLaws.{text_cmp_total}
 use Rattle.debver.proofs.NotGreater.{not_greater, no_greater, one_of}
 use Rattle.debver.proofs.laws.order_laws.Goals as goal
 

@@ -1,4 +1,4 @@
-use Rattle.debver.specs.OrderLaws.{total_cmp_total, total_ties_exactly}
+use Rattle.debver.proofs.OrderLaws.{total_cmp_total, total_ties_exactly}
 use Rattle.debver.proofs.laws.total_laws.Goals as goal
 
 pub returns-clause-laws : goal.returns-clause-laws

@@ -1,6 +1,6 @@
 use Rattle.std.proofs.Common.{◌≡◌, sym, ◌∙◌, rules}
 use Rattle.debver.specs.Versions.{total_cmp}
-use Rattle.debver.specs.OrderLaws.{total_ties_exactly}
+use Rattle.debver.proofs.OrderLaws.{total_ties_exactly}
 use Rattle.debver.proofs.precedence.total.Goals as goal
 
 pub returns-clause-equal : goal.returns-clause-equal

@@ -11,7 +11,7 @@ use Rattle.std.proofs.lemmas.Bool.Decides.{same_from_decides}
 use Rattle.std.proofs.lemmas.Map.Lookups.{exact_bytes}
 use Rattle.debver.specs.Cut.{cut}
 use Rattle.debver.specs.Keys.{key}
-use Rattle.debver.specs.KeyLaws.{key_cmp_total}
+use Rattle.debver.proofs.KeyLaws.{key_cmp_total}
 use Rattle.debver.specs.Versions.{epoch_value, revision_or_zero, version_cmp, text_cmp, total_cmp}
 
 pub version_cmp_total : IsTotalOrder version_cmp
