@@ -1,5 +1,5 @@
 //! Tests of what data can't show: readers and writers in pieces and failing, stores that fail, what a
-//! set holds, and calls that no program makes.
+//! set holds, the plan of a merge as a call, and calls that no program makes.
 #![tactic(auto)]
 
 #[cfg(test)]
@@ -11,11 +11,15 @@ mod faults;
 #[cfg(test)]
 mod lines;
 #[cfg(test)]
+mod merges;
+#[cfg(test)]
 mod messages;
 #[cfg(test)]
 mod readers;
 #[cfg(test)]
 mod scripts;
+#[cfg(test)]
+mod sets;
 #[cfg(test)]
 mod stores;
 #[cfg(test)]

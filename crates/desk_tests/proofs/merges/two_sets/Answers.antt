@@ -7,7 +7,7 @@ use Rattle.bug_record.specs.declared.bug.Member.{Member}
 use Rattle.bug_record.specs.declared.bug.SetImage.{SetImage}
 use Rattle.bug_core.proofs.ImageLemmas.{no_member-has}
 use Rattle.bug_record.proofs.SetLemmas.{one_number}
-use Rattle.record_tests.proofs.merges.two_sets.Goals as goal
+use Rattle.desk_tests.proofs.merges.two_sets.Goals as goal
 
 two_apart : (i j : SetImage) → numbers_of i.members ≡ 1 ∷ [] → numbers_of j.members ≡ 2 ∷ [] → AreApart (i ∷ j ∷ [])
 two_apart i j e q = ((λ n h. none n (one_number n 1 (ap (λ z. has z n) (sym e) ∙ h))), ((λ n h. refl), tt))
