@@ -90,7 +90,7 @@ fn make_change<S: Records>(
     next: u64,
     change: &Change,
 ) -> Result<Outcome, StoreFault>
-    requires apart { AreApart change.now.images }
+    requires apart { S.is_kept store.old → S.is_honest store.old → AreApart change.now.images }
     requires members { Each HasMember change.now.images }
     requires planned { S.is_kept store.old → S.is_honest store.old → MayBeMade (S.desk store.old) images.now next change.now }
     ensures answer { Holds S.is_kept S.is_honest store.old store.new (CarriesOut (S.desk store.old) change.now result (S.desk store.new)) }

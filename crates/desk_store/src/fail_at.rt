@@ -80,7 +80,7 @@ impl<S: Records> Records for FailAt<S> {
     }
 
     fn apply(&mut self, change: &Change) -> Result<(), StoreFault>
-        requires apart { AreApart change.now.images }
+        requires apart { S.is_kept self.old.inner → S.is_honest self.old.inner → AreApart change.now.images }
         requires members { Each HasMember change.now.images }
         requires fits { S.is_kept self.old.inner → S.is_honest self.old.inner → FitsDesk (S.desk self.old.inner) change.now }
         ensures answer { Holds S.is_kept S.is_honest self.old.inner self.new.inner

@@ -37,10 +37,10 @@ pub trait Records {
         ensures answer { Asks is_kept is_honest self.old self.new (Answers (desk self.old) (desk self.new) result (IsNext (desk self.old))) }
         ensures count { faults self.new ≡ faults_after result (faults self.old) };
 
-    /// Carries a change out, in one step. Of the change it asks that each image has a member and no bug is in two, and,
-    /// of kept tables over an honest disk, that it covers whole sets and leaves a sound desk.
+    /// Carries a change out, in one step. Of the change it asks that each image has a member, and, of kept tables over an
+    /// honest disk, that no bug is in two images, and that it covers whole sets and leaves a sound desk.
     fn apply(&mut self, change: &Change) -> Result<(), StoreFault>
-        requires apart { AreApart change.now.images }
+        requires apart { is_kept self.old → is_honest self.old → AreApart change.now.images }
         requires members { Each HasMember change.now.images }
         requires fits { is_kept self.old → is_honest self.old → FitsDesk (desk self.old) change.now }
         ensures answer { Holds is_kept is_honest self.old self.new (Applies (desk self.old) (desk self.new) result change.now) }

@@ -4,6 +4,14 @@ use Rattle.desk_store.proofs.HoldsLemmas.{holds_where, holds_both}
 use Rattle.desk_messages.proofs.CommandLemmas.{shown, planned, does_planned, does_refused}
 use Rattle.desk_messages.proofs.command.take_meant.Goals as goal
 
+pub make_change-requires-clause-apart : goal.make_change-requires-clause-apart
+make_change-requires-clause-apart g c k h =
+    let a = c.in-Ok.ensures.answer in
+    let b = c.in-Ok-next.ensures.answer in
+    let early = b.holds.honest h in
+    let kept = b.was_kept k h in
+    c.in-Ok-plan.ensures.apart _ (shown _ _ _ _ _ _ _ c.as_slice-sets.ensures (a.holds.fact (a.was_kept kept early) early) (b.holds.fact kept h) (g.met.S.Records.sound _ k))
+
 pub make_change-requires-clause-planned : goal.make_change-requires-clause-planned
 make_change-requires-clause-planned g c k h =
     let a = c.in-Ok.ensures.answer in
