@@ -5,6 +5,7 @@
 mod command_word;
 mod commands;
 mod fault;
+mod few_words;
 mod merges;
 mod reassign;
 mod severity;

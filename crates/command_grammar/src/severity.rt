@@ -5,19 +5,17 @@ ghost use Rattle.command_grammar.specs.Commands.{severity_command};
 ghost use Rattle.command_grammar.specs.Reads.{Reads};
 
 use crate::fault::LineFault;
+use crate::few_words::two_words;
 use crate::shapes::{MALFORMED, read_bug};
 use bug_record::{Command, Refusal, Severity};
-use line_words::{Named, split_word};
+use line_words::Named;
 
 /// The command that the text after the word `severity` gives: `severity n s`.
+#[tactic(auto, using(crate::proofs::ShapeLemmas::no_severity))]
 pub(crate) fn read_severity(arguments: &str) -> Result<Command<Named>, LineFault>
     ensures { Reads (severity_command (words arguments.now)) result }
 {
-    let (first, rest) = split_word(arguments).ok_or(MALFORMED)?;
-    let (second, rest) = split_word(rest).ok_or(MALFORMED)?;
-    if split_word(rest).is_some() {
-        return Err(MALFORMED);
-    }
+    let (first, second) = two_words(arguments).ok_or(MALFORMED)?;
     let bug = read_bug(first)?;
     match Severity::read(second) {
         Some(severity) => Ok(Command::Severity(bug, severity)),

@@ -9,10 +9,11 @@ ghost use Rattle.command_grammar.specs.Reads.{Reads};
 ghost use Rattle.bug_record.specs.declared.command.Refusal.TheVariants.{BadVersion};
 
 use crate::fault::LineFault;
+use crate::few_words::{one_word, two_words};
 use ancestry::at_first_slash;
 use bug_record::{Refusal, VersionArg};
 use debver::{Text, check, check_name};
-use line_words::{Named, bug_word, split_word};
+use line_words::{Named, bug_word};
 use std::alloc::Global;
 
 /// The refusal of a line whose shape is wrong.
@@ -82,47 +83,39 @@ pub(crate) fn read_package(alloc: Global, word: &str) -> Result<Text, LineFault>
 }
 
 /// `n`: a bug alone.
+#[tactic(auto, using(crate::proofs::ShapeLemmas::not_alone))]
 pub(crate) fn bug_alone(arguments: &str) -> Result<Named, LineFault>
     ensures { Reads (bug_alone (words arguments.now)) result }
 {
-    let (word, rest) = split_word(arguments).ok_or(MALFORMED)?;
-    match split_word(rest) {
-        None => read_bug(word),
-        Some(_) => Err(MALFORMED),
-    }
+    read_bug(one_word(arguments).ok_or(MALFORMED)?)
 }
 
 /// `n v`: a bug and a version.
+#[tactic(auto, using(crate::proofs::ShapeLemmas::no_version))]
 pub(crate) fn bug_and_version(
     alloc: Global,
     arguments: &str,
 ) -> Result<(Named, VersionArg), LineFault>
     ensures { Reads (bug_and_version (words arguments.now)) result }
 {
-    let (first, rest) = split_word(arguments).ok_or(MALFORMED)?;
-    let (second, rest) = split_word(rest).ok_or(MALFORMED)?;
-    if split_word(rest).is_some() {
-        return Err(MALFORMED);
-    }
+    let (first, second) = two_words(arguments).ok_or(MALFORMED)?;
     let bug = read_bug(first)?;
     let version = read_version(alloc, second)?;
     Ok((bug, version))
 }
 
 /// `n [v]`: a bug, and a version, if one is given.
+#[tactic(auto, using(crate::proofs::ShapeLemmas::no_optional_version))]
 pub(crate) fn bug_and_optional_version(
     alloc: Global,
     arguments: &str,
 ) -> Result<(Named, Option<VersionArg>), LineFault>
     ensures { Reads (bug_and_optional_version (words arguments.now)) result }
 {
-    let (first, rest) = split_word(arguments).ok_or(MALFORMED)?;
-    let Some((second, more)) = split_word(rest) else {
-        return Ok((read_bug(first)?, None));
-    };
-    if split_word(more).is_some() {
-        return Err(MALFORMED);
+    if let Some(word) = one_word(arguments) {
+        return Ok((read_bug(word)?, None));
     }
+    let (first, second) = two_words(arguments).ok_or(MALFORMED)?;
     let bug = read_bug(first)?;
     let version = read_version(alloc, second)?;
     Ok((bug, Some(version)))
