@@ -62,7 +62,9 @@ pub branch_fault : (line : List ℕ) (names : List (List ℕ)) (nodes : List Nod
 branch_fault line names nodes s d (Ok answer) fault e n f h = absurd (none-some fault f)
 branch_fault line names nodes s d (Err told) fault e n f h = (subst AsksStore (sym e) (nodes, n), h, ap fault_text (same_Some told fault f))
 
-pub branch_carried : (line : List ℕ) (names : List (List ℕ)) (nodes : List Node) (s : Standing) (d : Desk) (n0 n1 : Faults) (answer : Result (Result (Unit {0}) BranchFault) StoreFault) → directive_of line ≡ Branch names → nodes_of names ≡ Some nodes → n1 ≡ faults_after answer n0
+pub branch_carried : (line : List ℕ) (names : List (List ℕ)) (nodes : List Node) (s : Standing) (d : Desk) (n0 n1 : Faults)
+    (answer : Result (Result (Unit {0}) BranchFault) StoreFault) → directive_of line ≡ Branch names
+    → nodes_of names ≡ Some nodes → n1 ≡ faults_after answer n0
     → Branches s.desk d answer nodes → IsCarried (DirectiveLine line) s d n0 n1 (branch_answer answer)
 branch_carried line names nodes s d n0 n1 (Ok answer) e n counted h =
     let w = branch_whole line names nodes s d (Ok answer) (s.refused || refuses_branch (Ok answer)) e n refl refl h in
@@ -70,16 +72,19 @@ branch_carried line names nodes s d n0 n1 (Ok answer) e n counted h =
 branch_carried line names nodes s d n0 n1 (Err fault) e n counted h = inr (fault, branch_fault line names nodes s d (Err fault) fault e n refl h, counted)
 
 -- how it is counted
-pub whole_count : (answer : Result (Result (Unit {0}) BranchFault) StoreFault) (n : Faults) → fault_of_branch answer ≡ None → faults_after answer n ≡ n
+pub whole_count : (answer : Result (Result (Unit {0}) BranchFault) StoreFault) (n : Faults) → fault_of_branch answer ≡ None
+    → faults_after answer n ≡ n
 whole_count (Ok answer) n f = refl
 whole_count (Err fault) n f = absurd (none-some fault (sym f))
 
-pub fault_count : (answer : Result (Result (Unit {0}) BranchFault) StoreFault) (fault : StoreFault) (n : Faults) → fault_of_branch answer ≡ Some fault → faults_after answer n ≡ counted fault n
+pub fault_count : (answer : Result (Result (Unit {0}) BranchFault) StoreFault) (fault : StoreFault) (n : Faults)
+    → fault_of_branch answer ≡ Some fault → faults_after answer n ≡ counted fault n
 fault_count (Ok answer) fault n f = absurd (none-some fault f)
 fault_count (Err told) fault n f = ap (λ (x : StoreFault). counted x n) (same_Some told fault f)
 
 -- at most one fault is counted
-pub branch_count : (answer : Result (Result (Unit {0}) BranchFault) StoreFault) (n : Faults) → (fault : StoreFault) × (faults_after answer n ≡ counted fault n)
+pub branch_count : (answer : Result (Result (Unit {0}) BranchFault) StoreFault) (n : Faults) →
+    (fault : StoreFault) × (faults_after answer n ≡ counted fault n)
 branch_count (Ok answer) n = (faults.Memory, refl)
 branch_count (Err fault) n = (fault, refl)
 

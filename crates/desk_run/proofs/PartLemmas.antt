@@ -36,13 +36,15 @@ message_whole lines s outcomes end d h =
       m.1 ∙ ap (λ (x : End). standing d s.sender (s.refused || refuses outcomes x)) h.end_is,
     )
 
-carried_whole : (lines : List (List ℕ)) (s : Standing) (outcomes : List Entry) (end : End) (d : Desk) (n0 n1 : Faults) → n1 ≡ n0 → Comes s.sender lines s.desk outcomes end d → IsCarried (Message lines) s d n0 n1 (received_text outcomes end lines)
+carried_whole : (lines : List (List ℕ)) (s : Standing) (outcomes : List Entry) (end : End) (d : Desk) (n0 n1 : Faults) → n1 ≡ n0
+    → Comes s.sender lines s.desk outcomes end d → IsCarried (Message lines) s d n0 n1 (received_text outcomes end lines)
 carried_whole lines s outcomes end d n0 n1 n h =
     let w = message_whole lines s outcomes end d h in
     inl (sym (ap (λ (x : Standing). x.desk) w.1), sym w.0, n)
 
 -- a message that was received is carried out, whole or up to a fault
-pub received_carried : (lines : List (List ℕ)) (s : Standing) (outcomes : List Entry) (end : End) (d : Desk) (n0 n1 : Faults) → n1 ≡ faults_after_end end n0 → IsReceived s.sender lines s.desk outcomes end d
+pub received_carried : (lines : List (List ℕ)) (s : Standing) (outcomes : List Entry) (end : End) (d : Desk) (n0 n1 : Faults)
+    → n1 ≡ faults_after_end end n0 → IsReceived s.sender lines s.desk outcomes end d
     → IsCarried (Message lines) s d n0 n1 (received_text outcomes end lines)
 received_carried lines s outcomes ends.All d n0 n1 n h = carried_whole lines s outcomes ends.All d n0 n1 n h
 received_carried lines s outcomes ends.Stopped d n0 n1 n h = carried_whole lines s outcomes ends.Stopped d n0 n1 n h
@@ -82,7 +84,9 @@ order_done line s b c0 c1 text directive e f t h =
     (f ∙ sym o.1, subst (Appends c0 c1) (t ∙ sym o.0) h)
 
 -- its text not all written
-pub order_unwritten : (line : List ℕ) (s : Standing) (d : Desk) (faults : Faults) (c0 c1 : Option (List ℕ)) (text : List ℕ) (n : ℕ) (directive : Directive) → directive ≡ directive_of line → d ≡ (after_directive directive s).desk → text ≡ directive_text directive s → n < length text → Appends c0 c1 (take n text)
+pub order_unwritten : (line : List ℕ) (s : Standing) (d : Desk) (faults : Faults) (c0 c1 : Option (List ℕ)) (text : List ℕ)
+    (n : ℕ) (directive : Directive) → directive ≡ directive_of line → d ≡ (after_directive directive s).desk
+    → text ≡ directive_text directive s → n < length text → Appends c0 c1 (take n text)
     → StopsIn (DirectiveLine line) s d faults faults c0 c1 stops.Write
 order_unwritten line s d faults c0 c1 text n directive e f t few h =
     let o = order_is line s directive (sym e) in
@@ -93,7 +97,8 @@ abbrev fault_of : ScriptFault → Result (Unit {0}) ScriptFault → ScriptFault
 fault_of other (Ok done) = other
 fault_of other (Err fault) = fault
 
-pub order_refused : (line : List ℕ) (s : Standing) (sender : List ℕ) (refused : Bool) (faults : Faults) (c0 c1 : Option (List ℕ)) (text : List ℕ) (directive : Directive) (r : Result (Unit {0}) ScriptFault)
+pub order_refused : (line : List ℕ) (s : Standing) (sender : List ℕ) (refused : Bool) (faults : Faults)
+    (c0 c1 : Option (List ℕ)) (text : List ℕ) (directive : Directive) (r : Result (Unit {0}) ScriptFault)
     → directive ≡ directive_of line → after_directive directive s ≡ standing s.desk s.sender true → text ≡ directive_text directive s
     → OnOk r (Appends c0 c1 text) → OnErr r ((n : ℕ) × (n < length text) × Appends c0 c1 (take n text)) → OnErr r (r ≡ Err stops.Write) → OnOk r (refused ≡ true) → sender ≡ s.sender
     → Carries (DirectiveLine line) s (standing s.desk sender refused) faults faults c0 c1 r
@@ -104,11 +109,13 @@ order_refused line s sender refused faults c0 c1 text directive (Err fault) e af
     (order_unwritten line s s.desk faults c0 c1 text some.0 directive e (ap (λ (x : Standing). x.desk) (sym after)) t some.1 some.2)
 
 -- out of memory before anything was done
-pub not_begun : (part : Part) (s : Standing) (d : Desk) (n0 n1 : Faults) (c : Option (List ℕ)) → d ≡ s.desk → n1 ≡ n0 → StopsIn part s d n0 n1 c c stops.Memory
+pub not_begun : (part : Part) (s : Standing) (d : Desk) (n0 n1 : Faults) (c : Option (List ℕ)) → d ≡ s.desk → n1 ≡ n0
+    → StopsIn part s d n0 n1 c c stops.Memory
 not_begun part s d n0 n1 c e n = (inl (e, n), appends_none c)
 
 -- out of memory for the text of what was done
-pub untold : (part : Part) (s : Standing) (d : Desk) (n0 n1 : Faults) (c : Option (List ℕ)) (text : List ℕ) → IsCarried part s d n0 n1 text → StopsIn part s d n0 n1 c c stops.Memory
+pub untold : (part : Part) (s : Standing) (d : Desk) (n0 n1 : Faults) (c : Option (List ℕ)) (text : List ℕ)
+    → IsCarried part s d n0 n1 text → StopsIn part s d n0 n1 c c stops.Memory
 untold part s d n0 n1 c text h = (inr (text, h), appends_none c)
 
 -- what a report comes to
@@ -118,13 +125,17 @@ report_is line p v sev t s r e h =
     let o = order_is line s (Report p v sev t) e in
     (o.0 ∙ ap (λ (x : Result Desk ReportFault). report_text x s.desk.next) h, o.1 ∙ ap (λ (x : Result Desk ReportFault). after_report x s) h)
 
-refused_carried : (line p : List ℕ) (v : Option (List ℕ)) (sev t : List ℕ) (s : Standing) (d : Desk) (n0 n1 : Faults) (fault : ReportFault) → directive_of line ≡ Report p v sev t → n1 ≡ n0 → (report_of s.desk s.sender p v sev t ≡ Err fault) × (d ≡ s.desk)
+refused_carried : (line p : List ℕ) (v : Option (List ℕ)) (sev t : List ℕ) (s : Standing) (d : Desk) (n0 n1 : Faults)
+    (fault : ReportFault) → directive_of line ≡ Report p v sev t
+    → n1 ≡ n0 → (report_of s.desk s.sender p v sev t ≡ Err fault) × (d ≡ s.desk)
     → IsCarried (DirectiveLine line) s d n0 n1 (report_text (Err fault) s.desk.next)
 refused_carried line p v sev t s d n0 n1 fault e n h =
     let o = report_is line p v sev t s (Err fault) e h.0 in
     inl (h.1 ∙ sym (ap (λ (x : Standing). x.desk) o.1), sym o.0, n)
 
-pub reported_carried : (line p : List ℕ) (v : Option (List ℕ)) (sev t : List ℕ) (s : Standing) (d : Desk) (n0 n1 : Faults) (answer : Result ℕ ReportFault) → directive_of line ≡ Report p v sev t → n1 ≡ faults_after_report answer n0 → IsReported s.sender p v sev t s.desk answer d
+pub reported_carried : (line p : List ℕ) (v : Option (List ℕ)) (sev t : List ℕ) (s : Standing) (d : Desk) (n0 n1 : Faults)
+    (answer : Result ℕ ReportFault) → directive_of line ≡ Report p v sev t → n1 ≡ faults_after_report answer n0
+    → IsReported s.sender p v sev t s.desk answer d
     → IsCarried (DirectiveLine line) s d n0 n1 (report_answer answer)
 reported_carried line p v sev t s d n0 n1 (Ok number) e n h =
     let o = report_is line p v sev t s (Ok d) e h.0 in
@@ -176,7 +187,8 @@ refused_count reports.BadSeverity n e = refl
 refused_count reports.BadTitle n e = refl
 refused_count reports.Full n e = refl
 
-pub fault_count : (fault : ReportFault) (f : StoreFault) (n : Faults) → store_fault fault ≡ Some f → faults_after_report (Err fault) n ≡ counted f n
+pub fault_count : (fault : ReportFault) (f : StoreFault) (n : Faults) → store_fault fault ≡ Some f
+    → faults_after_report (Err fault) n ≡ counted f n
 fault_count (reports.Store fault) f n e = ap (λ (x : StoreFault). counted x n) (same_Some fault f e)
 fault_count reports.BadPackage f n e = absurd (none-some f e)
 fault_count reports.BadVersion f n e = absurd (none-some f e)
@@ -184,14 +196,16 @@ fault_count reports.BadSeverity f n e = absurd (none-some f e)
 fault_count reports.BadTitle f n e = absurd (none-some f e)
 fault_count reports.Full f n e = absurd (none-some f e)
 
-pub end_count : (end : End) (fault : StoreFault) (n : Faults) → fault_of_end end ≡ Some fault → faults_after_end end n ≡ counted fault n
+pub end_count : (end : End) (fault : StoreFault) (n : Faults) → fault_of_end end ≡ Some fault
+    → faults_after_end end n ≡ counted fault n
 end_count ends.All fault n e = absurd (none-some fault e)
 end_count ends.Stopped fault n e = absurd (none-some fault e)
 end_count ends.TooManyUnreadable fault n e = absurd (none-some fault e)
 end_count (ends.Store told k) fault n e = ap (λ (x : StoreFault). counted x n) (same_Some told fault e)
 
 -- at most one fault is counted
-pub report_count : (answer : Result ℕ ReportFault) (n : Faults) → (fault : StoreFault) × (faults_after_report answer n ≡ counted fault n)
+pub report_count : (answer : Result ℕ ReportFault) (n : Faults) →
+    (fault : StoreFault) × (faults_after_report answer n ≡ counted fault n)
 report_count (Ok number) n = (faults.Memory, refl)
 report_count (Err (reports.Store fault)) n = (fault, refl)
 report_count (Err reports.BadPackage) n = (faults.Memory, refl)

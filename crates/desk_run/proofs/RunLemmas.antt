@@ -44,7 +44,8 @@ pub one_ran : (part : Part) (a b : Standing) (c0 c1 : Option (List ℕ)) → (b 
 one_ran part a b c0 c1 h = (h.0 ∙ sym (after_one part a), subst (Appends c0 c1) (sym (text_one part a)) h.1)
 
 -- a stop in one part
-pub one_stops : (part : Part) (a : Standing) (d : Desk) (n0 n1 : Faults) (c0 c1 : Option (List ℕ)) (fault : ScriptFault) → StopsIn part a d n0 n1 c0 c1 fault → Stops (part ∷ []) a d n0 n1 c0 c1 fault
+pub one_stops : (part : Part) (a : Standing) (d : Desk) (n0 n1 : Faults) (c0 c1 : Option (List ℕ)) (fault : ScriptFault)
+    → StopsIn part a d n0 n1 c0 c1 fault → Stops (part ∷ []) a d n0 n1 c0 c1 fault
 one_stops part a d n0 n1 c0 c1 fault h = record {
   before = [];
   part = part;
@@ -64,7 +65,8 @@ runs_then ps qs a b e c0 c1 c2 p q = (
   subst (Appends c0 c2) (ap (λ (s : Standing). text_of ps a ++ text_of qs s) p.0 ∙ sym (text_append ps qs a)) (Appends-trans c0 c1 c2 (text_of ps a) (text_of qs b) p.1 q.1),
 )
 
-pub runs_then_stops : (ps qs : List Part) (a b : Standing) (d : Desk) (n0 n1 : Faults) (c0 c1 c2 : Option (List ℕ)) (fault : ScriptFault) → Runs ps a b c0 c1 → Stops qs b d n0 n1 c1 c2 fault → Stops (ps ++ qs) a d n0 n1 c0 c2 fault
+pub runs_then_stops : (ps qs : List Part) (a b : Standing) (d : Desk) (n0 n1 : Faults) (c0 c1 c2 : Option (List ℕ))
+    (fault : ScriptFault) → Runs ps a b c0 c1 → Stops qs b d n0 n1 c1 c2 fault → Stops (ps ++ qs) a d n0 n1 c0 c2 fault
 runs_then_stops ps qs a b d n0 n1 c0 c1 c2 fault p q =
     let s : after_parts (ps ++ q.before) a ≡ after_parts q.before b = after_append ps q.before a ∙ ap (after_parts q.before) (sym p.0) in
     let t : text_of (ps ++ q.before) a ≡ text_of ps a ++ text_of q.before b = text_append ps q.before a ∙ ap (λ (x : Standing). text_of ps a ++ text_of q.before x) (sym p.0) in
@@ -79,7 +81,8 @@ runs_then_stops ps qs a b d n0 n1 c0 c1 c2 fault p q =
     }
 
 -- more parts would have followed
-pub stops_more : (ps qs : List Part) (a : Standing) (d : Desk) (n0 n1 : Faults) (c0 c1 : Option (List ℕ)) (fault : ScriptFault) → Stops ps a d n0 n1 c0 c1 fault → Stops (ps ++ qs) a d n0 n1 c0 c1 fault
+pub stops_more : (ps qs : List Part) (a : Standing) (d : Desk) (n0 n1 : Faults) (c0 c1 : Option (List ℕ)) (fault : ScriptFault)
+    → Stops ps a d n0 n1 c0 c1 fault → Stops (ps ++ qs) a d n0 n1 c0 c1 fault
 stops_more ps qs a d n0 n1 c0 c1 fault q = record {
   before = q.before;
   part = q.part;
@@ -100,7 +103,8 @@ parts_begin gathered [] = (gathered, [], refl)
 parts_begin gathered (line ∷ lines) = parts_begin_at gathered line lines (is_directive line) refl (parts_begin (gathered ++ line ∷ []) lines)
 
 -- out of memory while a message is gathered
-pub gathered_stops : (gathered lines : List (List ℕ)) (a : Standing) (d : Desk) (n : Faults) (c : Option (List ℕ)) → d ≡ a.desk → Stops (parts_from gathered lines) a d n n c c stops.Memory
+pub gathered_stops : (gathered lines : List (List ℕ)) (a : Standing) (d : Desk) (n : Faults) (c : Option (List ℕ)) → d ≡ a.desk
+    → Stops (parts_from gathered lines) a d n n c c stops.Memory
 gathered_stops gathered lines a d n c e =
     let p = parts_begin gathered lines in
     subst (λ (ps : List Part). Stops ps a d n n c c stops.Memory) (sym p.2)
@@ -113,13 +117,17 @@ pub parts_gathered : (gathered : List (List ℕ)) (line : List ℕ) (lines : Lis
 parts_gathered gathered line lines e = rw e refl
 
 -- the script stops in the message before a directive
-pub stops_at_message : (gathered : List (List ℕ)) (line : List ℕ) (lines : List (List ℕ)) (a : Standing) (d : Desk) (n0 n1 : Faults) (c0 c1 : Option (List ℕ)) (fault : ScriptFault) → is_directive line ≡ true → StopsIn (Message gathered) a d n0 n1 c0 c1 fault → Stops (parts_from gathered (line ∷ lines)) a d n0 n1 c0 c1 fault
+pub stops_at_message : (gathered : List (List ℕ)) (line : List ℕ) (lines : List (List ℕ)) (a : Standing) (d : Desk)
+    (n0 n1 : Faults) (c0 c1 : Option (List ℕ)) (fault : ScriptFault) → is_directive line ≡ true
+    → StopsIn (Message gathered) a d n0 n1 c0 c1 fault → Stops (parts_from gathered (line ∷ lines)) a d n0 n1 c0 c1 fault
 stops_at_message gathered line lines a d n0 n1 c0 c1 fault e s =
     subst (λ (ps : List Part). Stops ps a d n0 n1 c0 c1 fault) (sym (parts_directive gathered line lines e)) (stops_more (Message gathered ∷ []) (DirectiveLine line ∷ parts_from [] lines) a d n0 n1 c0 c1 fault (one_stops (Message gathered) a d n0 n1 c0 c1 fault s))
 
 -- the script stops in a directive
-pub stops_at_order : (gathered : List (List ℕ)) (line : List ℕ) (lines : List (List ℕ)) (a b : Standing) (d : Desk) (m n0 n1 : Faults) (c0 c1 c2 : Option (List ℕ)) (fault : ScriptFault) → is_directive line ≡ true → m ≡ n0
-    → (b ≡ part_after (Message gathered) a) × Appends c0 c1 (part_text (Message gathered) a) → StopsIn (DirectiveLine line) b d m n1 c1 c2 fault → Stops (parts_from gathered (line ∷ lines)) a d n0 n1 c0 c2 fault
+pub stops_at_order : (gathered : List (List ℕ)) (line : List ℕ) (lines : List (List ℕ)) (a b : Standing) (d : Desk)
+    (m n0 n1 : Faults) (c0 c1 c2 : Option (List ℕ)) (fault : ScriptFault) → is_directive line ≡ true → m ≡ n0
+    → (b ≡ part_after (Message gathered) a) × Appends c0 c1 (part_text (Message gathered) a)
+    → StopsIn (DirectiveLine line) b d m n1 c1 c2 fault → Stops (parts_from gathered (line ∷ lines)) a d n0 n1 c0 c2 fault
 stops_at_order gathered line lines a b d m n0 n1 c0 c1 c2 fault e same r s =
     subst (λ (ps : List Part). Stops ps a d n0 n1 c0 c2 fault) (sym (parts_directive gathered line lines e))
     (stops_more (Message gathered ∷ DirectiveLine line ∷ []) (parts_from [] lines) a d n0 n1 c0 c2 fault
@@ -127,10 +135,13 @@ stops_at_order gathered line lines a b d m n0 n1 c0 c1 c2 fault e same r s =
     (one_stops (DirectiveLine line) b d n0 n1 c1 c2 fault (subst (λ (n : Faults). StopsIn (DirectiveLine line) b d n n1 c1 c2 fault) same s))))
 
 -- a run of the parts to their end
-pub runs_ends : (ps : List Part) (a b : Standing) (n0 n1 : Faults) (c0 c1 : Option (List ℕ)) (end : ScriptEnd) → end ≡ end_of_script b.refused → Runs ps a b c0 c1 → EndsParts ps a b.desk n0 n1 c0 c1 (Ok end)
+pub runs_ends : (ps : List Part) (a b : Standing) (n0 n1 : Faults) (c0 c1 : Option (List ℕ)) (end : ScriptEnd)
+    → end ≡ end_of_script b.refused → Runs ps a b c0 c1 → EndsParts ps a b.desk n0 n1 c0 c1 (Ok end)
 runs_ends ps a b n0 n1 c0 c1 end e p = (ap (λ (x : Standing). x.desk) p.0, e ∙ ap (λ (x : Standing). end_of_script x.refused) p.0, p.1)
 
-pub runs_then_ends : (ps qs : List Part) (a b : Standing) (d : Desk) (n0 n1 : Faults) (c0 c1 c2 : Option (List ℕ)) (r : Result ScriptEnd ScriptFault) → Runs ps a b c0 c1 → EndsParts qs b d n0 n1 c1 c2 r → EndsParts (ps ++ qs) a d n0 n1 c0 c2 r
+pub runs_then_ends : (ps qs : List Part) (a b : Standing) (d : Desk) (n0 n1 : Faults) (c0 c1 c2 : Option (List ℕ))
+    (r : Result ScriptEnd ScriptFault) → Runs ps a b c0 c1 → EndsParts qs b d n0 n1 c1 c2 r
+    → EndsParts (ps ++ qs) a d n0 n1 c0 c2 r
 runs_then_ends ps qs a b d n0 n1 c0 c1 c2 (Err fault) p q = runs_then_stops ps qs a b d n0 n1 c0 c1 c2 fault p q
 runs_then_ends ps qs a b d n0 n1 c0 c1 c2 (Ok end) p q =
     let s : after_parts (ps ++ qs) a ≡ after_parts qs b = after_append ps qs a ∙ ap (after_parts qs) (sym p.0) in (

@@ -70,7 +70,9 @@ cut_here : (texts : List (List ℕ)) (before : List Part) (g : List (List ℕ)) 
 cut_here texts before g c = ap (parts_from []) (sym (append-nil texts)) ∙ c []
 
 -- a stop in the parts of the lines that are read
-good_stops : (texts : List (List ℕ)) (before tail : List Part) (input rest : List ℕ) (a b : Standing) (d : Desk) (n0 n1 : Faults) (c0 c1 c2 : Option (List ℕ)) (fault : ScriptFault) → ReadTo texts input rest → parts_from [] texts ≡ before ++ tail → Runs before a b c0 c1
+good_stops : (texts : List (List ℕ)) (before tail : List Part) (input rest : List ℕ) (a b : Standing) (d : Desk)
+    (n0 n1 : Faults) (c0 c1 c2 : Option (List ℕ)) (fault : ScriptFault) → ReadTo texts input rest
+    → parts_from [] texts ≡ before ++ tail → Runs before a b c0 c1
     → Stops tail b d n0 n1 c1 c2 fault → StopsInGoodLines (raw_lines input) a d n0 n1 c0 c2 fault
 good_stops texts before tail input rest a b d n0 n1 c0 c1 c2 fault r e ran s = record {
   good = r.raws;
@@ -93,15 +95,20 @@ place_of_part (stops.NotUtf8 line) raws before o = absurd o
 place_of_part (stops.LineTooLong line) raws before o = absurd o
 
 -- a stop in the parts that are left
-pub stops_in : (texts : List (List ℕ)) (before : List Part) (g : List (List ℕ)) (input rest : List ℕ) (a b : Standing) (d : Desk) (n0 n1 : Faults) (c0 c1 c2 : Option (List ℕ)) (fault : ScriptFault) → ReadTo texts input rest → IsCut texts before g → Runs before a b c0 c1
-    → IsOfPart fault → Stops (parts_from g (map without_return (raw_lines rest))) b d n0 n1 c1 c2 fault → StopsInGoodLines (raw_lines input) a d n0 n1 c0 c2 fault → Ends input a d n0 n1 c0 c2 (Err fault)
+pub stops_in : (texts : List (List ℕ)) (before : List Part) (g : List (List ℕ)) (input rest : List ℕ) (a b : Standing)
+    (d : Desk) (n0 n1 : Faults) (c0 c1 c2 : Option (List ℕ)) (fault : ScriptFault) → ReadTo texts input rest
+    → IsCut texts before g → Runs before a b c0 c1
+    → IsOfPart fault → Stops (parts_from g (map without_return (raw_lines rest))) b d n0 n1 c1 c2 fault
+    → StopsInGoodLines (raw_lines input) a d n0 n1 c0 c2 fault → Ends input a d n0 n1 c0 c2 (Err fault)
 stops_in texts before g input rest a b d n0 n1 c0 c1 c2 fault r c ran o s good =
     let cut = script_cut texts before g input rest r c in
     let stop = subst (λ (ps : List Part). Stops ps a d n0 n1 c0 c2 fault) (sym cut) (runs_then_stops before (parts_from g (map without_return (raw_lines rest))) a b d n0 n1 c0 c1 c2 fault ran s) in
     (stop, place_of_part fault (raw_lines input) stop.before o, good)
 
 -- the end of the input
-pub ends_at : (texts : List (List ℕ)) (before : List Part) (g : List (List ℕ)) (input rest : List ℕ) (a b : Standing) (d : Desk) (m n0 n1 : Faults) (c0 c1 c2 : Option (List ℕ)) (r : Result ScriptEnd ScriptFault) → ReadTo texts input rest → raw_lines rest ≡ [] → IsCut texts before g → Runs before a b c0 c1
+pub ends_at : (texts : List (List ℕ)) (before : List Part) (g : List (List ℕ)) (input rest : List ℕ) (a b : Standing) (d : Desk)
+    (m n0 n1 : Faults) (c0 c1 c2 : Option (List ℕ)) (r : Result ScriptEnd ScriptFault) → ReadTo texts input rest
+    → raw_lines rest ≡ [] → IsCut texts before g → Runs before a b c0 c1
     → IfErr r IsOfPart → m ≡ n0 → EndsParts (Message g ∷ []) b d m n1 c1 c2 r → Ends input a d n0 n1 c0 c2 r
 ends_at texts before g input rest a b d m n0 n1 c0 c1 c2 (Ok end) r e c ran o same ends =
     let cut = script_cut texts before g input rest r c ∙ ap (λ (w : List (List ℕ)). before ++ parts_from g (map without_return w)) e in
@@ -113,7 +120,8 @@ ends_at texts before g input rest a b d m n0 n1 c0 c1 c2 (Err fault) r e c ran o
     (good_stops texts before (Message g ∷ []) input rest a b d n0 n1 c0 c1 c2 fault r (cut_here texts before g c) ran here)
 
 -- a stop in the reading
-unbegun : (fault : ScriptFault) (number : ℕ) (m : List (List ℕ)) (s : Standing) (d : Desk) (n0 n1 : Faults) (c : Option (List ℕ)) → IsReadingFault number fault → d ≡ s.desk → n1 ≡ n0 → StopsIn (Message m) s d n0 n1 c c fault
+unbegun : (fault : ScriptFault) (number : ℕ) (m : List (List ℕ)) (s : Standing) (d : Desk) (n0 n1 : Faults)
+    (c : Option (List ℕ)) → IsReadingFault number fault → d ≡ s.desk → n1 ≡ n0 → StopsIn (Message m) s d n0 n1 c c fault
 unbegun stops.Read number m s d n0 n1 c o e n = (tt, e, n, appends_none c)
 unbegun (stops.NotUtf8 line) number m s d n0 n1 c o e n = (tt, e, n, appends_none c)
 unbegun (stops.LineTooLong line) number m s d n0 n1 c o e n = (tt, e, n, appends_none c)
@@ -143,8 +151,11 @@ place_of_line texts before g input rest number (stops.Store fault) r c n f = tt
 place_of_line texts before g input rest number (stops.NotUtf8 line) r c n f = first_bad texts before g input rest line number _ r c n f.0 f.1 f.2 f.3 (f.4, f.5)
 place_of_line texts before g input rest number (stops.LineTooLong line) r c n f = first_bad texts before g input rest line number _ r c n f.0 f.1 f.2 f.3 f.4
 
-pub stops_reading : (texts : List (List ℕ)) (before : List Part) (g : List (List ℕ)) (input rest : List ℕ) (number : ℕ) (a b : Standing) (d : Desk) (n0 n1 : Faults) (c0 c1 : Option (List ℕ)) (fault : ScriptFault) → ReadTo texts input rest → IsCut texts before g → Runs before a b c0 c1 → d ≡ b.desk → n1 ≡ n0
-    → length texts + 1 ≡ number → IsReadingFault number fault → IsLineFault number fault rest → Ends input a d n0 n1 c0 c1 (Err fault)
+pub stops_reading : (texts : List (List ℕ)) (before : List Part) (g : List (List ℕ)) (input rest : List ℕ) (number : ℕ)
+    (a b : Standing) (d : Desk) (n0 n1 : Faults) (c0 c1 : Option (List ℕ)) (fault : ScriptFault) → ReadTo texts input rest
+    → IsCut texts before g → Runs before a b c0 c1 → d ≡ b.desk → n1 ≡ n0
+    → length texts + 1 ≡ number → IsReadingFault number fault → IsLineFault number fault rest
+    → Ends input a d n0 n1 c0 c1 (Err fault)
 stops_reading texts before g input rest number a b d n0 n1 c0 c1 fault r c ran same uncounted n o f =
     let left = map without_return (raw_lines rest) in
     let p = parts_begin g left in
@@ -163,7 +174,8 @@ stops_reading texts before g input rest number a b d n0 n1 c0 c1 fault r c ran s
     )
 
 -- nothing read, out of memory
-pub stops_at_once : (input : List ℕ) (a : Standing) (n : Faults) (c : Option (List ℕ)) → Ends input a a.desk n n c c (Err stops.Memory)
+pub stops_at_once : (input : List ℕ) (a : Standing) (n : Faults) (c : Option (List ℕ))
+    → Ends input a a.desk n n c c (Err stops.Memory)
 stops_at_once input a n c = stops_reading [] [] [] input input 1 a a a.desk n n c c stops.Memory (nothing_read input) (λ lines. refl) (runs_none a c) refl refl refl tt tt
 
 pub left_more : {a b c : Option (List ℕ)} {P Q R : List ℕ → List ℕ → Type 0} → Left a b P → Left b c Q → ((xs ys zs : List ℕ) → P xs ys → Q ys zs → R xs zs) → Left a c R
@@ -195,8 +207,12 @@ abbrev pub IsNextLine : List ℕ → List ℕ → List ℕ → Type 0
 IsNextLine line all rest = (raw : List ℕ) × (raw_lines all ≡ raw ∷ raw_lines rest) × IsGoodLine raw × (line ≡ without_return raw)
 
 -- a stop in a line that was read
-pub stops_in_line : {r0 r1 r2 : Option (List ℕ)} (texts : List (List ℕ)) (before : List Part) (g : List (List ℕ)) (source rest line : List ℕ) (a b : Standing) (d : Desk) (m n0 n1 : Faults) (c0 c1 c2 : Option (List ℕ)) (fault : ScriptFault) → m ≡ n0 → Left r0 r1 (λ xs ys. ReadTo texts xs (source ++ ys)) → Left r1 r2 (λ ys zs. IsNextLine line (source ++ ys) (rest ++ zs)) → IsCut texts before g → Runs before a b c0 c1
-    → IsOfPart fault → ((lines : List (List ℕ)) → Stops (parts_from g (line ∷ lines)) b d m n1 c1 c2 fault) → Known r0 (λ xs. Ends xs a d n0 n1 c0 c2 (Err fault))
+pub stops_in_line : {r0 r1 r2 : Option (List ℕ)} (texts : List (List ℕ)) (before : List Part) (g : List (List ℕ))
+    (source rest line : List ℕ) (a b : Standing) (d : Desk) (m n0 n1 : Faults) (c0 c1 c2 : Option (List ℕ))
+    (fault : ScriptFault) → m ≡ n0 → Left r0 r1 (λ xs ys. ReadTo texts xs (source ++ ys))
+    → Left r1 r2 (λ ys zs. IsNextLine line (source ++ ys) (rest ++ zs)) → IsCut texts before g → Runs before a b c0 c1
+    → IsOfPart fault → ((lines : List (List ℕ)) → Stops (parts_from g (line ∷ lines)) b d m n1 c1 c2 fault)
+    → Known r0 (λ xs. Ends xs a d n0 n1 c0 c2 (Err fault))
 stops_in_line texts before g source rest line a b d m n0 n1 c0 c1 c2 fault same read piece c ran o stop = record {
   known = λ xs e.
       let u = read.known xs e in
@@ -214,7 +230,9 @@ pub last_line : {r1 r2 : Option (List ℕ)} (source rest line : List ℕ) → Le
 last_line source rest line p = record { known = λ ys e. let u = p.known ys e in (u.0, u.1, no_lines_left line (source ++ ys) (rest ++ u.0) u.2) }
 
 -- the end of the input, after its last line
-pub ends_at_last : {r0 r1 r2 : Option (List ℕ)} (texts : List (List ℕ)) (before parts : List Part) (g h : List (List ℕ)) (source rest line : List ℕ) (a b : Standing) (d : Desk) (m n0 n1 : Faults) (c0 c1 c2 : Option (List ℕ)) (r : Result ScriptEnd ScriptFault) → Left r0 r1 (λ xs ys. ReadTo texts xs (source ++ ys))
+pub ends_at_last : {r0 r1 r2 : Option (List ℕ)} (texts : List (List ℕ)) (before parts : List Part) (g h : List (List ℕ))
+    (source rest line : List ℕ) (a b : Standing) (d : Desk) (m n0 n1 : Faults) (c0 c1 c2 : Option (List ℕ))
+    (r : Result ScriptEnd ScriptFault) → Left r0 r1 (λ xs ys. ReadTo texts xs (source ++ ys))
     → Left r1 r2 (λ ys zs. (raw : List ℕ) × (raw_lines (source ++ ys) ≡ raw ∷ []) × IsGoodLine raw × (line ≡ without_return raw) × (rest ++ zs ≡ [])) → IsCut texts before g → ((lines : List (List ℕ)) → parts_from g (line ∷ lines) ≡ parts ++ parts_from h lines) → Runs (before ++ parts) a b c0 c1
     → IfErr r IsOfPart → m ≡ n0 → EndsParts (Message h ∷ []) b d m n1 c1 c2 r → Known r0 (λ xs. Ends xs a d n0 n1 c0 c2 r)
 ends_at_last texts before parts g h source rest line a b d m n0 n1 c0 c1 c2 r read piece c f ran o same ends = record {

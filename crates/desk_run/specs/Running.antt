@@ -55,8 +55,10 @@ IsMessage (DirectiveLine line) = ⊥
 -- written for the part is written; at `Write` a front of it, not all; at `Memory` nothing of it, and the part may not have
 -- been begun; at a fault of reading the part is a message that was not begun.
 abbrev pub StopsIn : Part → Standing → Desk → Faults → Faults → Option (List ℕ) → Option (List ℕ) → ScriptFault → Type 0
-StopsIn part s d n0 n1 c0 c1 (Store fault) = (text : List ℕ) × FaultsIn part s fault d text × (n1 ≡ counted fault n0) × Appends c0 c1 text
-StopsIn part s d n0 n1 c0 c1 Write = (text : List ℕ) × (n : ℕ) × (n < length text) × IsCarried part s d n0 n1 text × Appends c0 c1 (take n text)
+StopsIn part s d n0 n1 c0 c1 (Store fault) =
+    (text : List ℕ) × FaultsIn part s fault d text × (n1 ≡ counted fault n0) × Appends c0 c1 text
+StopsIn part s d n0 n1 c0 c1 Write =
+    (text : List ℕ) × (n : ℕ) × (n < length text) × IsCarried part s d n0 n1 text × Appends c0 c1 (take n text)
 StopsIn part s d n0 n1 c0 c1 Memory =
     (((d ≡ s.desk) × (n1 ≡ n0)) ⊎ ((text : List ℕ) × IsCarried part s d n0 n1 text)) × Appends c0 c1 []
 StopsIn part s d n0 n1 c0 c1 Read = IsMessage part × (d ≡ s.desk) × (n1 ≡ n0) × Appends c0 c1 []
@@ -64,7 +66,8 @@ StopsIn part s d n0 n1 c0 c1 (NotUtf8 line) = IsMessage part × (d ≡ s.desk) �
 StopsIn part s d n0 n1 c0 c1 (LineTooLong line) = IsMessage part × (d ≡ s.desk) × (n1 ≡ n0) × Appends c0 c1 []
 
 -- The parts before one were carried out and their texts written, and in that one the script stops.
-pub record Stops (parts : List Part) (a : Standing) (d : Desk) (n0 n1 : Faults) (c0 c1 : Option (List ℕ)) (fault : ScriptFault) : Type 0 where
+pub record Stops (parts : List Part) (a : Standing) (d : Desk) (n0 n1 : Faults) (c0 c1 : Option (List ℕ)) (fault : ScriptFault) :
+    Type 0 where
   pub before : List Part
   pub part : Part
   pub after : List Part
@@ -92,7 +95,8 @@ pub record IsFirstBad (raws : List (List ℕ)) (number : ℕ) (before : List Par
   pub parts : parts_of_lines (map without_return good) ≡ before ++ Message gathered ∷ []
 
 -- No line beyond the good ones played a part in a stop: the first lines, which are good, are a script that stops so too.
-pub record StopsInGoodLines (raws : List (List ℕ)) (a : Standing) (d : Desk) (n0 n1 : Faults) (c0 c1 : Option (List ℕ)) (fault : ScriptFault) : Type 0 where
+pub record StopsInGoodLines (raws : List (List ℕ)) (a : Standing) (d : Desk) (n0 n1 : Faults) (c0 c1 : Option (List ℕ))
+    (fault : ScriptFault) : Type 0 where
   pub good : List (List ℕ)
   pub more : List (List ℕ)
   pub lines : raws ≡ good ++ more
@@ -107,8 +111,10 @@ IsPlace fault raws before = ⊤
 
 -- What these parts leave and have written: at their end all are carried out and their texts written, and the end says
 -- whether anything was refused; at a fault the script stops in one.
-abbrev pub EndsParts : List Part → Standing → Desk → Faults → Faults → Option (List ℕ) → Option (List ℕ) → Result ScriptEnd ScriptFault → Type 0
-EndsParts parts a d n0 n1 c0 c1 (Ok end) = (d ≡ (after_parts parts a).desk) × (end ≡ end_of_script (after_parts parts a).refused) × Appends c0 c1 (text_of parts a)
+abbrev pub EndsParts : List Part → Standing → Desk → Faults → Faults → Option (List ℕ) → Option (List ℕ)
+    → Result ScriptEnd ScriptFault → Type 0
+EndsParts parts a d n0 n1 c0 c1 (Ok end) =
+    (d ≡ (after_parts parts a).desk) × (end ≡ end_of_script (after_parts parts a).refused) × Appends c0 c1 (text_of parts a)
 EndsParts parts a d n0 n1 c0 c1 (Err fault) = Stops parts a d n0 n1 c0 c1 fault
 
 -- a fault of a part, and not of the reading
@@ -121,18 +127,23 @@ IsOfPart fault = ⊥
 -- What a script over this input leaves and has written. At its end all lines are good, all parts are carried out and
 -- their texts written, and the end says whether anything was refused; at a fault it stops in a part, and did nothing for
 -- a line that is not good.
-abbrev pub Ends : List ℕ → Standing → Desk → Faults → Faults → Option (List ℕ) → Option (List ℕ) → Result ScriptEnd ScriptFault → Type 0
+abbrev pub Ends : List ℕ → Standing → Desk → Faults → Faults → Option (List ℕ) → Option (List ℕ)
+    → Result ScriptEnd ScriptFault → Type 0
 Ends input a d n0 n1 c0 c1 (Ok end) =
-    AreGood (raw_lines input) × (d ≡ (after_parts (script_of input) a).desk) × (end ≡ end_of_script (after_parts (script_of input) a).refused) × Appends c0 c1 (text_of (script_of input) a)
-Ends input a d n0 n1 c0 c1 (Err fault) = (stop : Stops (script_of input) a d n0 n1 c0 c1 fault) × IsPlace fault (raw_lines input) stop.before × StopsInGoodLines (raw_lines input) a d n0 n1 c0 c1 fault
+    AreGood (raw_lines input) × (d ≡ (after_parts (script_of input) a).desk)
+    × (end ≡ end_of_script (after_parts (script_of input) a).refused) × Appends c0 c1 (text_of (script_of input) a)
+Ends input a d n0 n1 c0 c1 (Err fault) =
+    (stop : Stops (script_of input) a d n0 n1 c0 c1 fault) × IsPlace fault (raw_lines input) stop.before
+    × StopsInGoodLines (raw_lines input) a d n0 n1 c0 c1 fault
 
 -- a part was carried out, or the script stops in it
-abbrev pub Carries : {T : Type 0} → Part → Standing → Standing → Faults → Faults → Option (List ℕ) → Option (List ℕ) → Result T ScriptFault → Type 0
+abbrev pub Carries : {T : Type 0} → Part → Standing → Standing → Faults → Faults → Option (List ℕ) → Option (List ℕ)
+    → Result T ScriptFault → Type 0
 Carries part a b n0 n1 c0 c1 (Ok done) = (b ≡ part_after part a) × Appends c0 c1 (part_text part a)
 Carries part a b n0 n1 c0 c1 (Err fault) = StopsIn part a b.desk n0 n1 c0 c1 fault
 
--- The store's faults after a script, or a part of one. Where no text could be built or written, a fault of the store of
--- any kind may have come before (at `Memory`, which is not counted, or at none, they are as before).
+-- The store's faults after a script, or a part of one. Before `Write` and `Memory` the store may have failed once: where it
+-- has not, or failed for want of memory, they are as before.
 abbrev pub IsCounted : {T : Type 0} → Result T ScriptFault → Faults → Faults → Type 0
 IsCounted (Ok end) before now = now ≡ before
 IsCounted (Err (Store fault)) before now = now ≡ counted fault before
