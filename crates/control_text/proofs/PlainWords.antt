@@ -1,10 +1,11 @@
 -- Words of printed ASCII characters: they hold no blank and no control character.
-use Rattle.std.proofs.Common.{◌≡◌, ℕ, ◌^◌, ◌≤◌, ◌<◌, ◌&&◌, ◌||◌, ◌==◌, nat_le, nat_lt, Bool, true, false, not, List, [], ◌∷◌, ◌++◌, length, Option, Some, None, refl, ap, ◌∙◌, inl, inr, arith}
+use Rattle.std.proofs.Common.{◌≡◌, ℕ, ◌^◌, ◌≤◌, ◌<◌, ◌&&◌, ◌||◌, ◌==◌, nat_le, Bool, true, false, not, List, [], ◌∷◌, ◌++◌, length, Option, Some, None, refl, ap, ◌∙◌, inl, inr, arith}
 use Rattle.std.specs.List.{list_any, list_all}
-use Rattle.std.specs.Char.{is_ascii_digit}
+use Rattle.std.specs.Char.{is_ascii_digit, is_ascii_control}
+use Rattle.std.specs.Int.{is_in_range}
 use Rattle.std.specs.Fmt.{decimal}
 use Rattle.std.specs.Str.Parse.{digits_value}
-use Rattle.std.proofs.lemmas.Bool.{or_cases, and_parts, and_from, and_left, or_from, leb-true, le-leb, le-ltb, eqb-true, ne_eqb}
+use Rattle.std.proofs.lemmas.Bool.{or_cases, and_parts, and_from, and_left, and_right, or_from, false_from_ne_true, leb-true, le-leb, eqb-true, ne_eqb}
 use Rattle.std.proofs.lemmas.List.Folds.{list_all-append}
 use Rattle.std.proofs.lemmas.Fmt.{decimal_is_IsNumeral, length-decimal-le}
 use Rattle.debver.specs.Characters.{is_digit, is_letter, is_colon, is_hyphen}
@@ -32,8 +33,10 @@ no_blank c low = or_from (c == 32) (c == 9) (ne_eqb c 32 (λ e. omega arith)) (n
 
 no_control : (c : ℕ) → 33 ≤ c → c ≤ 126 → is_control c ≡ false
 no_control c low high =
-    let above : nat_lt c 32 ≡ false = le-ltb c 32 (omega arith) in
-    or_from (nat_lt c 32 && not (c == 9)) (c == 127) (and_left (nat_lt c 32) (not (c == 9)) above) (ne_eqb c 127 (λ e. omega arith))
+    let above : nat_le c 31 ≡ false = false_from_ne_true (nat_le c 31) (λ e. omega (arith, leb-true c 31 e)) in
+    let below : nat_le 127 c ≡ false = false_from_ne_true (nat_le 127 c) (λ e. omega (arith, leb-true 127 c e)) in
+    and_left (is_ascii_control c) (not (c == 9))
+    (or_from (is_in_range 0 31 c) (is_in_range 127 127 c) (and_right (nat_le 0 c) (nat_le c 31) above) (and_left (nat_le 127 c) (nat_le c 127) below))
 
 pub graphic-blank : (s : List ℕ) → IsGraphic s → list_any is_blank s ≡ false
 graphic-blank [] h = refl

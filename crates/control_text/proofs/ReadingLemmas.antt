@@ -30,7 +30,7 @@ use Rattle.command_grammar.specs.declared.command_word.CommandWord.{CommandWord}
 use Rattle.command_grammar.specs.declared.command_word.CommandWord.TheVariants as command_words
 use Rattle.line_words.specs.Numbers.{without_hash, number_of_digits}
 use Rattle.line_words.specs.Bugs.{bug_of_text, bug_of_word, IsGoodBug}
-use Rattle.line_words.specs.Words.{words, words_with_commas, trimmed, first_word, after_word, without_first_blanks}
+use Rattle.line_words.specs.Words.{words, words_with_commas, trimmed, first_word, after_word, without_first}
 use Rattle.command_grammar.specs.Versions.{bare_version, sourced_version, version_of_word, without_src, package_of_word}
 use Rattle.command_grammar.specs.Commands.{and_read, read_bug, read_version, bug_and_version, bug_and_optional_version, severity_command, read_package, reassign_command, limited_text, who_of_text, some_text, some_who, optional_who, bug_and_text, bug_and_some_text, bug_and_some_who, bug_alone, each_word, bug_and_others, some_steps, tags_command, reopen_command, command_of}
 use Rattle.control_text.specs.WellFormed.{IsPlain, IsAddress, IsWellFormed}
@@ -176,7 +176,7 @@ optional_who-good (c ∷ text) good =
 
 pub clean_after_word : (text : List ℕ) → list_any is_control text ≡ false → list_any is_control (after_word text) ≡ false
 clean_after_word text clean =
-    let t = without_first_blanks text in
+    let t = without_first is_blank text in
     none-drop is_control (position_or_len is_blank t) t (none-drop is_control (prefix_len is_blank text) text clean)
 
 -- what follows a bug word is a text, where it has 1 to 200 bytes

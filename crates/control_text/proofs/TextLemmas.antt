@@ -8,7 +8,7 @@ use Rattle.std.proofs.lemmas.List.Sums.{suffix_len-le-length}
 use Rattle.std.proofs.Math.Seq.{drop-append_seam}
 use Rattle.line_words.specs.Blanks.{is_blank, is_control, begins_blank}
 use Rattle.bug_record.specs.Texts.{ends_blank, is_text, IsText}
-use Rattle.line_words.specs.Words.{without_first_blanks, without_last_blanks, trimmed}
+use Rattle.line_words.specs.Words.{without_first, without_last_blanks, trimmed}
 use Rattle.line_words.proofs.WordLemmas.{begins_blank-without_first}
 
 -- what no byte of a text is, no byte of a part of it is
@@ -57,7 +57,7 @@ begins_blank-last s h =
 
 pub control-trimmed : (s : List ℕ) → list_any is_control s ≡ false → list_any is_control (trimmed s) ≡ false
 control-trimmed s h =
-    let t = without_first_blanks s in
+    let t = without_first is_blank s in
     none-take is_control (length t - suffix_len is_blank t) t (none-drop is_control (prefix_len is_blank s) s h)
 
 text_from : (s : List ℕ) → 1 ≤ length s → length s ≤ 200 → list_any is_control s ≡ false → begins_blank s ≡ false → ends_blank s ≡ false → IsText s
@@ -71,7 +71,7 @@ text_from s least most clean first last =
 -- a text without outer blanks is a text, where it has 1 to 200 bytes and no control character
 pub trimmed-text : (s : List ℕ) → 1 ≤ length (trimmed s) → length (trimmed s) ≤ 200 → list_any is_control s ≡ false → IsText (trimmed s)
 trimmed-text s least most clean =
-    text_from (trimmed s) least most (control-trimmed s clean) (begins_blank-last (without_first_blanks s) (begins_blank-without_first s)) (ends_blank-last (without_first_blanks s))
+    text_from (trimmed s) least most (control-trimmed s clean) (begins_blank-last (without_first is_blank s) (begins_blank-without_first s)) (ends_blank-last (without_first is_blank s))
 
 -- what a text is
 pub record TextParts (s : List ℕ) : Type 0 where
@@ -103,7 +103,7 @@ pub none_first : (s : List ℕ) → begins_blank s ≡ false → prefix_len is_b
 none_first [] h = refl
 none_first (c ∷ s) h = cond-false (is_blank c) _ _ h
 
-pub unblanked_first : (s : List ℕ) → begins_blank s ≡ false → without_first_blanks s ≡ s
+pub unblanked_first : (s : List ℕ) → begins_blank s ≡ false → without_first is_blank s ≡ s
 unblanked_first s h = ap (λ n. drop n s) (none_first s h)
 
 -- a text is what is left of it without outer blanks

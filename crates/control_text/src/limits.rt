@@ -31,12 +31,7 @@ fn is_good_bug(bug: Named) -> bool
 fn are_good_bugs(bugs: &[Named]) -> bool
     ensures { Decides result (Each IsGoodBug bugs.now) }
 {
-    for bug in bugs {
-        if !is_good_bug(*bug) {
-            return false;
-        }
-    }
-    true
+    bugs.iter().all(|bug| is_good_bug(*bug))
 }
 
 // Two bugs or more.
@@ -96,10 +91,11 @@ fn is_good_optional_who(who: &Option<Who>) -> bool
     }
 }
 
-/// Whether a command can be written: its numbers and names are from 1 to 999,999,999, its versions, package names and texts
-/// are within their limits, no text that is given for a submitter or an owner is `!`, which stands for the sender, none that
-/// is given for `reopen` is `=`, which stands for nobody, and a merge has a second bug. This project's own rule. It holds of
-/// all that `read_line` gives.
+/// Whether a command can be written: its numbers and names are from 1 to 999,999,999, its versions,
+/// package names and texts are within their limits, no text that is given for a submitter or an
+/// owner is `!`, which stands for the sender, none that is given for `reopen` is `=`, which stands
+/// for nobody, and a merge has a second bug. This project's own rule. It holds of all that
+/// `read_line` gives.
 pub fn well_formed(command: &Command<Named>) -> bool
     ensures { Decides result (IsWellFormed command.now) }
 {

@@ -6,8 +6,6 @@ ghost use Rattle.debver.specs.Characters.{is_digit};
 ghost use Rattle.debver.specs.Parts.{parts_of, written, revision_text, in_upstream, in_revision};
 ghost use Rattle.debver.specs.Faults.{wrong_place, has_bad_epoch, upstream_fault_at, revision_fault_at, fault};
 
-use crate::characters::{is_digit, is_letter};
-
 /// The first fault of a text, in the order in which they stand here. A place is a byte offset in
 /// the whole text.
 #[derive(Clone, Copy, Debug, PartialEq, Eq)]
@@ -27,7 +25,7 @@ pub enum VersionFault {
 fn in_revision(c: u8) -> bool
     ensures { result ≡ in_revision c }
 {
-    is_digit(c) || is_letter(c) || c == b'.' || c == b'+' || c == b'~'
+    c.is_ascii_digit() || c.is_ascii_alphabetic() || c == b'.' || c == b'+' || c == b'~'
 }
 
 fn in_upstream(has_epoch: bool, c: u8) -> bool
@@ -39,7 +37,7 @@ fn in_upstream(has_epoch: bool, c: u8) -> bool
 fn first_non_digit(s: &[u8]) -> Option<usize>
     ensures { result ≡ position (λ c. not (is_digit c)) s.now }
 {
-    s.iter().position(|c| !is_digit(*c))
+    s.iter().position(|c| !c.is_ascii_digit())
 }
 
 fn first_outside_upstream(has_epoch: bool, s: &[u8]) -> Option<usize>

@@ -1,7 +1,6 @@
 //! Version texts and their order, names of packages, and texts that are kept.
 #![tactic(auto)]
 
-mod characters;
 mod fault;
 mod laws;
 mod name;

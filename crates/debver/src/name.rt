@@ -3,8 +3,6 @@
 ghost use Rattle.std.specs.Prelude.{◌≡◌, not, position, Some, None, MatchResult};
 ghost use Rattle.debver.specs.Names.{starts_name, in_name, has_name_start, wrong_in_name, IsName, name_fault};
 
-use crate::characters::is_digit;
-
 /// Why a text is no name of a package: the first fault, in the order in which they stand here.
 #[derive(Clone, Copy, Debug, PartialEq, Eq)]
 pub enum NameFault {
@@ -19,7 +17,7 @@ pub enum NameFault {
 fn starts_name(c: u8) -> bool
     ensures { result ≡ starts_name c }
 {
-    c.is_ascii_lowercase() || is_digit(c)
+    c.is_ascii_lowercase() || c.is_ascii_digit()
 }
 
 fn in_name(c: u8) -> bool

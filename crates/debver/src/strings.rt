@@ -7,7 +7,6 @@ ghost use Rattle.debver.specs.Characters.{is_digit};
 ghost use Rattle.debver.specs.Keys.{weight, value, string_cmp};
 ghost use Rattle.debver.specs.Walk.{head_weight, starts_word, is_zero};
 
-use crate::characters::{is_digit, is_letter};
 use std::cmp::Ordering;
 
 // The place of a character in the order: the tilde, then letters, then all others.
@@ -16,7 +15,7 @@ fn weight(c: u8) -> u16
 {
     if c == b'~' {
         0
-    } else if is_letter(c) {
+    } else if c.is_ascii_alphabetic() {
         2 + c as u16
     } else {
         300 + c as u16
@@ -28,7 +27,7 @@ fn head_weight(s: &[u8]) -> u16
     ensures { result ≡ head_weight s.now }
 {
     match s.first() {
-        Some(c) if !is_digit(*c) => weight(*c),
+        Some(c) if !c.is_ascii_digit() => weight(*c),
         _ => 1,
     }
 }
@@ -38,7 +37,7 @@ fn starts_word(s: &[u8]) -> bool
     ensures { result ≡ starts_word s.now }
 {
     match s.first() {
-        Some(c) => !is_digit(*c),
+        Some(c) => !c.is_ascii_digit(),
         None => false,
     }
 }
@@ -67,7 +66,7 @@ fn digit_count(s: &[u8]) -> usize
     ensures value { result ≡ prefix_len is_digit s.now }
     ensures within { result ≤ length s.now }
 {
-    s.iter().take_while(|c| is_digit(**c)).count()
+    s.iter().take_while(|c| c.is_ascii_digit()).count()
 }
 
 // How many zeros come first.

@@ -1,4 +1,5 @@
--- The words of a text: the maximal runs of bytes between separators, which are blanks, or blanks and commas.
+-- The words of a text: the maximal runs of bytes between separators, which are blanks, or blanks
+-- and commas.
 use Rattle.std.specs.Prelude.{ℕ, ◌≡◌, ◌==◌, ◌||◌, Bool, true, false, ◌-◌, List, [], ◌∷◌, ◌++◌, length, take, drop, filter, IsTrue, IsFalse, ⊤}
 use Rattle.std.specs.List.{slice_split, list_any, list_all, prefix_len, suffix_len, position_or_len, before_first}
 use Rattle.line_words.specs.Blanks.{is_blank}
@@ -38,8 +39,8 @@ abbrev pub EndsWord : (ℕ → Bool) → List ℕ → Type 0
 EndsWord separates [] = ⊤
 EndsWord separates (c ∷ s) = IsTrue (separates c)
 
--- The text is separators or nothing, then this word, then the rest: the word has bytes, none of them a separator, and ends
--- there.
+-- The text is separators or nothing, then this word, then the rest: the word has bytes, none of
+-- them a separator, and ends there.
 pub record IsFirstWord (separates : ℕ → Bool) (text word rest : List ℕ) : Type 0 where
   pub gap : List ℕ
   pub text_is : text ≡ gap ++ (word ++ rest)
@@ -48,7 +49,8 @@ pub record IsFirstWord (separates : ℕ → Bool) (text word rest : List ℕ) : 
   pub whole : IsFalse (list_any separates word)
   pub end : EndsWord separates rest
 
--- The text is these words, with separators before, between and after them, and at least one between two.
+-- The text is these words, with separators before, between and after them, and at least one between
+-- two.
 abbrev pub IsCutInto : (ℕ → Bool) → List ℕ → List (List ℕ) → Type 0
 IsCutInto separates text [] = AreSeparators separates text
 IsCutInto separates text (word ∷ more) = (rest : List ℕ) × IsFirstWord separates text word rest × IsCutInto separates rest more
@@ -57,16 +59,13 @@ IsCutInto separates text (word ∷ more) = (rest : List ℕ) × IsFirstWord sepa
 abbrev pub without_first : (ℕ → Bool) → List ℕ → List ℕ
 without_first separates s = drop (prefix_len separates s) s
 
--- a text without the blanks at its beginning, and at its end
-abbrev pub without_first_blanks : List ℕ → List ℕ
-without_first_blanks s = without_first is_blank s
-
+-- a text without the blanks at its end
 abbrev pub without_last_blanks : List ℕ → List ℕ
 without_last_blanks s = take (length s - suffix_len is_blank s) s
 
 -- a text without outer blanks
 abbrev pub trimmed : List ℕ → List ℕ
-trimmed s = without_last_blanks (without_first_blanks s)
+trimmed s = without_last_blanks (without_first is_blank s)
 
 -- a text's first word, which is empty where it has none, and what follows it
 abbrev pub first_between : (ℕ → Bool) → List ℕ → List ℕ

@@ -19,14 +19,13 @@ pub trait Spelled {
         ensures { result.now ≡ spelled self.now };
 }
 
-/// The first of the values whose name the word is, in any ASCII case; `None` where it is the name of none.
+/// The first of the values whose name the word is, in any ASCII case; `None` where it is the name
+/// of none.
 pub fn find_spelled<T: Spelled + Copy>(values: &[T], word: &str) -> Option<T>
     ensures { result ≡ find (λ value. is_word word.now (T.spelled value)) values.now }
 {
-    for value in values {
-        if is_word(word, value.spelled()) {
-            return Some(*value);
-        }
-    }
-    None
+    values
+        .iter()
+        .copied()
+        .find(|value| is_word(word, value.spelled()))
 }

@@ -15,7 +15,7 @@ pub fn is_blank(byte: u8) -> bool
 pub fn is_control(byte: u8) -> bool
     ensures { result ≡ is_control byte }
 {
-    (byte < 32 && byte != b'\t') || byte == 127
+    byte.is_ascii_control() && byte != b'\t'
 }
 
 /// Whether the text holds a control character other than tab.
