@@ -1,4 +1,5 @@
--- Proper ancestors through a branch: none is lost, and the nodes of the branch are proper ancestors of those before them.
+-- Proper ancestors through a branch: none is lost, and the nodes of the branch are proper ancestors
+-- of those before them.
 use Rattle.std.proofs.Common.{◌≡◌, ℕ, ◌+◌, Bool, true, false, ◌||◌, cond, List, [], ◌∷◌, ◌++◌, drop, Option, Some, None, is_some, Ok, All, refl, sym, ap, ◌∙◌, subst, ⊎_elim, append-nil}
 use Rattle.std.proofs.lemmas.Bool.{cases_Bool, false≢true, or_left, or_right}
 use Rattle.std.proofs.lemmas.List.Elements.{All-nil, All-cons, All-head, All-tail, All-weaker}

@@ -1,4 +1,5 @@
--- What a branch does to an ancestry: it stays one, no proper ancestor is lost, and the nodes are based on one another.
+-- What a branch does to an ancestry: it stays one, no proper ancestor is lost, and the nodes are
+-- based on one another.
 use Rattle.std.proofs.Common.{◌≡◌, true, false, List, [], ◌∷◌, ◌++◌, Option, Some, None, is_some, sym, ap, ◌∙◌, subst, ⊎_elim}
 use Rattle.std.proofs.lemmas.Bool.{cases_Bool, false≢true, or_parts}
 use Rattle.std.specs.BTreeMap.{insert_entry}

@@ -1,4 +1,5 @@
--- Lines: there is one from each node, its nodes differ, and it is no longer than there are known nodes, but for an unknown node's.
+-- Lines: there is one from each node, its nodes differ, and it is no longer than there are known
+-- nodes, but for an unknown node's.
 use Rattle.std.proofs.Common.{◌≡◌, ℕ, ◌+◌, ◌≤◌, ◌<◌, zero, suc, true, false, ◌||◌, List, [], ◌∷◌, length, drop, Option, Some, None, is_some, refl, sym, ap, ◌∙◌, subst, ⊎_elim, arith}
 use Rattle.std.proofs.lemmas.Bool.{cases_Bool, false≢true, or_left, or_parts}
 use Rattle.std.proofs.lemmas.Map.Steps.{length-le_from_keys}

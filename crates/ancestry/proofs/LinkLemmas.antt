@@ -1,4 +1,5 @@
--- Links: nodes stay in order when one is put in, and lists of links in which the same is known of each node are equal.
+-- Links: nodes stay in order when one is put in, and lists of links in which the same is known of
+-- each node are equal.
 use Rattle.std.proofs.Common.{◌≡◌, false, List, [], ◌∷◌, Option, None, unwrap_or, Ordering, Less, Equal, Greater, refl, sym, ap, ◌∙◌, subst, ⊎_elim}
 use Rattle.std.proofs.lemmas.Bool.{cases_Bool}
 use Rattle.std.proofs.lemmas.Map.Keys.{sorted_head, sorted_tail}

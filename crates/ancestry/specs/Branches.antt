@@ -19,8 +19,8 @@ learn_all t (n ∷ nodes) = learn_all (learn t n) nodes
 abbrev pub with_parent : Ancestry → Node → Node → Ancestry
 with_parent t n p = insert_entry node_cmp t n (Some p)
 
--- n is based on p: nothing is new where p is a proper ancestor of n; otherwise p becomes its parent, where n has none and
--- is not in the line of p
+-- n is based on p: nothing is new where p is a proper ancestor of n; otherwise p becomes its
+-- parent, where n has none and is not in the line of p
 abbrev pub base_on : Ancestry → Node → Node → Option Ancestry
 base_on t n p =
     if is_ancestor t p n then Some t
@@ -46,7 +46,8 @@ is_repeat nodes place = option_map_or (has_node (take place nodes)) (slice_get n
 abbrev pub first_repeat : List Node → Option ℕ
 first_repeat nodes = find (is_repeat nodes) (range_with_len 0 (length nodes))
 
--- The ancestry after a branch, or why it is refused, in this order. All nodes of a branch are known after it.
+-- The ancestry after a branch, or why it is refused, in this order. All nodes of a branch are known
+-- after it.
 unfoldable pub branched : Ancestry → List Node → Result Ancestry BranchFault
 branched t nodes =
     if length nodes == 0 then Err EmptyBranch
@@ -59,8 +60,8 @@ TakesMemory (Ok t) = ⊤
 TakesMemory (Err (Conflict place)) = ⊤
 TakesMemory (Err fault) = ⊥
 
--- What a call answers and leaves: an accepted branch gives the ancestry above, and a refused one, or one for which there is
--- no memory, leaves what was there.
+-- What a call answers and leaves: an accepted branch gives the ancestry above, and a refused one,
+-- or one for which there is no memory, leaves what was there.
 abbrev pub IsBranched : Ancestry → List Node → Result (Unit {0}) BranchFault → Ancestry → Type 0
 IsBranched t nodes (Ok _) t' = branched t nodes ≡ Ok t'
 IsBranched t nodes (Err Memory) t' = t' ≡ t

@@ -1,4 +1,5 @@
--- What may have changed while a branch is taken, so that it can be put back. This project's own rule.
+-- What may have changed while a branch is taken, so that it can be put back. This project's own
+-- rule.
 use Rattle.std.specs.Prelude.{◌≡◌, ◌&&◌, ⊤, Bool, true, false, List, Option, Some, None, is_none, Result, Ok, Err}
 use Rattle.std.specs.List.Sorted.{IsStrictlySortedBy}
 use Rattle.std.specs.Map.{keys_of}
@@ -9,7 +10,8 @@ use Rattle.ancestry.specs.declared.branch.Past.TheVariants.{Unknown, Root, Based
 use Rattle.ancestry.specs.declared.fault.BranchFault.{BranchFault}
 use Rattle.ancestry.specs.declared.fault.BranchFault.TheVariants.{Memory}
 
--- a part of the work gives what it is to give, or refuses as it is to; out of memory leaves this open
+-- a part of the work gives what it is to give, or refuses as it is to; out of memory leaves this
+-- open
 abbrev pub Makes : Result Ancestry BranchFault → Result (Unit {0}) BranchFault → Ancestry → Type 0
 Makes r (Ok _) t' = r ≡ Ok t'
 Makes r (Err Memory) t' = ⊤

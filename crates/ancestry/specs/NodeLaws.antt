@@ -1,4 +1,5 @@
--- The laws of the equality and the order of nodes, which their impls owe: over all nodes, also those that are not valid.
+-- The laws of the equality and the order of nodes, which their impls owe: over all nodes, also
+-- those that are not valid.
 use Rattle.std.proofs.Common.{◌≡◌}
 use Rattle.std.specs.Cmp.{IsEquivalence, IsTotalOrder, and_equiv, on_equiv, on_total, then_total, both_tied}
 use Rattle.std.specs.Cmp.Lexicographic.{nat_list_eq_equiv, nat_list_cmp_total, texts_ties}

@@ -1,5 +1,5 @@
--- Nodes: versions of source packages (names of packages: Debian Policy 5.6.1; versions: 5.6.12; how the two are written
--- together is this project's own rule).
+-- Nodes: versions of source packages (names of packages: Debian Policy 5.6.1; versions: 5.6.12; how
+-- the two are written together is this project's own rule).
 use Rattle.std.specs.Prelude.{ℕ, ◌≡◌, ◌≢◌, ◌==◌, ◌&&◌, Bool, List, ◌∷◌, ◌++◌, Option, Some, None, is_none, Result, Ok, Err, if◌then◌else◌}
 use Rattle.std.specs.List.{list_any, before_first, after_first}
 use Rattle.std.specs.Str.{bytes_eq}
@@ -49,15 +49,16 @@ node_of source version = if is_none (name_fault source) && is_none (text_fault v
 abbrev pub node_of_text : List ℕ → Option Node
 node_of_text text = if list_any is_slash text then node_of (before_first is_slash text) (after_first is_slash text) else None
 
--- The node that a version word means for a package: a bare version is one of the package, and `source/version` has its
--- own source. The package has to be a package name either way.
+-- The node that a version word means for a package: a bare version is one of the package, and
+-- `source/version` has its own source. The package has to be a package name either way.
 abbrev pub node_at : List ℕ → List ℕ → Option Node
 node_at package_name word =
     if is_none (name_fault package_name)
     then (if list_any is_slash word then node_of_text word else node_of package_name word)
     else None
 
--- what reading answers: the node, if there is one; out of memory is answered only where there is one
+-- what reading answers: the node, if there is one; out of memory is answered only where there is
+-- one
 abbrev pub IsRead : Option Node → Result Node NodeFault → Type 0
 IsRead o (Ok n) = o ≡ Some n
 IsRead o (Err BadNode) = o ≡ None

@@ -10,7 +10,8 @@ use Rattle.ancestry.specs.declared.statuses.Status.TheVariants.{Found, Fixed, Ab
 abbrev pub first_marked : List Node → List Node → List Node → Option Node
 first_marked found fixed line = find (λ n. has_node found n || has_node fixed n) line
 
--- that node decides, found before fixed; with no such node the bug is found where the found list is empty
+-- that node decides, found before fixed; with no such node the bug is found where the found list is
+-- empty
 abbrev pub status_by : List Node → Option Node → Status
 status_by found (Some n) = if has_node found n then Found else Fixed
 status_by found None = if length found == 0 then Found else Absent

@@ -40,7 +40,8 @@ abbrev pub line_within : ℕ → Ancestry → Node → List Node
 line_within zero t n = n ∷ []
 line_within (suc steps) t n = n ∷ option_map_or (line_within steps t) (parent_of t n) []
 
--- The line of a node; an unknown node's is itself alone. It has no more steps than there are known nodes.
+-- The line of a node; an unknown node's is itself alone. It has no more steps than there are known
+-- nodes.
 abbrev pub line : Ancestry → Node → List Node
 line t n = line_within (length t) t n
 

@@ -1,4 +1,5 @@
-//! Nodes (versions of source packages), the tree that says which is based on which, and the status of a bug at a node.
+//! Nodes (versions of source packages), the tree that says which is based on which, and the status
+//! of a bug at a node.
 #![tactic(auto)]
 
 mod branch;

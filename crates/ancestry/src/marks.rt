@@ -35,9 +35,10 @@ fn marked(tree: &Tree, found: &[Node], fixed: &[Node], node: &Node) -> Status
     }
 }
 
-/// The status at a node of a bug that is found and fixed at these nodes: `Done` where it is closed and fixed nowhere;
-/// otherwise the first node of the line that is in a list decides, found before fixed; with no such node it is `Found`
-/// where it is found nowhere, and else `Absent`. Takes no memory. This project's own rule.
+/// The status at a node of a bug that is found and fixed at these nodes: `Done` where it is closed
+/// and fixed nowhere; otherwise the first node of the line that is in a list decides, found before
+/// fixed; with no such node it is `Found` where it is found nowhere, and else `Absent`. Takes no
+/// memory. This project's own rule.
 #[tactic(auto, unfolding(crate::specs::Statuses::status))]
 pub fn status(tree: &Tree, found: &[Node], fixed: &[Node], closed: bool, node: &Node) -> Status
     ensures { result ≡ status tree.now found.now fixed.now closed node.now }

@@ -69,9 +69,10 @@ pub fn at_first_slash(text: &str) -> Option<(&str, &str)>
 }
 
 impl Node {
-    /// Reads a node, which is written `source/version`: the name of a source package (Debian Policy 5.6.1), a slash and a
-    /// version (5.6.12). The text is cut at its first slash. Errors: `BadNode` where there is no slash, or the parts are
-    /// no such name and version, and `Memory`. How the two are written together is this project's own rule.
+    /// Reads a node, which is written `source/version`: the name of a source package (Debian Policy
+    /// 5.6.1), a slash and a version (5.6.12). The text is cut at its first slash. Errors:
+    /// `BadNode` where there is no slash, or the parts are no such name and version, and `Memory`.
+    /// How the two are written together is this project's own rule.
     pub fn read(alloc: Global, text: &str) -> Result<Node, NodeFault>
         ensures { IsRead (node_of_text text.now) result }
     {
@@ -81,9 +82,10 @@ impl Node {
         }
     }
 
-    /// The node that a version word means for a package: a bare version is one of the package, and a word with a slash is
-    /// read as a node of its own source. Errors: `BadNode` where the package is no package name (either way) or the word
-    /// gives no node, and `Memory`. This project's own rule.
+    /// The node that a version word means for a package: a bare version is one of the package, and
+    /// a word with a slash is read as a node of its own source. Errors: `BadNode` where the package
+    /// is no package name (either way) or the word gives no node, and `Memory`. This project's own
+    /// rule.
     pub fn at(alloc: Global, package: &str, word: &str) -> Result<Node, NodeFault>
         ensures { IsRead (node_at «package».now word.now) result }
     {
@@ -170,7 +172,8 @@ impl PartialOrd for Node {
     }
 }
 
-/// Nodes are ordered by the bytes of the source, then by the total order of versions. This project's own rule.
+/// Nodes are ordered by the bytes of the source, then by the total order of versions. This
+/// project's own rule.
 impl Ord for Node {
     ghost cmp = { node_cmp };
 

@@ -11,8 +11,8 @@ use std::alloc::{AllocError, Global};
 use std::collections::BTreeMap;
 use std::marker::Model;
 
-/// The known nodes, each with its parent, if it has one: parents are known, and there are no cycles. Contracts see the
-/// links in node order. This project's own rule.
+/// The known nodes, each with its parent, if it has one: parents are known, and there are no
+/// cycles. Contracts see the links in node order. This project's own rule.
 #[derive(Drop)]
 pub struct Tree {
     pub(crate) links: BTreeMap<Node, Option<Node>>,
@@ -67,8 +67,8 @@ impl Tree {
         }
     }
 
-    /// The line of a node: copies of the node, its parent, and so on to one that has none. An unknown node's line is
-    /// itself alone. The error is that there was no memory.
+    /// The line of a node: copies of the node, its parent, and so on to one that has none. An
+    /// unknown node's line is itself alone. The error is that there was no memory.
     pub fn line(&self, node: &Node) -> Result<Vec<Node>, AllocError>
         ensures value { IfOk result (λ nodes. nodes.items ≡ line self.now node.now) }
         ensures is_line { IfOk result (λ nodes. IsLine self.now node.now nodes.items) }
@@ -90,9 +90,9 @@ impl Tree {
         self.links.values().any(|parent| is_this(node, parent))
     }
 
-    /// The heads of a source package: copies of its known nodes that are no node's parent, in node order. A text that is
-    /// no package name has none. The error is that there was no memory. For each node of the package it may look at all
-    /// known nodes.
+    /// The heads of a source package: copies of its known nodes that are no node's parent, in node
+    /// order. A text that is no package name has none. The error is that there was no memory. For
+    /// each node of the package it may look at all known nodes.
     pub fn heads(&self, source: &str) -> Result<Vec<Node>, AllocError>
         ensures value { IfOk result (λ nodes. nodes.items ≡ heads self.now source.now) }
         ensures ascending { IfOk result (λ nodes. IsStrictlySortedBy node_cmp nodes.items) }

@@ -123,8 +123,8 @@ abbrev pub bug_and_others : List (List ℕ) → Result (Named × List Named) Ref
 bug_and_others (n ∷ m ∷ more) = and_read (read_bug n) (λ bug. and_read (each_word read_bug (m ∷ more)) (λ others. Ok (bug, others)))
 bug_and_others _ = Err Malformed
 
--- The sign that a word begins with, and the tag that follows it: one `+`, `-` or `=`, or none. What signs say here is this
--- project's own rule.
+-- The sign that a word begins with, and the tag that follows it: one `+`, `-` or `=`, or none. What
+-- signs say here is this project's own rule.
 abbrev pub sign_and_tag : List ℕ → Option Sign × List ℕ
 sign_and_tag [] = (None, [])
 sign_and_tag (c ∷ word) =
@@ -133,7 +133,8 @@ sign_and_tag (c ∷ word) =
     else if c == 61 then (Some Equals, word)
     else (None, c ∷ word)
 
--- Whether tags are added, or taken out, from a sign on: `-` takes them out. Without a sign it is as before.
+-- Whether tags are added, or taken out, from a sign on: `-` takes them out. Without a sign it is as
+-- before.
 abbrev pub adds_after : Option Sign → Bool → Bool
 adds_after None adds = adds
 adds_after (Some Plus) adds = true
@@ -157,7 +158,8 @@ tag_steps adds (c ∷ word) = and_read (ok_or (tag_of (c ∷ word)) BadTag) (λ 
 abbrev pub word_steps : Bool → Option Sign → List ℕ → Result (List TagStep) Refusal
 word_steps adds sign tag = and_read (tag_steps adds tag) (λ steps. Ok (sign_steps sign ++ steps))
 
--- The steps of words, which begin with adding tags, or with taking them out: a sign holds until the next one.
+-- The steps of words, which begin with adding tags, or with taking them out: a sign holds until the
+-- next one.
 abbrev pub all_steps : Bool → List (List ℕ) → Result (List TagStep) Refusal
 all_steps adds [] = Ok []
 all_steps adds (word ∷ more) =

@@ -1,5 +1,5 @@
--- Words that stand for versions and packages (the BTS page 'control and manipulation'; the limits are this project's own
--- rule).
+-- Words that stand for versions and packages (the BTS page 'control and manipulation'; the limits
+-- are this project's own rule).
 use Rattle.std.specs.Prelude.{ℕ, ◌&&◌, codes, if◌then◌else◌, List, take, drop, Option, Some, None, is_none}
 use Rattle.std.specs.List.{list_any, before_first, after_first}
 use Rattle.std.specs.Str.{bytes_eq}

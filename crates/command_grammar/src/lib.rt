@@ -1,5 +1,5 @@
-//! The commands of a control message: what a command's word and the text after it give, or why they are refused, by the BTS
-//! page 'control and manipulation'.
+//! The commands of a control message: what a command's word and the text after it give, or why they
+//! are refused, by the BTS page 'control and manipulation'.
 #![tactic(auto)]
 
 mod command_word;

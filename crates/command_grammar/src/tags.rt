@@ -98,7 +98,8 @@ fn all_steps(alloc: Global, text: &str) -> Result<Sequence<TagStep>, LineFault>
     Ok(steps)
 }
 
-/// The command that the text after the word `tags` gives: `tags n ..`, tags and signs, between which commas may stand.
+/// The command that the text after the word `tags` gives: `tags n ..`, tags and signs, between
+/// which commas may stand.
 pub(crate) fn read_tags(alloc: Global, arguments: &str) -> Result<Command<Named>, LineFault>
     ensures { Reads (tags_command arguments.now) result }
 {

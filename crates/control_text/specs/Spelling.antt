@@ -1,4 +1,5 @@
--- The canonical spelling of a command: its words in lower case, with one space between them. This project's own rule.
+-- The canonical spelling of a command: its words in lower case, with one space between them. This
+-- project's own rule.
 use Rattle.std.specs.Prelude.{ℕ, codes, List, [], ◌∷◌, ◌++◌, map, Option, Some, None}
 use Rattle.std.specs.List.{join_with_byte}
 use Rattle.std.specs.Option.{option_map_or}

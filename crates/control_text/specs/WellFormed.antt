@@ -43,7 +43,8 @@ IsSpellable (commands.Forwarded bug text) = ⊤
 IsSpellable (commands.NotForwarded bug) = ⊤
 IsSpellable (commands.NoOwner bug) = ⊤
 
--- The bugs' numbers or names, and the versions, names and texts, are within their limits, and the command is spellable.
+-- The bugs' numbers or names, and the versions, names and texts, are within their limits, and the
+-- command is spellable.
 pub record IsWellFormed (command : Command Named) : Type 0 where
   pub bugs : Each IsGoodBug (bugs_named command)
   pub parts : HasGoodParts command

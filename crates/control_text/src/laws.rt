@@ -1,4 +1,5 @@
-//! Laws of the definitions that the contracts of this crate cite. Each body is empty: the contract is the law.
+//! Laws of the definitions that the contracts of this crate cite. Each body is empty: the contract
+//! is the law.
 
 ghost use Rattle.std.specs.Prelude.{◌≡◌, ℕ, List, Ok, IfErr};
 ghost use Rattle.control_text.specs.Lines.{reading, IsRefusalOfLine};
@@ -13,7 +14,8 @@ pub fn spelling_is_read_back()
     ensures { (c : Command Named) → IsWellFormed c → reading (spelling c) ≡ Ok (Do c) }
 {}
 
-/// A line is refused by one of the seven refusals that need no desk, from `Unknown` to `BadPackage`, and by no other.
+/// A line is refused by one of the seven refusals that need no desk, from `Unknown` to
+/// `BadPackage`, and by no other.
 pub fn refusals_of_lines()
     ensures { (text : List ℕ) → IfErr (reading text) IsRefusalOfLine }
 {}

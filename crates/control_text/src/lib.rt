@@ -1,5 +1,5 @@
-//! The lines of a control message: what each says, or why it is refused, by the BTS page 'control and manipulation', and how a
-//! command is spelled.
+//! The lines of a control message: what each says, or why it is refused, by the BTS page 'control
+//! and manipulation', and how a command is spelled.
 #![tactic(auto)]
 
 mod laws;

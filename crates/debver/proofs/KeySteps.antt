@@ -80,7 +80,8 @@ heads s t =
     ap (λ k. key_cmp k (key t)) ((has_head s).is) ∙ ap (λ k. key_cmp (head_weight s ∷ (has_head s).rest) k) ((has_head t).is)
     ∙ key_cmp_more (head_weight s) (head_weight t) ((has_head s).rest) ((has_head t).rest)
 
--- where a string begins with a character that is no digit, the weights of the heads decide, and else what follows
+-- where a string begins with a character that is no digit, the weights of the heads decide, and
+-- else what follows
 pub word_step : (s t : List ℕ) → (starts_word s || starts_word t) ≡ true → string_cmp s t ≡ ordering_then (nat_cmp (head_weight s) (head_weight t)) (string_cmp (drop 1 s) (drop 1 t))
 word_step s t h =
     elim (cases_Bool (starts_word s)) [

@@ -1,4 +1,5 @@
--- The laws of both orders, which an impl of `Ord` owes: `text_cmp` is a total preorder, and `total_cmp` a total order that tells apart all texts.
+-- The laws of both orders, which an impl of `Ord` owes: `text_cmp` is a total preorder, and
+-- `total_cmp` a total order that tells apart all texts.
 
 use Rattle.std.proofs.Common.{◌≡◌, ℕ, List, ◌↔◌, refl, ap, sym, ◌∙◌}
 use Rattle.std.specs.Prelude.{bytes_eq, true}

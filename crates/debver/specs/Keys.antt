@@ -1,4 +1,5 @@
--- The order of two strings of a version, by Debian Policy 5.6.12. A string has a key, which is a list of numbers of any size.
+-- The order of two strings of a version, by Debian Policy 5.6.12. A string has a key, which is a
+-- list of numbers of any size.
 
 use Rattle.std.specs.Prelude.{ℕ, ◌+◌, ◌-◌, ◌*◌, ◌==◌, suc, zero, Bool, false, if◌then◌else◌, List, [], ◌∷◌, length, Option, Some, None}
 use Rattle.std.specs.Ordering.{nat_cmp}
@@ -6,7 +7,8 @@ use Rattle.std.specs.Cmp.Lexicographic.{slice_cmp}
 use Rattle.std.specs.declared.cmp.Ordering.{Ordering}
 use Rattle.debver.specs.Characters.{is_digit, is_letter}
 
--- the place of a character in the order: the tilde, then (at 1) the end of a non-digit part, then letters, then all others
+-- the place of a character in the order: the tilde, then (at 1) the end of a non-digit part, then
+-- letters, then all others
 abbrev pub weight : ℕ → ℕ
 weight c = if c == 126 then 0 else (if is_letter c then 2 + c else 300 + c)
 
@@ -19,14 +21,16 @@ value_from n (c ∷ s) = value_from (n * 10 + (c - 48)) s
 abbrev pub value : List ℕ → ℕ
 value digits = value_from 0 digits
 
--- the key of what is left of a string: None within a non-digit part, Some n within a digit part whose digits so far have the value n
+-- the key of what is left of a string: None within a non-digit part, Some n within a digit part
+-- whose digits so far have the value n
 abbrev pub key_from : Option ℕ → List ℕ → List ℕ
 key_from None [] = 1 ∷ 0 ∷ []
 key_from None (c ∷ s) = if is_digit c then 1 ∷ key_from (Some (c - 48)) s else weight c ∷ key_from None s
 key_from (Some n) [] = n ∷ []
 key_from (Some n) (c ∷ s) = if is_digit c then key_from (Some (n * 10 + (c - 48))) s else n ∷ weight c ∷ key_from None s
 
--- for each non-digit part and the digit part after it: the weights of the characters, then 1, then the value of the digits
+-- for each non-digit part and the digit part after it: the weights of the characters, then 1, then
+-- the value of the digits
 abbrev pub key : List ℕ → List ℕ
 key s = key_from None s
 
@@ -36,7 +40,8 @@ first_numbers zero k = []
 first_numbers (suc n) [] = 1 ∷ first_numbers n (0 ∷ [])
 first_numbers (suc n) (x ∷ k) = x ∷ first_numbers n k
 
--- keys compare by the first place where they differ; from two places past both ends on there is no further one
+-- keys compare by the first place where they differ; from two places past both ends on there is no
+-- further one
 abbrev pub key_cmp : List ℕ → List ℕ → Ordering
 key_cmp k l = slice_cmp nat_cmp (first_numbers (length k + length l + 2) k) (first_numbers (length k + length l + 2) l)
 

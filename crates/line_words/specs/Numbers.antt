@@ -1,5 +1,5 @@
--- Number words: an optional `#`, then one to nine ASCII digits of a value of at least 1 (the BTS page 'control and
--- manipulation'; the limits are this project's own rule).
+-- Number words: an optional `#`, then one to nine ASCII digits of a value of at least 1 (the BTS
+-- page 'control and manipulation'; the limits are this project's own rule).
 use Rattle.std.specs.Prelude.{ℕ, ◌≤◌, ◌==◌, ◌&&◌, nat_le, if◌then◌else◌, List, [], ◌∷◌, length, Option, Some, None}
 use Rattle.std.specs.List.{list_all}
 use Rattle.std.specs.Char.{is_ascii_digit}

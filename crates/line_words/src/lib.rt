@@ -1,5 +1,5 @@
-//! The words of a line: what stands between blanks, or between blanks and commas, the words that stand for numbers and bugs,
-//! and the words that are names in any ASCII case.
+//! The words of a line: what stands between blanks, or between blanks and commas, the words that
+//! stand for numbers and bugs, and the words that are names in any ASCII case.
 #![tactic(auto)]
 
 mod any_case;

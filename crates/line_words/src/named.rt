@@ -41,8 +41,8 @@ fn number_of_digits(digits: &str) -> Option<u32>
     }
 }
 
-/// The number of a number word, an optional `#` and one to nine ASCII digits of a value of at least 1; `None` for
-/// another text.
+/// The number of a number word, an optional `#` and one to nine ASCII digits of a value of at least
+/// 1; `None` for another text.
 pub fn number_word(text: &str) -> Option<u64>
     ensures { result ≡ number_of_word text.now }
 {
@@ -50,7 +50,8 @@ pub fn number_word(text: &str) -> Option<u64>
     Some(u64::from(number))
 }
 
-/// The bug of a bug word, which is a number word, or an optional `#`, a `-` and such digits; `None` for another text.
+/// The bug of a bug word, which is a number word, or an optional `#`, a `-` and such digits; `None`
+/// for another text.
 pub fn bug_word(text: &str) -> Option<Named>
     ensures { result ≡ bug_of_word text.now }
 {

@@ -105,7 +105,8 @@ pub fn split_word(text: &str) -> Option<(&str, &str)>
     split(Separators::Blanks, text)
 }
 
-/// The first word, and the text after it, where commas are blanks too; `None` where there is no word.
+/// The first word, and the text after it, where commas are blanks too; `None` where there is no
+/// word.
 pub fn split_word_with_commas(text: &str) -> Option<(&str, &str)>
     ensures cut { MatchOption result
         (words_with_commas text.now ≡ [])

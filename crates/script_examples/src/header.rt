@@ -2,8 +2,8 @@
 
 use control_text::number_word;
 
-/// The line above a script: `== ` and its name, and after that ` from ` and the number of the desk's
-/// first bug, where that is not 1.
+/// The line above a script: `== ` and its name, and after that ` from ` and the number of the
+/// desk's first bug, where that is not 1.
 #[derive(Clone, Copy)]
 pub(crate) struct Header<'a> {
     /// The line without its sign.
