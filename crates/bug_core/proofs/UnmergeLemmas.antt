@@ -21,7 +21,7 @@ use Rattle.bug_core.specs.Joins.{is_part}
 use Rattle.bug_core.specs.Planned.{IsPlanned}
 use Rattle.bug_core.proofs.ImageLemmas.{same_value, member-has, has-member_some, shown, image_with-has, image_with-shows, image_with-none, image_with-lacks, image_with-bug, image_with-member}
 use Rattle.bug_core.proofs.SoundLemmas.{agree, merged-back, sound-each_bug}
-use Rattle.bug_core.proofs.ReplaceLemmas.{TakesPlace, Makes, one_of}
+use Rattle.bug_core.proofs.ReplaceLemmas.{TakesPlace, Makes, one_of, apart-replaced}
 use Rattle.bug_core.proofs.PlanLemmas.{Steps, planned-refused, planned-replaced}
 
 -- the images of the two parts
@@ -255,6 +255,9 @@ no_numbers (m ∷ ms) e = absurd (cons_nil m.number (numbers_of ms) e)
   where
     cons_nil : (x : ℕ) (xs : List ℕ) → x ∷ xs ≡ [] → ⊥
     cons_nil x xs q = cc
+
+pub parts-apart : (is : List SetImage) (n : ℕ) (i : SetImage) → AreApart is → image_with is n ≡ Some i → ((part_of i false n).members ≡ [] → ⊥) → AreApart (parts i n ++ others (n ∷ []) is)
+parts-apart is n i a h some = apart-replaced is (n ∷ []) (parts i n) a (parts-take_place is n i a h some)
 
 pub unmerge-done : (is : List SetImage) (next n : ℕ) (i : SetImage) → AreApart is → image_with is n ≡ Some i → ((part_of i false n).members ≡ [] → ⊥)
     → (change : Change) → change.images ≡ parts i n ++ others (n ∷ []) is → change.next ≡ next → IsPlanned (n ∷ []) (λ d. unmerged d n) is next (Ok change)

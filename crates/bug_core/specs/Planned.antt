@@ -21,7 +21,8 @@ IsRefusedAs (Err r) (Ok change) = ⊥
 IsRefusedAs (Err r) (Err (Refused refusal)) = r ≡ refusal
 IsRefusedAs (Err r) (Err Memory) = Unit {0}
 
--- The refusals of a plan: a bug is not there, one differs from that with which it is to be merged, or is merged with no other.
+-- The refusals of a plan: a bug is not there, one that is to be merged differs, or one is merged
+-- with no other.
 abbrev pub IsRefusalOfPlan : Refusal → Type 0
 IsRefusalOfPlan (NoBug n) = ⊤
 IsRefusalOfPlan (Differ field n) = ⊤

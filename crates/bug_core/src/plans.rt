@@ -88,8 +88,9 @@ fn plan_command(
 ///
 /// `Refused(NoBug(n))` where the command names a bug n that is in no image: n may be any number. `Refused(Differ(field, n))`
 /// where the bug n is to be merged and differs from the first one in a field that has to be equal, and `Refused(NotMerged(n))`
-/// where a bug is to be taken out of its set and is merged with no other. There is no other refusal: where the command has a
-/// version for an image whose package is no package name, as no desk shows one, it is `Refused(NoBug(n))` of the bug named.
+/// where a bug is to be taken out of its set and is merged with no other.
+/// There is no other refusal: where the command has a version for an image whose package is no
+/// package name, as no desk shows one, it is `Refused(NoBug(n))` of the bug named.
 /// `Memory` where there was none.
 pub fn plan(
     alloc: Global,

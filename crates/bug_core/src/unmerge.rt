@@ -61,6 +61,7 @@ fn two_images(
 }
 
 /// Takes a bug out of its set. Both parts keep the shared fields.
+/// No number is new, so the images stay disjoint.
 pub(crate) fn plan_unmerge(
     alloc: Global,
     number: u64,
@@ -68,7 +69,8 @@ pub(crate) fn plan_unmerge(
     next: u64,
 ) -> Result<Change, PlanFault>
     requires apart { AreApart images.now }
-    ensures { IsPlanned (number ∷ []) (λ d. unmerged d number) images.now next result }
+    ensures planned { IsPlanned (number ∷ []) (λ d. unmerged d number) images.now next result }
+    ensures apart { IfOk result (λ change. AreApart change.images) }
 {
     let Some(image) = find(images, number) else {
         return Err(PlanFault::Refused(Refusal::NoBug(number)));

@@ -7,7 +7,8 @@ use Rattle.line_words.specs.Blanks.{is_control, begins_blank}
 abbrev pub ends_blank : List ℕ → Bool
 ends_blank s = begins_blank (reverse s)
 
--- A text of 1 to 200 bytes: no control character other than tab, and no blank at its beginning or end.
+-- A text of 1 to 200 bytes: no control character other than tab, and no blank at its beginning or
+-- end.
 unfoldable pub is_text : List ℕ → Bool
 is_text s =
     nat_le 1 (length s) && nat_le (length s) 200

@@ -47,7 +47,8 @@ pub record Known (old : Option (List ℕ)) (P : List ℕ → Type 0) : Type 0 wh
 pub record Left (old new : Option (List ℕ)) (P : List ℕ → List ℕ → Type 0) : Type 0 where
   pub known : (xs : List ℕ) → old ≡ Some xs → (ys : List ℕ) × (new ≡ Some ys) × P xs ys
 
--- From `all` a front of its first line was taken, and `rest` is left: at most 65,536 bytes, and no line feed.
+-- From `all` a front of its first line was taken, of at most 65,536 bytes and without a line feed,
+-- and `rest` is left.
 pub record IsBegun (all rest : List ℕ) : Type 0 where
   pub front : List ℕ
   pub together : all ≡ front ++ rest

@@ -161,8 +161,9 @@ fn text_of(alloc: Global, bytes: &[u8], number: u64) -> Result<Text, ScriptFault
 /// The next line of a script, which has this number, counted from 1.
 ///
 /// The faults are those of this line alone: Read, where a read fails, an interrupted one too, or is the 16,777,217th;
-/// LineTooLong, as soon as the line has 65,537 bytes; NotUtf8; Memory. At Read at most 65,536 bytes of the line were taken from
-/// the reader, and nothing else. Where no read is left, the reader is called no more.
+/// LineTooLong, as soon as the line has 65,537 bytes; NotUtf8; Memory.
+/// At Read at most 65,536 bytes of the line were taken from the reader, and nothing else.
+/// Where no read is left, the reader is called no more.
 pub fn next_line<R: Read>(
     alloc: Global,
     source: &mut Source,
