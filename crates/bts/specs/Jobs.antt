@@ -22,8 +22,9 @@ status_of (Ok Accepted) = 0
 status_of (Ok Refused) = 1
 status_of (Err fault) = 3
 
--- The script of this input was run over an empty desk whose first number is 1, with this exit status. A desk in memory counts
--- no fault, since it fails only where there is no memory.
+-- The script of this input was run over an empty desk whose first number is 1, with this exit
+-- status.
+-- A desk in memory counts no fault, since it fails only where there is no memory.
 pub record IsRun (input : List ℕ) (c0 c1 : Option (List ℕ)) (status : ℕ) : Type 0 where
   pub result : Result ScriptEnd ScriptFault
   pub desk : Desk

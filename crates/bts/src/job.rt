@@ -43,8 +43,8 @@ fn status_of(end: Result<ScriptEnd, ScriptFault>) -> u8
     }
 }
 
-/// Runs a script over an empty desk in memory whose first bug gets the number 1, and answers the exit status: 0 where all was
-/// accepted, 1 where anything was refused, 3 at a fault.
+/// Runs a script over an empty desk in memory whose first bug gets the number 1, and answers the
+/// exit status: 0 where all was accepted, 1 where anything was refused, 3 at a fault.
 pub fn run_script_job<R: Read, W: Write>(alloc: Global, reader: &mut R, writer: &mut W) -> u8
     ensures { Known (R.remaining reader.old) (λ input. IsRun input (W.contents writer.old) (W.contents writer.new) result) }
 {

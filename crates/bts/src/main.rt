@@ -1,4 +1,5 @@
-//! `bts`: reads a script of reports and control messages from standard input, and writes the answers.
+//! `bts`: reads a script of reports and control messages from standard input, and writes the
+//! answers.
 #![tactic(auto)]
 
 mod job;

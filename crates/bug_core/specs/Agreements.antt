@@ -1,4 +1,5 @@
--- What has to agree before bugs are merged: of `merge` four fields, of `forcemerge` the package alone.
+-- What has to agree before bugs are merged: of `merge` four fields, of `forcemerge` the package
+-- alone.
 use Rattle.std.specs.Prelude.{Option}
 use Rattle.bug_record.specs.Differences.{first_difference, package_difference}
 use Rattle.bug_record.specs.declared.bug.Shared.{Shared}

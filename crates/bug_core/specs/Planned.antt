@@ -12,7 +12,8 @@ use Rattle.bug_record.specs.declared.command.PlanFault.TheVariants.{Refused, Mem
 use Rattle.bug_record.specs.declared.command.Refusal.{Refusal}
 use Rattle.bug_record.specs.declared.command.Refusal.TheVariants.{Unknown, Malformed, TooLong, BadSeverity, BadTag, BadVersion, BadPackage, NoName, NoBug, Differ, NotMerged}
 
--- The answer is a refusal exactly where the step is one, and the same; out of memory is always allowed.
+-- The answer is a refusal exactly where the step is one, and the same; out of memory is always
+-- allowed.
 abbrev pub IsRefusedAs : Result Desk Refusal → Result Change PlanFault → Type 0
 IsRefusedAs (Ok d) (Ok change) = Unit {0}
 IsRefusedAs (Ok d) (Err (Refused refusal)) = ⊥
@@ -51,7 +52,8 @@ pub record IsPlanned (named : List ℕ) (after : Desk → Result Desk Refusal) (
   pub fits : (d : Desk) → IsShownBy d images next named → IfOk result (λ change. FitsDesk d change)
   pub brings : (d : Desk) → IsShownBy d images next named → IfOk result (λ change. BringNone d images change.images)
   pub apart : (d : Desk) → IsShownBy d images next named → IfOk result (λ change. AreApart change.images)
-  -- of any desk, sound or not, of which the images show these bugs, where the images' packages are package names
+  -- of any desk, sound or not, of which the images show these bugs, where the images' packages are
+  -- package names
   pub refusals : (d : Desk) → d.next ≡ next → AllKnown d images named → Each HasName images → IsRefusedAs (after d) result
   -- whatever the images
   pub own : IfErr result IsFaultOfPlan

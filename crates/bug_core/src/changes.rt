@@ -139,8 +139,8 @@ fn differing(numbers: &Numbers, old: &[SetImage], new: &[SetImage]) -> Result<Nu
     Ok(kept)
 }
 
-/// The numbers of the bugs that the new images show otherwise than the old ones, ascending: those whose record or set
-/// differs, and those that only one side has.
+/// The numbers of the bugs that the new images show otherwise than the old ones, ascending: those
+/// whose record or set differs, and those that only one side has.
 ///
 /// # Errors
 ///

@@ -115,8 +115,8 @@ fn joined_shared(first: &Shared, images: &[SetImage], numbers: &[u64]) -> Result
     Ok(shared)
 }
 
-/// The image of the set that the bugs' sets become: with the fields of the first one, the tags and marks of all, and the owner
-/// of the first bug that has one.
+/// The image of the set that the bugs' sets become: with the fields of the first one, the tags and
+/// marks of all, and the owner of the first bug that has one.
 pub(crate) fn joined_image(
     alloc: Global,
     first: &Shared,

@@ -1,5 +1,6 @@
-//! What the commands of a desk do, planned on images of sets of merged bugs; which numbers a change touches; and the change
-//! that a new report makes. The values and definitions are those of `bug_record`, whose names stand here too.
+//! What the commands of a desk do, planned on images of sets of merged bugs; which numbers a change
+//! touches; and the change that a new report makes.
+//! The values and definitions are those of `bug_record`, whose names stand here too.
 #![tactic(auto)]
 
 mod changes;

@@ -77,18 +77,21 @@ fn plan_command(
     }
 }
 
-/// The change that a command makes on a desk (the BTS page 'control and manipulation'). The images show the desk's sets of
-/// merged bugs that have a bug which the command names; more sets may be among them. `from` is the sender, and `next`
-/// the desk's next number. The command's versions, package names and texts are within their limits.
+/// The change that a command makes on a desk (the BTS page 'control and manipulation').
+/// The images show the desk's sets of merged bugs that have a bug which the command names; more
+/// sets may be among them.
+/// `from` is the sender, and `next` the desk's next number.
+/// The command's versions, package names and texts are within their limits.
 ///
-/// The change's images are those handed in that have a member, with what the command does to them: put on the desk they
-/// leave the desk of the command's step.
+/// The change's images are those handed in that have a member, with what the command does to them:
+/// put on the desk they leave the desk of the command's step.
 ///
 /// # Errors
 ///
-/// `Refused(NoBug(n))` where the command names a bug n that is in no image: n may be any number. `Refused(Differ(field, n))`
-/// where the bug n is to be merged and differs from the first one in a field that has to be equal, and `Refused(NotMerged(n))`
-/// where a bug is to be taken out of its set and is merged with no other.
+/// `Refused(NoBug(n))` where the command names a bug n that is in no image: n may be any number.
+/// `Refused(Differ(field, n))` where the bug n is to be merged and differs from the first one in a
+/// field that has to be equal, and `Refused(NotMerged(n))` where a bug is to be taken out of its
+/// set and is merged with no other.
 /// There is no other refusal: where the command has a version for an image whose package is no
 /// package name, as no desk shows one, it is `Refused(NoBug(n))` of the bug named.
 /// `Memory` where there was none.

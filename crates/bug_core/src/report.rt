@@ -84,9 +84,9 @@ fn image_of_report(
     })
 }
 
-/// The change that a report makes: the bug of the next number is new, open, merged with none, and found at the node, if one is
-/// given. `next` is the desk's next
-/// number, from 1 to 999,999,999, so that a number is left.
+/// The change that a report makes: the bug of the next number is new, open, merged with none, and
+/// found at the node, if one is given.
+/// `next` is the desk's next number, from 1 to 999,999,999, so that a number is left.
 ///
 /// # Errors
 ///

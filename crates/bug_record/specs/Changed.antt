@@ -37,7 +37,8 @@ same_at None (Some b) = false
 same_at (Some a) None = false
 same_at (Some a) (Some b) = same_bugs a b
 
--- The ascending list of the numbers at which the record or the set differs; a number that only one side has differs.
+-- The ascending list of the numbers at which the record or the set differs; a number that only one
+-- side has differs.
 pub record AreChanged (old new : ℕ → Option Bug) (numbers : List ℕ) : Type 0 where
   pub ascending : IsAscending numbers
   pub listed : (n : ℕ) → has numbers n ≡ true → old n ≡ new n → ⊥
@@ -48,12 +49,13 @@ unfoldable pub numbers_below : ℕ → List ℕ
 numbers_below zero = []
 numbers_below (suc n) = numbers_below n ++ (n ∷ [])
 
--- That list, of two sound desks of which the later one's next number is no lower: its numbers are all below that.
+-- That list, of two sound desks of which the later one's next number is no lower: its numbers are
+-- all below that.
 abbrev pub changed_numbers : Desk → Desk → List ℕ
 changed_numbers old new = filter (λ n. not (same_at (old.bug n) (new.bug n))) (numbers_below new.next)
 
--- The new images stand in the place of the old ones, which are sets of the desk: they have every bug of the old ones,
--- and no other bug of the desk, and leave a sound desk.
+-- The new images stand in the place of the old ones, which are sets of the desk: they have every
+-- bug of the old ones, and no other bug of the desk, and leave a sound desk.
 pub record Replaces (d : Desk) (old new : List SetImage) (next : ℕ) : Type 0 where
   pub sound : IsSound d
   pub sets : AreSetsOf d old

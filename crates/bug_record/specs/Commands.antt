@@ -1,4 +1,5 @@
--- The parts of commands: the bug that one names, and the limits of what it gives. This project's own rule.
+-- The parts of commands: the bug that one names, and the limits of what it gives.
+-- This project's own rule.
 use Rattle.std.specs.Prelude.{ℕ, IsTrue, List, [], ◌∷◌, map, unwrap_or, ⊤}
 use Rattle.std.specs.Str.{is_utf8}
 use Rattle.debver.specs.Names.{IsName}

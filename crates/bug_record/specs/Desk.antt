@@ -9,8 +9,8 @@ use Rattle.bug_record.specs.Marks.{IsNodeSet}
 use Rattle.bug_record.specs.declared.bug.Bug.{Bug}
 use Rattle.bug_record.specs.declared.bug.Shared.{Shared}
 
--- A desk: the bug of each number that has one, the ancestry of nodes, and the next number to give. The bug holds its whole
--- record, and the numbers of the bugs merged with it, itself among them.
+-- A desk: the bug of each number that has one, the ancestry of nodes, and the next number to give.
+-- The bug holds its whole record, and the numbers of the bugs merged with it, itself among them.
 pub record Desk : Type 0 where
   pub bug : ℕ → Option Bug
   pub tree : Ancestry

@@ -1,5 +1,5 @@
--- Fields that have to be equal before bugs are merged (the BTS page 'control and manipulation'; the order in which they are
--- compared is this project's own rule).
+-- Fields that have to be equal before bugs are merged (the BTS page 'control and manipulation'; the
+-- order in which they are compared is this project's own rule).
 use Rattle.std.specs.Prelude.{ℕ, Bool, true, false, not, ◌==◌, List, Option, Some, None, if◌then◌else◌}
 use Rattle.std.specs.Str.{bytes_eq}
 use Rattle.bug_record.specs.Severities.{rank}

@@ -34,14 +34,16 @@ AreApart (i ∷ is) = ((n : ℕ) → has (numbers_of i.members) n ≡ true → b
 abbrev pub HasMember : SetImage → Type 0
 HasMember i = i.members ≢ []
 
--- the image is a set of the desk: each member is a bug with the shared fields, merged with the members
+-- the image is a set of the desk: each member is a bug with the shared fields, merged with the
+-- members
 abbrev pub IsSetOf : Desk → SetImage → Type 0
 IsSetOf d i = Each (λ m. d.bug m.number ≡ Some (bug_of i m)) i.members
 
 abbrev pub AreSetsOf : Desk → List SetImage → Type 0
 AreSetsOf d is = Each (IsSetOf d) is
 
--- The desk after a change: the numbers of each image get its fields and become one set, and all else stays.
+-- The desk after a change: the numbers of each image get its fields and become one set, and all
+-- else stays.
 abbrev pub put : Desk → Change → Desk
 put d c = record { bug = λ n. option_or (bug_in c.images n) (d.bug n); tree = d.tree; next = c.next }
 

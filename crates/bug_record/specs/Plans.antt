@@ -16,16 +16,17 @@ abbrev pub AllKnown : Desk → List SetImage → List ℕ → Type 0
 AllKnown d is [] = ⊤
 AllKnown d is (n ∷ ns) = (bug_in is n ≡ d.bug n) × AllKnown d is ns
 
--- A sound desk that is as the images say: they are sets of it, its next number is this, and of these bugs it has those
--- that are in an image.
+-- A sound desk that is as the images say: they are sets of it, its next number is this, and of
+-- these bugs it has those that are in an image.
 pub record IsShownBy (d : Desk) (is : List SetImage) (next : ℕ) (ns : List ℕ) : Type 0 where
   pub sound : IsSound d
   pub next_is : d.next ≡ next
   pub sets : AreSetsOf d is
   pub known : AllKnown d is ns
 
--- What is answered is what a step comes to, whose result is `after`: the same refusal, or a change that leaves the step's desk,
--- which is sound. Out of memory, nothing is said.
+-- What is answered is what a step comes to, whose result is `after`: the same refusal, or a change
+-- that leaves the step's desk, which is sound.
+-- Out of memory, nothing is said.
 abbrev pub IsPlanOf : Desk → Result Desk Refusal → Result Change PlanFault → Type 0
 IsPlanOf d after (Ok change) = (after ≡ Ok (put d change)) × IsSound (put d change)
 IsPlanOf d after (Err (Refused refusal)) = after ≡ Err refusal

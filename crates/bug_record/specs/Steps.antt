@@ -1,5 +1,6 @@
--- What a command does to a desk, over whole records (the BTS page 'control and manipulation'; when `found n v` opens a bug, and
--- what an open bug's `reopen` and a `reassign` to the bug's own package do, is this project's own rule).
+-- What a command does to a desk, over whole records (the BTS page 'control and manipulation'; when
+-- `found n v` opens a bug, and what an open bug's `reopen` and a `reassign` to the bug's own
+-- package do, is this project's own rule).
 use Rattle.std.specs.Prelude.{ℕ, ◌+◌, ◌==◌, ◌&&◌, false, true, List, [], ◌∷◌, Option, Some, None, Result, Ok, unwrap_or, if◌then◌else◌}
 use Rattle.std.specs.Str.{bytes_eq}
 use Rattle.ancestry.specs.Nodes.{Node}
@@ -59,7 +60,8 @@ tags_after (Add tag ∷ steps) tags = tags_after steps (with_tag tags tag)
 tags_after (Remove tag ∷ steps) tags = tags_after steps (without_tag tags tag)
 tags_after (Clear ∷ steps) tags = tags_after steps []
 
--- what a command of this sender makes of the shared fields of the bug that it names, and of those merged with it
+-- what a command of this sender makes of the shared fields of the bug that it names, and of those
+-- merged with it
 abbrev pub shared_after : List ℕ → Command ℕ → Shared → Shared
 shared_after sender (commands.Found n None) f = opened f
 shared_after sender (commands.Found n (Some version)) f = found_at (node_meant f.package version) f
@@ -103,8 +105,8 @@ new_title (commands.NotForwarded n) m = None
 new_title (commands.Owner n who) m = None
 new_title (commands.NoOwner n) m = None
 
--- the new submitter of the bug m, where a command gives one: of the bug that it names alone, or of each closed bug that is
--- reopened by somebody
+-- the new submitter of the bug m, where a command gives one: of the bug that it names alone, or of
+-- each closed bug that is reopened by somebody
 abbrev pub new_submitter : List ℕ → Command ℕ → Shared → ℕ → Option (List ℕ)
 new_submitter sender (commands.Submitter n who) f m = if m == n then Some (person sender who) else None
 new_submitter sender (commands.Reopen n (Some who)) f m = if f.closed then Some (person sender who) else None
@@ -126,8 +128,8 @@ new_submitter sender (commands.NotForwarded n) f m = None
 new_submitter sender (commands.Owner n who) f m = None
 new_submitter sender (commands.NoOwner n) f m = None
 
--- a change to the record of every bug m that is merged with n: of its shared fields, and of its title and its submitter, where
--- there is a new one
+-- a change to the record of every bug m that is merged with n: of its shared fields, and of its
+-- title and its submitter, where there is a new one
 abbrev pub change_set : Desk → ℕ → (Shared → Shared) → (ℕ → Option (List ℕ)) → (Shared → ℕ → Option (List ℕ)) → Desk
 change_set d n f title who = each_bug d (λ m b. record b {
   shared = if has b.merged n then f b.shared else b.shared;
@@ -167,8 +169,8 @@ abbrev pub found_first : Option Node → List Node
 found_first None = []
 found_first (Some n) = n ∷ []
 
--- the record of a new report under this number: open, merged with none, and found at this node, if one is given (reports are
--- this project's own rule)
+-- the record of a new report under this number: open, merged with none, and found at this node, if
+-- one is given (reports are this project's own rule)
 abbrev pub new_bug : ℕ → List ℕ → List ℕ → Severity → List ℕ → Option Node → Bug
 new_bug number sender package_name severity title node = record {
   title = title;

@@ -1,4 +1,5 @@
--- Tags (the BTS page 'control and manipulation'; that the list is closed is this project's own rule).
+-- Tags (the BTS page 'control and manipulation'; that the list is closed is this project's own
+-- rule).
 use Rattle.std.specs.Prelude.{ℕ, Bool, not, ◌==◌, codes, List, [], ◌∷◌, map, filter, Option}
 use Rattle.std.specs.List.{list_any, find}
 use Rattle.line_words.specs.AnyCase.{is_word}

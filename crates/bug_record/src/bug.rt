@@ -35,8 +35,8 @@ pub struct Member {
     pub submitter: Text,
 }
 
-/// The image of a set of merged bugs: the shared fields once, and the members by number, ascending. A bug that is
-/// merged with none is a set of one.
+/// The image of a set of merged bugs: the shared fields once, and the members by number, ascending.
+/// A bug that is merged with none is a set of one.
 #[derive(Debug, Drop)]
 pub struct SetImage {
     pub shared: Shared,

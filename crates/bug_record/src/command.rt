@@ -11,7 +11,8 @@ use crate::tag::Tag;
 use debver::Text;
 use std::alloc::AllocError;
 
-/// A version as a command names it: of this source package, or of the bug's own where there is none.
+/// A version as a command names it: of this source package, or of the bug's own where there is
+/// none.
 #[derive(Debug, PartialEq, Eq, Drop)]
 pub struct VersionArg {
     pub source: Option<Text>,
@@ -38,21 +39,25 @@ pub enum TagStep {
     Clear,
 }
 
-/// A command of the BTS page 'control and manipulation', whose bugs are given as `N`. A change of a field on which merged
-/// bugs agree changes the bug and all bugs that are merged with it.
+/// A command of the BTS page 'control and manipulation', whose bugs are given as `N`.
+/// A change of a field on which merged bugs agree changes the bug and all bugs that are merged with
+/// it.
 #[derive(Debug, PartialEq, Eq, Drop)]
 pub enum Command<N> {
-    /// `found n [v]`: the bug is in the version, which may reopen it; without a version it is open and nowhere fixed.
+    /// `found n [v]`: the bug is in the version, which may reopen it; without a version it is open
+    /// and nowhere fixed.
     Found(N, Option<VersionArg>),
     /// `notfound n v`: the mark that the bug is in the version goes.
     NotFound(N, VersionArg),
     /// `fixed n v`: the version does not have the bug. It is not closed by that.
     Fixed(N, VersionArg),
-    /// `notfixed n v`: the mark that the version does not have the bug goes. It is not reopened by that.
+    /// `notfixed n v`: the mark that the version does not have the bug goes.
+    /// It is not reopened by that.
     NotFixed(N, VersionArg),
     /// `close n [v]`: closes the bug, as one that the version does not have.
     Close(N, Option<VersionArg>),
-    /// `reopen n [who]`: opens a closed bug, which is then nowhere fixed, and has the new submitter, if one is given.
+    /// `reopen n [who]`: opens a closed bug, which is then nowhere fixed, and has the new
+    /// submitter, if one is given.
     Reopen(N, Option<Who>),
     /// `severity n s`: sets the severity.
     Severity(N, Severity),
@@ -62,13 +67,14 @@ pub enum Command<N> {
     Retitle(N, Text),
     /// `submitter n who`: changes the submitter of this bug alone.
     Submitter(N, Who),
-    /// `reassign n package [v]`: moves the bug to a package, and marks it found in the version there.
+    /// `reassign n package [v]`: moves the bug to a package, and marks it found in the version
+    /// there.
     Reassign(N, Text, Option<VersionArg>),
-    /// `merge n m ..`: the sets of all these bugs become one. Those after the first have to equal it in package, state,
-    /// forwarded and severity.
+    /// `merge n m ..`: the sets of all these bugs become one.
+    /// Those after the first have to equal it in package, state, forwarded and severity.
     Merge(N, Sequence<N>),
-    /// `forcemerge n m ..`: as `Merge`, but the package alone has to be equal, and the first bug's state, forwarded and
-    /// severity become those of all.
+    /// `forcemerge n m ..`: as `Merge`, but the package alone has to be equal, and the first bug's
+    /// state, forwarded and severity become those of all.
     ForceMerge(N, Sequence<N>),
     /// `unmerge n`: takes the bug out of its set. The others stay together.
     Unmerge(N),
@@ -183,7 +189,8 @@ impl From<AllocError> for PlanFault {
     }
 }
 
-/// A change of a desk: the images replace all sets that they cover, and `next` becomes the next number.
+/// A change of a desk: the images replace all sets that they cover, and `next` becomes the next
+/// number.
 #[derive(Debug, Drop)]
 pub struct Change {
     pub images: Sequence<SetImage>,

@@ -1,4 +1,5 @@
-//! Laws of the definitions that the contracts of this crate cite. Each body is empty: the contract is the law.
+//! Laws of the definitions that the contracts of this crate cite.
+//! Each body is empty: the contract is the law.
 
 ghost use Rattle.std.specs.Prelude.{◌≡◌, ℕ, List, ◌||◌, ◌&&◌, not};
 ghost use Rattle.std.specs.List.{list_any};
@@ -13,8 +14,8 @@ ghost use Rattle.bug_record.specs.declared.bug.Bug.{Bug};
 ghost use Rattle.bug_record.specs.declared.bug.Shared.{Shared};
 ghost use Rattle.bug_record.specs.declared.tag.Tag.{Tag};
 
-/// Merged bugs have together what some of them has: a bug is merged with them where it is merged with one of them, and a tag
-/// or a mark is theirs where one of them has it.
+/// Merged bugs have together what some of them has: a bug is merged with them where it is merged
+/// with one of them, and a tag or a mark is theirs where one of them has it.
 pub fn joined_by_membership()
     ensures merged { (bugs : List Bug) (m : ℕ) → has (all_merged bugs) m ≡ list_any (λ b. has b.merged m) bugs }
     ensures tags { (bugs : List Bug) (t : Tag) → has_tag (joined_tags bugs) t ≡ list_any (λ b. has_tag b.shared.tags t) bugs }
@@ -32,8 +33,8 @@ pub fn joined_are_sets()
     ensures fixed { (first : Shared) (bugs : List Bug) → IsStrictlySortedBy node_cmp (joined_shared first bugs).fixed }
 {}
 
-/// A node is in the list with n where it is in the list or is n, and it is in the list without n where it is in the list and
-/// is not n.
+/// A node is in the list with n where it is in the list or is n, and it is in the list without n
+/// where it is in the list and is not n.
 pub fn marks_by_membership()
     ensures with { (nodes : List Node) (n m : Node) → has_node (with_node nodes n) m ≡ (has_node nodes m || same_node m n) }
     ensures without { (nodes : List Node) (n m : Node) → has_node (without_node nodes n) m ≡ (has_node nodes m && not (same_node n m)) }

@@ -1,5 +1,6 @@
-//! Bugs and commands as values: a bug's whole record, the image of a set of merged bugs, commands and refusals, and the
-//! definitions (`specs/`) of a desk of bugs, of what keeps it sound, and of what each command does to it.
+//! Bugs and commands as values: a bug's whole record, the image of a set of merged bugs, commands
+//! and refusals, and the definitions (`specs/`) of a desk of bugs, of what keeps it sound, and of
+//! what each command does to it.
 #![tactic(auto)]
 
 mod bug;

@@ -131,8 +131,8 @@ fn is_at<T: Numbered>(items: &[T], place: usize, number: u64) -> bool
 }
 
 impl<T: Numbered + Drop> Sequence<T> {
-    /// Adds the item to a list that ascends by number, unless it has one of its number. Where there is no memory, the
-    /// list is as before.
+    /// Adds the item to a list that ascends by number, unless it has one of its number.
+    /// Where there is no memory, the list is as before.
     pub fn add(&mut self, item: T) -> Result<(), AllocError>
         ensures ok { OnOk result (self.new ≡ with_item T.number self.old item) }
         ensures err { OnErr result (self.new ≡ self.old) }

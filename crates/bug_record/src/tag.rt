@@ -85,7 +85,8 @@ impl Tag {
         }
     }
 
-    /// Its place in the order of tags, which is that of their names' bytes: 0 for `a11y` to 16 for `wontfix`.
+    /// Its place in the order of tags, which is that of their names' bytes: 0 for `a11y` to 16 for
+    /// `wontfix`.
     pub fn place(self) -> u8
         ensures { result ≡ tag_place self }
     {

@@ -31,8 +31,9 @@ fn ends_blank(bytes: &[u8]) -> bool
     }
 }
 
-/// Whether this is a text of 1 to 200 bytes, with no control character other than tab, and with no blank (a space or a
-/// tab) at its beginning or end. This project's own rule.
+/// Whether this is a text of 1 to 200 bytes, with no control character other than tab, and with no
+/// blank (a space or a tab) at its beginning or end.
+/// This project's own rule.
 #[tactic(auto, unfolding(crate::specs::Texts::is_text))]
 pub fn is_text(text: &str) -> bool
     ensures { result ≡ is_text text.now }

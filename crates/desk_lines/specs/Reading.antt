@@ -9,19 +9,21 @@ use Rattle.desk_lines.specs.declared.source.Piece.TheVariants as pieces
 use Rattle.desk_lines.specs.declared.source.RawLine.{RawLine}
 use Rattle.desk_lines.specs.declared.source.RawLine.TheVariants as raw_pieces
 
--- A line is good, as it was read, if it has at most 65,536 bytes and is UTF-8. A carriage return counts; the line feed is
--- no part of it.
+-- A line is good, as it was read, if it has at most 65,536 bytes and is UTF-8.
+-- A carriage return counts; the line feed is no part of it.
 pub record IsGoodLine (raw : List ℕ) : Type 0 where
   pub short : length raw ≤ 65536
   pub utf8 : IsUtf8 raw
 
--- From `all` comes this piece, and `rest` is left: a line; the last line, with which nothing is left; or nothing.
+-- From `all` comes this piece, and `rest` is left: a line; the last line, with which nothing is
+-- left; or nothing.
 abbrev pub GivesPiece : Piece → List ℕ → List ℕ → Type 0
 GivesPiece (pieces.Line line) all rest = (raw : List ℕ) × (raw_lines all ≡ raw ∷ raw_lines rest) × IsGoodLine raw × (line ≡ without_return raw)
 GivesPiece (pieces.Last line) all rest = (raw : List ℕ) × (raw_lines all ≡ raw ∷ []) × IsGoodLine raw × (line ≡ without_return raw) × (rest ≡ [])
 GivesPiece pieces.End all rest = (raw_lines all ≡ []) × (rest ≡ [])
 
--- The fault is that of the first line of `all`, which has this number. A line that is too long and no UTF-8 is too long.
+-- The fault is that of the first line of `all`, which has this number.
+-- A line that is too long and no UTF-8 is too long.
 abbrev pub IsLineFault : ℕ → ScriptFault → List ℕ → Type 0
 IsLineFault number (NotUtf8 line) all = (line ≡ number) × (raw : List ℕ) × (more : List (List ℕ)) × (raw_lines all ≡ raw ∷ more) × (length raw ≤ 65536) × ¬ (IsUtf8 raw)
 IsLineFault number (LineTooLong line) all = (line ≡ number) × (raw : List ℕ) × (more : List (List ℕ)) × (raw_lines all ≡ raw ∷ more) × (65536 < length raw)

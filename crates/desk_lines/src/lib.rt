@@ -1,5 +1,5 @@
-//! Lines of messages and of scripts, in whatever pieces a script is read, the bytes that are written, and how a script ends
-//! before its end.
+//! Lines of messages and of scripts, in whatever pieces a script is read, the bytes that are
+//! written, and how a script ends before its end.
 #![tactic(auto)]
 
 mod fault;

@@ -76,7 +76,8 @@ enum RawLine {
     End,
 }
 
-// The next byte. A read that fails, an interrupted one too, or one more than the bound is the fault.
+// The next byte.
+// A read that fails, an interrupted one too, or one more than the bound is the fault.
 fn next_byte<R: Read>(source: &mut Source, reader: &mut R) -> Result<Option<u8>, ScriptFault>
     ensures byte { IfOk result (λ byte. Left (R.remaining reader.old) (R.remaining reader.new) (λ xs ys. GivesByte byte (source.old.unread ++ xs) (source.new.unread ++ ys))) }
     ensures kept { 0 < length source.old.unread → IsOk result }
@@ -160,8 +161,8 @@ fn text_of(alloc: Global, bytes: &[u8], number: u64) -> Result<Text, ScriptFault
 
 /// The next line of a script, which has this number, counted from 1.
 ///
-/// The faults are those of this line alone: Read, where a read fails, an interrupted one too, or is the 16,777,217th;
-/// LineTooLong, as soon as the line has 65,537 bytes; NotUtf8; Memory.
+/// The faults are those of this line alone: Read, where a read fails, an interrupted one too, or is
+/// the 16,777,217th; LineTooLong, as soon as the line has 65,537 bytes; NotUtf8; Memory.
 /// At Read at most 65,536 bytes of the line were taken from the reader, and nothing else.
 /// Where no read is left, the reader is called no more.
 pub fn next_line<R: Read>(
@@ -189,7 +190,8 @@ pub fn next_line<R: Read>(
 
 /// Writes all bytes.
 ///
-/// The fault is Write: a write failed, an interrupted one too, or took no byte. A front of the bytes is then written.
+/// The fault is Write: a write failed, an interrupted one too, or took no byte.
+/// A front of the bytes is then written.
 pub fn write_out<W: Write>(writer: &mut W, bytes: &[u8]) -> Result<(), ScriptFault>
     ensures all { OnOk result (Appends (W.contents writer.old) (W.contents writer.new) bytes.now) }
     ensures unfinished { OnErr result ((n : ℕ) × (n < length bytes.now) × Appends (W.contents writer.old) (W.contents writer.new) (take n bytes.now)) }

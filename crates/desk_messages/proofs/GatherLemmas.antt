@@ -56,7 +56,8 @@ unmet images (m ∷ ms) h k e =
       | false ↦ λ q e. unmet images ms p.1 k e
     ] refl e
 
--- sets of one desk that share a bug are the same: a bug that is in no image is in none that meets one of them
+-- sets of one desk that share a bug are the same: a bug that is in no image is in none that meets
+-- one of them
 met : (d : Desk) (images : List SetImage) (i : SetImage) (n : ℕ) → AreSetsOf d images → bug_in images n ≡ None → has (numbers_of i.members) n ≡ true
     → (ms : List Member) → Each (λ m. d.bug m.number ≡ Some (bug_of i m)) ms → meets images ms ≡ true → ⊥
 met d images i n sets none own [] each h = false≢true h

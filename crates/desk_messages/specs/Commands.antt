@@ -24,7 +24,8 @@ abbrev pub CarriesOut : Desk → Change → Result Outcome StoreFault → Desk �
 CarriesOut old change (Ok outcome) new = (outcome ≡ Changed (changed_numbers old (put old change))) × (new ≡ put old change)
 CarriesOut old change (Err fault) new = new ≡ old
 
--- a command over the bugs that are meant, carried out: its step's outcome and desk, or a fault and no change
+-- a command over the bugs that are meant, carried out: its step's outcome and desk, or a fault and
+-- no change
 abbrev pub DoesMeant : List ℕ → Desk → Command ℕ → Result Outcome StoreFault → Desk → Type 0
 DoesMeant sender old command (Ok outcome) new = outcome_of old (step old sender command) ≡ (outcome, new)
 DoesMeant sender old command (Err fault) new = new ≡ old

@@ -16,8 +16,9 @@ is_gathered images n = list_any (λ i. has (numbers_of i.members) n) images
 abbrev pub meets : List SetImage → List Member → Bool
 meets images ms = list_any (λ m. is_gathered images m.number) ms
 
--- Images gathered for these bugs besides the old ones: where the old ones are sets of the desk, all are, they show each of
--- the bugs as it is there, and still show the bugs that the old ones showed so.
+-- Images gathered for these bugs besides the old ones: where the old ones are sets of the desk, all
+-- are, they show each of the bugs as it is there, and still show the bugs that the old ones showed
+-- so.
 pub record Gather (d : Desk) (ns : List ℕ) (old new : List SetImage) : Type 0 where
   pub sets : AreSetsOf d old → AreSetsOf d new
   pub known : AreSetsOf d old → AllKnown d new ns

@@ -39,7 +39,8 @@ IsOfWords _ = ⊤
 abbrev pub node_reported : List ℕ → Option (List ℕ) → Option Node
 node_reported package_name version = option_map (λ v. node package_name v) version
 
--- The desk after a report whose words give this: the bug of the next number is new, where a number is left.
+-- The desk after a report whose words give this: the bug of the next number is new, where a number
+-- is left.
 abbrev pub desk_reported : Result Severity ReportFault → Desk → List ℕ → List ℕ → Option (List ℕ) → List ℕ → Result Desk ReportFault
 desk_reported (Err fault) d sender package_name version title = Err fault
 desk_reported (Ok severity) d sender package_name version title =
@@ -50,8 +51,8 @@ unfoldable pub report_of : Desk → List ℕ → List ℕ → Option (List ℕ) 
 report_of d sender package_name version severity title =
     desk_reported (report_severity package_name version severity title) d sender package_name version title
 
--- What is answered, and the desk after it: the number of the new bug; a refusal, and no change; or, of a report whose words
--- are good, a fault of the store, and no change.
+-- What is answered, and the desk after it: the number of the new bug; a refusal, and no change; or,
+-- of a report whose words are good, a fault of the store, and no change.
 abbrev pub IsReported : List ℕ → List ℕ → Option (List ℕ) → List ℕ → List ℕ → Desk → Result ℕ ReportFault → Desk → Type 0
 IsReported sender package_name version severity title old (Ok number) new = (report_of old sender package_name version severity title ≡ Ok new) × (number ≡ old.next)
 IsReported sender package_name version severity title old (Err (Store fault)) new = (s : Severity) × (report_severity package_name version severity title ≡ Ok s) × (new ≡ old)

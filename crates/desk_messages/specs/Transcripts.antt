@@ -10,7 +10,8 @@ abbrev pub transcript : List Entry → List ℕ
 transcript [] = []
 transcript (entry ∷ entries) = outcome_text entry.0 entry.1 ++ transcript entries
 
--- the line at which the store failed, counted from 1 (0 is taken for 1); empty where there is no such line
+-- the line at which the store failed, counted from 1 (0 is taken for 1); empty where there is no
+-- such line
 abbrev pub line_of_end : End → List (List ℕ) → List ℕ
 line_of_end All lines = []
 line_of_end Stopped lines = []

@@ -28,8 +28,9 @@ fn meets(images: &[SetImage], members: &[Member]) -> bool
         .any(|member| is_gathered(images, member.number))
 }
 
-// Adds the image of the set that the bug is in, if there is one, unless the bug is in one of the images. One that shares a
-// bug with them is left out: no desk has such sets.
+// Adds the image of the set that the bug is in, if there is one, unless the bug is in one of the
+// images.
+// One that shares a bug with them is left out: no desk has such sets.
 fn add_image<S: Records>(
     store: &mut S,
     images: &mut Sequence<SetImage>,

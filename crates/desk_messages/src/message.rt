@@ -124,7 +124,8 @@ fn answer_line(
     }
 }
 
-// Carries a line's command out, and says whether that ends the message. After a fault nothing is changed.
+// Carries a line's command out, and says whether that ends the message.
+// After a fault nothing is changed.
 fn take_command_line<S: Records>(
     alloc: Global,
     store: &mut S,
@@ -193,8 +194,8 @@ fn goes_on(end: End) -> bool
     }
 }
 
-/// Takes the lines of a message from this sender, as `receive` does: a line stands here without its line feed and the carriage
-/// return before it.
+/// Takes the lines of a message from this sender, as `receive` does: a line stands here without its
+/// line feed and the carriage return before it.
 pub fn receive_lines<S: Records>(
     alloc: Global,
     store: &mut S,
@@ -235,8 +236,10 @@ pub fn receive_lines<S: Records>(
     }
 }
 
-/// Takes a message from this sender. At a store fault at line k the lines before k were carried out, line k changed
-/// nothing, and later ones were not taken; all growths of a line come before its change. Lines count from 1.
+/// Takes a message from this sender.
+/// At a store fault at line k the lines before k were carried out, line k changed nothing, and
+/// later ones were not taken; all growths of a line come before its change.
+/// Lines count from 1.
 pub fn receive<S: Records>(alloc: Global, store: &mut S, from: &str, message: &str) -> Received
     requires { IsText from.now }
     ensures answer { Holds S.is_kept S.is_honest store.old store.new

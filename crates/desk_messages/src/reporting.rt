@@ -89,8 +89,9 @@ fn node_reported(
     }
 }
 
-/// Takes a report: a new bug of the next number, open and merged with none, whose submitter is the sender, and which is found
-/// in the version of its package, if one is given. Answers its number.
+/// Takes a report: a new bug of the next number, open and merged with none, whose submitter is the
+/// sender, and which is found in the version of its package, if one is given.
+/// Answers its number.
 pub fn report<S: Records>(
     alloc: Global,
     store: &mut S,

@@ -56,9 +56,11 @@ pub fn received_bytes(
     Ok(text)
 }
 
-/// Appends the transcript of this message, as it was received: the two lines of each outcome, and the end's text. Where
-/// the message has no line of the number at which the store failed (`receive` never says so), an empty line is told; 0 is
-/// taken for 1. Where there is no memory, `out` is as before.
+/// Appends the transcript of this message, as it was received: the two lines of each outcome, and
+/// the end's text.
+/// Where the message has no line of the number at which the store failed (`receive` never says so),
+/// an empty line is told; 0 is taken for 1.
+/// Where there is no memory, `out` is as before.
 pub fn received_text(
     alloc: Global,
     out: &mut Vec<u8>,

@@ -30,7 +30,8 @@ abbrev pub branched_by : Ancestry → Option (List Node) → Result Ancestry Bra
 branched_by tree None = Err BadNode
 branched_by tree (Some nodes) = or_refused (branched tree nodes)
 
--- The ancestry after a branch of these words, or the refusal: a word that is no node decides before the branch is looked at.
+-- The ancestry after a branch of these words, or the refusal: a word that is no node decides before
+-- the branch is looked at.
 unfoldable pub branch_of : Ancestry → List (List ℕ) → Result Ancestry BranchRefusal
 branch_of tree words = branched_by tree (nodes_of words)
 

@@ -1,4 +1,5 @@
--- What running a script leaves and has written, at its end and at each fault. This project's own rule.
+-- What running a script leaves and has written, at its end and at each fault.
+-- This project's own rule.
 use Rattle.std.specs.Prelude.{ℕ, ◌≡◌, ◌⊎◌, ◌+◌, ◌<◌, ◌≤◌, List, [], ◌∷◌, ◌++◌, length, take, map, Option, Some, Result, Ok, Err, ⊤}
 use Rattle.std.specs.Io.KnownBytes.{Appends}
 use Rattle.std.specs.Str.{IsUtf8}
@@ -32,15 +33,15 @@ AsksStore (Branch words) = (nodes : List Node) × (nodes_of words ≡ Some nodes
 AsksStore (From sender) = ⊥
 AsksStore Bad = ⊥
 
--- The store failed in a part: a message was received up to a line, and its text ends with the fault's; a report or
--- a branch changed nothing, and its text is the fault's.
+-- The store failed in a part: a message was received up to a line, and its text ends with the
+-- fault's; a report or a branch changed nothing, and its text is the fault's.
 abbrev pub FaultsIn : Part → Standing → StoreFault → Desk → List ℕ → Type 0
 FaultsIn (Message lines) s fault d text =
     (outcomes : List Entry) × (k : ℕ) × IsReceived s.sender lines s.desk outcomes (ends.Store fault k) d × (text ≡ received_text outcomes (ends.Store fault k) lines)
 FaultsIn (DirectiveLine line) s fault d text = AsksStore (directive_of line) × (d ≡ s.desk) × (text ≡ fault_text fault)
 
--- A part was carried out, whole and with no fault, or up to a fault of the store, which is counted; and this is to be
--- written for it.
+-- A part was carried out, whole and with no fault, or up to a fault of the store, which is counted;
+-- and this is to be written for it.
 abbrev pub IsCarried : Part → Standing → Desk → Faults → Faults → List ℕ → Type 0
 IsCarried part s d n0 n1 text =
     ((d ≡ (part_after part s).desk) × (text ≡ part_text part s) × (n1 ≡ n0))
@@ -51,9 +52,10 @@ abbrev pub IsMessage : Part → Type 0
 IsMessage (Message lines) = ⊤
 IsMessage (DirectiveLine line) = ⊥
 
--- How a script stops in a part, and counts the store's faults from n0 to n1. At a fault of the store all that is to be
--- written for the part is written; at `Write` a front of it, not all; at `Memory` nothing of it, and the part may not have
--- been begun; at a fault of reading the part is a message that was not begun.
+-- How a script stops in a part, and counts the store's faults from n0 to n1.
+-- At a fault of the store all that is to be written for the part is written; at `Write` a front of
+-- it, not all; at `Memory` nothing of it, and the part may not have been begun; at a fault of
+-- reading the part is a message that was not begun.
 abbrev pub StopsIn : Part → Standing → Desk → Faults → Faults → Option (List ℕ) → Option (List ℕ) → ScriptFault → Type 0
 StopsIn part s d n0 n1 c0 c1 (Store fault) =
     (text : List ℕ) × FaultsIn part s fault d text × (n1 ≡ counted fault n0) × Appends c0 c1 text
@@ -81,8 +83,8 @@ pub record Stops (parts : List Part) (a : Standing) (d : Desk) (n0 n1 : Faults) 
 abbrev pub AreGood : List (List ℕ) → Type 0
 AreGood raws = Each IsGoodLine raws
 
--- The line of this number, counted from 1, is the first that is not good, and the parts before the message that its lines
--- before this one belong to were carried out.
+-- The line of this number, counted from 1, is the first that is not good, and the parts before the
+-- message that its lines before this one belong to were carried out.
 pub record IsFirstBad (raws : List (List ℕ)) (number : ℕ) (before : List Part) (P : List ℕ → Type 0) : Type 0 where
   pub good : List (List ℕ)
   pub bad : List ℕ
@@ -94,7 +96,8 @@ pub record IsFirstBad (raws : List (List ℕ)) (number : ℕ) (before : List Par
   pub gathered : List (List ℕ)
   pub parts : parts_of_lines (map without_return good) ≡ before ++ Message gathered ∷ []
 
--- No line beyond the good ones played a part in a stop: the first lines, which are good, are a script that stops so too.
+-- No line beyond the good ones played a part in a stop: the first lines, which are good, are a
+-- script that stops so too.
 pub record StopsInGoodLines (raws : List (List ℕ)) (a : Standing) (d : Desk) (n0 n1 : Faults) (c0 c1 : Option (List ℕ))
     (fault : ScriptFault) : Type 0 where
   pub good : List (List ℕ)
@@ -109,8 +112,8 @@ IsPlace (NotUtf8 number) raws before = IsFirstBad raws number before (λ raw. (l
 IsPlace (LineTooLong number) raws before = IsFirstBad raws number before (λ raw. 65536 < length raw)
 IsPlace fault raws before = ⊤
 
--- What these parts leave and have written: at their end all are carried out and their texts written, and the end says
--- whether anything was refused; at a fault the script stops in one.
+-- What these parts leave and have written: at their end all are carried out and their texts
+-- written, and the end says whether anything was refused; at a fault the script stops in one.
 abbrev pub EndsParts : List Part → Standing → Desk → Faults → Faults → Option (List ℕ) → Option (List ℕ)
     → Result ScriptEnd ScriptFault → Type 0
 EndsParts parts a d n0 n1 c0 c1 (Ok end) =
@@ -124,9 +127,10 @@ IsOfPart Write = ⊤
 IsOfPart Memory = ⊤
 IsOfPart fault = ⊥
 
--- What a script over this input leaves and has written. At its end all lines are good, all parts are carried out and
--- their texts written, and the end says whether anything was refused; at a fault it stops in a part, and did nothing for
--- a line that is not good.
+-- What a script over this input leaves and has written.
+-- At its end all lines are good, all parts are carried out and their texts written, and the end
+-- says whether anything was refused; at a fault it stops in a part, and did nothing for a line that
+-- is not good.
 abbrev pub Ends : List ℕ → Standing → Desk → Faults → Faults → Option (List ℕ) → Option (List ℕ)
     → Result ScriptEnd ScriptFault → Type 0
 Ends input a d n0 n1 c0 c1 (Ok end) =
@@ -142,8 +146,9 @@ abbrev pub Carries : {T : Type 0} → Part → Standing → Standing → Faults 
 Carries part a b n0 n1 c0 c1 (Ok done) = (b ≡ part_after part a) × Appends c0 c1 (part_text part a)
 Carries part a b n0 n1 c0 c1 (Err fault) = StopsIn part a b.desk n0 n1 c0 c1 fault
 
--- The store's faults after a script, or a part of one. Before `Write` and `Memory` the store may have failed once: where it
--- has not, or failed for want of memory, they are as before.
+-- The store's faults after a script, or a part of one.
+-- Before `Write` and `Memory` the store may have failed once: where it has not, or failed for want
+-- of memory, they are as before.
 abbrev pub IsCounted : {T : Type 0} → Result T ScriptFault → Faults → Faults → Type 0
 IsCounted (Ok end) before now = now ≡ before
 IsCounted (Err (Store fault)) before now = now ≡ counted fault before

@@ -1,4 +1,5 @@
--- A script: its parts, what is written for them, and the desk that they leave. This project's own rule.
+-- A script: its parts, what is written for them, and the desk that they leave.
+-- This project's own rule.
 use Rattle.std.specs.Prelude.{ℕ, ◌==◌, Bool, true, false, ◌||◌, List, [], ◌∷◌, ◌++◌, Option, Some, None, Result, Ok, Err, codes, if◌then◌else◌, ⊤}
 use Rattle.std.specs.List.{list_any}
 use Rattle.std.specs.Str.{bytes_eq}
@@ -35,8 +36,8 @@ abbrev pub with_line : List ℕ → List Part → List Part
 with_line line (Message lines ∷ parts) = Message (line ∷ lines) ∷ parts
 with_line line parts = Message (line ∷ []) ∷ parts
 
--- The parts of these lines: each line that begins with `@` is a directive, and the lines before, between and after
--- directives are messages, which may have no line.
+-- The parts of these lines: each line that begins with `@` is a directive, and the lines before,
+-- between and after directives are messages, which may have no line.
 abbrev pub parts_of_lines : List (List ℕ) → List Part
 parts_of_lines [] = Message [] ∷ []
 parts_of_lines (line ∷ lines) =
@@ -60,7 +61,8 @@ from_directive text = if is_text text then From text else Bad
 abbrev pub given_version : List ℕ → Option (List ℕ)
 given_version word = if bytes_eq word (codes "-") then None else Some word
 
--- `@report package version severity title`: three words, and the rest of the line without outer blanks
+-- `@report package version severity title`: three words, and the rest of the line without outer
+-- blanks
 abbrev pub report_directive : List ℕ → Directive
 report_directive text =
     let after_package = after_word text in
@@ -83,7 +85,8 @@ abbrev pub HasGoodSender : Directive → Type 0
 HasGoodSender (From sender) = IsText sender
 HasGoodSender directive = ⊤
 
--- where a script stands between two parts: the desk, the current sender, and whether anything was refused
+-- where a script stands between two parts: the desk, the current sender, and whether anything was
+-- refused
 pub record Standing : Type 0 where
   pub desk : Desk
   pub sender : List ℕ
@@ -140,14 +143,16 @@ is_too_many end = false
 abbrev pub refuses : List Entry → End → Bool
 refuses outcomes end = list_any (λ entry. is_refused entry.1) outcomes || is_too_many end
 
--- what is written for a message that the machine takes to this, and where the script stands after it
+-- what is written for a message that the machine takes to this, and where the script stands after
+-- it
 abbrev pub message_text : Machine → List (List ℕ) → List ℕ
 message_text m lines = received_text m.outcomes (end_of m.outcomes) lines
 
 abbrev pub after_message : Machine → Standing → Standing
 after_message m s = standing m.desk s.sender (s.refused || refuses m.outcomes (end_of m.outcomes))
 
--- what is written for a part, over the desk that the parts before it leave, and where the script stands after it
+-- what is written for a part, over the desk that the parts before it leave, and where the script
+-- stands after it
 unfoldable pub part_text : Part → Standing → List ℕ
 part_text (Message lines) s = message_text (after_lines s.sender (at_start s.desk) lines) lines
 part_text (DirectiveLine line) s = directive_text (directive_of line) s

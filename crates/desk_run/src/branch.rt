@@ -8,7 +8,8 @@ use ancestry::{Node, NodeFault};
 use control_text::next_word;
 use std::alloc::Global;
 
-/// The nodes of the words of a text. `BadNode` where a word is no node, `Memory` where there was none.
+/// The nodes of the words of a text.
+/// `BadNode` where a word is no node, `Memory` where there was none.
 pub(crate) fn read_nodes(alloc: Global, text: &str) -> Result<Vec<Node>, NodeFault>
     ensures { AreRead (nodes_of (words text.now)) result }
 {

@@ -1,5 +1,5 @@
-//! Scripts, over any store of a desk, any reader and any writer. The names of messages and reports, of stores and of faults
-//! stand here too.
+//! Scripts, over any store of a desk, any reader and any writer.
+//! The names of messages and reports, of stores and of faults stand here too.
 #![tactic(auto)]
 
 mod answer;

@@ -32,7 +32,8 @@ pub enum ScriptEnd {
     Refused,
 }
 
-// A script in its course: the current sender, whether anything was refused, and the lines of the current message.
+// A script in its course: the current sender, whether anything was refused, and the lines of the
+// current message.
 #[derive(Drop)]
 struct Run {
     sender: Text,
@@ -267,15 +268,19 @@ fn finish_script<S: Records, W: Write>(
     }
 }
 
-/// Runs a script: reads its lines to the end, carries messages and directives out in turn, and writes their answers.
+/// Runs a script: reads its lines to the end, carries messages and directives out in turn, and
+/// writes their answers.
 ///
-/// Where it answers `Ok` it has read to the end, and has written the script's output and nothing else. A fault of the store
-/// ends the script as `Store` of that very fault, and what was written is the output up to there with the fault's text; where
-/// that text could not be built or written, as `Memory` or `Write`. After `Read` (also where more than 16,777,216
-/// reads were needed), `NotUtf8` and `LineTooLong` the text of all earlier parts was written, whole, and the message whose lines
-/// were being gathered was not begun; after `Memory` the same, and the part at hand may have been carried out; after `Write` a
-/// front of the output, and not all of what was to be written for the part at hand. `NotUtf8` and `LineTooLong` name the first
-/// line of either kind; one that is both is too long.
+/// Where it answers `Ok` it has read to the end, and has written the script's output and nothing
+/// else.
+/// A fault of the store ends the script as `Store` of that very fault, and what was written is the
+/// output up to there with the fault's text; where that text could not be built or written, as
+/// `Memory` or `Write`.
+/// After `Read` (also where more than 16,777,216 reads were needed), `NotUtf8` and `LineTooLong`
+/// the text of all earlier parts was written, whole, and the message whose lines were being
+/// gathered was not begun; after `Memory` the same, and the part at hand may have been carried out;
+/// after `Write` a front of the output, and not all of what was to be written for the part at hand.
+/// `NotUtf8` and `LineTooLong` name the first line of either kind; one that is both is too long.
 pub fn run_script<S: Records, R: Read, W: Write>(
     alloc: Global,
     store: &mut S,

@@ -1,5 +1,5 @@
--- A message, as a machine that takes its lines one at a time (stops: the BTS page 'control and manipulation'; the rest is
--- this project's own rule).
+-- A message, as a machine that takes its lines one at a time (stops: the BTS page 'control and
+-- manipulation'; the rest is this project's own rule).
 use Rattle.std.specs.Prelude.{ℕ, ◌≡◌, ◌+◌, ◌-◌, ◌<◌, ◌≤◌, ◌==◌, nat_lt, nat_le, Bool, true, false, List, [], ◌∷◌, ◌++◌, length, take, count_by, Option, Some, None, Result, Ok, Err, unwrap_or, if◌then◌else◌}
 use Rattle.std.specs.List.{list_any}
 use Rattle.bug_record.specs.Desk.{Desk}
@@ -37,8 +37,8 @@ abbrev pub number_of_name : List (ℕ × ℕ) → ℕ → Option ℕ
 number_of_name [] k = None
 number_of_name (p ∷ names) k = if p.0 == k then Some p.1 else number_of_name names k
 
--- The number that a bug word means. A name -k that isn't known stands for 1,000,000,000 + k, which no bug of a sound desk
--- has.
+-- The number that a bug word means.
+-- A name -k that isn't known stands for 1,000,000,000 + k, which no bug of a sound desk has.
 abbrev pub number_meant : List (ℕ × ℕ) → Named → ℕ
 number_meant names (Number n) = n
 number_meant names (Name k) = unwrap_or (number_of_name names k) (1000000000 + k)
@@ -91,8 +91,8 @@ abbrev pub is_stop : Outcome → Bool
 is_stop Stopped = true
 is_stop outcome = false
 
--- How the outcomes so far end the message, which goes on at `All`: a stop ends it, and so does the fifth line that could
--- not be read.
+-- How the outcomes so far end the message, which goes on at `All`: a stop ends it, and so does the
+-- fifth line that could not be read.
 unfoldable pub end_of : List Entry → End
 end_of entries =
     if list_any (λ entry. is_stop entry.1) entries then ends.Stopped
@@ -119,8 +119,8 @@ pub record Comes (sender : List ℕ) (lines : List (List ℕ)) (old : Desk) (out
   pub after : after_lines sender (at_start old) lines ≡ machine new outcomes
   pub end_is : end_of outcomes ≡ end
 
--- What a message comes to: its outcomes, its end, and the desk after it. With a fault at line k, the lines before k were
--- taken, and line k and the later ones were not.
+-- What a message comes to: its outcomes, its end, and the desk after it.
+-- With a fault at line k, the lines before k were taken, and line k and the later ones were not.
 abbrev pub IsReceived : List ℕ → List (List ℕ) → Desk → List Entry → End → Desk → Type 0
 IsReceived sender lines old outcomes ends.All new = Comes sender lines old outcomes ends.All new
 IsReceived sender lines old outcomes ends.Stopped new = Comes sender lines old outcomes ends.Stopped new

@@ -12,8 +12,8 @@ use Rattle.bug_record.specs.declared.command.Change.{Change}
 use Rattle.desk_text.specs.declared.outcome.StoreFault.{StoreFault}
 use Rattle.desk_text.specs.declared.outcome.StoreFault.TheVariants.{Memory, Device, Full, Foreign}
 
--- A call goes from old to new: honesty isn't won, and where the tables were kept as it began and the disk was honest up
--- to its end, they are kept again, and P holds.
+-- A call goes from old to new: honesty isn't won, and where the tables were kept as it began and
+-- the disk was honest up to its end, they are kept again, and P holds.
 pub record Holds {S : Type 0} (is_kept is_honest : S → Type 0) (old new : S) (P : Type 0) : Type 0 where
   pub honest : is_honest new → is_honest old
   pub kept : is_kept old → is_honest new → is_kept new
@@ -67,8 +67,8 @@ no_faults = record { device = 0; full = 0; foreign = 0 }
 abbrev pub one_more : ℕ → ℕ
 one_more n = min (n + 1) (2 ^ 64 - 1)
 
--- The counts after a fault: its own kind is counted once more. A kind that stands at its largest count is told apart no
--- more.
+-- The counts after a fault: its own kind is counted once more.
+-- A kind that stands at its largest count is told apart no more.
 abbrev pub counted : StoreFault → Faults → Faults
 counted Memory faults = faults
 counted Device faults = record faults { device = one_more faults.device }

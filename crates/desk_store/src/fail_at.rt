@@ -11,8 +11,9 @@ use ancestry::{BranchFault, Node};
 use bug_record::{Change, SetImage};
 use desk_text::StoreFault;
 
-/// A store round another. One call of `apply` or `branch` answers `Device`, changes nothing and is counted; every other call is the
-/// other store's.
+/// A store round another.
+/// One call of `apply` or `branch` answers `Device`, changes nothing and is counted; every other
+/// call is the other store's.
 #[derive(Drop)]
 pub struct FailAt<S> {
     inner: S,

@@ -9,8 +9,9 @@ use bug_record::{Command, Refusal};
 use control_text::Named;
 use desk_text::Outcome;
 
-/// Names are told from numbers, though a message hands in an unknown name as a number: over a sound desk a command of an
-/// unknown name is refused by that name, and a command of a number that no bug has by that number.
+/// Names are told from numbers, though a message hands in an unknown name as a number: over a sound
+/// desk a command of an unknown name is refused by that name, and a command of a number that no bug
+/// has by that number.
 pub fn names_are_told_from_numbers()
     ensures of_name { (sender : List ℕ) (d : Desk) (command : Command Named) (k : ℕ) → IsSound d → 0 < k → bug_named command ≡ Named.Name k
         → does sender [] d command ≡ (Outcome.Refused (Refusal.NoName k), d) }

@@ -1,5 +1,6 @@
-//! Stores of a desk: what every store says of its content, a desk in memory, and a store that fails once, for tests. The
-//! definition of a message (`specs/Message.antt`) stands here too.
+//! Stores of a desk: what every store says of its content, a desk in memory, and a store that fails
+//! once, for tests.
+//! The definition of a message (`specs/Message.antt`) stands here too.
 #![tactic(auto)]
 
 mod fail_at;

@@ -12,8 +12,9 @@ use desk_text::StoreFault;
 
 /// A store of a desk, in memory or in tables.
 ///
-/// What it says of its content holds where its tables are kept as a call begins and the disk was honest up to its end,
-/// and then they are kept again. After a fault the content is as before.
+/// What it says of its content holds where its tables are kept as a call begins and the disk was
+/// honest up to its end, and then they are kept again.
+/// After a fault the content is as before.
 pub trait Records {
     /// The content.
     ghost desk: { Self → Desk };
@@ -27,7 +28,8 @@ pub trait Records {
     /// How often the store has answered `Device`, `Full` and `Foreign`, each up to `u64::MAX`.
     ghost faults: { Self → Faults };
 
-    /// The image of the set that the bug is in; `None` exactly where there is no bug of this number.
+    /// The image of the set that the bug is in; `None` exactly where there is no bug of this
+    /// number.
     fn set_of(&mut self, number: u64) -> Result<Option<SetImage>, StoreFault>
         ensures answer { Asks is_kept is_honest self.old self.new (Answers (desk self.old) (desk self.new) result (IsImageOf (desk self.old) number)) }
         ensures count { faults self.new ≡ faults_after result (faults self.old) };
@@ -37,8 +39,9 @@ pub trait Records {
         ensures answer { Asks is_kept is_honest self.old self.new (Answers (desk self.old) (desk self.new) result (IsNext (desk self.old))) }
         ensures count { faults self.new ≡ faults_after result (faults self.old) };
 
-    /// Carries a change out, in one step. Of the change it asks that each image has a member, and, of kept tables over an
-    /// honest disk, that no bug is in two images, and that it covers whole sets and leaves a sound desk.
+    /// Carries a change out, in one step.
+    /// Of the change it asks that each image has a member, and, of kept tables over an honest disk,
+    /// that no bug is in two images, and that it covers whole sets and leaves a sound desk.
     fn apply(&mut self, change: &Change) -> Result<(), StoreFault>
         requires apart { is_kept self.old → is_honest self.old → AreApart change.now.images }
         requires members { Each HasMember change.now.images }
@@ -46,8 +49,10 @@ pub trait Records {
         ensures answer { Holds is_kept is_honest self.old self.new (Applies (desk self.old) (desk self.new) result change.now) }
         ensures count { faults self.new ≡ faults_after result (faults self.old) };
 
-    /// Takes a branch, a list of 1 to 200 nodes of which each is based on the next. The inner answer is why the branch is
-    /// refused, never for being out of memory; then, and after a fault, all is as before. Bugs and the next number stay.
+    /// Takes a branch, a list of 1 to 200 nodes of which each is based on the next.
+    /// The inner answer is why the branch is refused, never for being out of memory; then, and
+    /// after a fault, all is as before.
+    /// Bugs and the next number stay.
     fn branch(&mut self, nodes: &[Node]) -> Result<Result<(), BranchFault>, StoreFault>
         ensures answer { Holds is_kept is_honest self.old self.new (Branches (desk self.old) (desk self.new) result nodes.now) }
         ensures refusal { IfOk result IsRefusal }

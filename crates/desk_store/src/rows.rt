@@ -108,8 +108,9 @@ fn numbers_of_rows(alloc: Global, rows: &[Row]) -> Result<Vec<u64>, AllocError>
     Ok(numbers)
 }
 
-// Puts rows into the map, from the last to the first, so that the first of a number stays. Where there is no memory,
-// some of the rows may be there, and all else is as before. No memory is taken for a number that is there already.
+// Puts rows into the map, from the last to the first, so that the first of a number stays.
+// Where there is no memory, some of the rows may be there, and all else is as before.
+// No memory is taken for a number that is there already.
 fn insert_rows(bugs: &mut BTreeMap<u64, Bug>, mut rows: Vec<Row>) -> Result<(), AllocError>
     ensures ok { OnOk result ((n : ℕ) → get nat_cmp bugs.new n ≡ option_or (bug_at rows.items n) (get nat_cmp bugs.old n)) }
     ensures others { (n : ℕ) → bug_at rows.items n ≡ None → get nat_cmp bugs.new n ≡ get nat_cmp bugs.old n }
@@ -130,8 +131,9 @@ fn remove_all(bugs: &mut BTreeMap<u64, Bug>, numbers: &[u64])
     }
 }
 
-/// Puts the bugs of the images into the map. First come those whose number is new, since only they can want memory: where
-/// there is none, they are taken out again, and the map has the bugs that it had.
+/// Puts the bugs of the images into the map.
+/// First come those whose number is new, since only they can want memory: where there is none, they
+/// are taken out again, and the map has the bugs that it had.
 pub(crate) fn put_images(
     alloc: Global,
     bugs: &mut BTreeMap<u64, Bug>,

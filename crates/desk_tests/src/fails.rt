@@ -8,8 +8,10 @@ use bug_record::{Change, SetImage};
 use desk_store::Records;
 use desk_text::StoreFault;
 
-/// A store round another. One call of `set_of`, `next`, `apply` or `branch` answers this fault, and changes nothing; every
-/// other call is the other store's. Its calls are counted.
+/// A store round another.
+/// One call of `set_of`, `next`, `apply` or `branch` answers this fault, and changes nothing; every
+/// other call is the other store's.
+/// Its calls are counted.
 #[derive(Drop)]
 pub(crate) struct Fails<S> {
     inner: S,

@@ -34,8 +34,8 @@ const FAULTS: [(StoreFault, &str); 4] = [
     (StoreFault::Foreign, "Store fault: foreign.\n"),
 ];
 
-// Whether the script ends with this fault where it is the answer to this call of the store, which is the last one, and
-// writes this text and then the fault's line.
+// Whether the script ends with this fault where it is the answer to this call of the store, which
+// is the last one, and writes this text and then the fault's line.
 fn ends_so(alloc: Global, at: u64, fault: StoreFault, before: &str, line: &str) -> bool {
     let mut store = Fails::new(PlainDesk::new(alloc, 1), at, fault);
     let mut reader = SCRIPT.as_bytes();

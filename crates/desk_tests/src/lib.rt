@@ -1,5 +1,5 @@
-//! Tests of what data can't show: readers and writers in pieces and failing, stores that fail, what a
-//! set holds, the plan of a merge as a call, and calls that no program makes.
+//! Tests of what data can't show: readers and writers in pieces and failing, stores that fail, what
+//! a set holds, the plan of a merge as a call, and calls that no program makes.
 #![tactic(auto)]
 
 #[cfg(test)]

@@ -103,8 +103,9 @@ fn a_read_that_fails_is_the_fault(rt: HostRuntime) -> Result<(), Fail> {
     Ok(())
 }
 
-// How many reads a reader that never ends, and gives this piece a read, is asked for, if the last line that it gives has
-// this number, and the next one is the fault Read; the line after that takes no read.
+// How many reads a reader that never ends, and gives this piece a read, is asked for, if the last
+// line that it gives has this number, and the next one is the fault Read; the line after that takes
+// no read.
 fn reads_until(alloc: Global, piece: &[u8], last: u64) -> Result<Option<u64>, ScriptFault> {
     let mut source = Source::new();
     let mut reader = Pieces { piece, reads: 0 };

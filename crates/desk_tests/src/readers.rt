@@ -2,7 +2,8 @@
 
 use std::io::{self, ErrorKind, Read, Write};
 
-/// Gives one byte a read. The read after so many is interrupted; later ones would go on, and are counted.
+/// Gives one byte a read.
+/// The read after so many is interrupted; later ones would go on, and are counted.
 #[derive(Drop)]
 pub(crate) struct Trickle<'a> {
     left: &'a [u8],
@@ -60,7 +61,8 @@ impl Read for Pieces<'_> {
     }
 }
 
-/// Takes one byte a write. The write after so many takes none; later ones would take one again, and are counted.
+/// Takes one byte a write.
+/// The write after so many takes none; later ones would take one again, and are counted.
 #[derive(Drop)]
 pub(crate) struct Narrow {
     pub taken: Vec<u8>,

@@ -31,7 +31,8 @@ pub(crate) fn writes<S: Records>(
     ended == end && writer.as_slice() == written.as_bytes()
 }
 
-// What the script writes where a read fails after so many bytes; `None` where it ends otherwise, or reads on.
+// What the script writes where a read fails after so many bytes; `None` where it ends otherwise, or
+// reads on.
 fn written_until(alloc: Global, desk: &mut PlainDesk, bytes: usize) -> Option<Vec<u8>> {
     let mut reader = Trickle::new(SCRIPT.as_bytes(), bytes);
     let mut writer = Vec::new(alloc);
@@ -43,7 +44,8 @@ fn written_until(alloc: Global, desk: &mut PlainDesk, bytes: usize) -> Option<Ve
     }
 }
 
-// Whether the script writes a front of what it writes as a whole, where a read fails after so many bytes.
+// Whether the script writes a front of what it writes as a whole, where a read fails after so many
+// bytes.
 fn writes_a_front(alloc: Global, bytes: usize) -> bool {
     match written_until(alloc, &mut PlainDesk::new(alloc, 1), bytes) {
         Some(written) => REPORTED.as_bytes().starts_with(written.as_slice()),
@@ -67,8 +69,8 @@ fn a_read_that_fails_leaves_the_message_that_is_gathered(rt: HostRuntime) {
     assert!(rt; writes(alloc, &mut desk, script, Ok(ScriptEnd::Refused), written));
 }
 
-// Whether the script ends so, a writer that takes so many bytes has taken all of them, and there were so many writes
-// after the one that failed.
+// Whether the script ends so, a writer that takes so many bytes has taken all of them, and there
+// were so many writes after the one that failed.
 fn fills(
     alloc: Global,
     room: usize,

@@ -20,8 +20,8 @@ pub(crate) fn written<S: Records>(alloc: Global, store: &mut S, script: &str) ->
     writer
 }
 
-// Whether a script at whose second change the store fails, after the reports, writes this, and another one
-// after it that.
+// Whether a script at whose second change the store fails, after the reports, writes this, and
+// another one after it that.
 fn fails_so(
     alloc: Global,
     script: &str,

@@ -22,7 +22,8 @@ report_answer (Err BadTitle) = refused_line (codes "bad title")
 report_answer (Err Full) = refused_line (codes "no bug number is left")
 report_answer (Err (Store fault)) = fault_text fault
 
--- a branch whose words are nodes: `OK`, the refusal, or the fault of the store (no store refuses for being out of memory)
+-- a branch whose words are nodes: `OK`, the refusal, or the fault of the store (no store refuses
+-- for being out of memory)
 abbrev pub branch_answer : Result (Result (Unit {0}) BranchFault) StoreFault → List ℕ
 branch_answer (Ok (Ok done)) = as_line (codes "OK")
 branch_answer (Ok (Err EmptyBranch)) = refused_line (codes "empty branch")

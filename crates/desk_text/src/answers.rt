@@ -49,7 +49,8 @@ pub fn report_answer(
     }
 }
 
-/// The line that answers a branch whose words are nodes: `OK`, the refusal, or the fault of the store.
+/// The line that answers a branch whose words are nodes: `OK`, the refusal, or the fault of the
+/// store.
 ///
 /// # Errors
 ///

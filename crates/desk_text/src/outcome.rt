@@ -35,12 +35,13 @@ pub enum End {
     Stopped,
     /// The fifth line that could not be read stopped it.
     TooManyUnreadable,
-    /// The store failed at this line, counted from 1: the lines before it were carried out, it and the later ones not.
+    /// The store failed at this line, counted from 1: the lines before it were carried out, it and
+    /// the later ones not.
     Store(StoreFault, u64),
 }
 
-/// Why a report is not taken, in the order in which the causes are tested; a store fault at which the next number could
-/// not be read comes before `Full`.
+/// Why a report is not taken, in the order in which the causes are tested; a store fault at which
+/// the next number could not be read comes before `Full`.
 #[derive(Clone, Copy, Debug, PartialEq, Eq, Drop)]
 pub enum ReportFault {
     /// The package is no package name.

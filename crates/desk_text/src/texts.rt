@@ -99,8 +99,8 @@ fn fault_answer(alloc: Global, fault: StoreFault) -> Result<String, AllocError>
     format!(in alloc; "Store fault: {word}.")
 }
 
-/// Appends the two lines of an outcome: `> ` and the line as it was written, then the answer. Where there is no memory,
-/// `out` is as before.
+/// Appends the two lines of an outcome: `> ` and the line as it was written, then the answer.
+/// Where there is no memory, `out` is as before.
 pub fn outcome_text(
     alloc: Global,
     out: &mut Vec<u8>,
@@ -140,9 +140,12 @@ fn store_end_text(
     out.extend_from_slice(text.as_bytes())
 }
 
-/// Appends what follows the last outcome: nothing for `All` and `Stopped`; a line for `TooManyUnreadable`; for a store fault
-/// `> ` and the line at which it came, handed in, and the fault's line. `line` is looked at for a store fault alone. Where
-/// there is no memory, `out` is as before. An end that appends nothing takes no memory.
+/// Appends what follows the last outcome: nothing for `All` and `Stopped`; a line for
+/// `TooManyUnreadable`; for a store fault `> ` and the line at which it came, handed in, and the
+/// fault's line.
+/// `line` is looked at for a store fault alone.
+/// Where there is no memory, `out` is as before.
+/// An end that appends nothing takes no memory.
 pub fn end_text(alloc: Global, out: &mut Vec<u8>, end: End, line: &str) -> Result<(), AllocError>
     ensures ok { OnOk result (out.new.items ≡ out.old.items ++ end_text end line.now) }
     ensures err { OnErr result (out.new.items ≡ out.old.items) }

@@ -37,7 +37,8 @@ fn is_this_node(nodes: &[Node], place: usize, node: &Node) -> bool
 }
 
 impl Sequence<Node> {
-    /// Adds the node to a list in node order, unless it is there. Where there is no memory, the list is as before.
+    /// Adds the node to a list in node order, unless it is there.
+    /// Where there is no memory, the list is as before.
     pub fn add_node(&mut self, node: Node) -> Result<(), AllocError>
         ensures ok { OnOk result (self.new ≡ with_node self.old node) }
         ensures err { OnErr result (self.new ≡ self.old) }
