@@ -3,6 +3,7 @@
 ghost use Rattle.std.specs.Prelude.{◌≡◌, ℕ, ◌+◌, ◌<◌, ◌≤◌, ◌++◌, [], length, take, IsOk, IfOk, IfErr, OnOk, OnErr, IsUtf8, Result};
 ghost use Rattle.std.specs.Io.KnownBytes.{Appends};
 ghost use Rattle.desk_lines.specs.Lines.{without_return};
+ghost use Rattle.desk_lines.specs.Buffered.{bytes_left};
 ghost use Rattle.desk_lines.specs.Reading.{Known, Left, GivesByte, GivesRaw, GivesPiece, IsLineFault, IsReadingFault, IsBegun, IsTextFault};
 
 use crate::fault::ScriptFault;
@@ -85,6 +86,7 @@ fn next_byte<R: Read>(source: &mut Source, reader: &mut R) -> Result<Option<u8>,
     ensures untaken { OnErr result (Left (R.remaining reader.old) (R.remaining reader.new) (λ xs ys. source.new.unread ++ ys ≡ source.old.unread ++ xs)) }
     ensures emptied { OnErr result (source.new.unread ≡ []) }
     ensures buffered { 0 < length source.old.unread → (source.new.reads_left ≡ source.old.reads_left) × (reader.new ≡ reader.old) }
+    ensures fewer { OnOk result (bytes_left source.new < bytes_left source.old) }
     ensures counted { source.old.unread ≡ [] → 0 < source.old.reads_left → source.new.reads_left + 1 ≡ source.old.reads_left }
     ensures spent { source.old.unread ≡ [] → source.old.reads_left ≡ 0 → (result ≡ Result.Err ScriptFault.Read) × (source.new ≡ source.old) × (reader.new ≡ reader.old) }
 {
@@ -125,6 +127,7 @@ fn gather<R: Read>(
     ensures begun { result ≡ Result.Err ScriptFault.Read → Left (R.remaining reader.old) (R.remaining reader.new) (λ xs ys. IsBegun (source.old.unread ++ xs) (source.new.unread ++ ys)) }
     ensures emptied { result ≡ Result.Err ScriptFault.Read → source.new.unread ≡ [] }
     ensures reads { source.new.reads_left ≤ source.old.reads_left }
+    ensures fewer { OnOk result (bytes_left source.new < bytes_left source.old) }
     ensures unasked { source.new.reads_left ≡ source.old.reads_left → reader.new ≡ reader.old }
     ensures spent { source.old.unread ≡ [] → source.old.reads_left ≡ 0 → (result ≡ Result.Err ScriptFault.Read) × (source.new ≡ source.old) × (reader.new ≡ reader.old) }
 {
@@ -165,6 +168,7 @@ fn text_of(alloc: Global, bytes: &[u8], number: u64) -> Result<Text, ScriptFault
 /// the 16,777,217th; LineTooLong, as soon as the line has 65,537 bytes; NotUtf8; Memory.
 /// At Read at most 65,536 bytes of the line were taken from the reader, and nothing else.
 /// Where no read is left, the reader is called no more.
+/// Each piece lowers the most bytes that the source may still give, 8,589,934,592 at first.
 pub fn next_line<R: Read>(
     alloc: Global,
     source: &mut Source,
@@ -177,6 +181,7 @@ pub fn next_line<R: Read>(
     ensures begun { result ≡ Result.Err ScriptFault.Read → Left (R.remaining reader.old) (R.remaining reader.new) (λ xs ys. IsBegun (source.old.unread ++ xs) (source.new.unread ++ ys)) }
     ensures emptied { result ≡ Result.Err ScriptFault.Read → source.new.unread ≡ [] }
     ensures reads { source.new.reads_left ≤ source.old.reads_left }
+    ensures fewer { OnOk result (bytes_left source.new < bytes_left source.old) }
     ensures unasked { source.new.reads_left ≡ source.old.reads_left → reader.new ≡ reader.old }
     ensures spent { source.old.unread ≡ [] → source.old.reads_left ≡ 0 → (result ≡ Result.Err ScriptFault.Read) × (source.new ≡ source.old) × (reader.new ≡ reader.old) }
 {
