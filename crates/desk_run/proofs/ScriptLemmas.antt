@@ -4,10 +4,10 @@ use Rattle.std.specs.Result.{IfErr, OnOk}
 use Rattle.bug_record.specs.Desk.{Desk}
 use Rattle.desk_store.specs.Store.{Faults}
 use Rattle.desk_lines.specs.Lines.{without_return, raw_lines, lines_of}
-use Rattle.desk_lines.specs.Reading.{IsGoodLine, IsLineFault, IsReadingFault, Known, Left}
+use Rattle.desk_lines.specs.Reading.{IsGoodLine, IsLineFault, IsReadingFault, IsBegun, Known, Left}
 use Rattle.desk_run.specs.Script.{Part, Message, Standing, parts_of_lines, script_of, after_parts}
 use Rattle.desk_run.specs.Gathering.{parts_from}
-use Rattle.desk_run.specs.Running.{Runs, Stops, StopsIn, EndsParts, Ends, AreGood, IsFirstBad, IsPlace, IsOfPart, StopsInGoodLines}
+use Rattle.desk_run.specs.Running.{Runs, Stops, StopsIn, EndsParts, Ends, AreGood, IsFirstBad, IsPlace, IsReadInPart, IsOfPart, StopsInGoodLines}
 use Rattle.desk_lines.specs.declared.fault.ScriptFault.{ScriptFault}
 use Rattle.desk_lines.specs.declared.fault.ScriptFault.TheVariants as stops
 use Rattle.desk_run.specs.declared.script.ScriptEnd.{ScriptEnd}
@@ -180,6 +180,16 @@ stops_at_once input a n c = stops_reading [] [] [] input input 1 a a a.desk n n 
 
 pub left_more : {a b c : Option (List ℕ)} {P Q R : List ℕ → List ℕ → Type 0} → Left a b P → Left b c Q → ((xs ys zs : List ℕ) → P xs ys → Q ys zs → R xs zs) → Left a c R
 left_more p q f = record { known = λ xs e. let u = p.known xs e in let v = q.known u.0 u.1 in (v.0, v.1, f xs u.0 v.0 u.2 v.2) }
+
+-- a failed read, after whole lines
+pub read_in_part : {a b c : Option (List ℕ)} (texts : List (List ℕ)) (s t : List ℕ) → t ≡ [] → Left a b (λ xs ys. ReadTo texts xs (s ++ ys)) → Left b c (λ ys zs. IsBegun (s ++ ys) (t ++ zs)) → Left a c IsReadInPart
+read_in_part texts s t none p q = left_more p q (λ xs ys zs r b. record {
+  good = r.raws;
+  left = s ++ ys;
+  lines = r.lines;
+  are_good = r.good;
+  begun = subst (λ (w : List ℕ). IsBegun (s ++ ys) (w ++ zs)) none b;
+})
 
 pub left_same : (a : Option (List ℕ)) {P : List ℕ → List ℕ → Type 0} → ((xs : List ℕ) → P xs xs) → Left a a P
 left_same a f = record { known = λ xs e. (xs, e, f xs) }

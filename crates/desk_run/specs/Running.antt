@@ -11,7 +11,7 @@ use Rattle.desk_text.specs.declared.outcome.End.TheVariants as ends
 use Rattle.desk_store.specs.Store.{Faults, counted}
 use Rattle.desk_store.specs.Message.{Entry, IsReceived}
 use Rattle.desk_lines.specs.Lines.{raw_lines, without_return}
-use Rattle.desk_lines.specs.Reading.{IsGoodLine}
+use Rattle.desk_lines.specs.Reading.{IsGoodLine, IsBegun}
 use Rattle.desk_messages.specs.Transcripts.{received_text}
 use Rattle.desk_run.specs.Script.{Part, Message, DirectiveLine, Directive, From, Report, Branch, Bad, directive_of, Standing, parts_of_lines, script_of, part_text, part_after, text_of, after_parts, end_of_script}
 use Rattle.bug_record.specs.declared.severity.Severity.{Severity}
@@ -105,6 +105,15 @@ pub record StopsInGoodLines (raws : List (List ℕ)) (a : Standing) (d : Desk) (
   pub lines : raws ≡ good ++ more
   pub are_good : AreGood good
   pub stops : Stops (parts_of_lines (map without_return good)) a d n0 n1 c0 c1 fault
+
+-- What a script has read of its input at a failed read: good lines, and a front of the next one,
+-- of at most 65,536 bytes.
+pub record IsReadInPart (input rest : List ℕ) : Type 0 where
+  pub good : List (List ℕ)
+  pub left : List ℕ
+  pub lines : raw_lines input ≡ good ++ raw_lines left
+  pub are_good : AreGood good
+  pub begun : IsBegun left rest
 
 -- where a fault of a line comes
 abbrev pub IsPlace : ScriptFault → List (List ℕ) → List Part → Type 0

@@ -9,7 +9,7 @@ ghost use Rattle.std.specs.Io.KnownBytes.{Appends};
 ghost use Rattle.desk_run.specs.Branches.{nodes_of};
 ghost use Rattle.desk_run.specs.Gathering.{parts_from};
 ghost use Rattle.desk_lines.specs.Reading.{Known, Left};
-ghost use Rattle.desk_run.specs.Running.{Runs, Stops, Carries, IsCounted, IsOfPart, EndsParts, Ends};
+ghost use Rattle.desk_run.specs.Running.{Runs, Stops, Carries, IsCounted, IsOfPart, EndsParts, IsReadInPart, Ends};
 
 use crate::answer::{fault_of_branch, fault_of_end, refuses, refuses_branch, store_fault};
 use crate::branch::read_nodes;
@@ -281,6 +281,7 @@ fn finish_script<S: Records, W: Write>(
 /// gathered was not begun; after `Memory` the same, and the part at hand may have been carried out;
 /// after `Write` a front of the output, and not all of what was to be written for the part at hand.
 /// `NotUtf8` and `LineTooLong` name the first line of either kind; one that is both is too long.
+/// At `Read` good lines were taken from the reader, and at most 65,536 bytes of the next one.
 pub fn run_script<S: Records, R: Read, W: Write>(
     alloc: Global,
     store: &mut S,
@@ -291,6 +292,7 @@ pub fn run_script<S: Records, R: Read, W: Write>(
         Ends input (begin (S.desk store.old)) (S.desk store.new) (S.faults store.old) (S.faults store.new)
         (W.contents writer.old) (W.contents writer.new) result)) }
     ensures read { OnOk result (Left (R.remaining reader.old) (R.remaining reader.new) (λ input rest. rest ≡ [])) }
+    ensures begun { result ≡ Result.Err ScriptFault.Read → Left (R.remaining reader.old) (R.remaining reader.new) IsReadInPart }
     ensures count { IsCounted result (S.faults store.old) (S.faults store.new) }
 {
     let Ok(sender) = Text::of(alloc, "nobody") else {

@@ -1,12 +1,13 @@
-use Rattle.std.proofs.Common.{ℕ, List, [], ◌∷◌, ◌++◌, sym, ◌∙◌, ap, subst, refl, false}
+use Rattle.std.proofs.Common.{◌≡◌, ℕ, ◌+◌, ◌≤◌, lit≤, arith, Err, List, [], ◌∷◌, ◌++◌, sym, ◌∙◌, ap, subst, refl, false}
 use Rattle.bug_record.specs.Texts.{is_text, IsText}
 use Rattle.desk_store.proofs.HoldsLemmas.{holds_weaker, holds_none, holds_then, holds_both}
 use Rattle.desk_run.specs.Script.{standing, begin}
 use Rattle.desk_run.specs.Gathering.{parts_from}
-use Rattle.desk_lines.specs.Buffered.{Buffered}
+use Rattle.desk_lines.specs.Buffered.{Buffered, bytes_left}
+use Rattle.desk_lines.specs.declared.fault.ScriptFault.{ScriptFault}
 use Rattle.desk_lines.specs.declared.fault.ScriptFault.TheVariants.{Read}
 use Rattle.desk_run.proofs.RunLemmas.{runs_then, runs_none}
-use Rattle.desk_run.proofs.ScriptLemmas.{ReadTo, nothing_read, read_more, cut_more, ends_at, stops_reading, stops_at_once, left_more, left_same, known_before, known_of, none_right, on_ok, stops_in_line, last_line, ends_at_last, one_line_more}
+use Rattle.desk_run.proofs.ScriptLemmas.{ReadTo, nothing_read, read_more, cut_more, ends_at, stops_reading, stops_at_once, left_more, left_same, read_in_part, known_before, known_of, none_right, on_ok, stops_in_line, last_line, ends_at_last, one_line_more}
 use Rattle.desk_run.proofs.script.run_script.Goals as goal
 
 pub returns-in_default-clause-answer : goal.returns-in_default-clause-answer
@@ -22,6 +23,7 @@ loop-number-init g c = record {
   before = [];
   texts = [];
   counted = refl;
+  within = subst (λ (s : Buffered). 1 + bytes_left s ≤ 8589934593) (sym c.new-source.ensures) (lit≤ tt);
   cut = λ lines. ap (λ (h : List (List ℕ)). parts_from h lines) (sym c.new.ensures.items);
   faults = refl;
   read = left_same _ (λ xs. subst (λ (s : Buffered). ReadTo [] xs (s.unread ++ xs)) (sym c.new-source.ensures) (nothing_read xs));
@@ -36,6 +38,13 @@ returns-in-Err-clause-answer g c =
     holds_weaker i.ran
     (λ ran. known_before i.read c.in-Err.ensures.fault
     (λ xs ys r f. stops_reading i.texts i.before c.loop-number.run.gathered.items xs (c.loop-number.source.unread ++ ys) c.loop-number.number _ _ _ _ _ _ _ c.in-Err.fault r i.cut ran refl i.faults i.counted c.in-Err.ensures.outside f))
+
+pub returns-in-Err-clause-begun : goal.returns-in-Err-clause-begun
+returns-in-Err-clause-begun g c e =
+    let i = c.loop-number.invariant in
+    let read : c.in-Err.fault ≡ Read = cc in
+    let none = c.in-Err.ensures.emptied (ap (λ (z : ScriptFault). Err z) read) in
+    read_in_part i.texts c.loop-number.source.unread c.next_line.new.source.unread none i.read (c.in-Err.ensures.begun (ap (λ (z : ScriptFault). Err z) read))
 
 pub returns-in-Err-take_line-clause-answer : goal.returns-in-Err-take_line-clause-answer
 returns-in-Err-take_line-clause-answer g c =
@@ -89,6 +98,7 @@ loop-number-preserved g c =
       before = i.before ++ more.0;
       texts = i.texts ++ c.in-Ok-Line.line ∷ [];
       counted = one_line_more i.texts c.in-Ok-Line.line c.loop-number.number i.counted;
+      within = omega (arith, i.within, c.in-Ok-Line.ensures.fewer);
       cut = cut_more i.texts i.before more.0 c.loop-number.run.gathered.items c.take_line.new.run.gathered.items c.in-Ok-Line.line i.cut more.1;
       faults = c.in-Ok-take_line.ensures.count ∙ i.faults;
       read = left_more i.read piece (λ xs ys zs r p. read_more i.texts xs (c.loop-number.source.unread ++ ys) (c.next_line.new.source.unread ++ zs) c.in-Ok-Line.line r p);

@@ -1,5 +1,6 @@
-use Rattle.std.proofs.Common.{◌≡◌, ◌+◌, ◌++◌, ℕ, List, length}
+use Rattle.std.proofs.Common.{◌≡◌, ◌+◌, ◌≤◌, ◌++◌, ℕ, List, length}
 use Rattle.desk_store.specs.Store.{Holds}
+use Rattle.desk_lines.specs.Buffered.{bytes_left}
 use Rattle.desk_lines.specs.Reading.{Left}
 use Rattle.desk_run.specs.Script.{Part, begin, standing}
 use Rattle.desk_run.specs.Running.{Runs}
@@ -13,6 +14,7 @@ invariant-loop-number g l =
       before : List Part;
       texts : List (List ℕ);
       counted : length texts + 1 ≡ l.number;
+      within : l.number + bytes_left l.source ≤ 8589934593;
       cut : IsCut texts before l.run.gathered.items;
       faults : g.S.Records.faults l.store ≡ g.S.Records.faults l.fn.store;
       read : Left (g.R.Read.remaining l.fn.reader) (g.R.Read.remaining l.reader) (λ xs ys. ReadTo texts xs (l.source.unread ++ ys));
