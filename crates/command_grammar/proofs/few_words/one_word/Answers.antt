@@ -3,6 +3,3 @@ use Rattle.command_grammar.proofs.few_words.one_word.Goals as goal
 
 pub returns : goal.returns
 returns c = search rules
-
-pub returns-then-is_some : goal.returns-then-is_some
-returns-then-is_some c = search rules

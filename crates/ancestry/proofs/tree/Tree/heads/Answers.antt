@@ -1,4 +1,4 @@
-use Rattle.std.proofs.Common.{◌&&◌, ◌++◌, not, sym, subst, ap, ◌∙◌, append-nil}
+use Rattle.std.proofs.Common.{rules, ◌&&◌, ◌++◌, not, sym, subst, ap, ◌∙◌, append-nil}
 use Rattle.std.specs.Prelude.{filter}
 use Rattle.std.specs.List.Sorted.{IsStrictlySortedBy}
 use Rattle.std.specs.Map.{keys_of}
@@ -16,3 +16,6 @@ returns-clause-ascending c =
     let ascending = subst (λ t. IsStrictlySortedBy node_cmp (keys_of t)) c.self.view_is c.self.invariant.ascending in
     let whole = sym (append-nil items) ∙ ap (λ nodes. items ++ filter is_head nodes) (sym c.in-None.ensures.steps.0) ∙ c.loop-node.invariant in
     subst (IsStrictlySortedBy node_cmp) (sym whole) (IsStrictlySortedBy-filter node_cmp is_head (keys_of t) ascending)
+
+pub loop-node-preserved : goal.loop-node-preserved
+loop-node-preserved c = search rules
