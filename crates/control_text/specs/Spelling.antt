@@ -1,5 +1,6 @@
--- The canonical spelling of a command: its words in lower case, with one space between them. This
--- project's own rule.
+-- The canonical spelling of a command: its own word, its severity and its tags in lower case, and
+-- one space between words.
+-- This project's own rule.
 use Rattle.std.specs.Prelude.{ℕ, codes, List, [], ◌∷◌, ◌++◌, map, Option, Some, None}
 use Rattle.std.specs.List.{join_with_byte}
 use Rattle.std.specs.Option.{option_map_or}
