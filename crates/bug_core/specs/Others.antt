@@ -1,5 +1,6 @@
 -- The image of a bug's set, the images of some bugs' sets, and those of other sets.
-use Rattle.std.specs.Prelude.{ℕ, Bool, true, false, not, ◌&&◌, ◌||◌, List, [], ◌∷◌, Option, Some, None, filter, if◌then◌else◌}
+use Rattle.std.specs.Prelude.{ℕ, Bool, true, false, not, ◌&&◌, List, [], ◌∷◌, Option, Some, None, filter, if◌then◌else◌}
+use Rattle.std.specs.List.{list_any}
 use Rattle.bug_record.specs.Sets.{has}
 use Rattle.bug_record.specs.Images.{numbers_of}
 use Rattle.bug_record.specs.declared.bug.Member.{Member}
@@ -16,8 +17,7 @@ is_any (m ∷ ms) = true
 
 -- whether one of the numbers ns is in the list
 abbrev pub has_any : List ℕ → List ℕ → Bool
-has_any xs [] = false
-has_any xs (n ∷ ns) = has xs n || has_any xs ns
+has_any xs ns = list_any (has xs) ns
 
 -- whether the image has one of the bugs ns
 abbrev pub is_meant : List ℕ → SetImage → Bool

@@ -35,12 +35,7 @@ pub(crate) fn find(images: &[SetImage], number: u64) -> Option<&SetImage>
 pub(crate) fn has_any(image: &SetImage, numbers: &[u64]) -> bool
     ensures { result ≡ has_any (numbers_of image.now.members) numbers.now }
 {
-    for number in numbers {
-        if image.has(*number) {
-            return true;
-        }
-    }
-    false
+    numbers.iter().any(|number| image.has(*number))
 }
 
 // Whether the image has a member, and none of the bugs.
