@@ -1,3 +1,4 @@
+pub mod FindLemmas
 pub mod ImageLemmas
 pub mod OtherLemmas
 pub mod SoundLemmas

@@ -1,5 +1,6 @@
 -- The image of a bug's set, the images of some bugs' sets, and those of other sets.
-use Rattle.std.specs.Prelude.{ℕ, Bool, true, false, not, ◌&&◌, ◌||◌, List, [], ◌∷◌, Option, Some, None, filter, if◌then◌else◌}
+use Rattle.std.specs.Prelude.{ℕ, Bool, true, false, not, ◌&&◌, List, [], ◌∷◌, Option, filter}
+use Rattle.std.specs.List.{list_any, find}
 use Rattle.bug_record.specs.Sets.{has}
 use Rattle.bug_record.specs.Images.{numbers_of}
 use Rattle.bug_record.specs.declared.bug.Member.{Member}
@@ -7,8 +8,7 @@ use Rattle.bug_record.specs.declared.bug.SetImage.{SetImage}
 
 -- the first image that has the bug n
 abbrev pub image_with : List SetImage → ℕ → Option SetImage
-image_with [] n = None
-image_with (i ∷ is) n = if has (numbers_of i.members) n then Some i else image_with is n
+image_with is n = find (λ i. has (numbers_of i.members) n) is
 
 abbrev pub is_any : List Member → Bool
 is_any [] = false
@@ -16,8 +16,7 @@ is_any (m ∷ ms) = true
 
 -- whether one of the numbers ns is in the list
 abbrev pub has_any : List ℕ → List ℕ → Bool
-has_any xs [] = false
-has_any xs (n ∷ ns) = has xs n || has_any xs ns
+has_any xs ns = list_any (has xs) ns
 
 -- whether the image has one of the bugs ns
 abbrev pub is_meant : List ℕ → SetImage → Bool

@@ -11,36 +11,21 @@ use std::alloc::{AllocError, Global};
 pub(crate) fn find_member(members: &[Member], number: u64) -> Option<&Member>
     ensures { MatchOption result (member_at members.now number ≡ None) (λ m. member_at members.now number ≡ Some m.now) }
 {
-    for member in members {
-        if member.number == number {
-            return Some(member);
-        }
-    }
-    None
+    members.iter().find(|member| member.number == number)
 }
 
 /// The image that has the bug.
 pub(crate) fn find(images: &[SetImage], number: u64) -> Option<&SetImage>
     ensures { MatchOption result (image_with images.now number ≡ None) (λ i. image_with images.now number ≡ Some i.now) }
 {
-    for image in images {
-        if image.has(number) {
-            return Some(image);
-        }
-    }
-    None
+    images.iter().find(|image| image.has(number))
 }
 
 /// Whether one of the bugs is in the image.
 pub(crate) fn has_any(image: &SetImage, numbers: &[u64]) -> bool
     ensures { result ≡ has_any (numbers_of image.now.members) numbers.now }
 {
-    for number in numbers {
-        if image.has(*number) {
-            return true;
-        }
-    }
-    false
+    numbers.iter().any(|number| image.has(*number))
 }
 
 // Whether the image has a member, and none of the bugs.

@@ -5,6 +5,9 @@ use Rattle.std.proofs.lemmas.Bool.{false≢true, eqb-true, eq-eqb, ltb-true, or_
 use Rattle.std.proofs.lemmas.Bool.Decides.{nat_tests}
 use Rattle.bug_record.specs.Sets.{has, AllAbove, IsAscending, with_item, number_set}
 use Rattle.bug_record.specs.Changed.{numbers_below}
+use Rattle.std.specs.List.{list_any}
+use Rattle.bug_record.specs.Images.{numbers_of}
+use Rattle.bug_record.specs.declared.bug.Member.{Member}
 
 -- what is in a list of two parts
 pub has-append : (xs ys : List ℕ) (m : ℕ) → has (xs ++ ys) m ≡ (has xs m || has ys m)
@@ -14,6 +17,11 @@ has-append (x ∷ xs) ys m = ap (λ t. (x == m) || t) (has-append xs ys m) ∙ g
     group : (a b c : Bool) → (a || (b || c)) ≡ ((a || b) || c)
     group true b c = refl
     group false b c = refl
+
+-- whether a member has the number
+pub any_number : (ms : List Member) (n : ℕ) → list_any (λ m. m.number == n) ms ≡ has (numbers_of ms) n
+any_number [] n = refl
+any_number (m ∷ ms) n = ap (λ t. (m.number == n) || t) (any_number ms n)
 
 -- what is in a set with one more
 pub has-with_item : (xs : List ℕ) (n m : ℕ) → has (with_item (λ k. k) xs n) m ≡ (has xs m || (n == m))

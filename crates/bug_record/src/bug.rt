@@ -119,13 +119,10 @@ impl SetImage {
     pub fn has(&self, number: u64) -> bool
         ensures { result ≡ has (numbers_of self.now.members) number }
     {
-        let members = self.members.as_slice();
-        for member in members {
-            if member.number == number {
-                return true;
-            }
-        }
-        false
+        self.members
+            .as_slice()
+            .iter()
+            .any(|member| member.number == number)
     }
 
     /// An equal value of its own.
