@@ -151,12 +151,12 @@ fn members_are(image: &SetImage, texts: &[(u64, &str, &str)]) -> bool {
     true
 }
 
-// The image of bug 1 after a script.
+// A copy of the image of bug 1 after a script.
 fn first_image(alloc: Global, script: &str) -> Result<SetImage, Fail> {
     let mut desk = PlainDesk::new(alloc, 1);
     written(alloc, &mut desk, script);
     match desk.set_of(1)? {
-        Some(image) => Ok(image),
+        Some(image) => Ok(image.copy()?),
         None => Err(Fail::new("no bug 1")),
     }
 }
