@@ -11,7 +11,7 @@ ghost use Rattle.ancestry.specs.Nodes.{node, IsNode, IsRead, is_slash, node_of, 
 ghost use Rattle.ancestry.specs.NodeLaws.{same_node_equiv, node_cmp_total, node_ties};
 
 use crate::fault::NodeFault;
-use debver::{Text, check, check_name, total};
+use debver::{Text, check, check_name, cut, total};
 use std::alloc::{AllocError, Global};
 use std::cmp::Ordering;
 use std::fmt;
@@ -129,10 +129,7 @@ impl Node {
     fn cmp_version(&self, other: &Node) -> Ordering
         ensures { result ≡ total_cmp self.now.version other.now.version }
     {
-        match (check(self.version()), check(other.version())) {
-            (Ok(version), Ok(others)) => total(&version, &others),
-            _ => Ordering::Equal,
-        }
+        total(&cut(self.version()), &cut(other.version()))
     }
 }
 
@@ -184,9 +181,10 @@ impl Ord for Node {
     ghost matches_eq = { node_ties };
 
     fn cmp(&self, other: &Node) -> Ordering {
-        self.source()
-            .as_bytes()
-            .cmp(other.source().as_bytes())
-            .then(self.cmp_version(other))
+        let by_source = self.source().as_bytes().cmp(other.source().as_bytes());
+        if by_source.is_ne() {
+            return by_source;
+        }
+        self.cmp_version(other)
     }
 }

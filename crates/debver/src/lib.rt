@@ -12,6 +12,6 @@ mod text;
 pub use fault::VersionFault;
 pub use laws::{keys_are_endless, keys_go_by_parts, one_reading, order_laws, total_laws};
 pub use name::{NameFault, check_name};
-pub use parts::{Parts, check};
+pub use parts::{Parts, check, cut};
 pub use precedence::{order, total};
 pub use text::Text;

@@ -110,6 +110,21 @@ fn at_last_hyphen(rest: &str) -> (&str, Option<&str>)
     }
 }
 
+/// The parts of a text that is a version, which are not tested again.
+pub fn cut(text: &str) -> Parts<'_>
+    requires { IsVersion text.now }
+    ensures { result ≡ text.now }
+{
+    let (epoch, rest) = at_first_colon(text);
+    let (upstream, revision) = at_last_hyphen(rest);
+    Parts {
+        text,
+        epoch,
+        upstream,
+        revision,
+    }
+}
+
 /// The parts of a version text, or the first fault of another.
 pub fn check(text: &str) -> Result<Parts<'_>, VersionFault>
     ensures exact { MatchResult result

@@ -24,7 +24,10 @@ pub fn order(a: &Parts<'_>, b: &Parts<'_>) -> Ordering
         return by_epoch;
     }
     let by_upstream = compare(a.upstream().as_bytes(), b.upstream().as_bytes());
-    by_upstream.then(compare(a.revision_or_zero(), b.revision_or_zero()))
+    if by_upstream.is_ne() {
+        return by_upstream;
+    }
+    compare(a.revision_or_zero(), b.revision_or_zero())
 }
 
 /// Compares two versions as `order` does, and where they compare alike by the bytes of their texts:

@@ -6,20 +6,21 @@ ghost use Rattle.std.specs.Cmp.Lexicographic.{nat_list_eq_equiv};
 
 use std::alloc::{AllocError, Global};
 use std::marker::Model;
+use std::rc::RcStr;
 
-/// A text, which contracts see as its bytes.
+/// A text, which contracts see as its bytes. Its copies share one piece of memory.
 #[derive(Debug, Drop)]
 pub struct Text {
-    kept: String,
+    kept: RcStr,
 }
 
 impl Model for Text {
     ghost use Rattle.std.specs.Prelude.{List, ℕ};
-    ghost use Rattle.std.specs.String.{string_bytes};
+    ghost use Rattle.std.specs.Rc.{rc_str_bytes};
 
     ghost Value = { List ℕ };
 
-    ghost view = { λ t. string_bytes t.kept };
+    ghost view = { λ t. rc_str_bytes t.kept };
 }
 
 impl Text {
@@ -28,7 +29,7 @@ impl Text {
         ensures { IfOk result (λ t. t ≡ text.now) }
     {
         Ok(Text {
-            kept: String::from_str(alloc, text)?,
+            kept: RcStr::from_str(alloc, text)?,
         })
     }
 
@@ -39,7 +40,8 @@ impl Text {
         self.kept.as_str()
     }
 
-    /// A second such text, in the same allocator.
+    /// A second such text, which shares the memory of this one.
+    /// It takes none itself, and answers out of memory only where no more copies can be counted.
     pub fn copy(&self) -> Result<Text, AllocError>
         ensures { IfOk result (λ t. t ≡ self.now) }
     {
