@@ -1,9 +1,12 @@
 -- Images gathered one after another stay sets of the desk, and apart.
-use Rattle.std.proofs.Common.{◌≡◌, ◌<◌, ◌+◌, ℕ, Bool, true, false, ◌||◌, eqb, List, [], ◌∷◌, ◌++◌, take, get_or, length, Option, Some, None, sym, refl, ap, ◌∙◌, subst}
+use Rattle.std.proofs.Common.{◌≡◌, ◌<◌, ◌+◌, ℕ, Bool, true, false, ◌||◌, eqb, List, [], ◌∷◌, ◌++◌, take, drop, get_or, length, arith, cond, Option, Some, None, sym, refl, ap, ◌∙◌, subst}
+use Rattle.std.specs.BTreeSet.{BTreeSet, contains, Updates}
+use Rattle.std.specs.Ordering.{is_eq, nat_cmp}
 use Rattle.std.specs.Prelude.{option_map, if◌then◌else◌}
 use Rattle.std.specs.Option.{option_or}
 use Rattle.std.proofs.lemmas.Bool.{false≢true, eqb-true, or_parts}
-use Rattle.std.proofs.lemmas.List.{take_more}
+use Rattle.std.proofs.lemmas.List.{take_more, at_drop_more}
+use Rattle.std.proofs.lemmas.Bool.Decides.{nat_tests}
 use Rattle.bug_record.specs.Sets.{has, Each}
 use Rattle.bug_record.specs.Desk.{Desk}
 use Rattle.bug_record.specs.Images.{numbers_of, member_at, bug_of, bug_in, AreApart, IsSetOf, AreSetsOf}
@@ -13,7 +16,7 @@ use Rattle.bug_record.specs.declared.bug.Member.{Member}
 use Rattle.bug_record.specs.declared.bug.SetImage.{SetImage}
 use Rattle.bug_core.proofs.ImageLemmas.{none_left, none_right, none_map, has-member_none, no_member-has, bug_in-append, bug_in-merged, shown}
 use Rattle.desk_store.specs.Store.{IsImageOf}
-use Rattle.desk_messages.specs.Images.{is_gathered, meets, Gather}
+use Rattle.desk_messages.specs.Images.{is_gathered, meets, Lists, Gather}
 
 -- a member that is a bug of the desk
 member_shown : (d : Desk) (i : SetImage) (ms : List Member) (n : ℕ) → has (numbers_of ms) n ≡ true → Each (λ m. d.bug m.number ≡ Some (bug_of i m)) ms → option_or (option_map (bug_of i) (member_at ms n)) None ≡ d.bug n
@@ -47,10 +50,10 @@ shown_as_there d images n sets h = cases (bug_in images n) refl
     cases (Some b) e = e ∙ sym (shown d images sets n b e)
 
 -- members that meet no image are in none
-unmet : (images : List SetImage) (ms : List Member) → meets images ms ≡ false → (k : ℕ) → has (numbers_of ms) k ≡ true → bug_in images k ≡ None
+unmet : (images : List SetImage) (ms : List Member) → meets (is_gathered images) ms ≡ false → (k : ℕ) → has (numbers_of ms) k ≡ true → bug_in images k ≡ None
 unmet images [] h k e = absurd (false≢true e)
 unmet images (m ∷ ms) h k e =
-    let p = or_parts (is_gathered images m.number) (meets images ms) h in
+    let p = or_parts (is_gathered images m.number) (meets (is_gathered images) ms) h in
     elim (eqb m.number k) as (λ t. eqb m.number k ≡ t → (t || has (numbers_of ms) k) ≡ true → bug_in images k ≡ None) [
       | true ↦ λ q e. not_gathered images k (ap (is_gathered images) (sym (eqb-true m.number k q)) ∙ p.0)
       | false ↦ λ q e. unmet images ms p.1 k e
@@ -59,10 +62,10 @@ unmet images (m ∷ ms) h k e =
 -- sets of one desk that share a bug are the same: a bug that is in no image is in none that meets
 -- one of them
 met : (d : Desk) (images : List SetImage) (i : SetImage) (n : ℕ) → AreSetsOf d images → bug_in images n ≡ None → has (numbers_of i.members) n ≡ true
-    → (ms : List Member) → Each (λ m. d.bug m.number ≡ Some (bug_of i m)) ms → meets images ms ≡ true → ⊥
+    → (ms : List Member) → Each (λ m. d.bug m.number ≡ Some (bug_of i m)) ms → meets (is_gathered images) ms ≡ true → ⊥
 met d images i n sets none own [] each h = false≢true h
 met d images i n sets none own (m ∷ ms) each h =
-    elim (is_gathered images m.number) as (λ t. is_gathered images m.number ≡ t → (t || meets images ms) ≡ true → ⊥) [
+    elim (is_gathered images m.number) as (λ t. is_gathered images m.number ≡ t → (t || meets (is_gathered images) ms) ≡ true → ⊥) [
       | true ↦ λ q h. bug_in-merged images m.number n (bug_of i m) (shown_as_there d images m.number sets q ∙ each.0) own none
       | false ↦ λ q h. met d images i n sets none own ms each.1 h
     ] refl h
@@ -76,7 +79,7 @@ none_with : (images : List SetImage) (i : SetImage) (n : ℕ) → bug_in images 
 none_with images i n e f =
     bug_in-append images (i ∷ []) n ∙ ap (λ (o : Option Bug). option_or o (bug_in (i ∷ []) n)) e ∙ ap (λ (o : Option Member). option_or (option_map (bug_of i) o) None) f
 
-pub apart-more : (images : List SetImage) (i : SetImage) → AreApart images → meets images i.members ≡ false → AreApart (images ++ i ∷ [])
+pub apart-more : (images : List SetImage) (i : SetImage) → AreApart images → meets (is_gathered images) i.members ≡ false → AreApart (images ++ i ∷ [])
 apart-more images i a h = more images a (unmet images i.members h)
   where
     lacks : (j : SetImage) (is : List SetImage) (n : ℕ) → ((k : ℕ) → has (numbers_of i.members) k ≡ true → bug_in (j ∷ is) k ≡ None) → has (numbers_of j.members) n ≡ true → (t : Bool) → has (numbers_of i.members) n ≡ t → member_at i.members n ≡ None
@@ -109,7 +112,7 @@ pub gather-none : (d : Desk) (images : List SetImage) (n : ℕ) → is_gathered 
 gather-none d images n h none = record { sets = λ b. b; known = λ b. (not_gathered images n h ∙ sym none, tt); stays = λ b m e. e }
 
 -- an image that meets the others is no set of this desk
-pub gather-met : (d : Desk) (images : List SetImage) (n : ℕ) (i : SetImage) → is_gathered images n ≡ false → IsImageOf d n (Some i) → meets images i.members ≡ true → Gather d (n ∷ []) images images
+pub gather-met : (d : Desk) (images : List SetImage) (n : ℕ) (i : SetImage) → is_gathered images n ≡ false → IsImageOf d n (Some i) → meets (is_gathered images) i.members ≡ true → Gather d (n ∷ []) images images
 gather-met d images n i h is t = record {
   sets = λ b. b;
   known = λ b. absurd (met d images i n b (not_gathered images n h) is.0 i.members is.1 t);
@@ -146,3 +149,60 @@ pub gather-more : (d d' : Desk) (ns : List ℕ) (k : ℕ) (first second third : 
 gather-more d d' ns k first second third l e g h =
     subst (λ ms. Gather d ms first third) (sym (take_more ns k 0 l))
     (gather-both d (take k ns) (get_or ns k 0 ∷ []) first second third g (gather-on d d' (get_or ns k 0 ∷ []) second third e h))
+
+-- ---- the bugs of the images, kept beside them
+
+or_after : (a b c : Bool) → (a || (b || c)) ≡ ((b || a) || c)
+or_after true true c = refl
+or_after true false c = refl
+or_after false b c = refl
+
+or_none : (a : Bool) → (a || false) ≡ a
+or_none true = refl
+or_none false = refl
+
+-- an image more
+pub lists-more : (bugs new : ℕ → Bool) (images : List SetImage) (i : SetImage) → Lists bugs images → ((n : ℕ) → new n ≡ (has (numbers_of i.members) n || bugs n))
+    → Lists new (images ++ i ∷ [])
+lists-more bugs new images i l h n = h n ∙ ap (λ t. has (numbers_of i.members) n || t) (l n) ∙ more images
+  where
+    more : (is : List SetImage) → (has (numbers_of i.members) n || is_gathered is n) ≡ is_gathered (is ++ i ∷ []) n
+    more [] = refl
+    more (j ∷ is) = or_after (has (numbers_of i.members) n) (has (numbers_of j.members) n) (is_gathered is n) ∙ turn (has (numbers_of j.members) n) (more is)
+      where
+        turn : (b : Bool) → (has (numbers_of i.members) n || is_gathered is n) ≡ is_gathered (is ++ i ∷ []) n
+            → ((b || has (numbers_of i.members) n) || is_gathered is n) ≡ (b || is_gathered (is ++ i ∷ []) n)
+        turn true e = refl
+        turn false e = e
+
+pub meets-listed : (bugs : ℕ → Bool) (images : List SetImage) → Lists bugs images → (ms : List Member) → meets bugs ms ≡ meets (is_gathered images) ms
+meets-listed bugs images l [] = refl
+meets-listed bugs images l (m ∷ ms) = ap (λ t. t || meets bugs ms) (l m.number) ∙ ap (λ t. is_gathered images m.number || t) (meets-listed bugs images l ms)
+
+-- a number more
+pub number-more : (old new : BTreeSet ℕ) (ms : List Member) (k : ℕ) (m : Member) → k < length ms → m ≡ get_or ms k m
+    → ((n : ℕ) → contains nat_cmp new n ≡ cond (is_eq (nat_cmp m.number n)) true (contains nat_cmp old n))
+    → (n : ℕ) → (has (numbers_of (drop (k + 1) ms)) n || contains nat_cmp new n) ≡ (has (numbers_of (drop k ms)) n || contains nat_cmp old n)
+number-more old new ms k m l e u n =
+    ap (λ t. has (numbers_of (drop (k + 1) ms)) n || t) (u n ∙ ap (λ t. cond t true (contains nat_cmp old n)) (is_eq-same m.number n))
+    ∙ moved (eqb m.number n) (has (numbers_of (drop (k + 1) ms)) n) (contains nat_cmp old n)
+    ∙ ap (λ (z : Member). (eqb z.number n || has (numbers_of (drop (k + 1) ms)) n) || contains nat_cmp old n) e
+    ∙ sym (ap (λ t. t || contains nat_cmp old n) (at_drop_more (λ (z : List Member). has (numbers_of z) n) ms k m l))
+  where
+    is_eq-same : (a b : ℕ) → is_eq (nat_cmp a b) ≡ eqb a b
+    is_eq-same a b = grind (arith, nat_tests)
+
+    moved : (t a b : Bool) → (a || cond t true b) ≡ ((t || a) || b)
+    moved true true b = refl
+    moved true false b = refl
+    moved false a b = refl
+
+-- an image more, of those whose bugs are listed
+pub image-more : (bugs new : ℕ → Bool) (is : List SetImage) (k : ℕ) (i : SetImage) → k < length is → i ≡ get_or is k i
+    → ((n : ℕ) → new n ≡ (has (numbers_of i.members) n || bugs n))
+    → (n : ℕ) → (is_gathered (drop (k + 1) is) n || new n) ≡ (is_gathered (drop k is) n || bugs n)
+image-more bugs new is k i l e h n =
+    ap (λ t. is_gathered (drop (k + 1) is) n || t) (h n)
+    ∙ or_after (is_gathered (drop (k + 1) is) n) (has (numbers_of i.members) n) (bugs n)
+    ∙ ap (λ (z : SetImage). (has (numbers_of z.members) n || is_gathered (drop (k + 1) is) n) || bugs n) e
+    ∙ sym (ap (λ t. t || bugs n) (at_drop_more (λ (z : List SetImage). is_gathered z n) is k i l))

@@ -12,9 +12,13 @@ use Rattle.bug_record.specs.declared.bug.SetImage.{SetImage}
 abbrev pub is_gathered : List SetImage → ℕ → Bool
 is_gathered images n = list_any (λ i. has (numbers_of i.members) n) images
 
--- whether one of the members is in one of the images
-abbrev pub meets : List SetImage → List Member → Bool
-meets images ms = list_any (λ m. is_gathered images m.number) ms
+-- whether one of the members is one of these bugs
+abbrev pub meets : (ℕ → Bool) → List Member → Bool
+meets bugs ms = list_any (λ m. bugs m.number) ms
+
+-- these bugs are those of the images
+abbrev pub Lists : (ℕ → Bool) → List SetImage → Type 0
+Lists bugs images = (n : ℕ) → bugs n ≡ is_gathered images n
 
 -- Images gathered for these bugs besides the old ones: where the old ones are sets of the desk, all
 -- are, they show each of the bugs as it is there, and still show the bugs that the old ones showed

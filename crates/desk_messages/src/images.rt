@@ -1,58 +1,91 @@
 //! The images of the sets of the bugs that a command names, asked of a store.
 
-ghost use Rattle.std.specs.Prelude.{◌≡◌, [], ◌∷◌, IfOk, OnOk};
-ghost use Rattle.bug_record.specs.Images.{AreApart};
+ghost use Rattle.std.specs.Prelude.{◌≡◌, ◌||◌, ◌++◌, ℕ, [], ◌∷◌, IfOk, OnOk};
+ghost use Rattle.std.specs.BTreeSet.{contains};
+ghost use Rattle.std.specs.Ordering.{nat_cmp};
+ghost use Rattle.bug_record.specs.Sets.{has};
+ghost use Rattle.bug_record.specs.Images.{numbers_of, AreApart};
 ghost use Rattle.bug_record.specs.Commands.{bugs_named};
 ghost use Rattle.desk_store.specs.Store.{Asks, Answers, faults_after};
-ghost use Rattle.desk_messages.specs.Images.{is_gathered, meets, Gather, ShowBugs};
+ghost use Rattle.desk_messages.specs.Images.{meets, Lists, Gather, ShowBugs};
 
 use bug_core::{bug_named, other_bugs};
 use bug_record::{Command, Member, Sequence, SetImage};
 use desk_store::Records;
 use desk_text::StoreFault;
-use std::alloc::Global;
+use std::alloc::{AllocError, Global};
+use std::collections::BTreeSet;
 
-// Whether one of the images has the bug.
-fn is_gathered(images: &[SetImage], number: u64) -> bool
-    ensures { result ≡ is_gathered images.now number }
+// Whether one of the members is one of the bugs.
+fn meets(bugs: &BTreeSet<u64>, members: &[Member]) -> bool
+    ensures { result ≡ meets (contains nat_cmp bugs.now) members.now }
 {
-    images.iter().any(|image| image.has(number))
+    members.iter().any(|member| bugs.contains(&member.number))
 }
 
-// Whether one of the members is in one of the images.
-fn meets(images: &[SetImage], members: &[Member]) -> bool
-    ensures { result ≡ meets images.now members.now }
+// Adds the members' numbers.
+fn add_members(bugs: &mut BTreeSet<u64>, members: &[Member]) -> Result<(), AllocError>
+    ensures { OnOk result ((n : ℕ) → contains nat_cmp bugs.new n ≡ (has (numbers_of members.now) n || contains nat_cmp bugs.old n)) }
 {
-    members
-        .iter()
-        .any(|member| is_gathered(images, member.number))
+    for member in members {
+        bugs.insert(member.number)?;
+    }
+    Ok(())
+}
+
+// The bugs of the images.
+fn bugs_of(alloc: Global, images: &[SetImage]) -> Result<BTreeSet<u64>, AllocError>
+    ensures { IfOk result (λ bugs. Lists (contains nat_cmp bugs) images.now) }
+{
+    let mut bugs = BTreeSet::new(alloc);
+    for image in images {
+        add_members(&mut bugs, image.members.as_slice())?;
+    }
+    Ok(bugs)
+}
+
+// Adds an image, and its bugs to those of the images.
+fn add_image(
+    images: &mut Sequence<SetImage>,
+    bugs: &mut BTreeSet<u64>,
+    image: SetImage,
+) -> Result<(), AllocError>
+    requires { Lists (contains nat_cmp bugs.old) images.old }
+    ensures images { OnOk result (images.new ≡ images.old ++ image ∷ []) }
+    ensures bugs { OnOk result (Lists (contains nat_cmp bugs.new) images.new) }
+{
+    add_members(bugs, image.members.as_slice())?;
+    images.push(image)
 }
 
 // Adds the image of the set that the bug is in, if there is one, unless the bug is in one of the
-// images.
+// images, whose bugs these are.
 // One that shares a bug with them is left out: no desk has such sets.
-fn add_image<S: Records>(
+fn gather<S: Records>(
     store: &mut S,
     images: &mut Sequence<SetImage>,
+    bugs: &mut BTreeSet<u64>,
     number: u64,
 ) -> Result<(), StoreFault>
-    requires { AreApart images.old }
+    requires apart { AreApart images.old }
+    requires bugs { Lists (contains nat_cmp bugs.old) images.old }
     ensures answer { Asks S.is_kept S.is_honest store.old store.new
         (Answers (S.desk store.old) (S.desk store.new) result (λ _. Gather (S.desk store.old) (number ∷ []) images.old images.new)) }
     ensures apart { OnOk result (AreApart images.new) }
+    ensures bugs { OnOk result (Lists (contains nat_cmp bugs.new) images.new) }
     ensures count { S.faults store.new ≡ faults_after result (S.faults store.old) }
 {
-    if is_gathered(images.as_slice(), number) {
+    if bugs.contains(&number) {
         return Ok(());
     }
     match store.set_of(number) {
         Err(fault) => Err(fault),
         Ok(None) => Ok(()),
         Ok(Some(image)) => {
-            if meets(images.as_slice(), image.members.as_slice()) {
+            if meets(bugs, image.members.as_slice()) {
                 return Ok(());
             }
-            match images.push(image) {
+            match add_image(images, bugs, image) {
                 Ok(()) => Ok(()),
                 Err(_) => Err(StoreFault::Memory),
             }
@@ -61,24 +94,49 @@ fn add_image<S: Records>(
 }
 
 // Adds the images of the sets that these bugs are in, each once.
-fn add_images<S: Records>(
+fn gather_all<S: Records>(
     store: &mut S,
     images: &mut Sequence<SetImage>,
+    bugs: &mut BTreeSet<u64>,
     numbers: &[u64],
 ) -> Result<(), StoreFault>
-    requires { AreApart images.old }
+    requires apart { AreApart images.old }
+    requires bugs { Lists (contains nat_cmp bugs.old) images.old }
     ensures answer { Asks S.is_kept S.is_honest store.old store.new
         (Answers (S.desk store.old) (S.desk store.new) result (λ _. Gather (S.desk store.old) numbers.now images.old images.new)) }
     ensures apart { OnOk result (AreApart images.new) }
     ensures count { S.faults store.new ≡ faults_after result (S.faults store.old) }
 {
     for number in numbers {
-        match add_image(store, images, *number) {
+        match gather(store, images, bugs, *number) {
             Ok(()) => {}
             Err(fault) => return Err(fault),
         }
     }
     Ok(())
+}
+
+// The image of the set that the bug is in, if there is one.
+fn first_image<S: Records>(
+    alloc: Global,
+    store: &mut S,
+    number: u64,
+) -> Result<Sequence<SetImage>, StoreFault>
+    ensures answer { Asks S.is_kept S.is_honest store.old store.new
+        (Answers (S.desk store.old) (S.desk store.new) result (Gather (S.desk store.old) (number ∷ []) [])) }
+    ensures apart { IfOk result AreApart }
+    ensures count { S.faults store.new ≡ faults_after result (S.faults store.old) }
+{
+    let mut images = Sequence::new(alloc);
+    let found = store.set_of(number);
+    match found {
+        Err(fault) => Err(fault),
+        Ok(None) => Ok(images),
+        Ok(Some(image)) => match images.push(image) {
+            Ok(()) => Ok(images),
+            Err(_) => Err(StoreFault::Memory),
+        },
+    }
 }
 
 /// The images of the sets of the bugs that a command names, each once.
@@ -92,13 +150,18 @@ pub(crate) fn images_of<S: Records>(
     ensures apart { IfOk result AreApart }
     ensures count { S.faults store.new ≡ faults_after result (S.faults store.old) }
 {
-    let mut images = Sequence::new(alloc);
-    let first = [bug_named(command)];
-    match add_images(store, &mut images, first.as_slice()) {
-        Ok(()) => {}
+    let mut images = match first_image(alloc, store, bug_named(command)) {
+        Ok(images) => images,
         Err(fault) => return Err(fault),
+    };
+    let others = other_bugs(command);
+    if others.is_empty() {
+        return Ok(images);
     }
-    match add_images(store, &mut images, other_bugs(command)) {
+    let Ok(mut bugs) = bugs_of(alloc, images.as_slice()) else {
+        return Err(StoreFault::Memory);
+    };
+    match gather_all(store, &mut images, &mut bugs, others) {
         Ok(()) => Ok(images),
         Err(fault) => Err(fault),
     }

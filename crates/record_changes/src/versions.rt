@@ -11,7 +11,7 @@ ghost use Rattle.record_changes.specs.Fields.{IsVersionFault};
 
 use ancestry::{Node, NodeFault};
 use bug_record::{PlanFault, Refusal, Shared, VersionArg};
-use debver::{check, order};
+use debver::{cut, order};
 use std::alloc::{AllocError, Global};
 
 // The source package that a version means.
@@ -47,10 +47,7 @@ pub(crate) fn node_meant(
 fn is_below(node: &Node, other: &Node) -> bool
     ensures { result ≡ is_lt (text_cmp node.now.version other.now.version) }
 {
-    match (check(node.version()), check(other.version())) {
-        (Ok(version), Ok(others)) => order(&version, &others).is_lt(),
-        _ => false,
-    }
+    order(&cut(node.version()), &cut(other.version())).is_lt()
 }
 
 fn is_below_some(node: &Node, nodes: &[Node]) -> bool

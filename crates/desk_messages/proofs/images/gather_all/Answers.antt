@@ -1,11 +1,12 @@
 use Rattle.std.proofs.Common.{◌∙◌}
 use Rattle.desk_store.proofs.HoldsLemmas.{asks_then}
 use Rattle.desk_messages.proofs.GatherLemmas.{gather-more}
-use Rattle.desk_messages.proofs.images.add_images.Goals as goal
+use Rattle.desk_messages.proofs.images.gather_all.Goals as goal
 
 pub loop-number-preserved : goal.loop-number-preserved
 loop-number-preserved g c = record {
   apart = c.in-Ok.ensures.apart;
+  bugs = c.in-Ok.ensures.bugs;
   faults = c.in-Ok.ensures.count ∙ c.loop-number.invariant.faults;
   gathered = asks_then c.loop-number.invariant.gathered c.in-Ok.ensures.answer
       (λ p q. (gather-more (g.S.Records.desk c.args.store.now) _ c.args.numbers.now c.loop-number.number-index c.args.images.now _ _ c.loop-number-test.true p.1 p.0 q.0, q.1 ∙ p.1));
