@@ -12,7 +12,7 @@ ghost use Rattle.bug_core.specs.Others.{those_meant};
 use crate::changes::find_bug;
 use crate::images::has_any;
 use ancestry::Node;
-use bug_record::{Member, Nodes, Sequence, SetImage, Shared, Tag, Tags};
+use bug_record::{Member, Members, Nodes, Sequence, SetImage, Shared, Tag, Tags};
 use debver::Text;
 use std::alloc::{AllocError, Global};
 
@@ -130,6 +130,6 @@ pub(crate) fn joined_image(
 {
     Ok(SetImage {
         shared: joined_shared(first, images, numbers)?,
-        members: joined_members(alloc, images, numbers)?,
+        members: Members::of(joined_members(alloc, images, numbers)?)?,
     })
 }

@@ -14,7 +14,7 @@ mod report;
 mod unmerge;
 
 pub use bug_record::{
-    Bug, Change, Command, Field, Member, Nodes, Numbered, Numbers, PlanFault, Refusal, Sequence,
+    Bug, Change, Command, Field, Member, Members, Nodes, Numbered, Numbers, PlanFault, Refusal, Sequence,
     SetImage, Severity, Shared, Tag, TagStep, Tags, VersionArg, Who, is_text,
 };
 pub use changes::changed;

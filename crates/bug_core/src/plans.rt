@@ -43,7 +43,7 @@ fn plan_records(
         Err(PlanFault::Refused(_)) => return Err(PlanFault::Refused(Refusal::NoBug(number))),
     };
     command.texts_are_utf8();
-    let members = members_with(alloc, command, from, old, image.members.as_slice())?;
+    let members = members_with(alloc, command, from, old, &image.members)?;
     let image = SetImage { shared, members };
     let named = [number];
     let named = named.as_slice();

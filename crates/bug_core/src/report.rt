@@ -11,7 +11,7 @@ ghost use Rattle.bug_record.specs.Images.{put, AreApart, HasMember, FitsDesk};
 ghost use Rattle.bug_core.specs.Reports.{only_member, shared_of_report, image_of_report};
 
 use ancestry::Node;
-use bug_record::{Change, Member, Nodes, Sequence, SetImage, Severity, Shared};
+use bug_record::{Change, Member, Members, Nodes, Sequence, SetImage, Severity, Shared};
 use debver::Text;
 use std::alloc::{AllocError, Global};
 
@@ -32,16 +32,14 @@ fn only_member(
     number: u64,
     title: &str,
     from: &str,
-) -> Result<Sequence<Member>, AllocError>
+) -> Result<Members, AllocError>
     ensures { IfOk result (λ members. members ≡ only_member number title.now from.now) }
 {
-    let mut members = Sequence::new(alloc);
-    members.push(Member {
+    Ok(Members::one(Member {
         number,
         title: Text::of(alloc, title)?,
         submitter: Text::of(alloc, from)?,
-    })?;
-    Ok(members)
+    }))
 }
 
 // The shared fields of a new bug, which is open.

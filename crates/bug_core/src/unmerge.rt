@@ -7,7 +7,7 @@ ghost use Rattle.bug_core.specs.Joins.{is_part};
 ghost use Rattle.bug_core.specs.Planned.{IsPlanned};
 
 use crate::images::{find, replace};
-use bug_record::{Change, Member, PlanFault, Refusal, Sequence, SetImage, Shared};
+use bug_record::{Change, Member, Members, PlanFault, Refusal, Sequence, SetImage, Shared};
 use std::alloc::{AllocError, Global};
 
 // Whether this is the member of the number, or, of the rest, whether it is another.
@@ -51,11 +51,11 @@ fn two_images(
     let mut images = Sequence::new(alloc);
     images.push(SetImage {
         shared: shared.copy()?,
-        members: own,
+        members: Members::of(own)?,
     })?;
     images.push(SetImage {
         shared: shared.copy()?,
-        members: rest,
+        members: Members::of(rest)?,
     })?;
     Ok(images)
 }

@@ -16,3 +16,4 @@ pub mod Plans
 pub mod Changed
 -- definitions that only private functions cite
 pub mod Places
+pub mod Kept

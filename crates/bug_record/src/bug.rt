@@ -4,7 +4,8 @@ ghost use Rattle.std.specs.Prelude.{◌≡◌, IfOk};
 ghost use Rattle.bug_record.specs.Sets.{has};
 ghost use Rattle.bug_record.specs.Images.{numbers_of};
 
-use crate::sequence::{Nodes, Numbered, Numbers, Sequence};
+use crate::members::Members;
+use crate::sequence::{Nodes, Numbered, Numbers};
 use crate::severity::Severity;
 use crate::tag::Tags;
 use debver::Text;
@@ -40,7 +41,7 @@ pub struct Member {
 #[derive(Debug, Drop)]
 pub struct SetImage {
     pub shared: Shared,
-    pub members: Sequence<Member>,
+    pub members: Members,
 }
 
 /// A bug's whole record, and the numbers of the bugs merged with it, itself among them, ascending.
@@ -98,19 +99,6 @@ impl Member {
             title: self.title.copy()?,
             submitter: self.submitter.copy()?,
         })
-    }
-}
-
-impl Sequence<Member> {
-    /// An equal value of its own.
-    pub fn copy(&self) -> Result<Sequence<Member>, AllocError>
-        ensures { IfOk result (λ r. r ≡ self.now) }
-    {
-        let mut copies = self.empty();
-        for member in self.as_slice() {
-            copies.push(member.copy()?)?;
-        }
-        Ok(copies)
     }
 }
 

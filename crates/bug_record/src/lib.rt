@@ -6,6 +6,7 @@
 mod bug;
 mod command;
 mod laws;
+mod members;
 mod sequence;
 mod severity;
 mod tag;
@@ -14,6 +15,7 @@ mod texts;
 pub use bug::{Bug, Member, SetImage, Shared};
 pub use command::{Change, Command, Field, PlanFault, Refusal, TagStep, VersionArg, Who};
 pub use laws::{joined_are_sets, joined_by_membership, marks_by_membership};
+pub use members::Members;
 pub use sequence::{Nodes, Numbered, Numbers, Sequence};
 pub use severity::Severity;
 pub use tag::{Tag, Tags};

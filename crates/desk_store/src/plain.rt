@@ -12,7 +12,7 @@ ghost use Rattle.desk_store.specs.Plain.{desk_of, empty_desk, member_of, members
 use crate::records::Records;
 use crate::rows::put_images;
 use ancestry::{BranchFault, Node, Tree};
-use bug_record::{Bug, Change, Member, Sequence, SetImage};
+use bug_record::{Bug, Change, Member, Members, Sequence, SetImage};
 use desk_text::StoreFault;
 use std::alloc::{AllocError, Global};
 use std::collections::BTreeMap;
@@ -82,7 +82,7 @@ fn set_in(alloc: Global, bugs: &BTreeMap<u64, Bug>, bug: &Bug) -> Result<SetImag
 {
     Ok(SetImage {
         shared: bug.shared.copy()?,
-        members: members_in(alloc, bugs, bug.merged.as_slice())?,
+        members: Members::of(members_in(alloc, bugs, bug.merged.as_slice())?)?,
     })
 }
 

@@ -5,23 +5,21 @@ ghost use Rattle.bug_record.specs.Images.{numbers_of, AreApart};
 
 use bug_core::{changed, plan};
 use bug_record::{
-    Change, Command, Member, PlanFault, Refusal, Sequence, SetImage, Severity, Shared,
+    Change, Command, Member, Members, PlanFault, Refusal, Sequence, SetImage, Severity, Shared,
 };
 use debver::Text;
 use std::alloc::{AllocError, Global};
 use std::test::Fail;
 
 // The member of this number, with the title a and the submitter ann.
-fn one_member(alloc: Global, number: u64) -> Result<Sequence<Member>, AllocError>
+fn one_member(alloc: Global, number: u64) -> Result<Members, AllocError>
     ensures { IfOk result (λ ms. numbers_of ms ≡ number ∷ []) }
 {
-    let mut members = Sequence::new(alloc);
-    members.push(Member {
+    Ok(Members::one(Member {
         number,
         title: Text::of(alloc, "a")?,
         submitter: Text::of(alloc, "ann")?,
-    })?;
-    Ok(members)
+    }))
 }
 
 // The image of an open bug of severity normal.

@@ -1,2 +1,3 @@
 pub mod NodeLemmas
 pub mod FieldLemmas
+pub mod MemberLemmas

@@ -1,12 +1,12 @@
 //! What a command makes of the titles and submitters of a set's bugs.
 
-ghost use Rattle.std.specs.Prelude.{◌≡◌, map, unwrap_or, IfOk};
+ghost use Rattle.std.specs.Prelude.{◌≡◌, ℕ, List, false, map, unwrap_or, IfOk};
 ghost use Rattle.std.specs.Option.{option_copied};
 ghost use Rattle.bug_record.specs.Steps.{new_title, new_submitter};
-ghost use Rattle.record_changes.specs.Members.{member_after};
+ghost use Rattle.record_changes.specs.Members.{member_after, changes_members};
 
 use crate::fields::person;
-use bug_record::{Command, Member, Sequence, Shared};
+use bug_record::{Command, Member, Members, Sequence, Shared};
 use debver::Text;
 use std::alloc::{AllocError, Global};
 
@@ -66,16 +66,19 @@ fn member_after(
     })
 }
 
-/// The members of a set of merged bugs after a command of the sender `from`, in the order of
-/// `members`, where the set's shared fields before it are `old` (the BTS page 'control and
-/// manipulation'). `retitle` and `submitter` change the bug that they name alone, if it is a
-/// member; `reopen` by somebody changes the submitter of every member, where the set was closed.
-/// No number changes.
-///
-/// # Errors
-///
-/// Only where there was no memory.
-pub fn members_with(
+// Whether the command gives a title or a submitter to a bug of such a set.
+fn changes_members(command: &Command<u64>, old: &Shared) -> bool
+    ensures { result ≡ changes_members command.now old.now }
+{
+    match command {
+        Command::Retitle(_, _) | Command::Submitter(_, _) => true,
+        Command::Reopen(_, Some(_)) => old.closed,
+        _ => false,
+    }
+}
+
+// The members after a command of this sender, one by one.
+fn members_after(
     alloc: Global,
     command: &Command<u64>,
     from: &str,
@@ -89,4 +92,29 @@ pub fn members_with(
         after.push(member_after(alloc, command, from, old, member)?)?;
     }
     Ok(after)
+}
+
+/// The members of a set of merged bugs after a command of the sender `from`, in the order of
+/// `members`, where the set's shared fields before it are `old` (the BTS page 'control and
+/// manipulation'). `retitle` and `submitter` change the bug that they name alone, if it is a
+/// member; `reopen` by somebody changes the submitter of every member, where the set was closed.
+/// No number changes. Every other command hands a copy of the members on.
+///
+/// # Errors
+///
+/// Only where there was no memory.
+pub fn members_with(
+    alloc: Global,
+    command: &Command<u64>,
+    from: &str,
+    old: &Shared,
+    members: &Members,
+) -> Result<Members, AllocError>
+    ensures { IfOk result (λ ms. ms ≡ map (member_after from.now command.now old.now) members.now) }
+{
+    if !changes_members(command, old) {
+        return members.copy();
+    }
+    let members = members.as_slice();
+    Members::of(members_after(alloc, command, from, old, members)?)
 }

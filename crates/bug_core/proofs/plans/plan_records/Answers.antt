@@ -27,7 +27,7 @@ returns-in-Err-Refused c =
 pub returns : goal.returns
 returns c =
     let members : c.in_ok-members.members ≡ map (member_after c.args.from.now c.args.command.now c.in-Some.image.now.shared) c.in-Some.image.now.members
-    = c.in_ok-members.ensures ∙ ap (map (member_after c.args.from.now c.args.command.now c.in-Some.image.now.shared)) c.as_slice.ensures in
+    = c.in_ok-members.ensures in
     planned-records c.args.from.now c.args.command.now c.args.images.now c.args.next c.in-Some.image.now (c.requires.sender, is_utf8-from_IsUtf8 c.args.from.now c.utf8.from) c.requires.parts c.texts_are_utf8.ensures c.requires.apart
     (ap (image_with c.args.images.now) (sym c.bug_named-number.ensures) ∙ c.in-Some.ensures)
     c.in_ok-replace_by_one.field-0
