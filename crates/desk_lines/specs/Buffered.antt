@@ -6,6 +6,6 @@ pub record Buffered : Type 0 where
   pub unread : List ℕ
   pub reads_left : ℕ
 
--- the most bytes that it may still give: a read gives 512 at most
+-- the most bytes that it may still give: a read gives 8,192 at most
 abbrev pub bytes_left : Buffered → ℕ
-bytes_left s = length s.unread + 512 * s.reads_left
+bytes_left s = length s.unread + 8192 * s.reads_left

@@ -1,14 +1,16 @@
 //! Lines of a reader, and bytes to a writer.
 
-ghost use Rattle.std.specs.Prelude.{◌≡◌, ℕ, ◌+◌, ◌<◌, ◌≤◌, ◌++◌, [], length, take, IsOk, IfOk, IfErr, OnOk, OnErr, IsUtf8, Result};
+ghost use Rattle.std.specs.Prelude.{◌≡◌, ℕ, ◌+◌, ◌<◌, ◌≤◌, ◌++◌, [], length, take, drop, false, IsOk, IfOk, IfErr, OnOk, OnErr, IsUtf8, Result, None, Some};
+ghost use Rattle.std.specs.List.{list_any};
 ghost use Rattle.std.specs.Io.KnownBytes.{Appends};
-ghost use Rattle.desk_lines.specs.Lines.{without_return};
+ghost use Rattle.desk_lines.specs.Lines.{without_return, is_feed};
 ghost use Rattle.desk_lines.specs.Buffered.{bytes_left};
-ghost use Rattle.desk_lines.specs.Reading.{Known, Left, GivesByte, GivesRaw, GivesPiece, IsLineFault, IsReadingFault, IsBegun, IsTextFault};
+ghost use Rattle.desk_lines.specs.Reading.{Known, Left, GivesBytes, GivesRaw, GivesPiece, IsFirstFeed, IsLineFault, IsReadingFault, IsBegun, IsLengthFault, IsTextFault};
 
 use crate::fault::ScriptFault;
 use crate::lines::without_return;
 use debver::Text;
+use memchr::memchr;
 use std::alloc::Global;
 use std::io::{Read, Write};
 use std::marker::Model;
@@ -20,7 +22,7 @@ const MAX_LINE: usize = 65_536;
 const MAX_READS: u32 = 16_777_216;
 
 /// The most bytes that one read may give.
-const BUFFER: usize = 512;
+const BUFFER: usize = 8_192;
 
 const LINE_FEED: u8 = b'\n';
 
@@ -56,6 +58,22 @@ impl Source {
             reads_left: MAX_READS,
         }
     }
+
+    // What has been read and not yet given.
+    fn unread(&self) -> &[u8]
+        ensures bytes { result.now ≡ self.now.unread }
+        ensures short { length result.now ≤ 8192 }
+    {
+        &self.buffer[self.at..self.len]
+    }
+
+    // Takes the first unread bytes away.
+    fn advance(&mut self, count: usize)
+        requires { count ≤ length self.old.unread }
+        ensures { self.new ≡ record { unread = drop count self.old.unread; reads_left = self.old.reads_left } }
+    {
+        self.at += count;
+    }
 }
 
 /// What a reader gives next.
@@ -77,50 +95,75 @@ enum RawLine {
     End,
 }
 
-// The next byte.
-// A read that fails, an interrupted one too, or one more than the bound is the fault.
-fn next_byte<R: Read>(source: &mut Source, reader: &mut R) -> Result<Option<u8>, ScriptFault>
-    ensures byte { IfOk result (λ byte. Left (R.remaining reader.old) (R.remaining reader.new) (λ xs ys. GivesByte byte (source.old.unread ++ xs) (source.new.unread ++ ys))) }
-    ensures kept { 0 < length source.old.unread → IsOk result }
-    ensures fault { OnErr result (result ≡ Result.Err ScriptFault.Read) }
-    ensures untaken { OnErr result (Left (R.remaining reader.old) (R.remaining reader.new) (λ xs ys. source.new.unread ++ ys ≡ source.old.unread ++ xs)) }
-    ensures emptied { OnErr result (source.new.unread ≡ []) }
-    ensures buffered { 0 < length source.old.unread → (source.new.reads_left ≡ source.old.reads_left) × (reader.new ≡ reader.old) }
-    ensures fewer { OnOk result (bytes_left source.new < bytes_left source.old) }
-    ensures counted { source.old.unread ≡ [] → 0 < source.old.reads_left → source.new.reads_left + 1 ≡ source.old.reads_left }
-    ensures spent { source.old.unread ≡ [] → source.old.reads_left ≡ 0 → (result ≡ Result.Err ScriptFault.Read) × (source.new ≡ source.old) × (reader.new ≡ reader.old) }
+// Where the first line feed stands.
+fn first_feed(bytes: &[u8]) -> Option<usize>
+    ensures { IsFirstFeed bytes.now result }
 {
-    if source.at < source.len {
-        let byte = source.buffer[source.at];
-        source.at += 1;
-        return Ok(Some(byte));
-    }
+    memchr(LINE_FEED, bytes)
+}
+
+// Reads a piece, where nothing is unread; an empty one is the end.
+// A read that fails, an interrupted one too, or one more than the bound is the fault.
+fn refill<R: Read>(source: &mut Source, reader: &mut R) -> Result<(), ScriptFault>
+    requires { source.old.unread ≡ [] }
+    ensures read { OnOk result (Left (R.remaining reader.old) (R.remaining reader.new) (GivesBytes source.new.unread)) }
+    ensures fault { OnErr result (result ≡ Result.Err ScriptFault.Read) }
+    ensures untaken { OnErr result (Left (R.remaining reader.old) (R.remaining reader.new) (λ xs ys. ys ≡ xs)) }
+    ensures emptied { OnErr result (source.new.unread ≡ []) }
+    ensures short { length source.new.unread ≤ 8192 }
+    ensures counted { OnOk result (source.new.reads_left + 1 ≡ source.old.reads_left) }
+    ensures reads { source.new.reads_left ≤ source.old.reads_left }
+    ensures unasked { source.new.reads_left ≡ source.old.reads_left → reader.new ≡ reader.old }
+    ensures spent { source.old.reads_left ≡ 0 → (result ≡ Result.Err ScriptFault.Read) × (source.new ≡ source.old) }
+{
     if source.reads_left == 0 {
         return Err(ScriptFault::Read);
     }
     source.reads_left -= 1;
     match reader.read(&mut source.buffer) {
-        Ok(0) => {
-            source.at = 0;
-            source.len = 0;
-            Ok(None)
-        }
         Ok(len) => {
-            source.at = 1;
+            source.at = 0;
             source.len = len;
-            Ok(Some(source.buffer[0]))
+            Ok(())
         }
         Err(_) => Err(ScriptFault::Read),
     }
 }
 
-// The bytes of the next line.
+// Takes the first unread bytes to the end of a line, which has this number.
+fn take_bytes(
+    source: &mut Source,
+    line: &mut Vec<u8>,
+    count: usize,
+    number: u64,
+) -> Result<(), ScriptFault>
+    requires within { count ≤ length source.old.unread }
+    requires short { length line.old.items ≤ 65536 }
+    ensures kept { count ≡ 0 → IsOk result }
+    ensures taken { OnOk result (source.new ≡ record { unread = drop count source.old.unread; reads_left = source.old.reads_left }) }
+    ensures line { OnOk result (line.new.items ≡ line.old.items ++ take count source.old.unread) }
+    ensures short { OnOk result (length line.new.items ≤ 65536) }
+    ensures fault { IfErr result (IsLengthFault number (line.old.items ++ take count source.old.unread)) }
+    ensures same { OnErr result (source.new ≡ source.old) }
+{
+    if count > MAX_LINE - line.len() {
+        return Err(ScriptFault::LineTooLong(number));
+    }
+    if line.extend_from_slice(&source.unread()[..count]).is_err() {
+        return Err(ScriptFault::Memory);
+    }
+    source.advance(count);
+    Ok(())
+}
+
+// The bytes of a line that crosses the end of what is unread.
 fn gather<R: Read>(
     alloc: Global,
     source: &mut Source,
     reader: &mut R,
     number: u64,
 ) -> Result<RawLine, ScriptFault>
+    requires { list_any is_feed source.old.unread ≡ false }
     ensures raw { IfOk result (λ raw. Left (R.remaining reader.old) (R.remaining reader.new) (λ xs ys. GivesRaw raw (source.old.unread ++ xs) (source.new.unread ++ ys))) }
     ensures fault { IfErr result (λ fault. Known (R.remaining reader.old) (λ xs. IsLineFault number fault (source.old.unread ++ xs))) }
     ensures outside { IfErr result (IsReadingFault number) }
@@ -133,17 +176,19 @@ fn gather<R: Read>(
 {
     let mut line = Vec::new(alloc);
     loop {
-        let byte = next_byte(source, reader)?;
-        match byte {
-            None if line.is_empty() => return Ok(RawLine::End),
-            None => return Ok(RawLine::Last(line)),
-            Some(LINE_FEED) => return Ok(RawLine::Line(line)),
-            Some(_) if line.len() == MAX_LINE => return Err(ScriptFault::LineTooLong(number)),
-            Some(byte) => {
-                if line.push(byte).is_err() {
-                    return Err(ScriptFault::Memory);
-                }
+        let count = source.unread().len();
+        take_bytes(source, &mut line, count, number)?;
+        refill(source, reader)?;
+        if source.unread().is_empty() {
+            if line.is_empty() {
+                return Ok(RawLine::End);
             }
+            return Ok(RawLine::Last(line));
+        }
+        if let Some(end) = first_feed(source.unread()) {
+            take_bytes(source, &mut line, end, number)?;
+            source.advance(1);
+            return Ok(RawLine::Line(line));
         }
     }
 }
@@ -168,7 +213,7 @@ fn text_of(alloc: Global, bytes: &[u8], number: u64) -> Result<Text, ScriptFault
 /// the 16,777,217th; LineTooLong, as soon as the line has 65,537 bytes; NotUtf8; Memory.
 /// At Read at most 65,536 bytes of the line were taken from the reader, and nothing else.
 /// Where no read is left, the reader is called no more.
-/// Each piece lowers the most bytes that the source may still give, 8,589,934,592 at first.
+/// Each piece lowers the most bytes that the source may still give, 137,438,953,472 at first.
 pub fn next_line<R: Read>(
     alloc: Global,
     source: &mut Source,
@@ -185,6 +230,11 @@ pub fn next_line<R: Read>(
     ensures unasked { source.new.reads_left ≡ source.old.reads_left → reader.new ≡ reader.old }
     ensures spent { source.old.unread ≡ [] → source.old.reads_left ≡ 0 → (result ≡ Result.Err ScriptFault.Read) × (source.new ≡ source.old) × (reader.new ≡ reader.old) }
 {
+    if let Some(end) = first_feed(source.unread()) {
+        let text = text_of(alloc, &source.unread()[..end], number);
+        source.advance(end + 1);
+        return Ok(Piece::Line(text?));
+    }
     let raw = gather(alloc, source, reader, number)?;
     match raw {
         RawLine::Line(bytes) => Ok(Piece::Line(text_of(alloc, &bytes, number)?)),

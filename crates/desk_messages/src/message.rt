@@ -56,9 +56,8 @@ fn unreadable_lines(outcome: &Outcome) -> u64
 
 // Makes room for an outcome, and copies its line.
 fn make_room(
-    alloc: Global,
     outcomes: &mut Vec<(Text, Outcome)>,
-    line: &str,
+    line: &Text,
 ) -> Result<Text, StoreFault>
     ensures same { outcomes.new.items ≡ outcomes.old.items }
     ensures room { OnOk result (vec_len outcomes.new < vec_capacity outcomes.new) }
@@ -68,7 +67,7 @@ fn make_room(
     if outcomes.reserve(1).is_err() {
         return Err(StoreFault::Memory);
     }
-    match Text::of(alloc, line) {
+    match line.copy() {
         Ok(text) => Ok(text),
         Err(_) => Err(StoreFault::Memory),
     }
@@ -105,9 +104,8 @@ fn settle(progress: &mut Progress, text: Text, outcome: Outcome) -> End
 
 // Answers a line with an outcome that changes no bug, and says whether it ends the message.
 fn answer_line(
-    alloc: Global,
     progress: &mut Progress,
-    line: &str,
+    line: &Text,
     outcome: Outcome,
 ) -> Result<End, StoreFault>
     requires counted { progress.old.unreadable ≡ unreadable_count progress.old.outcomes.items }
@@ -118,7 +116,7 @@ fn answer_line(
     ensures same { OnErr result (progress.new.outcomes.items ≡ progress.old.outcomes.items) }
     ensures memory { OnErr result (result ≡ Result.Err StoreFault.Memory) }
 {
-    match make_room(alloc, &mut progress.outcomes, line) {
+    match make_room(&mut progress.outcomes, line) {
         Ok(text) => Ok(settle(progress, text, outcome)),
         Err(fault) => Err(fault),
     }
@@ -131,7 +129,7 @@ fn take_command_line<S: Records>(
     store: &mut S,
     from: &str,
     progress: &mut Progress,
-    line: &str,
+    line: &Text,
     command: Command<Named>,
 ) -> Result<End, StoreFault>
     requires sender { IsText from.now }
@@ -145,7 +143,7 @@ fn take_command_line<S: Records>(
     ensures end { IfOk result (λ end. end_of progress.new.outcomes.items ≡ end) }
     ensures same { OnErr result (progress.new.outcomes.items ≡ progress.old.outcomes.items) }
 {
-    let text = match make_room(alloc, &mut progress.outcomes, line) {
+    let text = match make_room(&mut progress.outcomes, line) {
         Ok(text) => text,
         Err(fault) => return Err(fault),
     };
@@ -161,7 +159,7 @@ fn take_message_line<S: Records>(
     store: &mut S,
     from: &str,
     progress: &mut Progress,
-    line: &str,
+    line: &Text,
 ) -> Result<End, StoreFault>
     requires sender { IsText from.now }
     requires counted { progress.old.unreadable ≡ unreadable_count progress.old.outcomes.items }
@@ -173,13 +171,13 @@ fn take_message_line<S: Records>(
     ensures end { IfOk result (λ end. end_of progress.new.outcomes.items ≡ end) }
     ensures same { OnErr result (progress.new.outcomes.items ≡ progress.old.outcomes.items) }
 {
-    match read_line(alloc, line) {
+    match read_line(alloc, line.as_str()) {
         Ok(Line::Blank) => Ok(End::All),
         Ok(Line::Comment) => Ok(End::All),
-        Ok(Line::Stop) => answer_line(alloc, progress, line, Outcome::Stopped),
+        Ok(Line::Stop) => answer_line(progress, line, Outcome::Stopped),
         Ok(Line::Do(command)) => take_command_line(alloc, store, from, progress, line, command),
         Err(LineFault::Refused(refusal)) => {
-            answer_line(alloc, progress, line, Outcome::Refused(refusal))
+            answer_line(progress, line, Outcome::Refused(refusal))
         }
         Err(LineFault::Memory) => Err(StoreFault::Memory),
     }
@@ -213,7 +211,7 @@ pub fn receive_lines<S: Records>(
         unreadable: 0,
     };
     for (i, line) in lines.iter().enumerate() {
-        match take_message_line(alloc, store, from, &mut progress, line.as_str()) {
+        match take_message_line(alloc, store, from, &mut progress, line) {
             Ok(end) => {
                 if !goes_on(end) {
                     return Received {

@@ -10,6 +10,9 @@ use desk_lines::split_lines;
 use desk_text::{End, Outcome, end_text, outcome_text};
 use std::alloc::{AllocError, Global};
 
+/// The bytes that room is made for at once for each outcome.
+const OUTCOME: usize = 64;
+
 fn append_outcomes(
     alloc: Global,
     out: &mut Vec<u8>,
@@ -49,8 +52,10 @@ pub fn received_bytes(
 ) -> Result<Vec<u8>, AllocError>
     ensures { IfOk result (λ text. text.items ≡ received_text received.now.outcomes received.now.end lines.now) }
 {
+    let outcomes = received.outcomes.as_slice();
     let mut text = Vec::new(alloc);
-    append_outcomes(alloc, &mut text, received.outcomes.as_slice())?;
+    let _ = text.reserve(outcomes.len().saturating_mul(OUTCOME));
+    append_outcomes(alloc, &mut text, outcomes)?;
     let line = line_of_end(received.end, lines);
     end_text(alloc, &mut text, received.end, line)?;
     Ok(text)

@@ -1,19 +1,47 @@
 //! The answers to the directives of a script.
 
-ghost use Rattle.std.specs.Prelude.{◌≡◌, IfOk};
-ghost use Rattle.desk_text.specs.Texts.{fault_text};
+ghost use Rattle.std.specs.Prelude.{◌≡◌, ◌++◌, IfOk, codes, decimal};
+ghost use Rattle.desk_text.specs.Texts.{as_line, fault_text};
 ghost use Rattle.desk_text.specs.Answers.{refused_line, report_answer, branch_answer, bad_version_answer, bad_directive_answer};
 
 use crate::outcome::{ReportFault, StoreFault};
-use crate::texts::fault_text;
+use crate::texts::{append_number, fault_text};
 use ancestry::BranchFault;
 use std::alloc::{AllocError, Global};
+
+// The bytes that a short answer has room for at once.
+const ANSWER: usize = 64;
 
 fn refused_line(alloc: Global, why: &str) -> Result<Vec<u8>, AllocError>
     ensures { IfOk result (λ line. line.items ≡ refused_line why.now) }
 {
-    let line = format!(in alloc; "NO {why}\n")?;
-    Vec::from_slice(alloc, line.as_bytes())
+    let mut line = Vec::with_capacity(alloc, ANSWER)?;
+    line.extend_from_slice(b"NO ")?;
+    line.extend_from_slice(why.as_bytes())?;
+    line.push(b'\n')?;
+    Ok(line)
+}
+
+// The refusal of a node, by its place.
+fn refused_at(alloc: Global, why: &str, place: u64) -> Result<Vec<u8>, AllocError>
+    ensures { IfOk result (λ line. line.items ≡ refused_line (why.now ++ decimal place)) }
+{
+    let mut line = Vec::with_capacity(alloc, ANSWER)?;
+    line.extend_from_slice(b"NO ")?;
+    line.extend_from_slice(why.as_bytes())?;
+    append_number(&mut line, place)?;
+    line.push(b'\n')?;
+    Ok(line)
+}
+
+fn number_line(alloc: Global, number: u64) -> Result<Vec<u8>, AllocError>
+    ensures { IfOk result (λ line. line.items ≡ as_line (codes "OK " ++ decimal number)) }
+{
+    let mut line = Vec::with_capacity(alloc, ANSWER)?;
+    line.extend_from_slice(b"OK ")?;
+    append_number(&mut line, number)?;
+    line.push(b'\n')?;
+    Ok(line)
 }
 
 fn fault_line(alloc: Global, fault: StoreFault) -> Result<Vec<u8>, AllocError>
@@ -36,10 +64,7 @@ pub fn report_answer(
     ensures { IfOk result (λ line. line.items ≡ report_answer answer.now) }
 {
     match answer {
-        Ok(number) => {
-            let line = format!(in alloc; "OK {number}\n")?;
-            Vec::from_slice(alloc, line.as_bytes())
-        }
+        Ok(number) => number_line(alloc, *number),
         Err(ReportFault::BadPackage) => refused_line(alloc, "bad package name"),
         Err(ReportFault::BadVersion) => refused_line(alloc, "bad version"),
         Err(ReportFault::BadSeverity) => refused_line(alloc, "unknown severity"),
@@ -65,14 +90,8 @@ pub fn branch_answer(
         Ok(Ok(())) => Vec::from_slice(alloc, b"OK\n"),
         Ok(Err(BranchFault::EmptyBranch)) => refused_line(alloc, "empty branch"),
         Ok(Err(BranchFault::TooLong)) => refused_line(alloc, "more than 200 versions"),
-        Ok(Err(BranchFault::Repeated(place))) => {
-            let why = format!(in alloc; "repeated version at {place}")?;
-            refused_line(alloc, why.as_str())
-        }
-        Ok(Err(BranchFault::Conflict(place))) => {
-            let why = format!(in alloc; "conflict at {place}")?;
-            refused_line(alloc, why.as_str())
-        }
+        Ok(Err(BranchFault::Repeated(place))) => refused_at(alloc, "repeated version at ", *place as u64),
+        Ok(Err(BranchFault::Conflict(place))) => refused_at(alloc, "conflict at ", *place as u64),
         Ok(Err(BranchFault::Memory)) => refused_line(alloc, ""),
         Err(fault) => fault_line(alloc, *fault),
     }

@@ -1,83 +1,127 @@
 //! The texts of outcomes and ends, appended to a transcript.
 
-ghost use Rattle.std.specs.Prelude.{◌≡◌, [], ◌++◌, IsOk, IfOk, OnOk, OnErr, string_bytes};
-ghost use Rattle.desk_text.specs.Texts.{field_word, difference_text, not_merged_text, refusal_text, numbers_text, answer_text, fault_word, fault_answer, fault_text, outcome_text, store_end_text, end_text};
+ghost use Rattle.std.specs.Prelude.{◌≡◌, [], ◌++◌, IsOk, OnOk, OnErr, codes, decimal};
+ghost use Rattle.std.specs.Io.{StartsWith};
+ghost use Rattle.desk_text.specs.Texts.{as_line, echo, field_word, refusal_text, numbers_text, changed_text, answer_text, fault_word, fault_text, outcome_text, store_end_text, end_text};
 
 use crate::outcome::{End, Outcome, StoreFault};
 use bug_record::{Field, Refusal};
+use itoa::Buffer;
 use std::alloc::{AllocError, Global};
 
-fn field_word(field: Field) -> &'static str
-    ensures { result.now ≡ field_word field }
+// What of a difference follows the bug's number.
+fn difference_end(field: Field) -> &'static str
+    ensures { result.now ≡ codes " differs in " ++ field_word field }
 {
     match field {
-        Field::Package => "package",
-        Field::State => "state",
-        Field::Forwarded => "forwarded",
-        Field::Severity => "severity",
+        Field::Package => " differs in package",
+        Field::State => " differs in state",
+        Field::Forwarded => " differs in forwarded",
+        Field::Severity => " differs in severity",
     }
 }
 
-#[tactic(auto, unfolding(crate::specs::Texts::difference_text))]
-fn difference_text(alloc: Global, number: u64, field: &str) -> Result<String, AllocError>
-    ensures { IfOk result (λ t. string_bytes t ≡ difference_text number field.now) }
+pub(crate) fn append_number(out: &mut Vec<u8>, number: u64) -> Result<(), AllocError>
+    ensures ok { OnOk result (out.new.items ≡ out.old.items ++ decimal number) }
+    ensures err { OnErr result (out.new.items ≡ out.old.items) }
 {
-    format!(in alloc; "bug {number} differs in {field}")
+    out.extend_from_slice(Buffer::new().format(number).as_bytes())
 }
 
-#[tactic(auto, unfolding(crate::specs::Texts::not_merged_text))]
-fn not_merged_text(alloc: Global, number: u64) -> Result<String, AllocError>
-    ensures { IfOk result (λ t. string_bytes t ≡ not_merged_text number) }
+// Appends a number between two texts.
+fn append_between(
+    out: &mut Vec<u8>,
+    before: &str,
+    number: u64,
+    after: &str,
+) -> Result<(), AllocError>
+    ensures ok { OnOk result (out.new.items ≡ out.old.items ++ (before.now ++ (decimal number ++ after.now))) }
+    ensures err { OnErr result (StartsWith out.new.items out.old.items) }
 {
-    format!(in alloc; "bug {number} is not merged")
+    out.extend_from_slice(before.as_bytes())?;
+    append_number(out, number)?;
+    out.extend_from_slice(after.as_bytes())
 }
 
-fn refusal_text(alloc: Global, refusal: Refusal) -> Result<String, AllocError>
-    ensures { IfOk result (λ t. string_bytes t ≡ refusal_text refusal) }
+#[tactic(
+    auto,
+    unfolding(crate::specs::Texts::difference_text, crate::specs::Texts::not_merged_text)
+)]
+fn append_refusal(out: &mut Vec<u8>, refusal: Refusal) -> Result<(), AllocError>
+    ensures ok { OnOk result (out.new.items ≡ out.old.items ++ refusal_text refusal) }
+    ensures err { OnErr result (StartsWith out.new.items out.old.items) }
 {
     match refusal {
-        Refusal::Unknown => String::from_str(alloc, "unknown command"),
-        Refusal::Malformed => String::from_str(alloc, "malformed command"),
-        Refusal::TooLong => String::from_str(alloc, "text too long"),
-        Refusal::BadSeverity => String::from_str(alloc, "unknown severity"),
-        Refusal::BadTag => String::from_str(alloc, "unknown tag"),
-        Refusal::BadVersion => String::from_str(alloc, "bad version"),
-        Refusal::BadPackage => String::from_str(alloc, "bad package name"),
-        Refusal::NoName(name) => format!(in alloc; "no such name -{name}"),
-        Refusal::NoBug(number) => format!(in alloc; "no such bug {number}"),
-        Refusal::Differ(field, number) => difference_text(alloc, number, field_word(field)),
-        Refusal::NotMerged(number) => not_merged_text(alloc, number),
+        Refusal::Unknown => out.extend_from_slice(b"unknown command"),
+        Refusal::Malformed => out.extend_from_slice(b"malformed command"),
+        Refusal::TooLong => out.extend_from_slice(b"text too long"),
+        Refusal::BadSeverity => out.extend_from_slice(b"unknown severity"),
+        Refusal::BadTag => out.extend_from_slice(b"unknown tag"),
+        Refusal::BadVersion => out.extend_from_slice(b"bad version"),
+        Refusal::BadPackage => out.extend_from_slice(b"bad package name"),
+        Refusal::NoName(name) => append_between(out, "no such name -", name, ""),
+        Refusal::NoBug(number) => append_between(out, "no such bug ", number, ""),
+        Refusal::Differ(field, number) => {
+            append_between(out, "bug ", number, difference_end(field))
+        }
+        Refusal::NotMerged(number) => append_between(out, "bug ", number, " is not merged"),
     }
 }
 
-// Each number after a space.
-fn numbers_text(alloc: Global, numbers: &[u64]) -> Result<String, AllocError>
-    ensures { IfOk result (λ t. string_bytes t ≡ numbers_text numbers.now) }
+// Appends each number after a space.
+fn append_numbers(out: &mut Vec<u8>, numbers: &[u64]) -> Result<(), AllocError>
+    ensures ok { OnOk result (out.new.items ≡ out.old.items ++ numbers_text numbers.now) }
+    ensures err { OnErr result (StartsWith out.new.items out.old.items) }
 {
-    let mut text = String::new(alloc);
     for number in numbers {
-        write!(text, " {number}")?;
+        out.push(b' ')?;
+        append_number(out, *number)?;
     }
-    Ok(text)
+    Ok(())
 }
 
-fn answer_text(alloc: Global, outcome: &Outcome) -> Result<String, AllocError>
-    ensures { IfOk result (λ t. string_bytes t ≡ answer_text outcome.now) }
+fn append_changed(out: &mut Vec<u8>, numbers: &[u64]) -> Result<(), AllocError>
+    ensures ok { OnOk result (out.new.items ≡ out.old.items ++ changed_text numbers.now) }
+    ensures err { OnErr result (StartsWith out.new.items out.old.items) }
+{
+    if numbers.is_empty() {
+        return out.extend_from_slice(b"OK, no change.");
+    }
+    out.extend_from_slice(b"OK")?;
+    append_numbers(out, numbers)
+}
+
+fn append_answer(out: &mut Vec<u8>, outcome: &Outcome) -> Result<(), AllocError>
+    ensures ok { OnOk result (out.new.items ≡ out.old.items ++ answer_text outcome.now) }
+    ensures err { OnErr result (StartsWith out.new.items out.old.items) }
 {
     match outcome {
-        Outcome::Changed(numbers) => {
-            if numbers.as_slice().is_empty() {
-                return String::from_str(alloc, "OK, no change.");
-            }
-            let numbers = numbers_text(alloc, numbers.as_slice())?;
-            format!(in alloc; "OK{numbers}")
-        }
+        Outcome::Changed(numbers) => append_changed(out, numbers.as_slice()),
         Outcome::Refused(refusal) => {
-            let refusal = refusal_text(alloc, *refusal)?;
-            format!(in alloc; "NO {refusal}")
+            out.extend_from_slice(b"NO ")?;
+            append_refusal(out, *refusal)
         }
-        Outcome::Stopped => String::from_str(alloc, "Stopped."),
+        Outcome::Stopped => out.extend_from_slice(b"Stopped."),
     }
+}
+
+// Appends a line as it was written, after `> `.
+fn append_echo(out: &mut Vec<u8>, line: &str) -> Result<(), AllocError>
+    ensures ok { OnOk result (out.new.items ≡ out.old.items ++ as_line (echo line.now)) }
+    ensures err { OnErr result (StartsWith out.new.items out.old.items) }
+{
+    out.extend_from_slice(b"> ")?;
+    out.extend_from_slice(line.as_bytes())?;
+    out.extend_from_slice(b"\n")
+}
+
+fn append_outcome(out: &mut Vec<u8>, line: &str, outcome: &Outcome) -> Result<(), AllocError>
+    ensures ok { OnOk result (out.new.items ≡ out.old.items ++ outcome_text line.now outcome.now) }
+    ensures err { OnErr result (StartsWith out.new.items out.old.items) }
+{
+    append_echo(out, line)?;
+    append_answer(out, outcome)?;
+    out.extend_from_slice(b"\n")
 }
 
 fn fault_word(fault: StoreFault) -> &'static str
@@ -92,11 +136,22 @@ fn fault_word(fault: StoreFault) -> &'static str
 }
 
 #[tactic(auto, unfolding(crate::specs::Texts::fault_answer))]
-fn fault_answer(alloc: Global, fault: StoreFault) -> Result<String, AllocError>
-    ensures { IfOk result (λ t. string_bytes t ≡ fault_answer fault) }
+fn append_fault(out: &mut Vec<u8>, fault: StoreFault) -> Result<(), AllocError>
+    ensures ok { OnOk result (out.new.items ≡ out.old.items ++ fault_text fault) }
+    ensures err { OnErr result (StartsWith out.new.items out.old.items) }
 {
-    let word = fault_word(fault);
-    format!(in alloc; "Store fault: {word}.")
+    out.extend_from_slice(b"Store fault: ")?;
+    out.extend_from_slice(fault_word(fault).as_bytes())?;
+    out.extend_from_slice(b".\n")
+}
+
+// The line at which the store failed, and the fault's line.
+fn append_store_end(out: &mut Vec<u8>, fault: StoreFault, line: &str) -> Result<(), AllocError>
+    ensures ok { OnOk result (out.new.items ≡ out.old.items ++ store_end_text fault line.now) }
+    ensures err { OnErr result (StartsWith out.new.items out.old.items) }
+{
+    append_echo(out, line)?;
+    append_fault(out, fault)
 }
 
 /// Appends the two lines of an outcome: `> ` and the line as it was written, then the answer.
@@ -110,9 +165,12 @@ pub fn outcome_text(
     ensures ok { OnOk result (out.new.items ≡ out.old.items ++ outcome_text line.now outcome.now) }
     ensures err { OnErr result (out.new.items ≡ out.old.items) }
 {
-    let answer = answer_text(alloc, outcome)?;
-    let text = format!(in alloc; "> {line}\n{answer}\n")?;
-    out.extend_from_slice(text.as_bytes())
+    let before = out.len();
+    let done = append_outcome(out, line, outcome);
+    if done.is_err() {
+        out.truncate(before);
+    }
+    done
 }
 
 /// Appends the line of a store fault. Where there is no memory, `out` is as before.
@@ -120,24 +178,24 @@ pub fn fault_text(alloc: Global, out: &mut Vec<u8>, fault: StoreFault) -> Result
     ensures ok { OnOk result (out.new.items ≡ out.old.items ++ fault_text fault) }
     ensures err { OnErr result (out.new.items ≡ out.old.items) }
 {
-    let answer = fault_answer(alloc, fault)?;
-    let text = format!(in alloc; "{answer}\n")?;
-    out.extend_from_slice(text.as_bytes())
+    let before = out.len();
+    let done = append_fault(out, fault);
+    if done.is_err() {
+        out.truncate(before);
+    }
+    done
 }
 
-// The line at which the store failed, and the fault's line.
-fn store_end_text(
-    alloc: Global,
-    out: &mut Vec<u8>,
-    fault: StoreFault,
-    line: &str,
-) -> Result<(), AllocError>
+fn store_end_text(out: &mut Vec<u8>, fault: StoreFault, line: &str) -> Result<(), AllocError>
     ensures ok { OnOk result (out.new.items ≡ out.old.items ++ store_end_text fault line.now) }
     ensures err { OnErr result (out.new.items ≡ out.old.items) }
 {
-    let answer = fault_answer(alloc, fault)?;
-    let text = format!(in alloc; "> {line}\n{answer}\n")?;
-    out.extend_from_slice(text.as_bytes())
+    let before = out.len();
+    let done = append_store_end(out, fault, line);
+    if done.is_err() {
+        out.truncate(before);
+    }
+    done
 }
 
 /// Appends what follows the last outcome: nothing for `All` and `Stopped`; a line for
@@ -155,6 +213,6 @@ pub fn end_text(alloc: Global, out: &mut Vec<u8>, end: End, line: &str) -> Resul
         End::All => Ok(()),
         End::Stopped => Ok(()),
         End::TooManyUnreadable => out.extend_from_slice(b"Too many unreadable lines.\n"),
-        End::Store(fault, _) => store_end_text(alloc, out, fault, line),
+        End::Store(fault, _) => store_end_text(out, fault, line),
     }
 }

@@ -1,18 +1,58 @@
-use Rattle.std.proofs.Common.{◌≡◌, ◌<◌, length, arith}
+use Rattle.std.proofs.Common.{◌≡◌, ℕ, ◌<◌, List, Some, length, drop, ap, sym, ◌∙◌, subst, arith}
+use Rattle.std.proofs.lemmas.Bool.{false≢true}
 use Rattle.std.proofs.lemmas.Grind.{common_steps}
-use Rattle.desk_lines.proofs.ReadingLemmas.{line_ended, last_ended, line_too_long}
+use Rattle.std.proofs.lemmas.List.{drop-drop}
+use Rattle.std.proofs.lemmas.Result.{err_from_is_err_and}
+use Rattle.desk_lines.specs.Buffered.{Buffered}
+use Rattle.desk_lines.specs.Reading.{IsFirstFeed}
+use Rattle.desk_lines.proofs.ReadingLemmas.{line_ended, last_ended, all_taken, all_free, rest_too_long, piece_too_long}
 use Rattle.desk_lines.proofs.source.gather.Goals as goal
 
-pub returns-in-None-2-clause-raw : goal.returns-in-None-2-clause-raw
-returns-in-None-2-clause-raw g c =
-    let some : 0 < length c.loop-line.line.items = grind (arith, common_steps) in
-    last_ended c.args.source.now.unread c.loop-line.line.items c.loop-line.source.unread c.next_byte.new.source.unread c.in_ok-byte.byte c.loop-line.invariant.no_feed c.loop-line.invariant.short some c.in-None-2.is c.loop-line.invariant.read c.in_ok-byte.ensures.byte
+pub returns-in_err-take_bytes-clause-fault : goal.returns-in_err-take_bytes-clause-fault
+returns-in_err-take_bytes-clause-fault g c =
+    let p = err_from_is_err_and c.from_residual.result c.from_residual.ensures.1 in
+    rw (p.1, p.2) (rest_too_long c.args.number c.in_err-take_bytes.field-0.0 c.args.source.now.unread c.loop-line.line.items c.loop-line.source.unread
+        (length c.unread-count.result.now) (ap length c.unread-count.ensures.bytes) c.loop-line.invariant.no_feed c.loop-line.invariant.no_end
+        c.in_err-take_bytes.ensures.fault c.loop-line.invariant.read)
 
-pub returns-in-Some-eq10-clause-raw : goal.returns-in-Some-eq10-clause-raw
-returns-in-Some-eq10-clause-raw g c =
-    line_ended c.args.source.now.unread c.loop-line.line.items c.loop-line.source.unread c.next_byte.new.source.unread c.in_ok-byte.byte c.in-Some-eq10.field-0 c.loop-line.invariant.no_feed c.loop-line.invariant.short c.in-Some-eq10.is (grind (arith, common_steps)) c.loop-line.invariant.read c.in_ok-byte.ensures.byte
+pub returns-in_err-take_bytes-clause-spent : goal.returns-in_err-take_bytes-clause-spent
+returns-in_err-take_bytes-clause-spent g c none zero =
+    let same = ap (λ (b : Buffered). b.unread) (c.loop-line.invariant.spent none zero).0 in
+    absurd (false≢true (c.in_err-take_bytes.ensures.kept (ap length (c.unread-count.ensures.bytes ∙ (same ∙ none)))))
 
-pub returns-in-Some-clause-fault : goal.returns-in-Some-clause-fault
-returns-in-Some-clause-fault g c =
-    let full : length c.loop-line.line.items ≡ 65536 = grind (arith, common_steps) in
-    line_too_long c.args.number c.args.source.now.unread c.loop-line.line.items c.loop-line.source.unread c.next_byte.new.source.unread c.in_ok-byte.byte c.in-Some.field-0 c.loop-line.invariant.no_feed full c.in-Some.is (grind (arith, common_steps)) c.loop-line.invariant.read c.in_ok-byte.ensures.byte
+pub returns-then-is_empty-clause-raw : goal.returns-then-is_empty-clause-raw
+returns-then-is_empty-clause-raw g c =
+    let some : 0 < length c.take_bytes.new.line.items = grind (arith, common_steps) in
+    let none : length c.refill.new.source.unread ≡ 0 = grind (arith, common_steps) in
+    let all = ap length c.unread-count.ensures.bytes in
+    let is = c.in_ok-take_bytes.ensures.line in
+    last_ended c.args.source.now.unread c.take_bytes.new.line.items c.refill.new.source.unread
+    (all_free c.loop-line.line.items c.loop-line.source.unread c.take_bytes.new.line.items (length c.unread-count.result.now) all is c.loop-line.invariant.no_feed c.loop-line.invariant.no_end)
+    some c.in_ok-take_bytes.ensures.short none
+    (all_taken c.args.source.now.unread c.loop-line.line.items c.loop-line.source.unread c.take_bytes.new.line.items (length c.unread-count.result.now) all is c.loop-line.invariant.read)
+    c.in_ok-refill.ensures.read
+
+pub returns-in_err-take_bytes-2-clause-fault : goal.returns-in_err-take_bytes-2-clause-fault
+returns-in_err-take_bytes-2-clause-fault g c =
+    let p = err_from_is_err_and c.from_residual-in_err-take_bytes-2.result c.from_residual-in_err-take_bytes-2.ensures.1 in
+    let first = subst (λ (w : List ℕ). IsFirstFeed w (Some c.in-Some.end)) c.unread-in-loop-line.ensures.bytes c.in-Some.ensures in
+    let all = ap length c.unread-count.ensures.bytes in
+    let is = c.in_ok-take_bytes.ensures.line in
+    rw (p.1, p.2) (piece_too_long c.args.number c.in_err-take_bytes-2.field-0.0 c.args.source.now.unread c.take_bytes.new.line.items c.refill.new.source.unread c.in-Some.end
+        (all_free c.loop-line.line.items c.loop-line.source.unread c.take_bytes.new.line.items (length c.unread-count.result.now) all is c.loop-line.invariant.no_feed c.loop-line.invariant.no_end)
+        first c.in_err-take_bytes-2.ensures.fault
+        (all_taken c.args.source.now.unread c.loop-line.line.items c.loop-line.source.unread c.take_bytes.new.line.items (length c.unread-count.result.now) all is c.loop-line.invariant.read)
+        c.in_ok-refill.ensures.read)
+
+pub returns-in-Some-clause-raw : goal.returns-in-Some-clause-raw
+returns-in-Some-clause-raw g c =
+    let first = subst (λ (w : List ℕ). IsFirstFeed w (Some c.in-Some.end)) c.unread-in-loop-line.ensures.bytes c.in-Some.ensures in
+    let all = ap length c.unread-count.ensures.bytes in
+    let is = c.in_ok-take_bytes.ensures.line in
+    let after = ap (λ (b : Buffered). b.unread) c.advance.ensures
+        ∙ (ap (λ (b : Buffered). drop 1 b.unread) c.in_ok-take_bytes-2.ensures.taken ∙ drop-drop 1 c.in-Some.end c.refill.new.source.unread) in
+    line_ended c.args.source.now.unread c.take_bytes.new.line.items c.refill.new.source.unread c.take_bytes-in-Some.new.line.items c.advance.new.self.unread c.in-Some.end
+    (all_free c.loop-line.line.items c.loop-line.source.unread c.take_bytes.new.line.items (length c.unread-count.result.now) all is c.loop-line.invariant.no_feed c.loop-line.invariant.no_end)
+    first c.in_ok-take_bytes-2.ensures.line after c.in_ok-take_bytes-2.ensures.short
+    (all_taken c.args.source.now.unread c.loop-line.line.items c.loop-line.source.unread c.take_bytes.new.line.items (length c.unread-count.result.now) all is c.loop-line.invariant.read)
+    c.in_ok-refill.ensures.read

@@ -1,4 +1,4 @@
-use Rattle.std.proofs.Common.{◌≡◌, [], ◌++◌, ◌-◌, ◌≤◌, length, false}
+use Rattle.std.proofs.Common.{◌≡◌, [], ◌++◌, ◌≤◌, length, false}
 use Rattle.std.specs.List.{list_any}
 use Rattle.desk_lines.specs.Buffered.{bytes_left}
 use Rattle.desk_lines.specs.Reading.{Left}
@@ -9,6 +9,7 @@ abbrev pub invariant-loop-line : goal.invariant-loop-line
 invariant-loop-line g l = record {
   short : length l.line.items ≤ 65536;
   no_feed : list_any is_feed l.line.items ≡ false;
+  no_end : list_any is_feed l.source.unread ≡ false;
   read : Left (g.R.Read.remaining l.fn.reader) (g.R.Read.remaining l.reader) (λ xs ys. l.fn.source.unread ++ xs ≡ l.line.items ++ (l.source.unread ++ ys));
   reads : l.source.reads_left ≤ l.fn.source.reads_left;
   no_more : bytes_left l.source ≤ bytes_left l.fn.source;
@@ -17,4 +18,4 @@ invariant-loop-line g l = record {
 }
 
 abbrev pub decreases-loop-line : goal.decreases-loop-line
-decreases-loop-line g l = 65536 - length l.line.items
+decreases-loop-line g l = l.source.reads_left

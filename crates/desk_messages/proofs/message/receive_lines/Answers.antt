@@ -3,7 +3,7 @@ use Rattle.desk_store.proofs.HoldsLemmas.{holds_none, holds_then}
 use Rattle.desk_store.specs.Message.{machine, unreadable_count, end_of}
 use Rattle.desk_messages.specs.Taking.{goes_on}
 use Rattle.desk_messages.proofs.EndLemmas.{at_start_open}
-use Rattle.desk_messages.proofs.MachineLemmas.{line_more, line_at, all_ended, received_ended, goes_on-all, settled_faults, settled_line}
+use Rattle.desk_messages.proofs.MachineLemmas.{line_more, all_ended, received_ended, goes_on-all, settled_faults, settled_line}
 use Rattle.desk_messages.proofs.message.receive_lines.Goals as goal
 
 pub loop-i-init : goal.loop-i-init
@@ -18,24 +18,24 @@ loop-i-init g c =
 
 pub loop-i-preserved : goal.loop-i-preserved
 loop-i-preserved g c =
-    let is = line_at c.args.lines.now c.loop-i.i c.index-lines-i.result c.as_str.result.now c.as_str.ensures c.index-lines-i.is in
+    let is = c.index-lines-i.is in
     record {
       counted = c.in-Ok.ensures.counted;
       goes_on = c.in-Ok.ensures.end ∙ goes_on-all c.in-Ok.end (sym c.goes_on.ensures ∙ c.if-not-goes_on.false);
       faults = c.in-Ok.ensures.count ∙ c.loop-i.invariant.faults;
       taken = holds_then c.loop-i.invariant.taken c.in-Ok.ensures.answer
-          (λ p q. line_more c.args.from.now _ c.args.lines.now c.loop-i.i c.as_str.result.now _ _ c.loop-i-test.true is c.loop-i.invariant.goes_on p q);
+          (λ p q. line_more c.args.from.now _ c.args.lines.now c.loop-i.i c.index-lines-i.result _ _ c.loop-i-test.true is c.loop-i.invariant.goes_on p q);
     }
 
 pub returns-then-not-goes_on-clause-answer : goal.returns-then-not-goes_on-clause-answer
 returns-then-not-goes_on-clause-answer g c =
-    let is = line_at c.args.lines.now c.loop-i.i c.index-lines-i.result c.as_str.result.now c.as_str.ensures c.index-lines-i.is in
+    let is = c.index-lines-i.is in
     let stays = sym c.goes_on.ensures ∙ c.if-not-goes_on.true in
     let ended = ap end_of c.from_vec.ensures ∙ c.in-Ok.ensures.end in
     let here = ap goes_on c.in-Ok.ensures.end ∙ stays in
     holds_then c.loop-i.invariant.taken c.in-Ok.ensures.answer
     (λ p q. received_ended c.args.from.now c.args.lines.now _ _ _ c.in-Ok.end stays ended
-    (all_ended c.args.from.now _ c.args.lines.now _ _ here (line_more c.args.from.now _ c.args.lines.now c.loop-i.i c.as_str.result.now _ _ c.loop-i-test.true is c.loop-i.invariant.goes_on p q)
+    (all_ended c.args.from.now _ c.args.lines.now _ _ here (line_more c.args.from.now _ c.args.lines.now c.loop-i.i c.index-lines-i.result _ _ c.loop-i-test.true is c.loop-i.invariant.goes_on p q)
     ∙ ap (machine _) (sym c.from_vec.ensures)))
 
 pub returns-then-not-goes_on-clause-count : goal.returns-then-not-goes_on-clause-count

@@ -1,0 +1,10 @@
+use Rattle.std.proofs.Common.{◌≡◌, ◌++◌, drop}
+use Rattle.std.specs.Io.{StartsWith}
+use Rattle.desk_text.specs.Texts.{numbers_text}
+use Rattle.desk_text.proofs.texts.append_numbers.Given as goal
+
+abbrev pub invariant-loop-number : goal.invariant-loop-number
+invariant-loop-number l = record {
+  text : l.out.items ++ numbers_text (drop l.number-index l.numbers) ≡ l.fn.out.items ++ numbers_text l.numbers;
+  front : StartsWith l.out.items l.fn.out.items;
+}
