@@ -1,6 +1,6 @@
 -- Images gathered one after another stay sets of the desk, and apart.
 use Rattle.std.proofs.Common.{◌≡◌, ◌<◌, ◌+◌, ℕ, Bool, true, false, ◌||◌, eqb, List, [], ◌∷◌, ◌++◌, take, drop, get_or, length, arith, cond, Option, Some, None, sym, refl, ap, ◌∙◌, subst}
-use Rattle.std.specs.BTreeSet.{BTreeSet, contains, Updates}
+use Rattle.std.specs.BTreeSet.{BTreeSet, contains}
 use Rattle.std.specs.Ordering.{is_eq, nat_cmp}
 use Rattle.std.specs.Prelude.{option_map, if◌then◌else◌}
 use Rattle.std.specs.Option.{option_or}
@@ -155,11 +155,8 @@ gather-more d d' ns k first second third l e g h =
 or_after : (a b c : Bool) → (a || (b || c)) ≡ ((b || a) || c)
 or_after true true c = refl
 or_after true false c = refl
-or_after false b c = refl
-
-or_none : (a : Bool) → (a || false) ≡ a
-or_none true = refl
-or_none false = refl
+or_after false true c = refl
+or_after false false c = refl
 
 -- an image more
 pub lists-more : (bugs new : ℕ → Bool) (images : List SetImage) (i : SetImage) → Lists bugs images → ((n : ℕ) → new n ≡ (has (numbers_of i.members) n || bugs n))

@@ -1,0 +1,18 @@
+use Rattle.std.proofs.Common.{◌≡◌, List, [], ◌∷◌, ◌++◌, refl, sym, ap, ◌∙◌, subst}
+use Rattle.bug_record.specs.declared.bug.SetImage.{SetImage}
+use Rattle.desk_store.proofs.HoldsLemmas.{asks_weaker}
+use Rattle.desk_messages.specs.Images.{Gather}
+use Rattle.desk_messages.proofs.GatherLemmas.{gather-one}
+use Rattle.desk_messages.proofs.images.first_image.Goals as goal
+
+pub returns-in-Ok-clause-answer : goal.returns-in-Ok-clause-answer
+returns-in-Ok-clause-answer g c =
+    let d = g.S.Records.desk c.args.store.now in
+    let a = rw c.in-Ok-Some.field-0-is at c.in-Ok-Some.ensures.answer in
+    let e : c.push.new.self ≡ c.in-Ok-Some.image ∷ [] =
+    c.in-Ok.ensures.ok ∙ ap (λ (z : List SetImage). z ++ c.in-Ok-Some.image ∷ []) c.new-images.ensures in
+    asks_weaker a (λ p. (
+      subst (λ images. Gather d (c.args.number ∷ []) [] images) (sym e)
+          (gather-one d [] c.args.number c.in-Ok-Some.image refl p.0),
+      p.1,
+    ))
