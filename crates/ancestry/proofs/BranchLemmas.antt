@@ -37,7 +37,9 @@ module _ (t : Ancestry) (n : Node) (unknown : knows t n ≡ false) where
   pub learnt_parents : (q : Node) → parent_of (insert_entry node_cmp t n None) q ≡ parent_of t q
   learnt_parents q =
       ⊎_elim
-      (λ yes. let is = same_true q n yes in ap (parent_of (insert_entry node_cmp t n None)) is ∙ parent_put t n None ∙ sym (ap (parent_of t) is ∙ unknown_has_none t n unknown))
+      (λ yes. let is = same_true q n yes in
+      ap (parent_of (insert_entry node_cmp t n None)) is ∙ parent_put t n None
+      ∙ sym (ap (parent_of t) is ∙ unknown_has_none t n unknown))
       (λ other. parent_others t n None q other)
       (cases_Bool (same_node q n))
 
@@ -53,7 +55,8 @@ module _ (t : Ancestry) (n : Node) (forest : IsForest t) (unknown : knows t n �
   pub learnt_forest : IsNode n → IsForest learnt
   learnt_forest valid =
       IsForest-from learnt (ascends_put t n None forest.ascending)
-      (λ q h. ⊎_elim (λ yes. subst IsNode (sym (same_true q n yes)) valid) (λ no. forest.valid q (sym (ap is_some (known_others t n None q no)) ∙ h)) (cases_Bool (same_node q n)))
+      (λ q h. ⊎_elim (λ yes. subst IsNode (sym (same_true q n yes)) valid)
+      (λ no. forest.valid q (sym (ap is_some (known_others t n None q no)) ∙ h)) (cases_Bool (same_node q n)))
       (λ q p h. knows_kept t n None p (forest.parents q p (sym (learnt_parents t n unknown q) ∙ h)))
       (λ q. (line t q, learnt_lines t n unknown q (line t q) (forest.lines q)))
 
@@ -63,7 +66,8 @@ pub record Longer (t : Ancestry) (n : Node) (ns : List Node) : Type 0 where
   pub more : List Node
   pub is : IsLine t n (ns ++ more)
 
-module _ (t : Ancestry) (n p : Node) (forest : IsForest t) (known-n : knows t n ≡ true) (known-p : knows t p ≡ true) (root : parent_of t n ≡ None) (apart : has_node (line t p) n ≡ false) where
+module _ (t : Ancestry) (n p : Node) (forest : IsForest t) (known-n : knows t n ≡ true) (known-p : knows t p ≡ true)
+    (root : parent_of t n ≡ None) (apart : has_node (line t p) n ≡ false) where
   abbrev based : Ancestry
   based = with_parent t n p
 
@@ -90,12 +94,18 @@ module _ (t : Ancestry) (n p : Node) (forest : IsForest t) (known-n : knows t n 
   at_root : (q a : Node) → a ≡ q → parent_of t q ≡ None → Longer based q (a ∷ [])
   at_root q a e h =
       ⊎_elim
-      (λ yes. record { more = line t p; is = subst (λ z. IsLine based z (a ∷ line t p)) (sym (same_true q n yes)) (subst (λ z. IsLine based n (z ∷ line t p)) (sym (e ∙ same_true q n yes)) based_line) })
+      (λ yes. record {
+        more = line t p;
+        is =
+            subst (λ z. IsLine based z (a ∷ line t p)) (sym (same_true q n yes))
+            (subst (λ z. IsLine based n (z ∷ line t p)) (sym (e ∙ same_true q n yes)) based_line);
+      })
       (λ other. record { more = []; is = (e, parent_others t n (Some p) q other ∙ h) })
       (cases_Bool (same_node q n))
 
   has_parent : (q r : Node) → parent_of t q ≡ Some r → same_node q n ≡ false
-  has_parent q r h = ⊎_elim (λ yes. absurd (cc (ap (parent_of t) (same_true q n yes), h, root))) (λ other. other) (cases_Bool (same_node q n))
+  has_parent q r h = ⊎_elim (λ yes. absurd (cc (ap (parent_of t) (same_true q n yes), h, root))) (λ other. other)
+      (cases_Bool (same_node q n))
 
   -- each line goes on at most
   pub longer : (q : Node) (ns : List Node) → IsLine t q ns → Longer based q ns

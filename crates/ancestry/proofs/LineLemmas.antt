@@ -1,6 +1,7 @@
 -- Lines: there is one from each node, its nodes differ, and it is no longer than there are known
 -- nodes, but for an unknown node's.
-use Rattle.std.proofs.Common.{◌≡◌, ℕ, ◌+◌, ◌≤◌, ◌<◌, zero, suc, true, false, ◌||◌, List, [], ◌∷◌, length, drop, Option, Some, None, is_some, refl, sym, ap, ◌∙◌, subst, ⊎_elim, arith}
+use Rattle.std.proofs.Common.{◌≡◌, ℕ, ◌+◌, ◌≤◌, ◌<◌, zero, suc, true, false, ◌||◌, List, [], ◌∷◌, length, drop, Option, Some}
+use Rattle.std.proofs.Common.{None, is_some, refl, sym, ap, ◌∙◌, subst, ⊎_elim, arith}
 use Rattle.std.proofs.lemmas.Bool.{cases_Bool, false≢true, or_left, or_parts}
 use Rattle.std.proofs.lemmas.Map.Steps.{length-le_from_keys}
 use Rattle.std.specs.Cmp.{eq_by_cmp_equiv}
@@ -80,10 +81,12 @@ rest_from t n m (a ∷ p ∷ more) h g =
 
 -- ---- the nodes of a line differ
 
-pub not_above_itself : (t : Ancestry) (n a p : Node) (more : List Node) → IsLine t n (a ∷ p ∷ more) → has_node (p ∷ more) n ≡ false
+pub not_above_itself : (t : Ancestry) (n a p : Node) (more : List Node) → IsLine t n (a ∷ p ∷ more)
+    → has_node (p ∷ more) n ≡ false
 not_above_itself t n a p more h =
     ⊎_elim
-    (λ yes. let r = rest_from t p n (p ∷ more) h.2 yes in absurd (omega (arith, r.short, ap length (one_line_from t n r.rest (a ∷ p ∷ more) r.is h))))
+    (λ yes. let r = rest_from t p n (p ∷ more) h.2 yes in
+    absurd (omega (arith, r.short, ap length (one_line_from t n r.rest (a ∷ p ∷ more) r.is h))))
     (λ no. no)
     (cases_Bool (has_node (p ∷ more) n))
 
@@ -95,15 +98,19 @@ pub line_distinct : (t : Ancestry) (n : Node) (ns : List Node) → IsLine t n ns
 unfolding IsDistinct
 line_distinct t n [] h = absurd h
 line_distinct t n (a ∷ []) h = (tt, tt)
-line_distinct t n (a ∷ p ∷ more) h =
-    (none_is a (p ∷ more) (subst (λ z. has_node (p ∷ more) z ≡ false) (sym h.0) (not_above_itself t n a p more h)), line_distinct t p (p ∷ more) h.2)
+line_distinct t n (a ∷ p ∷ more) h = (
+  none_is a (p ∷ more) (subst (λ z. has_node (p ∷ more) z ≡ false) (sym h.0) (not_above_itself t n a p more h)),
+  line_distinct t p (p ∷ more) h.2,
+)
 
 -- ---- the nodes of a known node's line are known
 
-pub line_known : (t : Ancestry) → ((n p : Node) → parent_of t n ≡ Some p → knows t p ≡ true) → (n : Node) (ns : List Node) → IsLine t n ns → knows t n ≡ true
+pub line_known : (t : Ancestry) → ((n p : Node) → parent_of t n ≡ Some p → knows t p ≡ true) → (n : Node) (ns : List Node)
+    → IsLine t n ns → knows t n ≡ true
     → (q : Node) → has_node ns q ≡ true → knows t q ≡ true
 line_known t parents n [] h k q g = absurd h
-line_known t parents n (a ∷ []) h k q g = has_cases q a [] g (λ e. subst (λ z. knows t z ≡ true) (sym (e ∙ h.0)) k) (λ e. absurd (false≢true e))
+line_known t parents n (a ∷ []) h k q g =
+    has_cases q a [] g (λ e. subst (λ z. knows t z ≡ true) (sym (e ∙ h.0)) k) (λ e. absurd (false≢true e))
 line_known t parents n (a ∷ p ∷ more) h k q g =
     has_cases q a (p ∷ more) g
     (λ e. subst (λ z. knows t z ≡ true) (sym (e ∙ h.0)) k)
@@ -118,7 +125,8 @@ unknown_has_none t n h = of_known (known_at t n) h
     of_known None h = refl
     of_known (Some v) h = absurd (cc)
 
-known_length : (t : Ancestry) → ((n p : Node) → parent_of t n ≡ Some p → knows t p ≡ true) → (n : Node) (ns : List Node) → IsLine t n ns → knows t n ≡ true → length ns ≤ length t
+known_length : (t : Ancestry) → ((n p : Node) → parent_of t n ≡ Some p → knows t p ≡ true) → (n : Node) (ns : List Node)
+    → IsLine t n ns → knows t n ≡ true → length ns ≤ length t
 known_length t parents n ns h k =
     length-le_from_keys (eq_by_cmp_equiv node_cmp_total) ns t (line_distinct t n ns h)
     (λ q g. line_known t parents n ns h k q (sym (same_tests q ns) ∙ g))
@@ -132,7 +140,8 @@ root_length t n [] h e = absurd h
 root_length t n (a ∷ []) h e = omega arith
 root_length t n (a ∷ p ∷ more) h e = absurd (cc (h.1, e))
 
-pub line_length : (t : Ancestry) → ((n p : Node) → parent_of t n ≡ Some p → knows t p ≡ true) → (n : Node) (ns : List Node) → IsLine t n ns → length ns ≤ length t + 1
+pub line_length : (t : Ancestry) → ((n p : Node) → parent_of t n ≡ Some p → knows t p ≡ true) → (n : Node) (ns : List Node)
+    → IsLine t n ns → length ns ≤ length t + 1
 line_length t parents n ns h =
     ⊎_elim
     (λ yes. omega (arith, known_length t parents n ns h yes))
@@ -140,7 +149,8 @@ line_length t parents n ns h =
     (cases_Bool (knows t n))
 
 -- so many steps are enough for it
-pub enough_steps : (steps : ℕ) (t : Ancestry) (n : Node) (ns : List Node) → IsLine t n ns → length ns ≤ steps + 1 → line_within steps t n ≡ ns
+pub enough_steps : (steps : ℕ) (t : Ancestry) (n : Node) (ns : List Node) → IsLine t n ns → length ns ≤ steps + 1
+    → line_within steps t n ≡ ns
 enough_steps steps t n [] h l = absurd h
 enough_steps zero t n (a ∷ []) h l = ap (λ z. z ∷ []) (sym h.0)
 enough_steps zero t n (a ∷ p ∷ more) h l = absurd (omega arith)
@@ -156,7 +166,8 @@ IsForest-from t ascending valid parents lines = record {
   ascending = ascending;
   valid = valid;
   parents = parents;
-  lines = λ n. subst (IsLine t n) (sym (enough_steps (length t) t n (lines n).0 (lines n).1 (line_length t parents n (lines n).0 (lines n).1))) (lines n).1;
+  lines = λ n. subst (IsLine t n)
+      (sym (enough_steps (length t) t n (lines n).0 (lines n).1 (line_length t parents n (lines n).0 (lines n).1))) (lines n).1;
 }
 
 -- ---- one step up a line
@@ -165,9 +176,11 @@ pub line_up : (t : Ancestry) (n p : Node) → IsForest t → parent_of t n ≡ S
 line_up t n p forest e = line_step t n forest ∙ ap (λ o. n ∷ line_above (line t) o) e
 
 pub here_in_line : (t : Ancestry) (n q : Node) → IsForest t → same_node q n ≡ true → has_node (line t n) q ≡ true
-here_in_line t n q forest h = ap (λ ns. has_node ns q) (line_step t n forest) ∙ or_left (same_node q n) (has_node (line_above (line t) (parent_of t n)) q) h
+here_in_line t n q forest h =
+    ap (λ ns. has_node ns q) (line_step t n forest) ∙ or_left (same_node q n) (has_node (line_above (line t) (parent_of t n)) q) h
 
-pub up_in_line : (t : Ancestry) (n p q : Node) → IsForest t → parent_of t n ≡ Some p → same_node q n ≡ false → has_node (line t n) q ≡ has_node (line t p) q
+pub up_in_line : (t : Ancestry) (n p q : Node) → IsForest t → parent_of t n ≡ Some p → same_node q n ≡ false
+    → has_node (line t n) q ≡ has_node (line t p) q
 up_in_line t n p q forest e h = ap (λ ns. has_node ns q) (line_up t n p forest e) ∙ ap (λ b. b || has_node (line t p) q) h
 
 pub shorter_up : (t : Ancestry) (n p : Node) → IsForest t → parent_of t n ≡ Some p → length (line t p) < length (line t n)

@@ -1,5 +1,6 @@
 -- Nodes are told apart by their texts, in lists of nodes and in an ancestry.
-use Rattle.std.proofs.Common.{◌≡◌, true, false, cond, List, [], ◌∷◌, Option, Some, Decides, Ordering, Less, Equal, Greater, refl, sym, ap, ◌∙◌, subst, ⊎_elim}
+use Rattle.std.proofs.Common.{◌≡◌, true, false, cond, List, [], ◌∷◌, Option, Some, Decides, Ordering, Less, Equal, Greater, refl}
+use Rattle.std.proofs.Common.{sym, ap, ◌∙◌, subst, ⊎_elim}
 use Rattle.std.proofs.lemmas.Bool.{or_left, or_right, or_cases}
 use Rattle.std.proofs.lemmas.Bool.Decides.{Decides-and, Decides-like}
 use Rattle.std.specs.BTreeMap.{insert_entry}
@@ -11,7 +12,8 @@ use Rattle.ancestry.specs.Trees.{Ancestry, has_node, known_at}
 
 same_decides : (a b : Node) → Decides (same_node a b) (a ≡ b)
 same_decides a b =
-    Decides-like _ (λ e i. record { source = e.0 i; version = e.1 i }) (λ e. (ap (λ n. n.source) e, ap (λ n. n.version) e)) (Decides-and _ _ (bytes_decides a.source b.source) (bytes_decides a.version b.version))
+    Decides-like _ (λ e i. record { source = e.0 i; version = e.1 i }) (λ e. (ap (λ n. n.source) e, ap (λ n. n.version) e))
+    (Decides-and _ _ (bytes_decides a.source b.source) (bytes_decides a.version b.version))
 
 pub same_true : (a b : Node) → same_node a b ≡ true → a ≡ b
 same_true a b = (same_decides a b).0
@@ -37,7 +39,8 @@ has_head n nodes = or_left (same_node n n) (has_node nodes n) (same_itself n)
 pub has_tail : (n m : Node) (nodes : List Node) → has_node nodes n ≡ true → has_node (m ∷ nodes) n ≡ true
 has_tail n m nodes h = or_right (same_node n m) (has_node nodes n) h
 
-pub has_cases : {P : Type 0} (n m : Node) (nodes : List Node) → has_node (m ∷ nodes) n ≡ true → (n ≡ m → P) → (has_node nodes n ≡ true → P) → P
+pub has_cases : {P : Type 0} (n m : Node) (nodes : List Node) → has_node (m ∷ nodes) n ≡ true → (n ≡ m → P)
+    → (has_node nodes n ≡ true → P) → P
 has_cases n m nodes h f g = ⊎_elim (λ e. f (same_true n m e)) g (or_cases (same_node n m) (has_node nodes n) h)
 
 -- ---- what is known of a node after one is put in
@@ -61,16 +64,21 @@ known_put (e ∷ t) n v = by_order n v e t (node_cmp n e.0) refl (known_put t n 
         → known_at (insert_entry node_cmp t n v) n ≡ Some v → known_at (insert_entry node_cmp (e ∷ t) n v) n ≡ Some v
     by_order n v e t Less h again = ap (λ u. known_at u n) (put_step n v e t Less h) ∙ at_first n v (e ∷ t)
     by_order n v e t Equal h again =
-        ap (λ u. known_at u n) (put_step n v e t Equal h) ∙ ap (λ m. known_at ((m, v) ∷ t) n) (sym (ties_node n e.0 h)) ∙ at_first n v t
+        ap (λ u. known_at u n) (put_step n v e t Equal h) ∙ ap (λ m. known_at ((m, v) ∷ t) n) (sym (ties_node n e.0 h))
+        ∙ at_first n v t
     by_order n v e t Greater h again =
-        ap (λ u. known_at u n) (put_step n v e t Greater h) ∙ past_first n e.0 e.1 (insert_entry node_cmp t n v) (sym (ties_same n e.0) ∙ ap is_eq h) ∙ again
+        ap (λ u. known_at u n) (put_step n v e t Greater h)
+        ∙ past_first n e.0 e.1 (insert_entry node_cmp t n v) (sym (ties_same n e.0) ∙ ap is_eq h) ∙ again
 
-pub known_others : (t : Ancestry) (n : Node) (v : Option Node) (q : Node) → same_node q n ≡ false → known_at (insert_entry node_cmp t n v) q ≡ known_at t q
+pub known_others : (t : Ancestry) (n : Node) (v : Option Node) (q : Node) → same_node q n ≡ false
+    → known_at (insert_entry node_cmp t n v) q ≡ known_at t q
 known_others [] n v q apart = past_first q n v [] apart
 known_others (e ∷ t) n v q apart = by_order n v q e t apart (node_cmp n e.0) refl (known_others t n v q apart)
   where
-    by_order : (n : Node) (v : Option Node) (q : Node) (e : Node × Option Node) (t : Ancestry) → same_node q n ≡ false → (r : Ordering) → node_cmp n e.0 ≡ r
-        → known_at (insert_entry node_cmp t n v) q ≡ known_at t q → known_at (insert_entry node_cmp (e ∷ t) n v) q ≡ known_at (e ∷ t) q
+    by_order : (n : Node) (v : Option Node) (q : Node) (e : Node × Option Node) (t : Ancestry) → same_node q n ≡ false
+        → (r : Ordering) → node_cmp n e.0 ≡ r
+        → known_at (insert_entry node_cmp t n v) q ≡ known_at t q
+        → known_at (insert_entry node_cmp (e ∷ t) n v) q ≡ known_at (e ∷ t) q
     by_order n v q e t apart Less h again = ap (λ u. known_at u q) (put_step n v e t Less h) ∙ past_first q n v (e ∷ t) apart
     by_order n v q e t apart Equal h again =
         let apart-e : same_node q e.0 ≡ false = subst (λ m. same_node q m ≡ false) (ties_node n e.0 h) apart in

@@ -1,5 +1,6 @@
 -- Where a text gives a node, and which.
-use Rattle.std.proofs.Common.{◌≡◌, ◌↔◌, ℕ, ◌+◌, ◌<◌, Bool, true, false, not, ◌||◌, List, [], ◌∷◌, length, cond, refl, ap, sym, ◌∙◌, inl, inr, arith, nat_lt, lit<, Bor}
+use Rattle.std.proofs.Common.{◌≡◌, ◌↔◌, ℕ, ◌+◌, ◌<◌, Bool, true, false, not, ◌||◌, List, [], ◌∷◌, length, cond, refl, ap, sym}
+use Rattle.std.proofs.Common.{◌∙◌, inl, inr, arith, nat_lt, lit<, Bor}
 use Rattle.std.specs.Prelude.{Option, Some, None, is_none, is_some, if◌then◌else◌}
 use Rattle.std.specs.Bool.{then_some}
 use Rattle.std.specs.List.{list_any, before_first, after_first, position_or_len}
@@ -17,13 +18,15 @@ use Rattle.debver.proofs.CutLaws.{parts_exactly}
 use Rattle.ancestry.specs.Nodes.{Node, node, is_slash, node_of, node_of_text, node_at}
 
 -- a text with a slash gives the node of what precedes the first one and of what follows it
-pub node_at_slash : (text s v : List ℕ) → list_any is_slash text ≡ true → s ≡ before_first is_slash text → v ≡ after_first is_slash text → node_of_text text ≡ node_of s v
+pub node_at_slash : (text s v : List ℕ) → list_any is_slash text ≡ true → s ≡ before_first is_slash text
+    → v ≡ after_first is_slash text → node_of_text text ≡ node_of s v
 node_at_slash text s v h e f =
     ap (λ b. if b then node_of (before_first is_slash text) (after_first is_slash text) else None) h
     ∙ ap (λ x. node_of x (after_first is_slash text)) (sym e) ∙ ap (node_of s) (sym f)
 
 -- a word with a slash means the node that it says
-pub word_with_slash : (name word s v : List ℕ) → is_none (name_fault name) ≡ true → list_any is_slash word ≡ true → s ≡ before_first is_slash word → v ≡ after_first is_slash word → node_at name word ≡ node_of s v
+pub word_with_slash : (name word s v : List ℕ) → is_none (name_fault name) ≡ true → list_any is_slash word ≡ true
+    → s ≡ before_first is_slash word → v ≡ after_first is_slash word → node_at name word ≡ node_of s v
 word_with_slash name word s v named h e f =
     ap (λ b. if b then (if list_any is_slash word then node_of_text word else node_of name word) else None) named
     ∙ ap (λ b. if b then node_of_text word else node_of name word) h ∙ node_at_slash word s v h e f
@@ -51,7 +54,8 @@ none_within p (x ∷ xs) h =
     ]
 
 -- a text is cut where it has a slash
-pub cut_at_slash : (text : List ℕ) (r : Option (Bor (List ℕ) × Bor (List ℕ))) → IsSplitOnceResult 47 text r → is_some r ≡ list_any is_slash text
+pub cut_at_slash : (text : List ℕ) (r : Option (Bor (List ℕ) × Bor (List ℕ))) → IsSplitOnceResult 47 text r
+    → is_some r ≡ list_any is_slash text
 cut_at_slash text None h = sym (none_within is_slash text (split_once_first 47 text None h (lit< tt)))
 cut_at_slash text (Some x) h = sym (any_within is_slash text ((split_once_first 47 text (Some x) h (lit< tt)).0))
 
@@ -71,7 +75,8 @@ name_right : (s : List ℕ) → name_fault s ≡ None → IsName s
 name_right s h =
     let a = neither _ _ h in
     let b = neither _ _ a.1 in
-    name_is s (ltb-false (length s) 2 (untested _ _ a.0)) (unmapped BadByte (wrong_in_name s) b.0) (ltb-false 100 (length s) (untested _ _ b.1))
+    name_is s (ltb-false (length s) 2 (untested _ _ a.0)) (unmapped BadByte (wrong_in_name s) b.0)
+    (ltb-false 100 (length s) (untested _ _ b.1))
 
 name_faultless : (s : List ℕ) → IsName s → name_fault s ≡ None
 name_faultless s name =

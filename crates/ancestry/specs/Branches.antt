@@ -1,5 +1,6 @@
 -- Branches: lists of nodes, each based on the next. This project's own rule.
-use Rattle.std.specs.Prelude.{ℕ, ◌+◌, ◌==◌, ◌≡◌, ◌||◌, ⊤, Bool, true, false, nat_lt, List, [], ◌∷◌, length, take, slice_get, Option, Some, None, is_some, All, Result, Ok, Err, if◌then◌else◌}
+use Rattle.std.specs.Prelude.{ℕ, ◌+◌, ◌==◌, ◌≡◌, ◌||◌, ⊤, Bool, true, false, nat_lt, List, [], ◌∷◌, length, take, slice_get}
+use Rattle.std.specs.Prelude.{Option, Some, None, is_some, All, Result, Ok, Err, if◌then◌else◌}
 use Rattle.std.specs.List.{find, range_with_len}
 use Rattle.std.specs.Option.{option_map_or}
 use Rattle.std.specs.BTreeMap.{insert_entry}

@@ -8,10 +8,12 @@ use Rattle.debver.proofs.OrderLaws.{total_cmp_total, total_eq}
 use Rattle.ancestry.specs.Nodes.{Node, same_node, node_cmp}
 
 pub same_node_equiv : IsEquivalence same_node
-same_node_equiv = and_equiv (on_equiv (λ (n : Node). n.source) nat_list_eq_equiv) (on_equiv (λ (n : Node). n.version) nat_list_eq_equiv)
+same_node_equiv = and_equiv (on_equiv (λ (n : Node). n.source) nat_list_eq_equiv)
+    (on_equiv (λ (n : Node). n.version) nat_list_eq_equiv)
 
 pub node_cmp_total : IsTotalOrder node_cmp
-node_cmp_total = then_total (on_total (λ (n : Node). n.source) nat_list_cmp_total) (on_total (λ (n : Node). n.version) total_cmp_total)
+node_cmp_total = then_total (on_total (λ (n : Node). n.source) nat_list_cmp_total)
+    (on_total (λ (n : Node). n.version) total_cmp_total)
 
 -- nodes compare `Equal` exactly where they are equal
 pub node_ties : (a b : Node) → same_node a b ≡ eq_by_cmp node_cmp a b

@@ -1,5 +1,6 @@
 -- Which node is based on which. This project's own rule.
-use Rattle.std.specs.Prelude.{ℕ, suc, zero, ◌≡◌, ◌&&◌, Bool, true, false, not, List, [], ◌∷◌, length, drop, filter, Option, Some, None, is_some}
+use Rattle.std.specs.Prelude.{ℕ, suc, zero, ◌≡◌, ◌&&◌, Bool, true, false, not, List, [], ◌∷◌, length, drop, filter, Option, Some}
+use Rattle.std.specs.Prelude.{None, is_some}
 use Rattle.std.specs.List.{list_any}
 use Rattle.std.specs.Option.{option_flatten, option_map_or}
 use Rattle.std.specs.List.Sorted.{IsStrictlySortedBy}

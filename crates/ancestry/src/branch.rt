@@ -1,11 +1,13 @@
 //! Branches: lists of nodes, each based on the next.
 
-ghost use Rattle.std.specs.Prelude.{◌≡◌, true, false, List, [], ◌∷◌, None, Some, Ok, Err, map, option_map, All, IfOk, OnOk, OnErr, if◌then◌else◌};
+ghost use Rattle.std.specs.Prelude.{◌≡◌, true, false, List, [], ◌∷◌, None, Some, Ok, Err, map, option_map, All, IfOk, OnOk};
+ghost use Rattle.std.specs.Prelude.{OnErr, if◌then◌else◌};
 ghost use Rattle.std.specs.List.Sorted.{IsStrictlySortedBy};
 ghost use Rattle.std.specs.Map.{keys_of};
 ghost use Rattle.ancestry.specs.Nodes.{Node, same_node, node_cmp};
 ghost use Rattle.ancestry.specs.Trees.{Ancestry, has_node, known_at, knows, parent_of, line, is_ancestor, IsForest};
-ghost use Rattle.ancestry.specs.Branches.{learn, learn_all, with_parent, or_conflict, base_on, base_all, is_repeat, first_repeat, branched, IsBranched, TakesMemory, AreBased};
+ghost use Rattle.ancestry.specs.Branches.{learn, learn_all, with_parent, or_conflict, base_on, base_all, is_repeat, first_repeat};
+ghost use Rattle.ancestry.specs.Branches.{branched, IsBranched, TakesMemory, AreBased};
 ghost use Rattle.ancestry.specs.Changes.{Makes, Extends, past_of};
 ghost use Rattle.ancestry.specs.declared.fault.BranchFault.TheVariants.{Memory};
 
@@ -49,7 +51,8 @@ fn first_repeat(nodes: &[Node]) -> Option<usize>
 // Takes a node's parent away, where the node is known.
 fn make_root(links: &mut BTreeMap<Node, Option<Node>>, node: &Node)
     ensures links { (n : Node) → known_at links.new.entries n
-        ≡ (if same_node node.now n then option_map (λ parent. None) (known_at links.old.entries n) else known_at links.old.entries n) }
+        ≡ (if same_node node.now n then option_map (λ parent. None) (known_at links.old.entries n)
+        else known_at links.old.entries n) }
     ensures ascending { IsStrictlySortedBy node_cmp (keys_of links.new.entries) }
 {
     if let Some(parent) = links.get_mut(node) {

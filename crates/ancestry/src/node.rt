@@ -7,7 +7,8 @@ ghost use Rattle.std.specs.Ordering.{as_partial_cmp};
 ghost use Rattle.debver.specs.Names.{IsName};
 ghost use Rattle.debver.specs.Cut.{IsVersion};
 ghost use Rattle.debver.specs.Versions.{total_cmp};
-ghost use Rattle.ancestry.specs.Nodes.{node, IsNode, IsRead, is_slash, node_of, node_of_text, node_at, node_text, same_node, node_cmp};
+ghost use Rattle.ancestry.specs.Nodes.{node, IsNode, IsRead, is_slash, node_of, node_of_text, node_at, node_text, same_node};
+ghost use Rattle.ancestry.specs.Nodes.{node_cmp};
 ghost use Rattle.ancestry.specs.NodeLaws.{same_node_equiv, node_cmp_total, node_ties};
 
 use crate::fault::NodeFault;

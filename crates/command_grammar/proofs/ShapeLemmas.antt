@@ -1,7 +1,8 @@
 -- Lists of another number of words are malformed.
 use Rattle.std.proofs.Common.{◌≡◌, ◌≢◌, ℕ, List, [], ◌∷◌, length, Err, refl}
 use Rattle.bug_record.specs.declared.command.Refusal.TheVariants.{Malformed}
-use Rattle.command_grammar.specs.Commands.{bug_alone, bug_and_version, bug_and_optional_version, severity_command, reassign_command}
+use Rattle.command_grammar.specs.Commands.{bug_alone, bug_and_version, bug_and_optional_version, severity_command}
+use Rattle.command_grammar.specs.Commands.{reassign_command}
 
 pub not_alone : (ws : List (List ℕ)) → length ws ≢ 1 → bug_alone ws ≡ Err Malformed
 not_alone [] h = refl

@@ -1,5 +1,6 @@
 -- What steps of tags are read from words.
-use Rattle.std.proofs.Common.{◌≡◌, ℕ, Bool, false, ◌==◌, ◌≢◌, cond, List, [], ◌∷◌, ◌++◌, Option, Some, None, Result, Ok, Err, refl, ap, sym, ◌∙◌, append_assoc}
+use Rattle.std.proofs.Common.{◌≡◌, ℕ, Bool, false, ◌==◌, ◌≢◌, cond, List, [], ◌∷◌, ◌++◌, Option, Some, None, Result, Ok, Err}
+use Rattle.std.proofs.Common.{refl, ap, sym, ◌∙◌, append_assoc}
 use Rattle.std.proofs.lemmas.Bool.{cond-false, ne_eqb}
 use Rattle.bug_record.specs.declared.command.TagStep.{TagStep}
 use Rattle.bug_record.specs.declared.command.Refusal.{Refusal}
@@ -12,28 +13,41 @@ use Rattle.command_grammar.specs.Commands.{and_read, sign_and_tag, adds_after, w
 other : (k c : ℕ) (s : List ℕ) → ((rest : List ℕ) → (c ∷ s) ≢ k ∷ rest) → (c == k) ≡ false
 other k c s h = ne_eqb c k (λ e. h s (ap (λ x. x ∷ s) e))
 
-pub sign-none : (s : List ℕ) → ((rest : List ℕ) → s ≢ 43 ∷ rest) → ((rest : List ℕ) → s ≢ 45 ∷ rest) → ((rest : List ℕ) → s ≢ 61 ∷ rest) → sign_and_tag s ≡ (None, s)
+pub sign-none : (s : List ℕ) → ((rest : List ℕ) → s ≢ 43 ∷ rest) → ((rest : List ℕ) → s ≢ 45 ∷ rest)
+    → ((rest : List ℕ) → s ≢ 61 ∷ rest) → sign_and_tag s ≡ (None, s)
 sign-none [] plus minus equals = refl
 sign-none (c ∷ s) plus minus equals =
     let none : Option Sign × List ℕ = (None, c ∷ s) in
-    cond-false (c == 43) (Some Plus, s) (cond (c == 45) (Some Minus, s) (cond (c == 61) (Some Equals, s) none)) (other 43 c s plus)
+    cond-false (c == 43) (Some Plus, s) (cond (c == 45) (Some Minus, s) (cond (c == 61) (Some Equals, s) none))
+    (other 43 c s plus)
     ∙ cond-false (c == 45) (Some Minus, s) (cond (c == 61) (Some Equals, s) none) (other 45 c s minus)
     ∙ cond-false (c == 61) (Some Equals, s) none (other 61 c s equals)
 
 -- steps that are read one by one
-pub steps-behind : (w r : Result (List TagStep) Refusal) (before after : List TagStep) → and_read w (λ more. Ok (before ++ more)) ≡ Ok after → and_read r (λ more. Ok (after ++ more)) ≡ and_read (and_read w (λ steps. and_read r (λ others. Ok (steps ++ others)))) (λ more. Ok (before ++ more))
+pub steps-behind : (w r : Result (List TagStep) Refusal) (before after : List TagStep)
+    → and_read w (λ more. Ok (before ++ more)) ≡ Ok after
+    → and_read r (λ more. Ok (after ++ more))
+    ≡ and_read (and_read w (λ steps. and_read r (λ others. Ok (steps ++ others)))) (λ more. Ok (before ++ more))
 steps-behind (Err refusal) r before after h = absurd (cc)
 steps-behind (Ok steps) (Err refusal) before after h = refl
 steps-behind (Ok steps) (Ok others) before after h =
     let is : before ++ steps ≡ after = cc in
     ap (λ s. Ok (s ++ others)) (sym is) ∙ ap Ok (append_assoc before steps others)
 
-pub steps-preserved : (adds now : Bool) (rest more word tag : List ℕ) (sign : Option Sign) (before after : List TagStep) (all : Result (List TagStep) Refusal) → words_with_commas rest ≡ word ∷ words_with_commas more → sign ≡ (sign_and_tag word).0 → tag ≡ (sign_and_tag word).1 → now ≡ adds_after sign adds → and_read (word_steps now sign tag) (λ more. Ok (before ++ more)) ≡ Ok after → and_read (all_steps adds (words_with_commas rest)) (λ more. Ok (before ++ more)) ≡ all → and_read (all_steps now (words_with_commas more)) (λ more. Ok (after ++ more)) ≡ all
+pub steps-preserved : (adds now : Bool) (rest more word tag : List ℕ) (sign : Option Sign) (before after : List TagStep)
+    (all : Result (List TagStep) Refusal) → words_with_commas rest ≡ word ∷ words_with_commas more → sign ≡ (sign_and_tag word).0
+    → tag ≡ (sign_and_tag word).1 → now ≡ adds_after sign adds
+    → and_read (word_steps now sign tag) (λ more. Ok (before ++ more)) ≡ Ok after
+    → and_read (all_steps adds (words_with_commas rest)) (λ more. Ok (before ++ more)) ≡ all
+    → and_read (all_steps now (words_with_commas more)) (λ more. Ok (after ++ more)) ≡ all
 steps-preserved adds now rest more word tag sign before after all cut signed tagged is read kept =
     let same : now ≡ adds_after (sign_and_tag word).0 adds = is ∙ ap (λ s. adds_after s adds) signed in
-    let both : word_steps now sign tag ≡ word_steps now (sign_and_tag word).0 (sign_and_tag word).1 = (λ i. word_steps now (signed i) (tagged i)) in
-    let step = steps-behind (word_steps now (sign_and_tag word).0 (sign_and_tag word).1) (all_steps now (words_with_commas more)) before after (ap (λ w. and_read w (λ m. Ok (before ++ m))) (sym both) ∙ read) in
+    let both : word_steps now sign tag ≡ word_steps now (sign_and_tag word).0 (sign_and_tag word).1 =
+    (λ i. word_steps now (signed i) (tagged i)) in
+    let step = steps-behind (word_steps now (sign_and_tag word).0 (sign_and_tag word).1) (all_steps now (words_with_commas more))
+    before after (ap (λ w. and_read w (λ m. Ok (before ++ m))) (sym both) ∙ read) in
     step
-    ∙ ap (λ n. and_read (and_read (word_steps n (sign_and_tag word).0 (sign_and_tag word).1) (λ steps. and_read (all_steps n (words_with_commas more)) (λ others. Ok (steps ++ others)))) (λ m. Ok (before ++ m))) same
+    ∙ ap (λ n. and_read (and_read (word_steps n (sign_and_tag word).0 (sign_and_tag word).1)
+    (λ steps. and_read (all_steps n (words_with_commas more)) (λ others. Ok (steps ++ others)))) (λ m. Ok (before ++ m))) same
     ∙ ap (λ ws. and_read (all_steps adds ws) (λ m. Ok (before ++ m))) (sym cut)
     ∙ kept

@@ -1,5 +1,6 @@
 -- The commands, each over the text after its own word (the BTS page 'control and manipulation').
-use Rattle.std.specs.Prelude.{ℕ, nat_lt, ◌==◌, codes, if◌then◌else◌, Bool, true, false, List, [], ◌∷◌, ◌++◌, length, Option, Some, None, Result, Ok, Err}
+use Rattle.std.specs.Prelude.{ℕ, nat_lt, ◌==◌, codes, if◌then◌else◌, Bool, true, false, List, [], ◌∷◌, ◌++◌, length, Option, Some}
+use Rattle.std.specs.Prelude.{None, Result, Ok, Err}
 use Rattle.std.specs.Option.{ok_or}
 use Rattle.std.specs.Str.{bytes_eq}
 use Rattle.bug_record.specs.Severities.{severity_of}
@@ -103,7 +104,8 @@ bug_and_text arguments = and_read (read_bug (first_word arguments)) (λ bug. Ok 
 
 -- `reopen n [who or =]`
 abbrev pub reopen_command : List ℕ → Result (Command Named) Refusal
-reopen_command arguments = and_read (bug_and_text arguments) (λ both. and_read (optional_who both.1) (λ who. Ok (commands.Reopen both.0 who)))
+reopen_command arguments =
+    and_read (bug_and_text arguments) (λ both. and_read (optional_who both.1) (λ who. Ok (commands.Reopen both.0 who)))
 
 -- `n text`
 abbrev pub bug_and_some_text : List ℕ → Result (Named × List ℕ) Refusal
@@ -120,7 +122,8 @@ each_word read (word ∷ more) = and_read (read word) (λ x. and_read (each_word
 
 -- `n m ..`, two bugs or more
 abbrev pub bug_and_others : List (List ℕ) → Result (Named × List Named) Refusal
-bug_and_others (n ∷ m ∷ more) = and_read (read_bug n) (λ bug. and_read (each_word read_bug (m ∷ more)) (λ others. Ok (bug, others)))
+bug_and_others (n ∷ m ∷ more) =
+    and_read (read_bug n) (λ bug. and_read (each_word read_bug (m ∷ more)) (λ others. Ok (bug, others)))
 bug_and_others _ = Err Malformed
 
 -- The sign that a word begins with, and the tag that follows it: one `+`, `-` or `=`, or none. What
@@ -180,22 +183,30 @@ tags_command arguments =
 
 -- the command that its own word and the text after it give
 abbrev pub command_of : CommandWord → List ℕ → Result (Command Named) Refusal
-command_of command_words.Found arguments = and_read (bug_and_optional_version (words arguments)) (λ both. Ok (commands.Found both.0 both.1))
-command_of command_words.NotFound arguments = and_read (bug_and_version (words arguments)) (λ both. Ok (commands.NotFound both.0 both.1))
-command_of command_words.Fixed arguments = and_read (bug_and_version (words arguments)) (λ both. Ok (commands.Fixed both.0 both.1))
-command_of command_words.NotFixed arguments = and_read (bug_and_version (words arguments)) (λ both. Ok (commands.NotFixed both.0 both.1))
-command_of command_words.Close arguments = and_read (bug_and_optional_version (words arguments)) (λ both. Ok (commands.Close both.0 both.1))
+command_of command_words.Found arguments =
+    and_read (bug_and_optional_version (words arguments)) (λ both. Ok (commands.Found both.0 both.1))
+command_of command_words.NotFound arguments =
+    and_read (bug_and_version (words arguments)) (λ both. Ok (commands.NotFound both.0 both.1))
+command_of command_words.Fixed arguments =
+    and_read (bug_and_version (words arguments)) (λ both. Ok (commands.Fixed both.0 both.1))
+command_of command_words.NotFixed arguments =
+    and_read (bug_and_version (words arguments)) (λ both. Ok (commands.NotFixed both.0 both.1))
+command_of command_words.Close arguments =
+    and_read (bug_and_optional_version (words arguments)) (λ both. Ok (commands.Close both.0 both.1))
 command_of command_words.Reopen arguments = reopen_command arguments
 command_of command_words.Severity arguments = severity_command (words arguments)
 command_of command_words.Reassign arguments = reassign_command (words arguments)
 command_of command_words.Tags arguments = tags_command arguments
 command_of command_words.Tag arguments = tags_command arguments
 command_of command_words.Retitle arguments = and_read (bug_and_some_text arguments) (λ both. Ok (commands.Retitle both.0 both.1))
-command_of command_words.Submitter arguments = and_read (bug_and_some_who arguments) (λ both. Ok (commands.Submitter both.0 both.1))
+command_of command_words.Submitter arguments =
+    and_read (bug_and_some_who arguments) (λ both. Ok (commands.Submitter both.0 both.1))
 command_of command_words.Merge arguments = and_read (bug_and_others (words arguments)) (λ both. Ok (commands.Merge both.0 both.1))
-command_of command_words.ForceMerge arguments = and_read (bug_and_others (words arguments)) (λ both. Ok (commands.ForceMerge both.0 both.1))
+command_of command_words.ForceMerge arguments =
+    and_read (bug_and_others (words arguments)) (λ both. Ok (commands.ForceMerge both.0 both.1))
 command_of command_words.Unmerge arguments = and_read (bug_alone (words arguments)) (λ bug. Ok (commands.Unmerge bug))
-command_of command_words.Forwarded arguments = and_read (bug_and_some_text arguments) (λ both. Ok (commands.Forwarded both.0 both.1))
+command_of command_words.Forwarded arguments =
+    and_read (bug_and_some_text arguments) (λ both. Ok (commands.Forwarded both.0 both.1))
 command_of command_words.NotForwarded arguments = and_read (bug_alone (words arguments)) (λ bug. Ok (commands.NotForwarded bug))
 command_of command_words.Owner arguments = and_read (bug_and_some_who arguments) (λ both. Ok (commands.Owner both.0 both.1))
 command_of command_words.NoOwner arguments = and_read (bug_alone (words arguments)) (λ bug. Ok (commands.NoOwner bug))

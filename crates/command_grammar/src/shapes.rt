@@ -4,7 +4,8 @@ ghost use Rattle.std.specs.Prelude.{◌≡◌};
 ghost use Rattle.std.specs.Option.{ok_or};
 ghost use Rattle.line_words.specs.Words.{words};
 ghost use Rattle.command_grammar.specs.Versions.{bare_version, sourced_version, without_src};
-ghost use Rattle.command_grammar.specs.Commands.{read_bug, read_version, read_package, bug_alone, bug_and_version, bug_and_optional_version};
+ghost use Rattle.command_grammar.specs.Commands.{read_bug, read_version, read_package, bug_alone, bug_and_version};
+ghost use Rattle.command_grammar.specs.Commands.{bug_and_optional_version};
 ghost use Rattle.command_grammar.specs.Reads.{Reads};
 ghost use Rattle.bug_record.specs.declared.command.Refusal.TheVariants.{BadVersion};
 

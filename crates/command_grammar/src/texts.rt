@@ -2,7 +2,8 @@
 
 ghost use Rattle.std.specs.Prelude.{◌≡◌, MatchOption, Ok, Err};
 ghost use Rattle.bug_record.specs.declared.command.Refusal.TheVariants.{Malformed};
-ghost use Rattle.command_grammar.specs.Commands.{limited_text, who_of_text, some_text, some_who, optional_who, bug_and_text, bug_and_some_text, bug_and_some_who, reopen_command, command_of};
+ghost use Rattle.command_grammar.specs.Commands.{limited_text, who_of_text, some_text, some_who, optional_who, bug_and_text};
+ghost use Rattle.command_grammar.specs.Commands.{bug_and_some_text, bug_and_some_who, reopen_command, command_of};
 ghost use Rattle.command_grammar.specs.Reads.{Reads};
 ghost use Rattle.command_grammar.specs.declared.command_word.CommandWord.TheVariants.{Retitle, Submitter, Forwarded, Owner};
 

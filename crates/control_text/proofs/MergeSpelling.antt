@@ -15,11 +15,14 @@ bugs_plain (n ∷ ns) good = (bug-plain n good.0, bugs_plain ns good.1)
 all-back : (ns : List Named) → Each IsGoodBug ns → each_word read_bug (map bug_text ns) ≡ Ok ns
 all-back [] good = refl
 all-back (n ∷ ns) good =
-    ap (λ r. and_read {B = List Named} r (λ bug. and_read (each_word read_bug (map bug_text ns)) (λ bugs. Ok (bug ∷ bugs)))) (bug-back n good.0)
+    ap (λ r. and_read {B = List Named} r (λ bug. and_read (each_word read_bug (map bug_text ns)) (λ bugs. Ok (bug ∷ bugs))))
+    (bug-back n good.0)
     ∙ ap (λ r. and_read {B = List Named} r (λ bugs. Ok (n ∷ bugs))) (all-back ns good.1)
 
-pub bugs-back : (n : Named) (ns : List Named) → Each IsGoodBug (n ∷ ns) → 0 < length ns → bug_and_others (bug_text n ∷ map bug_text ns) ≡ Ok (n, ns)
+pub bugs-back : (n : Named) (ns : List Named) → Each IsGoodBug (n ∷ ns) → 0 < length ns
+    → bug_and_others (bug_text n ∷ map bug_text ns) ≡ Ok (n, ns)
 bugs-back n [] good others = absurd (omega arith)
 bugs-back n (m ∷ ns) good others =
-    ap (λ r. and_read {B = Named × List Named} r (λ bug. and_read (each_word read_bug (bug_text m ∷ map bug_text ns)) (λ bugs. Ok (bug, bugs)))) (bug-back n good.0)
+    ap (λ r. and_read {B = Named × List Named} r
+    (λ bug. and_read (each_word read_bug (bug_text m ∷ map bug_text ns)) (λ bugs. Ok (bug, bugs)))) (bug-back n good.0)
     ∙ ap (λ r. and_read {B = Named × List Named} r (λ bugs. Ok (n, bugs))) (all-back (m ∷ ns) good.1)

@@ -1,11 +1,13 @@
 -- Words of printed ASCII characters: they hold no blank and no control character.
-use Rattle.std.proofs.Common.{◌≡◌, ℕ, ◌^◌, ◌≤◌, ◌<◌, ◌&&◌, ◌||◌, ◌==◌, nat_le, Bool, true, false, not, List, [], ◌∷◌, ◌++◌, length, Option, Some, None, refl, ap, ◌∙◌, inl, inr, arith}
+use Rattle.std.proofs.Common.{◌≡◌, ℕ, ◌^◌, ◌≤◌, ◌<◌, ◌&&◌, ◌||◌, ◌==◌, nat_le, Bool, true, false, not, List, [], ◌∷◌, ◌++◌}
+use Rattle.std.proofs.Common.{length, Option, Some, None, refl, ap, ◌∙◌, inl, inr, arith}
 use Rattle.std.specs.List.{list_any, list_all}
 use Rattle.std.specs.Char.{is_ascii_digit, is_ascii_control}
 use Rattle.std.specs.Int.{is_in_range}
 use Rattle.std.specs.Fmt.{decimal}
 use Rattle.std.specs.Str.Parse.{digits_value}
-use Rattle.std.proofs.lemmas.Bool.{or_cases, and_parts, and_from, and_left, and_right, or_from, false_from_ne_true, leb-true, le-leb, eqb-true, ne_eqb}
+use Rattle.std.proofs.lemmas.Bool.{or_cases, and_parts, and_from, and_left, and_right, or_from, false_from_ne_true, leb-true}
+use Rattle.std.proofs.lemmas.Bool.{le-leb, eqb-true, ne_eqb}
 use Rattle.std.proofs.lemmas.List.Folds.{list_all-append}
 use Rattle.std.proofs.lemmas.Fmt.{decimal_is_IsNumeral, length-decimal-le}
 use Rattle.debver.specs.Characters.{is_digit, is_letter, is_colon, is_hyphen}
@@ -36,7 +38,8 @@ no_control c low high =
     let above : nat_le c 31 ≡ false = false_from_ne_true (nat_le c 31) (λ e. omega (arith, leb-true c 31 e)) in
     let below : nat_le 127 c ≡ false = false_from_ne_true (nat_le 127 c) (λ e. omega (arith, leb-true 127 c e)) in
     and_left (is_ascii_control c) (not (c == 9))
-    (or_from (is_in_range 0 31 c) (is_in_range 127 127 c) (and_right (nat_le 0 c) (nat_le c 31) above) (and_left (nat_le 127 c) (nat_le c 127) below))
+    (or_from (is_in_range 0 31 c) (is_in_range 127 127 c) (and_right (nat_le 0 c) (nat_le c 31) above)
+    (and_left (nat_le 127 c) (nat_le c 127) below))
 
 pub graphic-blank : (s : List ℕ) → IsGraphic s → list_any is_blank s ≡ false
 graphic-blank [] h = refl
@@ -78,7 +81,8 @@ digit : (c : ℕ) → is_digit c ≡ true → is_graphic c ≡ true
 digit c = within 48 57 c (omega arith) (omega arith)
 
 letter : (c : ℕ) → is_letter c ≡ true → is_graphic c ≡ true
-letter c = either (nat_le 65 c && nat_le c 90) (nat_le 97 c && nat_le c 122) (within 65 90 c (omega arith) (omega arith)) (within 97 122 c (omega arith) (omega arith))
+letter c = either (nat_le 65 c && nat_le c 90) (nat_le 97 c && nat_le c 122) (within 65 90 c (omega arith) (omega arith))
+    (within 97 122 c (omega arith) (omega arith))
 
 name_start : (c : ℕ) → starts_name c ≡ true → is_graphic c ≡ true
 name_start c = either (nat_le 97 c && nat_le c 122) (is_digit c) (within 97 122 c (omega arith) (omega arith)) (digit c)
@@ -86,13 +90,17 @@ name_start c = either (nat_le 97 c && nat_le c 122) (is_digit c) (within 97 122 
 name_byte : (c : ℕ) → in_name c ≡ true → is_graphic c ≡ true
 name_byte c =
     either (starts_name c || c == 43 || c == 45) (c == 46)
-    (either (starts_name c || c == 43) (c == 45) (either (starts_name c) (c == 43) (name_start c) (just 43 c (omega arith) (omega arith))) (just 45 c (omega arith) (omega arith)))
+    (either (starts_name c || c == 43) (c == 45)
+    (either (starts_name c) (c == 43) (name_start c) (just 43 c (omega arith) (omega arith)))
+    (just 45 c (omega arith) (omega arith)))
     (just 46 c (omega arith) (omega arith))
 
 revision_byte : (c : ℕ) → in_revision c ≡ true → is_graphic c ≡ true
 revision_byte c =
     either (is_digit c || is_letter c || c == 46 || c == 43) (c == 126)
-    (either (is_digit c || is_letter c || c == 46) (c == 43) (either (is_digit c || is_letter c) (c == 46) (either (is_digit c) (is_letter c) (digit c) (letter c)) (just 46 c (omega arith) (omega arith))) (just 43 c (omega arith) (omega arith)))
+    (either (is_digit c || is_letter c || c == 46) (c == 43)
+    (either (is_digit c || is_letter c) (c == 46) (either (is_digit c) (is_letter c) (digit c) (letter c))
+    (just 46 c (omega arith) (omega arith))) (just 43 c (omega arith) (omega arith)))
     (just 126 c (omega arith) (omega arith))
 
 upstream_byte : (colon : Bool) (c : ℕ) → in_upstream colon c ≡ true → is_graphic c ≡ true
@@ -119,7 +127,8 @@ some_bytes [] h = absurd (omega arith)
 some_bytes (c ∷ s) h = refl
 
 pub name-plain : (s : List ℕ) → IsName s → IsPlainWord s
-name-plain s h = let long = h.long in record { some = some_bytes s (omega arith); graphic = graphic-all in_name name_byte s h.bytes }
+name-plain s h = let long = h.long in
+    record { some = some_bytes s (omega arith); graphic = graphic-all in_name name_byte s h.bytes }
 
 some-append : (s t : List ℕ) → 0 < length t → has_bytes (s ++ t) ≡ true
 some-append [] t h = some_bytes t h
@@ -137,10 +146,12 @@ pub version-plain : (s : List ℕ) → IsVersion s → IsPlainWord s
 version-plain s h =
     let v = cut s in
     let rest = v.upstream ++ revision_text v.revision in
-    let some : has_bytes (epoch_text v.epoch ++ rest) ≡ true = has_bytes-second (epoch_text v.epoch) rest (some-first v.upstream (revision_text v.revision) h.upstream.0) in
+    let some : has_bytes (epoch_text v.epoch ++ rest) ≡ true =
+    has_bytes-second (epoch_text v.epoch) rest (some-first v.upstream (revision_text v.revision) h.upstream.0) in
     let all : IsGraphic (epoch_text v.epoch ++ rest)
     = graphic-append (epoch_text v.epoch) rest (epoch-graphic v.epoch h.epoch)
-    (graphic-append v.upstream (revision_text v.revision) (graphic-all (in_upstream _) (upstream_byte _) v.upstream h.upstream.1) (revision-graphic v.revision h.revision)) in
+    (graphic-append v.upstream (revision_text v.revision) (graphic-all (in_upstream _) (upstream_byte _) v.upstream h.upstream.1)
+    (revision-graphic v.revision h.revision)) in
     record { some = ap has_bytes h.cut.whole ∙ some; graphic = ap (list_all is_graphic) h.cut.whole ∙ all }
 
 -- what is known of a number that is written
@@ -154,7 +165,14 @@ pub written_is : (n : ℕ) → n ≤ 999999999 → IsWritten n
 written_is n most =
     let small : n < 2 ^ 64 = omega arith in
     let numeral = decimal_is_IsNumeral n small in
-    record { some = numeral.0.0; digits = own.from (decimal n) numeral.0.1; value = numeral.1; short = length-decimal-le 9 n (omega arith) (omega arith) small }
+    record {
+      some = numeral.0.0;
+      digits = own.from (decimal n) numeral.0.1;
+      value = numeral.1;
+      short =
+          length-decimal-le 9 n (omega arith) (omega arith) small;
+    }
 
 pub decimal-plain : (n : ℕ) → n ≤ 999999999 → IsPlainWord (decimal n)
-decimal-plain n most = let w = written_is n most in record { some = some_bytes (decimal n) w.some; graphic = graphic-all is_ascii_digit digit (decimal n) w.digits }
+decimal-plain n most = let w = written_is n most in
+    record { some = some_bytes (decimal n) w.some; graphic = graphic-all is_ascii_digit digit (decimal n) w.digits }

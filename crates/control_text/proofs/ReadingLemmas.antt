@@ -1,5 +1,6 @@
 -- What a line gives is well formed.
-use Rattle.std.proofs.Common.{◌≡◌, ℕ, ◌≤◌, ◌<◌, List, [], ◌∷◌, length, ◌==◌, ◌&&◌, nat_lt, true, false, Option, Result, Some, None, Ok, Err, refl, cond, sym, ◌∙◌, subst, arith, codes}
+use Rattle.std.proofs.Common.{◌≡◌, ℕ, ◌≤◌, ◌<◌, List, [], ◌∷◌, length, ◌==◌, ◌&&◌, nat_lt, true, false, Option, Result, Some}
+use Rattle.std.proofs.Common.{None, Ok, Err, refl, cond, sym, ◌∙◌, subst, arith, codes}
 use Rattle.std.specs.Prelude.{IfOk, IfSome, is_none, option_map, ⊤}
 use Rattle.std.specs.Option.{ok_or}
 use Rattle.std.specs.List.{list_any, before_first, after_first, prefix_len, position_or_len}
@@ -32,7 +33,10 @@ use Rattle.line_words.specs.Numbers.{without_hash, number_of_digits}
 use Rattle.line_words.specs.Bugs.{bug_of_text, bug_of_word, IsGoodBug}
 use Rattle.line_words.specs.Words.{words, words_with_commas, trimmed, first_word, after_word, without_first}
 use Rattle.command_grammar.specs.Versions.{bare_version, sourced_version, version_of_word, without_src, package_of_word}
-use Rattle.command_grammar.specs.Commands.{and_read, read_bug, read_version, bug_and_version, bug_and_optional_version, severity_command, read_package, reassign_command, limited_text, who_of_text, some_text, some_who, optional_who, bug_and_text, bug_and_some_text, bug_and_some_who, bug_alone, each_word, bug_and_others, some_steps, tags_command, reopen_command, command_of}
+use Rattle.command_grammar.specs.Commands.{and_read, read_bug, read_version, bug_and_version, bug_and_optional_version}
+use Rattle.command_grammar.specs.Commands.{severity_command, read_package, reassign_command, limited_text, who_of_text, some_text}
+use Rattle.command_grammar.specs.Commands.{some_who, optional_who, bug_and_text, bug_and_some_text, bug_and_some_who, bug_alone}
+use Rattle.command_grammar.specs.Commands.{each_word, bug_and_others, some_steps, tags_command, reopen_command, command_of}
 use Rattle.control_text.specs.WellFormed.{IsPlain, IsAddress, IsWellFormed}
 use Rattle.line_words.proofs.NumberLemmas.{number_of_digits-good}
 use Rattle.control_text.proofs.TextLemmas.{none-drop, trimmed-text}
@@ -41,11 +45,13 @@ ok_or-good : {A : Type 0} (o : Option A) (refusal : Refusal) (P : A → Type 0) 
 ok_or-good None refusal P h = tt
 ok_or-good (Some x) refusal P h = h
 
-and_read-good : {A B : Type 0} (r : Result A Refusal) (f : A → Result B Refusal) (P : A → Type 0) (Q : B → Type 0) → IfOk r P → ((x : A) → P x → IfOk (f x) Q) → IfOk (and_read r f) Q
+and_read-good : {A B : Type 0} (r : Result A Refusal) (f : A → Result B Refusal) (P : A → Type 0) (Q : B → Type 0) → IfOk r P
+    → ((x : A) → P x → IfOk (f x) Q) → IfOk (and_read r f) Q
 and_read-good (Err refusal) f P Q h each = tt
 and_read-good (Ok x) f P Q h each = each x h
 
-good_bug_by : (o : Option ℕ) (make : ℕ → Named) → ((n : ℕ) → o ≡ Some n → IsGoodBug (make n)) → IfSome (option_map make o) IsGoodBug
+good_bug_by : (o : Option ℕ) (make : ℕ → Named) → ((n : ℕ) → o ≡ Some n → IsGoodBug (make n))
+    → IfSome (option_map make o) IsGoodBug
 good_bug_by None make h = tt
 good_bug_by (Some n) make h = h n refl
 
@@ -81,37 +87,45 @@ bare_version-good v =
 
 sourced_version-good : (s v : List ℕ) → IfSome (sourced_version s v) IsGoodVersion
 sourced_version-good s v =
-    cond_both (is_none (name_fault s) && is_none (text_fault v)) (Some (record { source = Some s; version = v })) None (λ o. IfSome o IsGoodVersion)
+    cond_both (is_none (name_fault s) && is_none (text_fault v)) (Some (record { source = Some s; version = v })) None
+    (λ o. IfSome o IsGoodVersion)
     (λ e. let both = both_good s v e in record { source = both.0; version = both.1 }) (λ e. tt)
 
 read_version-good : (w : List ℕ) → IfOk (read_version w) IsGoodVersion
 read_version-good w =
     let some : IfSome (version_of_word w) IsGoodVersion
-    = cond_both (list_any is_slash w) (sourced_version (before_first is_slash w) (after_first is_slash w)) (bare_version w) (λ o. IfSome o IsGoodVersion)
+    = cond_both (list_any is_slash w) (sourced_version (before_first is_slash w) (after_first is_slash w)) (bare_version w)
+    (λ o. IfSome o IsGoodVersion)
     (λ e. sourced_version-good (before_first is_slash w) (after_first is_slash w)) (λ e. bare_version-good w) in
     ok_or-good (version_of_word w) BadVersion IsGoodVersion some
 
 read_package-good : (w : List ℕ) → IfOk (read_package w) IsName
 read_package-good w =
     let some : IfSome (package_of_word w) IsName
-    = cond_both (is_none (name_fault (without_src w))) (Some (without_src w)) None (λ o. IfSome o IsName) (name_good (without_src w)) (λ e. tt) in
+    = cond_both (is_none (name_fault (without_src w))) (Some (without_src w)) None (λ o. IfSome o IsName)
+    (name_good (without_src w)) (λ e. tt) in
     ok_or-good (package_of_word w) BadPackage IsName some
 
 bug_and_version-good : (ws : List (List ℕ)) → IfOk (bug_and_version ws) (λ both. IsGoodBug both.0 × IsGoodVersion both.1)
 bug_and_version-good (n ∷ v ∷ []) =
     and_read-good (read_bug n) _ IsGoodBug (λ both. IsGoodBug both.0 × IsGoodVersion both.1) (read_bug-good n) (λ bug good.
-    and_read-good (read_version v) (λ version. Ok (bug, version)) IsGoodVersion (λ both. IsGoodBug both.0 × IsGoodVersion both.1) (read_version-good v) (λ version fine. (good, fine)))
+    and_read-good (read_version v) (λ version. Ok (bug, version)) IsGoodVersion (λ both. IsGoodBug both.0 × IsGoodVersion both.1)
+    (read_version-good v) (λ version fine. (good, fine)))
 bug_and_version-good [] = tt
 bug_and_version-good (n ∷ []) = tt
 bug_and_version-good (n ∷ v ∷ w ∷ ws) = tt
 
-bug_and_optional_version-good : (ws : List (List ℕ)) → IfOk (bug_and_optional_version ws) (λ both. IsGoodBug both.0 × IfGiven IsGoodVersion both.1)
+bug_and_optional_version-good : (ws : List (List ℕ))
+    → IfOk (bug_and_optional_version ws) (λ both. IsGoodBug both.0 × IfGiven IsGoodVersion both.1)
 bug_and_optional_version-good (n ∷ []) =
-    and_read-good (read_bug n) (λ bug. Ok (bug, None)) IsGoodBug (λ both. IsGoodBug both.0 × IfGiven IsGoodVersion both.1) (read_bug-good n) (λ bug good. (good, tt))
+    and_read-good (read_bug n) (λ bug. Ok (bug, None)) IsGoodBug (λ both. IsGoodBug both.0 × IfGiven IsGoodVersion both.1)
+    (read_bug-good n) (λ bug good. (good, tt))
 bug_and_optional_version-good [] = tt
 bug_and_optional_version-good (n ∷ v ∷ []) =
-    and_read-good (read_bug n) _ IsGoodBug (λ both. IsGoodBug both.0 × IfGiven IsGoodVersion both.1) (read_bug-good n) (λ bug good.
-    and_read-good (read_version v) (λ version. Ok (bug, Some version)) IsGoodVersion (λ both. IsGoodBug both.0 × IfGiven IsGoodVersion both.1) (read_version-good v) (λ version fine. (good, fine)))
+    and_read-good (read_bug n) _ IsGoodBug (λ both. IsGoodBug both.0 × IfGiven IsGoodVersion both.1) (read_bug-good n)
+    (λ bug good.
+    and_read-good (read_version v) (λ version. Ok (bug, Some version)) IsGoodVersion
+    (λ both. IsGoodBug both.0 × IfGiven IsGoodVersion both.1) (read_version-good v) (λ version fine. (good, fine)))
 bug_and_optional_version-good (n ∷ v ∷ w ∷ ws) = tt
 
 any_severity : (o : Option Severity) → IfSome o (λ _. ⊤)
@@ -121,7 +135,8 @@ any_severity (Some severity) = tt
 severity_command-good : (ws : List (List ℕ)) → IfOk (severity_command ws) IsWellFormed
 severity_command-good (n ∷ s ∷ []) =
     and_read-good (read_bug n) _ IsGoodBug IsWellFormed (read_bug-good n) (λ bug good.
-    and_read-good (ok_or (severity_of s) BadSeverity) (λ severity. Ok (commands.Severity bug severity)) (λ _. ⊤) IsWellFormed (ok_or-good (severity_of s) BadSeverity (λ _. ⊤) (any_severity (severity_of s))) (λ severity _.
+    and_read-good (ok_or (severity_of s) BadSeverity) (λ severity. Ok (commands.Severity bug severity)) (λ _. ⊤) IsWellFormed
+    (ok_or-good (severity_of s) BadSeverity (λ _. ⊤) (any_severity (severity_of s))) (λ severity _.
     record { bugs = (good, tt); parts = tt; spellable = tt }))
 severity_command-good [] = tt
 severity_command-good (n ∷ []) = tt
@@ -130,12 +145,14 @@ severity_command-good (n ∷ s ∷ w ∷ ws) = tt
 reassign_command-good : (ws : List (List ℕ)) → IfOk (reassign_command ws) IsWellFormed
 reassign_command-good (n ∷ p ∷ []) =
     and_read-good (read_bug n) _ IsGoodBug IsWellFormed (read_bug-good n) (λ bug good.
-    and_read-good (read_package p) (λ name. Ok (commands.Reassign bug name None)) IsName IsWellFormed (read_package-good p) (λ name named.
+    and_read-good (read_package p) (λ name. Ok (commands.Reassign bug name None)) IsName IsWellFormed (read_package-good p)
+    (λ name named.
     record { bugs = (good, tt); parts = (named, tt); spellable = tt }))
 reassign_command-good (n ∷ p ∷ v ∷ []) =
     and_read-good (read_bug n) _ IsGoodBug IsWellFormed (read_bug-good n) (λ bug good.
     and_read-good (read_package p) _ IsName IsWellFormed (read_package-good p) (λ name named.
-    and_read-good (read_version v) (λ version. Ok (commands.Reassign bug name (Some version))) IsGoodVersion IsWellFormed (read_version-good v) (λ version fine.
+    and_read-good (read_version v) (λ version. Ok (commands.Reassign bug name (Some version))) IsGoodVersion IsWellFormed
+    (read_version-good v) (λ version fine.
     record { bugs = (good, tt); parts = (named, fine); spellable = tt })))
 reassign_command-good [] = tt
 reassign_command-good (n ∷ []) = tt
@@ -153,14 +170,17 @@ abbrev IsGoodGiven : (List ℕ → Type 0) → Who → Type 0
 IsGoodGiven Q Sender = ⊤
 IsGoodGiven Q (Given text) = IsText text × (¬ (text ≡ codes "!")) × Q text
 
-limited-good : {A : Type 0} (text : List ℕ) (f : List ℕ → A) (Q : A → Type 0) → (length text ≤ 200 → Q (f text)) → IfOk (and_read (limited_text text) (λ limited. Ok (f limited))) Q
+limited-good : {A : Type 0} (text : List ℕ) (f : List ℕ → A) (Q : A → Type 0) → (length text ≤ 200 → Q (f text))
+    → IfOk (and_read (limited_text text) (λ limited. Ok (f limited))) Q
 limited-good {A} text f Q good =
     cond_both (nat_lt 200 (length text)) (Err TooLong) (Ok text) (λ r. IfOk (and_read {B = A} r (λ limited. Ok (f limited))) Q)
     (λ e. tt) (λ e. good (ltb-false 200 (length text) e))
 
-who_of_text-good : (Q : List ℕ → Type 0) (text : List ℕ) → Q text → (length text ≤ 200 → IsText text) → IfOk (who_of_text text) (IsGoodGiven Q)
+who_of_text-good : (Q : List ℕ → Type 0) (text : List ℕ) → Q text → (length text ≤ 200 → IsText text)
+    → IfOk (who_of_text text) (IsGoodGiven Q)
 who_of_text-good Q text more good =
-    cond_both (bytes_eq text (codes "!")) (Ok Sender) (and_read (limited_text text) (λ limited. Ok (Given limited))) (λ r. IfOk r (IsGoodGiven Q)) (λ e. tt) (λ e.
+    cond_both (bytes_eq text (codes "!")) (Ok Sender) (and_read (limited_text text) (λ limited. Ok (Given limited)))
+    (λ r. IfOk r (IsGoodGiven Q)) (λ e. tt) (λ e.
     limited-good text Given (IsGoodGiven Q) (λ short. (good short, unequal text (codes "!") e, more)))
 
 plain_who : (who : Who) → IsGoodGiven (λ text. ¬ (text ≡ codes "=")) who → IsGoodWho (Some who)
@@ -171,8 +191,10 @@ optional_who-good : (text : List ℕ) → (1 ≤ length text → length text ≤
 optional_who-good [] good = (tt, tt)
 optional_who-good (c ∷ text) good =
     let Q : List ℕ → Type 0 = λ t. ¬ (t ≡ codes "=") in
-    cond_both (bytes_eq (c ∷ text) (codes "=")) (Ok None) (and_read (who_of_text (c ∷ text)) (λ who. Ok (Some who))) (λ r. IfOk r IsGoodWho) (λ e. (tt, tt)) (λ e.
-    and_read-good (who_of_text (c ∷ text)) (λ who. Ok (Some who)) (IsGoodGiven Q) IsGoodWho (who_of_text-good Q (c ∷ text) (unequal (c ∷ text) (codes "=") e) (good (omega arith))) plain_who)
+    cond_both (bytes_eq (c ∷ text) (codes "=")) (Ok None) (and_read (who_of_text (c ∷ text)) (λ who. Ok (Some who)))
+    (λ r. IfOk r IsGoodWho) (λ e. (tt, tt)) (λ e.
+    and_read-good (who_of_text (c ∷ text)) (λ who. Ok (Some who)) (IsGoodGiven Q) IsGoodWho
+    (who_of_text-good Q (c ∷ text) (unequal (c ∷ text) (codes "=") e) (good (omega arith))) plain_who)
 
 pub clean_after_word : (text : List ℕ) → list_any is_control text ≡ false → list_any is_control (after_word text) ≡ false
 clean_after_word text clean =
@@ -183,12 +205,15 @@ clean_after_word text clean =
 abbrev IsTextWithin : List ℕ → Type 0
 IsTextWithin text = 1 ≤ length text → length text ≤ 200 → IsText text
 
-bug_and_text-good : (arguments : List ℕ) → list_any is_control arguments ≡ false → IfOk (bug_and_text arguments) (λ both. IsGoodBug both.0 × IsTextWithin both.1)
+bug_and_text-good : (arguments : List ℕ) → list_any is_control arguments ≡ false
+    → IfOk (bug_and_text arguments) (λ both. IsGoodBug both.0 × IsTextWithin both.1)
 bug_and_text-good arguments clean =
     let text = trimmed (after_word arguments) in
-    let good : IsTextWithin text = λ least most. trimmed-text (after_word arguments) least most (clean_after_word arguments clean) in
+    let good : IsTextWithin text =
+    λ least most. trimmed-text (after_word arguments) least most (clean_after_word arguments clean) in
     let of_bug : Named → Result (Named × List ℕ) Refusal = λ bug. Ok (bug, text) in
-    and_read-good (read_bug (first_word arguments)) of_bug IsGoodBug (λ both. IsGoodBug both.0 × IsTextWithin both.1) (read_bug-good (first_word arguments)) (λ bug fine. (fine, good))
+    and_read-good (read_bug (first_word arguments)) of_bug IsGoodBug (λ both. IsGoodBug both.0 × IsTextWithin both.1)
+    (read_bug-good (first_word arguments)) (λ bug fine. (fine, good))
 
 -- a text, or somebody, who has to be given
 some_text-good : (text : List ℕ) → IsTextWithin text → IfOk (some_text text) IsText
@@ -206,21 +231,29 @@ address_who (Given text) h = (h.0, h.1)
 
 some_who-good : (text : List ℕ) → IsTextWithin text → IfOk (some_who text) IsGoodAddress
 some_who-good [] good = tt
-some_who-good (c ∷ text) good = if_ok (who_of_text (c ∷ text)) (IsGoodGiven (λ t. ⊤)) IsGoodAddress (who_of_text-good (λ t. ⊤) (c ∷ text) tt (good (omega arith))) address_who
+some_who-good (c ∷ text) good =
+    if_ok (who_of_text (c ∷ text)) (IsGoodGiven (λ t. ⊤)) IsGoodAddress
+    (who_of_text-good (λ t. ⊤) (c ∷ text) tt (good (omega arith))) address_who
   where
     if_ok : (r : Result Who Refusal) (P Q : Who → Type 0) → IfOk r P → ((who : Who) → P who → Q who) → IfOk r Q
     if_ok (Ok who) P Q h each = each who h
     if_ok (Err refusal) P Q h each = tt
 
-bug_and_some_text-good : (arguments : List ℕ) → list_any is_control arguments ≡ false → IfOk (bug_and_some_text arguments) (λ both. IsGoodBug both.0 × IsText both.1)
+bug_and_some_text-good : (arguments : List ℕ) → list_any is_control arguments ≡ false
+    → IfOk (bug_and_some_text arguments) (λ both. IsGoodBug both.0 × IsText both.1)
 bug_and_some_text-good arguments clean =
-    and_read-good (bug_and_text arguments) _ (λ both. IsGoodBug both.0 × IsTextWithin both.1) (λ both. IsGoodBug both.0 × IsText both.1) (bug_and_text-good arguments clean) (λ both good.
-    and_read-good (some_text both.1) (λ text. Ok (both.0, text)) IsText (λ read. IsGoodBug read.0 × IsText read.1) (some_text-good both.1 good.1) (λ text fine. (good.0, fine)))
+    and_read-good (bug_and_text arguments) _ (λ both. IsGoodBug both.0 × IsTextWithin both.1)
+    (λ both. IsGoodBug both.0 × IsText both.1) (bug_and_text-good arguments clean) (λ both good.
+    and_read-good (some_text both.1) (λ text. Ok (both.0, text)) IsText (λ read. IsGoodBug read.0 × IsText read.1)
+    (some_text-good both.1 good.1) (λ text fine. (good.0, fine)))
 
-bug_and_some_who-good : (arguments : List ℕ) → list_any is_control arguments ≡ false → IfOk (bug_and_some_who arguments) (λ both. IsGoodBug both.0 × IsGoodAddress both.1)
+bug_and_some_who-good : (arguments : List ℕ) → list_any is_control arguments ≡ false
+    → IfOk (bug_and_some_who arguments) (λ both. IsGoodBug both.0 × IsGoodAddress both.1)
 bug_and_some_who-good arguments clean =
-    and_read-good (bug_and_text arguments) _ (λ both. IsGoodBug both.0 × IsTextWithin both.1) (λ both. IsGoodBug both.0 × IsGoodAddress both.1) (bug_and_text-good arguments clean) (λ both good.
-    and_read-good (some_who both.1) (λ who. Ok (both.0, who)) IsGoodAddress (λ read. IsGoodBug read.0 × IsGoodAddress read.1) (some_who-good both.1 good.1) (λ who fine. (good.0, fine)))
+    and_read-good (bug_and_text arguments) _ (λ both. IsGoodBug both.0 × IsTextWithin both.1)
+    (λ both. IsGoodBug both.0 × IsGoodAddress both.1) (bug_and_text-good arguments clean) (λ both good.
+    and_read-good (some_who both.1) (λ who. Ok (both.0, who)) IsGoodAddress (λ read. IsGoodBug read.0 × IsGoodAddress read.1)
+    (some_who-good both.1 good.1) (λ who fine. (good.0, fine)))
 
 -- bugs
 bug_alone-good : (ws : List (List ℕ)) → IfOk (bug_alone ws) IsGoodBug
@@ -232,7 +265,8 @@ all_bugs-good : (ws : List (List ℕ)) → IfOk (each_word read_bug ws) (Each Is
 all_bugs-good [] = tt
 all_bugs-good (n ∷ ws) =
     and_read-good (read_bug n) _ IsGoodBug (Each IsGoodBug) (read_bug-good n) (λ bug good.
-    and_read-good (each_word read_bug ws) (λ bugs. Ok (bug ∷ bugs)) (Each IsGoodBug) (Each IsGoodBug) (all_bugs-good ws) (λ bugs fine. (good, fine)))
+    and_read-good (each_word read_bug ws) (λ bugs. Ok (bug ∷ bugs)) (Each IsGoodBug) (Each IsGoodBug) (all_bugs-good ws)
+    (λ bugs fine. (good, fine)))
 
 -- two bugs or more
 abbrev AreOthers : List Named → Type 0
@@ -241,14 +275,16 @@ AreOthers bugs = Each IsGoodBug bugs × (0 < length bugs)
 some_bugs-good : (n : List ℕ) (ws : List (List ℕ)) → IfOk (each_word read_bug (n ∷ ws)) AreOthers
 some_bugs-good n ws =
     and_read-good (read_bug n) _ IsGoodBug AreOthers (read_bug-good n) (λ bug good.
-    and_read-good (each_word read_bug ws) (λ bugs. Ok (bug ∷ bugs)) (Each IsGoodBug) AreOthers (all_bugs-good ws) (λ bugs fine. ((good, fine), omega arith)))
+    and_read-good (each_word read_bug ws) (λ bugs. Ok (bug ∷ bugs)) (Each IsGoodBug) AreOthers (all_bugs-good ws)
+    (λ bugs fine. ((good, fine), omega arith)))
 
 bug_and_others-good : (ws : List (List ℕ)) → IfOk (bug_and_others ws) (λ both. IsGoodBug both.0 × AreOthers both.1)
 bug_and_others-good [] = tt
 bug_and_others-good (n ∷ []) = tt
 bug_and_others-good (n ∷ m ∷ ws) =
     and_read-good (read_bug n) _ IsGoodBug (λ both. IsGoodBug both.0 × AreOthers both.1) (read_bug-good n) (λ bug good.
-    and_read-good (each_word read_bug (m ∷ ws)) (λ others. Ok (bug, others)) AreOthers (λ both. IsGoodBug both.0 × AreOthers both.1) (some_bugs-good m ws) (λ others fine. (good, fine)))
+    and_read-good (each_word read_bug (m ∷ ws)) (λ others. Ok (bug, others)) AreOthers
+    (λ both. IsGoodBug both.0 × AreOthers both.1) (some_bugs-good m ws) (λ others fine. (good, fine)))
 
 -- tags
 any_steps : (r : Result (List TagStep) Refusal) → IfOk r (λ _. ⊤)
@@ -259,46 +295,71 @@ tags_command-good : (arguments : List ℕ) → IfOk (tags_command arguments) IsW
 tags_command-good arguments =
     let steps = some_steps (words_with_commas (after_word arguments)) in
     let of_bug : Named → Result (Command Named) Refusal = λ bug. and_read steps (λ read. Ok (commands.Tags bug read)) in
-    and_read-good (read_bug (first_word arguments)) of_bug IsGoodBug IsWellFormed (read_bug-good (first_word arguments)) (λ bug good.
-    and_read-good steps (λ read. Ok (commands.Tags bug read)) (λ _. ⊤) IsWellFormed (any_steps steps) (λ read _. record { bugs = (good, tt); parts = tt; spellable = tt }))
+    and_read-good (read_bug (first_word arguments)) of_bug IsGoodBug IsWellFormed (read_bug-good (first_word arguments))
+    (λ bug good.
+    and_read-good steps (λ read. Ok (commands.Tags bug read)) (λ _. ⊤) IsWellFormed (any_steps steps)
+    (λ read _. record { bugs = (good, tt); parts = tt; spellable = tt }))
 
 reopen_command-good : (arguments : List ℕ) → list_any is_control arguments ≡ false → IfOk (reopen_command arguments) IsWellFormed
 reopen_command-good arguments clean =
-    and_read-good (bug_and_text arguments) _ (λ both. IsGoodBug both.0 × IsTextWithin both.1) IsWellFormed (bug_and_text-good arguments clean) (λ both good.
-    and_read-good (optional_who both.1) (λ who. Ok (commands.Reopen both.0 who)) IsGoodWho IsWellFormed (optional_who-good both.1 good.1) (λ who fine.
+    and_read-good (bug_and_text arguments) _ (λ both. IsGoodBug both.0 × IsTextWithin both.1) IsWellFormed
+    (bug_and_text-good arguments clean) (λ both good.
+    and_read-good (optional_who both.1) (λ who. Ok (commands.Reopen both.0 who)) IsGoodWho IsWellFormed
+    (optional_who-good both.1 good.1) (λ who fine.
     record { bugs = (good.0, tt); parts = fine.0; spellable = fine.1 }))
 
-pub command_of-good : (word : CommandWord) (arguments : List ℕ) → list_any is_control arguments ≡ false → IfOk (command_of word arguments) IsWellFormed
+pub command_of-good : (word : CommandWord) (arguments : List ℕ) → list_any is_control arguments ≡ false
+    → IfOk (command_of word arguments) IsWellFormed
 command_of-good command_words.Found arguments clean =
-    and_read-good (bug_and_optional_version (words arguments)) (λ both. Ok (commands.Found both.0 both.1)) _ IsWellFormed (bug_and_optional_version-good (words arguments)) (λ both good. record { bugs = (good.0, tt); parts = good.1; spellable = tt })
+    and_read-good (bug_and_optional_version (words arguments)) (λ both. Ok (commands.Found both.0 both.1)) _ IsWellFormed
+    (bug_and_optional_version-good (words arguments))
+    (λ both good. record { bugs = (good.0, tt); parts = good.1; spellable = tt })
 command_of-good command_words.NotFound arguments clean =
-    and_read-good (bug_and_version (words arguments)) (λ both. Ok (commands.NotFound both.0 both.1)) _ IsWellFormed (bug_and_version-good (words arguments)) (λ both good. record { bugs = (good.0, tt); parts = good.1; spellable = tt })
+    and_read-good (bug_and_version (words arguments)) (λ both. Ok (commands.NotFound both.0 both.1)) _ IsWellFormed
+    (bug_and_version-good (words arguments)) (λ both good. record { bugs = (good.0, tt); parts = good.1; spellable = tt })
 command_of-good command_words.Fixed arguments clean =
-    and_read-good (bug_and_version (words arguments)) (λ both. Ok (commands.Fixed both.0 both.1)) _ IsWellFormed (bug_and_version-good (words arguments)) (λ both good. record { bugs = (good.0, tt); parts = good.1; spellable = tt })
+    and_read-good (bug_and_version (words arguments)) (λ both. Ok (commands.Fixed both.0 both.1)) _ IsWellFormed
+    (bug_and_version-good (words arguments)) (λ both good. record { bugs = (good.0, tt); parts = good.1; spellable = tt })
 command_of-good command_words.NotFixed arguments clean =
-    and_read-good (bug_and_version (words arguments)) (λ both. Ok (commands.NotFixed both.0 both.1)) _ IsWellFormed (bug_and_version-good (words arguments)) (λ both good. record { bugs = (good.0, tt); parts = good.1; spellable = tt })
+    and_read-good (bug_and_version (words arguments)) (λ both. Ok (commands.NotFixed both.0 both.1)) _ IsWellFormed
+    (bug_and_version-good (words arguments)) (λ both good. record { bugs = (good.0, tt); parts = good.1; spellable = tt })
 command_of-good command_words.Close arguments clean =
-    and_read-good (bug_and_optional_version (words arguments)) (λ both. Ok (commands.Close both.0 both.1)) _ IsWellFormed (bug_and_optional_version-good (words arguments)) (λ both good. record { bugs = (good.0, tt); parts = good.1; spellable = tt })
+    and_read-good (bug_and_optional_version (words arguments)) (λ both. Ok (commands.Close both.0 both.1)) _ IsWellFormed
+    (bug_and_optional_version-good (words arguments))
+    (λ both good. record { bugs = (good.0, tt); parts = good.1; spellable = tt })
 command_of-good command_words.Reopen arguments clean = reopen_command-good arguments clean
 command_of-good command_words.Severity arguments clean = severity_command-good (words arguments)
 command_of-good command_words.Reassign arguments clean = reassign_command-good (words arguments)
 command_of-good command_words.Tags arguments clean = tags_command-good arguments
 command_of-good command_words.Tag arguments clean = tags_command-good arguments
 command_of-good command_words.Retitle arguments clean =
-    and_read-good (bug_and_some_text arguments) (λ both. Ok (commands.Retitle both.0 both.1)) _ IsWellFormed (bug_and_some_text-good arguments clean) (λ both good. record { bugs = (good.0, tt); parts = good.1; spellable = tt })
+    and_read-good (bug_and_some_text arguments) (λ both. Ok (commands.Retitle both.0 both.1)) _ IsWellFormed
+    (bug_and_some_text-good arguments clean) (λ both good. record { bugs = (good.0, tt); parts = good.1; spellable = tt })
 command_of-good command_words.Submitter arguments clean =
-    and_read-good (bug_and_some_who arguments) (λ both. Ok (commands.Submitter both.0 both.1)) _ IsWellFormed (bug_and_some_who-good arguments clean) (λ both good. record { bugs = (good.0, tt); parts = good.1.0; spellable = good.1.1 })
+    and_read-good (bug_and_some_who arguments) (λ both. Ok (commands.Submitter both.0 both.1)) _ IsWellFormed
+    (bug_and_some_who-good arguments clean)
+    (λ both good. record { bugs = (good.0, tt); parts = good.1.0; spellable = good.1.1 })
 command_of-good command_words.Merge arguments clean =
-    and_read-good (bug_and_others (words arguments)) (λ both. Ok (commands.Merge both.0 both.1)) _ IsWellFormed (bug_and_others-good (words arguments)) (λ both good. record { bugs = (good.0, good.1.0); parts = tt; spellable = good.1.1 })
+    and_read-good (bug_and_others (words arguments)) (λ both. Ok (commands.Merge both.0 both.1)) _ IsWellFormed
+    (bug_and_others-good (words arguments))
+    (λ both good. record { bugs = (good.0, good.1.0); parts = tt; spellable = good.1.1 })
 command_of-good command_words.ForceMerge arguments clean =
-    and_read-good (bug_and_others (words arguments)) (λ both. Ok (commands.ForceMerge both.0 both.1)) _ IsWellFormed (bug_and_others-good (words arguments)) (λ both good. record { bugs = (good.0, good.1.0); parts = tt; spellable = good.1.1 })
+    and_read-good (bug_and_others (words arguments)) (λ both. Ok (commands.ForceMerge both.0 both.1)) _ IsWellFormed
+    (bug_and_others-good (words arguments))
+    (λ both good. record { bugs = (good.0, good.1.0); parts = tt; spellable = good.1.1 })
 command_of-good command_words.Unmerge arguments clean =
-    and_read-good (bug_alone (words arguments)) (λ bug. Ok (commands.Unmerge bug)) IsGoodBug IsWellFormed (bug_alone-good (words arguments)) (λ bug good. record { bugs = (good, tt); parts = tt; spellable = tt })
+    and_read-good (bug_alone (words arguments)) (λ bug. Ok (commands.Unmerge bug)) IsGoodBug IsWellFormed
+    (bug_alone-good (words arguments)) (λ bug good. record { bugs = (good, tt); parts = tt; spellable = tt })
 command_of-good command_words.Forwarded arguments clean =
-    and_read-good (bug_and_some_text arguments) (λ both. Ok (commands.Forwarded both.0 both.1)) _ IsWellFormed (bug_and_some_text-good arguments clean) (λ both good. record { bugs = (good.0, tt); parts = good.1; spellable = tt })
+    and_read-good (bug_and_some_text arguments) (λ both. Ok (commands.Forwarded both.0 both.1)) _ IsWellFormed
+    (bug_and_some_text-good arguments clean) (λ both good. record { bugs = (good.0, tt); parts = good.1; spellable = tt })
 command_of-good command_words.NotForwarded arguments clean =
-    and_read-good (bug_alone (words arguments)) (λ bug. Ok (commands.NotForwarded bug)) IsGoodBug IsWellFormed (bug_alone-good (words arguments)) (λ bug good. record { bugs = (good, tt); parts = tt; spellable = tt })
+    and_read-good (bug_alone (words arguments)) (λ bug. Ok (commands.NotForwarded bug)) IsGoodBug IsWellFormed
+    (bug_alone-good (words arguments)) (λ bug good. record { bugs = (good, tt); parts = tt; spellable = tt })
 command_of-good command_words.Owner arguments clean =
-    and_read-good (bug_and_some_who arguments) (λ both. Ok (commands.Owner both.0 both.1)) _ IsWellFormed (bug_and_some_who-good arguments clean) (λ both good. record { bugs = (good.0, tt); parts = good.1.0; spellable = good.1.1 })
+    and_read-good (bug_and_some_who arguments) (λ both. Ok (commands.Owner both.0 both.1)) _ IsWellFormed
+    (bug_and_some_who-good arguments clean)
+    (λ both good. record { bugs = (good.0, tt); parts = good.1.0; spellable = good.1.1 })
 command_of-good command_words.NoOwner arguments clean =
-    and_read-good (bug_alone (words arguments)) (λ bug. Ok (commands.NoOwner bug)) IsGoodBug IsWellFormed (bug_alone-good (words arguments)) (λ bug good. record { bugs = (good, tt); parts = tt; spellable = tt })
+    and_read-good (bug_alone (words arguments)) (λ bug. Ok (commands.NoOwner bug)) IsGoodBug IsWellFormed
+    (bug_alone-good (words arguments)) (λ bug good. record { bugs = (good, tt); parts = tt; spellable = tt })

@@ -14,13 +14,18 @@ use Rattle.bug_record.specs.Tags.{tag_of}
 use Rattle.bug_record.specs.declared.command.Command.{Command}
 use Rattle.bug_record.specs.declared.command.Command.TheVariants as commands
 use Rattle.bug_record.specs.declared.command.Refusal.{Refusal}
-use Rattle.bug_record.specs.declared.command.Refusal.TheVariants.{Unknown, Malformed, TooLong, BadSeverity, BadTag, BadVersion, BadPackage}
+use Rattle.bug_record.specs.declared.command.Refusal.TheVariants.{Unknown, Malformed, TooLong, BadSeverity, BadTag, BadVersion}
+use Rattle.bug_record.specs.declared.command.Refusal.TheVariants.{BadPackage}
 use Rattle.bug_record.specs.declared.command.Who.TheVariants.{Sender, Given}
 use Rattle.command_grammar.specs.declared.command_word.CommandWord.{CommandWord}
 use Rattle.command_grammar.specs.declared.command_word.CommandWord.TheVariants as command_words
 use Rattle.command_grammar.specs.CommandWords.{command_word}
 use Rattle.command_grammar.specs.Versions.{version_of_word, package_of_word}
-use Rattle.command_grammar.specs.Commands.{and_read, read_bug, read_version, read_package, bug_alone, bug_and_version, bug_and_optional_version, severity_command, reassign_command, limited_text, who_of_text, some_text, some_who, optional_who, bug_and_text, bug_and_some_text, bug_and_some_who, each_word, bug_and_others, sign_and_tag, adds_after, tag_step, tag_steps, word_steps, all_steps, some_steps, tags_command, reopen_command, command_of}
+use Rattle.command_grammar.specs.Commands.{and_read, read_bug, read_version, read_package, bug_alone, bug_and_version}
+use Rattle.command_grammar.specs.Commands.{bug_and_optional_version, severity_command, reassign_command, limited_text}
+use Rattle.command_grammar.specs.Commands.{who_of_text, some_text, some_who, optional_who, bug_and_text, bug_and_some_text}
+use Rattle.command_grammar.specs.Commands.{bug_and_some_who, each_word, bug_and_others, sign_and_tag, adds_after, tag_step}
+use Rattle.command_grammar.specs.Commands.{tag_steps, word_steps, all_steps, some_steps, tags_command, reopen_command, command_of}
 use Rattle.control_text.specs.declared.line.Line.{Line}
 use Rattle.control_text.specs.declared.line.Line.TheVariants.{Comment, Stop, Do}
 use Rattle.control_text.specs.Lines.{begins_hash, is_stop_line, command_reading, reading_of_words, reading, IsRefusalOfLine}
@@ -33,7 +38,8 @@ ok_or-of : {A : Type 0} (o : Option A) (refusal : Refusal) → IsRefusalOfLine r
 ok_or-of None refusal h = h
 ok_or-of (Some x) refusal h = tt
 
-and_read-of : {A B : Type 0} (r : Result A Refusal) (f : A → Result B Refusal) → IsOfLine r → ((x : A) → IsOfLine (f x)) → IsOfLine (and_read r f)
+and_read-of : {A B : Type 0} (r : Result A Refusal) (f : A → Result B Refusal) → IsOfLine r → ((x : A) → IsOfLine (f x))
+    → IsOfLine (and_read r f)
 and_read-of (Err refusal) f h each = h
 and_read-of (Ok x) f h each = each x
 
@@ -54,27 +60,34 @@ bug_alone-of (n ∷ m ∷ ws) = tt
 bug_and_version-of : (ws : List (List ℕ)) → IsOfLine (bug_and_version ws)
 bug_and_version-of [] = tt
 bug_and_version-of (n ∷ []) = tt
-bug_and_version-of (n ∷ v ∷ []) = and_read-of (read_bug n) _ (read_bug-of n) (λ bug. and_read-of (read_version v) (λ version. Ok (bug, version)) (read_version-of v) (λ version. tt))
+bug_and_version-of (n ∷ v ∷ []) =
+    and_read-of (read_bug n) _ (read_bug-of n)
+    (λ bug. and_read-of (read_version v) (λ version. Ok (bug, version)) (read_version-of v) (λ version. tt))
 bug_and_version-of (n ∷ v ∷ w ∷ ws) = tt
 
 bug_and_optional_version-of : (ws : List (List ℕ)) → IsOfLine (bug_and_optional_version ws)
 bug_and_optional_version-of [] = tt
 bug_and_optional_version-of (n ∷ []) = and_read-of (read_bug n) (λ bug. Ok (bug, None)) (read_bug-of n) (λ bug. tt)
-bug_and_optional_version-of (n ∷ v ∷ []) = and_read-of (read_bug n) _ (read_bug-of n) (λ bug. and_read-of (read_version v) (λ version. Ok (bug, Some version)) (read_version-of v) (λ version. tt))
+bug_and_optional_version-of (n ∷ v ∷ []) =
+    and_read-of (read_bug n) _ (read_bug-of n)
+    (λ bug. and_read-of (read_version v) (λ version. Ok (bug, Some version)) (read_version-of v) (λ version. tt))
 bug_and_optional_version-of (n ∷ v ∷ w ∷ ws) = tt
 
 severity_command-of : (ws : List (List ℕ)) → IsOfLine (severity_command ws)
 severity_command-of [] = tt
 severity_command-of (n ∷ []) = tt
 severity_command-of (n ∷ s ∷ []) =
-    and_read-of (read_bug n) _ (read_bug-of n) (λ bug. and_read-of (ok_or (severity_of s) BadSeverity) (λ severity. Ok (commands.Severity bug severity)) (ok_or-of (severity_of s) BadSeverity tt) (λ severity. tt))
+    and_read-of (read_bug n) _ (read_bug-of n)
+    (λ bug. and_read-of (ok_or (severity_of s) BadSeverity) (λ severity. Ok (commands.Severity bug severity))
+    (ok_or-of (severity_of s) BadSeverity tt) (λ severity. tt))
 severity_command-of (n ∷ s ∷ w ∷ ws) = tt
 
 reassign_command-of : (ws : List (List ℕ)) → IsOfLine (reassign_command ws)
 reassign_command-of [] = tt
 reassign_command-of (n ∷ []) = tt
 reassign_command-of (n ∷ p ∷ []) =
-    and_read-of (read_bug n) _ (read_bug-of n) (λ bug. and_read-of (read_package p) (λ name. Ok (commands.Reassign bug name None)) (read_package-of p) (λ name. tt))
+    and_read-of (read_bug n) _ (read_bug-of n)
+    (λ bug. and_read-of (read_package p) (λ name. Ok (commands.Reassign bug name None)) (read_package-of p) (λ name. tt))
 reassign_command-of (n ∷ p ∷ v ∷ []) =
     and_read-of (read_bug n) _ (read_bug-of n) (λ bug. and_read-of (read_package p) _ (read_package-of p) (λ name.
     and_read-of (read_version v) (λ version. Ok (commands.Reassign bug name (Some version))) (read_version-of v) (λ version. tt)))
@@ -85,7 +98,8 @@ limited_text-of text = cond_both (nat_lt 200 (length text)) (Err TooLong) (Ok te
 
 who_of_text-of : (text : List ℕ) → IsOfLine (who_of_text text)
 who_of_text-of text =
-    cond_both (bytes_eq text (codes "!")) (Ok Sender) (and_read (limited_text text) (λ limited. Ok (Given limited))) (λ r. IsOfLine r) (λ e. tt)
+    cond_both (bytes_eq text (codes "!")) (Ok Sender) (and_read (limited_text text) (λ limited. Ok (Given limited)))
+    (λ r. IsOfLine r) (λ e. tt)
     (λ e. and_read-of (limited_text text) (λ limited. Ok (Given limited)) (limited_text-of text) (λ limited. tt))
 
 some_text-of : (text : List ℕ) → IsOfLine (some_text text)
@@ -99,7 +113,8 @@ some_who-of (c ∷ text) = who_of_text-of (c ∷ text)
 optional_who-of : (text : List ℕ) → IsOfLine (optional_who text)
 optional_who-of [] = tt
 optional_who-of (c ∷ text) =
-    cond_both (bytes_eq (c ∷ text) (codes "=")) (Ok None) (and_read (who_of_text (c ∷ text)) (λ who. Ok (Some who))) (λ r. IsOfLine r) (λ e. tt)
+    cond_both (bytes_eq (c ∷ text) (codes "=")) (Ok None) (and_read (who_of_text (c ∷ text)) (λ who. Ok (Some who)))
+    (λ r. IsOfLine r) (λ e. tt)
     (λ e. and_read-of (who_of_text (c ∷ text)) (λ who. Ok (Some who)) (who_of_text-of (c ∷ text)) (λ who. tt))
 
 bug_and_text-of : (arguments : List ℕ) → IsOfLine (bug_and_text arguments)
@@ -110,37 +125,46 @@ bug_and_text-of arguments =
 
 bug_and_some_text-of : (arguments : List ℕ) → IsOfLine (bug_and_some_text arguments)
 bug_and_some_text-of arguments =
-    and_read-of (bug_and_text arguments) _ (bug_and_text-of arguments) (λ both. and_read-of (some_text both.1) (λ text. Ok (both.0, text)) (some_text-of both.1) (λ text. tt))
+    and_read-of (bug_and_text arguments) _ (bug_and_text-of arguments)
+    (λ both. and_read-of (some_text both.1) (λ text. Ok (both.0, text)) (some_text-of both.1) (λ text. tt))
 
 bug_and_some_who-of : (arguments : List ℕ) → IsOfLine (bug_and_some_who arguments)
 bug_and_some_who-of arguments =
-    and_read-of (bug_and_text arguments) _ (bug_and_text-of arguments) (λ both. and_read-of (some_who both.1) (λ who. Ok (both.0, who)) (some_who-of both.1) (λ who. tt))
+    and_read-of (bug_and_text arguments) _ (bug_and_text-of arguments)
+    (λ both. and_read-of (some_who both.1) (λ who. Ok (both.0, who)) (some_who-of both.1) (λ who. tt))
 
 reopen_command-of : (arguments : List ℕ) → IsOfLine (reopen_command arguments)
 reopen_command-of arguments =
     and_read-of (bug_and_text arguments) _ (bug_and_text-of arguments) (λ both.
     and_read-of (optional_who both.1) (λ who. Ok (commands.Reopen both.0 who)) (optional_who-of both.1) (λ who. tt))
 
-each_word-of : {A : Type 0} (read : List ℕ → Result A Refusal) → ((word : List ℕ) → IsOfLine (read word)) → (ws : List (List ℕ)) → IsOfLine (each_word read ws)
+each_word-of : {A : Type 0} (read : List ℕ → Result A Refusal) → ((word : List ℕ) → IsOfLine (read word)) → (ws : List (List ℕ))
+    → IsOfLine (each_word read ws)
 each_word-of read each [] = tt
 each_word-of read each (word ∷ ws) =
-    and_read-of (read word) _ (each word) (λ x. and_read-of (each_word read ws) (λ xs. Ok (x ∷ xs)) (each_word-of read each ws) (λ xs. tt))
+    and_read-of (read word) _ (each word)
+    (λ x. and_read-of (each_word read ws) (λ xs. Ok (x ∷ xs)) (each_word-of read each ws) (λ xs. tt))
 
 bug_and_others-of : (ws : List (List ℕ)) → IsOfLine (bug_and_others ws)
 bug_and_others-of [] = tt
 bug_and_others-of (n ∷ []) = tt
 bug_and_others-of (n ∷ m ∷ ws) =
-    and_read-of (read_bug n) _ (read_bug-of n) (λ bug. and_read-of (each_word read_bug (m ∷ ws)) (λ others. Ok (bug, others)) (each_word-of read_bug read_bug-of (m ∷ ws)) (λ others. tt))
+    and_read-of (read_bug n) _ (read_bug-of n)
+    (λ bug. and_read-of (each_word read_bug (m ∷ ws)) (λ others. Ok (bug, others))
+    (each_word-of read_bug read_bug-of (m ∷ ws)) (λ others. tt))
 
 tag_steps-of : (adds : Bool) (word : List ℕ) → IsOfLine (tag_steps adds word)
 tag_steps-of adds [] = tt
-tag_steps-of adds (c ∷ word) = and_read-of (ok_or (tag_of (c ∷ word)) BadTag) (λ tag. Ok (tag_step adds tag ∷ [])) (ok_or-of (tag_of (c ∷ word)) BadTag tt) (λ tag. tt)
+tag_steps-of adds (c ∷ word) =
+    and_read-of (ok_or (tag_of (c ∷ word)) BadTag) (λ tag. Ok (tag_step adds tag ∷ [])) (ok_or-of (tag_of (c ∷ word)) BadTag tt)
+    (λ tag. tt)
 
 all_steps-of : (adds : Bool) (ws : List (List ℕ)) → IsOfLine (all_steps adds ws)
 all_steps-of adds [] = tt
 all_steps-of adds (word ∷ ws) =
     let now = adds_after (sign_and_tag word).0 adds in
-    and_read-of (word_steps now (sign_and_tag word).0 (sign_and_tag word).1) _ (and_read-of (tag_steps now (sign_and_tag word).1) _ (tag_steps-of now (sign_and_tag word).1) (λ steps. tt)) (λ steps.
+    and_read-of (word_steps now (sign_and_tag word).0 (sign_and_tag word).1) _
+    (and_read-of (tag_steps now (sign_and_tag word).1) _ (tag_steps-of now (sign_and_tag word).1) (λ steps. tt)) (λ steps.
     and_read-of (all_steps now ws) _ (all_steps-of now ws) (λ others. tt))
 
 some_steps-of : (ws : List (List ℕ)) → IsOfLine (some_steps ws)
@@ -150,37 +174,55 @@ some_steps-of (word ∷ ws) = all_steps-of true (word ∷ ws)
 tags_command-of : (arguments : List ℕ) → IsOfLine (tags_command arguments)
 tags_command-of arguments =
     let tags = words_with_commas (after_word arguments) in
-    let of_bug : Named → Result (Command Named) Refusal = λ bug. and_read (some_steps tags) (λ read. Ok (commands.Tags bug read)) in
-    and_read-of (read_bug (first_word arguments)) of_bug (read_bug-of (first_word arguments)) (λ bug. and_read-of (some_steps tags) (λ read. Ok (commands.Tags bug read)) (some_steps-of tags) (λ read. tt))
+    let of_bug : Named → Result (Command Named) Refusal =
+    λ bug. and_read (some_steps tags) (λ read. Ok (commands.Tags bug read)) in
+    and_read-of (read_bug (first_word arguments)) of_bug (read_bug-of (first_word arguments))
+    (λ bug. and_read-of (some_steps tags) (λ read. Ok (commands.Tags bug read)) (some_steps-of tags) (λ read. tt))
 
 command_of-of : (word : CommandWord) (arguments : List ℕ) → IsOfLine (command_of word arguments)
-command_of-of command_words.Found arguments = and_read-of (bug_and_optional_version (words arguments)) _ (bug_and_optional_version-of (words arguments)) (λ both. tt)
-command_of-of command_words.NotFound arguments = and_read-of (bug_and_version (words arguments)) _ (bug_and_version-of (words arguments)) (λ both. tt)
-command_of-of command_words.Fixed arguments = and_read-of (bug_and_version (words arguments)) _ (bug_and_version-of (words arguments)) (λ both. tt)
-command_of-of command_words.NotFixed arguments = and_read-of (bug_and_version (words arguments)) _ (bug_and_version-of (words arguments)) (λ both. tt)
-command_of-of command_words.Close arguments = and_read-of (bug_and_optional_version (words arguments)) _ (bug_and_optional_version-of (words arguments)) (λ both. tt)
+command_of-of command_words.Found arguments =
+    and_read-of (bug_and_optional_version (words arguments)) _ (bug_and_optional_version-of (words arguments)) (λ both. tt)
+command_of-of command_words.NotFound arguments =
+    and_read-of (bug_and_version (words arguments)) _ (bug_and_version-of (words arguments)) (λ both. tt)
+command_of-of command_words.Fixed arguments =
+    and_read-of (bug_and_version (words arguments)) _ (bug_and_version-of (words arguments)) (λ both. tt)
+command_of-of command_words.NotFixed arguments =
+    and_read-of (bug_and_version (words arguments)) _ (bug_and_version-of (words arguments)) (λ both. tt)
+command_of-of command_words.Close arguments =
+    and_read-of (bug_and_optional_version (words arguments)) _ (bug_and_optional_version-of (words arguments)) (λ both. tt)
 command_of-of command_words.Reopen arguments = reopen_command-of arguments
 command_of-of command_words.Severity arguments = severity_command-of (words arguments)
 command_of-of command_words.Reassign arguments = reassign_command-of (words arguments)
 command_of-of command_words.Tags arguments = tags_command-of arguments
 command_of-of command_words.Tag arguments = tags_command-of arguments
-command_of-of command_words.Retitle arguments = and_read-of (bug_and_some_text arguments) _ (bug_and_some_text-of arguments) (λ both. tt)
-command_of-of command_words.Submitter arguments = and_read-of (bug_and_some_who arguments) _ (bug_and_some_who-of arguments) (λ both. tt)
-command_of-of command_words.Merge arguments = and_read-of (bug_and_others (words arguments)) _ (bug_and_others-of (words arguments)) (λ both. tt)
-command_of-of command_words.ForceMerge arguments = and_read-of (bug_and_others (words arguments)) _ (bug_and_others-of (words arguments)) (λ both. tt)
-command_of-of command_words.Unmerge arguments = and_read-of (bug_alone (words arguments)) _ (bug_alone-of (words arguments)) (λ bug. tt)
-command_of-of command_words.Forwarded arguments = and_read-of (bug_and_some_text arguments) _ (bug_and_some_text-of arguments) (λ both. tt)
-command_of-of command_words.NotForwarded arguments = and_read-of (bug_alone (words arguments)) _ (bug_alone-of (words arguments)) (λ bug. tt)
-command_of-of command_words.Owner arguments = and_read-of (bug_and_some_who arguments) _ (bug_and_some_who-of arguments) (λ both. tt)
-command_of-of command_words.NoOwner arguments = and_read-of (bug_alone (words arguments)) _ (bug_alone-of (words arguments)) (λ bug. tt)
+command_of-of command_words.Retitle arguments =
+    and_read-of (bug_and_some_text arguments) _ (bug_and_some_text-of arguments) (λ both. tt)
+command_of-of command_words.Submitter arguments =
+    and_read-of (bug_and_some_who arguments) _ (bug_and_some_who-of arguments) (λ both. tt)
+command_of-of command_words.Merge arguments =
+    and_read-of (bug_and_others (words arguments)) _ (bug_and_others-of (words arguments)) (λ both. tt)
+command_of-of command_words.ForceMerge arguments =
+    and_read-of (bug_and_others (words arguments)) _ (bug_and_others-of (words arguments)) (λ both. tt)
+command_of-of command_words.Unmerge arguments =
+    and_read-of (bug_alone (words arguments)) _ (bug_alone-of (words arguments)) (λ bug. tt)
+command_of-of command_words.Forwarded arguments =
+    and_read-of (bug_and_some_text arguments) _ (bug_and_some_text-of arguments) (λ both. tt)
+command_of-of command_words.NotForwarded arguments =
+    and_read-of (bug_alone (words arguments)) _ (bug_alone-of (words arguments)) (λ bug. tt)
+command_of-of command_words.Owner arguments =
+    and_read-of (bug_and_some_who arguments) _ (bug_and_some_who-of arguments) (λ both. tt)
+command_of-of command_words.NoOwner arguments =
+    and_read-of (bug_alone (words arguments)) _ (bug_alone-of (words arguments)) (λ bug. tt)
 
 abbrev as_line : Command Named → Result Line Refusal
 as_line meant = Ok (Do meant)
 
 command_reading-of : (command : CommandWord) (text : List ℕ) → IsOfLine (command_reading command text)
 command_reading-of command text =
-    cond_both (list_any is_control text) (Err Malformed) (and_read (command_of command (after_word text)) as_line) (λ r. IsOfLine r)
-    (λ e. tt) (λ e. and_read-of (command_of command (after_word text)) as_line (command_of-of command (after_word text)) (λ meant. tt))
+    cond_both (list_any is_control text) (Err Malformed) (and_read (command_of command (after_word text)) as_line)
+    (λ r. IsOfLine r)
+    (λ e. tt) (λ e. and_read-of (command_of command (after_word text)) as_line (command_of-of command (after_word text))
+    (λ meant. tt))
 
 reading_of_words-of : (text : List ℕ) (ws : List (List ℕ)) → IsOfLine (reading_of_words text ws)
 reading_of_words-of text [] = tt
@@ -188,7 +230,9 @@ reading_of_words-of text (word ∷ ws) =
     let reads : CommandWord → Result Line Refusal = λ command. command_reading command text in
     let command = and_read (ok_or (command_word word) Unknown) reads in
     cond_both (begins_hash word) (Ok Comment) (if is_stop_line (word ∷ ws) then Ok Stop else command) (λ r. IsOfLine r) (λ e. tt)
-    (λ e. cond_both (is_stop_line (word ∷ ws)) (Ok Stop) command (λ r. IsOfLine r) (λ f. tt) (λ f. and_read-of (ok_or (command_word word) Unknown) reads (ok_or-of (command_word word) Unknown tt) (λ found. command_reading-of found text)))
+    (λ e. cond_both (is_stop_line (word ∷ ws)) (Ok Stop) command (λ r. IsOfLine r) (λ f. tt)
+    (λ f. and_read-of (ok_or (command_word word) Unknown) reads (ok_or-of (command_word word) Unknown tt)
+    (λ found. command_reading-of found text)))
 
 pub reading-of : (text : List ℕ) → IfErr (reading text) IsRefusalOfLine
 unfolding reading

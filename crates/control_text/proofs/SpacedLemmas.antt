@@ -1,5 +1,6 @@
 -- Lines of a command's word and words after spaces.
-use Rattle.std.proofs.Common.{◌≡◌, ℕ, ◌+◌, Bool, true, false, not, cond, List, [], ◌∷◌, ◌++◌, length, drop, Option, Some, Result, Ok, Err, codes, refl, ap, sym, ◌∙◌, subst, append-nil, arith}
+use Rattle.std.proofs.Common.{◌≡◌, ℕ, ◌+◌, Bool, true, false, not, cond, List, [], ◌∷◌, ◌++◌, length, drop, Option, Some, Result}
+use Rattle.std.proofs.Common.{Ok, Err, codes, refl, ap, sym, ◌∙◌, subst, append-nil, arith}
 use Rattle.std.specs.Prelude.{IfOk, String, string_bytes, ⊤}
 use Rattle.std.specs.Option.{ok_or}
 use Rattle.std.specs.List.{list_any, position_or_len}
@@ -39,7 +40,8 @@ begins_word [] rest some whole = absurd (false≢true some)
 begins_word (c ∷ w) rest some whole = (or_parts (is_blank c) (list_any is_blank w) whole).0
 
 -- the text after a word
-pub after_word-is : (w rest : List ℕ) → has_bytes w ≡ true → list_any is_blank w ≡ false → EndsWord is_blank rest → after_word (w ++ rest) ≡ rest
+pub after_word-is : (w rest : List ℕ) → has_bytes w ≡ true → list_any is_blank w ≡ false → EndsWord is_blank rest
+    → after_word (w ++ rest) ≡ rest
 after_word-is w rest some whole ends =
     ap (λ t. drop (position_or_len is_blank t) t) (unblanked_first (w ++ rest) (begins_word w rest some whole))
     ∙ ap (λ n. drop n (w ++ rest)) (position-is is_blank w rest whole ends)
@@ -69,18 +71,22 @@ pub record IsCommandWord (command : CommandWord) (w : List ℕ) : Type 0 where
   pub thank : is_word w (codes "thank") ≡ false
   pub is : command_word w ≡ Some command
 
-no_stop : (w : List ℕ) (ws : List (List ℕ)) → is_stop_word w ≡ false → is_word w (codes "thank") ≡ false → is_stop_line (w ∷ ws) ≡ false
+no_stop : (w : List ℕ) (ws : List (List ℕ)) → is_stop_word w ≡ false → is_word w (codes "thank") ≡ false
+    → is_stop_line (w ∷ ws) ≡ false
 no_stop w [] stop thank = stop
 no_stop w (s ∷ []) stop thank = and_left (is_word w (codes "thank")) (is_word s (codes "you")) thank
 no_stop w (s ∷ t ∷ ws) stop thank = refl
 
-pub reading-command : (command : CommandWord) (w rest : List ℕ) (c : Command Named) → IsCommandWord command w → EndsWord is_blank rest → list_any is_control rest ≡ false → command_of command rest ≡ Ok c → reading (w ++ rest) ≡ Ok (Do c)
+pub reading-command : (command : CommandWord) (w rest : List ℕ) (c : Command Named) → IsCommandWord command w
+    → EndsWord is_blank rest → list_any is_control rest ≡ false → command_of command rest ≡ Ok c → reading (w ++ rest) ≡ Ok (Do c)
 unfolding reading
 reading-command command w rest c h ends clean is =
     let text = w ++ rest in
     let as_line : Result (Command Named) Refusal → Result Line Refusal = λ r. and_read r (λ meant. Ok (Do meant)) in
-    let of_word : Option CommandWord → Result Line Refusal = λ o. and_read (ok_or o Unknown) (λ found. command_reading found text) in
-    let all : list_any is_control text ≡ false = list_any-append is_control w rest ∙ or_from (list_any is_control w) (list_any is_control rest) h.clean clean in
+    let of_word : Option CommandWord → Result Line Refusal =
+    λ o. and_read (ok_or o Unknown) (λ found. command_reading found text) in
+    let all : list_any is_control text ≡ false =
+    list_any-append is_control w rest ∙ or_from (list_any is_control w) (list_any is_control rest) h.clean clean in
     ap (reading_of_words text) (words-word is_blank w rest h.some h.whole ends)
     ∙ cond-false (begins_hash w) (Ok Comment) (cond (is_stop_line (w ∷ words rest)) (Ok Stop) (of_word (command_word w))) h.hash
     ∙ cond-false (is_stop_line (w ∷ words rest)) (Ok Stop) (of_word (command_word w)) (no_stop w (words rest) h.stop h.thank)
@@ -99,7 +105,8 @@ joined_spaces word [] = sym (append-nil word)
 joined_spaces word (next ∷ more) = ap (λ s. word ++ 32 ∷ s) (joined_spaces next more)
 
 -- what is written word by word, once no word is left
-pub joined_last : (line word : List ℕ) (more rest : List (List ℕ)) → line ++ after_spaces rest ≡ word ++ after_spaces more → rest ≡ [] → line ≡ joined_by_blanks (word ∷ more)
+pub joined_last : (line word : List ℕ) (more rest : List (List ℕ)) → line ++ after_spaces rest ≡ word ++ after_spaces more
+    → rest ≡ [] → line ≡ joined_by_blanks (word ∷ more)
 joined_last line word more rest h none =
     sym (append-nil line) ∙ ap (λ ws. line ++ after_spaces ws) (sym none) ∙ h ∙ sym (joined_spaces word more)
 
@@ -123,7 +130,9 @@ words-spaces [] h = words-nil is_blank
 words-spaces (w ∷ ws) h = words-space w ws h.0 ∙ ap (λ r. w ∷ r) (words-spaces ws h.1)
 
 pub after_word-spaces : (w : List ℕ) (ws : List (List ℕ)) → IsPlainWord w → after_word (after_spaces (w ∷ ws)) ≡ after_spaces ws
-after_word-spaces w ws h = after_word-space (w ++ after_spaces ws) ∙ after_word-is w (after_spaces ws) h.some (graphic-blank w h.graphic) (ends-after_spaces ws)
+after_word-spaces w ws h =
+    after_word-space (w ++ after_spaces ws)
+    ∙ after_word-is w (after_spaces ws) h.some (graphic-blank w h.graphic) (ends-after_spaces ws)
 
 abbrev pub AreClean : List (List ℕ) → Type 0
 AreClean [] = ⊤
@@ -131,12 +140,15 @@ AreClean (w ∷ ws) = (list_any is_control w ≡ false) × AreClean ws
 
 pub clean-spaces : (ws : List (List ℕ)) → AreClean ws → list_any is_control (after_spaces ws) ≡ false
 clean-spaces [] h = refl
-clean-spaces (w ∷ ws) h = list_any-append is_control w (after_spaces ws) ∙ or_from (list_any is_control w) (list_any is_control (after_spaces ws)) h.0 (clean-spaces ws h.1)
+clean-spaces (w ∷ ws) h =
+    list_any-append is_control w (after_spaces ws)
+    ∙ or_from (list_any is_control w) (list_any is_control (after_spaces ws)) h.0 (clean-spaces ws h.1)
 
 pub plain_clean : (ws : List (List ℕ)) → ArePlain ws → AreClean ws
 plain_clean [] h = tt
 plain_clean (w ∷ ws) h = let first = h.0 in (graphic-control w first.graphic, plain_clean ws h.1)
 
 -- what is written is equal to what was to be written
-pub written_as : {X E : Type 0} (r : Result (String X) E) (s t : List ℕ) → s ≡ t → IfOk r (λ w. string_bytes w ≡ s) → IfOk r (λ w. string_bytes w ≡ t)
+pub written_as : {X E : Type 0} (r : Result (String X) E) (s t : List ℕ) → s ≡ t → IfOk r (λ w. string_bytes w ≡ s)
+    → IfOk r (λ w. string_bytes w ≡ t)
 written_as r s t e h = subst (λ (u : List ℕ). IfOk r (λ w. string_bytes w ≡ u)) e h

@@ -78,18 +78,21 @@ commas-spaces : (ws : List (List ℕ)) → AreWhole ws → words_with_commas (af
 commas-spaces [] h = words-nil is_blank_or_comma
 commas-spaces (w ∷ ws) h =
     let word = h.0 in
-    words-separator is_blank_or_comma 32 (w ++ after_spaces ws) refl ∙ words-word is_blank_or_comma w (after_spaces ws) word.some h.1 (ends-spaces ws) ∙ ap (λ r. w ∷ r) (commas-spaces ws h.2)
+    words-separator is_blank_or_comma 32 (w ++ after_spaces ws) refl
+    ∙ words-word is_blank_or_comma w (after_spaces ws) word.some h.1 (ends-spaces ws) ∙ ap (λ r. w ∷ r) (commas-spaces ws h.2)
 
 -- each step's own sign says what it does
 all-back : (adds : Bool) (steps : List TagStep) → all_steps adds (map step_text steps) ≡ Ok steps
 all-back adds [] = refl
 all-back adds (Add tag ∷ more) =
     let name = tag_word tag in
-    ap (λ r. and_read {B = List TagStep} (and_read {B = List TagStep} r (λ steps. Ok steps)) (λ steps. and_read (all_steps true (map step_text more)) (λ others. Ok (steps ++ others)))) (name.back true)
+    ap (λ r. and_read {B = List TagStep} (and_read {B = List TagStep} r (λ steps. Ok steps))
+    (λ steps. and_read (all_steps true (map step_text more)) (λ others. Ok (steps ++ others)))) (name.back true)
     ∙ ap (λ r. and_read {B = List TagStep} r (λ others. Ok (Add tag ∷ others))) (all-back true more)
 all-back adds (Remove tag ∷ more) =
     let name = tag_word tag in
-    ap (λ r. and_read {B = List TagStep} (and_read {B = List TagStep} r (λ steps. Ok steps)) (λ steps. and_read (all_steps false (map step_text more)) (λ others. Ok (steps ++ others)))) (name.back false)
+    ap (λ r. and_read {B = List TagStep} (and_read {B = List TagStep} r (λ steps. Ok steps))
+    (λ steps. and_read (all_steps false (map step_text more)) (λ others. Ok (steps ++ others)))) (name.back false)
     ∙ ap (λ r. and_read {B = List TagStep} r (λ others. Ok (Remove tag ∷ others))) (all-back false more)
 all-back adds (Clear ∷ more) = ap (λ r. and_read {B = List TagStep} r (λ others. Ok (Clear ∷ others))) (all-back true more)
 
@@ -97,15 +100,19 @@ some-back : (steps : List TagStep) → some_steps (step_words steps) ≡ Ok step
 some-back [] = refl
 some-back (step ∷ more) = all-back true (step ∷ more)
 
-pub tags-back : (n : Named) (steps : List TagStep) → IsGoodBug n → tags_command (after_spaces (bug_text n ∷ step_words steps)) ≡ Ok (commands.Tags n steps)
+pub tags-back : (n : Named) (steps : List TagStep) → IsGoodBug n
+    → tags_command (after_spaces (bug_text n ∷ step_words steps)) ≡ Ok (commands.Tags n steps)
 tags-back n steps good =
     let word = bug-plain n good in
     let ws = step_words steps in
     let arguments = after_spaces (bug_text n ∷ ws) in
-    let of_steps : List (List ℕ) → Named → Result (Command Named) Refusal = λ vs bug. and_read (some_steps vs) (λ read. Ok (commands.Tags bug read)) in
-    let rest : words_with_commas (after_word arguments) ≡ ws = ap words_with_commas (after_word-spaces (bug_text n) ws word) ∙ commas-spaces ws (steps_whole steps) in
+    let of_steps : List (List ℕ) → Named → Result (Command Named) Refusal =
+    λ vs bug. and_read (some_steps vs) (λ read. Ok (commands.Tags bug read)) in
+    let rest : words_with_commas (after_word arguments) ≡ ws =
+    ap words_with_commas (after_word-spaces (bug_text n) ws word) ∙ commas-spaces ws (steps_whole steps) in
     let of_bug = of_steps (words_with_commas (after_word arguments)) in
-    ap (λ w. and_read (read_bug w) of_bug) (first_word-is arguments (bug_text n) (words (after_spaces ws)) (words-space (bug_text n) ws word))
+    ap (λ w. and_read (read_bug w) of_bug)
+    (first_word-is arguments (bug_text n) (words (after_spaces ws)) (words-space (bug_text n) ws word))
     ∙ ap (λ r. and_read r of_bug) (bug-back n good)
     ∙ ap (λ vs. of_steps vs n) rest
     ∙ ap (λ r. and_read {B = Command Named} r (λ read. Ok (commands.Tags n read))) (some-back steps)

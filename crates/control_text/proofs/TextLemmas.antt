@@ -1,5 +1,6 @@
 -- Texts without outer blanks.
-use Rattle.std.proofs.Common.{◌≡◌, ℕ, ◌-◌, ◌≤◌, ◌&&◌, ◌||◌, nat_le, Bool, true, false, not, List, [], ◌∷◌, ◌++◌, length, take, drop, reverse, refl, ap, sym, ◌∙◌, arith}
+use Rattle.std.proofs.Common.{◌≡◌, ℕ, ◌-◌, ◌≤◌, ◌&&◌, ◌||◌, nat_le, Bool, true, false, not, List, [], ◌∷◌, ◌++◌, length, take}
+use Rattle.std.proofs.Common.{drop, reverse, refl, ap, sym, ◌∙◌, arith}
 use Rattle.std.specs.List.{list_any, list_all, prefix_len, suffix_len}
 use Rattle.std.proofs.lemmas.Bool.{or_parts, and_parts, and_from, not_from_false, le-leb, leb-true, cond-false, false≢true}
 use Rattle.std.proofs.lemmas.List.{take-append-drop, reverse-append, length-reverse, length-drop, take_all}
@@ -13,10 +14,12 @@ use Rattle.line_words.proofs.WordLemmas.{begins_blank-without_first}
 
 -- what no byte of a text is, no byte of a part of it is
 pub none-take : (p : ℕ → Bool) (n : ℕ) (s : List ℕ) → list_any p s ≡ false → list_any p (take n s) ≡ false
-none-take p n s h = (or_parts (list_any p (take n s)) (list_any p (drop n s)) (sym (list_any-append p (take n s) (drop n s)) ∙ ap (list_any p) (take-append-drop n s) ∙ h)).0
+none-take p n s h = (or_parts (list_any p (take n s)) (list_any p (drop n s))
+    (sym (list_any-append p (take n s) (drop n s)) ∙ ap (list_any p) (take-append-drop n s) ∙ h)).0
 
 pub none-drop : (p : ℕ → Bool) (n : ℕ) (s : List ℕ) → list_any p s ≡ false → list_any p (drop n s) ≡ false
-none-drop p n s h = (or_parts (list_any p (take n s)) (list_any p (drop n s)) (sym (list_any-append p (take n s) (drop n s)) ∙ ap (list_any p) (take-append-drop n s) ∙ h)).1
+none-drop p n s h = (or_parts (list_any p (take n s)) (list_any p (drop n s))
+    (sym (list_any-append p (take n s) (drop n s)) ∙ ap (list_any p) (take-append-drop n s) ∙ h)).1
 
 pub none-all : (p : ℕ → Bool) (s : List ℕ) → list_any p s ≡ false → list_all (λ c. not (p c)) s ≡ true
 none-all p [] h = refl
@@ -45,9 +48,11 @@ ends_blank-last s =
     let n = length s - k in
     let le = suffix_len-le-length is_blank s in
     let long : length (reverse (drop n s)) ≡ k = length-reverse (drop n s) ∙ length-drop n s ∙ omega (arith, le) in
-    let whole : reverse s ≡ reverse (drop n s) ++ reverse (take n s) = ap reverse (sym (take-append-drop n s)) ∙ reverse-append (take n s) (drop n s) in
+    let whole : reverse s ≡ reverse (drop n s) ++ reverse (take n s) =
+    ap reverse (sym (take-append-drop n s)) ∙ reverse-append (take n s) (drop n s) in
     let rest : drop k (reverse s) ≡ reverse (take n s)
-    = ap (drop k) whole ∙ ap (λ i. drop i (reverse (drop n s) ++ reverse (take n s))) (sym long) ∙ drop-append_seam (reverse (drop n s)) (reverse (take n s)) in
+    = ap (drop k) whole ∙ ap (λ i. drop i (reverse (drop n s) ++ reverse (take n s))) (sym long)
+    ∙ drop-append_seam (reverse (drop n s)) (reverse (take n s)) in
     ap begins_blank (sym rest) ∙ begins_blank-without_first (reverse s)
 
 begins_blank-last : (s : List ℕ) → begins_blank s ≡ false → begins_blank (without_last_blanks s) ≡ false
@@ -60,18 +65,24 @@ control-trimmed s h =
     let t = without_first is_blank s in
     none-take is_control (length t - suffix_len is_blank t) t (none-drop is_control (prefix_len is_blank s) s h)
 
-text_from : (s : List ℕ) → 1 ≤ length s → length s ≤ 200 → list_any is_control s ≡ false → begins_blank s ≡ false → ends_blank s ≡ false → IsText s
+text_from : (s : List ℕ) → 1 ≤ length s → length s ≤ 200 → list_any is_control s ≡ false → begins_blank s ≡ false
+    → ends_blank s ≡ false → IsText s
 unfolding is_text
 text_from s least most clean first last =
     let size = and_from (nat_le 1 (length s)) (nat_le (length s) 200) (le-leb 1 (length s) least) (le-leb (length s) 200 most) in
-    let plain = and_from (nat_le 1 (length s) && nat_le (length s) 200) (list_all (λ c. not (is_control c)) s) size (none-all is_control s clean) in
-    let start = and_from (nat_le 1 (length s) && nat_le (length s) 200 && list_all (λ c. not (is_control c)) s) (not (begins_blank s)) plain (not_from_false (begins_blank s) first) in
-    and_from (nat_le 1 (length s) && nat_le (length s) 200 && list_all (λ c. not (is_control c)) s && not (begins_blank s)) (not (ends_blank s)) start (not_from_false (ends_blank s) last)
+    let plain = and_from (nat_le 1 (length s) && nat_le (length s) 200) (list_all (λ c. not (is_control c)) s) size
+    (none-all is_control s clean) in
+    let start = and_from (nat_le 1 (length s) && nat_le (length s) 200 && list_all (λ c. not (is_control c)) s)
+    (not (begins_blank s)) plain (not_from_false (begins_blank s) first) in
+    and_from (nat_le 1 (length s) && nat_le (length s) 200 && list_all (λ c. not (is_control c)) s && not (begins_blank s))
+    (not (ends_blank s)) start (not_from_false (ends_blank s) last)
 
 -- a text without outer blanks is a text, where it has 1 to 200 bytes and no control character
-pub trimmed-text : (s : List ℕ) → 1 ≤ length (trimmed s) → length (trimmed s) ≤ 200 → list_any is_control s ≡ false → IsText (trimmed s)
+pub trimmed-text : (s : List ℕ) → 1 ≤ length (trimmed s) → length (trimmed s) ≤ 200 → list_any is_control s ≡ false
+    → IsText (trimmed s)
 trimmed-text s least most clean =
-    text_from (trimmed s) least most (control-trimmed s clean) (begins_blank-last (without_first is_blank s) (begins_blank-without_first s)) (ends_blank-last (without_first is_blank s))
+    text_from (trimmed s) least most (control-trimmed s clean)
+    (begins_blank-last (without_first is_blank s) (begins_blank-without_first s)) (ends_blank-last (without_first is_blank s))
 
 -- what a text is
 pub record TextParts (s : List ℕ) : Type 0 where

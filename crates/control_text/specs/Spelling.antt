@@ -59,7 +59,8 @@ spelled_words (commands.NotFixed bug version) = codes "notfixed" ∷ bug_text bu
 spelled_words (commands.Close bug version) = codes "close" ∷ bug_text bug ∷ word_if version_text version
 spelled_words (commands.Reopen bug who) = codes "reopen" ∷ bug_text bug ∷ word_if who_text who
 spelled_words (commands.Severity bug severity) = codes "severity" ∷ bug_text bug ∷ severity_name severity ∷ []
-spelled_words (commands.Reassign bug package_name version) = codes "reassign" ∷ bug_text bug ∷ package_name ∷ word_if version_text version
+spelled_words (commands.Reassign bug package_name version) =
+    codes "reassign" ∷ bug_text bug ∷ package_name ∷ word_if version_text version
 spelled_words (commands.Tags bug steps) = codes "tags" ∷ bug_text bug ∷ step_words steps
 spelled_words (commands.Retitle bug text) = codes "retitle" ∷ bug_text bug ∷ text ∷ []
 spelled_words (commands.Submitter bug who) = codes "submitter" ∷ bug_text bug ∷ who_text who ∷ []

@@ -1,7 +1,8 @@
 //! The canonical spelling of commands.
 
 ghost use Rattle.std.specs.Prelude.{◌≡◌, ◌∷◌, [], ◌++◌, map, IfOk, OnOk, string_bytes, codes};
-ghost use Rattle.control_text.specs.Spelling.{bug_text, version_text, who_text, step_text, step_words, word_if, joined_by_blanks, spelling};
+ghost use Rattle.control_text.specs.Spelling.{bug_text, version_text, who_text, step_text, step_words, word_if, joined_by_blanks};
+ghost use Rattle.control_text.specs.Spelling.{spelling};
 ghost use Rattle.control_text.specs.WellFormed.{IsWellFormed};
 
 use bug_record::{Command, TagStep, VersionArg, Who};

@@ -1,12 +1,14 @@
 -- Each text is cut in just one way, that of `cut`.
 
-use Rattle.std.proofs.Common.{◌≡◌, ℕ, List, [], ◌∷◌, ◌++◌, refl, ap, sym, subst, ◌∙◌, Bool, cond, ◌↔◌, inl, inr, append_assoc, append-nil}
+use Rattle.std.proofs.Common.{◌≡◌, ℕ, List, [], ◌∷◌, ◌++◌, refl, ap, sym, subst, ◌∙◌, Bool, cond, ◌↔◌, inl, inr, append_assoc}
+use Rattle.std.proofs.Common.{append-nil}
 use Rattle.std.specs.Prelude.{Option, Some, None}
 use Rattle.std.specs.Bool.{then_some}
 use Rattle.std.specs.List.{list_any, before_first, after_first, before_last, after_last}
 use Rattle.std.proofs.lemmas.Bool.{cases_Bool, eqb-true}
 use Rattle.debver.specs.Characters.{is_colon, is_hyphen}
-use Rattle.debver.specs.Parts.{Version, parts_of, IsCut, HasParts, PrecedesFirstColon, FollowsLastHyphen, epoch_text, revision_text}
+use Rattle.debver.specs.Parts.{Version, parts_of, IsCut, HasParts, PrecedesFirstColon, FollowsLastHyphen, epoch_text}
+use Rattle.debver.specs.Parts.{revision_text}
 use Rattle.debver.specs.Cut.{cut, IsVersion, epoch_of, rest_of, upstream_of, revision_of}
 use Rattle.debver.specs.Faults.{fault, text_fault}
 use Rattle.debver.specs.declared.fault.VersionFault.{VersionFault}
@@ -71,9 +73,13 @@ pub no_version : (t : List ℕ) (f : VersionFault) → text_fault t ≡ Some f �
 no_version t f h is = let n = no_fault t (cut t) is in absurd (cc)
 
 pub parts_exactly : (t : List ℕ) (v : Version) → HasParts t v ↔ ((v ≡ cut t) × (text_fault t ≡ None))
-parts_exactly t v =
-    (λ h. (parts_are t v h, ap fault (sym (parts_are t v h)) ∙ no_fault t v h), λ h. subst (HasParts t) (sym h.0) (version_is t h.1))
+parts_exactly t v = (
+  λ h. (parts_are t v h, ap fault (sym (parts_are t v h)) ∙ no_fault t v h),
+  λ h. subst (HasParts t) (sym h.0) (version_is t h.1),
+)
 
 -- cut at the first colon, and then what follows at its last hyphen
-pub cut_so : (t rest upstream : List ℕ) (epoch revision : Option (List ℕ)) → t ≡ epoch_text epoch ++ rest → PrecedesFirstColon epoch rest → rest ≡ upstream ++ revision_text revision → FollowsLastHyphen upstream revision → parts_of epoch upstream revision ≡ cut t
+pub cut_so : (t rest upstream : List ℕ) (epoch revision : Option (List ℕ)) → t ≡ epoch_text epoch ++ rest
+    → PrecedesFirstColon epoch rest → rest ≡ upstream ++ revision_text revision → FollowsLastHyphen upstream revision
+    → parts_of epoch upstream revision ≡ cut t
 cut_so t rest upstream epoch revision a p b q = cut_once t _ (cut t) (cut_from t rest upstream epoch revision a p b q) (cut_is t)

@@ -1,13 +1,16 @@
 -- A text that is cut into parts has no fault just where it has those parts.
 
-use Rattle.std.proofs.Common.{◌≡◌, ℕ, ◌+◌, ◌==◌, List, ◌++◌, length, refl, sym, ap, ◌∙◌, arith, Bool, true, false, not, cond, inl, inr, nat_lt, length-append}
+use Rattle.std.proofs.Common.{◌≡◌, ℕ, ◌+◌, ◌==◌, List, ◌++◌, length, refl, sym, ap, ◌∙◌, arith, Bool, true, false, not, cond, inl}
+use Rattle.std.proofs.Common.{inr, nat_lt, length-append}
 use Rattle.std.specs.Prelude.{Option, Some, None, is_some, position}
 use Rattle.std.specs.Bool.{then_some}
 use Rattle.std.specs.Option.{option_map, option_or}
 use Rattle.std.proofs.lemmas.Bool.{cases_Bool, ltb-false, eqb-false, le-ltb, ne_eqb}
 use Rattle.debver.specs.Characters.{is_digit}
-use Rattle.debver.specs.Parts.{Version, IsPart, IsEpoch, IsRevision, IsCut, HasParts, written, epoch_text, revision_text, in_revision}
-use Rattle.debver.specs.Faults.{wrong_place, has_bad_epoch, upstream_start, upstream_fault, revision_fault, revision_fault_at, fault}
+use Rattle.debver.specs.Parts.{Version, IsPart, IsEpoch, IsRevision, IsCut, HasParts, written, epoch_text, revision_text}
+use Rattle.debver.specs.Parts.{in_revision}
+use Rattle.debver.specs.Faults.{wrong_place, has_bad_epoch, upstream_start, upstream_fault, revision_fault, revision_fault_at}
+use Rattle.debver.specs.Faults.{fault}
 use Rattle.debver.specs.declared.fault.VersionFault.{VersionFault}
 use Rattle.debver.specs.declared.fault.VersionFault.TheVariants.{BadUpstream, BadRevision}
 use Rattle.debver.proofs.Places.{all_right, right_all}
@@ -82,6 +85,7 @@ no_fault t v h =
     let some : (length (written v) == 0) ≡ false = ne_eqb (length (written v)) 0 (omega (arith, h.upstream.0)) in
     let same = ap length h.cut.whole in
     let short : nat_lt 100 (length (written v)) ≡ false = le-ltb 100 (length (written v)) (omega (arith, h.short)) in
-    let up : upstream_fault v ≡ None = ap (option_map (λ i. BadUpstream (upstream_start v + i))) (no_wrong_place _ _ h.upstream) in
+    let up : upstream_fault v ≡ None =
+    ap (option_map (λ i. BadUpstream (upstream_start v + i))) (no_wrong_place _ _ h.upstream) in
     let rev : revision_fault v ≡ None = no_revision_fault _ v.revision h.revision in
     rw (some, no_bad_epoch v.epoch h.epoch, up, rev, short) refl

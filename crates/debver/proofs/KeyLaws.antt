@@ -42,7 +42,8 @@ end_agree (suc (suc n)) (y ∷ []) h = refl
 end_agree (suc (suc n)) (y ∷ z ∷ l) h =
     ap (λ o. ordering_then (nat_cmp y 1) (ordering_then (nat_cmp z 0) o)) (end_agree n l (omega arith))
 
-agree : (n : ℕ) (k l : List ℕ) → length k + length l + 2 ≤ n → slice_cmp nat_cmp (first_numbers n k) (first_numbers n l) ≡ walk_cmp k l
+agree : (n : ℕ) (k l : List ℕ) → length k + length l + 2 ≤ n
+    → slice_cmp nat_cmp (first_numbers n k) (first_numbers n l) ≡ walk_cmp k l
 agree n [] l h = agree_end n l (omega arith)
 agree n (x ∷ k) [] h = end_agree n (x ∷ k) (omega arith)
 agree zero (x ∷ k) (y ∷ l) h = absurd (omega arith)
@@ -52,21 +53,25 @@ pub key_cmp_walk : (k l : List ℕ) → key_cmp k l ≡ walk_cmp k l
 key_cmp_walk k l = agree (length k + length l + 2) k l (omega arith)
 
 -- at any greater number of places keys compare alike
-pub key_cmp_at : (n : ℕ) (k l : List ℕ) → length k + length l + 2 ≤ n → key_cmp k l ≡ slice_cmp nat_cmp (first_numbers n k) (first_numbers n l)
+pub key_cmp_at : (n : ℕ) (k l : List ℕ) → length k + length l + 2 ≤ n
+    → key_cmp k l ≡ slice_cmp nat_cmp (first_numbers n k) (first_numbers n l)
 key_cmp_at n k l h = key_cmp_walk k l ∙ sym (agree n k l h)
 
 pub key_cmp_total : IsTotalOrder key_cmp
 key_cmp_total = record {
   antisymm = λ x y.
       let n = length x + length y + 2 in
-      nat_list_cmp_total.antisymm (first_numbers n x) (first_numbers n y) ∙ ap ordering_reverse (sym (key_cmp_at n y x (omega arith)));
+      nat_list_cmp_total.antisymm (first_numbers n x) (first_numbers n y)
+      ∙ ap ordering_reverse (sym (key_cmp_at n y x (omega arith)));
   trans = λ x y z p q.
       let n = length x + length y + length z + 2 in
       key_cmp_at n x z (omega arith)
-      ∙ nat_list_cmp_total.trans (first_numbers n x) (first_numbers n y) (first_numbers n z) (sym (key_cmp_at n x y (omega arith)) ∙ p) (sym (key_cmp_at n y z (omega arith)) ∙ q);
+      ∙ nat_list_cmp_total.trans (first_numbers n x) (first_numbers n y) (first_numbers n z)
+      (sym (key_cmp_at n x y (omega arith)) ∙ p) (sym (key_cmp_at n y z (omega arith)) ∙ q);
   congr = λ x y z p.
       let n = length x + length y + length z + 2 in
       key_cmp_at n x z (omega arith)
-      ∙ nat_list_cmp_total.congr (first_numbers n x) (first_numbers n y) (first_numbers n z) (sym (key_cmp_at n x y (omega arith)) ∙ p)
+      ∙ nat_list_cmp_total.congr (first_numbers n x) (first_numbers n y) (first_numbers n z)
+      (sym (key_cmp_at n x y (omega arith)) ∙ p)
       ∙ sym (key_cmp_at n y z (omega arith));
 }

@@ -8,7 +8,8 @@ use Rattle.debver.specs.Characters.{is_digit}
 use Rattle.debver.specs.Keys.{key, key_from, weight, value, value_from, starts_digit, key_after}
 use Rattle.debver.proofs.KeySteps.{key_word, key_digit}
 
-after_digits : (n : ℕ) (ds rest : List ℕ) → list_all is_digit ds ≡ true → starts_digit rest ≡ false → key_from (Some n) (ds ++ rest) ≡ value_from n ds ∷ key_after rest
+after_digits : (n : ℕ) (ds rest : List ℕ) → list_all is_digit ds ≡ true → starts_digit rest ≡ false
+    → key_from (Some n) (ds ++ rest) ≡ value_from n ds ∷ key_after rest
 after_digits n [] [] d r = refl
 after_digits n [] (c ∷ s) d r =
     ap (λ b. cond b (key_from (Some (n * 10 + (c - 48))) s) (n ∷ weight c ∷ key s)) r ∙ ap (λ k. n ∷ k) (sym (key_word c s r))
@@ -17,7 +18,9 @@ after_digits n (c ∷ ds) rest d r =
     ap (λ b. cond b (key_from (Some (n * 10 + (c - 48))) (ds ++ rest)) (n ∷ weight c ∷ key (ds ++ rest))) p.0
     ∙ after_digits (n * 10 + (c - 48)) ds rest p.1 r
 
-pub key_by_parts : (word digits rest : List ℕ) → list_any is_digit word ≡ false → list_all is_digit digits ≡ true → starts_digit rest ≡ false → (digits ≡ [] → rest ≡ []) → key (word ++ (digits ++ rest)) ≡ map weight word ++ (1 ∷ value digits ∷ key_after rest)
+pub key_by_parts : (word digits rest : List ℕ) → list_any is_digit word ≡ false → list_all is_digit digits ≡ true
+    → starts_digit rest ≡ false → (digits ≡ [] → rest ≡ [])
+    → key (word ++ (digits ++ rest)) ≡ map weight word ++ (1 ∷ value digits ∷ key_after rest)
 key_by_parts [] [] [] w d r e = refl
 key_by_parts [] [] (c ∷ s) w d r e = let z = e refl in absurd (cc)
 key_by_parts [] (c ∷ ds) rest w d r e =

@@ -1,6 +1,7 @@
 -- One step of the walk over two strings, as a step of the comparison of their keys.
 
-use Rattle.std.proofs.Common.{◌≡◌, ◌≢◌, ℕ, ◌+◌, ◌-◌, ◌*◌, suc, List, [], ◌∷◌, length, take, drop, refl, ap, sym, ◌∙◌, arith, true, false, cond, not, ◌||◌, inl, inr}
+use Rattle.std.proofs.Common.{◌≡◌, ◌≢◌, ℕ, ◌+◌, ◌-◌, ◌*◌, suc, List, [], ◌∷◌, length, take, drop, refl, ap, sym, ◌∙◌, arith, true}
+use Rattle.std.proofs.Common.{false, cond, not, ◌||◌, inl, inr}
 use Rattle.std.specs.Prelude.{Some}
 use Rattle.std.specs.List.{prefix_len}
 use Rattle.std.specs.Ordering.{nat_cmp, ordering_then}
@@ -15,11 +16,13 @@ use Rattle.debver.proofs.KeyLaws.{key_cmp_walk, key_cmp_at}
 -- an ended key goes on with 1, 0
 key_cmp_ended_left : (l : List ℕ) → key_cmp [] l ≡ key_cmp (1 ∷ 0 ∷ []) l
 key_cmp_ended_left l =
-    key_cmp_at (suc (suc (length l + 2))) [] l (omega arith) ∙ sym (key_cmp_at (suc (suc (length l + 2))) (1 ∷ 0 ∷ []) l (omega arith))
+    key_cmp_at (suc (suc (length l + 2))) [] l (omega arith)
+    ∙ sym (key_cmp_at (suc (suc (length l + 2))) (1 ∷ 0 ∷ []) l (omega arith))
 
 key_cmp_ended_right : (k : List ℕ) → key_cmp k [] ≡ key_cmp k (1 ∷ 0 ∷ [])
 key_cmp_ended_right k =
-    key_cmp_at (suc (suc (length k + 2))) k [] (omega arith) ∙ sym (key_cmp_at (suc (suc (length k + 2))) k (1 ∷ 0 ∷ []) (omega arith))
+    key_cmp_at (suc (suc (length k + 2))) k [] (omega arith)
+    ∙ sym (key_cmp_at (suc (suc (length k + 2))) k (1 ∷ 0 ∷ []) (omega arith))
 
 key_cmp_more : (x y : ℕ) (k l : List ℕ) → key_cmp (x ∷ k) (y ∷ l) ≡ ordering_then (nat_cmp x y) (key_cmp k l)
 key_cmp_more x y k l = key_cmp_walk (x ∷ k) (y ∷ l) ∙ ap (ordering_then (nat_cmp x y)) (sym (key_cmp_walk k l))
@@ -75,18 +78,21 @@ other_weight (c ∷ s) h =
       | inr d ↦ let e2 : not (is_digit c) ≡ true = ap not d in absurd (cc)
     ]
 
-heads : (s t : List ℕ) → string_cmp s t ≡ ordering_then (nat_cmp (head_weight s) (head_weight t)) (key_cmp ((has_head s).rest) ((has_head t).rest))
+heads : (s t : List ℕ)
+    → string_cmp s t ≡ ordering_then (nat_cmp (head_weight s) (head_weight t)) (key_cmp ((has_head s).rest) ((has_head t).rest))
 heads s t =
     ap (λ k. key_cmp k (key t)) ((has_head s).is) ∙ ap (λ k. key_cmp (head_weight s ∷ (has_head s).rest) k) ((has_head t).is)
     ∙ key_cmp_more (head_weight s) (head_weight t) ((has_head s).rest) ((has_head t).rest)
 
 -- where a string begins with a character that is no digit, the weights of the heads decide, and
 -- else what follows
-pub word_step : (s t : List ℕ) → (starts_word s || starts_word t) ≡ true → string_cmp s t ≡ ordering_then (nat_cmp (head_weight s) (head_weight t)) (string_cmp (drop 1 s) (drop 1 t))
+pub word_step : (s t : List ℕ) → (starts_word s || starts_word t) ≡ true
+    → string_cmp s t ≡ ordering_then (nat_cmp (head_weight s) (head_weight t)) (string_cmp (drop 1 s) (drop 1 t))
 word_step s t h =
     elim (cases_Bool (starts_word s)) [
       | inl p ↦ elim (cases_Bool (starts_word t)) [
-        | inl q ↦ heads s t ∙ ap (λ k. ordering_then (nat_cmp (head_weight s) (head_weight t)) (key_cmp k ((has_head t).rest))) ((has_head s).word p)
+        | inl q ↦ heads s t ∙ ap (λ k. ordering_then (nat_cmp (head_weight s) (head_weight t)) (key_cmp k ((has_head t).rest)))
+            ((has_head s).word p)
             ∙ ap (λ k. ordering_then (nat_cmp (head_weight s) (head_weight t)) (key_cmp (key (drop 1 s)) k)) ((has_head t).word q)
         | inr q ↦ heads s t ∙ decided _ _ _ _ (λ e. word_weight s p (e ∙ other_weight t q))
       ]
@@ -111,17 +117,21 @@ prefix_yes c s e = ap (λ b. cond b (1 + prefix_len is_digit s) 0) e ∙ omega a
 prefix_no : (c : ℕ) (s : List ℕ) → is_digit c ≡ false → prefix_len is_digit (c ∷ s) ≡ 0
 prefix_no c s e = ap (λ b. cond b (1 + prefix_len is_digit s) 0) e
 
-from_digits : (n : ℕ) (s : List ℕ) → key_from (Some n) s ≡ value_from n (take (prefix_len is_digit s) s) ∷ key_after (drop (prefix_len is_digit s) s)
+from_digits : (n : ℕ) (s : List ℕ)
+    → key_from (Some n) s ≡ value_from n (take (prefix_len is_digit s) s) ∷ key_after (drop (prefix_len is_digit s) s)
 from_digits n [] = refl
 from_digits n (c ∷ s) =
     elim (cases_Bool (is_digit c)) [
-      | inl e ↦ ap (λ b. cond b (key_from (Some (n * 10 + (c - 48))) s) (n ∷ weight c ∷ key s)) e ∙ from_digits (n * 10 + (c - 48)) s
+      | inl e ↦ ap (λ b. cond b (key_from (Some (n * 10 + (c - 48))) s) (n ∷ weight c ∷ key s)) e
+          ∙ from_digits (n * 10 + (c - 48)) s
           ∙ sym (ap (λ m. value_from n (take m (c ∷ s)) ∷ key_after (drop m (c ∷ s))) (prefix_yes c s e))
-      | inr e ↦ ap (λ b. cond b (key_from (Some (n * 10 + (c - 48))) s) (n ∷ weight c ∷ key s)) e ∙ ap (λ k. n ∷ k) (sym (key_word c s e))
+      | inr e ↦ ap (λ b. cond b (key_from (Some (n * 10 + (c - 48))) s) (n ∷ weight c ∷ key s)) e
+          ∙ ap (λ k. n ∷ k) (sym (key_word c s e))
           ∙ sym (ap (λ m. value_from n (take m (c ∷ s)) ∷ key_after (drop m (c ∷ s))) (prefix_no c s e))
     ]
 
-number_key : (s : List ℕ) → starts_word s ≡ false → key s ≡ 1 ∷ value (take (prefix_len is_digit s) s) ∷ key_after (drop (prefix_len is_digit s) s)
+number_key : (s : List ℕ) → starts_word s ≡ false
+    → key s ≡ 1 ∷ value (take (prefix_len is_digit s) s) ∷ key_after (drop (prefix_len is_digit s) s)
 number_key [] h = refl
 number_key (c ∷ s) h =
     elim (cases_Bool (is_digit c)) [
@@ -132,7 +142,9 @@ number_key (c ∷ s) h =
     ]
 
 -- where neither begins so, the values of their digits decide, and else what follows those
-pub number_step : (s t : List ℕ) → starts_word s ≡ false → starts_word t ≡ false → string_cmp s t ≡ ordering_then (nat_cmp (value (take (prefix_len is_digit s) s)) (value (take (prefix_len is_digit t) t))) (string_cmp (drop (prefix_len is_digit s) s) (drop (prefix_len is_digit t) t))
+pub number_step : (s t : List ℕ) → starts_word s ≡ false → starts_word t ≡ false
+    → string_cmp s t ≡ ordering_then (nat_cmp (value (take (prefix_len is_digit s) s)) (value (take (prefix_len is_digit t) t)))
+    (string_cmp (drop (prefix_len is_digit s) s) (drop (prefix_len is_digit t) t))
 number_step s t p q =
     let v = value (take (prefix_len is_digit s) s) in
     let w = value (take (prefix_len is_digit t) t) in

@@ -45,4 +45,5 @@ eq_is Greater h = absurd (cc)
 -- as a derived or written `eq` of texts compares them
 pub total_eq : (s t : List ℕ) → bytes_eq s t ≡ eq_by_cmp total_cmp s t
 total_eq s t =
-    same_from_decides _ _ (bytes_decides s t) (λ h. total_ties s t (eq_is (total_cmp s t) h), λ e. ap is_eq ((total_ties_exactly s t).1 e))
+    same_from_decides _ _ (bytes_decides s t)
+    (λ h. total_ties s t (eq_is (total_cmp s t) h), λ e. ap is_eq ((total_ties_exactly s t).1 e))

@@ -1,6 +1,7 @@
 -- A text round the first character that passes a test, and round the last.
 
-use Rattle.std.proofs.Common.{◌≡◌, ℕ, ◌+◌, ◌-◌, ◌<◌, ◌≤◌, List, ◌∷◌, ◌++◌, length, get_or, take, drop, reverse, arith, Bool, true, false, not, inl, inr, sym, ap, ◌∙◌, nat_lt, length-take, length-drop}
+use Rattle.std.proofs.Common.{◌≡◌, ℕ, ◌+◌, ◌-◌, ◌<◌, ◌≤◌, List, ◌∷◌, ◌++◌, length, get_or, take, drop, reverse, arith, Bool, true}
+use Rattle.std.proofs.Common.{false, not, inl, inr, sym, ap, ◌∙◌, nat_lt, length-take, length-drop}
 use Rattle.std.specs.List.{list_any, position_or_len, suffix_len, before_first, after_first, before_last, after_last}
 use Rattle.std.proofs.lemmas.Bool.{cases_Bool, ltb-true, ltb-false, false≢true}
 use Rattle.std.proofs.lemmas.List.{get_or-take, get_or-drop, get_or-reverse, drop_more, length-reverse, take-append-drop}
@@ -24,7 +25,8 @@ none_before_first p t =
     let within : k < n = omega (arith, length-take n t) in
     ap p (get_or-take n t k d within) ∙ fails_before_first p t k d within)
 
-pub split_first : (p : ℕ → Bool) (t : List ℕ) → list_any p t ≡ true → (c : ℕ) × (p c ≡ true) × (t ≡ before_first p t ++ c ∷ after_first p t)
+pub split_first : (p : ℕ → Bool) (t : List ℕ) → list_any p t ≡ true → (c : ℕ) × (p c ≡ true)
+    × (t ≡ before_first p t ++ c ∷ after_first p t)
 split_first p t h =
     let within = first_within p t h in
     (get_or t (position_or_len p t) 0, passes_at_first p t 0 within, split_at_first p t 0 within)
@@ -57,7 +59,8 @@ none_after_last p t =
     let within : n + k < length t = omega (arith, length-drop n t) in
     ap p (get_or-drop n t k d) ∙ fails_late p t (n + k) d within (omega arith))
 
-pub split_last : (p : ℕ → Bool) (t : List ℕ) → list_any p t ≡ true → (c : ℕ) × (p c ≡ true) × (t ≡ before_last p t ++ c ∷ after_last p t)
+pub split_last : (p : ℕ → Bool) (t : List ℕ) → list_any p t ≡ true → (c : ℕ) × (p c ≡ true)
+    × (t ≡ before_last p t ++ c ∷ after_last p t)
 split_last p t h =
     let n = length t - after p t - 1 in
     let within = last_within p t h in

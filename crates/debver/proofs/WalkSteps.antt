@@ -1,6 +1,7 @@
 -- What the walk learns from one comparison.
 
-use Rattle.std.proofs.Common.{◌≡◌, ℕ, ◌+◌, List, [], ◌∷◌, length, take, drop, refl, ap, sym, ◌∙◌, arith, true, false, ◌||◌, inl, inr}
+use Rattle.std.proofs.Common.{◌≡◌, ℕ, ◌+◌, List, [], ◌∷◌, length, take, drop, refl, ap, sym, ◌∙◌, arith, true, false, ◌||◌, inl}
+use Rattle.std.proofs.Common.{inr}
 use Rattle.std.specs.List.{prefix_len}
 use Rattle.std.specs.Ordering.{nat_cmp, ordering_then, is_ne}
 use Rattle.std.specs.declared.cmp.Ordering.{Ordering}
@@ -21,10 +22,12 @@ then_goes_on Less p h = absurd (cc)
 then_goes_on Equal p h = refl
 then_goes_on Greater p h = absurd (cc)
 
-pub word_stops : (s t : List ℕ) → (starts_word s || starts_word t) ≡ true → is_ne (nat_cmp (head_weight s) (head_weight t)) ≡ true → string_cmp s t ≡ nat_cmp (head_weight s) (head_weight t)
+pub word_stops : (s t : List ℕ) → (starts_word s || starts_word t) ≡ true → is_ne (nat_cmp (head_weight s) (head_weight t)) ≡ true
+    → string_cmp s t ≡ nat_cmp (head_weight s) (head_weight t)
 word_stops s t h e = word_step s t h ∙ then_stops _ _ e
 
-pub word_goes_on : (s t : List ℕ) → (starts_word s || starts_word t) ≡ true → is_ne (nat_cmp (head_weight s) (head_weight t)) ≡ false → string_cmp s t ≡ string_cmp (drop 1 s) (drop 1 t)
+pub word_goes_on : (s t : List ℕ) → (starts_word s || starts_word t) ≡ true
+    → is_ne (nat_cmp (head_weight s) (head_weight t)) ≡ false → string_cmp s t ≡ string_cmp (drop 1 s) (drop 1 t)
 word_goes_on s t h e = word_step s t h ∙ then_goes_on _ _ e
 
 neither : (s t : List ℕ) → (starts_word s || starts_word t) ≡ false → (starts_word s ≡ false) × (starts_word t ≡ false)
@@ -34,10 +37,14 @@ neither s t h =
       | inr p ↦ (p, sym (ap (λ b. b || starts_word t) p) ∙ h)
     ]
 
-pub number_stops : (s t : List ℕ) → (starts_word s || starts_word t) ≡ false → is_ne (nat_cmp (value (take (prefix_len is_digit s) s)) (value (take (prefix_len is_digit t) t))) ≡ true → string_cmp s t ≡ nat_cmp (value (take (prefix_len is_digit s) s)) (value (take (prefix_len is_digit t) t))
+pub number_stops : (s t : List ℕ) → (starts_word s || starts_word t) ≡ false
+    → is_ne (nat_cmp (value (take (prefix_len is_digit s) s)) (value (take (prefix_len is_digit t) t))) ≡ true
+    → string_cmp s t ≡ nat_cmp (value (take (prefix_len is_digit s) s)) (value (take (prefix_len is_digit t) t))
 number_stops s t h e = let n = neither s t h in number_step s t n.0 n.1 ∙ then_stops _ _ e
 
-pub number_goes_on : (s t : List ℕ) → (starts_word s || starts_word t) ≡ false → is_ne (nat_cmp (value (take (prefix_len is_digit s) s)) (value (take (prefix_len is_digit t) t))) ≡ false → string_cmp s t ≡ string_cmp (drop (prefix_len is_digit s) s) (drop (prefix_len is_digit t) t)
+pub number_goes_on : (s t : List ℕ) → (starts_word s || starts_word t) ≡ false
+    → is_ne (nat_cmp (value (take (prefix_len is_digit s) s)) (value (take (prefix_len is_digit t) t))) ≡ false
+    → string_cmp s t ≡ string_cmp (drop (prefix_len is_digit s) s) (drop (prefix_len is_digit t) t)
 number_goes_on s t h e = let n = neither s t h in number_step s t n.0 n.1 ∙ then_goes_on _ _ e
 
 pub ended : (s t : List ℕ) → length s + length t ≡ 0 → string_cmp s t ≡ Equal

@@ -1,6 +1,7 @@
 -- The first fault of a text that is no version: this project's own rule.
 
-use Rattle.std.specs.Prelude.{ℕ, ◌+◌, ◌==◌, nat_lt, Bool, false, not, if◌then◌else◌, List, length, position, Option, Some, None, is_some}
+use Rattle.std.specs.Prelude.{ℕ, ◌+◌, ◌==◌, nat_lt, Bool, false, not, if◌then◌else◌, List, length, position, Option, Some, None}
+use Rattle.std.specs.Prelude.{is_some}
 use Rattle.std.specs.Bool.{then_some}
 use Rattle.std.specs.Option.{option_map, option_or}
 use Rattle.debver.specs.Characters.{is_digit}

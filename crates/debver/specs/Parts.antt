@@ -1,6 +1,7 @@
 -- What a version is written from: [epoch:]upstream[-revision], by Debian Policy 5.6.12.
 
-use Rattle.std.specs.Prelude.{◌≡◌, ℕ, ◌≤◌, ◌<◌, ◌==◌, ◌&&◌, ◌||◌, Bool, List, [], ◌∷◌, ◌++◌, length, Option, Some, None, IsTrue, IsFalse, is_some, ⊤}
+use Rattle.std.specs.Prelude.{◌≡◌, ℕ, ◌≤◌, ◌<◌, ◌==◌, ◌&&◌, ◌||◌, Bool, List, [], ◌∷◌, ◌++◌, length, Option, Some, None, IsTrue}
+use Rattle.std.specs.Prelude.{IsFalse, is_some, ⊤}
 use Rattle.std.specs.List.{list_all, list_any}
 use Rattle.debver.specs.Characters.{is_digit, is_letter, is_colon, is_hyphen}
 

@@ -1,5 +1,6 @@
 -- A text may be cut round ASCII bytes, as blanks and commas are.
-use Rattle.std.proofs.Common.{◌≡◌, ◌==◌, ℕ, ◌+◌, ◌-◌, ◌<◌, List, length, get_or, reverse, true, not, inl, inr, sym, ap, ◌∙◌, subst, arith}
+use Rattle.std.proofs.Common.{◌≡◌, ◌==◌, ℕ, ◌+◌, ◌-◌, ◌<◌, List, length, get_or, reverse, true, not, inl, inr, sym, ap, ◌∙◌}
+use Rattle.std.proofs.Common.{subst, arith}
 use Rattle.std.specs.Prelude.{IsUtf8, IsCharBoundary}
 use Rattle.std.specs.List.{prefix_len, suffix_len, position_or_len}
 use Rattle.std.proofs.lemmas.Bool.{or_cases, eqb-true, cases_lt}
@@ -27,7 +28,8 @@ separator-ascii BlanksAndCommas c h =
     ]
 
 -- a text may be cut at its first separator, and after the separators at its beginning
-pub boundary_at_separator : (separators : Separators) (s : List ℕ) → IsCharBoundary s (position_or_len (is_separator separators) s)
+pub boundary_at_separator : (separators : Separators) (s : List ℕ)
+    → IsCharBoundary s (position_or_len (is_separator separators) s)
 boundary_at_separator separators s =
     let p = is_separator separators in
     let n = position_or_len p s in (
@@ -37,7 +39,8 @@ boundary_at_separator separators s =
           absurd (omega arith),
     )
 
-pub boundary_after_separators : (separators : Separators) (s : List ℕ) → IsUtf8 s → IsCharBoundary s (prefix_len (is_separator separators) s)
+pub boundary_after_separators : (separators : Separators) (s : List ℕ) → IsUtf8 s
+    → IsCharBoundary s (prefix_len (is_separator separators) s)
 boundary_after_separators separators s u =
     let p = is_separator separators in
     let n = prefix_len p s in
@@ -63,7 +66,8 @@ boundary_before_blanks s =
       λ within far.
           let back : length s - 1 - (k - 1) ≡ n = omega arith in
           let passes : is_blank (get_or s n 0) ≡ true =
-          sym (ap is_blank (get_or-reverse s (k - 1) 0 (omega arith) ∙ ap (λ i. get_or s i 0) back)) ∙ prefix_len_passes is_blank (reverse s) (k - 1) 0 (omega arith) in
+          sym (ap is_blank (get_or-reverse s (k - 1) 0 (omega arith) ∙ ap (λ i. get_or s i 0) back))
+          ∙ prefix_len_passes is_blank (reverse s) (k - 1) 0 (omega arith) in
           let near : get_or s n 0 < 128 = blank-ascii (get_or s n 0) passes in
           absurd (omega arith),
     )

@@ -13,7 +13,8 @@ words-cut_into p text (word ∷ more) (rest, first, cut) =
     ∙ words-word p word rest first.some first.whole first.end)
 
 -- one more separator at the beginning
-cut_into-separator : (p : ℕ → Bool) (c : ℕ) (s : List ℕ) (ws : List (List ℕ)) → p c ≡ true → IsCutInto p s ws → IsCutInto p (c ∷ s) ws
+cut_into-separator : (p : ℕ → Bool) (c : ℕ) (s : List ℕ) (ws : List (List ℕ)) → p c ≡ true → IsCutInto p s ws
+    → IsCutInto p (c ∷ s) ws
 cut_into-separator p c s [] e h = and_from (p c) (list_all p s) e h
 cut_into-separator p c s (word ∷ more) e (rest, first, cut) =
     let longer : IsFirstWord p (c ∷ s) word rest = record {
@@ -27,7 +28,8 @@ cut_into-separator p c s (word ∷ more) e (rest, first, cut) =
     (rest, longer, cut)
 
 -- a word of one byte at the beginning
-cut_into-last : (p : ℕ → Bool) (c : ℕ) (s : List ℕ) (ws : List (List ℕ)) → p c ≡ false → EndsWord p s → IsCutInto p s ws → IsCutInto p (c ∷ s) ((c ∷ []) ∷ ws)
+cut_into-last : (p : ℕ → Bool) (c : ℕ) (s : List ℕ) (ws : List (List ℕ)) → p c ≡ false → EndsWord p s → IsCutInto p s ws
+    → IsCutInto p (c ∷ s) ((c ∷ []) ∷ ws)
 cut_into-last p c s ws e end cut =
     let first : IsFirstWord p (c ∷ s) (c ∷ []) s = record {
       gap = [];
@@ -40,7 +42,9 @@ cut_into-last p c s ws e end cut =
     (s, first, cut)
 
 -- one more byte of the first word
-first_word-more : (p : ℕ → Bool) (c d : ℕ) (t word rest gap : List ℕ) → p c ≡ false → p d ≡ false → (d ∷ t) ≡ gap ++ (word ++ rest) → AreSeparators p gap → list_any p word ≡ false → EndsWord p rest → IsFirstWord p (c ∷ d ∷ t) (c ∷ word) rest
+first_word-more : (p : ℕ → Bool) (c d : ℕ) (t word rest gap : List ℕ) → p c ≡ false → p d ≡ false
+    → (d ∷ t) ≡ gap ++ (word ++ rest) → AreSeparators p gap → list_any p word ≡ false → EndsWord p rest
+    → IsFirstWord p (c ∷ d ∷ t) (c ∷ word) rest
 first_word-more p c d t word rest [] e f is separators whole end = record {
   gap = [];
   text_is = ap (λ u. c ∷ u) is;
@@ -53,12 +57,14 @@ first_word-more p c d t word rest (b ∷ gap) e f is separators whole end =
     let same : d ≡ b = cc in
     absurd (false≢true (sym f ∙ ap p same ∙ (and_parts (p b) (list_all p gap) separators).0))
 
-cut_into-more : (p : ℕ → Bool) (c d : ℕ) (t : List ℕ) (ws : List (List ℕ)) → p c ≡ false → p d ≡ false → IsCutInto p (d ∷ t) ws → IsCutInto p (c ∷ d ∷ t) (onto_first c ws)
+cut_into-more : (p : ℕ → Bool) (c d : ℕ) (t : List ℕ) (ws : List (List ℕ)) → p c ≡ false → p d ≡ false → IsCutInto p (d ∷ t) ws
+    → IsCutInto p (c ∷ d ∷ t) (onto_first c ws)
 cut_into-more p c d t [] e f h = absurd (false≢true (sym f ∙ (and_parts (p d) (list_all p t) h).0))
 cut_into-more p c d t (word ∷ more) e f (rest, first, cut) =
     (rest, first_word-more p c d t word rest first.gap e f first.text_is first.separators first.whole first.end, cut)
 
-cut_into-word : (p : ℕ → Bool) (c : ℕ) (s : List ℕ) → p c ≡ false → IsCutInto p s (words_between p s) → IsCutInto p (c ∷ s) (words_between p (c ∷ s))
+cut_into-word : (p : ℕ → Bool) (c : ℕ) (s : List ℕ) → p c ≡ false → IsCutInto p s (words_between p s)
+    → IsCutInto p (c ∷ s) (words_between p (c ∷ s))
 cut_into-word p c [] e cut =
     let P : List (List ℕ) → Type 0 = IsCutInto p (c ∷ []) in
     subst P (sym (words-last p c [] e tt)) (cut_into-last p c [] (words_between p []) e tt cut)

@@ -1,5 +1,6 @@
 -- What number words and bug words give.
-use Rattle.std.proofs.Common.{◌≡◌, ℕ, ◌≤◌, List, [], ◌∷◌, length, true, ◌&&◌, ◌==◌, ◌≢◌, Some, None, Err, Option, Result, refl, ap, sym, ◌∙◌, inl, inr, arith}
+use Rattle.std.proofs.Common.{◌≡◌, ℕ, ◌≤◌, List, [], ◌∷◌, length, true, ◌&&◌, ◌==◌, ◌≢◌, Some, None, Err, Option, Result, refl}
+use Rattle.std.proofs.Common.{ap, sym, ◌∙◌, inl, inr, arith}
 use Rattle.std.specs.Prelude.{MatchOption, unwrap_or, option_map, nat_le}
 use Rattle.std.specs.List.{list_all}
 use Rattle.std.specs.Char.{is_ascii_digit}
@@ -14,8 +15,10 @@ use Rattle.line_words.specs.declared.named.Named.TheVariants.{Number, Name}
 tells_list_all : IsDigitsTest (λ ds. list_all is_ascii_digit ds ≡ true)
 tells_list_all = record {
   empty = refl;
-  parts = λ c cs h. let p = and_parts (is_ascii_digit c) (list_all is_ascii_digit cs) h in let q = and_parts (nat_le 48 c) (nat_le c 57) p.0 in ((leb-true 48 c q.0, leb-true c 57 q.1), p.1);
-  more = λ c cs digit h. and_from (is_ascii_digit c) (list_all is_ascii_digit cs) (and_from (nat_le 48 c) (nat_le c 57) (le-leb 48 c digit.0) (le-leb c 57 digit.1)) h;
+  parts = λ c cs h. let p = and_parts (is_ascii_digit c) (list_all is_ascii_digit cs) h in let q =
+      and_parts (nat_le 48 c) (nat_le c 57) p.0 in ((leb-true 48 c q.0, leb-true c 57 q.1), p.1);
+  more = λ c cs digit h. and_from (is_ascii_digit c) (list_all is_ascii_digit cs)
+      (and_from (nat_le 48 c) (nat_le c 57) (le-leb 48 c digit.0) (le-leb c 57 digit.1)) h;
 }
 
 pub own : IsNumeralModel (λ ds. list_all is_ascii_digit ds ≡ true) (digits_value 10)
@@ -25,7 +28,8 @@ pub short_value : (s : List ℕ) → list_all is_ascii_digit s ≡ true → leng
 short_value s digits short = let below = digits_value_short own s 9 digits short in omega (arith, below)
 
 -- digits that are not parsed are none
-pub number_of_digits-unparsed : {E : Type 0} (s : List ℕ) (r : Result ℕ E) (e : E) → ParsesUnsigned 32 10 s r → r ≡ Err e → list_all is_ascii_digit s ≡ true → length s ≤ 9 → number_of_digits s ≡ None
+pub number_of_digits-unparsed : {E : Type 0} (s : List ℕ) (r : Result ℕ E) (e : E) → ParsesUnsigned 32 10 s r → r ≡ Err e
+    → list_all is_ascii_digit s ≡ true → length s ≤ 9 → number_of_digits s ≡ None
 number_of_digits-unparsed [] r e h is digits short = refl
 number_of_digits-unparsed (c ∷ s) r e h is digits short =
     let most = short_value (c ∷ s) digits short in
@@ -50,7 +54,8 @@ number_of_digits-good s n h =
     ]
 
 -- the word without its `#`, if it has one
-pub without_hash-strips : (s : List ℕ) (r : Option (Bor (List ℕ))) (d : Bor (List ℕ)) → MatchOption r ((rest : List ℕ) → s ≢ 35 ∷ rest) (λ x. s ≡ 35 ∷ x.now) → d.now ≡ s → (unwrap_or r d).now ≡ without_hash s
+pub without_hash-strips : (s : List ℕ) (r : Option (Bor (List ℕ))) (d : Bor (List ℕ))
+    → MatchOption r ((rest : List ℕ) → s ≢ 35 ∷ rest) (λ x. s ≡ 35 ∷ x.now) → d.now ≡ s → (unwrap_or r d).now ≡ without_hash s
 without_hash-strips [] None d h e = e
 without_hash-strips (c ∷ s) None d h e =
     elim (cases_eq c 35) [
@@ -64,5 +69,6 @@ bug_of_text-none [] h none = refl
 bug_of_text-none (c ∷ s) h none =
     elim (cases_eq c 45) [
       | inl is ↦ absurd (h s (ap (λ x. x ∷ s) is))
-      | inr other ↦ cond-false (c == 45) (option_map Name (number_of_digits s)) (option_map Number (number_of_digits (c ∷ s))) (ne_eqb c 45 other) ∙ ap (option_map Number) none
+      | inr other ↦ cond-false (c == 45) (option_map Name (number_of_digits s)) (option_map Number (number_of_digits (c ∷ s)))
+          (ne_eqb c 45 other) ∙ ap (option_map Number) none
     ]

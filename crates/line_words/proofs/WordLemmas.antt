@@ -1,8 +1,10 @@
 -- How the words of a text between separators go on with its bytes.
-use Rattle.std.proofs.Common.{◌≡◌, ℕ, ◌+◌, ◌<◌, Bool, List, [], ◌∷◌, ◌++◌, true, false, not, refl, ap, sym, ◌∙◌, inl, inr, take, drop, subst, length, arith}
+use Rattle.std.proofs.Common.{◌≡◌, ℕ, ◌+◌, ◌<◌, Bool, List, [], ◌∷◌, ◌++◌, true, false, not, refl, ap, sym, ◌∙◌, inl, inr, take}
+use Rattle.std.proofs.Common.{drop, subst, length, arith}
 use Rattle.std.specs.Prelude.{filter}
 use Rattle.std.specs.List.{slice_split, onto_first, list_any, list_all, prefix_len, position_or_len, before_first}
-use Rattle.std.proofs.lemmas.Bool.{cases_Bool, or_parts, or_from, and_parts, not_from_true, not_from_false, cond-true, cond-false, false≢true}
+use Rattle.std.proofs.lemmas.Bool.{cases_Bool, or_parts, or_from, and_parts, not_from_true, not_from_false, cond-true, cond-false}
+use Rattle.std.proofs.lemmas.Bool.{false≢true}
 use Rattle.std.proofs.lemmas.List.{take-append-drop, length-drop}
 use Rattle.std.proofs.lemmas.List.Splits.{slice_split-cons_yes, slice_split-cons_no}
 use Rattle.std.proofs.Math.Numerals.{one-add}
@@ -19,7 +21,8 @@ unfolding words_between
 words-separator p c s e = ap (filter has_bytes) (slice_split-cons_yes p c s e)
 
 -- a word of one byte
-pub words-last : (p : ℕ → Bool) (c : ℕ) (s : List ℕ) → p c ≡ false → EndsWord p s → words_between p (c ∷ s) ≡ (c ∷ []) ∷ words_between p s
+pub words-last : (p : ℕ → Bool) (c : ℕ) (s : List ℕ) → p c ≡ false → EndsWord p s
+    → words_between p (c ∷ s) ≡ (c ∷ []) ∷ words_between p s
 unfolding words_between
 words-last p c [] e ends = ap (filter has_bytes) (slice_split-cons_no p c [] e)
 words-last p c (d ∷ t) e ends =
@@ -27,12 +30,14 @@ words-last p c (d ∷ t) e ends =
     ap (filter has_bytes) (slice_split-cons_no p c (d ∷ t) e ∙ ap (onto_first c) rest)
     ∙ ap (λ r. (c ∷ []) ∷ filter has_bytes r) (sym rest)
 
-filter-onto_first : (c d : ℕ) (parts : List (List ℕ)) → filter has_bytes (onto_first c (onto_first d parts)) ≡ onto_first c (filter has_bytes (onto_first d parts))
+filter-onto_first : (c d : ℕ) (parts : List (List ℕ))
+    → filter has_bytes (onto_first c (onto_first d parts)) ≡ onto_first c (filter has_bytes (onto_first d parts))
 filter-onto_first c d [] = refl
 filter-onto_first c d (part ∷ parts) = refl
 
 -- the first word goes on
-pub words-more : (p : ℕ → Bool) (c d : ℕ) (t : List ℕ) → p c ≡ false → p d ≡ false → words_between p (c ∷ d ∷ t) ≡ onto_first c (words_between p (d ∷ t))
+pub words-more : (p : ℕ → Bool) (c d : ℕ) (t : List ℕ) → p c ≡ false → p d ≡ false
+    → words_between p (c ∷ d ∷ t) ≡ onto_first c (words_between p (d ∷ t))
 unfolding words_between
 words-more p c d t e f =
     let rest = slice_split-cons_no p d t f in
@@ -48,7 +53,8 @@ words-separators p (c ∷ gap) t h =
     words-separator p c (gap ++ t) q.0 ∙ words-separators p gap t q.1
 
 -- the first word
-pub words-word : (p : ℕ → Bool) (word rest : List ℕ) → has_bytes word ≡ true → list_any p word ≡ false → EndsWord p rest → words_between p (word ++ rest) ≡ word ∷ words_between p rest
+pub words-word : (p : ℕ → Bool) (word rest : List ℕ) → has_bytes word ≡ true → list_any p word ≡ false → EndsWord p rest
+    → words_between p (word ++ rest) ≡ word ∷ words_between p rest
 words-word p [] rest some whole ends = absurd (false≢true some)
 words-word p (c ∷ []) rest some whole ends = words-last p c rest (or_parts (p c) false whole).0 ends
 words-word p (c ∷ d ∷ word) rest some whole ends =
@@ -115,7 +121,8 @@ ends_word-drop p (c ∷ s) =
           subst P (sym (place-here p c s e)) e
       | inr e ↦
           let P : List ℕ → Type 0 = EndsWord p in
-          subst P (sym (ap (λ n. drop n (c ∷ s)) (place-later p c s e) ∙ drop_more_of (position_or_len p s) c s)) (ends_word-drop p s)
+          subst P (sym (ap (λ n. drop n (c ∷ s)) (place-later p c s e) ∙ drop_more_of (position_or_len p s) c s))
+          (ends_word-drop p s)
     ]
 
 none-before : (p : ℕ → Bool) (s : List ℕ) → list_any p (before_first p s) ≡ false
@@ -129,19 +136,23 @@ none-before p (c ∷ s) =
     ]
 
 -- a text that begins with no separator, and has a word or none at its beginning
-word-first : (p : ℕ → Bool) (s : List ℕ) → has_bytes (before_first p s) ≡ true → words_between p s ≡ before_first p s ∷ words_between p (drop (position_or_len p s) s)
+word-first : (p : ℕ → Bool) (s : List ℕ) → has_bytes (before_first p s) ≡ true
+    → words_between p s ≡ before_first p s ∷ words_between p (drop (position_or_len p s) s)
 word-first p s some =
     let n = position_or_len p s in
-    ap (words_between p) (sym (take-append-drop n s)) ∙ words-word p (take n s) (drop n s) some (none-before p s) (ends_word-drop p s)
+    ap (words_between p) (sym (take-append-drop n s))
+    ∙ words-word p (take n s) (drop n s) some (none-before p s) (ends_word-drop p s)
 
 begins-word : (p : ℕ → Bool) (c : ℕ) (s : List ℕ) → p c ≡ false → has_bytes (before_first p (c ∷ s)) ≡ true
-begins-word p c s e = ap (λ n. has_bytes (take n (c ∷ s))) (place-later p c s e) ∙ ap has_bytes (take_more_of (position_or_len p s) c s)
+begins-word p c s e =
+    ap (λ n. has_bytes (take n (c ∷ s))) (place-later p c s e) ∙ ap has_bytes (take_more_of (position_or_len p s) c s)
 
 word-none : (p : ℕ → Bool) (s : List ℕ) → begins_with p s ≡ false → has_bytes (before_first p s) ≡ false → words_between p s ≡ []
 word-none p [] first none = words-nil p
 word-none p (c ∷ s) first none = absurd (false≢true (sym none ∙ begins-word p c s first))
 
-word-shorter : (p : ℕ → Bool) (s : List ℕ) → begins_with p s ≡ false → has_bytes (before_first p s) ≡ true → length (drop (position_or_len p s) s) < length s
+word-shorter : (p : ℕ → Bool) (s : List ℕ) → begins_with p s ≡ false → has_bytes (before_first p s) ≡ true
+    → length (drop (position_or_len p s) s) < length s
 word-shorter p [] first some = absurd (false≢true some)
 word-shorter p (c ∷ s) first some =
     let less = length-drop (position_or_len p s) s in
@@ -150,7 +161,8 @@ word-shorter p (c ∷ s) first some =
     omega arith
 
 -- the first word of any text, if it has one, and what follows it
-pub words-first : (p : ℕ → Bool) (s word rest : List ℕ) → word ≡ first_between p s → rest ≡ after_between p s → has_bytes word ≡ true → words_between p s ≡ word ∷ words_between p rest
+pub words-first : (p : ℕ → Bool) (s word rest : List ℕ) → word ≡ first_between p s → rest ≡ after_between p s
+    → has_bytes word ≡ true → words_between p s ≡ word ∷ words_between p rest
 words-first p s word rest first after some =
     sym (words-without_first p s)
     ∙ word-first p (without_first p s) (sym (ap has_bytes first) ∙ some)
@@ -161,7 +173,8 @@ words-none p s word first none =
     sym (words-without_first p s)
     ∙ word-none p (without_first p s) (begins_with-without_first p s) (sym (ap has_bytes first) ∙ none)
 
-pub rest-shorter : (p : ℕ → Bool) (s word rest : List ℕ) → word ≡ first_between p s → rest ≡ after_between p s → has_bytes word ≡ true → length rest < length s
+pub rest-shorter : (p : ℕ → Bool) (s word rest : List ℕ) → word ≡ first_between p s → rest ≡ after_between p s
+    → has_bytes word ≡ true → length rest < length s
 rest-shorter p s word rest first after some =
     let t = without_first p s in
     let less = word-shorter p t (begins_with-without_first p s) (sym (ap has_bytes first) ∙ some) in

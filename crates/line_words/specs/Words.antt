@@ -1,6 +1,7 @@
 -- The words of a text: the maximal runs of bytes between separators, which are blanks, or blanks
 -- and commas.
-use Rattle.std.specs.Prelude.{ℕ, ◌≡◌, ◌==◌, ◌||◌, Bool, true, false, ◌-◌, List, [], ◌∷◌, ◌++◌, length, take, drop, filter, IsTrue, IsFalse, ⊤}
+use Rattle.std.specs.Prelude.{ℕ, ◌≡◌, ◌==◌, ◌||◌, Bool, true, false, ◌-◌, List, [], ◌∷◌, ◌++◌, length, take, drop, filter, IsTrue}
+use Rattle.std.specs.Prelude.{IsFalse, ⊤}
 use Rattle.std.specs.List.{slice_split, list_any, list_all, prefix_len, suffix_len, position_or_len, before_first}
 use Rattle.line_words.specs.Blanks.{is_blank}
 use Rattle.line_words.specs.declared.words.Separators.{Separators}

@@ -3,7 +3,8 @@
 ghost use Rattle.std.specs.Prelude.{◌≡◌, ◌≤◌, ◌<◌, [], ◌∷◌, length, drop, MatchOption, IfSome, IsTrue, IsFalse};
 ghost use Rattle.std.specs.List.{prefix_len, suffix_len, position_or_len, before_first};
 ghost use Rattle.line_words.specs.Blanks.{is_blank};
-ghost use Rattle.line_words.specs.Words.{has_bytes, words_between, words, words_with_commas, is_separator, without_first, without_last_blanks, first_between, after_between, first_word, after_word, trimmed};
+ghost use Rattle.line_words.specs.Words.{has_bytes, words_between, words, words_with_commas, is_separator, without_first};
+ghost use Rattle.line_words.specs.Words.{without_last_blanks, first_between, after_between, first_word, after_word, trimmed};
 
 use crate::blanks::is_blank;
 

@@ -8,7 +8,8 @@ use Rattle.ancestry.proofs.marks.marked.Goals as goal
 
 pub loop-at-smaller : goal.loop-at-smaller
 loop-at-smaller c =
-    let step = walk_step c.args.tree.now c.loop-at.at c.parent-at.result c.in-Some.here c.parent-at.ensures.forest c.in-Some.is c.parent-at.ensures.value in
+    let step = walk_step c.args.tree.now c.loop-at.at c.parent-at.result c.in-Some.here c.parent-at.ensures.forest c.in-Some.is
+    c.parent-at.ensures.value in
     omega (arith, ap length step)
 
 pub loop-at-preserved : goal.loop-at-preserved
@@ -17,7 +18,9 @@ loop-at-preserved c =
     let found = c.args.found.now in
     let fixed = c.args.fixed.now in
     let above = line_above (line t) (option_copied c.parent-at.result) in
-    let step = walk_step t c.loop-at.at c.parent-at.result c.in-Some.here c.parent-at.ensures.forest c.in-Some.is c.parent-at.ensures.value in
+    let step = walk_step t c.loop-at.at c.parent-at.result c.in-Some.here c.parent-at.ensures.forest c.in-Some.is
+    c.parent-at.ensures.value in
     let none =
-    unmarked found fixed above c.in-Some.here.now (sym c.has_node.ensures ∙ c.if-has_node.false) (sym c.has_node-in-Some.ensures ∙ c.if-has_node-2.false) in
+    unmarked found fixed above c.in-Some.here.now (sym c.has_node.ensures ∙ c.if-has_node.false)
+    (sym c.has_node-in-Some.ensures ∙ c.if-has_node-2.false) in
     sym (ap (status_by found) (ap (first_marked found fixed) step ∙ none)) ∙ c.loop-at.invariant

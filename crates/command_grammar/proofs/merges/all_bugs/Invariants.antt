@@ -6,7 +6,9 @@ use Rattle.command_grammar.specs.Commands.{and_read, read_bug, each_word}
 use Rattle.command_grammar.proofs.merges.all_bugs.Given as goal
 
 abbrev pub invariant-loop-word : goal.invariant-loop-word
-invariant-loop-word l = shadow (Utf8 l.rest) × (and_read (each_word read_bug (words l.rest)) (λ more. Ok (l.bugs ++ more)) ≡ each_word read_bug (words l.text))
+invariant-loop-word l =
+    shadow (Utf8 l.rest)
+    × (and_read (each_word read_bug (words l.rest)) (λ more. Ok (l.bugs ++ more)) ≡ each_word read_bug (words l.text))
 
 abbrev pub decreases-loop-word : goal.decreases-loop-word
 decreases-loop-word l = length l.rest

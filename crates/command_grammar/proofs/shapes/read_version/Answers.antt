@@ -13,5 +13,6 @@ returns-in-Some c =
     let w = c.args.word.now in
     let same : sourced_version c.in-Some.source.now c.in-Some.version.now ≡ version_of_word w
     = (λ i. sourced_version (c.in-Some.ensures.before i) (c.in-Some.ensures.after i))
-    ∙ ap (λ t. cond t (sourced_version (before_first is_slash w) (after_first is_slash w)) (bare_version w)) c.in-Some.ensures.slash in
+    ∙ ap (λ t. cond t (sourced_version (before_first is_slash w) (after_first is_slash w)) (bare_version w))
+    c.in-Some.ensures.slash in
     subst (λ (o : Option VersionArg). Reads (ok_or o BadVersion) c.read_sourced.result) same c.read_sourced.ensures

@@ -13,4 +13,5 @@ pub returns-in-Ok-clause-well_formed : goal.returns-in-Ok-clause-well_formed
 returns-in-Ok-clause-well_formed c =
     let clean = clean_after_word c.args.text.now (sym c.has_control.ensures ∙ c.if-has_control.false) in
     let rest = subst (λ (s : List ℕ). list_any is_control s ≡ false) (sym c.next_word.ensures.rest) clean in
-    subst (λ (r : Result (Command Named) Refusal). IfOk r IsWellFormed) c.in-Ok.ensures (command_of-good c.in-Some.command c.next_word.result.1.now rest)
+    subst (λ (r : Result (Command Named) Refusal). IfOk r IsWellFormed) c.in-Ok.ensures
+    (command_of-good c.in-Some.command c.next_word.result.1.now rest)

@@ -13,6 +13,7 @@ pub returns : goal.returns
 returns c =
     let steps = c.args.steps.now in
     let bug = bug_text c.args.bug in
-    joined_last (string_bytes c.loop-step.line) (codes "tags") (bug ∷ map step_text steps) (map step_text (drop c.loop-step.step-index steps))
+    joined_last (string_bytes c.loop-step.line) (codes "tags") (bug ∷ map step_text steps)
+    (map step_text (drop c.loop-step.step-index steps))
     c.loop-step.invariant (ap (map step_text) (drop_all c.loop-step.step-index steps c.loop-step-test.false))
     ∙ ap (λ ws. joined_by_blanks (codes "tags" ∷ bug ∷ ws)) (some_words steps (sym c.is_empty.ensures ∙ c.if-is_empty.false))

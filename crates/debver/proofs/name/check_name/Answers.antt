@@ -5,7 +5,8 @@ use Rattle.debver.proofs.name.check_name.Goals as goal
 
 pub returns-in-Some-clause-name : goal.returns-in-Some-clause-name
 returns-in-Some-clause-name c =
-    no_name c.args.name.now c.in-Some.place (ap wrong_in_name (sym c.as_bytes.ensures.value) ∙ sym c.wrong_in_name.ensures ∙ c.in-Some.is)
+    no_name c.args.name.now c.in-Some.place
+    (ap wrong_in_name (sym c.as_bytes.ensures.value) ∙ sym c.wrong_in_name.ensures ∙ c.in-Some.is)
 
 pub returns-else-name-gt100-clause-name : goal.returns-else-name-gt100-clause-name
 returns-else-name-gt100-clause-name c =

@@ -5,4 +5,5 @@ use Rattle.std.proofs.lemmas.Slice.Eq.{bytes_eq-Decides}
 use Rattle.line_words.proofs.any_case.is_word.Goals as goal
 
 pub returns : goal.returns
-returns c = same_from_decides _ _ c.eq_ignore_ascii_case.ensures.test (bytes_eq-Decides (map to_ascii_lowercase c.args.word.now) (map to_ascii_lowercase c.args.name.now))
+returns c = same_from_decides _ _ c.eq_ignore_ascii_case.ensures.test
+    (bytes_eq-Decides (map to_ascii_lowercase c.args.word.now) (map to_ascii_lowercase c.args.name.now))

@@ -8,4 +8,5 @@ use Rattle.line_words.proofs.words.at_separator.Goals as goal
 pub split_at-requires : goal.split_at-requires
 split_at-requires c =
     let P : ℕ → Type 0 = IsCharBoundary c.args.text.now in
-    subst P (sym (c.leading_others.ensures ∙ ap (position_or_len (is_separator c.args.separators)) c.as_bytes.ensures.value)) (boundary_at_separator c.args.separators c.args.text.now)
+    subst P (sym (c.leading_others.ensures ∙ ap (position_or_len (is_separator c.args.separators)) c.as_bytes.ensures.value))
+    (boundary_at_separator c.args.separators c.args.text.now)

@@ -7,5 +7,6 @@ pub returns-in-Some : goal.returns-in-Some
 returns-in-Some c =
     let facts = c.in-Some.ensures in
     let same =
-    word_with_slash c.args.package.now c.args.word.now c.in-Some.own.now c.in-Some.version.now (search rules) (sym facts.slash) facts.before facts.after in
+    word_with_slash c.args.package.now c.args.word.now c.in-Some.own.now c.in-Some.version.now (search rules) (sym facts.slash)
+    facts.before facts.after in
     subst (λ o. IsRead o c.node_of.result) (sym same) c.node_of.ensures

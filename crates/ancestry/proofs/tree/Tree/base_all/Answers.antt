@@ -25,7 +25,10 @@ loop-place-init c =
 pub base_on-requires-clause-knows_parent : goal.base_on-requires-clause-knows_parent
 base_on-requires-clause-knows_parent c =
     let inv = c.loop-place.invariant in
-    inv.known c.index-others-place.result (inv.above c.index-others-place.result (has_at c.in-Some.others.now c.loop-place.place c.index-others-place.result c.loop-place-test.true c.index-others-place.is))
+    inv.known c.index-others-place.result
+    (inv.above c.index-others-place.result
+    (has_at c.in-Some.others.now c.loop-place.place c.index-others-place.result c.loop-place-test.true
+    c.index-others-place.is))
 
 pub returns-in_err-base_on-clause-exact : goal.returns-in_err-base_on-clause-exact
 returns-in_err-base_on-clause-exact c =
@@ -38,7 +41,8 @@ returns-in_err-base_on-clause-exact c =
     let fault = c.in_err-base_on.field-0.0 in
     let so_far = sym (at_pair i u n p others c.loop-place-test.true c.index-others-place.is) ∙ c.loop-place.invariant.left in
     let is = err_from_is_err_and c.from_residual.result c.from_residual.ensures.1 in
-    rw (is.1, is.2) (makes_same _ _ (Err fault) w so_far (refused_at i (base_on u n p) _ fault w w c.in_err-base_on.ensures.exact))
+    rw (is.1, is.2) (makes_same _ _ (Err fault) w so_far
+    (refused_at i (base_on u n p) _ fault w w c.in_err-base_on.ensures.exact))
 
 pub loop-place-preserved : goal.loop-place-preserved
 loop-place-preserved c =
@@ -63,4 +67,7 @@ loop-place-preserved c =
     }
 
 pub returns-clause-exact : goal.returns-clause-exact
-returns-clause-exact c = sym c.loop-place.invariant.left ∙ at_drop_all (λ ns. base_all c.loop-place.place c.loop-place.self (c.loop-place.node.now ∷ ns)) c.in-Some.others.now c.loop-place.place c.loop-place-test.false
+returns-clause-exact c =
+    sym c.loop-place.invariant.left
+    ∙ at_drop_all (λ ns. base_all c.loop-place.place c.loop-place.self (c.loop-place.node.now ∷ ns)) c.in-Some.others.now
+    c.loop-place.place c.loop-place-test.false

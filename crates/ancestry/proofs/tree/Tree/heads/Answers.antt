@@ -14,7 +14,8 @@ returns-clause-ascending c =
     let items = c.loop-node.heads.items in
     let is_head = λ (n : Node). bytes_eq n.source c.args.source.now && not (is_parent t n) in
     let ascending = subst (λ t. IsStrictlySortedBy node_cmp (keys_of t)) c.self.view_is c.self.invariant.ascending in
-    let whole = sym (append-nil items) ∙ ap (λ nodes. items ++ filter is_head nodes) (sym c.in-None.ensures.steps.0) ∙ c.loop-node.invariant in
+    let whole = sym (append-nil items) ∙ ap (λ nodes. items ++ filter is_head nodes) (sym c.in-None.ensures.steps.0)
+    ∙ c.loop-node.invariant in
     subst (IsStrictlySortedBy node_cmp) (sym whole) (IsStrictlySortedBy-filter node_cmp is_head (keys_of t) ascending)
 
 pub loop-node-preserved : goal.loop-node-preserved

@@ -17,6 +17,8 @@ loop-node-preserved c =
     record {
       left = ap (λ w. learn_all w (drop (i + 1) nodes)) made ∙ ap (λ m. learn_all (learn u m) (drop (i + 1) nodes)) c.node-item.is
           ∙ sym (at_drop_more (learn_all u) nodes i n c.loop-node-test.true) ∙ inv.left;
-      extends = subst (Extends t nodes) (sym made) (extends_also t u (learn u n) nodes inv.extends (extends_learn u nodes n inv.forest.ascending (has_at nodes i n c.loop-node-test.true c.node-item.is)));
+      extends = subst (Extends t nodes) (sym made)
+          (extends_also t u (learn u n) nodes inv.extends
+          (extends_learn u nodes n inv.forest.ascending (has_at nodes i n c.loop-node-test.true c.node-item.is)));
       forest = c.learn.ensures.forest;
     }

@@ -24,7 +24,8 @@ returns-in-Ok-clause-based c =
     let t = c.learn_all.new.self in
     let nodes = c.args.nodes.now in
     let u = c.base_all.new.self in
-    let made = course_made t nodes c.base_all.result u c.learn_all.ensures.forest (all_known c.args.self.now t nodes c.in-Ok.ensures.ok) c.base_all.ensures.exact in
+    let made = course_made t nodes c.base_all.result u c.learn_all.ensures.forest
+    (all_known c.args.self.now t nodes c.in-Ok.ensures.ok) c.base_all.ensures.exact in
     on_ok_weaker {P = Course t nodes u} {Q = AreBased u nodes} c.base_all.result (λ h. h.based) made
 
 pub returns-in-Ok-clause-keeps : goal.returns-in-Ok-clause-keeps
@@ -32,7 +33,8 @@ returns-in-Ok-clause-keeps c =
     let t = c.learn_all.new.self in
     let nodes = c.args.nodes.now in
     let u = c.base_all.new.self in
-    let made = course_made t nodes c.base_all.result u c.learn_all.ensures.forest (all_known c.args.self.now t nodes c.in-Ok.ensures.ok) c.base_all.ensures.exact in
+    let made = course_made t nodes c.base_all.result u c.learn_all.ensures.forest
+    (all_known c.args.self.now t nodes c.in-Ok.ensures.ok) c.base_all.ensures.exact in
     let kept = all_kept c.args.self.now t nodes c.in-Ok.ensures.ok c.learn_all.ensures.was_forest c.learn_all.ensures.forest in
     on_ok_weaker {P = Course t nodes u} {Q = Keeps c.args.self.now u} c.base_all.result (λ h n p g. h.keeps n p (kept n p g)) made
 
@@ -43,4 +45,5 @@ returns-in-Ok-clause-known c =
     let u = c.base_all.new.self in
     let known = all_known c.args.self.now t nodes c.in-Ok.ensures.ok in
     let made = course_made t nodes c.base_all.result u c.learn_all.ensures.forest known c.base_all.ensures.exact in
-    on_ok_weaker {P = Course t nodes u} {Q = All (λ n. knows u n ≡ true) nodes} c.base_all.result (λ h. All-weaker (λ n. knows t n ≡ true) (λ n. knows u n ≡ true) h.known nodes known) made
+    on_ok_weaker {P = Course t nodes u} {Q = All (λ n. knows u n ≡ true) nodes} c.base_all.result
+    (λ h. All-weaker (λ n. knows t n ≡ true) (λ n. knows u n ≡ true) h.known nodes known) made

@@ -5,26 +5,34 @@ use Rattle.ancestry.proofs.TakeLemmas.{branched_empty, branched_long, branched_r
 use Rattle.ancestry.proofs.tree.Tree.take_branch.Goals as goal
 
 pub returns-then-is_empty-clause-exact : goal.returns-then-is_empty-clause-exact
-returns-then-is_empty-clause-exact c = (branched_empty c.args.self.now c.args.nodes.now (sym c.is_empty.ensures ∙ c.if-is_empty.true), refl)
+returns-then-is_empty-clause-exact c =
+    (branched_empty c.args.self.now c.args.nodes.now (sym c.is_empty.ensures ∙ c.if-is_empty.true), refl)
 
 pub returns-then-nodes-gt-MOST_NODES-clause-exact : goal.returns-then-nodes-gt-MOST_NODES-clause-exact
-returns-then-nodes-gt-MOST_NODES-clause-exact c =
-    (branched_long c.args.self.now c.args.nodes.now (sym c.is_empty.ensures ∙ c.if-is_empty.false) c.if-nodes-gt-MOST_NODES.true, refl)
+returns-then-nodes-gt-MOST_NODES-clause-exact c = (
+  branched_long c.args.self.now c.args.nodes.now (sym c.is_empty.ensures ∙ c.if-is_empty.false) c.if-nodes-gt-MOST_NODES.true,
+  refl,
+)
 
 pub returns-in-Some-clause-exact : goal.returns-in-Some-clause-exact
-returns-in-Some-clause-exact c =
-    (branched_repeated c.args.self.now c.args.nodes.now c.in-Some.place (sym c.is_empty.ensures ∙ c.if-is_empty.false) c.if-nodes-gt-MOST_NODES.false c.in-Some.ensures, refl)
+returns-in-Some-clause-exact c = (
+  branched_repeated c.args.self.now c.args.nodes.now c.in-Some.place (sym c.is_empty.ensures ∙ c.if-is_empty.false)
+      c.if-nodes-gt-MOST_NODES.false c.in-Some.ensures,
+  refl,
+)
 
 pub returns-in-Ok-take_all-clause-exact : goal.returns-in-Ok-take_all-clause-exact
 returns-in-Ok-take_all-clause-exact c =
-    branched_taken c.args.self.now c.args.nodes.now (sym c.is_empty.ensures ∙ c.if-is_empty.false) c.if-nodes-gt-MOST_NODES.false (sym c.in_default.is ∙ c.first_repeat.ensures)
+    branched_taken c.args.self.now c.args.nodes.now (sym c.is_empty.ensures ∙ c.if-is_empty.false) c.if-nodes-gt-MOST_NODES.false
+    (sym c.in_default.is ∙ c.first_repeat.ensures)
     ∙ c.in-Ok-take_all.ensures.exact
 
 pub invariant_of-self : goal.invariant_of-self
 invariant_of-self c =
     let t = c.args.self.now in
     let forest : IsForest t = subst IsForest c.self.view_is c.self.invariant in
-    let same = c.put_back.ensures t forest (c.as_slice.ensures.value ∙ c.in-Ok.ensures) (subst (Extends t c.args.nodes.now) (sym c.self-2.view_is) c.take_all.ensures.extends) in
+    let same = c.put_back.ensures t forest (c.as_slice.ensures.value ∙ c.in-Ok.ensures)
+    (subst (Extends t c.args.nodes.now) (sym c.self-2.view_is) c.take_all.ensures.extends) in
     subst IsForest (sym same) forest
 
 pub returns-clause-exact : goal.returns-clause-exact
@@ -32,21 +40,26 @@ returns-clause-exact c =
     let t = c.args.self.now in
     let nodes = c.args.nodes.now in
     let forest : IsForest t = subst IsForest c.self.view_is c.self.invariant in
-    let same = c.put_back.ensures t forest (c.as_slice.ensures.value ∙ c.in-Ok.ensures) (subst (Extends t nodes) (sym c.self-2.view_is) c.take_all.ensures.extends) in
-    let made = branched_taken t nodes (sym c.is_empty.ensures ∙ c.if-is_empty.false) c.if-nodes-gt-MOST_NODES.false (sym c.in_default.is ∙ c.first_repeat.ensures) in
+    let same = c.put_back.ensures t forest (c.as_slice.ensures.value ∙ c.in-Ok.ensures)
+    (subst (Extends t nodes) (sym c.self-2.view_is) c.take_all.ensures.extends) in
+    let made = branched_taken t nodes (sym c.is_empty.ensures ∙ c.if-is_empty.false) c.if-nodes-gt-MOST_NODES.false
+    (sym c.in_default.is ∙ c.first_repeat.ensures) in
     refused t nodes _ c.in-Err.fault c.take_all.new.self _ made c.in-Err.ensures.exact same
 
 pub returns-clause-forest : goal.returns-clause-forest
 returns-clause-forest c =
     let t = c.args.self.now in
     let forest : IsForest t = subst IsForest c.self.view_is c.self.invariant in
-    let same = c.put_back.ensures t forest (c.as_slice.ensures.value ∙ c.in-Ok.ensures) (subst (Extends t c.args.nodes.now) (sym c.self-2.view_is) c.take_all.ensures.extends) in
+    let same = c.put_back.ensures t forest (c.as_slice.ensures.value ∙ c.in-Ok.ensures)
+    (subst (Extends t c.args.nodes.now) (sym c.self-2.view_is) c.take_all.ensures.extends) in
     subst IsForest (sym same) forest
 
 pub returns-in_default-pasts-clause-memory : goal.returns-in_default-pasts-clause-memory
 returns-in_default-pasts-clause-memory c = λ h.
-    taken_takes c.args.self.now c.args.nodes.now (sym c.is_empty.ensures ∙ c.if-is_empty.false) c.if-nodes-gt-MOST_NODES.false (sym c.in_default.is ∙ c.first_repeat.ensures)
+    taken_takes c.args.self.now c.args.nodes.now (sym c.is_empty.ensures ∙ c.if-is_empty.false) c.if-nodes-gt-MOST_NODES.false
+    (sym c.in_default.is ∙ c.first_repeat.ensures)
 
 pub returns-clause-memory : goal.returns-clause-memory
 returns-clause-memory c = λ h.
-    taken_takes c.args.self.now c.args.nodes.now (sym c.is_empty.ensures ∙ c.if-is_empty.false) c.if-nodes-gt-MOST_NODES.false (sym c.in_default.is ∙ c.first_repeat.ensures)
+    taken_takes c.args.self.now c.args.nodes.now (sym c.is_empty.ensures ∙ c.if-is_empty.false) c.if-nodes-gt-MOST_NODES.false
+    (sym c.in_default.is ∙ c.first_repeat.ensures)
