@@ -1,14 +1,14 @@
 -- Bytes read, and the lines found in them.
-use Rattle.std.proofs.Common.{◌≡◌, ℕ, ◌+◌, ◌<◌, ◌≤◌, ◌==◌, List, [], ◌∷◌, ◌++◌, length, take, drop, get_or, Option, Some, None, Vec, false, sym, ◌∙◌, ap, subst, arith, refl, append_assoc, append-nil, length-append}
+use Rattle.std.proofs.Common.{◌≡◌, ℕ, ◌+◌, ◌<◌, ◌≤◌, ◌==◌, List, [], ◌∷◌, ◌++◌, length, take, drop, get_or, Option, Some, None, Vec, false, sym, ◌∙◌, ap, subst, arith, refl, append_assoc, append-nil}
 use Rattle.std.specs.Str.{IsUtf8}
 use Rattle.std.specs.List.{list_any, onto_first, slice_split}
 use Rattle.std.proofs.lemmas.Bool.{eqb-true, or_parts}
 use Rattle.std.proofs.lemmas.Grind.{common_steps}
-use Rattle.std.proofs.lemmas.List.{drop_more, get_or-take, length-take, length-take-le, take-append-drop, take_all}
+use Rattle.std.proofs.lemmas.List.{drop_more, get_or-take, length-take, take-append-drop, take_all}
 use Rattle.std.proofs.lemmas.List.Splits.{slice_split-cons_no}
 use Rattle.memchr.specs.Find.{IsFirstByte, is_byte}
 use Rattle.desk_lines.specs.Lines.{is_feed, without_empty_last, without_return, raw_lines}
-use Rattle.desk_lines.specs.Reading.{Known, Left, GivesBytes, GivesPiece, GivesRaw, IsBegun, IsFirstFeed, IsLineFault, IsLengthFault, IsTextFault}
+use Rattle.desk_lines.specs.Reading.{Known, Left, GivesBytes, GivesPiece, GivesRaw, IsFirstFeed, IsLineFault, IsLengthFault, IsTextFault}
 use Rattle.desk_lines.specs.declared.fault.ScriptFault.{ScriptFault}
 use Rattle.desk_lines.specs.declared.fault.ScriptFault.TheVariants.{Read, Write, NotUtf8, LineTooLong, Memory, Store}
 use Rattle.desk_lines.specs.declared.source.Piece.TheVariants as pieces
@@ -42,7 +42,7 @@ first_line line piece rest at free first =
     let front = take at piece in
     let back = drop (at + 1) piece in
     ap raw_lines (ap (λ (w : List ℕ). line ++ (w ++ rest)) first.1
-      ∙ (ap (λ (w : List ℕ). line ++ w) (append_assoc front (10 ∷ back) rest) ∙ sym (append_assoc line front (10 ∷ (back ++ rest)))))
+    ∙ (ap (λ (w : List ℕ). line ++ w) (append_assoc front (10 ∷ back) rest) ∙ sym (append_assoc line front (10 ∷ (back ++ rest)))))
     ∙ raw_lines-first (line ++ front) (back ++ rest) (free_together line front free first.0)
 
 pub line_ended : {a b c : Option (List ℕ)} (s line piece longer left : List ℕ) (at : ℕ) → list_any is_feed line ≡ false → IsFirstFeed piece (Some at)
@@ -149,7 +149,7 @@ piece_too_long number fault s line piece at free first h p q = record {
       let back = 10 ∷ (drop (at + 1) piece ++ v.0) in
       let all : s ++ xs ≡ line ++ (piece ++ v.0) = u.2 ∙ ap (λ (w : List ℕ). line ++ w) v.2.0 in
       let cut : line ++ (piece ++ v.0) ≡ (line ++ front) ++ back = ap (λ (w : List ℕ). line ++ (w ++ v.0)) first.1
-          ∙ (ap (λ (w : List ℕ). line ++ w) (append_assoc front (10 ∷ drop (at + 1) piece) v.0) ∙ sym (append_assoc line front back)) in
+      ∙ (ap (λ (w : List ℕ). line ++ w) (append_assoc front (10 ∷ drop (at + 1) piece) v.0) ∙ sym (append_assoc line front back)) in
       subst (IsLineFault number fault) (sym (all ∙ cut)) (length_fault number fault (line ++ front) back (free_together line front free first.0) h);
 }
 

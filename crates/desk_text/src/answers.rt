@@ -90,7 +90,11 @@ pub fn branch_answer(
         Ok(Ok(())) => Vec::from_slice(alloc, b"OK\n"),
         Ok(Err(BranchFault::EmptyBranch)) => refused_line(alloc, "empty branch"),
         Ok(Err(BranchFault::TooLong)) => refused_line(alloc, "more than 200 versions"),
-        Ok(Err(BranchFault::Repeated(place))) => refused_at(alloc, "repeated version at ", *place as u64),
+        Ok(Err(BranchFault::Repeated(place))) => refused_at(
+            alloc,
+            "repeated version at ",
+            *place as u64,
+        ),
         Ok(Err(BranchFault::Conflict(place))) => refused_at(alloc, "conflict at ", *place as u64),
         Ok(Err(BranchFault::Memory)) => refused_line(alloc, ""),
         Err(fault) => fault_line(alloc, *fault),

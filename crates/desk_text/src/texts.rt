@@ -43,10 +43,7 @@ fn append_between(
     out.extend_from_slice(after.as_bytes())
 }
 
-#[tactic(
-    auto,
-    unfolding(crate::specs::Texts::difference_text, crate::specs::Texts::not_merged_text)
-)]
+#[tactic(auto, unfolding(crate::specs::Texts::difference_text, crate::specs::Texts::not_merged_text))]
 fn append_refusal(out: &mut Vec<u8>, refusal: Refusal) -> Result<(), AllocError>
     ensures ok { OnOk result (out.new.items ≡ out.old.items ++ refusal_text refusal) }
     ensures err { OnErr result (StartsWith out.new.items out.old.items) }

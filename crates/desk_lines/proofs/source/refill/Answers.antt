@@ -1,4 +1,4 @@
-use Rattle.std.proofs.Common.{length, take, drop, ap, ◌∙◌, arith}
+use Rattle.std.proofs.Common.{length, take, ap, ◌∙◌, arith}
 use Rattle.std.proofs.lemmas.List.{drop_all, length-drop, length-take}
 use Rattle.desk_lines.specs.Buffered.{Buffered}
 use Rattle.desk_lines.proofs.source.refill.Goals as goal

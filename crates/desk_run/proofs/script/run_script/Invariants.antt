@@ -14,7 +14,7 @@ invariant-loop-number g l =
       before : List Part;
       texts : List (List ℕ);
       counted : length texts + 1 ≡ l.number;
-      within : l.number + bytes_left l.source ≤ 8589934593;
+      within : l.number + bytes_left l.source ≤ 137438953473;
       cut : IsCut texts before l.run.gathered.items;
       faults : g.S.Records.faults l.store ≡ g.S.Records.faults l.fn.store;
       read : Left (g.R.Read.remaining l.fn.reader) (g.R.Read.remaining l.reader) (λ xs ys. ReadTo texts xs (l.source.unread ++ ys));
