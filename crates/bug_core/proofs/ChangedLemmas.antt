@@ -1,5 +1,5 @@
 -- The numbers whose bugs differ.
-use Rattle.std.proofs.Common.{◌≡◌, ◌<◌, ◌≤◌, ℕ, zero, suc, Bool, true, false, cond, not, ◌&&◌, eqb, List, [], Option, Some, None, sym, refl, ap, ◌∙◌, subst, arith, inl, inr}
+use Rattle.std.proofs.Common.{◌≡◌, ◌<◌, ◌≤◌, ℕ, zero, suc, Bool, true, false, cond, not, ◌||◌, ◌&&◌, eqb, List, [], Option, Some, None, sym, refl, ap, ◌∙◌, subst, arith, inl, inr}
 use Rattle.std.specs.Prelude.{filter, nat_lt, is_some}
 use Rattle.std.specs.Str.{bytes_eq}
 use Rattle.std.proofs.lemmas.Option.{none-some}
@@ -22,6 +22,7 @@ use Rattle.bug_record.specs.declared.bug.SetImage.{SetImage}
 use Rattle.bug_record.specs.declared.tag.Tag.{Tag}
 use Rattle.bug_record.specs.declared.severity.Severity.{Severity}
 use Rattle.bug_record.specs.declared.severity.Severity.TheVariants.{Critical, Grave, Serious, Important, Normal, Minor, Wishlist}
+use Rattle.bug_core.specs.Changes.{differs}
 use Rattle.bug_core.specs.Numbers.{IsJoined}
 use Rattle.bug_record.proofs.TagLemmas.{same_tag-true, same_tag-itself}
 use Rattle.bug_record.proofs.SetLemmas.{IsAscending-filter, has-filter, same-ascending, has-numbers_below, IsAscending-numbers_below}
@@ -162,23 +163,30 @@ no_bug : (o : Option Bug) → is_some o ≡ false → o ≡ None
 no_bug None h = refl
 no_bug (Some b) h = absurd (false≢true (sym h))
 
--- those of the numbers of all bugs at which the bugs differ
-pub changed-are : (old new : List SetImage) (start first second r : List ℕ) → start ≡ [] → IsJoined start (λ n. is_some (bug_in old n)) first → IsJoined first (λ n. is_some (bug_in new n)) second
-    → r ≡ filter (λ n. not (same_at (bug_in old n) (bug_in new n))) second → AreChanged (bug_in old) (bug_in new) r
-changed-are old new start first second r empty one two part = subst (AreChanged (bug_in old) (bug_in new)) (sym part) (record {
-  ascending = IsAscending-filter differ second (two.ascending (one.ascending (subst IsAscending (sym empty) tt)));
-  listed = λ n h. differ-not (bug_in old n) (bug_in new n) (and_parts (has second n) (differ n) (sym (has-filter differ second n) ∙ h)).1;
-  others = λ n h. elim (and_cases (has second n) (differ n) (sym (has-filter differ second n) ∙ h)) [ inl e ↦ absent n e | inr e ↦ equal-not (bug_in old n) (bug_in new n) e ];
-})
-  where
-    differ : ℕ → Bool
-    differ n = not (same_at (bug_in old n) (bug_in new n))
+-- those of some numbers at which the bugs differ, where the others' bugs are equal
+pub changed-are : (old new : List SetImage) (known : ℕ → Bool) (r : List ℕ) → ((n : ℕ) → known n ≡ false → bug_in old n ≡ bug_in new n) → IsAscending r
+    → ((n : ℕ) → has r n ≡ (known n && differs old new n)) → AreChanged (bug_in old) (bug_in new) r
+changed-are old new known r same ascending numbers = record {
+  ascending = ascending;
+  listed = λ n h. differ-not (bug_in old n) (bug_in new n) (and_parts (known n) (differs old new n) (sym (numbers n) ∙ h)).1;
+  others = λ n h. elim (and_cases (known n) (differs old new n) (sym (numbers n) ∙ h)) [ inl e ↦ same n e | inr e ↦ equal-not (bug_in old n) (bug_in new n) e ];
+}
 
-    absent : (n : ℕ) → has second n ≡ false → bug_in old n ≡ bug_in new n
-    absent n e =
-        let p = or_parts (has first n) (is_some (bug_in new n)) (sym (two.numbers n) ∙ e) in
-        let q = or_parts (has start n) (is_some (bug_in old n)) (sym (one.numbers n) ∙ p.0) in
-        no_bug (bug_in old n) q.1 ∙ sym (no_bug (bug_in new n) p.1)
+-- the same of the numbers of all bugs
+pub changed-joined : (old new before after : List SetImage) (start first second r : List ℕ) → before ≡ old → after ≡ new → start ≡ [] → IsJoined start (λ n. is_some (bug_in new n) && differs before after n) first
+    → IsJoined first (λ n. is_some (bug_in old n) && differs before after n) second → r ≡ second → AreChanged (bug_in old) (bug_in new) r
+changed-joined old new before after start first second r is_old is_new empty one two last =
+    changed-are old new (λ n. is_some (bug_in new n) || is_some (bug_in old n)) r
+    (λ n e. let p = or_parts (is_some (bug_in new n)) (is_some (bug_in old n)) e in no_bug (bug_in old n) p.1 ∙ sym (no_bug (bug_in new n) p.0))
+    (subst IsAscending (sym last) (two.ascending (one.ascending (subst IsAscending (sym empty) tt))))
+    (λ n. ap (λ z. has z n) last ∙ two.numbers n ∙ ap (λ t. t || (is_some (bug_in old n) && differs before after n)) (one.numbers n ∙ ap (λ z. has z n || (is_some (bug_in new n) && differs before after n)) empty)
+    ∙ group (is_some (bug_in new n)) (is_some (bug_in old n)) (differs before after n) ∙ (λ j. (is_some (bug_in new n) || is_some (bug_in old n)) && differs (is_old j) (is_new j) n))
+  where
+    group : (a b d : Bool) → ((a && d) || (b && d)) ≡ ((a || b) && d)
+    group true b true = refl
+    group true true false = refl
+    group true false false = refl
+    group false b d = refl
 
 -- The numbers at which the images differ are those at which the desks before and after differ.
 pub changed-on_desk : (d : Desk) (old new : List SetImage) (next : ℕ) (r : List ℕ) → Replaces d old new next → AreChanged (bug_in old) (bug_in new) r → AreChanged d.bug (put d (record { images = new; next = next })).bug r

@@ -1,4 +1,6 @@
 pub mod FindLemmas
+pub mod IndexLemmas
+pub mod OrderedLemmas
 pub mod ImageLemmas
 pub mod OtherLemmas
 pub mod SoundLemmas
@@ -7,6 +9,7 @@ pub mod PlanLemmas
 pub mod UnmergeLemmas
 pub mod MemberLemmas
 pub mod ListedLemmas
+pub mod NamedLemmas
 pub mod SharedLemmas
 pub mod MergeLemmas
 pub mod JoinLemmas

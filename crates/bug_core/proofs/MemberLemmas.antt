@@ -26,7 +26,7 @@ numbers-with_item (y ∷ ys) x =
       | false ↦ elim (y.number == x.number) as (λ t. numbers_of (cond t (y ∷ ys) (x ∷ y ∷ ys)) ≡ cond t (y.number ∷ numbers_of ys) (x.number ∷ y.number ∷ numbers_of ys)) [ true ↦ refl | false ↦ refl ]
     ]
 
-ascending-with_item : (set : List Member) (x : Member) → IsAscending (numbers_of set) → IsAscending (numbers_of (with_item number_of set x))
+pub ascending-with_item : (set : List Member) (x : Member) → IsAscending (numbers_of set) → IsAscending (numbers_of (with_item number_of set x))
 ascending-with_item set x h = subst IsAscending (sym (numbers-with_item set x)) (IsAscending-with_item (numbers_of set) x.number h)
 
 or_none : {A : Type 0} (o : Option A) → option_or o None ≡ o

@@ -1,11 +1,12 @@
 -- What joined sets have, one image after another.
-use Rattle.std.specs.Prelude.{ℕ, Bool, not, ◌==◌, List, [], ◌∷◌, if◌then◌else◌}
+use Rattle.std.specs.Prelude.{ℕ, ◌≡◌, Bool, not, ◌==◌, List, [], ◌∷◌, if◌then◌else◌}
+use Rattle.std.specs.Map.{values_of}
 use Rattle.ancestry.specs.Nodes.{Node}
-use Rattle.bug_record.specs.Sets.{with_item}
+use Rattle.bug_record.specs.Sets.{Each, IsAscending, with_item}
 use Rattle.bug_record.specs.Tags.{tag_place}
 use Rattle.bug_record.specs.Marks.{with_node}
 use Rattle.bug_record.specs.Bugs.{bugs_at}
-use Rattle.bug_record.specs.Images.{bug_in}
+use Rattle.bug_record.specs.Images.{numbers_of, bug_in}
 use Rattle.bug_record.specs.Merges.{first_owner}
 use Rattle.bug_core.specs.Others.{those_meant}
 use Rattle.bug_record.specs.declared.bug.Member.{Member}
@@ -23,6 +24,15 @@ with_nodes set (n ∷ nodes) = with_nodes (with_node set n) nodes
 
 abbrev pub number_of : Member → ℕ
 number_of m = m.number
+
+-- a member with its number
+abbrev pub IsEntry : ℕ × Member → Type 0
+IsEntry e = e.0 ≡ e.1.number
+
+-- each member's key is its number, and the numbers ascend
+pub record IsKeyed (entries : List (ℕ × Member)) : Type 0 where
+  pub keys : Each IsEntry entries
+  pub ascending : IsAscending (numbers_of (values_of entries))
 
 -- the members with those of these images
 abbrev pub with_members : List Member → List SetImage → List Member

@@ -1,6 +1,9 @@
 pub mod Planned
 -- definitions that only private functions cite
 pub mod Others
+pub mod Index
+pub mod Named
+pub mod Changes
 pub mod Numbers
 pub mod Agreements
 pub mod Joins

@@ -3,9 +3,11 @@
 ghost use Rattle.std.specs.Prelude.{◌≡◌, ◌∷◌, ◌++◌, IfOk, OnOk, MatchOption, Some, None};
 ghost use Rattle.bug_record.specs.Images.{numbers_of, member_at};
 ghost use Rattle.bug_core.specs.Others.{image_with, has_any, is_other, others};
+ghost use Rattle.bug_core.specs.Named.{named_numbers};
 
 use bug_record::{Change, Member, Sequence, SetImage};
 use std::alloc::{AllocError, Global};
+use std::collections::BTreeSet;
 
 /// The member of a number.
 pub(crate) fn find_member(members: &[Member], number: u64) -> Option<&Member>
@@ -21,30 +23,49 @@ pub(crate) fn find(images: &[SetImage], number: u64) -> Option<&SetImage>
     images.iter().find(|image| image.has(number))
 }
 
-/// Whether one of the bugs is in the image.
-pub(crate) fn has_any(image: &SetImage, numbers: &[u64]) -> bool
-    ensures { result ≡ has_any (numbers_of image.now.members) numbers.now }
+/// The bugs whose sets a change replaces.
+#[derive(Clone, Copy)]
+pub(crate) enum Named<'a> {
+    One(u64),
+    Several(&'a BTreeSet<u64>),
+}
+
+// Whether one of the members has one of the numbers.
+fn has_some(members: &[Member], numbers: &BTreeSet<u64>) -> bool
+    ensures { result ≡ has_any (numbers_of members.now) numbers.now.keys }
 {
-    numbers.iter().any(|number| image.has(*number))
+    members
+        .iter()
+        .any(|member| numbers.contains(&member.number))
+}
+
+/// Whether one of the bugs is in the image.
+pub(crate) fn has_any(image: &SetImage, named: Named) -> bool
+    ensures { result ≡ has_any (numbers_of image.now.members) (named_numbers named.entry) }
+{
+    match named {
+        Named::One(number) => image.has(number),
+        Named::Several(numbers) => has_some(image.members.as_slice(), numbers),
+    }
 }
 
 // Whether the image has a member, and none of the bugs.
-fn is_other(image: &SetImage, numbers: &[u64]) -> bool
-    ensures { result ≡ is_other numbers.now image.now }
+fn is_other(image: &SetImage, named: Named) -> bool
+    ensures { result ≡ is_other (named_numbers named.entry) image.now }
 {
-    !image.members.as_slice().is_empty() && !has_any(image, numbers)
+    !image.members.as_slice().is_empty() && !has_any(image, named)
 }
 
 // Adds the images of other sets than the bugs'.
 fn add_others(
     kept: &mut Sequence<SetImage>,
     images: &[SetImage],
-    numbers: &[u64],
+    named: Named,
 ) -> Result<(), AllocError>
-    ensures { OnOk result (kept.new ≡ kept.old ++ others numbers.now images.now) }
+    ensures { OnOk result (kept.new ≡ kept.old ++ others (named_numbers named.entry) images.now) }
 {
     for image in images {
-        if is_other(image, numbers) {
+        if is_other(image, named) {
             kept.push(image.copy()?)?;
         }
     }
@@ -55,13 +76,13 @@ fn add_others(
 pub(crate) fn replace(
     mut parts: Sequence<SetImage>,
     images: &[SetImage],
-    numbers: &[u64],
+    named: Named,
     next: u64,
 ) -> Result<Change, AllocError>
-    ensures images { IfOk result (λ change. change.images ≡ parts ++ others numbers.now images.now) }
+    ensures images { IfOk result (λ change. change.images ≡ parts ++ others (named_numbers named.entry) images.now) }
     ensures next { IfOk result (λ change. change.next ≡ next) }
 {
-    add_others(&mut parts, images, numbers)?;
+    add_others(&mut parts, images, named)?;
     Ok(Change {
         images: parts,
         next,
@@ -73,13 +94,13 @@ pub(crate) fn replace_by_one(
     alloc: Global,
     image: SetImage,
     images: &[SetImage],
-    numbers: &[u64],
+    named: Named,
     next: u64,
 ) -> Result<Change, AllocError>
-    ensures images { IfOk result (λ change. change.images ≡ image ∷ others numbers.now images.now) }
+    ensures images { IfOk result (λ change. change.images ≡ image ∷ others (named_numbers named.entry) images.now) }
     ensures next { IfOk result (λ change. change.next ≡ next) }
 {
     let mut parts = Sequence::new(alloc);
     parts.push(image)?;
-    replace(parts, images, numbers, next)
+    replace(parts, images, named, next)
 }

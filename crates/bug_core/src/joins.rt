@@ -1,35 +1,39 @@
 //! The image of the set that merged bugs become.
 
-ghost use Rattle.std.specs.Prelude.{◌≡◌, ◌∷◌, [], IfOk, OnOk};
+ghost use Rattle.std.specs.Prelude.{◌≡◌, ◌∷◌, [], ℕ, IfOk, OnOk};
+ghost use Rattle.std.specs.BTreeMap.{values};
 ghost use Rattle.std.specs.Option.{option_copied};
 ghost use Rattle.bug_record.specs.Bugs.{bugs_at};
 ghost use Rattle.bug_record.specs.Images.{bug_in};
 ghost use Rattle.bug_record.specs.Merges.{first_owner};
+ghost use Rattle.bug_record.specs.Sets.{has, with_item};
 ghost use Rattle.bug_record.specs.Tags.{tag_place};
-ghost use Rattle.bug_core.specs.Joins.{with_items, with_nodes, with_members, with_shared, with_all_shared, joined_shared, number_of};
+ghost use Rattle.bug_core.specs.Joins.{with_items, with_nodes, with_members, with_shared, with_all_shared, joined_shared, number_of, IsKeyed};
 ghost use Rattle.bug_core.specs.Others.{those_meant};
+ghost use Rattle.bug_core.specs.Named.{named_numbers};
 
-use crate::changes::find_bug;
-use crate::images::has_any;
+use crate::images::{Named, has_any};
+use crate::index::Index;
 use ancestry::Node;
 use bug_record::{Member, Members, Nodes, Sequence, SetImage, Shared, Tag, Tags};
 use debver::Text;
 use std::alloc::{AllocError, Global};
+use std::collections::{BTreeMap, BTreeSet};
 
 // The owner of a bug, if it is there and has one.
-fn owner_of(images: &[SetImage], number: u64) -> Option<&Text>
-    ensures { option_copied result ≡ first_owner (bugs_at (bug_in images.now) (number ∷ [])) }
+fn owner_of<'a>(index: &'a Index, number: u64) -> Option<&'a Text>
+    ensures { option_copied result ≡ first_owner (bugs_at (bug_in index.now) (number ∷ [])) }
 {
-    let (image, _) = find_bug(images, number)?;
+    let (image, _) = index.find_bug(number)?;
     image.shared.owner.as_ref()
 }
 
 // A copy of the owner of the first bug that has one.
-fn first_owner(images: &[SetImage], numbers: &[u64]) -> Result<Option<Text>, AllocError>
-    ensures { IfOk result (λ owner. owner ≡ first_owner (bugs_at (bug_in images.now) numbers.now)) }
+fn first_owner(index: &Index, numbers: &[u64]) -> Result<Option<Text>, AllocError>
+    ensures { IfOk result (λ owner. owner ≡ first_owner (bugs_at (bug_in index.now) numbers.now)) }
 {
     for number in numbers {
-        if let Some(owner) = owner_of(images, *number) {
+        if let Some(owner) = owner_of(index, *number) {
             return Ok(Some(owner.copy()?));
         }
     }
@@ -54,11 +58,26 @@ fn add_nodes(set: &mut Nodes, nodes: &[Node]) -> Result<(), AllocError>
     Ok(())
 }
 
-fn add_members(set: &mut Sequence<Member>, members: &[Member]) -> Result<(), AllocError>
-    ensures { OnOk result (set.new ≡ with_items number_of set.old members.now) }
+// Adds a copy of the member, unless there is one of its number.
+fn add_member(map: &mut BTreeMap<u64, Member>, member: &Member) -> Result<(), AllocError>
+    requires keyed { IsKeyed map.old.entries }
+    ensures keyed { OnOk result (IsKeyed map.new.entries) }
+    ensures members { OnOk result (values map.new ≡ with_item number_of (values map.old) member.now) }
+{
+    if !map.contains_key(&member.number) {
+        map.insert(member.number, member.copy()?)?;
+    }
+    Ok(())
+}
+
+// Adds copies of the members.
+fn add_members(map: &mut BTreeMap<u64, Member>, members: &[Member]) -> Result<(), AllocError>
+    requires keyed { IsKeyed map.old.entries }
+    ensures keyed { OnOk result (IsKeyed map.new.entries) }
+    ensures members { OnOk result (values map.new ≡ with_items number_of (values map.old) members.now) }
 {
     for member in members {
-        set.add(member.copy()?)?;
+        add_member(map, member)?;
     }
     Ok(())
 }
@@ -72,64 +91,93 @@ fn add_shared(shared: &mut Shared, other: &Shared) -> Result<(), AllocError>
     add_nodes(&mut shared.fixed, other.fixed.as_slice())
 }
 
+// The members of all sets of the bugs, by number.
+fn members_by_number(
+    alloc: Global,
+    images: &[SetImage],
+    named: Named,
+) -> Result<BTreeMap<u64, Member>, AllocError>
+    ensures { IfOk result (λ map. values map ≡ with_members [] (those_meant (named_numbers named.entry) images.now)) }
+{
+    let mut map = BTreeMap::new(alloc);
+    for image in images {
+        if has_any(image, named) {
+            add_members(&mut map, image.members.as_slice())?;
+        }
+    }
+    Ok(map)
+}
+
 // The members of all sets of the bugs.
 fn joined_members(
     alloc: Global,
     images: &[SetImage],
-    numbers: &[u64],
-) -> Result<Sequence<Member>, AllocError>
-    ensures { IfOk result (λ ms. ms ≡ with_members [] (those_meant numbers.now images.now)) }
+    named: Named,
+) -> Result<Members, AllocError>
+    ensures { IfOk result (λ ms. ms ≡ with_members [] (those_meant (named_numbers named.entry) images.now)) }
 {
     let mut members = Sequence::new(alloc);
-    for image in images {
-        if has_any(image, numbers) {
-            add_members(&mut members, image.members.as_slice())?;
-        }
+    for member in members_by_number(alloc, images, named)?.into_values() {
+        members.push(member)?;
     }
-    Ok(members)
+    Members::of(members)
 }
 
 // Adds the tags and marks of all sets of the bugs.
 fn add_all_shared(
     shared: &mut Shared,
     images: &[SetImage],
-    numbers: &[u64],
+    named: Named,
 ) -> Result<(), AllocError>
-    ensures { OnOk result (shared.new ≡ with_all_shared shared.old (those_meant numbers.now images.now)) }
+    ensures { OnOk result (shared.new ≡ with_all_shared shared.old (those_meant (named_numbers named.entry) images.now)) }
 {
     for image in images {
-        if has_any(image, numbers) {
+        if has_any(image, named) {
             add_shared(shared, &image.shared)?;
         }
     }
     Ok(())
 }
 
-// The shared fields of that set.
-fn joined_shared(first: &Shared, images: &[SetImage], numbers: &[u64]) -> Result<Shared, AllocError>
+// The shared fields of that set. The named bugs are those of the numbers.
+fn joined_shared(
+    first: &Shared,
+    index: &Index,
+    images: &[SetImage],
+    numbers: &[u64],
+    named: Named,
+) -> Result<Shared, AllocError>
+    requires images { index.now ≡ images.now }
+    requires named { (n : ℕ) → has (named_numbers named) n ≡ has numbers.now n }
     ensures { IfOk result (λ f. f ≡ joined_shared first.now images.now numbers.now) }
 {
     let mut shared = first.copy()?;
-    add_all_shared(&mut shared, images, numbers)?;
-    shared.owner = first_owner(images, numbers)?;
+    add_all_shared(&mut shared, images, named)?;
+    shared.owner = first_owner(index, numbers)?;
     Ok(shared)
 }
 
 /// The image of the set that the bugs' sets become: with the fields of the first one, the tags and
 /// marks of all, and the owner of the first bug that has one.
+/// The index is that of the images, and the set is that of the numbers.
 pub(crate) fn joined_image(
     alloc: Global,
     first: &Shared,
+    index: &Index,
     images: &[SetImage],
     numbers: &[u64],
+    set: &BTreeSet<u64>,
 ) -> Result<SetImage, AllocError>
+    requires images { index.now ≡ images.now }
+    requires set { (n : ℕ) → has set.now.keys n ≡ has numbers.now n }
     ensures { IfOk result (λ i. i ≡ record {
       shared = joined_shared first.now images.now numbers.now;
       members = with_members [] (those_meant numbers.now images.now);
     }) }
 {
+    let named = Named::Several(set);
     Ok(SetImage {
-        shared: joined_shared(first, images, numbers)?,
-        members: Members::of(joined_members(alloc, images, numbers)?)?,
+        shared: joined_shared(first, index, images, numbers, named)?,
+        members: joined_members(alloc, images, named)?,
     })
 }

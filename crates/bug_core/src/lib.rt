@@ -4,7 +4,9 @@
 #![tactic(auto)]
 
 mod changes;
+mod equal;
 mod images;
+mod index;
 mod joins;
 mod laws;
 mod merges;

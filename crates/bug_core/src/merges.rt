@@ -1,18 +1,22 @@
 //! The commands `merge` and `forcemerge`.
 
-ghost use Rattle.std.specs.Prelude.{◌≡◌, ◌∷◌, IfOk};
+ghost use Rattle.std.specs.Prelude.{◌≡◌, ◌∷◌, [], IfOk, OnOk};
 ghost use Rattle.bug_record.specs.Bugs.{missing, first_refusal};
 ghost use Rattle.bug_record.specs.Differences.{differing};
 ghost use Rattle.bug_record.specs.Images.{bug_in, AreApart};
 ghost use Rattle.bug_record.specs.Merges.{sets_joined};
+ghost use Rattle.bug_record.specs.Sets.{with_item};
 ghost use Rattle.bug_core.specs.Agreements.{difference_of};
+ghost use Rattle.bug_core.specs.Joins.{with_items};
 ghost use Rattle.bug_core.specs.Planned.{IsPlanned};
 
-use crate::changes::{find_bug, same_text};
-use crate::images::{find, replace_by_one};
+use crate::equal::same_text;
+use crate::images::{Named, find, replace_by_one};
+use crate::index::Index;
 use crate::joins::joined_image;
 use bug_record::{Change, Field, Numbers, PlanFault, Refusal, SetImage, Shared};
 use std::alloc::{AllocError, Global};
+use std::collections::BTreeSet;
 
 /// What has to be equal before bugs are merged.
 #[derive(Clone, Copy, Debug, PartialEq, Eq, Drop)]
@@ -43,11 +47,11 @@ fn difference(agreement: Agreement, first: &Shared, shared: &Shared) -> Option<F
 }
 
 // The refusal of the first bug that is not there.
-fn first_missing(images: &[SetImage], numbers: &[u64]) -> Option<Refusal>
-    ensures { result ≡ first_refusal missing (bug_in images.now) numbers.now }
+fn first_missing(index: &Index, numbers: &[u64]) -> Option<Refusal>
+    ensures { result ≡ first_refusal missing (bug_in index.now) numbers.now }
 {
     for number in numbers {
-        if find_bug(images, *number).is_none() {
+        if index.find_bug(*number).is_none() {
             return Some(Refusal::NoBug(*number));
         }
     }
@@ -58,12 +62,12 @@ fn first_missing(images: &[SetImage], numbers: &[u64]) -> Option<Refusal>
 fn differing(
     agreement: Agreement,
     first: &Shared,
-    images: &[SetImage],
+    index: &Index,
     number: u64,
 ) -> Option<Refusal>
-    ensures { result ≡ differing (difference_of agreement first.now) (bug_in images.now number) number }
+    ensures { result ≡ differing (difference_of agreement first.now) (bug_in index.now number) number }
 {
-    let (image, _) = find_bug(images, number)?;
+    let (image, _) = index.find_bug(number)?;
     let field = difference(agreement, first, &image.shared)?;
     Some(Refusal::Differ(field, number))
 }
@@ -72,13 +76,13 @@ fn differing(
 fn first_differing(
     agreement: Agreement,
     first: &Shared,
-    images: &[SetImage],
+    index: &Index,
     numbers: &[u64],
 ) -> Option<Refusal>
-    ensures { result ≡ first_refusal (differing (difference_of agreement first.now)) (bug_in images.now) numbers.now }
+    ensures { result ≡ first_refusal (differing (difference_of agreement first.now)) (bug_in index.now) numbers.now }
 {
     for number in numbers {
-        if let Some(refusal) = differing(agreement, first, images, *number) {
+        if let Some(refusal) = differing(agreement, first, index, *number) {
             return Some(refusal);
         }
     }
@@ -96,6 +100,25 @@ fn all_numbers(alloc: Global, first: u64, others: &[u64]) -> Result<Numbers, All
     Ok(numbers)
 }
 
+// Adds a number to a set.
+fn add_number(set: &mut BTreeSet<u64>, number: u64) -> Result<(), AllocError>
+    ensures { OnOk result (set.new.keys ≡ with_item (λ n. n) set.old.keys number) }
+{
+    set.insert(number)?;
+    Ok(())
+}
+
+// The set of these numbers.
+fn set_of(alloc: Global, numbers: &[u64]) -> Result<BTreeSet<u64>, AllocError>
+    ensures { IfOk result (λ set. set.keys ≡ with_items (λ n. n) [] numbers.now) }
+{
+    let mut set = BTreeSet::new(alloc);
+    for number in numbers {
+        add_number(&mut set, *number)?;
+    }
+    Ok(set)
+}
+
 /// Merges bugs: their sets become one.
 pub(crate) fn plan_merge(
     alloc: Global,
@@ -111,14 +134,17 @@ pub(crate) fn plan_merge(
     let Some(image) = find(images, first) else {
         return Err(PlanFault::Refused(Refusal::NoBug(first)));
     };
-    if let Some(refusal) = first_missing(images, others) {
+    let index = Index::of(alloc, images)?;
+    if let Some(refusal) = first_missing(&index, others) {
         return Err(PlanFault::Refused(refusal));
     }
-    if let Some(refusal) = first_differing(agreement, &image.shared, images, others) {
+    if let Some(refusal) = first_differing(agreement, &image.shared, &index, others) {
         return Err(PlanFault::Refused(refusal));
     }
     let numbers = all_numbers(alloc, first, others)?;
     let numbers = numbers.as_slice();
-    let image = joined_image(alloc, &image.shared, images, numbers)?;
-    Ok(replace_by_one(alloc, image, images, numbers, next)?)
+    let set = set_of(alloc, numbers)?;
+    let image = joined_image(alloc, &image.shared, &index, images, numbers, &set)?;
+    let named = Named::Several(&set);
+    Ok(replace_by_one(alloc, image, images, named, next)?)
 }

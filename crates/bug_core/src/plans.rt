@@ -10,7 +10,7 @@ ghost use Rattle.bug_record.specs.Images.{AreApart, HasMember, FitsDesk};
 ghost use Rattle.bug_record.specs.Plans.{AllKnown, IsShownBy, IsPlanFor, CoverImages, BringNone};
 ghost use Rattle.bug_core.specs.Planned.{HasName, IsRefusedAs, IsFaultOfPlan, IsPlanned};
 
-use crate::images::{find, replace_by_one};
+use crate::images::{Named, find, replace_by_one};
 use crate::merges::{Agreement, plan_merge};
 use crate::named::bug_named;
 use crate::unmerge::plan_unmerge;
@@ -45,8 +45,7 @@ fn plan_records(
     command.texts_are_utf8();
     let members = members_with(alloc, command, from, old, &image.members)?;
     let image = SetImage { shared, members };
-    let named = [number];
-    let named = named.as_slice();
+    let named = Named::One(number);
     Ok(replace_by_one(alloc, image, images, named, next)?)
 }
 

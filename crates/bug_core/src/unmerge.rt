@@ -6,7 +6,7 @@ ghost use Rattle.bug_record.specs.Merges.{unmerged};
 ghost use Rattle.bug_core.specs.Joins.{is_part};
 ghost use Rattle.bug_core.specs.Planned.{IsPlanned};
 
-use crate::images::{find, replace};
+use crate::images::{Named, find, replace};
 use bug_record::{Change, Member, Members, PlanFault, Refusal, Sequence, SetImage, Shared};
 use std::alloc::{AllocError, Global};
 
@@ -82,7 +82,5 @@ pub(crate) fn plan_unmerge(
     }
     let own = part(alloc, true, number, members)?;
     let parts = two_images(alloc, &image.shared, own, rest)?;
-    let named = [number];
-    let named = named.as_slice();
-    Ok(replace(parts, images, named, next)?)
+    Ok(replace(parts, images, Named::One(number), next)?)
 }

@@ -31,5 +31,5 @@ returns c =
     planned-records c.args.from.now c.args.command.now c.args.images.now c.args.next c.in-Some.image.now (c.requires.sender, is_utf8-from_IsUtf8 c.args.from.now c.utf8.from) c.requires.parts c.texts_are_utf8.ensures c.requires.apart
     (ap (image_with c.args.images.now) (sym c.bug_named-number.ensures) ∙ c.in-Some.ensures)
     c.in_ok-replace_by_one.field-0
-    (c.in_ok-replace_by_one.ensures.images ∙ (λ j. record { shared = c.in-Ok.ensures.value j; members = members j } ∷ others ((c.as_slice-named.ensures ∙ ap (λ n. n ∷ []) c.bug_named-number.ensures) j) c.args.images.now))
+    (c.in_ok-replace_by_one.ensures.images ∙ (λ j. record { shared = c.in-Ok.ensures.value j; members = members j } ∷ others (ap (λ n. n ∷ []) c.bug_named-number.ensures j) c.args.images.now))
     c.in_ok-replace_by_one.ensures.next

@@ -35,7 +35,7 @@ images c =
     let own : c.in_ok-own.own ≡ filter (is_part true c.args.number) c.in-Some.image.now.members = c.in_ok-own.ensures ∙ ap (filter (is_part true c.args.number)) c.as_slice-members.ensures in
     let two : c.in_ok-parts.parts ≡ parts c.in-Some.image.now c.args.number
     = c.in_ok-parts.ensures ∙ (λ j. record { shared = c.in-Some.image.now.shared; members = own j } ∷ record { shared = c.in-Some.image.now.shared; members = rest j } ∷ []) in
-    c.in_ok-replace.ensures.images ∙ (λ j. two j ++ others (c.as_slice-named.ensures j) c.args.images.now)
+    c.in_ok-replace.ensures.images ∙ (λ j. two j ++ others (c.args.number ∷ []) c.args.images.now)
 
 pub returns-clause-planned : goal.returns-clause-planned
 returns-clause-planned c = unmerge-done c.args.images.now c.args.next c.args.number c.in-Some.image.now c.requires.apart c.in-Some.ensures (some_left c) c.in_ok-replace.field-0 (images c) c.in_ok-replace.ensures.next
