@@ -1,4 +1,6 @@
+pub mod ImageLemmas
+pub mod KeyLemmas
 pub mod PlainLemmas
-pub mod RowLemmas
+pub mod PlaceLemmas
 pub mod HoldsLemmas
 pub mod NameLemmas

@@ -1,84 +1,111 @@
--- The image of a set, from the records in memory.
-use Rattle.std.proofs.Common.{◌≡◌, ℕ, ◌<◌, ◌+◌, true, eqb, List, [], ◌∷◌, ◌++◌, length, get_or, drop, Some, None, sym, ◌∙◌, ap, append_assoc, refl}
-use Rattle.std.proofs.lemmas.List.{drop_more}
-use Rattle.std.proofs.lemmas.Bool.{eq-eqb, or_left, or_right}
+-- The desk in memory as keys and images.
+use Rattle.std.proofs.Common.{◌≡◌, ℕ, true, false, cond, eqb, List, [], ◌∷◌, Option, Some, None, sym, ◌∙◌, ap, subst, refl}
+use Rattle.std.specs.Prelude.{option_map}
+use Rattle.std.specs.Option.{option_or, option_and_then}
 use Rattle.std.specs.Ordering.{nat_cmp}
 use Rattle.std.specs.BTreeMap.{BTreeMap, get}
-use Rattle.ancestry.specs.Trees.{Ancestry, IsForest}
-use Rattle.bug_record.specs.Sets.{has, Each}
-use Rattle.bug_record.specs.Desk.{IsSound, IsMergedWith}
-use Rattle.bug_record.specs.Images.{numbers_of, bug_in, put}
-use Rattle.std.specs.Option.{option_or}
-use Rattle.bug_record.specs.declared.bug.Bug.{Bug}
-use Rattle.bug_record.specs.declared.bug.Member.{Member}
+use Rattle.std.proofs.lemmas.Bool.{eqb-true}
+use Rattle.ancestry.specs.Trees.{Ancestry}
+use Rattle.bug_record.specs.Sets.{has}
+use Rattle.bug_record.specs.Desk.{IsSound}
+use Rattle.bug_record.specs.Images.{numbers_of, bug_in, AreApart, FitsDesk, put}
+use Rattle.bug_record.specs.declared.bug.SetImage.{SetImage}
 use Rattle.bug_record.specs.declared.command.Change.{Change}
-use Rattle.desk_store.specs.Plain.{desk_of, member_of, members_in, set_in}
+use Rattle.desk_store.specs.Keys.{key_of, keyed_bug, IsKeyed, image_with, key_after, image_at_key, set_after}
+use Rattle.desk_store.specs.Plain.{key_at, image_at, keys, sets, desk_of}
+use Rattle.desk_store.specs.Places.{place_of, place_in}
+use Rattle.desk_store.specs.declared.places.Place.{Place}
+use Rattle.desk_store.specs.declared.places.Place.TheVariants.{First, After}
 use Rattle.desk_store.specs.Store.{IsImageOf}
+use Rattle.desk_store.proofs.ImageLemmas.{both_steps}
+use Rattle.desk_store.proofs.KeyLemmas.{image-of_key, keyed-after, bug-after}
 
--- one number more
-pub members_in-more : (bugs : BTreeMap ℕ Bug) (merged : List ℕ) (i n : ℕ) (ms more : List Member) → i < length merged → n ≡ get_or merged i 0 → more ≡ ms ++ member_of n (get nat_cmp bugs n)
-    → ms ++ members_in bugs (drop i merged) ≡ members_in bugs merged → more ++ members_in bugs (drop (i + 1) merged) ≡ members_in bugs merged
-members_in-more bugs merged i n ms more lt is e h =
-    let here : drop i merged ≡ n ∷ drop (i + 1) merged = drop_more merged i 0 lt ∙ ap (λ (k : ℕ). k ∷ drop (i + 1) merged) (sym is) in
-    ap (λ (w : List Member). w ++ members_in bugs (drop (i + 1) merged)) e
-    ∙ (append_assoc ms (member_of n (get nat_cmp bugs n)) (members_in bugs (drop (i + 1) merged))
-    ∙ (ap (λ (w : List ℕ). ms ++ members_in bugs w) (sym here) ∙ h))
+-- keys and images, as one value
+abbrev View : Type 0
+View = (ℕ → Option ℕ) × (ℕ → Option SetImage)
 
--- ---- on a sound desk
+abbrev Fit : View → Type 0
+Fit v = IsKeyed v.0 v.1
 
--- every number of the list is a bug's, merged with b
-abbrev AllMerged : BTreeMap ℕ Bug → Bug → List ℕ → Type 0
-AllMerged bugs b ns = (m : ℕ) → has ns m ≡ true → IsMergedWith b (get nat_cmp bugs m)
+-- ---- maps with the same places
 
-first_merged : (bugs : BTreeMap ℕ Bug) (b : Bug) (n : ℕ) (ns : List ℕ) → AllMerged bugs b (n ∷ ns) → IsMergedWith b (get nat_cmp bugs n)
-first_merged bugs b n ns h = h n (or_left (eqb n n) (has ns n) (eq-eqb n n refl))
+abbrev AreSame : BTreeMap ℕ Place → BTreeMap ℕ Place → Type 0
+AreSame now old = (n : ℕ) → get nat_cmp now n ≡ get nat_cmp old n
 
-rest_merged : (bugs : BTreeMap ℕ Bug) (b : Bug) (n : ℕ) (ns : List ℕ) → AllMerged bugs b (n ∷ ns) → AllMerged bugs b ns
-rest_merged bugs b n ns h m w = h m (or_right (eqb n m) (has ns m) w)
+same_view : (now old : BTreeMap ℕ Place) → AreSame now old → ◌≡◌ {A = View} (keys now, sets now) (keys old, sets old)
+same_view now old h = λ i. (λ n. option_map (key_at n) (h n i), λ k. option_and_then image_at (h k i))
 
--- the members have the numbers of the list
-numbers_of-members_in : (bugs : BTreeMap ℕ Bug) (b : Bug) (ns : List ℕ) → AllMerged bugs b ns → numbers_of (members_in bugs ns) ≡ ns
-numbers_of-members_in bugs b [] h = refl
-numbers_of-members_in bugs b (n ∷ ns) h =
-    elim (get nat_cmp bugs n) as (λ o. IsMergedWith b o → numbers_of (member_of n o ++ members_in bugs ns) ≡ n ∷ ns)
-    [ None ↦ λ w. absurd w | Some c ↦ λ w. ap (λ (ms : List ℕ). n ∷ ms) (numbers_of-members_in bugs b ns (rest_merged bugs b n ns h)) ] (first_merged bugs b n ns h)
+pub keyed-same : (now old : BTreeMap ℕ Place) → AreSame now old → IsKeyed (keys old) (sets old) → IsKeyed (keys now) (sets now)
+keyed-same now old h keyed = subst Fit (sym (same_view now old h)) keyed
 
--- each member's bug has the shared fields of b, and is merged with the same bugs
-abbrev IsLike : BTreeMap ℕ Bug → Bug → List ℕ → Member → Type 0
-IsLike bugs b merged m = get nat_cmp bugs m.number ≡ Some (record { title = m.title; submitter = m.submitter; shared = b.shared; merged = merged })
+pub desk_of-same : (now old : BTreeMap ℕ Place) (tree : Ancestry) (next : ℕ) → AreSame now old
+    → desk_of now tree next ≡ desk_of old tree next
+desk_of-same now old tree next h =
+    ap (λ (v : View). record { bug = keyed_bug v.0 v.1; tree = tree; next = next }) (same_view now old h)
 
-Each-members_in : (bugs : BTreeMap ℕ Bug) (b : Bug) (merged : List ℕ) → b.merged ≡ merged → (ns : List ℕ) → AllMerged bugs b ns → Each (IsLike bugs b merged) (members_in bugs ns)
-Each-members_in bugs b merged is [] h = tt
-Each-members_in bugs b merged is (n ∷ ns) h =
-    elim (get nat_cmp bugs n) as (λ o. get nat_cmp bugs n ≡ o → IsMergedWith b o → Each (IsLike bugs b merged) (member_of n o ++ members_in bugs ns)) [
-      | None ↦ λ e w. absurd w
-      | Some c ↦ λ e w. (e ∙ (λ i. Some (record { title = c.title; submitter = c.submitter; shared = w.1 i; merged = (w.0 ∙ is) i })), Each-members_in bugs b merged is ns (rest_merged bugs b n ns h))
-    ]
-    refl (first_merged bugs b n ns h)
+-- ---- the image of a bug's set
 
--- the set of a bug that is there is its image
-pub set_in-image : (bugs : BTreeMap ℕ Bug) (tree : Ancestry) (next : ℕ) → IsSound (desk_of bugs tree next) → (n : ℕ) (b : Bug) → get nat_cmp bugs n ≡ Some b → IsImageOf (desk_of bugs tree next) n (Some (set_in bugs b))
-set_in-image bugs tree next sound n b e =
-    let merged : AllMerged bugs b b.merged = λ m w. sound.agree n m b e w in
-    let ns : numbers_of (members_in bugs b.merged) ≡ b.merged = numbers_of-members_in bugs b b.merged merged in
-    (ap (λ (w : List ℕ). has w n) ns ∙ sound.own n b e, Each-members_in bugs b (numbers_of (members_in bugs b.merged)) (sym ns) b.merged merged)
+pub image-is : (bugs : BTreeMap ℕ Place) (tree : Ancestry) (next : ℕ) → IsKeyed (keys bugs) (sets bugs)
+    → IsSound (desk_of bugs tree next) → (n : ℕ) (i : SetImage) → option_and_then (sets bugs) (keys bugs n) ≡ Some i
+    → IsImageOf (desk_of bugs tree next) n (Some i)
+image-is bugs tree next keyed sound n i h =
+    let k = both_steps (sets bugs) (keys bugs n) i h in
+    image-of_key (keys bugs) (sets bugs) keyed tree next sound n k.0 i k.1 k.2
 
--- ---- desks with the same bugs
+-- ---- a map after a change
 
-pub desk_of-same : (now old : BTreeMap ℕ Bug) (tree : Ancestry) (next : ℕ) → ((n : ℕ) → get nat_cmp now n ≡ get nat_cmp old n) → desk_of now tree next ≡ desk_of old tree next
-desk_of-same now old tree next h = λ i. record { bug = λ n. h n i; tree = tree; next = next }
+place_in-image_with : (is : List SetImage) (n : ℕ) → place_in is n ≡ option_map (λ i. place_of i n) (image_with is n)
+place_in-image_with [] n = refl
+place_in-image_with (i ∷ is) n =
+    elim (has (numbers_of i.members) n) as
+    (λ t. cond t (Some (place_of i n)) (place_in is n) ≡ option_map (λ j. place_of j n) (cond t (Some i) (image_with is n)))
+    [ true ↦ refl | false ↦ place_in-image_with is n ]
 
-pub desk_of-put : (now old : BTreeMap ℕ Bug) (tree : Ancestry) (next : ℕ) (change : Change) → ((n : ℕ) → get nat_cmp now n ≡ option_or (bug_in change.images n) (get nat_cmp old n)) → desk_of now tree change.next ≡ put (desk_of old tree next) change
-desk_of-put now old tree next change h = λ i. record { bug = λ n. h n i; tree = tree; next = change.next }
+abbrev IsAfter : BTreeMap ℕ Place → List SetImage → BTreeMap ℕ Place → Type 0
+IsAfter old is now = (n : ℕ) → get nat_cmp now n ≡ option_or (place_in is n) (get nat_cmp old n)
 
--- a desk is sound with another ancestry
-pub desk_of-tree : (bugs : BTreeMap ℕ Bug) (old new : Ancestry) (next : ℕ) → IsForest new → IsSound (desk_of bugs old next) → IsSound (desk_of bugs new next)
-desk_of-tree bugs old new next forest h = record {
-  own = h.own;
-  ascending = h.ascending;
-  agree = h.agree;
-  texts = h.texts;
-  in_range = h.in_range;
-  forest = forest;
-  next_in_range = h.next_in_range;
-}
+key-after : (n : ℕ) (o : Option SetImage) (old : Option Place)
+    → option_map (key_at n) (option_or (option_map (λ i. place_of i n) o) old)
+    ≡ option_or (option_map key_of o) (option_map (key_at n) old)
+key-after n None old = refl
+key-after n (Some i) old =
+    elim (eqb (key_of i) n) as (λ t. eqb (key_of i) n ≡ t
+    → Some (key_at n (cond t (First i) (After (key_of i)))) ≡ Some (key_of i))
+    [ true ↦ λ e. ap Some (sym (eqb-true (key_of i) n e)) | false ↦ λ e. refl ] refl
+
+set-after : (k : ℕ) (o : Option SetImage) (old : Option Place)
+    → option_and_then image_at (option_or (option_map (λ i. place_of i k) o) old)
+    ≡ image_at_key k (option_and_then image_at old) o
+set-after k None old = refl
+set-after k (Some i) old =
+    elim (eqb (key_of i) k) as (λ t. image_at (cond t (First i) (After (key_of i))) ≡ cond t (Some i) None)
+    [ true ↦ refl | false ↦ refl ]
+
+view_after : (old now : BTreeMap ℕ Place) (is : List SetImage) → IsAfter old is now
+    → ◌≡◌ {A = View} (keys now, sets now) (key_after is (keys old), set_after is (sets old))
+view_after old now is h = λ i. (λ n. key n i, λ k. set k i)
+  where
+    at : (n : ℕ) → get nat_cmp now n ≡ option_or (option_map (λ i. place_of i n) (image_with is n)) (get nat_cmp old n)
+    at n = h n ∙ ap (λ (o : Option Place). option_or o (get nat_cmp old n)) (place_in-image_with is n)
+
+    key : (n : ℕ) → keys now n ≡ key_after is (keys old) n
+    key n = ap (option_map (key_at n)) (at n) ∙ key-after n (image_with is n) (get nat_cmp old n)
+
+    set : (k : ℕ) → sets now k ≡ set_after is (sets old) k
+    set k = ap (option_and_then image_at) (at k) ∙ set-after k (image_with is k) (get nat_cmp old k)
+
+module _ (old now : BTreeMap ℕ Place) (tree : Ancestry) (next : ℕ) (change : Change) (apart : AreApart change.images)
+    (fits : FitsDesk (desk_of old tree next) change) (keyed : IsKeyed (keys old) (sets old))
+    (h : IsAfter old change.images now) where
+  pub keyed-put : IsKeyed (keys now) (sets now)
+  keyed-put =
+      subst Fit (sym (view_after old now change.images h))
+      (keyed-after (keys old) (sets old) keyed change.images tree next apart fits.whole)
+
+  pub desk_of-put : desk_of now tree change.next ≡ put (desk_of old tree next) change
+  desk_of-put = λ i. record { bug = λ n. bug n i; tree = tree; next = change.next }
+    where
+      bug : (n : ℕ) → keyed_bug (keys now) (sets now) n ≡ option_or (bug_in change.images n) (keyed_bug (keys old) (sets old) n)
+      bug n =
+          ap (λ (v : View). keyed_bug v.0 v.1 n) (view_after old now change.images h)
+          ∙ bug-after (keys old) (sets old) keyed change.images tree next apart fits.whole n

@@ -1,6 +1,7 @@
 pub mod Store
+pub mod Keys
 pub mod Plain
 pub mod FailAt
 pub mod Message
 -- definitions that only private functions cite
-pub mod Rows
+pub mod Places

@@ -1,30 +1,37 @@
--- A desk in memory, as a map from numbers to bugs.
-use Rattle.std.specs.Prelude.{ℕ, List, [], ◌∷◌, ◌++◌, Option, Some, None}
+-- A desk in memory, as a map from each number to what stands in its place.
+use Rattle.std.specs.Prelude.{ℕ, Option, Some, None, option_map}
+use Rattle.std.specs.Option.{option_and_then}
 use Rattle.std.specs.Ordering.{nat_cmp}
 use Rattle.std.specs.BTreeMap.{BTreeMap, get}
 use Rattle.ancestry.specs.Trees.{Ancestry, no_nodes}
 use Rattle.bug_record.specs.Desk.{Desk}
-use Rattle.bug_record.specs.declared.bug.Bug.{Bug}
-use Rattle.bug_record.specs.declared.bug.Member.{Member}
 use Rattle.bug_record.specs.declared.bug.SetImage.{SetImage}
+use Rattle.desk_store.specs.Keys.{keyed_desk}
+use Rattle.desk_store.specs.declared.places.Place.{Place}
+use Rattle.desk_store.specs.declared.places.Place.TheVariants.{First, After}
+
+-- the key of the bug n, which has this place: its own number, or that of the first bug of its set
+abbrev pub key_at : ℕ → Place → ℕ
+key_at n (First i) = n
+key_at n (After k) = k
+
+-- the image that stands there
+abbrev pub image_at : Place → Option SetImage
+image_at (First i) = Some i
+image_at (After k) = None
+
+-- the key of each bug
+abbrev pub keys : BTreeMap ℕ Place → ℕ → Option ℕ
+keys bugs n = option_map (key_at n) (get nat_cmp bugs n)
+
+-- the image of each key
+abbrev pub sets : BTreeMap ℕ Place → ℕ → Option SetImage
+sets bugs k = option_and_then image_at (get nat_cmp bugs k)
 
 -- the desk of these bugs and this ancestry
-abbrev pub desk_of : BTreeMap ℕ Bug → Ancestry → ℕ → Desk
-desk_of bugs tree next = record { bug = λ n. get nat_cmp bugs n; tree = tree; next = next }
+abbrev pub desk_of : BTreeMap ℕ Place → Ancestry → ℕ → Desk
+desk_of bugs tree next = keyed_desk (keys bugs) (sets bugs) tree next
 
 -- a desk with no bug and no node
 abbrev pub empty_desk : ℕ → Desk
 empty_desk first = record { bug = λ n. None; tree = no_nodes; next = first }
-
--- the bug of this number as a member, where it is there
-abbrev pub member_of : ℕ → Option Bug → List Member
-member_of n None = []
-member_of n (Some b) = record { number = n; title = b.title; submitter = b.submitter } ∷ []
-
-abbrev pub members_in : BTreeMap ℕ Bug → List ℕ → List Member
-members_in bugs [] = []
-members_in bugs (n ∷ ns) = member_of n (get nat_cmp bugs n) ++ members_in bugs ns
-
--- the image of the set that a bug is in
-abbrev pub set_in : BTreeMap ℕ Bug → Bug → SetImage
-set_in bugs b = record { shared = b.shared; members = members_in bugs b.merged }

@@ -5,9 +5,9 @@
 
 mod fail_at;
 mod laws;
+mod places;
 mod plain;
 mod records;
-mod rows;
 
 pub use fail_at::FailAt;
 pub use laws::{faults_rise_by_one, names_are_told_from_numbers};

@@ -1,29 +1,33 @@
 //! A desk in memory.
 
-ghost use Rattle.std.specs.Prelude.{◌≡◌, ◌≤◌, ◌++◌, None, Ok, IfOk, IfErr, OnOk, OnErr};
+ghost use Rattle.std.specs.Prelude.{◌≡◌, ◌≤◌, None, Ok, IfOk, IfErr, OnOk, OnErr};
 ghost use Rattle.std.specs.BTreeMap.{get};
+ghost use Rattle.std.specs.Option.{option_and_then, option_copied};
 ghost use Rattle.std.specs.Ordering.{nat_cmp};
 ghost use Rattle.bug_record.specs.Desk.{IsSound};
-ghost use Rattle.bug_record.specs.Images.{FitsDesk, put};
+ghost use Rattle.bug_record.specs.Images.{AreApart, FitsDesk, put};
 ghost use Rattle.bug_record.proofs.SoundProp.{IsSound-prop};
 ghost use Rattle.desk_store.specs.Store.{IsImageOf, Branches, IsRefusal, no_faults};
-ghost use Rattle.desk_store.specs.Plain.{desk_of, empty_desk, member_of, members_in, set_in};
+ghost use Rattle.desk_store.specs.Keys.{IsKeyed};
+ghost use Rattle.desk_store.specs.Plain.{desk_of, empty_desk, keys, sets};
 
+use crate::places::{Place, put_images};
 use crate::records::Records;
-use crate::rows::put_images;
 use ancestry::{BranchFault, Node, Tree};
-use bug_record::{Bug, Change, Member, Members, Sequence, SetImage};
+use bug_record::{Change, SetImage};
 use desk_text::StoreFault;
 use std::alloc::{AllocError, Global};
 use std::collections::BTreeMap;
 
-/// A desk in memory: the whole record of each bug, by number, and the tree of nodes.
+/// A desk in memory: the image of each set of merged bugs at the first of them, the number of the
+/// first at the others, and the tree of nodes.
 #[derive(Drop)]
 pub struct PlainDesk {
-    bugs: BTreeMap<u64, Bug>,
+    bugs: BTreeMap<u64, Place>,
     tree: Tree,
     next: u64,
     alloc: Global,
+    ghost keyed: { IsKeyed (keys bugs) (sets bugs) },
     ghost sound: { IsSound (desk_of bugs tree next) } by { IsSound-prop (desk_of bugs tree next) },
 }
 
@@ -43,47 +47,17 @@ impl PlainDesk {
     }
 }
 
-// Adds the bug of this number to the members, where it is there.
-fn add_member(
-    members: &mut Sequence<Member>,
-    bugs: &BTreeMap<u64, Bug>,
-    number: u64,
-) -> Result<(), AllocError>
-    ensures { OnOk result (members.new ≡ members.old ++ member_of number (get nat_cmp bugs.now number)) }
+// The image of the set that the bug is in.
+fn image_of(bugs: &BTreeMap<u64, Place>, number: u64) -> Option<&SetImage>
+    ensures { option_copied result ≡ option_and_then (sets bugs.now) (keys bugs.now number) }
 {
-    match bugs.get(&number) {
-        Some(bug) => members.push(Member {
-            number,
-            title: bug.title.copy()?,
-            submitter: bug.submitter.copy()?,
-        }),
-        None => Ok(()),
+    match bugs.get(&number)? {
+        Place::First(image) => Some(image),
+        Place::After(first) => match bugs.get(first)? {
+            Place::First(image) => Some(image),
+            Place::After(_) => None,
+        },
     }
-}
-
-// The members of a set: the bugs of these numbers.
-fn members_in(
-    alloc: Global,
-    bugs: &BTreeMap<u64, Bug>,
-    merged: &[u64],
-) -> Result<Sequence<Member>, AllocError>
-    ensures { IfOk result (λ members. members ≡ members_in bugs.now merged.now) }
-{
-    let mut members = Sequence::new(alloc);
-    for number in merged {
-        add_member(&mut members, bugs, *number)?;
-    }
-    Ok(members)
-}
-
-// The image of the set that a bug is in.
-fn set_in(alloc: Global, bugs: &BTreeMap<u64, Bug>, bug: &Bug) -> Result<SetImage, AllocError>
-    ensures { IfOk result (λ image. image ≡ set_in bugs.now bug.now) }
-{
-    Ok(SetImage {
-        shared: bug.shared.copy()?,
-        members: Members::of(members_in(alloc, bugs, bug.merged.as_slice())?)?,
-    })
 }
 
 impl Records for PlainDesk {
@@ -101,8 +75,8 @@ impl Records for PlainDesk {
         ensures none { get nat_cmp self.old.bugs number ≡ None → result ≡ Ok None }
         ensures memory { IfErr result (λ fault. fault ≡ StoreFault.Memory) }
     {
-        match self.bugs.get(&number) {
-            Some(bug) => match set_in(self.alloc, &self.bugs, bug) {
+        match image_of(&self.bugs, number) {
+            Some(image) => match image.copy() {
                 Ok(image) => Ok(Some(image)),
                 Err(_) => Err(StoreFault::Memory),
             },
@@ -118,6 +92,7 @@ impl Records for PlainDesk {
     }
 
     fn apply(&mut self, change: &Change) -> Result<(), StoreFault>
+        requires apart { AreApart change.now.images }
         requires fits { FitsDesk (desk_of self.old.bugs self.old.tree self.old.next) change.now }
         ensures done { OnOk result
             (desk_of self.new.bugs self.new.tree self.new.next ≡ put (desk_of self.old.bugs self.old.tree self.old.next) change.now) }

@@ -1,5 +1,0 @@
-use Rattle.std.proofs.Common.{◌≡◌, map, take}
-use Rattle.desk_store.proofs.rows.numbers_of_rows.Given as goal
-
-abbrev pub invariant-loop-row : goal.invariant-loop-row
-invariant-loop-row l = l.numbers.items ≡ map (λ row. row.number) (take l.row-index l.rows)
