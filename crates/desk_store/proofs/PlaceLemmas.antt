@@ -39,6 +39,23 @@ pub on_err_from_ok : {T E : Type 0} (r : Result T E) (P : Type 0) → IsOk r →
 on_err_from_ok (Ok x) P h = tt
 on_err_from_ok (Err e) P h = absurd (false≢true h)
 
+-- where the members have places, the first one has none only after the others' are written if it had none
+pub absent_never : (bugs now : BTreeMap ℕ Place) (ms others : List Member) (first : Member) (k : ℕ) → ms ≡ first ∷ others
+    → ((n : ℕ) → has (numbers_of ms) n ≡ true → is_there bugs n ≡ true)
+    → ((n : ℕ) → get nat_cmp now n ≡ cond (has (numbers_of others) n) (Some (After k)) (get nat_cmp bugs n))
+    → get nat_cmp now first.number ≡ None → ⊥
+absent_never bugs now ms others first k is there u e = cases (has (numbers_of others) first.number) refl
+  where
+    cases : (t : Bool) → has (numbers_of others) first.number ≡ t → ⊥
+    cases true q = none-some (After k) (sym e ∙ (u first.number ∙ ap (λ t. cond t (Some (After k)) (get nat_cmp bugs first.number)) q))
+    cases false q =
+        let own : has (numbers_of ms) first.number ≡ true =
+            ap (λ (z : List Member). has (numbers_of z) first.number) is
+            ∙ ap (λ t. t || has (numbers_of others) first.number) (eq-eqb first.number first.number refl) in
+        let gone : get nat_cmp bugs first.number ≡ None =
+            sym (u first.number ∙ ap (λ t. cond t (Some (After k)) (get nat_cmp bugs first.number)) q) ∙ e in
+        false≢true (sym (ap is_some gone) ∙ there first.number own)
+
 -- ---- the places v of numbers, written one by one
 
 -- one number more
