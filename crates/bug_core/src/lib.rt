@@ -8,6 +8,7 @@ mod equal;
 mod images;
 mod index;
 mod joins;
+mod kept;
 mod laws;
 mod merges;
 mod named;
