@@ -83,14 +83,24 @@ told (m ∷ ms) (n ∷ ns) e a k h =
     alone q true w = let l : n.number < k = has-above (numbers_of ns) n.number k a.0 w in let z : n.number ≡ k = eqb-true n.number k q in absurd (omega (arith, l, z))
 
     here : eqb n.number k ≡ true → Told (m ∷ ms) (n ∷ ns) k
-    here q = (m, n, ap (λ t. cond t (Some m) (member_at ms k)) (ap (λ z. eqb z k) same ∙ q), ap (λ t. cond t (Some n) (member_at ns k)) q,
+    here q = (
+      m,
+      n,
+      ap (λ t. cond t (Some m) (member_at ms k)) (ap (λ z. eqb z k) same ∙ q),
+      ap (λ t. cond t (Some n) (member_at ns k)) q,
       elim (same_texts m n) as (λ t. has (cond t (retold ms ns) (n.number ∷ retold ms ns)) k ≡ not t)
-      [ true ↦ none-retold ms ns k (alone q (has (numbers_of ns) k) refl) | false ↦ ap (λ t. t || has (retold ms ns) k) q ])
+          [ true ↦ none-retold ms ns k (alone q (has (numbers_of ns) k) refl) | false ↦ ap (λ t. t || has (retold ms ns) k) q ],
+    )
 
     later : eqb n.number k ≡ false → Told ms ns k → Told (m ∷ ms) (n ∷ ns) k
-    later q r = (r.0, r.1, ap (λ t. cond t (Some m) (member_at ms k)) (ap (λ z. eqb z k) same ∙ q) ∙ r.2, ap (λ t. cond t (Some n) (member_at ns k)) q ∙ r.3,
+    later q r = (
+      r.0,
+      r.1,
+      ap (λ t. cond t (Some m) (member_at ms k)) (ap (λ z. eqb z k) same ∙ q) ∙ r.2,
+      ap (λ t. cond t (Some n) (member_at ns k)) q ∙ r.3,
       elim (same_texts m n) as (λ t. has (cond t (retold ms ns) (n.number ∷ retold ms ns)) k ≡ not (same_texts r.0 r.1))
-      [ true ↦ r.4 | false ↦ ap (λ t. t || has (retold ms ns) k) q ∙ r.4 ])
+          [ true ↦ r.4 | false ↦ ap (λ t. t || has (retold ms ns) k) q ∙ r.4 ],
+    )
 
 -- a number of no member is no bug
 absent : (old new : SetImage) → IsKept old new → (n : ℕ) → has (numbers_of new.members) n ≡ false → bug_in (old ∷ []) n ≡ bug_in (new ∷ []) n

@@ -124,11 +124,7 @@ fn in_order(alloc: Global, set: &BTreeSet<u64>) -> Result<Numbers, AllocError>
 }
 
 // The numbers of the bugs that differ, of any images.
-fn changed_between(
-    alloc: Global,
-    old: &[SetImage],
-    new: &[SetImage],
-) -> Result<Numbers, AllocError>
+fn changed_between(alloc: Global, old: &[SetImage], new: &[SetImage]) -> Result<Numbers, AllocError>
     ensures { IfOk result (λ r. AreChanged (bug_in old.now) (bug_in new.now) r) }
 {
     let before = Index::of(alloc, old)?;
