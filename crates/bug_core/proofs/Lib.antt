@@ -14,4 +14,5 @@ pub mod SharedLemmas
 pub mod MergeLemmas
 pub mod JoinLemmas
 pub mod ChangedLemmas
+pub mod KeptLemmas
 pub mod ReportLemmas

@@ -4,6 +4,7 @@ pub mod Others
 pub mod Index
 pub mod Named
 pub mod Changes
+pub mod Kept
 pub mod Numbers
 pub mod Agreements
 pub mod Joins

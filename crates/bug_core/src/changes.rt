@@ -9,8 +9,9 @@ ghost use Rattle.bug_record.specs.declared.bug.SetImage.{SetImage};
 ghost use Rattle.bug_core.specs.Changes.{differs, same_set, IsRight};
 ghost use Rattle.bug_core.specs.Numbers.{IsJoined};
 
-use crate::equal::{same_numbers, same_set, same_shared, same_texts};
+use crate::equal::{same_set, same_texts};
 use crate::index::Index;
+use crate::kept::{changed_in_place, is_kept};
 use bug_record::{Member, Numbers, Sequence, SetImage};
 use std::alloc::{AllocError, Global};
 use std::collections::BTreeSet;
@@ -123,11 +124,7 @@ fn in_order(alloc: Global, set: &BTreeSet<u64>) -> Result<Numbers, AllocError>
 }
 
 // The numbers of the bugs that differ, of any images.
-fn changed_between(
-    alloc: Global,
-    old: &[SetImage],
-    new: &[SetImage],
-) -> Result<Numbers, AllocError>
+fn changed_between(alloc: Global, old: &[SetImage], new: &[SetImage]) -> Result<Numbers, AllocError>
     ensures { IfOk result (λ r. AreChanged (bug_in old.now) (bug_in new.now) r) }
 {
     let before = Index::of(alloc, old)?;
@@ -143,6 +140,18 @@ fn changed_between(
     in_order(alloc, &set)
 }
 
+// The numbers of the bugs that differ.
+fn changed_bugs(alloc: Global, old: &[SetImage], new: &[SetImage]) -> Result<Numbers, AllocError>
+    ensures { IfOk result (λ r. AreChanged (bug_in old.now) (bug_in new.now) r) }
+{
+    if let ([before], [after]) = (old, new) {
+        if is_kept(before, after) {
+            return changed_in_place(alloc, before, after);
+        }
+    }
+    changed_between(alloc, old, new)
+}
+
 /// The numbers of the bugs that the new images show otherwise than the old ones, ascending: those
 /// whose record or set differs, and those that only one side has.
 ///
@@ -153,5 +162,5 @@ pub fn changed(alloc: Global, old: &[SetImage], new: &[SetImage]) -> Result<Numb
     ensures images { IfOk result (λ r. AreChanged (bug_in old.now) (bug_in new.now) r) }
     ensures desks { IfOk result (λ r. (d : Desk) (next : ℕ) → Replaces d old.now new.now next → r ≡ changed_numbers d (put d (record { images = new.now; next = next }))) }
 {
-    changed_between(alloc, old, new)
+    changed_bugs(alloc, old, new)
 }

@@ -43,11 +43,7 @@ impl<'a> Model for Index<'a> {
 }
 
 // Adds the place of a bug, unless it has one.
-fn add_place(
-    places: &mut BTreeMap<u64, Place>,
-    number: u64,
-    place: Place,
-) -> Result<(), AllocError>
+fn add_place(places: &mut BTreeMap<u64, Place>, number: u64, place: Place) -> Result<(), AllocError>
     ensures { OnOk result ((n : ℕ) → get nat_cmp places.new n ≡ option_or (get nat_cmp places.old n) (if number == n then Some place else None)) }
 {
     if !places.contains_key(&number) {

@@ -109,11 +109,7 @@ fn members_by_number(
 }
 
 // The members of all sets of the bugs.
-fn joined_members(
-    alloc: Global,
-    images: &[SetImage],
-    named: Named,
-) -> Result<Members, AllocError>
+fn joined_members(alloc: Global, images: &[SetImage], named: Named) -> Result<Members, AllocError>
     ensures { IfOk result (λ ms. ms ≡ with_members [] (those_meant (named_numbers named.entry) images.now)) }
 {
     let mut members = Sequence::new(alloc);
@@ -124,11 +120,7 @@ fn joined_members(
 }
 
 // Adds the tags and marks of all sets of the bugs.
-fn add_all_shared(
-    shared: &mut Shared,
-    images: &[SetImage],
-    named: Named,
-) -> Result<(), AllocError>
+fn add_all_shared(shared: &mut Shared, images: &[SetImage], named: Named) -> Result<(), AllocError>
     ensures { OnOk result (shared.new ≡ with_all_shared shared.old (those_meant (named_numbers named.entry) images.now)) }
 {
     for image in images {

@@ -8,6 +8,7 @@ mod equal;
 mod images;
 mod index;
 mod joins;
+mod kept;
 mod laws;
 mod merges;
 mod named;
@@ -16,8 +17,8 @@ mod report;
 mod unmerge;
 
 pub use bug_record::{
-    Bug, Change, Command, Field, Member, Members, Nodes, Numbered, Numbers, PlanFault, Refusal, Sequence,
-    SetImage, Severity, Shared, Tag, TagStep, Tags, VersionArg, Who, is_text,
+    Bug, Change, Command, Field, Member, Members, Nodes, Numbered, Numbers, PlanFault, Refusal,
+    Sequence, SetImage, Severity, Shared, Tag, TagStep, Tags, VersionArg, Who, is_text,
 };
 pub use changes::changed;
 pub use laws::changed_numbers_differ;

@@ -59,12 +59,7 @@ fn first_missing(index: &Index, numbers: &[u64]) -> Option<Refusal>
 }
 
 // The refusal of a bug, if it is there and differs.
-fn differing(
-    agreement: Agreement,
-    first: &Shared,
-    index: &Index,
-    number: u64,
-) -> Option<Refusal>
+fn differing(agreement: Agreement, first: &Shared, index: &Index, number: u64) -> Option<Refusal>
     ensures { result ≡ differing (difference_of agreement first.now) (bug_in index.now number) number }
 {
     let (image, _) = index.find_bug(number)?;

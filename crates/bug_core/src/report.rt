@@ -27,12 +27,7 @@ fn found_first(alloc: Global, node: Option<Node>) -> Result<Nodes, AllocError>
 }
 
 // The new bug, as the only member of its set.
-fn only_member(
-    alloc: Global,
-    number: u64,
-    title: &str,
-    from: &str,
-) -> Result<Members, AllocError>
+fn only_member(alloc: Global, number: u64, title: &str, from: &str) -> Result<Members, AllocError>
     ensures { IfOk result (λ members. members ≡ only_member number title.now from.now) }
 {
     Ok(Members::one(Member {
