@@ -11,6 +11,7 @@ find_number [] n = refl
 find_number (m ∷ ms) n = ap (λ o. cond (m.number == n) (Some m) o) (find_number ms n)
 
 -- a lent value that is what a definition gives
-pub lent : {X : Type 0} (r : Option (Bor X)) (o : Option X) → option_map (λ x. x.now) r ≡ o → MatchOption r (o ≡ None) (λ x. o ≡ Some x.now)
+pub lent : {X : Type 0} (r : Option (Bor X)) (o : Option X) → option_map (λ x. x.now) r ≡ o
+    → MatchOption r (o ≡ None) (λ x. o ≡ Some x.now)
 lent None o h = sym h
 lent (Some x) o h = sym h

@@ -1,5 +1,6 @@
 -- What differs where a set stays the same bugs.
-use Rattle.std.proofs.Common.{◌≡◌, ◌<◌, ℕ, Bool, true, false, cond, not, ◌&&◌, ◌||◌, eqb, List, [], ◌∷◌, Option, Some, None, sym, refl, ap, ◌∙◌, subst, arith}
+use Rattle.std.proofs.Common.{◌≡◌, ◌<◌, ℕ, Bool, true, false, cond, not, ◌&&◌, ◌||◌, eqb, List, [], ◌∷◌, Option, Some, None, sym}
+use Rattle.std.proofs.Common.{refl, ap, ◌∙◌, subst, arith}
 use Rattle.std.specs.Prelude.{nat_lt, option_map}
 use Rattle.std.specs.Option.{option_or}
 use Rattle.std.specs.Str.{bytes_eq}
@@ -29,8 +30,14 @@ ascending-from : (ns : List ℕ) → ascends None ns ≡ true → IsAscending ns
 ascending-from [] h = tt
 ascending-from (n ∷ ns) h = all-above n ns h
 
-pub kept-from : (old new : SetImage) → bytes_eq (numbers_of old.members) (numbers_of new.members) ≡ true → (t : Bool) → t ≡ ascends None (numbers_of new.members) → t ≡ true → IsKept old new
-kept-from old new same t e h = record { numbers = (bytes_eq-Decides (numbers_of old.members) (numbers_of new.members)).0 same; ascending = ascending-from (numbers_of new.members) (sym e ∙ h) }
+pub kept-from : (old new : SetImage) → bytes_eq (numbers_of old.members) (numbers_of new.members) ≡ true → (t : Bool)
+    → t ≡ ascends None (numbers_of new.members) → t ≡ true → IsKept old new
+kept-from old new same t e h =
+    record {
+      numbers = (bytes_eq-Decides (numbers_of old.members) (numbers_of new.members)).0 same;
+      ascending =
+          ascending-from (numbers_of new.members) (sym e ∙ h);
+    }
 
 -- the numbers of those that differ are among all, and ascend
 none-retold : (ms ns : List Member) (k : ℕ) → has (numbers_of ns) k ≡ false → has (retold ms ns) k ≡ false
@@ -45,17 +52,20 @@ above-retold : (ms ns : List Member) (k : ℕ) → AllAbove k (numbers_of ns) �
 above-retold [] ns k h = tt
 above-retold (m ∷ ms) [] k h = tt
 above-retold (m ∷ ms) (n ∷ ns) k h =
-    elim (same_texts m n) as (λ t. AllAbove k (cond t (retold ms ns) (n.number ∷ retold ms ns))) [ true ↦ above-retold ms ns k h.1 | false ↦ (h.0, above-retold ms ns k h.1) ]
+    elim (same_texts m n) as (λ t. AllAbove k (cond t (retold ms ns) (n.number ∷ retold ms ns)))
+    [ true ↦ above-retold ms ns k h.1 | false ↦ (h.0, above-retold ms ns k h.1) ]
 
 ascending-retold : (ms ns : List Member) → IsAscending (numbers_of ns) → IsAscending (retold ms ns)
 ascending-retold [] ns h = tt
 ascending-retold (m ∷ ms) [] h = tt
 ascending-retold (m ∷ ms) (n ∷ ns) h =
-    elim (same_texts m n) as (λ t. IsAscending (cond t (retold ms ns) (n.number ∷ retold ms ns))) [ true ↦ ascending-retold ms ns h.1 | false ↦ (above-retold ms ns n.number h.0, ascending-retold ms ns h.1) ]
+    elim (same_texts m n) as (λ t. IsAscending (cond t (retold ms ns) (n.number ∷ retold ms ns)))
+    [ true ↦ ascending-retold ms ns h.1 | false ↦ (above-retold ms ns n.number h.0, ascending-retold ms ns h.1) ]
 
 -- the two members of a number
 abbrev Told : List Member → List Member → ℕ → Type 0
-Told ms ns k = (x : Member) × (y : Member) × (member_at ms k ≡ Some x) × (member_at ns k ≡ Some y) × (has (retold ms ns) k ≡ not (same_texts x y))
+Told ms ns k = (x : Member) × (y : Member) × (member_at ms k ≡ Some x) × (member_at ns k ≡ Some y)
+    × (has (retold ms ns) k ≡ not (same_texts x y))
 
 abbrev first : List ℕ → ℕ
 first [] = 0
@@ -65,7 +75,8 @@ abbrev rest : List ℕ → List ℕ
 rest [] = []
 rest (x ∷ xs) = xs
 
-told : (ms ns : List Member) → numbers_of ms ≡ numbers_of ns → IsAscending (numbers_of ns) → (k : ℕ) → has (numbers_of ns) k ≡ true → Told ms ns k
+told : (ms ns : List Member) → numbers_of ms ≡ numbers_of ns → IsAscending (numbers_of ns) → (k : ℕ)
+    → has (numbers_of ns) k ≡ true → Told ms ns k
 told [] ns e a k h = absurd (false≢true (ap (λ z. has z k) e ∙ h))
 told (m ∷ ms) [] e a k h = absurd (false≢true h)
 told (m ∷ ms) (n ∷ ns) e a k h =
@@ -80,7 +91,8 @@ told (m ∷ ms) (n ∷ ns) e a k h =
     -- a number of the first member is no later one
     alone : eqb n.number k ≡ true → (t : Bool) → has (numbers_of ns) k ≡ t → has (numbers_of ns) k ≡ false
     alone q false w = w
-    alone q true w = let l : n.number < k = has-above (numbers_of ns) n.number k a.0 w in let z : n.number ≡ k = eqb-true n.number k q in absurd (omega (arith, l, z))
+    alone q true w = let l : n.number < k = has-above (numbers_of ns) n.number k a.0 w in let z : n.number ≡ k =
+        eqb-true n.number k q in absurd (omega (arith, l, z))
 
     here : eqb n.number k ≡ true → Told (m ∷ ms) (n ∷ ns) k
     here q = (
@@ -103,18 +115,23 @@ told (m ∷ ms) (n ∷ ns) e a k h =
     )
 
 -- a number of no member is no bug
-absent : (old new : SetImage) → IsKept old new → (n : ℕ) → has (numbers_of new.members) n ≡ false → bug_in (old ∷ []) n ≡ bug_in (new ∷ []) n
+absent : (old new : SetImage) → IsKept old new → (n : ℕ) → has (numbers_of new.members) n ≡ false
+    → bug_in (old ∷ []) n ≡ bug_in (new ∷ []) n
 absent old new h n e =
-    ap (λ (o : Option Member). option_or (option_map (bug_of old) o) None) (no_member-has old.members n (ap (λ z. has z n) h.numbers ∙ e))
+    ap (λ (o : Option Member). option_or (option_map (bug_of old) o) None)
+    (no_member-has old.members n (ap (λ z. has z n) h.numbers ∙ e))
     ∙ sym (ap (λ (o : Option Member). option_or (option_map (bug_of new) o) None) (no_member-has new.members n e))
 
 -- a bug differs in its texts or in the shared fields
-differ : (old new : SetImage) → IsKept old new → (n : ℕ) (t : Told old.members new.members n) → differs (old ∷ []) (new ∷ []) n ≡ not (same_texts t.0 t.1 && (same_shared old.shared new.shared && true))
+differ : (old new : SetImage) → IsKept old new → (n : ℕ) (t : Told old.members new.members n)
+    → differs (old ∷ []) (new ∷ []) n ≡ not (same_texts t.0 t.1 && (same_shared old.shared new.shared && true))
 differ old new h n t =
     (λ j. not (same_at (option_or (option_map (bug_of old) (t.2 j)) None) (option_or (option_map (bug_of new) (t.3 j)) None)))
-    ∙ ap (λ b. not (same_texts t.0 t.1 && (same_shared old.shared new.shared && b))) ((bytes_eq-Decides (numbers_of old.members) (numbers_of new.members)).1 h.numbers)
+    ∙ ap (λ b. not (same_texts t.0 t.1 && (same_shared old.shared new.shared && b)))
+    ((bytes_eq-Decides (numbers_of old.members) (numbers_of new.members)).1 h.numbers)
 
-pub changed-shared : (old new : SetImage) (r : List ℕ) → IsKept old new → same_shared old.shared new.shared ≡ false → r ≡ numbers_of new.members → AreChanged (bug_in (old ∷ [])) (bug_in (new ∷ [])) r
+pub changed-shared : (old new : SetImage) (r : List ℕ) → IsKept old new → same_shared old.shared new.shared ≡ false
+    → r ≡ numbers_of new.members → AreChanged (bug_in (old ∷ [])) (bug_in (new ∷ [])) r
 changed-shared old new r h other e =
     changed-are (old ∷ []) (new ∷ []) (has (numbers_of new.members)) r (absent old new h) (subst IsAscending (sym e) h.ascending)
     (λ n. ap (λ z. has z n) e ∙ each n (has (numbers_of new.members) n) refl)
@@ -124,15 +141,19 @@ changed-shared old new r h other e =
     never true false w = refl
     never false b w = refl
 
-    each : (n : ℕ) (t : Bool) → has (numbers_of new.members) n ≡ t → has (numbers_of new.members) n ≡ (has (numbers_of new.members) n && differs (old ∷ []) (new ∷ []) n)
+    each : (n : ℕ) (t : Bool) → has (numbers_of new.members) n ≡ t
+        → has (numbers_of new.members) n ≡ (has (numbers_of new.members) n && differs (old ∷ []) (new ∷ []) n)
     each n false q = q ∙ sym (ap (λ t. t && differs (old ∷ []) (new ∷ []) n) q)
     each n true q =
         let t = told old.members new.members h.numbers h.ascending n q in
-        q ∙ never (same_texts t.0 t.1) (same_shared old.shared new.shared) other ∙ sym (differ old new h n t) ∙ sym (ap (λ t. t && differs (old ∷ []) (new ∷ []) n) q)
+        q ∙ never (same_texts t.0 t.1) (same_shared old.shared new.shared) other ∙ sym (differ old new h n t)
+        ∙ sym (ap (λ t. t && differs (old ∷ []) (new ∷ []) n) q)
 
-pub changed-retold : (old new : SetImage) (r : List ℕ) → IsKept old new → same_shared old.shared new.shared ≡ true → r ≡ retold old.members new.members → AreChanged (bug_in (old ∷ [])) (bug_in (new ∷ [])) r
+pub changed-retold : (old new : SetImage) (r : List ℕ) → IsKept old new → same_shared old.shared new.shared ≡ true
+    → r ≡ retold old.members new.members → AreChanged (bug_in (old ∷ [])) (bug_in (new ∷ [])) r
 changed-retold old new r h alike e =
-    changed-are (old ∷ []) (new ∷ []) (has (numbers_of new.members)) r (absent old new h) (subst IsAscending (sym e) (ascending-retold old.members new.members h.ascending))
+    changed-are (old ∷ []) (new ∷ []) (has (numbers_of new.members)) r (absent old new h)
+    (subst IsAscending (sym e) (ascending-retold old.members new.members h.ascending))
     (λ n. ap (λ z. has z n) e ∙ each n (has (numbers_of new.members) n) refl)
   where
     only : (a b : Bool) → b ≡ true → not a ≡ not (a && (b && true))
@@ -140,8 +161,10 @@ changed-retold old new r h alike e =
     only true false w = absurd (false≢true w)
     only false b w = refl
 
-    each : (n : ℕ) (t : Bool) → has (numbers_of new.members) n ≡ t → has (retold old.members new.members) n ≡ (has (numbers_of new.members) n && differs (old ∷ []) (new ∷ []) n)
+    each : (n : ℕ) (t : Bool) → has (numbers_of new.members) n ≡ t
+        → has (retold old.members new.members) n ≡ (has (numbers_of new.members) n && differs (old ∷ []) (new ∷ []) n)
     each n false q = none-retold old.members new.members n q ∙ sym (ap (λ t. t && differs (old ∷ []) (new ∷ []) n) q)
     each n true q =
         let t = told old.members new.members h.numbers h.ascending n q in
-        t.4 ∙ only (same_texts t.0 t.1) (same_shared old.shared new.shared) alike ∙ sym (differ old new h n t) ∙ sym (ap (λ t. t && differs (old ∷ []) (new ∷ []) n) q)
+        t.4 ∙ only (same_texts t.0 t.1) (same_shared old.shared new.shared) alike ∙ sym (differ old new h n t)
+        ∙ sym (ap (λ t. t && differs (old ∷ []) (new ∷ []) n) q)

@@ -35,7 +35,8 @@ any-one xs n = one (has xs n)
     one false = refl
 
 -- whether a member has one of the numbers of a set
-pub any-member : (ms : List Member) (ks : List ℕ) → list_any (λ m. list_any (is_at (nat_cmp m.number)) ks) ms ≡ has_any (numbers_of ms) ks
+pub any-member : (ms : List Member) (ks : List ℕ)
+    → list_any (λ m. list_any (is_at (nat_cmp m.number)) ks) ms ≡ has_any (numbers_of ms) ks
 any-member ms ks = over ms ∙ same_test (has_any ks (numbers_of ms)) (has_any (numbers_of ms) ks)
     (λ e. let r = any-of ks (numbers_of ms) e in any-from (numbers_of ms) ks r.0 r.2 r.1)
     (λ e. let r = any-of (numbers_of ms) ks e in any-from ks (numbers_of ms) r.0 r.2 r.1)
@@ -51,7 +52,9 @@ has-with_items [] set n = none (has set n)
     none : (a : Bool) → a ≡ (a || false)
     none true = refl
     none false = refl
-has-with_items (k ∷ ns) set n = has-with_items ns (with_item (λ k. k) set k) n ∙ ap (λ t. t || has ns n) (has-with_item set k n) ∙ group (has set n) (k == n) (has ns n)
+has-with_items (k ∷ ns) set n =
+    has-with_items ns (with_item (λ k. k) set k) n ∙ ap (λ t. t || has ns n) (has-with_item set k n)
+    ∙ group (has set n) (k == n) (has ns n)
   where
     group : (a b c : Bool) → ((a || b) || c) ≡ (a || (b || c))
     group true b c = refl

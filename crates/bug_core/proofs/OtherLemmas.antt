@@ -14,22 +14,29 @@ use Rattle.bug_core.proofs.ImageLemmas.{none_left, none_right, none_both, has-me
 
 -- the first image: one of the bugs' is left out, and of another each bug is shown
 others-own : (ns : List ℕ) (j : SetImage) (is : List SetImage) → is_meant ns j ≡ true → others ns (j ∷ is) ≡ others ns is
-others-own ns j is h = ap (λ t. cond t (j ∷ others ns is) (others ns is)) (and_right (is_any j.members) (not (is_meant ns j)) (not_from_true (is_meant ns j) h))
+others-own ns j is h =
+    ap (λ t. cond t (j ∷ others ns is) (others ns is))
+    (and_right (is_any j.members) (not (is_meant ns j)) (not_from_true (is_meant ns j) h))
 
 others-first : (ns : List ℕ) (j : SetImage) (is : List SetImage) (m : ℕ) → is_meant ns j ≡ false
     → bug_in (others ns (j ∷ is)) m ≡ option_or (option_map (bug_of j) (member_at j.members m)) (bug_in (others ns is) m)
-others-first ns j is m h = ap (λ t. bug_in (cond (is_any j.members && not t) (j ∷ others ns is) (others ns is)) m) h ∙ cases j.members refl
+others-first ns j is m h =
+    ap (λ t. bug_in (cond (is_any j.members && not t) (j ∷ others ns is) (others ns is)) m) h ∙ cases j.members refl
   where
-    cases : (ms : List Member) → j.members ≡ ms → bug_in (cond (is_any ms && true) (j ∷ others ns is) (others ns is)) m ≡ option_or (option_map (bug_of j) (member_at j.members m)) (bug_in (others ns is) m)
+    cases : (ms : List Member) → j.members ≡ ms
+        → bug_in (cond (is_any ms && true) (j ∷ others ns is) (others ns is)) m
+        ≡ option_or (option_map (bug_of j) (member_at j.members m)) (bug_in (others ns is) m)
     cases [] e = sym (ap (λ ms. option_or (option_map (bug_of j) (member_at ms m)) (bug_in (others ns is) m)) e)
     cases (x ∷ xs) e = refl
 
 -- the first image has none of the bugs, or it is left out
-others-beside : (ns : List ℕ) (j : SetImage) (is : List SetImage) (m : ℕ) → member_at j.members m ≡ None → bug_in (others ns (j ∷ is)) m ≡ bug_in (others ns is) m
+others-beside : (ns : List ℕ) (j : SetImage) (is : List SetImage) (m : ℕ) → member_at j.members m ≡ None
+    → bug_in (others ns (j ∷ is)) m ≡ bug_in (others ns is) m
 others-beside ns j is m e =
     elim (is_meant ns j) as (λ t. is_meant ns j ≡ t → bug_in (others ns (j ∷ is)) m ≡ bug_in (others ns is) m) [
       | true ↦ λ q. ap (λ js. bug_in js m) (others-own ns j is q)
-      | false ↦ λ q. others-first ns j is m q ∙ ap (λ (o : Option Member). option_or (option_map (bug_of j) o) (bug_in (others ns is) m)) e
+      | false ↦ λ q. others-first ns j is m q
+          ∙ ap (λ (o : Option Member). option_or (option_map (bug_of j) o) (bug_in (others ns is) m)) e
     ] refl
 
 -- the others show no more bugs than all
@@ -38,17 +45,21 @@ others-none ns [] m h = refl
 others-none ns (j ∷ is) m h =
     elim (is_meant ns j) as (λ t. is_meant ns j ≡ t → bug_in (others ns (j ∷ is)) m ≡ None) [
       | true ↦ λ e. ap (λ js. bug_in js m) (others-own ns j is e) ∙ others-none ns is m (none_right here (bug_in is m) h)
-      | false ↦ λ e. others-first ns j is m e ∙ none_both here (bug_in (others ns is) m) (none_left here (bug_in is m) h) (others-none ns is m (none_right here (bug_in is m) h))
+      | false ↦ λ e. others-first ns j is m e
+          ∙ none_both here (bug_in (others ns is) m) (none_left here (bug_in is m) h)
+          (others-none ns is m (none_right here (bug_in is m) h))
     ] refl
   where
     here : Option Bug
     here = option_map (bug_of j) (member_at j.members m)
 
 -- they show none that is merged with one of the bugs
-pub others-gone : (ns : List ℕ) (is : List SetImage) (m : ℕ) (b : Bug) → AreApart is → bug_in is m ≡ Some b → has_any b.merged ns ≡ true → bug_in (others ns is) m ≡ None
+pub others-gone : (ns : List ℕ) (is : List SetImage) (m : ℕ) (b : Bug) → AreApart is → bug_in is m ≡ Some b
+    → has_any b.merged ns ≡ true → bug_in (others ns is) m ≡ None
 others-gone ns [] m b a h k = refl
 others-gone ns (j ∷ is) m b a h k =
-    elim (member_at j.members m) as (λ o. member_at j.members m ≡ o → option_or (option_map (bug_of j) o) (bug_in is m) ≡ Some b → bug_in (others ns (j ∷ is)) m ≡ None) [
+    elim (member_at j.members m) as (λ o. member_at j.members m ≡ o → option_or (option_map (bug_of j) o) (bug_in is m) ≡ Some b
+    → bug_in (others ns (j ∷ is)) m ≡ None) [
       | None ↦ λ e h. others-beside ns j is m e ∙ others-gone ns is m b a.1 h k
       | Some x ↦ λ e h.
           ap (λ js. bug_in js m) (others-own ns j is (ap (λ (z : Bug). has_any z.merged ns) (same_Some _ _ h) ∙ k))
@@ -56,10 +67,12 @@ others-gone ns (j ∷ is) m b a h k =
     ] refl h
 
 -- and every one that is merged with none of them
-pub others-kept : (ns : List ℕ) (is : List SetImage) (m : ℕ) (b : Bug) → bug_in is m ≡ Some b → has_any b.merged ns ≡ false → bug_in (others ns is) m ≡ Some b
+pub others-kept : (ns : List ℕ) (is : List SetImage) (m : ℕ) (b : Bug) → bug_in is m ≡ Some b → has_any b.merged ns ≡ false
+    → bug_in (others ns is) m ≡ Some b
 others-kept ns [] m b h k = h
 others-kept ns (j ∷ is) m b h k =
-    elim (member_at j.members m) as (λ o. member_at j.members m ≡ o → option_or (option_map (bug_of j) o) (bug_in is m) ≡ Some b → bug_in (others ns (j ∷ is)) m ≡ Some b) [
+    elim (member_at j.members m) as (λ o. member_at j.members m ≡ o → option_or (option_map (bug_of j) o) (bug_in is m) ≡ Some b
+    → bug_in (others ns (j ∷ is)) m ≡ Some b) [
       | None ↦ λ e h. others-beside ns j is m e ∙ others-kept ns is m b h k
       | Some x ↦ λ e h.
           others-first ns j is m (ap (λ (z : Bug). has_any z.merged ns) (same_Some _ _ h) ∙ k)
@@ -80,7 +93,8 @@ pub others-members : (ns : List ℕ) (is : List SetImage) → Each HasMember (ot
 others-members ns [] = tt
 others-members ns (j ∷ is) = cases j.members refl (not (is_meant ns j)) (others-members ns is)
   where
-    cases : (ms : List Member) → j.members ≡ ms → (t : Bool) → Each HasMember (others ns is) → Each HasMember (cond (is_any ms && t) (j ∷ others ns is) (others ns is))
+    cases : (ms : List Member) → j.members ≡ ms → (t : Bool) → Each HasMember (others ns is)
+        → Each HasMember (cond (is_any ms && t) (j ∷ others ns is) (others ns is))
     cases [] e t r = r
     cases (x ∷ xs) e true r = ((λ k. cons_nil x xs (sym e ∙ k)), r)
     cases (x ∷ xs) e false r = r

@@ -1,5 +1,6 @@
 -- For each kind of command, that what is planned on images is its step on the desk.
-use Rattle.std.proofs.Common.{◌≡◌, ℕ, true, false, cond, List, [], ◌∷◌, ◌++◌, Option, Some, None, Result, Ok, Err, refl, sym, ap, ◌∙◌, subst, arith}
+use Rattle.std.proofs.Common.{◌≡◌, ℕ, true, false, cond, List, [], ◌∷◌, ◌++◌, Option, Some, None, Result, Ok, Err, refl, sym, ap}
+use Rattle.std.proofs.Common.{◌∙◌, subst, arith}
 use Rattle.std.proofs.lemmas.Option.{none-some, same_Some}
 use Rattle.debver.specs.Names.{IsName}
 use Rattle.bug_record.specs.Desk.{Desk, IsSound}
@@ -23,14 +24,16 @@ use Rattle.bug_core.specs.Planned.{HasName, IsPlanned, IsRefusedAs, IsRefusalOfP
 use Rattle.bug_core.proofs.ImageLemmas.{shown, image_with-shows, image_with-none}
 use Rattle.record_changes.proofs.FieldLemmas.{good-shared_after, good-new_title, good-new_submitter}
 use Rattle.bug_core.proofs.SoundLemmas.{sound-change_set}
-use Rattle.bug_core.proofs.ReplaceLemmas.{TakesPlace, Makes, apart-replaced, members-replaced, covers-replaced, none-replaced, whole-sets, put-replaced, image_after, bug_after, set-takes_place, set-makes}
+use Rattle.bug_core.proofs.ReplaceLemmas.{TakesPlace, Makes, apart-replaced, members-replaced, covers-replaced, none-replaced}
+use Rattle.bug_core.proofs.ReplaceLemmas.{whole-sets, put-replaced, image_after, bug_after, set-takes_place, set-makes}
 
 -- the step of each desk, sound or not, of which the images show these bugs
 abbrev pub Steps : List ℕ → (Desk → Result Desk Refusal) → List SetImage → ℕ → (Desk → Result Desk Refusal) → Type 0
 Steps named step is next after = (d : Desk) → d.next ≡ next → AllKnown d is named → step d ≡ after d
 
 -- a refusal that is the step's
-pub planned-refused : (named : List ℕ) (step : Desk → Result Desk Refusal) (is : List SetImage) (next : ℕ) (refusal : Refusal) → IsRefusalOfPlan refusal → Steps named step is next (λ _. Err refusal) → IsPlanned named step is next (Err (Refused refusal))
+pub planned-refused : (named : List ℕ) (step : Desk → Result Desk Refusal) (is : List SetImage) (next : ℕ) (refusal : Refusal)
+    → IsRefusalOfPlan refusal → Steps named step is next (λ _. Err refusal) → IsPlanned named step is next (Err (Refused refusal))
 planned-refused named step is next refusal own h = record {
   right = λ d sh. h d sh.next_is sh.known;
   fits = λ d sh. tt;
@@ -44,21 +47,25 @@ planned-refused named step is next refusal own h = record {
 }
 
 -- a change of the sets of the bugs ns that is the step's
-pub planned-replaced : (named : List ℕ) (step : Desk → Result Desk Refusal) (is : List SetImage) (next : ℕ) (ns : List ℕ) (new : List SetImage) (f : ℕ → Bug → Bug) → AreApart is → TakesPlace is ns new
+pub planned-replaced : (named : List ℕ) (step : Desk → Result Desk Refusal) (is : List SetImage) (next : ℕ) (ns : List ℕ)
+    (new : List SetImage) (f : ℕ → Bug → Bug) → AreApart is → TakesPlace is ns new
     → ((d : Desk) → AllKnown d is named → AllKnown d is ns) → Steps named step is next (λ d. Ok (each_bug d f))
-    → ((d : Desk) → IsShownBy d is next named → Makes d is ns new f) → ((d : Desk) → IsShownBy d is next named → IsSound (each_bug d f))
+    → ((d : Desk) → IsShownBy d is next named → Makes d is ns new f)
+    → ((d : Desk) → IsShownBy d is next named → IsSound (each_bug d f))
     → (change : Change) → change.images ≡ new ++ others ns is → change.next ≡ next → IsPlanned named step is next (Ok change)
-planned-replaced named step is next ns new f a p known steps makes keeps change same last = subst (λ (z : Change). IsPlanned named step is next (Ok z)) (sym whole) (record {
-  right = λ d sh. (steps d sh.next_is sh.known ∙ ap Ok (sym (moved d sh)), sound d sh);
-  fits = λ d sh. record { whole = whole-sets d is js sh.sound sh.sets covers none; sound = sound d sh };
-  brings = λ d sh m b q e. absurd (none-some b (sym (none m q) ∙ e));
-  refusals = λ d e k names. subst (λ (z : Result Desk Refusal). IsRefusedAs z (Ok (record { images = js; next = next }))) (sym (steps d e k)) tt;
-  own = tt;
-  apart = λ d sh. apart-replaced is ns new a p;
-  members = members-replaced is ns new p;
-  covers = covers;
-  later = omega arith;
-})
+planned-replaced named step is next ns new f a p known steps makes keeps change same last =
+    subst (λ (z : Change). IsPlanned named step is next (Ok z)) (sym whole) (record {
+      right = λ d sh. (steps d sh.next_is sh.known ∙ ap Ok (sym (moved d sh)), sound d sh);
+      fits = λ d sh. record { whole = whole-sets d is js sh.sound sh.sets covers none; sound = sound d sh };
+      brings = λ d sh m b q e. absurd (none-some b (sym (none m q) ∙ e));
+      refusals = λ d e k names. subst (λ (z : Result Desk Refusal). IsRefusedAs z (Ok (record { images = js; next = next })))
+          (sym (steps d e k)) tt;
+      own = tt;
+      apart = λ d sh. apart-replaced is ns new a p;
+      members = members-replaced is ns new p;
+      covers = covers;
+      later = omega arith;
+    })
   where
     js : List SetImage
     js = new ++ others ns is
@@ -81,24 +88,37 @@ planned-replaced named step is next ns new f a p known steps makes keeps change 
 -- ---- a command that changes records of the set of the bug that it names
 
 abbrev records_after : List ℕ → Command ℕ → Desk → Desk
-records_after sender command d = change_set d (bug_named command) (shared_after sender command) (new_title command) (new_submitter sender command)
+records_after sender command d =
+    change_set d (bug_named command) (shared_after sender command) (new_title command) (new_submitter sender command)
 
 -- its step, by what the images show of the bug
-steps-shown : (sender : List ℕ) (command : Command ℕ) (is : List SetImage) (next : ℕ) (o : Option Bug) → bug_in is (bug_named command) ≡ o
-    → Steps (bugs_named command) (records_changed sender command) is next (λ d. at_bug o (bug_named command) (λ _. Ok (records_after sender command d)))
-steps-shown sender command is next o h d e k = ap (λ (z : Option Bug). at_bug z (bug_named command) (λ _. Ok (records_after sender command d))) (sym k.0 ∙ h)
+steps-shown : (sender : List ℕ) (command : Command ℕ) (is : List SetImage) (next : ℕ) (o : Option Bug)
+    → bug_in is (bug_named command) ≡ o
+    → Steps (bugs_named command) (records_changed sender command) is next
+    (λ d. at_bug o (bug_named command) (λ _. Ok (records_after sender command d)))
+steps-shown sender command is next o h d e k =
+    ap (λ (z : Option Bug). at_bug z (bug_named command) (λ _. Ok (records_after sender command d))) (sym k.0 ∙ h)
 
-pub planned-records : (sender : List ℕ) (command : Command ℕ) (is : List SetImage) (next : ℕ) (i : SetImage) → IsGoodText sender → HasGoodParts command → HasUtf8Texts command → AreApart is → image_with is (bug_named command) ≡ Some i
-    → (change : Change) → change.images ≡ image_after i (shared_after sender command) (new_title command) (new_submitter sender command) ∷ others (bug_named command ∷ []) is → change.next ≡ next
+pub planned-records : (sender : List ℕ) (command : Command ℕ) (is : List SetImage) (next : ℕ) (i : SetImage) → IsGoodText sender
+    → HasGoodParts command → HasUtf8Texts command → AreApart is → image_with is (bug_named command) ≡ Some i
+    → (change : Change) → change.images
+    ≡ image_after i (shared_after sender command) (new_title command) (new_submitter sender command) ∷ others
+    (bug_named command ∷ []) is → change.next ≡ next
     → IsPlanned (bugs_named command) (records_changed sender command) is next (Ok change)
 planned-records sender command is next i text good utf8 a h =
-    planned-replaced (bugs_named command) (records_changed sender command) is next (bug_named command ∷ []) (image_after i f title who ∷ []) (bug_after (bug_named command) f title who) a
+    planned-replaced (bugs_named command) (records_changed sender command) is next (bug_named command ∷ [])
+    (image_after i f title who ∷ []) (bug_after (bug_named command) f title who) a
     (set-takes_place is (bug_named command) i f title who a h)
     (λ d k. (k.0, tt))
     (let b = image_with-shows is (bug_named command) i h in steps-shown sender command is next (Some (bug_of i b.0)) b.1)
     (λ d sh. set-makes d is (bug_named command) i f title who a h)
     (λ d sh. sound-change_set d (bug_named command) f title who sh.sound
-    (record { fields = good-shared_after sender command text good utf8; titles = good-new_title command good utf8; submitters = good-new_submitter sender command text good utf8 }))
+    (record {
+      fields = good-shared_after sender command text good utf8;
+      titles = good-new_title command good utf8;
+      submitters =
+          good-new_submitter sender command text good utf8;
+    }))
   where
     f : Shared → Shared
     f = shared_after sender command
@@ -110,10 +130,12 @@ planned-records sender command is next i text good utf8 a h =
     who = new_submitter sender command
 
 -- a bug in no image is refused
-pub planned-no_bug : (sender : List ℕ) (command : Command ℕ) (is : List SetImage) (next : ℕ) → image_with is (bug_named command) ≡ None
+pub planned-no_bug : (sender : List ℕ) (command : Command ℕ) (is : List SetImage) (next : ℕ)
+    → image_with is (bug_named command) ≡ None
     → IsPlanned (bugs_named command) (records_changed sender command) is next (Err (Refused (NoBug (bug_named command))))
 planned-no_bug sender command is next h =
-    planned-refused (bugs_named command) (records_changed sender command) is next (NoBug (bug_named command)) tt (steps-shown sender command is next None (image_with-none is (bug_named command) h))
+    planned-refused (bugs_named command) (records_changed sender command) is next (NoBug (bug_named command)) tt
+    (steps-shown sender command is next None (image_with-none is (bug_named command) h))
 
 -- no desk shows an image whose package is no package name
 has_name : (is : List SetImage) (n : ℕ) (i : SetImage) → image_with is n ≡ Some i → Each HasName is → IsName i.shared.«package»
@@ -122,11 +144,14 @@ has_name (j ∷ is) n i h e =
     elim (has (numbers_of j.members) n) as (λ t. cond t (Some j) (image_with is n) ≡ Some i → IsName i.shared.«package»)
     [ true ↦ λ h. subst HasName (same_Some _ _ h) e.0 | false ↦ λ h. has_name is n i h e.1 ] h
 
-named-shown : (d : Desk) (is : List SetImage) (n : ℕ) (i : SetImage) → IsSound d → AreSetsOf d is → image_with is n ≡ Some i → IsName i.shared.«package»
-named-shown d is n i sound sets h = let b = image_with-shows is n i h in (sound.texts n (bug_of i b.0) (shown d is sets n (bug_of i b.0) b.1)).shared.package_name
+named-shown : (d : Desk) (is : List SetImage) (n : ℕ) (i : SetImage) → IsSound d → AreSetsOf d is → image_with is n ≡ Some i
+    → IsName i.shared.«package»
+named-shown d is n i sound sets h = let b = image_with-shows is n i h in
+    (sound.texts n (bug_of i b.0) (shown d is sets n (bug_of i b.0) b.1)).shared.package_name
 
 -- what is answered where there is no memory
-pub planned-memory : (named : List ℕ) (step : Desk → Result Desk Refusal) (is : List SetImage) (next : ℕ) → IsPlanned named step is next (Err Memory)
+pub planned-memory : (named : List ℕ) (step : Desk → Result Desk Refusal) (is : List SetImage) (next : ℕ)
+    → IsPlanned named step is next (Err Memory)
 planned-memory named step is next = record {
   right = λ d sh. tt;
   fits = λ d sh. tt;
@@ -144,7 +169,8 @@ planned-memory named step is next = record {
     always (Err refusal) = tt
 
 -- what is answered where the image's package is no package name
-pub planned-nameless : (named : List ℕ) (step : Desk → Result Desk Refusal) (is : List SetImage) (next n : ℕ) (i : SetImage) (refusal : Refusal) → IsRefusalOfPlan refusal → image_with is n ≡ Some i → ¬ (IsName i.shared.«package»)
+pub planned-nameless : (named : List ℕ) (step : Desk → Result Desk Refusal) (is : List SetImage) (next n : ℕ) (i : SetImage)
+    (refusal : Refusal) → IsRefusalOfPlan refusal → image_with is n ≡ Some i → ¬ (IsName i.shared.«package»)
     → IsPlanned named step is next (Err (Refused refusal))
 planned-nameless named step is next n i refusal own h w = record {
   right = λ d sh. absurd (w (named-shown d is n i sh.sound sh.sets h));

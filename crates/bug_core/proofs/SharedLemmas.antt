@@ -45,7 +45,8 @@ same_tag-turned t u = same_test (same_tag t u) (same_tag u t)
 has-with_tags : (ts set : List Tag) (t : Tag) → has_tag (with_items tag_place set ts) t ≡ (has_tag set t || has_tag ts t)
 has-with_tags [] set t = or_nothing (has_tag set t)
 has-with_tags (u ∷ ts) set t =
-    has-with_tags ts (with_tag set u) t ∙ ap (λ b. b || has_tag ts t) (has-with_tag set u t ∙ ap (λ b. has_tag set t || b) (same_tag-turned u t))
+    has-with_tags ts (with_tag set u) t
+    ∙ ap (λ b. b || has_tag ts t) (has-with_tag set u t ∙ ap (λ b. has_tag set t || b) (same_tag-turned u t))
     ∙ or_group (has_tag set t) (same_tag t u) (has_tag ts t)
 
 set-with_tags : (ts set : List Tag) → IsTagSet set → IsTagSet (with_items tag_place set ts)
@@ -56,51 +57,64 @@ set-with_tags (u ∷ ts) set h = set-with_tags ts (with_tag set u) (set-with_tag
 has-with_nodes : (ns set : List Node) (m : Node) → has_node (with_nodes set ns) m ≡ (has_node set m || has_node ns m)
 has-with_nodes [] set m = or_nothing (has_node set m)
 has-with_nodes (n ∷ ns) set m =
-    has-with_nodes ns (with_node set n) m ∙ ap (λ b. b || has_node ns m) (has-with_node set n m) ∙ or_group (has_node set m) (same_node m n) (has_node ns m)
+    has-with_nodes ns (with_node set n) m ∙ ap (λ b. b || has_node ns m) (has-with_node set n m)
+    ∙ or_group (has_node set m) (same_node m n) (has_node ns m)
 
 sorted-with_nodes : (ns set : List Node) → IsStrictlySortedBy node_cmp set → IsStrictlySortedBy node_cmp (with_nodes set ns)
 sorted-with_nodes [] set h = h
 sorted-with_nodes (n ∷ ns) set h = sorted-with_nodes ns (with_node set n) (sorted-with_node set n h)
 
 -- the fields with those of images
-kept : (js : List SetImage) (f : Shared) → with_all_shared f js ≡ record f { tags = (with_all_shared f js).tags; found = (with_all_shared f js).found; fixed = (with_all_shared f js).fixed }
+kept : (js : List SetImage) (f : Shared)
+    → with_all_shared f js
+    ≡ record f { tags = (with_all_shared f js).tags; found = (with_all_shared f js).found; fixed = (with_all_shared f js).fixed }
 kept [] f = refl
 kept (j ∷ js) f = kept js (with_shared f j.shared)
 
-has-all_tags : (js : List SetImage) (f : Shared) (t : Tag) → has_tag (with_all_shared f js).tags t ≡ (has_tag f.tags t || list_any (λ j. has_tag j.shared.tags t) js)
+has-all_tags : (js : List SetImage) (f : Shared) (t : Tag)
+    → has_tag (with_all_shared f js).tags t ≡ (has_tag f.tags t || list_any (λ j. has_tag j.shared.tags t) js)
 has-all_tags [] f t = or_nothing (has_tag f.tags t)
 has-all_tags (j ∷ js) f t =
-    has-all_tags js (with_shared f j.shared) t ∙ ap (λ b. b || list_any (λ j. has_tag j.shared.tags t) js) (has-with_tags j.shared.tags f.tags t)
+    has-all_tags js (with_shared f j.shared) t
+    ∙ ap (λ b. b || list_any (λ j. has_tag j.shared.tags t) js) (has-with_tags j.shared.tags f.tags t)
     ∙ or_group (has_tag f.tags t) (has_tag j.shared.tags t) (list_any (λ j. has_tag j.shared.tags t) js)
 
 set-all_tags : (js : List SetImage) (f : Shared) → IsTagSet f.tags → IsTagSet (with_all_shared f js).tags
 set-all_tags [] f h = h
 set-all_tags (j ∷ js) f h = set-all_tags js (with_shared f j.shared) (set-with_tags j.shared.tags f.tags h)
 
-has-all_found : (js : List SetImage) (f : Shared) (m : Node) → has_node (with_all_shared f js).found m ≡ (has_node f.found m || list_any (λ j. has_node j.shared.found m) js)
+has-all_found : (js : List SetImage) (f : Shared) (m : Node)
+    → has_node (with_all_shared f js).found m ≡ (has_node f.found m || list_any (λ j. has_node j.shared.found m) js)
 has-all_found [] f m = or_nothing (has_node f.found m)
 has-all_found (j ∷ js) f m =
-    has-all_found js (with_shared f j.shared) m ∙ ap (λ b. b || list_any (λ j. has_node j.shared.found m) js) (has-with_nodes j.shared.found f.found m)
+    has-all_found js (with_shared f j.shared) m
+    ∙ ap (λ b. b || list_any (λ j. has_node j.shared.found m) js) (has-with_nodes j.shared.found f.found m)
     ∙ or_group (has_node f.found m) (has_node j.shared.found m) (list_any (λ j. has_node j.shared.found m) js)
 
-has-all_fixed : (js : List SetImage) (f : Shared) (m : Node) → has_node (with_all_shared f js).fixed m ≡ (has_node f.fixed m || list_any (λ j. has_node j.shared.fixed m) js)
+has-all_fixed : (js : List SetImage) (f : Shared) (m : Node)
+    → has_node (with_all_shared f js).fixed m ≡ (has_node f.fixed m || list_any (λ j. has_node j.shared.fixed m) js)
 has-all_fixed [] f m = or_nothing (has_node f.fixed m)
 has-all_fixed (j ∷ js) f m =
-    has-all_fixed js (with_shared f j.shared) m ∙ ap (λ b. b || list_any (λ j. has_node j.shared.fixed m) js) (has-with_nodes j.shared.fixed f.fixed m)
+    has-all_fixed js (with_shared f j.shared) m
+    ∙ ap (λ b. b || list_any (λ j. has_node j.shared.fixed m) js) (has-with_nodes j.shared.fixed f.fixed m)
     ∙ or_group (has_node f.fixed m) (has_node j.shared.fixed m) (list_any (λ j. has_node j.shared.fixed m) js)
 
-sorted-all_found : (js : List SetImage) (f : Shared) → IsStrictlySortedBy node_cmp f.found → IsStrictlySortedBy node_cmp (with_all_shared f js).found
+sorted-all_found : (js : List SetImage) (f : Shared) → IsStrictlySortedBy node_cmp f.found
+    → IsStrictlySortedBy node_cmp (with_all_shared f js).found
 sorted-all_found [] f h = h
 sorted-all_found (j ∷ js) f h = sorted-all_found js (with_shared f j.shared) (sorted-with_nodes j.shared.found f.found h)
 
-sorted-all_fixed : (js : List SetImage) (f : Shared) → IsStrictlySortedBy node_cmp f.fixed → IsStrictlySortedBy node_cmp (with_all_shared f js).fixed
+sorted-all_fixed : (js : List SetImage) (f : Shared) → IsStrictlySortedBy node_cmp f.fixed
+    → IsStrictlySortedBy node_cmp (with_all_shared f js).fixed
 sorted-all_fixed [] f h = h
 sorted-all_fixed (j ∷ js) f h = sorted-all_fixed js (with_shared f j.shared) (sorted-with_nodes j.shared.fixed f.fixed h)
 
 -- they are the joined fields of the listed bugs, among which is one of the first image
-pub joined-fields : (is : List SetImage) (ns : List ℕ) (n : ℕ) (i : SetImage) (x : Member) → AreApart is → has ns n ≡ true → bug_in is n ≡ Some (bug_of i x)
+pub joined-fields : (is : List SetImage) (ns : List ℕ) (n : ℕ) (i : SetImage) (x : Member) → AreApart is → has ns n ≡ true
+    → bug_in is n ≡ Some (bug_of i x)
     → IsTagSet i.shared.tags → IsStrictlySortedBy node_cmp i.shared.found → IsStrictlySortedBy node_cmp i.shared.fixed
-    → record (with_all_shared i.shared (those_meant ns is)) { owner = first_owner (bugs_at (bug_in is) ns) } ≡ joined_shared i.shared (bugs_at (bug_in is) ns)
+    → record (with_all_shared i.shared (those_meant ns is)) { owner = first_owner (bugs_at (bug_in is) ns) }
+    ≡ joined_shared i.shared (bugs_at (bug_in is) ns)
 joined-fields is ns n i x a h e tags found fixed =
     (λ j. record (kept js i.shared j) { owner = first_owner bugs })
     ∙ (λ j. record i.shared { owner = first_owner bugs; tags = same_tags j; found = same_found j; fixed = same_fixed j })
@@ -115,16 +129,20 @@ joined-fields is ns n i x a h e tags found fixed =
     some : (P : Shared → Bool) → (P i.shared || list_any (λ j. P j.shared) js) ≡ list_any (λ b. P b.shared) bugs
     some P =
         ap (λ b. P i.shared || b) (meant-listed P is ns a)
-        ∙ absorbed (P i.shared) (list_any (λ b. P b.shared) bugs) (λ p. listed-from (λ b. P b.shared) (bug_in is) ns n (bug_of i x) h e p)
+        ∙ absorbed (P i.shared) (list_any (λ b. P b.shared) bugs)
+        (λ p. listed-from (λ b. P b.shared) (bug_in is) ns n (bug_of i x) h e p)
 
     same_tags : (with_all_shared i.shared js).tags ≡ joined_tags bugs
-    same_tags = same-tag_sets (with_all_shared i.shared js).tags (joined_tags bugs) (set-all_tags js i.shared tags) (set-joined_tags bugs)
+    same_tags = same-tag_sets (with_all_shared i.shared js).tags (joined_tags bugs) (set-all_tags js i.shared tags)
+        (set-joined_tags bugs)
         (λ t. has-all_tags js i.shared t ∙ some (λ s. has_tag s.tags t) ∙ sym (has-joined_tags bugs t))
 
     same_found : (with_all_shared i.shared js).found ≡ node_set (all_of (λ b. b.shared.found) bugs)
-    same_found = same-sorted_nodes (with_all_shared i.shared js).found (node_set (all_of (λ b. b.shared.found) bugs)) (sorted-all_found js i.shared found) (sorted-node_set (all_of (λ b. b.shared.found) bugs))
+    same_found = same-sorted_nodes (with_all_shared i.shared js).found (node_set (all_of (λ b. b.shared.found) bugs))
+        (sorted-all_found js i.shared found) (sorted-node_set (all_of (λ b. b.shared.found) bugs))
         (λ m. has-all_found js i.shared m ∙ some (λ s. has_node s.found m) ∙ sym (has-joined_nodes (λ b. b.shared.found) bugs m))
 
     same_fixed : (with_all_shared i.shared js).fixed ≡ node_set (all_of (λ b. b.shared.fixed) bugs)
-    same_fixed = same-sorted_nodes (with_all_shared i.shared js).fixed (node_set (all_of (λ b. b.shared.fixed) bugs)) (sorted-all_fixed js i.shared fixed) (sorted-node_set (all_of (λ b. b.shared.fixed) bugs))
+    same_fixed = same-sorted_nodes (with_all_shared i.shared js).fixed (node_set (all_of (λ b. b.shared.fixed) bugs))
+        (sorted-all_fixed js i.shared fixed) (sorted-node_set (all_of (λ b. b.shared.fixed) bugs))
         (λ m. has-all_fixed js i.shared m ∙ some (λ s. has_node s.fixed m) ∙ sym (has-joined_nodes (λ b. b.shared.fixed) bugs m))

@@ -11,18 +11,21 @@ use Rattle.bug_record.specs.declared.bug.Bug.{Bug}
 use Rattle.bug_record.specs.declared.bug.Shared.{Shared}
 
 -- a merged bug
-pub merged-bug : (b : Bug) (o : Option Bug) → IsMergedWith b o → (c : Bug) × (o ≡ Some c) × (c.merged ≡ b.merged) × (c.shared ≡ b.shared)
+pub merged-bug : (b : Bug) (o : Option Bug) → IsMergedWith b o → (c : Bug) × (o ≡ Some c) × (c.merged ≡ b.merged)
+    × (c.shared ≡ b.shared)
 merged-bug b None h = absurd h
 merged-bug b (Some c) h = (c, refl, h.0, h.1)
 
 pub merged-from : (b : Bug) (o : Option Bug) (c : Bug) → o ≡ Some c → c.merged ≡ b.merged → c.shared ≡ b.shared → IsMergedWith b o
 merged-from b o c e p q = subst (IsMergedWith b) (sym e) (p, q)
 
-pub agree : (d : Desk) → IsSound d → (n m : ℕ) (b : Bug) → d.bug n ≡ Some b → has b.merged m ≡ true → (c : Bug) × (d.bug m ≡ Some c) × (c.merged ≡ b.merged) × (c.shared ≡ b.shared)
+pub agree : (d : Desk) → IsSound d → (n m : ℕ) (b : Bug) → d.bug n ≡ Some b → has b.merged m ≡ true → (c : Bug)
+    × (d.bug m ≡ Some c) × (c.merged ≡ b.merged) × (c.shared ≡ b.shared)
 agree d sound n m b h k = merged-bug b (d.bug m) (sound.agree n m b h k)
 
 -- merged the other way round
-pub merged-back : (d : Desk) → IsSound d → (n m : ℕ) (b c : Bug) → d.bug n ≡ Some b → d.bug m ≡ Some c → has c.merged n ≡ true → has b.merged m ≡ true
+pub merged-back : (d : Desk) → IsSound d → (n m : ℕ) (b c : Bug) → d.bug n ≡ Some b → d.bug m ≡ Some c → has c.merged n ≡ true
+    → has b.merged m ≡ true
 merged-back d sound n m b c hn hm k =
     let a = agree d sound m n c hm k in
     ap (λ (z : Bug). has z.merged m) (same_Some b a.0 (sym hn ∙ a.1)) ∙ ap (λ z. has z m) a.2 ∙ sound.own m c hm
@@ -36,17 +39,20 @@ was-mapped f (Some a) c h = (a, refl, same_Some _ _ h)
 pub record KeepsSound (d : Desk) (f : ℕ → Bug → Bug) : Type 0 where
   pub own : (n : ℕ) (b : Bug) → d.bug n ≡ Some b → has (f n b).merged n ≡ true
   pub ascending : (n : ℕ) (b : Bug) → d.bug n ≡ Some b → IsAscending (f n b).merged
-  pub agree : (n m : ℕ) (b : Bug) → d.bug n ≡ Some b → has (f n b).merged m ≡ true → (c : Bug) × (d.bug m ≡ Some c) × ((f m c).merged ≡ (f n b).merged) × ((f m c).shared ≡ (f n b).shared)
+  pub agree : (n m : ℕ) (b : Bug) → d.bug n ≡ Some b → has (f n b).merged m ≡ true → (c : Bug) × (d.bug m ≡ Some c)
+      × ((f m c).merged ≡ (f n b).merged) × ((f m c).shared ≡ (f n b).shared)
   pub texts : (n : ℕ) (b : Bug) → d.bug n ≡ Some b → HasGoodTexts (f n b)
 
 pub sound-each_bug : (d : Desk) (f : ℕ → Bug → Bug) → IsSound d → KeepsSound d f → IsSound (each_bug d f)
 sound-each_bug d f sound keeps = record {
   own = λ n c h. let w = was-mapped (f n) (d.bug n) c h in subst (λ (z : Bug). has z.merged n ≡ true) w.2 (keeps.own n w.0 w.1);
-  ascending = λ n c h. let w = was-mapped (f n) (d.bug n) c h in subst (λ (z : Bug). IsAscending z.merged) w.2 (keeps.ascending n w.0 w.1);
+  ascending = λ n c h. let w = was-mapped (f n) (d.bug n) c h in
+      subst (λ (z : Bug). IsAscending z.merged) w.2 (keeps.ascending n w.0 w.1);
   agree = λ n m c h k.
       let w = was-mapped (f n) (d.bug n) c h in
       let a = keeps.agree n m w.0 w.1 (ap (λ (z : Bug). has z.merged m) w.2 ∙ k) in
-      merged-from c (option_map (f m) (d.bug m)) (f m a.0) (ap (option_map (f m)) a.1) (a.2 ∙ ap (λ (z : Bug). z.merged) w.2) (a.3 ∙ ap (λ (z : Bug). z.shared) w.2);
+      merged-from c (option_map (f m) (d.bug m)) (f m a.0) (ap (option_map (f m)) a.1) (a.2 ∙ ap (λ (z : Bug). z.merged) w.2)
+      (a.3 ∙ ap (λ (z : Bug). z.shared) w.2);
   texts = λ n c h. let w = was-mapped (f n) (d.bug n) c h in subst HasGoodTexts w.2 (keeps.texts n w.0 w.1);
   in_range = λ n c h. let w = was-mapped (f n) (d.bug n) c h in sound.in_range n w.0 w.1;
   forest = sound.forest;
@@ -59,7 +65,8 @@ pub record KeepsLimits (f : Shared → Shared) (title : ℕ → Option (List ℕ
   pub titles : (m : ℕ) → IfGiven IsGoodText (title m)
   pub submitters : (s : Shared) (m : ℕ) → IfGiven IsGoodText (who s m)
 
-pub sound-change_set : (d : Desk) (n : ℕ) (f : Shared → Shared) (title : ℕ → Option (List ℕ)) (who : Shared → ℕ → Option (List ℕ)) → IsSound d → KeepsLimits f title who → IsSound (change_set d n f title who)
+pub sound-change_set : (d : Desk) (n : ℕ) (f : Shared → Shared) (title : ℕ → Option (List ℕ)) (who : Shared → ℕ → Option (List ℕ))
+    → IsSound d → KeepsLimits f title who → IsSound (change_set d n f title who)
 sound-change_set d n f title who sound keeps =
     sound-each_bug d (λ m b. record b {
       shared = cond (has b.merged n) (f b.shared) b.shared;
@@ -84,6 +91,7 @@ sound-change_set d n f title who sound keeps =
     given None old g h = h
     given (Some text) old g h = g
 
-    changed : (t : Bool) (o : Option (List ℕ)) (old : List ℕ) → IfGiven IsGoodText o → IsGoodText old → IsGoodText (cond t (unwrap_or o old) old)
+    changed : (t : Bool) (o : Option (List ℕ)) (old : List ℕ) → IfGiven IsGoodText o → IsGoodText old
+        → IsGoodText (cond t (unwrap_or o old) old)
     changed true o old g h = given o old g h
     changed false o old g h = h

@@ -21,4 +21,5 @@ same_set a b = same_shared a.shared b.shared && bytes_eq (numbers_of a.members) 
 
 -- the answer is that of the sets at the two places, if there are such
 abbrev pub IsRight : List SetImage → List SetImage → Compared → Type 0
-IsRight olds news c = (i j : SetImage) → slice_get olds c.before ≡ Some i → slice_get news c.after ≡ Some j → c.same ≡ same_set i j
+IsRight olds news c =
+    (i j : SetImage) → slice_get olds c.before ≡ Some i → slice_get news c.after ≡ Some j → c.same ≡ same_set i j

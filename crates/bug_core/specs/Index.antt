@@ -10,7 +10,8 @@ use Rattle.bug_core.specs.declared.index.Place.{Place}
 -- the place of the bug n among these members, which begin at `member`, of the image at `image`
 abbrev pub place_among : ℕ → ℕ → List Member → ℕ → Option Place
 place_among image member [] n = None
-place_among image member (m ∷ ms) n = if m.number == n then Some (record { image = image; member = member }) else place_among image (member + 1) ms n
+place_among image member (m ∷ ms) n =
+    if m.number == n then Some (record { image = image; member = member }) else place_among image (member + 1) ms n
 
 -- its place among these images, which begin at `image`
 abbrev pub place_in : ℕ → List SetImage → ℕ → Option Place

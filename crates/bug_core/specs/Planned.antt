@@ -10,7 +10,8 @@ use Rattle.bug_record.specs.declared.command.Change.{Change}
 use Rattle.bug_record.specs.declared.command.PlanFault.{PlanFault}
 use Rattle.bug_record.specs.declared.command.PlanFault.TheVariants.{Refused, Memory}
 use Rattle.bug_record.specs.declared.command.Refusal.{Refusal}
-use Rattle.bug_record.specs.declared.command.Refusal.TheVariants.{Unknown, Malformed, TooLong, BadSeverity, BadTag, BadVersion, BadPackage, NoName, NoBug, Differ, NotMerged}
+use Rattle.bug_record.specs.declared.command.Refusal.TheVariants.{Unknown, Malformed, TooLong, BadSeverity, BadTag, BadVersion}
+use Rattle.bug_record.specs.declared.command.Refusal.TheVariants.{BadPackage, NoName, NoBug, Differ, NotMerged}
 
 -- The answer is a refusal exactly where the step is one, and the same; out of memory is always
 -- allowed.
@@ -46,7 +47,8 @@ abbrev pub HasName : SetImage → Type 0
 HasName i = IsName i.shared.package
 
 -- What is planned for bugs whose step is this, a function of the desk.
-pub record IsPlanned (named : List ℕ) (after : Desk → Result Desk Refusal) (images : List SetImage) (next : ℕ) (result : Result Change PlanFault) : Type 0 where
+pub record IsPlanned (named : List ℕ) (after : Desk → Result Desk Refusal) (images : List SetImage) (next : ℕ)
+    (result : Result Change PlanFault) : Type 0 where
   -- of every sound desk that the images show
   pub right : (d : Desk) → IsShownBy d images next named → IsPlanOf d (after d) result
   pub fits : (d : Desk) → IsShownBy d images next named → IfOk result (λ change. FitsDesk d change)

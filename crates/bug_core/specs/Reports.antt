@@ -12,7 +12,17 @@ only_member number title sender = record { number = number; title = title; submi
 
 abbrev pub shared_of_report : List ℕ → Severity → List Node → Shared
 shared_of_report package_name severity found =
-    record { «package» = package_name; severity = severity; closed = false; forwarded = None; owner = None; tags = []; found = found; fixed = [] }
+    record {
+      «package» = package_name;
+      severity = severity;
+      closed = false;
+      forwarded = None;
+      owner = None;
+      tags = [];
+      found =
+          found;
+      fixed = [];
+    }
 
 abbrev pub image_of_report : List ℕ → List ℕ → Severity → List ℕ → Option Node → ℕ → SetImage
 image_of_report sender package_name severity title node number = record {

@@ -27,7 +27,8 @@ struct Compared {
 // Whether the sets at two places are the same. Those that were compared last are not compared
 // again.
 fn same_sets(last: &mut Compared, i: usize, old: &SetImage, j: usize, new: &SetImage) -> bool
-    ensures { (olds news : List SetImage) → IsRight olds news last.old → slice_get olds i ≡ Some old.now → slice_get news j ≡ Some new.now
+    ensures { (olds news : List SetImage) → IsRight olds news last.old → slice_get olds i ≡ Some old.now
+        → slice_get news j ≡ Some new.now
         → IsRight olds news last.new × (result ≡ same_set old.now new.now) }
 {
     if last.before == i && last.after == j {
@@ -86,7 +87,8 @@ fn add_members(
 ) -> Result<(), AllocError>
     requires right { IsRight before.now after.now last.old }
     ensures right { OnOk result (IsRight before.now after.now last.new) }
-    ensures numbers { OnOk result (IsJoined set.old.keys (λ n. has (numbers_of members.now) n && differs before.now after.now n) set.new.keys) }
+    ensures numbers { OnOk result
+        (IsJoined set.old.keys (λ n. has (numbers_of members.now) n && differs before.now after.now n) set.new.keys) }
 {
     for member in members {
         add_number(set, last, before, after, member.number)?;
@@ -104,7 +106,8 @@ fn add_images(
 ) -> Result<(), AllocError>
     requires right { IsRight before.now after.now last.old }
     ensures right { OnOk result (IsRight before.now after.now last.new) }
-    ensures numbers { OnOk result (IsJoined set.old.keys (λ n. is_some (bug_in images.now n) && differs before.now after.now n) set.new.keys) }
+    ensures numbers { OnOk result
+        (IsJoined set.old.keys (λ n. is_some (bug_in images.now n) && differs before.now after.now n) set.new.keys) }
 {
     for image in images {
         add_members(set, last, before, after, image.members.as_slice())?;
@@ -160,7 +163,9 @@ fn changed_bugs(alloc: Global, old: &[SetImage], new: &[SetImage]) -> Result<Num
 /// Only where there was no memory.
 pub fn changed(alloc: Global, old: &[SetImage], new: &[SetImage]) -> Result<Numbers, AllocError>
     ensures images { IfOk result (λ r. AreChanged (bug_in old.now) (bug_in new.now) r) }
-    ensures desks { IfOk result (λ r. (d : Desk) (next : ℕ) → Replaces d old.now new.now next → r ≡ changed_numbers d (put d (record { images = new.now; next = next }))) }
+    ensures desks { IfOk result
+        (λ r. (d : Desk) (next : ℕ) → Replaces d old.now new.now next
+        → r ≡ changed_numbers d (put d (record { images = new.now; next = next }))) }
 {
     changed_bugs(alloc, old, new)
 }

@@ -44,7 +44,8 @@ impl<'a> Model for Index<'a> {
 
 // Adds the place of a bug, unless it has one.
 fn add_place(places: &mut BTreeMap<u64, Place>, number: u64, place: Place) -> Result<(), AllocError>
-    ensures { OnOk result ((n : ℕ) → get nat_cmp places.new n ≡ option_or (get nat_cmp places.old n) (if number == n then Some place else None)) }
+    ensures { OnOk result
+        ((n : ℕ) → get nat_cmp places.new n ≡ option_or (get nat_cmp places.old n) (if number == n then Some place else None)) }
 {
     if !places.contains_key(&number) {
         places.insert(number, place)?;
@@ -58,7 +59,8 @@ fn add_members(
     image: usize,
     members: &[Member],
 ) -> Result<(), AllocError>
-    ensures { OnOk result ((n : ℕ) → get nat_cmp places.new n ≡ option_or (get nat_cmp places.old n) (place_among image 0 members.now n)) }
+    ensures { OnOk result
+        ((n : ℕ) → get nat_cmp places.new n ≡ option_or (get nat_cmp places.old n) (place_among image 0 members.now n)) }
 {
     for (member, item) in members.iter().enumerate() {
         add_place(places, item.number, Place { image, member })?;
@@ -99,7 +101,8 @@ impl<'a> Index<'a> {
 
     /// The image and the member of a bug.
     pub(crate) fn find_bug(&self, number: u64) -> Option<(&SetImage, &Member)>
-        ensures { MatchOption result (bug_in self.now number ≡ None) (λ p. bug_in self.now number ≡ Some (bug_of p.0.now p.1.now)) }
+        ensures { MatchOption result (bug_in self.now number ≡ None)
+            (λ p. bug_in self.now number ≡ Some (bug_of p.0.now p.1.now)) }
     {
         let (_, image, member) = self.find(number)?;
         Some((image, member))

@@ -8,7 +8,8 @@ ghost use Rattle.bug_record.specs.Images.{bug_in};
 ghost use Rattle.bug_record.specs.Merges.{first_owner};
 ghost use Rattle.bug_record.specs.Sets.{has, with_item};
 ghost use Rattle.bug_record.specs.Tags.{tag_place};
-ghost use Rattle.bug_core.specs.Joins.{with_items, with_nodes, with_members, with_shared, with_all_shared, joined_shared, number_of, IsKeyed};
+ghost use Rattle.bug_core.specs.Joins.{with_items, with_nodes, with_members, with_shared, with_all_shared, joined_shared};
+ghost use Rattle.bug_core.specs.Joins.{number_of, IsKeyed};
 ghost use Rattle.bug_core.specs.Others.{those_meant};
 ghost use Rattle.bug_core.specs.Named.{named_numbers};
 

@@ -124,7 +124,8 @@ pub(crate) fn plan_merge(
     next: u64,
 ) -> Result<Change, PlanFault>
     requires apart { AreApart images.now }
-    ensures { IsPlanned (first ∷ others.now) (λ d. sets_joined (difference_of agreement) d first others.now) images.now next result }
+    ensures { IsPlanned (first ∷ others.now) (λ d. sets_joined (difference_of agreement) d first others.now) images.now next
+        result }
 {
     let Some(image) = find(images, first) else {
         return Err(PlanFault::Refused(Refusal::NoBug(first)));

@@ -106,12 +106,15 @@ pub fn plan(
     requires apart { AreApart images.now }
     ensures right { (d : Desk) → IsShownBy d images.now next (bugs_named command.now) → IsPlanFor d from.now command.now result }
     ensures fits { (d : Desk) → IsShownBy d images.now next (bugs_named command.now) → IfOk result (λ change. FitsDesk d change) }
-    ensures refusals { (d : Desk) → d.next ≡ next → AllKnown d images.now (bugs_named command.now) → Each HasName images.now → IsRefusedAs (step d from.now command.now) result }
+    ensures refusals { (d : Desk) → d.next ≡ next → AllKnown d images.now (bugs_named command.now) → Each HasName images.now
+        → IsRefusedAs (step d from.now command.now) result }
     ensures own { IfErr result IsFaultOfPlan }
-    ensures apart { (d : Desk) → IsShownBy d images.now next (bugs_named command.now) → IfOk result (λ change. AreApart change.images) }
+    ensures apart { (d : Desk) → IsShownBy d images.now next (bugs_named command.now)
+        → IfOk result (λ change. AreApart change.images) }
     ensures members { IfOk result (λ change. Each HasMember change.images) }
     ensures covers { IfOk result (λ change. CoverImages images.now change.images) }
-    ensures brings { (d : Desk) → IsShownBy d images.now next (bugs_named command.now) → IfOk result (λ change. BringNone d images.now change.images) }
+    ensures brings { (d : Desk) → IsShownBy d images.now next (bugs_named command.now)
+        → IfOk result (λ change. BringNone d images.now change.images) }
     ensures later { IfOk result (λ change. next ≤ change.next) }
 {
     plan_command(alloc, command, from, images, next)

@@ -98,7 +98,8 @@ pub fn report_change(
     requires title { IsText title.now }
     requires node { IfGiven IsNode node }
     requires some_left { next < 1000000000 }
-    ensures right { (d : Desk) → IsSound d → d.next ≡ next → IfOk result (λ change. put d change ≡ reported d from.now «package».now severity title.now node) }
+    ensures right { (d : Desk) → IsSound d → d.next ≡ next
+        → IfOk result (λ change. put d change ≡ reported d from.now «package».now severity title.now node) }
     ensures fits { (d : Desk) → IsSound d → d.next ≡ next → IfOk result (λ change. FitsDesk d change) }
     ensures apart { IfOk result (λ change. AreApart change.images) }
     ensures members { IfOk result (λ change. Each HasMember change.images) }

@@ -46,7 +46,8 @@ fn two_images(
     own: Sequence<Member>,
     rest: Sequence<Member>,
 ) -> Result<Sequence<SetImage>, AllocError>
-    ensures { IfOk result (λ is. is ≡ record { shared = shared.now; members = own } ∷ record { shared = shared.now; members = rest } ∷ []) }
+    ensures { IfOk result
+        (λ is. is ≡ record { shared = shared.now; members = own } ∷ record { shared = shared.now; members = rest } ∷ []) }
 {
     let mut images = Sequence::new(alloc);
     images.push(SetImage {

@@ -16,13 +16,16 @@ pub has-all_of : (f : Bug → List ℕ) (bugs : List Bug) (m : ℕ) → has (all
 has-all_of f [] m = refl
 has-all_of f (b ∷ bugs) m = has-append (f b) (all_of f bugs) m ∙ ap (λ t. has (f b) m || t) (has-all_of f bugs m)
 
-pub has_node-all_of : (f : Bug → List Node) (bugs : List Bug) (n : Node) → has_node (all_of f bugs) n ≡ list_any (λ b. has_node (f b) n) bugs
+pub has_node-all_of : (f : Bug → List Node) (bugs : List Bug) (n : Node)
+    → has_node (all_of f bugs) n ≡ list_any (λ b. has_node (f b) n) bugs
 has_node-all_of f [] n = refl
-has_node-all_of f (b ∷ bugs) n = has_node-append (f b) (all_of f bugs) n ∙ ap (λ t. has_node (f b) n || t) (has_node-all_of f bugs n)
+has_node-all_of f (b ∷ bugs) n =
+    has_node-append (f b) (all_of f bugs) n ∙ ap (λ t. has_node (f b) n || t) (has_node-all_of f bugs n)
 
 -- the bugs of a joined set, and its marks
 pub has-all_merged : (bugs : List Bug) (m : ℕ) → has (all_merged bugs) m ≡ list_any (λ b. has b.merged m) bugs
 has-all_merged bugs m = has-number_set (all_of (λ b. b.merged) bugs) m ∙ has-all_of (λ b. b.merged) bugs m
 
-pub has-joined_nodes : (f : Bug → List Node) (bugs : List Bug) (n : Node) → has_node (node_set (all_of f bugs)) n ≡ list_any (λ b. has_node (f b) n) bugs
+pub has-joined_nodes : (f : Bug → List Node) (bugs : List Bug) (n : Node)
+    → has_node (node_set (all_of f bugs)) n ≡ list_any (λ b. has_node (f b) n) bugs
 has-joined_nodes f bugs n = has-node_set (all_of f bugs) n ∙ has_node-all_of f bugs n

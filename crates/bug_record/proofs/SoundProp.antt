@@ -42,7 +42,15 @@ IsGoodText-prop : (text : List ℕ) → IsProp (IsGoodText text)
 IsGoodText-prop text = hlevel props
 
 IsGoodShared-prop : (f : Shared) → IsProp (IsGoodShared f)
-IsGoodShared-prop f = hlevel (props, IfGiven-prop IsGoodText IsGoodText-prop f.forwarded, IfGiven-prop IsGoodText IsGoodText-prop f.owner, IsAscending-prop (map tag_place f.tags), IsNodeSet-prop f.found, IsNodeSet-prop f.fixed)
+IsGoodShared-prop f =
+    hlevel (
+      props,
+      IfGiven-prop IsGoodText IsGoodText-prop f.forwarded,
+      IfGiven-prop IsGoodText IsGoodText-prop f.owner,
+      IsAscending-prop (map tag_place f.tags),
+      IsNodeSet-prop f.found,
+      IsNodeSet-prop f.fixed,
+    )
 
 pub IsSound-prop : (d : Desk) → IsProp (IsSound d)
 IsSound-prop d = hlevel (props, IsAscending-prop, IsMergedWith-prop, IsGoodShared-prop, IsForest-prop)

@@ -1,5 +1,6 @@
 -- Sets of tags stay sets, what is in them, and that sets of the same tags are one.
-use Rattle.std.proofs.Common.{◌≡◌, ◌<◌, ℕ, zero, suc, Bool, true, false, cond, ◌||◌, ◌&&◌, List, [], ◌∷◌, sym, refl, ap, ◌∙◌, subst, arith}
+use Rattle.std.proofs.Common.{◌≡◌, ◌<◌, ℕ, zero, suc, Bool, true, false, cond, ◌||◌, ◌&&◌, List, [], ◌∷◌, sym, refl, ap, ◌∙◌}
+use Rattle.std.proofs.Common.{subst, arith}
 use Rattle.std.specs.Prelude.{not, map, filter, ◌==◌, nat_lt}
 use Rattle.std.specs.List.{list_any}
 use Rattle.std.proofs.lemmas.Bool.{false≢true, eqb-true, eq-eqb}
@@ -67,26 +68,36 @@ eqb-turned a b = grind (arith, nat_tests)
 -- a set of tags by their places
 pub has-places : (set : List Tag) (t : Tag) → has (map tag_place set) (tag_place t) ≡ has_tag set t
 has-places [] t = refl
-has-places (u ∷ set) t = ap (λ b. b || has (map tag_place set) (tag_place t)) (eqb-turned (tag_place u) (tag_place t)) ∙ ap (λ b. same_tag t u || b) (has-places set t)
+has-places (u ∷ set) t =
+    ap (λ b. b || has (map tag_place set) (tag_place t)) (eqb-turned (tag_place u) (tag_place t))
+    ∙ ap (λ b. same_tag t u || b) (has-places set t)
 
 map-with_tag : (set : List Tag) (t : Tag) → map tag_place (with_tag set t) ≡ with_item (λ k. k) (map tag_place set) (tag_place t)
 map-with_tag [] t = refl
 map-with_tag (u ∷ set) t =
-    elim (nat_lt (tag_place u) (tag_place t)) as (λ b. map tag_place (cond b (u ∷ with_tag set t) (cond (tag_place u == tag_place t) (u ∷ set) (t ∷ u ∷ set)))
-    ≡ cond b (tag_place u ∷ with_item (λ k. k) (map tag_place set) (tag_place t)) (cond (tag_place u == tag_place t) (tag_place u ∷ map tag_place set) (tag_place t ∷ tag_place u ∷ map tag_place set))) [
+    elim (nat_lt (tag_place u) (tag_place t)) as (λ b. map tag_place
+    (cond b (u ∷ with_tag set t) (cond (tag_place u == tag_place t) (u ∷ set) (t ∷ u ∷ set)))
+    ≡ cond b (tag_place u ∷ with_item (λ k. k) (map tag_place set) (tag_place t))
+    (cond (tag_place u == tag_place t) (tag_place u ∷ map tag_place set) (tag_place t ∷ tag_place u ∷ map tag_place set))) [
       | true ↦ ap (λ ps. tag_place u ∷ ps) (map-with_tag set t)
-      | false ↦ elim (tag_place u == tag_place t) as (λ b. map tag_place (cond b (u ∷ set) (t ∷ u ∷ set)) ≡ cond b (tag_place u ∷ map tag_place set) (tag_place t ∷ tag_place u ∷ map tag_place set)) [ true ↦ refl | false ↦ refl ]
+      | false ↦ elim (tag_place u == tag_place t) as (λ b. map tag_place (cond b (u ∷ set) (t ∷ u ∷ set))
+          ≡ cond b (tag_place u ∷ map tag_place set) (tag_place t ∷ tag_place u ∷ map tag_place set))
+          [ true ↦ refl | false ↦ refl ]
     ]
 
 pub has-with_tag : (set : List Tag) (t u : Tag) → has_tag (with_tag set t) u ≡ (has_tag set u || same_tag t u)
-has-with_tag set t u = sym (has-places (with_tag set t) u) ∙ ap (λ ps. has ps (tag_place u)) (map-with_tag set t) ∙ has-with_item (map tag_place set) (tag_place t) (tag_place u) ∙ ap (λ b. b || same_tag t u) (has-places set u)
+has-with_tag set t u =
+    sym (has-places (with_tag set t) u) ∙ ap (λ ps. has ps (tag_place u)) (map-with_tag set t)
+    ∙ has-with_item (map tag_place set) (tag_place t) (tag_place u) ∙ ap (λ b. b || same_tag t u) (has-places set u)
 
 -- those tags of a set that a test passes
 pub has-tag_filter : (p : Tag → Bool) (set : List Tag) (t : Tag) → has_tag (filter p set) t ≡ (has_tag set t && p t)
 has-tag_filter p [] t = refl
 has-tag_filter p (u ∷ set) t =
-    elim (p u) as (λ b. p u ≡ b → has_tag (cond b (u ∷ filter p set) (filter p set)) t ≡ ((same_tag t u || has_tag set t) && p t)) [
-      | true ↦ λ e. ap (λ b. same_tag t u || b) (has-tag_filter p set t) ∙ stays (same_tag t u) (has_tag set t) (p t) (λ q. ap p (same_tag-true t u q) ∙ e)
+    elim (p u) as (λ b. p u ≡ b → has_tag (cond b (u ∷ filter p set) (filter p set)) t
+    ≡ ((same_tag t u || has_tag set t) && p t)) [
+      | true ↦ λ e. ap (λ b. same_tag t u || b) (has-tag_filter p set t)
+          ∙ stays (same_tag t u) (has_tag set t) (p t) (λ q. ap p (same_tag-true t u q) ∙ e)
       | false ↦ λ e. has-tag_filter p set t ∙ gone (same_tag t u) (has_tag set t) (p t) (λ q. ap p (same_tag-true t u q) ∙ e)
     ] refl
   where
@@ -108,7 +119,8 @@ set-none_tags = tt
 pub set-with_tag : (set : List Tag) (t : Tag) → IsTagSet set → IsTagSet (with_tag set t)
 set-with_tag set t h = subst IsAscending (sym (map-with_tag set t)) (IsAscending-with_item (map tag_place set) (tag_place t) h)
 
-above-filter : (p : Tag → Bool) (set : List Tag) (k : ℕ) → AllAbove k (map tag_place set) → AllAbove k (map tag_place (filter p set))
+above-filter : (p : Tag → Bool) (set : List Tag) (k : ℕ) → AllAbove k (map tag_place set)
+    → AllAbove k (map tag_place (filter p set))
 above-filter p [] k h = tt
 above-filter p (t ∷ set) k h =
     elim (p t) as (λ b. AllAbove k (map tag_place (cond b (t ∷ filter p set) (filter p set))))
@@ -171,11 +183,13 @@ set-joined_tags bugs = set-tag_filter (λ tag. list_any (λ b. has_tag b.shared.
 placed : (set : List Tag) (n : ℕ) → has (map tag_place set) n ≡ true → (t : Tag) × (tag_place t ≡ n)
 placed [] n e = absurd (false≢true e)
 placed (t ∷ set) n e =
-    elim (tag_place t == n) as (λ b. (tag_place t == n) ≡ b → (b || has (map tag_place set) n) ≡ true → (t : Tag) × (tag_place t ≡ n))
+    elim (tag_place t == n) as (λ b. (tag_place t == n) ≡ b → (b || has (map tag_place set) n) ≡ true → (t : Tag)
+    × (tag_place t ≡ n))
     [ true ↦ λ q e. (t, eqb-true (tag_place t) n q) | false ↦ λ q e. placed set n e ] refl e
 
 -- what is in one set by its places is in the other
-carried : (xs ys : List Tag) → ((t : Tag) → has_tag xs t ≡ has_tag ys t) → (n : ℕ) → has (map tag_place xs) n ≡ true → has (map tag_place ys) n ≡ true
+carried : (xs ys : List Tag) → ((t : Tag) → has_tag xs t ≡ has_tag ys t) → (n : ℕ) → has (map tag_place xs) n ≡ true
+    → has (map tag_place ys) n ≡ true
 carried xs ys h n e =
     let p = placed xs n e in
     subst (λ k. has (map tag_place xs) k ≡ true → has (map tag_place ys) k ≡ true) p.1
@@ -190,7 +204,10 @@ tags-at (t ∷ set) = ap (λ (u : Tag). u ∷ map tag_at (map tag_place set)) (t
 pub same-tag_sets : (xs ys : List Tag) → IsTagSet xs → IsTagSet ys → ((t : Tag) → has_tag xs t ≡ has_tag ys t) → xs ≡ ys
 same-tag_sets xs ys a b h =
     sym (tags-at xs)
-    ∙ ap (λ ps. map tag_at ps) (same-ascending (map tag_place xs) (map tag_place ys) a b (λ n. both (has (map tag_place xs) n) (has (map tag_place ys) n) (carried xs ys h n) (carried ys xs (λ t. sym (h t)) n)))
+    ∙ ap (λ ps. map tag_at ps)
+    (same-ascending (map tag_place xs) (map tag_place ys) a b
+    (λ n. both (has (map tag_place xs) n) (has (map tag_place ys) n) (carried xs ys h n)
+    (carried ys xs (λ t. sym (h t)) n)))
     ∙ tags-at ys
   where
     both : (s t : Bool) → (s ≡ true → t ≡ true) → (t ≡ true → s ≡ true) → s ≡ t

@@ -1,5 +1,6 @@
 -- The numbers at which two desks differ.
-use Rattle.std.specs.Prelude.{ℕ, suc, zero, ◌≡◌, ◌≤◌, Bool, true, false, not, ◌&&◌, ◌==◌, List, [], ◌∷◌, ◌++◌, Option, Some, None, filter}
+use Rattle.std.specs.Prelude.{ℕ, suc, zero, ◌≡◌, ◌≤◌, Bool, true, false, not, ◌&&◌, ◌==◌, List, [], ◌∷◌, ◌++◌, Option, Some, None}
+use Rattle.std.specs.Prelude.{filter}
 use Rattle.std.specs.Str.{bytes_eq}
 use Rattle.std.specs.Cmp.Lexicographic.{pointwise}
 use Rattle.ancestry.specs.Nodes.{Node, same_node}
@@ -29,7 +30,8 @@ same_shared s t =
     && (same_nodes s.found t.found && same_nodes s.fixed t.fixed)
 
 abbrev pub same_bugs : Bug → Bug → Bool
-same_bugs a b = (bytes_eq a.title b.title && bytes_eq a.submitter b.submitter) && (same_shared a.shared b.shared && bytes_eq a.merged b.merged)
+same_bugs a b = (bytes_eq a.title b.title && bytes_eq a.submitter b.submitter)
+    && (same_shared a.shared b.shared && bytes_eq a.merged b.merged)
 
 abbrev pub same_at : Option Bug → Option Bug → Bool
 same_at None None = true

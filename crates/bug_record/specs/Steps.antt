@@ -1,7 +1,8 @@
 -- What a command does to a desk, over whole records (the BTS page 'control and manipulation'; when
 -- `found n v` opens a bug, and what an open bug's `reopen` and a `reassign` to the bug's own
 -- package do, is this project's own rule).
-use Rattle.std.specs.Prelude.{ℕ, ◌+◌, ◌==◌, ◌&&◌, false, true, List, [], ◌∷◌, Option, Some, None, Result, Ok, unwrap_or, if◌then◌else◌}
+use Rattle.std.specs.Prelude.{ℕ, ◌+◌, ◌==◌, ◌&&◌, false, true, List, [], ◌∷◌, Option, Some, None, Result, Ok, unwrap_or}
+use Rattle.std.specs.Prelude.{if◌then◌else◌}
 use Rattle.std.specs.Str.{bytes_eq}
 use Rattle.ancestry.specs.Nodes.{Node}
 use Rattle.bug_record.specs.Sets.{has}
@@ -175,7 +176,17 @@ abbrev pub new_bug : ℕ → List ℕ → List ℕ → Severity → List ℕ →
 new_bug number sender package_name severity title node = record {
   title = title;
   submitter = sender;
-  shared = record { «package» = package_name; severity = severity; closed = false; forwarded = None; owner = None; tags = []; found = found_first node; fixed = [] };
+  shared = record {
+    «package» = package_name;
+    severity = severity;
+    closed = false;
+    forwarded = None;
+    owner = None;
+    tags =
+        [];
+    found = found_first node;
+    fixed = [];
+  };
   merged = number ∷ [];
 }
 

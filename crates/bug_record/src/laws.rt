@@ -37,5 +37,6 @@ pub fn joined_are_sets()
 /// where it is in the list and is not n.
 pub fn marks_by_membership()
     ensures with { (nodes : List Node) (n m : Node) → has_node (with_node nodes n) m ≡ (has_node nodes m || same_node m n) }
-    ensures without { (nodes : List Node) (n m : Node) → has_node (without_node nodes n) m ≡ (has_node nodes m && not (same_node n m)) }
+    ensures without { (nodes : List Node) (n m : Node)
+        → has_node (without_node nodes n) m ≡ (has_node nodes m && not (same_node n m)) }
 {}

@@ -1,12 +1,14 @@
 -- A text split into its lines.
-use Rattle.std.proofs.Common.{◌≡◌, ◌≢◌, ℕ, ◌<◌, ◌≤◌, List, [], ◌∷◌, ◌++◌, length, get_or, map, ◌∙◌, ap, refl, arith, eqb, Bool, true, false, All}
+use Rattle.std.proofs.Common.{◌≡◌, ◌≢◌, ℕ, ◌<◌, ◌≤◌, List, [], ◌∷◌, ◌++◌, length, get_or, map, ◌∙◌, ap, refl, arith, eqb, Bool}
+use Rattle.std.proofs.Common.{true, false, All}
 use Rattle.std.specs.Prelude.{if◌then◌else◌}
 use Rattle.std.specs.List.{list_any, onto_first, slice_split}
 use Rattle.std.proofs.lemmas.List.{get_or_default}
 use Rattle.std.proofs.lemmas.List.Elements.{All-cons}
 use Rattle.std.proofs.lemmas.List.Folds.{list_any_none}
 use Rattle.std.proofs.lemmas.Bool.{ne_eqb, eqb-true, or_parts}
-use Rattle.std.proofs.lemmas.List.Splits.{length-slice_split, slice_split_at, slice_split_none, slice_split-cons_yes, slice_split-cons_no}
+use Rattle.std.proofs.lemmas.List.Splits.{length-slice_split, slice_split_at, slice_split_none, slice_split-cons_yes}
+use Rattle.std.proofs.lemmas.List.Splits.{slice_split-cons_no}
 use Rattle.desk_lines.specs.Lines.{without_return, is_feed, without_empty_last, raw_lines, lines_of}
 
 -- a text in which no byte is a line feed
@@ -15,10 +17,12 @@ no_feed s h = list_any_none is_feed s (λ k d l. ap is_feed (get_or_default s k 
 
 all_others : (s : List ℕ) → list_any is_feed s ≡ false → All (λ c. is_feed c ≡ false) s
 all_others [] h = λ k d l. absurd (omega arith)
-all_others (c ∷ s) h = let p = or_parts (is_feed c) (list_any is_feed s) h in All-cons (λ x. is_feed x ≡ false) c s p.0 (all_others s p.1)
+all_others (c ∷ s) h = let p = or_parts (is_feed c) (list_any is_feed s) h in
+    All-cons (λ x. is_feed x ≡ false) c s p.0 (all_others s p.1)
 
 -- a piece that isn't the last one is a line
-not_last : (piece : List ℕ) (pieces : List (List ℕ)) → 1 ≤ length pieces → without_empty_last (piece ∷ pieces) ≡ piece ∷ without_empty_last pieces
+not_last : (piece : List ℕ) (pieces : List (List ℕ)) → 1 ≤ length pieces
+    → without_empty_last (piece ∷ pieces) ≡ piece ∷ without_empty_last pieces
 not_last piece [] h = absurd (omega arith)
 not_last piece (next ∷ more) h = refl
 
@@ -47,7 +51,8 @@ pub without_return-none : (line : List ℕ) → ((front : List ℕ) → line ≢
 without_return-none [] h = refl
 without_return-none (c ∷ []) h =
     ap (λ (t : Bool). if t then [] else c ∷ []) (ne_eqb c 13 (λ e. h [] (ap (λ (x : ℕ). x ∷ []) e)))
-without_return-none (c ∷ d ∷ s) h = ap (λ (w : List ℕ). c ∷ w) (without_return-none (d ∷ s) (λ front e. h (c ∷ front) (ap (λ (w : List ℕ). c ∷ w) e)))
+without_return-none (c ∷ d ∷ s) h =
+    ap (λ (w : List ℕ). c ∷ w) (without_return-none (d ∷ s) (λ front e. h (c ∷ front) (ap (λ (w : List ℕ). c ∷ w) e)))
 
 -- pieces that aren't an empty one alone have a line
 some_kept : (pieces : List (List ℕ)) → 2 ≤ length pieces → 1 ≤ length (without_empty_last pieces)
@@ -62,7 +67,8 @@ onto_kept c (piece ∷ next ∷ more) h = omega arith
 
 -- a message that isn't empty has a line
 some_at : (c : ℕ) (s : List ℕ) (t : Bool) → is_feed c ≡ t → 1 ≤ length (raw_lines (c ∷ s))
-some_at c s true e = rw (slice_split-cons_yes is_feed c s e) (some_kept ([] ∷ slice_split is_feed s) (omega (arith, some_piece s)))
+some_at c s true e =
+    rw (slice_split-cons_yes is_feed c s e) (some_kept ([] ∷ slice_split is_feed s) (omega (arith, some_piece s)))
 some_at c s false e = rw (slice_split-cons_no is_feed c s e) (onto_kept c (slice_split is_feed s) (some_piece s))
 
 length-map : {A B : Type 0} (f : A → B) (xs : List A) → length (map f xs) ≡ length xs

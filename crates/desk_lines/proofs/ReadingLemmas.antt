@@ -1,5 +1,6 @@
 -- Bytes read, and the lines found in them.
-use Rattle.std.proofs.Common.{◌≡◌, ℕ, ◌+◌, ◌<◌, ◌≤◌, ◌==◌, List, [], ◌∷◌, ◌++◌, length, take, drop, get_or, Option, Some, None, Vec, false, sym, ◌∙◌, ap, subst, arith, refl, append_assoc, append-nil}
+use Rattle.std.proofs.Common.{◌≡◌, ℕ, ◌+◌, ◌<◌, ◌≤◌, ◌==◌, List, [], ◌∷◌, ◌++◌, length, take, drop, get_or, Option, Some, None}
+use Rattle.std.proofs.Common.{Vec, false, sym, ◌∙◌, ap, subst, arith, refl, append_assoc, append-nil}
 use Rattle.std.specs.Str.{IsUtf8}
 use Rattle.std.specs.List.{list_any, onto_first, slice_split}
 use Rattle.std.proofs.lemmas.Bool.{eqb-true, or_parts}
@@ -8,7 +9,8 @@ use Rattle.std.proofs.lemmas.List.{drop_more, get_or-take, length-take, take-app
 use Rattle.std.proofs.lemmas.List.Splits.{slice_split-cons_no}
 use Rattle.memchr.specs.Find.{IsFirstByte, is_byte}
 use Rattle.desk_lines.specs.Lines.{is_feed, without_empty_last, without_return, raw_lines}
-use Rattle.desk_lines.specs.Reading.{Known, Left, GivesBytes, GivesPiece, GivesRaw, IsFirstFeed, IsLineFault, IsLengthFault, IsTextFault}
+use Rattle.desk_lines.specs.Reading.{Known, Left, GivesBytes, GivesPiece, GivesRaw, IsFirstFeed, IsLineFault, IsLengthFault}
+use Rattle.desk_lines.specs.Reading.{IsTextFault}
 use Rattle.desk_lines.specs.declared.fault.ScriptFault.{ScriptFault}
 use Rattle.desk_lines.specs.declared.fault.ScriptFault.TheVariants.{Read, Write, NotUtf8, LineTooLong, Memory, Store}
 use Rattle.desk_lines.specs.declared.source.Piece.TheVariants as pieces
@@ -32,7 +34,8 @@ feed_found bytes (Some at) h = (
       (drop_more bytes at 0 h.0.high ∙ ap (λ (n : ℕ). n ∷ drop (at + 1) bytes) (eqb-true (get_or bytes at 0) 10 h.1)),
 )
 
-free_together : (front back : List ℕ) → list_any is_feed front ≡ false → list_any is_feed back ≡ false → list_any is_feed (front ++ back) ≡ false
+free_together : (front back : List ℕ) → list_any is_feed front ≡ false → list_any is_feed back ≡ false
+    → list_any is_feed (front ++ back) ≡ false
 free_together front back f g = grind (arith, common_steps)
 
 -- a line feed ends the line
@@ -42,33 +45,45 @@ first_line line piece rest at free first =
     let front = take at piece in
     let back = drop (at + 1) piece in
     ap raw_lines (ap (λ (w : List ℕ). line ++ (w ++ rest)) first.1
-    ∙ (ap (λ (w : List ℕ). line ++ w) (append_assoc front (10 ∷ back) rest) ∙ sym (append_assoc line front (10 ∷ (back ++ rest)))))
+    ∙ (ap (λ (w : List ℕ). line ++ w) (append_assoc front (10 ∷ back) rest)
+    ∙ sym (append_assoc line front (10 ∷ (back ++ rest)))))
     ∙ raw_lines-first (line ++ front) (back ++ rest) (free_together line front free first.0)
 
-pub line_ended : {a b c : Option (List ℕ)} (s line piece longer left : List ℕ) (at : ℕ) → list_any is_feed line ≡ false → IsFirstFeed piece (Some at)
+pub line_ended : {a b c : Option (List ℕ)} (s line piece longer left : List ℕ) (at : ℕ) → list_any is_feed line ≡ false
+    → IsFirstFeed piece (Some at)
     → longer ≡ line ++ take at piece → left ≡ drop (at + 1) piece → length longer ≤ 65536
     → Left a b (λ xs ys. s ++ xs ≡ line ++ ys) → Left b c (GivesBytes piece)
     → Left a c (λ xs ys. (raw_lines (s ++ xs) ≡ longer ∷ raw_lines (left ++ ys)) × (length longer ≤ 65536))
 line_ended s line piece longer left at free first whole after short p q = left_then p q
-    (λ xs ys zs e f. (rw (whole, after) (ap raw_lines (e ∙ ap (λ (w : List ℕ). line ++ w) f.0) ∙ first_line line piece zs at free first), short))
+    (λ xs ys zs e f. (
+      rw (whole, after)
+          (ap raw_lines (e ∙ ap (λ (w : List ℕ). line ++ w) f.0) ∙ first_line line piece zs at free first),
+      short,
+    ))
 
 empty : (xs : List ℕ) → length xs ≡ 0 → xs ≡ []
 empty [] e = refl
 empty (x ∷ xs) e = absurd (omega (arith, e))
 
 -- the end comes after the last line feed
-pub last_ended : {a b c : Option (List ℕ)} (s line piece : List ℕ) → list_any is_feed line ≡ false → 0 < length line → length line ≤ 65536 → length piece ≡ 0
+pub last_ended : {a b c : Option (List ℕ)} (s line piece : List ℕ) → list_any is_feed line ≡ false → 0 < length line
+    → length line ≤ 65536 → length piece ≡ 0
     → Left a b (λ xs ys. s ++ xs ≡ line ++ ys) → Left b c (GivesBytes piece)
     → Left a c (λ xs ys. (raw_lines (s ++ xs) ≡ line ∷ []) × (length line ≤ 65536) × (piece ++ ys ≡ []))
 last_ended s line piece free some short none p q = left_then p q
-    (λ xs ys zs e f. let end = f.1 (empty piece none) in
-    (ap raw_lines (e ∙ (ap (λ (w : List ℕ). line ++ w) end ∙ append-nil line)) ∙ raw_lines-last line some free, short, sym f.0 ∙ end))
+    (λ xs ys zs e f. let end = f.1 (empty piece none) in (
+      ap raw_lines (e ∙ (ap (λ (w : List ℕ). line ++ w) end ∙ append-nil line)) ∙ raw_lines-last line some free,
+      short,
+      sym f.0
+          ∙ end,
+    ))
 
 -- all that is unread is taken to the line
 whole : (unread : List ℕ) (n : ℕ) → n ≡ length unread → take n unread ≡ unread
 whole unread n all = take_all n unread (omega (arith, all))
 
-pub all_taken : {a b : Option (List ℕ)} (s line unread longer : List ℕ) (n : ℕ) → n ≡ length unread → longer ≡ line ++ take n unread
+pub all_taken : {a b : Option (List ℕ)} (s line unread longer : List ℕ) (n : ℕ) → n ≡ length unread
+    → longer ≡ line ++ take n unread
     → Left a b (λ xs ys. s ++ xs ≡ line ++ (unread ++ ys)) → Left a b (λ xs ys. s ++ xs ≡ longer ++ ys)
 all_taken s line unread longer n all is p = record {
   known = λ xs e.
@@ -83,7 +98,8 @@ all_free line unread longer n all is f g =
     ap (list_any is_feed) (is ∙ ap (λ (w : List ℕ). line ++ w) (whole unread n all)) ∙ free_together line unread f g
 
 -- a byte goes on to the end of its piece
-onto-first : (c : ℕ) (pieces : List (List ℕ)) → (raw : List ℕ) × (more : List (List ℕ)) × (onto_first c pieces ≡ raw ∷ more) × (1 ≤ length raw)
+onto-first : (c : ℕ) (pieces : List (List ℕ)) → (raw : List ℕ) × (more : List (List ℕ)) × (onto_first c pieces ≡ raw ∷ more)
+    × (1 ≤ length raw)
 onto-first c [] = (c ∷ [], [], refl, omega arith)
 onto-first c (piece ∷ pieces) = (c ∷ piece, pieces, refl, omega arith)
 
@@ -101,7 +117,8 @@ piece_goes_on (c ∷ d ∷ line) rest free some =
     (c ∷ u.0, u.1, slice_split-cons_no is_feed c (d ∷ (line ++ rest)) p.0 ∙ ap (onto_first c) u.2, omega (arith, u.3))
 
 -- a piece that isn't empty is a line
-first_kept : (raw : List ℕ) (more : List (List ℕ)) → 1 ≤ length raw → (others : List (List ℕ)) × (without_empty_last (raw ∷ more) ≡ raw ∷ others)
+first_kept : (raw : List ℕ) (more : List (List ℕ)) → 1 ≤ length raw → (others : List (List ℕ))
+    × (without_empty_last (raw ∷ more) ≡ raw ∷ others)
 first_kept [] more some = absurd (omega arith)
 first_kept (c ∷ raw) [] some = ([], refl)
 first_kept (c ∷ raw) (next ∷ more) some = (without_empty_last (next ∷ more), refl)
@@ -115,7 +132,8 @@ line_goes_on line rest free some =
     (u.0, kept.0, ap without_empty_last u.2 ∙ kept.1, u.3)
 
 -- a line that begins with these bytes is too long, or there was no memory
-length_fault : (number : ℕ) (fault : ScriptFault) (line rest : List ℕ) → list_any is_feed line ≡ false → IsLengthFault number line fault → IsLineFault number fault (line ++ rest)
+length_fault : (number : ℕ) (fault : ScriptFault) (line rest : List ℕ) → list_any is_feed line ≡ false
+    → IsLengthFault number line fault → IsLineFault number fault (line ++ rest)
 length_fault number (LineTooLong k) line rest free h =
     let first = line_goes_on line rest free (omega (arith, h.1)) in
     (h.0, first.0, first.1, first.2, omega (arith, h.1, first.3))
@@ -126,7 +144,8 @@ length_fault number (NotUtf8 k) line rest free h = absurd h
 length_fault number (Store fault) line rest free h = absurd h
 
 -- with all that is unread
-pub rest_too_long : {a b : Option (List ℕ)} (number : ℕ) (fault : ScriptFault) (s line unread : List ℕ) (n : ℕ) → n ≡ length unread
+pub rest_too_long : {a b : Option (List ℕ)} (number : ℕ) (fault : ScriptFault) (s line unread : List ℕ) (n : ℕ)
+    → n ≡ length unread
     → list_any is_feed line ≡ false → list_any is_feed unread ≡ false → IsLengthFault number (line ++ take n unread) fault
     → Left a b (λ xs ys. s ++ xs ≡ line ++ (unread ++ ys)) → Known a (λ xs. IsLineFault number fault (s ++ xs))
 rest_too_long number fault s line unread n all f g h p = record {
@@ -134,7 +153,8 @@ rest_too_long number fault s line unread n all f g h p = record {
       let u = p.known xs e in
       let bytes = line ++ unread in
       let fault_of = subst (λ (w : List ℕ). IsLengthFault number (line ++ w) fault) (whole unread n all) h in
-      subst (IsLineFault number fault) (append_assoc line unread u.0 ∙ sym u.2) (length_fault number fault bytes u.0 (free_together line unread f g) fault_of);
+      subst (IsLineFault number fault) (append_assoc line unread u.0 ∙ sym u.2)
+      (length_fault number fault bytes u.0 (free_together line unread f g) fault_of);
 }
 
 -- with what of a piece stands before its first line feed
@@ -149,12 +169,15 @@ piece_too_long number fault s line piece at free first h p q = record {
       let back = 10 ∷ (drop (at + 1) piece ++ v.0) in
       let all : s ++ xs ≡ line ++ (piece ++ v.0) = u.2 ∙ ap (λ (w : List ℕ). line ++ w) v.2.0 in
       let cut : line ++ (piece ++ v.0) ≡ (line ++ front) ++ back = ap (λ (w : List ℕ). line ++ (w ++ v.0)) first.1
-      ∙ (ap (λ (w : List ℕ). line ++ w) (append_assoc front (10 ∷ drop (at + 1) piece) v.0) ∙ sym (append_assoc line front back)) in
-      subst (IsLineFault number fault) (sym (all ∙ cut)) (length_fault number fault (line ++ front) back (free_together line front free first.0) h);
+      ∙ (ap (λ (w : List ℕ). line ++ w) (append_assoc front (10 ∷ drop (at + 1) piece) v.0) ∙ sym (append_assoc line front back))
+      in
+      subst (IsLineFault number fault) (sym (all ∙ cut))
+      (length_fault number fault (line ++ front) back (free_together line front free first.0) h);
 }
 
 -- the first line is no UTF-8, or there was no memory for its text
-text_fault : (number : ℕ) (fault : ScriptFault) (all raw : List ℕ) (more : List (List ℕ)) → raw_lines all ≡ raw ∷ more → length raw ≤ 65536 → IsTextFault number raw fault → IsLineFault number fault all
+text_fault : (number : ℕ) (fault : ScriptFault) (all raw : List ℕ) (more : List (List ℕ)) → raw_lines all ≡ raw ∷ more
+    → length raw ≤ 65536 → IsTextFault number raw fault → IsLineFault number fault all
 text_fault number (NotUtf8 line) all raw more first short h = (h.0, raw, more, first, short, h.1)
 text_fault number Memory all raw more first short h = tt
 text_fault number Read all raw more first short h = absurd h
@@ -162,25 +185,40 @@ text_fault number Write all raw more first short h = absurd h
 text_fault number (LineTooLong line) all raw more first short h = absurd h
 text_fault number (Store fault) all raw more first short h = absurd h
 
-pub line_unread : {a b : Option (List ℕ)} (number : ℕ) (fault : ScriptFault) (s t bytes : List ℕ) (raw : RawLine) (line : Vec ℕ Global) → raw ≡ Line line → bytes ≡ line.items
-    → Left a b (λ xs ys. GivesRaw raw (s ++ xs) (t ++ ys)) → IsTextFault number bytes fault → Known a (λ xs. IsLineFault number fault (s ++ xs))
+pub line_unread : {a b : Option (List ℕ)} (number : ℕ) (fault : ScriptFault) (s t bytes : List ℕ) (raw : RawLine)
+    (line : Vec ℕ Global) → raw ≡ Line line → bytes ≡ line.items
+    → Left a b (λ xs ys. GivesRaw raw (s ++ xs) (t ++ ys)) → IsTextFault number bytes fault
+    → Known a (λ xs. IsLineFault number fault (s ++ xs))
 line_unread number fault s t bytes raw line is same read h = record {
   known = λ xs e.
       let given = read.known xs e in
       let first = subst (λ (r : RawLine). GivesRaw r (s ++ xs) (t ++ given.0)) is given.2 in
-      text_fault number fault (s ++ xs) line.items (raw_lines (t ++ given.0)) first.0 first.1 (subst (λ (w : List ℕ). IsTextFault number w fault) same h);
+      text_fault number fault (s ++ xs) line.items (raw_lines (t ++ given.0)) first.0 first.1
+      (subst (λ (w : List ℕ). IsTextFault number w fault) same h);
 }
 
 -- the whole line stands in what is unread
-pub line_at_hand : {a : Option (List ℕ)} (text unread left : List ℕ) (at : ℕ) → IsFirstFeed unread (Some at) → length unread ≤ 8192 → left ≡ drop (at + 1) unread
+pub line_at_hand : {a : Option (List ℕ)} (text unread left : List ℕ) (at : ℕ) → IsFirstFeed unread (Some at)
+    → length unread ≤ 8192 → left ≡ drop (at + 1) unread
     → IsUtf8 (take at unread) → text ≡ without_return (take at unread)
     → Left a a (λ xs ys. GivesPiece (pieces.Line text) (unread ++ xs) (left ++ ys))
 line_at_hand text unread left at first short after utf8 is = record {
-  known = λ xs e. (xs, e, (take at unread, rw after (first_line [] unread xs at refl first), record { short = omega (arith, short, length-take at unread); utf8 = utf8 }, is));
+  known = λ xs e. (
+    xs,
+    e,
+    (
+      take at unread,
+      rw after (first_line [] unread xs at refl first),
+      record { short = omega (arith, short, length-take at unread); utf8 = utf8 },
+      is,
+    ),
+  );
 }
 
-pub fault_at_hand : {a : Option (List ℕ)} (number : ℕ) (fault : ScriptFault) (unread : List ℕ) (at : ℕ) → IsFirstFeed unread (Some at) → length unread ≤ 8192
+pub fault_at_hand : {a : Option (List ℕ)} (number : ℕ) (fault : ScriptFault) (unread : List ℕ) (at : ℕ)
+    → IsFirstFeed unread (Some at) → length unread ≤ 8192
     → IsTextFault number (take at unread) fault → Known a (λ xs. IsLineFault number fault (unread ++ xs))
 fault_at_hand number fault unread at first short h = record {
-  known = λ xs e. text_fault number fault (unread ++ xs) (take at unread) (raw_lines (drop (at + 1) unread ++ xs)) (first_line [] unread xs at refl first) (omega (arith, short, length-take at unread)) h;
+  known = λ xs e. text_fault number fault (unread ++ xs) (take at unread) (raw_lines (drop (at + 1) unread ++ xs))
+      (first_line [] unread xs at refl first) (omega (arith, short, length-take at unread)) h;
 }

@@ -1,5 +1,6 @@
 -- How a script is read: line by line, each line checked as it comes. This project's own rule.
-use Rattle.std.specs.Prelude.{◌≡◌, ℕ, ◌+◌, ◌<◌, ◌≤◌, List, [], ◌∷◌, ◌++◌, length, take, drop, false, Option, Some, None, IsUtf8, ⊤}
+use Rattle.std.specs.Prelude.{◌≡◌, ℕ, ◌+◌, ◌<◌, ◌≤◌, List, [], ◌∷◌, ◌++◌, length, take, drop, false, Option, Some, None, IsUtf8}
+use Rattle.std.specs.Prelude.{⊤}
 use Rattle.std.specs.List.{list_any}
 use Rattle.desk_lines.specs.Lines.{without_return, is_feed, raw_lines}
 use Rattle.desk_lines.specs.declared.fault.ScriptFault.{ScriptFault}
@@ -18,15 +19,20 @@ pub record IsGoodLine (raw : List ℕ) : Type 0 where
 -- From `all` comes this piece, and `rest` is left: a line; the last line, with which nothing is
 -- left; or nothing.
 abbrev pub GivesPiece : Piece → List ℕ → List ℕ → Type 0
-GivesPiece (pieces.Line line) all rest = (raw : List ℕ) × (raw_lines all ≡ raw ∷ raw_lines rest) × IsGoodLine raw × (line ≡ without_return raw)
-GivesPiece (pieces.Last line) all rest = (raw : List ℕ) × (raw_lines all ≡ raw ∷ []) × IsGoodLine raw × (line ≡ without_return raw) × (rest ≡ [])
+GivesPiece (pieces.Line line) all rest =
+    (raw : List ℕ) × (raw_lines all ≡ raw ∷ raw_lines rest) × IsGoodLine raw × (line ≡ without_return raw)
+GivesPiece (pieces.Last line) all rest =
+    (raw : List ℕ) × (raw_lines all ≡ raw ∷ []) × IsGoodLine raw × (line ≡ without_return raw) × (rest ≡ [])
 GivesPiece pieces.End all rest = (raw_lines all ≡ []) × (rest ≡ [])
 
 -- The fault is that of the first line of `all`, which has this number.
 -- A line that is too long and no UTF-8 is too long.
 abbrev pub IsLineFault : ℕ → ScriptFault → List ℕ → Type 0
-IsLineFault number (NotUtf8 line) all = (line ≡ number) × (raw : List ℕ) × (more : List (List ℕ)) × (raw_lines all ≡ raw ∷ more) × (length raw ≤ 65536) × ¬ (IsUtf8 raw)
-IsLineFault number (LineTooLong line) all = (line ≡ number) × (raw : List ℕ) × (more : List (List ℕ)) × (raw_lines all ≡ raw ∷ more) × (65536 < length raw)
+IsLineFault number (NotUtf8 line) all =
+    (line ≡ number) × (raw : List ℕ) × (more : List (List ℕ)) × (raw_lines all ≡ raw ∷ more) × (length raw ≤ 65536)
+    × ¬ (IsUtf8 raw)
+IsLineFault number (LineTooLong line) all =
+    (line ≡ number) × (raw : List ℕ) × (more : List (List ℕ)) × (raw_lines all ≡ raw ∷ more) × (65536 < length raw)
 IsLineFault number Read all = ⊤
 IsLineFault number Memory all = ⊤
 IsLineFault number Write all = ⊥

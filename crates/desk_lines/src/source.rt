@@ -1,11 +1,13 @@
 //! Lines of a reader, and bytes to a writer.
 
-ghost use Rattle.std.specs.Prelude.{◌≡◌, ℕ, ◌+◌, ◌<◌, ◌≤◌, ◌++◌, [], length, take, drop, false, IsOk, IfOk, IfErr, OnOk, OnErr, IsUtf8, Result, None, Some};
+ghost use Rattle.std.specs.Prelude.{◌≡◌, ℕ, ◌+◌, ◌<◌, ◌≤◌, ◌++◌, [], length, take, drop, false, IsOk, IfOk, IfErr, OnOk, OnErr};
+ghost use Rattle.std.specs.Prelude.{IsUtf8, Result, None, Some};
 ghost use Rattle.std.specs.List.{list_any};
 ghost use Rattle.std.specs.Io.KnownBytes.{Appends};
 ghost use Rattle.desk_lines.specs.Lines.{without_return, is_feed};
 ghost use Rattle.desk_lines.specs.Buffered.{bytes_left};
-ghost use Rattle.desk_lines.specs.Reading.{Known, Left, GivesBytes, GivesRaw, GivesPiece, IsFirstFeed, IsLineFault, IsReadingFault, IsBegun, IsLengthFault, IsTextFault};
+ghost use Rattle.desk_lines.specs.Reading.{Known, Left, GivesBytes, GivesRaw, GivesPiece, IsFirstFeed, IsLineFault};
+ghost use Rattle.desk_lines.specs.Reading.{IsReadingFault, IsBegun, IsLengthFault, IsTextFault};
 
 use crate::fault::ScriptFault;
 use crate::lines::without_return;
@@ -140,7 +142,8 @@ fn take_bytes(
     requires within { count ≤ length source.old.unread }
     requires short { length line.old.items ≤ 65536 }
     ensures kept { count ≡ 0 → IsOk result }
-    ensures taken { OnOk result (source.new ≡ record { unread = drop count source.old.unread; reads_left = source.old.reads_left }) }
+    ensures taken { OnOk result
+        (source.new ≡ record { unread = drop count source.old.unread; reads_left = source.old.reads_left }) }
     ensures line { OnOk result (line.new.items ≡ line.old.items ++ take count source.old.unread) }
     ensures short { OnOk result (length line.new.items ≤ 65536) }
     ensures fault { IfErr result (IsLengthFault number (line.old.items ++ take count source.old.unread)) }
@@ -164,15 +167,21 @@ fn gather<R: Read>(
     number: u64,
 ) -> Result<RawLine, ScriptFault>
     requires { list_any is_feed source.old.unread ≡ false }
-    ensures raw { IfOk result (λ raw. Left (R.remaining reader.old) (R.remaining reader.new) (λ xs ys. GivesRaw raw (source.old.unread ++ xs) (source.new.unread ++ ys))) }
-    ensures fault { IfErr result (λ fault. Known (R.remaining reader.old) (λ xs. IsLineFault number fault (source.old.unread ++ xs))) }
+    ensures raw { IfOk result
+        (λ raw. Left (R.remaining reader.old) (R.remaining reader.new)
+        (λ xs ys. GivesRaw raw (source.old.unread ++ xs) (source.new.unread ++ ys))) }
+    ensures fault { IfErr result
+        (λ fault. Known (R.remaining reader.old) (λ xs. IsLineFault number fault (source.old.unread ++ xs))) }
     ensures outside { IfErr result (IsReadingFault number) }
-    ensures begun { result ≡ Result.Err ScriptFault.Read → Left (R.remaining reader.old) (R.remaining reader.new) (λ xs ys. IsBegun (source.old.unread ++ xs) (source.new.unread ++ ys)) }
+    ensures begun { result ≡ Result.Err ScriptFault.Read
+        → Left (R.remaining reader.old) (R.remaining reader.new)
+        (λ xs ys. IsBegun (source.old.unread ++ xs) (source.new.unread ++ ys)) }
     ensures emptied { result ≡ Result.Err ScriptFault.Read → source.new.unread ≡ [] }
     ensures reads { source.new.reads_left ≤ source.old.reads_left }
     ensures fewer { OnOk result (bytes_left source.new < bytes_left source.old) }
     ensures unasked { source.new.reads_left ≡ source.old.reads_left → reader.new ≡ reader.old }
-    ensures spent { source.old.unread ≡ [] → source.old.reads_left ≡ 0 → (result ≡ Result.Err ScriptFault.Read) × (source.new ≡ source.old) × (reader.new ≡ reader.old) }
+    ensures spent { source.old.unread ≡ [] → source.old.reads_left ≡ 0 → (result ≡ Result.Err ScriptFault.Read)
+        × (source.new ≡ source.old) × (reader.new ≡ reader.old) }
 {
     let mut line = Vec::new(alloc);
     loop {
@@ -220,15 +229,21 @@ pub fn next_line<R: Read>(
     reader: &mut R,
     number: u64,
 ) -> Result<Piece, ScriptFault>
-    ensures piece { IfOk result (λ piece. Left (R.remaining reader.old) (R.remaining reader.new) (λ xs ys. GivesPiece piece (source.old.unread ++ xs) (source.new.unread ++ ys))) }
-    ensures fault { IfErr result (λ fault. Known (R.remaining reader.old) (λ xs. IsLineFault number fault (source.old.unread ++ xs))) }
+    ensures piece { IfOk result
+        (λ piece. Left (R.remaining reader.old) (R.remaining reader.new)
+        (λ xs ys. GivesPiece piece (source.old.unread ++ xs) (source.new.unread ++ ys))) }
+    ensures fault { IfErr result
+        (λ fault. Known (R.remaining reader.old) (λ xs. IsLineFault number fault (source.old.unread ++ xs))) }
     ensures outside { IfErr result (IsReadingFault number) }
-    ensures begun { result ≡ Result.Err ScriptFault.Read → Left (R.remaining reader.old) (R.remaining reader.new) (λ xs ys. IsBegun (source.old.unread ++ xs) (source.new.unread ++ ys)) }
+    ensures begun { result ≡ Result.Err ScriptFault.Read
+        → Left (R.remaining reader.old) (R.remaining reader.new)
+        (λ xs ys. IsBegun (source.old.unread ++ xs) (source.new.unread ++ ys)) }
     ensures emptied { result ≡ Result.Err ScriptFault.Read → source.new.unread ≡ [] }
     ensures reads { source.new.reads_left ≤ source.old.reads_left }
     ensures fewer { OnOk result (bytes_left source.new < bytes_left source.old) }
     ensures unasked { source.new.reads_left ≡ source.old.reads_left → reader.new ≡ reader.old }
-    ensures spent { source.old.unread ≡ [] → source.old.reads_left ≡ 0 → (result ≡ Result.Err ScriptFault.Read) × (source.new ≡ source.old) × (reader.new ≡ reader.old) }
+    ensures spent { source.old.unread ≡ [] → source.old.reads_left ≡ 0 → (result ≡ Result.Err ScriptFault.Read)
+        × (source.new ≡ source.old) × (reader.new ≡ reader.old) }
 {
     if let Some(end) = first_feed(source.unread()) {
         let text = text_of(alloc, &source.unread()[..end], number);
@@ -249,7 +264,8 @@ pub fn next_line<R: Read>(
 /// A front of the bytes is then written.
 pub fn write_out<W: Write>(writer: &mut W, bytes: &[u8]) -> Result<(), ScriptFault>
     ensures all { OnOk result (Appends (W.contents writer.old) (W.contents writer.new) bytes.now) }
-    ensures unfinished { OnErr result ((n : ℕ) × (n < length bytes.now) × Appends (W.contents writer.old) (W.contents writer.new) (take n bytes.now)) }
+    ensures unfinished { OnErr result
+        ((n : ℕ) × (n < length bytes.now) × Appends (W.contents writer.old) (W.contents writer.new) (take n bytes.now)) }
     ensures write { OnErr result (result ≡ Result.Err ScriptFault.Write) }
 {
     let mut written = 0;

@@ -24,7 +24,8 @@ use Rattle.desk_messages.specs.Commands.{MayBeMade, CarriesOut, DoesMeant, Does}
 use Rattle.desk_messages.specs.Images.{ShowBugs}
 
 -- after the two questions
-pub shown : (d d1 d2 : Desk) (images sets : List SetImage) (next : ℕ) (ns : List ℕ) → sets ≡ images → ShowBugs d ns images × (d1 ≡ d) → (next ≡ d1.next) × (d2 ≡ d1) → IsSound d2 → IsShownBy d2 sets next ns
+pub shown : (d d1 d2 : Desk) (images sets : List SetImage) (next : ℕ) (ns : List ℕ) → sets ≡ images → ShowBugs d ns images
+    × (d1 ≡ d) → (next ≡ d1.next) × (d2 ≡ d1) → IsSound d2 → IsShownBy d2 sets next ns
 shown d d1 d2 images sets next ns f p q sound =
     let same : d ≡ d2 = sym (q.1 ∙ p.1) in
     let s : ShowBugs d2 ns images = subst (λ (z : Desk). ShowBugs z ns images) same p.0 in
@@ -32,7 +33,9 @@ shown d d1 d2 images sets next ns f p q sound =
     record { sound = sound; next_is = sym (q.0 ∙ ap (λ (z : Desk). z.next) (sym q.1)); sets = t.sets; known = t.known }
 
 -- what is planned may be carried out
-pub planned : (d : Desk) (images : List SetImage) (next : ℕ) (ns : List ℕ) (change : Change) → IsShownBy d images next ns → FitsDesk d change → CoverImages images change.images → BringNone d images change.images → next ≤ change.next → MayBeMade d images next change
+pub planned : (d : Desk) (images : List SetImage) (next : ℕ) (ns : List ℕ) (change : Change) → IsShownBy d images next ns
+    → FitsDesk d change → CoverImages images change.images → BringNone d images change.images → next ≤ change.next
+    → MayBeMade d images next change
 planned d images next ns change sh fits covers brings later = record {
   next_is = sh.next_is;
   fits = fits;
@@ -47,7 +50,8 @@ planned d images next ns change sh fits covers brings later = record {
 }
 
 done : (sender : List ℕ) (d d1 d2 new : Desk) (command : Command ℕ) (change : Change) (outcome : Outcome) → d1 ≡ d → d2 ≡ d1
-    → step d2 sender command ≡ Ok (put d2 change) → (outcome ≡ Changed (changed_numbers d2 (put d2 change))) × (new ≡ put d2 change) → outcome_of d (step d sender command) ≡ (outcome, new)
+    → step d2 sender command ≡ Ok (put d2 change) → (outcome ≡ Changed (changed_numbers d2 (put d2 change)))
+    × (new ≡ put d2 change) → outcome_of d (step d sender command) ≡ (outcome, new)
 done sender d d1 d2 new command change outcome p q s c =
     let same : d ≡ d2 = sym (q ∙ p) in
     ap (λ (z : Desk). outcome_of z (step z sender command)) same
@@ -55,14 +59,16 @@ done sender d d1 d2 new command change outcome p q s c =
     ∙ (λ i. (sym c.0 i, sym c.1 i)))
 
 -- a planned change that is carried out
-pub does_planned : (sender : List ℕ) (d d1 d2 new : Desk) (command : Command ℕ) (change : Change) (result : Result Outcome StoreFault) → d1 ≡ d → d2 ≡ d1
+pub does_planned : (sender : List ℕ) (d d1 d2 new : Desk) (command : Command ℕ) (change : Change)
+    (result : Result Outcome StoreFault) → d1 ≡ d → d2 ≡ d1
     → step d2 sender command ≡ Ok (put d2 change) → CarriesOut d2 change result new → DoesMeant sender d command result new
 does_planned sender d d1 d2 new command change (Ok outcome) p q s c = done sender d d1 d2 new command change outcome p q s c
 does_planned sender d d1 d2 new command change (Err fault) p q s c = c ∙ (q ∙ p)
 
 -- a refused command
 pub does_refused : (sender : List ℕ) (d d1 d2 : Desk) (command : Command ℕ) (refusal said : Refusal) → d1 ≡ d → d2 ≡ d1
-    → step d2 sender command ≡ Err refusal → said ≡ refusal_meant refusal → outcome_of d (step d sender command) ≡ (Refused said, d2)
+    → step d2 sender command ≡ Err refusal → said ≡ refusal_meant refusal
+    → outcome_of d (step d sender command) ≡ (Refused said, d2)
 does_refused sender d d1 d2 command refusal said p q s c =
     let same : d ≡ d2 = sym (q ∙ p) in
     ap (λ (z : Desk). outcome_of z (step z sender command)) same
@@ -70,17 +76,21 @@ does_refused sender d d1 d2 command refusal said p q s c =
     ∙ (λ i. (Refused (sym c i), d2)))
 
 -- a command of the bugs that are meant is the line's
-pub does_meant : (sender : List ℕ) (d new : Desk) (command : Command Named) (meant : Command ℕ) (result : Result Outcome StoreFault) → meant ≡ command_meant [] command → DoesMeant sender d meant result new → Does sender d command result new
+pub does_meant : (sender : List ℕ) (d new : Desk) (command : Command Named) (meant : Command ℕ)
+    (result : Result Outcome StoreFault) → meant ≡ command_meant [] command → DoesMeant sender d meant result new
+    → Does sender d command result new
 unfolding does
 does_meant sender d new command meant (Ok outcome) e h = ap (λ (x : Command ℕ). outcome_of d (step d sender x)) (sym e) ∙ h
 does_meant sender d new command meant (Err fault) e h = h
 
 -- the numbers of a planned change are those at which the desks differ
 pub told : {d : Desk} (images sets : List SetImage) {next : ℕ} {change : Change} {numbers : List ℕ} → sets ≡ change.images
-    → ((d : Desk) (next : ℕ) → Replaces d images sets next → numbers ≡ changed_numbers d (put d (record { images = sets; next = next })))
+    → ((d : Desk) (next : ℕ) → Replaces d images sets next
+    → numbers ≡ changed_numbers d (put d (record { images = sets; next = next })))
     → MayBeMade d images next change → Changed numbers ≡ Changed (changed_numbers d (put d change))
 told {d} images sets {next} {change} {numbers} e right p =
-    ap Changed (right d change.next (subst (λ js. Replaces d images js change.next) (sym e) p.replaces) ∙ ap (λ js. changed_numbers d (put d (record { images = js; next = change.next }))) e)
+    ap Changed (right d change.next (subst (λ js. Replaces d images js change.next) (sym e) p.replaces)
+    ∙ ap (λ js. changed_numbers d (put d (record { images = js; next = change.next }))) e)
 
 -- a list of no number
 pub nothing : (shown numbers : List ℕ) → shown ≡ numbers → (length shown == 0) ≡ true → numbers ≡ []
@@ -88,7 +98,8 @@ nothing [] numbers e t = sym e
 nothing (n ∷ ns) numbers e t = let none : length (n ∷ ns) ≡ 0 = eqb-true (length (n ∷ ns)) 0 t in absurd (omega arith)
 
 -- a change of nothing leaves the desk as it is
-pub unchanged : (d : Desk) (images sets : List SetImage) (next : ℕ) (change : Change) (numbers : List ℕ) → sets ≡ change.images → AreChanged (bug_in images) (bug_in sets) numbers
+pub unchanged : (d : Desk) (images sets : List SetImage) (next : ℕ) (change : Change) (numbers : List ℕ) → sets ≡ change.images
+    → AreChanged (bug_in images) (bug_in sets) numbers
     → MayBeMade d images next change → numbers ≡ [] → change.next ≡ next → put d change ≡ d
 unchanged d images sets next change numbers e a p none same =
     let b = subst (λ js. AreChanged (bug_in images) (bug_in js) numbers) e a in

@@ -1,5 +1,6 @@
 -- Images gathered one after another stay sets of the desk, and apart.
-use Rattle.std.proofs.Common.{◌≡◌, ◌<◌, ◌+◌, ℕ, Bool, true, false, ◌||◌, eqb, List, [], ◌∷◌, ◌++◌, take, drop, get_or, length, arith, cond, Option, Some, None, sym, refl, ap, ◌∙◌, subst}
+use Rattle.std.proofs.Common.{◌≡◌, ◌<◌, ◌+◌, ℕ, Bool, true, false, ◌||◌, eqb, List, [], ◌∷◌, ◌++◌, take, drop, get_or, length}
+use Rattle.std.proofs.Common.{arith, cond, Option, Some, None, sym, refl, ap, ◌∙◌, subst}
 use Rattle.std.specs.BTreeSet.{BTreeSet, contains}
 use Rattle.std.specs.Ordering.{is_eq, nat_cmp}
 use Rattle.std.specs.Prelude.{option_map, if◌then◌else◌}
@@ -14,15 +15,18 @@ use Rattle.bug_record.specs.Plans.{AllKnown}
 use Rattle.bug_record.specs.declared.bug.Bug.{Bug}
 use Rattle.bug_record.specs.declared.bug.Member.{Member}
 use Rattle.bug_record.specs.declared.bug.SetImage.{SetImage}
-use Rattle.bug_core.proofs.ImageLemmas.{none_left, none_right, none_map, has-member_none, no_member-has, bug_in-append, bug_in-merged, shown}
+use Rattle.bug_core.proofs.ImageLemmas.{none_left, none_right, none_map, has-member_none, no_member-has, bug_in-append}
+use Rattle.bug_core.proofs.ImageLemmas.{bug_in-merged, shown}
 use Rattle.desk_store.specs.Store.{IsImageOf}
 use Rattle.desk_messages.specs.Images.{is_gathered, meets, Lists, Gather}
 
 -- a member that is a bug of the desk
-member_shown : (d : Desk) (i : SetImage) (ms : List Member) (n : ℕ) → has (numbers_of ms) n ≡ true → Each (λ m. d.bug m.number ≡ Some (bug_of i m)) ms → option_or (option_map (bug_of i) (member_at ms n)) None ≡ d.bug n
+member_shown : (d : Desk) (i : SetImage) (ms : List Member) (n : ℕ) → has (numbers_of ms) n ≡ true
+    → Each (λ m. d.bug m.number ≡ Some (bug_of i m)) ms → option_or (option_map (bug_of i) (member_at ms n)) None ≡ d.bug n
 member_shown d i [] n h e = absurd (false≢true h)
 member_shown d i (m ∷ ms) n h e =
-    elim (eqb m.number n) as (λ t. eqb m.number n ≡ t → option_or (option_map (bug_of i) (if t then Some m else member_at ms n)) None ≡ d.bug n) [
+    elim (eqb m.number n) as (λ t. eqb m.number n ≡ t
+    → option_or (option_map (bug_of i) (if t then Some m else member_at ms n)) None ≡ d.bug n) [
       | true ↦ λ q. sym e.0 ∙ ap d.bug (eqb-true m.number n q)
       | false ↦ λ q. member_shown d i ms n (sym (ap (λ t. t || has (numbers_of ms) n) q) ∙ h) e.1
     ] refl
@@ -32,17 +36,22 @@ not_gathered : (images : List SetImage) (n : ℕ) → is_gathered images n ≡ f
 not_gathered [] n h = refl
 not_gathered (i ∷ is) n h =
     let p = or_parts (has (numbers_of i.members) n) (is_gathered is n) h in
-    ap (λ (o : Option Member). option_or (option_map (bug_of i) o) (bug_in is n)) (no_member-has i.members n p.0) ∙ not_gathered is n p.1
+    ap (λ (o : Option Member). option_or (option_map (bug_of i) o) (bug_in is n)) (no_member-has i.members n p.0)
+    ∙ not_gathered is n p.1
 
 gathered : (images : List SetImage) (n : ℕ) → is_gathered images n ≡ true → bug_in images n ≡ None → ⊥
 gathered [] n h e = false≢true h
 gathered (i ∷ is) n h e =
     elim (has (numbers_of i.members) n) as (λ t. has (numbers_of i.members) n ≡ t → (t || is_gathered is n) ≡ true → ⊥) [
-      | true ↦ λ q h. false≢true (sym (has-member_none i.members n (none_map (bug_of i) (member_at i.members n) (none_left (option_map (bug_of i) (member_at i.members n)) (bug_in is n) e))) ∙ q)
+      | true ↦ λ q h. false≢true
+          (sym (has-member_none i.members n
+          (none_map (bug_of i) (member_at i.members n)
+          (none_left (option_map (bug_of i) (member_at i.members n)) (bug_in is n) e))) ∙ q)
       | false ↦ λ q h. gathered is n h (none_right (option_map (bug_of i) (member_at i.members n)) (bug_in is n) e)
     ] refl h
 
-shown_as_there : (d : Desk) (images : List SetImage) (n : ℕ) → AreSetsOf d images → is_gathered images n ≡ true → bug_in images n ≡ d.bug n
+shown_as_there : (d : Desk) (images : List SetImage) (n : ℕ) → AreSetsOf d images → is_gathered images n ≡ true
+    → bug_in images n ≡ d.bug n
 shown_as_there d images n sets h = cases (bug_in images n) refl
   where
     cases : (o : Option Bug) → bug_in images n ≡ o → bug_in images n ≡ d.bug n
@@ -50,7 +59,8 @@ shown_as_there d images n sets h = cases (bug_in images n) refl
     cases (Some b) e = e ∙ sym (shown d images sets n b e)
 
 -- members that meet no image are in none
-unmet : (images : List SetImage) (ms : List Member) → meets (is_gathered images) ms ≡ false → (k : ℕ) → has (numbers_of ms) k ≡ true → bug_in images k ≡ None
+unmet : (images : List SetImage) (ms : List Member) → meets (is_gathered images) ms ≡ false → (k : ℕ)
+    → has (numbers_of ms) k ≡ true → bug_in images k ≡ None
 unmet images [] h k e = absurd (false≢true e)
 unmet images (m ∷ ms) h k e =
     let p = or_parts (is_gathered images m.number) (meets (is_gathered images) ms) h in
@@ -61,11 +71,13 @@ unmet images (m ∷ ms) h k e =
 
 -- sets of one desk that share a bug are the same: a bug that is in no image is in none that meets
 -- one of them
-met : (d : Desk) (images : List SetImage) (i : SetImage) (n : ℕ) → AreSetsOf d images → bug_in images n ≡ None → has (numbers_of i.members) n ≡ true
+met : (d : Desk) (images : List SetImage) (i : SetImage) (n : ℕ) → AreSetsOf d images → bug_in images n ≡ None
+    → has (numbers_of i.members) n ≡ true
     → (ms : List Member) → Each (λ m. d.bug m.number ≡ Some (bug_of i m)) ms → meets (is_gathered images) ms ≡ true → ⊥
 met d images i n sets none own [] each h = false≢true h
 met d images i n sets none own (m ∷ ms) each h =
-    elim (is_gathered images m.number) as (λ t. is_gathered images m.number ≡ t → (t || meets (is_gathered images) ms) ≡ true → ⊥) [
+    elim (is_gathered images m.number) as (λ t. is_gathered images m.number ≡ t → (t || meets (is_gathered images) ms) ≡ true
+    → ⊥) [
       | true ↦ λ q h. bug_in-merged images m.number n (bug_of i m) (shown_as_there d images m.number sets q ∙ each.0) own none
       | false ↦ λ q h. met d images i n sets none own ms each.1 h
     ] refl h
@@ -75,19 +87,28 @@ sets-more : (d : Desk) (images : List SetImage) (i : SetImage) → AreSetsOf d i
 sets-more d [] i h k = (k, tt)
 sets-more d (j ∷ images) i h k = (h.0, sets-more d images i h.1 k)
 
-none_with : (images : List SetImage) (i : SetImage) (n : ℕ) → bug_in images n ≡ None → member_at i.members n ≡ None → bug_in (images ++ i ∷ []) n ≡ None
+none_with : (images : List SetImage) (i : SetImage) (n : ℕ) → bug_in images n ≡ None → member_at i.members n ≡ None
+    → bug_in (images ++ i ∷ []) n ≡ None
 none_with images i n e f =
-    bug_in-append images (i ∷ []) n ∙ ap (λ (o : Option Bug). option_or o (bug_in (i ∷ []) n)) e ∙ ap (λ (o : Option Member). option_or (option_map (bug_of i) o) None) f
+    bug_in-append images (i ∷ []) n ∙ ap (λ (o : Option Bug). option_or o (bug_in (i ∷ []) n)) e
+    ∙ ap (λ (o : Option Member). option_or (option_map (bug_of i) o) None) f
 
-pub apart-more : (images : List SetImage) (i : SetImage) → AreApart images → meets (is_gathered images) i.members ≡ false → AreApart (images ++ i ∷ [])
+pub apart-more : (images : List SetImage) (i : SetImage) → AreApart images → meets (is_gathered images) i.members ≡ false
+    → AreApart (images ++ i ∷ [])
 apart-more images i a h = more images a (unmet images i.members h)
   where
-    lacks : (j : SetImage) (is : List SetImage) (n : ℕ) → ((k : ℕ) → has (numbers_of i.members) k ≡ true → bug_in (j ∷ is) k ≡ None) → has (numbers_of j.members) n ≡ true → (t : Bool) → has (numbers_of i.members) n ≡ t → member_at i.members n ≡ None
+    lacks : (j : SetImage) (is : List SetImage) (n : ℕ)
+        → ((k : ℕ) → has (numbers_of i.members) k ≡ true → bug_in (j ∷ is) k ≡ None) → has (numbers_of j.members) n ≡ true
+        → (t : Bool) → has (numbers_of i.members) n ≡ t → member_at i.members n ≡ None
     lacks j is n u own false q = no_member-has i.members n q
     lacks j is n u own true q =
-        absurd (false≢true (sym (has-member_none j.members n (none_map (bug_of j) (member_at j.members n) (none_left (option_map (bug_of j) (member_at j.members n)) (bug_in is n) (u n q)))) ∙ own))
+        absurd (false≢true (sym
+        (has-member_none j.members n
+        (none_map (bug_of j) (member_at j.members n)
+        (none_left (option_map (bug_of j) (member_at j.members n)) (bug_in is n) (u n q)))) ∙ own))
 
-    more : (is : List SetImage) → AreApart is → ((k : ℕ) → has (numbers_of i.members) k ≡ true → bug_in is k ≡ None) → AreApart (is ++ i ∷ [])
+    more : (is : List SetImage) → AreApart is → ((k : ℕ) → has (numbers_of i.members) k ≡ true → bug_in is k ≡ None)
+        → AreApart (is ++ i ∷ [])
     more [] a u = (λ n e. refl, tt)
     more (j ∷ is) a u = (
       λ n own. none_with is i n (a.0 n own) (lacks j is n u own (has (numbers_of i.members) n) refl),
@@ -95,24 +116,30 @@ apart-more images i a h = more images a (unmet images i.members h)
     )
 
 -- what an image more shows
-shows-more : (d : Desk) (images : List SetImage) (i : SetImage) (m : ℕ) → IsSetOf d i → bug_in images m ≡ d.bug m → bug_in (images ++ i ∷ []) m ≡ d.bug m
+shows-more : (d : Desk) (images : List SetImage) (i : SetImage) (m : ℕ) → IsSetOf d i → bug_in images m ≡ d.bug m
+    → bug_in (images ++ i ∷ []) m ≡ d.bug m
 shows-more d images i m merged h = bug_in-append images (i ∷ []) m ∙ cases (bug_in images m) refl (bug_in (i ∷ []) m) refl
   where
-    cases : (o : Option Bug) → bug_in images m ≡ o → (p : Option Bug) → bug_in (i ∷ []) m ≡ p → option_or (bug_in images m) (bug_in (i ∷ []) m) ≡ d.bug m
+    cases : (o : Option Bug) → bug_in images m ≡ o → (p : Option Bug) → bug_in (i ∷ []) m ≡ p
+        → option_or (bug_in images m) (bug_in (i ∷ []) m) ≡ d.bug m
     cases (Some b) e p q = ap (λ (o : Option Bug). option_or o (bug_in (i ∷ []) m)) e ∙ sym e ∙ h
     cases None e None q = ap (λ (o : Option Bug). option_or o (bug_in (i ∷ []) m)) e ∙ q ∙ sym e ∙ h
-    cases None e (Some b) q = ap (λ (o : Option Bug). option_or o (bug_in (i ∷ []) m)) e ∙ q ∙ sym (shown d (i ∷ []) (merged, tt) m b q)
+    cases None e (Some b) q =
+        ap (λ (o : Option Bug). option_or o (bug_in (i ∷ []) m)) e ∙ q ∙ sym (shown d (i ∷ []) (merged, tt) m b q)
 
 -- what is gathered for one bug: nothing, where it is in an image
 pub gather-there : (d : Desk) (images : List SetImage) (n : ℕ) → is_gathered images n ≡ true → Gather d (n ∷ []) images images
 gather-there d images n h = record { sets = λ b. b; known = λ b. (shown_as_there d images n b h, tt); stays = λ b m e. e }
 
 -- nothing, where there is no such bug
-pub gather-none : (d : Desk) (images : List SetImage) (n : ℕ) → is_gathered images n ≡ false → IsImageOf d n None → Gather d (n ∷ []) images images
-gather-none d images n h none = record { sets = λ b. b; known = λ b. (not_gathered images n h ∙ sym none, tt); stays = λ b m e. e }
+pub gather-none : (d : Desk) (images : List SetImage) (n : ℕ) → is_gathered images n ≡ false → IsImageOf d n None
+    → Gather d (n ∷ []) images images
+gather-none d images n h none =
+    record { sets = λ b. b; known = λ b. (not_gathered images n h ∙ sym none, tt); stays = λ b m e. e }
 
 -- an image that meets the others is no set of this desk
-pub gather-met : (d : Desk) (images : List SetImage) (n : ℕ) (i : SetImage) → is_gathered images n ≡ false → IsImageOf d n (Some i) → meets (is_gathered images) i.members ≡ true → Gather d (n ∷ []) images images
+pub gather-met : (d : Desk) (images : List SetImage) (n : ℕ) (i : SetImage) → is_gathered images n ≡ false
+    → IsImageOf d n (Some i) → meets (is_gathered images) i.members ≡ true → Gather d (n ∷ []) images images
 gather-met d images n i h is t = record {
   sets = λ b. b;
   known = λ b. absurd (met d images i n b (not_gathered images n h) is.0 i.members is.1 t);
@@ -120,22 +147,30 @@ gather-met d images n i h is t = record {
 }
 
 -- the image of its set
-pub gather-one : (d : Desk) (images : List SetImage) (n : ℕ) (i : SetImage) → is_gathered images n ≡ false → IsImageOf d n (Some i) → Gather d (n ∷ []) images (images ++ i ∷ [])
+pub gather-one : (d : Desk) (images : List SetImage) (n : ℕ) (i : SetImage) → is_gathered images n ≡ false
+    → IsImageOf d n (Some i) → Gather d (n ∷ []) images (images ++ i ∷ [])
 gather-one d images n i h is = record {
   sets = λ b. sets-more d images i b is.1;
-  known = λ b. (bug_in-append images (i ∷ []) n ∙ ap (λ (o : Option Bug). option_or o (bug_in (i ∷ []) n)) (not_gathered images n h) ∙ member_shown d i i.members n is.0 is.1, tt);
+  known = λ b. (
+    bug_in-append images (i ∷ []) n
+        ∙ ap (λ (o : Option Bug). option_or o (bug_in (i ∷ []) n)) (not_gathered images n h)
+        ∙ member_shown d i i.members n is.0 is.1,
+    tt,
+  );
   stays = λ b m e. shows-more d images i m is.1 e;
 }
 
 -- and for bugs after bugs
-pub gather-both : (d : Desk) (ns ms : List ℕ) (first second third : List SetImage) → Gather d ns first second → Gather d ms second third → Gather d (ns ++ ms) first third
+pub gather-both : (d : Desk) (ns ms : List ℕ) (first second third : List SetImage) → Gather d ns first second
+    → Gather d ms second third → Gather d (ns ++ ms) first third
 gather-both d ns ms first second third g h = record {
   sets = λ b. h.sets (g.sets b);
   known = λ b. all ns (g.known b) (h.stays (g.sets b)) (h.known (g.sets b));
   stays = λ b m e. h.stays (g.sets b) m (g.stays b m e);
 }
   where
-    all : (ns : List ℕ) → AllKnown d second ns → ((m : ℕ) → bug_in second m ≡ d.bug m → bug_in third m ≡ d.bug m) → AllKnown d third ms → AllKnown d third (ns ++ ms)
+    all : (ns : List ℕ) → AllKnown d second ns → ((m : ℕ) → bug_in second m ≡ d.bug m → bug_in third m ≡ d.bug m)
+        → AllKnown d third ms → AllKnown d third (ns ++ ms)
     all [] k stays l = l
     all (n ∷ ns) k stays l = (stays n k.0, all ns k.1 stays l)
 
@@ -159,29 +194,35 @@ or_after false true c = refl
 or_after false false c = refl
 
 -- an image more
-pub lists-more : (bugs new : ℕ → Bool) (images : List SetImage) (i : SetImage) → Lists bugs images → ((n : ℕ) → new n ≡ (has (numbers_of i.members) n || bugs n))
+pub lists-more : (bugs new : ℕ → Bool) (images : List SetImage) (i : SetImage) → Lists bugs images
+    → ((n : ℕ) → new n ≡ (has (numbers_of i.members) n || bugs n))
     → Lists new (images ++ i ∷ [])
 lists-more bugs new images i l h n = h n ∙ ap (λ t. has (numbers_of i.members) n || t) (l n) ∙ more images
   where
     more : (is : List SetImage) → (has (numbers_of i.members) n || is_gathered is n) ≡ is_gathered (is ++ i ∷ []) n
     more [] = refl
-    more (j ∷ is) = or_after (has (numbers_of i.members) n) (has (numbers_of j.members) n) (is_gathered is n) ∙ turn (has (numbers_of j.members) n) (more is)
+    more (j ∷ is) = or_after (has (numbers_of i.members) n) (has (numbers_of j.members) n) (is_gathered is n)
+        ∙ turn (has (numbers_of j.members) n) (more is)
       where
         turn : (b : Bool) → (has (numbers_of i.members) n || is_gathered is n) ≡ is_gathered (is ++ i ∷ []) n
             → ((b || has (numbers_of i.members) n) || is_gathered is n) ≡ (b || is_gathered (is ++ i ∷ []) n)
         turn true e = refl
         turn false e = e
 
-pub meets-listed : (bugs : ℕ → Bool) (images : List SetImage) → Lists bugs images → (ms : List Member) → meets bugs ms ≡ meets (is_gathered images) ms
+pub meets-listed : (bugs : ℕ → Bool) (images : List SetImage) → Lists bugs images → (ms : List Member)
+    → meets bugs ms ≡ meets (is_gathered images) ms
 meets-listed bugs images l [] = refl
-meets-listed bugs images l (m ∷ ms) = ap (λ t. t || meets bugs ms) (l m.number) ∙ ap (λ t. is_gathered images m.number || t) (meets-listed bugs images l ms)
+meets-listed bugs images l (m ∷ ms) =
+    ap (λ t. t || meets bugs ms) (l m.number) ∙ ap (λ t. is_gathered images m.number || t) (meets-listed bugs images l ms)
 
 -- a number more
 pub number-more : (old new : BTreeSet ℕ) (ms : List Member) (k : ℕ) (m : Member) → k < length ms → m ≡ get_or ms k m
     → ((n : ℕ) → contains nat_cmp new n ≡ cond (is_eq (nat_cmp m.number n)) true (contains nat_cmp old n))
-    → (n : ℕ) → (has (numbers_of (drop (k + 1) ms)) n || contains nat_cmp new n) ≡ (has (numbers_of (drop k ms)) n || contains nat_cmp old n)
+    → (n : ℕ) → (has (numbers_of (drop (k + 1) ms)) n || contains nat_cmp new n)
+    ≡ (has (numbers_of (drop k ms)) n || contains nat_cmp old n)
 number-more old new ms k m l e u n =
-    ap (λ t. has (numbers_of (drop (k + 1) ms)) n || t) (u n ∙ ap (λ t. cond t true (contains nat_cmp old n)) (is_eq-same m.number n))
+    ap (λ t. has (numbers_of (drop (k + 1) ms)) n || t)
+    (u n ∙ ap (λ t. cond t true (contains nat_cmp old n)) (is_eq-same m.number n))
     ∙ moved (eqb m.number n) (has (numbers_of (drop (k + 1) ms)) n) (contains nat_cmp old n)
     ∙ ap (λ (z : Member). (eqb z.number n || has (numbers_of (drop (k + 1) ms)) n) || contains nat_cmp old n) e
     ∙ sym (ap (λ t. t || contains nat_cmp old n) (at_drop_more (λ (z : List Member). has (numbers_of z) n) ms k m l))

@@ -1,5 +1,6 @@
 -- The machine over lists of lines.
-use Rattle.std.proofs.Common.{◌≡◌, ℕ, ◌<◌, ◌+◌, List, [], ◌∷◌, ◌++◌, length, get_or, take, drop, sym, ◌∙◌, ap, subst, refl, true, false, Result, Ok}
+use Rattle.std.proofs.Common.{◌≡◌, ℕ, ◌<◌, ◌+◌, List, [], ◌∷◌, ◌++◌, length, get_or, take, drop, sym, ◌∙◌, ap, subst, refl, true}
+use Rattle.std.proofs.Common.{false, Result, Ok}
 use Rattle.std.proofs.lemmas.List.{take_more, take-append-drop}
 use Rattle.bug_record.specs.Desk.{Desk}
 use Rattle.bug_record.specs.declared.command.Command.{Command}
@@ -12,21 +13,26 @@ use Rattle.desk_text.specs.declared.outcome.Outcome.{Outcome}
 use Rattle.desk_text.specs.declared.outcome.End.{End}
 use Rattle.desk_text.specs.declared.outcome.End.TheVariants as ends
 use Rattle.desk_store.specs.Store.{Faults}
-use Rattle.desk_store.specs.Message.{Entry, Machine, machine, after_lines, at_start, takes, takes_at, end_of, does, with_outcome, Comes, IsReceived, faults_after_end}
+use Rattle.desk_store.specs.Message.{Entry, Machine, machine, after_lines, at_start, takes, takes_at, end_of, does, with_outcome}
+use Rattle.desk_store.specs.Message.{Comes, IsReceived, faults_after_end}
 use Rattle.desk_messages.specs.Taking.{goes_on}
 use Rattle.desk_messages.specs.Transcripts.{IsLineOf}
 use Rattle.desk_messages.proofs.EndLemmas.{known_names-none, never_store, at_start_open}
 
 -- a command carried out
-pub took_command : (sender line text : List ℕ) (d new : Desk) (before room after : List Entry) (command : Command Named) (outcome : Outcome) (r : Result Line Refusal) → r ≡ Ok (Do command) → does sender [] d command ≡ (outcome, new)
-    → room ≡ before → text ≡ line → after ≡ room ++ (text, outcome) ∷ [] → takes sender (machine d before) line r ≡ machine new after
+pub took_command : (sender line text : List ℕ) (d new : Desk) (before room after : List Entry) (command : Command Named)
+    (outcome : Outcome) (r : Result Line Refusal) → r ≡ Ok (Do command) → does sender [] d command ≡ (outcome, new)
+    → room ≡ before → text ≡ line → after ≡ room ++ (text, outcome) ∷ []
+    → takes sender (machine d before) line r ≡ machine new after
 took_command sender line text d new before room after command outcome r e s same is pushed =
     ap (takes sender (machine d before) line) e
     ∙ (ap (λ (names : List (ℕ × ℕ)). with_outcome (machine d before) line (does sender names d command)) (known_names-none before)
     ∙ (ap (with_outcome (machine d before) line) s
-    ∙ ap (machine new) (ap (λ (x : List ℕ). before ++ (x, outcome) ∷ []) (sym is) ∙ (ap (λ (w : List Entry). w ++ (text, outcome) ∷ []) (sym same) ∙ sym pushed))))
+    ∙ ap (machine new) (ap (λ (x : List ℕ). before ++ (x, outcome) ∷ []) (sym is)
+    ∙ (ap (λ (w : List Entry). w ++ (text, outcome) ∷ []) (sym same) ∙ sym pushed))))
 
-pub after_append : (sender : List ℕ) (m : Machine) (xs ys : List (List ℕ)) → after_lines sender m (xs ++ ys) ≡ after_lines sender (after_lines sender m xs) ys
+pub after_append : (sender : List ℕ) (m : Machine) (xs ys : List (List ℕ))
+    → after_lines sender m (xs ++ ys) ≡ after_lines sender (after_lines sender m xs) ys
 after_append sender m [] ys = refl
 after_append sender m (x ∷ xs) ys = after_append sender (takes_at (end_of m.outcomes) sender m x) xs ys
 
@@ -37,12 +43,16 @@ stays_at ends.TooManyUnreadable sender m x h = refl
 stays_at (ends.Store fault k) sender m x h = refl
 
 -- once it has ended, the machine stays
-pub after_ended : (sender : List ℕ) (m : Machine) (xs : List (List ℕ)) → goes_on (end_of m.outcomes) ≡ false → after_lines sender m xs ≡ m
+pub after_ended : (sender : List ℕ) (m : Machine) (xs : List (List ℕ)) → goes_on (end_of m.outcomes) ≡ false
+    → after_lines sender m xs ≡ m
 after_ended sender m [] h = refl
-after_ended sender m (x ∷ xs) h = ap (λ (n : Machine). after_lines sender n xs) (stays_at (end_of m.outcomes) sender m x h) ∙ after_ended sender m xs h
+after_ended sender m (x ∷ xs) h =
+    ap (λ (n : Machine). after_lines sender n xs) (stays_at (end_of m.outcomes) sender m x h) ∙ after_ended sender m xs h
 
 -- one line more
-pub line_more : (sender : List ℕ) (m : Machine) (lines : List (List ℕ)) (i : ℕ) (line : List ℕ) (n o : Machine) → i < length lines → line ≡ get_or lines i line → end_of n.outcomes ≡ ends.All → after_lines sender m (take i lines) ≡ n → takes sender n line (reading line) ≡ o → after_lines sender m (take (i + 1) lines) ≡ o
+pub line_more : (sender : List ℕ) (m : Machine) (lines : List (List ℕ)) (i : ℕ) (line : List ℕ) (n o : Machine) → i < length lines
+    → line ≡ get_or lines i line → end_of n.outcomes ≡ ends.All → after_lines sender m (take i lines) ≡ n
+    → takes sender n line (reading line) ≡ o → after_lines sender m (take (i + 1) lines) ≡ o
 line_more sender m lines i line n o lt is on e f =
     ap (after_lines sender m) (take_more lines i line lt ∙ ap (λ (x : List ℕ). take i lines ++ x ∷ []) (sym is))
     ∙ (after_append sender m (take i lines) (line ∷ [])
@@ -50,13 +60,17 @@ line_more sender m lines i line n o lt is on e f =
     ∙ (ap (λ (end : End). takes_at end sender n line) on ∙ f)))
 
 -- what it has come to at its end it has come to in all lines
-pub all_ended : (sender : List ℕ) (m : Machine) (lines : List (List ℕ)) (i : ℕ) (n : Machine) → goes_on (end_of n.outcomes) ≡ false → after_lines sender m (take i lines) ≡ n → after_lines sender m lines ≡ n
+pub all_ended : (sender : List ℕ) (m : Machine) (lines : List (List ℕ)) (i : ℕ) (n : Machine)
+    → goes_on (end_of n.outcomes) ≡ false → after_lines sender m (take i lines) ≡ n → after_lines sender m lines ≡ n
 all_ended sender m lines i n h e =
     ap (after_lines sender m) (sym (take-append-drop i lines))
-    ∙ (after_append sender m (take i lines) (drop i lines) ∙ (ap (λ (k : Machine). after_lines sender k (drop i lines)) e ∙ after_ended sender n (drop i lines) h))
+    ∙ (after_append sender m (take i lines) (drop i lines)
+    ∙ (ap (λ (k : Machine). after_lines sender k (drop i lines)) e ∙ after_ended sender n (drop i lines) h))
 
 -- a message that ended is received
-pub received_ended : (sender : List ℕ) (lines : List (List ℕ)) (old new : Desk) (outcomes : List Entry) (end : End) → goes_on end ≡ false → end_of outcomes ≡ end → after_lines sender (at_start old) lines ≡ machine new outcomes → IsReceived sender lines old outcomes end new
+pub received_ended : (sender : List ℕ) (lines : List (List ℕ)) (old new : Desk) (outcomes : List Entry) (end : End)
+    → goes_on end ≡ false → end_of outcomes ≡ end → after_lines sender (at_start old) lines ≡ machine new outcomes
+    → IsReceived sender lines old outcomes end new
 received_ended sender lines old new outcomes ends.All h e a = absurd (cc)
 received_ended sender lines old new outcomes ends.Stopped h e a = record { after = a; end_is = e }
 received_ended sender lines old new outcomes ends.TooManyUnreadable h e a = record { after = a; end_is = e }
@@ -75,21 +89,3 @@ settled_faults es ends.All faults h = refl
 settled_faults es ends.Stopped faults h = refl
 settled_faults es ends.TooManyUnreadable faults h = refl
 settled_faults es (ends.Store fault k) faults h = absurd (never_store es fault k h)
-
--- the text of the line at an index
-pub line_at : (lines : List (List ℕ)) (i : ℕ) (line text : List ℕ) → text ≡ line → line ≡ get_or lines i line → text ≡ get_or lines i text
-line_at lines i line text e is = subst (λ (w : List ℕ). w ≡ get_or lines i w) (sym e) is
-
--- no line taken
-pub comes_to_nothing : (sender : List ℕ) (d : Desk) (outcomes : List Entry) → outcomes ≡ [] → Comes sender [] d outcomes ends.All d
-comes_to_nothing sender d outcomes e = record { after = ap (machine d) (sym e); end_is = ap end_of e ∙ at_start_open }
-
-pub received_nothing : (sender : List ℕ) (lines : List (List ℕ)) (d : Desk) (outcomes : List Entry) → lines ≡ [] → outcomes ≡ [] → Comes sender lines d outcomes ends.All d
-received_nothing sender lines d outcomes e f = subst (λ (w : List (List ℕ)). Comes sender w d outcomes ends.All d) (sym e) (comes_to_nothing sender d outcomes f)
-
--- outcomes never end at a line where the store failed
-pub settled_line : (es : List Entry) (end : End) (lines : List (List ℕ)) → end_of es ≡ end → IsLineOf end lines
-settled_line es ends.All lines h = tt
-settled_line es ends.Stopped lines h = tt
-settled_line es ends.TooManyUnreadable lines h = tt
-settled_line es (ends.Store fault k) lines h = absurd (never_store es fault k h)

@@ -1,5 +1,6 @@
 -- Reports. This project's own rule.
-use Rattle.std.specs.Prelude.{ℕ, ◌≡◌, nat_lt, Bool, true, false, List, Option, Some, None, Result, Ok, Err, is_some, option_map, if◌then◌else◌, ⊤}
+use Rattle.std.specs.Prelude.{ℕ, ◌≡◌, nat_lt, Bool, true, false, List, Option, Some, None, Result, Ok, Err, is_some, option_map}
+use Rattle.std.specs.Prelude.{if◌then◌else◌, ⊤}
 use Rattle.debver.specs.Names.{name_fault}
 use Rattle.debver.specs.Faults.{text_fault}
 use Rattle.ancestry.specs.Nodes.{Node, node}
@@ -41,10 +42,12 @@ node_reported package_name version = option_map (λ v. node package_name v) vers
 
 -- The desk after a report whose words give this: the bug of the next number is new, where a number
 -- is left.
-abbrev pub desk_reported : Result Severity ReportFault → Desk → List ℕ → List ℕ → Option (List ℕ) → List ℕ → Result Desk ReportFault
+abbrev pub desk_reported : Result Severity ReportFault → Desk → List ℕ → List ℕ → Option (List ℕ) → List ℕ
+    → Result Desk ReportFault
 desk_reported (Err fault) d sender package_name version title = Err fault
 desk_reported (Ok severity) d sender package_name version title =
-    if nat_lt d.next 1000000000 then Ok (reported d sender package_name severity title (node_reported package_name version)) else Err Full
+    if nat_lt d.next 1000000000 then Ok (reported d sender package_name severity title (node_reported package_name version))
+    else Err Full
 
 -- the new desk, or the refusal, of a report by this sender
 unfoldable pub report_of : Desk → List ℕ → List ℕ → Option (List ℕ) → List ℕ → List ℕ → Result Desk ReportFault
@@ -54,9 +57,12 @@ report_of d sender package_name version severity title =
 -- What is answered, and the desk after it: the number of the new bug; a refusal, and no change; or,
 -- of a report whose words are good, a fault of the store, and no change.
 abbrev pub IsReported : List ℕ → List ℕ → Option (List ℕ) → List ℕ → List ℕ → Desk → Result ℕ ReportFault → Desk → Type 0
-IsReported sender package_name version severity title old (Ok number) new = (report_of old sender package_name version severity title ≡ Ok new) × (number ≡ old.next)
-IsReported sender package_name version severity title old (Err (Store fault)) new = (s : Severity) × (report_severity package_name version severity title ≡ Ok s) × (new ≡ old)
-IsReported sender package_name version severity title old (Err refusal) new = (report_of old sender package_name version severity title ≡ Err refusal) × (new ≡ old)
+IsReported sender package_name version severity title old (Ok number) new =
+    (report_of old sender package_name version severity title ≡ Ok new) × (number ≡ old.next)
+IsReported sender package_name version severity title old (Err (Store fault)) new =
+    (s : Severity) × (report_severity package_name version severity title ≡ Ok s) × (new ≡ old)
+IsReported sender package_name version severity title old (Err refusal) new =
+    (report_of old sender package_name version severity title ≡ Err refusal) × (new ≡ old)
 
 -- the store's faults after a report
 abbrev pub faults_after_report : Result ℕ ReportFault → Faults → Faults

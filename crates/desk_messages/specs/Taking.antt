@@ -16,6 +16,7 @@ goes_on ends.TooManyUnreadable = false
 goes_on (ends.Store fault k) = false
 
 -- one line that reads so: what the machine does, or a fault and no change
-abbrev pub TakesLine : List ℕ → Desk → List Entry → Desk → List Entry → Result End StoreFault → List ℕ → Result Line Refusal → Type 0
+abbrev pub TakesLine : List ℕ → Desk → List Entry → Desk → List Entry → Result End StoreFault → List ℕ → Result Line Refusal
+    → Type 0
 TakesLine sender d outcomes d' outcomes' (Ok end) line read = takes sender (machine d outcomes) line read ≡ machine d' outcomes'
 TakesLine sender d outcomes d' outcomes' (Err fault) line read = d' ≡ d

@@ -93,7 +93,8 @@ fn make_change<S: Records>(
     requires apart { S.is_kept store.old → S.is_honest store.old → AreApart change.now.images }
     requires members { Each HasMember change.now.images }
     requires planned { S.is_kept store.old → S.is_honest store.old → MayBeMade (S.desk store.old) images.now next change.now }
-    ensures answer { Holds S.is_kept S.is_honest store.old store.new (CarriesOut (S.desk store.old) change.now result (S.desk store.new)) }
+    ensures answer { Holds S.is_kept S.is_honest store.old store.new
+        (CarriesOut (S.desk store.old) change.now result (S.desk store.new)) }
     ensures count { S.faults store.new ≡ faults_after result (S.faults store.old) }
 {
     let Ok(numbers) = changed(alloc, images, change.images.as_slice()) else {
@@ -117,7 +118,8 @@ fn take_meant<S: Records>(
 ) -> Result<Outcome, StoreFault>
     requires sender { IsText from.now }
     requires parts { HasGoodParts command.now }
-    ensures answer { Holds S.is_kept S.is_honest store.old store.new (DoesMeant from.now (S.desk store.old) command.now result (S.desk store.new)) }
+    ensures answer { Holds S.is_kept S.is_honest store.old store.new
+        (DoesMeant from.now (S.desk store.old) command.now result (S.desk store.new)) }
     ensures count { S.faults store.new ≡ faults_after result (S.faults store.old) }
 {
     let images = match images_of(alloc, store, command) {
@@ -145,7 +147,8 @@ pub(crate) fn take_command<S: Records>(
 ) -> Result<Outcome, StoreFault>
     requires sender { IsText from.now }
     requires parts { HasGoodParts command }
-    ensures answer { Holds S.is_kept S.is_honest store.old store.new (Does from.now (S.desk store.old) command result (S.desk store.new)) }
+    ensures answer { Holds S.is_kept S.is_honest store.old store.new
+        (Does from.now (S.desk store.old) command result (S.desk store.new)) }
     ensures count { S.faults store.new ≡ faults_after result (S.faults store.old) }
 {
     match command_meant(alloc, command) {

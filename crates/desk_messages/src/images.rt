@@ -25,7 +25,8 @@ fn meets(bugs: &BTreeSet<u64>, members: &[Member]) -> bool
 
 // Adds the members' numbers.
 fn add_members(bugs: &mut BTreeSet<u64>, members: &[Member]) -> Result<(), AllocError>
-    ensures { OnOk result ((n : ℕ) → contains nat_cmp bugs.new n ≡ (has (numbers_of members.now) n || contains nat_cmp bugs.old n)) }
+    ensures { OnOk result
+        ((n : ℕ) → contains nat_cmp bugs.new n ≡ (has (numbers_of members.now) n || contains nat_cmp bugs.old n)) }
 {
     for member in members {
         bugs.insert(member.number)?;
@@ -70,7 +71,8 @@ fn gather<S: Records>(
     requires apart { AreApart images.old }
     requires bugs { Lists (contains nat_cmp bugs.old) images.old }
     ensures answer { Asks S.is_kept S.is_honest store.old store.new
-        (Answers (S.desk store.old) (S.desk store.new) result (λ _. Gather (S.desk store.old) (number ∷ []) images.old images.new)) }
+        (Answers (S.desk store.old) (S.desk store.new) result
+        (λ _. Gather (S.desk store.old) (number ∷ []) images.old images.new)) }
     ensures apart { OnOk result (AreApart images.new) }
     ensures bugs { OnOk result (Lists (contains nat_cmp bugs.new) images.new) }
     ensures count { S.faults store.new ≡ faults_after result (S.faults store.old) }
@@ -103,7 +105,8 @@ fn gather_all<S: Records>(
     requires apart { AreApart images.old }
     requires bugs { Lists (contains nat_cmp bugs.old) images.old }
     ensures answer { Asks S.is_kept S.is_honest store.old store.new
-        (Answers (S.desk store.old) (S.desk store.new) result (λ _. Gather (S.desk store.old) numbers.now images.old images.new)) }
+        (Answers (S.desk store.old) (S.desk store.new) result
+        (λ _. Gather (S.desk store.old) numbers.now images.old images.new)) }
     ensures apart { OnOk result (AreApart images.new) }
     ensures count { S.faults store.new ≡ faults_after result (S.faults store.old) }
 {

@@ -55,10 +55,7 @@ fn unreadable_lines(outcome: &Outcome) -> u64
 }
 
 // Makes room for an outcome, and copies its line.
-fn make_room(
-    outcomes: &mut Vec<(Text, Outcome)>,
-    line: &Text,
-) -> Result<Text, StoreFault>
+fn make_room(outcomes: &mut Vec<(Text, Outcome)>, line: &Text) -> Result<Text, StoreFault>
     ensures same { outcomes.new.items ≡ outcomes.old.items }
     ensures room { OnOk result (vec_len outcomes.new < vec_capacity outcomes.new) }
     ensures text { IfOk result (λ text. text ≡ line.now) }
@@ -103,11 +100,7 @@ fn settle(progress: &mut Progress, text: Text, outcome: Outcome) -> End
 }
 
 // Answers a line with an outcome that changes no bug, and says whether it ends the message.
-fn answer_line(
-    progress: &mut Progress,
-    line: &Text,
-    outcome: Outcome,
-) -> Result<End, StoreFault>
+fn answer_line(progress: &mut Progress, line: &Text, outcome: Outcome) -> Result<End, StoreFault>
     requires counted { progress.old.unreadable ≡ unreadable_count progress.old.outcomes.items }
     requires goes_on { end_of progress.old.outcomes.items ≡ End.All }
     ensures added { OnOk result (progress.new.outcomes.items ≡ progress.old.outcomes.items ++ (line.now, outcome) ∷ []) }
@@ -137,7 +130,8 @@ fn take_command_line<S: Records>(
     requires counted { progress.old.unreadable ≡ unreadable_count progress.old.outcomes.items }
     requires goes_on { end_of progress.old.outcomes.items ≡ End.All }
     ensures answer { Holds S.is_kept S.is_honest store.old store.new (TakesLine from.now
-        (S.desk store.old) progress.old.outcomes.items (S.desk store.new) progress.new.outcomes.items result line.now (Ok (Do command))) }
+        (S.desk store.old) progress.old.outcomes.items (S.desk store.new) progress.new.outcomes.items result line.now
+        (Ok (Do command))) }
     ensures count { S.faults store.new ≡ faults_after result (S.faults store.old) }
     ensures counted { progress.new.unreadable ≡ unreadable_count progress.new.outcomes.items }
     ensures end { IfOk result (λ end. end_of progress.new.outcomes.items ≡ end) }
@@ -165,7 +159,8 @@ fn take_message_line<S: Records>(
     requires counted { progress.old.unreadable ≡ unreadable_count progress.old.outcomes.items }
     requires goes_on { end_of progress.old.outcomes.items ≡ End.All }
     ensures answer { Holds S.is_kept S.is_honest store.old store.new (TakesLine from.now
-        (S.desk store.old) progress.old.outcomes.items (S.desk store.new) progress.new.outcomes.items result line.now (reading line.now)) }
+        (S.desk store.old) progress.old.outcomes.items (S.desk store.new) progress.new.outcomes.items result line.now
+        (reading line.now)) }
     ensures count { S.faults store.new ≡ faults_after result (S.faults store.old) }
     ensures counted { progress.new.unreadable ≡ unreadable_count progress.new.outcomes.items }
     ensures end { IfOk result (λ end. end_of progress.new.outcomes.items ≡ end) }

@@ -6,7 +6,8 @@ ghost use Rattle.debver.specs.Names.{IsName, name_fault};
 ghost use Rattle.debver.specs.Cut.{IsVersion};
 ghost use Rattle.bug_record.specs.Texts.{IsText, IfGiven};
 ghost use Rattle.desk_store.specs.Store.{Holds};
-ghost use Rattle.desk_messages.specs.Reports.{has_bad_version, node_reported, report_severity, IsOfWords, IsReported, faults_after_report};
+ghost use Rattle.desk_messages.specs.Reports.{has_bad_version, node_reported, report_severity, IsOfWords, IsReported};
+ghost use Rattle.desk_messages.specs.Reports.{faults_after_report};
 
 use ancestry::{Node, NodeFault};
 use bug_core::{is_text, report_change};
@@ -103,7 +104,8 @@ pub fn report<S: Records>(
 ) -> Result<u64, ReportFault>
     requires { IsText from.now }
     ensures answer { Holds S.is_kept S.is_honest store.old store.new
-        (IsReported from.now «package».now (option_copied version.entry) severity.now title.now (S.desk store.old) result (S.desk store.new)) }
+        (IsReported from.now «package».now (option_copied version.entry) severity.now title.now (S.desk store.old) result
+        (S.desk store.new)) }
     ensures count { S.faults store.new ≡ faults_after_report result (S.faults store.old) }
 {
     let severity = match report_severity(package, version, severity, title) {

@@ -72,7 +72,8 @@ pub fn received_text(
     received: &Received,
     message: &str,
 ) -> Result<(), AllocError>
-    ensures ok { OnOk result (out.new.items ≡ out.old.items ++ received_text received.now.outcomes received.now.end (lines_of message.now)) }
+    ensures ok { OnOk result
+        (out.new.items ≡ out.old.items ++ received_text received.now.outcomes received.now.end (lines_of message.now)) }
     ensures err { OnErr result (out.new.items ≡ out.old.items) }
 {
     let lines = split_lines(alloc, message)?;

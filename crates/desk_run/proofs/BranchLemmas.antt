@@ -1,5 +1,6 @@
 -- A branch that is carried out in parts.
-use Rattle.std.proofs.Common.{◌≡◌, inl, inr, ℕ, Bool, ◌∷◌, ◌++◌, [], List, Option, Some, None, Result, Ok, Err, true, sym, ◌∙◌, ap, subst, refl, append_assoc, append-nil, false, arith}
+use Rattle.std.proofs.Common.{◌≡◌, inl, inr, ℕ, Bool, ◌∷◌, ◌++◌, [], List, Option, Some, None, Result, Ok, Err, true, sym, ◌∙◌}
+use Rattle.std.proofs.Common.{ap, subst, refl, append_assoc, append-nil, false, arith}
 use Rattle.std.specs.Prelude.{option_map, length, ◌==◌, ◌||◌}
 use Rattle.std.proofs.lemmas.Bool.{false≢true, eqb-true}
 use Rattle.std.proofs.lemmas.Option.{none-some, same_Some}
@@ -16,7 +17,8 @@ use Rattle.desk_text.specs.declared.outcome.StoreFault.TheVariants as faults
 use Rattle.desk_text.specs.Texts.{fault_text}
 use Rattle.desk_store.specs.Store.{Branches, Faults, counted, faults_after}
 use Rattle.desk_run.specs.Branches.{BranchRefusal, BadNode, node_before, nodes_of, or_refused, branched_by, branch_of, AreRead}
-use Rattle.desk_run.specs.Script.{DirectiveLine, Branch, Standing, standing, part_text, part_after, directive_of, branch_text, after_branch}
+use Rattle.desk_run.specs.Script.{DirectiveLine, Branch, Standing, standing, part_text, part_after, directive_of, branch_text}
+use Rattle.desk_run.specs.Script.{after_branch}
 use Rattle.desk_run.specs.Running.{AsksStore, FaultsIn, IsCarried}
 use Rattle.desk_text.specs.Answers.{branch_answer}
 use Rattle.desk_run.specs.Answers.{refuses_branch, fault_of_branch}
@@ -31,8 +33,10 @@ or_true true = refl
 or_true false = refl
 
 -- what a branch of these nodes comes to
-branch_is : (line : List ℕ) (names : List (List ℕ)) (nodes : List Node) (s : Standing) (r : Result Ancestry BranchFault) → directive_of line ≡ Branch names → nodes_of names ≡ Some nodes → branched s.desk.tree nodes ≡ r
-    → (part_text (DirectiveLine line) s ≡ branch_text (or_refused r)) × (part_after (DirectiveLine line) s ≡ after_branch (or_refused r) s)
+branch_is : (line : List ℕ) (names : List (List ℕ)) (nodes : List Node) (s : Standing) (r : Result Ancestry BranchFault)
+    → directive_of line ≡ Branch names → nodes_of names ≡ Some nodes → branched s.desk.tree nodes ≡ r
+    → (part_text (DirectiveLine line) s ≡ branch_text (or_refused r))
+    × (part_after (DirectiveLine line) s ≡ after_branch (or_refused r) s)
 unfolding branch_of
 branch_is line names nodes s r e n h =
     let o = order_is line s (Branch names) e in
@@ -45,9 +49,12 @@ unfolding branch_of
 branch_of_none tree names h = ap (branched_by tree) h
 
 -- with no fault of the store
-pub branch_whole : (line : List ℕ) (names : List (List ℕ)) (nodes : List Node) (s : Standing) (d : Desk) (answer : Result (Result (Unit {0}) BranchFault) StoreFault) (refused : Bool) → directive_of line ≡ Branch names → nodes_of names ≡ Some nodes
+pub branch_whole : (line : List ℕ) (names : List (List ℕ)) (nodes : List Node) (s : Standing) (d : Desk)
+    (answer : Result (Result (Unit {0}) BranchFault) StoreFault) (refused : Bool) → directive_of line ≡ Branch names
+    → nodes_of names ≡ Some nodes
     → fault_of_branch answer ≡ None → refused ≡ (s.refused || refuses_branch answer) → Branches s.desk d answer nodes
-    → (standing d s.sender refused ≡ part_after (DirectiveLine line) s) × (branch_answer answer ≡ part_text (DirectiveLine line) s)
+    → (standing d s.sender refused ≡ part_after (DirectiveLine line) s)
+    × (branch_answer answer ≡ part_text (DirectiveLine line) s)
 branch_whole line names nodes s d (Ok (Ok done)) refused e n f r h =
     let o = branch_is line names nodes s (Ok d.tree) e n h.0 in
     ((λ i. standing (h.1 i) s.sender ((r ∙ or_false s.refused) i)) ∙ sym o.1, sym o.0)
@@ -57,10 +64,14 @@ branch_whole line names nodes s d (Ok (Err refusal)) refused e n f r h =
 branch_whole line names nodes s d (Err fault) refused e n f r h = absurd (none-some fault (sym f))
 
 -- a branch at which the store failed
-pub branch_fault : (line : List ℕ) (names : List (List ℕ)) (nodes : List Node) (s : Standing) (d : Desk) (answer : Result (Result (Unit {0}) BranchFault) StoreFault) (fault : StoreFault) → directive_of line ≡ Branch names → nodes_of names ≡ Some nodes
-    → fault_of_branch answer ≡ Some fault → Branches s.desk d answer nodes → FaultsIn (DirectiveLine line) s fault d (branch_answer answer)
+pub branch_fault : (line : List ℕ) (names : List (List ℕ)) (nodes : List Node) (s : Standing) (d : Desk)
+    (answer : Result (Result (Unit {0}) BranchFault) StoreFault) (fault : StoreFault) → directive_of line ≡ Branch names
+    → nodes_of names ≡ Some nodes
+    → fault_of_branch answer ≡ Some fault → Branches s.desk d answer nodes
+    → FaultsIn (DirectiveLine line) s fault d (branch_answer answer)
 branch_fault line names nodes s d (Ok answer) fault e n f h = absurd (none-some fault f)
-branch_fault line names nodes s d (Err told) fault e n f h = (subst AsksStore (sym e) (nodes, n), h, ap fault_text (same_Some told fault f))
+branch_fault line names nodes s d (Err told) fault e n f h =
+    (subst AsksStore (sym e) (nodes, n), h, ap fault_text (same_Some told fault f))
 
 pub branch_carried : (line : List ℕ) (names : List (List ℕ)) (nodes : List Node) (s : Standing) (d : Desk) (n0 n1 : Faults)
     (answer : Result (Result (Unit {0}) BranchFault) StoreFault) → directive_of line ≡ Branch names
@@ -69,7 +80,8 @@ pub branch_carried : (line : List ℕ) (names : List (List ℕ)) (nodes : List N
 branch_carried line names nodes s d n0 n1 (Ok answer) e n counted h =
     let w = branch_whole line names nodes s d (Ok answer) (s.refused || refuses_branch (Ok answer)) e n refl refl h in
     inl (ap (λ (x : Standing). x.desk) w.0, w.1, counted)
-branch_carried line names nodes s d n0 n1 (Err fault) e n counted h = inr (fault, branch_fault line names nodes s d (Err fault) fault e n refl h, counted)
+branch_carried line names nodes s d n0 n1 (Err fault) e n counted h =
+    inr (fault, branch_fault line names nodes s d (Err fault) fault e n refl h, counted)
 
 -- how it is counted
 pub whole_count : (answer : Result (Result (Unit {0}) BranchFault) StoreFault) (n : Faults) → fault_of_branch answer ≡ None
@@ -92,15 +104,20 @@ branch_count (Err fault) n = (fault, refl)
 
 -- the nodes of words, after others
 pub nodes-more : (word : List ℕ) (words : List (List ℕ)) (n : Node) (before : List Node) → node_of_text word ≡ Some n
-    → option_map (λ nodes. before ++ nodes) (nodes_of (word ∷ words)) ≡ option_map (λ nodes. (before ++ n ∷ []) ++ nodes) (nodes_of words)
-nodes-more word words n before e = ap (λ (o : Option Node). option_map (λ nodes. before ++ nodes) (node_before o (nodes_of words))) e ∙ rest (nodes_of words)
+    → option_map (λ nodes. before ++ nodes) (nodes_of (word ∷ words))
+    ≡ option_map (λ nodes. (before ++ n ∷ []) ++ nodes) (nodes_of words)
+nodes-more word words n before e =
+    ap (λ (o : Option Node). option_map (λ nodes. before ++ nodes) (node_before o (nodes_of words))) e ∙ rest (nodes_of words)
   where
-    rest : (o : Option (List Node)) → option_map (λ nodes. before ++ nodes) (node_before (Some n) o) ≡ option_map (λ nodes. (before ++ n ∷ []) ++ nodes) o
+    rest : (o : Option (List Node))
+        → option_map (λ nodes. before ++ nodes) (node_before (Some n) o) ≡ option_map (λ nodes. (before ++ n ∷ []) ++ nodes) o
     rest None = refl
     rest (Some nodes) = ap Some (sym (append_assoc before (n ∷ []) nodes))
 
-pub nodes-none : (word : List ℕ) (words : List (List ℕ)) (before : List Node) → node_of_text word ≡ None → option_map (λ nodes. before ++ nodes) (nodes_of (word ∷ words)) ≡ None
-nodes-none word words before e = ap (λ (o : Option Node). option_map (λ nodes. before ++ nodes) (node_before o (nodes_of words))) e ∙ rest (nodes_of words)
+pub nodes-none : (word : List ℕ) (words : List (List ℕ)) (before : List Node) → node_of_text word ≡ None
+    → option_map (λ nodes. before ++ nodes) (nodes_of (word ∷ words)) ≡ None
+nodes-none word words before e =
+    ap (λ (o : Option Node). option_map (λ nodes. before ++ nodes) (node_before o (nodes_of words))) e ∙ rest (nodes_of words)
   where
     rest : (o : Option (List Node)) → option_map (λ nodes. before ++ nodes) (node_before None o) ≡ None
     rest None = refl
@@ -116,13 +133,18 @@ some_bytes [] e = absurd (false≢true (sym e))
 some_bytes (c ∷ s) e = refl
 
 -- nothing is left to read
-pub nodes-all : (text rest : List ℕ) (before : List Node) → option_map (λ nodes. before ++ nodes) (nodes_of (words rest)) ≡ nodes_of (words text) → words rest ≡ [] → nodes_of (words text) ≡ Some before
-nodes-all text rest before h e = sym h ∙ ap (λ ws. option_map (λ nodes. before ++ nodes) (nodes_of ws)) e ∙ ap Some (append-nil before)
+pub nodes-all : (text rest : List ℕ) (before : List Node)
+    → option_map (λ nodes. before ++ nodes) (nodes_of (words rest)) ≡ nodes_of (words text) → words rest ≡ []
+    → nodes_of (words text) ≡ Some before
+nodes-all text rest before h e =
+    sym h ∙ ap (λ ws. option_map (λ nodes. before ++ nodes) (nodes_of ws)) e ∙ ap Some (append-nil before)
 
 -- no node is read
-pub unread : (A : Type 0) (text rest word : List ℕ) (more : List (List ℕ)) (before : List Node) (fault : NodeFault) → option_map (λ nodes. before ++ nodes) (nodes_of (words rest)) ≡ nodes_of (words text) → words rest ≡ word ∷ more
+pub unread : (A : Type 0) (text rest word : List ℕ) (more : List (List ℕ)) (before : List Node) (fault : NodeFault)
+    → option_map (λ nodes. before ++ nodes) (nodes_of (words rest)) ≡ nodes_of (words text) → words rest ≡ word ∷ more
     → IsRead (node_of_text word) (Err fault) → AreRead {A = A} (nodes_of (words text)) (Err fault)
-unread A text rest word more before WordIsNoNode h e r = sym h ∙ ap (λ ws. option_map (λ nodes. before ++ nodes) (nodes_of ws)) e ∙ nodes-none word more before r
+unread A text rest word more before WordIsNoNode h e r =
+    sym h ∙ ap (λ ws. option_map (λ nodes. before ++ nodes) (nodes_of ws)) e ∙ nodes-none word more before r
 unread A text rest word more before NoMemory h e r = tt
 
 pub map_all : (o : Option (List Node)) → option_map (λ nodes. [] ++ nodes) o ≡ o

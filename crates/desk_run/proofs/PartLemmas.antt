@@ -1,5 +1,6 @@
 -- Parts of a script, carried out one at a time.
-use Rattle.std.proofs.Common.{◌≡◌, inl, inr, ℕ, Bool, true, ◌<◌, length, List, take, sym, ◌∙◌, ap, subst, refl, Option, Some, None, Result, Ok, Err}
+use Rattle.std.proofs.Common.{◌≡◌, inl, inr, ℕ, Bool, true, ◌<◌, length, List, take, sym, ◌∙◌, ap, subst, refl, Option, Some}
+use Rattle.std.proofs.Common.{None, Result, Ok, Err}
 use Rattle.std.specs.Prelude.{◌||◌, OnOk, OnErr}
 use Rattle.std.proofs.lemmas.Option.{none-some, same_Some}
 use Rattle.std.specs.Io.KnownBytes.{Appends}
@@ -13,7 +14,9 @@ use Rattle.desk_store.specs.Store.{Faults, counted}
 use Rattle.desk_store.specs.Message.{Entry, Machine, machine, after_lines, at_start, IsReceived, Comes, faults_after_end}
 use Rattle.desk_messages.specs.Transcripts.{received_text}
 use Rattle.desk_messages.specs.Reports.{report_of, IsReported, faults_after_report}
-use Rattle.desk_run.specs.Script.{Part, Message, DirectiveLine, Directive, Report, Standing, standing, part_text, part_after, message_text, after_message, refuses, directive_of, directive_text, after_directive, report_text, after_report}
+use Rattle.desk_run.specs.Script.{Part, Message, DirectiveLine, Directive, Report, Standing, standing, part_text, part_after}
+use Rattle.desk_run.specs.Script.{message_text, after_message, refuses, directive_of, directive_text, after_directive}
+use Rattle.desk_run.specs.Script.{report_text, after_report}
 use Rattle.desk_run.specs.Running.{AsksStore, FaultsIn, IsCarried, StopsIn, Carries}
 use Rattle.desk_text.specs.Answers.{report_answer}
 use Rattle.desk_run.specs.Answers.{fault_of_end, store_fault}
@@ -24,12 +27,15 @@ use Rattle.desk_lines.specs.declared.fault.ScriptFault.TheVariants as stops
 use Rattle.desk_run.proofs.WrittenLemmas.{appends_none}
 
 -- what a message comes to
-message_is : (lines : List (List ℕ)) (s : Standing) (m : Machine) → after_lines s.sender (at_start s.desk) lines ≡ m → (part_text (Message lines) s ≡ message_text m lines) × (part_after (Message lines) s ≡ after_message m s)
+message_is : (lines : List (List ℕ)) (s : Standing) (m : Machine) → after_lines s.sender (at_start s.desk) lines ≡ m
+    → (part_text (Message lines) s ≡ message_text m lines) × (part_after (Message lines) s ≡ after_message m s)
 unfolding part_text part_after
 message_is lines s m e = (ap (λ (n : Machine). message_text n lines) e, ap (λ (n : Machine). after_message n s) e)
 
-message_whole : (lines : List (List ℕ)) (s : Standing) (outcomes : List Entry) (end : End) (d : Desk) → Comes s.sender lines s.desk outcomes end d
-    → (part_text (Message lines) s ≡ received_text outcomes end lines) × (part_after (Message lines) s ≡ standing d s.sender (s.refused || refuses outcomes end))
+message_whole : (lines : List (List ℕ)) (s : Standing) (outcomes : List Entry) (end : End) (d : Desk)
+    → Comes s.sender lines s.desk outcomes end d
+    → (part_text (Message lines) s ≡ received_text outcomes end lines)
+    × (part_after (Message lines) s ≡ standing d s.sender (s.refused || refuses outcomes end))
 message_whole lines s outcomes end d h =
     let m = message_is lines s (machine d outcomes) h.after in (
       m.0 ∙ ap (λ (x : End). received_text outcomes x lines) h.end_is,
@@ -48,11 +54,14 @@ pub received_carried : (lines : List (List ℕ)) (s : Standing) (outcomes : List
     → IsCarried (Message lines) s d n0 n1 (received_text outcomes end lines)
 received_carried lines s outcomes ends.All d n0 n1 n h = carried_whole lines s outcomes ends.All d n0 n1 n h
 received_carried lines s outcomes ends.Stopped d n0 n1 n h = carried_whole lines s outcomes ends.Stopped d n0 n1 n h
-received_carried lines s outcomes ends.TooManyUnreadable d n0 n1 n h = carried_whole lines s outcomes ends.TooManyUnreadable d n0 n1 n h
+received_carried lines s outcomes ends.TooManyUnreadable d n0 n1 n h =
+    carried_whole lines s outcomes ends.TooManyUnreadable d n0 n1 n h
 received_carried lines s outcomes (ends.Store fault k) d n0 n1 n h = inr (fault, (outcomes, k, h, refl), n)
 
 -- at a fault of the store
-pub received_fault : (lines : List (List ℕ)) (s : Standing) (outcomes : List Entry) (end : End) (d : Desk) (fault : StoreFault) → fault_of_end end ≡ Some fault → IsReceived s.sender lines s.desk outcomes end d → FaultsIn (Message lines) s fault d (received_text outcomes end lines)
+pub received_fault : (lines : List (List ℕ)) (s : Standing) (outcomes : List Entry) (end : End) (d : Desk) (fault : StoreFault)
+    → fault_of_end end ≡ Some fault → IsReceived s.sender lines s.desk outcomes end d
+    → FaultsIn (Message lines) s fault d (received_text outcomes end lines)
 received_fault lines s outcomes ends.All d fault e h = absurd (none-some fault e)
 received_fault lines s outcomes ends.Stopped d fault e h = absurd (none-some fault e)
 received_fault lines s outcomes ends.TooManyUnreadable d fault e h = absurd (none-some fault e)
@@ -65,20 +74,29 @@ received_fault lines s outcomes (ends.Store other k) d fault e h =
     )
 
 -- at the message's end
-pub received_whole : (lines : List (List ℕ)) (s : Standing) (outcomes : List Entry) (end : End) (d : Desk) (refused : Bool) → fault_of_end end ≡ None → refused ≡ (s.refused || refuses outcomes end) → IsReceived s.sender lines s.desk outcomes end d
-    → (standing d s.sender refused ≡ part_after (Message lines) s) × (received_text outcomes end lines ≡ part_text (Message lines) s)
-received_whole lines s outcomes ends.All d refused e r h = let w = message_whole lines s outcomes ends.All d h in (ap (standing d s.sender) r ∙ sym w.1, sym w.0)
-received_whole lines s outcomes ends.Stopped d refused e r h = let w = message_whole lines s outcomes ends.Stopped d h in (ap (standing d s.sender) r ∙ sym w.1, sym w.0)
-received_whole lines s outcomes ends.TooManyUnreadable d refused e r h = let w = message_whole lines s outcomes ends.TooManyUnreadable d h in (ap (standing d s.sender) r ∙ sym w.1, sym w.0)
+pub received_whole : (lines : List (List ℕ)) (s : Standing) (outcomes : List Entry) (end : End) (d : Desk) (refused : Bool)
+    → fault_of_end end ≡ None → refused ≡ (s.refused || refuses outcomes end) → IsReceived s.sender lines s.desk outcomes end d
+    → (standing d s.sender refused ≡ part_after (Message lines) s)
+    × (received_text outcomes end lines ≡ part_text (Message lines) s)
+received_whole lines s outcomes ends.All d refused e r h = let w = message_whole lines s outcomes ends.All d h in
+    (ap (standing d s.sender) r ∙ sym w.1, sym w.0)
+received_whole lines s outcomes ends.Stopped d refused e r h = let w = message_whole lines s outcomes ends.Stopped d h in
+    (ap (standing d s.sender) r ∙ sym w.1, sym w.0)
+received_whole lines s outcomes ends.TooManyUnreadable d refused e r h = let w =
+    message_whole lines s outcomes ends.TooManyUnreadable d h in (ap (standing d s.sender) r ∙ sym w.1, sym w.0)
 received_whole lines s outcomes (ends.Store fault k) d refused e r h = absurd (none-some fault (sym e))
 
 -- a directive, by what its line says
-pub order_is : (line : List ℕ) (s : Standing) (directive : Directive) → directive_of line ≡ directive → (part_text (DirectiveLine line) s ≡ directive_text directive s) × (part_after (DirectiveLine line) s ≡ after_directive directive s)
+pub order_is : (line : List ℕ) (s : Standing) (directive : Directive) → directive_of line ≡ directive
+    → (part_text (DirectiveLine line) s ≡ directive_text directive s)
+    × (part_after (DirectiveLine line) s ≡ after_directive directive s)
 unfolding part_text part_after
 order_is line s directive e = (ap (λ (d : Directive). directive_text d s) e, ap (λ (d : Directive). after_directive d s) e)
 
 -- a directive carried out
-pub order_done : (line : List ℕ) (s b : Standing) (c0 c1 : Option (List ℕ)) (text : List ℕ) (directive : Directive) → directive ≡ directive_of line → b ≡ after_directive directive s → text ≡ directive_text directive s → Appends c0 c1 text → (b ≡ part_after (DirectiveLine line) s) × Appends c0 c1 (part_text (DirectiveLine line) s)
+pub order_done : (line : List ℕ) (s b : Standing) (c0 c1 : Option (List ℕ)) (text : List ℕ) (directive : Directive)
+    → directive ≡ directive_of line → b ≡ after_directive directive s → text ≡ directive_text directive s → Appends c0 c1 text
+    → (b ≡ part_after (DirectiveLine line) s) × Appends c0 c1 (part_text (DirectiveLine line) s)
 order_done line s b c0 c1 text directive e f t h =
     let o = order_is line s directive (sym e) in
     (f ∙ sym o.1, subst (Appends c0 c1) (t ∙ sym o.0) h)
@@ -99,14 +117,18 @@ fault_of other (Err fault) = fault
 
 pub order_refused : (line : List ℕ) (s : Standing) (sender : List ℕ) (refused : Bool) (faults : Faults)
     (c0 c1 : Option (List ℕ)) (text : List ℕ) (directive : Directive) (r : Result (Unit {0}) ScriptFault)
-    → directive ≡ directive_of line → after_directive directive s ≡ standing s.desk s.sender true → text ≡ directive_text directive s
-    → OnOk r (Appends c0 c1 text) → OnErr r ((n : ℕ) × (n < length text) × Appends c0 c1 (take n text)) → OnErr r (r ≡ Err stops.Write) → OnOk r (refused ≡ true) → sender ≡ s.sender
+    → directive ≡ directive_of line → after_directive directive s ≡ standing s.desk s.sender true
+    → text ≡ directive_text directive s
+    → OnOk r (Appends c0 c1 text) → OnErr r ((n : ℕ) × (n < length text) × Appends c0 c1 (take n text))
+    → OnErr r (r ≡ Err stops.Write) → OnOk r (refused ≡ true) → sender ≡ s.sender
     → Carries (DirectiveLine line) s (standing s.desk sender refused) faults faults c0 c1 r
 order_refused line s sender refused faults c0 c1 text directive (Ok done) e after t all some write told same =
-    order_done line s (standing s.desk sender refused) c0 c1 text directive e ((λ i. standing s.desk (same i) (told i)) ∙ sym after) t all
+    order_done line s (standing s.desk sender refused) c0 c1 text directive e
+    ((λ i. standing s.desk (same i) (told i)) ∙ sym after) t all
 order_refused line s sender refused faults c0 c1 text directive (Err fault) e after t all some write told same =
     subst (λ (f : ScriptFault). StopsIn (DirectiveLine line) s s.desk faults faults c0 c1 f) (sym (ap (fault_of fault) write))
-    (order_unwritten line s s.desk faults c0 c1 text some.0 directive e (ap (λ (x : Standing). x.desk) (sym after)) t some.1 some.2)
+    (order_unwritten line s s.desk faults c0 c1 text some.0 directive e (ap (λ (x : Standing). x.desk) (sym after)) t some.1
+    some.2)
 
 -- out of memory before anything was done
 pub not_begun : (part : Part) (s : Standing) (d : Desk) (n0 n1 : Faults) (c : Option (List ℕ)) → d ≡ s.desk → n1 ≡ n0
@@ -119,11 +141,15 @@ pub untold : (part : Part) (s : Standing) (d : Desk) (n0 n1 : Faults) (c : Optio
 untold part s d n0 n1 c text h = (inr (text, h), appends_none c)
 
 -- what a report comes to
-report_is : (line p : List ℕ) (v : Option (List ℕ)) (sev t : List ℕ) (s : Standing) (r : Result Desk ReportFault) → directive_of line ≡ Report p v sev t → report_of s.desk s.sender p v sev t ≡ r
+report_is : (line p : List ℕ) (v : Option (List ℕ)) (sev t : List ℕ) (s : Standing) (r : Result Desk ReportFault)
+    → directive_of line ≡ Report p v sev t → report_of s.desk s.sender p v sev t ≡ r
     → (part_text (DirectiveLine line) s ≡ report_text r s.desk.next) × (part_after (DirectiveLine line) s ≡ after_report r s)
 report_is line p v sev t s r e h =
-    let o = order_is line s (Report p v sev t) e in
-    (o.0 ∙ ap (λ (x : Result Desk ReportFault). report_text x s.desk.next) h, o.1 ∙ ap (λ (x : Result Desk ReportFault). after_report x s) h)
+    let o = order_is line s (Report p v sev t) e in (
+      o.0 ∙ ap (λ (x : Result Desk ReportFault). report_text x s.desk.next) h,
+      o.1
+          ∙ ap (λ (x : Result Desk ReportFault). after_report x s) h,
+    )
 
 refused_carried : (line p : List ℕ) (v : Option (List ℕ)) (sev t : List ℕ) (s : Standing) (d : Desk) (n0 n1 : Faults)
     (fault : ReportFault) → directive_of line ≡ Report p v sev t
@@ -140,27 +166,38 @@ pub reported_carried : (line p : List ℕ) (v : Option (List ℕ)) (sev t : List
 reported_carried line p v sev t s d n0 n1 (Ok number) e n h =
     let o = report_is line p v sev t s (Ok d) e h.0 in
     inl (sym (ap (λ (x : Standing). x.desk) o.1), ap (λ (k : ℕ). report_text (Ok d) k) h.1 ∙ sym o.0, n)
-reported_carried line p v sev t s d n0 n1 (Err (reports.Store fault)) e n h = inr (fault, (subst AsksStore (sym e) (h.0, h.1), h.2, refl), n)
-reported_carried line p v sev t s d n0 n1 (Err reports.BadPackage) e n h = refused_carried line p v sev t s d n0 n1 reports.BadPackage e n h
-reported_carried line p v sev t s d n0 n1 (Err reports.BadVersion) e n h = refused_carried line p v sev t s d n0 n1 reports.BadVersion e n h
-reported_carried line p v sev t s d n0 n1 (Err reports.BadSeverity) e n h = refused_carried line p v sev t s d n0 n1 reports.BadSeverity e n h
-reported_carried line p v sev t s d n0 n1 (Err reports.BadTitle) e n h = refused_carried line p v sev t s d n0 n1 reports.BadTitle e n h
+reported_carried line p v sev t s d n0 n1 (Err (reports.Store fault)) e n h =
+    inr (fault, (subst AsksStore (sym e) (h.0, h.1), h.2, refl), n)
+reported_carried line p v sev t s d n0 n1 (Err reports.BadPackage) e n h =
+    refused_carried line p v sev t s d n0 n1 reports.BadPackage e n h
+reported_carried line p v sev t s d n0 n1 (Err reports.BadVersion) e n h =
+    refused_carried line p v sev t s d n0 n1 reports.BadVersion e n h
+reported_carried line p v sev t s d n0 n1 (Err reports.BadSeverity) e n h =
+    refused_carried line p v sev t s d n0 n1 reports.BadSeverity e n h
+reported_carried line p v sev t s d n0 n1 (Err reports.BadTitle) e n h =
+    refused_carried line p v sev t s d n0 n1 reports.BadTitle e n h
 reported_carried line p v sev t s d n0 n1 (Err reports.Full) e n h = refused_carried line p v sev t s d n0 n1 reports.Full e n h
 
-pub reported_whole : (line p : List ℕ) (v : Option (List ℕ)) (sev t : List ℕ) (s : Standing) (d : Desk) (number : ℕ) → directive_of line ≡ Report p v sev t → IsReported s.sender p v sev t s.desk (Ok number) d
-    → (standing d s.sender s.refused ≡ part_after (DirectiveLine line) s) × (report_answer (Ok number) ≡ part_text (DirectiveLine line) s)
+pub reported_whole : (line p : List ℕ) (v : Option (List ℕ)) (sev t : List ℕ) (s : Standing) (d : Desk) (number : ℕ)
+    → directive_of line ≡ Report p v sev t → IsReported s.sender p v sev t s.desk (Ok number) d
+    → (standing d s.sender s.refused ≡ part_after (DirectiveLine line) s)
+    × (report_answer (Ok number) ≡ part_text (DirectiveLine line) s)
 reported_whole line p v sev t s d number e h =
     let o = report_is line p v sev t s (Ok d) e h.0 in
     (sym o.1, ap (λ (n : ℕ). report_text (Ok d) n) h.1 ∙ sym o.0)
 
-refused_is : (line p : List ℕ) (v : Option (List ℕ)) (sev t : List ℕ) (s : Standing) (d : Desk) (fault : ReportFault) → directive_of line ≡ Report p v sev t → (report_of s.desk s.sender p v sev t ≡ Err fault) × (d ≡ s.desk)
-    → (standing d s.sender true ≡ part_after (DirectiveLine line) s) × (report_text (Err fault) s.desk.next ≡ part_text (DirectiveLine line) s)
+refused_is : (line p : List ℕ) (v : Option (List ℕ)) (sev t : List ℕ) (s : Standing) (d : Desk) (fault : ReportFault)
+    → directive_of line ≡ Report p v sev t → (report_of s.desk s.sender p v sev t ≡ Err fault) × (d ≡ s.desk)
+    → (standing d s.sender true ≡ part_after (DirectiveLine line) s)
+    × (report_text (Err fault) s.desk.next ≡ part_text (DirectiveLine line) s)
 refused_is line p v sev t s d fault e h =
     let o = report_is line p v sev t s (Err fault) e h.0 in
     (ap (λ (x : Desk). standing x s.sender true) h.1 ∙ sym o.1, sym o.0)
 
-pub reported_refused : (line p : List ℕ) (v : Option (List ℕ)) (sev t : List ℕ) (s : Standing) (d : Desk) (fault : ReportFault) → store_fault fault ≡ None → directive_of line ≡ Report p v sev t → IsReported s.sender p v sev t s.desk (Err fault) d
-    → (standing d s.sender true ≡ part_after (DirectiveLine line) s) × (report_answer (Err fault) ≡ part_text (DirectiveLine line) s)
+pub reported_refused : (line p : List ℕ) (v : Option (List ℕ)) (sev t : List ℕ) (s : Standing) (d : Desk) (fault : ReportFault)
+    → store_fault fault ≡ None → directive_of line ≡ Report p v sev t → IsReported s.sender p v sev t s.desk (Err fault) d
+    → (standing d s.sender true ≡ part_after (DirectiveLine line) s)
+    × (report_answer (Err fault) ≡ part_text (DirectiveLine line) s)
 reported_refused line p v sev t s d (reports.Store fault) n e h = absurd (none-some fault (sym n))
 reported_refused line p v sev t s d reports.BadPackage n e h = refused_is line p v sev t s d reports.BadPackage e h
 reported_refused line p v sev t s d reports.BadVersion n e h = refused_is line p v sev t s d reports.BadVersion e h
@@ -169,9 +206,12 @@ reported_refused line p v sev t s d reports.BadTitle n e h = refused_is line p v
 reported_refused line p v sev t s d reports.Full n e h = refused_is line p v sev t s d reports.Full e h
 
 -- a report at which the store failed
-pub reported_fault : (line p : List ℕ) (v : Option (List ℕ)) (sev t : List ℕ) (s : Standing) (d : Desk) (fault : ReportFault) (of_store : StoreFault) → store_fault fault ≡ Some of_store → directive_of line ≡ Report p v sev t → IsReported s.sender p v sev t s.desk (Err fault) d
+pub reported_fault : (line p : List ℕ) (v : Option (List ℕ)) (sev t : List ℕ) (s : Standing) (d : Desk) (fault : ReportFault)
+    (of_store : StoreFault) → store_fault fault ≡ Some of_store → directive_of line ≡ Report p v sev t
+    → IsReported s.sender p v sev t s.desk (Err fault) d
     → FaultsIn (DirectiveLine line) s of_store d (report_answer (Err fault))
-reported_fault line p v sev t s d (reports.Store fault) f e says h = (subst AsksStore (sym says) (h.0, h.1), h.2, ap fault_text (same_Some fault f e))
+reported_fault line p v sev t s d (reports.Store fault) f e says h =
+    (subst AsksStore (sym says) (h.0, h.1), h.2, ap fault_text (same_Some fault f e))
 reported_fault line p v sev t s d reports.BadPackage f e says h = absurd (none-some f e)
 reported_fault line p v sev t s d reports.BadVersion f e says h = absurd (none-some f e)
 reported_fault line p v sev t s d reports.BadSeverity f e says h = absurd (none-some f e)

@@ -1,9 +1,11 @@
 -- Parts of a script, carried out one after another.
-use Rattle.std.proofs.Common.{◌≡◌, ℕ, Bool, true, false, List, [], ◌∷◌, ◌++◌, sym, ◌∙◌, ap, subst, refl, append_assoc, append-nil, Option, Result, Ok, Err}
+use Rattle.std.proofs.Common.{◌≡◌, ℕ, Bool, true, false, List, [], ◌∷◌, ◌++◌, sym, ◌∙◌, ap, subst, refl, append_assoc, append-nil}
+use Rattle.std.proofs.Common.{Option, Result, Ok, Err}
 use Rattle.std.specs.Io.KnownBytes.{Appends}
 use Rattle.bug_record.specs.Desk.{Desk}
 use Rattle.desk_store.specs.Store.{Faults}
-use Rattle.desk_run.specs.Script.{Part, Message, DirectiveLine, Standing, part_text, part_after, text_of, after_parts, parts_of_lines, with_line, is_directive, end_of_script}
+use Rattle.desk_run.specs.Script.{Part, Message, DirectiveLine, Standing, part_text, part_after, text_of, after_parts}
+use Rattle.desk_run.specs.Script.{parts_of_lines, with_line, is_directive, end_of_script}
 use Rattle.desk_run.specs.Gathering.{parts_from}
 use Rattle.desk_run.specs.Running.{Runs, StopsIn, Stops, EndsParts}
 use Rattle.desk_lines.specs.declared.fault.ScriptFault.{ScriptFault}
@@ -37,10 +39,13 @@ after_append (p ∷ ps) qs a = after_append ps qs (part_after p a)
 text_append : (ps qs : List Part) (a : Standing) → text_of (ps ++ qs) a ≡ text_of ps a ++ text_of qs (after_parts ps a)
 unfolding text_of after_parts
 text_append [] qs a = refl
-text_append (p ∷ ps) qs a = ap (λ (w : List ℕ). part_text p a ++ w) (text_append ps qs (part_after p a)) ∙ sym (append_assoc (part_text p a) (text_of ps (part_after p a)) (text_of qs (after_parts ps (part_after p a))))
+text_append (p ∷ ps) qs a =
+    ap (λ (w : List ℕ). part_text p a ++ w) (text_append ps qs (part_after p a))
+    ∙ sym (append_assoc (part_text p a) (text_of ps (part_after p a)) (text_of qs (after_parts ps (part_after p a))))
 
 -- one part carried out
-pub one_ran : (part : Part) (a b : Standing) (c0 c1 : Option (List ℕ)) → (b ≡ part_after part a) × Appends c0 c1 (part_text part a) → Runs (part ∷ []) a b c0 c1
+pub one_ran : (part : Part) (a b : Standing) (c0 c1 : Option (List ℕ)) → (b ≡ part_after part a)
+    × Appends c0 c1 (part_text part a) → Runs (part ∷ []) a b c0 c1
 one_ran part a b c0 c1 h = (h.0 ∙ sym (after_one part a), subst (Appends c0 c1) (sym (text_one part a)) h.1)
 
 -- a stop in one part
@@ -59,17 +64,21 @@ one_stops part a d n0 n1 c0 c1 fault h = record {
 pub runs_none : (a : Standing) (c : Option (List ℕ)) → Runs [] a a c c
 runs_none a c = (sym (after_none a), subst (Appends c c) (sym (text_nil a)) (appends_none c))
 
-pub runs_then : (ps qs : List Part) (a b e : Standing) (c0 c1 c2 : Option (List ℕ)) → Runs ps a b c0 c1 → Runs qs b e c1 c2 → Runs (ps ++ qs) a e c0 c2
+pub runs_then : (ps qs : List Part) (a b e : Standing) (c0 c1 c2 : Option (List ℕ)) → Runs ps a b c0 c1 → Runs qs b e c1 c2
+    → Runs (ps ++ qs) a e c0 c2
 runs_then ps qs a b e c0 c1 c2 p q = (
   q.0 ∙ (ap (after_parts qs) p.0 ∙ sym (after_append ps qs a)),
-  subst (Appends c0 c2) (ap (λ (s : Standing). text_of ps a ++ text_of qs s) p.0 ∙ sym (text_append ps qs a)) (Appends-trans c0 c1 c2 (text_of ps a) (text_of qs b) p.1 q.1),
+  subst (Appends c0 c2) (ap (λ (s : Standing). text_of ps a ++ text_of qs s) p.0 ∙ sym (text_append ps qs a))
+      (Appends-trans c0 c1 c2 (text_of ps a) (text_of qs b) p.1 q.1),
 )
 
 pub runs_then_stops : (ps qs : List Part) (a b : Standing) (d : Desk) (n0 n1 : Faults) (c0 c1 c2 : Option (List ℕ))
     (fault : ScriptFault) → Runs ps a b c0 c1 → Stops qs b d n0 n1 c1 c2 fault → Stops (ps ++ qs) a d n0 n1 c0 c2 fault
 runs_then_stops ps qs a b d n0 n1 c0 c1 c2 fault p q =
-    let s : after_parts (ps ++ q.before) a ≡ after_parts q.before b = after_append ps q.before a ∙ ap (after_parts q.before) (sym p.0) in
-    let t : text_of (ps ++ q.before) a ≡ text_of ps a ++ text_of q.before b = text_append ps q.before a ∙ ap (λ (x : Standing). text_of ps a ++ text_of q.before x) (sym p.0) in
+    let s : after_parts (ps ++ q.before) a ≡ after_parts q.before b =
+    after_append ps q.before a ∙ ap (after_parts q.before) (sym p.0) in
+    let t : text_of (ps ++ q.before) a ≡ text_of ps a ++ text_of q.before b =
+    text_append ps q.before a ∙ ap (λ (x : Standing). text_of ps a ++ text_of q.before x) (sym p.0) in
     record {
       before = ps ++ q.before;
       part = q.part;
@@ -94,13 +103,17 @@ stops_more ps qs a d n0 n1 c0 c1 fault q = record {
 }
 
 -- the parts begin with a message
-parts_begin_at : (gathered : List (List ℕ)) (line : List ℕ) (lines : List (List ℕ)) (b : Bool) → is_directive line ≡ b → (message : List (List ℕ)) × (rest : List Part) × (parts_from (gathered ++ line ∷ []) lines ≡ Message message ∷ rest) → (message : List (List ℕ)) × (rest : List Part) × (parts_from gathered (line ∷ lines) ≡ Message message ∷ rest)
+parts_begin_at : (gathered : List (List ℕ)) (line : List ℕ) (lines : List (List ℕ)) (b : Bool) → is_directive line ≡ b
+    → (message : List (List ℕ)) × (rest : List Part) × (parts_from (gathered ++ line ∷ []) lines ≡ Message message ∷ rest)
+    → (message : List (List ℕ)) × (rest : List Part) × (parts_from gathered (line ∷ lines) ≡ Message message ∷ rest)
 parts_begin_at gathered line lines true e r = (gathered, DirectiveLine line ∷ parts_from [] lines, rw e refl)
 parts_begin_at gathered line lines false e r = (r.0, r.1, rw e r.2)
 
-pub parts_begin : (gathered lines : List (List ℕ)) → (message : List (List ℕ)) × (rest : List Part) × (parts_from gathered lines ≡ Message message ∷ rest)
+pub parts_begin : (gathered lines : List (List ℕ)) → (message : List (List ℕ)) × (rest : List Part)
+    × (parts_from gathered lines ≡ Message message ∷ rest)
 parts_begin gathered [] = (gathered, [], refl)
-parts_begin gathered (line ∷ lines) = parts_begin_at gathered line lines (is_directive line) refl (parts_begin (gathered ++ line ∷ []) lines)
+parts_begin gathered (line ∷ lines) =
+    parts_begin_at gathered line lines (is_directive line) refl (parts_begin (gathered ++ line ∷ []) lines)
 
 -- out of memory while a message is gathered
 pub gathered_stops : (gathered lines : List (List ℕ)) (a : Standing) (d : Desk) (n : Faults) (c : Option (List ℕ)) → d ≡ a.desk
@@ -108,12 +121,15 @@ pub gathered_stops : (gathered lines : List (List ℕ)) (a : Standing) (d : Desk
 gathered_stops gathered lines a d n c e =
     let p = parts_begin gathered lines in
     subst (λ (ps : List Part). Stops ps a d n n c c stops.Memory) (sym p.2)
-    (stops_more (Message p.0 ∷ []) p.1 a d n n c c stops.Memory (one_stops (Message p.0) a d n n c c stops.Memory (not_begun (Message p.0) a d n n c e refl)))
+    (stops_more (Message p.0 ∷ []) p.1 a d n n c c stops.Memory
+    (one_stops (Message p.0) a d n n c c stops.Memory (not_begun (Message p.0) a d n n c e refl)))
 
-pub parts_directive : (gathered : List (List ℕ)) (line : List ℕ) (lines : List (List ℕ)) → is_directive line ≡ true → parts_from gathered (line ∷ lines) ≡ Message gathered ∷ DirectiveLine line ∷ parts_from [] lines
+pub parts_directive : (gathered : List (List ℕ)) (line : List ℕ) (lines : List (List ℕ)) → is_directive line ≡ true
+    → parts_from gathered (line ∷ lines) ≡ Message gathered ∷ DirectiveLine line ∷ parts_from [] lines
 parts_directive gathered line lines e = rw e refl
 
-pub parts_gathered : (gathered : List (List ℕ)) (line : List ℕ) (lines : List (List ℕ)) → is_directive line ≡ false → parts_from gathered (line ∷ lines) ≡ parts_from (gathered ++ line ∷ []) lines
+pub parts_gathered : (gathered : List (List ℕ)) (line : List ℕ) (lines : List (List ℕ)) → is_directive line ≡ false
+    → parts_from gathered (line ∷ lines) ≡ parts_from (gathered ++ line ∷ []) lines
 parts_gathered gathered line lines e = rw e refl
 
 -- the script stops in the message before a directive
@@ -121,7 +137,9 @@ pub stops_at_message : (gathered : List (List ℕ)) (line : List ℕ) (lines : L
     (n0 n1 : Faults) (c0 c1 : Option (List ℕ)) (fault : ScriptFault) → is_directive line ≡ true
     → StopsIn (Message gathered) a d n0 n1 c0 c1 fault → Stops (parts_from gathered (line ∷ lines)) a d n0 n1 c0 c1 fault
 stops_at_message gathered line lines a d n0 n1 c0 c1 fault e s =
-    subst (λ (ps : List Part). Stops ps a d n0 n1 c0 c1 fault) (sym (parts_directive gathered line lines e)) (stops_more (Message gathered ∷ []) (DirectiveLine line ∷ parts_from [] lines) a d n0 n1 c0 c1 fault (one_stops (Message gathered) a d n0 n1 c0 c1 fault s))
+    subst (λ (ps : List Part). Stops ps a d n0 n1 c0 c1 fault) (sym (parts_directive gathered line lines e))
+    (stops_more (Message gathered ∷ []) (DirectiveLine line ∷ parts_from [] lines) a d n0 n1 c0 c1 fault
+    (one_stops (Message gathered) a d n0 n1 c0 c1 fault s))
 
 -- the script stops in a directive
 pub stops_at_order : (gathered : List (List ℕ)) (line : List ℕ) (lines : List (List ℕ)) (a b : Standing) (d : Desk)
@@ -131,13 +149,16 @@ pub stops_at_order : (gathered : List (List ℕ)) (line : List ℕ) (lines : Lis
 stops_at_order gathered line lines a b d m n0 n1 c0 c1 c2 fault e same r s =
     subst (λ (ps : List Part). Stops ps a d n0 n1 c0 c2 fault) (sym (parts_directive gathered line lines e))
     (stops_more (Message gathered ∷ DirectiveLine line ∷ []) (parts_from [] lines) a d n0 n1 c0 c2 fault
-    (runs_then_stops (Message gathered ∷ []) (DirectiveLine line ∷ []) a b d n0 n1 c0 c1 c2 fault (one_ran (Message gathered) a b c0 c1 r)
-    (one_stops (DirectiveLine line) b d n0 n1 c1 c2 fault (subst (λ (n : Faults). StopsIn (DirectiveLine line) b d n n1 c1 c2 fault) same s))))
+    (runs_then_stops (Message gathered ∷ []) (DirectiveLine line ∷ []) a b d n0 n1 c0 c1 c2 fault
+    (one_ran (Message gathered) a b c0 c1 r)
+    (one_stops (DirectiveLine line) b d n0 n1 c1 c2 fault
+    (subst (λ (n : Faults). StopsIn (DirectiveLine line) b d n n1 c1 c2 fault) same s))))
 
 -- a run of the parts to their end
 pub runs_ends : (ps : List Part) (a b : Standing) (n0 n1 : Faults) (c0 c1 : Option (List ℕ)) (end : ScriptEnd)
     → end ≡ end_of_script b.refused → Runs ps a b c0 c1 → EndsParts ps a b.desk n0 n1 c0 c1 (Ok end)
-runs_ends ps a b n0 n1 c0 c1 end e p = (ap (λ (x : Standing). x.desk) p.0, e ∙ ap (λ (x : Standing). end_of_script x.refused) p.0, p.1)
+runs_ends ps a b n0 n1 c0 c1 end e p =
+    (ap (λ (x : Standing). x.desk) p.0, e ∙ ap (λ (x : Standing). end_of_script x.refused) p.0, p.1)
 
 pub runs_then_ends : (ps qs : List Part) (a b : Standing) (d : Desk) (n0 n1 : Faults) (c0 c1 c2 : Option (List ℕ))
     (r : Result ScriptEnd ScriptFault) → Runs ps a b c0 c1 → EndsParts qs b d n0 n1 c1 c2 r
@@ -147,15 +168,19 @@ runs_then_ends ps qs a b d n0 n1 c0 c1 c2 (Ok end) p q =
     let s : after_parts (ps ++ qs) a ≡ after_parts qs b = after_append ps qs a ∙ ap (after_parts qs) (sym p.0) in (
       q.0 ∙ ap (λ (x : Standing). x.desk) (sym s),
       q.1 ∙ ap (λ (x : Standing). end_of_script x.refused) (sym s),
-      subst (Appends c0 c2) (ap (λ (x : Standing). text_of ps a ++ text_of qs x) p.0 ∙ sym (text_append ps qs a)) (Appends-trans c0 c1 c2 (text_of ps a) (text_of qs b) p.1 q.2),
+      subst (Appends c0 c2) (ap (λ (x : Standing). text_of ps a ++ text_of qs x) p.0 ∙ sym (text_append ps qs a))
+          (Appends-trans c0 c1 c2 (text_of ps a) (text_of qs b) p.1 q.2),
     )
 
 -- the parts of lines begin with a message
-begins_at : (line : List ℕ) (lines : List (List ℕ)) (b : Bool) → is_directive line ≡ b → (message : List (List ℕ)) × (rest : List Part) × (parts_of_lines lines ≡ Message message ∷ rest) → (message : List (List ℕ)) × (rest : List Part) × (parts_of_lines (line ∷ lines) ≡ Message message ∷ rest)
+begins_at : (line : List ℕ) (lines : List (List ℕ)) (b : Bool) → is_directive line ≡ b → (message : List (List ℕ))
+    × (rest : List Part) × (parts_of_lines lines ≡ Message message ∷ rest) → (message : List (List ℕ)) × (rest : List Part)
+    × (parts_of_lines (line ∷ lines) ≡ Message message ∷ rest)
 begins_at line lines true e r = ([], DirectiveLine line ∷ parts_of_lines lines, rw e refl)
 begins_at line lines false e r = (line ∷ r.0, r.1, rw e (ap (with_line line) r.2))
 
-begins : (lines : List (List ℕ)) → (message : List (List ℕ)) × (rest : List Part) × (parts_of_lines lines ≡ Message message ∷ rest)
+begins : (lines : List (List ℕ)) → (message : List (List ℕ)) × (rest : List Part)
+    × (parts_of_lines lines ≡ Message message ∷ rest)
 begins [] = ([], [], refl)
 begins (line ∷ lines) = begins_at line lines (is_directive line) refl (begins lines)
 
@@ -167,15 +192,18 @@ with_lines gathered parts = Message gathered ∷ parts
 with_none : (lines : List (List ℕ)) → with_lines [] (parts_of_lines lines) ≡ parts_of_lines lines
 with_none lines = let r = begins lines in ap (with_lines []) r.2 ∙ sym r.2
 
-with_one_more : (gathered : List (List ℕ)) (line : List ℕ) (lines : List (List ℕ)) → with_lines (gathered ++ line ∷ []) (parts_of_lines lines) ≡ with_lines gathered (with_line line (parts_of_lines lines))
+with_one_more : (gathered : List (List ℕ)) (line : List ℕ) (lines : List (List ℕ))
+    → with_lines (gathered ++ line ∷ []) (parts_of_lines lines) ≡ with_lines gathered (with_line line (parts_of_lines lines))
 with_one_more gathered line lines =
     let r = begins lines in
     ap (with_lines (gathered ++ line ∷ [])) r.2
     ∙ (ap (λ (w : List (List ℕ)). Message w ∷ r.1) (append_assoc gathered (line ∷ []) r.0)
     ∙ sym (ap (λ (ps : List Part). with_lines gathered (with_line line ps)) r.2))
 
-from_line : (gathered : List (List ℕ)) (line : List ℕ) (lines : List (List ℕ)) (b : Bool) → is_directive line ≡ b → parts_from [] lines ≡ with_lines [] (parts_of_lines lines)
-    → parts_from (gathered ++ line ∷ []) lines ≡ with_lines (gathered ++ line ∷ []) (parts_of_lines lines) → parts_from gathered (line ∷ lines) ≡ with_lines gathered (parts_of_lines (line ∷ lines))
+from_line : (gathered : List (List ℕ)) (line : List ℕ) (lines : List (List ℕ)) (b : Bool) → is_directive line ≡ b
+    → parts_from [] lines ≡ with_lines [] (parts_of_lines lines)
+    → parts_from (gathered ++ line ∷ []) lines ≡ with_lines (gathered ++ line ∷ []) (parts_of_lines lines)
+    → parts_from gathered (line ∷ lines) ≡ with_lines gathered (parts_of_lines (line ∷ lines))
 from_line gathered line lines true e none more =
     rw e (ap (λ (ps : List Part). Message gathered ∷ DirectiveLine line ∷ ps) (none ∙ with_none lines)
     ∙ ap (λ (w : List (List ℕ)). Message w ∷ DirectiveLine line ∷ parts_of_lines lines) (sym (append-nil gathered)))
@@ -183,7 +211,8 @@ from_line gathered line lines false e none more = rw e (more ∙ with_one_more g
 
 from_gathered : (gathered lines : List (List ℕ)) → parts_from gathered lines ≡ with_lines gathered (parts_of_lines lines)
 from_gathered gathered [] = ap (λ (w : List (List ℕ)). Message w ∷ []) (sym (append-nil gathered))
-from_gathered gathered (line ∷ lines) = from_line gathered line lines (is_directive line) refl (from_gathered [] lines) (from_gathered (gathered ++ line ∷ []) lines)
+from_gathered gathered (line ∷ lines) =
+    from_line gathered line lines (is_directive line) refl (from_gathered [] lines) (from_gathered (gathered ++ line ∷ []) lines)
 
 -- the parts of all lines
 pub from_start : (lines : List (List ℕ)) → parts_from [] lines ≡ parts_of_lines lines

@@ -1,5 +1,6 @@
 -- A script, from the lines that are left.
-use Rattle.std.proofs.Common.{◌≡◌, inl, ℕ, ◌+◌, List, [], ◌∷◌, ◌++◌, length, map, sym, ◌∙◌, ap, subst, refl, arith, Option, Result, Ok, Err, append_assoc, append-nil, length-append}
+use Rattle.std.proofs.Common.{◌≡◌, inl, ℕ, ◌+◌, List, [], ◌∷◌, ◌++◌, length, map, sym, ◌∙◌, ap, subst, refl, arith, Option}
+use Rattle.std.proofs.Common.{Result, Ok, Err, append_assoc, append-nil, length-append}
 use Rattle.std.specs.Result.{IfErr, OnOk}
 use Rattle.bug_record.specs.Desk.{Desk}
 use Rattle.desk_store.specs.Store.{Faults}
@@ -7,7 +8,8 @@ use Rattle.desk_lines.specs.Lines.{without_return, raw_lines, lines_of}
 use Rattle.desk_lines.specs.Reading.{IsGoodLine, IsLineFault, IsReadingFault, IsBegun, Known, Left}
 use Rattle.desk_run.specs.Script.{Part, Message, Standing, parts_of_lines, script_of, after_parts}
 use Rattle.desk_run.specs.Gathering.{parts_from}
-use Rattle.desk_run.specs.Running.{Runs, Stops, StopsIn, EndsParts, Ends, AreGood, IsFirstBad, IsPlace, IsReadInPart, IsOfPart, StopsInGoodLines}
+use Rattle.desk_run.specs.Running.{Runs, Stops, StopsIn, EndsParts, Ends, AreGood, IsFirstBad, IsPlace, IsReadInPart, IsOfPart}
+use Rattle.desk_run.specs.Running.{StopsInGoodLines}
 use Rattle.desk_lines.specs.declared.fault.ScriptFault.{ScriptFault}
 use Rattle.desk_lines.specs.declared.fault.ScriptFault.TheVariants as stops
 use Rattle.desk_run.specs.declared.script.ScriptEnd.{ScriptEnd}
@@ -41,32 +43,44 @@ pub nothing_read : (input : List ℕ) → ReadTo [] input input
 nothing_read input = record { raws = []; lines = refl; texts_are = refl; good = tt }
 
 -- one line more
-pub read_more : (texts : List (List ℕ)) (input rest left line : List ℕ) → ReadTo texts input rest → (raw : List ℕ) × (raw_lines rest ≡ raw ∷ raw_lines left) × IsGoodLine raw × (line ≡ without_return raw) → ReadTo (texts ++ line ∷ []) input left
+pub read_more : (texts : List (List ℕ)) (input rest left line : List ℕ) → ReadTo texts input rest → (raw : List ℕ)
+    × (raw_lines rest ≡ raw ∷ raw_lines left) × IsGoodLine raw × (line ≡ without_return raw)
+    → ReadTo (texts ++ line ∷ []) input left
 read_more texts input rest left line r p = record {
   raws = r.raws ++ p.0 ∷ [];
   lines = r.lines ∙ (ap (λ (w : List (List ℕ)). r.raws ++ w) p.1 ∙ sym (append_assoc r.raws (p.0 ∷ []) (raw_lines left)));
-  texts_are = map_append without_return r.raws (p.0 ∷ []) ∙ (ap (λ (w : List (List ℕ)). w ++ without_return p.0 ∷ []) r.texts_are ∙ ap (λ (w : List ℕ). texts ++ w ∷ []) (sym p.3));
+  texts_are = map_append without_return r.raws (p.0 ∷ [])
+      ∙ (ap (λ (w : List (List ℕ)). w ++ without_return p.0 ∷ []) r.texts_are ∙ ap (λ (w : List ℕ). texts ++ w ∷ []) (sym p.3));
   good = good_append r.raws (p.0 ∷ []) r.good (p.2, tt);
 }
 
-pub cut_more : (texts : List (List ℕ)) (before parts : List Part) (g h : List (List ℕ)) (line : List ℕ) → IsCut texts before g → ((lines : List (List ℕ)) → parts_from g (line ∷ lines) ≡ parts ++ parts_from h lines) → IsCut (texts ++ line ∷ []) (before ++ parts) h
+pub cut_more : (texts : List (List ℕ)) (before parts : List Part) (g h : List (List ℕ)) (line : List ℕ) → IsCut texts before g
+    → ((lines : List (List ℕ)) → parts_from g (line ∷ lines) ≡ parts ++ parts_from h lines)
+    → IsCut (texts ++ line ∷ []) (before ++ parts) h
 cut_more texts before parts g h line c f lines =
-    ap (parts_from []) (append_assoc texts (line ∷ []) lines) ∙ (c (line ∷ lines) ∙ (ap (λ (w : List Part). before ++ w) (f lines) ∙ sym (append_assoc before parts (parts_from h lines))))
+    ap (parts_from []) (append_assoc texts (line ∷ []) lines)
+    ∙ (c (line ∷ lines) ∙ (ap (λ (w : List Part). before ++ w) (f lines)
+    ∙ sym (append_assoc before parts (parts_from h lines))))
 
 -- the script, where so much is read
-script_cut : (texts : List (List ℕ)) (before : List Part) (g : List (List ℕ)) (input rest : List ℕ) → ReadTo texts input rest → IsCut texts before g → script_of input ≡ before ++ parts_from g (map without_return (raw_lines rest))
+script_cut : (texts : List (List ℕ)) (before : List Part) (g : List (List ℕ)) (input rest : List ℕ) → ReadTo texts input rest
+    → IsCut texts before g → script_of input ≡ before ++ parts_from g (map without_return (raw_lines rest))
 unfolding script_of lines_of
 script_cut texts before g input rest r c =
     sym (from_start (lines_of input))
     ∙ (ap (λ (w : List (List ℕ)). parts_from [] (map without_return w)) r.lines
-    ∙ (ap (parts_from []) (map_append without_return r.raws (raw_lines rest) ∙ ap (λ (w : List (List ℕ)). w ++ map without_return (raw_lines rest)) r.texts_are)
+    ∙ (ap (parts_from [])
+    (map_append without_return r.raws (raw_lines rest)
+    ∙ ap (λ (w : List (List ℕ)). w ++ map without_return (raw_lines rest)) r.texts_are)
     ∙ c (map without_return (raw_lines rest))))
 
 -- the parts of the lines that are read
-read_cut : (texts : List (List ℕ)) (tail before : List Part) (input rest : List ℕ) → (r : ReadTo texts input rest) → parts_from [] texts ≡ before ++ tail → parts_of_lines (map without_return r.raws) ≡ before ++ tail
+read_cut : (texts : List (List ℕ)) (tail before : List Part) (input rest : List ℕ) → (r : ReadTo texts input rest)
+    → parts_from [] texts ≡ before ++ tail → parts_of_lines (map without_return r.raws) ≡ before ++ tail
 read_cut texts tail before input rest r e = sym (from_start (map without_return r.raws)) ∙ (ap (parts_from []) r.texts_are ∙ e)
 
-cut_here : (texts : List (List ℕ)) (before : List Part) (g : List (List ℕ)) → IsCut texts before g → parts_from [] texts ≡ before ++ Message g ∷ []
+cut_here : (texts : List (List ℕ)) (before : List Part) (g : List (List ℕ)) → IsCut texts before g
+    → parts_from [] texts ≡ before ++ Message g ∷ []
 cut_here texts before g c = ap (parts_from []) (sym (append-nil texts)) ∙ c []
 
 -- a stop in the parts of the lines that are read
@@ -79,12 +93,15 @@ good_stops texts before tail input rest a b d n0 n1 c0 c1 c2 fault r e ran s = r
   more = raw_lines rest;
   lines = r.lines;
   are_good = r.good;
-  stops = subst (λ (ps : List Part). Stops ps a d n0 n1 c0 c2 fault) (sym (read_cut texts tail before input rest r e)) (runs_then_stops before tail a b d n0 n1 c0 c1 c2 fault ran s);
+  stops = subst (λ (ps : List Part). Stops ps a d n0 n1 c0 c2 fault) (sym (read_cut texts tail before input rest r e))
+      (runs_then_stops before tail a b d n0 n1 c0 c1 c2 fault ran s);
 }
 
 -- nothing is left
-all_good : (texts : List (List ℕ)) (input rest : List ℕ) → ReadTo texts input rest → raw_lines rest ≡ [] → AreGood (raw_lines input)
-all_good texts input rest r e = subst AreGood (sym (r.lines ∙ (ap (λ (w : List (List ℕ)). r.raws ++ w) e ∙ append-nil r.raws))) r.good
+all_good : (texts : List (List ℕ)) (input rest : List ℕ) → ReadTo texts input rest → raw_lines rest ≡ []
+    → AreGood (raw_lines input)
+all_good texts input rest r e =
+    subst AreGood (sym (r.lines ∙ (ap (λ (w : List (List ℕ)). r.raws ++ w) e ∙ append-nil r.raws))) r.good
 
 place_of_part : (fault : ScriptFault) (raws : List (List ℕ)) (before : List Part) → IsOfPart fault → IsPlace fault raws before
 place_of_part (stops.Store fault) raws before o = tt
@@ -102,7 +119,8 @@ pub stops_in : (texts : List (List ℕ)) (before : List Part) (g : List (List �
     → StopsInGoodLines (raw_lines input) a d n0 n1 c0 c2 fault → Ends input a d n0 n1 c0 c2 (Err fault)
 stops_in texts before g input rest a b d n0 n1 c0 c1 c2 fault r c ran o s good =
     let cut = script_cut texts before g input rest r c in
-    let stop = subst (λ (ps : List Part). Stops ps a d n0 n1 c0 c2 fault) (sym cut) (runs_then_stops before (parts_from g (map without_return (raw_lines rest))) a b d n0 n1 c0 c1 c2 fault ran s) in
+    let stop = subst (λ (ps : List Part). Stops ps a d n0 n1 c0 c2 fault) (sym cut)
+    (runs_then_stops before (parts_from g (map without_return (raw_lines rest))) a b d n0 n1 c0 c1 c2 fault ran s) in
     (stop, place_of_part fault (raw_lines input) stop.before o, good)
 
 -- the end of the input
@@ -111,12 +129,15 @@ pub ends_at : (texts : List (List ℕ)) (before : List Part) (g : List (List ℕ
     → raw_lines rest ≡ [] → IsCut texts before g → Runs before a b c0 c1
     → IfErr r IsOfPart → m ≡ n0 → EndsParts (Message g ∷ []) b d m n1 c1 c2 r → Ends input a d n0 n1 c0 c2 r
 ends_at texts before g input rest a b d m n0 n1 c0 c1 c2 (Ok end) r e c ran o same ends =
-    let cut = script_cut texts before g input rest r c ∙ ap (λ (w : List (List ℕ)). before ++ parts_from g (map without_return w)) e in
-    let all = subst (λ (ps : List Part). EndsParts ps a d n0 n1 c0 c2 (Ok end)) (sym cut) (runs_then_ends before (Message g ∷ []) a b d n0 n1 c0 c1 c2 (Ok end) ran ends) in
+    let cut = script_cut texts before g input rest r c
+    ∙ ap (λ (w : List (List ℕ)). before ++ parts_from g (map without_return w)) e in
+    let all = subst (λ (ps : List Part). EndsParts ps a d n0 n1 c0 c2 (Ok end)) (sym cut)
+    (runs_then_ends before (Message g ∷ []) a b d n0 n1 c0 c1 c2 (Ok end) ran ends) in
     (all_good texts input rest r e, all.0, all.1, all.2)
 ends_at texts before g input rest a b d m n0 n1 c0 c1 c2 (Err fault) r e c ran o same ends =
     let here = subst (λ (n : Faults). Stops (Message g ∷ []) b d n n1 c1 c2 fault) same ends in
-    stops_in texts before g input rest a b d n0 n1 c0 c1 c2 fault r c ran o (subst (λ (w : List (List ℕ)). Stops (parts_from g (map without_return w)) b d n0 n1 c1 c2 fault) (sym e) here)
+    stops_in texts before g input rest a b d n0 n1 c0 c1 c2 fault r c ran o
+    (subst (λ (w : List (List ℕ)). Stops (parts_from g (map without_return w)) b d n0 n1 c1 c2 fault) (sym e) here)
     (good_stops texts before (Message g ∷ []) input rest a b d n0 n1 c0 c1 c2 fault r (cut_here texts before g c) ran here)
 
 -- a stop in the reading
@@ -129,7 +150,8 @@ unbegun stops.Memory number m s d n0 n1 c o e n = (inl (e, n), appends_none c)
 unbegun stops.Write number m s d n0 n1 c o e n = absurd o
 unbegun (stops.Store fault) number m s d n0 n1 c o e n = absurd o
 
-first_bad : (texts : List (List ℕ)) (before : List Part) (g : List (List ℕ)) (input rest : List ℕ) (line number : ℕ) (P : List ℕ → Type 0) → ReadTo texts input rest → IsCut texts before g → length texts + 1 ≡ number → line ≡ number
+first_bad : (texts : List (List ℕ)) (before : List Part) (g : List (List ℕ)) (input rest : List ℕ) (line number : ℕ)
+    (P : List ℕ → Type 0) → ReadTo texts input rest → IsCut texts before g → length texts + 1 ≡ number → line ≡ number
     → (raw : List ℕ) (more : List (List ℕ)) → raw_lines rest ≡ raw ∷ more → P raw → IsFirstBad (raw_lines input) line before P
 first_bad texts before g input rest line number P r c n e raw more is bad = record {
   good = r.raws;
@@ -143,13 +165,17 @@ first_bad texts before g input rest line number P r c n e raw more is bad = reco
   parts = read_cut texts (Message g ∷ []) before input rest r (cut_here texts before g c);
 }
 
-place_of_line : (texts : List (List ℕ)) (before : List Part) (g : List (List ℕ)) (input rest : List ℕ) (number : ℕ) (fault : ScriptFault) → ReadTo texts input rest → IsCut texts before g → length texts + 1 ≡ number → IsLineFault number fault rest → IsPlace fault (raw_lines input) before
+place_of_line : (texts : List (List ℕ)) (before : List Part) (g : List (List ℕ)) (input rest : List ℕ) (number : ℕ)
+    (fault : ScriptFault) → ReadTo texts input rest → IsCut texts before g → length texts + 1 ≡ number
+    → IsLineFault number fault rest → IsPlace fault (raw_lines input) before
 place_of_line texts before g input rest number stops.Read r c n f = tt
 place_of_line texts before g input rest number stops.Memory r c n f = tt
 place_of_line texts before g input rest number stops.Write r c n f = tt
 place_of_line texts before g input rest number (stops.Store fault) r c n f = tt
-place_of_line texts before g input rest number (stops.NotUtf8 line) r c n f = first_bad texts before g input rest line number _ r c n f.0 f.1 f.2 f.3 (f.4, f.5)
-place_of_line texts before g input rest number (stops.LineTooLong line) r c n f = first_bad texts before g input rest line number _ r c n f.0 f.1 f.2 f.3 f.4
+place_of_line texts before g input rest number (stops.NotUtf8 line) r c n f =
+    first_bad texts before g input rest line number _ r c n f.0 f.1 f.2 f.3 (f.4, f.5)
+place_of_line texts before g input rest number (stops.LineTooLong line) r c n f =
+    first_bad texts before g input rest line number _ r c n f.0 f.1 f.2 f.3 f.4
 
 pub stops_reading : (texts : List (List ℕ)) (before : List Part) (g : List (List ℕ)) (input rest : List ℕ) (number : ℕ)
     (a b : Standing) (d : Desk) (n0 n1 : Faults) (c0 c1 : Option (List ℕ)) (fault : ScriptFault) → ReadTo texts input rest
@@ -167,22 +193,28 @@ stops_reading texts before g input rest number a b d n0 n1 c0 c1 fault r c ran s
         split = cut;
         between = c1;
         ran = ran.1;
-        stops = unbegun fault number p.0 (after_parts before a) d n0 n1 c1 o (same ∙ ap (λ (s : Standing). s.desk) ran.0) uncounted;
+        stops = unbegun fault number p.0 (after_parts before a) d n0 n1 c1 o (same ∙ ap (λ (s : Standing). s.desk) ran.0)
+            uncounted;
       },
       place_of_line texts before g input rest number fault r c n f,
-      good_stops texts before (Message g ∷ []) input rest a b d n0 n1 c0 c1 c1 fault r (cut_here texts before g c) ran (one_stops (Message g) b d n0 n1 c1 c1 fault (unbegun fault number g b d n0 n1 c1 o same uncounted)),
+      good_stops texts before (Message g ∷ []) input rest a b d n0 n1 c0 c1 c1 fault r (cut_here texts before g c) ran
+          (one_stops (Message g) b d n0 n1 c1 c1 fault (unbegun fault number g b d n0 n1 c1 o same uncounted)),
     )
 
 -- nothing read, out of memory
 pub stops_at_once : (input : List ℕ) (a : Standing) (n : Faults) (c : Option (List ℕ))
     → Ends input a a.desk n n c c (Err stops.Memory)
-stops_at_once input a n c = stops_reading [] [] [] input input 1 a a a.desk n n c c stops.Memory (nothing_read input) (λ lines. refl) (runs_none a c) refl refl refl tt tt
+stops_at_once input a n c =
+    stops_reading [] [] [] input input 1 a a a.desk n n c c stops.Memory (nothing_read input) (λ lines. refl) (runs_none a c) refl
+    refl refl tt tt
 
-pub left_more : {a b c : Option (List ℕ)} {P Q R : List ℕ → List ℕ → Type 0} → Left a b P → Left b c Q → ((xs ys zs : List ℕ) → P xs ys → Q ys zs → R xs zs) → Left a c R
+pub left_more : {a b c : Option (List ℕ)} {P Q R : List ℕ → List ℕ → Type 0} → Left a b P → Left b c Q
+    → ((xs ys zs : List ℕ) → P xs ys → Q ys zs → R xs zs) → Left a c R
 left_more p q f = record { known = λ xs e. let u = p.known xs e in let v = q.known u.0 u.1 in (v.0, v.1, f xs u.0 v.0 u.2 v.2) }
 
 -- a failed read, after whole lines
-pub read_in_part : {a b c : Option (List ℕ)} (texts : List (List ℕ)) (s t : List ℕ) → t ≡ [] → Left a b (λ xs ys. ReadTo texts xs (s ++ ys)) → Left b c (λ ys zs. IsBegun (s ++ ys) (t ++ zs)) → Left a c IsReadInPart
+pub read_in_part : {a b c : Option (List ℕ)} (texts : List (List ℕ)) (s t : List ℕ) → t ≡ []
+    → Left a b (λ xs ys. ReadTo texts xs (s ++ ys)) → Left b c (λ ys zs. IsBegun (s ++ ys) (t ++ zs)) → Left a c IsReadInPart
 read_in_part texts s t none p q = left_more p q (λ xs ys zs r b. record {
   good = r.raws;
   left = s ++ ys;
@@ -195,10 +227,12 @@ pub left_same : (a : Option (List ℕ)) {P : List ℕ → List ℕ → Type 0} �
 left_same a f = record { known = λ xs e. (xs, e, f xs) }
 
 -- what is known of what is left is known of the whole
-pub known_before : {a b : Option (List ℕ)} {P : List ℕ → List ℕ → Type 0} {Q R : List ℕ → Type 0} → Left a b P → Known b Q → ((xs ys : List ℕ) → P xs ys → Q ys → R xs) → Known a R
+pub known_before : {a b : Option (List ℕ)} {P : List ℕ → List ℕ → Type 0} {Q R : List ℕ → Type 0} → Left a b P → Known b Q
+    → ((xs ys : List ℕ) → P xs ys → Q ys → R xs) → Known a R
 known_before p q f = record { known = λ xs e. let u = p.known xs e in f xs u.0 u.2 (q.known u.0 u.1) }
 
-pub known_of : {a b : Option (List ℕ)} {P : List ℕ → List ℕ → Type 0} {R : List ℕ → Type 0} → Left a b P → ((xs ys : List ℕ) → P xs ys → R xs) → Known a R
+pub known_of : {a b : Option (List ℕ)} {P : List ℕ → List ℕ → Type 0} {R : List ℕ → Type 0} → Left a b P
+    → ((xs ys : List ℕ) → P xs ys → R xs) → Known a R
 known_of p f = record { known = λ xs e. let u = p.known xs e in f xs u.0 u.2 }
 
 pub none_right : (xs ys : List ℕ) → xs ++ ys ≡ [] → ys ≡ []
@@ -209,7 +243,9 @@ pub on_ok : {T E P : Type 0} (r : Result T E) → P → OnOk r P
 on_ok (Ok x) p = p
 on_ok (Err e) p = tt
 
-pub no_lines_left : (line : List ℕ) (all rest : List ℕ) → (raw : List ℕ) × (raw_lines all ≡ raw ∷ []) × IsGoodLine raw × (line ≡ without_return raw) × (rest ≡ []) → (raw : List ℕ) × (raw_lines all ≡ raw ∷ raw_lines rest) × IsGoodLine raw × (line ≡ without_return raw)
+pub no_lines_left : (line : List ℕ) (all rest : List ℕ) → (raw : List ℕ) × (raw_lines all ≡ raw ∷ []) × IsGoodLine raw
+    × (line ≡ without_return raw) × (rest ≡ []) → (raw : List ℕ) × (raw_lines all ≡ raw ∷ raw_lines rest) × IsGoodLine raw
+    × (line ≡ without_return raw)
 no_lines_left line all rest p = (p.0, p.1 ∙ ap (λ (w : List ℕ). p.0 ∷ raw_lines w) (sym p.4), p.2, p.3)
 
 -- what a line gives
@@ -228,30 +264,42 @@ stops_in_line texts before g source rest line a b d m n0 n1 c0 c1 c2 fault same 
       let u = read.known xs e in
       let v = piece.known u.0 u.1 in
       let p = v.2 in
-      let told : (lines : List (List ℕ)) → Stops (parts_from g (line ∷ lines)) b d n0 n1 c1 c2 fault = λ lines. subst (λ (n : Faults). Stops (parts_from g (line ∷ lines)) b d n n1 c1 c2 fault) same (stop lines) in
+      let told : (lines : List (List ℕ)) → Stops (parts_from g (line ∷ lines)) b d n0 n1 c1 c2 fault =
+      λ lines. subst (λ (n : Faults). Stops (parts_from g (line ∷ lines)) b d n n1 c1 c2 fault) same (stop lines) in
       let here : line ∷ map without_return (raw_lines (rest ++ v.0)) ≡ map without_return (raw_lines (source ++ u.0)) =
       ap (λ (w : List ℕ). w ∷ map without_return (raw_lines (rest ++ v.0))) p.3 ∙ sym (ap (map without_return) p.1) in
-      stops_in texts before g xs (source ++ u.0) a b d n0 n1 c0 c1 c2 fault u.2 c ran o (subst (λ (ls : List (List ℕ)). Stops (parts_from g ls) b d n0 n1 c1 c2 fault) here (told (map without_return (raw_lines (rest ++ v.0)))))
-      (good_stops (texts ++ line ∷ []) before (parts_from g (line ∷ [])) xs (rest ++ v.0) a b d n0 n1 c0 c1 c2 fault (read_more texts xs (source ++ u.0) (rest ++ v.0) line u.2 p) (c (line ∷ [])) ran (told []));
+      stops_in texts before g xs (source ++ u.0) a b d n0 n1 c0 c1 c2 fault u.2 c ran o
+      (subst (λ (ls : List (List ℕ)). Stops (parts_from g ls) b d n0 n1 c1 c2 fault) here
+      (told (map without_return (raw_lines (rest ++ v.0)))))
+      (good_stops (texts ++ line ∷ []) before (parts_from g (line ∷ [])) xs (rest ++ v.0) a b d n0 n1 c0 c1 c2 fault
+      (read_more texts xs (source ++ u.0) (rest ++ v.0) line u.2 p) (c (line ∷ [])) ran (told []));
 }
 
 -- the last line, as one that is read
-pub last_line : {r1 r2 : Option (List ℕ)} (source rest line : List ℕ) → Left r1 r2 (λ ys zs. (raw : List ℕ) × (raw_lines (source ++ ys) ≡ raw ∷ []) × IsGoodLine raw × (line ≡ without_return raw) × (rest ++ zs ≡ [])) → Left r1 r2 (λ ys zs. IsNextLine line (source ++ ys) (rest ++ zs))
-last_line source rest line p = record { known = λ ys e. let u = p.known ys e in (u.0, u.1, no_lines_left line (source ++ ys) (rest ++ u.0) u.2) }
+pub last_line : {r1 r2 : Option (List ℕ)} (source rest line : List ℕ)
+    → Left r1 r2 (λ ys zs. (raw : List ℕ) × (raw_lines (source ++ ys) ≡ raw ∷ []) × IsGoodLine raw × (line ≡ without_return raw)
+    × (rest ++ zs ≡ [])) → Left r1 r2 (λ ys zs. IsNextLine line (source ++ ys) (rest ++ zs))
+last_line source rest line p =
+    record { known = λ ys e. let u = p.known ys e in (u.0, u.1, no_lines_left line (source ++ ys) (rest ++ u.0) u.2) }
 
 -- the end of the input, after its last line
 pub ends_at_last : {r0 r1 r2 : Option (List ℕ)} (texts : List (List ℕ)) (before parts : List Part) (g h : List (List ℕ))
     (source rest line : List ℕ) (a b : Standing) (d : Desk) (m n0 n1 : Faults) (c0 c1 c2 : Option (List ℕ))
     (r : Result ScriptEnd ScriptFault) → Left r0 r1 (λ xs ys. ReadTo texts xs (source ++ ys))
-    → Left r1 r2 (λ ys zs. (raw : List ℕ) × (raw_lines (source ++ ys) ≡ raw ∷ []) × IsGoodLine raw × (line ≡ without_return raw) × (rest ++ zs ≡ [])) → IsCut texts before g → ((lines : List (List ℕ)) → parts_from g (line ∷ lines) ≡ parts ++ parts_from h lines) → Runs (before ++ parts) a b c0 c1
+    → Left r1 r2 (λ ys zs. (raw : List ℕ) × (raw_lines (source ++ ys) ≡ raw ∷ []) × IsGoodLine raw × (line ≡ without_return raw)
+    × (rest ++ zs ≡ [])) → IsCut texts before g
+    → ((lines : List (List ℕ)) → parts_from g (line ∷ lines) ≡ parts ++ parts_from h lines) → Runs (before ++ parts) a b c0 c1
     → IfErr r IsOfPart → m ≡ n0 → EndsParts (Message h ∷ []) b d m n1 c1 c2 r → Known r0 (λ xs. Ends xs a d n0 n1 c0 c2 r)
 ends_at_last texts before parts g h source rest line a b d m n0 n1 c0 c1 c2 r read piece c f ran o same ends = record {
   known = λ xs e.
       let u = read.known xs e in
       let v = piece.known u.0 u.1 in
       let p = v.2 in
-      ends_at (texts ++ line ∷ []) (before ++ parts) h xs (rest ++ v.0) a b d m n0 n1 c0 c1 c2 r (read_more texts xs (source ++ u.0) (rest ++ v.0) line u.2 (no_lines_left line (source ++ u.0) (rest ++ v.0) p)) (ap raw_lines p.4) (cut_more texts before parts g h line c f) ran o same ends;
+      ends_at (texts ++ line ∷ []) (before ++ parts) h xs (rest ++ v.0) a b d m n0 n1 c0 c1 c2 r
+      (read_more texts xs (source ++ u.0) (rest ++ v.0) line u.2 (no_lines_left line (source ++ u.0) (rest ++ v.0) p))
+      (ap raw_lines p.4) (cut_more texts before parts g h line c f) ran o same ends;
 }
 
-pub one_line_more : (texts : List (List ℕ)) (line : List ℕ) (number : ℕ) → length texts + 1 ≡ number → length (texts ++ line ∷ []) + 1 ≡ number + 1
+pub one_line_more : (texts : List (List ℕ)) (line : List ℕ) (number : ℕ) → length texts + 1 ≡ number
+    → length (texts ++ line ∷ []) + 1 ≡ number + 1
 one_line_more texts line number e = ap (λ (n : ℕ). n + 1) (length-append texts (line ∷ []) ∙ e)

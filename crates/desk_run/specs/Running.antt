@@ -1,6 +1,7 @@
 -- What running a script leaves and has written, at its end and at each fault.
 -- This project's own rule.
-use Rattle.std.specs.Prelude.{ℕ, ◌≡◌, ◌⊎◌, ◌+◌, ◌<◌, ◌≤◌, List, [], ◌∷◌, ◌++◌, length, take, map, Option, Some, Result, Ok, Err, ⊤}
+use Rattle.std.specs.Prelude.{ℕ, ◌≡◌, ◌⊎◌, ◌+◌, ◌<◌, ◌≤◌, List, [], ◌∷◌, ◌++◌, length, take, map, Option, Some, Result, Ok, Err}
+use Rattle.std.specs.Prelude.{⊤}
 use Rattle.std.specs.Io.KnownBytes.{Appends}
 use Rattle.std.specs.Str.{IsUtf8}
 use Rattle.bug_record.specs.Sets.{Each}
@@ -13,7 +14,8 @@ use Rattle.desk_store.specs.Message.{Entry, IsReceived}
 use Rattle.desk_lines.specs.Lines.{raw_lines, without_return}
 use Rattle.desk_lines.specs.Reading.{IsGoodLine, IsBegun}
 use Rattle.desk_messages.specs.Transcripts.{received_text}
-use Rattle.desk_run.specs.Script.{Part, Message, DirectiveLine, Directive, From, Report, Branch, Bad, directive_of, Standing, parts_of_lines, script_of, part_text, part_after, text_of, after_parts, end_of_script}
+use Rattle.desk_run.specs.Script.{Part, Message, DirectiveLine, Directive, From, Report, Branch, Bad, directive_of, Standing}
+use Rattle.desk_run.specs.Script.{parts_of_lines, script_of, part_text, part_after, text_of, after_parts, end_of_script}
 use Rattle.bug_record.specs.declared.severity.Severity.{Severity}
 use Rattle.ancestry.specs.Nodes.{Node}
 use Rattle.desk_messages.specs.Reports.{report_severity}
@@ -28,7 +30,8 @@ Runs parts a b c0 c1 = (b ≡ after_parts parts a) × Appends c0 c1 (text_of par
 
 -- a directive that asks the store: a report whose words are good, or a branch whose words are nodes
 abbrev pub AsksStore : Directive → Type 0
-AsksStore (Report package_name version severity title) = (s : Severity) × (report_severity package_name version severity title ≡ Ok s)
+AsksStore (Report package_name version severity title) =
+    (s : Severity) × (report_severity package_name version severity title ≡ Ok s)
 AsksStore (Branch words) = (nodes : List Node) × (nodes_of words ≡ Some nodes)
 AsksStore (From sender) = ⊥
 AsksStore Bad = ⊥
@@ -37,7 +40,8 @@ AsksStore Bad = ⊥
 -- fault's; a report or a branch changed nothing, and its text is the fault's.
 abbrev pub FaultsIn : Part → Standing → StoreFault → Desk → List ℕ → Type 0
 FaultsIn (Message lines) s fault d text =
-    (outcomes : List Entry) × (k : ℕ) × IsReceived s.sender lines s.desk outcomes (ends.Store fault k) d × (text ≡ received_text outcomes (ends.Store fault k) lines)
+    (outcomes : List Entry) × (k : ℕ) × IsReceived s.sender lines s.desk outcomes (ends.Store fault k) d
+    × (text ≡ received_text outcomes (ends.Store fault k) lines)
 FaultsIn (DirectiveLine line) s fault d text = AsksStore (directive_of line) × (d ≡ s.desk) × (text ≡ fault_text fault)
 
 -- A part was carried out, whole and with no fault, or up to a fault of the store, which is counted;

@@ -1,6 +1,7 @@
 -- A script: its parts, what is written for them, and the desk that they leave.
 -- This project's own rule.
-use Rattle.std.specs.Prelude.{ℕ, ◌==◌, Bool, true, false, ◌||◌, List, [], ◌∷◌, ◌++◌, Option, Some, None, Result, Ok, Err, codes, if◌then◌else◌, ⊤}
+use Rattle.std.specs.Prelude.{ℕ, ◌==◌, Bool, true, false, ◌||◌, List, [], ◌∷◌, ◌++◌, Option, Some, None, Result, Ok, Err, codes}
+use Rattle.std.specs.Prelude.{if◌then◌else◌, ⊤}
 use Rattle.std.specs.List.{list_any}
 use Rattle.std.specs.Str.{bytes_eq}
 use Rattle.bug_record.specs.Texts.{is_text, IsText}
@@ -121,13 +122,15 @@ after_branch (Err refusal) s = standing s.desk s.sender true
 -- what is written for a directive, and where the script stands after it
 abbrev pub directive_text : Directive → Standing → List ℕ
 directive_text (From sender) s = []
-directive_text (Report package_name version severity title) s = report_text (report_of s.desk s.sender package_name version severity title) s.desk.next
+directive_text (Report package_name version severity title) s =
+    report_text (report_of s.desk s.sender package_name version severity title) s.desk.next
 directive_text (Branch words) s = branch_text (branch_of s.desk.tree words)
 directive_text Bad s = bad_directive_answer
 
 abbrev pub after_directive : Directive → Standing → Standing
 after_directive (From sender) s = standing s.desk sender s.refused
-after_directive (Report package_name version severity title) s = after_report (report_of s.desk s.sender package_name version severity title) s
+after_directive (Report package_name version severity title) s =
+    after_report (report_of s.desk s.sender package_name version severity title) s
 after_directive (Branch words) s = after_branch (branch_of s.desk.tree words) s
 after_directive Bad s = standing s.desk s.sender true
 

@@ -3,7 +3,8 @@
 ghost use Rattle.std.specs.Prelude.{◌≡◌};
 ghost use Rattle.std.specs.Option.{option_copied};
 ghost use Rattle.control_text.specs.Words.{has_bytes};
-ghost use Rattle.desk_run.specs.Script.{is_directive, given_version, from_directive, report_directive, directive_of, HasGoodSender};
+ghost use Rattle.desk_run.specs.Script.{is_directive, given_version, from_directive, report_directive, directive_of};
+ghost use Rattle.desk_run.specs.Script.{HasGoodSender};
 ghost use Rattle.desk_run.specs.Directives.{said};
 
 use bug_core::is_text;

@@ -1,6 +1,7 @@
 //! Scripts: messages and directives, from a reader to a writer.
 
-ghost use Rattle.std.specs.Prelude.{◌≡◌, ℕ, ◌<◌, ◌||◌, true, length, take, Some, Result, List, [], ◌∷◌, ◌++◌, OnOk, OnErr, IfOk, IfErr};
+ghost use Rattle.std.specs.Prelude.{◌≡◌, ℕ, ◌<◌, ◌||◌, true, length, take, Some, Result, List, [], ◌∷◌, ◌++◌, OnOk, OnErr, IfOk};
+ghost use Rattle.std.specs.Prelude.{IfErr};
 ghost use Rattle.std.specs.Option.{option_copied};
 ghost use Rattle.bug_record.specs.Texts.{IsText};
 ghost use Rattle.desk_store.specs.Store.{Holds};
@@ -82,7 +83,8 @@ fn finish_message<S: Records, W: Write>(
 // Writes the answer to a directive that is refused before the store is asked.
 fn refuse<W: Write>(writer: &mut W, run: &mut Run, answer: &str) -> Result<(), ScriptFault>
     ensures all { OnOk result (Appends (W.contents writer.old) (W.contents writer.new) answer.now) }
-    ensures unfinished { OnErr result ((n : ℕ) × (n < length answer.now) × Appends (W.contents writer.old) (W.contents writer.new) (take n answer.now)) }
+    ensures unfinished { OnErr result
+        ((n : ℕ) × (n < length answer.now) × Appends (W.contents writer.old) (W.contents writer.new) (take n answer.now)) }
     ensures write { OnErr result (result ≡ Result.Err ScriptFault.Write) }
     ensures refused { OnOk result (run.new.refused ≡ true) }
     ensures sender { run.new.sender ≡ run.old.sender }
@@ -216,7 +218,8 @@ fn take_line<S: Records, W: Write>(
     line: Text,
 ) -> Result<(), ScriptFault>
     ensures ok { IfOk result (λ done. (parts : List Part)
-        × ((lines : List (List ℕ)) → parts_from run.old.gathered.items (line ∷ lines) ≡ parts ++ parts_from run.new.gathered.items lines)
+        × ((lines : List (List ℕ))
+        → parts_from run.old.gathered.items (line ∷ lines) ≡ parts ++ parts_from run.new.gathered.items lines)
         × Holds S.is_kept S.is_honest store.old store.new (Runs parts
         (standing (S.desk store.old) run.old.sender run.old.refused) (standing (S.desk store.new) run.new.sender run.new.refused)
         (W.contents writer.old) (W.contents writer.new))) }

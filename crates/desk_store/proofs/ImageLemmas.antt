@@ -1,5 +1,6 @@
 -- Members of images, and the images of a change that have a bug.
-use Rattle.std.proofs.Common.{◌≡◌, ◌<◌, ℕ, Bool, true, false, cond, ◌||◌, eqb, List, [], ◌∷◌, Option, Some, None, sym, refl, ap, ◌∙◌, arith}
+use Rattle.std.proofs.Common.{◌≡◌, ◌<◌, ℕ, Bool, true, false, cond, ◌||◌, eqb, List, [], ◌∷◌, Option, Some, None, sym, refl, ap}
+use Rattle.std.proofs.Common.{◌∙◌, arith}
 use Rattle.std.specs.Prelude.{option_map}
 use Rattle.std.specs.Option.{option_or, option_and_then}
 use Rattle.std.proofs.lemmas.Option.{same_Some, none-some}

@@ -14,7 +14,8 @@ use Rattle.bug_record.specs.declared.bug.Member.{Member}
 use Rattle.bug_record.specs.declared.bug.SetImage.{SetImage}
 use Rattle.desk_store.specs.Keys.{key_of, keyed_bug, keyed_desk, has_bug, IsKeyed, image_with, key_after, image_at_key, set_after}
 use Rattle.desk_store.specs.Store.{IsImageOf}
-use Rattle.desk_store.proofs.ImageLemmas.{none_from, member-has, has-member_some, each_found, first-has, image_with-has, image_with-same, bug_in-some, bug_in-none, bug_in-image_with}
+use Rattle.desk_store.proofs.ImageLemmas.{none_from, member-has, has-member_some, each_found, first-has, image_with-has}
+use Rattle.desk_store.proofs.ImageLemmas.{image_with-same, bug_in-some, bug_in-none, bug_in-image_with}
 
 -- the bug n, as an image shows it
 abbrev show : ℕ → Option SetImage → Option Bug

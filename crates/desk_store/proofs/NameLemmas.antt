@@ -1,5 +1,6 @@
 -- Unknown names, and numbers that no bug has.
-use Rattle.std.proofs.Common.{◌≡◌, ◌<◌, ◌≤◌, ◌+◌, ◌-◌, ℕ, Bool, List, true, false, Option, Some, None, Result, Err, ◌∙◌, ap, refl, arith}
+use Rattle.std.proofs.Common.{◌≡◌, ◌<◌, ◌≤◌, ◌+◌, ◌-◌, ℕ, Bool, List, true, false, Option, Some, None, Result, Err, ◌∙◌, ap, refl}
+use Rattle.std.proofs.Common.{arith}
 use Rattle.std.specs.Prelude.{nat_lt, if◌then◌else◌}
 use Rattle.std.proofs.lemmas.Bool.{lt-ltb, le-ltb}
 use Rattle.bug_record.specs.Desk.{Desk, IsSound}
@@ -59,7 +60,8 @@ absent : {A : Type 0} (o : Option Bug) (m n : ℕ) (f : Bug → Result A Refusal
 absent o m n f is none = ap (λ (p : Option Bug). at_bug p m f) none ∙ ap (λ (k : ℕ). Err (NoBug k)) is
 
 -- a command of a bug that is not there
-refused : (d : Desk) (command : Command ℕ) (n : ℕ) (sender : List ℕ) → bug_named command ≡ n → d.bug n ≡ None → step d sender command ≡ Err (NoBug n)
+refused : (d : Desk) (command : Command ℕ) (n : ℕ) (sender : List ℕ) → bug_named command ≡ n → d.bug n ≡ None
+    → step d sender command ≡ Err (NoBug n)
 refused d (commands.Found m version) n sender is none = absent (d.bug m) m n _ is (ap d.bug is ∙ none)
 refused d (commands.NotFound m version) n sender is none = absent (d.bug m) m n _ is (ap d.bug is ∙ none)
 refused d (commands.Fixed m version) n sender is none = absent (d.bug m) m n _ is (ap d.bug is ∙ none)
@@ -79,12 +81,14 @@ refused d (commands.NotForwarded m) n sender is none = absent (d.bug m) m n _ is
 refused d (commands.Owner m who) n sender is none = absent (d.bug m) m n _ is (ap d.bug is ∙ none)
 refused d (commands.NoOwner m) n sender is none = absent (d.bug m) m n _ is (ap d.bug is ∙ none)
 
-pub name_refused : (d : Desk) (command : Command ℕ) (k : ℕ) (sender : List ℕ) → IsSound d → 0 < k → bug_named command ≡ 1000000000 + k → outcome_of d (step d sender command) ≡ (Refused (NoName k), d)
+pub name_refused : (d : Desk) (command : Command ℕ) (k : ℕ) (sender : List ℕ) → IsSound d → 0 < k
+    → bug_named command ≡ 1000000000 + k → outcome_of d (step d sender command) ≡ (Refused (NoName k), d)
 name_refused d command k sender sound some is =
     ap (outcome_of d) (refused d command (1000000000 + k) sender is (none_above d (1000000000 + k) sound (omega arith)))
     ∙ (λ i. (Refused (meant_name k some i), d))
 
-pub number_refused : (d : Desk) (command : Command ℕ) (n : ℕ) (sender : List ℕ) → n ≤ 999999999 → d.bug n ≡ None → bug_named command ≡ n → outcome_of d (step d sender command) ≡ (Refused (NoBug n), d)
+pub number_refused : (d : Desk) (command : Command ℕ) (n : ℕ) (sender : List ℕ) → n ≤ 999999999 → d.bug n ≡ None
+    → bug_named command ≡ n → outcome_of d (step d sender command) ≡ (Refused (NoBug n), d)
 number_refused d command n sender few none is =
     ap (outcome_of d) (refused d command n sender is none)
     ∙ (λ i. (Refused (meant_number n few i), d))

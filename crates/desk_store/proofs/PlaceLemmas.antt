@@ -1,5 +1,6 @@
 -- Places that are written into a map, one after another.
-use Rattle.std.proofs.Common.{◌≡◌, ℕ, suc, zero, Bool, true, false, not, cond, ◌||◌, eqb, List, [], ◌∷◌, ◌++◌, length, get_or, drop, Option, Some, None, sym, refl, ap, ◌∙◌, subst, arith}
+use Rattle.std.proofs.Common.{◌≡◌, ℕ, suc, zero, Bool, true, false, not, cond, ◌||◌, eqb, List, [], ◌∷◌, ◌++◌, length, get_or}
+use Rattle.std.proofs.Common.{drop, Option, Some, None, sym, refl, ap, ◌∙◌, subst, arith}
 use Rattle.std.specs.Prelude.{Result, Ok, Err, IsOk, OnErr, is_some, filter, slice_get}
 use Rattle.std.specs.Option.{option_or}
 use Rattle.std.specs.Ordering.{is_eq, nat_cmp}
@@ -47,13 +48,14 @@ pub absent_never : (bugs now : BTreeMap ℕ Place) (ms others : List Member) (fi
 absent_never bugs now ms others first k is there u e = cases (has (numbers_of others) first.number) refl
   where
     cases : (t : Bool) → has (numbers_of others) first.number ≡ t → ⊥
-    cases true q = none-some (After k) (sym e ∙ (u first.number ∙ ap (λ t. cond t (Some (After k)) (get nat_cmp bugs first.number)) q))
+    cases true q = none-some (After k)
+        (sym e ∙ (u first.number ∙ ap (λ t. cond t (Some (After k)) (get nat_cmp bugs first.number)) q))
     cases false q =
         let own : has (numbers_of ms) first.number ≡ true =
-            ap (λ (z : List Member). has (numbers_of z) first.number) is
-            ∙ ap (λ t. t || has (numbers_of others) first.number) (eq-eqb first.number first.number refl) in
+        ap (λ (z : List Member). has (numbers_of z) first.number) is
+        ∙ ap (λ t. t || has (numbers_of others) first.number) (eq-eqb first.number first.number refl) in
         let gone : get nat_cmp bugs first.number ≡ None =
-            sym (u first.number ∙ ap (λ t. cond t (Some (After k)) (get nat_cmp bugs first.number)) q) ∙ e in
+        sym (u first.number ∙ ap (λ t. cond t (Some (After k)) (get nat_cmp bugs first.number)) q) ∙ e in
         false≢true (sym (ap is_some gone) ∙ there first.number own)
 
 -- ---- the places v of numbers, written one by one
@@ -132,7 +134,8 @@ last-there bugs is rest i e h n own =
     ∙ option_or-some (place_in rest n) (place_in (i ∷ []) n) (ap (λ t. is_some (cond t (Some (place_of i n)) None)) own)))
 
 -- one image more is in
-pub putting_more : (old : BTreeMap ℕ Place) (all : List SetImage) (now more : BTreeMap ℕ Place) (is rest : List SetImage) (i : SetImage)
+pub putting_more : (old : BTreeMap ℕ Place) (all : List SetImage) (now more : BTreeMap ℕ Place) (is rest : List SetImage)
+    (i : SetImage)
     → is ≡ rest ++ i ∷ [] → IsPutting old all now is
     → ((n : ℕ) → get nat_cmp more n ≡ option_or (place_in (i ∷ []) n) (get nat_cmp now n)) → IsPutting old all more rest
 putting_more old all now more is rest i e p h = record {

@@ -1,6 +1,7 @@
 -- A message, as a machine that takes its lines one at a time (stops: the BTS page 'control and
 -- manipulation'; the rest is this project's own rule).
-use Rattle.std.specs.Prelude.{ℕ, ◌≡◌, ◌+◌, ◌-◌, ◌<◌, ◌≤◌, ◌==◌, nat_lt, nat_le, Bool, true, false, List, [], ◌∷◌, ◌++◌, length, take, count_by, Option, Some, None, Result, Ok, Err, unwrap_or, if◌then◌else◌}
+use Rattle.std.specs.Prelude.{ℕ, ◌≡◌, ◌+◌, ◌-◌, ◌<◌, ◌≤◌, ◌==◌, nat_lt, nat_le, Bool, true, false, List, [], ◌∷◌, ◌++◌, length}
+use Rattle.std.specs.Prelude.{take, count_by, Option, Some, None, Result, Ok, Err, unwrap_or, if◌then◌else◌}
 use Rattle.std.specs.List.{list_any}
 use Rattle.bug_record.specs.Desk.{Desk}
 use Rattle.bug_record.specs.Commands.{command_over}
@@ -115,9 +116,10 @@ abbrev pub at_start : Desk → Machine
 at_start d = machine d []
 
 -- in these lines the machine comes to these outcomes, this end and this desk
-pub record Comes (sender : List ℕ) (lines : List (List ℕ)) (old : Desk) (outcomes : List Entry) (end : End) (new : Desk) : Type 0 where
-  pub after : after_lines sender (at_start old) lines ≡ machine new outcomes
-  pub end_is : end_of outcomes ≡ end
+pub record Comes (sender : List ℕ) (lines : List (List ℕ)) (old : Desk) (outcomes : List Entry) (end : End) (new : Desk) : Type 0
+  where
+    pub after : after_lines sender (at_start old) lines ≡ machine new outcomes
+    pub end_is : end_of outcomes ≡ end
 
 -- What a message comes to: its outcomes, its end, and the desk after it.
 -- With a fault at line k, the lines before k were taken, and line k and the later ones were not.
@@ -125,7 +127,8 @@ abbrev pub IsReceived : List ℕ → List (List ℕ) → Desk → List Entry →
 IsReceived sender lines old outcomes ends.All new = Comes sender lines old outcomes ends.All new
 IsReceived sender lines old outcomes ends.Stopped new = Comes sender lines old outcomes ends.Stopped new
 IsReceived sender lines old outcomes ends.TooManyUnreadable new = Comes sender lines old outcomes ends.TooManyUnreadable new
-IsReceived sender lines old outcomes (ends.Store fault k) new = (0 < k) × (k ≤ length lines) × Comes sender (take (k - 1) lines) old outcomes ends.All new
+IsReceived sender lines old outcomes (ends.Store fault k) new =
+    (0 < k) × (k ≤ length lines) × Comes sender (take (k - 1) lines) old outcomes ends.All new
 
 -- the store's faults after a message
 abbrev pub faults_after_end : End → Faults → Faults

@@ -15,14 +15,17 @@ use desk_text::{Outcome, StoreFault};
 /// desk a command of an unknown name is refused by that name, and a command of a number that no bug
 /// has by that number.
 pub fn names_are_told_from_numbers()
-    ensures of_name { (sender : List ℕ) (d : Desk) (command : Command Named) (k : ℕ) → IsSound d → 0 < k → bug_named command ≡ Named.Name k
+    ensures of_name { (sender : List ℕ) (d : Desk) (command : Command Named) (k : ℕ) → IsSound d → 0 < k
+        → bug_named command ≡ Named.Name k
         → does sender [] d command ≡ (Outcome.Refused (Refusal.NoName k), d) }
-    ensures of_number { (sender : List ℕ) (d : Desk) (command : Command Named) (n : ℕ) → n ≤ 999999999 → d.bug n ≡ None → bug_named command ≡ Named.Number n
+    ensures of_number { (sender : List ℕ) (d : Desk) (command : Command Named) (n : ℕ) → n ≤ 999999999 → d.bug n ≡ None
+        → bug_named command ≡ Named.Number n
         → does sender [] d command ≡ (Outcome.Refused (Refusal.NoBug n), d) }
 {}
 
 /// A fault of the store but out of memory raises the number of all faults by one, up to the largest
 /// `u64`.
 pub fn faults_rise_by_one()
-    ensures { (fault : StoreFault) (faults : Faults) → fault ≢ StoreFault.Memory → total (counted fault faults) ≡ one_more (total faults) }
+    ensures { (fault : StoreFault) (faults : Faults) → fault ≢ StoreFault.Memory
+        → total (counted fault faults) ≡ one_more (total faults) }
 {}

@@ -1,7 +1,8 @@
 //! The places of bugs in their sets, and the images of a change, put into them: all of them, or none
 //! where there is no memory.
 
-ghost use Rattle.std.specs.Prelude.{◌≡◌, ◌++◌, ℕ, Some, None, [], ◌∷◌, false, filter, is_some, IsTrue, IsOk, IfOk, IfSome, OnOk, OnErr, if◌then◌else◌};
+ghost use Rattle.std.specs.Prelude.{◌≡◌, ◌++◌, ℕ, Some, None, [], ◌∷◌, false, filter, is_some, IsTrue, IsOk, IfOk, IfSome, OnOk};
+ghost use Rattle.std.specs.Prelude.{OnErr, if◌then◌else◌};
 ghost use Rattle.std.specs.BTreeMap.{get};
 ghost use Rattle.std.specs.Option.{option_or};
 ghost use Rattle.std.specs.Ordering.{nat_cmp};
@@ -112,7 +113,8 @@ fn copies_of(alloc: Global, images: &[SetImage]) -> Result<Vec<SetImage>, AllocE
 // Gives each of these numbers a place, which stands for itself.
 // Where there is no memory, some of them may have it, and all else is as before.
 fn add_places(bugs: &mut BTreeMap<u64, Place>, numbers: &[u64]) -> Result<(), AllocError>
-    ensures ok { OnOk result ((n : ℕ) → get nat_cmp bugs.new n ≡ (if has numbers.now n then Some (Place.After n) else get nat_cmp bugs.old n)) }
+    ensures ok { OnOk result
+        ((n : ℕ) → get nat_cmp bugs.new n ≡ (if has numbers.now n then Some (Place.After n) else get nat_cmp bugs.old n)) }
     ensures err { OnErr result ((n : ℕ) → has numbers.now n ≡ false → get nat_cmp bugs.new n ≡ get nat_cmp bugs.old n) }
 {
     for number in numbers {
@@ -137,7 +139,9 @@ fn put_after(
     key: u64,
     members: &[Member],
 ) -> Result<(), AllocError>
-    ensures ok { OnOk result ((n : ℕ) → get nat_cmp bugs.new n ≡ (if has (numbers_of members.now) n then Some (Place.After key) else get nat_cmp bugs.old n)) }
+    ensures ok { OnOk result
+        ((n : ℕ) → get nat_cmp bugs.new n
+        ≡ (if has (numbers_of members.now) n then Some (Place.After key) else get nat_cmp bugs.old n)) }
     ensures known { ((n : ℕ) → IsTrue (has (numbers_of members.now) n) → IsTrue (is_there bugs.old n)) → IsOk result }
 {
     for member in members {

@@ -95,8 +95,10 @@ impl Records for PlainDesk {
         requires apart { AreApart change.now.images }
         requires fits { FitsDesk (desk_of self.old.bugs self.old.tree self.old.next) change.now }
         ensures done { OnOk result
-            (desk_of self.new.bugs self.new.tree self.new.next ≡ put (desk_of self.old.bugs self.old.tree self.old.next) change.now) }
-        ensures fault { OnErr result (desk_of self.new.bugs self.new.tree self.new.next ≡ desk_of self.old.bugs self.old.tree self.old.next) }
+            (desk_of self.new.bugs self.new.tree self.new.next
+            ≡ put (desk_of self.old.bugs self.old.tree self.old.next) change.now) }
+        ensures fault { OnErr result
+            (desk_of self.new.bugs self.new.tree self.new.next ≡ desk_of self.old.bugs self.old.tree self.old.next) }
         ensures memory { IfErr result (λ fault. fault ≡ StoreFault.Memory) }
     {
         match put_images(self.alloc, &mut self.bugs, change.images.as_slice()) {
@@ -109,7 +111,8 @@ impl Records for PlainDesk {
     }
 
     fn branch(&mut self, nodes: &[Node]) -> Result<Result<(), BranchFault>, StoreFault>
-        ensures taken { Branches (desk_of self.old.bugs self.old.tree self.old.next) (desk_of self.new.bugs self.new.tree self.new.next) result nodes.now }
+        ensures taken { Branches (desk_of self.old.bugs self.old.tree self.old.next)
+            (desk_of self.new.bugs self.new.tree self.new.next) result nodes.now }
         ensures refusal { IfOk result IsRefusal }
         ensures memory { IfErr result (λ fault. fault ≡ StoreFault.Memory) }
     {

@@ -4,7 +4,8 @@ ghost use Rattle.std.specs.Prelude.{◌≡◌, Option, Result, IfOk};
 ghost use Rattle.bug_record.specs.Sets.{Each};
 ghost use Rattle.bug_record.specs.Desk.{Desk, IsSound};
 ghost use Rattle.bug_record.specs.Images.{AreApart, HasMember, FitsDesk};
-ghost use Rattle.desk_store.specs.Store.{Holds, Asks, Answers, IsImageOf, IsNext, Applies, Branches, IsRefusal, Faults, faults_after, total};
+ghost use Rattle.desk_store.specs.Store.{Holds, Asks, Answers, IsImageOf, IsNext, Applies, Branches, IsRefusal, Faults};
+ghost use Rattle.desk_store.specs.Store.{faults_after, total};
 
 use ancestry::{BranchFault, Node};
 use bug_record::{Change, SetImage};
@@ -31,12 +32,14 @@ pub trait Records {
     /// The image of the set that the bug is in; `None` exactly where there is no bug of this
     /// number.
     fn set_of(&mut self, number: u64) -> Result<Option<SetImage>, StoreFault>
-        ensures answer { Asks is_kept is_honest self.old self.new (Answers (desk self.old) (desk self.new) result (IsImageOf (desk self.old) number)) }
+        ensures answer { Asks is_kept is_honest self.old self.new
+            (Answers (desk self.old) (desk self.new) result (IsImageOf (desk self.old) number)) }
         ensures count { faults self.new ≡ faults_after result (faults self.old) };
 
     /// The number of the next bug: 1,000,000,000 where no number is left.
     fn next(&mut self) -> Result<u64, StoreFault>
-        ensures answer { Asks is_kept is_honest self.old self.new (Answers (desk self.old) (desk self.new) result (IsNext (desk self.old))) }
+        ensures answer { Asks is_kept is_honest self.old self.new
+            (Answers (desk self.old) (desk self.new) result (IsNext (desk self.old))) }
         ensures count { faults self.new ≡ faults_after result (faults self.old) };
 
     /// Carries a change out, in one step.

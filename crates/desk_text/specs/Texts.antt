@@ -4,7 +4,8 @@ use Rattle.std.specs.Fmt.{decimal}
 use Rattle.bug_record.specs.declared.command.Field.{Field}
 use Rattle.bug_record.specs.declared.command.Field.TheVariants as fields
 use Rattle.bug_record.specs.declared.command.Refusal.{Refusal}
-use Rattle.bug_record.specs.declared.command.Refusal.TheVariants.{Unknown, Malformed, TooLong, BadSeverity, BadTag, BadVersion, BadPackage, NoName, NoBug, Differ, NotMerged}
+use Rattle.bug_record.specs.declared.command.Refusal.TheVariants.{Unknown, Malformed, TooLong, BadSeverity, BadTag, BadVersion}
+use Rattle.bug_record.specs.declared.command.Refusal.TheVariants.{BadPackage, NoName, NoBug, Differ, NotMerged}
 use Rattle.desk_text.specs.declared.outcome.StoreFault.{StoreFault}
 use Rattle.desk_text.specs.declared.outcome.StoreFault.TheVariants as faults
 use Rattle.desk_text.specs.declared.outcome.Outcome.{Outcome}

@@ -2,7 +2,8 @@
 
 ghost use Rattle.std.specs.Prelude.{◌≡◌, [], ◌++◌, IsOk, OnOk, OnErr, codes, decimal};
 ghost use Rattle.std.specs.Io.{StartsWith};
-ghost use Rattle.desk_text.specs.Texts.{as_line, echo, field_word, refusal_text, numbers_text, changed_text, answer_text, fault_word, fault_text, outcome_text, store_end_text, end_text};
+ghost use Rattle.desk_text.specs.Texts.{as_line, echo, field_word, refusal_text, numbers_text, changed_text, answer_text};
+ghost use Rattle.desk_text.specs.Texts.{fault_word, fault_text, outcome_text, store_end_text, end_text};
 
 use crate::outcome::{End, Outcome, StoreFault};
 use bug_record::{Field, Refusal};

@@ -9,10 +9,12 @@ use Rattle.bug_record.specs.declared.command.Command.{Command}
 use Rattle.bug_record.specs.declared.command.Command.TheVariants as commands
 use Rattle.record_changes.specs.Members.{member_after, changes_members}
 
-unchanged : (sender : List ℕ) (command : Command ℕ) (f : Shared) → changes_members command f ≡ false → (m : Member) → member_after sender command f m ≡ m
+unchanged : (sender : List ℕ) (command : Command ℕ) (f : Shared) → changes_members command f ≡ false → (m : Member)
+    → member_after sender command f m ≡ m
 unchanged sender (commands.Retitle n text) f h m = absurd (false≢true (sym h))
 unchanged sender (commands.Submitter n who) f h m = absurd (false≢true (sym h))
-unchanged sender (commands.Reopen n (Some who)) f h m = ap (λ t. record m { submitter = unwrap_or (cond t (Some (person sender who)) None) m.submitter }) h
+unchanged sender (commands.Reopen n (Some who)) f h m =
+    ap (λ t. record m { submitter = unwrap_or (cond t (Some (person sender who)) None) m.submitter }) h
 unchanged sender (commands.Reopen n None) f h m = refl
 unchanged sender (commands.Found n version) f h m = refl
 unchanged sender (commands.NotFound n version) f h m = refl
@@ -30,6 +32,8 @@ unchanged sender (commands.NotForwarded n) f h m = refl
 unchanged sender (commands.Owner n who) f h m = refl
 unchanged sender (commands.NoOwner n) f h m = refl
 
-pub members-unchanged : (sender : List ℕ) (command : Command ℕ) (f : Shared) → changes_members command f ≡ false → (ms : List Member) → ms ≡ map (member_after sender command f) ms
+pub members-unchanged : (sender : List ℕ) (command : Command ℕ) (f : Shared) → changes_members command f ≡ false
+    → (ms : List Member) → ms ≡ map (member_after sender command f) ms
 members-unchanged sender command f h [] = refl
-members-unchanged sender command f h (m ∷ ms) = λ j. sym (unchanged sender command f h m) j ∷ members-unchanged sender command f h ms j
+members-unchanged sender command f h (m ∷ ms) =
+    λ j. sym (unchanged sender command f h m) j ∷ members-unchanged sender command f h ms j

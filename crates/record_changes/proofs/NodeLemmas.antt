@@ -1,5 +1,6 @@
 -- Nodes of versions that are known to be versions.
-use Rattle.std.proofs.Common.{◌≡◌, ℕ, Bool, true, false, cond, ◌&&◌, ◌||◌, eqb, List, [], ◌∷◌, ◌++◌, Option, Some, None, sym, refl, ap, ◌∙◌}
+use Rattle.std.proofs.Common.{◌≡◌, ℕ, Bool, true, false, cond, ◌&&◌, ◌||◌, eqb, List, [], ◌∷◌, ◌++◌, Option, Some, None, sym}
+use Rattle.std.proofs.Common.{refl, ap, ◌∙◌}
 use Rattle.std.specs.Prelude.{unwrap_or, is_none}
 use Rattle.std.specs.List.{list_any, list_all}
 use Rattle.std.proofs.lemmas.Option.{none-some}
@@ -26,7 +27,9 @@ no_slash test h (c ∷ s) e =
 
 any-append : (s t : List ℕ) → list_any is_slash s ≡ false → list_any is_slash t ≡ false → list_any is_slash (s ++ t) ≡ false
 any-append [] t h k = k
-any-append (c ∷ s) t h k = elim (eqb c 47) as (λ b. (b || list_any is_slash s) ≡ false → (b || list_any is_slash (s ++ t)) ≡ false) [ true ↦ λ e. e | false ↦ λ e. any-append s t e k ] h
+any-append (c ∷ s) t h k =
+    elim (eqb c 47) as (λ b. (b || list_any is_slash s) ≡ false → (b || list_any is_slash (s ++ t)) ≡ false)
+    [ true ↦ λ e. e | false ↦ λ e. any-append s t e k ] h
 
 epoch-slash : (e : Option (List ℕ)) → IsEpoch e → list_any is_slash (epoch_text e) ≡ false
 epoch-slash None h = refl
@@ -44,8 +47,10 @@ upstream-slash false = refl
 version-slash : (w : List ℕ) → IsVersion w → list_any is_slash w ≡ false
 version-slash w h =
     ap (list_any is_slash) h.cut.whole
-    ∙ any-append (epoch_text (cut w).epoch) ((cut w).upstream ++ revision_text (cut w).revision) (epoch-slash (cut w).epoch h.epoch)
-    (any-append (cut w).upstream (revision_text (cut w).revision) (no_slash (in_upstream _) (upstream-slash _) (cut w).upstream h.upstream.1) (revision-slash (cut w).revision h.revision))
+    ∙ any-append (epoch_text (cut w).epoch) ((cut w).upstream ++ revision_text (cut w).revision)
+    (epoch-slash (cut w).epoch h.epoch)
+    (any-append (cut w).upstream (revision_text (cut w).revision)
+    (no_slash (in_upstream _) (upstream-slash _) (cut w).upstream h.upstream.1) (revision-slash (cut w).revision h.revision))
 
 at-plain : (p w : List ℕ) → IsVersion w → node_at p w ≡ cond (is_none (name_fault p)) (node_of p w) None
 at-plain p w h = ap (λ t. cond (is_none (name_fault p)) (cond t (node_of_text w) (node_of p w)) None) (version-slash w h)
@@ -60,10 +65,12 @@ at-some p w n h e =
 pub at-none : (p w : List ℕ) → IsVersion w → node_at p w ≡ None → ¬ (IsName p)
 at-none p w h e name =
     let here : node_of p w ≡ Some (node p w) = (nodes_exactly p w (node p w)).1 (refl, name, h) in
-    elim (is_none (name_fault p)) as (λ t. cond t (node_of p w) None ≡ None → cond (t && is_none (text_fault w)) (Some (node p w)) None ≡ Some (node p w) → ⊥)
+    elim (is_none (name_fault p)) as (λ t. cond t (node_of p w) None ≡ None
+    → cond (t && is_none (text_fault w)) (Some (node p w)) None ≡ Some (node p w) → ⊥)
     [ true ↦ λ e k. none-some (node p w) (sym e ∙ here) | false ↦ λ e k. none-some (node p w) k ] (sym (at-plain p w h) ∙ e) here
 
 -- the same where the version has its own source, which is a package name
-pub at-none-meant : (source : Option (List ℕ)) (p w : List ℕ) → IfGiven IsName source → IsVersion w → node_at (unwrap_or source p) w ≡ None → ¬ (IsName p)
+pub at-none-meant : (source : Option (List ℕ)) (p w : List ℕ) → IfGiven IsName source → IsVersion w
+    → node_at (unwrap_or source p) w ≡ None → ¬ (IsName p)
 at-none-meant None p w given h e = at-none p w h e
 at-none-meant (Some s) p w given h e = λ name. at-none s w h e given

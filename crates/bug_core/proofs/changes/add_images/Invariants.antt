@@ -9,5 +9,6 @@ abbrev pub invariant-loop-image : goal.invariant-loop-image
 invariant-loop-image l = record {
   right : IsRight l.before l.after l.last;
   ascending : IsAscending l.fn.set.keys → IsAscending l.set.keys;
-  numbers : (n : ℕ) → (has l.set.keys n || (is_some (bug_in (drop l.image-index l.images) n) && differs l.before l.after n)) ≡ (has l.fn.set.keys n || (is_some (bug_in l.images n) && differs l.before l.after n));
+  numbers : (n : ℕ) → (has l.set.keys n || (is_some (bug_in (drop l.image-index l.images) n) && differs l.before l.after n))
+      ≡ (has l.fn.set.keys n || (is_some (bug_in l.images n) && differs l.before l.after n));
 }

@@ -8,5 +8,6 @@ abbrev pub invariant-loop-member : goal.invariant-loop-member
 invariant-loop-member l = record {
   right : IsRight l.before l.after l.last;
   ascending : IsAscending l.fn.set.keys → IsAscending l.set.keys;
-  numbers : (n : ℕ) → (has l.set.keys n || (has (numbers_of (drop l.member-index l.members)) n && differs l.before l.after n)) ≡ (has l.fn.set.keys n || (has (numbers_of l.members) n && differs l.before l.after n));
+  numbers : (n : ℕ) → (has l.set.keys n || (has (numbers_of (drop l.member-index l.members)) n && differs l.before l.after n))
+      ≡ (has l.fn.set.keys n || (has (numbers_of l.members) n && differs l.before l.after n));
 }

@@ -10,4 +10,5 @@ use Rattle.bug_core.proofs.images.find.Goals as goal
 pub returns : goal.returns
 returns c =
     lent c.find.result (image_with c.args.images.now c.args.number)
-    (find_from_yields_List (λ i. has (numbers_of i.members) c.args.number) _ _ _ c.find.ensures.ran (YieldsList-from_slice c.args.images.now cc) (λ x b q k. search (rules, k)))
+    (find_from_yields_List (λ i. has (numbers_of i.members) c.args.number) _ _ _ c.find.ensures.ran
+    (YieldsList-from_slice c.args.images.now cc) (λ x b q k. search (rules, k)))

@@ -9,5 +9,6 @@ use Rattle.bug_core.proofs.images.has_some.Goals as goal
 
 pub returns : goal.returns
 returns c =
-    any_from_yields_List (λ m. list_any (is_at (nat_cmp m.number)) c.args.numbers.now.keys) _ _ _ c.any.ensures.ran (YieldsList-from_slice c.args.members.now cc) (λ x b q k. search (rules, k))
+    any_from_yields_List (λ m. list_any (is_at (nat_cmp m.number)) c.args.numbers.now.keys) _ _ _ c.any.ensures.ran
+    (YieldsList-from_slice c.args.members.now cc) (λ x b q k. search (rules, k))
     ∙ any-member c.args.members.now c.args.numbers.now.keys

@@ -6,4 +6,6 @@ use Rattle.bug_core.specs.Index.{place_among}
 use Rattle.bug_core.proofs.index.add_members.Given as goal
 
 abbrev pub invariant-loop-member : goal.invariant-loop-member
-invariant-loop-member l = (n : ℕ) → option_or (get nat_cmp l.places n) (place_among l.image l.member (drop l.member l.members) n) ≡ option_or (get nat_cmp l.fn.places n) (place_among l.image 0 l.members n)
+invariant-loop-member l =
+    (n : ℕ) → option_or (get nat_cmp l.places n) (place_among l.image l.member (drop l.member l.members) n)
+    ≡ option_or (get nat_cmp l.fn.places n) (place_among l.image 0 l.members n)

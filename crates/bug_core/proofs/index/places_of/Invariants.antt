@@ -6,4 +6,5 @@ use Rattle.bug_core.specs.Index.{place_in}
 use Rattle.bug_core.proofs.index.places_of.Given as goal
 
 abbrev pub invariant-loop-place : goal.invariant-loop-place
-invariant-loop-place l = (n : ℕ) → option_or (get nat_cmp l.places n) (place_in l.place (drop l.place l.images) n) ≡ place_in 0 l.images n
+invariant-loop-place l =
+    (n : ℕ) → option_or (get nat_cmp l.places n) (place_in l.place (drop l.place l.images) n) ≡ place_in 0 l.images n

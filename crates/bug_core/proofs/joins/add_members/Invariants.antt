@@ -6,5 +6,6 @@ use Rattle.bug_core.proofs.joins.add_members.Given as goal
 abbrev pub invariant-loop-member : goal.invariant-loop-member
 invariant-loop-member l = record {
   keyed : IsKeyed l.map.entries;
-  members : with_items number_of (values l.map) (drop l.member-index l.members) ≡ with_items number_of (values l.fn.map) l.members;
+  members : with_items number_of (values l.map) (drop l.member-index l.members)
+      ≡ with_items number_of (values l.fn.map) l.members;
 }

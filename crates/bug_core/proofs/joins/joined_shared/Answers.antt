@@ -12,7 +12,10 @@ use Rattle.bug_core.proofs.joins.joined_shared.Goals as goal
 pub returns : goal.returns
 returns c =
     let fields : c.add_all_shared.new.shared ≡ with_all_shared c.args.first.now (those_meant c.args.numbers.now c.args.images.now)
-    = c.in_ok-add_all_shared.ensures ∙ (λ j. with_all_shared (c.in_ok-shared.ensures j) (those-same (named_numbers c.args.named) c.args.numbers.now c.requires.named c.args.images.now j)) in
+    = c.in_ok-add_all_shared.ensures
+    ∙ (λ j. with_all_shared (c.in_ok-shared.ensures j)
+    (those-same (named_numbers c.args.named) c.args.numbers.now c.requires.named c.args.images.now j)) in
     let owner : _ ≡ first_owner (bugs_at (bug_in c.args.images.now) c.args.numbers.now)
-    = c.in_ok-shared-2.ensures ∙ ap (λ (is : List SetImage). first_owner (bugs_at (bug_in is) c.args.numbers.now)) c.requires.images in
+    = c.in_ok-shared-2.ensures
+    ∙ ap (λ (is : List SetImage). first_owner (bugs_at (bug_in is) c.args.numbers.now)) c.requires.images in
     λ j. record (fields j) { owner = owner j }

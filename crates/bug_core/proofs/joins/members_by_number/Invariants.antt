@@ -8,5 +8,6 @@ use Rattle.bug_core.proofs.joins.members_by_number.Given as goal
 abbrev pub invariant-loop-image : goal.invariant-loop-image
 invariant-loop-image l = record {
   keyed : IsKeyed l.map.entries;
-  members : with_members (values l.map) (those_meant (named_numbers l.named) (drop l.image-index l.images)) ≡ with_members [] (those_meant (named_numbers l.named) l.images);
+  members : with_members (values l.map) (those_meant (named_numbers l.named) (drop l.image-index l.images))
+      ≡ with_members [] (those_meant (named_numbers l.named) l.images);
 }

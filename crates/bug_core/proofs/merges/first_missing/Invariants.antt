@@ -4,4 +4,5 @@ use Rattle.bug_record.specs.Bugs.{missing, first_refusal}
 use Rattle.bug_core.proofs.merges.first_missing.Given as goal
 
 abbrev pub invariant-loop-number : goal.invariant-loop-number
-invariant-loop-number l = first_refusal missing (bug_in l.index) (drop l.number-index l.numbers) ≡ first_refusal missing (bug_in l.index) l.numbers
+invariant-loop-number l =
+    first_refusal missing (bug_in l.index) (drop l.number-index l.numbers) ≡ first_refusal missing (bug_in l.index) l.numbers

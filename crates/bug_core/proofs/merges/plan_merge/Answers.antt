@@ -11,32 +11,45 @@ use Rattle.bug_core.proofs.NamedLemmas.{others-same, has-set_of}
 use Rattle.bug_core.proofs.merges.plan_merge.Goals as goal
 
 pub returns-in_default : goal.returns-in_default
-returns-in_default c = merge-no_bug (difference_of c.args.agreement) c.args.images.now c.args.next c.args.first c.args.others.now c.in_default.ensures
+returns-in_default c =
+    merge-no_bug (difference_of c.args.agreement) c.args.images.now c.args.next c.args.first c.args.others.now
+    c.in_default.ensures
 
 pub returns-in-Some-first_missing : goal.returns-in-Some-first_missing
 returns-in-Some-first_missing c =
-    merge-missing (difference_of c.args.agreement) c.args.images.now c.args.next c.args.first c.args.others.now c.in-Some.image.now c.in-Some-first_missing.refusal c.in-Some.ensures
-    (ap (λ (is : List SetImage). first_refusal missing (bug_in is) c.args.others.now) (sym c.in_ok-index.ensures) ∙ sym c.first_missing.ensures ∙ c.in-Some-first_missing.is)
+    merge-missing (difference_of c.args.agreement) c.args.images.now c.args.next c.args.first c.args.others.now
+    c.in-Some.image.now c.in-Some-first_missing.refusal c.in-Some.ensures
+    (ap (λ (is : List SetImage). first_refusal missing (bug_in is) c.args.others.now) (sym c.in_ok-index.ensures)
+    ∙ sym c.first_missing.ensures ∙ c.in-Some-first_missing.is)
 
 pub returns-in-Some-first_differing : goal.returns-in-Some-first_differing
 returns-in-Some-first_differing c =
-    merge-differs (difference_of c.args.agreement) c.args.images.now c.args.next c.args.first c.args.others.now c.in-Some.image.now c.in-Some-first_differing.refusal c.in-Some.ensures
-    (ap (λ (is : List SetImage). first_refusal missing (bug_in is) c.args.others.now) (sym c.in_ok-index.ensures) ∙ sym c.first_missing.ensures ∙ c.in_default-first_missing.is)
-    (ap (λ (is : List SetImage). first_refusal (differing (difference_of c.args.agreement c.in-Some.image.now.shared)) (bug_in is) c.args.others.now) (sym c.in_ok-index.ensures) ∙ sym c.first_differing.ensures ∙ c.in-Some-first_differing.is)
+    merge-differs (difference_of c.args.agreement) c.args.images.now c.args.next c.args.first c.args.others.now
+    c.in-Some.image.now c.in-Some-first_differing.refusal c.in-Some.ensures
+    (ap (λ (is : List SetImage). first_refusal missing (bug_in is) c.args.others.now) (sym c.in_ok-index.ensures)
+    ∙ sym c.first_missing.ensures ∙ c.in_default-first_missing.is)
+    (ap (λ (is : List SetImage). first_refusal (differing (difference_of c.args.agreement c.in-Some.image.now.shared)) (bug_in is)
+    c.args.others.now) (sym c.in_ok-index.ensures) ∙ sym c.first_differing.ensures ∙ c.in-Some-first_differing.is)
 
 pub joined_image-requires-clause-set : goal.joined_image-requires-clause-set
 joined_image-requires-clause-set c = λ n. has-set_of c.in_ok-set.set.keys c.as_slice-numbers.result.now c.in_ok-set.ensures n
 
 pub returns : goal.returns
 returns c =
-    let numbers : c.as_slice-numbers.result.now ≡ c.args.first ∷ c.args.others.now = c.as_slice-numbers.ensures ∙ c.in_ok-numbers.ensures in
+    let numbers : c.as_slice-numbers.result.now ≡ c.args.first ∷ c.args.others.now =
+    c.as_slice-numbers.ensures ∙ c.in_ok-numbers.ensures in
     let joined : c.in_ok-image.image ≡ image_joined c.args.images.now (c.args.first ∷ c.args.others.now) c.in-Some.image.now
     = c.in_ok-image.ensures ∙ ap (λ (ns : List ℕ). image_joined c.args.images.now ns c.in-Some.image.now) numbers in
     let rest : others c.in_ok-set.set.keys c.args.images.now ≡ others (c.args.first ∷ c.args.others.now) c.args.images.now
-    = others-same c.in_ok-set.set.keys (c.args.first ∷ c.args.others.now) (λ n. has-set_of c.in_ok-set.set.keys c.as_slice-numbers.result.now c.in_ok-set.ensures n ∙ ap (λ (ns : List ℕ). has ns n) numbers) c.args.images.now in
-    merge-done (difference_of c.args.agreement) c.args.images.now c.args.next c.args.first c.args.others.now c.in-Some.image.now c.requires.apart c.in-Some.ensures
-    (ap (λ (is : List SetImage). first_refusal missing (bug_in is) c.args.others.now) (sym c.in_ok-index.ensures) ∙ sym c.first_missing.ensures ∙ c.in_default-first_missing.is)
-    (ap (λ (is : List SetImage). first_refusal (differing (difference_of c.args.agreement c.in-Some.image.now.shared)) (bug_in is) c.args.others.now) (sym c.in_ok-index.ensures) ∙ sym c.first_differing.ensures ∙ c.in_default-first_differing.is)
+    = others-same c.in_ok-set.set.keys (c.args.first ∷ c.args.others.now)
+    (λ n. has-set_of c.in_ok-set.set.keys c.as_slice-numbers.result.now c.in_ok-set.ensures n
+    ∙ ap (λ (ns : List ℕ). has ns n) numbers) c.args.images.now in
+    merge-done (difference_of c.args.agreement) c.args.images.now c.args.next c.args.first c.args.others.now c.in-Some.image.now
+    c.requires.apart c.in-Some.ensures
+    (ap (λ (is : List SetImage). first_refusal missing (bug_in is) c.args.others.now) (sym c.in_ok-index.ensures)
+    ∙ sym c.first_missing.ensures ∙ c.in_default-first_missing.is)
+    (ap (λ (is : List SetImage). first_refusal (differing (difference_of c.args.agreement c.in-Some.image.now.shared)) (bug_in is)
+    c.args.others.now) (sym c.in_ok-index.ensures) ∙ sym c.first_differing.ensures ∙ c.in_default-first_differing.is)
     c.in_ok-replace_by_one.field-0
     (c.in_ok-replace_by_one.ensures.images ∙ (λ j. joined j ∷ rest j))
     c.in_ok-replace_by_one.ensures.next

@@ -9,10 +9,15 @@ use Rattle.bug_core.proofs.plans.plan_command.Goals as goal
 
 pub returns-in-Merge : goal.returns-in-Merge
 returns-in-Merge c =
-    subst (λ (command : Command ℕ). IsPlanned (bugs_named command) (λ d. step d c.args.from.now command) c.args.images.now c.args.next c.plan_merge.result) (sym c.in-Merge.is)
-    (subst (λ (ns : List ℕ). IsPlanned (c.in-Merge.number ∷ ns) (λ d. sets_joined first_difference d c.in-Merge.number ns) c.args.images.now c.args.next c.plan_merge.result) c.as_slice.ensures c.plan_merge.ensures)
+    subst (λ (command : Command ℕ). IsPlanned (bugs_named command) (λ d. step d c.args.from.now command) c.args.images.now
+    c.args.next c.plan_merge.result) (sym c.in-Merge.is)
+    (subst (λ (ns : List ℕ). IsPlanned (c.in-Merge.number ∷ ns) (λ d. sets_joined first_difference d c.in-Merge.number ns)
+    c.args.images.now c.args.next c.plan_merge.result) c.as_slice.ensures c.plan_merge.ensures)
 
 pub returns-in-ForceMerge : goal.returns-in-ForceMerge
 returns-in-ForceMerge c =
-    subst (λ (command : Command ℕ). IsPlanned (bugs_named command) (λ d. step d c.args.from.now command) c.args.images.now c.args.next c.plan_merge-in-ForceMerge.result) (sym c.in-ForceMerge.is)
-    (subst (λ (ns : List ℕ). IsPlanned (c.in-ForceMerge.number ∷ ns) (λ d. sets_joined package_difference d c.in-ForceMerge.number ns) c.args.images.now c.args.next c.plan_merge-in-ForceMerge.result) c.as_slice-in-ForceMerge.ensures c.plan_merge-in-ForceMerge.ensures)
+    subst (λ (command : Command ℕ). IsPlanned (bugs_named command) (λ d. step d c.args.from.now command) c.args.images.now
+    c.args.next c.plan_merge-in-ForceMerge.result) (sym c.in-ForceMerge.is)
+    (subst (λ (ns : List ℕ). IsPlanned (c.in-ForceMerge.number ∷ ns)
+    (λ d. sets_joined package_difference d c.in-ForceMerge.number ns) c.args.images.now c.args.next
+    c.plan_merge-in-ForceMerge.result) c.as_slice-in-ForceMerge.ensures c.plan_merge-in-ForceMerge.ensures)

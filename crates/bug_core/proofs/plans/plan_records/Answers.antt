@@ -12,24 +12,35 @@ use Rattle.bug_core.proofs.PlanLemmas.{planned-records, planned-no_bug, planned-
 use Rattle.bug_core.proofs.plans.plan_records.Goals as goal
 
 pub returns-in_default : goal.returns-in_default
-returns-in_default c = subst (λ (n : ℕ). IsPlanned (bugs_named c.args.command.now) (records_changed c.args.from.now c.args.command.now) c.args.images.now c.args.next (Err (Refused (NoBug n)))) (sym c.bug_named-number.ensures)
-    (planned-no_bug c.args.from.now c.args.command.now c.args.images.now c.args.next (ap (image_with c.args.images.now) (sym c.bug_named-number.ensures) ∙ c.in_default.ensures))
+returns-in_default c =
+    subst (λ (n : ℕ). IsPlanned (bugs_named c.args.command.now) (records_changed c.args.from.now c.args.command.now)
+    c.args.images.now c.args.next (Err (Refused (NoBug n)))) (sym c.bug_named-number.ensures)
+    (planned-no_bug c.args.from.now c.args.command.now c.args.images.now c.args.next
+    (ap (image_with c.args.images.now) (sym c.bug_named-number.ensures) ∙ c.in_default.ensures))
 
 pub returns-in-Err-Memory : goal.returns-in-Err-Memory
-returns-in-Err-Memory c = planned-memory (bugs_named c.args.command.now) (records_changed c.args.from.now c.args.command.now) c.args.images.now c.args.next
+returns-in-Err-Memory c =
+    planned-memory (bugs_named c.args.command.now) (records_changed c.args.from.now c.args.command.now) c.args.images.now
+    c.args.next
 
 pub returns-in-Err-Refused : goal.returns-in-Err-Refused
 returns-in-Err-Refused c =
     let nameless = rw c.in-Err-Refused.field-0-is at c.in-Err-Refused.ensures.fault in
-    planned-nameless (bugs_named c.args.command.now) (records_changed c.args.from.now c.args.command.now) c.args.images.now c.args.next (bug_named c.args.command.now) c.in-Some.image.now (NoBug c.bug_named-number.result) tt
+    planned-nameless (bugs_named c.args.command.now) (records_changed c.args.from.now c.args.command.now) c.args.images.now
+    c.args.next (bug_named c.args.command.now) c.in-Some.image.now (NoBug c.bug_named-number.result) tt
     (ap (image_with c.args.images.now) (sym c.bug_named-number.ensures) ∙ c.in-Some.ensures) nameless
 
 pub returns : goal.returns
 returns c =
-    let members : c.in_ok-members.members ≡ map (member_after c.args.from.now c.args.command.now c.in-Some.image.now.shared) c.in-Some.image.now.members
+    let members : c.in_ok-members.members
+    ≡ map (member_after c.args.from.now c.args.command.now c.in-Some.image.now.shared) c.in-Some.image.now.members
     = c.in_ok-members.ensures in
-    planned-records c.args.from.now c.args.command.now c.args.images.now c.args.next c.in-Some.image.now (c.requires.sender, is_utf8-from_IsUtf8 c.args.from.now c.utf8.from) c.requires.parts c.texts_are_utf8.ensures c.requires.apart
+    planned-records c.args.from.now c.args.command.now c.args.images.now c.args.next c.in-Some.image.now
+    (c.requires.sender, is_utf8-from_IsUtf8 c.args.from.now c.utf8.from) c.requires.parts c.texts_are_utf8.ensures
+    c.requires.apart
     (ap (image_with c.args.images.now) (sym c.bug_named-number.ensures) ∙ c.in-Some.ensures)
     c.in_ok-replace_by_one.field-0
-    (c.in_ok-replace_by_one.ensures.images ∙ (λ j. record { shared = c.in-Ok.ensures.value j; members = members j } ∷ others (ap (λ n. n ∷ []) c.bug_named-number.ensures j) c.args.images.now))
+    (c.in_ok-replace_by_one.ensures.images
+    ∙ (λ j. record { shared = c.in-Ok.ensures.value j; members = members j } ∷ others
+    (ap (λ n. n ∷ []) c.bug_named-number.ensures j) c.args.images.now))
     c.in_ok-replace_by_one.ensures.next

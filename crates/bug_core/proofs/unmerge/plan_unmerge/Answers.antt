@@ -18,27 +18,39 @@ empty (m ∷ ms) e = let none : length (m ∷ ms) ≡ 0 = eqb-true (length (m �
 
 pub returns-then-is_empty-clause-planned : goal.returns-then-is_empty-clause-planned
 returns-then-is_empty-clause-planned c =
-    let rest : c.in_ok-rest.rest ≡ filter (is_part false c.args.number) c.in-Some.image.now.members = c.in_ok-rest.ensures ∙ ap (filter (is_part false c.args.number)) c.as_slice-members.ensures in
+    let rest : c.in_ok-rest.rest ≡ filter (is_part false c.args.number) c.in-Some.image.now.members =
+    c.in_ok-rest.ensures ∙ ap (filter (is_part false c.args.number)) c.as_slice-members.ensures in
     unmerge-alone c.args.images.now c.args.next c.args.number c.in-Some.image.now c.in-Some.ensures
     (sym (c.as_slice.ensures ∙ rest) ∙ empty c.as_slice.result.now (sym c.is_empty.ensures ∙ c.if-is_empty.true))
 
 -- the rest has a member
 some_left : (c : goal.In_ok-replace) → (part_of c.in-Some.image.now false c.args.number).members ≡ [] → ⊥
 some_left c none =
-    let rest : c.in_ok-rest.rest ≡ filter (is_part false c.args.number) c.in-Some.image.now.members = c.in_ok-rest.ensures ∙ ap (filter (is_part false c.args.number)) c.as_slice-members.ensures in
-    false≢true (sym c.if-is_empty.false ∙ c.is_empty.ensures ∙ ap (λ (ms : List Member). length ms == 0) (c.as_slice.ensures ∙ rest ∙ none))
+    let rest : c.in_ok-rest.rest ≡ filter (is_part false c.args.number) c.in-Some.image.now.members =
+    c.in_ok-rest.ensures ∙ ap (filter (is_part false c.args.number)) c.as_slice-members.ensures in
+    false≢true (sym c.if-is_empty.false ∙ c.is_empty.ensures
+    ∙ ap (λ (ms : List Member). length ms == 0) (c.as_slice.ensures ∙ rest ∙ none))
 
 -- the images of the change
-images : (c : goal.In_ok-replace) → c.in_ok-replace.field-0.images ≡ parts c.in-Some.image.now c.args.number ++ others (c.args.number ∷ []) c.args.images.now
+images : (c : goal.In_ok-replace)
+    → c.in_ok-replace.field-0.images ≡ parts c.in-Some.image.now c.args.number ++ others (c.args.number ∷ []) c.args.images.now
 images c =
-    let rest : c.in_ok-rest.rest ≡ filter (is_part false c.args.number) c.in-Some.image.now.members = c.in_ok-rest.ensures ∙ ap (filter (is_part false c.args.number)) c.as_slice-members.ensures in
-    let own : c.in_ok-own.own ≡ filter (is_part true c.args.number) c.in-Some.image.now.members = c.in_ok-own.ensures ∙ ap (filter (is_part true c.args.number)) c.as_slice-members.ensures in
+    let rest : c.in_ok-rest.rest ≡ filter (is_part false c.args.number) c.in-Some.image.now.members =
+    c.in_ok-rest.ensures ∙ ap (filter (is_part false c.args.number)) c.as_slice-members.ensures in
+    let own : c.in_ok-own.own ≡ filter (is_part true c.args.number) c.in-Some.image.now.members =
+    c.in_ok-own.ensures ∙ ap (filter (is_part true c.args.number)) c.as_slice-members.ensures in
     let two : c.in_ok-parts.parts ≡ parts c.in-Some.image.now c.args.number
-    = c.in_ok-parts.ensures ∙ (λ j. record { shared = c.in-Some.image.now.shared; members = own j } ∷ record { shared = c.in-Some.image.now.shared; members = rest j } ∷ []) in
+    = c.in_ok-parts.ensures
+    ∙ (λ j. record { shared = c.in-Some.image.now.shared; members = own j } ∷ record
+    { shared = c.in-Some.image.now.shared; members = rest j } ∷ []) in
     c.in_ok-replace.ensures.images ∙ (λ j. two j ++ others (c.args.number ∷ []) c.args.images.now)
 
 pub returns-clause-planned : goal.returns-clause-planned
-returns-clause-planned c = unmerge-done c.args.images.now c.args.next c.args.number c.in-Some.image.now c.requires.apart c.in-Some.ensures (some_left c) c.in_ok-replace.field-0 (images c) c.in_ok-replace.ensures.next
+returns-clause-planned c =
+    unmerge-done c.args.images.now c.args.next c.args.number c.in-Some.image.now c.requires.apart c.in-Some.ensures (some_left c)
+    c.in_ok-replace.field-0 (images c) c.in_ok-replace.ensures.next
 
 pub returns-clause-apart : goal.returns-clause-apart
-returns-clause-apart c = subst AreApart (sym (images c)) (parts-apart c.args.images.now c.args.number c.in-Some.image.now c.requires.apart c.in-Some.ensures (some_left c))
+returns-clause-apart c =
+    subst AreApart (sym (images c))
+    (parts-apart c.args.images.now c.args.number c.in-Some.image.now c.requires.apart c.in-Some.ensures (some_left c))

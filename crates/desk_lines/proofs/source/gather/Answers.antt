@@ -11,8 +11,10 @@ use Rattle.desk_lines.proofs.source.gather.Goals as goal
 pub returns-in_err-take_bytes-clause-fault : goal.returns-in_err-take_bytes-clause-fault
 returns-in_err-take_bytes-clause-fault g c =
     let p = err_from_is_err_and c.from_residual.result c.from_residual.ensures.1 in
-    rw (p.1, p.2) (rest_too_long c.args.number c.in_err-take_bytes.field-0.0 c.args.source.now.unread c.loop-line.line.items c.loop-line.source.unread
-    (length c.unread-count.result.now) (ap length c.unread-count.ensures.bytes) c.loop-line.invariant.no_feed c.loop-line.invariant.no_end
+    rw (p.1, p.2) (rest_too_long c.args.number c.in_err-take_bytes.field-0.0 c.args.source.now.unread c.loop-line.line.items
+    c.loop-line.source.unread
+    (length c.unread-count.result.now) (ap length c.unread-count.ensures.bytes) c.loop-line.invariant.no_feed
+    c.loop-line.invariant.no_end
     c.in_err-take_bytes.ensures.fault c.loop-line.invariant.read)
 
 pub returns-in_err-take_bytes-clause-spent : goal.returns-in_err-take_bytes-clause-spent
@@ -27,32 +29,43 @@ returns-then-is_empty-clause-raw g c =
     let all = ap length c.unread-count.ensures.bytes in
     let is = c.in_ok-take_bytes.ensures.line in
     last_ended c.args.source.now.unread c.take_bytes.new.line.items c.refill.new.source.unread
-    (all_free c.loop-line.line.items c.loop-line.source.unread c.take_bytes.new.line.items (length c.unread-count.result.now) all is c.loop-line.invariant.no_feed c.loop-line.invariant.no_end)
+    (all_free c.loop-line.line.items c.loop-line.source.unread c.take_bytes.new.line.items (length c.unread-count.result.now) all
+    is c.loop-line.invariant.no_feed c.loop-line.invariant.no_end)
     some c.in_ok-take_bytes.ensures.short none
-    (all_taken c.args.source.now.unread c.loop-line.line.items c.loop-line.source.unread c.take_bytes.new.line.items (length c.unread-count.result.now) all is c.loop-line.invariant.read)
+    (all_taken c.args.source.now.unread c.loop-line.line.items c.loop-line.source.unread c.take_bytes.new.line.items
+    (length c.unread-count.result.now) all is c.loop-line.invariant.read)
     c.in_ok-refill.ensures.read
 
 pub returns-in_err-take_bytes-2-clause-fault : goal.returns-in_err-take_bytes-2-clause-fault
 returns-in_err-take_bytes-2-clause-fault g c =
     let p = err_from_is_err_and c.from_residual-in_err-take_bytes-2.result c.from_residual-in_err-take_bytes-2.ensures.1 in
-    let first = subst (λ (w : List ℕ). IsFirstFeed w (Some c.in-Some.end)) c.unread-in-loop-line.ensures.bytes c.in-Some.ensures in
+    let first = subst (λ (w : List ℕ). IsFirstFeed w (Some c.in-Some.end)) c.unread-in-loop-line.ensures.bytes c.in-Some.ensures
+    in
     let all = ap length c.unread-count.ensures.bytes in
     let is = c.in_ok-take_bytes.ensures.line in
-    rw (p.1, p.2) (piece_too_long c.args.number c.in_err-take_bytes-2.field-0.0 c.args.source.now.unread c.take_bytes.new.line.items c.refill.new.source.unread c.in-Some.end
-    (all_free c.loop-line.line.items c.loop-line.source.unread c.take_bytes.new.line.items (length c.unread-count.result.now) all is c.loop-line.invariant.no_feed c.loop-line.invariant.no_end)
+    rw (p.1, p.2) (piece_too_long c.args.number c.in_err-take_bytes-2.field-0.0 c.args.source.now.unread
+    c.take_bytes.new.line.items c.refill.new.source.unread c.in-Some.end
+    (all_free c.loop-line.line.items c.loop-line.source.unread c.take_bytes.new.line.items (length c.unread-count.result.now) all
+    is c.loop-line.invariant.no_feed c.loop-line.invariant.no_end)
     first c.in_err-take_bytes-2.ensures.fault
-    (all_taken c.args.source.now.unread c.loop-line.line.items c.loop-line.source.unread c.take_bytes.new.line.items (length c.unread-count.result.now) all is c.loop-line.invariant.read)
+    (all_taken c.args.source.now.unread c.loop-line.line.items c.loop-line.source.unread c.take_bytes.new.line.items
+    (length c.unread-count.result.now) all is c.loop-line.invariant.read)
     c.in_ok-refill.ensures.read)
 
 pub returns-in-Some-clause-raw : goal.returns-in-Some-clause-raw
 returns-in-Some-clause-raw g c =
-    let first = subst (λ (w : List ℕ). IsFirstFeed w (Some c.in-Some.end)) c.unread-in-loop-line.ensures.bytes c.in-Some.ensures in
+    let first = subst (λ (w : List ℕ). IsFirstFeed w (Some c.in-Some.end)) c.unread-in-loop-line.ensures.bytes c.in-Some.ensures
+    in
     let all = ap length c.unread-count.ensures.bytes in
     let is = c.in_ok-take_bytes.ensures.line in
     let after = ap (λ (b : Buffered). b.unread) c.advance.ensures
-    ∙ (ap (λ (b : Buffered). drop 1 b.unread) c.in_ok-take_bytes-2.ensures.taken ∙ drop-drop 1 c.in-Some.end c.refill.new.source.unread) in
-    line_ended c.args.source.now.unread c.take_bytes.new.line.items c.refill.new.source.unread c.take_bytes-in-Some.new.line.items c.advance.new.self.unread c.in-Some.end
-    (all_free c.loop-line.line.items c.loop-line.source.unread c.take_bytes.new.line.items (length c.unread-count.result.now) all is c.loop-line.invariant.no_feed c.loop-line.invariant.no_end)
+    ∙ (ap (λ (b : Buffered). drop 1 b.unread) c.in_ok-take_bytes-2.ensures.taken
+    ∙ drop-drop 1 c.in-Some.end c.refill.new.source.unread) in
+    line_ended c.args.source.now.unread c.take_bytes.new.line.items c.refill.new.source.unread c.take_bytes-in-Some.new.line.items
+    c.advance.new.self.unread c.in-Some.end
+    (all_free c.loop-line.line.items c.loop-line.source.unread c.take_bytes.new.line.items (length c.unread-count.result.now) all
+    is c.loop-line.invariant.no_feed c.loop-line.invariant.no_end)
     first c.in_ok-take_bytes-2.ensures.line after c.in_ok-take_bytes-2.ensures.short
-    (all_taken c.args.source.now.unread c.loop-line.line.items c.loop-line.source.unread c.take_bytes.new.line.items (length c.unread-count.result.now) all is c.loop-line.invariant.read)
+    (all_taken c.args.source.now.unread c.loop-line.line.items c.loop-line.source.unread c.take_bytes.new.line.items
+    (length c.unread-count.result.now) all is c.loop-line.invariant.read)
     c.in_ok-refill.ensures.read

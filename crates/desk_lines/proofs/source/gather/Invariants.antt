@@ -10,7 +10,8 @@ invariant-loop-line g l = record {
   short : length l.line.items ≤ 65536;
   no_feed : list_any is_feed l.line.items ≡ false;
   no_end : list_any is_feed l.source.unread ≡ false;
-  read : Left (g.R.Read.remaining l.fn.reader) (g.R.Read.remaining l.reader) (λ xs ys. l.fn.source.unread ++ xs ≡ l.line.items ++ (l.source.unread ++ ys));
+  read : Left (g.R.Read.remaining l.fn.reader) (g.R.Read.remaining l.reader)
+      (λ xs ys. l.fn.source.unread ++ xs ≡ l.line.items ++ (l.source.unread ++ ys));
   reads : l.source.reads_left ≤ l.fn.source.reads_left;
   no_more : bytes_left l.source ≤ bytes_left l.fn.source;
   unasked : l.source.reads_left ≡ l.fn.source.reads_left → l.reader ≡ l.fn.reader;

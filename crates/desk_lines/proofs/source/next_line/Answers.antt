@@ -11,18 +11,24 @@ pub returns-in-Some-clause-piece : goal.returns-in-Some-clause-piece
 returns-in-Some-clause-piece g c =
     let first = subst (λ (w : List ℕ). IsFirstFeed w (Some c.in-Some.end)) c.unread.ensures.bytes c.in-Some.ensures in
     let short = subst (λ (w : List ℕ). length w ≤ 8192) c.unread.ensures.bytes c.unread.ensures.short in
-    let text = subst (λ (w : List ℕ). IsUtf8 (take c.in-Some.end w) × (c.in_ok-text.field-0 ≡ without_return (take c.in-Some.end w))) c.unread-in-Some.ensures.bytes c.in_ok-text.ensures.text in
-    line_at_hand c.in_ok-text.field-0 c.args.source.now.unread c.advance.new.self.unread c.in-Some.end first short (ap (λ (b : Buffered). b.unread) c.advance.ensures) text.0 text.1
+    let text = subst (λ (w : List ℕ). IsUtf8 (take c.in-Some.end w)
+    × (c.in_ok-text.field-0 ≡ without_return (take c.in-Some.end w))) c.unread-in-Some.ensures.bytes
+    c.in_ok-text.ensures.text in
+    line_at_hand c.in_ok-text.field-0 c.args.source.now.unread c.advance.new.self.unread c.in-Some.end first short
+    (ap (λ (b : Buffered). b.unread) c.advance.ensures) text.0 text.1
 
 pub returns-in_err-text-clause-fault : goal.returns-in_err-text-clause-fault
 returns-in_err-text-clause-fault g c =
     let p = err_from_is_err_and c.from_residual.result c.from_residual.ensures.1 in
     let first = subst (λ (w : List ℕ). IsFirstFeed w (Some c.in-Some.end)) c.unread.ensures.bytes c.in-Some.ensures in
     let short = subst (λ (w : List ℕ). length w ≤ 8192) c.unread.ensures.bytes c.unread.ensures.short in
-    let h = subst (λ (w : List ℕ). IsTextFault c.args.number (take c.in-Some.end w) c.in_err-text.field-0.0) c.unread-in-Some.ensures.bytes c.in_err-text.ensures.fault in
+    let h = subst (λ (w : List ℕ). IsTextFault c.args.number (take c.in-Some.end w) c.in_err-text.field-0.0)
+    c.unread-in-Some.ensures.bytes c.in_err-text.ensures.fault in
     rw (p.1, p.2) (fault_at_hand c.args.number c.in_err-text.field-0.0 c.args.source.now.unread c.in-Some.end first short h)
 
 pub returns-in_err-text_of-in-Line-clause-fault : goal.returns-in_err-text_of-in-Line-clause-fault
 returns-in_err-text_of-in-Line-clause-fault g c =
     let p = err_from_is_err_and c.from_residual-in_err-text_of-in-Line.result c.from_residual-in_err-text_of-in-Line.ensures.1 in
-    rw (p.1, p.2) (line_unread c.args.number c.in_err-text_of-in-Line.field-0.0 c.args.source.now.unread c.gather.new.source.unread c.deref.result.now c.in_ok-raw.raw c.in-Line.bytes c.in-Line.is c.deref.ensures.value c.in_ok-raw.ensures.raw c.in_err-text_of-in-Line.ensures.fault)
+    rw (p.1, p.2) (line_unread c.args.number c.in_err-text_of-in-Line.field-0.0 c.args.source.now.unread
+    c.gather.new.source.unread c.deref.result.now c.in_ok-raw.raw c.in-Line.bytes c.in-Line.is c.deref.ensures.value
+    c.in_ok-raw.ensures.raw c.in_err-text_of-in-Line.ensures.fault)

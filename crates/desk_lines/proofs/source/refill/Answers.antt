@@ -8,4 +8,13 @@ pub returns-in-Err-clause-emptied : goal.returns-in-Err-clause-emptied
 returns-in-Err-clause-emptied g c =
     let s = c.source.inside in
     let none = ap (λ (b : Buffered). length b.unread) c.source.view_is ∙ ap length c.requires in
-    drop_all s.at (take s.len c.read.new.buf) (omega (arith, none, length-drop s.at (take s.len s.buffer), length-take s.len s.buffer, length-take s.len c.read.new.buf, c.source.invariant.0, c.source.invariant.1))
+    drop_all s.at (take s.len c.read.new.buf)
+    (omega (
+      arith,
+      none,
+      length-drop s.at (take s.len s.buffer),
+      length-take s.len s.buffer,
+      length-take s.len c.read.new.buf,
+      c.source.invariant.0,
+      c.source.invariant.1,
+    ))

@@ -10,7 +10,9 @@ make_change-requires-clause-apart g c k h =
     let b = c.in-Ok-next.ensures.answer in
     let early = b.holds.honest h in
     let kept = b.was_kept k h in
-    c.in-Ok-plan.ensures.apart _ (shown _ _ _ _ _ _ _ c.as_slice-sets.ensures (a.holds.fact (a.was_kept kept early) early) (b.holds.fact kept h) (g.met.S.Records.sound _ k))
+    c.in-Ok-plan.ensures.apart _
+    (shown _ _ _ _ _ _ _ c.as_slice-sets.ensures (a.holds.fact (a.was_kept kept early) early) (b.holds.fact kept h)
+    (g.met.S.Records.sound _ k))
 
 pub make_change-requires-clause-planned : goal.make_change-requires-clause-planned
 make_change-requires-clause-planned g c k h =
@@ -18,8 +20,10 @@ make_change-requires-clause-planned g c k h =
     let b = c.in-Ok-next.ensures.answer in
     let early = b.holds.honest h in
     let kept = b.was_kept k h in
-    let sh = shown _ _ _ _ _ _ _ c.as_slice-sets.ensures (a.holds.fact (a.was_kept kept early) early) (b.holds.fact kept h) (g.met.S.Records.sound _ k) in
-    planned _ _ _ _ _ sh (c.in-Ok-plan.ensures.fits _ sh) c.in-Ok-plan.ensures.covers (c.in-Ok-plan.ensures.brings _ sh) c.in-Ok-plan.ensures.later
+    let sh = shown _ _ _ _ _ _ _ c.as_slice-sets.ensures (a.holds.fact (a.was_kept kept early) early) (b.holds.fact kept h)
+    (g.met.S.Records.sound _ k) in
+    planned _ _ _ _ _ sh (c.in-Ok-plan.ensures.fits _ sh) c.in-Ok-plan.ensures.covers (c.in-Ok-plan.ensures.brings _ sh)
+    c.in-Ok-plan.ensures.later
 
 pub returns-in-Ok-plan-clause-answer : goal.returns-in-Ok-plan-clause-answer
 returns-in-Ok-plan-clause-answer g c =
@@ -29,7 +33,8 @@ returns-in-Ok-plan-clause-answer g c =
     let ab = holds_both a b in
     holds_where (holds_both ab o) (λ u w p.
     let sh = shown _ _ _ _ _ _ _ c.as_slice-sets.ensures p.0.0 p.0.1 (g.met.S.Records.sound _ (ab.kept u (o.honest w))) in
-    does_planned c.args.from.now _ _ _ _ c.args.command.now c.in-Ok-plan.change c.make_change.result p.0.0.1 p.0.1.1 (c.in-Ok-plan.ensures.right _ sh).0 p.1)
+    does_planned c.args.from.now _ _ _ _ c.args.command.now c.in-Ok-plan.change c.make_change.result p.0.0.1 p.0.1.1
+    (c.in-Ok-plan.ensures.right _ sh).0 p.1)
 
 pub returns-in-Err-Refused-clause-answer : goal.returns-in-Err-Refused-clause-answer
 returns-in-Err-Refused-clause-answer g c =
@@ -39,4 +44,5 @@ returns-in-Err-Refused-clause-answer g c =
     let plans = rw c.in-Err-Refused.field-0-is at c.in-Err-Refused.ensures.right in
     holds_where ab (λ u w p.
     let sh = shown _ _ _ _ _ _ _ c.as_slice-sets.ensures p.0 p.1 (g.met.S.Records.sound _ (ab.kept u w)) in
-    does_refused c.args.from.now _ _ _ c.args.command.now c.in-Err-Refused.refusal c.refusal_meant.result p.0.1 p.1.1 (plans _ sh) (c.refusal_meant.ensures ∙ ap refusal_meant c.in-Err-Refused.refusal-is))
+    does_refused c.args.from.now _ _ _ c.args.command.now c.in-Err-Refused.refusal c.refusal_meant.result p.0.1 p.1.1 (plans _ sh)
+    (c.refusal_meant.ensures ∙ ap refusal_meant c.in-Err-Refused.refusal-is))

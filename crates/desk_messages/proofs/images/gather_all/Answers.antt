@@ -9,5 +9,9 @@ loop-number-preserved g c = record {
   bugs = c.in-Ok.ensures.bugs;
   faults = c.in-Ok.ensures.count ∙ c.loop-number.invariant.faults;
   gathered = asks_then c.loop-number.invariant.gathered c.in-Ok.ensures.answer
-      (λ p q. (gather-more (g.S.Records.desk c.args.store.now) _ c.args.numbers.now c.loop-number.number-index c.args.images.now _ _ c.loop-number-test.true p.1 p.0 q.0, q.1 ∙ p.1));
+      (λ p q. (
+        gather-more (g.S.Records.desk c.args.store.now) _ c.args.numbers.now c.loop-number.number-index c.args.images.now _
+            _ c.loop-number-test.true p.1 p.0 q.0,
+        q.1 ∙ p.1,
+      ));
 }

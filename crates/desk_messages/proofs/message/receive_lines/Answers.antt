@@ -24,7 +24,8 @@ loop-i-preserved g c =
       goes_on = c.in-Ok.ensures.end ∙ goes_on-all c.in-Ok.end (sym c.goes_on.ensures ∙ c.if-not-goes_on.false);
       faults = c.in-Ok.ensures.count ∙ c.loop-i.invariant.faults;
       taken = holds_then c.loop-i.invariant.taken c.in-Ok.ensures.answer
-          (λ p q. line_more c.args.from.now _ c.args.lines.now c.loop-i.i c.index-lines-i.result _ _ c.loop-i-test.true is c.loop-i.invariant.goes_on p q);
+          (λ p q. line_more c.args.from.now _ c.args.lines.now c.loop-i.i c.index-lines-i.result _ _ c.loop-i-test.true is
+          c.loop-i.invariant.goes_on p q);
     }
 
 pub returns-then-not-goes_on-clause-answer : goal.returns-then-not-goes_on-clause-answer
@@ -35,12 +36,17 @@ returns-then-not-goes_on-clause-answer g c =
     let here = ap goes_on c.in-Ok.ensures.end ∙ stays in
     holds_then c.loop-i.invariant.taken c.in-Ok.ensures.answer
     (λ p q. received_ended c.args.from.now c.args.lines.now _ _ _ c.in-Ok.end stays ended
-    (all_ended c.args.from.now _ c.args.lines.now _ _ here (line_more c.args.from.now _ c.args.lines.now c.loop-i.i c.index-lines-i.result _ _ c.loop-i-test.true is c.loop-i.invariant.goes_on p q)
+    (all_ended c.args.from.now _ c.args.lines.now _ _ here
+    (line_more c.args.from.now _ c.args.lines.now c.loop-i.i c.index-lines-i.result _ _ c.loop-i-test.true is
+    c.loop-i.invariant.goes_on p q)
     ∙ ap (machine _) (sym c.from_vec.ensures)))
 
 pub returns-then-not-goes_on-clause-count : goal.returns-then-not-goes_on-clause-count
 returns-then-not-goes_on-clause-count g c =
-    c.in-Ok.ensures.count ∙ (c.loop-i.invariant.faults ∙ sym (settled_faults c.take_message_line.new.progress.outcomes.items c.in-Ok.end _ c.in-Ok.ensures.end))
+    c.in-Ok.ensures.count
+    ∙ (c.loop-i.invariant.faults
+    ∙ sym (settled_faults c.take_message_line.new.progress.outcomes.items c.in-Ok.end _ c.in-Ok.ensures.end))
 
 pub returns-then-not-goes_on-clause-line : goal.returns-then-not-goes_on-clause-line
-returns-then-not-goes_on-clause-line g c = settled_line c.take_message_line.new.progress.outcomes.items c.in-Ok.end c.args.lines.now c.in-Ok.ensures.end
+returns-then-not-goes_on-clause-line g c =
+    settled_line c.take_message_line.new.progress.outcomes.items c.in-Ok.end c.args.lines.now c.in-Ok.ensures.end

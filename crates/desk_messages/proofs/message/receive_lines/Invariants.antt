@@ -10,5 +10,6 @@ invariant-loop-i g l = record {
   goes_on : end_of l.progress.outcomes.items ≡ All;
   faults : g.S.Records.faults l.store ≡ g.S.Records.faults l.fn.store;
   taken : Holds g.S.Records.is_kept g.S.Records.is_honest l.fn.store l.store
-      (after_lines l.from (at_start (g.S.Records.desk l.fn.store)) (take l.i l.lines) ≡ machine (g.S.Records.desk l.store) l.progress.outcomes.items);
+      (after_lines l.from (at_start (g.S.Records.desk l.fn.store)) (take l.i l.lines)
+      ≡ machine (g.S.Records.desk l.store) l.progress.outcomes.items);
 }

@@ -10,14 +10,18 @@ overflow_add-progress c =
     omega (arith, f, o)
 
 pub returns-then-stops-clause-end : goal.returns-then-stops-clause-end
-returns-then-stops-clause-end c = end_at_stop c.args.progress.now.outcomes.items _ (c.args.text, c.args.outcome) c.requires.goes_on c.add.ensures (sym c.is_stop-stops.ensures ∙ c.if-stops.true)
+returns-then-stops-clause-end c =
+    end_at_stop c.args.progress.now.outcomes.items _ (c.args.text, c.args.outcome) c.requires.goes_on c.add.ensures
+    (sym c.is_stop-stops.ensures ∙ c.if-stops.true)
 
 pub returns-then-progress-ge5-clause-end : goal.returns-then-progress-ge5-clause-end
 returns-then-progress-ge5-clause-end c =
     let n = count-push c.args.progress.now.outcomes.items _ (c.args.text, c.args.outcome) c.add.ensures in
-    end_at_fifth c.args.progress.now.outcomes.items _ (c.args.text, c.args.outcome) c.requires.goes_on c.add.ensures (sym c.is_stop-stops.ensures ∙ c.if-stops.false) (omega (arith, n))
+    end_at_fifth c.args.progress.now.outcomes.items _ (c.args.text, c.args.outcome) c.requires.goes_on c.add.ensures
+    (sym c.is_stop-stops.ensures ∙ c.if-stops.false) (omega (arith, n))
 
 pub returns-else-progress-ge5-clause-end : goal.returns-else-progress-ge5-clause-end
 returns-else-progress-ge5-clause-end c =
     let n = count-push c.args.progress.now.outcomes.items _ (c.args.text, c.args.outcome) c.add.ensures in
-    end_not_yet c.args.progress.now.outcomes.items _ (c.args.text, c.args.outcome) c.requires.goes_on c.add.ensures (sym c.is_stop-stops.ensures ∙ c.if-stops.false) (omega (arith, n))
+    end_not_yet c.args.progress.now.outcomes.items _ (c.args.text, c.args.outcome) c.requires.goes_on c.add.ensures
+    (sym c.is_stop-stops.ensures ∙ c.if-stops.false) (omega (arith, n))

@@ -11,7 +11,8 @@ pub unreachable-requires : goal.unreachable-requires
 unreachable-requires c =
     at-none c.args.package.now c.in-Some.version.now
     (subst (λ (v : Option (Bor (List ℕ))). IfGiven IsVersion (option_copied v)) c.in-Some.is c.requires.version)
-    (subst (λ z. IsRead (node_at c.args.package.now c.in-Some.version.now) (Err z)) c.in-Err-BadNode.field-0-is c.in-Err-BadNode.ensures)
+    (subst (λ z. IsRead (node_at c.args.package.now c.in-Some.version.now) (Err z)) c.in-Err-BadNode.field-0-is
+    c.in-Err-BadNode.ensures)
     c.requires.name
 
 pub returns-in-Ok-clause-node : goal.returns-in-Ok-clause-node

@@ -6,7 +6,8 @@ use Rattle.desk_messages.proofs.ReportLemmas.{words_refused, words_not_counted, 
 use Rattle.desk_messages.proofs.reporting.report.Goals as goal
 
 pub returns-in-Err-clause-answer : goal.returns-in-Err-clause-answer
-returns-in-Err-clause-answer g c = holds_none _ _ _ (words_refused c.args.from.now _ _ _ _ _ c.in-Err.fault c.in-Err.ensures.own c.in-Err.ensures.value)
+returns-in-Err-clause-answer g c =
+    holds_none _ _ _ (words_refused c.args.from.now _ _ _ _ _ c.in-Err.fault c.in-Err.ensures.own c.in-Err.ensures.value)
 
 pub returns-in-Err-clause-count : goal.returns-in-Err-clause-count
 returns-in-Err-clause-count g c = words_not_counted c.in-Err.fault _ c.in-Err.ensures.own
@@ -14,7 +15,8 @@ returns-in-Err-clause-count g c = words_not_counted c.in-Err.fault _ c.in-Err.en
 pub returns-then-next-ge1000000000-clause-answer : goal.returns-then-next-ge1000000000-clause-answer
 returns-then-next-ge1000000000-clause-answer g c =
     holds_weaker c.in-Ok-next.ensures.answer.holds
-    (λ p. report_full c.args.from.now _ _ _ _ _ _ c.in-Ok.severity c.in-Ok-next.next c.in-Ok.ensures.value p c.if-next-ge1000000000.true)
+    (λ p. report_full c.args.from.now _ _ _ _ _ _ c.in-Ok.severity c.in-Ok-next.next c.in-Ok.ensures.value p
+    c.if-next-ge1000000000.true)
 
 pub apply-requires-clause-fits : goal.apply-requires-clause-fits
 apply-requires-clause-fits g c k h =
@@ -29,4 +31,8 @@ returns-in-Ok-apply-clause-answer g c =
     holds_where (holds_both a b) (λ u w p.
     let sound = g.met.S.Records.sound _ (a.kept u (b.honest w)) in
     let same = sym (p.0.0 ∙ ap (λ (z : Desk). z.next) (sym p.0.1)) in
-    report_done c.args.from.now _ _ _ _ _ _ _ c.in-Ok.severity c.in-Ok-next.next c.in-Ok.ensures.value p.0 c.if-next-ge1000000000.false (p.1 ∙ c.in-Ok-report_change.ensures.right _ sound same ∙ ap (reported _ c.args.from.now c.args.package.now c.in-Ok.severity c.args.title.now) c.in-Ok-node_reported.ensures.node))
+    report_done c.args.from.now _ _ _ _ _ _ _ c.in-Ok.severity c.in-Ok-next.next c.in-Ok.ensures.value p.0
+    c.if-next-ge1000000000.false
+    (p.1 ∙ c.in-Ok-report_change.ensures.right _ sound same
+    ∙ ap (reported _ c.args.from.now c.args.package.now c.in-Ok.severity c.args.title.now)
+    c.in-Ok-node_reported.ensures.node))

@@ -9,7 +9,8 @@ use Rattle.desk_run.proofs.branch.read_nodes.Goals as goal
 pub loop-word-init : goal.loop-word-init
 loop-word-init c = record {
   text = c.utf8.text;
-  nodes = ap (λ (ns : List Node). option_map (λ more. ns ++ more) (nodes_of (words c.args.text.now))) c.new-nodes.ensures.items ∙ map_all (nodes_of (words c.args.text.now));
+  nodes = ap (λ (ns : List Node). option_map (λ more. ns ++ more) (nodes_of (words c.args.text.now))) c.new-nodes.ensures.items
+      ∙ map_all (nodes_of (words c.args.text.now));
 }
 
 pub returns-then-is_empty : goal.returns-then-is_empty
@@ -19,22 +20,27 @@ returns-then-is_empty c =
 
 pub returns-in-Err : goal.returns-in-Err
 returns-in-Err c =
-    unread Global c.args.text.now c.loop-word.rest.now c.next_word.result.0.now (words c.next_word.result.1.now) c.loop-word.nodes.items c.in-Err.fault c.loop-word.invariant.nodes
+    unread Global c.args.text.now c.loop-word.rest.now c.next_word.result.0.now (words c.next_word.result.1.now)
+    c.loop-word.nodes.items c.in-Err.fault c.loop-word.invariant.nodes
     (c.next_word.ensures.first (some_bytes c.next_word.result.0.now (sym c.if-is_empty.ensures))) c.in-Err.ensures
 
 pub loop-word-smaller : goal.loop-word-smaller
 loop-word-smaller c =
-    let e : words c.loop-word.rest.now ≡ c.next_word.result.0.now ∷ words c.next_word.result.1.now = c.next_word.ensures.first (some_bytes c.next_word.result.0.now (sym c.if-is_empty.ensures)) in
+    let e : words c.loop-word.rest.now ≡ c.next_word.result.0.now ∷ words c.next_word.result.1.now =
+    c.next_word.ensures.first (some_bytes c.next_word.result.0.now (sym c.if-is_empty.ensures)) in
     subst (λ (ws : List (List ℕ)). length (words c.next_word.result.1.now) < length ws) (sym e) (omega arith)
 
 pub loop-word-preserved : goal.loop-word-preserved
 loop-word-preserved c =
-    let e : words c.loop-word.rest.now ≡ c.next_word.result.0.now ∷ words c.next_word.result.1.now = c.next_word.ensures.first (some_bytes c.next_word.result.0.now (sym c.if-is_empty.ensures)) in
+    let e : words c.loop-word.rest.now ≡ c.next_word.result.0.now ∷ words c.next_word.result.1.now =
+    c.next_word.ensures.first (some_bytes c.next_word.result.0.now (sym c.if-is_empty.ensures)) in
     record {
       text = search rules;
       nodes =
-          ap (λ (ns : List Node). option_map (λ more. ns ++ more) (nodes_of (words c.next_word.result.1.now))) c.in-Ok-push.ensures.items
-          ∙ sym (nodes-more c.next_word.result.0.now (words c.next_word.result.1.now) c.in-Ok.node c.loop-word.nodes.items c.in-Ok.ensures)
+          ap (λ (ns : List Node). option_map (λ more. ns ++ more) (nodes_of (words c.next_word.result.1.now)))
+          c.in-Ok-push.ensures.items
+          ∙ sym (nodes-more c.next_word.result.0.now (words c.next_word.result.1.now) c.in-Ok.node c.loop-word.nodes.items
+          c.in-Ok.ensures)
           ∙ ap (λ (ws : List (List ℕ)). option_map (λ more. c.loop-word.nodes.items ++ more) (nodes_of ws)) (sym e)
           ∙ c.loop-word.invariant.nodes;
     }

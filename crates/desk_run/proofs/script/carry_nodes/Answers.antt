@@ -13,7 +13,8 @@ returns-in_default-clause-answer g c =
     let s = standing (g.S.Records.desk c.args.store.now) c.args.run.now.sender c.args.run.now.refused in
     holds_weaker c.branch-answer.ensures.answer
     (λ r. untold (DirectiveLine c.args.line.now) s _ _ _ _ (branch_answer c.branch-answer.result)
-    (branch_carried c.args.line.now c.requires.0 c.args.nodes.now s _ _ _ c.branch-answer.result c.requires.1 c.requires.2 c.branch-answer.ensures.count r))
+    (branch_carried c.args.line.now c.requires.0 c.args.nodes.now s _ _ _ c.branch-answer.result c.requires.1 c.requires.2
+    c.branch-answer.ensures.count r))
 
 pub returns-in-Err-clause-answer : goal.returns-in-Err-clause-answer
 returns-in-Err-clause-answer g c =
@@ -24,8 +25,10 @@ returns-in-Err-clause-answer g c =
       branch_answer c.branch-answer.result,
       c.in-Err.ensures.unfinished.0,
       subst (λ (w : List ℕ). c.in-Err.ensures.unfinished.0 < length w) text c.in-Err.ensures.unfinished.1,
-      branch_carried c.args.line.now c.requires.0 c.args.nodes.now s _ _ _ c.branch-answer.result c.requires.1 c.requires.2 c.branch-answer.ensures.count r,
-      subst (λ (w : List ℕ). Appends (g.W.Write.contents c.args.writer.now) (g.W.Write.contents c.write_out.new.writer) (take c.in-Err.ensures.unfinished.0 w)) text c.in-Err.ensures.unfinished.2,
+      branch_carried c.args.line.now c.requires.0 c.args.nodes.now s _ _ _ c.branch-answer.result c.requires.1 c.requires.2
+          c.branch-answer.ensures.count r,
+      subst (λ (w : List ℕ). Appends (g.W.Write.contents c.args.writer.now) (g.W.Write.contents c.write_out.new.writer)
+          (take c.in-Err.ensures.unfinished.0 w)) text c.in-Err.ensures.unfinished.2,
     ))
 
 pub returns-in-Some-clause-answer : goal.returns-in-Some-clause-answer
@@ -36,9 +39,11 @@ returns-in-Some-clause-answer g c =
     holds_weaker c.branch-answer.ensures.answer
     (λ r. (
       branch_answer c.branch-answer.result,
-      branch_fault c.args.line.now c.requires.0 c.args.nodes.now s _ c.branch-answer.result c.in-Some.fault c.requires.1 c.requires.2 of_store r,
+      branch_fault c.args.line.now c.requires.0 c.args.nodes.now s _ c.branch-answer.result c.in-Some.fault c.requires.1
+          c.requires.2 of_store r,
       c.branch-answer.ensures.count ∙ fault_count c.branch-answer.result c.in-Some.fault _ of_store,
-      subst (Appends (g.W.Write.contents c.args.writer.now) (g.W.Write.contents c.write_out.new.writer)) text c.in-Ok-write_out.ensures.all,
+      subst (Appends (g.W.Write.contents c.args.writer.now) (g.W.Write.contents c.write_out.new.writer)) text
+          c.in-Ok-write_out.ensures.all,
     ))
 
 pub returns-in-Some-clause-count : goal.returns-in-Some-clause-count
@@ -53,8 +58,12 @@ returns-clause-answer g c =
     let not_of_store = sym c.fault_of_branch.ensures ∙ c.in_default-fault_of_branch.is in
     holds_weaker c.branch-answer.ensures.answer
     (λ r.
-    let w = branch_whole c.args.line.now c.requires.0 c.args.nodes.now s _ c.branch-answer.result c.either-run.result c.requires.1 c.requires.2 not_of_store (c.either-run.ensures ∙ ap (λ b. s.refused || b) c.refuses_branch.ensures) r in
-    (w.0, subst (Appends (g.W.Write.contents c.args.writer.now) (g.W.Write.contents c.write_out.new.writer)) (text ∙ w.1) c.in-Ok-write_out.ensures.all))
+    let w = branch_whole c.args.line.now c.requires.0 c.args.nodes.now s _ c.branch-answer.result c.either-run.result c.requires.1
+    c.requires.2 not_of_store (c.either-run.ensures ∙ ap (λ b. s.refused || b) c.refuses_branch.ensures) r in (
+      w.0,
+      subst (Appends (g.W.Write.contents c.args.writer.now) (g.W.Write.contents c.write_out.new.writer)) (text ∙ w.1)
+          c.in-Ok-write_out.ensures.all,
+    ))
 
 pub returns-clause-count : goal.returns-clause-count
 returns-clause-count g c =

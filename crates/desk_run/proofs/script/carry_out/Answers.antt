@@ -13,20 +13,25 @@ pub returns-in-Ok-clause-answer : goal.returns-in-Ok-clause-answer
 returns-in-Ok-clause-answer g c =
     let s = standing (g.S.Records.desk c.args.store.now) c.args.run.now.sender c.args.run.now.refused in
     let e = ap From c.in-Ok.ensures ∙ c.in-From.ensures.value in
-    holds_none _ _ _ (order_done c.args.line.now s _ _ _ _ (From c.in-Ok.sender) e refl refl (appends_none (g.W.Write.contents c.args.writer.now)))
+    holds_none _ _ _ (order_done c.args.line.now s _ _ _ _ (From c.in-Ok.sender) e refl refl
+    (appends_none (g.W.Write.contents c.args.writer.now)))
 
 pub returns-in-Err-BadNode-clause-answer : goal.returns-in-Err-BadNode-clause-answer
 returns-in-Err-BadNode-clause-answer g c =
     let s = standing (g.S.Records.desk c.args.store.now) c.args.run.now.sender c.args.run.now.refused in
     let names = words c.in-Branch.words.now in
-    let none : nodes_of names ≡ None = subst (λ z. AreRead {A = Global} (nodes_of names) (Err z)) c.in-Err-BadNode.field-0-is c.in-Err-BadNode.ensures in
+    let none : nodes_of names ≡ None =
+    subst (λ z. AreRead {A = Global} (nodes_of names) (Err z)) c.in-Err-BadNode.field-0-is c.in-Err-BadNode.ensures in
     let refused = branch_of_none s.desk.tree names none in
     let done = c.refuse.ensures in
     holds_none _ _ _ (order_refused c.args.line.now s _ _ _ _ _ _ (Branch names) c.refuse.result c.in-Branch.ensures.value
-    (ap (λ (r : Result Ancestry BranchRefusal). after_branch r s) refused) (c.bad_version_answer.ensures ∙ ap branch_text (sym refused)) done.all done.unfinished done.write done.refused done.sender)
+    (ap (λ (r : Result Ancestry BranchRefusal). after_branch r s) refused)
+    (c.bad_version_answer.ensures ∙ ap branch_text (sym refused)) done.all done.unfinished done.write done.refused
+    done.sender)
 
 pub returns-in-Bad-clause-answer : goal.returns-in-Bad-clause-answer
 returns-in-Bad-clause-answer g c =
     let s = standing (g.S.Records.desk c.args.store.now) c.args.run.now.sender c.args.run.now.refused in
     let done = c.refuse-in-Bad.ensures in
-    holds_none _ _ _ (order_refused c.args.line.now s _ _ _ _ _ _ Bad c.refuse-in-Bad.result c.in-Bad.ensures.value refl c.bad_directive_answer.ensures done.all done.unfinished done.write done.refused done.sender)
+    holds_none _ _ _ (order_refused c.args.line.now s _ _ _ _ _ _ Bad c.refuse-in-Bad.result c.in-Bad.ensures.value refl
+    c.bad_directive_answer.ensures done.all done.unfinished done.write done.refused done.sender)

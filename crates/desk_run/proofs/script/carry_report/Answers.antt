@@ -3,7 +3,8 @@ use Rattle.std.specs.Io.KnownBytes.{Appends}
 use Rattle.desk_store.proofs.HoldsLemmas.{holds_weaker}
 use Rattle.desk_run.specs.Script.{DirectiveLine, standing}
 use Rattle.desk_text.specs.Answers.{report_answer}
-use Rattle.desk_run.proofs.PartLemmas.{untold, reported_carried, reported_whole, reported_refused, reported_fault, fault_count, refused_count, report_count}
+use Rattle.desk_run.proofs.PartLemmas.{untold, reported_carried, reported_whole, reported_refused, reported_fault, fault_count}
+use Rattle.desk_run.proofs.PartLemmas.{refused_count, report_count}
 use Rattle.desk_run.proofs.script.carry_report.Goals as goal
 
 pub returns-in_default-clause-answer : goal.returns-in_default-clause-answer
@@ -11,7 +12,8 @@ returns-in_default-clause-answer g c =
     let s = standing (g.S.Records.desk c.args.store.now) c.args.run.now.sender c.args.run.now.refused in
     holds_weaker c.report-answer.ensures.answer
     (λ r. untold (DirectiveLine c.args.line.now) s _ _ _ _ (report_answer c.report-answer.result)
-    (reported_carried c.args.line.now _ _ _ _ s _ _ _ c.report-answer.result c.requires c.report-answer.ensures.count (rw c.as_str.ensures at r)))
+    (reported_carried c.args.line.now _ _ _ _ s _ _ _ c.report-answer.result c.requires c.report-answer.ensures.count
+    (rw c.as_str.ensures at r)))
 
 pub returns-in-Err-clause-answer : goal.returns-in-Err-clause-answer
 returns-in-Err-clause-answer g c =
@@ -22,8 +24,10 @@ returns-in-Err-clause-answer g c =
       report_answer c.report-answer.result,
       c.in-Err.ensures.unfinished.0,
       subst (λ (w : List ℕ). c.in-Err.ensures.unfinished.0 < length w) text c.in-Err.ensures.unfinished.1,
-      reported_carried c.args.line.now _ _ _ _ s _ _ _ c.report-answer.result c.requires c.report-answer.ensures.count (rw c.as_str.ensures at r),
-      subst (λ (w : List ℕ). Appends (g.W.Write.contents c.args.writer.now) (g.W.Write.contents c.write_out.new.writer) (take c.in-Err.ensures.unfinished.0 w)) text c.in-Err.ensures.unfinished.2,
+      reported_carried c.args.line.now _ _ _ _ s _ _ _ c.report-answer.result c.requires c.report-answer.ensures.count
+          (rw c.as_str.ensures at r),
+      subst (λ (w : List ℕ). Appends (g.W.Write.contents c.args.writer.now) (g.W.Write.contents c.write_out.new.writer)
+          (take c.in-Err.ensures.unfinished.0 w)) text c.in-Err.ensures.unfinished.2,
     ))
 
 pub returns-in-Ok-answer-clause-answer : goal.returns-in-Ok-answer-clause-answer
@@ -32,8 +36,12 @@ returns-in-Ok-answer-clause-answer g c =
     let text = c.as_slice.ensures.value ∙ c.in-Ok.ensures in
     holds_weaker c.report-answer.ensures.answer
     (λ r.
-    let w = reported_whole c.args.line.now _ _ _ _ s _ c.in-Ok-answer.field-0 c.requires (rw (c.as_str.ensures, c.in-Ok-answer.is) at r) in
-    (w.0, subst (Appends (g.W.Write.contents c.args.writer.now) (g.W.Write.contents c.write_out.new.writer)) (text ∙ ap report_answer c.in-Ok-answer.is ∙ w.1) c.in-Ok-write_out.ensures.all))
+    let w = reported_whole c.args.line.now _ _ _ _ s _ c.in-Ok-answer.field-0 c.requires
+    (rw (c.as_str.ensures, c.in-Ok-answer.is) at r) in (
+      w.0,
+      subst (Appends (g.W.Write.contents c.args.writer.now) (g.W.Write.contents c.write_out.new.writer))
+          (text ∙ ap report_answer c.in-Ok-answer.is ∙ w.1) c.in-Ok-write_out.ensures.all,
+    ))
 
 pub returns-in-Some-clause-answer : goal.returns-in-Some-clause-answer
 returns-in-Some-clause-answer g c =
@@ -42,11 +50,13 @@ returns-in-Some-clause-answer g c =
     let of_store = sym c.store_fault.ensures ∙ c.in-Some.is in
     holds_weaker c.report-answer.ensures.answer
     (λ r.
-    let f = reported_fault c.args.line.now _ _ _ _ s _ c.in-Err-answer.fault c.in-Some.fault of_store c.requires (rw (c.as_str.ensures, c.in-Err-answer.is) at r) in (
+    let f = reported_fault c.args.line.now _ _ _ _ s _ c.in-Err-answer.fault c.in-Some.fault of_store c.requires
+    (rw (c.as_str.ensures, c.in-Err-answer.is) at r) in (
       report_answer c.report-answer.result,
       (f.0, f.1, ap report_answer c.in-Err-answer.is ∙ f.2),
       rw c.in-Err-answer.is at c.report-answer.ensures.count ∙ fault_count c.in-Err-answer.fault c.in-Some.fault _ of_store,
-      subst (Appends (g.W.Write.contents c.args.writer.now) (g.W.Write.contents c.write_out.new.writer)) text c.in-Ok-write_out.ensures.all,
+      subst (Appends (g.W.Write.contents c.args.writer.now) (g.W.Write.contents c.write_out.new.writer)) text
+          c.in-Ok-write_out.ensures.all,
     ))
 
 pub returns-in-Some-clause-count : goal.returns-in-Some-clause-count
@@ -61,8 +71,12 @@ returns-clause-answer g c =
     let not_of_store = sym c.store_fault.ensures ∙ c.in-None.is in
     holds_weaker c.report-answer.ensures.answer
     (λ r.
-    let w = reported_refused c.args.line.now _ _ _ _ s _ c.in-Err-answer.fault not_of_store c.requires (rw (c.as_str.ensures, c.in-Err-answer.is) at r) in
-    (w.0, subst (Appends (g.W.Write.contents c.args.writer.now) (g.W.Write.contents c.write_out.new.writer)) (text ∙ ap report_answer c.in-Err-answer.is ∙ w.1) c.in-Ok-write_out.ensures.all))
+    let w = reported_refused c.args.line.now _ _ _ _ s _ c.in-Err-answer.fault not_of_store c.requires
+    (rw (c.as_str.ensures, c.in-Err-answer.is) at r) in (
+      w.0,
+      subst (Appends (g.W.Write.contents c.args.writer.now) (g.W.Write.contents c.write_out.new.writer))
+          (text ∙ ap report_answer c.in-Err-answer.is ∙ w.1) c.in-Ok-write_out.ensures.all,
+    ))
 
 pub returns-clause-count : goal.returns-clause-count
 returns-clause-count g c =

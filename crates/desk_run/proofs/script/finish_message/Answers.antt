@@ -12,7 +12,8 @@ returns-in_default-clause-answer g c =
     let s = standing (g.S.Records.desk c.args.store.now) c.args.run.now.sender c.args.run.now.refused in
     holds_weaker c.receive_lines-received.ensures.answer
     (λ r. untold (Message c.args.run.now.gathered.items) s _ _ _ _ _
-    (received_carried c.args.run.now.gathered.items s c.receive_lines-received.result.outcomes c.receive_lines-received.result.end _ _ _ c.receive_lines-received.ensures.count (rw (c.as_str.ensures, c.as_slice-lines.ensures.value) at r)))
+    (received_carried c.args.run.now.gathered.items s c.receive_lines-received.result.outcomes c.receive_lines-received.result.end
+    _ _ _ c.receive_lines-received.ensures.count (rw (c.as_str.ensures, c.as_slice-lines.ensures.value) at r)))
 
 pub returns-in-Err-clause-answer : goal.returns-in-Err-clause-answer
 returns-in-Err-clause-answer g c =
@@ -22,9 +23,16 @@ returns-in-Err-clause-answer g c =
     (λ r. (
       _,
       c.in-Err.ensures.unfinished.0,
-      subst (λ (w : List ℕ). c.in-Err.ensures.unfinished.0 < length w) (text ∙ ap (received_text c.receive_lines-received.result.outcomes c.receive_lines-received.result.end) c.as_slice-lines.ensures.value) c.in-Err.ensures.unfinished.1,
-      received_carried c.args.run.now.gathered.items s c.receive_lines-received.result.outcomes c.receive_lines-received.result.end _ _ _ c.receive_lines-received.ensures.count (rw (c.as_str.ensures, c.as_slice-lines.ensures.value) at r),
-      subst (λ (w : List ℕ). Appends (g.W.Write.contents c.args.writer.now) (g.W.Write.contents c.write_out.new.writer) (take c.in-Err.ensures.unfinished.0 w)) (text ∙ ap (received_text c.receive_lines-received.result.outcomes c.receive_lines-received.result.end) c.as_slice-lines.ensures.value) c.in-Err.ensures.unfinished.2,
+      subst (λ (w : List ℕ). c.in-Err.ensures.unfinished.0 < length w)
+          (text ∙ ap (received_text c.receive_lines-received.result.outcomes c.receive_lines-received.result.end)
+          c.as_slice-lines.ensures.value) c.in-Err.ensures.unfinished.1,
+      received_carried c.args.run.now.gathered.items s c.receive_lines-received.result.outcomes
+          c.receive_lines-received.result.end _ _ _ c.receive_lines-received.ensures.count
+          (rw (c.as_str.ensures, c.as_slice-lines.ensures.value) at r),
+      subst (λ (w : List ℕ). Appends (g.W.Write.contents c.args.writer.now) (g.W.Write.contents c.write_out.new.writer)
+          (take c.in-Err.ensures.unfinished.0 w))
+          (text ∙ ap (received_text c.receive_lines-received.result.outcomes c.receive_lines-received.result.end)
+          c.as_slice-lines.ensures.value) c.in-Err.ensures.unfinished.2,
     ))
 
 pub returns-in-Some-clause-answer : goal.returns-in-Some-clause-answer
@@ -34,9 +42,13 @@ returns-in-Some-clause-answer g c =
     holds_weaker c.receive_lines-received.ensures.answer
     (λ r. (
       _,
-      received_fault c.args.run.now.gathered.items s c.receive_lines-received.result.outcomes c.receive_lines-received.result.end _ c.in-Some.fault (sym c.in-Some.ensures) (rw (c.as_str.ensures, c.as_slice-lines.ensures.value) at r),
-      c.receive_lines-received.ensures.count ∙ end_count c.receive_lines-received.result.end c.in-Some.fault _ (sym c.in-Some.ensures),
-      subst (Appends (g.W.Write.contents c.args.writer.now) (g.W.Write.contents c.write_out.new.writer)) (text ∙ ap (received_text c.receive_lines-received.result.outcomes c.receive_lines-received.result.end) c.as_slice-lines.ensures.value) c.in-Ok-write_out.ensures.all,
+      received_fault c.args.run.now.gathered.items s c.receive_lines-received.result.outcomes c.receive_lines-received.result.end
+          _ c.in-Some.fault (sym c.in-Some.ensures) (rw (c.as_str.ensures, c.as_slice-lines.ensures.value) at r),
+      c.receive_lines-received.ensures.count
+          ∙ end_count c.receive_lines-received.result.end c.in-Some.fault _ (sym c.in-Some.ensures),
+      subst (Appends (g.W.Write.contents c.args.writer.now) (g.W.Write.contents c.write_out.new.writer))
+          (text ∙ ap (received_text c.receive_lines-received.result.outcomes c.receive_lines-received.result.end)
+          c.as_slice-lines.ensures.value) c.in-Ok-write_out.ensures.all,
     ))
 
 pub returns-clause-answer : goal.returns-clause-answer
@@ -47,8 +59,14 @@ returns-clause-answer g c =
     let either = c.either-run.ensures ∙ ap (λ b. c.args.run.now.refused || b) c.refuses.ensures in
     holds_weaker c.receive_lines-received.ensures.answer
     (λ r.
-    let w = received_whole c.args.run.now.gathered.items s c.receive_lines-received.result.outcomes c.receive_lines-received.result.end _ c.either-run.result none either (rw (c.as_str.ensures, c.as_slice-lines.ensures.value) at r) in
-    (w.0, subst (Appends (g.W.Write.contents c.args.writer.now) (g.W.Write.contents c.write_out.new.writer)) (text ∙ ap (received_text c.receive_lines-received.result.outcomes c.receive_lines-received.result.end) c.as_slice-lines.ensures.value ∙ w.1) c.in-Ok-write_out.ensures.all))
+    let w = received_whole c.args.run.now.gathered.items s c.receive_lines-received.result.outcomes
+    c.receive_lines-received.result.end _ c.either-run.result none either
+    (rw (c.as_str.ensures, c.as_slice-lines.ensures.value) at r) in (
+      w.0,
+      subst (Appends (g.W.Write.contents c.args.writer.now) (g.W.Write.contents c.write_out.new.writer))
+          (text ∙ ap (received_text c.receive_lines-received.result.outcomes c.receive_lines-received.result.end)
+          c.as_slice-lines.ensures.value ∙ w.1) c.in-Ok-write_out.ensures.all,
+    ))
 
 pub returns-in_default-clause-count : goal.returns-in_default-clause-count
 returns-in_default-clause-count g c =

@@ -7,12 +7,17 @@ use Rattle.desk_lines.specs.Buffered.{Buffered, bytes_left}
 use Rattle.desk_lines.specs.declared.fault.ScriptFault.{ScriptFault}
 use Rattle.desk_lines.specs.declared.fault.ScriptFault.TheVariants.{Read}
 use Rattle.desk_run.proofs.RunLemmas.{runs_then, runs_none}
-use Rattle.desk_run.proofs.ScriptLemmas.{ReadTo, nothing_read, read_more, cut_more, ends_at, stops_reading, stops_at_once, left_more, left_same, read_in_part, known_before, known_of, none_right, on_ok, stops_in_line, last_line, ends_at_last, one_line_more}
+use Rattle.desk_run.proofs.ScriptLemmas.{ReadTo, nothing_read, read_more, cut_more, ends_at, stops_reading, stops_at_once}
+use Rattle.desk_run.proofs.ScriptLemmas.{left_more, left_same, read_in_part, known_before, known_of, none_right, on_ok}
+use Rattle.desk_run.proofs.ScriptLemmas.{stops_in_line, last_line, ends_at_last, one_line_more}
 use Rattle.desk_run.proofs.script.run_script.Goals as goal
 
 pub returns-in_default-clause-answer : goal.returns-in_default-clause-answer
 returns-in_default-clause-answer g c =
-    holds_none _ _ _ (record { known = λ xs e. stops_at_once xs (begin (g.S.Records.desk c.args.store.now)) (g.S.Records.faults c.args.store.now) (g.W.Write.contents c.args.writer.now) })
+    holds_none _ _ _ (record {
+      known = λ xs e. stops_at_once xs (begin (g.S.Records.desk c.args.store.now)) (g.S.Records.faults c.args.store.now)
+          (g.W.Write.contents c.args.writer.now);
+    })
 
 pub invariant_of-run : goal.invariant_of-run
 unfolding is_text
@@ -37,28 +42,35 @@ returns-in-Err-clause-answer g c =
     let i = c.loop-number.invariant in
     holds_weaker i.ran
     (λ ran. known_before i.read c.in-Err.ensures.fault
-    (λ xs ys r f. stops_reading i.texts i.before c.loop-number.run.gathered.items xs (c.loop-number.source.unread ++ ys) c.loop-number.number _ _ _ _ _ _ _ c.in-Err.fault r i.cut ran refl i.faults i.counted c.in-Err.ensures.outside f))
+    (λ xs ys r f. stops_reading i.texts i.before c.loop-number.run.gathered.items xs (c.loop-number.source.unread ++ ys)
+    c.loop-number.number _ _ _ _ _ _ _ c.in-Err.fault r i.cut ran refl i.faults i.counted c.in-Err.ensures.outside f))
 
 pub returns-in-Err-clause-begun : goal.returns-in-Err-clause-begun
 returns-in-Err-clause-begun g c e =
     let i = c.loop-number.invariant in
     let read : c.in-Err.fault ≡ Read = cc in
     let none = c.in-Err.ensures.emptied (ap (λ (z : ScriptFault). Err z) read) in
-    read_in_part i.texts c.loop-number.source.unread c.next_line.new.source.unread none i.read (c.in-Err.ensures.begun (ap (λ (z : ScriptFault). Err z) read))
+    read_in_part i.texts c.loop-number.source.unread c.next_line.new.source.unread none i.read
+    (c.in-Err.ensures.begun (ap (λ (z : ScriptFault). Err z) read))
 
 pub returns-in-Err-take_line-clause-answer : goal.returns-in-Err-take_line-clause-answer
 returns-in-Err-take_line-clause-answer g c =
     let i = c.loop-number.invariant in
     let piece = rw c.in-Ok-Line.field-0-is at c.in-Ok-Line.ensures.piece in
     holds_then i.ran c.in-Err-take_line.ensures.err
-    (λ ran stop. stops_in_line i.texts i.before c.loop-number.run.gathered.items c.loop-number.source.unread c.next_line.new.source.unread c.in-Ok-Line.line _ _ _ _ _ _ _ _ _ c.in-Err-take_line.fault i.faults i.read piece i.cut ran c.in-Err-take_line.ensures.own stop)
+    (λ ran stop. stops_in_line i.texts i.before c.loop-number.run.gathered.items c.loop-number.source.unread
+    c.next_line.new.source.unread c.in-Ok-Line.line _ _ _ _ _ _ _ _ _ c.in-Err-take_line.fault i.faults i.read piece i.cut ran
+    c.in-Err-take_line.ensures.own stop)
 
 pub returns-in-Err-take_line-2-clause-answer : goal.returns-in-Err-take_line-2-clause-answer
 returns-in-Err-take_line-2-clause-answer g c =
     let i = c.loop-number.invariant in
-    let piece = last_line c.loop-number.source.unread c.next_line.new.source.unread c.in-Ok-Last.line (rw c.in-Ok-Last.field-0-is at c.in-Ok-Last.ensures.piece) in
+    let piece = last_line c.loop-number.source.unread c.next_line.new.source.unread c.in-Ok-Last.line
+    (rw c.in-Ok-Last.field-0-is at c.in-Ok-Last.ensures.piece) in
     holds_then i.ran c.in-Err-take_line-2.ensures.err
-    (λ ran stop. stops_in_line i.texts i.before c.loop-number.run.gathered.items c.loop-number.source.unread c.next_line.new.source.unread c.in-Ok-Last.line _ _ _ _ _ _ _ _ _ c.in-Err-take_line-2.fault i.faults i.read piece i.cut ran c.in-Err-take_line-2.ensures.own stop)
+    (λ ran stop. stops_in_line i.texts i.before c.loop-number.run.gathered.items c.loop-number.source.unread
+    c.next_line.new.source.unread c.in-Ok-Last.line _ _ _ _ _ _ _ _ _ c.in-Err-take_line-2.fault i.faults i.read piece i.cut
+    ran c.in-Err-take_line-2.ensures.own stop)
 
 pub returns-in-Ok-Last-clause-answer : goal.returns-in-Ok-Last-clause-answer
 returns-in-Ok-Last-clause-answer g c =
@@ -66,8 +78,10 @@ returns-in-Ok-Last-clause-answer g c =
     let more = c.in-Ok-take_line-2.ensures.ok in
     let piece = rw c.in-Ok-Last.field-0-is at c.in-Ok-Last.ensures.piece in
     holds_then (holds_both i.ran more.2) c.finish_script.ensures.answer
-    (λ p ends. ends_at_last i.texts i.before more.0 c.loop-number.run.gathered.items c.take_line-in-Ok-Last.new.run.gathered.items c.loop-number.source.unread c.next_line.new.source.unread c.in-Ok-Last.line _ _ _ _ _ _ _ _ _ c.finish_script.result
-    i.read piece i.cut more.1 (runs_then i.before more.0 _ _ _ _ _ _ p.0 p.1) c.finish_script.ensures.own (c.in-Ok-take_line-2.ensures.count ∙ i.faults) ends)
+    (λ p ends. ends_at_last i.texts i.before more.0 c.loop-number.run.gathered.items c.take_line-in-Ok-Last.new.run.gathered.items
+    c.loop-number.source.unread c.next_line.new.source.unread c.in-Ok-Last.line _ _ _ _ _ _ _ _ _ c.finish_script.result
+    i.read piece i.cut more.1 (runs_then i.before more.0 _ _ _ _ _ _ p.0 p.1) c.finish_script.ensures.own
+    (c.in-Ok-take_line-2.ensures.count ∙ i.faults) ends)
 
 pub returns-in-Ok-Last-clause-read : goal.returns-in-Ok-Last-clause-read
 returns-in-Ok-Last-clause-read g c =
@@ -81,13 +95,15 @@ returns-in-Ok-End-clause-answer g c =
     let piece = rw c.in-Ok-End.field-0-is at c.in-Ok-End.ensures.piece in
     holds_then i.ran c.finish_script-in-Ok-End.ensures.answer
     (λ ran ends. known_before i.read (known_of piece (λ ys zs p. p.0))
-    (λ xs ys r none. ends_at i.texts i.before c.loop-number.run.gathered.items xs (c.loop-number.source.unread ++ ys) _ _ _ _ _ _ _ _ _ c.finish_script-in-Ok-End.result r none i.cut ran c.finish_script-in-Ok-End.ensures.own i.faults ends))
+    (λ xs ys r none. ends_at i.texts i.before c.loop-number.run.gathered.items xs (c.loop-number.source.unread ++ ys) _ _ _ _ _ _
+    _ _ _ c.finish_script-in-Ok-End.result r none i.cut ran c.finish_script-in-Ok-End.ensures.own i.faults ends))
 
 pub returns-in-Ok-End-clause-read : goal.returns-in-Ok-End-clause-read
 returns-in-Ok-End-clause-read g c =
     let i = c.loop-number.invariant in
     let piece = rw c.in-Ok-End.field-0-is at c.in-Ok-End.ensures.piece in
-    on_ok c.finish_script-in-Ok-End.result (left_more i.read piece (λ xs ys zs r p. none_right c.next_line.new.source.unread zs p.1))
+    on_ok c.finish_script-in-Ok-End.result
+    (left_more i.read piece (λ xs ys zs r p. none_right c.next_line.new.source.unread zs p.1))
 
 pub loop-number-preserved : goal.loop-number-preserved
 loop-number-preserved g c =
@@ -99,9 +115,12 @@ loop-number-preserved g c =
       texts = i.texts ++ c.in-Ok-Line.line ∷ [];
       counted = one_line_more i.texts c.in-Ok-Line.line c.loop-number.number i.counted;
       within = omega (arith, i.within, c.in-Ok-Line.ensures.fewer);
-      cut = cut_more i.texts i.before more.0 c.loop-number.run.gathered.items c.take_line.new.run.gathered.items c.in-Ok-Line.line i.cut more.1;
+      cut = cut_more i.texts i.before more.0 c.loop-number.run.gathered.items c.take_line.new.run.gathered.items c.in-Ok-Line.line
+          i.cut more.1;
       faults = c.in-Ok-take_line.ensures.count ∙ i.faults;
-      read = left_more i.read piece (λ xs ys zs r p. read_more i.texts xs (c.loop-number.source.unread ++ ys) (c.next_line.new.source.unread ++ zs) c.in-Ok-Line.line r p);
+      read = left_more i.read piece
+          (λ xs ys zs r p. read_more i.texts xs (c.loop-number.source.unread ++ ys) (c.next_line.new.source.unread ++ zs)
+          c.in-Ok-Line.line r p);
       ran = holds_then i.ran more.2 (λ p q. runs_then i.before more.0 _ _ _ _ _ _ p q);
     }
 
@@ -110,4 +129,5 @@ returns-clause-answer g c =
     let i = c.loop-number.invariant in
     holds_weaker i.ran
     (λ ran. known_before i.read (record { known = λ ys e. tt })
-    (λ xs ys r (t : Unit {0}). stops_reading i.texts i.before c.loop-number.run.gathered.items xs (c.loop-number.source.unread ++ ys) c.loop-number.number _ _ _ _ _ _ _ Read r i.cut ran refl i.faults i.counted tt tt))
+    (λ xs ys r (t : Unit {0}). stops_reading i.texts i.before c.loop-number.run.gathered.items xs
+    (c.loop-number.source.unread ++ ys) c.loop-number.number _ _ _ _ _ _ _ Read r i.cut ran refl i.faults i.counted tt tt))

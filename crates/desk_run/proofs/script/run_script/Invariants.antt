@@ -17,7 +17,9 @@ invariant-loop-number g l =
       within : l.number + bytes_left l.source ≤ 137438953473;
       cut : IsCut texts before l.run.gathered.items;
       faults : g.S.Records.faults l.store ≡ g.S.Records.faults l.fn.store;
-      read : Left (g.R.Read.remaining l.fn.reader) (g.R.Read.remaining l.reader) (λ xs ys. ReadTo texts xs (l.source.unread ++ ys));
+      read : Left (g.R.Read.remaining l.fn.reader) (g.R.Read.remaining l.reader)
+          (λ xs ys. ReadTo texts xs (l.source.unread ++ ys));
       ran : Holds g.S.Records.is_kept g.S.Records.is_honest l.fn.store l.store
-          (Runs before (begin (desk l.fn.store)) (standing (desk l.store) l.run.sender l.run.refused) (g.W.Write.contents l.fn.writer) (g.W.Write.contents l.writer));
+          (Runs before (begin (desk l.fn.store)) (standing (desk l.store) l.run.sender l.run.refused)
+          (g.W.Write.contents l.fn.writer) (g.W.Write.contents l.writer));
     }

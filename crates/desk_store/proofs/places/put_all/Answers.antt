@@ -26,7 +26,8 @@ returns-clause-ok c =
     let fresh = c.in_ok-fresh in
     on_ok_weaker c.put_copies.result
     (λ h. put-over old mid c.args.images.now fresh.fresh.items fresh.ensures c.put_copies.new.bugs
-    (λ n. c.in-Ok.ensures.ok n ∙ ap (λ (ns : List ℕ). cond (has ns n) (Some (After n)) (get nat_cmp old n)) c.as_slice.ensures.value)
+    (λ n. c.in-Ok.ensures.ok n
+    ∙ ap (λ (ns : List ℕ). cond (has ns n) (Some (After n)) (get nat_cmp old n)) c.as_slice.ensures.value)
     (λ n. h n ∙ ap (λ (is : List SetImage). option_or (place_in is n) (get nat_cmp mid n)) c.in_ok-copies.ensures))
     c.put_copies.ensures.ok
 
@@ -36,5 +37,6 @@ returns-clause-err c =
     let fresh = c.in_ok-fresh in
     on_err_from_ok c.put_copies.result _ (c.put_copies.ensures.known (λ n k.
     all-there old c.add_places.new.bugs c.args.images.now fresh.fresh.items fresh.ensures
-    (λ m. c.in-Ok.ensures.ok m ∙ ap (λ (ns : List ℕ). cond (has ns m) (Some (After m)) (get nat_cmp old m)) c.as_slice.ensures.value)
+    (λ m. c.in-Ok.ensures.ok m
+    ∙ ap (λ (ns : List ℕ). cond (has ns m) (Some (After m)) (get nat_cmp old m)) c.as_slice.ensures.value)
     n (sym (ap (λ (is : List SetImage). is_some (place_in is n)) c.in_ok-copies.ensures) ∙ k)))

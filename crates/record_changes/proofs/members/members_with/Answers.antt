@@ -7,4 +7,5 @@ use Rattle.record_changes.proofs.members.members_with.Goals as goal
 pub returns-then-not-changes_members : goal.returns-then-not-changes_members
 returns-then-not-changes_members c =
     let none : changes_members c.args.command.now c.args.old.now ≡ false = cc in
-    IfOk-weaker c.copy.result _ _ (λ ms e. e ∙ members-unchanged c.args.from.now c.args.command.now c.args.old.now none c.args.members.now) c.copy.ensures
+    IfOk-weaker c.copy.result _ _
+    (λ ms e. e ∙ members-unchanged c.args.from.now c.args.command.now c.args.old.now none c.args.members.now) c.copy.ensures

@@ -8,11 +8,14 @@ pub returns-in-Ok-clause-node : goal.returns-in-Ok-clause-node
 returns-in-Ok-clause-node c =
     let v = c.args.version.now in
     at-some (unwrap_or v.source c.args.package.now) v.version c.in-Ok.node c.requires.version
-    (ap (λ s. node_at s v.version) (sym c.source_meant-source.ensures) ∙ ap (λ w. node_at c.source_meant-source.result.now w) (sym c.as_str.ensures) ∙ c.in-Ok.ensures)
+    (ap (λ s. node_at s v.version) (sym c.source_meant-source.ensures)
+    ∙ ap (λ w. node_at c.source_meant-source.result.now w) (sym c.as_str.ensures) ∙ c.in-Ok.ensures)
 
 pub returns-in-Err-BadNode-clause-fault : goal.returns-in-Err-BadNode-clause-fault
 returns-in-Err-BadNode-clause-fault c =
     let v = c.args.version.now in
     at-none-meant v.source c.args.package.now v.version c.requires.source c.requires.version
-    (ap (λ s. node_at s v.version) (sym c.source_meant-source.ensures) ∙ ap (λ w. node_at c.source_meant-source.result.now w) (sym c.as_str.ensures)
-    ∙ subst (λ z. IsRead (node_at c.source_meant-source.result.now c.as_str.result.now) (Err z)) c.in-Err-BadNode.field-0-is c.in-Err-BadNode.ensures)
+    (ap (λ s. node_at s v.version) (sym c.source_meant-source.ensures)
+    ∙ ap (λ w. node_at c.source_meant-source.result.now w) (sym c.as_str.ensures)
+    ∙ subst (λ z. IsRead (node_at c.source_meant-source.result.now c.as_str.result.now) (Err z)) c.in-Err-BadNode.field-0-is
+    c.in-Err-BadNode.ensures)

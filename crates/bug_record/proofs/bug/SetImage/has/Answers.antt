@@ -6,5 +6,6 @@ use Rattle.bug_record.proofs.bug.SetImage.has.Goals as goal
 
 pub returns : goal.returns
 returns c =
-    any_from_yields_List (λ m. m.number == c.args.number) _ _ _ c.any.ensures.ran (YieldsList-from_slice c.args.self.now.members cc) (λ x b q k. search (rules, k))
+    any_from_yields_List (λ m. m.number == c.args.number) _ _ _ c.any.ensures.ran
+    (YieldsList-from_slice c.args.self.now.members cc) (λ x b q k. search (rules, k))
     ∙ any_number c.args.self.now.members c.args.number

@@ -22,5 +22,6 @@ returns-clause-ok g c =
     let key = g.T.Numbered.number in
     let s = c.args.self.now in
     let h : is_at key (slice_get s (place_for key s (key c.args.item))) (key c.args.item) ≡ false = cc in
-    let e : c.insert.new.self.items ≡ insert s (place_for key s (key c.args.item)) c.args.item = cc (c.in_ok-insert.ensures.items) in
+    let e : c.insert.new.self.items ≡ insert s (place_for key s (key c.args.item)) c.args.item =
+    cc (c.in_ok-insert.ensures.items) in
     e ∙ with_item-new key s c.args.item h

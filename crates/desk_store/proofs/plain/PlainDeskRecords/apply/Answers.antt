@@ -12,7 +12,8 @@ pub returns-in-Ok-clause-done : goal.returns-in-Ok-clause-done
 returns-in-Ok-clause-done c =
     let old = c.args.self.now in
     desk_of-put old.bugs c.put_images.new.bugs old.tree old.next c.args.change.now c.requires.apart c.requires.fits old.keyed
-    (λ n. c.in-Ok.ensures.ok n ∙ ap (λ (is : List SetImage). option_or (place_in is n) (get nat_cmp old.bugs n)) c.as_slice.ensures)
+    (λ n. c.in-Ok.ensures.ok n
+    ∙ ap (λ (is : List SetImage). option_or (place_in is n) (get nat_cmp old.bugs n)) c.as_slice.ensures)
 
 pub invariant_of-self : goal.invariant_of-self
 invariant_of-self c =

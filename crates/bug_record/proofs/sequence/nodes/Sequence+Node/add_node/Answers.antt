@@ -20,4 +20,5 @@ pub returns-clause-ok : goal.returns-clause-ok
 returns-clause-ok c =
     let s = c.self.inside.items.items in
     let h : is_this_node (slice_get s (place_of_node s c.args.node)) c.args.node ≡ false = cc in
-    c.in_ok-insert.ensures.items ∙ ap (λ k. insert s k c.args.node) (cc (c.place_of_node-place.ensures, c.as_slice.ensures.value)) ∙ with_node-new s c.args.node h ∙ ap (λ ns. with_node ns c.args.node) c.self.view_is
+    c.in_ok-insert.ensures.items ∙ ap (λ k. insert s k c.args.node) (cc (c.place_of_node-place.ensures, c.as_slice.ensures.value))
+    ∙ with_node-new s c.args.node h ∙ ap (λ ns. with_node ns c.args.node) c.self.view_is
