@@ -6,12 +6,11 @@ use Rattle.std.proofs.lemmas.Option.{same_Some, none-some}
 use Rattle.std.proofs.lemmas.Bool.{false≢true, eqb-true}
 use Rattle.bug_record.specs.Sets.{has, Each}
 use Rattle.bug_record.specs.Desk.{Desk}
-use Rattle.bug_record.specs.Images.{numbers_of, member_at, bug_of, bug_in, AreApart, IsSetOf, AreSetsOf}
+use Rattle.bug_record.specs.Images.{numbers_of, member_at, bug_of, bug_in, AreApart, IsSetOf, AreSetsOf, image_with}
 use Rattle.std.specs.Option.{option_or}
 use Rattle.bug_record.specs.declared.bug.Bug.{Bug}
 use Rattle.bug_record.specs.declared.bug.Member.{Member}
 use Rattle.bug_record.specs.declared.bug.SetImage.{SetImage}
-use Rattle.bug_core.specs.Others.{image_with}
 
 -- a value, or none, of a choice of two
 pub none_left : {A : Type 0} (o p : Option A) → option_or o p ≡ None → o ≡ None

@@ -12,7 +12,7 @@ use Rattle.bug_record.specs.Desk.{Desk, IsSound, IsGoodShared}
 use Rattle.bug_record.specs.Bugs.{at_bug, unless, missing, first_refusal, bugs_at, all_of}
 use Rattle.bug_record.specs.Differences.{differing}
 use Rattle.bug_record.specs.Merges.{first_owner, joined_shared, all_merged, with_merged, sets_joined}
-use Rattle.bug_record.specs.Images.{numbers_of, member_at, bug_of, bug_in, AreApart, AreSetsOf}
+use Rattle.bug_record.specs.Images.{numbers_of, member_at, bug_of, bug_in, AreApart, AreSetsOf, image_with}
 use Rattle.bug_record.specs.Plans.{AllKnown}
 use Rattle.bug_record.specs.declared.bug.Bug.{Bug}
 use Rattle.bug_record.specs.declared.bug.Shared.{Shared}
@@ -27,7 +27,7 @@ use Rattle.bug_record.proofs.SetLemmas.{IsAscending-number_set, same-ascending}
 use Rattle.bug_record.proofs.MarkLemmas.{set-node_set}
 use Rattle.bug_record.proofs.TagLemmas.{set-joined_tags}
 use Rattle.bug_record.proofs.MergeLemmas.{has-all_merged}
-use Rattle.bug_core.specs.Others.{image_with, has_any, those_meant, others}
+use Rattle.bug_core.specs.Others.{has_any, those_meant, others}
 use Rattle.bug_core.specs.Joins.{with_members, with_all_shared}
 use Rattle.bug_core.specs.Planned.{IsPlanned, IsRefusalOfPlan}
 use Rattle.bug_core.proofs.ImageLemmas.{has-member_some, has-member_none, bug_in-merged, shown, image_with-has, image_with-shows}

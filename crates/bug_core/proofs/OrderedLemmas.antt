@@ -14,7 +14,7 @@ use Rattle.bug_record.specs.Sets.{has, Each, IsAscending, with_item}
 use Rattle.bug_record.specs.Images.{numbers_of}
 use Rattle.bug_record.specs.declared.bug.Member.{Member}
 use Rattle.bug_record.proofs.SetLemmas.{has-above}
-use Rattle.bug_core.specs.Joins.{number_of, IsEntry, IsKeyed}
+use Rattle.bug_core.specs.Joins.{number_of, IsEntry, AreByNumber}
 use Rattle.bug_core.proofs.MemberLemmas.{ascending-with_item}
 
 -- the tests of two numbers, by how they compare
@@ -129,12 +129,12 @@ with_item-there (y ∷ ys) m a h =
     level x k e = grind (arith, nat_tests)
 
 -- the same where a look-up finds none
-pub values-new : (es : List (ℕ × Member)) (m : Member) → IsKeyed es → is_some (lookup (is_at (nat_cmp m.number)) es) ≡ false
+pub values-new : (es : List (ℕ × Member)) (m : Member) → AreByNumber es → is_some (lookup (is_at (nat_cmp m.number)) es) ≡ false
     → values_of (insert_entry nat_cmp es m.number m) ≡ with_item number_of (values_of es) m
 values-new es m h none = values-insert es m h.keys (sym (has-lookup es m.number h.keys) ∙ none)
 
-pub keyed-new : (es : List (ℕ × Member)) (m : Member) → IsKeyed es → is_some (lookup (is_at (nat_cmp m.number)) es) ≡ false
-    → IsKeyed (insert_entry nat_cmp es m.number m)
+pub keyed-new : (es : List (ℕ × Member)) (m : Member) → AreByNumber es → is_some (lookup (is_at (nat_cmp m.number)) es) ≡ false
+    → AreByNumber (insert_entry nat_cmp es m.number m)
 keyed-new es m h none = record {
   keys = entries-insert es m h.keys (sym (has-lookup es m.number h.keys) ∙ none);
   ascending = subst (λ ms. IsAscending (numbers_of ms)) (sym (values-new es m h none))

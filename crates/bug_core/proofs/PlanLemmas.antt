@@ -9,7 +9,7 @@ use Rattle.bug_record.specs.Commands.{bug_named, bugs_named, HasGoodParts, HasUt
 use Rattle.bug_record.specs.Steps.{records_changed, change_set, shared_after, new_title, new_submitter}
 use Rattle.bug_record.specs.Sets.{has, Each}
 use Rattle.bug_record.specs.Texts.{IsGoodText}
-use Rattle.bug_record.specs.Images.{bug_of, bug_in, numbers_of, put, AreApart, AreSetsOf}
+use Rattle.bug_record.specs.Images.{bug_of, bug_in, numbers_of, put, AreApart, AreSetsOf, image_with}
 use Rattle.bug_record.specs.Plans.{AllKnown, IsShownBy}
 use Rattle.bug_record.specs.declared.bug.Bug.{Bug}
 use Rattle.bug_record.specs.declared.bug.Shared.{Shared}
@@ -19,7 +19,7 @@ use Rattle.bug_record.specs.declared.command.Command.{Command}
 use Rattle.bug_record.specs.declared.command.PlanFault.TheVariants.{Refused, Memory}
 use Rattle.bug_record.specs.declared.command.Refusal.{Refusal}
 use Rattle.bug_record.specs.declared.command.Refusal.TheVariants.{NoBug}
-use Rattle.bug_core.specs.Others.{image_with, others}
+use Rattle.bug_core.specs.Others.{others}
 use Rattle.bug_core.specs.Planned.{HasName, IsPlanned, IsRefusedAs, IsRefusalOfPlan}
 use Rattle.bug_core.proofs.ImageLemmas.{shown, image_with-shows, image_with-none}
 use Rattle.record_changes.proofs.FieldLemmas.{good-shared_after, good-new_title, good-new_submitter}

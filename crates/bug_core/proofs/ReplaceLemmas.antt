@@ -7,13 +7,14 @@ use Rattle.bug_record.specs.Sets.{has, Each}
 use Rattle.bug_record.specs.Desk.{Desk, IsSound}
 use Rattle.bug_record.specs.Bugs.{each_bug}
 use Rattle.bug_record.specs.Images.{numbers_of, member_at, bug_of, bug_in, put, AreApart, HasMember, AreSetsOf, CoverSets}
+use Rattle.bug_record.specs.Images.{image_with}
 use Rattle.std.specs.Option.{option_or}
 use Rattle.bug_record.specs.Plans.{AllKnown, CoverImages}
 use Rattle.bug_record.specs.declared.bug.Bug.{Bug}
 use Rattle.bug_record.specs.declared.bug.Shared.{Shared}
 use Rattle.bug_record.specs.declared.bug.Member.{Member}
 use Rattle.bug_record.specs.declared.bug.SetImage.{SetImage}
-use Rattle.bug_core.specs.Others.{image_with, has_any, others}
+use Rattle.bug_core.specs.Others.{has_any, others}
 use Rattle.bug_core.proofs.ImageLemmas.{none_left, none_right, none_both, same_value, member-has, bug_in-append, bug_in-merged}
 use Rattle.bug_core.proofs.ImageLemmas.{shown, image_with-has, image_with-lacks, image_with-bug, image_with-member, number-member}
 use Rattle.bug_core.proofs.OtherLemmas.{others-none, others-gone, others-kept, others-apart, others-members}

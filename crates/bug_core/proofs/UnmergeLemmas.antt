@@ -9,7 +9,7 @@ use Rattle.bug_record.specs.Sets.{has, IsAscending}
 use Rattle.bug_record.specs.Desk.{Desk, IsSound}
 use Rattle.bug_record.specs.Bugs.{at_bug}
 use Rattle.bug_record.specs.Merges.{parted, others_merged, taken_out, unmerged}
-use Rattle.bug_record.specs.Images.{numbers_of, member_at, bug_of, bug_in, AreApart, AreSetsOf}
+use Rattle.bug_record.specs.Images.{numbers_of, member_at, bug_of, bug_in, AreApart, AreSetsOf, image_with}
 use Rattle.bug_record.specs.declared.bug.Bug.{Bug}
 use Rattle.bug_record.specs.declared.bug.Member.{Member}
 use Rattle.bug_record.specs.declared.bug.SetImage.{SetImage}
@@ -17,7 +17,7 @@ use Rattle.bug_record.specs.declared.command.Change.{Change}
 use Rattle.bug_record.specs.declared.command.PlanFault.TheVariants.{Refused}
 use Rattle.bug_record.specs.declared.command.Refusal.TheVariants.{NoBug, NotMerged}
 use Rattle.bug_record.proofs.SetLemmas.{has-filter, IsAscending-filter, same-ascending, one_number}
-use Rattle.bug_core.specs.Others.{image_with, others}
+use Rattle.bug_core.specs.Others.{others}
 use Rattle.bug_core.specs.Joins.{is_part}
 use Rattle.bug_core.specs.Planned.{IsPlanned}
 use Rattle.bug_core.proofs.ImageLemmas.{same_value, member-has, has-member_some, shown, image_with-has, image_with-shows}

@@ -19,7 +19,7 @@ same_texts a b = bytes_eq a.title b.title && bytes_eq a.submitter b.submitter
 abbrev pub same_set : SetImage → SetImage → Bool
 same_set a b = same_shared a.shared b.shared && bytes_eq (numbers_of a.members) (numbers_of b.members)
 
--- the answer is that of the sets at the two places, if there are such
+-- the answer is that of the sets at the two positions, if there are such
 abbrev pub IsRight : List SetImage → List SetImage → Compared → Type 0
 IsRight olds news c =
     (i j : SetImage) → slice_get olds c.before ≡ Some i → slice_get news c.after ≡ Some j → c.same ≡ same_set i j

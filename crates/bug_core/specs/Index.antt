@@ -1,24 +1,24 @@
--- The places of bugs in a list of images.
+-- The positions of bugs in a list of images.
 use Rattle.std.specs.Prelude.{ℕ, ◌+◌, ◌==◌, List, [], ◌∷◌, Option, Some, None, option_map, slice_get, if◌then◌else◌}
 use Rattle.std.specs.Option.{option_or, option_and_then}
 use Rattle.bug_record.specs.Images.{bug_of}
 use Rattle.bug_record.specs.declared.bug.Bug.{Bug}
 use Rattle.bug_record.specs.declared.bug.Member.{Member}
 use Rattle.bug_record.specs.declared.bug.SetImage.{SetImage}
-use Rattle.bug_core.specs.declared.index.Place.{Place}
+use Rattle.bug_core.specs.declared.index.Position.{Position}
 
--- the place of the bug n among these members, which begin at `member`, of the image at `image`
-abbrev pub place_among : ℕ → ℕ → List Member → ℕ → Option Place
-place_among image member [] n = None
-place_among image member (m ∷ ms) n =
-    if m.number == n then Some (record { image = image; member = member }) else place_among image (member + 1) ms n
+-- the position of the bug n among these members, which begin at `member`, of the image at `image`
+abbrev pub position_among : ℕ → ℕ → List Member → ℕ → Option Position
+position_among image member [] n = None
+position_among image member (m ∷ ms) n =
+    if m.number == n then Some (record { image = image; member = member }) else position_among image (member + 1) ms n
 
--- its place among these images, which begin at `image`
-abbrev pub place_in : ℕ → List SetImage → ℕ → Option Place
-place_in image [] n = None
-place_in image (i ∷ is) n = option_or (place_among image 0 i.members n) (place_in (image + 1) is n)
+-- its position among these images, which begin at `image`
+abbrev pub position_in : ℕ → List SetImage → ℕ → Option Position
+position_in image [] n = None
+position_in image (i ∷ is) n = option_or (position_among image 0 i.members n) (position_in (image + 1) is n)
 
--- the bug at a place
-abbrev pub bug_at : List SetImage → Option Place → Option Bug
+-- the bug at a position
+abbrev pub bug_at : List SetImage → Option Position → Option Bug
 bug_at is None = None
 bug_at is (Some p) = option_and_then (λ i. option_map (bug_of i) (slice_get i.members p.member)) (slice_get is p.image)

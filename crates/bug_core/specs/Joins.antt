@@ -30,7 +30,7 @@ abbrev pub IsEntry : ℕ × Member → Type 0
 IsEntry e = e.0 ≡ e.1.number
 
 -- each member's key is its number, and the numbers ascend
-pub record IsKeyed (entries : List (ℕ × Member)) : Type 0 where
+pub record AreByNumber (entries : List (ℕ × Member)) : Type 0 where
   pub keys : Each IsEntry entries
   pub ascending : IsAscending (numbers_of (values_of entries))
 

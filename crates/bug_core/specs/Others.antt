@@ -1,14 +1,10 @@
 -- The image of a bug's set, the images of some bugs' sets, and those of other sets.
-use Rattle.std.specs.Prelude.{ℕ, Bool, true, false, not, ◌&&◌, List, [], ◌∷◌, Option, filter}
-use Rattle.std.specs.List.{list_any, find}
+use Rattle.std.specs.Prelude.{ℕ, Bool, true, false, not, ◌&&◌, List, [], ◌∷◌, filter}
+use Rattle.std.specs.List.{list_any}
 use Rattle.bug_record.specs.Sets.{has}
 use Rattle.bug_record.specs.Images.{numbers_of}
 use Rattle.bug_record.specs.declared.bug.Member.{Member}
 use Rattle.bug_record.specs.declared.bug.SetImage.{SetImage}
-
--- the first image that has the bug n
-abbrev pub image_with : List SetImage → ℕ → Option SetImage
-image_with is n = find (λ i. has (numbers_of i.members) n) is
 
 abbrev pub is_any : List Member → Bool
 is_any [] = false

@@ -16,7 +16,7 @@ use bug_record::{Member, Numbers, Sequence, SetImage};
 use std::alloc::{AllocError, Global};
 use std::collections::BTreeSet;
 
-// The places of the two sets that were compared last, and whether they are the same.
+// The positions of the two sets that were compared last, and whether they are the same.
 #[derive(Clone, Copy, Debug, PartialEq, Eq, Drop)]
 struct Compared {
     before: usize,
@@ -24,7 +24,7 @@ struct Compared {
     same: bool,
 }
 
-// Whether the sets at two places are the same. Those that were compared last are not compared
+// Whether the sets at two positions are the same. Those that were compared last are not compared
 // again.
 fn same_sets(last: &mut Compared, i: usize, old: &SetImage, j: usize, new: &SetImage) -> bool
     ensures { (olds news : List SetImage) → IsRight olds news last.old → slice_get olds i ≡ Some old.now

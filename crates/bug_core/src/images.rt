@@ -1,8 +1,8 @@
 //! Images of sets: the one that has a bug, and the change that puts others in its place.
 
 ghost use Rattle.std.specs.Prelude.{◌≡◌, ◌∷◌, ◌++◌, IfOk, OnOk, MatchOption, Some, None};
-ghost use Rattle.bug_record.specs.Images.{numbers_of, member_at};
-ghost use Rattle.bug_core.specs.Others.{image_with, has_any, is_other, others};
+ghost use Rattle.bug_record.specs.Images.{numbers_of, member_at, image_with};
+ghost use Rattle.bug_core.specs.Others.{has_any, is_other, others};
 ghost use Rattle.bug_core.specs.Named.{named_numbers};
 
 use bug_record::{Change, Member, Sequence, SetImage};

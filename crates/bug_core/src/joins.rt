@@ -9,7 +9,7 @@ ghost use Rattle.bug_record.specs.Merges.{first_owner};
 ghost use Rattle.bug_record.specs.Sets.{has, with_item};
 ghost use Rattle.bug_record.specs.Tags.{tag_place};
 ghost use Rattle.bug_core.specs.Joins.{with_items, with_nodes, with_members, with_shared, with_all_shared, joined_shared};
-ghost use Rattle.bug_core.specs.Joins.{number_of, IsKeyed};
+ghost use Rattle.bug_core.specs.Joins.{number_of, AreByNumber};
 ghost use Rattle.bug_core.specs.Others.{those_meant};
 ghost use Rattle.bug_core.specs.Named.{named_numbers};
 
@@ -61,8 +61,8 @@ fn add_nodes(set: &mut Nodes, nodes: &[Node]) -> Result<(), AllocError>
 
 // Adds a copy of the member, unless there is one of its number.
 fn add_member(map: &mut BTreeMap<u64, Member>, member: &Member) -> Result<(), AllocError>
-    requires keyed { IsKeyed map.old.entries }
-    ensures keyed { OnOk result (IsKeyed map.new.entries) }
+    requires keyed { AreByNumber map.old.entries }
+    ensures keyed { OnOk result (AreByNumber map.new.entries) }
     ensures members { OnOk result (values map.new ≡ with_item number_of (values map.old) member.now) }
 {
     if !map.contains_key(&member.number) {
@@ -73,8 +73,8 @@ fn add_member(map: &mut BTreeMap<u64, Member>, member: &Member) -> Result<(), Al
 
 // Adds copies of the members.
 fn add_members(map: &mut BTreeMap<u64, Member>, members: &[Member]) -> Result<(), AllocError>
-    requires keyed { IsKeyed map.old.entries }
-    ensures keyed { OnOk result (IsKeyed map.new.entries) }
+    requires keyed { AreByNumber map.old.entries }
+    ensures keyed { OnOk result (AreByNumber map.new.entries) }
     ensures members { OnOk result (values map.new ≡ with_items number_of (values map.old) members.now) }
 {
     for member in members {

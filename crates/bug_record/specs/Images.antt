@@ -1,5 +1,6 @@
 -- Images of sets of merged bugs, and what they say of a desk.
 use Rattle.std.specs.Prelude.{ℕ, ◌≡◌, ◌≢◌, ◌==◌, true, List, [], ◌∷◌, Option, Some, None, option_map, map, if◌then◌else◌, ⊤}
+use Rattle.std.specs.List.{find}
 use Rattle.std.specs.Option.{option_or}
 use Rattle.bug_record.specs.Sets.{has, Each}
 use Rattle.bug_record.specs.Desk.{Desk, IsSound}
@@ -11,6 +12,10 @@ use Rattle.bug_record.specs.declared.command.Change.{Change}
 -- the numbers of the members
 abbrev pub numbers_of : List Member → List ℕ
 numbers_of ms = map (λ m. m.number) ms
+
+-- the first image that has the bug n
+abbrev pub image_with : List SetImage → ℕ → Option SetImage
+image_with is n = find (λ i. has (numbers_of i.members) n) is
 
 -- the member n
 abbrev pub member_at : List Member → ℕ → Option Member

@@ -8,11 +8,11 @@ use Rattle.std.proofs.lemmas.Bool.{false≢true, eqb-true, eq-eqb}
 use Rattle.ancestry.specs.Trees.{Ancestry}
 use Rattle.bug_record.specs.Sets.{has, Each, IsAscending}
 use Rattle.bug_record.specs.Desk.{IsSound}
-use Rattle.bug_record.specs.Images.{numbers_of, member_at, bug_of, bug_in, AreApart, CoverSets}
+use Rattle.bug_record.specs.Images.{numbers_of, member_at, bug_of, bug_in, AreApart, CoverSets, image_with}
 use Rattle.bug_record.specs.declared.bug.Bug.{Bug}
 use Rattle.bug_record.specs.declared.bug.Member.{Member}
 use Rattle.bug_record.specs.declared.bug.SetImage.{SetImage}
-use Rattle.desk_store.specs.Keys.{key_of, keyed_bug, keyed_desk, has_bug, IsKeyed, image_with, key_after, image_at_key, set_after}
+use Rattle.desk_store.specs.Keys.{key_of, keyed_bug, keyed_desk, has_bug, IsKeyed, key_after, image_at_key, set_after}
 use Rattle.desk_store.specs.Store.{IsImageOf}
 use Rattle.desk_store.proofs.ImageLemmas.{none_from, member-has, has-member_some, each_found, first-has, image_with-has}
 use Rattle.desk_store.proofs.ImageLemmas.{image_with-same, bug_in-some, bug_in-none, bug_in-image_with}

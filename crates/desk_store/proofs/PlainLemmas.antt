@@ -8,10 +8,10 @@ use Rattle.std.proofs.lemmas.Bool.{eqb-true}
 use Rattle.ancestry.specs.Trees.{Ancestry}
 use Rattle.bug_record.specs.Sets.{has}
 use Rattle.bug_record.specs.Desk.{IsSound}
-use Rattle.bug_record.specs.Images.{numbers_of, bug_in, AreApart, FitsDesk, put}
+use Rattle.bug_record.specs.Images.{numbers_of, bug_in, AreApart, FitsDesk, put, image_with}
 use Rattle.bug_record.specs.declared.bug.SetImage.{SetImage}
 use Rattle.bug_record.specs.declared.command.Change.{Change}
-use Rattle.desk_store.specs.Keys.{key_of, keyed_bug, IsKeyed, image_with, key_after, image_at_key, set_after}
+use Rattle.desk_store.specs.Keys.{key_of, keyed_bug, IsKeyed, key_after, image_at_key, set_after}
 use Rattle.desk_store.specs.Plain.{key_at, image_at, keys, sets, desk_of}
 use Rattle.desk_store.specs.Places.{place_of, place_in}
 use Rattle.desk_store.specs.declared.places.Place.{Place}

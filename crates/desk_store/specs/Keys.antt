@@ -1,12 +1,11 @@
 -- A desk kept by sets: each bug has the key of its set, and each key the image of its set.
 -- What keeps them, a map in memory or tables, is seen as two functions.
 use Rattle.std.specs.Prelude.{ℕ, ◌≡◌, ◌==◌, Bool, true, false, List, [], ◌∷◌, Option, Some, None, option_map, if◌then◌else◌}
-use Rattle.std.specs.List.{find}
 use Rattle.std.specs.Option.{option_or, option_and_then}
 use Rattle.ancestry.specs.Trees.{Ancestry}
 use Rattle.bug_record.specs.Sets.{has}
 use Rattle.bug_record.specs.Desk.{Desk}
-use Rattle.bug_record.specs.Images.{numbers_of, member_at, bug_of}
+use Rattle.bug_record.specs.Images.{numbers_of, image_with, member_at, bug_of}
 use Rattle.bug_record.specs.declared.bug.Bug.{Bug}
 use Rattle.bug_record.specs.declared.bug.Member.{Member}
 use Rattle.bug_record.specs.declared.bug.SetImage.{SetImage}
@@ -42,10 +41,6 @@ pub record IsKeyed (key : ℕ → Option ℕ) (set : ℕ → Option SetImage) : 
   -- the key of a set is the number of its first bug
   pub own : (k : ℕ) (i : SetImage) → set k ≡ Some i → has (numbers_of i.members) k ≡ true
   pub first : (k : ℕ) (i : SetImage) → set k ≡ Some i → key_of i ≡ k
-
--- the first image that has the bug n
-abbrev pub image_with : List SetImage → ℕ → Option SetImage
-image_with is n = find (λ i. has (numbers_of i.members) n) is
 
 -- The keys after images are put: a bug that they have gets the key of its image.
 abbrev pub key_after : List SetImage → (ℕ → Option ℕ) → ℕ → Option ℕ

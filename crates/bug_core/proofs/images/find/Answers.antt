@@ -2,8 +2,7 @@ use Rattle.std.proofs.Common.{rules}
 use Rattle.std.proofs.lemmas.Iterator.{YieldsList-from_slice}
 use Rattle.std.proofs.lemmas.Iterator.Search.{find_from_yields_List}
 use Rattle.bug_record.specs.Sets.{has}
-use Rattle.bug_record.specs.Images.{numbers_of}
-use Rattle.bug_core.specs.Others.{image_with}
+use Rattle.bug_record.specs.Images.{numbers_of, image_with}
 use Rattle.bug_core.proofs.FindLemmas.{lent}
 use Rattle.bug_core.proofs.images.find.Goals as goal
 

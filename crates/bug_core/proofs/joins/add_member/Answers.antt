@@ -3,7 +3,7 @@ use Rattle.std.specs.Prelude.{is_some}
 use Rattle.std.specs.Map.{lookup, values_of}
 use Rattle.std.specs.Ordering.{nat_cmp}
 use Rattle.std.specs.BTreeMap.{is_at, insert_entry}
-use Rattle.bug_core.specs.Joins.{IsKeyed}
+use Rattle.bug_core.specs.Joins.{AreByNumber}
 use Rattle.bug_core.proofs.OrderedLemmas.{has-lookup, values-new, keyed-new, with_item-there}
 use Rattle.bug_core.proofs.joins.add_member.Goals as goal
 
@@ -17,7 +17,7 @@ returns-in_ok-insert-clause-members c =
 pub returns-in_ok-insert-clause-keyed : goal.returns-in_ok-insert-clause-keyed
 returns-in_ok-insert-clause-keyed c =
     let none : is_some (lookup (is_at (nat_cmp c.args.member.now.number)) c.args.map.now.entries) ≡ false = cc in
-    subst IsKeyed (sym (c.in_ok-insert.ensures.entries
+    subst AreByNumber (sym (c.in_ok-insert.ensures.entries
     ∙ ap (insert_entry nat_cmp c.args.map.now.entries c.args.member.now.number) c.in_ok-copy.ensures))
     (keyed-new c.args.map.now.entries c.args.member.now c.requires.keyed none)
 

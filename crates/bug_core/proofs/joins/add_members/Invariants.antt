@@ -1,11 +1,11 @@
 use Rattle.std.proofs.Common.{◌≡◌, drop}
 use Rattle.std.specs.BTreeMap.{values}
-use Rattle.bug_core.specs.Joins.{with_items, number_of, IsKeyed}
+use Rattle.bug_core.specs.Joins.{with_items, number_of, AreByNumber}
 use Rattle.bug_core.proofs.joins.add_members.Given as goal
 
 abbrev pub invariant-loop-member : goal.invariant-loop-member
 invariant-loop-member l = record {
-  keyed : IsKeyed l.map.entries;
+  keyed : AreByNumber l.map.entries;
   members : with_items number_of (values l.map) (drop l.member-index l.members)
       ≡ with_items number_of (values l.fn.map) l.members;
 }

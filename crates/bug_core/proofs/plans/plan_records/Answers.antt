@@ -6,7 +6,8 @@ use Rattle.record_changes.specs.Members.{member_after}
 use Rattle.bug_record.specs.declared.command.PlanFault.TheVariants.{Refused}
 use Rattle.bug_record.specs.declared.command.Refusal.TheVariants.{NoBug}
 use Rattle.std.proofs.lemmas.Str.{is_utf8-from_IsUtf8}
-use Rattle.bug_core.specs.Others.{image_with, others}
+use Rattle.bug_record.specs.Images.{image_with}
+use Rattle.bug_core.specs.Others.{others}
 use Rattle.bug_core.specs.Planned.{IsPlanned}
 use Rattle.bug_core.proofs.PlanLemmas.{planned-records, planned-no_bug, planned-memory, planned-nameless}
 use Rattle.bug_core.proofs.plans.plan_records.Goals as goal
