@@ -89,3 +89,20 @@ settled_faults es ends.All faults h = refl
 settled_faults es ends.Stopped faults h = refl
 settled_faults es ends.TooManyUnreadable faults h = refl
 settled_faults es (ends.Store fault k) faults h = absurd (never_store es fault k h)
+
+-- no line taken
+pub comes_to_nothing : (sender : List ℕ) (d : Desk) (outcomes : List Entry) → outcomes ≡ []
+    → Comes sender [] d outcomes ends.All d
+comes_to_nothing sender d outcomes e = record { after = ap (machine d) (sym e); end_is = ap end_of e ∙ at_start_open }
+
+pub received_nothing : (sender : List ℕ) (lines : List (List ℕ)) (d : Desk) (outcomes : List Entry) → lines ≡ [] → outcomes ≡ []
+    → Comes sender lines d outcomes ends.All d
+received_nothing sender lines d outcomes e f =
+    subst (λ (w : List (List ℕ)). Comes sender w d outcomes ends.All d) (sym e) (comes_to_nothing sender d outcomes f)
+
+-- outcomes never end at a line where the store failed
+pub settled_line : (es : List Entry) (end : End) (lines : List (List ℕ)) → end_of es ≡ end → IsLineOf end lines
+settled_line es ends.All lines h = tt
+settled_line es ends.Stopped lines h = tt
+settled_line es ends.TooManyUnreadable lines h = tt
+settled_line es (ends.Store fault k) lines h = absurd (never_store es fault k h)
