@@ -45,11 +45,8 @@ pub(crate) fn is_kept(old: &SetImage, new: &SetImage) -> bool
 fn numbers_of(alloc: Global, members: &[Member]) -> Result<Numbers, AllocError>
     ensures { IfOk result (λ numbers. numbers ≡ numbers_of members.now) }
 {
-    let mut numbers = Sequence::new(alloc);
-    for member in members {
-        numbers.push(member.number)?;
-    }
-    Ok(numbers)
+    let numbers = members.iter().map(|member| member.number);
+    Ok(Sequence::from_vec(numbers.collect(alloc)?))
 }
 
 // The numbers of the members whose titles or submitters differ.

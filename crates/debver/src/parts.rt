@@ -115,13 +115,13 @@ pub fn cut(text: &str) -> Parts<'_>
     requires { IsVersion text.now }
     ensures { result ≡ text.now }
 {
-    let (epoch, rest) = at_first_colon(text);
-    let (upstream, revision) = at_last_hyphen(rest);
+    let (before, rest) = at_first_colon(text);
+    let (upstream, after) = at_last_hyphen(rest);
     Parts {
         text,
-        epoch,
+        epoch: before,
         upstream,
-        revision,
+        revision: after,
     }
 }
 
