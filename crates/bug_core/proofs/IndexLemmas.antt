@@ -49,7 +49,8 @@ positions-show : (all : List SetImage) (a : ℕ) (is : List SetImage) → Follow
     → bug_at all (position_in a is n) ≡ bug_in is n
 positions-show all a [] f n = refl
 positions-show all a (i ∷ is) f n =
-    cases (positions-show all (a + 1) is (follows-rest all a i is f) n) (member_at i.members n) refl (position_among a 0 i.members n)
+    cases (positions-show all (a + 1) is (follows-rest all a i is f) n) (member_at i.members n) refl
+    (position_among a 0 i.members n)
     refl
   where
     here : bug_at all (position_among a 0 i.members n) ≡ option_map (bug_of i) (member_at i.members n)

@@ -49,7 +49,8 @@ fn add_position(
     position: Position,
 ) -> Result<(), AllocError>
     ensures { OnOk result
-        ((n : ℕ) → get nat_cmp positions.new n ≡ option_or (get nat_cmp positions.old n) (if number == n then Some position else None)) }
+        ((n : ℕ) → get nat_cmp positions.new n ≡ option_or (get nat_cmp positions.old n)
+        (if number == n then Some position else None)) }
 {
     if !positions.contains_key(&number) {
         positions.insert(number, position)?;

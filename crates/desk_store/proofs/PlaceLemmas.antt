@@ -40,7 +40,7 @@ pub on_err_from_ok : {T E : Type 0} (r : Result T E) (P : Type 0) → IsOk r →
 on_err_from_ok (Ok x) P h = tt
 on_err_from_ok (Err e) P h = absurd (false≢true h)
 
--- where the members have places, the first one has none only after the others' are written if it had none
+-- where all members have places, the first has one after the others are written
 pub absent_never : (bugs now : BTreeMap ℕ Place) (ms others : List Member) (first : Member) (k : ℕ) → ms ≡ first ∷ others
     → ((n : ℕ) → has (numbers_of ms) n ≡ true → is_there bugs n ≡ true)
     → ((n : ℕ) → get nat_cmp now n ≡ cond (has (numbers_of others) n) (Some (After k)) (get nat_cmp bugs n))

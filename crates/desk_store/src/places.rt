@@ -1,5 +1,5 @@
-//! The places of bugs in their sets, and the images of a change, put into them: all of them, or none
-//! where there is no memory.
+//! The places of bugs in their sets, and the images of a change, which are put into them.
+//! All of them are put, or none where there is no memory.
 
 ghost use Rattle.std.specs.Prelude.{◌≡◌, ◌++◌, ℕ, Some, None, [], ◌∷◌, false, filter, is_some, IsTrue, IsOk, IfOk, IfSome, OnOk};
 ghost use Rattle.std.specs.Prelude.{OnErr, if◌then◌else◌};

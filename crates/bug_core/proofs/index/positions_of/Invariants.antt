@@ -7,4 +7,5 @@ use Rattle.bug_core.proofs.index.positions_of.Given as goal
 
 abbrev pub invariant-loop-position : goal.invariant-loop-position
 invariant-loop-position l =
-    (n : ℕ) → option_or (get nat_cmp l.positions n) (position_in l.position (drop l.position l.images) n) ≡ position_in 0 l.images n
+    (n : ℕ) → option_or (get nat_cmp l.positions n) (position_in l.position (drop l.position l.images) n)
+    ≡ position_in 0 l.images n
