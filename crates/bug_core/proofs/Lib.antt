@@ -12,6 +12,7 @@ pub mod ListedLemmas
 pub mod NamedLemmas
 pub mod SharedLemmas
 pub mod MergeLemmas
+pub mod StepLemmas
 pub mod JoinLemmas
 pub mod ChangedLemmas
 pub mod KeptLemmas

@@ -1,6 +1,6 @@
 -- Merging bugs: the joined image is that of the model's set, and the desk stays sound.
-use Rattle.std.proofs.Common.{◌≡◌, ℕ, Bool, true, false, cond, ◌||◌, eqb, List, [], ◌∷◌, Option, Some, None, Ok, Err, sym, refl}
-use Rattle.std.proofs.Common.{ap, ◌∙◌, subst}
+use Rattle.std.proofs.Common.{◌≡◌, ℕ, Bool, true, false, cond, ◌||◌, eqb, List, [], ◌∷◌, Option, Some, None, Result, Ok, Err, sym}
+use Rattle.std.proofs.Common.{refl, ap, ◌∙◌, subst}
 use Rattle.std.specs.Prelude.{option_map}
 use Rattle.std.specs.Option.{option_or}
 use Rattle.std.proofs.lemmas.Option.{none-some}
@@ -11,6 +11,7 @@ use Rattle.bug_record.specs.Texts.{IsGoodText, IfGiven}
 use Rattle.bug_record.specs.Desk.{Desk, IsSound, IsGoodShared}
 use Rattle.bug_record.specs.Bugs.{at_bug, unless, missing, first_refusal, bugs_at, all_of}
 use Rattle.bug_record.specs.Differences.{differing}
+use Rattle.bug_record.specs.Words.{first_bug_refusal}
 use Rattle.bug_record.specs.Merges.{first_owner, joined_shared, all_merged, with_merged, sets_joined}
 use Rattle.bug_record.specs.Images.{numbers_of, member_at, bug_of, bug_in, AreApart, AreSetsOf, image_with}
 use Rattle.bug_record.specs.Plans.{AllKnown}
@@ -29,7 +30,7 @@ use Rattle.bug_record.proofs.TagLemmas.{set-joined_tags}
 use Rattle.bug_record.proofs.MergeLemmas.{has-all_merged}
 use Rattle.bug_core.specs.Others.{has_any, those_meant, others}
 use Rattle.bug_core.specs.Joins.{with_members, with_all_shared}
-use Rattle.bug_core.specs.Planned.{IsPlanned, IsRefusalOfPlan}
+use Rattle.bug_core.specs.Planned.{IsPlannedOf, IsRefusalOfPlan}
 use Rattle.bug_core.proofs.ImageLemmas.{has-member_some, has-member_none, bug_in-merged, shown, image_with-has, image_with-shows}
 use Rattle.bug_core.proofs.ImageLemmas.{image_with-none}
 use Rattle.bug_core.proofs.SoundLemmas.{agree, sound-each_bug}
@@ -37,7 +38,8 @@ use Rattle.bug_core.proofs.ReplaceLemmas.{TakesPlace, Makes, each-append}
 use Rattle.bug_core.proofs.PlanLemmas.{Steps, planned-refused, planned-replaced}
 use Rattle.bug_core.proofs.MemberLemmas.{first_member, ascending-with_members, member-with_members, meant-nowhere, meant-inside}
 use Rattle.bug_core.proofs.MemberLemmas.{meant-outside}
-use Rattle.bug_core.proofs.ListedLemmas.{any-from, listed-of, each-listed, bugs-known, refusal-known, merged-listed, merged-there}
+use Rattle.bug_core.proofs.ListedLemmas.{any-from, listed-of, each-listed, bugs-known, refusal-known, bugs_refused-known}
+use Rattle.bug_core.proofs.ListedLemmas.{merged-listed, merged-there}
 use Rattle.bug_core.proofs.SharedLemmas.{joined-fields}
 
 -- the joined image
@@ -259,24 +261,29 @@ sound-joined d ns f sound good = sound-each_bug d (bug_joined merged shared) sou
 
 -- ---- the plan
 
--- the step, by what the images show of the bugs
+-- the step of the command
+abbrev merge_step : (Shared → Shared → Option Field) → ℕ → List ℕ → Desk → Result Desk Refusal
+merge_step difference n ns d = unless (first_bug_refusal d.bug (n ∷ ns)) (sets_joined difference d n ns)
+
+-- it, by what the images show of the bugs
 steps-merge : (difference : Shared → Shared → Option Field) (is : List SetImage) (next n : ℕ) (ns : List ℕ) (o : Option Bug)
     → bug_in is n ≡ o
-    → Steps (n ∷ ns) (λ d. sets_joined difference d n ns) is next (λ d. at_bug o n (λ first.
-    unless (first_refusal missing (bug_in is) ns)
-    (unless (first_refusal (differing (difference first.shared)) (bug_in is) ns)
+    → Steps (n ∷ ns) (merge_step difference n ns) is next (λ d.
+    unless (option_or (missing o n) (first_bug_refusal (bug_in is) ns)) (at_bug o n (λ first.
+    unless (first_refusal (differing (difference first.shared)) (bug_in is) ns)
     (Ok (with_merged d (all_merged (bugs_at (bug_in is) (n ∷ ns)))
     (joined_shared first.shared (bugs_at (bug_in is) (n ∷ ns))))))))
-steps-merge difference is next n ns o h d e k = λ j. at_bug ((sym k.0 ∙ h) j) n (λ first.
-    unless (sym (refusal-known missing d is ns k.1) j)
-    (unless (sym (refusal-known (differing (difference first.shared)) d is ns k.1) j)
+steps-merge difference is next n ns o h d e k = λ j.
+    unless (option_or (missing ((sym k.0 ∙ h) j) n) (sym (bugs_refused-known d is ns k.1) j))
+    (at_bug ((sym k.0 ∙ h) j) n (λ first.
+    unless (sym (refusal-known (differing (difference first.shared)) d is ns k.1) j)
     (Ok (with_merged d (all_merged (sym (bugs-known d is (n ∷ ns) k) j))
     (joined_shared first.shared (sym (bugs-known d is (n ∷ ns) k) j))))))
 
 pub merge-no_bug : (difference : Shared → Shared → Option Field) (is : List SetImage) (next n : ℕ) (ns : List ℕ)
-    → image_with is n ≡ None → IsPlanned (n ∷ ns) (λ d. sets_joined difference d n ns) is next (Err (Refused (NoBug n)))
+    → image_with is n ≡ None → IsPlannedOf (n ∷ ns) (λ d. sets_joined difference d n ns) is next (Err (Refused (NoBug n)))
 merge-no_bug difference is next n ns h =
-    planned-refused (n ∷ ns) (λ d. sets_joined difference d n ns) is next (NoBug n) tt
+    planned-refused (n ∷ ns) (merge_step difference n ns) is next (NoBug n) tt
     (steps-merge difference is next n ns None (image_with-none is n h))
 
 -- the first refusal of a list is one of those that its bugs have
@@ -291,13 +298,17 @@ own-first_refusal refuse h bug (n ∷ ns) =
     either None p h k = k
     either (Some refusal) p h k = h
 
-own-missing : (bug : ℕ → Option Bug) (ns : List ℕ) (refusal : Refusal) → first_refusal missing bug ns ≡ Some refusal
+own-missing : (bug : ℕ → Option Bug) (ns : List ℕ) (refusal : Refusal) → first_bug_refusal bug ns ≡ Some refusal
     → IsRefusalOfPlan refusal
-own-missing bug ns refusal e = subst (IfGiven IsRefusalOfPlan) e (own-first_refusal missing one bug ns)
+own-missing bug ns refusal e = subst (IfGiven IsRefusalOfPlan) e (all ns)
   where
-    one : (o : Option Bug) (n : ℕ) → IfGiven IsRefusalOfPlan (missing o n)
-    one None n = tt
-    one (Some b) n = tt
+    one : (o : Option Bug) (n : ℕ) (p : Option Refusal) → IfGiven IsRefusalOfPlan p → IfGiven IsRefusalOfPlan (option_or (missing o n) p)
+    one None n p h = tt
+    one (Some b) n p h = h
+
+    all : (ns : List ℕ) → IfGiven IsRefusalOfPlan (first_bug_refusal bug ns)
+    all [] = tt
+    all (n ∷ ns) = one (bug n) n (first_bug_refusal bug ns) (all ns)
 
 own-differing : (difference : Shared → Option Field) (bug : ℕ → Option Bug) (ns : List ℕ) (refusal : Refusal)
     → first_refusal (differing difference) bug ns ≡ Some refusal → IsRefusalOfPlan refusal
@@ -310,11 +321,11 @@ own-differing difference bug ns refusal e =
         [ None ↦ tt | Some field ↦ tt ]
 
 pub merge-missing : (difference : Shared → Shared → Option Field) (is : List SetImage) (next n : ℕ) (ns : List ℕ) (i : SetImage)
-    (refusal : Refusal) → image_with is n ≡ Some i → first_refusal missing (bug_in is) ns ≡ Some refusal
-    → IsPlanned (n ∷ ns) (λ d. sets_joined difference d n ns) is next (Err (Refused refusal))
+    (refusal : Refusal) → image_with is n ≡ Some i → first_bug_refusal (bug_in is) ns ≡ Some refusal
+    → IsPlannedOf (n ∷ ns) (λ d. sets_joined difference d n ns) is next (Err (Refused refusal))
 merge-missing difference is next n ns i refusal h r =
     let b = image_with-shows is n i h in
-    planned-refused (n ∷ ns) (λ d. sets_joined difference d n ns) is next refusal (own-missing (bug_in is) ns refusal r)
+    planned-refused (n ∷ ns) (merge_step difference n ns) is next refusal (own-missing (bug_in is) ns refusal r)
     (λ d e k. steps-merge difference is next n ns (Some (bug_of i b.0)) b.1 d e k
     ∙ ap (λ (o : Option Refusal). unless o
     (unless (first_refusal (differing (difference i.shared)) (bug_in is) ns) (Ok (after d)))) r)
@@ -323,12 +334,12 @@ merge-missing difference is next n ns i refusal h r =
     after d = with_merged d (all_merged (bugs_at (bug_in is) (n ∷ ns))) (joined_shared i.shared (bugs_at (bug_in is) (n ∷ ns)))
 
 pub merge-differs : (difference : Shared → Shared → Option Field) (is : List SetImage) (next n : ℕ) (ns : List ℕ) (i : SetImage)
-    (refusal : Refusal) → image_with is n ≡ Some i → first_refusal missing (bug_in is) ns ≡ None
+    (refusal : Refusal) → image_with is n ≡ Some i → first_bug_refusal (bug_in is) ns ≡ None
     → first_refusal (differing (difference i.shared)) (bug_in is) ns ≡ Some refusal
-    → IsPlanned (n ∷ ns) (λ d. sets_joined difference d n ns) is next (Err (Refused refusal))
+    → IsPlannedOf (n ∷ ns) (λ d. sets_joined difference d n ns) is next (Err (Refused refusal))
 merge-differs difference is next n ns i refusal h r q =
     let b = image_with-shows is n i h in
-    planned-refused (n ∷ ns) (λ d. sets_joined difference d n ns) is next refusal
+    planned-refused (n ∷ ns) (merge_step difference n ns) is next refusal
     (own-differing (difference i.shared) (bug_in is) ns refusal q)
     (λ d e k. steps-merge difference is next n ns (Some (bug_of i b.0)) b.1 d e k
     ∙ (λ j. unless (r j) (unless (q j) (Ok (after d)))))
@@ -337,13 +348,13 @@ merge-differs difference is next n ns i refusal h r q =
     after d = with_merged d (all_merged (bugs_at (bug_in is) (n ∷ ns))) (joined_shared i.shared (bugs_at (bug_in is) (n ∷ ns)))
 
 pub merge-done : (difference : Shared → Shared → Option Field) (is : List SetImage) (next n : ℕ) (ns : List ℕ) (i : SetImage)
-    → AreApart is → image_with is n ≡ Some i → first_refusal missing (bug_in is) ns ≡ None
+    → AreApart is → image_with is n ≡ Some i → first_bug_refusal (bug_in is) ns ≡ None
     → first_refusal (differing (difference i.shared)) (bug_in is) ns ≡ None
     → (change : Change) → change.images ≡ image_joined is (n ∷ ns) i ∷ others (n ∷ ns) is → change.next ≡ next
-    → IsPlanned (n ∷ ns) (λ d. sets_joined difference d n ns) is next (Ok change)
+    → IsPlannedOf (n ∷ ns) (λ d. sets_joined difference d n ns) is next (Ok change)
 merge-done difference is next n ns i a h r q =
     let b = image_with-shows is n i h in
-    planned-replaced (n ∷ ns) (λ d. sets_joined difference d n ns) is next (n ∷ ns) (image_joined is (n ∷ ns) i ∷ [])
+    planned-replaced (n ∷ ns) (merge_step difference n ns) is next (n ∷ ns) (image_joined is (n ∷ ns) i ∷ [])
     (bug_joined (all_merged bugs) (joined_shared i.shared bugs)) a
     (joined-takes_place is n ns i a h)
     (λ d k. k)

@@ -1,11 +1,13 @@
 -- For each kind of command, that what is planned on images is its step on the desk.
 use Rattle.std.proofs.Common.{◌≡◌, ℕ, true, false, cond, List, [], ◌∷◌, ◌++◌, Option, Some, None, Result, Ok, Err, refl, sym, ap}
 use Rattle.std.proofs.Common.{◌∙◌, subst, arith}
+use Rattle.std.specs.Option.{option_or}
 use Rattle.std.proofs.lemmas.Option.{none-some, same_Some}
 use Rattle.debver.specs.Names.{IsName}
 use Rattle.bug_record.specs.Desk.{Desk, IsSound}
-use Rattle.bug_record.specs.Bugs.{each_bug, at_bug}
-use Rattle.bug_record.specs.Commands.{bug_named, bugs_named, HasGoodParts, HasUtf8Texts}
+use Rattle.bug_record.specs.Bugs.{each_bug, at_bug, unless, missing}
+use Rattle.bug_record.specs.Words.{first_bug_refusal}
+use Rattle.bug_record.specs.Commands.{bug_named, HasGoodParts, HasUtf8Texts}
 use Rattle.bug_record.specs.Steps.{records_changed, change_set, shared_after, new_title, new_submitter}
 use Rattle.bug_record.specs.Sets.{has, Each}
 use Rattle.bug_record.specs.Texts.{IsGoodText}
@@ -20,7 +22,7 @@ use Rattle.bug_record.specs.declared.command.PlanFault.TheVariants.{Refused, Mem
 use Rattle.bug_record.specs.declared.command.Refusal.{Refusal}
 use Rattle.bug_record.specs.declared.command.Refusal.TheVariants.{NoBug}
 use Rattle.bug_core.specs.Others.{others}
-use Rattle.bug_core.specs.Planned.{HasName, IsPlanned, IsRefusedAs, IsRefusalOfPlan}
+use Rattle.bug_core.specs.Planned.{HasName, IsPlanned, IsPlannedOf, IsRefusedAs, IsRefusalOfPlan}
 use Rattle.bug_core.proofs.ImageLemmas.{shown, image_with-shows, image_with-none}
 use Rattle.record_changes.proofs.FieldLemmas.{good-shared_after, good-new_title, good-new_submitter}
 use Rattle.bug_core.proofs.SoundLemmas.{sound-change_set}
@@ -91,25 +93,32 @@ abbrev records_after : List ℕ → Command ℕ → Desk → Desk
 records_after sender command d =
     change_set d (bug_named command) (shared_after sender command) (new_title command) (new_submitter sender command)
 
--- its step, by what the images show of the bug
+-- its step, and it by what is known of the bug
+abbrev pub records_step : List ℕ → Command ℕ → Desk → Result Desk Refusal
+records_step sender command d = unless (first_bug_refusal d.bug (bug_named command ∷ [])) (records_changed sender command d)
+
+abbrev by_bug : List ℕ → Command ℕ → Option Bug → Desk → Result Desk Refusal
+by_bug sender command o d =
+    unless (option_or (missing o (bug_named command)) None)
+    (at_bug o (bug_named command) (λ _. Ok (records_after sender command d)))
+
+-- by what the images show of it
 steps-shown : (sender : List ℕ) (command : Command ℕ) (is : List SetImage) (next : ℕ) (o : Option Bug)
     → bug_in is (bug_named command) ≡ o
-    → Steps (bugs_named command) (records_changed sender command) is next
-    (λ d. at_bug o (bug_named command) (λ _. Ok (records_after sender command d)))
-steps-shown sender command is next o h d e k =
-    ap (λ (z : Option Bug). at_bug z (bug_named command) (λ _. Ok (records_after sender command d))) (sym k.0 ∙ h)
+    → Steps (bug_named command ∷ []) (records_step sender command) is next (by_bug sender command o)
+steps-shown sender command is next o h d e k = ap (λ (z : Option Bug). by_bug sender command z d) (sym k.0 ∙ h)
 
 pub planned-records : (sender : List ℕ) (command : Command ℕ) (is : List SetImage) (next : ℕ) (i : SetImage) → IsGoodText sender
     → HasGoodParts command → HasUtf8Texts command → AreApart is → image_with is (bug_named command) ≡ Some i
     → (change : Change) → change.images
     ≡ image_after i (shared_after sender command) (new_title command) (new_submitter sender command) ∷ others
     (bug_named command ∷ []) is → change.next ≡ next
-    → IsPlanned (bugs_named command) (records_changed sender command) is next (Ok change)
+    → IsPlannedOf (bug_named command ∷ []) (records_changed sender command) is next (Ok change)
 planned-records sender command is next i text good utf8 a h =
-    planned-replaced (bugs_named command) (records_changed sender command) is next (bug_named command ∷ [])
+    planned-replaced (bug_named command ∷ []) (records_step sender command) is next (bug_named command ∷ [])
     (image_after i f title who ∷ []) (bug_after (bug_named command) f title who) a
     (set-takes_place is (bug_named command) i f title who a h)
-    (λ d k. (k.0, tt))
+    (λ d k. k)
     (let b = image_with-shows is (bug_named command) i h in steps-shown sender command is next (Some (bug_of i b.0)) b.1)
     (λ d sh. set-makes d is (bug_named command) i f title who a h)
     (λ d sh. sound-change_set d (bug_named command) f title who sh.sound
@@ -132,9 +141,9 @@ planned-records sender command is next i text good utf8 a h =
 -- a bug in no image is refused
 pub planned-no_bug : (sender : List ℕ) (command : Command ℕ) (is : List SetImage) (next : ℕ)
     → image_with is (bug_named command) ≡ None
-    → IsPlanned (bugs_named command) (records_changed sender command) is next (Err (Refused (NoBug (bug_named command))))
+    → IsPlannedOf (bug_named command ∷ []) (records_changed sender command) is next (Err (Refused (NoBug (bug_named command))))
 planned-no_bug sender command is next h =
-    planned-refused (bugs_named command) (records_changed sender command) is next (NoBug (bug_named command)) tt
+    planned-refused (bug_named command ∷ []) (records_step sender command) is next (NoBug (bug_named command)) tt
     (steps-shown sender command is next None (image_with-none is (bug_named command) h))
 
 -- no desk shows an image whose package is no package name

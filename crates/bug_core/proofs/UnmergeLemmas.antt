@@ -1,13 +1,14 @@
 -- A bug that is taken out of its set.
 use Rattle.std.proofs.Common.{◌≡◌, ℕ, Bool, true, false, cond, not, ◌||◌, ◌&&◌, eqb, List, [], ◌∷◌, ◌++◌, Option, Some, None, Ok}
-use Rattle.std.proofs.Common.{Err, sym, refl, ap, ◌∙◌}
+use Rattle.std.proofs.Common.{Result, Err, sym, refl, ap, ◌∙◌}
 use Rattle.std.specs.Prelude.{option_map, filter, ◌==◌}
 use Rattle.std.specs.Option.{option_or}
 use Rattle.std.proofs.lemmas.Option.{none-some}
 use Rattle.std.proofs.lemmas.Bool.{false≢true, eqb-true, eq-eqb, and_parts, false_from_ne_true}
 use Rattle.bug_record.specs.Sets.{has, IsAscending}
 use Rattle.bug_record.specs.Desk.{Desk, IsSound}
-use Rattle.bug_record.specs.Bugs.{at_bug}
+use Rattle.bug_record.specs.Bugs.{at_bug, unless, missing}
+use Rattle.bug_record.specs.Words.{first_bug_refusal}
 use Rattle.bug_record.specs.Merges.{parted, others_merged, taken_out, unmerged}
 use Rattle.bug_record.specs.Images.{numbers_of, member_at, bug_of, bug_in, AreApart, AreSetsOf, image_with}
 use Rattle.bug_record.specs.declared.bug.Bug.{Bug}
@@ -15,11 +16,12 @@ use Rattle.bug_record.specs.declared.bug.Member.{Member}
 use Rattle.bug_record.specs.declared.bug.SetImage.{SetImage}
 use Rattle.bug_record.specs.declared.command.Change.{Change}
 use Rattle.bug_record.specs.declared.command.PlanFault.TheVariants.{Refused}
+use Rattle.bug_record.specs.declared.command.Refusal.{Refusal}
 use Rattle.bug_record.specs.declared.command.Refusal.TheVariants.{NoBug, NotMerged}
 use Rattle.bug_record.proofs.SetLemmas.{has-filter, IsAscending-filter, same-ascending, one_number}
 use Rattle.bug_core.specs.Others.{others}
 use Rattle.bug_core.specs.Joins.{is_part}
-use Rattle.bug_core.specs.Planned.{IsPlanned}
+use Rattle.bug_core.specs.Planned.{IsPlannedOf}
 use Rattle.bug_core.proofs.ImageLemmas.{same_value, member-has, has-member_some, shown, image_with-has, image_with-shows}
 use Rattle.bug_core.proofs.ImageLemmas.{image_with-none, image_with-lacks, image_with-bug, image_with-member}
 use Rattle.bug_core.proofs.SoundLemmas.{agree, merged-back, sound-each_bug}
@@ -297,23 +299,29 @@ taken-some : (d : Desk) (n : ℕ) (rest : List ℕ) → (rest ≡ [] → ⊥) �
 taken-some d n [] some = absurd (some refl)
 taken-some d n (m ∷ rest) some = refl
 
+-- the step of the command, and it by what is known of the bug
+abbrev unmerge_step : ℕ → Desk → Result Desk Refusal
+unmerge_step n d = unless (first_bug_refusal d.bug (n ∷ [])) (unmerged d n)
+
+abbrev by_bug : Desk → ℕ → Option Bug → Result Desk Refusal
+by_bug d n o = unless (option_or (missing o n) None) (at_bug o n (λ b. taken_out d n (others_merged n b.merged)))
+
 steps-unmerge : (is : List SetImage) (next n : ℕ) (i : SetImage) → image_with is n ≡ Some i
-    → Steps (n ∷ []) (λ d. unmerged d n) is next (λ d. taken_out d n (others_merged n (numbers_of i.members)))
+    → Steps (n ∷ []) (unmerge_step n) is next (λ d. taken_out d n (others_merged n (numbers_of i.members)))
 steps-unmerge is next n i h d e k =
     let b = image_with-shows is n i h in
-    ap (λ (o : Option Bug). at_bug o n (λ b. taken_out d n (others_merged n b.merged))) (sym k.0 ∙ b.1)
+    ap (by_bug d n) (sym k.0 ∙ b.1)
 
 pub unmerge-no_bug : (is : List SetImage) (next n : ℕ) → image_with is n ≡ None
-    → IsPlanned (n ∷ []) (λ d. unmerged d n) is next (Err (Refused (NoBug n)))
+    → IsPlannedOf (n ∷ []) (λ d. unmerged d n) is next (Err (Refused (NoBug n)))
 unmerge-no_bug is next n h =
-    planned-refused (n ∷ []) (λ d. unmerged d n) is next (NoBug n) tt
-    (λ d e k. ap (λ (o : Option Bug). at_bug o n (λ b. taken_out d n (others_merged n b.merged)))
-    (sym k.0 ∙ image_with-none is n h))
+    planned-refused (n ∷ []) (unmerge_step n) is next (NoBug n) tt
+    (λ d e k. ap (by_bug d n) (sym k.0 ∙ image_with-none is n h))
 
 pub unmerge-alone : (is : List SetImage) (next n : ℕ) (i : SetImage) → image_with is n ≡ Some i → (part_of i false n).members ≡ []
-    → IsPlanned (n ∷ []) (λ d. unmerged d n) is next (Err (Refused (NotMerged n)))
+    → IsPlannedOf (n ∷ []) (λ d. unmerged d n) is next (Err (Refused (NotMerged n)))
 unmerge-alone is next n i h none =
-    planned-refused (n ∷ []) (λ d. unmerged d n) is next (NotMerged n) tt
+    planned-refused (n ∷ []) (unmerge_step n) is next (NotMerged n) tt
     (λ d e k. steps-unmerge is next n i h d e k
     ∙ taken-none d n (others_merged n (numbers_of i.members)) (sym (numbers-rest n i.members) ∙ ap numbers_of none))
 
@@ -331,9 +339,9 @@ parts-apart is n i a h some = apart-replaced is (n ∷ []) (parts i n) a (parts-
 pub unmerge-done : (is : List SetImage) (next n : ℕ) (i : SetImage) → AreApart is → image_with is n ≡ Some i
     → ((part_of i false n).members ≡ [] → ⊥)
     → (change : Change) → change.images ≡ parts i n ++ others (n ∷ []) is → change.next ≡ next
-    → IsPlanned (n ∷ []) (λ d. unmerged d n) is next (Ok change)
+    → IsPlannedOf (n ∷ []) (λ d. unmerged d n) is next (Ok change)
 unmerge-done is next n i a h some =
-    planned-replaced (n ∷ []) (λ d. unmerged d n) is next (n ∷ []) (parts i n)
+    planned-replaced (n ∷ []) (unmerge_step n) is next (n ∷ []) (parts i n)
     (bug_parted n (others_merged n (numbers_of i.members))) a
     (parts-take_place is n i a h some)
     (λ d k. k)

@@ -3,6 +3,8 @@ use Rattle.std.specs.Prelude.{ℕ, ◌≡◌, ◌≤◌, List, Result, Ok, Err, 
 use Rattle.debver.specs.Names.{IsName}
 use Rattle.bug_record.specs.Sets.{Each}
 use Rattle.bug_record.specs.Desk.{Desk}
+use Rattle.bug_record.specs.Bugs.{unless}
+use Rattle.bug_record.specs.Words.{first_bug_refusal}
 use Rattle.bug_record.specs.Images.{AreApart, HasMember, FitsDesk}
 use Rattle.bug_record.specs.Plans.{AllKnown, IsShownBy, IsPlanOf, CoverImages, BringNone}
 use Rattle.bug_record.specs.declared.bug.SetImage.{SetImage}
@@ -62,3 +64,8 @@ pub record IsPlanned (named : List ℕ) (after : Desk → Result Desk Refusal) (
   pub members : IfOk result (λ change. Each HasMember change.images)
   pub covers : IfOk result (λ change. CoverImages images change.images)
   pub later : IfOk result (λ change. next ≤ change.next)
+
+-- what is planned for a command of these bugs that comes to this where all of them are there
+abbrev pub IsPlannedOf : List ℕ → (Desk → Result Desk Refusal) → List SetImage → ℕ → Result Change PlanFault → Type 0
+IsPlannedOf named own images next result =
+    IsPlanned named (λ d. unless (first_bug_refusal d.bug named) (own d)) images next result

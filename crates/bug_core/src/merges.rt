@@ -1,14 +1,15 @@
 //! The commands `merge` and `forcemerge`.
 
 ghost use Rattle.std.specs.Prelude.{◌≡◌, ◌∷◌, [], IfOk, OnOk};
-ghost use Rattle.bug_record.specs.Bugs.{missing, first_refusal};
+ghost use Rattle.bug_record.specs.Bugs.{first_refusal};
 ghost use Rattle.bug_record.specs.Differences.{differing};
 ghost use Rattle.bug_record.specs.Images.{bug_in, AreApart};
 ghost use Rattle.bug_record.specs.Merges.{sets_joined};
 ghost use Rattle.bug_record.specs.Sets.{with_item};
+ghost use Rattle.bug_record.specs.Words.{first_bug_refusal};
 ghost use Rattle.bug_core.specs.Agreements.{difference_of};
 ghost use Rattle.bug_core.specs.Joins.{with_items};
-ghost use Rattle.bug_core.specs.Planned.{IsPlanned};
+ghost use Rattle.bug_core.specs.Planned.{IsPlannedOf};
 
 use crate::equal::same_text;
 use crate::images::{Named, find, replace_by_one};
@@ -48,7 +49,7 @@ fn difference(agreement: Agreement, first: &Shared, shared: &Shared) -> Option<F
 
 // The refusal of the first bug that is not there.
 fn first_missing(index: &Index, numbers: &[u64]) -> Option<Refusal>
-    ensures { result ≡ first_refusal missing (bug_in index.now) numbers.now }
+    ensures { result ≡ first_bug_refusal (bug_in index.now) numbers.now }
 {
     for number in numbers {
         if index.find_bug(*number).is_none() {
@@ -124,7 +125,7 @@ pub(crate) fn plan_merge(
     next: u64,
 ) -> Result<Change, PlanFault>
     requires apart { AreApart images.now }
-    ensures { IsPlanned (first ∷ others.now) (λ d. sets_joined (difference_of agreement) d first others.now) images.now next
+    ensures { IsPlannedOf (first ∷ others.now) (λ d. sets_joined (difference_of agreement) d first others.now) images.now next
         result }
 {
     let Some(image) = find(images, first) else {

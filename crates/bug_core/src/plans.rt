@@ -1,14 +1,14 @@
 //! What a command does, planned on the images of the sets of merged bugs that it names.
 
-ghost use Rattle.std.specs.Prelude.{◌≡◌, ◌≤◌, IfOk, IfErr};
+ghost use Rattle.std.specs.Prelude.{◌≡◌, ◌≤◌, ◌∷◌, [], IfOk, IfErr};
 ghost use Rattle.bug_record.specs.Sets.{Each};
 ghost use Rattle.bug_record.specs.Texts.{IsText};
 ghost use Rattle.bug_record.specs.Desk.{Desk};
-ghost use Rattle.bug_record.specs.Commands.{HasGoodParts, bugs_named};
-ghost use Rattle.bug_record.specs.Steps.{step, records_changed};
+ghost use Rattle.bug_record.specs.Commands.{HasGoodParts, bug_named, bugs_named};
+ghost use Rattle.bug_record.specs.Steps.{step_of_numbers, records_changed};
 ghost use Rattle.bug_record.specs.Images.{AreApart, HasMember, FitsDesk};
 ghost use Rattle.bug_record.specs.Plans.{AllKnown, IsShownBy, IsPlanFor, CoverImages, BringNone};
-ghost use Rattle.bug_core.specs.Planned.{HasName, IsRefusedAs, IsFaultOfPlan, IsPlanned};
+ghost use Rattle.bug_core.specs.Planned.{HasName, IsRefusedAs, IsFaultOfPlan, IsPlanned, IsPlannedOf};
 
 use crate::images::{Named, find, replace_by_one};
 use crate::merges::{Agreement, plan_merge};
@@ -29,7 +29,7 @@ fn plan_records(
     requires sender { IsText from.now }
     requires parts { HasGoodParts command.now }
     requires apart { AreApart images.now }
-    ensures { IsPlanned (bugs_named command.now) (records_changed from.now command.now) images.now next result }
+    ensures { IsPlannedOf (bug_named command.now ∷ []) (records_changed from.now command.now) images.now next result }
 {
     let number = bug_named(command);
     let Some(image) = find(images, number) else {
@@ -60,7 +60,7 @@ fn plan_command(
     requires sender { IsText from.now }
     requires parts { HasGoodParts command.now }
     requires apart { AreApart images.now }
-    ensures { IsPlanned (bugs_named command.now) (λ d. step d from.now command.now) images.now next result }
+    ensures { IsPlanned (bugs_named command.now) (λ d. step_of_numbers d from.now command.now) images.now next result }
 {
     match command {
         Command::Merge(number, others) => {
@@ -107,7 +107,7 @@ pub fn plan(
     ensures right { (d : Desk) → IsShownBy d images.now next (bugs_named command.now) → IsPlanFor d from.now command.now result }
     ensures fits { (d : Desk) → IsShownBy d images.now next (bugs_named command.now) → IfOk result (λ change. FitsDesk d change) }
     ensures refusals { (d : Desk) → d.next ≡ next → AllKnown d images.now (bugs_named command.now) → Each HasName images.now
-        → IsRefusedAs (step d from.now command.now) result }
+        → IsRefusedAs (step_of_numbers d from.now command.now) result }
     ensures own { IfErr result IsFaultOfPlan }
     ensures apart { (d : Desk) → IsShownBy d images.now next (bugs_named command.now)
         → IfOk result (λ change. AreApart change.images) }

@@ -4,7 +4,7 @@ ghost use Rattle.std.specs.Prelude.{◌≡◌, ◌∷◌, [], filter, IfOk};
 ghost use Rattle.bug_record.specs.Images.{AreApart};
 ghost use Rattle.bug_record.specs.Merges.{unmerged};
 ghost use Rattle.bug_core.specs.Joins.{is_part};
-ghost use Rattle.bug_core.specs.Planned.{IsPlanned};
+ghost use Rattle.bug_core.specs.Planned.{IsPlannedOf};
 
 use crate::images::{Named, find, replace};
 use bug_record::{Change, Member, Members, PlanFault, Refusal, Sequence, SetImage, Shared};
@@ -70,7 +70,7 @@ pub(crate) fn plan_unmerge(
     next: u64,
 ) -> Result<Change, PlanFault>
     requires apart { AreApart images.now }
-    ensures planned { IsPlanned (number ∷ []) (λ d. unmerged d number) images.now next result }
+    ensures planned { IsPlannedOf (number ∷ []) (λ d. unmerged d number) images.now next result }
     ensures apart { IfOk result (λ change. AreApart change.images) }
 {
     let Some(image) = find(images, number) else {

@@ -10,6 +10,7 @@ pub mod Commands
 pub mod Bugs
 pub mod Differences
 pub mod Merges
+pub mod Words
 pub mod Steps
 pub mod Images
 pub mod Plans

@@ -7,7 +7,7 @@ use Rattle.bug_record.specs.Sets.{has, number_set}
 use Rattle.bug_record.specs.Tags.{all_tags, has_tag}
 use Rattle.bug_record.specs.Marks.{node_set}
 use Rattle.bug_record.specs.Desk.{Desk}
-use Rattle.bug_record.specs.Bugs.{each_bug, at_bug, unless, missing, first_refusal, bugs_at, all_of}
+use Rattle.bug_record.specs.Bugs.{each_bug, at_bug, unless, first_refusal, bugs_at, all_of}
 use Rattle.bug_record.specs.Differences.{differing}
 use Rattle.bug_record.specs.declared.bug.Bug.{Bug}
 use Rattle.bug_record.specs.declared.bug.Shared.{Shared}
@@ -47,14 +47,12 @@ with_merged d merged shared = each_bug d (λ m b. record b {
 })
 
 -- All the bugs' sets become one.
--- They have to be there, and those after the first may not differ from it in a field that is
--- compared.
+-- Those after the first may not differ from it in a field that is compared.
 abbrev pub sets_joined : (Shared → Shared → Option Field) → Desk → ℕ → List ℕ → Result Desk Refusal
 sets_joined difference d n ns =
     at_bug (d.bug n) n (λ first.
-    unless (first_refusal missing d.bug ns)
-    (unless (first_refusal (differing (difference first.shared)) d.bug ns)
-    (Ok (with_merged d (all_merged (bugs_at d.bug (n ∷ ns))) (joined_shared first.shared (bugs_at d.bug (n ∷ ns)))))))
+    unless (first_refusal (differing (difference first.shared)) d.bug ns)
+    (Ok (with_merged d (all_merged (bugs_at d.bug (n ∷ ns))) (joined_shared first.shared (bugs_at d.bug (n ∷ ns))))))
 
 -- n becomes a set by itself, and the rest of its set another
 abbrev pub parted : Desk → ℕ → List ℕ → Desk

@@ -1,7 +1,7 @@
 -- What is planned for a command on the images of sets, and what that says of a desk.
 use Rattle.std.specs.Prelude.{ℕ, ◌≡◌, List, [], ◌∷◌, Some, None, Result, Ok, Err, ⊤}
 use Rattle.bug_record.specs.Desk.{Desk, IsSound}
-use Rattle.bug_record.specs.Steps.{step}
+use Rattle.bug_record.specs.Steps.{step_of_numbers}
 use Rattle.bug_record.specs.Images.{bug_in, put, AreSetsOf}
 use Rattle.bug_record.specs.declared.bug.Bug.{Bug}
 use Rattle.bug_record.specs.declared.bug.SetImage.{SetImage}
@@ -33,7 +33,7 @@ IsPlanOf d after (Err (Refused refusal)) = after ≡ Err refusal
 IsPlanOf d after (Err Memory) = ⊤
 
 abbrev pub IsPlanFor : Desk → List ℕ → Command ℕ → Result Change PlanFault → Type 0
-IsPlanFor d sender command result = IsPlanOf d (step d sender command) result
+IsPlanFor d sender command result = IsPlanOf d (step_of_numbers d sender command) result
 
 -- each bug that is in the old images is in the new ones
 abbrev pub CoverImages : List SetImage → List SetImage → Type 0

@@ -4,13 +4,15 @@
 use Rattle.std.specs.Prelude.{ℕ, ◌+◌, ◌==◌, ◌&&◌, false, true, List, [], ◌∷◌, Option, Some, None, Result, Ok, unwrap_or}
 use Rattle.std.specs.Prelude.{if◌then◌else◌}
 use Rattle.std.specs.Str.{bytes_eq}
+use Rattle.line_words.specs.declared.named.Named.{Named}
 use Rattle.ancestry.specs.Nodes.{Node}
 use Rattle.bug_record.specs.Sets.{has}
 use Rattle.bug_record.specs.Marks.{with_node, without_node, is_below_some}
 use Rattle.bug_record.specs.Tags.{with_tag, without_tag}
 use Rattle.bug_record.specs.Desk.{Desk}
-use Rattle.bug_record.specs.Commands.{node_meant, person, bug_named}
-use Rattle.bug_record.specs.Bugs.{each_bug, at_bug}
+use Rattle.bug_record.specs.Commands.{node_meant, person, bug_named, bugs_named, command_over}
+use Rattle.bug_record.specs.Bugs.{each_bug, at_bug, unless}
+use Rattle.bug_record.specs.Words.{Names, meaning, first_word_refusal, number_by}
 use Rattle.bug_record.specs.Differences.{first_difference, package_difference}
 use Rattle.bug_record.specs.Merges.{sets_joined, unmerged}
 use Rattle.bug_record.specs.declared.bug.Bug.{Bug}
@@ -144,26 +146,40 @@ records_changed sender command d =
     at_bug (d.bug (bug_named command)) (bug_named command)
     (λ _. Ok (change_set d (bug_named command) (shared_after sender command) (new_title command) (new_submitter sender command)))
 
--- The new desk, or the refusal, of a command by this sender.
-abbrev pub step : Desk → List ℕ → Command ℕ → Result Desk Refusal
-step d sender (commands.Merge n ns) = sets_joined first_difference d n ns
-step d sender (commands.ForceMerge n ns) = sets_joined package_difference d n ns
-step d sender (commands.Unmerge n) = unmerged d n
-step d sender (commands.Found n version) = records_changed sender (commands.Found n version) d
-step d sender (commands.NotFound n version) = records_changed sender (commands.NotFound n version) d
-step d sender (commands.Fixed n version) = records_changed sender (commands.Fixed n version) d
-step d sender (commands.NotFixed n version) = records_changed sender (commands.NotFixed n version) d
-step d sender (commands.Close n version) = records_changed sender (commands.Close n version) d
-step d sender (commands.Reopen n who) = records_changed sender (commands.Reopen n who) d
-step d sender (commands.Severity n severity) = records_changed sender (commands.Severity n severity) d
-step d sender (commands.Tags n steps) = records_changed sender (commands.Tags n steps) d
-step d sender (commands.Retitle n text) = records_changed sender (commands.Retitle n text) d
-step d sender (commands.Submitter n who) = records_changed sender (commands.Submitter n who) d
-step d sender (commands.Reassign n package_name version) = records_changed sender (commands.Reassign n package_name version) d
-step d sender (commands.Forwarded n text) = records_changed sender (commands.Forwarded n text) d
-step d sender (commands.NotForwarded n) = records_changed sender (commands.NotForwarded n) d
-step d sender (commands.Owner n who) = records_changed sender (commands.Owner n who) d
-step d sender (commands.NoOwner n) = records_changed sender (commands.NoOwner n) d
+-- what a command of this sender comes to, whose bugs are there
+abbrev pub carried_out : Desk → List ℕ → Command ℕ → Result Desk Refusal
+carried_out d sender (commands.Merge n ns) = sets_joined first_difference d n ns
+carried_out d sender (commands.ForceMerge n ns) = sets_joined package_difference d n ns
+carried_out d sender (commands.Unmerge n) = unmerged d n
+carried_out d sender (commands.Found n version) = records_changed sender (commands.Found n version) d
+carried_out d sender (commands.NotFound n version) = records_changed sender (commands.NotFound n version) d
+carried_out d sender (commands.Fixed n version) = records_changed sender (commands.Fixed n version) d
+carried_out d sender (commands.NotFixed n version) = records_changed sender (commands.NotFixed n version) d
+carried_out d sender (commands.Close n version) = records_changed sender (commands.Close n version) d
+carried_out d sender (commands.Reopen n who) = records_changed sender (commands.Reopen n who) d
+carried_out d sender (commands.Severity n severity) = records_changed sender (commands.Severity n severity) d
+carried_out d sender (commands.Tags n steps) = records_changed sender (commands.Tags n steps) d
+carried_out d sender (commands.Retitle n text) = records_changed sender (commands.Retitle n text) d
+carried_out d sender (commands.Submitter n who) = records_changed sender (commands.Submitter n who) d
+carried_out d sender (commands.Reassign n package_name version) = records_changed sender (commands.Reassign n package_name version) d
+carried_out d sender (commands.Forwarded n text) = records_changed sender (commands.Forwarded n text) d
+carried_out d sender (commands.NotForwarded n) = records_changed sender (commands.NotForwarded n) d
+carried_out d sender (commands.Owner n who) = records_changed sender (commands.Owner n who) d
+carried_out d sender (commands.NoOwner n) = records_changed sender (commands.NoOwner n) d
+
+-- The new desk, or the refusal, of a command by this sender whose bug words mean this: the first
+-- refusal of a bug word, or else what the command comes to.
+abbrev pub step_by : {N : Type 0} → (N → Result ℕ Refusal) → Desk → List ℕ → Command N → Result Desk Refusal
+step_by means d sender command =
+    unless (first_word_refusal means d.bug (bugs_named command)) (carried_out d sender (command_over (number_by means) command))
+
+-- of a command over bug words, where these names are known
+abbrev pub step : Names → Desk → List ℕ → Command Named → Result Desk Refusal
+step names d sender command = step_by (meaning names) d sender command
+
+-- of a command over numbers
+abbrev pub step_of_numbers : Desk → List ℕ → Command ℕ → Result Desk Refusal
+step_of_numbers d sender command = step_by (λ n. Ok n) d sender command
 
 -- the found marks of a new report
 abbrev pub found_first : Option Node → List Node

@@ -143,7 +143,7 @@ pub enum Field {
 }
 
 /// Why a line is refused, in the order in which the causes are tested.
-#[derive(Clone, Copy, Debug, PartialEq, Eq, Drop)]
+#[derive(Debug, PartialEq, Eq, Drop)]
 pub enum Refusal {
     /// The first word is no command.
     Unknown,
@@ -170,7 +170,7 @@ pub enum Refusal {
 }
 
 /// Why nothing is planned.
-#[derive(Clone, Copy, Debug, PartialEq, Eq, Drop)]
+#[derive(Debug, PartialEq, Eq, Drop)]
 pub enum PlanFault {
     /// The command is refused.
     Refused(Refusal),

@@ -2,25 +2,28 @@
 use Rattle.std.proofs.Common.{◌≡◌, ◌≤◌, ℕ, true, List, [], ◌∷◌, Result, Ok, Err, sym, ap, ◌∙◌, subst, arith}
 use Rattle.std.specs.Prelude.{◌==◌, length}
 use Rattle.std.proofs.lemmas.Bool.{eqb-true}
-use Rattle.bug_record.specs.Sets.{has}
+use Rattle.bug_record.specs.Sets.{has, Each}
 use Rattle.bug_record.specs.Desk.{Desk, IsSound}
-use Rattle.bug_record.specs.Steps.{step}
+use Rattle.bug_record.specs.Steps.{step_of_numbers}
 use Rattle.bug_record.specs.Images.{bug_in, put, FitsDesk}
 use Rattle.bug_record.specs.Plans.{IsShownBy, CoverImages, BringNone}
 use Rattle.bug_record.specs.Changed.{changed_numbers, AreChanged, Replaces}
 use Rattle.bug_core.proofs.ChangedLemmas.{changed-on_desk}
 use Rattle.bug_record.specs.declared.bug.SetImage.{SetImage}
 use Rattle.bug_record.specs.declared.command.Change.{Change}
-use Rattle.bug_record.specs.Commands.{HasGoodParts, command_over}
+use Rattle.bug_record.specs.Commands.{HasGoodParts, bugs_named, command_over}
 use Rattle.bug_record.specs.declared.command.Command.{Command}
 use Rattle.bug_record.specs.declared.command.Command.TheVariants as commands
 use Rattle.bug_record.specs.declared.command.Refusal.{Refusal}
 use Rattle.line_words.specs.declared.named.Named.{Named}
 use Rattle.desk_text.specs.declared.outcome.Outcome.{Outcome}
 use Rattle.desk_text.specs.declared.outcome.Outcome.TheVariants.{Changed, Refused}
-use Rattle.desk_store.specs.Message.{does, outcome_of, command_meant, refusal_meant}
+use Rattle.line_words.specs.Bugs.{IsGoodBug}
+use Rattle.desk_store.specs.Message.{does}
+use Rattle.desk_messages.specs.Names.{command_told, refusal_meant, outcome_meant}
+use Rattle.desk_messages.proofs.NameLemmas.{step-told}
 use Rattle.desk_text.specs.declared.outcome.StoreFault.{StoreFault}
-use Rattle.desk_messages.specs.Commands.{MayBeMade, CarriesOut, DoesMeant, Does}
+use Rattle.desk_messages.specs.Commands.{MayBeMade, CarriesOut, DoesTold, Does}
 use Rattle.desk_messages.specs.Images.{ShowBugs}
 
 -- after the two questions
@@ -50,38 +53,40 @@ planned d images next ns change sh fits covers brings later = record {
 }
 
 done : (sender : List ℕ) (d d1 d2 new : Desk) (command : Command ℕ) (change : Change) (outcome : Outcome) → d1 ≡ d → d2 ≡ d1
-    → step d2 sender command ≡ Ok (put d2 change) → (outcome ≡ Changed (changed_numbers d2 (put d2 change)))
-    × (new ≡ put d2 change) → outcome_of d (step d sender command) ≡ (outcome, new)
+    → step_of_numbers d2 sender command ≡ Ok (put d2 change) → (outcome ≡ Changed (changed_numbers d2 (put d2 change)))
+    × (new ≡ put d2 change) → outcome_meant d (step_of_numbers d sender command) ≡ (outcome, new)
 done sender d d1 d2 new command change outcome p q s c =
     let same : d ≡ d2 = sym (q ∙ p) in
-    ap (λ (z : Desk). outcome_of z (step z sender command)) same
-    ∙ (ap (outcome_of d2) s
+    ap (λ (z : Desk). outcome_meant z (step_of_numbers z sender command)) same
+    ∙ (ap (outcome_meant d2) s
     ∙ (λ i. (sym c.0 i, sym c.1 i)))
 
 -- a planned change that is carried out
 pub does_planned : (sender : List ℕ) (d d1 d2 new : Desk) (command : Command ℕ) (change : Change)
     (result : Result Outcome StoreFault) → d1 ≡ d → d2 ≡ d1
-    → step d2 sender command ≡ Ok (put d2 change) → CarriesOut d2 change result new → DoesMeant sender d command result new
+    → step_of_numbers d2 sender command ≡ Ok (put d2 change) → CarriesOut d2 change result new → DoesTold sender d command result new
 does_planned sender d d1 d2 new command change (Ok outcome) p q s c = done sender d d1 d2 new command change outcome p q s c
 does_planned sender d d1 d2 new command change (Err fault) p q s c = c ∙ (q ∙ p)
 
 -- a refused command
 pub does_refused : (sender : List ℕ) (d d1 d2 : Desk) (command : Command ℕ) (refusal said : Refusal) → d1 ≡ d → d2 ≡ d1
-    → step d2 sender command ≡ Err refusal → said ≡ refusal_meant refusal
-    → outcome_of d (step d sender command) ≡ (Refused said, d2)
+    → step_of_numbers d2 sender command ≡ Err refusal → said ≡ refusal_meant refusal
+    → outcome_meant d (step_of_numbers d sender command) ≡ (Refused said, d2)
 does_refused sender d d1 d2 command refusal said p q s c =
     let same : d ≡ d2 = sym (q ∙ p) in
-    ap (λ (z : Desk). outcome_of z (step z sender command)) same
-    ∙ (ap (outcome_of d2) s
+    ap (λ (z : Desk). outcome_meant z (step_of_numbers z sender command)) same
+    ∙ (ap (outcome_meant d2) s
     ∙ (λ i. (Refused (sym c i), d2)))
 
--- a command of the bugs that are meant is the line's
-pub does_meant : (sender : List ℕ) (d new : Desk) (command : Command Named) (meant : Command ℕ)
-    (result : Result Outcome StoreFault) → meant ≡ command_meant [] command → DoesMeant sender d meant result new
-    → Does sender d command result new
+-- a command that was told is the line's
+pub does_told : (sender : List ℕ) (d new : Desk) (command : Command Named) (told : Command ℕ)
+    (result : Result Outcome StoreFault) → IsSound d → Each IsGoodBug (bugs_named command) → told ≡ command_told [] command
+    → DoesTold sender d told result new → Does sender d command result new
 unfolding does
-does_meant sender d new command meant (Ok outcome) e h = ap (λ (x : Command ℕ). outcome_of d (step d sender x)) (sym e) ∙ h
-does_meant sender d new command meant (Err fault) e h = h
+does_told sender d new command told (Ok outcome) sound good e h =
+    sym (step-told d sender command sound good)
+    ∙ (ap (λ (x : Command ℕ). outcome_meant d (step_of_numbers d sender x)) (sym e) ∙ h)
+does_told sender d new command told (Err fault) sound good e h = h
 
 -- the numbers of a planned change are those at which the desks differ
 pub told : {d : Desk} (images sets : List SetImage) {next : ℕ} {change : Change} {numbers : List ℕ} → sets ≡ change.images

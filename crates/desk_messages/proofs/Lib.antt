@@ -1,3 +1,4 @@
+pub mod NameLemmas
 pub mod CommandLemmas
 pub mod GatherLemmas
 pub mod EndLemmas

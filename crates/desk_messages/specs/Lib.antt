@@ -1,6 +1,7 @@
 pub mod Transcripts
 pub mod Reports
 -- definitions that only private functions cite
+pub mod Names
 pub mod Commands
 pub mod Images
 pub mod Taking

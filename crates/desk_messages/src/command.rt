@@ -4,10 +4,11 @@ ghost use Rattle.std.specs.Prelude.{◌≡◌, [], map, IfOk};
 ghost use Rattle.bug_record.specs.Sets.{Each};
 ghost use Rattle.bug_record.specs.Texts.{IsText};
 ghost use Rattle.bug_record.specs.Images.{AreApart, HasMember};
-ghost use Rattle.bug_record.specs.Commands.{HasGoodParts};
+ghost use Rattle.bug_record.specs.Commands.{HasGoodParts, bugs_named};
+ghost use Rattle.line_words.specs.Bugs.{IsGoodBug};
 ghost use Rattle.desk_store.specs.Store.{Holds, faults_after};
-ghost use Rattle.desk_store.specs.Message.{number_meant, command_meant, refusal_meant};
-ghost use Rattle.desk_messages.specs.Commands.{MayBeMade, CarriesOut, DoesMeant, Does};
+ghost use Rattle.desk_messages.specs.Names.{number_told, command_told, refusal_meant};
+ghost use Rattle.desk_messages.specs.Commands.{MayBeMade, CarriesOut, DoesTold, Does};
 
 use crate::images::images_of;
 use bug_core::{changed, plan};
@@ -17,9 +18,9 @@ use desk_store::Records;
 use desk_text::{Outcome, StoreFault};
 use std::alloc::{AllocError, Global};
 
-// The number that a bug word means; no name is known.
-fn number_meant(bug: Named) -> u64
-    ensures { result ≡ number_meant [] bug }
+// The number that a bug word is told as; no name is known.
+fn number_told(bug: Named) -> u64
+    ensures { result ≡ number_told [] bug }
 {
     match bug {
         Named::Number(number) => number,
@@ -27,46 +28,46 @@ fn number_meant(bug: Named) -> u64
     }
 }
 
-// The numbers that bug words mean.
-fn numbers_meant(alloc: Global, bugs: &[Named]) -> Result<Sequence<u64>, AllocError>
-    ensures { IfOk result (λ numbers. numbers ≡ map (number_meant []) bugs.now) }
+// The numbers that bug words are told as.
+fn numbers_told(alloc: Global, bugs: &[Named]) -> Result<Sequence<u64>, AllocError>
+    ensures { IfOk result (λ numbers. numbers ≡ map (number_told []) bugs.now) }
 {
     let mut numbers = Sequence::new(alloc);
     for bug in bugs {
-        numbers.push(number_meant(*bug))?;
+        numbers.push(number_told(*bug))?;
     }
     Ok(numbers)
 }
 
-// The command of the bugs that are meant.
-fn command_meant(alloc: Global, command: Command<Named>) -> Result<Command<u64>, AllocError>
-    ensures { IfOk result (λ meant. meant ≡ command_meant [] command) }
+// The command as it is told.
+fn command_told(alloc: Global, command: Command<Named>) -> Result<Command<u64>, AllocError>
+    ensures { IfOk result (λ told. told ≡ command_told [] command) }
 {
     Ok(match command {
-        Command::Found(bug, version) => Command::Found(number_meant(bug), version),
-        Command::NotFound(bug, version) => Command::NotFound(number_meant(bug), version),
-        Command::Fixed(bug, version) => Command::Fixed(number_meant(bug), version),
-        Command::NotFixed(bug, version) => Command::NotFixed(number_meant(bug), version),
-        Command::Close(bug, version) => Command::Close(number_meant(bug), version),
-        Command::Reopen(bug, who) => Command::Reopen(number_meant(bug), who),
-        Command::Severity(bug, severity) => Command::Severity(number_meant(bug), severity),
-        Command::Tags(bug, steps) => Command::Tags(number_meant(bug), steps),
-        Command::Retitle(bug, title) => Command::Retitle(number_meant(bug), title),
-        Command::Submitter(bug, who) => Command::Submitter(number_meant(bug), who),
+        Command::Found(bug, version) => Command::Found(number_told(bug), version),
+        Command::NotFound(bug, version) => Command::NotFound(number_told(bug), version),
+        Command::Fixed(bug, version) => Command::Fixed(number_told(bug), version),
+        Command::NotFixed(bug, version) => Command::NotFixed(number_told(bug), version),
+        Command::Close(bug, version) => Command::Close(number_told(bug), version),
+        Command::Reopen(bug, who) => Command::Reopen(number_told(bug), who),
+        Command::Severity(bug, severity) => Command::Severity(number_told(bug), severity),
+        Command::Tags(bug, steps) => Command::Tags(number_told(bug), steps),
+        Command::Retitle(bug, title) => Command::Retitle(number_told(bug), title),
+        Command::Submitter(bug, who) => Command::Submitter(number_told(bug), who),
         Command::Reassign(bug, package, version) => {
-            Command::Reassign(number_meant(bug), package, version)
+            Command::Reassign(number_told(bug), package, version)
         }
         Command::Merge(bug, bugs) => {
-            Command::Merge(number_meant(bug), numbers_meant(alloc, bugs.as_slice())?)
+            Command::Merge(number_told(bug), numbers_told(alloc, bugs.as_slice())?)
         }
         Command::ForceMerge(bug, bugs) => {
-            Command::ForceMerge(number_meant(bug), numbers_meant(alloc, bugs.as_slice())?)
+            Command::ForceMerge(number_told(bug), numbers_told(alloc, bugs.as_slice())?)
         }
-        Command::Unmerge(bug) => Command::Unmerge(number_meant(bug)),
-        Command::Forwarded(bug, address) => Command::Forwarded(number_meant(bug), address),
-        Command::NotForwarded(bug) => Command::NotForwarded(number_meant(bug)),
-        Command::Owner(bug, who) => Command::Owner(number_meant(bug), who),
-        Command::NoOwner(bug) => Command::NoOwner(number_meant(bug)),
+        Command::Unmerge(bug) => Command::Unmerge(number_told(bug)),
+        Command::Forwarded(bug, address) => Command::Forwarded(number_told(bug), address),
+        Command::NotForwarded(bug) => Command::NotForwarded(number_told(bug)),
+        Command::Owner(bug, who) => Command::Owner(number_told(bug), who),
+        Command::NoOwner(bug) => Command::NoOwner(number_told(bug)),
     })
 }
 
@@ -109,8 +110,8 @@ fn make_change<S: Records>(
     }
 }
 
-// Carries one command out, with the bugs that are meant.
-fn take_meant<S: Records>(
+// Carries one command out that was told.
+fn take_told<S: Records>(
     alloc: Global,
     store: &mut S,
     from: &str,
@@ -119,7 +120,7 @@ fn take_meant<S: Records>(
     requires sender { IsText from.now }
     requires parts { HasGoodParts command.now }
     ensures answer { Holds S.is_kept S.is_honest store.old store.new
-        (DoesMeant from.now (S.desk store.old) command.now result (S.desk store.new)) }
+        (DoesTold from.now (S.desk store.old) command.now result (S.desk store.new)) }
     ensures count { S.faults store.new ≡ faults_after result (S.faults store.old) }
 {
     let images = match images_of(alloc, store, command) {
@@ -146,13 +147,14 @@ pub(crate) fn take_command<S: Records>(
     command: Command<Named>,
 ) -> Result<Outcome, StoreFault>
     requires sender { IsText from.now }
+    requires bugs { Each IsGoodBug (bugs_named command) }
     requires parts { HasGoodParts command }
     ensures answer { Holds S.is_kept S.is_honest store.old store.new
         (Does from.now (S.desk store.old) command result (S.desk store.new)) }
     ensures count { S.faults store.new ≡ faults_after result (S.faults store.old) }
 {
-    match command_meant(alloc, command) {
-        Ok(command) => take_meant(alloc, store, from, &command),
+    match command_told(alloc, command) {
+        Ok(command) => take_told(alloc, store, from, &command),
         Err(_) => Err(StoreFault::Memory),
     }
 }

@@ -2,7 +2,9 @@
 
 ghost use Rattle.std.specs.Prelude.{◌≡◌, ◌∷◌, ◌++◌, ◌<◌, [], vec_len, vec_capacity, IfOk, OnOk, OnErr, Result, Ok, if◌then◌else◌};
 ghost use Rattle.bug_record.specs.Texts.{IsText};
-ghost use Rattle.bug_record.specs.Commands.{HasGoodParts};
+ghost use Rattle.bug_record.specs.Commands.{HasGoodParts, bugs_named};
+ghost use Rattle.bug_record.specs.Sets.{Each};
+ghost use Rattle.line_words.specs.Bugs.{IsGoodBug};
 ghost use Rattle.control_text.specs.Lines.{reading};
 ghost use Rattle.control_text.specs.declared.line.Line.TheVariants.{Do};
 ghost use Rattle.desk_store.specs.Store.{Holds, faults_after};
@@ -126,6 +128,7 @@ fn take_command_line<S: Records>(
     command: Command<Named>,
 ) -> Result<End, StoreFault>
     requires sender { IsText from.now }
+    requires bugs { Each IsGoodBug (bugs_named command) }
     requires parts { HasGoodParts command }
     requires counted { progress.old.unreadable ≡ unreadable_count progress.old.outcomes.items }
     requires goes_on { end_of progress.old.outcomes.items ≡ End.All }

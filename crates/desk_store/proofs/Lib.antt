@@ -3,4 +3,3 @@ pub mod KeyLemmas
 pub mod PlainLemmas
 pub mod PlaceLemmas
 pub mod HoldsLemmas
-pub mod NameLemmas

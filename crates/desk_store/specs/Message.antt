@@ -1,18 +1,17 @@
 -- A message, as a machine that takes its lines one at a time (stops: the BTS page 'control and
 -- manipulation'; the rest is this project's own rule).
-use Rattle.std.specs.Prelude.{ℕ, ◌≡◌, ◌+◌, ◌-◌, ◌<◌, ◌≤◌, ◌==◌, nat_lt, nat_le, Bool, true, false, List, [], ◌∷◌, ◌++◌, length}
-use Rattle.std.specs.Prelude.{take, count_by, Option, Some, None, Result, Ok, Err, unwrap_or, if◌then◌else◌}
+use Rattle.std.specs.Prelude.{ℕ, ◌≡◌, ◌-◌, ◌<◌, ◌≤◌, nat_le, Bool, true, false, List, [], ◌∷◌, ◌++◌, length}
+use Rattle.std.specs.Prelude.{take, count_by, Result, Ok, Err, if◌then◌else◌}
 use Rattle.std.specs.List.{list_any}
 use Rattle.bug_record.specs.Desk.{Desk}
-use Rattle.bug_record.specs.Commands.{command_over}
+use Rattle.bug_record.specs.Words.{Names}
 use Rattle.bug_record.specs.Steps.{step}
 use Rattle.bug_record.specs.Changed.{changed_numbers}
 use Rattle.bug_record.specs.declared.command.Command.{Command}
 use Rattle.bug_record.specs.declared.command.Refusal.{Refusal}
-use Rattle.bug_record.specs.declared.command.Refusal.TheVariants.{Unknown, Malformed, NoName, NoBug}
+use Rattle.bug_record.specs.declared.command.Refusal.TheVariants.{Unknown, Malformed}
 use Rattle.control_text.specs.Lines.{reading}
 use Rattle.line_words.specs.declared.named.Named.{Named}
-use Rattle.line_words.specs.declared.named.Named.TheVariants.{Number, Name}
 use Rattle.control_text.specs.declared.line.Line.{Line}
 use Rattle.control_text.specs.declared.line.Line.TheVariants.{Blank, Comment, Stop, Do}
 use Rattle.desk_text.specs.declared.outcome.Outcome.{Outcome}
@@ -26,39 +25,21 @@ abbrev pub Entry : Type 0
 Entry = List ℕ × Outcome
 
 -- The names that an accepted line gives, with their numbers. No command gives a name so far.
-abbrev pub names_given : Entry → List (ℕ × ℕ)
+abbrev pub names_given : Entry → Names
 names_given entry = []
 
 -- the names known after these lines
-abbrev pub known_names : List Entry → List (ℕ × ℕ)
+abbrev pub known_names : List Entry → Names
 known_names [] = []
 known_names (entry ∷ entries) = names_given entry ++ known_names entries
-
-abbrev pub number_of_name : List (ℕ × ℕ) → ℕ → Option ℕ
-number_of_name [] k = None
-number_of_name (p ∷ names) k = if p.0 == k then Some p.1 else number_of_name names k
-
--- The number that a bug word means.
--- A name -k that isn't known stands for 1,000,000,000 + k, which no bug of a sound desk has.
-abbrev pub number_meant : List (ℕ × ℕ) → Named → ℕ
-number_meant names (Number n) = n
-number_meant names (Name k) = unwrap_or (number_of_name names k) (1000000000 + k)
-
-abbrev pub command_meant : List (ℕ × ℕ) → Command Named → Command ℕ
-command_meant names command = command_over (number_meant names) command
-
--- where that number is refused, the refusal is that of the name
-abbrev pub refusal_meant : Refusal → Refusal
-refusal_meant (NoBug n) = if nat_lt 1000000000 n then NoName (n - 1000000000) else NoBug n
-refusal_meant refusal = refusal
 
 -- the outcome of a command whose step is this, and the desk after it
 abbrev pub outcome_of : Desk → Result Desk Refusal → Outcome × Desk
 outcome_of d (Ok new) = (Changed (changed_numbers d new), new)
-outcome_of d (Err refusal) = (Refused (refusal_meant refusal), d)
+outcome_of d (Err refusal) = (Refused refusal, d)
 
-unfoldable pub does : List ℕ → List (ℕ × ℕ) → Desk → Command Named → Outcome × Desk
-does sender names d command = outcome_of d (step d sender (command_meant names command))
+unfoldable pub does : List ℕ → Names → Desk → Command Named → Outcome × Desk
+does sender names d command = outcome_of d (step names d sender command)
 
 -- the machine within a message: the desk, and the outcomes so far
 pub record Machine : Type 0 where

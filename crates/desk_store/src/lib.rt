@@ -10,6 +10,6 @@ mod plain;
 mod records;
 
 pub use fail_at::FailAt;
-pub use laws::{faults_rise_by_one, names_are_told_from_numbers};
+pub use laws::faults_rise_by_one;
 pub use plain::PlainDesk;
 pub use records::Records;

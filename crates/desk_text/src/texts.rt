@@ -45,8 +45,8 @@ fn append_between(
 }
 
 #[tactic(auto, unfolding(crate::specs::Texts::difference_text, crate::specs::Texts::not_merged_text))]
-fn append_refusal(out: &mut Vec<u8>, refusal: Refusal) -> Result<(), AllocError>
-    ensures ok { OnOk result (out.new.items ≡ out.old.items ++ refusal_text refusal) }
+fn append_refusal(out: &mut Vec<u8>, refusal: &Refusal) -> Result<(), AllocError>
+    ensures ok { OnOk result (out.new.items ≡ out.old.items ++ refusal_text refusal.now) }
     ensures err { OnErr result (StartsWith out.new.items out.old.items) }
 {
     match refusal {
@@ -57,12 +57,12 @@ fn append_refusal(out: &mut Vec<u8>, refusal: Refusal) -> Result<(), AllocError>
         Refusal::BadTag => out.extend_from_slice(b"unknown tag"),
         Refusal::BadVersion => out.extend_from_slice(b"bad version"),
         Refusal::BadPackage => out.extend_from_slice(b"bad package name"),
-        Refusal::NoName(name) => append_between(out, "no such name -", name, ""),
-        Refusal::NoBug(number) => append_between(out, "no such bug ", number, ""),
+        Refusal::NoName(name) => append_between(out, "no such name -", *name, ""),
+        Refusal::NoBug(number) => append_between(out, "no such bug ", *number, ""),
         Refusal::Differ(field, number) => {
-            append_between(out, "bug ", number, difference_end(field))
+            append_between(out, "bug ", *number, difference_end(*field))
         }
-        Refusal::NotMerged(number) => append_between(out, "bug ", number, " is not merged"),
+        Refusal::NotMerged(number) => append_between(out, "bug ", *number, " is not merged"),
     }
 }
 
@@ -97,7 +97,7 @@ fn append_answer(out: &mut Vec<u8>, outcome: &Outcome) -> Result<(), AllocError>
         Outcome::Changed(numbers) => append_changed(out, numbers.as_slice()),
         Outcome::Refused(refusal) => {
             out.extend_from_slice(b"NO ")?;
-            append_refusal(out, *refusal)
+            append_refusal(out, refusal)
         }
         Outcome::Stopped => out.extend_from_slice(b"Stopped."),
     }

@@ -1,8 +1,9 @@
 use Rattle.std.proofs.Common.{◌≡◌, ℕ, List, ◌∷◌, sym, ap, ◌∙◌}
-use Rattle.bug_record.specs.Bugs.{missing, first_refusal}
+use Rattle.bug_record.specs.Bugs.{first_refusal}
 use Rattle.bug_record.specs.Differences.{differing}
 use Rattle.bug_record.specs.Images.{bug_in}
 use Rattle.bug_record.specs.Sets.{has}
+use Rattle.bug_record.specs.Words.{first_bug_refusal}
 use Rattle.bug_record.specs.declared.bug.SetImage.{SetImage}
 use Rattle.bug_core.specs.Agreements.{difference_of}
 use Rattle.bug_core.specs.Others.{others}
@@ -19,14 +20,14 @@ pub returns-in-Some-first_missing : goal.returns-in-Some-first_missing
 returns-in-Some-first_missing c =
     merge-missing (difference_of c.args.agreement) c.args.images.now c.args.next c.args.first c.args.others.now
     c.in-Some.image.now c.in-Some-first_missing.refusal c.in-Some.ensures
-    (ap (λ (is : List SetImage). first_refusal missing (bug_in is) c.args.others.now) (sym c.in_ok-index.ensures)
+    (ap (λ (is : List SetImage). first_bug_refusal (bug_in is) c.args.others.now) (sym c.in_ok-index.ensures)
     ∙ sym c.first_missing.ensures ∙ c.in-Some-first_missing.is)
 
 pub returns-in-Some-first_differing : goal.returns-in-Some-first_differing
 returns-in-Some-first_differing c =
     merge-differs (difference_of c.args.agreement) c.args.images.now c.args.next c.args.first c.args.others.now
     c.in-Some.image.now c.in-Some-first_differing.refusal c.in-Some.ensures
-    (ap (λ (is : List SetImage). first_refusal missing (bug_in is) c.args.others.now) (sym c.in_ok-index.ensures)
+    (ap (λ (is : List SetImage). first_bug_refusal (bug_in is) c.args.others.now) (sym c.in_ok-index.ensures)
     ∙ sym c.first_missing.ensures ∙ c.in_default-first_missing.is)
     (ap (λ (is : List SetImage). first_refusal (differing (difference_of c.args.agreement c.in-Some.image.now.shared)) (bug_in is)
     c.args.others.now) (sym c.in_ok-index.ensures) ∙ sym c.first_differing.ensures ∙ c.in-Some-first_differing.is)
@@ -46,7 +47,7 @@ returns c =
     ∙ ap (λ (ns : List ℕ). has ns n) numbers) c.args.images.now in
     merge-done (difference_of c.args.agreement) c.args.images.now c.args.next c.args.first c.args.others.now c.in-Some.image.now
     c.requires.apart c.in-Some.ensures
-    (ap (λ (is : List SetImage). first_refusal missing (bug_in is) c.args.others.now) (sym c.in_ok-index.ensures)
+    (ap (λ (is : List SetImage). first_bug_refusal (bug_in is) c.args.others.now) (sym c.in_ok-index.ensures)
     ∙ sym c.first_missing.ensures ∙ c.in_default-first_missing.is)
     (ap (λ (is : List SetImage). first_refusal (differing (difference_of c.args.agreement c.in-Some.image.now.shared)) (bug_in is)
     c.args.others.now) (sym c.in_ok-index.ensures) ∙ sym c.first_differing.ensures ∙ c.in_default-first_differing.is)

@@ -1,8 +1,8 @@
 use Rattle.std.proofs.Common.{◌∙◌, ap}
-use Rattle.desk_store.specs.Message.{refusal_meant}
+use Rattle.desk_messages.specs.Names.{refusal_meant}
 use Rattle.desk_store.proofs.HoldsLemmas.{holds_where, holds_both}
 use Rattle.desk_messages.proofs.CommandLemmas.{shown, planned, does_planned, does_refused}
-use Rattle.desk_messages.proofs.command.take_meant.Goals as goal
+use Rattle.desk_messages.proofs.command.take_told.Goals as goal
 
 pub make_change-requires-clause-apart : goal.make_change-requires-clause-apart
 make_change-requires-clause-apart g c k h =
