@@ -16,7 +16,7 @@ use Rattle.bug_record.specs.Desk.{Desk, IsSound}
 use Rattle.bug_record.specs.Images.{bug_in, put}
 use Rattle.std.specs.Option.{option_or}
 use Rattle.bug_record.specs.Tags.{same_tag}
-use Rattle.bug_record.specs.Differences.{same_text, same_state}
+use Rattle.bug_record.specs.Differences.{same_flag, same_text, same_state}
 use Rattle.bug_record.specs.Changed.{AreChanged, same_nodes, same_tags, same_shared, same_bugs, same_at, numbers_below}
 use Rattle.bug_record.specs.Changed.{changed_numbers, Replaces}
 use Rattle.bug_record.specs.declared.bug.Bug.{Bug}
@@ -96,7 +96,7 @@ abbrev one_person : Shared → Shared → Bool
 one_person s t = same_text s.forwarded t.forwarded && same_text s.owner t.owner
 
 abbrev one_history : Shared → Shared → Bool
-one_history s t = same_nodes s.found t.found && same_nodes s.fixed t.fixed
+one_history s t = same_nodes s.found t.found && same_nodes s.fixed t.fixed && same_flag s.archived t.archived
 
 -- the tests tell equal records
 same_shared-true : (s t : Shared) → same_shared s t ≡ true → s ≡ t
@@ -107,7 +107,8 @@ same_shared-true s t e =
     let a = and_parts (bytes_eq s.«package» t.«package») (eqb (rank s.severity) (rank t.severity)) r.0 in
     let b = and_parts (one_person s t) (same_tags s.tags t.tags) q.1 in
     let c = and_parts (same_text s.forwarded t.forwarded) (same_text s.owner t.owner) b.0 in
-    let u = and_parts (same_nodes s.found t.found) (same_nodes s.fixed t.fixed) p.1 in
+    let u = and_parts (same_nodes s.found t.found && same_nodes s.fixed t.fixed) (same_flag s.archived t.archived) p.1 in
+    let w = and_parts (same_nodes s.found t.found) (same_nodes s.fixed t.fixed) u.0 in
     λ j. record {
       «package» = bytes s.«package» t.«package» a.0 j;
       severity = same_severity s.severity t.severity (eqb-true (rank s.severity) (rank t.severity) a.1) j;
@@ -115,8 +116,9 @@ same_shared-true s t e =
       forwarded = same_text-true s.forwarded t.forwarded c.0 j;
       owner = same_text-true s.owner t.owner c.1 j;
       tags = (tags_decide s.tags t.tags).0 b.1 j;
-      found = (nodes_decide s.found t.found).0 u.0 j;
-      fixed = (nodes_decide s.fixed t.fixed).0 u.1 j;
+      found = (nodes_decide s.found t.found).0 w.0 j;
+      fixed = (nodes_decide s.fixed t.fixed).0 w.1 j;
+      archived = same_closed s.archived t.archived u.1 j;
     }
 
 same_shared-refl : (s : Shared) → same_shared s s ≡ true
@@ -131,8 +133,10 @@ same_shared-refl s =
     (and_from (same_text s.forwarded s.forwarded) (same_text s.owner s.owner) (same_text-refl s.forwarded)
     (same_text-refl s.owner))
     ((tags_decide s.tags s.tags).1 refl)))
+    (and_from (same_nodes s.found s.found && same_nodes s.fixed s.fixed) (same_flag s.archived s.archived)
     (and_from (same_nodes s.found s.found) (same_nodes s.fixed s.fixed) ((nodes_decide s.found s.found).1 refl)
     ((nodes_decide s.fixed s.fixed).1 refl))
+    (closed_same s.archived))
 
 same_bugs-true : (a b : Bug) → same_bugs a b ≡ true → a ≡ b
 same_bugs-true a b e =

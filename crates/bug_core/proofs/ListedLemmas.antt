@@ -7,8 +7,8 @@ use Rattle.std.proofs.lemmas.Option.{none-some, same_Some}
 use Rattle.std.proofs.lemmas.Bool.{false≢true, eqb-true, eq-eqb, or_right}
 use Rattle.bug_record.specs.Sets.{has, Each}
 use Rattle.bug_record.specs.Desk.{Desk, IsSound}
-use Rattle.bug_record.specs.Bugs.{with_bug, bugs_at, missing, first_refusal}
-use Rattle.bug_record.specs.Words.{first_bug_refusal}
+use Rattle.bug_record.specs.Bugs.{with_bug, bugs_at, first_refusal}
+use Rattle.bug_record.specs.Words.{bug_refusal, first_bug_refusal}
 use Rattle.bug_record.specs.Images.{numbers_of, member_at, bug_of, bug_in, AreApart}
 use Rattle.bug_record.specs.Plans.{AllKnown}
 use Rattle.bug_record.specs.declared.bug.Bug.{Bug}
@@ -102,10 +102,11 @@ refusal-known refusal d is [] k = refl
 refusal-known refusal d is (n ∷ ns) k = λ j. option_or (refusal (k.0 j) n) (refusal-known refusal d is ns k.1 j)
 
 -- so do the refusals of the bugs themselves
-pub bugs_refused-known : (d : Desk) (is : List SetImage) (ns : List ℕ) → AllKnown d is ns
-    → first_bug_refusal (bug_in is) ns ≡ first_bug_refusal d.bug ns
-bugs_refused-known d is [] k = refl
-bugs_refused-known d is (n ∷ ns) k = λ j. option_or (missing (k.0 j) n) (bugs_refused-known d is ns k.1 j)
+pub bugs_refused-known : (may_be : Bool) (d : Desk) (is : List SetImage) (ns : List ℕ) → AllKnown d is ns
+    → first_bug_refusal may_be (bug_in is) ns ≡ first_bug_refusal may_be d.bug ns
+bugs_refused-known may_be d is [] k = refl
+bugs_refused-known may_be d is (n ∷ ns) k =
+    λ j. option_or (bug_refusal may_be (k.0 j) n) (bugs_refused-known may_be d is ns k.1 j)
 
 -- of a sound desk: a bug is merged with a listed one where a listed one is merged with it
 pub merged-listed : (d : Desk) (ns : List ℕ) (m : ℕ) (b : Bug) → IsSound d → d.bug m ≡ Some b

@@ -1,5 +1,5 @@
 -- Merging bugs: the joined image is that of the model's set, and the desk stays sound.
-use Rattle.std.proofs.Common.{◌≡◌, ℕ, Bool, true, false, cond, ◌||◌, eqb, List, [], ◌∷◌, Option, Some, None, Result, Ok, Err, sym}
+use Rattle.std.proofs.Common.{◌≡◌, ℕ, Bool, true, false, cond, ◌||◌, ◌&&◌, eqb, List, [], ◌∷◌, Option, Some, None, Result, Ok, Err, sym}
 use Rattle.std.proofs.Common.{refl, ap, ◌∙◌, subst}
 use Rattle.std.specs.Prelude.{option_map}
 use Rattle.std.specs.Option.{option_or}
@@ -9,9 +9,9 @@ use Rattle.ancestry.specs.Nodes.{Node, IsNode}
 use Rattle.bug_record.specs.Sets.{has, IsAscending, Each}
 use Rattle.bug_record.specs.Texts.{IsGoodText, IfGiven}
 use Rattle.bug_record.specs.Desk.{Desk, IsSound, IsGoodShared}
-use Rattle.bug_record.specs.Bugs.{at_bug, unless, missing, first_refusal, bugs_at, all_of}
+use Rattle.bug_record.specs.Bugs.{at_bug, unless, first_refusal, bugs_at, all_of}
 use Rattle.bug_record.specs.Differences.{differing}
-use Rattle.bug_record.specs.Words.{first_bug_refusal}
+use Rattle.bug_record.specs.Words.{bug_refusal, first_bug_refusal}
 use Rattle.bug_record.specs.Merges.{first_owner, joined_shared, all_merged, with_merged, sets_joined}
 use Rattle.bug_record.specs.Images.{numbers_of, member_at, bug_of, bug_in, AreApart, AreSetsOf, image_with}
 use Rattle.bug_record.specs.Plans.{AllKnown}
@@ -23,19 +23,20 @@ use Rattle.bug_record.specs.declared.command.Change.{Change}
 use Rattle.bug_record.specs.declared.command.Field.{Field}
 use Rattle.bug_record.specs.declared.command.PlanFault.TheVariants.{Refused}
 use Rattle.bug_record.specs.declared.command.Refusal.{Refusal}
-use Rattle.bug_record.specs.declared.command.Refusal.TheVariants.{NoBug}
+use Rattle.bug_record.specs.declared.command.Refusal.TheVariants.{NoBug, Archived}
 use Rattle.bug_record.proofs.SetLemmas.{IsAscending-number_set, same-ascending}
 use Rattle.bug_record.proofs.MarkLemmas.{set-node_set}
 use Rattle.bug_record.proofs.TagLemmas.{set-joined_tags}
 use Rattle.bug_record.proofs.MergeLemmas.{has-all_merged}
 use Rattle.bug_core.specs.Others.{has_any, those_meant, others}
 use Rattle.bug_core.specs.Joins.{with_members, with_all_shared}
+use Rattle.bug_core.specs.Refusals.{archived_refusal}
 use Rattle.bug_core.specs.Planned.{IsPlannedOf, IsRefusalOfPlan}
 use Rattle.bug_core.proofs.ImageLemmas.{has-member_some, has-member_none, bug_in-merged, shown, image_with-has, image_with-shows}
 use Rattle.bug_core.proofs.ImageLemmas.{image_with-none}
 use Rattle.bug_core.proofs.SoundLemmas.{agree, sound-each_bug}
 use Rattle.bug_core.proofs.ReplaceLemmas.{TakesPlace, Makes, each-append}
-use Rattle.bug_core.proofs.PlanLemmas.{Steps, planned-refused, planned-replaced}
+use Rattle.bug_core.proofs.PlanLemmas.{Steps, planned-refused, planned-replaced, own-archived}
 use Rattle.bug_core.proofs.MemberLemmas.{first_member, ascending-with_members, member-with_members, meant-nowhere, meant-inside}
 use Rattle.bug_core.proofs.MemberLemmas.{meant-outside}
 use Rattle.bug_core.proofs.ListedLemmas.{any-from, listed-of, each-listed, bugs-known, refusal-known, bugs_refused-known}
@@ -263,25 +264,25 @@ sound-joined d ns f sound good = sound-each_bug d (bug_joined merged shared) sou
 
 -- the step of the command
 abbrev merge_step : (Shared → Shared → Option Field) → ℕ → List ℕ → Desk → Result Desk Refusal
-merge_step difference n ns d = unless (first_bug_refusal d.bug (n ∷ ns)) (sets_joined difference d n ns)
+merge_step difference n ns d = unless (first_bug_refusal false d.bug (n ∷ ns)) (sets_joined difference d n ns)
 
 -- it, by what the images show of the bugs
 steps-merge : (difference : Shared → Shared → Option Field) (is : List SetImage) (next n : ℕ) (ns : List ℕ) (o : Option Bug)
     → bug_in is n ≡ o
     → Steps (n ∷ ns) (merge_step difference n ns) is next (λ d.
-    unless (option_or (missing o n) (first_bug_refusal (bug_in is) ns)) (at_bug o n (λ first.
+    unless (option_or (bug_refusal false o n) (first_bug_refusal false (bug_in is) ns)) (at_bug o n (λ first.
     unless (first_refusal (differing (difference first.shared)) (bug_in is) ns)
     (Ok (with_merged d (all_merged (bugs_at (bug_in is) (n ∷ ns)))
     (joined_shared first.shared (bugs_at (bug_in is) (n ∷ ns))))))))
 steps-merge difference is next n ns o h d e k = λ j.
-    unless (option_or (missing ((sym k.0 ∙ h) j) n) (sym (bugs_refused-known d is ns k.1) j))
+    unless (option_or (bug_refusal false ((sym k.0 ∙ h) j) n) (sym (bugs_refused-known false d is ns k.1) j))
     (at_bug ((sym k.0 ∙ h) j) n (λ first.
     unless (sym (refusal-known (differing (difference first.shared)) d is ns k.1) j)
     (Ok (with_merged d (all_merged (sym (bugs-known d is (n ∷ ns) k) j))
     (joined_shared first.shared (sym (bugs-known d is (n ∷ ns) k) j))))))
 
 pub merge-no_bug : (difference : Shared → Shared → Option Field) (is : List SetImage) (next n : ℕ) (ns : List ℕ)
-    → image_with is n ≡ None → IsPlannedOf (n ∷ ns) (λ d. sets_joined difference d n ns) is next (Err (Refused (NoBug n)))
+    → image_with is n ≡ None → IsPlannedOf false (n ∷ ns) (λ d. sets_joined difference d n ns) is next (Err (Refused (NoBug n)))
 merge-no_bug difference is next n ns h =
     planned-refused (n ∷ ns) (merge_step difference n ns) is next (NoBug n) tt
     (steps-merge difference is next n ns None (image_with-none is n h))
@@ -298,17 +299,19 @@ own-first_refusal refuse h bug (n ∷ ns) =
     either None p h k = k
     either (Some refusal) p h k = h
 
-own-missing : (bug : ℕ → Option Bug) (ns : List ℕ) (refusal : Refusal) → first_bug_refusal bug ns ≡ Some refusal
+own-refused : (bug : ℕ → Option Bug) (ns : List ℕ) (refusal : Refusal) → first_bug_refusal false bug ns ≡ Some refusal
     → IsRefusalOfPlan refusal
-own-missing bug ns refusal e = subst (IfGiven IsRefusalOfPlan) e (all ns)
+own-refused bug ns refusal e = subst (IfGiven IsRefusalOfPlan) e (all ns)
   where
-    one : (o : Option Bug) (n : ℕ) (p : Option Refusal) → IfGiven IsRefusalOfPlan p → IfGiven IsRefusalOfPlan (option_or (missing o n) p)
+    one : (o : Option Bug) (n : ℕ) (p : Option Refusal) → IfGiven IsRefusalOfPlan p
+        → IfGiven IsRefusalOfPlan (option_or (bug_refusal false o n) p)
     one None n p h = tt
-    one (Some b) n p h = h
+    one (Some b) n p h = elim (b.shared.archived && true) as (λ t. IfGiven IsRefusalOfPlan
+        (option_or (cond t (Some (Archived n)) None) p)) [ true ↦ tt | false ↦ h ]
 
-    all : (ns : List ℕ) → IfGiven IsRefusalOfPlan (first_bug_refusal bug ns)
+    all : (ns : List ℕ) → IfGiven IsRefusalOfPlan (first_bug_refusal false bug ns)
     all [] = tt
-    all (n ∷ ns) = one (bug n) n (first_bug_refusal bug ns) (all ns)
+    all (n ∷ ns) = one (bug n) n (first_bug_refusal false bug ns) (all ns)
 
 own-differing : (difference : Shared → Option Field) (bug : ℕ → Option Bug) (ns : List ℕ) (refusal : Refusal)
     → first_refusal (differing difference) bug ns ≡ Some refusal → IsRefusalOfPlan refusal
@@ -320,46 +323,61 @@ own-differing difference bug ns refusal e =
     one (Some b) n = elim (difference b.shared) as (λ f. IfGiven IsRefusalOfPlan (differing (λ _. f) (Some b) n))
         [ None ↦ tt | Some field ↦ tt ]
 
-pub merge-missing : (difference : Shared → Shared → Option Field) (is : List SetImage) (next n : ℕ) (ns : List ℕ) (i : SetImage)
-    (refusal : Refusal) → image_with is n ≡ Some i → first_bug_refusal (bug_in is) ns ≡ Some refusal
-    → IsPlannedOf (n ∷ ns) (λ d. sets_joined difference d n ns) is next (Err (Refused refusal))
-merge-missing difference is next n ns i refusal h r =
-    let b = image_with-shows is n i h in
-    planned-refused (n ∷ ns) (merge_step difference n ns) is next refusal (own-missing (bug_in is) ns refusal r)
-    (λ d e k. steps-merge difference is next n ns (Some (bug_of i b.0)) b.1 d e k
-    ∙ ap (λ (o : Option Refusal). unless o
-    (unless (first_refusal (differing (difference i.shared)) (bug_in is) ns) (Ok (after d)))) r)
-  where
-    after : Desk → Desk
-    after d = with_merged d (all_merged (bugs_at (bug_in is) (n ∷ ns))) (joined_shared i.shared (bugs_at (bug_in is) (n ∷ ns)))
+-- what follows where the first bug is there
+abbrev first_shown : (Shared → Shared → Option Field) → List SetImage → ℕ → List ℕ → SetImage → Desk → Option Refusal → Option Refusal
+    → Option Refusal → Result Desk Refusal
+first_shown difference is n ns i d archived refused differs =
+    unless (option_or archived refused) (unless differs
+    (Ok (with_merged d (all_merged (bugs_at (bug_in is) (n ∷ ns))) (joined_shared i.shared (bugs_at (bug_in is) (n ∷ ns))))))
+
+steps-shown : (difference : Shared → Shared → Option Field) (is : List SetImage) (next n : ℕ) (ns : List ℕ) (i : SetImage)
+    → image_with is n ≡ Some i
+    → Steps (n ∷ ns) (merge_step difference n ns) is next (λ d. first_shown difference is n ns i d (archived_refusal false n i.shared)
+    (first_bug_refusal false (bug_in is) ns) (first_refusal (differing (difference i.shared)) (bug_in is) ns))
+steps-shown difference is next n ns i h =
+    let b = image_with-shows is n i h in steps-merge difference is next n ns (Some (bug_of i b.0)) b.1
+
+pub merge-archived : (difference : Shared → Shared → Option Field) (is : List SetImage) (next n : ℕ) (ns : List ℕ) (i : SetImage)
+    (refusal : Refusal) → image_with is n ≡ Some i → archived_refusal false n i.shared ≡ Some refusal
+    → IsPlannedOf false (n ∷ ns) (λ d. sets_joined difference d n ns) is next (Err (Refused refusal))
+merge-archived difference is next n ns i refusal h a =
+    planned-refused (n ∷ ns) (merge_step difference n ns) is next refusal (own-archived false n i.shared refusal a)
+    (λ d e k. steps-shown difference is next n ns i h d e k
+    ∙ (λ j. first_shown difference is n ns i d (a j) (first_bug_refusal false (bug_in is) ns)
+    (first_refusal (differing (difference i.shared)) (bug_in is) ns)))
+
+pub merge-refused : (difference : Shared → Shared → Option Field) (is : List SetImage) (next n : ℕ) (ns : List ℕ) (i : SetImage)
+    (refusal : Refusal) → image_with is n ≡ Some i → archived_refusal false n i.shared ≡ None
+    → first_bug_refusal false (bug_in is) ns ≡ Some refusal
+    → IsPlannedOf false (n ∷ ns) (λ d. sets_joined difference d n ns) is next (Err (Refused refusal))
+merge-refused difference is next n ns i refusal h a r =
+    planned-refused (n ∷ ns) (merge_step difference n ns) is next refusal (own-refused (bug_in is) ns refusal r)
+    (λ d e k. steps-shown difference is next n ns i h d e k
+    ∙ (λ j. first_shown difference is n ns i d (a j) (r j) (first_refusal (differing (difference i.shared)) (bug_in is) ns)))
 
 pub merge-differs : (difference : Shared → Shared → Option Field) (is : List SetImage) (next n : ℕ) (ns : List ℕ) (i : SetImage)
-    (refusal : Refusal) → image_with is n ≡ Some i → first_bug_refusal (bug_in is) ns ≡ None
+    (refusal : Refusal) → image_with is n ≡ Some i → archived_refusal false n i.shared ≡ None
+    → first_bug_refusal false (bug_in is) ns ≡ None
     → first_refusal (differing (difference i.shared)) (bug_in is) ns ≡ Some refusal
-    → IsPlannedOf (n ∷ ns) (λ d. sets_joined difference d n ns) is next (Err (Refused refusal))
-merge-differs difference is next n ns i refusal h r q =
-    let b = image_with-shows is n i h in
+    → IsPlannedOf false (n ∷ ns) (λ d. sets_joined difference d n ns) is next (Err (Refused refusal))
+merge-differs difference is next n ns i refusal h a r q =
     planned-refused (n ∷ ns) (merge_step difference n ns) is next refusal
     (own-differing (difference i.shared) (bug_in is) ns refusal q)
-    (λ d e k. steps-merge difference is next n ns (Some (bug_of i b.0)) b.1 d e k
-    ∙ (λ j. unless (r j) (unless (q j) (Ok (after d)))))
-  where
-    after : Desk → Desk
-    after d = with_merged d (all_merged (bugs_at (bug_in is) (n ∷ ns))) (joined_shared i.shared (bugs_at (bug_in is) (n ∷ ns)))
+    (λ d e k. steps-shown difference is next n ns i h d e k ∙ (λ j. first_shown difference is n ns i d (a j) (r j) (q j)))
 
 pub merge-done : (difference : Shared → Shared → Option Field) (is : List SetImage) (next n : ℕ) (ns : List ℕ) (i : SetImage)
-    → AreApart is → image_with is n ≡ Some i → first_bug_refusal (bug_in is) ns ≡ None
+    → AreApart is → image_with is n ≡ Some i → archived_refusal false n i.shared ≡ None
+    → first_bug_refusal false (bug_in is) ns ≡ None
     → first_refusal (differing (difference i.shared)) (bug_in is) ns ≡ None
     → (change : Change) → change.images ≡ image_joined is (n ∷ ns) i ∷ others (n ∷ ns) is → change.next ≡ next
-    → IsPlannedOf (n ∷ ns) (λ d. sets_joined difference d n ns) is next (Ok change)
-merge-done difference is next n ns i a h r q =
+    → IsPlannedOf false (n ∷ ns) (λ d. sets_joined difference d n ns) is next (Ok change)
+merge-done difference is next n ns i a h out r q =
     let b = image_with-shows is n i h in
     planned-replaced (n ∷ ns) (merge_step difference n ns) is next (n ∷ ns) (image_joined is (n ∷ ns) i ∷ [])
     (bug_joined (all_merged bugs) (joined_shared i.shared bugs)) a
     (joined-takes_place is n ns i a h)
     (λ d k. k)
-    (λ d e k. steps-merge difference is next n ns (Some (bug_of i b.0)) b.1 d e k
-    ∙ (λ j. unless (r j) (unless (q j) (Ok (with_merged d (all_merged bugs) (joined_shared i.shared bugs))))))
+    (λ d e k. steps-shown difference is next n ns i h d e k ∙ (λ j. first_shown difference is n ns i d (out j) (r j) (q j)))
     (λ d sh. joined-makes d is n ns i sh.sound sh.sets sh.known a h)
     (λ d sh. subst (λ (bs : List Bug). IsSound (with_merged d (all_merged bs) (joined_shared i.shared bs)))
     (sym (bugs-known d is (n ∷ ns) sh.known))

@@ -1,16 +1,18 @@
 -- For each kind of command, that what is planned on images is its step on the desk.
+use Rattle.std.specs.Prelude.{option_map}
+use Rattle.std.proofs.Common.{Bool, ◌&&◌, not}
 use Rattle.std.proofs.Common.{◌≡◌, ℕ, true, false, cond, List, [], ◌∷◌, ◌++◌, Option, Some, None, Result, Ok, Err, refl, sym, ap}
 use Rattle.std.proofs.Common.{◌∙◌, subst, arith}
 use Rattle.std.specs.Option.{option_or}
 use Rattle.std.proofs.lemmas.Option.{none-some, same_Some}
 use Rattle.debver.specs.Names.{IsName}
 use Rattle.bug_record.specs.Desk.{Desk, IsSound}
-use Rattle.bug_record.specs.Bugs.{each_bug, at_bug, unless, missing}
-use Rattle.bug_record.specs.Words.{first_bug_refusal}
+use Rattle.bug_record.specs.Bugs.{each_bug, at_bug, unless, first_of}
+use Rattle.bug_record.specs.Words.{bug_refusal, first_bug_refusal, may_be_archived}
 use Rattle.bug_record.specs.Commands.{bug_named, HasGoodParts, HasUtf8Texts}
-use Rattle.bug_record.specs.Steps.{records_changed, change_set, shared_after, new_title, new_submitter}
+use Rattle.bug_record.specs.Steps.{own_tests, records_changed, change_set, shared_after, new_title, new_submitter}
 use Rattle.bug_record.specs.Sets.{has, Each}
-use Rattle.bug_record.specs.Texts.{IsGoodText}
+use Rattle.bug_record.specs.Texts.{IsGoodText, IfGiven}
 use Rattle.bug_record.specs.Images.{bug_of, bug_in, numbers_of, put, AreApart, AreSetsOf, image_with}
 use Rattle.bug_record.specs.Plans.{AllKnown, IsShownBy}
 use Rattle.bug_record.specs.declared.bug.Bug.{Bug}
@@ -20,7 +22,10 @@ use Rattle.bug_record.specs.declared.command.Change.{Change}
 use Rattle.bug_record.specs.declared.command.Command.{Command}
 use Rattle.bug_record.specs.declared.command.PlanFault.TheVariants.{Refused, Memory}
 use Rattle.bug_record.specs.declared.command.Refusal.{Refusal}
-use Rattle.bug_record.specs.declared.command.Refusal.TheVariants.{NoBug}
+use Rattle.bug_record.specs.declared.command.Refusal.TheVariants.{NoBug, Archived, NotArchived, NotDone, StillFound}
+use Rattle.bug_record.specs.declared.command.Command.TheVariants as commands
+use Rattle.ancestry.specs.Nodes.{Node}
+use Rattle.bug_core.specs.Refusals.{archived_refusal, records_refusal}
 use Rattle.bug_core.specs.Others.{others}
 use Rattle.bug_core.specs.Planned.{HasName, IsPlanned, IsPlannedOf, IsRefusedAs, IsRefusalOfPlan}
 use Rattle.bug_core.proofs.ImageLemmas.{shown, image_with-shows, image_with-none}
@@ -94,32 +99,114 @@ records_after sender command d =
     change_set d (bug_named command) (shared_after sender command) (new_title command) (new_submitter sender command)
 
 -- its step, and it by what is known of the bug
-abbrev pub records_step : List ℕ → Command ℕ → Desk → Result Desk Refusal
-records_step sender command d = unless (first_bug_refusal d.bug (bug_named command ∷ [])) (records_changed sender command d)
+abbrev pub records_step : Option Node → List ℕ → Command ℕ → Desk → Result Desk Refusal
+records_step head sender command d =
+    unless (first_bug_refusal (may_be_archived command) d.bug (bug_named command ∷ []))
+    (records_changed (λ _. head) sender command d)
 
-abbrev by_bug : List ℕ → Command ℕ → Option Bug → Desk → Result Desk Refusal
-by_bug sender command o d =
-    unless (option_or (missing o (bug_named command)) None)
-    (at_bug o (bug_named command) (λ _. Ok (records_after sender command d)))
+abbrev by_bug : Option Node → List ℕ → Command ℕ → Option Bug → Desk → Result Desk Refusal
+by_bug head sender command o d =
+    unless (option_or (bug_refusal (may_be_archived command) o (bug_named command)) None)
+    (at_bug o (bug_named command) (λ b. unless (first_of (own_tests command head b.shared)) (Ok (records_after sender command d))))
 
 -- by what the images show of it
-steps-shown : (sender : List ℕ) (command : Command ℕ) (is : List SetImage) (next : ℕ) (o : Option Bug)
+steps-shown : (head : Option Node) (sender : List ℕ) (command : Command ℕ) (is : List SetImage) (next : ℕ) (o : Option Bug)
     → bug_in is (bug_named command) ≡ o
-    → Steps (bug_named command ∷ []) (records_step sender command) is next (by_bug sender command o)
-steps-shown sender command is next o h d e k = ap (λ (z : Option Bug). by_bug sender command z d) (sym k.0 ∙ h)
+    → Steps (bug_named command ∷ []) (records_step head sender command) is next (by_bug head sender command o)
+steps-shown head sender command is next o h d e k = ap (λ (z : Option Bug). by_bug head sender command z d) (sym k.0 ∙ h)
 
-pub planned-records : (sender : List ℕ) (command : Command ℕ) (is : List SetImage) (next : ℕ) (i : SetImage) → IsGoodText sender
-    → HasGoodParts command → HasUtf8Texts command → AreApart is → image_with is (bug_named command) ≡ Some i
+-- two tests in turn are one
+two-tests : {A : Type 0} (o p : Option Refusal) (result : Result A Refusal)
+    → unless (option_or o None) (unless p result) ≡ unless (option_or o p) result
+two-tests None p result = refl
+two-tests (Some refusal) p result = refl
+
+-- by the refusal of the bug that the images show
+steps-refusal : (head : Option Node) (sender : List ℕ) (command : Command ℕ) (is : List SetImage) (next : ℕ) (i : SetImage)
+    (o : Option Refusal) → image_with is (bug_named command) ≡ Some i
+    → records_refusal command head (bug_named command) i.shared ≡ o
+    → Steps (bug_named command ∷ []) (records_step head sender command) is next
+    (λ d. unless o (Ok (records_after sender command d)))
+steps-refusal head sender command is next i o h r d e k =
+    let b = image_with-shows is (bug_named command) i h in
+    steps-shown head sender command is next (Some (bug_of i b.0)) b.1 d e k
+    ∙ (two-tests (archived_refusal (may_be_archived command) (bug_named command) i.shared)
+    (first_of (own_tests command head i.shared)) (Ok (records_after sender command d))
+    ∙ ap (λ (z : Option Refusal). unless z (Ok (records_after sender command d))) r)
+
+-- these refusals are a plan's
+own-either : (o p : Option Refusal) → IfGiven IsRefusalOfPlan o → IfGiven IsRefusalOfPlan p
+    → IfGiven IsRefusalOfPlan (option_or o p)
+own-either None p h k = k
+own-either (Some refusal) p h k = h
+
+archived-own : (may_be : Bool) (n : ℕ) (f : Shared) → IfGiven IsRefusalOfPlan (archived_refusal may_be n f)
+archived-own may_be n f =
+    elim (f.archived && not may_be) as (λ t. IfGiven IsRefusalOfPlan (cond t (Some (Archived n)) None))
+    [ true ↦ tt | false ↦ tt ]
+
+pub own-archived : (may_be : Bool) (n : ℕ) (f : Shared) (refusal : Refusal) → archived_refusal may_be n f ≡ Some refusal
+    → IsRefusalOfPlan refusal
+own-archived may_be n f refusal e = subst (IfGiven IsRefusalOfPlan) e (archived-own may_be n f)
+
+tests-own : (command : Command ℕ) (head : Option Node) (f : Shared)
+    → IfGiven IsRefusalOfPlan (first_of (own_tests command head f))
+tests-own (commands.Archive n) head f =
+    elim f.closed as (λ t. IfGiven IsRefusalOfPlan
+    (option_or (cond t None (Some (NotDone n))) (option_or (option_map StillFound head) None))) [
+      | true ↦ elim head as (λ h. IfGiven IsRefusalOfPlan (option_or (option_map StillFound h) None)) [ None ↦ tt | Some v ↦ tt ]
+      | false ↦ tt
+    ]
+tests-own (commands.Unarchive n) head f =
+    elim f.archived as (λ t. IfGiven IsRefusalOfPlan (option_or (cond t None (Some (NotArchived n))) None))
+    [ true ↦ tt | false ↦ tt ]
+tests-own (commands.Found n version) head f = tt
+tests-own (commands.NotFound n version) head f = tt
+tests-own (commands.Fixed n version) head f = tt
+tests-own (commands.NotFixed n version) head f = tt
+tests-own (commands.Close n version) head f = tt
+tests-own (commands.Reopen n who) head f = tt
+tests-own (commands.Severity n severity) head f = tt
+tests-own (commands.Tags n steps) head f = tt
+tests-own (commands.Retitle n text) head f = tt
+tests-own (commands.Submitter n who) head f = tt
+tests-own (commands.Reassign n package_name version) head f = tt
+tests-own (commands.Merge n ns) head f = tt
+tests-own (commands.ForceMerge n ns) head f = tt
+tests-own (commands.Unmerge n) head f = tt
+tests-own (commands.Forwarded n text) head f = tt
+tests-own (commands.NotForwarded n) head f = tt
+tests-own (commands.Owner n who) head f = tt
+tests-own (commands.NoOwner n) head f = tt
+
+-- a refusal of the bug
+pub planned-tested : (head : Option Node) (sender : List ℕ) (command : Command ℕ) (is : List SetImage) (next : ℕ) (i : SetImage)
+    (refusal : Refusal) → image_with is (bug_named command) ≡ Some i
+    → records_refusal command head (bug_named command) i.shared ≡ Some refusal
+    → IsPlannedOf (may_be_archived command) (bug_named command ∷ []) (records_changed (λ _. head) sender command) is next
+    (Err (Refused refusal))
+planned-tested head sender command is next i refusal h r =
+    planned-refused (bug_named command ∷ []) (records_step head sender command) is next refusal
+    (subst (IfGiven IsRefusalOfPlan) r
+    (own-either (archived_refusal (may_be_archived command) (bug_named command) i.shared)
+    (first_of (own_tests command head i.shared)) (archived-own (may_be_archived command) (bug_named command) i.shared)
+    (tests-own command head i.shared)))
+    (steps-refusal head sender command is next i (Some refusal) h r)
+
+pub planned-records : (head : Option Node) (sender : List ℕ) (command : Command ℕ) (is : List SetImage) (next : ℕ) (i : SetImage)
+    → IsGoodText sender → HasGoodParts command → HasUtf8Texts command → AreApart is
+    → image_with is (bug_named command) ≡ Some i → records_refusal command head (bug_named command) i.shared ≡ None
     → (change : Change) → change.images
     ≡ image_after i (shared_after sender command) (new_title command) (new_submitter sender command) ∷ others
     (bug_named command ∷ []) is → change.next ≡ next
-    → IsPlannedOf (bug_named command ∷ []) (records_changed sender command) is next (Ok change)
-planned-records sender command is next i text good utf8 a h =
-    planned-replaced (bug_named command ∷ []) (records_step sender command) is next (bug_named command ∷ [])
+    → IsPlannedOf (may_be_archived command) (bug_named command ∷ []) (records_changed (λ _. head) sender command) is next
+    (Ok change)
+planned-records head sender command is next i text good utf8 a h r =
+    planned-replaced (bug_named command ∷ []) (records_step head sender command) is next (bug_named command ∷ [])
     (image_after i f title who ∷ []) (bug_after (bug_named command) f title who) a
     (set-takes_place is (bug_named command) i f title who a h)
     (λ d k. k)
-    (let b = image_with-shows is (bug_named command) i h in steps-shown sender command is next (Some (bug_of i b.0)) b.1)
+    (steps-refusal head sender command is next i None h r)
     (λ d sh. set-makes d is (bug_named command) i f title who a h)
     (λ d sh. sound-change_set d (bug_named command) f title who sh.sound
     (record {
@@ -139,12 +226,13 @@ planned-records sender command is next i text good utf8 a h =
     who = new_submitter sender command
 
 -- a bug in no image is refused
-pub planned-no_bug : (sender : List ℕ) (command : Command ℕ) (is : List SetImage) (next : ℕ)
+pub planned-no_bug : (head : Option Node) (sender : List ℕ) (command : Command ℕ) (is : List SetImage) (next : ℕ)
     → image_with is (bug_named command) ≡ None
-    → IsPlannedOf (bug_named command ∷ []) (records_changed sender command) is next (Err (Refused (NoBug (bug_named command))))
-planned-no_bug sender command is next h =
-    planned-refused (bug_named command ∷ []) (records_step sender command) is next (NoBug (bug_named command)) tt
-    (steps-shown sender command is next None (image_with-none is (bug_named command) h))
+    → IsPlannedOf (may_be_archived command) (bug_named command ∷ []) (records_changed (λ _. head) sender command) is next
+    (Err (Refused (NoBug (bug_named command))))
+planned-no_bug head sender command is next h =
+    planned-refused (bug_named command ∷ []) (records_step head sender command) is next (NoBug (bug_named command)) tt
+    (steps-shown head sender command is next None (image_with-none is (bug_named command) h))
 
 -- no desk shows an image whose package is no package name
 has_name : (is : List SetImage) (n : ℕ) (i : SetImage) → image_with is n ≡ Some i → Each HasName is → IsName i.shared.«package»

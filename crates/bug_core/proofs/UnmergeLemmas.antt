@@ -7,8 +7,8 @@ use Rattle.std.proofs.lemmas.Option.{none-some}
 use Rattle.std.proofs.lemmas.Bool.{false≢true, eqb-true, eq-eqb, and_parts, false_from_ne_true}
 use Rattle.bug_record.specs.Sets.{has, IsAscending}
 use Rattle.bug_record.specs.Desk.{Desk, IsSound}
-use Rattle.bug_record.specs.Bugs.{at_bug, unless, missing}
-use Rattle.bug_record.specs.Words.{first_bug_refusal}
+use Rattle.bug_record.specs.Bugs.{at_bug, unless}
+use Rattle.bug_record.specs.Words.{bug_refusal, first_bug_refusal}
 use Rattle.bug_record.specs.Merges.{parted, others_merged, taken_out, unmerged}
 use Rattle.bug_record.specs.Images.{numbers_of, member_at, bug_of, bug_in, AreApart, AreSetsOf, image_with}
 use Rattle.bug_record.specs.declared.bug.Bug.{Bug}
@@ -21,12 +21,13 @@ use Rattle.bug_record.specs.declared.command.Refusal.TheVariants.{NoBug, NotMerg
 use Rattle.bug_record.proofs.SetLemmas.{has-filter, IsAscending-filter, same-ascending, one_number}
 use Rattle.bug_core.specs.Others.{others}
 use Rattle.bug_core.specs.Joins.{is_part}
+use Rattle.bug_core.specs.Refusals.{archived_refusal}
 use Rattle.bug_core.specs.Planned.{IsPlannedOf}
 use Rattle.bug_core.proofs.ImageLemmas.{same_value, member-has, has-member_some, shown, image_with-has, image_with-shows}
 use Rattle.bug_core.proofs.ImageLemmas.{image_with-none, image_with-lacks, image_with-bug, image_with-member}
 use Rattle.bug_core.proofs.SoundLemmas.{agree, merged-back, sound-each_bug}
 use Rattle.bug_core.proofs.ReplaceLemmas.{TakesPlace, Makes, one_of, apart-replaced}
-use Rattle.bug_core.proofs.PlanLemmas.{Steps, planned-refused, planned-replaced}
+use Rattle.bug_core.proofs.PlanLemmas.{Steps, planned-refused, planned-replaced, own-archived}
 
 -- the images of the two parts
 abbrev pub part_of : SetImage → Bool → ℕ → SetImage
@@ -301,28 +302,39 @@ taken-some d n (m ∷ rest) some = refl
 
 -- the step of the command, and it by what is known of the bug
 abbrev unmerge_step : ℕ → Desk → Result Desk Refusal
-unmerge_step n d = unless (first_bug_refusal d.bug (n ∷ [])) (unmerged d n)
+unmerge_step n d = unless (first_bug_refusal false d.bug (n ∷ [])) (unmerged d n)
 
 abbrev by_bug : Desk → ℕ → Option Bug → Result Desk Refusal
-by_bug d n o = unless (option_or (missing o n) None) (at_bug o n (λ b. taken_out d n (others_merged n b.merged)))
+by_bug d n o = unless (option_or (bug_refusal false o n) None) (at_bug o n (λ b. taken_out d n (others_merged n b.merged)))
 
 steps-unmerge : (is : List SetImage) (next n : ℕ) (i : SetImage) → image_with is n ≡ Some i
-    → Steps (n ∷ []) (unmerge_step n) is next (λ d. taken_out d n (others_merged n (numbers_of i.members)))
+    → Steps (n ∷ []) (unmerge_step n) is next
+    (λ d. unless (option_or (archived_refusal false n i.shared) None) (taken_out d n (others_merged n (numbers_of i.members))))
 steps-unmerge is next n i h d e k =
     let b = image_with-shows is n i h in
     ap (by_bug d n) (sym k.0 ∙ b.1)
 
+pub unmerge-archived : (is : List SetImage) (next n : ℕ) (i : SetImage) (refusal : Refusal) → image_with is n ≡ Some i
+    → archived_refusal false n i.shared ≡ Some refusal
+    → IsPlannedOf false (n ∷ []) (λ d. unmerged d n) is next (Err (Refused refusal))
+unmerge-archived is next n i refusal h r =
+    planned-refused (n ∷ []) (unmerge_step n) is next refusal (own-archived false n i.shared refusal r)
+    (λ d e k. steps-unmerge is next n i h d e k
+    ∙ ap (λ (o : Option Refusal). unless (option_or o None) (taken_out d n (others_merged n (numbers_of i.members)))) r)
+
 pub unmerge-no_bug : (is : List SetImage) (next n : ℕ) → image_with is n ≡ None
-    → IsPlannedOf (n ∷ []) (λ d. unmerged d n) is next (Err (Refused (NoBug n)))
+    → IsPlannedOf false (n ∷ []) (λ d. unmerged d n) is next (Err (Refused (NoBug n)))
 unmerge-no_bug is next n h =
     planned-refused (n ∷ []) (unmerge_step n) is next (NoBug n) tt
     (λ d e k. ap (by_bug d n) (sym k.0 ∙ image_with-none is n h))
 
-pub unmerge-alone : (is : List SetImage) (next n : ℕ) (i : SetImage) → image_with is n ≡ Some i → (part_of i false n).members ≡ []
-    → IsPlannedOf (n ∷ []) (λ d. unmerged d n) is next (Err (Refused (NotMerged n)))
-unmerge-alone is next n i h none =
+pub unmerge-alone : (is : List SetImage) (next n : ℕ) (i : SetImage) → image_with is n ≡ Some i
+    → archived_refusal false n i.shared ≡ None → (part_of i false n).members ≡ []
+    → IsPlannedOf false (n ∷ []) (λ d. unmerged d n) is next (Err (Refused (NotMerged n)))
+unmerge-alone is next n i h r none =
     planned-refused (n ∷ []) (unmerge_step n) is next (NotMerged n) tt
     (λ d e k. steps-unmerge is next n i h d e k
+    ∙ ap (λ (o : Option Refusal). unless (option_or o None) (taken_out d n (others_merged n (numbers_of i.members)))) r
     ∙ taken-none d n (others_merged n (numbers_of i.members)) (sym (numbers-rest n i.members) ∙ ap numbers_of none))
 
 no_numbers : (ms : List Member) → numbers_of ms ≡ [] → ms ≡ []
@@ -337,15 +349,16 @@ pub parts-apart : (is : List SetImage) (n : ℕ) (i : SetImage) → AreApart is 
 parts-apart is n i a h some = apart-replaced is (n ∷ []) (parts i n) a (parts-take_place is n i a h some)
 
 pub unmerge-done : (is : List SetImage) (next n : ℕ) (i : SetImage) → AreApart is → image_with is n ≡ Some i
-    → ((part_of i false n).members ≡ [] → ⊥)
+    → archived_refusal false n i.shared ≡ None → ((part_of i false n).members ≡ [] → ⊥)
     → (change : Change) → change.images ≡ parts i n ++ others (n ∷ []) is → change.next ≡ next
-    → IsPlannedOf (n ∷ []) (λ d. unmerged d n) is next (Ok change)
-unmerge-done is next n i a h some =
+    → IsPlannedOf false (n ∷ []) (λ d. unmerged d n) is next (Ok change)
+unmerge-done is next n i a h r some =
     planned-replaced (n ∷ []) (unmerge_step n) is next (n ∷ []) (parts i n)
     (bug_parted n (others_merged n (numbers_of i.members))) a
     (parts-take_place is n i a h some)
     (λ d k. k)
     (λ d e k. steps-unmerge is next n i h d e k
+    ∙ ap (λ (o : Option Refusal). unless (option_or o None) (taken_out d n (others_merged n (numbers_of i.members)))) r
     ∙ taken-some d n (others_merged n (numbers_of i.members))
     (λ q. some (no_numbers (part_of i false n).members (numbers-rest n i.members ∙ q))))
     (λ d sh. parts-make d is n i sh.sound sh.sets a h)

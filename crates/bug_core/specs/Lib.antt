@@ -1,5 +1,6 @@
 pub mod Planned
 -- definitions that only private functions cite
+pub mod Refusals
 pub mod Others
 pub mod Index
 pub mod Named

@@ -1,10 +1,13 @@
 -- What is promised of the plan of each command.
-use Rattle.std.specs.Prelude.{ℕ, ◌≡◌, ◌≤◌, List, Result, Ok, Err, IfOk, IfErr, ⊤}
+use Rattle.std.specs.Prelude.{ℕ, ◌≡◌, ◌≤◌, Bool, List, Option, Result, Ok, Err, IfOk, IfErr, ⊤}
 use Rattle.debver.specs.Names.{IsName}
 use Rattle.bug_record.specs.Sets.{Each}
 use Rattle.bug_record.specs.Desk.{Desk}
 use Rattle.bug_record.specs.Bugs.{unless}
+use Rattle.ancestry.specs.Nodes.{Node}
 use Rattle.bug_record.specs.Words.{first_bug_refusal}
+use Rattle.bug_record.specs.Steps.{step_by}
+use Rattle.bug_record.specs.declared.command.Command.{Command}
 use Rattle.bug_record.specs.Images.{AreApart, HasMember, FitsDesk}
 use Rattle.bug_record.specs.Plans.{AllKnown, IsShownBy, IsPlanOf, CoverImages, BringNone}
 use Rattle.bug_record.specs.declared.bug.SetImage.{SetImage}
@@ -13,7 +16,8 @@ use Rattle.bug_record.specs.declared.command.PlanFault.{PlanFault}
 use Rattle.bug_record.specs.declared.command.PlanFault.TheVariants.{Refused, Memory}
 use Rattle.bug_record.specs.declared.command.Refusal.{Refusal}
 use Rattle.bug_record.specs.declared.command.Refusal.TheVariants.{Unknown, Malformed, TooLong, BadSeverity, BadTag, BadVersion}
-use Rattle.bug_record.specs.declared.command.Refusal.TheVariants.{BadPackage, NoName, NoBug, Differ, NotMerged}
+use Rattle.bug_record.specs.declared.command.Refusal.TheVariants.{BadPackage, NoName, NoBug, Archived, NotArchived, Differ}
+use Rattle.bug_record.specs.declared.command.Refusal.TheVariants.{NotMerged, NotDone, StillFound}
 
 -- The answer is a refusal exactly where the step is one, and the same; out of memory is always
 -- allowed.
@@ -25,12 +29,16 @@ IsRefusedAs (Err r) (Ok change) = ⊥
 IsRefusedAs (Err r) (Err (Refused refusal)) = r ≡ refusal
 IsRefusedAs (Err r) (Err Memory) = Unit {0}
 
--- The refusals of a plan: a bug is not there, one that is to be merged differs, or one is merged
--- with no other.
+-- The refusals of a plan: a bug is not there, or is archived or is not, one that is to be merged
+-- differs, one is merged with no other, or one that is to be archived is open or still found.
 abbrev pub IsRefusalOfPlan : Refusal → Type 0
 IsRefusalOfPlan (NoBug n) = ⊤
+IsRefusalOfPlan (Archived n) = ⊤
+IsRefusalOfPlan (NotArchived n) = ⊤
 IsRefusalOfPlan (Differ field n) = ⊤
 IsRefusalOfPlan (NotMerged n) = ⊤
+IsRefusalOfPlan (NotDone n) = ⊤
+IsRefusalOfPlan (StillFound node) = ⊤
 IsRefusalOfPlan Unknown = ⊥
 IsRefusalOfPlan Malformed = ⊥
 IsRefusalOfPlan TooLong = ⊥
@@ -65,7 +73,12 @@ pub record IsPlanned (named : List ℕ) (after : Desk → Result Desk Refusal) (
   pub covers : IfOk result (λ change. CoverImages images change.images)
   pub later : IfOk result (λ change. next ≤ change.next)
 
--- what is planned for a command of these bugs that comes to this where all of them are there
-abbrev pub IsPlannedOf : List ℕ → (Desk → Result Desk Refusal) → List SetImage → ℕ → Result Change PlanFault → Type 0
-IsPlannedOf named own images next result =
-    IsPlanned named (λ d. unless (first_bug_refusal d.bug named) (own d)) images next result
+-- the step of a command over numbers, of whose bug this is the open head
+abbrev pub step_with : Option Node → List ℕ → Command ℕ → Desk → Result Desk Refusal
+step_with head sender command d = step_by (λ n. Ok n) (λ _. head) d sender command
+
+-- What is planned for a command of these bugs that comes to this where all of them are there, and
+-- none is archived that may not be.
+abbrev pub IsPlannedOf : Bool → List ℕ → (Desk → Result Desk Refusal) → List SetImage → ℕ → Result Change PlanFault → Type 0
+IsPlannedOf may_be named own images next result =
+    IsPlanned named (λ d. unless (first_bug_refusal may_be d.bug named) (own d)) images next result

@@ -22,6 +22,7 @@ shared_of_report package_name severity found =
       found =
           found;
       fixed = [];
+      archived = false;
     }
 
 abbrev pub image_of_report : List ℕ → List ℕ → Severity → List ℕ → Option Node → ℕ → SetImage

@@ -17,7 +17,7 @@ pub(crate) fn find_member(members: &[Member], number: u64) -> Option<&Member>
 }
 
 /// The image that has the bug.
-pub(crate) fn find(images: &[SetImage], number: u64) -> Option<&SetImage>
+pub fn find_image(images: &[SetImage], number: u64) -> Option<&SetImage>
     ensures { MatchOption result (image_with images.now number ≡ None) (λ i. image_with images.now number ≡ Some i.now) }
 {
     images.iter().find(|image| image.has(number))

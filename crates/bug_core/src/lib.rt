@@ -13,6 +13,7 @@ mod laws;
 mod merges;
 mod named;
 mod plans;
+mod refusals;
 mod report;
 mod unmerge;
 
@@ -21,6 +22,7 @@ pub use bug_record::{
     Sequence, SetImage, Severity, Shared, Tag, TagStep, Tags, VersionArg, Who, is_text,
 };
 pub use changes::changed;
+pub use images::find_image;
 pub use laws::changed_numbers_differ;
 pub use named::{bug_named, other_bugs};
 pub use plans::plan;

@@ -1,20 +1,21 @@
 //! The commands `merge` and `forcemerge`.
 
-ghost use Rattle.std.specs.Prelude.{◌≡◌, ◌∷◌, [], IfOk, OnOk};
+ghost use Rattle.std.specs.Prelude.{◌≡◌, ◌∷◌, [], false, IfOk, OnOk};
 ghost use Rattle.bug_record.specs.Bugs.{first_refusal};
 ghost use Rattle.bug_record.specs.Differences.{differing};
 ghost use Rattle.bug_record.specs.Images.{bug_in, AreApart};
 ghost use Rattle.bug_record.specs.Merges.{sets_joined};
 ghost use Rattle.bug_record.specs.Sets.{with_item};
-ghost use Rattle.bug_record.specs.Words.{first_bug_refusal};
+ghost use Rattle.bug_record.specs.Words.{bug_refusal, first_bug_refusal};
 ghost use Rattle.bug_core.specs.Agreements.{difference_of};
 ghost use Rattle.bug_core.specs.Joins.{with_items};
 ghost use Rattle.bug_core.specs.Planned.{IsPlannedOf};
 
 use crate::equal::same_text;
-use crate::images::{Named, find, replace_by_one};
+use crate::images::{Named, find_image, replace_by_one};
 use crate::index::Index;
 use crate::joins::joined_image;
+use crate::refusals::archived_refusal;
 use bug_record::{Change, Field, Numbers, PlanFault, Refusal, SetImage, Shared};
 use std::alloc::{AllocError, Global};
 use std::collections::BTreeSet;
@@ -47,13 +48,23 @@ fn difference(agreement: Agreement, first: &Shared, shared: &Shared) -> Option<F
     }
 }
 
-// The refusal of the first bug that is not there.
-fn first_missing(index: &Index, numbers: &[u64]) -> Option<Refusal>
-    ensures { result ≡ first_bug_refusal (bug_in index.now) numbers.now }
+// The refusal of a bug that is not there, or is archived.
+fn bug_refusal(index: &Index, number: u64) -> Option<Refusal>
+    ensures { result ≡ bug_refusal false (bug_in index.now number) number }
+{
+    match index.find_bug(number) {
+        Some((image, _)) => archived_refusal(false, number, &image.shared),
+        None => Some(Refusal::NoBug(number)),
+    }
+}
+
+// The refusal of the first such bug.
+fn first_refused(index: &Index, numbers: &[u64]) -> Option<Refusal>
+    ensures { result ≡ first_bug_refusal false (bug_in index.now) numbers.now }
 {
     for number in numbers {
-        if index.find_bug(*number).is_none() {
-            return Some(Refusal::NoBug(*number));
+        if let Some(refusal) = bug_refusal(index, *number) {
+            return Some(refusal);
         }
     }
     None
@@ -125,14 +136,17 @@ pub(crate) fn plan_merge(
     next: u64,
 ) -> Result<Change, PlanFault>
     requires apart { AreApart images.now }
-    ensures { IsPlannedOf (first ∷ others.now) (λ d. sets_joined (difference_of agreement) d first others.now) images.now next
+    ensures { IsPlannedOf false (first ∷ others.now) (λ d. sets_joined (difference_of agreement) d first others.now) images.now next
         result }
 {
-    let Some(image) = find(images, first) else {
+    let Some(image) = find_image(images, first) else {
         return Err(PlanFault::Refused(Refusal::NoBug(first)));
     };
+    if let Some(refusal) = archived_refusal(false, first, &image.shared) {
+        return Err(PlanFault::Refused(refusal));
+    }
     let index = Index::of(alloc, images)?;
-    if let Some(refusal) = first_missing(&index, others) {
+    if let Some(refusal) = first_refused(&index, others) {
         return Err(PlanFault::Refused(refusal));
     }
     if let Some(refusal) = first_differing(agreement, &image.shared, &index, others) {

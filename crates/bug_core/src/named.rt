@@ -2,6 +2,7 @@
 
 ghost use Rattle.std.specs.Prelude.{◌≡◌};
 ghost use Rattle.bug_record.specs.Commands.{bug_named, other_bugs};
+ghost use Rattle.bug_record.specs.Words.{may_be_archived};
 
 use bug_record::Command;
 
@@ -27,7 +28,9 @@ pub fn bug_named(command: &Command<u64>) -> u64
         | Command::Forwarded(number, _)
         | Command::NotForwarded(number)
         | Command::Owner(number, _)
-        | Command::NoOwner(number) => *number,
+        | Command::NoOwner(number)
+        | Command::Archive(number)
+        | Command::Unarchive(number) => *number,
     }
 }
 
@@ -39,5 +42,15 @@ pub fn other_bugs(command: &Command<u64>) -> &[u64]
     match command {
         Command::Merge(_, numbers) | Command::ForceMerge(_, numbers) => numbers.as_slice(),
         _ => &[],
+    }
+}
+
+/// Whether the bugs that a command names may be archived: the bug of `unarchive` alone.
+pub(crate) fn may_be_archived(command: &Command<u64>) -> bool
+    ensures { result ≡ may_be_archived command.now }
+{
+    match command {
+        Command::Unarchive(_) => true,
+        _ => false,
     }
 }

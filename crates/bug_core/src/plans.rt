@@ -1,52 +1,109 @@
 //! What a command does, planned on the images of the sets of merged bugs that it names.
 
-ghost use Rattle.std.specs.Prelude.{◌≡◌, ◌≤◌, ◌∷◌, [], IfOk, IfErr};
+ghost use Rattle.std.specs.Prelude.{◌≡◌, ◌≤◌, ◌∷◌, [], map, IfOk, IfErr, Option, Some, None};
+ghost use Rattle.ancestry.specs.Nodes.{Node};
 ghost use Rattle.bug_record.specs.Sets.{Each};
 ghost use Rattle.bug_record.specs.Texts.{IsText};
 ghost use Rattle.bug_record.specs.Desk.{Desk};
 ghost use Rattle.bug_record.specs.Commands.{HasGoodParts, bug_named, bugs_named};
 ghost use Rattle.bug_record.specs.Steps.{step_of_numbers, records_changed};
-ghost use Rattle.bug_record.specs.Images.{AreApart, HasMember, FitsDesk};
-ghost use Rattle.bug_record.specs.Plans.{AllKnown, IsShownBy, IsPlanFor, CoverImages, BringNone};
-ghost use Rattle.bug_core.specs.Planned.{HasName, IsRefusedAs, IsFaultOfPlan, IsPlanned, IsPlannedOf};
+ghost use Rattle.bug_record.specs.Images.{AreApart, HasMember, FitsDesk, image_with};
+ghost use Rattle.bug_record.specs.Plans.{AllKnown, IsShownBy, IsOpenHeadFor, IsPlanFor, CoverImages, BringNone};
+ghost use Rattle.bug_record.specs.Words.{may_be_archived};
+ghost use Rattle.std.specs.Option.{option_copied};
+ghost use Rattle.record_changes.specs.Members.{member_after};
+ghost use Rattle.bug_core.specs.Others.{others};
+ghost use Rattle.bug_core.specs.Refusals.{records_refusal};
+ghost use Rattle.bug_core.specs.Planned.{step_with, HasName, IsRefusedAs, IsFaultOfPlan, IsPlanned, IsPlannedOf};
 
-use crate::images::{Named, find, replace_by_one};
+use crate::images::{Named, find_image, replace_by_one};
 use crate::merges::{Agreement, plan_merge};
 use crate::named::bug_named;
+use crate::refusals::records_refusal;
 use crate::unmerge::plan_unmerge;
-use bug_record::{Change, Command, PlanFault, Refusal, SetImage};
+use ancestry::Node;
+use bug_record::{Change, Command, PlanFault, Refusal, SetImage, Shared};
 use record_changes::{members_with, shared_after};
-use std::alloc::Global;
+use std::alloc::{AllocError, Global};
 
-// What a command does to the records of the set of the bug that it names. No set changes.
-fn plan_records(
+// The change that gives the bug's set these shared fields, and its members what the command gives
+// them.
+fn changed_set(
     alloc: Global,
     command: &Command<u64>,
     from: &str,
+    image: &SetImage,
+    shared: Shared,
+    images: &[SetImage],
+    next: u64,
+) -> Result<Change, AllocError>
+    ensures images { IfOk result (λ change. change.images
+        ≡ record { shared = shared; members = map (member_after from.now command.now image.now.shared) image.now.members }
+        ∷ others (bug_named command.now ∷ []) images.now) }
+    ensures next { IfOk result (λ change. change.next ≡ next) }
+{
+    let members = members_with(alloc, command, from, &image.shared, &image.members)?;
+    let image = SetImage { shared, members };
+    let named = Named::One(bug_named(command));
+    replace_by_one(alloc, image, images, named, next)
+}
+
+// What a command does to the records of the set of the bug that it names, where no test refuses it.
+// No set changes.
+fn change_records(
+    alloc: Global,
+    command: &Command<u64>,
+    from: &str,
+    image: &SetImage,
     images: &[SetImage],
     next: u64,
 ) -> Result<Change, PlanFault>
     requires sender { IsText from.now }
     requires parts { HasGoodParts command.now }
     requires apart { AreApart images.now }
-    ensures { IsPlannedOf (bug_named command.now ∷ []) (records_changed from.now command.now) images.now next result }
+    requires named { image_with images.now (bug_named command.now) ≡ Some image.now }
+    ensures { (head : Option Node) → records_refusal command.now head (bug_named command.now) image.now.shared ≡ None
+        → IsPlannedOf (may_be_archived command.now) (bug_named command.now ∷ [])
+        (records_changed (λ _. head) from.now command.now) images.now next result }
 {
-    let number = bug_named(command);
-    let Some(image) = find(images, number) else {
-        return Err(PlanFault::Refused(Refusal::NoBug(number)));
-    };
-    let old = &image.shared;
-    let shared = match shared_after(alloc, command, from, old) {
+    let shared = match shared_after(alloc, command, from, &image.shared) {
         Ok(shared) => shared,
         Err(PlanFault::Memory) => return Err(PlanFault::Memory),
         // The image's package is no package name: no desk has such a bug.
-        Err(PlanFault::Refused(_)) => return Err(PlanFault::Refused(Refusal::NoBug(number))),
+        Err(PlanFault::Refused(_)) => {
+            return Err(PlanFault::Refused(Refusal::NoBug(bug_named(command))));
+        }
     };
     command.texts_are_utf8();
-    let members = members_with(alloc, command, from, old, &image.members)?;
-    let image = SetImage { shared, members };
-    let named = Named::One(number);
-    Ok(replace_by_one(alloc, image, images, named, next)?)
+    match changed_set(alloc, command, from, image, shared, images, next) {
+        Ok(change) => Ok(change),
+        Err(_) => Err(PlanFault::Memory),
+    }
+}
+
+// What a command comes to that changes records of the set of the bug that it names.
+fn plan_records(
+    alloc: Global,
+    command: &Command<u64>,
+    from: &str,
+    images: &[SetImage],
+    next: u64,
+    open_head: Option<&Node>,
+) -> Result<Change, PlanFault>
+    requires sender { IsText from.now }
+    requires parts { HasGoodParts command.now }
+    requires apart { AreApart images.now }
+    ensures { IsPlannedOf (may_be_archived command.now) (bug_named command.now ∷ [])
+        (records_changed (λ _. option_copied open_head.entry) from.now command.now) images.now next result }
+{
+    let number = bug_named(command);
+    let Some(image) = find_image(images, number) else {
+        return Err(PlanFault::Refused(Refusal::NoBug(number)));
+    };
+    if let Some(refusal) = records_refusal(command, open_head, number, &image.shared)? {
+        return Err(PlanFault::Refused(refusal));
+    }
+    change_records(alloc, command, from, image, images, next)
 }
 
 // What a command does, by its kind.
@@ -56,11 +113,13 @@ fn plan_command(
     from: &str,
     images: &[SetImage],
     next: u64,
+    open_head: Option<&Node>,
 ) -> Result<Change, PlanFault>
     requires sender { IsText from.now }
     requires parts { HasGoodParts command.now }
     requires apart { AreApart images.now }
-    ensures { IsPlanned (bugs_named command.now) (λ d. step_of_numbers d from.now command.now) images.now next result }
+    ensures { IsPlanned (bugs_named command.now) (step_with (option_copied open_head.entry) from.now command.now) images.now
+        next result }
 {
     match command {
         Command::Merge(number, others) => {
@@ -72,7 +131,7 @@ fn plan_command(
             plan_merge(alloc, package, *number, others.as_slice(), images, next)
         }
         Command::Unmerge(number) => plan_unmerge(alloc, *number, images, next),
-        _ => plan_records(alloc, command, from, images, next),
+        _ => plan_records(alloc, command, from, images, next, open_head),
     }
 }
 
@@ -80,6 +139,8 @@ fn plan_command(
 /// The images show the desk's sets of merged bugs that have a bug which the command names; more
 /// sets may be among them.
 /// `from` is the sender, and `next` the desk's next number.
+/// `open_head` is asked for by `archive` alone: the first head of the bug's package, in node order,
+/// at which the bug is still found, if there is one.
 /// The command's versions, package names and texts are within their limits.
 ///
 /// The change's images are those handed in that have a member, with what the command does to them:
@@ -88,9 +149,13 @@ fn plan_command(
 /// # Errors
 ///
 /// `Refused(NoBug(n))` where the command names a bug n that is in no image: n may be any number.
+/// `Refused(Archived(n))` where a bug that it names is archived, unless it is `unarchive`.
+/// The bugs are tested from the left, and the first that is refused decides.
+/// Then `Refused(NotArchived(n))` where a bug is to be taken out of the archive and is not there;
 /// `Refused(Differ(field, n))` where the bug n is to be merged and differs from the first one in a
-/// field that has to be equal, and `Refused(NotMerged(n))` where a bug is to be taken out of its
-/// set and is merged with no other.
+/// field that has to be equal; `Refused(NotMerged(n))` where a bug is to be taken out of its set
+/// and is merged with no other; `Refused(NotDone(n))` where a bug is to be archived and is open,
+/// and else `Refused(StillFound(node))` where there is an open head.
 /// There is no other refusal: where the command has a version for an image whose package is no
 /// package name, as no desk shows one, it is `Refused(NoBug(n))` of the bug named.
 /// `Memory` where there was none.
@@ -100,13 +165,16 @@ pub fn plan(
     from: &str,
     images: &[SetImage],
     next: u64,
+    open_head: Option<&Node>,
 ) -> Result<Change, PlanFault>
     requires sender { IsText from.now }
     requires parts { HasGoodParts command.now }
     requires apart { AreApart images.now }
-    ensures right { (d : Desk) → IsShownBy d images.now next (bugs_named command.now) → IsPlanFor d from.now command.now result }
+    ensures right { (d : Desk) → IsShownBy d images.now next (bugs_named command.now)
+        → IsOpenHeadFor d command.now (option_copied open_head.entry) → IsPlanFor d from.now command.now result }
     ensures fits { (d : Desk) → IsShownBy d images.now next (bugs_named command.now) → IfOk result (λ change. FitsDesk d change) }
     ensures refusals { (d : Desk) → d.next ≡ next → AllKnown d images.now (bugs_named command.now) → Each HasName images.now
+        → IsOpenHeadFor d command.now (option_copied open_head.entry)
         → IsRefusedAs (step_of_numbers d from.now command.now) result }
     ensures own { IfErr result IsFaultOfPlan }
     ensures apart { (d : Desk) → IsShownBy d images.now next (bugs_named command.now)
@@ -117,5 +185,5 @@ pub fn plan(
         → IfOk result (λ change. BringNone d images.now change.images) }
     ensures later { IfOk result (λ change. next ≤ change.next) }
 {
-    plan_command(alloc, command, from, images, next)
+    plan_command(alloc, command, from, images, next, open_head)
 }

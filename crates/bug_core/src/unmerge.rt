@@ -1,12 +1,13 @@
 //! The command `unmerge`.
 
-ghost use Rattle.std.specs.Prelude.{◌≡◌, ◌∷◌, [], filter, IfOk};
+ghost use Rattle.std.specs.Prelude.{◌≡◌, ◌∷◌, [], filter, false, IfOk};
 ghost use Rattle.bug_record.specs.Images.{AreApart};
 ghost use Rattle.bug_record.specs.Merges.{unmerged};
 ghost use Rattle.bug_core.specs.Joins.{is_part};
 ghost use Rattle.bug_core.specs.Planned.{IsPlannedOf};
 
-use crate::images::{Named, find, replace};
+use crate::images::{Named, find_image, replace};
+use crate::refusals::archived_refusal;
 use bug_record::{Change, Member, Members, PlanFault, Refusal, Sequence, SetImage, Shared};
 use std::alloc::{AllocError, Global};
 
@@ -70,12 +71,15 @@ pub(crate) fn plan_unmerge(
     next: u64,
 ) -> Result<Change, PlanFault>
     requires apart { AreApart images.now }
-    ensures planned { IsPlannedOf (number ∷ []) (λ d. unmerged d number) images.now next result }
+    ensures planned { IsPlannedOf false (number ∷ []) (λ d. unmerged d number) images.now next result }
     ensures apart { IfOk result (λ change. AreApart change.images) }
 {
-    let Some(image) = find(images, number) else {
+    let Some(image) = find_image(images, number) else {
         return Err(PlanFault::Refused(Refusal::NoBug(number)));
     };
+    if let Some(refusal) = archived_refusal(false, number, &image.shared) {
+        return Err(PlanFault::Refused(refusal));
+    }
     let members = image.members.as_slice();
     let rest = part(alloc, false, number, members)?;
     if rest.as_slice().is_empty() {

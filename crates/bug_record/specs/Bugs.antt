@@ -20,10 +20,10 @@ abbrev pub unless : {A : Type 0} → Option Refusal → Result A Refusal → Res
 unless None result = result
 unless (Some refusal) result = Err refusal
 
--- the refusal of a bug that is not there
-abbrev pub missing : Option Bug → ℕ → Option Refusal
-missing None n = Some (NoBug n)
-missing (Some b) n = None
+-- the first refusal of those that tests come to, in the order of the tests
+abbrev pub first_of : List (Option Refusal) → Option Refusal
+first_of [] = None
+first_of (refusal ∷ refusals) = option_or refusal (first_of refusals)
 
 -- the first refusal of those that a list of bugs has, each by its number, from the left
 abbrev pub first_refusal : (Option Bug → ℕ → Option Refusal) → (ℕ → Option Bug) → List ℕ → Option Refusal

@@ -6,7 +6,7 @@ use Rattle.std.specs.Cmp.Lexicographic.{pointwise}
 use Rattle.ancestry.specs.Nodes.{Node, same_node}
 use Rattle.bug_record.specs.Severities.{rank}
 use Rattle.bug_record.specs.Tags.{same_tag}
-use Rattle.bug_record.specs.Differences.{same_text, same_state}
+use Rattle.bug_record.specs.Differences.{same_flag, same_text, same_state}
 use Rattle.bug_record.specs.Sets.{has, IsAscending}
 use Rattle.bug_record.specs.Desk.{Desk, IsSound}
 use Rattle.bug_record.specs.Images.{AreSetsOf, put}
@@ -27,7 +27,7 @@ abbrev pub same_shared : Shared → Shared → Bool
 same_shared s t =
     (bytes_eq s.package t.package && (rank s.severity == rank t.severity)) && same_state s t
     && (same_text s.forwarded t.forwarded && same_text s.owner t.owner && same_tags s.tags t.tags)
-    && (same_nodes s.found t.found && same_nodes s.fixed t.fixed)
+    && (same_nodes s.found t.found && same_nodes s.fixed t.fixed && same_flag s.archived t.archived)
 
 abbrev pub same_bugs : Bug → Bug → Bool
 same_bugs a b = (bytes_eq a.title b.title && bytes_eq a.submitter b.submitter)

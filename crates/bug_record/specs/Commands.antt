@@ -49,6 +49,8 @@ HasGoodParts (commands.Forwarded n text) = IsText text
 HasGoodParts (commands.NotForwarded n) = ⊤
 HasGoodParts (commands.Owner n who) = IsGoodPerson who
 HasGoodParts (commands.NoOwner n) = ⊤
+HasGoodParts (commands.Archive n) = ⊤
+HasGoodParts (commands.Unarchive n) = ⊤
 
 abbrev pub IsUtf8Person : Who → Type 0
 IsUtf8Person Sender = ⊤
@@ -74,6 +76,8 @@ HasUtf8Texts (commands.ForceMerge n ns) = ⊤
 HasUtf8Texts (commands.Unmerge n) = ⊤
 HasUtf8Texts (commands.NotForwarded n) = ⊤
 HasUtf8Texts (commands.NoOwner n) = ⊤
+HasUtf8Texts (commands.Archive n) = ⊤
+HasUtf8Texts (commands.Unarchive n) = ⊤
 
 -- the bug that a command names first
 abbrev pub bug_named : {N : Type 0} → Command N → N
@@ -95,6 +99,8 @@ bug_named (commands.Forwarded n text) = n
 bug_named (commands.NotForwarded n) = n
 bug_named (commands.Owner n who) = n
 bug_named (commands.NoOwner n) = n
+bug_named (commands.Archive n) = n
+bug_named (commands.Unarchive n) = n
 
 -- the bugs that it names besides
 abbrev pub other_bugs : {N : Type 0} → Command N → List N
@@ -116,6 +122,8 @@ other_bugs (commands.Forwarded n text) = []
 other_bugs (commands.NotForwarded n) = []
 other_bugs (commands.Owner n who) = []
 other_bugs (commands.NoOwner n) = []
+other_bugs (commands.Archive n) = []
+other_bugs (commands.Unarchive n) = []
 
 -- the bugs that a command names, in the order written
 abbrev pub bugs_named : {N : Type 0} → Command N → List N
@@ -141,3 +149,5 @@ command_over f (commands.Forwarded n text) = commands.Forwarded (f n) text
 command_over f (commands.NotForwarded n) = commands.NotForwarded (f n)
 command_over f (commands.Owner n who) = commands.Owner (f n) who
 command_over f (commands.NoOwner n) = commands.NoOwner (f n)
+command_over f (commands.Archive n) = commands.Archive (f n)
+command_over f (commands.Unarchive n) = commands.Unarchive (f n)

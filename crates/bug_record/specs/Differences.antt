@@ -16,9 +16,12 @@ same_text None (Some t) = false
 same_text (Some s) None = false
 same_text (Some s) (Some t) = bytes_eq s t
 
+abbrev pub same_flag : Bool → Bool → Bool
+same_flag a b = if a then b else not b
+
 -- both are open, or both are closed
 abbrev pub same_state : Shared → Shared → Bool
-same_state s t = if s.closed then t.closed else not t.closed
+same_state s t = same_flag s.closed t.closed
 
 -- the first field in which a bug differs from the first one, where all four have to be equal
 abbrev pub first_difference : Shared → Shared → Option Field

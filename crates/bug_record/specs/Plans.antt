@@ -1,5 +1,7 @@
 -- What is planned for a command on the images of sets, and what that says of a desk.
-use Rattle.std.specs.Prelude.{ℕ, ◌≡◌, List, [], ◌∷◌, Some, None, Result, Ok, Err, ⊤}
+use Rattle.std.specs.Prelude.{ℕ, ◌≡◌, List, [], ◌∷◌, Option, Some, None, Result, Ok, Err, ⊤}
+use Rattle.ancestry.specs.Nodes.{Node}
+use Rattle.bug_record.specs.Heads.{open_head}
 use Rattle.bug_record.specs.Desk.{Desk, IsSound}
 use Rattle.bug_record.specs.Steps.{step_of_numbers}
 use Rattle.bug_record.specs.Images.{bug_in, put, AreSetsOf}
@@ -7,6 +9,7 @@ use Rattle.bug_record.specs.declared.bug.Bug.{Bug}
 use Rattle.bug_record.specs.declared.bug.SetImage.{SetImage}
 use Rattle.bug_record.specs.declared.command.Change.{Change}
 use Rattle.bug_record.specs.declared.command.Command.{Command}
+use Rattle.bug_record.specs.declared.command.Command.TheVariants as commands
 use Rattle.bug_record.specs.declared.command.Refusal.{Refusal}
 use Rattle.bug_record.specs.declared.command.PlanFault.{PlanFault}
 use Rattle.bug_record.specs.declared.command.PlanFault.TheVariants.{Refused, Memory}
@@ -23,6 +26,11 @@ pub record IsShownBy (d : Desk) (is : List SetImage) (next : ℕ) (ns : List ℕ
   pub next_is : d.next ≡ next
   pub sets : AreSetsOf d is
   pub known : AllKnown d is ns
+
+-- of the bug that a command is to archive, this is the open head
+abbrev pub IsOpenHeadFor : Desk → Command ℕ → Option Node → Type 0
+IsOpenHeadFor d (commands.Archive n) head = (b : Bug) → d.bug n ≡ Some b → head ≡ open_head d.tree b.shared
+IsOpenHeadFor d command head = ⊤
 
 -- What is answered is what a step comes to, whose result is `after`: the same refusal, or a change
 -- that leaves the step's desk, which is sound.

@@ -2,7 +2,7 @@
 -- `found n v` opens a bug, and what an open bug's `reopen` and a `reassign` to the bug's own
 -- package do, is this project's own rule).
 use Rattle.std.specs.Prelude.{ℕ, ◌+◌, ◌==◌, ◌&&◌, false, true, List, [], ◌∷◌, Option, Some, None, Result, Ok, unwrap_or}
-use Rattle.std.specs.Prelude.{if◌then◌else◌}
+use Rattle.std.specs.Prelude.{option_map, if◌then◌else◌}
 use Rattle.std.specs.Str.{bytes_eq}
 use Rattle.line_words.specs.declared.named.Named.{Named}
 use Rattle.ancestry.specs.Nodes.{Node}
@@ -11,8 +11,9 @@ use Rattle.bug_record.specs.Marks.{with_node, without_node, is_below_some}
 use Rattle.bug_record.specs.Tags.{with_tag, without_tag}
 use Rattle.bug_record.specs.Desk.{Desk}
 use Rattle.bug_record.specs.Commands.{node_meant, person, bug_named, bugs_named, command_over}
-use Rattle.bug_record.specs.Bugs.{each_bug, at_bug, unless}
-use Rattle.bug_record.specs.Words.{Names, meaning, first_word_refusal, number_by}
+use Rattle.bug_record.specs.Bugs.{each_bug, at_bug, unless, first_of}
+use Rattle.bug_record.specs.Words.{Names, meaning, first_word_refusal, may_be_archived, number_by}
+use Rattle.bug_record.specs.Heads.{open_head}
 use Rattle.bug_record.specs.Differences.{first_difference, package_difference}
 use Rattle.bug_record.specs.Merges.{sets_joined, unmerged}
 use Rattle.bug_record.specs.declared.bug.Bug.{Bug}
@@ -24,6 +25,7 @@ use Rattle.bug_record.specs.declared.command.VersionArg.{VersionArg}
 use Rattle.bug_record.specs.declared.command.TagStep.{TagStep}
 use Rattle.bug_record.specs.declared.command.TagStep.TheVariants.{Add, Remove, Clear}
 use Rattle.bug_record.specs.declared.command.Refusal.{Refusal}
+use Rattle.bug_record.specs.declared.command.Refusal.TheVariants.{NotArchived, NotDone, StillFound}
 use Rattle.bug_record.specs.declared.tag.Tag.{Tag}
 
 -- marked as found at n, and not as fixed there
@@ -81,6 +83,8 @@ shared_after sender (commands.Forwarded n text) f = record f { forwarded = Some 
 shared_after sender (commands.NotForwarded n) f = record f { forwarded = None }
 shared_after sender (commands.Owner n who) f = record f { owner = Some (person sender who) }
 shared_after sender (commands.NoOwner n) f = record f { owner = None }
+shared_after sender (commands.Archive n) f = record f { archived = true }
+shared_after sender (commands.Unarchive n) f = record f { archived = false }
 shared_after sender (commands.Retitle n text) f = f
 shared_after sender (commands.Submitter n who) f = f
 shared_after sender (commands.Merge n ns) f = f
@@ -107,6 +111,8 @@ new_title (commands.Forwarded n text) m = None
 new_title (commands.NotForwarded n) m = None
 new_title (commands.Owner n who) m = None
 new_title (commands.NoOwner n) m = None
+new_title (commands.Archive n) m = None
+new_title (commands.Unarchive n) m = None
 
 -- the new submitter of the bug m, where a command gives one: of the bug that it names alone, or of
 -- each closed bug that is reopened by somebody
@@ -130,6 +136,8 @@ new_submitter sender (commands.Forwarded n text) f m = None
 new_submitter sender (commands.NotForwarded n) f m = None
 new_submitter sender (commands.Owner n who) f m = None
 new_submitter sender (commands.NoOwner n) f m = None
+new_submitter sender (commands.Archive n) f m = None
+new_submitter sender (commands.Unarchive n) f m = None
 
 -- a change to the record of every bug m that is merged with n: of its shared fields, and of its
 -- title and its submitter, where there is a new one
@@ -140,46 +148,57 @@ change_set d n f title who = each_bug d (λ m b. record b {
   submitter = if has b.merged n then unwrap_or (who b.shared m) b.submitter else b.submitter;
 })
 
--- a command that changes records, and no set
-abbrev pub records_changed : List ℕ → Command ℕ → Desk → Result Desk Refusal
-records_changed sender command d =
-    at_bug (d.bug (bug_named command)) (bug_named command)
-    (λ _. Ok (change_set d (bug_named command) (shared_after sender command) (new_title command) (new_submitter sender command)))
+-- What a command's own tests come to, in their order, of a bug with these shared fields of which
+-- this is the open head.
+abbrev pub own_tests : Command ℕ → Option Node → Shared → List (Option Refusal)
+own_tests (commands.Archive n) head f = (if f.closed then None else Some (NotDone n)) ∷ option_map StillFound head ∷ []
+own_tests (commands.Unarchive n) head f = (if f.archived then None else Some (NotArchived n)) ∷ []
+own_tests command head f = []
 
--- what a command of this sender comes to, whose bugs are there
-abbrev pub carried_out : Desk → List ℕ → Command ℕ → Result Desk Refusal
-carried_out d sender (commands.Merge n ns) = sets_joined first_difference d n ns
-carried_out d sender (commands.ForceMerge n ns) = sets_joined package_difference d n ns
-carried_out d sender (commands.Unmerge n) = unmerged d n
-carried_out d sender (commands.Found n version) = records_changed sender (commands.Found n version) d
-carried_out d sender (commands.NotFound n version) = records_changed sender (commands.NotFound n version) d
-carried_out d sender (commands.Fixed n version) = records_changed sender (commands.Fixed n version) d
-carried_out d sender (commands.NotFixed n version) = records_changed sender (commands.NotFixed n version) d
-carried_out d sender (commands.Close n version) = records_changed sender (commands.Close n version) d
-carried_out d sender (commands.Reopen n who) = records_changed sender (commands.Reopen n who) d
-carried_out d sender (commands.Severity n severity) = records_changed sender (commands.Severity n severity) d
-carried_out d sender (commands.Tags n steps) = records_changed sender (commands.Tags n steps) d
-carried_out d sender (commands.Retitle n text) = records_changed sender (commands.Retitle n text) d
-carried_out d sender (commands.Submitter n who) = records_changed sender (commands.Submitter n who) d
-carried_out d sender (commands.Reassign n package_name version) = records_changed sender (commands.Reassign n package_name version) d
-carried_out d sender (commands.Forwarded n text) = records_changed sender (commands.Forwarded n text) d
-carried_out d sender (commands.NotForwarded n) = records_changed sender (commands.NotForwarded n) d
-carried_out d sender (commands.Owner n who) = records_changed sender (commands.Owner n who) d
-carried_out d sender (commands.NoOwner n) = records_changed sender (commands.NoOwner n) d
+-- a command that changes records, and no set
+abbrev pub records_changed : (Shared → Option Node) → List ℕ → Command ℕ → Desk → Result Desk Refusal
+records_changed head sender command d =
+    at_bug (d.bug (bug_named command)) (bug_named command)
+    (λ b. unless (first_of (own_tests command (head b.shared) b.shared))
+    (Ok (change_set d (bug_named command) (shared_after sender command) (new_title command) (new_submitter sender command))))
+
+-- what a command of this sender comes to, whose bugs are there and have these open heads
+abbrev pub carried_out : (Shared → Option Node) → Desk → List ℕ → Command ℕ → Result Desk Refusal
+carried_out head d sender (commands.Merge n ns) = sets_joined first_difference d n ns
+carried_out head d sender (commands.ForceMerge n ns) = sets_joined package_difference d n ns
+carried_out head d sender (commands.Unmerge n) = unmerged d n
+carried_out head d sender (commands.Found n version) = records_changed head sender (commands.Found n version) d
+carried_out head d sender (commands.NotFound n version) = records_changed head sender (commands.NotFound n version) d
+carried_out head d sender (commands.Fixed n version) = records_changed head sender (commands.Fixed n version) d
+carried_out head d sender (commands.NotFixed n version) = records_changed head sender (commands.NotFixed n version) d
+carried_out head d sender (commands.Close n version) = records_changed head sender (commands.Close n version) d
+carried_out head d sender (commands.Reopen n who) = records_changed head sender (commands.Reopen n who) d
+carried_out head d sender (commands.Severity n severity) = records_changed head sender (commands.Severity n severity) d
+carried_out head d sender (commands.Tags n steps) = records_changed head sender (commands.Tags n steps) d
+carried_out head d sender (commands.Retitle n text) = records_changed head sender (commands.Retitle n text) d
+carried_out head d sender (commands.Submitter n who) = records_changed head sender (commands.Submitter n who) d
+carried_out head d sender (commands.Reassign n package_name version) = records_changed head sender (commands.Reassign n package_name version) d
+carried_out head d sender (commands.Forwarded n text) = records_changed head sender (commands.Forwarded n text) d
+carried_out head d sender (commands.NotForwarded n) = records_changed head sender (commands.NotForwarded n) d
+carried_out head d sender (commands.Owner n who) = records_changed head sender (commands.Owner n who) d
+carried_out head d sender (commands.NoOwner n) = records_changed head sender (commands.NoOwner n) d
+carried_out head d sender (commands.Archive n) = records_changed head sender (commands.Archive n) d
+carried_out head d sender (commands.Unarchive n) = records_changed head sender (commands.Unarchive n) d
 
 -- The new desk, or the refusal, of a command by this sender whose bug words mean this: the first
 -- refusal of a bug word, or else what the command comes to.
-abbrev pub step_by : {N : Type 0} → (N → Result ℕ Refusal) → Desk → List ℕ → Command N → Result Desk Refusal
-step_by means d sender command =
-    unless (first_word_refusal means d.bug (bugs_named command)) (carried_out d sender (command_over (number_by means) command))
+abbrev pub step_by : {N : Type 0} → (N → Result ℕ Refusal) → (Shared → Option Node) → Desk → List ℕ → Command N → Result Desk Refusal
+step_by means head d sender command =
+    unless (first_word_refusal (may_be_archived command) means d.bug (bugs_named command))
+    (carried_out head d sender (command_over (number_by means) command))
 
 -- of a command over bug words, where these names are known
 abbrev pub step : Names → Desk → List ℕ → Command Named → Result Desk Refusal
-step names d sender command = step_by (meaning names) d sender command
+step names d sender command = step_by (meaning names) (open_head d.tree) d sender command
 
 -- of a command over numbers
 abbrev pub step_of_numbers : Desk → List ℕ → Command ℕ → Result Desk Refusal
-step_of_numbers d sender command = step_by (λ n. Ok n) d sender command
+step_of_numbers d sender command = step_by (λ n. Ok n) (open_head d.tree) d sender command
 
 -- the found marks of a new report
 abbrev pub found_first : Option Node → List Node
@@ -202,6 +221,7 @@ new_bug number sender package_name severity title node = record {
         [];
     found = found_first node;
     fixed = [];
+    archived = false;
   };
   merged = number ∷ [];
 }

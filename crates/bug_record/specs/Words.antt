@@ -1,14 +1,16 @@
 -- Bug words: what they mean, and the refusals that they get before anything else of their command
 -- is looked at. This project's own rule.
-use Rattle.std.specs.Prelude.{ℕ, ◌==◌, List, [], ◌∷◌, Option, Some, None, Result, Ok, Err, ok_or, if◌then◌else◌}
+use Rattle.std.specs.Prelude.{ℕ, ◌==◌, ◌&&◌, Bool, true, false, not, List, [], ◌∷◌, Option, Some, None, Result, Ok, Err, ok_or}
+use Rattle.std.specs.Prelude.{if◌then◌else◌}
 use Rattle.std.specs.Option.{option_or}
 use Rattle.std.specs.Result.{result_unwrap_or}
 use Rattle.line_words.specs.declared.named.Named.{Named}
 use Rattle.line_words.specs.declared.named.Named.TheVariants.{Number, Name}
-use Rattle.bug_record.specs.Bugs.{missing}
 use Rattle.bug_record.specs.declared.bug.Bug.{Bug}
+use Rattle.bug_record.specs.declared.command.Command.{Command}
+use Rattle.bug_record.specs.declared.command.Command.TheVariants as commands
 use Rattle.bug_record.specs.declared.command.Refusal.{Refusal}
-use Rattle.bug_record.specs.declared.command.Refusal.TheVariants.{NoName}
+use Rattle.bug_record.specs.declared.command.Refusal.TheVariants.{NoName, NoBug, Archived}
 
 -- the names that are known, each with the number that it stands for
 abbrev pub Names : Type 0
@@ -23,19 +25,30 @@ abbrev pub meaning : Names → Named → Result ℕ Refusal
 meaning names (Number n) = Ok n
 meaning names (Name k) = ok_or (number_of_name names k) (NoName k)
 
--- the refusal of a bug word that means this: there is no such name, or no such bug
-abbrev pub word_refusal : (ℕ → Option Bug) → Result ℕ Refusal → Option Refusal
-word_refusal bug (Err refusal) = Some refusal
-word_refusal bug (Ok n) = missing (bug n) n
+-- The refusal of a bug: it is not there, or it is archived and may not be.
+abbrev pub bug_refusal : Bool → Option Bug → ℕ → Option Refusal
+bug_refusal may_be None n = Some (NoBug n)
+bug_refusal may_be (Some b) n = if b.shared.archived && not may_be then Some (Archived n) else None
+
+-- the refusal of a bug word that means this: there is no such name, or the refusal of the bug
+abbrev pub word_refusal : Bool → (ℕ → Option Bug) → Result ℕ Refusal → Option Refusal
+word_refusal may_be bug (Err refusal) = Some refusal
+word_refusal may_be bug (Ok n) = bug_refusal may_be (bug n) n
 
 -- the first refusal of bug words, from the left
-abbrev pub first_word_refusal : {N : Type 0} → (N → Result ℕ Refusal) → (ℕ → Option Bug) → List N → Option Refusal
-first_word_refusal means bug [] = None
-first_word_refusal means bug (word ∷ words) = option_or (word_refusal bug (means word)) (first_word_refusal means bug words)
+abbrev pub first_word_refusal : {N : Type 0} → Bool → (N → Result ℕ Refusal) → (ℕ → Option Bug) → List N → Option Refusal
+first_word_refusal may_be means bug [] = None
+first_word_refusal may_be means bug (word ∷ words) =
+    option_or (word_refusal may_be bug (means word)) (first_word_refusal may_be means bug words)
 
 -- the first refusal of bugs that are given as numbers
-abbrev pub first_bug_refusal : (ℕ → Option Bug) → List ℕ → Option Refusal
-first_bug_refusal bug ns = first_word_refusal (λ n. Ok n) bug ns
+abbrev pub first_bug_refusal : Bool → (ℕ → Option Bug) → List ℕ → Option Refusal
+first_bug_refusal may_be bug ns = first_word_refusal may_be (λ n. Ok n) bug ns
+
+-- whether the bugs that a command names may be archived: the bug of `unarchive` alone
+abbrev pub may_be_archived : {N : Type 0} → Command N → Bool
+may_be_archived (commands.Unarchive n) = true
+may_be_archived command = false
 
 -- the number that a bug word means, where it means one
 abbrev pub number_by : {N : Type 0} → (N → Result ℕ Refusal) → N → ℕ

@@ -26,6 +26,7 @@ pub struct Shared {
     pub found: Nodes,
     /// The nodes that are marked as not having it.
     pub fixed: Nodes,
+    pub archived: bool,
 }
 
 /// A bug of a set, with the fields of its own.
@@ -85,6 +86,7 @@ impl Shared {
             tags: self.tags.copy()?,
             found: self.found.copy()?,
             fixed: self.fixed.copy()?,
+            archived: self.archived,
         })
     }
 }

@@ -8,6 +8,7 @@ use crate::bug::SetImage;
 use crate::sequence::Sequence;
 use crate::severity::Severity;
 use crate::tag::Tag;
+use ancestry::Node;
 use debver::Text;
 use std::alloc::AllocError;
 
@@ -86,6 +87,11 @@ pub enum Command<N> {
     Owner(N, Who),
     /// `noowner n`: nobody works on the bug.
     NoOwner(N),
+    /// `archive n`: puts a bug into the archive that is closed, and found in no head of its
+    /// package. Until it is taken out no command but `unarchive` changes it.
+    Archive(N),
+    /// `unarchive n`: takes the bug out of the archive.
+    Unarchive(N),
 }
 
 // A text is UTF-8, as the `str` that it keeps.
@@ -127,7 +133,9 @@ impl Command<u64> {
             | Command::ForceMerge(_, _)
             | Command::Unmerge(_)
             | Command::NotForwarded(_)
-            | Command::NoOwner(_) => {}
+            | Command::NoOwner(_)
+            | Command::Archive(_)
+            | Command::Unarchive(_) => {}
         }
     }
 }
@@ -163,10 +171,19 @@ pub enum Refusal {
     NoName(u64),
     /// There is no bug of this number.
     NoBug(u64),
+    /// The bug is archived.
+    Archived(u64),
+    /// The bug that is to be taken out of the archive is not there.
+    NotArchived(u64),
     /// The bug differs in this field from the first bug that is to be merged.
     Differ(Field, u64),
     /// The bug is merged with no other.
     NotMerged(u64),
+    /// The bug that is to be archived is open.
+    NotDone(u64),
+    /// The bug that is to be archived is still found at this node, the first such head of its
+    /// package.
+    StillFound(Node),
 }
 
 /// Why nothing is planned.

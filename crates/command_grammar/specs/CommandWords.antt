@@ -12,7 +12,7 @@ all_command_words =
     ∷ command_words.Reopen ∷ command_words.Severity ∷ command_words.Tags ∷ command_words.Tag ∷ command_words.Retitle
     ∷ command_words.Submitter ∷ command_words.Reassign ∷ command_words.Merge ∷ command_words.ForceMerge
     ∷ command_words.Unmerge ∷ command_words.Forwarded ∷ command_words.NotForwarded ∷ command_words.Owner
-    ∷ command_words.NoOwner ∷ []
+    ∷ command_words.NoOwner ∷ command_words.Archive ∷ command_words.Unarchive ∷ []
 
 abbrev pub command_name : CommandWord → List ℕ
 command_name command_words.Found = codes "found"
@@ -34,6 +34,8 @@ command_name command_words.Forwarded = codes "forwarded"
 command_name command_words.NotForwarded = codes "notforwarded"
 command_name command_words.Owner = codes "owner"
 command_name command_words.NoOwner = codes "noowner"
+command_name command_words.Archive = codes "archive"
+command_name command_words.Unarchive = codes "unarchive"
 
 -- the command that a word is, in any ASCII case
 abbrev pub command_word : List ℕ → Option CommandWord

@@ -210,3 +210,5 @@ command_of command_words.Forwarded arguments =
 command_of command_words.NotForwarded arguments = and_read (bug_alone (words arguments)) (λ bug. Ok (commands.NotForwarded bug))
 command_of command_words.Owner arguments = and_read (bug_and_some_who arguments) (λ both. Ok (commands.Owner both.0 both.1))
 command_of command_words.NoOwner arguments = and_read (bug_alone (words arguments)) (λ bug. Ok (commands.NoOwner bug))
+command_of command_words.Archive arguments = and_read (bug_alone (words arguments)) (λ bug. Ok (commands.Archive bug))
+command_of command_words.Unarchive arguments = and_read (bug_alone (words arguments)) (λ bug. Ok (commands.Unarchive bug))

@@ -28,10 +28,12 @@ pub enum CommandWord {
     NotForwarded,
     Owner,
     NoOwner,
+    Archive,
+    Unarchive,
 }
 
 // All words of commands.
-const ALL: [CommandWord; 19] = [
+const ALL: [CommandWord; 21] = [
     CommandWord::Found,
     CommandWord::NotFound,
     CommandWord::Fixed,
@@ -51,6 +53,8 @@ const ALL: [CommandWord; 19] = [
     CommandWord::NotForwarded,
     CommandWord::Owner,
     CommandWord::NoOwner,
+    CommandWord::Archive,
+    CommandWord::Unarchive,
 ];
 
 impl CommandWord {
@@ -85,6 +89,8 @@ impl CommandWord {
             CommandWord::NotForwarded => "notforwarded",
             CommandWord::Owner => "owner",
             CommandWord::NoOwner => "noowner",
+            CommandWord::Archive => "archive",
+            CommandWord::Unarchive => "unarchive",
         }
     }
 }

@@ -63,5 +63,7 @@ pub fn read_command(
         CommandWord::NotForwarded => Ok(Command::NotForwarded(bug_alone(arguments)?)),
         CommandWord::Owner => read_owner(alloc, arguments),
         CommandWord::NoOwner => Ok(Command::NoOwner(bug_alone(arguments)?)),
+        CommandWord::Archive => Ok(Command::Archive(bug_alone(arguments)?)),
+        CommandWord::Unarchive => Ok(Command::Unarchive(bug_alone(arguments)?)),
     }
 }

@@ -363,3 +363,9 @@ command_of-good command_words.Owner arguments clean =
 command_of-good command_words.NoOwner arguments clean =
     and_read-good (bug_alone (words arguments)) (λ bug. Ok (commands.NoOwner bug)) IsGoodBug IsWellFormed
     (bug_alone-good (words arguments)) (λ bug good. record { bugs = (good, tt); parts = tt; spellable = tt })
+command_of-good command_words.Archive arguments clean =
+    and_read-good (bug_alone (words arguments)) (λ bug. Ok (commands.Archive bug)) IsGoodBug IsWellFormed
+    (bug_alone-good (words arguments)) (λ bug good. record { bugs = (good, tt); parts = tt; spellable = tt })
+command_of-good command_words.Unarchive arguments clean =
+    and_read-good (bug_alone (words arguments)) (λ bug. Ok (commands.Unarchive bug)) IsGoodBug IsWellFormed
+    (bug_alone-good (words arguments)) (λ bug good. record { bugs = (good, tt); parts = tt; spellable = tt })

@@ -213,6 +213,10 @@ command_of-of command_words.Owner arguments =
     and_read-of (bug_and_some_who arguments) _ (bug_and_some_who-of arguments) (λ both. tt)
 command_of-of command_words.NoOwner arguments =
     and_read-of (bug_alone (words arguments)) _ (bug_alone-of (words arguments)) (λ bug. tt)
+command_of-of command_words.Archive arguments =
+    and_read-of (bug_alone (words arguments)) _ (bug_alone-of (words arguments)) (λ bug. tt)
+command_of-of command_words.Unarchive arguments =
+    and_read-of (bug_alone (words arguments)) _ (bug_alone-of (words arguments)) (λ bug. tt)
 
 abbrev as_line : Command Named → Result Line Refusal
 as_line meant = Ok (Do meant)

@@ -190,6 +190,12 @@ owner_word = record { some = refl; whole = refl; clean = refl; hash = refl; stop
 noowner_word : IsCommandWord command_words.NoOwner (codes "noowner")
 noowner_word = record { some = refl; whole = refl; clean = refl; hash = refl; stop = refl; thank = refl; is = refl }
 
+archive_word : IsCommandWord command_words.Archive (codes "archive")
+archive_word = record { some = refl; whole = refl; clean = refl; hash = refl; stop = refl; thank = refl; is = refl }
+
+unarchive_word : IsCommandWord command_words.Unarchive (codes "unarchive")
+unarchive_word = record { some = refl; whole = refl; clean = refl; hash = refl; stop = refl; thank = refl; is = refl }
+
 -- a bug and a version, or perhaps a version
 by_version : (command : CommandWord) (w : List ℕ) (make : Named → VersionArg → Command Named) (n : Named) (v : VersionArg)
     → IsCommandWord command w
@@ -320,6 +326,10 @@ spaced-read (commands.Owner n who) good =
     by_who command_words.Owner (codes "owner") commands.Owner n who owner_word (λ s. refl) good.bugs.0 good.parts good.spellable
 spaced-read (commands.NoOwner n) good =
     by_bug command_words.NoOwner (codes "noowner") commands.NoOwner n noowner_word (λ s. refl) good.bugs.0
+spaced-read (commands.Archive n) good =
+    by_bug command_words.Archive (codes "archive") commands.Archive n archive_word (λ s. refl) good.bugs.0
+spaced-read (commands.Unarchive n) good =
+    by_bug command_words.Unarchive (codes "unarchive") commands.Unarchive n unarchive_word (λ s. refl) good.bugs.0
 
 pub spelling-read : (c : Command Named) → IsWellFormed c → reading (spelling c) ≡ Ok (Do c)
 unfolding spelling

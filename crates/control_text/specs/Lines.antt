@@ -6,7 +6,8 @@ use Rattle.line_words.specs.Blanks.{is_control}
 use Rattle.line_words.specs.AnyCase.{is_word}
 use Rattle.bug_record.specs.declared.command.Refusal.{Refusal}
 use Rattle.bug_record.specs.declared.command.Refusal.TheVariants.{Unknown, Malformed, TooLong, BadSeverity, BadTag, BadVersion}
-use Rattle.bug_record.specs.declared.command.Refusal.TheVariants.{BadPackage, NoName, NoBug, Differ, NotMerged}
+use Rattle.bug_record.specs.declared.command.Refusal.TheVariants.{BadPackage, NoName, NoBug, Differ}
+use Rattle.bug_record.specs.declared.command.Refusal.TheVariants.{Archived, NotArchived, NotMerged, NotDone, StillFound}
 use Rattle.line_words.specs.Words.{words, first_word, after_word}
 use Rattle.command_grammar.specs.CommandWords.{command_word}
 use Rattle.command_grammar.specs.Commands.{and_read, command_of}
@@ -64,7 +65,11 @@ IsRefusalOfLine BadPackage = ⊤
 IsRefusalOfLine (NoName k) = ⊥
 IsRefusalOfLine (NoBug n) = ⊥
 IsRefusalOfLine (Differ field n) = ⊥
+IsRefusalOfLine (Archived n) = ⊥
+IsRefusalOfLine (NotArchived n) = ⊥
 IsRefusalOfLine (NotMerged n) = ⊥
+IsRefusalOfLine (NotDone n) = ⊥
+IsRefusalOfLine (StillFound node) = ⊥
 
 -- the line's first word is a command
 abbrev pub BeginsWithCommand : List ℕ → Type 0

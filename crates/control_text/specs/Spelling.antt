@@ -71,6 +71,8 @@ spelled_words (commands.Forwarded bug text) = codes "forwarded" ∷ bug_text bug
 spelled_words (commands.NotForwarded bug) = codes "notforwarded" ∷ bug_text bug ∷ []
 spelled_words (commands.Owner bug who) = codes "owner" ∷ bug_text bug ∷ who_text who ∷ []
 spelled_words (commands.NoOwner bug) = codes "noowner" ∷ bug_text bug ∷ []
+spelled_words (commands.Archive bug) = codes "archive" ∷ bug_text bug ∷ []
+spelled_words (commands.Unarchive bug) = codes "unarchive" ∷ bug_text bug ∷ []
 
 unfoldable pub spelling : Command Named → List ℕ
 spelling command = joined_by_blanks (spelled_words command)

@@ -42,6 +42,8 @@ IsSpellable (commands.Unmerge bug) = ⊤
 IsSpellable (commands.Forwarded bug text) = ⊤
 IsSpellable (commands.NotForwarded bug) = ⊤
 IsSpellable (commands.NoOwner bug) = ⊤
+IsSpellable (commands.Archive bug) = ⊤
+IsSpellable (commands.Unarchive bug) = ⊤
 
 -- The bugs' numbers or names, and the versions, names and texts, are within their limits, and the
 -- command is spellable.

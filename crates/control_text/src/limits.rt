@@ -122,5 +122,7 @@ pub fn well_formed(command: &Command<Named>) -> bool
         Command::NotForwarded(bug) => is_good_bug(*bug),
         Command::Owner(bug, who) => is_good_bug(*bug) && is_good_who(who),
         Command::NoOwner(bug) => is_good_bug(*bug),
+        Command::Archive(bug) => is_good_bug(*bug),
+        Command::Unarchive(bug) => is_good_bug(*bug),
     }
 }

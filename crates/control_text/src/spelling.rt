@@ -202,5 +202,7 @@ pub fn write_command(alloc: Global, command: &Command<Named>) -> Result<String, 
         Command::NotForwarded(bug) => with_bug(alloc, "notforwarded", *bug),
         Command::Owner(bug, who) => with_text(alloc, "owner", *bug, who_text(who)),
         Command::NoOwner(bug) => with_bug(alloc, "noowner", *bug),
+        Command::Archive(bug) => with_bug(alloc, "archive", *bug),
+        Command::Unarchive(bug) => with_bug(alloc, "unarchive", *bug),
     }
 }

@@ -1,12 +1,13 @@
 -- A command that is carried out in parts is the machine's step.
-use Rattle.std.proofs.Common.{◌≡◌, ◌≤◌, ℕ, true, List, [], ◌∷◌, Result, Ok, Err, sym, ap, ◌∙◌, subst, arith}
+use Rattle.std.proofs.Common.{◌≡◌, ◌≤◌, ℕ, true, List, [], ◌∷◌, Option, Result, Ok, Err, sym, ap, ◌∙◌, subst, arith}
 use Rattle.std.specs.Prelude.{◌==◌, length}
 use Rattle.std.proofs.lemmas.Bool.{eqb-true}
 use Rattle.bug_record.specs.Sets.{has, Each}
 use Rattle.bug_record.specs.Desk.{Desk, IsSound}
 use Rattle.bug_record.specs.Steps.{step_of_numbers}
 use Rattle.bug_record.specs.Images.{bug_in, put, FitsDesk}
-use Rattle.bug_record.specs.Plans.{IsShownBy, CoverImages, BringNone}
+use Rattle.ancestry.specs.Nodes.{Node}
+use Rattle.bug_record.specs.Plans.{IsShownBy, IsOpenHeadFor, CoverImages, BringNone}
 use Rattle.bug_record.specs.Changed.{changed_numbers, AreChanged, Replaces}
 use Rattle.bug_core.proofs.ChangedLemmas.{changed-on_desk}
 use Rattle.bug_record.specs.declared.bug.SetImage.{SetImage}
@@ -25,6 +26,7 @@ use Rattle.desk_messages.proofs.NameLemmas.{step-told}
 use Rattle.desk_text.specs.declared.outcome.StoreFault.{StoreFault}
 use Rattle.desk_messages.specs.Commands.{MayBeMade, CarriesOut, DoesTold, Does}
 use Rattle.desk_messages.specs.Images.{ShowBugs}
+use Rattle.desk_messages.specs.Questions.{IsAnswered}
 
 -- after the two questions
 pub shown : (d d1 d2 : Desk) (images sets : List SetImage) (next : ℕ) (ns : List ℕ) → sets ≡ images → ShowBugs d ns images
@@ -34,6 +36,17 @@ shown d d1 d2 images sets next ns f p q sound =
     let s : ShowBugs d2 ns images = subst (λ (z : Desk). ShowBugs z ns images) same p.0 in
     let t : ShowBugs d2 ns sets = subst (ShowBugs d2 ns) (sym f) s in
     record { sound = sound; next_is = sym (q.0 ∙ ap (λ (z : Desk). z.next) (sym q.1)); sets = t.sets; known = t.known }
+
+-- with the open head that the first one answers
+pub shown_with : (d d1 d2 : Desk) (command : Command ℕ) (answers : List SetImage × Option Node) (sets : List SetImage)
+    (head : Option Node) (next : ℕ) → sets ≡ answers.0 → head ≡ answers.1 → IsAnswered d command answers × (d1 ≡ d)
+    → (next ≡ d1.next) × (d2 ≡ d1) → IsSound d2
+    → IsShownBy d2 sets next (bugs_named command) × IsOpenHeadFor d2 command head
+shown_with d d1 d2 command answers sets head next f g p q sound = (
+  shown d d1 d2 answers.0 sets next (bugs_named command) f (p.0.0, p.1) q sound,
+  subst (IsOpenHeadFor d2 command) (sym g)
+      (subst (λ (z : Desk). IsOpenHeadFor z command answers.1) (sym (q.1 ∙ p.1)) p.0.1),
+)
 
 -- what is planned may be carried out
 pub planned : (d : Desk) (images : List SetImage) (next : ℕ) (ns : List ℕ) (change : Change) → IsShownBy d images next ns
@@ -133,3 +146,5 @@ parts-meant f (commands.Forwarded n text) h = h
 parts-meant f (commands.NotForwarded n) h = h
 parts-meant f (commands.Owner n who) h = h
 parts-meant f (commands.NoOwner n) h = h
+parts-meant f (commands.Archive n) h = h
+parts-meant f (commands.Unarchive n) h = h

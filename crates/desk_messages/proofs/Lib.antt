@@ -1,6 +1,7 @@
 pub mod NameLemmas
 pub mod CommandLemmas
 pub mod GatherLemmas
+pub mod QuestionLemmas
 pub mod EndLemmas
 pub mod MachineLemmas
 pub mod ReportLemmas

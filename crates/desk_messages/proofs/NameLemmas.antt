@@ -1,7 +1,7 @@
 -- Names that are not known are told as numbers that no bug has, and refused by name.
 use Rattle.std.proofs.Common.{◌≡◌, ◌<◌, ◌≤◌, ◌+◌, ◌-◌, ℕ, Bool, List, [], ◌∷◌, true, false, Option, Some, None, Result, Ok, Err}
 use Rattle.std.proofs.Common.{◌∙◌, ap, sym, subst, refl, arith}
-use Rattle.std.specs.Prelude.{nat_lt, map, option_map, if◌then◌else◌}
+use Rattle.std.specs.Prelude.{nat_lt, map, option_map, not, ◌&&◌, if◌then◌else◌}
 use Rattle.std.specs.Option.{option_or}
 use Rattle.std.proofs.lemmas.Bool.{lt-ltb, le-ltb}
 use Rattle.std.proofs.lemmas.Option.{none-some}
@@ -11,11 +11,15 @@ use Rattle.line_words.specs.declared.named.Named.TheVariants.{Number, Name}
 use Rattle.bug_record.specs.Sets.{Each}
 use Rattle.bug_record.specs.Texts.{IfGiven}
 use Rattle.bug_record.specs.Desk.{Desk, IsSound}
-use Rattle.bug_record.specs.Bugs.{at_bug, unless, missing, first_refusal, bugs_at}
-use Rattle.bug_record.specs.Words.{Names, meaning, word_refusal, first_word_refusal, first_bug_refusal, number_by}
+use Rattle.bug_record.specs.Bugs.{at_bug, unless, first_of, first_refusal, bugs_at}
+use Rattle.bug_record.specs.Words.{meaning, bug_refusal, word_refusal, first_word_refusal, first_bug_refusal, number_by}
+use Rattle.bug_record.specs.Words.{may_be_archived}
+use Rattle.bug_record.specs.Heads.{open_head}
+use Rattle.ancestry.specs.Nodes.{Node}
 use Rattle.bug_record.specs.Differences.{differing, first_difference, package_difference}
 use Rattle.bug_record.specs.Merges.{sets_joined, with_merged, all_merged, joined_shared, taken_out, others_merged}
 use Rattle.bug_record.specs.Commands.{bug_named, other_bugs, bugs_named, command_over}
+use Rattle.bug_record.specs.Steps.{own_tests, records_changed, change_set, shared_after, new_title, new_submitter}
 use Rattle.bug_record.specs.Steps.{carried_out, step, step_of_numbers}
 use Rattle.bug_record.specs.declared.bug.Bug.{Bug}
 use Rattle.bug_record.specs.declared.bug.Shared.{Shared}
@@ -23,7 +27,7 @@ use Rattle.bug_record.specs.declared.command.Command.{Command}
 use Rattle.bug_record.specs.declared.command.Command.TheVariants as commands
 use Rattle.bug_record.specs.declared.command.Field.{Field}
 use Rattle.bug_record.specs.declared.command.Refusal.{Refusal}
-use Rattle.bug_record.specs.declared.command.Refusal.TheVariants.{NoName, NoBug}
+use Rattle.bug_record.specs.declared.command.Refusal.TheVariants.{NoName, NoBug, Archived, NotArchived, NotDone, StillFound}
 use Rattle.desk_text.specs.declared.outcome.Outcome.TheVariants.{Refused}
 use Rattle.desk_store.specs.Message.{outcome_of}
 use Rattle.desk_messages.specs.Names.{number_told, command_told, refusal_meant, outcome_meant}
@@ -52,25 +56,30 @@ option-told : (o p : Option Refusal) → option_map refusal_meant (option_or o p
 option-told None p = refl
 option-told (Some refusal) p = refl
 
-missing-told : (o : Option Bug) (n : ℕ) → n ≤ 999999999 → option_map refusal_meant (missing o n) ≡ missing o n
-missing-told None n few = ap Some (meant_number n few)
-missing-told (Some b) n few = refl
+bug-told : (may_be : Bool) (o : Option Bug) (n : ℕ) → n ≤ 999999999
+    → option_map refusal_meant (bug_refusal may_be o n) ≡ bug_refusal may_be o n
+bug-told may_be None n few = ap Some (meant_number n few)
+bug-told may_be (Some b) n few =
+    elim (b.shared.archived && not may_be) as (λ t. option_map refusal_meant (if t then Some (Archived n) else None)
+    ≡ (if t then Some (Archived n) else None)) [ true ↦ refl | false ↦ refl ]
 
-word-told : (d : Desk) → IsSound d → (word : Named) → IsGoodBug word
-    → option_map refusal_meant (missing (d.bug (number_told [] word)) (number_told [] word)) ≡ word_refusal d.bug (meaning [] word)
-word-told d sound (Number n) good = missing-told (d.bug n) n good.most
-word-told d sound (Name k) good =
-    ap (λ (o : Option Bug). option_map refusal_meant (missing o (1000000000 + k)))
+word-told : (may_be : Bool) (d : Desk) → IsSound d → (word : Named) → IsGoodBug word
+    → option_map refusal_meant (bug_refusal may_be (d.bug (number_told [] word)) (number_told [] word))
+    ≡ word_refusal may_be d.bug (meaning [] word)
+word-told may_be d sound (Number n) good = bug-told may_be (d.bug n) n good.most
+word-told may_be d sound (Name k) good =
+    ap (λ (o : Option Bug). option_map refusal_meant (bug_refusal may_be o (1000000000 + k)))
     (none_above d (1000000000 + k) sound (let least = good.least in omega arith))
     ∙ ap Some (meant_name k (let least = good.least in omega arith))
 
-words-told : (d : Desk) → IsSound d → (words : List Named) → Each IsGoodBug words
-    → option_map refusal_meant (first_bug_refusal d.bug (map (number_told []) words)) ≡ first_word_refusal (meaning []) d.bug words
-words-told d sound [] good = refl
-words-told d sound (word ∷ words) good =
-    option-told (missing (d.bug (number_told [] word)) (number_told [] word))
-    (first_bug_refusal d.bug (map (number_told []) words))
-    ∙ (λ i. option_or (word-told d sound word good.0 i) (words-told d sound words good.1 i))
+words-told : (may_be : Bool) (d : Desk) → IsSound d → (words : List Named) → Each IsGoodBug words
+    → option_map refusal_meant (first_bug_refusal may_be d.bug (map (number_told []) words))
+    ≡ first_word_refusal may_be (meaning []) d.bug words
+words-told may_be d sound [] good = refl
+words-told may_be d sound (word ∷ words) good =
+    option-told (bug_refusal may_be (d.bug (number_told [] word)) (number_told [] word))
+    (first_bug_refusal may_be d.bug (map (number_told []) words))
+    ∙ (λ i. option_or (word-told may_be d sound word good.0 i) (words-told may_be d sound words good.1 i))
 
 -- where no word is refused, each is a number
 some-none : (refusal : Refusal) → Some refusal ≡ None → ⊥
@@ -80,12 +89,15 @@ later-none : (o p : Option Refusal) → option_or o p ≡ None → p ≡ None
 later-none None p e = e
 later-none (Some refusal) p e = absurd (some-none refusal e)
 
-words-numbers : (d : Desk) (words : List Named) → first_word_refusal (meaning []) d.bug words ≡ None
+words-numbers : (may_be : Bool) (d : Desk) (words : List Named) → first_word_refusal may_be (meaning []) d.bug words ≡ None
     → Each (λ word. number_told [] word ≡ number_by (meaning []) word) words
-words-numbers d [] e = tt
-words-numbers d (Number n ∷ words) e =
-    (refl, words-numbers d words (later-none (missing (d.bug n) n) (first_word_refusal (meaning []) d.bug words) e))
-words-numbers d (Name k ∷ words) e = absurd (some-none (NoName k) e)
+words-numbers may_be d [] e = tt
+words-numbers may_be d (Number n ∷ words) e = (
+  refl,
+  words-numbers may_be d words
+      (later-none (bug_refusal may_be (d.bug n) n) (first_word_refusal may_be (meaning []) d.bug words) e),
+)
+words-numbers may_be d (Name k ∷ words) e = absurd (some-none (NoName k) e)
 
 -- the bug that a command over others names
 bug-over : {N M : Type 0} (f : N → M) (command : Command N) → bug_named (command_over f command) ≡ f (bug_named command)
@@ -107,6 +119,31 @@ bug-over f (commands.Forwarded n text) = refl
 bug-over f (commands.NotForwarded n) = refl
 bug-over f (commands.Owner n who) = refl
 bug-over f (commands.NoOwner n) = refl
+bug-over f (commands.Archive n) = refl
+bug-over f (commands.Unarchive n) = refl
+
+-- whether its bugs may be archived
+may-over : {N M : Type 0} (f : N → M) (command : Command N) → may_be_archived (command_over f command) ≡ may_be_archived command
+may-over f (commands.Found n version) = refl
+may-over f (commands.NotFound n version) = refl
+may-over f (commands.Fixed n version) = refl
+may-over f (commands.NotFixed n version) = refl
+may-over f (commands.Close n version) = refl
+may-over f (commands.Reopen n who) = refl
+may-over f (commands.Severity n severity) = refl
+may-over f (commands.Tags n steps) = refl
+may-over f (commands.Retitle n text) = refl
+may-over f (commands.Submitter n who) = refl
+may-over f (commands.Reassign n package_name version) = refl
+may-over f (commands.Merge n ns) = refl
+may-over f (commands.ForceMerge n ns) = refl
+may-over f (commands.Unmerge n) = refl
+may-over f (commands.Forwarded n text) = refl
+may-over f (commands.NotForwarded n) = refl
+may-over f (commands.Owner n who) = refl
+may-over f (commands.NoOwner n) = refl
+may-over f (commands.Archive n) = refl
+may-over f (commands.Unarchive n) = refl
 
 -- the bugs that it names
 bugs-over : {N M : Type 0} (f : N → M) (command : Command N) → bugs_named (command_over f command) ≡ map f (bugs_named command)
@@ -128,6 +165,8 @@ bugs-over f (commands.Forwarded n text) = refl
 bugs-over f (commands.NotForwarded n) = refl
 bugs-over f (commands.Owner n who) = refl
 bugs-over f (commands.NoOwner n) = refl
+bugs-over f (commands.Archive n) = refl
+bugs-over f (commands.Unarchive n) = refl
 
 map-agree : {N M K : Type 0} (f : N → M) (g : M → K) (h : N → K) (ns : List N) → Each (λ n. g (f n) ≡ h n) ns
     → map g (map f ns) ≡ map h ns
@@ -154,6 +193,8 @@ over-agree f g h (commands.Forwarded n text) e = λ i. commands.Forwarded (e.0 i
 over-agree f g h (commands.NotForwarded n) e = λ i. commands.NotForwarded (e.0 i)
 over-agree f g h (commands.Owner n who) e = λ i. commands.Owner (e.0 i) who
 over-agree f g h (commands.NoOwner n) e = λ i. commands.NoOwner (e.0 i)
+over-agree f g h (commands.Archive n) e = λ i. commands.Archive (e.0 i)
+over-agree f g h (commands.Unarchive n) e = λ i. commands.Unarchive (e.0 i)
 
 -- the refusals that follow those of the bugs are told as they are
 abbrev Stays : Desk → Result Desk Refusal → Type 0
@@ -199,62 +240,114 @@ taken-stays : (d : Desk) (n : ℕ) (rest : List ℕ) → Stays d (taken_out d n 
 taken-stays d n [] = refl
 taken-stays d n (m ∷ rest) = refl
 
+tests-stay : (command : Command ℕ) (head : Option Node) (f : Shared)
+    → IfGiven (λ refusal. refusal_meant refusal ≡ refusal) (first_of (own_tests command head f))
+tests-stay (commands.Archive n) head f =
+    elim f.closed as (λ t. IfGiven (λ refusal. refusal_meant refusal ≡ refusal)
+    (option_or (if t then None else Some (NotDone n)) (option_or (option_map StillFound head) None))) [
+      | true ↦ elim head as (λ h. IfGiven (λ refusal. refusal_meant refusal ≡ refusal) (option_or (option_map StillFound h) None))
+          [ None ↦ tt | Some v ↦ refl ]
+      | false ↦ refl
+    ]
+tests-stay (commands.Unarchive n) head f =
+    elim f.archived as (λ t. IfGiven (λ refusal. refusal_meant refusal ≡ refusal)
+    (option_or (if t then None else Some (NotArchived n)) None)) [ true ↦ tt | false ↦ refl ]
+tests-stay (commands.Found n version) head f = tt
+tests-stay (commands.NotFound n version) head f = tt
+tests-stay (commands.Fixed n version) head f = tt
+tests-stay (commands.NotFixed n version) head f = tt
+tests-stay (commands.Close n version) head f = tt
+tests-stay (commands.Reopen n who) head f = tt
+tests-stay (commands.Severity n severity) head f = tt
+tests-stay (commands.Tags n steps) head f = tt
+tests-stay (commands.Retitle n text) head f = tt
+tests-stay (commands.Submitter n who) head f = tt
+tests-stay (commands.Reassign n package_name version) head f = tt
+tests-stay (commands.Merge n ns) head f = tt
+tests-stay (commands.ForceMerge n ns) head f = tt
+tests-stay (commands.Unmerge n) head f = tt
+tests-stay (commands.Forwarded n text) head f = tt
+tests-stay (commands.NotForwarded n) head f = tt
+tests-stay (commands.Owner n who) head f = tt
+tests-stay (commands.NoOwner n) head f = tt
+
+records-stay : (d : Desk) (sender : List ℕ) (command : Command ℕ) (b : Bug) → d.bug (bug_named command) ≡ Some b
+    → Stays d (records_changed (open_head d.tree) sender command d)
+records-stay d sender command b e =
+    at-stays d (d.bug (bug_named command)) (bug_named command) _ b e (λ c.
+    unless-stays d (first_of (own_tests command (open_head d.tree c.shared) c.shared))
+    (change_set d (bug_named command) (shared_after sender command) (new_title command) (new_submitter sender command))
+    (tests-stay command (open_head d.tree c.shared) c.shared))
+
 stays : (d : Desk) (sender : List ℕ) (command : Command ℕ) (b : Bug) → d.bug (bug_named command) ≡ Some b
-    → Stays d (carried_out d sender command)
-stays d sender (commands.Found n version) b e = at-stays d (d.bug n) n _ b e (λ c. refl)
-stays d sender (commands.NotFound n version) b e = at-stays d (d.bug n) n _ b e (λ c. refl)
-stays d sender (commands.Fixed n version) b e = at-stays d (d.bug n) n _ b e (λ c. refl)
-stays d sender (commands.NotFixed n version) b e = at-stays d (d.bug n) n _ b e (λ c. refl)
-stays d sender (commands.Close n version) b e = at-stays d (d.bug n) n _ b e (λ c. refl)
-stays d sender (commands.Reopen n who) b e = at-stays d (d.bug n) n _ b e (λ c. refl)
-stays d sender (commands.Severity n severity) b e = at-stays d (d.bug n) n _ b e (λ c. refl)
-stays d sender (commands.Tags n steps) b e = at-stays d (d.bug n) n _ b e (λ c. refl)
-stays d sender (commands.Retitle n text) b e = at-stays d (d.bug n) n _ b e (λ c. refl)
-stays d sender (commands.Submitter n who) b e = at-stays d (d.bug n) n _ b e (λ c. refl)
-stays d sender (commands.Reassign n package_name version) b e = at-stays d (d.bug n) n _ b e (λ c. refl)
+    → Stays d (carried_out (open_head d.tree) d sender command)
+stays d sender (commands.Found n version) b e = records-stay d sender (commands.Found n version) b e
+stays d sender (commands.NotFound n version) b e = records-stay d sender (commands.NotFound n version) b e
+stays d sender (commands.Fixed n version) b e = records-stay d sender (commands.Fixed n version) b e
+stays d sender (commands.NotFixed n version) b e = records-stay d sender (commands.NotFixed n version) b e
+stays d sender (commands.Close n version) b e = records-stay d sender (commands.Close n version) b e
+stays d sender (commands.Reopen n who) b e = records-stay d sender (commands.Reopen n who) b e
+stays d sender (commands.Severity n severity) b e = records-stay d sender (commands.Severity n severity) b e
+stays d sender (commands.Tags n steps) b e = records-stay d sender (commands.Tags n steps) b e
+stays d sender (commands.Retitle n text) b e = records-stay d sender (commands.Retitle n text) b e
+stays d sender (commands.Submitter n who) b e = records-stay d sender (commands.Submitter n who) b e
+stays d sender (commands.Reassign n package_name version) b e = records-stay d sender (commands.Reassign n package_name version) b e
 stays d sender (commands.Merge n ns) b e = joined-stays d first_difference n ns b e
 stays d sender (commands.ForceMerge n ns) b e = joined-stays d package_difference n ns b e
 stays d sender (commands.Unmerge n) b e = at-stays d (d.bug n) n _ b e (λ c. taken-stays d n (others_merged n c.merged))
-stays d sender (commands.Forwarded n text) b e = at-stays d (d.bug n) n _ b e (λ c. refl)
-stays d sender (commands.NotForwarded n) b e = at-stays d (d.bug n) n _ b e (λ c. refl)
-stays d sender (commands.Owner n who) b e = at-stays d (d.bug n) n _ b e (λ c. refl)
-stays d sender (commands.NoOwner n) b e = at-stays d (d.bug n) n _ b e (λ c. refl)
+stays d sender (commands.Forwarded n text) b e = records-stay d sender (commands.Forwarded n text) b e
+stays d sender (commands.NotForwarded n) b e = records-stay d sender (commands.NotForwarded n) b e
+stays d sender (commands.Owner n who) b e = records-stay d sender (commands.Owner n who) b e
+stays d sender (commands.NoOwner n) b e = records-stay d sender (commands.NoOwner n) b e
+stays d sender (commands.Archive n) b e = records-stay d sender (commands.Archive n) b e
+stays d sender (commands.Unarchive n) b e = records-stay d sender (commands.Unarchive n) b e
 
 -- the first bug is there where none is refused
-first-there : (o : Option Bug) (n : ℕ) (p : Option Refusal) → option_or (missing o n) p ≡ None → (b : Bug) × (o ≡ Some b)
-first-there None n p e = absurd (some-none (NoBug n) e)
-first-there (Some b) n p e = (b, refl)
+first-there : (may_be : Bool) (o : Option Bug) (n : ℕ) (p : Option Refusal) → option_or (bug_refusal may_be o n) p ≡ None
+    → (b : Bug) × (o ≡ Some b)
+first-there may_be None n p e = absurd (some-none (NoBug n) e)
+first-there may_be (Some b) n p e = (b, refl)
 
 -- a command that was told comes to what it means
 pub step-told : (d : Desk) (sender : List ℕ) (command : Command Named) → IsSound d → Each IsGoodBug (bugs_named command)
     → outcome_meant d (step_of_numbers d sender (command_told [] command)) ≡ outcome_of d (step [] d sender command)
 step-told d sender command sound good =
-    by (first_bug_refusal d.bug (bugs_named (command_told [] command))) refl
+    ap (λ (t : Bool). outcome_meant d (unless (first_bug_refusal t d.bug (bugs_named (command_told [] command)))
+    (carried_out (open_head d.tree) d sender own))) (may-over (number_told []) command)
+    ∙ by (first_bug_refusal may_be d.bug (bugs_named (command_told [] command))) refl
   where
-    told : option_map refusal_meant (first_bug_refusal d.bug (bugs_named (command_told [] command)))
-        ≡ first_word_refusal (meaning []) d.bug (bugs_named command)
-    told = ap (λ (ns : List ℕ). option_map refusal_meant (first_bug_refusal d.bug ns)) (bugs-over (number_told []) command)
-        ∙ words-told d sound (bugs_named command) good
+    may_be : Bool
+    may_be = may_be_archived command
 
     own : Command ℕ
     own = command_over (number_by (λ n. Ok n)) (command_told [] command)
 
-    by : (o : Option Refusal) → first_bug_refusal d.bug (bugs_named (command_told [] command)) ≡ o
-        → outcome_meant d (unless (first_bug_refusal d.bug (bugs_named (command_told [] command))) (carried_out d sender own))
-        ≡ outcome_of d (unless (first_word_refusal (meaning []) d.bug (bugs_named command))
-        (carried_out d sender (command_over (number_by (meaning [])) command)))
+    meant : Command ℕ
+    meant = command_over (number_by (meaning [])) command
+
+    told : option_map refusal_meant (first_bug_refusal may_be d.bug (bugs_named (command_told [] command)))
+        ≡ first_word_refusal may_be (meaning []) d.bug (bugs_named command)
+    told = ap (λ (ns : List ℕ). option_map refusal_meant (first_bug_refusal may_be d.bug ns))
+        (bugs-over (number_told []) command) ∙ words-told may_be d sound (bugs_named command) good
+
+    by : (o : Option Refusal) → first_bug_refusal may_be d.bug (bugs_named (command_told [] command)) ≡ o
+        → outcome_meant d (unless (first_bug_refusal may_be d.bug (bugs_named (command_told [] command)))
+        (carried_out (open_head d.tree) d sender own))
+        ≡ outcome_of d (unless (first_word_refusal may_be (meaning []) d.bug (bugs_named command))
+        (carried_out (open_head d.tree) d sender meant))
     by None e =
-        let none : first_word_refusal (meaning []) d.bug (bugs_named command) ≡ None = sym told ∙ ap (option_map refusal_meant) e in
-        let same : own ≡ command_over (number_by (meaning [])) command =
-        over-agree (number_told []) (number_by (λ n. Ok n)) (number_by (meaning [])) command
-        (words-numbers d (bugs_named command) none) in
-        let there = first-there (d.bug (bug_named (command_told [] command))) (bug_named (command_told [] command))
-        (first_bug_refusal d.bug (other_bugs (command_told [] command))) e in
-        (λ i. outcome_meant d (unless (e i) (carried_out d sender own)))
-        ∙ (stays d sender own there.0 (ap d.bug (bug-over (number_by (λ n. Ok n)) (command_told [] command)) ∙ there.1)
-        ∙ (λ i. outcome_of d (unless (sym none i) (carried_out d sender (same i)))))
-    by (Some refusal) e =
-        let some : first_word_refusal (meaning []) d.bug (bugs_named command) ≡ Some (refusal_meant refusal)
+        let none : first_word_refusal may_be (meaning []) d.bug (bugs_named command) ≡ None
         = sym told ∙ ap (option_map refusal_meant) e in
-        (λ i. outcome_meant d (unless (e i) (carried_out d sender own)))
-        ∙ (λ i. outcome_of d (unless (sym some i) (carried_out d sender (command_over (number_by (meaning [])) command))))
+        let same : own ≡ meant =
+        over-agree (number_told []) (number_by (λ n. Ok n)) (number_by (meaning [])) command
+        (words-numbers may_be d (bugs_named command) none) in
+        let there = first-there may_be (d.bug (bug_named (command_told [] command))) (bug_named (command_told [] command))
+        (first_bug_refusal may_be d.bug (other_bugs (command_told [] command))) e in
+        (λ i. outcome_meant d (unless (e i) (carried_out (open_head d.tree) d sender own)))
+        ∙ (stays d sender own there.0 (ap d.bug (bug-over (number_by (λ n. Ok n)) (command_told [] command)) ∙ there.1)
+        ∙ (λ i. outcome_of d (unless (sym none i) (carried_out (open_head d.tree) d sender (same i)))))
+    by (Some refusal) e =
+        let some : first_word_refusal may_be (meaning []) d.bug (bugs_named command) ≡ Some (refusal_meant refusal)
+        = sym told ∙ ap (option_map refusal_meant) e in
+        (λ i. outcome_meant d (unless (e i) (carried_out (open_head d.tree) d sender own)))
+        ∙ (λ i. outcome_of d (unless (sym some i) (carried_out (open_head d.tree) d sender meant)))

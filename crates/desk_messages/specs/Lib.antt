@@ -4,4 +4,5 @@ pub mod Reports
 pub mod Names
 pub mod Commands
 pub mod Images
+pub mod Questions
 pub mod Taking

@@ -10,7 +10,7 @@ ghost use Rattle.desk_store.specs.Store.{Holds, faults_after};
 ghost use Rattle.desk_messages.specs.Names.{number_told, command_told, refusal_meant};
 ghost use Rattle.desk_messages.specs.Commands.{MayBeMade, CarriesOut, DoesTold, Does};
 
-use crate::images::images_of;
+use crate::questions::ask;
 use bug_core::{changed, plan};
 use bug_record::{Change, Command, PlanFault, Refusal, Sequence, SetImage};
 use control_text::Named;
@@ -68,6 +68,8 @@ fn command_told(alloc: Global, command: Command<Named>) -> Result<Command<u64>, 
         Command::NotForwarded(bug) => Command::NotForwarded(number_told(bug)),
         Command::Owner(bug, who) => Command::Owner(number_told(bug), who),
         Command::NoOwner(bug) => Command::NoOwner(number_told(bug)),
+        Command::Archive(bug) => Command::Archive(number_told(bug)),
+        Command::Unarchive(bug) => Command::Unarchive(number_told(bug)),
     })
 }
 
@@ -123,8 +125,8 @@ fn take_told<S: Records>(
         (DoesTold from.now (S.desk store.old) command.now result (S.desk store.new)) }
     ensures count { S.faults store.new ≡ faults_after result (S.faults store.old) }
 {
-    let images = match images_of(alloc, store, command) {
-        Ok(images) => images,
+    let (images, open_head) = match ask(alloc, store, command) {
+        Ok(answers) => answers,
         Err(fault) => return Err(fault),
     };
     let next = match store.next() {
@@ -132,7 +134,7 @@ fn take_told<S: Records>(
         Err(fault) => return Err(fault),
     };
     let sets = images.as_slice();
-    match plan(alloc, command, from, sets, next) {
+    match plan(alloc, command, from, sets, next, open_head.as_ref()) {
         Ok(change) => make_change(alloc, store, sets, next, &change),
         Err(PlanFault::Refused(refusal)) => Ok(Outcome::Refused(refusal_meant(refusal))),
         Err(PlanFault::Memory) => Err(StoreFault::Memory),

@@ -4,6 +4,7 @@
 mod command;
 mod images;
 mod message;
+mod questions;
 mod reporting;
 mod transcript;
 

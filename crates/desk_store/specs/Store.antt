@@ -6,6 +6,7 @@ use Rattle.ancestry.specs.declared.fault.BranchFault.{BranchFault}
 use Rattle.ancestry.specs.declared.fault.BranchFault.TheVariants.{Memory as WantOfMemory}
 use Rattle.bug_record.specs.Sets.{has}
 use Rattle.bug_record.specs.Desk.{Desk}
+use Rattle.bug_record.specs.Heads.{open_head}
 use Rattle.bug_record.specs.Images.{numbers_of, IsSetOf, put}
 use Rattle.bug_record.specs.declared.bug.SetImage.{SetImage}
 use Rattle.bug_record.specs.declared.command.Change.{Change}
@@ -36,6 +37,10 @@ IsImageOf d n (Some i) = (has (numbers_of i.members) n ≡ true) × IsSetOf d i
 
 abbrev pub IsNext : Desk → ℕ → Type 0
 IsNext d n = n ≡ d.next
+
+-- the head at which the bugs of the image are still found, if there is one
+abbrev pub IsOpenHead : Desk → SetImage → Option Node → Type 0
+IsOpenHead d i head = head ≡ open_head d.tree i.shared
 
 -- the change is made, or none
 abbrev pub Applies : {T : Type 0} → Desk → Desk → Result T StoreFault → Change → Type 0

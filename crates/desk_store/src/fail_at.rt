@@ -2,8 +2,9 @@
 
 ghost use Rattle.std.specs.Prelude.{◌≡◌, ◌≢◌, ◌-◌, ◌||◌, ◌==◌, true, false, Err, IfOk};
 ghost use Rattle.bug_record.specs.Sets.{Each};
-ghost use Rattle.bug_record.specs.Images.{AreApart, HasMember, FitsDesk};
-ghost use Rattle.desk_store.specs.Store.{Holds, Asks, Answers, IsImageOf, IsNext, Applies, Branches, IsRefusal, faults_after};
+ghost use Rattle.bug_record.specs.Images.{AreApart, HasMember, IsSetOf, FitsDesk};
+ghost use Rattle.desk_store.specs.Store.{Holds, Asks, Answers, IsImageOf, IsNext, IsOpenHead, Applies, Branches, IsRefusal};
+ghost use Rattle.desk_store.specs.Store.{faults_after};
 ghost use Rattle.desk_store.specs.FailAt.{faults_with};
 
 use crate::records::Records;
@@ -78,6 +79,18 @@ impl<S: Records> Records for FailAt<S> {
         ensures has_failed { self.new.has_failed ≡ self.old.has_failed }
     {
         self.inner.next()
+    }
+
+    fn open_head(&mut self, image: &SetImage) -> Result<Option<Node>, StoreFault>
+        requires member { HasMember image.now }
+        requires set { S.is_kept self.old.inner → S.is_honest self.old.inner → IsSetOf (S.desk self.old.inner) image.now }
+        ensures answer { Asks S.is_kept S.is_honest self.old.inner self.new.inner
+            (Answers (S.desk self.old.inner) (S.desk self.new.inner) result (IsOpenHead (S.desk self.old.inner) image.now)) }
+        ensures count { S.faults self.new.inner ≡ faults_after result (S.faults self.old.inner) }
+        ensures left { self.new.left ≡ self.old.left }
+        ensures has_failed { self.new.has_failed ≡ self.old.has_failed }
+    {
+        self.inner.open_head(image)
     }
 
     fn apply(&mut self, change: &Change) -> Result<(), StoreFault>

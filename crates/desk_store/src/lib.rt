@@ -4,6 +4,7 @@
 #![tactic(auto)]
 
 mod fail_at;
+mod heads;
 mod laws;
 mod places;
 mod plain;

@@ -7,10 +7,11 @@ ghost use Rattle.std.specs.Ordering.{nat_cmp};
 ghost use Rattle.bug_record.specs.Desk.{IsSound};
 ghost use Rattle.bug_record.specs.Images.{AreApart, FitsDesk, put};
 ghost use Rattle.bug_record.proofs.SoundProp.{IsSound-prop};
-ghost use Rattle.desk_store.specs.Store.{IsImageOf, Branches, IsRefusal, no_faults};
+ghost use Rattle.desk_store.specs.Store.{IsImageOf, IsOpenHead, Branches, IsRefusal, no_faults};
 ghost use Rattle.desk_store.specs.Keys.{IsKeyed};
 ghost use Rattle.desk_store.specs.Plain.{desk_of, empty_desk, keys, sets};
 
+use crate::heads::open_head;
 use crate::places::{Place, put_images};
 use crate::records::Records;
 use ancestry::{BranchFault, Node, Tree};
@@ -89,6 +90,17 @@ impl Records for PlainDesk {
         ensures value { result ≡ Ok self.old.next }
     {
         Ok(self.next)
+    }
+
+    fn open_head(&mut self, image: &SetImage) -> Result<Option<Node>, StoreFault>
+        ensures same { self.new ≡ self.old }
+        ensures head { IfOk result (IsOpenHead (desk_of self.old.bugs self.old.tree self.old.next) image.now) }
+        ensures memory { IfErr result (λ fault. fault ≡ StoreFault.Memory) }
+    {
+        match open_head(&self.tree, &image.shared) {
+            Ok(head) => Ok(head),
+            Err(_) => Err(StoreFault::Memory),
+        }
     }
 
     fn apply(&mut self, change: &Change) -> Result<(), StoreFault>

@@ -3,8 +3,9 @@
 ghost use Rattle.std.specs.Prelude.{◌≡◌, Option, Result, IfOk};
 ghost use Rattle.bug_record.specs.Sets.{Each};
 ghost use Rattle.bug_record.specs.Desk.{Desk, IsSound};
-ghost use Rattle.bug_record.specs.Images.{AreApart, HasMember, FitsDesk};
-ghost use Rattle.desk_store.specs.Store.{Holds, Asks, Answers, IsImageOf, IsNext, Applies, Branches, IsRefusal, Faults};
+ghost use Rattle.bug_record.specs.Images.{AreApart, HasMember, IsSetOf, FitsDesk};
+ghost use Rattle.desk_store.specs.Store.{Holds, Asks, Answers, IsImageOf, IsNext, IsOpenHead, Applies, Branches, IsRefusal};
+ghost use Rattle.desk_store.specs.Store.{Faults};
 ghost use Rattle.desk_store.specs.Store.{faults_after, total};
 
 use ancestry::{BranchFault, Node};
@@ -40,6 +41,16 @@ pub trait Records {
     fn next(&mut self) -> Result<u64, StoreFault>
         ensures answer { Asks is_kept is_honest self.old self.new
             (Answers (desk self.old) (desk self.new) result (IsNext (desk self.old))) }
+        ensures count { faults self.new ≡ faults_after result (faults self.old) };
+
+    /// The first head of the package of a set's bugs, in node order, at which they are still found;
+    /// `None` where there is none.
+    /// It is asked of an image of the desk.
+    fn open_head(&mut self, image: &SetImage) -> Result<Option<Node>, StoreFault>
+        requires member { HasMember image.now }
+        requires set { is_kept self.old → is_honest self.old → IsSetOf (desk self.old) image.now }
+        ensures answer { Asks is_kept is_honest self.old self.new
+            (Answers (desk self.old) (desk self.new) result (IsOpenHead (desk self.old) image.now)) }
         ensures count { faults self.new ≡ faults_after result (faults self.old) };
 
     /// Carries a change out, in one step.

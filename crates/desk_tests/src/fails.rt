@@ -9,8 +9,8 @@ use desk_store::Records;
 use desk_text::StoreFault;
 
 /// A store round another.
-/// One call of `set_of`, `next`, `apply` or `branch` answers this fault, and changes nothing; every
-/// other call is the other store's.
+/// One call of `set_of`, `next`, `open_head`, `apply` or `branch` answers this fault, and changes
+/// nothing; every other call is the other store's.
 /// Its calls are counted.
 #[derive(Drop)]
 pub(crate) struct Fails<S> {
@@ -74,6 +74,13 @@ impl<S: Records> Records for Fails<S> {
             return Err(self.fault);
         }
         self.inner.next()
+    }
+
+    fn open_head(&mut self, image: &SetImage) -> Result<Option<Node>, StoreFault> {
+        if self.is_due() {
+            return Err(self.fault);
+        }
+        self.inner.open_head(image)
     }
 
     fn apply(&mut self, change: &Change) -> Result<(), StoreFault> {

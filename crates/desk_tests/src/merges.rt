@@ -36,6 +36,7 @@ fn image(alloc: Global, number: u64) -> Result<SetImage, AllocError>
             tags: Sequence::new(alloc),
             found: Sequence::new(alloc),
             fixed: Sequence::new(alloc),
+            archived: false,
         },
         members: one_member(alloc, number)?,
     })
@@ -62,7 +63,7 @@ fn merged(
     requires { AreApart images.now }
 {
     let command = Command::Merge(bug, Sequence::one(alloc, other)?);
-    Ok(plan(alloc, &command, "ann", images, 3))
+    Ok(plan(alloc, &command, "ann", images, 3, None))
 }
 
 // Whether the images are one, of the bugs 1 and 2.

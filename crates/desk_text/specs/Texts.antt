@@ -5,7 +5,9 @@ use Rattle.bug_record.specs.declared.command.Field.{Field}
 use Rattle.bug_record.specs.declared.command.Field.TheVariants as fields
 use Rattle.bug_record.specs.declared.command.Refusal.{Refusal}
 use Rattle.bug_record.specs.declared.command.Refusal.TheVariants.{Unknown, Malformed, TooLong, BadSeverity, BadTag, BadVersion}
-use Rattle.bug_record.specs.declared.command.Refusal.TheVariants.{BadPackage, NoName, NoBug, Differ, NotMerged}
+use Rattle.bug_record.specs.declared.command.Refusal.TheVariants.{BadPackage, NoName, NoBug, Archived, NotArchived, Differ}
+use Rattle.bug_record.specs.declared.command.Refusal.TheVariants.{NotMerged, NotDone, StillFound}
+use Rattle.ancestry.specs.Nodes.{Node, node_text}
 use Rattle.desk_text.specs.declared.outcome.StoreFault.{StoreFault}
 use Rattle.desk_text.specs.declared.outcome.StoreFault.TheVariants as faults
 use Rattle.desk_text.specs.declared.outcome.Outcome.{Outcome}
@@ -28,12 +30,17 @@ field_word fields.State = codes "state"
 field_word fields.Forwarded = codes "forwarded"
 field_word fields.Severity = codes "severity"
 
--- the bugs that can't be merged, or taken out of a set
-unfoldable pub difference_text : ℕ → List ℕ → List ℕ
-difference_text n word = codes "bug " ++ (decimal n ++ (codes " differs in " ++ word))
+-- what is said of a bug
+unfoldable pub said_of_bug : ℕ → List ℕ → List ℕ
+said_of_bug n said = codes "bug " ++ (decimal n ++ said)
 
-unfoldable pub not_merged_text : ℕ → List ℕ
-not_merged_text n = codes "bug " ++ (decimal n ++ codes " is not merged")
+-- the bug that can't be merged
+unfoldable pub difference_text : ℕ → List ℕ → List ℕ
+difference_text n word = said_of_bug n (codes " differs in " ++ word)
+
+-- the bug that can't be archived
+unfoldable pub still_found_text : Node → List ℕ
+still_found_text v = codes "still found in " ++ node_text v
 
 -- why a line is refused
 abbrev pub refusal_text : Refusal → List ℕ
@@ -46,8 +53,12 @@ refusal_text BadVersion = codes "bad version"
 refusal_text BadPackage = codes "bad package name"
 refusal_text (NoName k) = codes "no such name -" ++ decimal k
 refusal_text (NoBug n) = codes "no such bug " ++ decimal n
+refusal_text (Archived n) = said_of_bug n (codes " is archived")
+refusal_text (NotArchived n) = said_of_bug n (codes " is not archived")
 refusal_text (Differ field n) = difference_text n (field_word field)
-refusal_text (NotMerged n) = not_merged_text n
+refusal_text (NotMerged n) = said_of_bug n (codes " is not merged")
+refusal_text (NotDone n) = said_of_bug n (codes " is open")
+refusal_text (StillFound v) = still_found_text v
 
 -- each number after a space
 abbrev pub numbers_text : List ℕ → List ℕ

@@ -2,10 +2,13 @@
 
 ghost use Rattle.std.specs.Prelude.{◌≡◌, [], ◌++◌, IsOk, OnOk, OnErr, codes, decimal};
 ghost use Rattle.std.specs.Io.{StartsWith};
+ghost use Rattle.ancestry.specs.Nodes.{node_text};
+ghost use Rattle.desk_text.specs.Texts.{said_of_bug, still_found_text};
 ghost use Rattle.desk_text.specs.Texts.{as_line, echo, field_word, refusal_text, numbers_text, changed_text, answer_text};
 ghost use Rattle.desk_text.specs.Texts.{fault_word, fault_text, outcome_text, store_end_text, end_text};
 
 use crate::outcome::{End, Outcome, StoreFault};
+use ancestry::Node;
 use bug_record::{Field, Refusal};
 use itoa::Buffer;
 use std::alloc::{AllocError, Global};
@@ -44,7 +47,36 @@ fn append_between(
     out.extend_from_slice(after.as_bytes())
 }
 
-#[tactic(auto, unfolding(crate::specs::Texts::difference_text, crate::specs::Texts::not_merged_text))]
+// Appends what is said of a bug.
+#[tactic(auto, unfolding(crate::specs::Texts::said_of_bug))]
+fn append_of_bug(out: &mut Vec<u8>, number: u64, said: &str) -> Result<(), AllocError>
+    ensures ok { OnOk result (out.new.items ≡ out.old.items ++ said_of_bug number said.now) }
+    ensures err { OnErr result (StartsWith out.new.items out.old.items) }
+{
+    append_between(out, "bug ", number, said)
+}
+
+// Appends a node as it is written, `source/version`.
+fn append_node(out: &mut Vec<u8>, node: &Node) -> Result<(), AllocError>
+    ensures ok { OnOk result (out.new.items ≡ out.old.items ++ node_text node.now) }
+    ensures err { OnErr result (StartsWith out.new.items out.old.items) }
+{
+    out.extend_from_slice(node.source().as_bytes())?;
+    out.extend_from_slice(b"/")?;
+    out.extend_from_slice(node.version().as_bytes())
+}
+
+// Appends that a bug is still found at a node.
+#[tactic(auto, unfolding(crate::specs::Texts::still_found_text))]
+fn append_still_found(out: &mut Vec<u8>, node: &Node) -> Result<(), AllocError>
+    ensures ok { OnOk result (out.new.items ≡ out.old.items ++ still_found_text node.now) }
+    ensures err { OnErr result (StartsWith out.new.items out.old.items) }
+{
+    out.extend_from_slice(b"still found in ")?;
+    append_node(out, node)
+}
+
+#[tactic(auto, unfolding(crate::specs::Texts::difference_text))]
 fn append_refusal(out: &mut Vec<u8>, refusal: &Refusal) -> Result<(), AllocError>
     ensures ok { OnOk result (out.new.items ≡ out.old.items ++ refusal_text refusal.now) }
     ensures err { OnErr result (StartsWith out.new.items out.old.items) }
@@ -59,10 +91,12 @@ fn append_refusal(out: &mut Vec<u8>, refusal: &Refusal) -> Result<(), AllocError
         Refusal::BadPackage => out.extend_from_slice(b"bad package name"),
         Refusal::NoName(name) => append_between(out, "no such name -", *name, ""),
         Refusal::NoBug(number) => append_between(out, "no such bug ", *number, ""),
-        Refusal::Differ(field, number) => {
-            append_between(out, "bug ", *number, difference_end(*field))
-        }
-        Refusal::NotMerged(number) => append_between(out, "bug ", *number, " is not merged"),
+        Refusal::Archived(number) => append_of_bug(out, *number, " is archived"),
+        Refusal::NotArchived(number) => append_of_bug(out, *number, " is not archived"),
+        Refusal::Differ(field, number) => append_of_bug(out, *number, difference_end(*field)),
+        Refusal::NotMerged(number) => append_of_bug(out, *number, " is not merged"),
+        Refusal::NotDone(number) => append_of_bug(out, *number, " is open"),
+        Refusal::StillFound(node) => append_still_found(out, node),
     }
 }
 

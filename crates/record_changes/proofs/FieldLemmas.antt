@@ -114,6 +114,19 @@ good-owner who f good h =
           h.fixed;
     }
 
+-- fields that are archived, or not
+good-archived : (archived : Bool) (f : Shared) → IsGoodShared f → IsGoodShared (record f { archived = archived })
+good-archived archived f h =
+    record {
+      package_name = h.package_name;
+      forwarded = h.forwarded;
+      owner = h.owner;
+      tags = h.tags;
+      found = h.found;
+      fixed =
+          h.fixed;
+    }
+
 -- who is meant is a text
 good-person : (sender : List ℕ) (who : Who) → IsGoodText sender → IsGoodPerson who → IsUtf8Person who
     → IsGoodText (person sender who)
@@ -169,6 +182,8 @@ good-shared_after sender (commands.NotForwarded n) text good utf8 f h = good-for
 good-shared_after sender (commands.Owner n who) text good utf8 f h =
     good-owner (Some (person sender who)) f (good-person sender who text good utf8) h
 good-shared_after sender (commands.NoOwner n) text good utf8 f h = good-owner None f tt h
+good-shared_after sender (commands.Archive n) text good utf8 f h = good-archived true f h
+good-shared_after sender (commands.Unarchive n) text good utf8 f h = good-archived false f h
 
 pub good-new_title : (command : Command ℕ) → HasGoodParts command → HasUtf8Texts command → (m : ℕ)
     → IfGiven IsGoodText (new_title command m)
@@ -191,6 +206,8 @@ good-new_title (commands.Forwarded n address) good utf8 m = tt
 good-new_title (commands.NotForwarded n) good utf8 m = tt
 good-new_title (commands.Owner n who) good utf8 m = tt
 good-new_title (commands.NoOwner n) good utf8 m = tt
+good-new_title (commands.Archive n) good utf8 m = tt
+good-new_title (commands.Unarchive n) good utf8 m = tt
 
 pub good-new_submitter : (sender : List ℕ) (command : Command ℕ) → IsGoodText sender → HasGoodParts command → HasUtf8Texts command
     → (f : Shared) (m : ℕ) → IfGiven IsGoodText (new_submitter sender command f m)
@@ -217,3 +234,5 @@ good-new_submitter sender (commands.Forwarded n address) h good utf8 f m = tt
 good-new_submitter sender (commands.NotForwarded n) h good utf8 f m = tt
 good-new_submitter sender (commands.Owner n who) h good utf8 f m = tt
 good-new_submitter sender (commands.NoOwner n) h good utf8 f m = tt
+good-new_submitter sender (commands.Archive n) h good utf8 f m = tt
+good-new_submitter sender (commands.Unarchive n) h good utf8 f m = tt

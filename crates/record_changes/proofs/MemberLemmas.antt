@@ -31,6 +31,8 @@ unchanged sender (commands.Forwarded n text) f h m = refl
 unchanged sender (commands.NotForwarded n) f h m = refl
 unchanged sender (commands.Owner n who) f h m = refl
 unchanged sender (commands.NoOwner n) f h m = refl
+unchanged sender (commands.Archive n) f h m = refl
+unchanged sender (commands.Unarchive n) f h m = refl
 
 pub members-unchanged : (sender : List ℕ) (command : Command ℕ) (f : Shared) → changes_members command f ≡ false
     → (ms : List Member) → ms ≡ map (member_after sender command f) ms

@@ -36,3 +36,5 @@ changes_members (commands.Forwarded n text) f = false
 changes_members (commands.NotForwarded n) f = false
 changes_members (commands.Owner n who) f = false
 changes_members (commands.NoOwner n) f = false
+changes_members (commands.Archive n) f = false
+changes_members (commands.Unarchive n) f = false

@@ -178,6 +178,13 @@ fn clear_owner(shared: &mut Shared)
     shared.owner = None;
 }
 
+// Puts a bug into the archive, or takes it out.
+fn set_archived(shared: &mut Shared, archived: bool)
+    ensures { shared.new ≡ record shared.old { archived = archived } }
+{
+    shared.archived = archived;
+}
+
 // Makes of the shared fields of a set what a command makes of them.
 fn change(
     alloc: Global,
@@ -203,6 +210,8 @@ fn change(
         Command::NotForwarded(_) => clear_forwarded(shared),
         Command::Owner(_, who) => set_owner(alloc, shared, from, who)?,
         Command::NoOwner(_) => clear_owner(shared),
+        Command::Archive(_) => set_archived(shared, true),
+        Command::Unarchive(_) => set_archived(shared, false),
         Command::Retitle(_, _)
         | Command::Submitter(_, _)
         | Command::Merge(_, _)

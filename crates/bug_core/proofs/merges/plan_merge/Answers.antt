@@ -1,4 +1,4 @@
-use Rattle.std.proofs.Common.{◌≡◌, ℕ, List, ◌∷◌, sym, ap, ◌∙◌}
+use Rattle.std.proofs.Common.{◌≡◌, ℕ, false, List, ◌∷◌, sym, ap, ◌∙◌}
 use Rattle.bug_record.specs.Bugs.{first_refusal}
 use Rattle.bug_record.specs.Differences.{differing}
 use Rattle.bug_record.specs.Images.{bug_in}
@@ -7,7 +7,7 @@ use Rattle.bug_record.specs.Words.{first_bug_refusal}
 use Rattle.bug_record.specs.declared.bug.SetImage.{SetImage}
 use Rattle.bug_core.specs.Agreements.{difference_of}
 use Rattle.bug_core.specs.Others.{others}
-use Rattle.bug_core.proofs.MergeLemmas.{image_joined, merge-no_bug, merge-missing, merge-differs, merge-done}
+use Rattle.bug_core.proofs.MergeLemmas.{image_joined, merge-no_bug, merge-archived, merge-refused, merge-differs, merge-done}
 use Rattle.bug_core.proofs.NamedLemmas.{others-same, has-set_of}
 use Rattle.bug_core.proofs.merges.plan_merge.Goals as goal
 
@@ -16,19 +16,21 @@ returns-in_default c =
     merge-no_bug (difference_of c.args.agreement) c.args.images.now c.args.next c.args.first c.args.others.now
     c.in_default.ensures
 
-pub returns-in-Some-first_missing : goal.returns-in-Some-first_missing
-returns-in-Some-first_missing c =
-    merge-missing (difference_of c.args.agreement) c.args.images.now c.args.next c.args.first c.args.others.now
-    c.in-Some.image.now c.in-Some-first_missing.refusal c.in-Some.ensures
-    (ap (λ (is : List SetImage). first_bug_refusal (bug_in is) c.args.others.now) (sym c.in_ok-index.ensures)
-    ∙ sym c.first_missing.ensures ∙ c.in-Some-first_missing.is)
+pub returns-in-Some-first_refused : goal.returns-in-Some-first_refused
+returns-in-Some-first_refused c =
+    merge-refused (difference_of c.args.agreement) c.args.images.now c.args.next c.args.first c.args.others.now
+    c.in-Some.image.now c.in-Some-first_refused.refusal c.in-Some.ensures
+    (sym c.archived_refusal.ensures ∙ c.in_default-archived_refusal.is)
+    (ap (λ (is : List SetImage). first_bug_refusal false (bug_in is) c.args.others.now) (sym c.in_ok-index.ensures)
+    ∙ sym c.first_refused.ensures ∙ c.in-Some-first_refused.is)
 
 pub returns-in-Some-first_differing : goal.returns-in-Some-first_differing
 returns-in-Some-first_differing c =
     merge-differs (difference_of c.args.agreement) c.args.images.now c.args.next c.args.first c.args.others.now
     c.in-Some.image.now c.in-Some-first_differing.refusal c.in-Some.ensures
-    (ap (λ (is : List SetImage). first_bug_refusal (bug_in is) c.args.others.now) (sym c.in_ok-index.ensures)
-    ∙ sym c.first_missing.ensures ∙ c.in_default-first_missing.is)
+    (sym c.archived_refusal.ensures ∙ c.in_default-archived_refusal.is)
+    (ap (λ (is : List SetImage). first_bug_refusal false (bug_in is) c.args.others.now) (sym c.in_ok-index.ensures)
+    ∙ sym c.first_refused.ensures ∙ c.in_default-first_refused.is)
     (ap (λ (is : List SetImage). first_refusal (differing (difference_of c.args.agreement c.in-Some.image.now.shared)) (bug_in is)
     c.args.others.now) (sym c.in_ok-index.ensures) ∙ sym c.first_differing.ensures ∙ c.in-Some-first_differing.is)
 
@@ -47,10 +49,17 @@ returns c =
     ∙ ap (λ (ns : List ℕ). has ns n) numbers) c.args.images.now in
     merge-done (difference_of c.args.agreement) c.args.images.now c.args.next c.args.first c.args.others.now c.in-Some.image.now
     c.requires.apart c.in-Some.ensures
-    (ap (λ (is : List SetImage). first_bug_refusal (bug_in is) c.args.others.now) (sym c.in_ok-index.ensures)
-    ∙ sym c.first_missing.ensures ∙ c.in_default-first_missing.is)
+    (sym c.archived_refusal.ensures ∙ c.in_default-archived_refusal.is)
+    (ap (λ (is : List SetImage). first_bug_refusal false (bug_in is) c.args.others.now) (sym c.in_ok-index.ensures)
+    ∙ sym c.first_refused.ensures ∙ c.in_default-first_refused.is)
     (ap (λ (is : List SetImage). first_refusal (differing (difference_of c.args.agreement c.in-Some.image.now.shared)) (bug_in is)
     c.args.others.now) (sym c.in_ok-index.ensures) ∙ sym c.first_differing.ensures ∙ c.in_default-first_differing.is)
     c.in_ok-replace_by_one.field-0
     (c.in_ok-replace_by_one.ensures.images ∙ (λ j. joined j ∷ rest j))
     c.in_ok-replace_by_one.ensures.next
+
+pub returns-in-Some-archived_refusal : goal.returns-in-Some-archived_refusal
+returns-in-Some-archived_refusal c =
+    merge-archived (difference_of c.args.agreement) c.args.images.now c.args.next c.args.first c.args.others.now
+    c.in-Some.image.now c.in-Some-archived_refusal.refusal c.in-Some.ensures
+    (sym c.archived_refusal.ensures ∙ c.in-Some-archived_refusal.is)

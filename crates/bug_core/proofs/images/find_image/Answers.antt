@@ -4,7 +4,7 @@ use Rattle.std.proofs.lemmas.Iterator.Search.{find_from_yields_List}
 use Rattle.bug_record.specs.Sets.{has}
 use Rattle.bug_record.specs.Images.{numbers_of, image_with}
 use Rattle.bug_core.proofs.FindLemmas.{lent}
-use Rattle.bug_core.proofs.images.find.Goals as goal
+use Rattle.bug_core.proofs.images.find_image.Goals as goal
 
 pub returns : goal.returns
 returns c =

@@ -1,0 +1,40 @@
+use Rattle.std.proofs.Common.{◌≡◌, ℕ, Err, [], ◌∷◌, sym, ap, ◌∙◌, subst}
+use Rattle.bug_record.specs.Commands.{bug_named}
+use Rattle.bug_record.specs.Words.{may_be_archived}
+use Rattle.bug_record.specs.Steps.{records_changed}
+use Rattle.std.specs.Prelude.{map}
+use Rattle.record_changes.specs.Members.{member_after}
+use Rattle.bug_record.specs.declared.command.PlanFault.TheVariants.{Refused}
+use Rattle.bug_record.specs.declared.command.Refusal.TheVariants.{NoBug}
+use Rattle.std.proofs.lemmas.Str.{is_utf8-from_IsUtf8}
+use Rattle.bug_core.specs.Others.{others}
+use Rattle.bug_core.proofs.PlanLemmas.{records_step, planned-records, planned-memory, planned-nameless}
+use Rattle.bug_core.proofs.plans.change_records.Goals as goal
+
+pub returns-in-Err-Memory : goal.returns-in-Err-Memory
+returns-in-Err-Memory c = λ head r.
+    planned-memory (bug_named c.args.command.now ∷ []) (records_step head c.args.from.now c.args.command.now) c.args.images.now
+    c.args.next
+
+pub returns-in-Err-Refused : goal.returns-in-Err-Refused
+returns-in-Err-Refused c = λ head r.
+    let nameless = rw c.in-Err-Refused.field-0-is at c.in-Err-Refused.ensures.fault in
+    planned-nameless (bug_named c.args.command.now ∷ []) (records_step head c.args.from.now c.args.command.now) c.args.images.now
+    c.args.next (bug_named c.args.command.now) c.args.image.now (NoBug c.bug_named.result) tt c.requires.named nameless
+
+pub returns-in-Ok-changed_set : goal.returns-in-Ok-changed_set
+returns-in-Ok-changed_set c = λ head r.
+    planned-records head c.args.from.now c.args.command.now c.args.images.now c.args.next c.args.image.now
+    (c.requires.sender, is_utf8-from_IsUtf8 c.args.from.now c.utf8.from) c.requires.parts c.texts_are_utf8.ensures
+    c.requires.apart c.requires.named r
+    c.in-Ok-changed_set.change
+    (c.in-Ok-changed_set.ensures.images ∙ (λ j. record {
+      shared = c.in-Ok.ensures.value j;
+      members = map (member_after c.args.from.now c.args.command.now c.args.image.now.shared) c.args.image.now.members;
+    } ∷ others (bug_named c.args.command.now ∷ []) c.args.images.now))
+    c.in-Ok-changed_set.ensures.next
+
+pub returns-in-Err : goal.returns-in-Err
+returns-in-Err c = λ head r.
+    planned-memory (bug_named c.args.command.now ∷ []) (records_step head c.args.from.now c.args.command.now) c.args.images.now
+    c.args.next

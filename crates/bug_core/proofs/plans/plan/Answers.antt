@@ -1,0 +1,21 @@
+use Rattle.std.proofs.Common.{sym, subst}
+use Rattle.std.specs.Option.{option_copied}
+use Rattle.std.proofs.Common.{Result}
+use Rattle.bug_record.specs.Desk.{Desk}
+use Rattle.bug_record.specs.Plans.{IsPlanOf}
+use Rattle.bug_record.specs.declared.command.Refusal.{Refusal}
+use Rattle.bug_core.specs.Planned.{IsRefusedAs}
+use Rattle.bug_core.proofs.StepLemmas.{step-with}
+use Rattle.bug_core.proofs.plans.plan.Goals as goal
+
+pub returns-clause-right : goal.returns-clause-right
+returns-clause-right c = λ d sh head.
+    subst (λ (after : Result Desk Refusal). IsPlanOf d after c.plan_command.result)
+    (step-with d (option_copied c.args.open_head) c.args.from.now c.args.command.now head)
+    (c.plan_command.ensures.right d sh)
+
+pub returns-clause-refusals : goal.returns-clause-refusals
+returns-clause-refusals c = λ d next known names head.
+    subst (λ (after : Result Desk Refusal). IsRefusedAs after c.plan_command.result)
+    (step-with d (option_copied c.args.open_head) c.args.from.now c.args.command.now head)
+    (c.plan_command.ensures.refusals d next known names)
