@@ -5,6 +5,7 @@ pub mod LineLemmas
 pub mod ReadLemmas
 pub mod WalkLemmas
 pub mod BranchLemmas
+pub mod ParentLemmas
 pub mod AncestorLemmas
 pub mod ChangeLemmas
 pub mod RepeatLemmas

@@ -5,3 +5,4 @@ pub mod Branches
 pub mod Statuses
 -- definitions that only private functions cite
 pub mod Changes
+pub mod Kept

@@ -9,6 +9,7 @@ ghost use Rattle.debver.specs.Cut.{IsVersion};
 ghost use Rattle.debver.specs.Versions.{total_cmp};
 ghost use Rattle.ancestry.specs.Nodes.{node, IsNode, IsRead, is_slash, node_of, node_of_text, node_at, node_text, same_node};
 ghost use Rattle.ancestry.specs.Nodes.{node_cmp};
+ghost use Rattle.ancestry.specs.Kept.{lowest_version};
 ghost use Rattle.ancestry.specs.NodeLaws.{same_node_equiv, node_cmp_total, node_ties};
 
 use crate::fault::NodeFault;
@@ -60,6 +61,11 @@ fn node_of(alloc: Global, source: &str, version: &str) -> Result<Node, NodeFault
     }
 }
 
+// The version that comes first of all in the total order: no version is longer, and a tilde comes
+// before the end of a text and before all other characters.
+const LOWEST: &str =
+    "~~~~~~~~~~~~~~~~~~~~~~~~~~~~~~~~~~~~~~~~~~~~~~~~~~~~~~~~~~~~~~~~~~~~~~~~~~~~~~~~~~~~~~~~~~~~~~~~~~~~";
+
 /// What precedes the first slash and what follows it, where there is one.
 pub fn at_first_slash(text: &str) -> Option<(&str, &str)>
     ensures slash { is_some result ≡ list_any is_slash text.now }
@@ -97,6 +103,14 @@ impl Node {
             Some((own, version)) => node_of(alloc, own, version),
             None => node_of(alloc, package, word),
         }
+    }
+
+    // The node of a package that comes before its other nodes. Errors: `BadNode` where the text is no
+    // package name, and `Memory`.
+    pub(crate) fn lowest(alloc: Global, source: &str) -> Result<Node, NodeFault>
+        ensures { IsRead (node_of source.now lowest_version) result }
+    {
+        node_of(alloc, source, LOWEST)
     }
 
     /// The name of the source package.

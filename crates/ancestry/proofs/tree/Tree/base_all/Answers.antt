@@ -12,7 +12,7 @@ pub loop-place-init : goal.loop-place-init
 loop-place-init c =
     let t = c.args.self.now in
     let all = c.in-Some.ensures.cases.0 in
-    let forest : IsForest t = subst IsForest c.self.view_is c.self.invariant in
+    let forest : IsForest t = subst IsForest c.self.view_is c.self.invariant.0 in
     record {
       left = ap (base_all 0 t) (sym all);
       here = subst (λ ns. has_node ns c.in-Some.node.now ≡ true) (sym all) (has_head c.in-Some.node.now c.in-Some.others.now);

@@ -10,7 +10,7 @@ invariant_of-self-2 c =
     let t = c.self.inside.links.entries in
     subst IsForest (sym c.in_ok-insert.ensures.entries)
     (subst (λ m. IsForest (insert_entry node_cmp t m None)) (sym c.in_ok-copy.ensures.value)
-    (learnt_forest t c.args.node.now c.self.invariant (sym c.contains_key.ensures ∙ c.if-contains_key.false)
+    (learnt_forest t c.args.node.now c.self.invariant.0 (sym c.contains_key.ensures ∙ c.if-contains_key.false)
     c.copy.ensures.valid))
 
 pub returns-clause-forest : goal.returns-clause-forest
@@ -18,5 +18,5 @@ returns-clause-forest c =
     let t = c.self.inside.links.entries in
     subst IsForest (sym c.in_ok-insert.ensures.entries)
     (subst (λ m. IsForest (insert_entry node_cmp t m None)) (sym c.in_ok-copy.ensures.value)
-    (learnt_forest t c.args.node.now c.self.invariant (sym c.contains_key.ensures ∙ c.if-contains_key.false)
+    (learnt_forest t c.args.node.now c.self.invariant.0 (sym c.contains_key.ensures ∙ c.if-contains_key.false)
     c.copy.ensures.valid))

@@ -22,7 +22,7 @@ invariant_of-self-2 c =
     subst IsForest (sym c.in_ok-insert.ensures.entries)
     (at_copies t c.self.inside.links.entries n p c.in_ok-node.node c.in_ok-parent.parent c.self.view_is c.in_ok-node.ensures.value
     c.in_ok-parent.ensures.value
-    (based_forest t n p (subst IsForest c.self.view_is c.self.invariant) r.knows_node r.knows_parent r.root r.apart))
+    (based_forest t n p (subst IsForest c.self.view_is c.self.invariant.0) r.knows_node r.knows_parent r.root r.apart))
 
 pub returns-clause-forest : goal.returns-clause-forest
 returns-clause-forest c =
@@ -33,4 +33,4 @@ returns-clause-forest c =
     subst IsForest (sym c.in_ok-insert.ensures.entries)
     (at_copies t c.self.inside.links.entries n p c.in_ok-node.node c.in_ok-parent.parent c.self.view_is c.in_ok-node.ensures.value
     c.in_ok-parent.ensures.value
-    (based_forest t n p (subst IsForest c.self.view_is c.self.invariant) r.knows_node r.knows_parent r.root r.apart))
+    (based_forest t n p (subst IsForest c.self.view_is c.self.invariant.0) r.knows_node r.knows_parent r.root r.apart))

@@ -30,7 +30,7 @@ returns-in-Ok-take_all-clause-exact c =
 pub invariant_of-self : goal.invariant_of-self
 invariant_of-self c =
     let t = c.args.self.now in
-    let forest : IsForest t = subst IsForest c.self.view_is c.self.invariant in
+    let forest : IsForest t = subst IsForest c.self.view_is c.self.invariant.0 in
     let same = c.put_back.ensures t forest (c.as_slice.ensures.value ∙ c.in-Ok.ensures)
     (subst (Extends t c.args.nodes.now) (sym c.self-2.view_is) c.take_all.ensures.extends) in
     subst IsForest (sym same) forest
@@ -39,7 +39,7 @@ pub returns-clause-exact : goal.returns-clause-exact
 returns-clause-exact c =
     let t = c.args.self.now in
     let nodes = c.args.nodes.now in
-    let forest : IsForest t = subst IsForest c.self.view_is c.self.invariant in
+    let forest : IsForest t = subst IsForest c.self.view_is c.self.invariant.0 in
     let same = c.put_back.ensures t forest (c.as_slice.ensures.value ∙ c.in-Ok.ensures)
     (subst (Extends t nodes) (sym c.self-2.view_is) c.take_all.ensures.extends) in
     let made = branched_taken t nodes (sym c.is_empty.ensures ∙ c.if-is_empty.false) c.if-nodes-gt-MOST_NODES.false
@@ -49,7 +49,7 @@ returns-clause-exact c =
 pub returns-clause-forest : goal.returns-clause-forest
 returns-clause-forest c =
     let t = c.args.self.now in
-    let forest : IsForest t = subst IsForest c.self.view_is c.self.invariant in
+    let forest : IsForest t = subst IsForest c.self.view_is c.self.invariant.0 in
     let same = c.put_back.ensures t forest (c.as_slice.ensures.value ∙ c.in-Ok.ensures)
     (subst (Extends t c.args.nodes.now) (sym c.self-2.view_is) c.take_all.ensures.extends) in
     subst IsForest (sym same) forest

@@ -1,0 +1,18 @@
+-- What a tree keeps beside the links, and where the nodes of a package begin. This project's own
+-- rule.
+use Rattle.std.specs.Prelude.{ℕ, ◌≡◌, ◌&&◌, Bool, false, not, List, replicate}
+use Rattle.std.specs.BTreeSet.{BTreeSet, contains}
+use Rattle.ancestry.specs.Nodes.{Node, node_cmp}
+use Rattle.ancestry.specs.Trees.{Ancestry, has_node, is_parent}
+
+-- the set has the nodes that are some node's parent, and no others
+abbrev pub AreParents : Ancestry → BTreeSet Node → Type 0
+AreParents t parents = (n : Node) → contains node_cmp parents n ≡ is_parent t n
+
+-- one test says of a node what another said, but where that failed for a node of the list
+abbrev pub Adds : (Node → Bool) → List Node → (Node → Bool) → Type 0
+Adds was nodes now = (n : Node) → (has_node nodes n && not (was n)) ≡ false → now n ≡ was n
+
+-- a hundred tildes: the version that comes first in the total order
+abbrev pub lowest_version : List ℕ
+lowest_version = replicate 100 126
