@@ -190,7 +190,9 @@ impl Tree {
         ensures forest { OnOk result (IsForest self.new) }
         ensures err { OnErr result (self.new ≡ self.old) }
     {
-        let (node, parent, marked) = (node.copy()?, parent.copy()?, parent.copy()?);
+        let node = node.copy()?;
+        let marked = parent.copy()?;
+        let parent = parent.copy()?;
         self.parents.insert(marked)?;
         self.links.insert(node, Some(parent))?;
         Ok(())
