@@ -106,6 +106,11 @@ kept_based t n p s s' root are made q =
     ∙ sym (parents_put t n (Some p) q root ∙ ap (λ b. b || is_parent t q) (same_back p q other)))
     (cases_Bool (same_node p q))
 
+-- what a branch adds to the parents, it adds to the set
+pub adds_kept : (was : Node → Bool) (nodes : List Node) (t : Ancestry) (s : BTreeSet Node) → Adds was nodes (is_parent t)
+    → AreParents t s → Adds was nodes (contains node_cmp s)
+adds_kept was nodes t s a are q off = are q ∙ a q off
+
 -- ---- putting back
 
 -- a node that was a parent stays
