@@ -1,2 +1,79 @@
-use Rattle.ancestry.proofs.LowestLemmas.{lowest_below}
-use Rattle.ancestry.proofs.HeadLemmas.{listed_valid}
+use Rattle.std.proofs.Common.{◌≡◌, ◌++◌, ◌∷◌, [], Err, true, false, sym, ap, ◌∙◌, subst, not, ◌&&◌}
+use Rattle.std.specs.Prelude.{filter}
+use Rattle.std.specs.List.Sorted.{IsStrictlySortedBy}
+use Rattle.std.specs.Ordering.{is_le}
+use Rattle.ancestry.specs.Nodes.{node_cmp, node_of, IsRead}
+use Rattle.ancestry.specs.Trees.{is_parent, heads, IsForest}
+use Rattle.ancestry.specs.Kept.{lowest_version}
+use Rattle.ancestry.proofs.HeadLemmas.{no_heads, no_source, at_lowest, one_found, none_found, found_before, found_all, heads_ascend}
+use Rattle.ancestry.proofs.HeadLemmas.{of_source, of_other}
+use Rattle.ancestry.proofs.tree.Tree.heads.Goals as goal
+use Rattle.ancestry.proofs.tree.Tree.heads.Goals.{in-None, in-Some+then-ne}
+
+pub returns-in-Err-BadNode-clause-value : goal.returns-in-Err-BadNode-clause-value
+returns-in-Err-BadNode-clause-value c =
+    let t = c.args.self.now in
+    let source = c.args.source.now in
+    c.new-heads.ensures.items
+    ∙ sym (no_heads t source (subst IsForest c.self.view_is c.self.invariant.0)
+    (no_source source (subst (λ z. IsRead (node_of source lowest_version) (Err z)) c.in-Err-BadNode.field-0-is
+    c.in-Err-BadNode.ensures)))
+
+pub returns-in-Err-BadNode-clause-ascending : goal.returns-in-Err-BadNode-clause-ascending
+unfolding IsStrictlySortedBy
+returns-in-Err-BadNode-clause-ascending c = subst (IsStrictlySortedBy node_cmp) (sym c.new-heads.ensures.items) tt
+
+pub loop-node-init : goal.loop-node-init
+loop-node-init c =
+    let low = c.in-Ok.lowest in
+    at_lowest c.args.self.now c.args.source.now low c.new-heads.result.items c.into_iter-node-iterator.result
+    (subst IsForest c.self.view_is c.self.invariant.0) c.in-Ok.ensures c.new-heads.ensures.items
+    (c.into_iter-node-iterator.ensures.into_iter_gives ∙ c.range-node-items.ensures.between tt
+    ∙ ap (filter (λ e. is_le (node_cmp low e.0) && not false)) c.self.view_is)
+
+pub loop-node-preserved-in_ok-push : goal.loop-node-preserved-in_ok-push
+loop-node-preserved-in_ok-push c =
+    let n = c.in-Some.node.now in
+    one_found c.args.self.now c.args.source.now c.loop-node.heads.items c.loop-node.node-iterator n
+    c.in-Some.field-0-1.now c.next.new.self c.loop-node.invariant c.in-Some.ensures.steps c.push.new.self.items
+    (of_source c.source.result.now c.args.source.now n c.ne.result c.source.ensures.value c.ne.ensures c.if-ne.false)
+    (subst (λ t. is_parent t n ≡ false) c.self.view_is
+    (sym (c.self.invariant.1 n) ∙ sym c.contains.ensures ∙ c.if-not-contains.true))
+    (c.in_ok-push.ensures.items ∙ ap (λ m. c.loop-node.heads.items ++ m ∷ []) c.in_ok-copy.ensures.value)
+
+pub loop-node-preserved : goal.loop-node-preserved
+loop-node-preserved c =
+    let n = c.in-Some.node.now in
+    none_found c.args.self.now c.args.source.now c.loop-node.heads.items c.loop-node.node-iterator n
+    c.in-Some.field-0-1.now c.next.new.self c.loop-node.invariant c.in-Some.ensures.steps
+    (subst (λ t. is_parent t n ≡ true) c.self.view_is
+    (sym (c.self.invariant.1 n) ∙ sym c.contains.ensures ∙ c.if-not-contains.false))
+
+pub returns-clause-value : goal.returns-clause-value
+returns-clause-value c =
+    let source = c.args.source.now in
+    let so_far = c.loop-node.invariant in
+    elim c.match-next.branch [
+      | in-None w ↦ found_all c.args.self.now source c.loop-node.heads.items c.loop-node.node-iterator so_far
+          w.in-None.ensures.steps.0
+      | in-Some+then-ne w ↦
+          let n = w.in-Some.node.now in
+          found_before c.args.self.now source c.loop-node.heads.items c.loop-node.node-iterator n w.in-Some.field-0-1.now
+          c.next.new.self so_far w.in-Some.ensures.steps
+          (of_other w.source.result.now source n w.ne.result w.source.ensures.value w.ne.ensures w.if-ne.true)
+    ]
+
+pub returns-clause-ascending : goal.returns-clause-ascending
+returns-clause-ascending c =
+    let t = c.args.self.now in
+    let source = c.args.source.now in
+    let so_far = c.loop-node.invariant in
+    let all : c.loop-node.heads.items ≡ heads t source = elim c.match-next.branch [
+      | in-None w ↦ found_all t source c.loop-node.heads.items c.loop-node.node-iterator so_far w.in-None.ensures.steps.0
+      | in-Some+then-ne w ↦
+          let n = w.in-Some.node.now in
+          found_before t source c.loop-node.heads.items c.loop-node.node-iterator n w.in-Some.field-0-1.now
+          c.next.new.self so_far w.in-Some.ensures.steps
+          (of_other w.source.result.now source n w.ne.result w.source.ensures.value w.ne.ensures w.if-ne.true)
+    ] in
+    subst (IsStrictlySortedBy node_cmp) (sym all) (heads_ascend t source (subst IsForest c.self.view_is c.self.invariant.0))
