@@ -243,20 +243,3 @@ found_all t source found rest left e =
 
 pub heads_ascend : (t : Ancestry) (source : List ℕ) → IsForest t → IsStrictlySortedBy node_cmp (heads t source)
 heads_ascend t source forest = IsStrictlySortedBy-filter node_cmp (is_head t source) (keys_of t) forest.ascending
-
--- the test of the loop, by the texts
-pub of_source : (text source : List ℕ) (n : Node) (differs : Bool) → text ≡ n.source → differs ≡ not (bytes_eq text source)
-    → differs ≡ false → bytes_eq n.source source ≡ true
-of_source text source n differs e f h = ap (λ s. bytes_eq s source) (sym e) ∙ of_not (bytes_eq text source) (sym f ∙ h)
-  where
-    of_not : (b : Bool) → not b ≡ false → b ≡ true
-    of_not true g = refl
-    of_not false g = absurd (cc)
-
-pub of_other : (text source : List ℕ) (n : Node) (differs : Bool) → text ≡ n.source → differs ≡ not (bytes_eq text source)
-    → differs ≡ true → bytes_eq n.source source ≡ false
-of_other text source n differs e f h = ap (λ s. bytes_eq s source) (sym e) ∙ of_not (bytes_eq text source) (sym f ∙ h)
-  where
-    of_not : (b : Bool) → not b ≡ true → b ≡ false
-    of_not true g = absurd (cc)
-    of_not false g = refl

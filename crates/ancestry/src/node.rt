@@ -2,6 +2,7 @@
 
 ghost use Rattle.std.specs.Prelude.{◌≡◌, refl, is_some, Some, IfSome, IfOk};
 ghost use Rattle.std.specs.List.{list_any, before_first, after_first};
+ghost use Rattle.std.specs.Str.{bytes_eq};
 ghost use Rattle.std.specs.Cmp.{po, partial_equiv_from_equiv};
 ghost use Rattle.std.specs.Ordering.{as_partial_cmp};
 ghost use Rattle.debver.specs.Names.{IsName};
@@ -138,6 +139,13 @@ impl Node {
             source: self.source.copy()?,
             version: self.version.copy()?,
         })
+    }
+
+    // Whether this is the source package of the node.
+    pub(crate) fn is_of(&self, source: &str) -> bool
+        ensures { result ≡ bytes_eq self.now.source source.now }
+    {
+        self.source() == source
     }
 
     // The total order of the versions alone.

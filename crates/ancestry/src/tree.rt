@@ -93,7 +93,7 @@ impl Tree {
             Err(NodeFault::Memory) => return Err(AllocError),
         };
         for (node, _) in self.links.range(lowest..) {
-            if node.source() != source {
+            if !node.is_of(source) {
                 break;
             }
             if !self.parents.contains(node) {

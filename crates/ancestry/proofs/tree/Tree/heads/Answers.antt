@@ -6,9 +6,8 @@ use Rattle.ancestry.specs.Nodes.{node_cmp, node_of, IsRead}
 use Rattle.ancestry.specs.Trees.{is_parent, heads, IsForest}
 use Rattle.ancestry.specs.Kept.{lowest_version}
 use Rattle.ancestry.proofs.HeadLemmas.{no_heads, no_source, at_lowest, one_found, none_found, found_before, found_all, heads_ascend}
-use Rattle.ancestry.proofs.HeadLemmas.{of_source, of_other}
 use Rattle.ancestry.proofs.tree.Tree.heads.Goals as goal
-use Rattle.ancestry.proofs.tree.Tree.heads.Goals.{in-None, in-Some+then-ne}
+use Rattle.ancestry.proofs.tree.Tree.heads.Goals.{in-None, in-Some+then-not-is_of}
 
 pub returns-in-Err-BadNode-clause-value : goal.returns-in-Err-BadNode-clause-value
 returns-in-Err-BadNode-clause-value c =
@@ -36,7 +35,7 @@ loop-node-preserved-in_ok-push c =
     let n = c.in-Some.node.now in
     one_found c.args.self.now c.args.source.now c.loop-node.heads.items c.loop-node.node-iterator n
     c.in-Some.field-0-1.now c.next.new.self c.loop-node.invariant c.in-Some.ensures.steps c.push.new.self.items
-    (of_source c.source.result.now c.args.source.now n c.ne.result c.source.ensures.value c.ne.ensures c.if-ne.false)
+    (sym c.is_of.ensures ∙ c.if-not-is_of.false)
     (subst (λ t. is_parent t n ≡ false) c.self.view_is
     (sym (c.self.invariant.1 n) ∙ sym c.contains.ensures ∙ c.if-not-contains.true))
     (c.in_ok-push.ensures.items ∙ ap (λ m. c.loop-node.heads.items ++ m ∷ []) c.in_ok-copy.ensures.value)
@@ -56,11 +55,11 @@ returns-clause-value c =
     elim c.match-next.branch [
       | in-None w ↦ found_all c.args.self.now source c.loop-node.heads.items c.loop-node.node-iterator so_far
           w.in-None.ensures.steps.0
-      | in-Some+then-ne w ↦
+      | in-Some+then-not-is_of w ↦
           let n = w.in-Some.node.now in
           found_before c.args.self.now source c.loop-node.heads.items c.loop-node.node-iterator n w.in-Some.field-0-1.now
           c.next.new.self so_far w.in-Some.ensures.steps
-          (of_other w.source.result.now source n w.ne.result w.source.ensures.value w.ne.ensures w.if-ne.true)
+          (sym w.is_of.ensures ∙ w.if-not-is_of.true)
     ]
 
 pub returns-clause-ascending : goal.returns-clause-ascending
@@ -70,10 +69,10 @@ returns-clause-ascending c =
     let so_far = c.loop-node.invariant in
     let all : c.loop-node.heads.items ≡ heads t source = elim c.match-next.branch [
       | in-None w ↦ found_all t source c.loop-node.heads.items c.loop-node.node-iterator so_far w.in-None.ensures.steps.0
-      | in-Some+then-ne w ↦
+      | in-Some+then-not-is_of w ↦
           let n = w.in-Some.node.now in
           found_before t source c.loop-node.heads.items c.loop-node.node-iterator n w.in-Some.field-0-1.now
           c.next.new.self so_far w.in-Some.ensures.steps
-          (of_other w.source.result.now source n w.ne.result w.source.ensures.value w.ne.ensures w.if-ne.true)
+          (sym w.is_of.ensures ∙ w.if-not-is_of.true)
     ] in
     subst (IsStrictlySortedBy node_cmp) (sym all) (heads_ascend t source (subst IsForest c.self.view_is c.self.invariant.0))
