@@ -123,7 +123,7 @@ impl Tree {
     fn are_parents(&self, nodes: &[Node]) -> Result<Vec<bool>, AllocError>
         ensures { IfOk result (λ are. are.items ≡ map (is_parent self.now) nodes.now) }
     {
-        nodes.iter().map(|node| self.parents.contains(node)).collect(self.alloc)
+        nodes.iter().map(|node| self.is_parent(node)).collect(self.alloc)
     }
 
     // Makes a node known.
@@ -180,7 +180,7 @@ impl Tree {
         }
     }
 
-    // Gives a root its parent.
+    // Gives a root its parent, and puts that one among the parents.
     fn set_parent(&mut self, node: &Node, parent: &Node) -> Result<(), AllocError>
         requires knows_node { knows self.old node.now ≡ true }
         requires knows_parent { knows self.old parent.now ≡ true }

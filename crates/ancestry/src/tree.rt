@@ -4,7 +4,7 @@ ghost use Rattle.std.specs.Prelude.{◌≡◌, IfOk};
 ghost use Rattle.std.specs.List.Sorted.{IsStrictlySortedBy};
 ghost use Rattle.std.specs.Option.{option_copied};
 ghost use Rattle.ancestry.specs.Nodes.{node_cmp};
-ghost use Rattle.ancestry.specs.Trees.{no_nodes, knows, parent_of, IsLine, line, heads, IsForest};
+ghost use Rattle.ancestry.specs.Trees.{no_nodes, knows, parent_of, IsLine, line, is_parent, heads, IsForest};
 
 use crate::fault::NodeFault;
 use crate::node::Node;
@@ -79,6 +79,13 @@ impl Tree {
         Ok(nodes)
     }
 
+    // Whether a node is some node's parent.
+    pub(crate) fn is_parent(&self, node: &Node) -> bool
+        ensures { result ≡ is_parent self.now node.now }
+    {
+        self.parents.contains(node)
+    }
+
     /// The heads of a source package: copies of its known nodes that are no node's parent, in node
     /// order. A text that is no package name has none. The error is that there was no memory. It
     /// looks at the known nodes of the package alone, and at the one after them.
@@ -96,7 +103,7 @@ impl Tree {
             if !node.is_of(source) {
                 break;
             }
-            if !self.parents.contains(node) {
+            if !self.is_parent(node) {
                 heads.push(node.copy()?)?;
             }
         }

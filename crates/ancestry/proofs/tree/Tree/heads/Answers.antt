@@ -36,8 +36,7 @@ loop-node-preserved-in_ok-push c =
     one_found c.args.self.now c.args.source.now c.loop-node.heads.items c.loop-node.node-iterator n
     c.in-Some.field-0-1.now c.next.new.self c.loop-node.invariant c.in-Some.ensures.steps c.push.new.self.items
     (sym c.is_of.ensures ∙ c.if-not-is_of.false)
-    (subst (λ t. is_parent t n ≡ false) c.self.view_is
-    (sym (c.self.invariant.1 n) ∙ sym c.contains.ensures ∙ c.if-not-contains.true))
+    (sym c.is_parent.ensures ∙ c.if-not-is_parent.true)
     (c.in_ok-push.ensures.items ∙ ap (λ m. c.loop-node.heads.items ++ m ∷ []) c.in_ok-copy.ensures.value)
 
 pub loop-node-preserved : goal.loop-node-preserved
@@ -45,8 +44,7 @@ loop-node-preserved c =
     let n = c.in-Some.node.now in
     none_found c.args.self.now c.args.source.now c.loop-node.heads.items c.loop-node.node-iterator n
     c.in-Some.field-0-1.now c.next.new.self c.loop-node.invariant c.in-Some.ensures.steps
-    (subst (λ t. is_parent t n ≡ true) c.self.view_is
-    (sym (c.self.invariant.1 n) ∙ sym c.contains.ensures ∙ c.if-not-contains.false))
+    (sym c.is_parent.ensures ∙ c.if-not-is_parent.false)
 
 pub returns-clause-value : goal.returns-clause-value
 returns-clause-value c =
