@@ -1,5 +1,5 @@
 -- The heads of a package stand among its own nodes, which stand together.
-use Rattle.std.proofs.Common.{◌≡◌, ℕ, Bool, true, false, not, ◌&&◌, ◌||◌, cond, List, [], ◌∷◌, Option, Some, None, is_some, refl}
+use Rattle.std.proofs.Common.{◌≡◌, ℕ, Bool, true, false, not, ◌&&◌, cond, List, [], ◌∷◌, Option, Some, None, is_some, refl}
 use Rattle.std.proofs.Common.{Ordering, Less, Equal, Greater, sym, ap, ◌∙◌, subst, ⊎_elim}
 use Rattle.std.specs.Prelude.{filter}
 use Rattle.std.proofs.Common.{◌++◌, append_assoc, append-nil}
@@ -11,12 +11,11 @@ use Rattle.std.proofs.lemmas.List.Kept.{IsStrictlySortedBy-filter}
 use Rattle.std.proofs.lemmas.Map.Keys.{sorted_head, sorted_tail}
 use Rattle.std.proofs.lemmas.Map.Lookups.{exact_bytes}
 use Rattle.std.specs.Cmp.Lexicographic.{slice_cmp, nat_list_cmp_total, bytes_decides}
-use Rattle.std.specs.List.{AllByRecursion}
 use Rattle.std.specs.List.Sorted.{IsStrictlySortedBy}
 use Rattle.std.specs.Map.{keys_of}
 use Rattle.std.specs.Ordering.{nat_cmp, ordering_then, ordering_reverse, is_eq, is_le}
 use Rattle.std.specs.Str.{bytes_eq}
-use Rattle.ancestry.specs.Nodes.{Node, IsNode, node, node_of, node_cmp, same_node}
+use Rattle.ancestry.specs.Nodes.{Node, IsNode, node, node_of, node_cmp}
 use Rattle.ancestry.specs.Trees.{Ancestry, has_node, known_at, knows, is_parent, heads, IsForest}
 use Rattle.ancestry.specs.Kept.{lowest_version}
 use Rattle.ancestry.proofs.NodeLemmas.{has_head, has_tail, has_cases, at_first}
@@ -162,8 +161,11 @@ none_after t source e es ascending above off = none_kept (is_head t source) (e �
     after : (q : Node) → node_cmp e.0 q ≡ Less → bytes_eq q.source source ≡ false
     after q less =
         ⊎_elim
-        (λ yes. absurd (cc (less, ap (λ o. ordering_then o (total_cmp e.0.version q.version))
-        (ap (slice_cmp nat_cmp e.0.source) ((bytes_decides q.source source).0 yes) ∙ past))))
+        (λ yes. absurd (cc (
+          less,
+          ap (λ o. ordering_then o (total_cmp e.0.version q.version))
+              (ap (slice_cmp nat_cmp e.0.source) ((bytes_decides q.source source).0 yes) ∙ past),
+        )))
         (λ no_. no_)
         (cases_Bool (bytes_eq q.source source))
 

@@ -1,6 +1,6 @@
 -- The version of a hundred tildes comes first of all, and so the nodes of a package begin at it.
-use Rattle.std.proofs.Common.{◌≡◌, ℕ, ◌+◌, ◌-◌, ◌≤◌, ◌==◌, ◌<◌, ◌⊎◌, zero, suc, Bool, true, false, cond, List, [], ◌∷◌, ◌++◌, length, Option, Some, None}
-use Rattle.std.proofs.Common.{refl, sym, ap, ◌∙◌, subst, inl, inr, arith, append-nil}
+use Rattle.std.proofs.Common.{◌≡◌, ℕ, ◌+◌, ◌-◌, ◌≤◌, ◌==◌, ◌<◌, ◌⊎◌, zero, suc, true, false, cond, List, [], ◌∷◌, ◌++◌, length, Some}
+use Rattle.std.proofs.Common.{refl, sym, ap, ◌∙◌, inl, inr, arith, append-nil}
 use Rattle.std.proofs.lemmas.Bool.{cases_Bool, eqb-true}
 use Rattle.std.proofs.lemmas.Bool.Decides.{nat_tests}
 use Rattle.std.proofs.lemmas.List.{length-append}
@@ -8,12 +8,12 @@ use Rattle.std.specs.Cmp.{tied_itself}
 use Rattle.std.specs.Cmp.Lexicographic.{slice_cmp, nat_list_cmp_total}
 use Rattle.std.specs.Ordering.{nat_cmp, ordering_then, is_le}
 use Rattle.std.specs.declared.cmp.Ordering.{Ordering}
-use Rattle.std.specs.declared.cmp.Ordering.TheVariants.{Less, Equal, Greater}
-use Rattle.debver.specs.Characters.{is_digit, is_letter}
-use Rattle.debver.specs.Parts.{Version, epoch_text, revision_text, parts_of}
+use Rattle.std.specs.declared.cmp.Ordering.TheVariants.{Less}
+use Rattle.debver.specs.Characters.{is_digit}
+use Rattle.debver.specs.Parts.{epoch_text, revision_text}
 use Rattle.debver.specs.Cut.{cut, IsVersion}
 use Rattle.debver.specs.Keys.{key, key_from, weight, first_numbers, string_cmp}
-use Rattle.debver.specs.Versions.{epoch_value, revision_or_zero, text_cmp, total_cmp}
+use Rattle.debver.specs.Versions.{epoch_value, revision_or_zero, total_cmp}
 use Rattle.debver.proofs.OrderLaws.{total_cmp_total}
 use Rattle.ancestry.specs.Nodes.{Node, node, node_cmp}
 use Rattle.ancestry.specs.Kept.{tildes, lowest_version}

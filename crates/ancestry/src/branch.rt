@@ -123,7 +123,10 @@ impl Tree {
     fn are_parents(&self, nodes: &[Node]) -> Result<Vec<bool>, AllocError>
         ensures { IfOk result (λ are. are.items ≡ map (is_parent self.now) nodes.now) }
     {
-        nodes.iter().map(|node| self.is_parent(node)).collect(self.alloc)
+        nodes
+            .iter()
+            .map(|node| self.is_parent(node))
+            .collect(self.alloc)
     }
 
     // Makes a node known.

@@ -11,8 +11,7 @@ pub invariant_of-self-2 : goal.invariant_of-self-2
 invariant_of-self-2 c =
     let t = c.self.inside.links.entries in
     let parents = c.self.inside.parents in
-    let unknown = sym c.contains_key.ensures ∙ c.if-contains_key.false in
-    (
+    let unknown = sym c.contains_key.ensures ∙ c.if-contains_key.false in (
       subst IsForest (sym c.in_ok-insert.ensures.entries)
           (subst (λ m. IsForest (insert_entry node_cmp t m None)) (sym c.in_ok-copy.ensures.value)
           (learnt_forest t c.args.node.now c.self.invariant.0 unknown c.copy.ensures.valid)),

@@ -1,9 +1,8 @@
-use Rattle.std.proofs.Common.{◌≡◌, Some, sym, subst, ◌∙◌, ap, cond, true}
-use Rattle.std.specs.BTreeMap.{insert_entry}
+use Rattle.std.proofs.Common.{◌≡◌, sym, subst, cond, true}
 use Rattle.std.specs.BTreeSet.{contains}
 use Rattle.std.specs.Ordering.{is_eq}
 use Rattle.ancestry.specs.Nodes.{Node, node_cmp}
-use Rattle.ancestry.specs.Trees.{Ancestry, parent_of, IsForest}
+use Rattle.ancestry.specs.Trees.{Ancestry, IsForest}
 use Rattle.ancestry.specs.Branches.{with_parent}
 use Rattle.ancestry.specs.Kept.{AreParents}
 use Rattle.ancestry.proofs.BranchLemmas.{based_forest}
@@ -39,8 +38,7 @@ invariant_of-self-2 c =
     let after = c.insert.new.self in
     let made = subst (λ m. (q : Node) → contains node_cmp after q ≡ cond (is_eq (node_cmp m q)) true (contains node_cmp before q))
     c.in_ok-marked.ensures.value c.in_ok-insert.ensures.updates.0 in
-    let based = kept_based t n p before after r.root (subst (λ u. AreParents u before) c.self.view_is c.self.invariant.1) made in
-    (
+    let based = kept_based t n p before after r.root (subst (λ u. AreParents u before) c.self.view_is c.self.invariant.1) made in (
       subst IsForest (sym c.in_ok-insert-2.ensures.entries)
           (at_copies IsForest t c.self.inside.links.entries n p c.in_ok-node.node c.in_ok-parent.parent
           c.self.view_is c.in_ok-node.ensures.value c.in_ok-parent.ensures.value
