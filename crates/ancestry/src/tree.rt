@@ -88,7 +88,8 @@ impl Tree {
 
     /// The heads of a source package: copies of its known nodes that are no node's parent, in node
     /// order. A text that is no package name has none. The error is that there was no memory. It
-    /// looks at the known nodes of the package alone, and at the one after them.
+    /// goes through the known nodes of that package alone, up to the one after them; to find the
+    /// first, and whether each is a parent, is a look-up in a sorted map.
     pub fn heads(&self, source: &str) -> Result<Vec<Node>, AllocError>
         ensures value { IfOk result (λ nodes. nodes.items ≡ heads self.now source.now) }
         ensures ascending { IfOk result (λ nodes. IsStrictlySortedBy node_cmp nodes.items) }
