@@ -126,7 +126,8 @@ module _ (t : Ancestry) (source : List ℕ) (forest : IsForest t) where
 
   pub from_ascends : IsStrictlySortedBy node_cmp (keys_of from_lowest)
   from_ascends =
-      subst (IsStrictlySortedBy node_cmp) (sym (keys_kept in_range t)) (IsStrictlySortedBy-filter node_cmp in_range (keys_of t) forest.ascending)
+      subst (IsStrictlySortedBy node_cmp) (sym (keys_kept in_range t))
+      (IsStrictlySortedBy-filter node_cmp in_range (keys_of t) forest.ascending)
 
   pub from_above : (q : Node) → has_node (keys_of from_lowest) q ≡ true → is_le (node_cmp lowest q) ≡ true
   from_above q h = was_in_range q (kept_passed in_range t q h)
@@ -153,7 +154,8 @@ pub none_after : (t : Ancestry) (source : List ℕ) (e : Node × Option Node) (e
     → IsStrictlySortedBy node_cmp (keys_of (e ∷ es))
     → ((q : Node) → has_node (keys_of (e ∷ es)) q ≡ true → is_le (node_cmp (node source lowest_version) q) ≡ true)
     → bytes_eq e.0.source source ≡ false → filter (is_head t source) (keys_of (e ∷ es)) ≡ []
-none_after t source e es ascending above off = none_kept (is_head t source) (e ∷ es) (λ q g. ap (λ b. b && not (is_parent t q)) (other q g))
+none_after t source e es ascending above off =
+    none_kept (is_head t source) (e ∷ es) (λ q g. ap (λ b. b && not (is_parent t q)) (other q g))
   where
     past : slice_cmp nat_cmp e.0.source source ≡ Greater
     past = past_source source e.0 (above e.0 (has_head e.0 (keys_of es))) off
@@ -176,11 +178,13 @@ none_after t source e es ascending above off = none_kept (is_head t source) (e �
         (λ more. after q (above_has e.0 q (keys_of es) (sorted_head node_cmp e.0 (keys_of es) ascending) more))
 
 -- a text of which there is no node is the source of none
-pub no_source : (source : List ℕ) → node_of source lowest_version ≡ None → (n : Node) → IsNode n → bytes_eq n.source source ≡ false
+pub no_source : (source : List ℕ) → node_of source lowest_version ≡ None → (n : Node) → IsNode n
+    → bytes_eq n.source source ≡ false
 no_source source h n valid =
     ⊎_elim
     (λ yes. let name = subst IsName ((bytes_decides n.source source).0 yes) valid.source in
-    absurd (cc (h, (nodes_exactly source lowest_version (node source lowest_version)).1 (refl, name, version_is lowest_version refl))))
+    let low = node source lowest_version in
+    absurd (cc (h, (nodes_exactly source lowest_version low).1 (refl, name, version_is lowest_version refl))))
     (λ other. other)
     (cases_Bool (bytes_eq n.source source))
 
@@ -210,10 +214,10 @@ module _ (t : Ancestry) (source : List ℕ) (found : List Node) (rest : Ancestry
   here = subst (Left t source found) e left
 
   -- a node that is a head is found
-  pub one_found : (found' : List Node) → bytes_eq n.source source ≡ true → is_parent t n ≡ false → found' ≡ found ++ n ∷ []
-      → Left t source found' more
-  one_found found' of_source none is = record {
-    all = ap (λ ns. ns ++ filter (is_head t source) (keys_of more)) is
+  pub one_found : (found' : List Node) (m : Node) → bytes_eq n.source source ≡ true → is_parent t n ≡ false
+      → found' ≡ found ++ m ∷ [] → m ≡ n → Left t source found' more
+  one_found found' m of_source none is same = record {
+    all = ap (λ ns. ns ++ filter (is_head t source) (keys_of more)) (is ∙ ap (λ q. found ++ q ∷ []) same)
         ∙ append_assoc found (n ∷ []) (filter (is_head t source) (keys_of more))
         ∙ sym (ap (λ b. found ++ cond b (n ∷ filter (is_head t source) (keys_of more)) (filter (is_head t source) (keys_of more)))
         (λ i. of_source i && not (none i)))
@@ -235,7 +239,8 @@ module _ (t : Ancestry) (source : List ℕ) (found : List Node) (rest : Ancestry
   -- a node of another source ends the walk
   pub found_before : bytes_eq n.source source ≡ false → found ≡ heads t source
   found_before off =
-      sym (append-nil found) ∙ ap (λ ns. found ++ ns) (sym (none_after t source (n, v) more here.ascending here.above off)) ∙ here.all
+      let none = none_after t source (n, v) more here.ascending here.above off in
+      sym (append-nil found) ∙ ap (λ ns. found ++ ns) (sym none) ∙ here.all
 
 -- and so does the end of the links
 pub found_all : (t : Ancestry) (source : List ℕ) (found : List Node) (rest : Ancestry) → Left t source found rest → rest ≡ []

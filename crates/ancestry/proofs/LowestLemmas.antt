@@ -1,6 +1,6 @@
 -- The version of a hundred tildes comes first of all, and so the nodes of a package begin at it.
-use Rattle.std.proofs.Common.{◌≡◌, ℕ, ◌+◌, ◌-◌, ◌≤◌, ◌==◌, ◌<◌, ◌⊎◌, zero, suc, true, false, cond, List, [], ◌∷◌, ◌++◌, length, Some}
-use Rattle.std.proofs.Common.{refl, sym, ap, ◌∙◌, inl, inr, arith, append-nil}
+use Rattle.std.proofs.Common.{◌≡◌, ℕ, ◌+◌, ◌-◌, ◌≤◌, ◌==◌, ◌<◌, ◌⊎◌, zero, suc, true, false, cond, List, [], ◌∷◌, ◌++◌, length}
+use Rattle.std.proofs.Common.{Bool, Some, refl, sym, ap, ◌∙◌, inl, inr, arith, append-nil}
 use Rattle.std.proofs.lemmas.Bool.{cases_Bool, eqb-true}
 use Rattle.std.proofs.lemmas.Bool.Decides.{nat_tests}
 use Rattle.std.proofs.lemmas.List.{length-append}
@@ -52,12 +52,13 @@ tildes_first (suc k) (suc n) (c ∷ s) l h = by_first (tildes_first k n s (omega
     by_first : (upto n (key (tildes k)) (key s) ≡ Less) ⊎ (s ≡ tildes k)
         → (upto (suc n) (key (tildes (suc k))) (key (c ∷ s)) ≡ Less) ⊎ (c ∷ s ≡ tildes (suc k))
     by_first rest =
+        let step : Bool → List ℕ = λ b. cond b (1 ∷ key_from (Some (c - 48)) s) (weight c ∷ key s) in
         elim (cases_Bool (is_digit c)) [
           | inl digit ↦
-              inl (ap (λ b. upto (suc n) (key (tildes (suc k))) (cond b (1 ∷ key_from (Some (c - 48)) s) (weight c ∷ key s))) digit
+              inl (ap (λ b. upto (suc n) (key (tildes (suc k))) (step b)) digit
               ∙ zero_first n (key (tildes k)) (key_from (Some (c - 48)) s) 1 (omega arith))
           | inr other ↦
-              let e : key (c ∷ s) ≡ weight c ∷ key s = ap (λ b. cond b (1 ∷ key_from (Some (c - 48)) s) (weight c ∷ key s)) other in
+              let e : key (c ∷ s) ≡ weight c ∷ key s = ap step other in
               elim (cases_Bool (c == 126)) [
                 | inl tilde ↦ again e (eqb-true c 126 tilde) rest
                 | inr off ↦ inl (longer e off)
@@ -102,7 +103,8 @@ lowest_first v version =
     by_upstream (inl less) =
         ap (λ o. is_le (by_parts_cmp (epoch_value (cut v)) o (string_cmp (48 ∷ []) (revision_or_zero (cut v)))
         (slice_cmp nat_cmp lowest_version v))) less
-        ∙ lower_upstream (epoch_value (cut v)) (string_cmp (48 ∷ []) (revision_or_zero (cut v))) (slice_cmp nat_cmp lowest_version v)
+        ∙ lower_upstream (epoch_value (cut v)) (string_cmp (48 ∷ []) (revision_or_zero (cut v)))
+        (slice_cmp nat_cmp lowest_version v)
     by_upstream (inr same) =
         let w = cut v in
         let is : v ≡ lowest_version = whole_part v (epoch_text w.epoch) w.upstream (revision_text w.revision) version.cut.whole

@@ -32,12 +32,14 @@ parents_put (e ∷ t) n v q root = by_order (node_cmp n e.0) refl (parents_put t
     at r o = sym (ap (λ x. option_flatten (cond (is_eq x) (Some e.1) (known_at t n))) o) ∙ root
 
     by_order : (r : Ordering) → node_cmp n e.0 ≡ r
-        → (parent_of t n ≡ None → is_parent (insert_entry node_cmp t n v) q ≡ (option_map_or (same_node q) v false || is_parent t q))
+        → (parent_of t n ≡ None
+        → is_parent (insert_entry node_cmp t n v) q ≡ (option_map_or (same_node q) v false || is_parent t q))
         → is_parent (insert_entry node_cmp (e ∷ t) n v) q ≡ (option_map_or (same_node q) v false || is_parent (e ∷ t) q)
     by_order Less o again = ap (λ u. is_parent u q) (put_step n v e t Less o)
     by_order Equal o again =
         ap (λ u. is_parent u q) (put_step n v e t Equal o)
-        ∙ ap (λ p. option_map_or (same_node q) v false || (option_map_or (same_node q) p false || is_parent t q)) (sym (at Equal o))
+        ∙ ap (λ p. option_map_or (same_node q) v false || (option_map_or (same_node q) p false || is_parent t q))
+        (sym (at Equal o))
     by_order Greater o again =
         ap (λ u. is_parent u q) (put_step n v e t Greater o)
         ∙ ap (λ b. option_map_or (same_node q) e.1 false || b) (again (at Greater o))
@@ -51,12 +53,13 @@ adds_same f g nodes e q h = e q
 pub adds_also : (f g h : Node → Bool) (nodes : List Node) → Adds f nodes g → Adds g nodes h → Adds f nodes h
 adds_also f g h nodes a b q off = let e = a q off in b q (ap (λ x. has_node nodes q && not x) e ∙ off) ∙ e
 
-adds_one : (f g : Node → Bool) (nodes : List Node) (p : Node) → has_node nodes p ≡ true → ((q : Node) → g q ≡ (same_node q p || f q))
-    → Adds f nodes g
+adds_one : (f g : Node → Bool) (nodes : List Node) (p : Node) → has_node nodes p ≡ true
+    → ((q : Node) → g q ≡ (same_node q p || f q)) → Adds f nodes g
 adds_one f g nodes p here e q off =
     ⊎_elim
     (λ yes. e q ∙ ap (λ b. b || f q) yes
-    ∙ sym (was_true (f q) (sym (ap (λ m. has_node nodes m && not (f q)) (same_true q p yes) ∙ ap (λ b. b && not (f q)) here) ∙ off)))
+    ∙ sym (was_true (f q)
+    (sym (ap (λ m. has_node nodes m && not (f q)) (same_true q p yes) ∙ ap (λ b. b && not (f q)) here) ∙ off)))
     (λ other. e q ∙ ap (λ b. b || f q) other)
     (cases_Bool (same_node q p))
   where
@@ -80,7 +83,8 @@ adds_base t u nodes n p here h = by_tests (is_ancestor t p n) (parent_of t n) re
     at_equal w e a = subst (λ x. Adds (is_parent t) nodes (is_parent x)) e a
 
     by_tests : (a : Bool) (o : Option Node) → parent_of t n ≡ o → (c : Bool)
-        → cond a (Some t) (cond (is_some o || c) None (Some (with_parent t n p))) ≡ Some u → Adds (is_parent t) nodes (is_parent u)
+        → cond a (Some t) (cond (is_some o || c) None (Some (with_parent t n p))) ≡ Some u
+        → Adds (is_parent t) nodes (is_parent u)
     by_tests true o e c g = at_equal t (cc) (adds_same _ _ nodes (λ q. refl))
     by_tests false (Some m) e c g = absurd (cc)
     by_tests false None e true g = absurd (cc)
@@ -101,7 +105,8 @@ pub kept_based : (t : Ancestry) (n p : Node) (s s' : BTreeSet Node) → parent_o
 kept_based t n p s s' root are made q =
     ⊎_elim
     (λ yes. made q ∙ ap (λ b. cond b true (contains node_cmp s q)) (ties_same p q ∙ yes)
-    ∙ sym (parents_put t n (Some p) q root ∙ ap (λ b. b || is_parent t q) (ap (λ m. same_node q m) (same_true p q yes) ∙ same_itself q)))
+    ∙ sym (parents_put t n (Some p) q root
+    ∙ ap (λ b. b || is_parent t q) (ap (λ m. same_node q m) (same_true p q yes) ∙ same_itself q)))
     (λ other. made q ∙ ap (λ b. cond b true (contains node_cmp s q)) (ties_same p q ∙ other) ∙ are q
     ∙ sym (parents_put t n (Some p) q root ∙ ap (λ b. b || is_parent t q) (same_back p q other)))
     (cases_Bool (same_node p q))
@@ -114,7 +119,8 @@ adds_kept was nodes t s a are q off = are q ∙ a q off
 -- ---- putting back
 
 -- a node that was a parent stays
-stays : (was : Node → Bool) (n : Node) (nodes : List Node) (f : Node → Bool) → was n ≡ true → Adds was (n ∷ nodes) f → Adds was nodes f
+stays : (was : Node → Bool) (n : Node) (nodes : List Node) (f : Node → Bool) → was n ≡ true → Adds was (n ∷ nodes) f
+    → Adds was nodes f
 stays was n nodes f had a q off =
     ⊎_elim
     (λ is. a q (and_right (has_node (n ∷ nodes) q) (not (was q)) (ap (λ m. not (was m)) (same_true q n is) ∙ ap not had)))

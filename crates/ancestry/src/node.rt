@@ -106,8 +106,8 @@ impl Node {
         }
     }
 
-    // The node of a package that comes before its other nodes. Errors: `BadNode` where the text is no
-    // package name, and `Memory`.
+    // The node of a package that comes before its other nodes. Errors: `BadNode` where the text is
+    // no package name, and `Memory`.
     pub(crate) fn lowest(alloc: Global, source: &str) -> Result<Node, NodeFault>
         ensures { IsRead (node_of source.now lowest_version) result }
     {

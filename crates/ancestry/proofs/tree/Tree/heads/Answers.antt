@@ -1,11 +1,12 @@
-use Rattle.std.proofs.Common.{◌≡◌, ◌++◌, ◌∷◌, [], Err, false, sym, ap, ◌∙◌, subst, not, ◌&&◌}
+use Rattle.std.proofs.Common.{◌≡◌, Err, false, sym, ap, ◌∙◌, subst, not, ◌&&◌}
 use Rattle.std.specs.Prelude.{filter}
 use Rattle.std.specs.List.Sorted.{IsStrictlySortedBy}
 use Rattle.std.specs.Ordering.{is_le}
 use Rattle.ancestry.specs.Nodes.{node_cmp, node_of, IsRead}
 use Rattle.ancestry.specs.Trees.{heads, IsForest}
 use Rattle.ancestry.specs.Kept.{lowest_version}
-use Rattle.ancestry.proofs.HeadLemmas.{no_heads, no_source, at_lowest, one_found, none_found, found_before, found_all, heads_ascend}
+use Rattle.ancestry.proofs.HeadLemmas.{no_heads, no_source, at_lowest, one_found, none_found, found_before, found_all}
+use Rattle.ancestry.proofs.HeadLemmas.{heads_ascend}
 use Rattle.ancestry.proofs.tree.Tree.heads.Goals as goal
 use Rattle.ancestry.proofs.tree.Tree.heads.Goals.{in-None, in-Some+then-not-is_of}
 
@@ -35,9 +36,8 @@ loop-node-preserved-in_ok-push c =
     let n = c.in-Some.node.now in
     one_found c.args.self.now c.args.source.now c.loop-node.heads.items c.loop-node.node-iterator n
     c.in-Some.field-0-1.now c.next.new.self c.loop-node.invariant c.in-Some.ensures.steps c.push.new.self.items
-    (sym c.is_of.ensures ∙ c.if-not-is_of.false)
-    (sym c.is_parent.ensures ∙ c.if-not-is_parent.true)
-    (c.in_ok-push.ensures.items ∙ ap (λ m. c.loop-node.heads.items ++ m ∷ []) c.in_ok-copy.ensures.value)
+    c.in_ok-copy.field-0 (sym c.is_of.ensures ∙ c.if-not-is_of.false) (sym c.is_parent.ensures ∙ c.if-not-is_parent.true)
+    c.in_ok-push.ensures.items c.in_ok-copy.ensures.value
 
 pub loop-node-preserved : goal.loop-node-preserved
 loop-node-preserved c =

@@ -38,7 +38,8 @@ invariant_of-self-2 c =
     let after = c.insert.new.self in
     let made = subst (λ m. (q : Node) → contains node_cmp after q ≡ cond (is_eq (node_cmp m q)) true (contains node_cmp before q))
     c.in_ok-marked.ensures.value c.in_ok-insert.ensures.updates.0 in
-    let based = kept_based t n p before after r.root (subst (λ u. AreParents u before) c.self.view_is c.self.invariant.1) made in (
+    let were = subst (λ u. AreParents u before) c.self.view_is c.self.invariant.1 in
+    let based = kept_based t n p before after r.root were made in (
       subst IsForest (sym c.in_ok-insert-2.ensures.entries)
           (at_copies IsForest t c.self.inside.links.entries n p c.in_ok-node.node c.in_ok-parent.parent
           c.self.view_is c.in_ok-node.ensures.value c.in_ok-parent.ensures.value

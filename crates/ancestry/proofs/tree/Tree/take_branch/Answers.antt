@@ -37,9 +37,9 @@ invariant_of-self c =
     (subst (Extends t c.args.nodes.now) (sym c.self-2.view_is) c.take_all.ensures.extends) in
     let u = c.self-2.inside.links.entries in
     let nodes = c.args.nodes.now in
+    let added = subst (λ w. Adds (is_parent t) nodes (is_parent w)) (sym c.self-2.view_is) c.take_all.ensures.parents in
     let parents = c.forget_parents.ensures (is_parent t) (c.as_slice-in-Err.ensures.value ∙ c.in-Ok-are_parents.ensures)
-    (adds_kept (is_parent t) nodes u c.self-2.inside.parents
-    (subst (λ w. Adds (is_parent t) nodes (is_parent w)) (sym c.self-2.view_is) c.take_all.ensures.parents) c.self-2.invariant.1) in
+    (adds_kept (is_parent t) nodes u c.self-2.inside.parents added c.self-2.invariant.1) in
     (subst IsForest (sym same) forest, λ n. parents n ∙ ap (λ w. is_parent w n) (sym same))
 
 pub returns-clause-exact : goal.returns-clause-exact
