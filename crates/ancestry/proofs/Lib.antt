@@ -5,6 +5,9 @@ pub mod LineLemmas
 pub mod ReadLemmas
 pub mod WalkLemmas
 pub mod BranchLemmas
+pub mod ParentLemmas
+pub mod LowestLemmas
+pub mod HeadLemmas
 pub mod AncestorLemmas
 pub mod ChangeLemmas
 pub mod RepeatLemmas

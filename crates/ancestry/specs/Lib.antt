@@ -3,5 +3,6 @@ pub mod NodeLaws
 pub mod Trees
 pub mod Branches
 pub mod Statuses
--- definitions that only private functions cite
+-- definitions that only private functions and fields cite
 pub mod Changes
+pub mod Kept

@@ -1,21 +1,23 @@
 //! Branches: lists of nodes, each based on the next.
 
-ghost use Rattle.std.specs.Prelude.{◌≡◌, true, false, List, [], ◌∷◌, None, Some, Ok, Err, map, option_map, All, IfOk, OnOk};
+ghost use Rattle.std.specs.Prelude.{◌≡◌, Bool, true, false, List, [], ◌∷◌, None, Some, Ok, Err, map, option_map, All, IfOk, OnOk};
 ghost use Rattle.std.specs.Prelude.{OnErr, if◌then◌else◌};
 ghost use Rattle.std.specs.List.Sorted.{IsStrictlySortedBy};
+ghost use Rattle.std.specs.BTreeSet.{contains};
 ghost use Rattle.std.specs.Map.{keys_of};
 ghost use Rattle.ancestry.specs.Nodes.{Node, same_node, node_cmp};
-ghost use Rattle.ancestry.specs.Trees.{Ancestry, has_node, known_at, knows, parent_of, line, is_ancestor, IsForest};
+ghost use Rattle.ancestry.specs.Trees.{Ancestry, has_node, known_at, knows, parent_of, line, is_ancestor, is_parent, IsForest};
 ghost use Rattle.ancestry.specs.Branches.{learn, learn_all, with_parent, or_conflict, base_on, base_all, is_repeat, first_repeat};
 ghost use Rattle.ancestry.specs.Branches.{branched, IsBranched, TakesMemory, AreBased};
 ghost use Rattle.ancestry.specs.Changes.{Makes, Extends, past_of};
+ghost use Rattle.ancestry.specs.Kept.{Adds};
 ghost use Rattle.ancestry.specs.declared.fault.BranchFault.TheVariants.{Memory};
 
 use crate::fault::BranchFault;
 use crate::node::Node;
 use crate::tree::Tree;
 use std::alloc::AllocError;
-use std::collections::BTreeMap;
+use std::collections::{BTreeMap, BTreeSet};
 
 // How many nodes a branch has at most.
 const MOST_NODES: usize = 200;
@@ -85,6 +87,19 @@ fn put_back(links: &mut BTreeMap<Node, Option<Node>>, nodes: &[Node], pasts: &[P
     }
 }
 
+// Takes out of the parents those nodes that were not among them before a branch. This takes no
+// memory.
+fn forget_parents(parents: &mut BTreeSet<Node>, nodes: &[Node], were: &[bool])
+    ensures { (was : Node → Bool) → were.now ≡ map was nodes.now → Adds was nodes.now (contains node_cmp parents.old)
+        → (n : Node) → contains node_cmp parents.new n ≡ was n }
+{
+    for (node, was) in nodes.iter().zip(were) {
+        if !*was {
+            parents.remove(node);
+        }
+    }
+}
+
 impl Tree {
     // What is known of a node, in a word.
     fn past(&self, node: &Node) -> Past
@@ -104,6 +119,16 @@ impl Tree {
         nodes.iter().map(|node| self.past(node)).collect(self.alloc)
     }
 
+    // Whether each node is some node's parent.
+    fn are_parents(&self, nodes: &[Node]) -> Result<Vec<bool>, AllocError>
+        ensures { IfOk result (λ are. are.items ≡ map (is_parent self.now) nodes.now) }
+    {
+        nodes
+            .iter()
+            .map(|node| self.is_parent(node))
+            .collect(self.alloc)
+    }
+
     // Makes a node known.
     fn learn(&mut self, node: &Node) -> Result<(), AllocError>
         ensures ok { OnOk result (self.new ≡ learn self.old node.now) }
@@ -121,6 +146,7 @@ impl Tree {
     fn learn_all(&mut self, nodes: &[Node]) -> Result<(), AllocError>
         ensures ok { OnOk result (self.new ≡ learn_all self.old nodes.now) }
         ensures extends { Extends self.old nodes.now self.new }
+        ensures parents { Adds (is_parent self.old) nodes.now (is_parent self.new) }
         ensures was_forest { IsForest self.old }
         ensures forest { IsForest self.new }
     {
@@ -157,7 +183,7 @@ impl Tree {
         }
     }
 
-    // Gives a root its parent.
+    // Gives a root its parent, and puts that one among the parents.
     fn set_parent(&mut self, node: &Node, parent: &Node) -> Result<(), AllocError>
         requires knows_node { knows self.old node.now ≡ true }
         requires knows_parent { knows self.old parent.now ≡ true }
@@ -167,7 +193,10 @@ impl Tree {
         ensures forest { OnOk result (IsForest self.new) }
         ensures err { OnErr result (self.new ≡ self.old) }
     {
-        let (node, parent) = (node.copy()?, parent.copy()?);
+        let node = node.copy()?;
+        let marked = parent.copy()?;
+        let parent = parent.copy()?;
+        self.parents.insert(marked)?;
         self.links.insert(node, Some(parent))?;
         Ok(())
     }
@@ -197,6 +226,7 @@ impl Tree {
         requires knows_all { All (λ n. knows self.old n ≡ true) nodes.now }
         ensures exact { Makes (base_all 0 self.old nodes.now) result self.new }
         ensures extends { Extends self.old nodes.now self.new }
+        ensures parents { Adds (is_parent self.old) nodes.now (is_parent self.new) }
         ensures forest { IsForest self.new }
     {
         // A look at the tree, so that its invariant is known here.
@@ -215,6 +245,7 @@ impl Tree {
     fn take_all(&mut self, nodes: &[Node]) -> Result<(), BranchFault>
         ensures exact { Makes (base_all 0 (learn_all self.old nodes.now) nodes.now) result self.new }
         ensures extends { Extends self.old nodes.now self.new }
+        ensures parents { Adds (is_parent self.old) nodes.now (is_parent self.new) }
         ensures based { OnOk result (AreBased self.new nodes.now) }
         ensures keeps { OnOk result ((n p : Node) → is_ancestor self.old p n ≡ true → is_ancestor self.new p n ≡ true) }
         ensures known { OnOk result (All (λ n. knows self.new n ≡ true) nodes.now) }
@@ -255,10 +286,14 @@ impl Tree {
         let Ok(pasts) = self.pasts(nodes) else {
             return Err(BranchFault::Memory);
         };
+        let Ok(were_parents) = self.are_parents(nodes) else {
+            return Err(BranchFault::Memory);
+        };
         match self.take_all(nodes) {
             Ok(()) => Ok(()),
             Err(fault) => {
                 put_back(&mut self.links, nodes, pasts.as_slice());
+                forget_parents(&mut self.parents, nodes, were_parents.as_slice());
                 Err(fault)
             }
         }

@@ -2,6 +2,7 @@
 
 ghost use Rattle.std.specs.Prelude.{◌≡◌, refl, is_some, Some, IfSome, IfOk};
 ghost use Rattle.std.specs.List.{list_any, before_first, after_first};
+ghost use Rattle.std.specs.Str.{bytes_eq};
 ghost use Rattle.std.specs.Cmp.{po, partial_equiv_from_equiv};
 ghost use Rattle.std.specs.Ordering.{as_partial_cmp};
 ghost use Rattle.debver.specs.Names.{IsName};
@@ -9,6 +10,7 @@ ghost use Rattle.debver.specs.Cut.{IsVersion};
 ghost use Rattle.debver.specs.Versions.{total_cmp};
 ghost use Rattle.ancestry.specs.Nodes.{node, IsNode, IsRead, is_slash, node_of, node_of_text, node_at, node_text, same_node};
 ghost use Rattle.ancestry.specs.Nodes.{node_cmp};
+ghost use Rattle.ancestry.specs.Kept.{lowest_version};
 ghost use Rattle.ancestry.specs.NodeLaws.{same_node_equiv, node_cmp_total, node_ties};
 
 use crate::fault::NodeFault;
@@ -60,6 +62,11 @@ fn node_of(alloc: Global, source: &str, version: &str) -> Result<Node, NodeFault
     }
 }
 
+// The version that comes first of all in the total order: no version is longer, and a tilde comes
+// before the end of a text and before all other characters.
+const LOWEST: &str =
+    "~~~~~~~~~~~~~~~~~~~~~~~~~~~~~~~~~~~~~~~~~~~~~~~~~~~~~~~~~~~~~~~~~~~~~~~~~~~~~~~~~~~~~~~~~~~~~~~~~~~~";
+
 /// What precedes the first slash and what follows it, where there is one.
 pub fn at_first_slash(text: &str) -> Option<(&str, &str)>
     ensures slash { is_some result ≡ list_any is_slash text.now }
@@ -99,6 +106,14 @@ impl Node {
         }
     }
 
+    // The node of a package that comes before its other nodes. Errors: `BadNode` where the text is
+    // no package name, and `Memory`.
+    pub(crate) fn lowest(alloc: Global, source: &str) -> Result<Node, NodeFault>
+        ensures { IsRead (node_of source.now lowest_version) result }
+    {
+        node_of(alloc, source, LOWEST)
+    }
+
     /// The name of the source package.
     pub fn source(&self) -> &str
         ensures value { result.now ≡ self.now.source }
@@ -124,6 +139,13 @@ impl Node {
             source: self.source.copy()?,
             version: self.version.copy()?,
         })
+    }
+
+    // Whether this is the source package of the node.
+    pub(crate) fn is_of(&self, source: &str) -> bool
+        ensures { result ≡ bytes_eq self.now.source source.now }
+    {
+        self.source() == source
     }
 
     // The total order of the versions alone.

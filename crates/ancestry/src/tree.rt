@@ -1,14 +1,15 @@
 //! Which node is based on which.
 
-ghost use Rattle.std.specs.Prelude.{◌≡◌, IfOk, false};
+ghost use Rattle.std.specs.Prelude.{◌≡◌, IfOk};
 ghost use Rattle.std.specs.List.Sorted.{IsStrictlySortedBy};
-ghost use Rattle.std.specs.Option.{option_copied, option_map_or};
-ghost use Rattle.ancestry.specs.Nodes.{same_node, node_cmp};
+ghost use Rattle.std.specs.Option.{option_copied};
+ghost use Rattle.ancestry.specs.Nodes.{node_cmp};
 ghost use Rattle.ancestry.specs.Trees.{no_nodes, knows, parent_of, IsLine, line, is_parent, heads, IsForest};
 
+use crate::fault::NodeFault;
 use crate::node::Node;
 use std::alloc::{AllocError, Global};
-use std::collections::BTreeMap;
+use std::collections::{BTreeMap, BTreeSet};
 use std::marker::Model;
 
 /// The known nodes, each with its parent, if it has one: parents are known, and there are no
@@ -16,26 +17,20 @@ use std::marker::Model;
 #[derive(Drop)]
 pub struct Tree {
     pub(crate) links: BTreeMap<Node, Option<Node>>,
+    // The nodes that are some node's parent, whatever the source of that one.
+    pub(crate) parents: BTreeSet<Node>,
     pub(crate) alloc: Global,
 }
 
 impl Model for Tree {
     ghost use Rattle.ancestry.specs.Trees.{Ancestry, IsForest};
+    ghost use Rattle.ancestry.specs.Kept.{AreParents};
 
     ghost Value = { Ancestry };
 
     ghost view = { λ t. t.links.entries };
 
-    ghost invariant = { λ t. IsForest t.links.entries };
-}
-
-fn is_this(node: &Node, parent: &Option<Node>) -> bool
-    ensures { result ≡ option_map_or (same_node node.now) parent.now false }
-{
-    match parent {
-        Some(parent) => node == parent,
-        None => false,
-    }
+    ghost invariant = { λ t. IsForest t.links.entries × AreParents t.links.entries t.parents };
 }
 
 impl Tree {
@@ -45,6 +40,7 @@ impl Tree {
     {
         Tree {
             links: BTreeMap::new(alloc),
+            parents: BTreeSet::new(alloc),
             alloc,
         }
     }
@@ -84,22 +80,31 @@ impl Tree {
     }
 
     // Whether a node is some node's parent.
-    fn is_parent(&self, node: &Node) -> bool
+    pub(crate) fn is_parent(&self, node: &Node) -> bool
         ensures { result ≡ is_parent self.now node.now }
     {
-        self.links.values().any(|parent| is_this(node, parent))
+        self.parents.contains(node)
     }
 
     /// The heads of a source package: copies of its known nodes that are no node's parent, in node
-    /// order. A text that is no package name has none. The error is that there was no memory. For
-    /// each node of the package it may look at all known nodes.
+    /// order. A text that is no package name has none. The error is that there was no memory. It
+    /// goes through the known nodes of that package alone, up to the one after them; to find the
+    /// first, and whether each is a parent, is a look-up in a sorted map.
     pub fn heads(&self, source: &str) -> Result<Vec<Node>, AllocError>
         ensures value { IfOk result (λ nodes. nodes.items ≡ heads self.now source.now) }
         ensures ascending { IfOk result (λ nodes. IsStrictlySortedBy node_cmp nodes.items) }
     {
         let mut heads = Vec::new(self.alloc);
-        for node in self.links.keys() {
-            if node.source() == source && !self.is_parent(node) {
+        let lowest = match Node::lowest(self.alloc, source) {
+            Ok(lowest) => lowest,
+            Err(NodeFault::BadNode) => return Ok(heads),
+            Err(NodeFault::Memory) => return Err(AllocError),
+        };
+        for (node, _) in self.links.range(lowest..) {
+            if !node.is_of(source) {
+                break;
+            }
+            if !self.is_parent(node) {
                 heads.push(node.copy()?)?;
             }
         }

@@ -1,10 +1,11 @@
-use Rattle.std.proofs.Common.{◌≡◌, ◌∷◌, Err, true, sym, ap, ◌∙◌, subst}
+use Rattle.std.proofs.Common.{◌≡◌, ◌∷◌, Err, true, refl, sym, ap, ◌∙◌, subst}
 use Rattle.std.proofs.lemmas.List.{at_drop_all}
 use Rattle.std.proofs.lemmas.Result.{err_from_is_err_and}
-use Rattle.ancestry.specs.Trees.{has_node, IsForest}
+use Rattle.ancestry.specs.Trees.{has_node, is_parent, IsForest}
 use Rattle.ancestry.specs.Branches.{base_on, base_all}
 use Rattle.ancestry.proofs.NodeLemmas.{has_head, has_tail}
 use Rattle.ancestry.proofs.ChangeLemmas.{has_at, known_each, extends_same, extends_also, extends_base}
+use Rattle.ancestry.proofs.ParentLemmas.{adds_also, adds_base}
 use Rattle.ancestry.proofs.TakeLemmas.{refused_at, made_at, at_pair, after_pair, makes_same}
 use Rattle.ancestry.proofs.tree.Tree.base_all.Goals as goal
 
@@ -12,13 +13,14 @@ pub loop-place-init : goal.loop-place-init
 loop-place-init c =
     let t = c.args.self.now in
     let all = c.in-Some.ensures.cases.0 in
-    let forest : IsForest t = subst IsForest c.self.view_is c.self.invariant in
+    let forest : IsForest t = subst IsForest c.self.view_is c.self.invariant.0 in
     record {
       left = ap (base_all 0 t) (sym all);
       here = subst (λ ns. has_node ns c.in-Some.node.now ≡ true) (sym all) (has_head c.in-Some.node.now c.in-Some.others.now);
       above = λ q h. subst (λ ns. has_node ns q ≡ true) (sym all) (has_tail q c.in-Some.node.now c.in-Some.others.now h);
       known = known_each t c.args.nodes.now c.requires.knows_all;
       extends = extends_same t c.args.nodes.now forest.ascending;
+      parents = λ q off. refl;
       forest = forest;
     }
 
@@ -56,13 +58,15 @@ loop-place-preserved c =
     let w = c.base_on.new.self in
     let inv = c.loop-place.invariant in
     let made = made_at i (base_on u n p) w c.in_ok-base_on.ensures.exact in
+    let next = inv.above p (has_at others i p c.loop-place-test.true c.index-others-place.is) in
     let more = extends_base u w nodes n p inv.forest.ascending inv.here made in
     record {
       left = sym (after_pair i u n p others c.loop-place-test.true c.index-others-place.is w made) ∙ inv.left;
-      here = inv.above p (has_at others i p c.loop-place-test.true c.index-others-place.is);
+      here = next;
       above = inv.above;
       known = λ q h. more.kept q (inv.known q h);
       extends = extends_also t u w nodes inv.extends more;
+      parents = adds_also (is_parent t) (is_parent u) (is_parent w) nodes inv.parents (adds_base u w nodes n p next made);
       forest = c.in_ok-base_on.ensures.forest;
     }
 

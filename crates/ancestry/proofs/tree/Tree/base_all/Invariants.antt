@@ -1,8 +1,9 @@
 use Rattle.std.proofs.Common.{◌≡◌, ◌∷◌, true, drop}
 use Rattle.ancestry.specs.Nodes.{Node}
-use Rattle.ancestry.specs.Trees.{has_node, knows, IsForest}
+use Rattle.ancestry.specs.Trees.{has_node, knows, is_parent, IsForest}
 use Rattle.ancestry.specs.Branches.{base_all}
 use Rattle.ancestry.specs.Changes.{Extends}
+use Rattle.ancestry.specs.Kept.{Adds}
 use Rattle.ancestry.proofs.tree.Tree.base_all.Given as goal
 
 abbrev pub invariant-loop-place : goal.invariant-loop-place
@@ -12,5 +13,6 @@ invariant-loop-place l = record {
   above : (q : Node) → has_node l.others q ≡ true → has_node l.nodes q ≡ true;
   known : (q : Node) → has_node l.nodes q ≡ true → knows l.self q ≡ true;
   extends : Extends l.fn.self l.nodes l.self;
+  parents : Adds (is_parent l.fn.self) l.nodes (is_parent l.self);
   forest : IsForest l.self;
 }

@@ -2,21 +2,28 @@ use Rattle.std.proofs.Common.{None, sym, ◌∙◌, subst}
 use Rattle.std.specs.BTreeMap.{insert_entry}
 use Rattle.ancestry.specs.Nodes.{node_cmp}
 use Rattle.ancestry.specs.Trees.{IsForest}
+use Rattle.ancestry.specs.Kept.{AreParents}
 use Rattle.ancestry.proofs.BranchLemmas.{learnt_forest}
+use Rattle.ancestry.proofs.ParentLemmas.{kept_learnt}
 use Rattle.ancestry.proofs.tree.Tree.learn.Goals as goal
 
 pub invariant_of-self-2 : goal.invariant_of-self-2
 invariant_of-self-2 c =
     let t = c.self.inside.links.entries in
-    subst IsForest (sym c.in_ok-insert.ensures.entries)
-    (subst (λ m. IsForest (insert_entry node_cmp t m None)) (sym c.in_ok-copy.ensures.value)
-    (learnt_forest t c.args.node.now c.self.invariant (sym c.contains_key.ensures ∙ c.if-contains_key.false)
-    c.copy.ensures.valid))
+    let parents = c.self.inside.parents in
+    let unknown = sym c.contains_key.ensures ∙ c.if-contains_key.false in (
+      subst IsForest (sym c.in_ok-insert.ensures.entries)
+          (subst (λ m. IsForest (insert_entry node_cmp t m None)) (sym c.in_ok-copy.ensures.value)
+          (learnt_forest t c.args.node.now c.self.invariant.0 unknown c.copy.ensures.valid)),
+      subst (λ u. AreParents u parents) (sym c.in_ok-insert.ensures.entries)
+          (subst (λ m. AreParents (insert_entry node_cmp t m None) parents) (sym c.in_ok-copy.ensures.value)
+          (kept_learnt t c.args.node.now parents unknown c.self.invariant.1)),
+    )
 
 pub returns-clause-forest : goal.returns-clause-forest
 returns-clause-forest c =
     let t = c.self.inside.links.entries in
     subst IsForest (sym c.in_ok-insert.ensures.entries)
     (subst (λ m. IsForest (insert_entry node_cmp t m None)) (sym c.in_ok-copy.ensures.value)
-    (learnt_forest t c.args.node.now c.self.invariant (sym c.contains_key.ensures ∙ c.if-contains_key.false)
+    (learnt_forest t c.args.node.now c.self.invariant.0 (sym c.contains_key.ensures ∙ c.if-contains_key.false)
     c.copy.ensures.valid))

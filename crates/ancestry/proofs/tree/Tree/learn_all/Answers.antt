@@ -2,7 +2,10 @@ use Rattle.std.proofs.Common.{◌+◌, sym, ap, ◌∙◌, drop, subst}
 use Rattle.std.proofs.lemmas.List.{at_drop_more}
 use Rattle.ancestry.specs.Branches.{learn, learn_all}
 use Rattle.ancestry.specs.Changes.{Extends}
+use Rattle.ancestry.specs.Kept.{Adds}
+use Rattle.ancestry.specs.Trees.{is_parent}
 use Rattle.ancestry.proofs.ChangeLemmas.{has_at, extends_also, extends_learn}
+use Rattle.ancestry.proofs.ParentLemmas.{adds_also, adds_learn}
 use Rattle.ancestry.proofs.tree.Tree.learn_all.Goals as goal
 
 pub loop-node-preserved : goal.loop-node-preserved
@@ -20,5 +23,7 @@ loop-node-preserved c =
       extends = subst (Extends t nodes) (sym made)
           (extends_also t u (learn u n) nodes inv.extends
           (extends_learn u nodes n inv.forest.ascending (has_at nodes i n c.loop-node-test.true c.node-item.is)));
+      parents = subst (λ w. Adds (is_parent t) nodes (is_parent w)) (sym made)
+          (adds_also (is_parent t) (is_parent u) (is_parent (learn u n)) nodes inv.parents (adds_learn u nodes n));
       forest = c.learn.ensures.forest;
     }

@@ -1,12 +1,14 @@
 use Rattle.std.proofs.Common.{◌≡◌, drop}
-use Rattle.ancestry.specs.Trees.{IsForest}
+use Rattle.ancestry.specs.Trees.{is_parent, IsForest}
 use Rattle.ancestry.specs.Branches.{learn_all}
 use Rattle.ancestry.specs.Changes.{Extends}
+use Rattle.ancestry.specs.Kept.{Adds}
 use Rattle.ancestry.proofs.tree.Tree.learn_all.Given as goal
 
 abbrev pub invariant-loop-node : goal.invariant-loop-node
 invariant-loop-node l = record {
   left : learn_all l.self (drop l.node-index l.nodes) ≡ learn_all l.fn.self l.nodes;
   extends : Extends l.fn.self l.nodes l.self;
+  parents : Adds (is_parent l.fn.self) l.nodes (is_parent l.self);
   forest : IsForest l.self;
 }

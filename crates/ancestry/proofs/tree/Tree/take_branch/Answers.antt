@@ -1,6 +1,8 @@
-use Rattle.std.proofs.Common.{refl, sym, ◌∙◌, subst}
-use Rattle.ancestry.specs.Trees.{IsForest}
+use Rattle.std.proofs.Common.{refl, sym, ap, ◌∙◌, subst}
+use Rattle.ancestry.specs.Trees.{is_parent, IsForest}
 use Rattle.ancestry.specs.Changes.{Extends}
+use Rattle.ancestry.specs.Kept.{Adds}
+use Rattle.ancestry.proofs.ParentLemmas.{adds_kept}
 use Rattle.ancestry.proofs.TakeLemmas.{branched_empty, branched_long, branched_repeated, branched_taken, taken_takes, refused}
 use Rattle.ancestry.proofs.tree.Tree.take_branch.Goals as goal
 
@@ -30,16 +32,21 @@ returns-in-Ok-take_all-clause-exact c =
 pub invariant_of-self : goal.invariant_of-self
 invariant_of-self c =
     let t = c.args.self.now in
-    let forest : IsForest t = subst IsForest c.self.view_is c.self.invariant in
+    let forest : IsForest t = subst IsForest c.self.view_is c.self.invariant.0 in
     let same = c.put_back.ensures t forest (c.as_slice.ensures.value ∙ c.in-Ok.ensures)
     (subst (Extends t c.args.nodes.now) (sym c.self-2.view_is) c.take_all.ensures.extends) in
-    subst IsForest (sym same) forest
+    let u = c.self-2.inside.links.entries in
+    let nodes = c.args.nodes.now in
+    let added = subst (λ w. Adds (is_parent t) nodes (is_parent w)) (sym c.self-2.view_is) c.take_all.ensures.parents in
+    let parents = c.forget_parents.ensures (is_parent t) (c.as_slice-in-Err.ensures.value ∙ c.in-Ok-are_parents.ensures)
+    (adds_kept (is_parent t) nodes u c.self-2.inside.parents added c.self-2.invariant.1) in
+    (subst IsForest (sym same) forest, λ n. parents n ∙ ap (λ w. is_parent w n) (sym same))
 
 pub returns-clause-exact : goal.returns-clause-exact
 returns-clause-exact c =
     let t = c.args.self.now in
     let nodes = c.args.nodes.now in
-    let forest : IsForest t = subst IsForest c.self.view_is c.self.invariant in
+    let forest : IsForest t = subst IsForest c.self.view_is c.self.invariant.0 in
     let same = c.put_back.ensures t forest (c.as_slice.ensures.value ∙ c.in-Ok.ensures)
     (subst (Extends t nodes) (sym c.self-2.view_is) c.take_all.ensures.extends) in
     let made = branched_taken t nodes (sym c.is_empty.ensures ∙ c.if-is_empty.false) c.if-nodes-gt-MOST_NODES.false
@@ -49,13 +56,18 @@ returns-clause-exact c =
 pub returns-clause-forest : goal.returns-clause-forest
 returns-clause-forest c =
     let t = c.args.self.now in
-    let forest : IsForest t = subst IsForest c.self.view_is c.self.invariant in
+    let forest : IsForest t = subst IsForest c.self.view_is c.self.invariant.0 in
     let same = c.put_back.ensures t forest (c.as_slice.ensures.value ∙ c.in-Ok.ensures)
     (subst (Extends t c.args.nodes.now) (sym c.self-2.view_is) c.take_all.ensures.extends) in
     subst IsForest (sym same) forest
 
 pub returns-in_default-pasts-clause-memory : goal.returns-in_default-pasts-clause-memory
 returns-in_default-pasts-clause-memory c = λ h.
+    taken_takes c.args.self.now c.args.nodes.now (sym c.is_empty.ensures ∙ c.if-is_empty.false) c.if-nodes-gt-MOST_NODES.false
+    (sym c.in_default.is ∙ c.first_repeat.ensures)
+
+pub returns-in_default-are_parents-clause-memory : goal.returns-in_default-are_parents-clause-memory
+returns-in_default-are_parents-clause-memory c = λ h.
     taken_takes c.args.self.now c.args.nodes.now (sym c.is_empty.ensures ∙ c.if-is_empty.false) c.if-nodes-gt-MOST_NODES.false
     (sym c.in_default.is ∙ c.first_repeat.ensures)
 
