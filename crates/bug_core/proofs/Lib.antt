@@ -15,4 +15,5 @@ pub mod MergeLemmas
 pub mod JoinLemmas
 pub mod ChangedLemmas
 pub mod KeptLemmas
+pub mod PartedLemmas
 pub mod ReportLemmas
