@@ -4,6 +4,7 @@
 #![tactic(auto)]
 
 mod fail_at;
+mod kept;
 mod laws;
 mod places;
 mod plain;

@@ -13,6 +13,7 @@ ghost use Rattle.desk_store.specs.Keys.{IsKeyed};
 ghost use Rattle.desk_store.specs.Plain.{keys, sets};
 ghost use Rattle.desk_store.specs.Places.{place_in, numbers_in, is_there, is_fresh, KeepsSet, IsOnlyPlace};
 
+use crate::kept::Kept;
 use bug_record::{Member, SetImage};
 use std::alloc::{AllocError, Global};
 use std::collections::HashMap;
@@ -21,7 +22,7 @@ use std::collections::HashMap;
 #[derive(Drop)]
 pub(crate) enum Place {
     /// The first of its members, where the image of the set stands.
-    First(SetImage),
+    First(Kept),
     /// Another one, and the number of the first.
     After(u64),
 }
@@ -50,7 +51,7 @@ fn keeps_set(bugs: &HashMap<u64, Place>, image: &SetImage) -> bool
         return false;
     };
     match bugs.get(&first.number) {
-        Some(Place::First(old)) => same_numbers(old.members.as_slice(), members),
+        Some(Place::First(old)) => same_numbers(old.image().members.as_slice(), members),
         _ => false,
     }
 }
@@ -100,12 +101,12 @@ fn fresh_numbers(
 }
 
 // Copies of the images.
-fn copies_of(alloc: Global, images: &[SetImage]) -> Result<Vec<SetImage>, AllocError>
+fn copies_of(alloc: Global, images: &[SetImage]) -> Result<Vec<Kept>, AllocError>
     ensures { IfOk result (λ copies. copies.items ≡ images.now) }
 {
     let mut copies = Vec::new(alloc);
     for image in images {
-        copies.push(image.copy()?)?;
+        copies.push(Kept::copy_of(alloc, image)?)?;
     }
     Ok(copies)
 }
@@ -134,11 +135,7 @@ fn remove_all(bugs: &mut HashMap<u64, Place>, numbers: &[u64])
 
 // Puts members after the bug of this number.
 // No memory is taken for those that have a place already.
-fn put_after(
-    bugs: &mut HashMap<u64, Place>,
-    key: u64,
-    members: &[Member],
-) -> Result<(), AllocError>
+fn put_after(bugs: &mut HashMap<u64, Place>, key: u64, members: &[Member]) -> Result<(), AllocError>
     ensures ok { OnOk result
         ((n : ℕ) → get nat_eq bugs.new n
         ≡ (if has (numbers_of members.now) n then Some (Place.After key) else get nat_eq bugs.old n)) }
@@ -152,11 +149,11 @@ fn put_after(
 
 // Puts an image at the first of its members, and the others after it.
 // No memory is taken where all of them have a place already.
-fn put_image(bugs: &mut HashMap<u64, Place>, image: SetImage) -> Result<(), AllocError>
+fn put_image(bugs: &mut HashMap<u64, Place>, image: Kept) -> Result<(), AllocError>
     ensures ok { OnOk result ((n : ℕ) → get nat_eq bugs.new n ≡ option_or (place_in (image ∷ []) n) (get nat_eq bugs.old n)) }
     ensures known { ((n : ℕ) → IsTrue (has (numbers_of image.members) n) → IsTrue (is_there bugs.old n)) → IsOk result }
 {
-    let Some((first, others)) = image.members.as_slice().split_first() else {
+    let Some((first, others)) = image.image().members.as_slice().split_first() else {
         return Ok(());
     };
     let key = first.number;
@@ -167,7 +164,7 @@ fn put_image(bugs: &mut HashMap<u64, Place>, image: SetImage) -> Result<(), Allo
 
 // Puts images, from the last to the first, so that a bug is in the first that has it.
 // No memory is taken where all of their members have a place already.
-fn put_copies(bugs: &mut HashMap<u64, Place>, mut images: Vec<SetImage>) -> Result<(), AllocError>
+fn put_copies(bugs: &mut HashMap<u64, Place>, mut images: Vec<Kept>) -> Result<(), AllocError>
     ensures ok { OnOk result ((n : ℕ) → get nat_eq bugs.new n ≡ option_or (place_in images.items n) (get nat_eq bugs.old n)) }
     ensures known { ((n : ℕ) → IsTrue (is_some (place_in images.items n)) → IsTrue (is_there bugs.old n)) → IsOk result }
 {
@@ -212,7 +209,7 @@ pub(crate) fn put_images(
 {
     if let [image] = images {
         if let Some(key) = only_place(bugs, image) {
-            bugs.insert(key, Place::First(image.copy()?))?;
+            bugs.insert(key, Place::First(Kept::copy_of(alloc, image)?))?;
             return Ok(());
         }
     }
