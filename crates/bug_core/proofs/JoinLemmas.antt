@@ -14,7 +14,7 @@ use Rattle.bug_record.proofs.SetLemmas.{has-with_item, IsAscending-with_item}
 use Rattle.bug_core.proofs.ImageLemmas.{has-member_some, has-member_none}
 
 -- what an image shows, and what those after it show
-is_some-first : (i : SetImage) (is : List SetImage) (n : ℕ)
+pub is_some-first : (i : SetImage) (is : List SetImage) (n : ℕ)
     → is_some (bug_in (i ∷ is) n) ≡ (has (numbers_of i.members) n || is_some (bug_in is n))
 is_some-first i is n = cases (member_at i.members n) refl
   where

@@ -16,4 +16,5 @@ pub mod StepLemmas
 pub mod JoinLemmas
 pub mod ChangedLemmas
 pub mod KeptLemmas
+pub mod PartedLemmas
 pub mod ReportLemmas

@@ -29,7 +29,7 @@ use Rattle.bug_record.proofs.MarkLemmas.{set-node_set}
 use Rattle.bug_record.proofs.TagLemmas.{set-joined_tags}
 use Rattle.bug_record.proofs.MergeLemmas.{has-all_merged}
 use Rattle.bug_core.specs.Others.{has_any, those_meant, others}
-use Rattle.bug_core.specs.Joins.{with_members, with_all_shared}
+use Rattle.bug_core.specs.Joins.{with_members, without_marks, with_all_shared}
 use Rattle.bug_core.specs.Refusals.{archived_refusal}
 use Rattle.bug_core.specs.Planned.{IsPlannedOf, IsRefusalOfPlan}
 use Rattle.bug_core.proofs.ImageLemmas.{has-member_some, has-member_none, bug_in-merged, shown, image_with-has, image_with-shows}
@@ -46,7 +46,7 @@ use Rattle.bug_core.proofs.SharedLemmas.{joined-fields}
 -- the joined image
 abbrev pub image_joined : List SetImage → List ℕ → SetImage → SetImage
 image_joined is ns i = record {
-  shared = record (with_all_shared i.shared (those_meant ns is)) { owner = first_owner (bugs_at (bug_in is) ns) };
+  shared = record (with_all_shared (without_marks i.shared) (those_meant ns is)) { owner = first_owner (bugs_at (bug_in is) ns) };
   members = with_members [] (those_meant ns is);
 }
 
@@ -183,7 +183,7 @@ joined-makes d is n ns i sound sets known a h = record {
     good = (sound.texts n (bug_of i named.0) (shown d is sets n (bug_of i named.0) named.1)).shared
 
     fields : (image_joined is (n ∷ ns) i).shared ≡ joined_shared i.shared bugs
-    fields = joined-fields is (n ∷ ns) n i named.0 a (own-first n ns) named.1 good.tags good.found.ascending good.fixed.ascending
+    fields = joined-fields is (n ∷ ns) n i named.0 a (own-first n ns) named.1 good.tags
 
     numbers : numbers_of (with_members [] (those_meant (n ∷ ns) is)) ≡ all_merged bugs
     numbers = joined-numbers d is (n ∷ ns) sound sets known a ∙ ap all_merged (sym same)

@@ -1,6 +1,8 @@
 -- The fields of merged bugs, joined one image after another.
 use Rattle.std.proofs.Common.{◌≡◌, ℕ, Bool, true, false, ◌||◌, List, [], ◌∷◌, Some, sym, refl, ap, ◌∙◌}
+use Rattle.std.specs.BTreeSet.{insert_key}
 use Rattle.std.specs.List.{list_any}
+use Rattle.std.specs.Ordering.{match_ordering}
 use Rattle.std.specs.List.Sorted.{IsStrictlySortedBy}
 use Rattle.std.proofs.lemmas.Bool.{eqb-true, eq-eqb}
 use Rattle.ancestry.specs.Nodes.{Node, node_cmp, same_node}
@@ -20,7 +22,7 @@ use Rattle.bug_record.proofs.TagLemmas.{has-with_tag, set-with_tag, has-joined_t
 use Rattle.bug_record.proofs.MarkLemmas.{has-with_node, sorted-with_node, sorted-node_set, same-sorted_nodes}
 use Rattle.bug_record.proofs.MergeLemmas.{has-joined_nodes}
 use Rattle.bug_core.specs.Others.{those_meant}
-use Rattle.bug_core.specs.Joins.{with_items, with_nodes, with_shared, with_all_shared}
+use Rattle.bug_core.specs.Joins.{with_items, with_nodes, without_marks, with_shared, with_all_shared}
 use Rattle.bug_core.proofs.ListedLemmas.{same_test, listed-from, meant-listed}
 
 or_group : (a b c : Bool) → ((a || b) || c) ≡ (a || (b || c))
@@ -52,6 +54,11 @@ has-with_tags (u ∷ ts) set t =
 set-with_tags : (ts set : List Tag) → IsTagSet set → IsTagSet (with_items tag_place set ts)
 set-with_tags [] set h = h
 set-with_tags (u ∷ ts) set h = set-with_tags ts (with_tag set u) (set-with_tag set u h)
+
+-- a node that is put into a set of std
+pub node-key : (set : List Node) (n : Node) → insert_key node_cmp set n ≡ with_node set n
+node-key [] n = refl
+node-key (m ∷ set) n = ap (λ z. match_ordering (node_cmp n m) (n ∷ m ∷ set) (m ∷ set) (m ∷ z)) (node-key set n)
 
 -- nodes with those of a list
 has-with_nodes : (ns set : List Node) (m : Node) → has_node (with_nodes set ns) m ≡ (has_node set m || has_node ns m)
@@ -109,40 +116,48 @@ sorted-all_fixed : (js : List SetImage) (f : Shared) → IsStrictlySortedBy node
 sorted-all_fixed [] f h = h
 sorted-all_fixed (j ∷ js) f h = sorted-all_fixed js (with_shared f j.shared) (sorted-with_nodes j.shared.fixed f.fixed h)
 
+sorted-none : IsStrictlySortedBy node_cmp []
+unfolding IsStrictlySortedBy
+sorted-none = tt
+
 -- they are the joined fields of the listed bugs, among which is one of the first image
 pub joined-fields : (is : List SetImage) (ns : List ℕ) (n : ℕ) (i : SetImage) (x : Member) → AreApart is → has ns n ≡ true
     → bug_in is n ≡ Some (bug_of i x)
-    → IsTagSet i.shared.tags → IsStrictlySortedBy node_cmp i.shared.found → IsStrictlySortedBy node_cmp i.shared.fixed
-    → record (with_all_shared i.shared (those_meant ns is)) { owner = first_owner (bugs_at (bug_in is) ns) }
+    → IsTagSet i.shared.tags
+    → record (with_all_shared (without_marks i.shared) (those_meant ns is)) { owner = first_owner (bugs_at (bug_in is) ns) }
     ≡ joined_shared i.shared (bugs_at (bug_in is) ns)
-joined-fields is ns n i x a h e tags found fixed =
-    (λ j. record (kept js i.shared j) { owner = first_owner bugs })
+joined-fields is ns n i x a h e tags =
+    (λ j. record (kept js f j) { owner = first_owner bugs })
     ∙ (λ j. record i.shared { owner = first_owner bugs; tags = same_tags j; found = same_found j; fixed = same_fixed j })
   where
+    f : Shared
+    f = without_marks i.shared
+
     js : List SetImage
     js = those_meant ns is
 
     bugs : List Bug
     bugs = bugs_at (bug_in is) ns
 
-    -- a test of fields that one of the images that are meant passes, the first one's among them
+    -- a test of tags that one of the images that are meant passes, the first one's among them
     some : (P : Shared → Bool) → (P i.shared || list_any (λ j. P j.shared) js) ≡ list_any (λ b. P b.shared) bugs
     some P =
         ap (λ b. P i.shared || b) (meant-listed P is ns a)
         ∙ absorbed (P i.shared) (list_any (λ b. P b.shared) bugs)
         (λ p. listed-from (λ b. P b.shared) (bug_in is) ns n (bug_of i x) h e p)
 
-    same_tags : (with_all_shared i.shared js).tags ≡ joined_tags bugs
-    same_tags = same-tag_sets (with_all_shared i.shared js).tags (joined_tags bugs) (set-all_tags js i.shared tags)
-        (set-joined_tags bugs)
-        (λ t. has-all_tags js i.shared t ∙ some (λ s. has_tag s.tags t) ∙ sym (has-joined_tags bugs t))
+    same_tags : (with_all_shared f js).tags ≡ joined_tags bugs
+    same_tags = same-tag_sets (with_all_shared f js).tags (joined_tags bugs) (set-all_tags js f tags) (set-joined_tags bugs)
+        (λ t. has-all_tags js f t ∙ some (λ s. has_tag s.tags t) ∙ sym (has-joined_tags bugs t))
 
-    same_found : (with_all_shared i.shared js).found ≡ node_set (all_of (λ b. b.shared.found) bugs)
-    same_found = same-sorted_nodes (with_all_shared i.shared js).found (node_set (all_of (λ b. b.shared.found) bugs))
-        (sorted-all_found js i.shared found) (sorted-node_set (all_of (λ b. b.shared.found) bugs))
-        (λ m. has-all_found js i.shared m ∙ some (λ s. has_node s.found m) ∙ sym (has-joined_nodes (λ b. b.shared.found) bugs m))
+    same_found : (with_all_shared f js).found ≡ node_set (all_of (λ b. b.shared.found) bugs)
+    same_found = same-sorted_nodes (with_all_shared f js).found (node_set (all_of (λ b. b.shared.found) bugs))
+        (sorted-all_found js f sorted-none) (sorted-node_set (all_of (λ b. b.shared.found) bugs))
+        (λ m. has-all_found js f m ∙ meant-listed (λ s. has_node s.found m) is ns a
+        ∙ sym (has-joined_nodes (λ b. b.shared.found) bugs m))
 
-    same_fixed : (with_all_shared i.shared js).fixed ≡ node_set (all_of (λ b. b.shared.fixed) bugs)
-    same_fixed = same-sorted_nodes (with_all_shared i.shared js).fixed (node_set (all_of (λ b. b.shared.fixed) bugs))
-        (sorted-all_fixed js i.shared fixed) (sorted-node_set (all_of (λ b. b.shared.fixed) bugs))
-        (λ m. has-all_fixed js i.shared m ∙ some (λ s. has_node s.fixed m) ∙ sym (has-joined_nodes (λ b. b.shared.fixed) bugs m))
+    same_fixed : (with_all_shared f js).fixed ≡ node_set (all_of (λ b. b.shared.fixed) bugs)
+    same_fixed = same-sorted_nodes (with_all_shared f js).fixed (node_set (all_of (λ b. b.shared.fixed) bugs))
+        (sorted-all_fixed js f sorted-none) (sorted-node_set (all_of (λ b. b.shared.fixed) bugs))
+        (λ m. has-all_fixed js f m ∙ meant-listed (λ s. has_node s.fixed m) is ns a
+        ∙ sym (has-joined_nodes (λ b. b.shared.fixed) bugs m))

@@ -39,6 +39,10 @@ abbrev pub with_members : List Member → List SetImage → List Member
 with_members ms [] = ms
 with_members ms (i ∷ is) = with_members (with_items number_of ms i.members) is
 
+-- the fields without marks
+abbrev pub without_marks : Shared → Shared
+without_marks f = record f { found = []; fixed = [] }
+
 -- the fields with the tags and marks of another set
 abbrev pub with_shared : Shared → Shared → Shared
 with_shared f g = record f {
@@ -55,7 +59,7 @@ with_all_shared f (i ∷ is) = with_all_shared (with_shared f i.shared) is
 -- the fields with those of the images of these bugs, and the owner of the first bug that has one
 abbrev pub joined_shared : Shared → List SetImage → List ℕ → Shared
 joined_shared f images numbers =
-    record (with_all_shared f (those_meant numbers images)) { owner = first_owner (bugs_at (bug_in images) numbers) }
+    record (with_all_shared (without_marks f) (those_meant numbers images)) { owner = first_owner (bugs_at (bug_in images) numbers) }
 
 -- whether the member has the number n, or, of the rest, whether it has not
 abbrev pub is_part : Bool → ℕ → Member → Bool

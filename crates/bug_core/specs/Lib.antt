@@ -6,6 +6,7 @@ pub mod Index
 pub mod Named
 pub mod Changes
 pub mod Kept
+pub mod Parted
 pub mod Numbers
 pub mod Agreements
 pub mod Joins

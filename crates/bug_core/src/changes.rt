@@ -12,6 +12,7 @@ ghost use Rattle.bug_core.specs.Numbers.{IsJoined};
 use crate::equal::{same_set, same_texts};
 use crate::index::Index;
 use crate::kept::{changed_in_place, is_kept};
+use crate::parted::{changed_parted, is_parted};
 use bug_record::{Member, Numbers, Sequence, SetImage};
 use std::alloc::{AllocError, Global};
 use std::collections::BTreeSet;
@@ -151,6 +152,9 @@ fn changed_bugs(alloc: Global, old: &[SetImage], new: &[SetImage]) -> Result<Num
         if is_kept(before, after) {
             return changed_in_place(alloc, before, after);
         }
+    }
+    if is_parted(old, new) {
+        return changed_parted(alloc, old, new);
     }
     changed_between(alloc, old, new)
 }

@@ -100,7 +100,6 @@ pub(crate) fn replace_by_one(
     ensures images { IfOk result (λ change. change.images ≡ image ∷ others (named_numbers named.entry) images.now) }
     ensures next { IfOk result (λ change. change.next ≡ next) }
 {
-    let mut parts = Sequence::new(alloc);
-    parts.push(image)?;
+    let parts = Sequence::from_vec(Vec::from_array(alloc, [image])?);
     replace(parts, images, named, next)
 }

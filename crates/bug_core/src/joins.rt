@@ -9,7 +9,8 @@ ghost use Rattle.bug_record.specs.Merges.{first_owner};
 ghost use Rattle.bug_record.specs.Sets.{has, with_item};
 ghost use Rattle.bug_record.specs.Tags.{tag_place};
 ghost use Rattle.bug_core.specs.Joins.{with_items, with_nodes, with_members, with_shared, with_all_shared, joined_shared};
-ghost use Rattle.bug_core.specs.Joins.{number_of, AreByNumber};
+ghost use Rattle.bug_core.specs.Joins.{number_of, without_marks, AreByNumber};
+ghost use Rattle.bug_record.specs.Marks.{with_node};
 ghost use Rattle.bug_core.specs.Others.{those_meant};
 ghost use Rattle.bug_core.specs.Named.{named_numbers};
 
@@ -20,6 +21,24 @@ use bug_record::{Member, Members, Nodes, Sequence, SetImage, Shared, Tag, Tags};
 use debver::Text;
 use std::alloc::{AllocError, Global};
 use std::collections::{BTreeMap, BTreeSet};
+use std::marker::Model;
+
+// Fields that are joined, which contracts see as such. The marks are kept apart from the others, so
+// that one more is added in the logarithm of their number.
+#[derive(Drop)]
+struct Joined {
+    shared: Shared,
+    found: BTreeSet<Node>,
+    fixed: BTreeSet<Node>,
+}
+
+impl Model for Joined {
+    ghost use Rattle.bug_record.specs.declared.bug.Shared.{Shared};
+
+    ghost Value = { Shared };
+
+    ghost view = { λ j. record j.shared { found = j.found.keys; fixed = j.fixed.keys } };
+}
 
 // The owner of a bug, if it is there and has one.
 fn owner_of<'a>(index: &'a Index, number: u64) -> Option<&'a Text>
@@ -50,13 +69,32 @@ fn add_tags(set: &mut Tags, tags: &[Tag]) -> Result<(), AllocError>
     Ok(())
 }
 
-fn add_nodes(set: &mut Nodes, nodes: &[Node]) -> Result<(), AllocError>
-    ensures { OnOk result (set.new ≡ with_nodes set.old nodes.now) }
+// Adds a copy of the node, unless it is there.
+fn add_node(set: &mut BTreeSet<Node>, node: &Node) -> Result<(), AllocError>
+    ensures { OnOk result (set.new.keys ≡ with_node set.old.keys node.now) }
+{
+    set.insert(node.copy()?)?;
+    Ok(())
+}
+
+fn add_nodes(set: &mut BTreeSet<Node>, nodes: &[Node]) -> Result<(), AllocError>
+    ensures { OnOk result (set.new.keys ≡ with_nodes set.old.keys nodes.now) }
 {
     for node in nodes {
-        set.add_node(node.copy()?)?;
+        add_node(set, node)?;
     }
     Ok(())
+}
+
+// The nodes of a set, in order.
+fn in_order(alloc: Global, set: BTreeSet<Node>) -> Result<Nodes, AllocError>
+    ensures { IfOk result (λ nodes. nodes ≡ set.keys) }
+{
+    let mut nodes = Sequence::new(alloc);
+    for node in set {
+        nodes.push(node)?;
+    }
+    Ok(nodes)
 }
 
 // Adds a copy of the member, unless there is one of its number.
@@ -83,13 +121,36 @@ fn add_members(map: &mut BTreeMap<u64, Member>, members: &[Member]) -> Result<()
     Ok(())
 }
 
-// Adds the tags and marks of another set.
-fn add_shared(shared: &mut Shared, other: &Shared) -> Result<(), AllocError>
-    ensures { OnOk result (shared.new ≡ with_shared shared.old other.now) }
-{
-    add_tags(&mut shared.tags, other.tags.as_slice())?;
-    add_nodes(&mut shared.found, other.found.as_slice())?;
-    add_nodes(&mut shared.fixed, other.fixed.as_slice())
+impl Joined {
+    // The fields of the first set, without marks.
+    fn new(alloc: Global, first: &Shared) -> Result<Joined, AllocError>
+        ensures { IfOk result (λ joined. joined ≡ without_marks first.now) }
+    {
+        Ok(Joined {
+            shared: first.copy()?,
+            found: BTreeSet::new(alloc),
+            fixed: BTreeSet::new(alloc),
+        })
+    }
+
+    // Adds the tags and marks of another set.
+    fn add_shared(&mut self, other: &Shared) -> Result<(), AllocError>
+        ensures { OnOk result (self.new ≡ with_shared self.old other.now) }
+    {
+        add_tags(&mut self.shared.tags, other.tags.as_slice())?;
+        add_nodes(&mut self.found, other.found.as_slice())?;
+        add_nodes(&mut self.fixed, other.fixed.as_slice())
+    }
+
+    // The fields.
+    fn into_shared(self, alloc: Global) -> Result<Shared, AllocError>
+        ensures { IfOk result (λ shared. shared ≡ self) }
+    {
+        let mut shared = self.shared;
+        shared.found = in_order(alloc, self.found)?;
+        shared.fixed = in_order(alloc, self.fixed)?;
+        Ok(shared)
+    }
 }
 
 // The members of all sets of the bugs, by number.
@@ -121,12 +182,16 @@ fn joined_members(alloc: Global, images: &[SetImage], named: Named) -> Result<Me
 }
 
 // Adds the tags and marks of all sets of the bugs.
-fn add_all_shared(shared: &mut Shared, images: &[SetImage], named: Named) -> Result<(), AllocError>
-    ensures { OnOk result (shared.new ≡ with_all_shared shared.old (those_meant (named_numbers named.entry) images.now)) }
+fn add_all_shared(
+    joined: &mut Joined,
+    images: &[SetImage],
+    named: Named,
+) -> Result<(), AllocError>
+    ensures { OnOk result (joined.new ≡ with_all_shared joined.old (those_meant (named_numbers named.entry) images.now)) }
 {
     for image in images {
         if has_any(image, named) {
-            add_shared(shared, &image.shared)?;
+            joined.add_shared(&image.shared)?;
         }
     }
     Ok(())
@@ -134,6 +199,7 @@ fn add_all_shared(shared: &mut Shared, images: &[SetImage], named: Named) -> Res
 
 // The shared fields of that set. The named bugs are those of the numbers.
 fn joined_shared(
+    alloc: Global,
     first: &Shared,
     index: &Index,
     images: &[SetImage],
@@ -144,8 +210,9 @@ fn joined_shared(
     requires named { (n : ℕ) → has (named_numbers named) n ≡ has numbers.now n }
     ensures { IfOk result (λ f. f ≡ joined_shared first.now images.now numbers.now) }
 {
-    let mut shared = first.copy()?;
-    add_all_shared(&mut shared, images, named)?;
+    let mut joined = Joined::new(alloc, first)?;
+    add_all_shared(&mut joined, images, named)?;
+    let mut shared = joined.into_shared(alloc)?;
     shared.owner = first_owner(index, numbers)?;
     Ok(shared)
 }
@@ -170,7 +237,7 @@ pub(crate) fn joined_image(
 {
     let named = Named::Several(set);
     Ok(SetImage {
-        shared: joined_shared(first, index, images, numbers, named)?,
+        shared: joined_shared(alloc, first, index, images, numbers, named)?,
         members: joined_members(alloc, images, named)?,
     })
 }

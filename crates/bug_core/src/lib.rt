@@ -12,6 +12,7 @@ mod kept;
 mod laws;
 mod merges;
 mod named;
+mod parted;
 mod plans;
 mod refusals;
 mod report;

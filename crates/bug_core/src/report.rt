@@ -105,10 +105,9 @@ pub fn report_change(
     ensures apart { IfOk result (λ change. AreApart change.images) }
     ensures members { IfOk result (λ change. Each HasMember change.images) }
 {
-    let mut images = Sequence::new(alloc);
-    images.push(image_of_report(alloc, from, package, severity, title, node, next)?)?;
+    let image = image_of_report(alloc, from, package, severity, title, node, next)?;
     Ok(Change {
-        images,
+        images: Sequence::from_vec(Vec::from_array(alloc, [image])?),
         next: next + 1,
     })
 }

@@ -31,13 +31,13 @@ fn part(
 ) -> Result<Sequence<Member>, AllocError>
     ensures { IfOk result (λ ms. ms ≡ filter (is_part own number) members.now) }
 {
-    let mut copies = Sequence::new(alloc);
+    let mut copies = Vec::with_capacity(alloc, if own { 1 } else { members.len() })?;
     for member in members {
         if is_part(own, number, member) {
             copies.push(member.copy()?)?;
         }
     }
-    Ok(copies)
+    Ok(Sequence::from_vec(copies))
 }
 
 // The images of two sets with copies of the shared fields.
@@ -50,16 +50,15 @@ fn two_images(
     ensures { IfOk result
         (λ is. is ≡ record { shared = shared.now; members = own } ∷ record { shared = shared.now; members = rest } ∷ []) }
 {
-    let mut images = Sequence::new(alloc);
-    images.push(SetImage {
+    let own = SetImage {
         shared: shared.copy()?,
         members: Members::of(own)?,
-    })?;
-    images.push(SetImage {
+    };
+    let rest = SetImage {
         shared: shared.copy()?,
         members: Members::of(rest)?,
-    })?;
-    Ok(images)
+    };
+    Ok(Sequence::from_vec(Vec::from_array(alloc, [own, rest])?))
 }
 
 /// Takes a bug out of its set. Both parts keep the shared fields.

@@ -130,13 +130,12 @@ fn first_image<S: Records>(
     ensures apart { IfOk result AreApart }
     ensures count { S.faults store.new ≡ faults_after result (S.faults store.old) }
 {
-    let mut images = Sequence::new(alloc);
     let found = store.set_of(number);
     match found {
         Err(fault) => Err(fault),
-        Ok(None) => Ok(images),
-        Ok(Some(image)) => match images.push(image) {
-            Ok(()) => Ok(images),
+        Ok(None) => Ok(Sequence::new(alloc)),
+        Ok(Some(image)) => match Vec::from_array(alloc, [image]) {
+            Ok(images) => Ok(Sequence::from_vec(images)),
             Err(_) => Err(StoreFault::Memory),
         },
     }

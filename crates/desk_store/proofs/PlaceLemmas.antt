@@ -3,11 +3,10 @@ use Rattle.std.proofs.Common.{◌≡◌, ℕ, suc, zero, Bool, true, false, not,
 use Rattle.std.proofs.Common.{drop, Option, Some, None, sym, refl, ap, ◌∙◌, subst, arith}
 use Rattle.std.specs.Prelude.{Result, Ok, Err, IsOk, OnErr, is_some, filter, slice_get}
 use Rattle.std.specs.Option.{option_or}
-use Rattle.std.specs.Ordering.{is_eq, nat_cmp}
-use Rattle.std.specs.BTreeMap.{BTreeMap, get, is_at}
+use Rattle.std.specs.Prelude.{nat_eq}
+use Rattle.std.specs.HashMap.{HashMap, get}
 use Rattle.std.specs.Map.{lookup}
 use Rattle.std.proofs.lemmas.Bool.{false≢true, eqb-true, eq-eqb}
-use Rattle.std.proofs.lemmas.Bool.Decides.{nat_tests}
 use Rattle.std.proofs.lemmas.Option.{none-some, same_Some}
 use Rattle.bug_record.specs.Sets.{has}
 use Rattle.bug_record.specs.Images.{numbers_of}
@@ -18,13 +17,9 @@ use Rattle.desk_store.specs.Places.{place_of, place_in, numbers_in, is_there, is
 use Rattle.desk_store.specs.declared.places.Place.{Place}
 use Rattle.desk_store.specs.declared.places.Place.TheVariants.{First, After}
 
--- a look-up finds the number itself
-is_eq-nat_cmp : (a b : ℕ) → is_eq (nat_cmp a b) ≡ eqb a b
-is_eq-nat_cmp a b = grind (arith, nat_tests)
-
 -- the same entries have the same places
-pub get_unchanged : (old now : BTreeMap ℕ Place) (n : ℕ) → now.entries ≡ old.entries → get nat_cmp now n ≡ get nat_cmp old n
-get_unchanged old now n h = ap (λ (es : List (ℕ × Place)). lookup (is_at (nat_cmp n)) es) h
+pub get_unchanged : {S : Type 0} (old now : HashMap ℕ Place S) (n : ℕ) → now.entries ≡ old.entries → get nat_eq now n ≡ get nat_eq old n
+get_unchanged old now n h = ap (λ (es : List (ℕ × Place)). lookup (nat_eq n) es) h
 
 cond_same : {A : Type 0} (t : Bool) (x : A) → cond t x x ≡ x
 cond_same true x = refl
@@ -41,37 +36,37 @@ on_err_from_ok (Ok x) P h = tt
 on_err_from_ok (Err e) P h = absurd (false≢true h)
 
 -- where all members have places, the first has one after the others are written
-pub absent_never : (bugs now : BTreeMap ℕ Place) (ms others : List Member) (first : Member) (k : ℕ) → ms ≡ first ∷ others
+pub absent_never : {S : Type 0} (bugs now : HashMap ℕ Place S) (ms others : List Member) (first : Member) (k : ℕ) → ms ≡ first ∷ others
     → ((n : ℕ) → has (numbers_of ms) n ≡ true → is_there bugs n ≡ true)
-    → ((n : ℕ) → get nat_cmp now n ≡ cond (has (numbers_of others) n) (Some (After k)) (get nat_cmp bugs n))
-    → get nat_cmp now first.number ≡ None → ⊥
+    → ((n : ℕ) → get nat_eq now n ≡ cond (has (numbers_of others) n) (Some (After k)) (get nat_eq bugs n))
+    → get nat_eq now first.number ≡ None → ⊥
 absent_never bugs now ms others first k is there u e = cases (has (numbers_of others) first.number) refl
   where
     cases : (t : Bool) → has (numbers_of others) first.number ≡ t → ⊥
     cases true q = none-some (After k)
-        (sym e ∙ (u first.number ∙ ap (λ t. cond t (Some (After k)) (get nat_cmp bugs first.number)) q))
+        (sym e ∙ (u first.number ∙ ap (λ t. cond t (Some (After k)) (get nat_eq bugs first.number)) q))
     cases false q =
         let own : has (numbers_of ms) first.number ≡ true =
         ap (λ (z : List Member). has (numbers_of z) first.number) is
         ∙ ap (λ t. t || has (numbers_of others) first.number) (eq-eqb first.number first.number refl) in
-        let gone : get nat_cmp bugs first.number ≡ None =
-        sym (u first.number ∙ ap (λ t. cond t (Some (After k)) (get nat_cmp bugs first.number)) q) ∙ e in
+        let gone : get nat_eq bugs first.number ≡ None =
+        sym (u first.number ∙ ap (λ t. cond t (Some (After k)) (get nat_eq bugs first.number)) q) ∙ e in
         false≢true (sym (ap is_some gone) ∙ there first.number own)
 
 -- ---- the places v of numbers, written one by one
 
 -- one number more
-pub written_more : (v : ℕ → Option Place) (bugs more : BTreeMap ℕ Place) (numbers rest : List ℕ) (x n : ℕ) → numbers ≡ x ∷ rest
-    → get nat_cmp more n ≡ cond (is_eq (nat_cmp x n)) (v x) (get nat_cmp bugs n)
-    → cond (has rest n) (v n) (get nat_cmp more n) ≡ cond (has numbers n) (v n) (get nat_cmp bugs n)
+pub written_more : {S : Type 0} (v : ℕ → Option Place) (bugs more : HashMap ℕ Place S) (numbers rest : List ℕ) (x n : ℕ) → numbers ≡ x ∷ rest
+    → get nat_eq more n ≡ cond (eqb x n) (v x) (get nat_eq bugs n)
+    → cond (has rest n) (v n) (get nat_eq more n) ≡ cond (has numbers n) (v n) (get nat_eq bugs n)
 written_more v bugs more numbers rest x n is h =
-    ap (cond (has rest n) (v n)) (h ∙ (ap (λ t. cond t (v x) old) (is_eq-nat_cmp x n) ∙ here (eqb x n) refl))
+    ap (cond (has rest n) (v n)) (h ∙ here (eqb x n) refl)
     ∙ (elim (eqb x n) as (λ t. cond (has rest n) (v n) (cond t (v n) old) ≡ cond (t || has rest n) (v n) old)
     [ true ↦ cond_same (has rest n) (v n) | false ↦ refl ]
     ∙ ap (λ ns. cond (has ns n) (v n) old) (sym is))
   where
     old : Option Place
-    old = get nat_cmp bugs n
+    old = get nat_eq bugs n
 
     here : (t : Bool) → eqb x n ≡ t → cond t (v x) old ≡ cond t (v n) old
     here true e = ap v (eqb-true x n e)
@@ -88,12 +83,12 @@ has-drop (m ∷ ns) (suc k) n h = has-drop ns k n (right (eqb m n) (has ns n) h)
     right false b h = h
 
 -- the place of another number stays
-pub unwritten : (v : ℕ → Option Place) (bugs now : BTreeMap ℕ Place) (numbers : List ℕ) (k n : ℕ)
-    → cond (has (drop k numbers) n) (v n) (get nat_cmp now n) ≡ cond (has numbers n) (v n) (get nat_cmp bugs n)
-    → has numbers n ≡ false → get nat_cmp now n ≡ get nat_cmp bugs n
+pub unwritten : {S : Type 0} (v : ℕ → Option Place) (bugs now : HashMap ℕ Place S) (numbers : List ℕ) (k n : ℕ)
+    → cond (has (drop k numbers) n) (v n) (get nat_eq now n) ≡ cond (has numbers n) (v n) (get nat_eq bugs n)
+    → has numbers n ≡ false → get nat_eq now n ≡ get nat_eq bugs n
 unwritten v bugs now numbers k n h e =
-    sym (ap (λ t. cond t (v n) (get nat_cmp now n)) (has-drop numbers k n e))
-    ∙ (h ∙ ap (λ t. cond t (v n) (get nat_cmp bugs n)) e)
+    sym (ap (λ t. cond t (v n) (get nat_eq now n)) (has-drop numbers k n e))
+    ∙ (h ∙ ap (λ t. cond t (v n) (get nat_eq bugs n)) e)
 
 -- ---- images, from the last to the first
 
@@ -118,34 +113,34 @@ place_in-append (i ∷ xs) ys n =
     [ true ↦ refl | false ↦ place_in-append xs ys n ]
 
 -- each bug of the images has a place
-abbrev pub AreThere : BTreeMap ℕ Place → List SetImage → Type 0
+abbrev pub AreThere : {S : Type 0} → HashMap ℕ Place S → List SetImage → Type 0
 AreThere bugs is = (n : ℕ) → is_some (place_in is n) ≡ true → is_there bugs n ≡ true
 
 -- Of the images `all`, which are put into the map `old`, `rest` are left to put into `now`.
-pub record IsPutting (old : BTreeMap ℕ Place) (all : List SetImage) (now : BTreeMap ℕ Place) (rest : List SetImage) : Type 0 where
-  pub goes_on : (n : ℕ) → option_or (place_in rest n) (get nat_cmp now n) ≡ option_or (place_in all n) (get nat_cmp old n)
+pub record IsPutting {S : Type 0} (old : HashMap ℕ Place S) (all : List SetImage) (now : HashMap ℕ Place S) (rest : List SetImage) : Type 0 where
+  pub goes_on : (n : ℕ) → option_or (place_in rest n) (get nat_eq now n) ≡ option_or (place_in all n) (get nat_eq old n)
   pub there : AreThere old all → AreThere now rest
 
 -- the bugs of the last image have a place
-pub last-there : (bugs : BTreeMap ℕ Place) (is rest : List SetImage) (i : SetImage) → is ≡ rest ++ i ∷ [] → AreThere bugs is
+pub last-there : {S : Type 0} (bugs : HashMap ℕ Place S) (is rest : List SetImage) (i : SetImage) → is ≡ rest ++ i ∷ [] → AreThere bugs is
     → (n : ℕ) → has (numbers_of i.members) n ≡ true → is_there bugs n ≡ true
 last-there bugs is rest i e h n own =
     h n (ap (λ (w : List SetImage). is_some (place_in w n)) e ∙ (ap is_some (place_in-append rest (i ∷ []) n)
     ∙ option_or-some (place_in rest n) (place_in (i ∷ []) n) (ap (λ t. is_some (cond t (Some (place_of i n)) None)) own)))
 
 -- one image more is in
-pub putting_more : (old : BTreeMap ℕ Place) (all : List SetImage) (now more : BTreeMap ℕ Place) (is rest : List SetImage)
+pub putting_more : {S : Type 0} (old : HashMap ℕ Place S) (all : List SetImage) (now more : HashMap ℕ Place S) (is rest : List SetImage)
     (i : SetImage)
     → is ≡ rest ++ i ∷ [] → IsPutting old all now is
-    → ((n : ℕ) → get nat_cmp more n ≡ option_or (place_in (i ∷ []) n) (get nat_cmp now n)) → IsPutting old all more rest
+    → ((n : ℕ) → get nat_eq more n ≡ option_or (place_in (i ∷ []) n) (get nat_eq now n)) → IsPutting old all more rest
 putting_more old all now more is rest i e p h = record {
   goes_on =
       λ n. ap (option_or (place_in rest n)) (h n)
-      ∙ (sym (option_or-assoc (place_in rest n) (place_in (i ∷ []) n) (get nat_cmp now n))
-      ∙ (ap (λ o. option_or o (get nat_cmp now n)) (sym (parts n)) ∙ p.goes_on n));
+      ∙ (sym (option_or-assoc (place_in rest n) (place_in (i ∷ []) n) (get nat_eq now n))
+      ∙ (ap (λ o. option_or o (get nat_eq now n)) (sym (parts n)) ∙ p.goes_on n));
   there =
       λ w n k. ap is_some (h n)
-      ∙ option_or-some (place_in (i ∷ []) n) (get nat_cmp now n) (p.there w n (ap is_some (parts n)
+      ∙ option_or-some (place_in (i ∷ []) n) (get nat_eq now n) (p.there w n (ap is_some (parts n)
       ∙ option_or-left (place_in rest n) (place_in (i ∷ []) n) k));
 }
   where
@@ -186,7 +181,7 @@ has-filter p (x ∷ xs) n =
     here more true q = ap (λ t. t || has (filter p xs) x) (eq-eqb x x refl) ∙ sym (ap (λ t. cond t true false) q)
     here more false q = more ∙ (ap (λ t. cond t (has xs x) false) q ∙ sym (ap (λ t. cond t true false) q))
 
-module _ (old mid : BTreeMap ℕ Place) (is : List SetImage) (fresh : List ℕ)
+module _ {S : Type 0} (old mid : HashMap ℕ Place S) (is : List SetImage) (fresh : List ℕ)
     (are : fresh ≡ filter (is_fresh old) (numbers_in is)) where
   -- a number is among the fresh ones where an image has it, and it had no place
   fresh-has : (n : ℕ) → has fresh n ≡ cond (not (is_there old n)) (is_some (place_in is n)) false
@@ -195,10 +190,10 @@ module _ (old mid : BTreeMap ℕ Place) (is : List SetImage) (fresh : List ℕ)
       ∙ (has-filter (is_fresh old) (numbers_in is) n ∙ ap (λ t. cond (not (is_there old n)) t false) (sym (place_in-has is n)))
 
   -- with places for them each bug has one
-  pub all-there : ((n : ℕ) → get nat_cmp mid n ≡ cond (has fresh n) (Some (After n)) (get nat_cmp old n)) → AreThere mid is
+  pub all-there : ((n : ℕ) → get nat_eq mid n ≡ cond (has fresh n) (Some (After n)) (get nat_eq old n)) → AreThere mid is
   all-there h n k =
-      ap is_some (h n ∙ ap (λ t. cond t (Some (After n)) (get nat_cmp old n)) (fresh-has n))
-      ∙ cases (get nat_cmp old n) (is_some (place_in is n)) k
+      ap is_some (h n ∙ ap (λ t. cond t (Some (After n)) (get nat_eq old n)) (fresh-has n))
+      ∙ cases (get nat_eq old n) (is_some (place_in is n)) k
     where
       cases : (o : Option Place) (t : Bool) → t ≡ true → is_some (cond (cond (not (is_some o)) t false) (Some (After n)) o) ≡ true
       cases None true k = refl
@@ -206,33 +201,33 @@ module _ (old mid : BTreeMap ℕ Place) (is : List SetImage) (fresh : List ℕ)
       cases (Some p) t k = refl
 
   -- once the images are put, those places are gone
-  pub put-over : (now : BTreeMap ℕ Place)
-      → ((n : ℕ) → get nat_cmp mid n ≡ cond (has fresh n) (Some (After n)) (get nat_cmp old n))
-      → ((n : ℕ) → get nat_cmp now n ≡ option_or (place_in is n) (get nat_cmp mid n)) → (n : ℕ)
-      → get nat_cmp now n ≡ option_or (place_in is n) (get nat_cmp old n)
+  pub put-over : (now : HashMap ℕ Place S)
+      → ((n : ℕ) → get nat_eq mid n ≡ cond (has fresh n) (Some (After n)) (get nat_eq old n))
+      → ((n : ℕ) → get nat_eq now n ≡ option_or (place_in is n) (get nat_eq mid n)) → (n : ℕ)
+      → get nat_eq now n ≡ option_or (place_in is n) (get nat_eq old n)
   put-over now h w n =
-      w n ∙ (ap (option_or (place_in is n)) (h n ∙ ap (λ t. cond t (Some (After n)) (get nat_cmp old n)) (fresh-has n))
+      w n ∙ (ap (option_or (place_in is n)) (h n ∙ ap (λ t. cond t (Some (After n)) (get nat_eq old n)) (fresh-has n))
       ∙ cases (place_in is n) (is_there old n))
     where
       cases : (o : Option Place) (t : Bool)
-          → option_or o (cond (cond (not t) (is_some o) false) (Some (After n)) (get nat_cmp old n))
-          ≡ option_or o (get nat_cmp old n)
+          → option_or o (cond (cond (not t) (is_some o) false) (Some (After n)) (get nat_eq old n))
+          ≡ option_or o (get nat_eq old n)
       cases (Some p) t = refl
       cases None true = refl
       cases None false = refl
 
   -- where there was no memory for all of them, they are taken out again
-  pub taken-out : (after : BTreeMap ℕ Place) → ((n : ℕ) → has fresh n ≡ false → get nat_cmp mid n ≡ get nat_cmp old n)
-      → ((n : ℕ) → get nat_cmp after n ≡ cond (has fresh n) None (get nat_cmp mid n)) → (n : ℕ)
-      → get nat_cmp after n ≡ get nat_cmp old n
+  pub taken-out : (after : HashMap ℕ Place S) → ((n : ℕ) → has fresh n ≡ false → get nat_eq mid n ≡ get nat_eq old n)
+      → ((n : ℕ) → get nat_eq after n ≡ cond (has fresh n) None (get nat_eq mid n)) → (n : ℕ)
+      → get nat_eq after n ≡ get nat_eq old n
   taken-out after others out n = out n ∙ cases (has fresh n) refl
     where
       had_none : (o : Option Place) (t : Bool) → cond (not (is_some o)) t false ≡ true → None ≡ o
       had_none None t h = refl
       had_none (Some p) t h = absurd (false≢true h)
 
-      cases : (t : Bool) → has fresh n ≡ t → cond t None (get nat_cmp mid n) ≡ get nat_cmp old n
-      cases true e = had_none (get nat_cmp old n) (is_some (place_in is n)) (sym (fresh-has n) ∙ e)
+      cases : (t : Bool) → has fresh n ≡ t → cond t None (get nat_eq mid n) ≡ get nat_eq old n
+      cases true e = had_none (get nat_eq old n) (is_some (place_in is n)) (sym (fresh-has n) ∙ e)
       cases false e = others n e
 
 -- the number of the first member
@@ -247,11 +242,10 @@ one_item (j ∷ []) i l e = ap (λ (z : SetImage). z ∷ []) (sym e)
 one_item (j ∷ k ∷ is) i l e = absurd (omega arith)
 
 -- an image that is put at its only place
-pub only-put : (old now : BTreeMap ℕ Place) (is : List SetImage) (i copy : SetImage) (key n : ℕ) → is ≡ i ∷ [] → copy ≡ i
+pub only-put : {S : Type 0} (old now : HashMap ℕ Place S) (is : List SetImage) (i copy : SetImage) (key n : ℕ) → is ≡ i ∷ [] → copy ≡ i
     → IsOnlyPlace old i key
-    → get nat_cmp now n ≡ cond (is_eq (nat_cmp key n)) (Some (First copy)) (get nat_cmp old n)
-    → get nat_cmp now n ≡ option_or (place_in is n) (get nat_cmp old n)
+    → get nat_eq now n ≡ cond (eqb key n) (Some (First copy)) (get nat_eq old n)
+    → get nat_eq now n ≡ option_or (place_in is n) (get nat_eq old n)
 only-put old now is i copy key n one same only h =
-    h ∙ (ap (λ t. cond t (Some (First copy)) (get nat_cmp old n)) (is_eq-nat_cmp key n)
-    ∙ (ap (λ (z : SetImage). cond (eqb key n) (Some (First z)) (get nat_cmp old n)) same
-    ∙ (sym (only n) ∙ sym (ap (λ (w : List SetImage). option_or (place_in w n) (get nat_cmp old n)) one))))
+    h ∙ (ap (λ (z : SetImage). cond (eqb key n) (Some (First z)) (get nat_eq old n)) same
+    ∙ (sym (only n) ∙ sym (ap (λ (w : List SetImage). option_or (place_in w n) (get nat_eq old n)) one)))

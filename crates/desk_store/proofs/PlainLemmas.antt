@@ -2,8 +2,8 @@
 use Rattle.std.proofs.Common.{◌≡◌, ℕ, true, false, cond, eqb, List, [], ◌∷◌, Option, Some, None, sym, ◌∙◌, ap, subst, refl}
 use Rattle.std.specs.Prelude.{option_map}
 use Rattle.std.specs.Option.{option_or, option_and_then}
-use Rattle.std.specs.Ordering.{nat_cmp}
-use Rattle.std.specs.BTreeMap.{BTreeMap, get}
+use Rattle.std.specs.Prelude.{nat_eq}
+use Rattle.std.specs.HashMap.{HashMap, get}
 use Rattle.std.proofs.lemmas.Bool.{eqb-true}
 use Rattle.ancestry.specs.Trees.{Ancestry}
 use Rattle.bug_record.specs.Sets.{has}
@@ -29,23 +29,23 @@ Fit v = IsKeyed v.0 v.1
 
 -- ---- maps with the same places
 
-abbrev AreSame : BTreeMap ℕ Place → BTreeMap ℕ Place → Type 0
-AreSame now old = (n : ℕ) → get nat_cmp now n ≡ get nat_cmp old n
+abbrev AreSame : {S : Type 0} → HashMap ℕ Place S → HashMap ℕ Place S → Type 0
+AreSame now old = (n : ℕ) → get nat_eq now n ≡ get nat_eq old n
 
-same_view : (now old : BTreeMap ℕ Place) → AreSame now old → ◌≡◌ {A = View} (keys now, sets now) (keys old, sets old)
+same_view : {S : Type 0} (now old : HashMap ℕ Place S) → AreSame now old → ◌≡◌ {A = View} (keys now, sets now) (keys old, sets old)
 same_view now old h = λ i. (λ n. option_map (key_at n) (h n i), λ k. option_and_then image_at (h k i))
 
-pub keyed-same : (now old : BTreeMap ℕ Place) → AreSame now old → IsKeyed (keys old) (sets old) → IsKeyed (keys now) (sets now)
+pub keyed-same : {S : Type 0} (now old : HashMap ℕ Place S) → AreSame now old → IsKeyed (keys old) (sets old) → IsKeyed (keys now) (sets now)
 keyed-same now old h keyed = subst Fit (sym (same_view now old h)) keyed
 
-pub desk_of-same : (now old : BTreeMap ℕ Place) (tree : Ancestry) (next : ℕ) → AreSame now old
+pub desk_of-same : {S : Type 0} (now old : HashMap ℕ Place S) (tree : Ancestry) (next : ℕ) → AreSame now old
     → desk_of now tree next ≡ desk_of old tree next
 desk_of-same now old tree next h =
     ap (λ (v : View). record { bug = keyed_bug v.0 v.1; tree = tree; next = next }) (same_view now old h)
 
 -- ---- the image of a bug's set
 
-pub image-is : (bugs : BTreeMap ℕ Place) (tree : Ancestry) (next : ℕ) → IsKeyed (keys bugs) (sets bugs)
+pub image-is : {S : Type 0} (bugs : HashMap ℕ Place S) (tree : Ancestry) (next : ℕ) → IsKeyed (keys bugs) (sets bugs)
     → IsSound (desk_of bugs tree next) → (n : ℕ) (i : SetImage) → option_and_then (sets bugs) (keys bugs n) ≡ Some i
     → IsImageOf (desk_of bugs tree next) n (Some i)
 image-is bugs tree next keyed sound n i h =
@@ -61,8 +61,8 @@ place_in-image_with (i ∷ is) n =
     (λ t. cond t (Some (place_of i n)) (place_in is n) ≡ option_map (λ j. place_of j n) (cond t (Some i) (image_with is n)))
     [ true ↦ refl | false ↦ place_in-image_with is n ]
 
-abbrev IsAfter : BTreeMap ℕ Place → List SetImage → BTreeMap ℕ Place → Type 0
-IsAfter old is now = (n : ℕ) → get nat_cmp now n ≡ option_or (place_in is n) (get nat_cmp old n)
+abbrev IsAfter : {S : Type 0} → HashMap ℕ Place S → List SetImage → HashMap ℕ Place S → Type 0
+IsAfter old is now = (n : ℕ) → get nat_eq now n ≡ option_or (place_in is n) (get nat_eq old n)
 
 key-after : (n : ℕ) (o : Option SetImage) (old : Option Place)
     → option_map (key_at n) (option_or (option_map (λ i. place_of i n) o) old)
@@ -81,20 +81,20 @@ set-after k (Some i) old =
     elim (eqb (key_of i) k) as (λ t. image_at (cond t (First i) (After (key_of i))) ≡ cond t (Some i) None)
     [ true ↦ refl | false ↦ refl ]
 
-view_after : (old now : BTreeMap ℕ Place) (is : List SetImage) → IsAfter old is now
+view_after : {S : Type 0} (old now : HashMap ℕ Place S) (is : List SetImage) → IsAfter old is now
     → ◌≡◌ {A = View} (keys now, sets now) (key_after is (keys old), set_after is (sets old))
 view_after old now is h = λ i. (λ n. key n i, λ k. set k i)
   where
-    at : (n : ℕ) → get nat_cmp now n ≡ option_or (option_map (λ i. place_of i n) (image_with is n)) (get nat_cmp old n)
-    at n = h n ∙ ap (λ (o : Option Place). option_or o (get nat_cmp old n)) (place_in-image_with is n)
+    at : (n : ℕ) → get nat_eq now n ≡ option_or (option_map (λ i. place_of i n) (image_with is n)) (get nat_eq old n)
+    at n = h n ∙ ap (λ (o : Option Place). option_or o (get nat_eq old n)) (place_in-image_with is n)
 
     key : (n : ℕ) → keys now n ≡ key_after is (keys old) n
-    key n = ap (option_map (key_at n)) (at n) ∙ key-after n (image_with is n) (get nat_cmp old n)
+    key n = ap (option_map (key_at n)) (at n) ∙ key-after n (image_with is n) (get nat_eq old n)
 
     set : (k : ℕ) → sets now k ≡ set_after is (sets old) k
-    set k = ap (option_and_then image_at) (at k) ∙ set-after k (image_with is k) (get nat_cmp old k)
+    set k = ap (option_and_then image_at) (at k) ∙ set-after k (image_with is k) (get nat_eq old k)
 
-module _ (old now : BTreeMap ℕ Place) (tree : Ancestry) (next : ℕ) (change : Change) (apart : AreApart change.images)
+module _ {S : Type 0} (old now : HashMap ℕ Place S) (tree : Ancestry) (next : ℕ) (change : Change) (apart : AreApart change.images)
     (fits : FitsDesk (desk_of old tree next) change) (keyed : IsKeyed (keys old) (sets old))
     (h : IsAfter old change.images now) where
   pub keyed-put : IsKeyed (keys now) (sets now)

@@ -1,8 +1,8 @@
 -- The places that a change gives to bugs of a desk in memory.
 use Rattle.std.specs.Prelude.{ℕ, ◌≡◌, ◌==◌, Bool, not, List, [], ◌∷◌, ◌++◌, Option, Some, None, is_some, if◌then◌else◌}
 use Rattle.std.specs.Option.{option_or}
-use Rattle.std.specs.Ordering.{nat_cmp}
-use Rattle.std.specs.BTreeMap.{BTreeMap, get}
+use Rattle.std.specs.Prelude.{nat_eq}
+use Rattle.std.specs.HashMap.{HashMap, get}
 use Rattle.bug_record.specs.Sets.{has}
 use Rattle.bug_record.specs.Images.{numbers_of}
 use Rattle.bug_record.specs.declared.bug.SetImage.{SetImage}
@@ -25,10 +25,10 @@ numbers_in [] = []
 numbers_in (i ∷ is) = numbers_of i.members ++ numbers_in is
 
 -- whether a bug of this number has a place
-abbrev pub is_there : BTreeMap ℕ Place → ℕ → Bool
-is_there bugs n = is_some (get nat_cmp bugs n)
+abbrev pub is_there : {S : Type 0} → HashMap ℕ Place S → ℕ → Bool
+is_there bugs n = is_some (get nat_eq bugs n)
 
-abbrev pub is_fresh : BTreeMap ℕ Place → ℕ → Bool
+abbrev pub is_fresh : {S : Type 0} → HashMap ℕ Place S → ℕ → Bool
 is_fresh bugs n = not (is_there bugs n)
 
 -- the image has the bugs of the set whose image is kept under its key, in the same order
@@ -36,6 +36,6 @@ abbrev pub KeepsSet : (ℕ → Option SetImage) → SetImage → Type 0
 KeepsSet set j = (i : SetImage) × (set (key_of j) ≡ Some i) × (numbers_of i.members ≡ numbers_of j.members)
 
 -- the image is put by being put at this number alone
-abbrev pub IsOnlyPlace : BTreeMap ℕ Place → SetImage → ℕ → Type 0
+abbrev pub IsOnlyPlace : {S : Type 0} → HashMap ℕ Place S → SetImage → ℕ → Type 0
 IsOnlyPlace bugs j key =
-    (n : ℕ) → option_or (place_in (j ∷ []) n) (get nat_cmp bugs n) ≡ (if key == n then Some (First j) else get nat_cmp bugs n)
+    (n : ℕ) → option_or (place_in (j ∷ []) n) (get nat_eq bugs n) ≡ (if key == n then Some (First j) else get nat_eq bugs n)

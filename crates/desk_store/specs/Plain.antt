@@ -1,8 +1,8 @@
 -- A desk in memory, as a map from each number to what stands in its place.
 use Rattle.std.specs.Prelude.{ℕ, Option, Some, None, option_map}
 use Rattle.std.specs.Option.{option_and_then}
-use Rattle.std.specs.Ordering.{nat_cmp}
-use Rattle.std.specs.BTreeMap.{BTreeMap, get}
+use Rattle.std.specs.Prelude.{nat_eq}
+use Rattle.std.specs.HashMap.{HashMap, get}
 use Rattle.ancestry.specs.Trees.{Ancestry, no_nodes}
 use Rattle.bug_record.specs.Desk.{Desk}
 use Rattle.bug_record.specs.declared.bug.SetImage.{SetImage}
@@ -21,15 +21,15 @@ image_at (First i) = Some i
 image_at (After k) = None
 
 -- the key of each bug
-abbrev pub keys : BTreeMap ℕ Place → ℕ → Option ℕ
-keys bugs n = option_map (key_at n) (get nat_cmp bugs n)
+abbrev pub keys : {S : Type 0} → HashMap ℕ Place S → ℕ → Option ℕ
+keys bugs n = option_map (key_at n) (get nat_eq bugs n)
 
 -- the image of each key
-abbrev pub sets : BTreeMap ℕ Place → ℕ → Option SetImage
-sets bugs k = option_and_then image_at (get nat_cmp bugs k)
+abbrev pub sets : {S : Type 0} → HashMap ℕ Place S → ℕ → Option SetImage
+sets bugs k = option_and_then image_at (get nat_eq bugs k)
 
 -- the desk of these bugs and this ancestry
-abbrev pub desk_of : BTreeMap ℕ Place → Ancestry → ℕ → Desk
+abbrev pub desk_of : {S : Type 0} → HashMap ℕ Place S → Ancestry → ℕ → Desk
 desk_of bugs tree next = keyed_desk (keys bugs) (sets bugs) tree next
 
 -- a desk with no bug and no node

@@ -5,6 +5,7 @@
 
 mod fail_at;
 mod heads;
+mod kept;
 mod laws;
 mod places;
 mod plain;

@@ -3,9 +3,9 @@
 
 ghost use Rattle.std.specs.Prelude.{◌≡◌, ◌++◌, ℕ, Some, None, [], ◌∷◌, false, filter, is_some, IsTrue, IsOk, IfOk, IfSome, OnOk};
 ghost use Rattle.std.specs.Prelude.{OnErr, if◌then◌else◌};
-ghost use Rattle.std.specs.BTreeMap.{get};
+ghost use Rattle.std.specs.HashMap.{get};
 ghost use Rattle.std.specs.Option.{option_or};
-ghost use Rattle.std.specs.Ordering.{nat_cmp};
+ghost use Rattle.std.specs.Prelude.{nat_eq};
 ghost use Rattle.std.specs.Str.{bytes_eq};
 ghost use Rattle.bug_record.specs.Sets.{has};
 ghost use Rattle.bug_record.specs.Images.{numbers_of};
@@ -13,15 +13,16 @@ ghost use Rattle.desk_store.specs.Keys.{IsKeyed};
 ghost use Rattle.desk_store.specs.Plain.{keys, sets};
 ghost use Rattle.desk_store.specs.Places.{place_in, numbers_in, is_there, is_fresh, KeepsSet, IsOnlyPlace};
 
+use crate::kept::Kept;
 use bug_record::{Member, SetImage};
 use std::alloc::{AllocError, Global};
-use std::collections::BTreeMap;
+use std::collections::HashMap;
 
 /// A bug's place in its set.
 #[derive(Drop)]
 pub(crate) enum Place {
     /// The first of its members, where the image of the set stands.
-    First(SetImage),
+    First(Kept),
     /// Another one, and the number of the first.
     After(u64),
 }
@@ -42,7 +43,7 @@ fn same_numbers(a: &[Member], b: &[Member]) -> bool
 }
 
 // Whether the image's members are those of the set whose image stands at the first of them.
-fn keeps_set(bugs: &BTreeMap<u64, Place>, image: &SetImage) -> bool
+fn keeps_set(bugs: &HashMap<u64, Place>, image: &SetImage) -> bool
     ensures { IsTrue result → KeepsSet (sets bugs.now) image.now }
 {
     let members = image.members.as_slice();
@@ -50,14 +51,14 @@ fn keeps_set(bugs: &BTreeMap<u64, Place>, image: &SetImage) -> bool
         return false;
     };
     match bugs.get(&first.number) {
-        Some(Place::First(old)) => same_numbers(old.members.as_slice(), members),
+        Some(Place::First(old)) => same_numbers(old.image().members.as_slice(), members),
         _ => false,
     }
 }
 
 // The number of the image's first member, where the image is put by being put there: where it has
 // no other member, or those of a set that is there.
-fn only_place(bugs: &BTreeMap<u64, Place>, image: &SetImage) -> Option<u64>
+fn only_place(bugs: &HashMap<u64, Place>, image: &SetImage) -> Option<u64>
     requires { IsKeyed (keys bugs.now) (sets bugs.now) }
     ensures { IfSome result (λ key. IsOnlyPlace bugs.now image.now key) }
 {
@@ -71,7 +72,7 @@ fn only_place(bugs: &BTreeMap<u64, Place>, image: &SetImage) -> Option<u64>
 // Adds the numbers of the members that have no place.
 fn add_fresh(
     fresh: &mut Vec<u64>,
-    bugs: &BTreeMap<u64, Place>,
+    bugs: &HashMap<u64, Place>,
     members: &[Member],
 ) -> Result<(), AllocError>
     ensures { OnOk result (fresh.new.items ≡ fresh.old.items ++ filter (is_fresh bugs.now) (numbers_of members.now)) }
@@ -87,7 +88,7 @@ fn add_fresh(
 // The numbers of the images' members that have no place.
 fn fresh_numbers(
     alloc: Global,
-    bugs: &BTreeMap<u64, Place>,
+    bugs: &HashMap<u64, Place>,
     images: &[SetImage],
 ) -> Result<Vec<u64>, AllocError>
     ensures { IfOk result (λ fresh. fresh.items ≡ filter (is_fresh bugs.now) (numbers_in images.now)) }
@@ -100,22 +101,22 @@ fn fresh_numbers(
 }
 
 // Copies of the images.
-fn copies_of(alloc: Global, images: &[SetImage]) -> Result<Vec<SetImage>, AllocError>
+fn copies_of(alloc: Global, images: &[SetImage]) -> Result<Vec<Kept>, AllocError>
     ensures { IfOk result (λ copies. copies.items ≡ images.now) }
 {
     let mut copies = Vec::new(alloc);
     for image in images {
-        copies.push(image.copy()?)?;
+        copies.push(Kept::copy_of(alloc, image)?)?;
     }
     Ok(copies)
 }
 
 // Gives each of these numbers a place, which stands for itself.
 // Where there is no memory, some of them may have it, and all else is as before.
-fn add_places(bugs: &mut BTreeMap<u64, Place>, numbers: &[u64]) -> Result<(), AllocError>
+fn add_places(bugs: &mut HashMap<u64, Place>, numbers: &[u64]) -> Result<(), AllocError>
     ensures ok { OnOk result
-        ((n : ℕ) → get nat_cmp bugs.new n ≡ (if has numbers.now n then Some (Place.After n) else get nat_cmp bugs.old n)) }
-    ensures err { OnErr result ((n : ℕ) → has numbers.now n ≡ false → get nat_cmp bugs.new n ≡ get nat_cmp bugs.old n) }
+        ((n : ℕ) → get nat_eq bugs.new n ≡ (if has numbers.now n then Some (Place.After n) else get nat_eq bugs.old n)) }
+    ensures err { OnErr result ((n : ℕ) → has numbers.now n ≡ false → get nat_eq bugs.new n ≡ get nat_eq bugs.old n) }
 {
     for number in numbers {
         bugs.insert(*number, Place::After(*number))?;
@@ -124,8 +125,8 @@ fn add_places(bugs: &mut BTreeMap<u64, Place>, numbers: &[u64]) -> Result<(), Al
 }
 
 // Takes these numbers out of the map.
-fn remove_all(bugs: &mut BTreeMap<u64, Place>, numbers: &[u64])
-    ensures { (n : ℕ) → get nat_cmp bugs.new n ≡ (if has numbers.now n then None else get nat_cmp bugs.old n) }
+fn remove_all(bugs: &mut HashMap<u64, Place>, numbers: &[u64])
+    ensures { (n : ℕ) → get nat_eq bugs.new n ≡ (if has numbers.now n then None else get nat_eq bugs.old n) }
 {
     for number in numbers {
         bugs.remove(number);
@@ -134,14 +135,10 @@ fn remove_all(bugs: &mut BTreeMap<u64, Place>, numbers: &[u64])
 
 // Puts members after the bug of this number.
 // No memory is taken for those that have a place already.
-fn put_after(
-    bugs: &mut BTreeMap<u64, Place>,
-    key: u64,
-    members: &[Member],
-) -> Result<(), AllocError>
+fn put_after(bugs: &mut HashMap<u64, Place>, key: u64, members: &[Member]) -> Result<(), AllocError>
     ensures ok { OnOk result
-        ((n : ℕ) → get nat_cmp bugs.new n
-        ≡ (if has (numbers_of members.now) n then Some (Place.After key) else get nat_cmp bugs.old n)) }
+        ((n : ℕ) → get nat_eq bugs.new n
+        ≡ (if has (numbers_of members.now) n then Some (Place.After key) else get nat_eq bugs.old n)) }
     ensures known { ((n : ℕ) → IsTrue (has (numbers_of members.now) n) → IsTrue (is_there bugs.old n)) → IsOk result }
 {
     for member in members {
@@ -152,11 +149,11 @@ fn put_after(
 
 // Puts an image at the first of its members, and the others after it.
 // No memory is taken where all of them have a place already.
-fn put_image(bugs: &mut BTreeMap<u64, Place>, image: SetImage) -> Result<(), AllocError>
-    ensures ok { OnOk result ((n : ℕ) → get nat_cmp bugs.new n ≡ option_or (place_in (image ∷ []) n) (get nat_cmp bugs.old n)) }
+fn put_image(bugs: &mut HashMap<u64, Place>, image: Kept) -> Result<(), AllocError>
+    ensures ok { OnOk result ((n : ℕ) → get nat_eq bugs.new n ≡ option_or (place_in (image ∷ []) n) (get nat_eq bugs.old n)) }
     ensures known { ((n : ℕ) → IsTrue (has (numbers_of image.members) n) → IsTrue (is_there bugs.old n)) → IsOk result }
 {
-    let Some((first, others)) = image.members.as_slice().split_first() else {
+    let Some((first, others)) = image.image().members.as_slice().split_first() else {
         return Ok(());
     };
     let key = first.number;
@@ -167,8 +164,8 @@ fn put_image(bugs: &mut BTreeMap<u64, Place>, image: SetImage) -> Result<(), All
 
 // Puts images, from the last to the first, so that a bug is in the first that has it.
 // No memory is taken where all of their members have a place already.
-fn put_copies(bugs: &mut BTreeMap<u64, Place>, mut images: Vec<SetImage>) -> Result<(), AllocError>
-    ensures ok { OnOk result ((n : ℕ) → get nat_cmp bugs.new n ≡ option_or (place_in images.items n) (get nat_cmp bugs.old n)) }
+fn put_copies(bugs: &mut HashMap<u64, Place>, mut images: Vec<Kept>) -> Result<(), AllocError>
+    ensures ok { OnOk result ((n : ℕ) → get nat_eq bugs.new n ≡ option_or (place_in images.items n) (get nat_eq bugs.old n)) }
     ensures known { ((n : ℕ) → IsTrue (is_some (place_in images.items n)) → IsTrue (is_there bugs.old n)) → IsOk result }
 {
     while let Some(image) = images.pop() {
@@ -180,11 +177,11 @@ fn put_copies(bugs: &mut BTreeMap<u64, Place>, mut images: Vec<SetImage>) -> Res
 // Puts the images, once each of their bugs has a place: only a new number can want memory.
 fn put_all(
     alloc: Global,
-    bugs: &mut BTreeMap<u64, Place>,
+    bugs: &mut HashMap<u64, Place>,
     images: &[SetImage],
 ) -> Result<(), AllocError>
-    ensures ok { OnOk result ((n : ℕ) → get nat_cmp bugs.new n ≡ option_or (place_in images.now n) (get nat_cmp bugs.old n)) }
-    ensures err { OnErr result ((n : ℕ) → get nat_cmp bugs.new n ≡ get nat_cmp bugs.old n) }
+    ensures ok { OnOk result ((n : ℕ) → get nat_eq bugs.new n ≡ option_or (place_in images.now n) (get nat_eq bugs.old n)) }
+    ensures err { OnErr result ((n : ℕ) → get nat_eq bugs.new n ≡ get nat_eq bugs.old n) }
 {
     let copies = copies_of(alloc, images)?;
     let fresh = fresh_numbers(alloc, bugs, images)?;
@@ -203,16 +200,16 @@ fn put_all(
 /// One image that keeps its set, or has one bug alone, is put with one or two look-ups.
 pub(crate) fn put_images(
     alloc: Global,
-    bugs: &mut BTreeMap<u64, Place>,
+    bugs: &mut HashMap<u64, Place>,
     images: &[SetImage],
 ) -> Result<(), AllocError>
     requires { IsKeyed (keys bugs.old) (sets bugs.old) }
-    ensures ok { OnOk result ((n : ℕ) → get nat_cmp bugs.new n ≡ option_or (place_in images.now n) (get nat_cmp bugs.old n)) }
-    ensures err { OnErr result ((n : ℕ) → get nat_cmp bugs.new n ≡ get nat_cmp bugs.old n) }
+    ensures ok { OnOk result ((n : ℕ) → get nat_eq bugs.new n ≡ option_or (place_in images.now n) (get nat_eq bugs.old n)) }
+    ensures err { OnErr result ((n : ℕ) → get nat_eq bugs.new n ≡ get nat_eq bugs.old n) }
 {
     if let [image] = images {
         if let Some(key) = only_place(bugs, image) {
-            bugs.insert(key, Place::First(image.copy()?))?;
+            bugs.insert(key, Place::First(Kept::copy_of(alloc, image)?))?;
             return Ok(());
         }
     }

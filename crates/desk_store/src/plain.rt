@@ -1,9 +1,9 @@
 //! A desk in memory.
 
 ghost use Rattle.std.specs.Prelude.{◌≡◌, ◌≤◌, None, Ok, IfOk, IfErr, OnOk, OnErr};
-ghost use Rattle.std.specs.BTreeMap.{get};
+ghost use Rattle.std.specs.HashMap.{get};
 ghost use Rattle.std.specs.Option.{option_and_then, option_copied};
-ghost use Rattle.std.specs.Ordering.{nat_cmp};
+ghost use Rattle.std.specs.Prelude.{nat_eq};
 ghost use Rattle.bug_record.specs.Desk.{IsSound};
 ghost use Rattle.bug_record.specs.Images.{AreApart, FitsDesk, put};
 ghost use Rattle.bug_record.proofs.SoundProp.{IsSound-prop};
@@ -18,13 +18,13 @@ use ancestry::{BranchFault, Node, Tree};
 use bug_record::{Change, SetImage};
 use desk_text::StoreFault;
 use std::alloc::{AllocError, Global};
-use std::collections::BTreeMap;
+use std::collections::HashMap;
 
 /// A desk in memory: the image of each set of merged bugs at the first of them, the number of the
 /// first at the others, and the tree of nodes.
 #[derive(Drop)]
 pub struct PlainDesk {
-    bugs: BTreeMap<u64, Place>,
+    bugs: HashMap<u64, Place>,
     tree: Tree,
     next: u64,
     alloc: Global,
@@ -40,7 +40,7 @@ impl PlainDesk {
         ensures { desk_of result.bugs result.tree result.next ≡ empty_desk first }
     {
         PlainDesk {
-            bugs: BTreeMap::new(alloc),
+            bugs: HashMap::new(alloc),
             tree: Tree::new(alloc),
             next: first,
             alloc,
@@ -49,13 +49,13 @@ impl PlainDesk {
 }
 
 // The image of the set that the bug is in.
-fn image_of(bugs: &BTreeMap<u64, Place>, number: u64) -> Option<&SetImage>
+fn image_of(bugs: &HashMap<u64, Place>, number: u64) -> Option<&SetImage>
     ensures { option_copied result ≡ option_and_then (sets bugs.now) (keys bugs.now number) }
 {
     match bugs.get(&number)? {
-        Place::First(image) => Some(image),
+        Place::First(kept) => Some(kept.image()),
         Place::After(first) => match bugs.get(first)? {
-            Place::First(image) => Some(image),
+            Place::First(kept) => Some(kept.image()),
             Place::After(_) => None,
         },
     }
@@ -73,7 +73,7 @@ impl Records for PlainDesk {
     fn set_of(&mut self, number: u64) -> Result<Option<SetImage>, StoreFault>
         ensures same { self.new ≡ self.old }
         ensures image { IfOk result (IsImageOf (desk_of self.old.bugs self.old.tree self.old.next) number) }
-        ensures none { get nat_cmp self.old.bugs number ≡ None → result ≡ Ok None }
+        ensures none { get nat_eq self.old.bugs number ≡ None → result ≡ Ok None }
         ensures memory { IfErr result (λ fault. fault ≡ StoreFault.Memory) }
     {
         match image_of(&self.bugs, number) {

@@ -6,5 +6,5 @@ use Rattle.bug_core.proofs.joins.add_all_shared.Given as goal
 
 abbrev pub invariant-loop-image : goal.invariant-loop-image
 invariant-loop-image l =
-    with_all_shared l.shared (those_meant (named_numbers l.named) (drop l.image-index l.images))
-    ≡ with_all_shared l.fn.shared (those_meant (named_numbers l.named) l.images)
+    with_all_shared l.joined (those_meant (named_numbers l.named) (drop l.image-index l.images))
+    ≡ with_all_shared l.fn.joined (those_meant (named_numbers l.named) l.images)

@@ -3,7 +3,7 @@ use Rattle.bug_record.specs.Bugs.{bugs_at}
 use Rattle.bug_record.specs.Images.{bug_in}
 use Rattle.bug_record.specs.Merges.{first_owner}
 use Rattle.bug_record.specs.declared.bug.SetImage.{SetImage}
-use Rattle.bug_core.specs.Joins.{with_all_shared}
+use Rattle.bug_core.specs.Joins.{without_marks, with_all_shared}
 use Rattle.bug_core.specs.Named.{named_numbers}
 use Rattle.bug_core.specs.Others.{those_meant}
 use Rattle.bug_core.proofs.NamedLemmas.{those-same}
@@ -11,9 +11,10 @@ use Rattle.bug_core.proofs.joins.joined_shared.Goals as goal
 
 pub returns : goal.returns
 returns c =
-    let fields : c.add_all_shared.new.shared ≡ with_all_shared c.args.first.now (those_meant c.args.numbers.now c.args.images.now)
-    = c.in_ok-add_all_shared.ensures
-    ∙ (λ j. with_all_shared (c.in_ok-shared.ensures j)
+    let fields : c.in_ok-shared.shared
+    ≡ with_all_shared (without_marks c.args.first.now) (those_meant c.args.numbers.now c.args.images.now)
+    = c.in_ok-shared.ensures ∙ c.in_ok-add_all_shared.ensures
+    ∙ (λ j. with_all_shared (c.in_ok-joined.ensures j)
     (those-same (named_numbers c.args.named) c.args.numbers.now c.requires.named c.args.images.now j)) in
     let owner : _ ≡ first_owner (bugs_at (bug_in c.args.images.now) c.args.numbers.now)
     = c.in_ok-shared-2.ensures

@@ -7,19 +7,16 @@ use Rattle.bug_core.proofs.ReportLemmas.{put-report, fits-report}
 use Rattle.bug_core.proofs.report.report_change.Goals as goal
 
 -- the one image
-one : (c : goal.In_ok-push)
-    → c.push.new.self ≡ image_of_report c.args.from.now c.args.package.now c.args.severity c.args.title.now c.args.node
-    c.args.next ∷ []
-one c = c.in_ok-push.ensures.ok ∙ ap (λ (z : List SetImage). z ++ c.in_ok-image_of_report.field-0 ∷ []) c.new-images.ensures
-    ∙ ap (λ (z : SetImage). z ∷ []) c.in_ok-image_of_report.ensures
+one : (made items : List SetImage) (i j : SetImage) → made ≡ items → items ≡ i ∷ [] → i ≡ j → made ≡ j ∷ []
+one made items i j p q r = p ∙ q ∙ ap (λ z. z ∷ []) r
 
 pub returns-clause-right : goal.returns-clause-right
-returns-clause-right c = λ d sound same. ap (λ (z : List SetImage). put d (record { images = z; next = c.args.next + 1 })) (one c)
+returns-clause-right c = λ d sound same. ap (λ (z : List SetImage). put d (record { images = z; next = c.args.next + 1 })) (one _ _ _ _ c.from_vec.ensures c.in_ok-from_array.ensures.items c.in_ok-image.ensures)
     ∙ put-report d c.args.from.now c.args.package.now c.args.severity c.args.title.now c.args.node c.args.next same
 
 pub returns-clause-fits : goal.returns-clause-fits
 returns-clause-fits c =
-    λ d sound same. subst (λ (z : List SetImage). FitsDesk d (record { images = z; next = c.args.next + 1 })) (sym (one c))
+    λ d sound same. subst (λ (z : List SetImage). FitsDesk d (record { images = z; next = c.args.next + 1 })) (sym (one _ _ _ _ c.from_vec.ensures c.in_ok-from_array.ensures.items c.in_ok-image.ensures))
     (fits-report d c.args.from.now c.args.package.now c.args.severity c.args.title.now c.args.node c.args.next sound same
     c.requires.some_left
     (record {

@@ -1,8 +1,8 @@
 use Rattle.std.proofs.Common.{ℕ, List, cond, Some, None, ap, sym, ◌∙◌}
 use Rattle.std.specs.Prelude.{is_some}
 use Rattle.std.specs.Option.{option_or}
-use Rattle.std.specs.Ordering.{nat_cmp}
-use Rattle.std.specs.BTreeMap.{get}
+use Rattle.std.specs.Prelude.{nat_eq}
+use Rattle.std.specs.HashMap.{get}
 use Rattle.std.proofs.lemmas.Result.{on_ok_weaker}
 use Rattle.bug_record.specs.Sets.{has}
 use Rattle.bug_record.specs.declared.bug.SetImage.{SetImage}
@@ -17,7 +17,7 @@ returns-in-Err-clause-err c =
     let fresh = c.in_ok-fresh in
     taken-out c.args.bugs.now mid c.args.images.now fresh.fresh.items fresh.ensures c.remove_all.new.bugs
     (λ n e. c.in-Err.ensures.err n (ap (λ (ns : List ℕ). has ns n) c.as_slice.ensures.value ∙ e))
-    (λ n. c.remove_all.ensures n ∙ ap (λ (ns : List ℕ). cond (has ns n) None (get nat_cmp mid n)) c.as_slice-in-Err.ensures.value)
+    (λ n. c.remove_all.ensures n ∙ ap (λ (ns : List ℕ). cond (has ns n) None (get nat_eq mid n)) c.as_slice-in-Err.ensures.value)
 
 pub returns-clause-ok : goal.returns-clause-ok
 returns-clause-ok c =
@@ -27,8 +27,8 @@ returns-clause-ok c =
     on_ok_weaker c.put_copies.result
     (λ h. put-over old mid c.args.images.now fresh.fresh.items fresh.ensures c.put_copies.new.bugs
     (λ n. c.in-Ok.ensures.ok n
-    ∙ ap (λ (ns : List ℕ). cond (has ns n) (Some (After n)) (get nat_cmp old n)) c.as_slice.ensures.value)
-    (λ n. h n ∙ ap (λ (is : List SetImage). option_or (place_in is n) (get nat_cmp mid n)) c.in_ok-copies.ensures))
+    ∙ ap (λ (ns : List ℕ). cond (has ns n) (Some (After n)) (get nat_eq old n)) c.as_slice.ensures.value)
+    (λ n. h n ∙ ap (λ (is : List SetImage). option_or (place_in is n) (get nat_eq mid n)) c.in_ok-copies.ensures))
     c.put_copies.ensures.ok
 
 pub returns-clause-err : goal.returns-clause-err
@@ -38,5 +38,5 @@ returns-clause-err c =
     on_err_from_ok c.put_copies.result _ (c.put_copies.ensures.known (λ n k.
     all-there old c.add_places.new.bugs c.args.images.now fresh.fresh.items fresh.ensures
     (λ m. c.in-Ok.ensures.ok m
-    ∙ ap (λ (ns : List ℕ). cond (has ns m) (Some (After m)) (get nat_cmp old m)) c.as_slice.ensures.value)
+    ∙ ap (λ (ns : List ℕ). cond (has ns m) (Some (After m)) (get nat_eq old m)) c.as_slice.ensures.value)
     n (sym (ap (λ (is : List SetImage). is_some (place_in is n)) c.in_ok-copies.ensures) ∙ k)))

@@ -1,7 +1,7 @@
 use Rattle.std.proofs.Common.{ℕ, ap, sym, ◌∙◌, List, subst}
 use Rattle.std.specs.Option.{option_or}
-use Rattle.std.specs.Ordering.{nat_cmp}
-use Rattle.std.specs.BTreeMap.{get}
+use Rattle.std.specs.Prelude.{nat_eq}
+use Rattle.std.specs.HashMap.{get}
 use Rattle.bug_record.specs.Desk.{IsSound}
 use Rattle.bug_record.specs.declared.bug.SetImage.{SetImage}
 use Rattle.desk_store.specs.Places.{place_in}
@@ -13,7 +13,7 @@ returns-in-Ok-clause-done c =
     let old = c.args.self.now in
     desk_of-put old.bugs c.put_images.new.bugs old.tree old.next c.args.change.now c.requires.apart c.requires.fits old.keyed
     (λ n. c.in-Ok.ensures.ok n
-    ∙ ap (λ (is : List SetImage). option_or (place_in is n) (get nat_cmp old.bugs n)) c.as_slice.ensures)
+    ∙ ap (λ (is : List SetImage). option_or (place_in is n) (get nat_eq old.bugs n)) c.as_slice.ensures)
 
 pub invariant_of-self : goal.invariant_of-self
 invariant_of-self c =
@@ -21,7 +21,7 @@ invariant_of-self c =
     let now = c.put_images.new.bugs in
     let change = c.args.change.now in
     let after = λ (n : ℕ).
-    c.in-Ok.ensures.ok n ∙ ap (λ (is : List SetImage). option_or (place_in is n) (get nat_cmp old.bugs n)) c.as_slice.ensures in
+    c.in-Ok.ensures.ok n ∙ ap (λ (is : List SetImage). option_or (place_in is n) (get nat_eq old.bugs n)) c.as_slice.ensures in
     let put = desk_of-put old.bugs now old.tree old.next change c.requires.apart c.requires.fits old.keyed after in
     record {
       keyed = keyed-put old.bugs now old.tree old.next change c.requires.apart c.requires.fits old.keyed after;
