@@ -18,7 +18,8 @@ use Rattle.desk_store.specs.declared.places.Place.{Place}
 use Rattle.desk_store.specs.declared.places.Place.TheVariants.{First, After}
 
 -- the same entries have the same places
-pub get_unchanged : {S : Type 0} (old now : HashMap ℕ Place S) (n : ℕ) → now.entries ≡ old.entries → get nat_eq now n ≡ get nat_eq old n
+pub get_unchanged : {S : Type 0} (old now : HashMap ℕ Place S) (n : ℕ) → now.entries ≡ old.entries
+    → get nat_eq now n ≡ get nat_eq old n
 get_unchanged old now n h = ap (λ (es : List (ℕ × Place)). lookup (nat_eq n) es) h
 
 cond_same : {A : Type 0} (t : Bool) (x : A) → cond t x x ≡ x
@@ -36,7 +37,8 @@ on_err_from_ok (Ok x) P h = tt
 on_err_from_ok (Err e) P h = absurd (false≢true h)
 
 -- where all members have places, the first has one after the others are written
-pub absent_never : {S : Type 0} (bugs now : HashMap ℕ Place S) (ms others : List Member) (first : Member) (k : ℕ) → ms ≡ first ∷ others
+pub absent_never : {S : Type 0} (bugs now : HashMap ℕ Place S) (ms others : List Member) (first : Member) (k : ℕ)
+    → ms ≡ first ∷ others
     → ((n : ℕ) → has (numbers_of ms) n ≡ true → is_there bugs n ≡ true)
     → ((n : ℕ) → get nat_eq now n ≡ cond (has (numbers_of others) n) (Some (After k)) (get nat_eq bugs n))
     → get nat_eq now first.number ≡ None → ⊥
@@ -56,7 +58,8 @@ absent_never bugs now ms others first k is there u e = cases (has (numbers_of ot
 -- ---- the places v of numbers, written one by one
 
 -- one number more
-pub written_more : {S : Type 0} (v : ℕ → Option Place) (bugs more : HashMap ℕ Place S) (numbers rest : List ℕ) (x n : ℕ) → numbers ≡ x ∷ rest
+pub written_more : {S : Type 0} (v : ℕ → Option Place) (bugs more : HashMap ℕ Place S) (numbers rest : List ℕ) (x n : ℕ)
+    → numbers ≡ x ∷ rest
     → get nat_eq more n ≡ cond (eqb x n) (v x) (get nat_eq bugs n)
     → cond (has rest n) (v n) (get nat_eq more n) ≡ cond (has numbers n) (v n) (get nat_eq bugs n)
 written_more v bugs more numbers rest x n is h =
@@ -117,12 +120,14 @@ abbrev pub AreThere : {S : Type 0} → HashMap ℕ Place S → List SetImage →
 AreThere bugs is = (n : ℕ) → is_some (place_in is n) ≡ true → is_there bugs n ≡ true
 
 -- Of the images `all`, which are put into the map `old`, `rest` are left to put into `now`.
-pub record IsPutting {S : Type 0} (old : HashMap ℕ Place S) (all : List SetImage) (now : HashMap ℕ Place S) (rest : List SetImage) : Type 0 where
+pub record IsPutting {S : Type 0} (old : HashMap ℕ Place S) (all : List SetImage) (now : HashMap ℕ Place S)
+    (rest : List SetImage) : Type 0 where
   pub goes_on : (n : ℕ) → option_or (place_in rest n) (get nat_eq now n) ≡ option_or (place_in all n) (get nat_eq old n)
   pub there : AreThere old all → AreThere now rest
 
 -- the bugs of the last image have a place
-pub last-there : {S : Type 0} (bugs : HashMap ℕ Place S) (is rest : List SetImage) (i : SetImage) → is ≡ rest ++ i ∷ [] → AreThere bugs is
+pub last-there : {S : Type 0} (bugs : HashMap ℕ Place S) (is rest : List SetImage) (i : SetImage) → is ≡ rest ++ i ∷ []
+    → AreThere bugs is
     → (n : ℕ) → has (numbers_of i.members) n ≡ true → is_there bugs n ≡ true
 last-there bugs is rest i e h n own =
     h n (ap (λ (w : List SetImage). is_some (place_in w n)) e ∙ (ap is_some (place_in-append rest (i ∷ []) n)
@@ -242,7 +247,8 @@ one_item (j ∷ []) i l e = ap (λ (z : SetImage). z ∷ []) (sym e)
 one_item (j ∷ k ∷ is) i l e = absurd (omega arith)
 
 -- an image that is put at its only place
-pub only-put : {S : Type 0} (old now : HashMap ℕ Place S) (is : List SetImage) (i copy : SetImage) (key n : ℕ) → is ≡ i ∷ [] → copy ≡ i
+pub only-put : {S : Type 0} (old now : HashMap ℕ Place S) (is : List SetImage) (i copy : SetImage) (key n : ℕ)
+    → is ≡ i ∷ [] → copy ≡ i
     → IsOnlyPlace old i key
     → get nat_eq now n ≡ cond (eqb key n) (Some (First copy)) (get nat_eq old n)
     → get nat_eq now n ≡ option_or (place_in is n) (get nat_eq old n)

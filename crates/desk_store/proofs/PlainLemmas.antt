@@ -35,7 +35,8 @@ AreSame now old = (n : ℕ) → get nat_eq now n ≡ get nat_eq old n
 same_view : {S : Type 0} (now old : HashMap ℕ Place S) → AreSame now old → ◌≡◌ {A = View} (keys now, sets now) (keys old, sets old)
 same_view now old h = λ i. (λ n. option_map (key_at n) (h n i), λ k. option_and_then image_at (h k i))
 
-pub keyed-same : {S : Type 0} (now old : HashMap ℕ Place S) → AreSame now old → IsKeyed (keys old) (sets old) → IsKeyed (keys now) (sets now)
+pub keyed-same : {S : Type 0} (now old : HashMap ℕ Place S) → AreSame now old → IsKeyed (keys old) (sets old)
+    → IsKeyed (keys now) (sets now)
 keyed-same now old h keyed = subst Fit (sym (same_view now old h)) keyed
 
 pub desk_of-same : {S : Type 0} (now old : HashMap ℕ Place S) (tree : Ancestry) (next : ℕ) → AreSame now old

@@ -5,7 +5,6 @@
 
 mod fail_at;
 mod heads;
-mod kept;
 mod laws;
 mod places;
 mod plain;

@@ -2,10 +2,9 @@
 //! All of them are put, or none where there is no memory.
 
 ghost use Rattle.std.specs.Prelude.{◌≡◌, ◌++◌, ℕ, Some, None, [], ◌∷◌, false, filter, is_some, IsTrue, IsOk, IfOk, IfSome, OnOk};
-ghost use Rattle.std.specs.Prelude.{OnErr, if◌then◌else◌};
+ghost use Rattle.std.specs.Prelude.{OnErr, ◌==◌, nat_eq, if◌then◌else◌};
 ghost use Rattle.std.specs.HashMap.{get};
 ghost use Rattle.std.specs.Option.{option_or};
-ghost use Rattle.std.specs.Prelude.{nat_eq};
 ghost use Rattle.std.specs.Str.{bytes_eq};
 ghost use Rattle.bug_record.specs.Sets.{has};
 ghost use Rattle.bug_record.specs.Images.{numbers_of};
@@ -13,7 +12,6 @@ ghost use Rattle.desk_store.specs.Keys.{IsKeyed};
 ghost use Rattle.desk_store.specs.Plain.{keys, sets};
 ghost use Rattle.desk_store.specs.Places.{place_in, numbers_in, is_there, is_fresh, KeepsSet, IsOnlyPlace};
 
-use crate::kept::Kept;
 use bug_record::{Member, SetImage};
 use std::alloc::{AllocError, Global};
 use std::collections::HashMap;
@@ -22,7 +20,7 @@ use std::collections::HashMap;
 #[derive(Drop)]
 pub(crate) enum Place {
     /// The first of its members, where the image of the set stands.
-    First(Kept),
+    First(SetImage),
     /// Another one, and the number of the first.
     After(u64),
 }
@@ -51,7 +49,7 @@ fn keeps_set(bugs: &HashMap<u64, Place>, image: &SetImage) -> bool
         return false;
     };
     match bugs.get(&first.number) {
-        Some(Place::First(old)) => same_numbers(old.image().members.as_slice(), members),
+        Some(Place::First(old)) => same_numbers(old.members.as_slice(), members),
         _ => false,
     }
 }
@@ -101,12 +99,12 @@ fn fresh_numbers(
 }
 
 // Copies of the images.
-fn copies_of(alloc: Global, images: &[SetImage]) -> Result<Vec<Kept>, AllocError>
+fn copies_of(alloc: Global, images: &[SetImage]) -> Result<Vec<SetImage>, AllocError>
     ensures { IfOk result (λ copies. copies.items ≡ images.now) }
 {
     let mut copies = Vec::new(alloc);
     for image in images {
-        copies.push(Kept::copy_of(alloc, image)?)?;
+        copies.push(image.copy()?)?;
     }
     Ok(copies)
 }
@@ -133,6 +131,30 @@ fn remove_all(bugs: &mut HashMap<u64, Place>, numbers: &[u64])
     }
 }
 
+// Whether the bug of this number stands after that one.
+fn is_after(bugs: &HashMap<u64, Place>, number: u64, key: u64) -> bool
+    ensures { IsTrue result → get nat_eq bugs.now number ≡ Some (Place.After key) }
+{
+    match bugs.get(&number) {
+        Some(Place::After(first)) => *first == key,
+        _ => false,
+    }
+}
+
+// Puts the bug of this number after that one, unless it stands there.
+// No memory is taken where it has a place already.
+fn put_one_after(bugs: &mut HashMap<u64, Place>, number: u64, key: u64) -> Result<(), AllocError>
+    ensures ok { OnOk result
+        ((n : ℕ) → get nat_eq bugs.new n ≡ (if number == n then Some (Place.After key) else get nat_eq bugs.old n)) }
+    ensures known { IsTrue (is_there bugs.old number) → IsOk result }
+{
+    if is_after(bugs, number, key) {
+        return Ok(());
+    }
+    bugs.insert(number, Place::After(key))?;
+    Ok(())
+}
+
 // Puts members after the bug of this number.
 // No memory is taken for those that have a place already.
 fn put_after(bugs: &mut HashMap<u64, Place>, key: u64, members: &[Member]) -> Result<(), AllocError>
@@ -142,18 +164,18 @@ fn put_after(bugs: &mut HashMap<u64, Place>, key: u64, members: &[Member]) -> Re
     ensures known { ((n : ℕ) → IsTrue (has (numbers_of members.now) n) → IsTrue (is_there bugs.old n)) → IsOk result }
 {
     for member in members {
-        bugs.insert(member.number, Place::After(key))?;
+        put_one_after(bugs, member.number, key)?;
     }
     Ok(())
 }
 
 // Puts an image at the first of its members, and the others after it.
 // No memory is taken where all of them have a place already.
-fn put_image(bugs: &mut HashMap<u64, Place>, image: Kept) -> Result<(), AllocError>
+fn put_image(bugs: &mut HashMap<u64, Place>, image: SetImage) -> Result<(), AllocError>
     ensures ok { OnOk result ((n : ℕ) → get nat_eq bugs.new n ≡ option_or (place_in (image ∷ []) n) (get nat_eq bugs.old n)) }
     ensures known { ((n : ℕ) → IsTrue (has (numbers_of image.members) n) → IsTrue (is_there bugs.old n)) → IsOk result }
 {
-    let Some((first, others)) = image.image().members.as_slice().split_first() else {
+    let Some((first, others)) = image.members.as_slice().split_first() else {
         return Ok(());
     };
     let key = first.number;
@@ -164,7 +186,7 @@ fn put_image(bugs: &mut HashMap<u64, Place>, image: Kept) -> Result<(), AllocErr
 
 // Puts images, from the last to the first, so that a bug is in the first that has it.
 // No memory is taken where all of their members have a place already.
-fn put_copies(bugs: &mut HashMap<u64, Place>, mut images: Vec<Kept>) -> Result<(), AllocError>
+fn put_copies(bugs: &mut HashMap<u64, Place>, mut images: Vec<SetImage>) -> Result<(), AllocError>
     ensures ok { OnOk result ((n : ℕ) → get nat_eq bugs.new n ≡ option_or (place_in images.items n) (get nat_eq bugs.old n)) }
     ensures known { ((n : ℕ) → IsTrue (is_some (place_in images.items n)) → IsTrue (is_there bugs.old n)) → IsOk result }
 {
@@ -209,7 +231,7 @@ pub(crate) fn put_images(
 {
     if let [image] = images {
         if let Some(key) = only_place(bugs, image) {
-            bugs.insert(key, Place::First(Kept::copy_of(alloc, image)?))?;
+            bugs.insert(key, Place::First(image.copy()?))?;
             return Ok(());
         }
     }

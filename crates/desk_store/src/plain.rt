@@ -53,9 +53,9 @@ fn image_of(bugs: &HashMap<u64, Place>, number: u64) -> Option<&SetImage>
     ensures { option_copied result ≡ option_and_then (sets bugs.now) (keys bugs.now number) }
 {
     match bugs.get(&number)? {
-        Place::First(kept) => Some(kept.image()),
+        Place::First(image) => Some(image),
         Place::After(first) => match bugs.get(first)? {
-            Place::First(kept) => Some(kept.image()),
+            Place::First(image) => Some(image),
             Place::After(_) => None,
         },
     }
