@@ -7,12 +7,12 @@ use desk_store::PlainDesk;
 use desk_text::StoreFault;
 use std::alloc::Global;
 
-// Two reports, a merge, a command for both bugs, and a branch: twelve calls of the store.
+// Two reports, a merge, two commands for both bugs, and a branch: sixteen calls of the store.
 const SCRIPT: &str =
-    "@report foo 1 normal a\n@report foo 1 normal b\nmerge 1 2\nclose 1\n@branch foo/2 foo/1\n";
+    "@report foo 1 normal a\n@report foo 1 normal b\nmerge 1 2\nclose 1\narchive 1\n@branch foo/2 foo/1\n";
 
 // What is written where a call fails, before the line of the fault.
-const BEFORE: [(u64, &str); 12] = [
+const BEFORE: [(u64, &str); 16] = [
     (1, ""),
     (2, ""),
     (3, "OK 1\n"),
@@ -24,7 +24,26 @@ const BEFORE: [(u64, &str); 12] = [
     (9, "OK 1\nOK 2\n> merge 1 2\nOK 1 2\n> close 1\n"),
     (10, "OK 1\nOK 2\n> merge 1 2\nOK 1 2\n> close 1\n"),
     (11, "OK 1\nOK 2\n> merge 1 2\nOK 1 2\n> close 1\n"),
-    (12, "OK 1\nOK 2\n> merge 1 2\nOK 1 2\n> close 1\nOK 1 2\n"),
+    (
+        12,
+        "OK 1\nOK 2\n> merge 1 2\nOK 1 2\n> close 1\nOK 1 2\n> archive 1\n",
+    ),
+    (
+        13,
+        "OK 1\nOK 2\n> merge 1 2\nOK 1 2\n> close 1\nOK 1 2\n> archive 1\n",
+    ),
+    (
+        14,
+        "OK 1\nOK 2\n> merge 1 2\nOK 1 2\n> close 1\nOK 1 2\n> archive 1\n",
+    ),
+    (
+        15,
+        "OK 1\nOK 2\n> merge 1 2\nOK 1 2\n> close 1\nOK 1 2\n> archive 1\n",
+    ),
+    (
+        16,
+        "OK 1\nOK 2\n> merge 1 2\nOK 1 2\n> close 1\nOK 1 2\n> archive 1\nOK 1 2\n",
+    ),
 ];
 
 const FAULTS: [(StoreFault, &str); 4] = [
@@ -57,11 +76,11 @@ fn a_fault_of_the_store_ends_the_script_as_that_fault(rt: HostRuntime) {
 }
 
 #[test]
-fn a_script_whose_store_does_not_fail_makes_twelve_calls(rt: HostRuntime) {
+fn a_script_whose_store_does_not_fail_makes_sixteen_calls(rt: HostRuntime) {
     let alloc = rt.alloc();
-    let mut store = Fails::new(PlainDesk::new(alloc, 1), 13, StoreFault::Device);
+    let mut store = Fails::new(PlainDesk::new(alloc, 1), 17, StoreFault::Device);
     let end = Ok(ScriptEnd::Accepted);
-    let written = "OK 1\nOK 2\n> merge 1 2\nOK 1 2\n> close 1\nOK 1 2\nOK\n";
+    let written = "OK 1\nOK 2\n> merge 1 2\nOK 1 2\n> close 1\nOK 1 2\n> archive 1\nOK 1 2\nOK\n";
     assert!(rt; writes(alloc, &mut store, SCRIPT.as_bytes(), end, written));
-    assert!(rt; store.calls() == 12);
+    assert!(rt; store.calls() == 16);
 }
