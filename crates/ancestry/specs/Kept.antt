@@ -9,10 +9,11 @@ use Rattle.ancestry.specs.Trees.{Ancestry, has_node, is_parent}
 abbrev pub AreParents : Ancestry → BTreeSet Node → Type 0
 AreParents t parents = (n : Node) → contains node_cmp parents n ≡ is_parent t n
 
--- one test says of a node what another said, but where that failed for a node of the list
+-- a test answers now as it did before, but perhaps at nodes of the list at which it failed
 abbrev pub Adds : (Node → Bool) → List Node → (Node → Bool) → Type 0
 Adds was nodes now = (n : Node) → (has_node nodes n && not (was n)) ≡ false → now n ≡ was n
 
+-- so many tildes
 abbrev pub tildes : ℕ → List ℕ
 tildes zero = []
 tildes (suc n) = 126 ∷ tildes n
