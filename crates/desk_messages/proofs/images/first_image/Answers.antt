@@ -9,8 +9,7 @@ pub returns-in-Ok-clause-answer : goal.returns-in-Ok-clause-answer
 returns-in-Ok-clause-answer g c =
     let d = g.S.Records.desk c.args.store.now in
     let a = rw c.in-Ok-Some.field-0-is at c.in-Ok-Some.ensures.answer in
-    let e : c.push.new.self ≡ c.in-Ok-Some.image ∷ [] =
-    c.in-Ok.ensures.ok ∙ ap (λ (z : List SetImage). z ++ c.in-Ok-Some.image ∷ []) c.new-images.ensures in
+    let e : c.from_vec.result ≡ c.in-Ok-Some.image ∷ [] = c.from_vec.ensures ∙ c.in-Ok.ensures.items in
     asks_weaker a (λ p. (
       subst (λ images. Gather d (c.args.number ∷ []) [] images) (sym e)
           (gather-one d [] c.args.number c.in-Ok-Some.image refl p.0),
