@@ -16,7 +16,7 @@ ghost use Rattle.bug_core.specs.Others.{others};
 ghost use Rattle.bug_core.specs.Refusals.{records_refusal};
 ghost use Rattle.bug_core.specs.Planned.{step_with, HasName, IsRefusedAs, IsFaultOfPlan, IsPlanned, IsPlannedOf};
 
-use crate::images::{Named, find_image, replace_by_one};
+use crate::images::{Named, replace_by_one};
 use crate::merges::{Agreement, plan_merge};
 use crate::named::bug_named;
 use crate::refusals::records_refusal;
@@ -24,6 +24,7 @@ use crate::unmerge::plan_unmerge;
 use ancestry::Node;
 use bug_record::{Change, Command, PlanFault, Refusal, SetImage, Shared};
 use record_changes::{members_with, shared_after};
+use set_images::find_image;
 use std::alloc::{AllocError, Global};
 
 // The change that gives the bug's set these shared fields, and its members what the command gives
