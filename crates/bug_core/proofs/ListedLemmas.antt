@@ -17,7 +17,7 @@ use Rattle.bug_record.specs.declared.bug.Member.{Member}
 use Rattle.bug_record.specs.declared.bug.SetImage.{SetImage}
 use Rattle.bug_record.specs.declared.command.Refusal.{Refusal}
 use Rattle.bug_core.specs.Others.{has_any, is_meant, those_meant}
-use Rattle.bug_core.proofs.ImageLemmas.{has-member_some, member-has, same_value}
+use Rattle.set_images.proofs.ImageLemmas.{has-member_some, member-has, same_value}
 use Rattle.bug_core.proofs.SoundLemmas.{agree}
 
 -- tests that hold together are the same

@@ -32,8 +32,8 @@ use Rattle.bug_core.specs.Others.{has_any, those_meant, others}
 use Rattle.bug_core.specs.Joins.{with_members, without_marks, with_all_shared}
 use Rattle.bug_core.specs.Refusals.{archived_refusal}
 use Rattle.bug_core.specs.Planned.{IsPlannedOf, IsRefusalOfPlan}
-use Rattle.bug_core.proofs.ImageLemmas.{has-member_some, has-member_none, bug_in-merged, shown, image_with-has, image_with-shows}
-use Rattle.bug_core.proofs.ImageLemmas.{image_with-none}
+use Rattle.set_images.proofs.ImageLemmas.{has-member_some, has-member_none, bug_in-merged, shown, image_with-has, image_with-shows}
+use Rattle.set_images.proofs.ImageLemmas.{image_with-none}
 use Rattle.bug_core.proofs.SoundLemmas.{agree, sound-each_bug}
 use Rattle.bug_core.proofs.ReplaceLemmas.{TakesPlace, Makes, each-append}
 use Rattle.bug_core.proofs.PlanLemmas.{Steps, planned-refused, planned-replaced, own-archived}

@@ -12,7 +12,7 @@ use Rattle.bug_core.specs.Joins.{with_items}
 use Rattle.bug_core.specs.Others.{is_any, has_any, is_meant, those_meant, others}
 use Rattle.bug_core.proofs.ListedLemmas.{same_test, any-from, any-of}
 use Rattle.bug_record.proofs.SetLemmas.{has-with_item}
-use Rattle.bug_core.proofs.OrderedLemmas.{has-key}
+use Rattle.set_images.proofs.OrderedLemmas.{has-key}
 
 -- the same numbers name the same images
 meant-same : (ns ks : List ℕ) → ((n : ℕ) → has ns n ≡ has ks n) → (i : SetImage) → is_meant ns i ≡ is_meant ks i

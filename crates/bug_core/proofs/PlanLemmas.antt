@@ -28,7 +28,7 @@ use Rattle.ancestry.specs.Nodes.{Node}
 use Rattle.bug_core.specs.Refusals.{archived_refusal, records_refusal}
 use Rattle.bug_core.specs.Others.{others}
 use Rattle.bug_core.specs.Planned.{HasName, IsPlanned, IsPlannedOf, IsRefusedAs, IsRefusalOfPlan}
-use Rattle.bug_core.proofs.ImageLemmas.{shown, image_with-shows, image_with-none}
+use Rattle.set_images.proofs.ImageLemmas.{shown, image_with-shows, image_with-none}
 use Rattle.record_changes.proofs.FieldLemmas.{good-shared_after, good-new_title, good-new_submitter}
 use Rattle.bug_core.proofs.SoundLemmas.{sound-change_set}
 use Rattle.bug_core.proofs.ReplaceLemmas.{TakesPlace, Makes, apart-replaced, members-replaced, covers-replaced, none-replaced}

@@ -15,8 +15,8 @@ use Rattle.bug_record.specs.declared.bug.Shared.{Shared}
 use Rattle.bug_record.specs.declared.bug.Member.{Member}
 use Rattle.bug_record.specs.declared.bug.SetImage.{SetImage}
 use Rattle.bug_core.specs.Others.{has_any, others}
-use Rattle.bug_core.proofs.ImageLemmas.{none_left, none_right, none_both, same_value, member-has, bug_in-append, bug_in-merged}
-use Rattle.bug_core.proofs.ImageLemmas.{shown, image_with-has, image_with-lacks, image_with-bug, image_with-member, number-member}
+use Rattle.set_images.proofs.ImageLemmas.{none_left, none_right, none_both, same_value, member-has, bug_in-append, bug_in-merged}
+use Rattle.set_images.proofs.ImageLemmas.{shown, image_with-has, image_with-lacks, image_with-bug, image_with-member, number-member}
 use Rattle.bug_core.proofs.OtherLemmas.{others-none, others-gone, others-kept, others-apart, others-members}
 use Rattle.bug_core.proofs.SoundLemmas.{agree}
 

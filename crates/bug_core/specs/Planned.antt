@@ -29,8 +29,9 @@ IsRefusedAs (Err r) (Ok change) = ⊥
 IsRefusedAs (Err r) (Err (Refused refusal)) = r ≡ refusal
 IsRefusedAs (Err r) (Err Memory) = Unit {0}
 
--- The refusals of a plan: a bug is not there, or is archived or is not, one that is to be merged
--- differs, one is merged with no other, or one that is to be archived is open or still found.
+-- The refusals of a plan: a bug is not there, is archived and may not be, or is to be taken out of
+-- the archive and is not in it; one that is to be merged differs; one is merged with no other; or
+-- one that is to be archived is open, or still found.
 abbrev pub IsRefusalOfPlan : Refusal → Type 0
 IsRefusalOfPlan (NoBug n) = ⊤
 IsRefusalOfPlan (Archived n) = ⊤

@@ -1,7 +1,7 @@
-//! Images of sets: the one that has a bug, and the change that puts others in its place.
+//! Images of sets: the change that puts some in the place of those of named bugs.
 
 ghost use Rattle.std.specs.Prelude.{◌≡◌, ◌∷◌, ◌++◌, IfOk, OnOk, MatchOption, Some, None};
-ghost use Rattle.bug_record.specs.Images.{numbers_of, member_at, image_with};
+ghost use Rattle.bug_record.specs.Images.{numbers_of, member_at};
 ghost use Rattle.bug_core.specs.Others.{has_any, is_other, others};
 ghost use Rattle.bug_core.specs.Named.{named_numbers};
 
@@ -14,13 +14,6 @@ pub(crate) fn find_member(members: &[Member], number: u64) -> Option<&Member>
     ensures { MatchOption result (member_at members.now number ≡ None) (λ m. member_at members.now number ≡ Some m.now) }
 {
     members.iter().find(|member| member.number == number)
-}
-
-/// The image that has the bug.
-pub fn find_image(images: &[SetImage], number: u64) -> Option<&SetImage>
-    ensures { MatchOption result (image_with images.now number ≡ None) (λ i. image_with images.now number ≡ Some i.now) }
-{
-    images.iter().find(|image| image.has(number))
 }
 
 /// The bugs whose sets a change replaces.

@@ -15,10 +15,10 @@ ghost use Rattle.bug_core.specs.Others.{those_meant};
 ghost use Rattle.bug_core.specs.Named.{named_numbers};
 
 use crate::images::{Named, has_any};
-use crate::index::Index;
 use ancestry::Node;
 use bug_record::{Member, Members, Nodes, Sequence, SetImage, Shared, Tag, Tags};
 use debver::Text;
+use set_images::Index;
 use std::alloc::{AllocError, Global};
 use std::collections::{BTreeMap, BTreeSet};
 use std::marker::Model;
@@ -182,11 +182,7 @@ fn joined_members(alloc: Global, images: &[SetImage], named: Named) -> Result<Me
 }
 
 // Adds the tags and marks of all sets of the bugs.
-fn add_all_shared(
-    joined: &mut Joined,
-    images: &[SetImage],
-    named: Named,
-) -> Result<(), AllocError>
+fn add_all_shared(joined: &mut Joined, images: &[SetImage], named: Named) -> Result<(), AllocError>
     ensures { OnOk result (joined.new ≡ with_all_shared joined.old (those_meant (named_numbers named.entry) images.now)) }
 {
     for image in images {

@@ -11,12 +11,11 @@ ghost use Rattle.bug_core.specs.Agreements.{difference_of};
 ghost use Rattle.bug_core.specs.Joins.{with_items};
 ghost use Rattle.bug_core.specs.Planned.{IsPlannedOf};
 
-use crate::equal::same_text;
-use crate::images::{Named, find_image, replace_by_one};
-use crate::index::Index;
+use crate::images::{Named, replace_by_one};
 use crate::joins::joined_image;
 use crate::refusals::archived_refusal;
 use bug_record::{Change, Field, Numbers, PlanFault, Refusal, SetImage, Shared};
+use set_images::{Index, find_image, same_text};
 use std::alloc::{AllocError, Global};
 use std::collections::BTreeSet;
 

@@ -16,7 +16,7 @@ ghost use Rattle.bug_core.specs.Others.{others};
 ghost use Rattle.bug_core.specs.Refusals.{records_refusal};
 ghost use Rattle.bug_core.specs.Planned.{step_with, HasName, IsRefusedAs, IsFaultOfPlan, IsPlanned, IsPlannedOf};
 
-use crate::images::{Named, find_image, replace_by_one};
+use crate::images::{Named, replace_by_one};
 use crate::merges::{Agreement, plan_merge};
 use crate::named::bug_named;
 use crate::refusals::records_refusal;
@@ -24,6 +24,7 @@ use crate::unmerge::plan_unmerge;
 use ancestry::Node;
 use bug_record::{Change, Command, PlanFault, Refusal, SetImage, Shared};
 use record_changes::{members_with, shared_after};
+use set_images::find_image;
 use std::alloc::{AllocError, Global};
 
 // The change that gives the bug's set these shared fields, and its members what the command gives
@@ -149,9 +150,9 @@ fn plan_command(
 /// # Errors
 ///
 /// `Refused(NoBug(n))` where the command names a bug n that is in no image: n may be any number.
-/// `Refused(Archived(n))` where a bug that it names is archived, unless it is `unarchive`.
+/// `Refused(Archived(n))` where a bug that it names is archived, unless the command is `unarchive`.
 /// The bugs are tested from the left, and the first that is refused decides.
-/// Then `Refused(NotArchived(n))` where a bug is to be taken out of the archive and is not there;
+/// Then `Refused(NotArchived(n))` where a bug is to be taken out of the archive and is not in it;
 /// `Refused(Differ(field, n))` where the bug n is to be merged and differs from the first one in a
 /// field that has to be equal; `Refused(NotMerged(n))` where a bug is to be taken out of its set
 /// and is merged with no other; `Refused(NotDone(n))` where a bug is to be archived and is open,

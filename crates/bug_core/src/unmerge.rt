@@ -6,9 +6,10 @@ ghost use Rattle.bug_record.specs.Merges.{unmerged};
 ghost use Rattle.bug_core.specs.Joins.{is_part};
 ghost use Rattle.bug_core.specs.Planned.{IsPlannedOf};
 
-use crate::images::{Named, find_image, replace};
+use crate::images::{Named, replace};
 use crate::refusals::archived_refusal;
 use bug_record::{Change, Member, Members, PlanFault, Refusal, Sequence, SetImage, Shared};
+use set_images::find_image;
 use std::alloc::{AllocError, Global};
 
 // Whether this is the member of the number, or, of the rest, whether it is another.

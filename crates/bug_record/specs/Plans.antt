@@ -27,7 +27,8 @@ pub record IsShownBy (d : Desk) (is : List SetImage) (next : ℕ) (ns : List ℕ
   pub sets : AreSetsOf d is
   pub known : AllKnown d is ns
 
--- of the bug that a command is to archive, this is the open head
+-- where a command is to archive a bug of the desk, this is its open head, or it has none; of other
+-- commands nothing is asked
 abbrev pub IsOpenHeadFor : Desk → Command ℕ → Option Node → Type 0
 IsOpenHeadFor d (commands.Archive n) head = (b : Bug) → d.bug n ≡ Some b → head ≡ open_head d.tree b.shared
 IsOpenHeadFor d command head = ⊤

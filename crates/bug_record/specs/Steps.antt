@@ -1,6 +1,6 @@
 -- What a command does to a desk, over whole records (the BTS page 'control and manipulation'; when
--- `found n v` opens a bug, and what an open bug's `reopen` and a `reassign` to the bug's own
--- package do, is this project's own rule).
+-- `found n v` opens a bug, what an open bug's `reopen` and a `reassign` to the bug's own package
+-- do, and which bugs `archive` takes, is this project's own rule).
 use Rattle.std.specs.Prelude.{ℕ, ◌+◌, ◌==◌, ◌&&◌, false, true, List, [], ◌∷◌, Option, Some, None, Result, Ok, unwrap_or}
 use Rattle.std.specs.Prelude.{option_map, if◌then◌else◌}
 use Rattle.std.specs.Str.{bytes_eq}
@@ -148,49 +148,49 @@ change_set d n f title who = each_bug d (λ m b. record b {
   submitter = if has b.merged n then unwrap_or (who b.shared m) b.submitter else b.submitter;
 })
 
--- What a command's own tests come to, in their order, of a bug with these shared fields of which
--- this is the open head.
+-- What the tests of a command that changes records come to, in their order, of a bug with these
+-- shared fields of which this is the open head; those of `merge` and `unmerge` are in `Merges`.
 abbrev pub own_tests : Command ℕ → Option Node → Shared → List (Option Refusal)
 own_tests (commands.Archive n) head f = (if f.closed then None else Some (NotDone n)) ∷ option_map StillFound head ∷ []
 own_tests (commands.Unarchive n) head f = (if f.archived then None else Some (NotArchived n)) ∷ []
 own_tests command head f = []
 
--- a command that changes records, and no set
+-- a command that changes records, and no set, after its own tests; `head_of` gives open heads
 abbrev pub records_changed : (Shared → Option Node) → List ℕ → Command ℕ → Desk → Result Desk Refusal
-records_changed head sender command d =
+records_changed head_of sender command d =
     at_bug (d.bug (bug_named command)) (bug_named command)
-    (λ b. unless (first_of (own_tests command (head b.shared) b.shared))
+    (λ b. unless (first_of (own_tests command (head_of b.shared) b.shared))
     (Ok (change_set d (bug_named command) (shared_after sender command) (new_title command) (new_submitter sender command))))
 
--- what a command of this sender comes to, whose bugs are there and have these open heads
+-- what a command of this sender comes to, none of whose bug words is refused
 abbrev pub carried_out : (Shared → Option Node) → Desk → List ℕ → Command ℕ → Result Desk Refusal
-carried_out head d sender (commands.Merge n ns) = sets_joined first_difference d n ns
-carried_out head d sender (commands.ForceMerge n ns) = sets_joined package_difference d n ns
-carried_out head d sender (commands.Unmerge n) = unmerged d n
-carried_out head d sender (commands.Found n version) = records_changed head sender (commands.Found n version) d
-carried_out head d sender (commands.NotFound n version) = records_changed head sender (commands.NotFound n version) d
-carried_out head d sender (commands.Fixed n version) = records_changed head sender (commands.Fixed n version) d
-carried_out head d sender (commands.NotFixed n version) = records_changed head sender (commands.NotFixed n version) d
-carried_out head d sender (commands.Close n version) = records_changed head sender (commands.Close n version) d
-carried_out head d sender (commands.Reopen n who) = records_changed head sender (commands.Reopen n who) d
-carried_out head d sender (commands.Severity n severity) = records_changed head sender (commands.Severity n severity) d
-carried_out head d sender (commands.Tags n steps) = records_changed head sender (commands.Tags n steps) d
-carried_out head d sender (commands.Retitle n text) = records_changed head sender (commands.Retitle n text) d
-carried_out head d sender (commands.Submitter n who) = records_changed head sender (commands.Submitter n who) d
-carried_out head d sender (commands.Reassign n package_name version) = records_changed head sender (commands.Reassign n package_name version) d
-carried_out head d sender (commands.Forwarded n text) = records_changed head sender (commands.Forwarded n text) d
-carried_out head d sender (commands.NotForwarded n) = records_changed head sender (commands.NotForwarded n) d
-carried_out head d sender (commands.Owner n who) = records_changed head sender (commands.Owner n who) d
-carried_out head d sender (commands.NoOwner n) = records_changed head sender (commands.NoOwner n) d
-carried_out head d sender (commands.Archive n) = records_changed head sender (commands.Archive n) d
-carried_out head d sender (commands.Unarchive n) = records_changed head sender (commands.Unarchive n) d
+carried_out head_of d sender (commands.Merge n ns) = sets_joined first_difference d n ns
+carried_out head_of d sender (commands.ForceMerge n ns) = sets_joined package_difference d n ns
+carried_out head_of d sender (commands.Unmerge n) = unmerged d n
+carried_out head_of d sender (commands.Found n version) = records_changed head_of sender (commands.Found n version) d
+carried_out head_of d sender (commands.NotFound n version) = records_changed head_of sender (commands.NotFound n version) d
+carried_out head_of d sender (commands.Fixed n version) = records_changed head_of sender (commands.Fixed n version) d
+carried_out head_of d sender (commands.NotFixed n version) = records_changed head_of sender (commands.NotFixed n version) d
+carried_out head_of d sender (commands.Close n version) = records_changed head_of sender (commands.Close n version) d
+carried_out head_of d sender (commands.Reopen n who) = records_changed head_of sender (commands.Reopen n who) d
+carried_out head_of d sender (commands.Severity n severity) = records_changed head_of sender (commands.Severity n severity) d
+carried_out head_of d sender (commands.Tags n steps) = records_changed head_of sender (commands.Tags n steps) d
+carried_out head_of d sender (commands.Retitle n text) = records_changed head_of sender (commands.Retitle n text) d
+carried_out head_of d sender (commands.Submitter n who) = records_changed head_of sender (commands.Submitter n who) d
+carried_out head_of d sender (commands.Reassign n package_name version) = records_changed head_of sender (commands.Reassign n package_name version) d
+carried_out head_of d sender (commands.Forwarded n text) = records_changed head_of sender (commands.Forwarded n text) d
+carried_out head_of d sender (commands.NotForwarded n) = records_changed head_of sender (commands.NotForwarded n) d
+carried_out head_of d sender (commands.Owner n who) = records_changed head_of sender (commands.Owner n who) d
+carried_out head_of d sender (commands.NoOwner n) = records_changed head_of sender (commands.NoOwner n) d
+carried_out head_of d sender (commands.Archive n) = records_changed head_of sender (commands.Archive n) d
+carried_out head_of d sender (commands.Unarchive n) = records_changed head_of sender (commands.Unarchive n) d
 
--- The new desk, or the refusal, of a command by this sender whose bug words mean this: the first
--- refusal of a bug word, or else what the command comes to.
+-- The new desk, or the refusal, of a command by this sender whose bug words mean this, and whose
+-- bugs have these open heads: the first refusal of a bug word, or else what the command comes to.
 abbrev pub step_by : {N : Type 0} → (N → Result ℕ Refusal) → (Shared → Option Node) → Desk → List ℕ → Command N → Result Desk Refusal
-step_by means head d sender command =
+step_by means head_of d sender command =
     unless (first_word_refusal (may_be_archived command) means d.bug (bugs_named command))
-    (carried_out head d sender (command_over (number_by means) command))
+    (carried_out head_of d sender (command_over (number_by means) command))
 
 -- of a command over bug words, where these names are known
 abbrev pub step : Names → Desk → List ℕ → Command Named → Result Desk Refusal

@@ -1,5 +1,5 @@
--- Bug words: what they mean, and the refusals that they get before anything else of their command
--- is looked at. This project's own rule.
+-- Bug words: what they mean, and their refusals, which come before the tests of their command's
+-- own. This project's own rule.
 use Rattle.std.specs.Prelude.{ℕ, ◌==◌, ◌&&◌, Bool, true, false, not, List, [], ◌∷◌, Option, Some, None, Result, Ok, Err, ok_or}
 use Rattle.std.specs.Prelude.{if◌then◌else◌}
 use Rattle.std.specs.Option.{option_or}

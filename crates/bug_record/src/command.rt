@@ -173,7 +173,7 @@ pub enum Refusal {
     NoBug(u64),
     /// The bug is archived.
     Archived(u64),
-    /// The bug that is to be taken out of the archive is not there.
+    /// The bug that is to be taken out of the archive is not in it.
     NotArchived(u64),
     /// The bug differs in this field from the first bug that is to be merged.
     Differ(Field, u64),

@@ -9,7 +9,7 @@ use Rattle.bug_record.specs.Images.{bug_in, put, FitsDesk}
 use Rattle.ancestry.specs.Nodes.{Node}
 use Rattle.bug_record.specs.Plans.{IsShownBy, IsOpenHeadFor, CoverImages, BringNone}
 use Rattle.bug_record.specs.Changed.{changed_numbers, AreChanged, Replaces}
-use Rattle.bug_core.proofs.ChangedLemmas.{changed-on_desk}
+use Rattle.set_images.proofs.ChangedLemmas.{changed-on_desk}
 use Rattle.bug_record.specs.declared.bug.SetImage.{SetImage}
 use Rattle.bug_record.specs.declared.command.Change.{Change}
 use Rattle.bug_record.specs.Commands.{HasGoodParts, bugs_named, command_over}

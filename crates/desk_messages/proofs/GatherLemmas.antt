@@ -15,8 +15,8 @@ use Rattle.bug_record.specs.Plans.{AllKnown}
 use Rattle.bug_record.specs.declared.bug.Bug.{Bug}
 use Rattle.bug_record.specs.declared.bug.Member.{Member}
 use Rattle.bug_record.specs.declared.bug.SetImage.{SetImage}
-use Rattle.bug_core.proofs.ImageLemmas.{none_left, none_right, none_map, has-member_none, no_member-has, bug_in-append}
-use Rattle.bug_core.proofs.ImageLemmas.{bug_in-merged, shown}
+use Rattle.set_images.proofs.ImageLemmas.{none_left, none_right, none_map, has-member_none, no_member-has, bug_in-append}
+use Rattle.set_images.proofs.ImageLemmas.{bug_in-merged, shown}
 use Rattle.desk_store.specs.Store.{IsImageOf}
 use Rattle.desk_messages.specs.Images.{is_gathered, meets, Lists, Gather}
 

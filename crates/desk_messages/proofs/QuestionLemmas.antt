@@ -13,7 +13,7 @@ use Rattle.bug_record.specs.declared.bug.Member.{Member}
 use Rattle.bug_record.specs.declared.bug.SetImage.{SetImage}
 use Rattle.bug_record.specs.declared.command.Command.{Command}
 use Rattle.bug_record.specs.declared.command.Command.TheVariants as commands
-use Rattle.bug_core.proofs.ImageLemmas.{image_with-shows, image_with-none, image_with-has}
+use Rattle.set_images.proofs.ImageLemmas.{image_with-shows, image_with-none, image_with-has}
 use Rattle.bug_record.specs.Commands.{bugs_named}
 use Rattle.desk_text.specs.declared.outcome.StoreFault.{StoreFault}
 use Rattle.desk_store.specs.Store.{Asks, Answers, IsOpenHead}

@@ -38,7 +38,7 @@ IsImageOf d n (Some i) = (has (numbers_of i.members) n ≡ true) × IsSetOf d i
 abbrev pub IsNext : Desk → ℕ → Type 0
 IsNext d n = n ≡ d.next
 
--- the head at which the bugs of the image are still found, if there is one
+-- the first head, in node order, at which the bugs of the image are still found, if there is one
 abbrev pub IsOpenHead : Desk → SetImage → Option Node → Type 0
 IsOpenHead d i head = head ≡ open_head d.tree i.shared
 

@@ -45,7 +45,7 @@ pub trait Records {
 
     /// The first head of the package of a set's bugs, in node order, at which they are still found;
     /// `None` where there is none.
-    /// It is asked of an image of the desk.
+    /// It is asked of an image of the desk, which has a member.
     fn open_head(&mut self, image: &SetImage) -> Result<Option<Node>, StoreFault>
         requires member { HasMember image.now }
         requires set { is_kept self.old → is_honest self.old → IsSetOf (desk self.old) image.now }

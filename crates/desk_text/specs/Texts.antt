@@ -38,7 +38,7 @@ said_of_bug n said = codes "bug " ++ (decimal n ++ said)
 unfoldable pub difference_text : ℕ → List ℕ → List ℕ
 difference_text n word = said_of_bug n (codes " differs in " ++ word)
 
--- the bug that can't be archived
+-- the head at which the bug to be archived is still found
 unfoldable pub still_found_text : Node → List ℕ
 still_found_text v = codes "still found in " ++ node_text v
 

@@ -2,7 +2,7 @@ use Rattle.std.proofs.Common.{rules, ◌∙◌, ◌==◌}
 use Rattle.std.proofs.lemmas.Iterator.{YieldsList-from_slice}
 use Rattle.std.proofs.lemmas.Iterator.Search.{find_from_yields_List}
 use Rattle.bug_record.specs.Images.{member_at}
-use Rattle.bug_core.proofs.FindLemmas.{find_number, lent}
+use Rattle.set_images.proofs.FindLemmas.{find_number, lent}
 use Rattle.bug_core.proofs.images.find_member.Goals as goal
 
 pub returns : goal.returns

@@ -1,5 +1,5 @@
 use Rattle.std.proofs.Common.{◌∙◌}
-use Rattle.bug_core.proofs.OrderedLemmas.{with_key}
+use Rattle.set_images.proofs.OrderedLemmas.{with_key}
 use Rattle.bug_core.proofs.merges.add_number.Goals as goal
 
 pub returns : goal.returns

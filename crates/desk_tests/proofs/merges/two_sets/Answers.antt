@@ -5,7 +5,7 @@ use Rattle.bug_record.specs.Sets.{has}
 use Rattle.bug_record.specs.Images.{numbers_of, bug_of, bug_in, AreApart}
 use Rattle.bug_record.specs.declared.bug.Member.{Member}
 use Rattle.bug_record.specs.declared.bug.SetImage.{SetImage}
-use Rattle.bug_core.proofs.ImageLemmas.{no_member-has}
+use Rattle.set_images.proofs.ImageLemmas.{no_member-has}
 use Rattle.bug_record.proofs.SetLemmas.{one_number}
 use Rattle.desk_tests.proofs.merges.two_sets.Goals as goal
 

@@ -1,0 +1,170 @@
+-- What differs where a set stays the same bugs.
+use Rattle.std.proofs.Common.{◌≡◌, ◌<◌, ℕ, Bool, true, false, cond, not, ◌&&◌, ◌||◌, eqb, List, [], ◌∷◌, Option, Some, None, sym}
+use Rattle.std.proofs.Common.{refl, ap, ◌∙◌, subst, arith}
+use Rattle.std.specs.Prelude.{nat_lt, option_map}
+use Rattle.std.specs.Option.{option_or}
+use Rattle.std.specs.Str.{bytes_eq}
+use Rattle.std.proofs.lemmas.Bool.{false≢true, eqb-true, ltb-true, and_parts, or_parts}
+use Rattle.std.proofs.lemmas.Slice.Eq.{bytes_eq-Decides}
+use Rattle.bug_record.specs.Sets.{has, AllAbove, IsAscending}
+use Rattle.bug_record.specs.Images.{numbers_of, member_at, bug_of, bug_in}
+use Rattle.bug_record.specs.Changed.{same_shared, same_at, AreChanged}
+use Rattle.bug_record.specs.declared.bug.Member.{Member}
+use Rattle.bug_record.specs.declared.bug.SetImage.{SetImage}
+use Rattle.bug_record.proofs.SetLemmas.{AllAbove-below, has-above}
+use Rattle.set_images.specs.Changes.{same_texts, differs}
+use Rattle.set_images.specs.Kept.{ascends, retold, IsKept}
+use Rattle.set_images.proofs.ImageLemmas.{no_member-has}
+use Rattle.set_images.proofs.ChangedLemmas.{changed-are}
+
+-- numbers that ascend by the test ascend
+all-above : (k : ℕ) (ns : List ℕ) → ascends (Some k) ns ≡ true → AllAbove k ns × IsAscending ns
+all-above k [] h = (tt, tt)
+all-above k (n ∷ ns) h =
+    let p = and_parts (nat_lt k n) (ascends (Some n) ns) h in
+    let r = all-above n ns p.1 in
+    let l : k < n = ltb-true k n p.0 in
+    ((l, AllAbove-below ns k n l r.0), r)
+
+ascending-from : (ns : List ℕ) → ascends None ns ≡ true → IsAscending ns
+ascending-from [] h = tt
+ascending-from (n ∷ ns) h = all-above n ns h
+
+pub kept-from : (old new : SetImage) → bytes_eq (numbers_of old.members) (numbers_of new.members) ≡ true → (t : Bool)
+    → t ≡ ascends None (numbers_of new.members) → t ≡ true → IsKept old new
+kept-from old new same t e h =
+    record {
+      numbers = (bytes_eq-Decides (numbers_of old.members) (numbers_of new.members)).0 same;
+      ascending =
+          ascending-from (numbers_of new.members) (sym e ∙ h);
+    }
+
+-- the numbers of those that differ are among all, and ascend
+none-retold : (ms ns : List Member) (k : ℕ) → has (numbers_of ns) k ≡ false → has (retold ms ns) k ≡ false
+none-retold [] ns k h = refl
+none-retold (m ∷ ms) [] k h = refl
+none-retold (m ∷ ms) (n ∷ ns) k h =
+    let p = or_parts (eqb n.number k) (has (numbers_of ns) k) h in
+    elim (same_texts m n) as (λ t. has (cond t (retold ms ns) (n.number ∷ retold ms ns)) k ≡ false)
+    [ true ↦ none-retold ms ns k p.1 | false ↦ ap (λ t. t || has (retold ms ns) k) p.0 ∙ none-retold ms ns k p.1 ]
+
+above-retold : (ms ns : List Member) (k : ℕ) → AllAbove k (numbers_of ns) → AllAbove k (retold ms ns)
+above-retold [] ns k h = tt
+above-retold (m ∷ ms) [] k h = tt
+above-retold (m ∷ ms) (n ∷ ns) k h =
+    elim (same_texts m n) as (λ t. AllAbove k (cond t (retold ms ns) (n.number ∷ retold ms ns)))
+    [ true ↦ above-retold ms ns k h.1 | false ↦ (h.0, above-retold ms ns k h.1) ]
+
+ascending-retold : (ms ns : List Member) → IsAscending (numbers_of ns) → IsAscending (retold ms ns)
+ascending-retold [] ns h = tt
+ascending-retold (m ∷ ms) [] h = tt
+ascending-retold (m ∷ ms) (n ∷ ns) h =
+    elim (same_texts m n) as (λ t. IsAscending (cond t (retold ms ns) (n.number ∷ retold ms ns)))
+    [ true ↦ ascending-retold ms ns h.1 | false ↦ (above-retold ms ns n.number h.0, ascending-retold ms ns h.1) ]
+
+-- the two members of a number
+abbrev Told : List Member → List Member → ℕ → Type 0
+Told ms ns k = (x : Member) × (y : Member) × (member_at ms k ≡ Some x) × (member_at ns k ≡ Some y)
+    × (has (retold ms ns) k ≡ not (same_texts x y))
+
+abbrev first : List ℕ → ℕ
+first [] = 0
+first (x ∷ xs) = x
+
+abbrev rest : List ℕ → List ℕ
+rest [] = []
+rest (x ∷ xs) = xs
+
+told : (ms ns : List Member) → numbers_of ms ≡ numbers_of ns → IsAscending (numbers_of ns) → (k : ℕ)
+    → has (numbers_of ns) k ≡ true → Told ms ns k
+told [] ns e a k h = absurd (false≢true (ap (λ z. has z k) e ∙ h))
+told (m ∷ ms) [] e a k h = absurd (false≢true h)
+told (m ∷ ms) (n ∷ ns) e a k h =
+    elim (eqb n.number k) as (λ t. eqb n.number k ≡ t → (t || has (numbers_of ns) k) ≡ true → Told (m ∷ ms) (n ∷ ns) k) [
+      | true ↦ λ q _. here q
+      | false ↦ λ q h. later q (told ms ns (ap rest e) a.1 k h)
+    ] refl h
+  where
+    same : m.number ≡ n.number
+    same = ap first e
+
+    -- a number of the first member is no later one
+    alone : eqb n.number k ≡ true → (t : Bool) → has (numbers_of ns) k ≡ t → has (numbers_of ns) k ≡ false
+    alone q false w = w
+    alone q true w = let l : n.number < k = has-above (numbers_of ns) n.number k a.0 w in let z : n.number ≡ k =
+        eqb-true n.number k q in absurd (omega (arith, l, z))
+
+    here : eqb n.number k ≡ true → Told (m ∷ ms) (n ∷ ns) k
+    here q = (
+      m,
+      n,
+      ap (λ t. cond t (Some m) (member_at ms k)) (ap (λ z. eqb z k) same ∙ q),
+      ap (λ t. cond t (Some n) (member_at ns k)) q,
+      elim (same_texts m n) as (λ t. has (cond t (retold ms ns) (n.number ∷ retold ms ns)) k ≡ not t)
+          [ true ↦ none-retold ms ns k (alone q (has (numbers_of ns) k) refl) | false ↦ ap (λ t. t || has (retold ms ns) k) q ],
+    )
+
+    later : eqb n.number k ≡ false → Told ms ns k → Told (m ∷ ms) (n ∷ ns) k
+    later q r = (
+      r.0,
+      r.1,
+      ap (λ t. cond t (Some m) (member_at ms k)) (ap (λ z. eqb z k) same ∙ q) ∙ r.2,
+      ap (λ t. cond t (Some n) (member_at ns k)) q ∙ r.3,
+      elim (same_texts m n) as (λ t. has (cond t (retold ms ns) (n.number ∷ retold ms ns)) k ≡ not (same_texts r.0 r.1))
+          [ true ↦ r.4 | false ↦ ap (λ t. t || has (retold ms ns) k) q ∙ r.4 ],
+    )
+
+-- a number of no member is no bug
+absent : (old new : SetImage) → IsKept old new → (n : ℕ) → has (numbers_of new.members) n ≡ false
+    → bug_in (old ∷ []) n ≡ bug_in (new ∷ []) n
+absent old new h n e =
+    ap (λ (o : Option Member). option_or (option_map (bug_of old) o) None)
+    (no_member-has old.members n (ap (λ z. has z n) h.numbers ∙ e))
+    ∙ sym (ap (λ (o : Option Member). option_or (option_map (bug_of new) o) None) (no_member-has new.members n e))
+
+-- a bug differs in its texts or in the shared fields
+differ : (old new : SetImage) → IsKept old new → (n : ℕ) (t : Told old.members new.members n)
+    → differs (old ∷ []) (new ∷ []) n ≡ not (same_texts t.0 t.1 && (same_shared old.shared new.shared && true))
+differ old new h n t =
+    (λ j. not (same_at (option_or (option_map (bug_of old) (t.2 j)) None) (option_or (option_map (bug_of new) (t.3 j)) None)))
+    ∙ ap (λ b. not (same_texts t.0 t.1 && (same_shared old.shared new.shared && b)))
+    ((bytes_eq-Decides (numbers_of old.members) (numbers_of new.members)).1 h.numbers)
+
+pub changed-shared : (old new : SetImage) (r : List ℕ) → IsKept old new → same_shared old.shared new.shared ≡ false
+    → r ≡ numbers_of new.members → AreChanged (bug_in (old ∷ [])) (bug_in (new ∷ [])) r
+changed-shared old new r h other e =
+    changed-are (old ∷ []) (new ∷ []) (has (numbers_of new.members)) r (absent old new h) (subst IsAscending (sym e) h.ascending)
+    (λ n. ap (λ z. has z n) e ∙ each n (has (numbers_of new.members) n) refl)
+  where
+    never : (a b : Bool) → b ≡ false → true ≡ not (a && (b && true))
+    never true true w = absurd (false≢true (sym w))
+    never true false w = refl
+    never false b w = refl
+
+    each : (n : ℕ) (t : Bool) → has (numbers_of new.members) n ≡ t
+        → has (numbers_of new.members) n ≡ (has (numbers_of new.members) n && differs (old ∷ []) (new ∷ []) n)
+    each n false q = q ∙ sym (ap (λ t. t && differs (old ∷ []) (new ∷ []) n) q)
+    each n true q =
+        let t = told old.members new.members h.numbers h.ascending n q in
+        q ∙ never (same_texts t.0 t.1) (same_shared old.shared new.shared) other ∙ sym (differ old new h n t)
+        ∙ sym (ap (λ t. t && differs (old ∷ []) (new ∷ []) n) q)
+
+pub changed-retold : (old new : SetImage) (r : List ℕ) → IsKept old new → same_shared old.shared new.shared ≡ true
+    → r ≡ retold old.members new.members → AreChanged (bug_in (old ∷ [])) (bug_in (new ∷ [])) r
+changed-retold old new r h alike e =
+    changed-are (old ∷ []) (new ∷ []) (has (numbers_of new.members)) r (absent old new h)
+    (subst IsAscending (sym e) (ascending-retold old.members new.members h.ascending))
+    (λ n. ap (λ z. has z n) e ∙ each n (has (numbers_of new.members) n) refl)
+  where
+    only : (a b : Bool) → b ≡ true → not a ≡ not (a && (b && true))
+    only true true w = refl
+    only true false w = absurd (false≢true w)
+    only false b w = refl
+
+    each : (n : ℕ) (t : Bool) → has (numbers_of new.members) n ≡ t
+        → has (retold old.members new.members) n ≡ (has (numbers_of new.members) n && differs (old ∷ []) (new ∷ []) n)
+    each n false q = none-retold old.members new.members n q ∙ sym (ap (λ t. t && differs (old ∷ []) (new ∷ []) n) q)
+    each n true q =
+        let t = told old.members new.members h.numbers h.ascending n q in
+        t.4 ∙ only (same_texts t.0 t.1) (same_shared old.shared new.shared) alike ∙ sym (differ old new h n t)
+        ∙ sym (ap (λ t. t && differs (old ∷ []) (new ∷ []) n) q)

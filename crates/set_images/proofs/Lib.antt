@@ -1,0 +1,8 @@
+pub mod FindLemmas
+pub mod ImageLemmas
+pub mod IndexLemmas
+pub mod OrderedLemmas
+pub mod JoinLemmas
+pub mod ChangedLemmas
+pub mod KeptLemmas
+pub mod PartedLemmas

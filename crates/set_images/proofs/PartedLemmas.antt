@@ -1,0 +1,160 @@
+-- What differs where no set stays the same bugs.
+use Rattle.std.proofs.Common.{◌≡◌, ◌<◌, ℕ, Bool, true, false, cond, not, ◌||◌, eqb, List, [], ◌∷◌, Option, Some, None, sym, refl}
+use Rattle.std.proofs.Common.{◌++◌, length, get_or, ap, ◌∙◌, subst, arith}
+use Rattle.std.specs.Prelude.{◌≢◌, ◌==◌, nat_lt, is_some, option_map}
+use Rattle.std.specs.Str.{bytes_eq}
+use Rattle.std.specs.Option.{option_or}
+use Rattle.std.specs.Ordering.{nat_cmp}
+use Rattle.std.specs.declared.cmp.Ordering.TheVariants.{Less, Equal, Greater}
+use Rattle.std.specs.List.{list_any, dedup, dedup_from, AllByRecursion}
+use Rattle.std.specs.List.Sorted.{IsPermutation, IsSorted, IsStrictlySortedBy}
+use Rattle.std.proofs.lemmas.Bool.{false≢true, eqb-true, ltb-true, not-true, and_parts, or_parts}
+use Rattle.std.proofs.lemmas.List.Sorted.{list_any-IsPermutation}
+use Rattle.std.proofs.lemmas.Map.Keys.{sorted_from_strictly_increasing, IsStrictlyIncreasing-dedup}
+use Rattle.std.proofs.lemmas.Option.{none-some, same_Some}
+use Rattle.std.proofs.lemmas.Slice.Eq.{bytes_eq-Decides}
+use Rattle.bug_record.specs.Sets.{has, AllAbove, IsAscending, Each}
+use Rattle.bug_record.specs.Images.{numbers_of, member_at, bug_of, bug_in}
+use Rattle.bug_record.specs.Changed.{AreChanged}
+use Rattle.bug_record.specs.declared.bug.Bug.{Bug}
+use Rattle.bug_record.specs.declared.bug.SetImage.{SetImage}
+use Rattle.bug_record.proofs.SetLemmas.{has-append}
+use Rattle.set_images.specs.Parted.{is_unlike, numbers_in, IsParted}
+use Rattle.set_images.proofs.JoinLemmas.{is_some-first}
+
+-- ---- numbers that are sorted, each once
+
+any-has : (xs : List ℕ) (n : ℕ) → list_any (λ x. x == n) xs ≡ has xs n
+any-has [] n = refl
+any-has (x ∷ xs) n = ap (λ t. (x == n) || t) (any-has xs n)
+
+has-from : (k : ℕ) (xs : List ℕ) (n : ℕ) → has (dedup_from eqb k xs) n ≡ has (k ∷ xs) n
+has-from k [] n = refl
+has-from k (x ∷ xs) n =
+    elim (eqb x k) as (λ t. eqb x k ≡ t → has (cond t (dedup_from eqb k xs) (k ∷ dedup_from eqb x xs)) n
+    ≡ (eqb k n || (eqb x n || has xs n))) [
+      | true ↦ λ e. has-from k xs n ∙ again (eqb k n) (eqb x n) (has xs n) (ap (λ z. eqb z n) (eqb-true x k e))
+      | false ↦ λ e. ap (λ t. eqb k n || t) (has-from x xs n)
+    ] refl
+  where
+    again : (a b c : Bool) → b ≡ a → (a || c) ≡ (a || (b || c))
+    again true b c e = refl
+    again false true c e = absurd (false≢true (sym e))
+    again false false c e = refl
+
+has-dedup : (xs : List ℕ) (n : ℕ) → has (dedup eqb xs) n ≡ has xs n
+has-dedup [] n = refl
+has-dedup (x ∷ xs) n = has-from x xs n
+
+pub has-sorted : (xs ys zs : List ℕ) → IsPermutation xs ys → zs ≡ dedup eqb ys → (n : ℕ) → has zs n ≡ has xs n
+has-sorted xs ys zs moved is n =
+    ap (λ z. has z n) is ∙ has-dedup ys n ∙ sym (any-has ys n) ∙ sym (list_any-IsPermutation (λ x. x == n) xs ys moved)
+    ∙ any-has xs n
+
+less : (x y : ℕ) → nat_cmp x y ≡ Less → x < y
+less x y e =
+    elim (nat_lt x y) as (λ s. nat_lt x y ≡ s → cond s Less (cond (x == y) Equal Greater) ≡ Less → x < y) [
+      | true ↦ λ l _. ltb-true x y l
+      | false ↦ λ _. elim (x == y) as (λ t. cond t Equal Greater ≡ Less → x < y)
+          [ true ↦ λ q. absurd (cc) | false ↦ λ q. absurd (cc) ]
+    ] refl e
+
+all-above : (x : ℕ) (xs : List ℕ) → AllByRecursion (λ y. nat_cmp x y ≡ Less) xs → AllAbove x xs
+all-above x [] h = tt
+all-above x (y ∷ ys) h = (less x y h.0, all-above x ys h.1)
+
+ascending : (xs : List ℕ) → IsStrictlySortedBy nat_cmp xs → IsAscending xs
+unfolding IsStrictlySortedBy
+ascending [] h = tt
+ascending (x ∷ xs) h = (all-above x xs h.0, ascending xs h.1)
+
+pub ascending-sorted : (ys zs : List ℕ) → IsSorted nat_cmp ys → zs ≡ dedup eqb ys → IsAscending zs
+ascending-sorted ys zs up is =
+    subst IsAscending (sym is)
+    (ascending (dedup eqb ys) (sorted_from_strictly_increasing (dedup eqb ys) (IsStrictlyIncreasing-dedup ys up)))
+
+-- ---- bugs of sets of which none stays
+
+-- the tests tell it
+unlike : (i : SetImage) (js : List SetImage) → is_unlike i js ≡ true → Each (λ j. numbers_of i.members ≢ numbers_of j.members) js
+unlike i [] h = tt
+unlike i (j ∷ js) h =
+    let p = and_parts (not (bytes_eq (numbers_of i.members) (numbers_of j.members))) (is_unlike i js) h in (
+      λ e. false≢true (sym (not-true (bytes_eq (numbers_of i.members) (numbers_of j.members)) p.0)
+          ∙ (bytes_eq-Decides (numbers_of i.members) (numbers_of j.members)).1 e),
+      unlike i js p.1,
+    )
+
+pub parted-one : (i : SetImage) (old new : List SetImage) → old ≡ i ∷ [] → is_unlike i new ≡ true → IsParted old new
+parted-one i old new one h = subst (λ is. IsParted is new) (sym one) (unlike i new h, tt)
+
+pub parted-into_one : (i : SetImage) (old new : List SetImage) → new ≡ i ∷ [] → is_unlike i old ≡ true → IsParted old new
+parted-into_one i old new one h = subst (IsParted old) (sym one) (turned old (unlike i old h))
+  where
+    turned : (js : List SetImage) → Each (λ j. numbers_of i.members ≢ numbers_of j.members) js → IsParted js (i ∷ [])
+    turned [] h = tt
+    turned (j ∷ js) h = ((λ e. h.0 (sym e), tt), turned js h.1)
+
+-- a bug of other bugs is no bug of the images
+other_bug : (ns : List ℕ) (is : List SetImage) → Each (λ j. ns ≢ numbers_of j.members) is → (n : ℕ) (b : Bug)
+    → bug_in is n ≡ Some b → ns ≡ b.merged → ⊥
+other_bug ns [] h n b e q = none-some b e
+other_bug ns (j ∷ js) h n b e q =
+    elim (member_at j.members n) as (λ o. option_or (option_map (bug_of j) o) (bug_in js n) ≡ Some b → ⊥) [
+      | None ↦ λ e. other_bug ns js h.1 n b e q
+      | Some x ↦ λ e. h.0 (q ∙ ap (λ (z : Bug). z.merged) (sym (same_Some _ _ e)))
+    ] e
+
+no_bug_stays : (old new : List SetImage) → IsParted old new → (n : ℕ) (b : Bug) → bug_in old n ≡ Some b → bug_in new n ≡ Some b
+    → ⊥
+no_bug_stays [] new h n b e q = none-some b e
+no_bug_stays (i ∷ is) new h n b e q =
+    elim (member_at i.members n) as (λ o. option_or (option_map (bug_of i) o) (bug_in is n) ≡ Some b → ⊥) [
+      | None ↦ λ e. no_bug_stays is new h.1 n b e q
+      | Some x ↦ λ e. other_bug (numbers_of i.members) new h.0 n b q (ap (λ (z : Bug). z.merged) (same_Some _ _ e))
+    ] e
+
+-- the numbers of the images are those of their bugs
+bugs-in : (is : List SetImage) (n : ℕ) → is_some (bug_in is n) ≡ has (numbers_in is) n
+bugs-in [] n = refl
+bugs-in (i ∷ is) n =
+    is_some-first i is n ∙ ap (λ t. has (numbers_of i.members) n || t) (bugs-in is n)
+    ∙ sym (has-append (numbers_of i.members) (numbers_in is) n)
+
+no_bug : (o : Option Bug) → is_some o ≡ false → o ≡ None
+no_bug None h = refl
+no_bug (Some b) h = absurd (false≢true (sym h))
+
+pub changed-parted : (old new : List SetImage) (r : List ℕ) → IsParted old new → IsAscending r
+    → ((n : ℕ) → has r n ≡ (has (numbers_in old) n || has (numbers_in new) n)) → AreChanged (bug_in old) (bug_in new) r
+changed-parted old new r h up numbers = record {
+  ascending = up;
+  listed = λ n t e. listed n (bug_in old n) refl (sym e) (sym (known n) ∙ t);
+  others = λ n t.
+      let p = or_parts (is_some (bug_in old n)) (is_some (bug_in new n)) (sym (known n) ∙ t) in
+      no_bug (bug_in old n) p.0 ∙ sym (no_bug (bug_in new n) p.1);
+}
+  where
+    known : (n : ℕ) → has r n ≡ (is_some (bug_in old n) || is_some (bug_in new n))
+    known n = numbers n ∙ (λ j. sym (bugs-in old n) j || sym (bugs-in new n) j)
+
+    listed : (n : ℕ) (o : Option Bug) → bug_in old n ≡ o → bug_in new n ≡ bug_in old n
+        → (is_some (bug_in old n) || is_some (bug_in new n)) ≡ true → ⊥
+    listed n None e q t =
+        false≢true ((λ j. is_some (sym e j) || is_some (sym (q ∙ e) j)) ∙ t)
+    listed n (Some b) e q t = no_bug_stays old new h n b e (q ∙ e)
+
+-- the same of a list that is gathered from the old images, and then from the new ones
+pub changed-all : (old new : List SetImage) (none first both sorted r : List ℕ) → IsParted old new → none ≡ []
+    → first ≡ none ++ numbers_in old → both ≡ first ++ numbers_in new → IsAscending sorted
+    → ((n : ℕ) → has sorted n ≡ has both n) → r ≡ sorted → AreChanged (bug_in old) (bug_in new) r
+changed-all old new none first both sorted r h empty one two up numbers is =
+    changed-parted old new r h (subst IsAscending (sym is) up)
+    (λ n. ap (λ z. has z n) is ∙ numbers n
+    ∙ ap (λ z. has z n) (two ∙ ap (λ z. z ++ numbers_in new) (one ∙ ap (λ z. z ++ numbers_in old) empty))
+    ∙ has-append (numbers_in old) (numbers_in new) n)
+
+pub one_item : {T : Type 0} (xs : List T) (x : T) → length xs ≡ 1 → x ≡ get_or xs 0 x → xs ≡ x ∷ []
+one_item [] x l e = absurd (omega (arith, l))
+one_item (y ∷ []) x l e = ap (λ z. z ∷ []) (sym e)
+one_item (y ∷ z ∷ ys) x l e = absurd (omega (arith, l))

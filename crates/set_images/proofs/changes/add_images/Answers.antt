@@ -1,0 +1,26 @@
+use Rattle.std.proofs.Common.{List, ◌&&◌, ◌∙◌, subst}
+use Rattle.bug_record.specs.Sets.{has}
+use Rattle.bug_record.specs.Images.{numbers_of}
+use Rattle.bug_record.specs.declared.bug.Member.{Member}
+use Rattle.set_images.specs.Changes.{differs}
+use Rattle.set_images.specs.Numbers.{IsJoined}
+use Rattle.set_images.proofs.JoinLemmas.{join-image}
+use Rattle.set_images.proofs.changes.add_images.Goals as goal
+
+-- the image's numbers are joined
+joined : (c : goal.In_ok-add_members)
+    → IsJoined c.loop-image.set.keys
+    (λ n. has (numbers_of c.image-item.result.members) n && differs c.args.before.now c.args.after.now n)
+    c.add_members.new.set.keys
+joined c = subst (λ (z : List Member). IsJoined c.loop-image.set.keys
+    (λ n. has (numbers_of z) n && differs c.args.before.now c.args.after.now n) c.add_members.new.set.keys) c.as_slice.ensures
+    c.in_ok-add_members.ensures.numbers
+
+pub loop-image-preserved : goal.loop-image-preserved
+loop-image-preserved c = record {
+  right = c.in_ok-add_members.ensures.right;
+  ascending = λ a. (joined c).ascending (c.loop-image.invariant.ascending a);
+  numbers = λ n. join-image (differs c.args.before.now c.args.after.now) c.loop-image.set.keys c.add_members.new.set.keys
+      c.args.images.now c.loop-image.image-index c.image-item.result c.loop-image-test.true c.image-item.is (joined c) n
+      ∙ c.loop-image.invariant.numbers n;
+}

@@ -1,0 +1,6 @@
+-- definitions that only private functions cite
+pub mod Index
+pub mod Changes
+pub mod Kept
+pub mod Parted
+pub mod Numbers

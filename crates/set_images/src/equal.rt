@@ -1,0 +1,93 @@
+//! Whether two records are equal, field by field.
+
+ghost use Rattle.std.specs.Prelude.{◌≡◌};
+ghost use Rattle.std.specs.Str.{bytes_eq};
+ghost use Rattle.bug_record.specs.Images.{numbers_of};
+ghost use Rattle.bug_record.specs.Changed.{same_nodes, same_tags, same_shared};
+ghost use Rattle.bug_record.specs.Differences.{same_text, same_state};
+ghost use Rattle.set_images.specs.Changes.{same_texts, same_set};
+
+use ancestry::Node;
+use bug_record::{Member, SetImage, Shared, Tag};
+use debver::Text;
+
+fn same_nodes(a: &[Node], b: &[Node]) -> bool
+    ensures { result ≡ same_nodes a.now b.now }
+{
+    a == b
+}
+
+fn same_tags(a: &[Tag], b: &[Tag]) -> bool
+    ensures { result ≡ same_tags a.now b.now }
+{
+    if a.len() != b.len() {
+        return false;
+    }
+    for i in 0..a.len() {
+        if a[i].place() != b[i].place() {
+            return false;
+        }
+    }
+    true
+}
+
+/// Whether both are none, or equal.
+pub fn same_text(a: &Option<Text>, b: &Option<Text>) -> bool
+    ensures { result ≡ same_text a.now b.now }
+{
+    match (a, b) {
+        (Some(text), Some(other)) => text.as_str() == other.as_str(),
+        (None, None) => true,
+        (Some(_), None) | (None, Some(_)) => false,
+    }
+}
+
+fn same_state(a: &Shared, b: &Shared) -> bool
+    ensures { result ≡ same_state a.now b.now }
+{
+    a.closed == b.closed
+}
+
+/// Whether all shared fields are equal.
+pub(crate) fn same_shared(a: &Shared, b: &Shared) -> bool
+    ensures { result ≡ same_shared a.now b.now }
+{
+    a.package.as_str() == b.package.as_str()
+        && a.severity.rank() == b.severity.rank()
+        && same_state(a, b)
+        && same_text(&a.forwarded, &b.forwarded)
+        && same_text(&a.owner, &b.owner)
+        && same_tags(a.tags.as_slice(), b.tags.as_slice())
+        && same_nodes(a.found.as_slice(), b.found.as_slice())
+        && same_nodes(a.fixed.as_slice(), b.fixed.as_slice())
+        && a.archived == b.archived
+}
+
+/// Whether the members are the same bugs, in the same order.
+pub(crate) fn same_numbers(a: &[Member], b: &[Member]) -> bool
+    ensures { result ≡ bytes_eq (numbers_of a.now) (numbers_of b.now) }
+{
+    if a.len() != b.len() {
+        return false;
+    }
+    for i in 0..a.len() {
+        if a[i].number != b[i].number {
+            return false;
+        }
+    }
+    true
+}
+
+/// Whether the titles and the submitters are equal.
+pub(crate) fn same_texts(a: &Member, b: &Member) -> bool
+    ensures { result ≡ same_texts a.now b.now }
+{
+    a.title.as_str() == b.title.as_str() && a.submitter.as_str() == b.submitter.as_str()
+}
+
+/// Whether the sets of two images are the same bugs, with equal shared fields.
+pub(crate) fn same_set(a: &SetImage, b: &SetImage) -> bool
+    ensures { result ≡ same_set a.now b.now }
+{
+    same_numbers(a.members.as_slice(), b.members.as_slice()) && same_shared(&a.shared, &b.shared)
+}

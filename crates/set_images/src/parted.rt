@@ -1,0 +1,83 @@
+//! Which bugs a change touches, where no set stays the same bugs.
+
+ghost use Rattle.std.specs.Prelude.{◌≡◌, ◌||◌, ◌++◌, ℕ, IsTrue, IfOk, OnOk};
+ghost use Rattle.bug_record.specs.Sets.{has, IsAscending};
+ghost use Rattle.bug_record.specs.Images.{numbers_of, bug_in};
+ghost use Rattle.bug_record.specs.Changed.{AreChanged};
+ghost use Rattle.set_images.specs.Parted.{is_unlike, numbers_in, IsParted};
+
+use crate::equal::same_numbers;
+use bug_record::{Member, Numbers, Sequence, SetImage};
+use std::alloc::{AllocError, Global};
+
+// Whether the image has other bugs than each of the others.
+fn is_unlike(image: &SetImage, others: &[SetImage]) -> bool
+    ensures { result ≡ is_unlike image.now others.now }
+{
+    let members = image.members.as_slice();
+    for other in others {
+        if same_numbers(members, other.members.as_slice()) {
+            return false;
+        }
+    }
+    true
+}
+
+/// Whether no set stays the same bugs, as is told where one side is one set alone: it is parted,
+/// or comes of the others.
+pub(crate) fn is_parted(old: &[SetImage], new: &[SetImage]) -> bool
+    ensures { IsTrue result → IsParted old.now new.now }
+{
+    match (old, new) {
+        ([image], images) => is_unlike(image, images),
+        (images, [image]) => is_unlike(image, images),
+        _ => false,
+    }
+}
+
+// Adds the numbers of the members.
+fn add_members(numbers: &mut Vec<u64>, members: &[Member]) -> Result<(), AllocError>
+    ensures { OnOk result (numbers.new.items ≡ numbers.old.items ++ numbers_of members.now) }
+{
+    numbers.reserve(members.len())?;
+    for member in members {
+        numbers.push(member.number)?;
+    }
+    Ok(())
+}
+
+// Adds the numbers of all bugs of the images.
+fn add_numbers(numbers: &mut Vec<u64>, images: &[SetImage]) -> Result<(), AllocError>
+    ensures { OnOk result (numbers.new.items ≡ numbers.old.items ++ numbers_in images.now) }
+{
+    for image in images {
+        add_members(numbers, image.members.as_slice())?;
+    }
+    Ok(())
+}
+
+// The numbers, each once, ascending.
+fn in_order(mut numbers: Vec<u64>) -> Vec<u64>
+    ensures ascending { IsAscending result.items }
+    ensures numbers { (n : ℕ) → has result.items n ≡ has numbers.items n }
+{
+    numbers.sort_unstable();
+    numbers.dedup();
+    numbers.shrink_to_fit();
+    numbers
+}
+
+/// The numbers of the bugs that differ: all of them.
+pub(crate) fn changed_parted(
+    alloc: Global,
+    old: &[SetImage],
+    new: &[SetImage],
+) -> Result<Numbers, AllocError>
+    requires { IsParted old.now new.now }
+    ensures { IfOk result (λ r. AreChanged (bug_in old.now) (bug_in new.now) r) }
+{
+    let mut numbers = Vec::new(alloc);
+    add_numbers(&mut numbers, old)?;
+    add_numbers(&mut numbers, new)?;
+    Ok(Sequence::from_vec(in_order(numbers)))
+}
