@@ -1,5 +1,5 @@
 -- The step of a command whose bugs are given as numbers.
-use Rattle.std.proofs.Common.{◌≡◌, ℕ, false, List, [], ◌∷◌, Option, Some, None, Result, Ok, refl, sym, ap, subst}
+use Rattle.std.proofs.Common.{◌≡◌, ℕ, false, List, [], ◌∷◌, Option, Some, None, Result, Ok, refl, ap, subst}
 use Rattle.std.specs.Prelude.{map}
 use Rattle.bug_record.specs.Words.{first_bug_refusal}
 use Rattle.bug_record.specs.Desk.{Desk}
@@ -15,11 +15,9 @@ use Rattle.bug_record.specs.Steps.{own_tests, records_changed, change_set, share
 use Rattle.bug_record.specs.declared.bug.Bug.{Bug}
 use Rattle.bug_record.specs.declared.command.Command.{Command}
 use Rattle.bug_record.specs.declared.bug.SetImage.{SetImage}
-use Rattle.bug_record.specs.declared.bug.Shared.{Shared}
 use Rattle.bug_record.specs.declared.command.Change.{Change}
 use Rattle.bug_record.specs.declared.command.Command.TheVariants as commands
 use Rattle.bug_record.specs.declared.command.PlanFault.{PlanFault}
-use Rattle.bug_record.specs.declared.command.Refusal.{Refusal}
 use Rattle.bug_core.specs.Planned.{step_with, IsPlanned, IsPlannedOf}
 
 -- numbers mean themselves

@@ -25,9 +25,9 @@ first_owner (b ∷ bugs) = option_or b.shared.owner (first_owner bugs)
 abbrev pub joined_tags : List Bug → List Tag
 joined_tags bugs = filter (λ tag. list_any (λ b. has_tag b.shared.tags tag) bugs) all_tags
 
--- The shared fields of merged bugs: package, severity, state, forwarded and being archived are those
--- of the first, the owner is that of the first that has one, and a tag or a mark is there where some
--- bug has it.
+-- The shared fields of merged bugs: package, severity, state, forwarded and being archived are
+-- those of the first, the owner is that of the first that has one, and a tag or a mark is there
+-- where some bug has it.
 abbrev pub joined_shared : Shared → List Bug → Shared
 joined_shared first bugs = record first {
   owner = first_owner bugs;

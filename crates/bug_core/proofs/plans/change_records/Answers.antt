@@ -1,10 +1,7 @@
-use Rattle.std.proofs.Common.{◌≡◌, ℕ, Err, [], ◌∷◌, sym, ap, ◌∙◌, subst}
+use Rattle.std.proofs.Common.{[], ◌∷◌, ◌∙◌}
 use Rattle.bug_record.specs.Commands.{bug_named}
-use Rattle.bug_record.specs.Words.{may_be_archived}
-use Rattle.bug_record.specs.Steps.{records_changed}
 use Rattle.std.specs.Prelude.{map}
 use Rattle.record_changes.specs.Members.{member_after}
-use Rattle.bug_record.specs.declared.command.PlanFault.TheVariants.{Refused}
 use Rattle.bug_record.specs.declared.command.Refusal.TheVariants.{NoBug}
 use Rattle.std.proofs.lemmas.Str.{is_utf8-from_IsUtf8}
 use Rattle.bug_core.specs.Others.{others}

@@ -2,7 +2,6 @@ use Rattle.std.proofs.Common.{◌≡◌, [], ◌∷◌, List, subst, IfOk}
 use Rattle.std.specs.Prelude.{map}
 use Rattle.record_changes.specs.Members.{member_after}
 use Rattle.bug_record.specs.declared.command.Change.{Change}
-use Rattle.bug_record.specs.declared.bug.Member.{Member}
 use Rattle.bug_record.specs.declared.bug.SetImage.{SetImage}
 use Rattle.bug_core.specs.Others.{others}
 use Rattle.bug_core.proofs.plans.changed_set.Goals as goal

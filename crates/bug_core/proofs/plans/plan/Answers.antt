@@ -1,4 +1,4 @@
-use Rattle.std.proofs.Common.{sym, subst}
+use Rattle.std.proofs.Common.{subst}
 use Rattle.std.specs.Option.{option_copied}
 use Rattle.std.proofs.Common.{Result}
 use Rattle.bug_record.specs.Desk.{Desk}

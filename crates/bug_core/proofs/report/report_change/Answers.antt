@@ -1,8 +1,7 @@
-use Rattle.std.proofs.Common.{◌≡◌, ◌+◌, List, ◌∷◌, [], ◌++◌, sym, ap, ◌∙◌, subst}
+use Rattle.std.proofs.Common.{◌≡◌, ◌+◌, List, ◌∷◌, [], sym, ap, ◌∙◌, subst}
 use Rattle.std.proofs.lemmas.Str.{is_utf8-from_IsUtf8}
 use Rattle.bug_record.specs.Images.{put, FitsDesk}
 use Rattle.bug_record.specs.declared.bug.SetImage.{SetImage}
-use Rattle.bug_core.specs.Reports.{image_of_report}
 use Rattle.bug_core.proofs.ReportLemmas.{put-report, fits-report}
 use Rattle.bug_core.proofs.report.report_change.Goals as goal
 
