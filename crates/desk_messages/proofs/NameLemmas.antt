@@ -1,6 +1,6 @@
 -- Names that are not known are told as numbers that no bug has, and refused by name.
-use Rattle.std.proofs.Common.{◌≡◌, ◌<◌, ◌≤◌, ◌+◌, ◌-◌, ℕ, Bool, List, [], ◌∷◌, true, false, Option, Some, None, Result, Ok, Err}
-use Rattle.std.proofs.Common.{◌∙◌, ap, sym, subst, refl, arith}
+use Rattle.std.proofs.Common.{◌≡◌, ◌<◌, ◌≤◌, ◌+◌, ◌-◌, ℕ, Bool, List, [], ◌∷◌, true, false, Option, Some, None, Result, Ok}
+use Rattle.std.proofs.Common.{◌∙◌, ap, sym, refl, arith}
 use Rattle.std.specs.Prelude.{nat_lt, map, option_map, not, ◌&&◌, if◌then◌else◌}
 use Rattle.std.specs.Option.{option_or}
 use Rattle.std.proofs.lemmas.Bool.{lt-ltb, le-ltb}

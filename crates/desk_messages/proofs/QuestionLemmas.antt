@@ -3,13 +3,12 @@ use Rattle.std.proofs.Common.{◌≡◌, ℕ, true, false, cond, List, [], ◌�
 use Rattle.std.proofs.lemmas.Bool.{false≢true}
 use Rattle.std.proofs.lemmas.Option.{none-some, same_Some}
 use Rattle.ancestry.specs.Nodes.{Node}
-use Rattle.bug_record.specs.Sets.{has, Each}
+use Rattle.bug_record.specs.Sets.{has}
 use Rattle.bug_record.specs.Desk.{Desk}
 use Rattle.bug_record.specs.Heads.{open_head}
-use Rattle.bug_record.specs.Images.{numbers_of, bug_of, bug_in, image_with, HasMember, IsSetOf, AreSetsOf}
+use Rattle.bug_record.specs.Images.{numbers_of, image_with, HasMember, IsSetOf, AreSetsOf}
 use Rattle.bug_record.specs.Plans.{IsOpenHeadFor}
 use Rattle.bug_record.specs.declared.bug.Bug.{Bug}
-use Rattle.bug_record.specs.declared.bug.Member.{Member}
 use Rattle.bug_record.specs.declared.bug.SetImage.{SetImage}
 use Rattle.bug_record.specs.declared.command.Command.{Command}
 use Rattle.bug_record.specs.declared.command.Command.TheVariants as commands

@@ -1,6 +1,6 @@
 -- How a command is handed to the plan, which knows numbers alone: a name that is not known is told
 -- as 1,000,000,000 + k, which no bug of a sound desk has, and its refusal is told by name again.
-use Rattle.std.specs.Prelude.{ℕ, ◌+◌, ◌-◌, nat_lt, List, Result, Ok, Err, unwrap_or, if◌then◌else◌}
+use Rattle.std.specs.Prelude.{ℕ, ◌+◌, ◌-◌, nat_lt, Result, Ok, Err, unwrap_or, if◌then◌else◌}
 use Rattle.bug_record.specs.Changed.{changed_numbers}
 use Rattle.bug_record.specs.Commands.{command_over}
 use Rattle.bug_record.specs.Desk.{Desk}

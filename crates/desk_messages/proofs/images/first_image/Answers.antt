@@ -1,5 +1,4 @@
-use Rattle.std.proofs.Common.{◌≡◌, List, [], ◌∷◌, ◌++◌, refl, sym, ap, ◌∙◌, subst}
-use Rattle.bug_record.specs.declared.bug.SetImage.{SetImage}
+use Rattle.std.proofs.Common.{◌≡◌, [], ◌∷◌, refl, sym, ◌∙◌, subst}
 use Rattle.desk_store.proofs.HoldsLemmas.{asks_weaker}
 use Rattle.desk_messages.specs.Images.{Gather}
 use Rattle.desk_messages.proofs.GatherLemmas.{gather-one}
