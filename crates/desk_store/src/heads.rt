@@ -25,7 +25,5 @@ pub(crate) fn open_head(tree: &Tree, shared: &Shared) -> Result<Option<Node>, Al
     ensures { IfOk result (λ head. head ≡ open_head tree.now shared.now) }
 {
     let heads = tree.heads(shared.package.as_str())?;
-    Ok(heads
-        .into_iter()
-        .find(|node| is_found(tree, shared, node)))
+    Ok(heads.into_iter().find(|node| is_found(tree, shared, node)))
 }
