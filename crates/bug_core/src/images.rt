@@ -1,20 +1,13 @@
 //! Images of sets: the change that puts some in the place of those of named bugs.
 
-ghost use Rattle.std.specs.Prelude.{◌≡◌, ◌∷◌, ◌++◌, IfOk, OnOk, MatchOption, Some, None};
-ghost use Rattle.bug_record.specs.Images.{numbers_of, member_at};
+ghost use Rattle.std.specs.Prelude.{◌≡◌, ◌∷◌, ◌++◌, IfOk, OnOk};
+ghost use Rattle.bug_record.specs.Images.{numbers_of};
 ghost use Rattle.bug_core.specs.Others.{has_any, is_other, others};
 ghost use Rattle.bug_core.specs.Named.{named_numbers};
 
 use bug_record::{Change, Member, Sequence, SetImage};
 use std::alloc::{AllocError, Global};
 use std::collections::BTreeSet;
-
-/// The member of a number.
-pub(crate) fn find_member(members: &[Member], number: u64) -> Option<&Member>
-    ensures { MatchOption result (member_at members.now number ≡ None) (λ m. member_at members.now number ≡ Some m.now) }
-{
-    members.iter().find(|member| member.number == number)
-}
 
 /// The bugs whose sets a change replaces.
 #[derive(Clone, Copy)]
