@@ -30,7 +30,7 @@ use Rattle.bug_record.proofs.TagLemmas.{set-joined_tags}
 use Rattle.bug_record.proofs.MergeLemmas.{has-all_merged}
 use Rattle.bug_core.specs.Others.{has_any, those_meant, others}
 use Rattle.bug_core.specs.Joins.{with_members, without_marks, with_all_shared}
-use Rattle.bug_core.specs.Refusals.{archived_refusal}
+use Rattle.bug_record.specs.Words.{archived_refusal}
 use Rattle.bug_core.specs.Planned.{IsPlannedOf, IsRefusalOfPlan}
 use Rattle.set_images.proofs.ImageLemmas.{has-member_some, has-member_none, bug_in-merged, shown, image_with-has, image_with-shows}
 use Rattle.set_images.proofs.ImageLemmas.{image_with-none}

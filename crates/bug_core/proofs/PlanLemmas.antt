@@ -25,7 +25,8 @@ use Rattle.bug_record.specs.declared.command.Refusal.{Refusal}
 use Rattle.bug_record.specs.declared.command.Refusal.TheVariants.{NoBug, Archived, NotArchived, NotDone, StillFound}
 use Rattle.bug_record.specs.declared.command.Command.TheVariants as commands
 use Rattle.ancestry.specs.Nodes.{Node}
-use Rattle.bug_core.specs.Refusals.{archived_refusal, records_refusal}
+use Rattle.bug_record.specs.Words.{archived_refusal}
+use Rattle.bug_core.specs.Refusals.{records_refusal}
 use Rattle.bug_core.specs.Others.{others}
 use Rattle.bug_core.specs.Planned.{HasName, IsPlanned, IsPlannedOf, IsRefusedAs, IsRefusalOfPlan}
 use Rattle.set_images.proofs.ImageLemmas.{shown, image_with-shows, image_with-none}

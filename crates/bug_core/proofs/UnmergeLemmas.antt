@@ -21,7 +21,7 @@ use Rattle.bug_record.specs.declared.command.Refusal.TheVariants.{NoBug, NotMerg
 use Rattle.bug_record.proofs.SetLemmas.{has-filter, IsAscending-filter, same-ascending, one_number}
 use Rattle.bug_core.specs.Others.{others}
 use Rattle.bug_core.specs.Joins.{is_part}
-use Rattle.bug_core.specs.Refusals.{archived_refusal}
+use Rattle.bug_record.specs.Words.{archived_refusal}
 use Rattle.bug_core.specs.Planned.{IsPlannedOf}
 use Rattle.set_images.proofs.ImageLemmas.{same_value, member-has, has-member_some, shown, image_with-has, image_with-shows}
 use Rattle.set_images.proofs.ImageLemmas.{image_with-none, image_with-lacks, image_with-bug, image_with-member}

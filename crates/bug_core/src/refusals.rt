@@ -4,7 +4,8 @@ ghost use Rattle.std.specs.Prelude.{◌≡◌, IfOk};
 ghost use Rattle.std.specs.Option.{option_copied};
 ghost use Rattle.bug_record.specs.Bugs.{first_of};
 ghost use Rattle.bug_record.specs.Steps.{own_tests};
-ghost use Rattle.bug_core.specs.Refusals.{archived_refusal, records_refusal};
+ghost use Rattle.bug_record.specs.Words.{archived_refusal};
+ghost use Rattle.bug_core.specs.Refusals.{records_refusal};
 
 use crate::named::may_be_archived;
 use ancestry::Node;

@@ -7,6 +7,7 @@ use Rattle.std.specs.Result.{result_unwrap_or}
 use Rattle.line_words.specs.declared.named.Named.{Named}
 use Rattle.line_words.specs.declared.named.Named.TheVariants.{Number, Name}
 use Rattle.bug_record.specs.declared.bug.Bug.{Bug}
+use Rattle.bug_record.specs.declared.bug.Shared.{Shared}
 use Rattle.bug_record.specs.declared.command.Command.{Command}
 use Rattle.bug_record.specs.declared.command.Command.TheVariants as commands
 use Rattle.bug_record.specs.declared.command.Refusal.{Refusal}
@@ -25,10 +26,14 @@ abbrev pub meaning : Names → Named → Result ℕ Refusal
 meaning names (Number n) = Ok n
 meaning names (Name k) = ok_or (number_of_name names k) (NoName k)
 
+-- the refusal of the bug n, which has these shared fields: it is archived and may not be
+abbrev pub archived_refusal : Bool → ℕ → Shared → Option Refusal
+archived_refusal may_be n f = if f.archived && not may_be then Some (Archived n) else None
+
 -- The refusal of a bug: it is not there, or it is archived and may not be.
 abbrev pub bug_refusal : Bool → Option Bug → ℕ → Option Refusal
 bug_refusal may_be None n = Some (NoBug n)
-bug_refusal may_be (Some b) n = if b.shared.archived && not may_be then Some (Archived n) else None
+bug_refusal may_be (Some b) n = archived_refusal may_be n b.shared
 
 -- the refusal of a bug word that means this: there is no such name, or the refusal of the bug
 abbrev pub word_refusal : Bool → (ℕ → Option Bug) → Result ℕ Refusal → Option Refusal
