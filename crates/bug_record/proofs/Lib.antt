@@ -1,5 +1,7 @@
 pub mod MarkLemmas
 pub mod MergeLemmas
+pub mod NumberLemmas
+pub mod OrderedLemmas
 pub mod PlaceLemmas
 pub mod SetLemmas
 pub mod SoundProp

@@ -1,14 +1,14 @@
 -- What merged bugs have, by what each of them has.
-use Rattle.std.proofs.Common.{◌≡◌, ℕ, ◌||◌, List, [], ◌∷◌, refl, ap, ◌∙◌}
+use Rattle.std.proofs.Common.{◌≡◌, ℕ, ◌||◌, ◌&&◌, not, List, [], ◌∷◌, refl, ap, ◌∙◌}
 use Rattle.std.specs.List.{list_any}
 use Rattle.ancestry.specs.Nodes.{Node}
-use Rattle.bug_record.specs.Sets.{has}
+use Rattle.bug_record.specs.Sets.{has, IsAscending, number_set}
 use Rattle.bug_record.specs.Marks.{node_set}
 use Rattle.ancestry.specs.Trees.{has_node}
 use Rattle.bug_record.specs.Bugs.{all_of}
-use Rattle.bug_record.specs.Merges.{all_merged}
+use Rattle.bug_record.specs.Merges.{all_merged, joined_blockers}
 use Rattle.bug_record.specs.declared.bug.Bug.{Bug}
-use Rattle.bug_record.proofs.SetLemmas.{has-append, has-number_set}
+use Rattle.bug_record.proofs.SetLemmas.{has-append, has-filter, has-number_set, IsAscending-filter, IsAscending-number_set}
 use Rattle.bug_record.proofs.MarkLemmas.{has_node-append, has-node_set}
 
 -- what is in what bugs have together
@@ -29,3 +29,15 @@ has-all_merged bugs m = has-number_set (all_of (λ b. b.merged) bugs) m ∙ has-
 pub has-joined_nodes : (f : Bug → List Node) (bugs : List Bug) (n : Node)
     → has_node (node_set (all_of f bugs)) n ≡ list_any (λ b. has_node (f b) n) bugs
 has-joined_nodes f bugs n = has-node_set (all_of f bugs) n ∙ has_node-all_of f bugs n
+
+-- its blockers: those that some bug has, and that are not merged with one of them
+pub has-joined_blockers : (bugs : List Bug) (n : ℕ)
+    → has (joined_blockers bugs) n ≡ (list_any (λ b. has b.shared.blockers n) bugs && not (list_any (λ b. has b.merged n) bugs))
+has-joined_blockers bugs n =
+    has-filter (λ n. not (has (all_merged bugs) n)) (number_set (all_of (λ b. b.shared.blockers) bugs)) n
+    ∙ (λ j. (has-number_set (all_of (λ b. b.shared.blockers) bugs) n ∙ has-all_of (λ b. b.shared.blockers) bugs n) j
+    && not (has-all_merged bugs n j))
+
+pub ascending-joined_blockers : (bugs : List Bug) → IsAscending (joined_blockers bugs)
+ascending-joined_blockers bugs = IsAscending-filter (λ n. not (has (all_merged bugs) n))
+    (number_set (all_of (λ b. b.shared.blockers) bugs)) (IsAscending-number_set (all_of (λ b. b.shared.blockers) bugs))

@@ -11,7 +11,7 @@ use Rattle.bug_record.specs.Tags.{tag_place}
 use Rattle.bug_record.specs.Marks.{IsNodeSet}
 use Rattle.bug_record.specs.Tags.{tag_place}
 use Rattle.bug_record.specs.Texts.{IsGoodText, IfGiven}
-use Rattle.bug_record.specs.Desk.{Desk, IsSound, IsMergedWith, IsGoodShared}
+use Rattle.bug_record.specs.Desk.{Desk, IsSound, IsMergedWith, IsGoodShared, AreGoodBlockers}
 use Rattle.bug_record.specs.declared.bug.Shared.{Shared}
 use Rattle.bug_record.specs.declared.bug.Bug.{Bug}
 
@@ -52,5 +52,8 @@ IsGoodShared-prop f =
       IsNodeSet-prop f.fixed,
     )
 
+AreGoodBlockers-prop : (d : Desk) (merged blockers : List ℕ) → IsProp (AreGoodBlockers d merged blockers)
+AreGoodBlockers-prop d merged blockers = hlevel (props, IsAscending-prop)
+
 pub IsSound-prop : (d : Desk) → IsProp (IsSound d)
-IsSound-prop d = hlevel (props, IsAscending-prop, IsMergedWith-prop, IsGoodShared-prop, IsForest-prop)
+IsSound-prop d = hlevel (props, IsAscending-prop, IsMergedWith-prop, IsGoodShared-prop, AreGoodBlockers-prop, IsForest-prop)

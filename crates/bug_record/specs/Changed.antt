@@ -27,7 +27,8 @@ abbrev pub same_shared : Shared → Shared → Bool
 same_shared s t =
     (bytes_eq s.package t.package && (rank s.severity == rank t.severity)) && same_state s t
     && (same_text s.forwarded t.forwarded && same_text s.owner t.owner && same_tags s.tags t.tags)
-    && (same_nodes s.found t.found && same_nodes s.fixed t.fixed && same_flag s.archived t.archived)
+    && (same_nodes s.found t.found && same_nodes s.fixed t.fixed)
+    && (bytes_eq s.blockers t.blockers && same_flag s.archived t.archived)
 
 abbrev pub same_bugs : Bug → Bug → Bool
 same_bugs a b = (bytes_eq a.title b.title && bytes_eq a.submitter b.submitter)

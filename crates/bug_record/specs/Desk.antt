@@ -1,5 +1,5 @@
 -- A desk: bugs that each have their own whole record.
-use Rattle.std.specs.Prelude.{ℕ, ◌≡◌, ◌<◌, ◌≤◌, true, Option, Some, None}
+use Rattle.std.specs.Prelude.{ℕ, ◌≡◌, ◌≢◌, ◌<◌, ◌≤◌, true, false, List, Option, Some, None}
 use Rattle.debver.specs.Names.{IsName}
 use Rattle.ancestry.specs.Trees.{Ancestry, IsForest}
 use Rattle.bug_record.specs.Sets.{has, IsAscending}
@@ -36,6 +36,12 @@ pub record HasGoodTexts (b : Bug) : Type 0 where
   pub submitter : IsGoodText b.submitter
   pub shared : IsGoodShared b.shared
 
+-- A bug's blockers: bugs that are there, ascending, none of which is merged with it.
+pub record AreGoodBlockers (d : Desk) (merged blockers : List ℕ) : Type 0 where
+  pub ascending : IsAscending blockers
+  pub there : (n : ℕ) → has blockers n ≡ true → d.bug n ≢ None
+  pub outside : (n : ℕ) → has blockers n ≡ true → has merged n ≡ false
+
 -- What a desk keeps. This project's own rule.
 pub record IsSound (d : Desk) : Type 0 where
   -- a bug is merged with itself, and the numbers ascend
@@ -45,6 +51,8 @@ pub record IsSound (d : Desk) : Type 0 where
   pub agree : (n m : ℕ) (b : Bug) → d.bug n ≡ Some b → has b.merged m ≡ true → IsMergedWith b (d.bug m)
   -- every text, package name and node is within its limits, and every text is UTF-8
   pub texts : (n : ℕ) (b : Bug) → d.bug n ≡ Some b → HasGoodTexts b
+  -- blockers are bugs of the desk, and of other sets
+  pub blockers : (n : ℕ) (b : Bug) → d.bug n ≡ Some b → AreGoodBlockers d b.merged b.shared.blockers
   -- numbers are from 1 to below the next one, which is from 1 to 1,000,000,000
   pub in_range : (n : ℕ) (b : Bug) → d.bug n ≡ Some b → (0 < n) × (n < d.next)
   -- every node has a line to its root, of known nodes

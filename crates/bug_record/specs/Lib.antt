@@ -16,6 +16,7 @@ pub mod Steps
 pub mod Images
 pub mod Plans
 pub mod Changed
+pub mod Waiting
 -- definitions that only private functions cite
 pub mod Places
 pub mod Kept

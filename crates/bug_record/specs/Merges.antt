@@ -1,5 +1,5 @@
 -- Merging bugs, and taking one out of its set (the BTS page 'control and manipulation'; what
--- becomes of owners and marks is this project's own rule).
+-- becomes of owners, marks and blockers is this project's own rule).
 use Rattle.std.specs.Prelude.{ℕ, ◌==◌, not, List, [], ◌∷◌, filter, Option, None, Result, Ok, Err, if◌then◌else◌}
 use Rattle.std.specs.List.{list_any}
 use Rattle.std.specs.Option.{option_or}
@@ -25,20 +25,25 @@ first_owner (b ∷ bugs) = option_or b.shared.owner (first_owner bugs)
 abbrev pub joined_tags : List Bug → List Tag
 joined_tags bugs = filter (λ tag. list_any (λ b. has_tag b.shared.tags tag) bugs) all_tags
 
+-- the numbers of all bugs that are merged with some of these
+abbrev pub all_merged : List Bug → List ℕ
+all_merged bugs = number_set (all_of (λ b. b.merged) bugs)
+
+-- the blockers that some bug has, but for those that are merged with one of the bugs
+abbrev pub joined_blockers : List Bug → List ℕ
+joined_blockers bugs = filter (λ n. not (has (all_merged bugs) n)) (number_set (all_of (λ b. b.shared.blockers) bugs))
+
 -- The shared fields of merged bugs: package, severity, state, forwarded and being archived are
--- those of the first, the owner is that of the first that has one, and a tag or a mark is there
--- where some bug has it.
+-- those of the first, the owner is that of the first that has one, a tag or a mark is there where
+-- some bug has it, and so is a blocker that is not one of the merged bugs.
 abbrev pub joined_shared : Shared → List Bug → Shared
 joined_shared first bugs = record first {
   owner = first_owner bugs;
   tags = joined_tags bugs;
   found = node_set (all_of (λ b. b.shared.found) bugs);
   fixed = node_set (all_of (λ b. b.shared.fixed) bugs);
+  blockers = joined_blockers bugs;
 }
-
--- the numbers of all bugs that are merged with some of these
-abbrev pub all_merged : List Bug → List ℕ
-all_merged bugs = number_set (all_of (λ b. b.merged) bugs)
 
 -- these numbers become one set, with these shared fields
 abbrev pub with_merged : Desk → List ℕ → Shared → Desk

@@ -33,3 +33,8 @@ with_item number (y ∷ ys) x =
 abbrev pub number_set : List ℕ → List ℕ
 number_set [] = []
 number_set (n ∷ ns) = with_item (λ k. k) (number_set ns) n
+
+-- an ascending list with all items of a list, each in its place, unless there is one of its number
+abbrev pub with_items : {T : Type 0} → (T → ℕ) → List T → List T → List T
+with_items number set [] = set
+with_items number set (x ∷ xs) = with_items number (with_item number set x) xs

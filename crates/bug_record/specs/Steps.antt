@@ -2,17 +2,18 @@
 -- `found n v` opens a bug, what an open bug's `reopen` and a `reassign` to the bug's own package
 -- do, and which bugs `archive` takes, is this project's own rule).
 use Rattle.std.specs.Prelude.{ℕ, ◌+◌, ◌==◌, ◌&&◌, false, true, List, [], ◌∷◌, Option, Some, None, Result, Ok, unwrap_or}
-use Rattle.std.specs.Prelude.{option_map, if◌then◌else◌}
+use Rattle.std.specs.Prelude.{◌++◌, not, filter, option_map, if◌then◌else◌}
 use Rattle.std.specs.Str.{bytes_eq}
 use Rattle.line_words.specs.declared.named.Named.{Named}
 use Rattle.ancestry.specs.Nodes.{Node}
-use Rattle.bug_record.specs.Sets.{has}
+use Rattle.std.specs.List.{find}
+use Rattle.bug_record.specs.Sets.{has, number_set}
 use Rattle.bug_record.specs.Marks.{with_node, without_node, is_below_some}
 use Rattle.bug_record.specs.Tags.{with_tag, without_tag}
 use Rattle.bug_record.specs.Desk.{Desk}
-use Rattle.bug_record.specs.Commands.{node_meant, person, bug_named, bugs_named, command_over}
+use Rattle.bug_record.specs.Commands.{node_meant, person, bug_named, command_over}
 use Rattle.bug_record.specs.Bugs.{each_bug, at_bug, unless, first_of}
-use Rattle.bug_record.specs.Words.{Names, meaning, first_word_refusal, may_be_archived, number_by}
+use Rattle.bug_record.specs.Words.{Names, meaning, words_refusal, number_by}
 use Rattle.bug_record.specs.Heads.{open_head}
 use Rattle.bug_record.specs.Differences.{first_difference, package_difference}
 use Rattle.bug_record.specs.Merges.{sets_joined, unmerged}
@@ -25,7 +26,7 @@ use Rattle.bug_record.specs.declared.command.VersionArg.{VersionArg}
 use Rattle.bug_record.specs.declared.command.TagStep.{TagStep}
 use Rattle.bug_record.specs.declared.command.TagStep.TheVariants.{Add, Remove, Clear}
 use Rattle.bug_record.specs.declared.command.Refusal.{Refusal}
-use Rattle.bug_record.specs.declared.command.Refusal.TheVariants.{NotArchived, NotDone, StillFound}
+use Rattle.bug_record.specs.declared.command.Refusal.TheVariants.{NotArchived, OwnSet, NotDone, StillFound}
 use Rattle.bug_record.specs.declared.tag.Tag.{Tag}
 
 -- marked as found at n, and not as fixed there
@@ -58,6 +59,14 @@ abbrev pub reassigned : List ℕ → Option VersionArg → Shared → Shared
 reassigned package_name None f = moved_to package_name f
 reassigned package_name (Some version) f = marked_found (node_meant package_name version) (moved_to package_name f)
 
+-- blocked by these bugs too
+abbrev pub blocked_by : List ℕ → Shared → Shared
+blocked_by ns f = record f { blockers = number_set (f.blockers ++ ns) }
+
+-- blocked by none of these bugs
+abbrev pub unblocked_by : List ℕ → Shared → Shared
+unblocked_by ns f = record f { blockers = filter (λ n. not (has ns n)) f.blockers }
+
 -- the tags after these steps, taken in the order written
 abbrev pub tags_after : List TagStep → List Tag → List Tag
 tags_after [] tags = tags
@@ -83,6 +92,8 @@ shared_after sender (commands.Forwarded n text) f = record f { forwarded = Some 
 shared_after sender (commands.NotForwarded n) f = record f { forwarded = None }
 shared_after sender (commands.Owner n who) f = record f { owner = Some (person sender who) }
 shared_after sender (commands.NoOwner n) f = record f { owner = None }
+shared_after sender (commands.Block n ns) f = blocked_by ns f
+shared_after sender (commands.Unblock n ns) f = unblocked_by ns f
 shared_after sender (commands.Archive n) f = record f { archived = true }
 shared_after sender (commands.Unarchive n) f = record f { archived = false }
 shared_after sender (commands.Retitle n text) f = f
@@ -107,6 +118,8 @@ new_title (commands.Reassign n package_name version) m = None
 new_title (commands.Merge n ns) m = None
 new_title (commands.ForceMerge n ns) m = None
 new_title (commands.Unmerge n) m = None
+new_title (commands.Block n ns) m = None
+new_title (commands.Unblock n ns) m = None
 new_title (commands.Forwarded n text) m = None
 new_title (commands.NotForwarded n) m = None
 new_title (commands.Owner n who) m = None
@@ -132,6 +145,8 @@ new_submitter sender (commands.Reassign n package_name version) f m = None
 new_submitter sender (commands.Merge n ns) f m = None
 new_submitter sender (commands.ForceMerge n ns) f m = None
 new_submitter sender (commands.Unmerge n) f m = None
+new_submitter sender (commands.Block n ns) f m = None
+new_submitter sender (commands.Unblock n ns) f m = None
 new_submitter sender (commands.Forwarded n text) f m = None
 new_submitter sender (commands.NotForwarded n) f m = None
 new_submitter sender (commands.Owner n who) f m = None
@@ -148,18 +163,20 @@ change_set d n f title who = each_bug d (λ m b. record b {
   submitter = if has b.merged n then unwrap_or (who b.shared m) b.submitter else b.submitter;
 })
 
--- What the tests of a command that changes records come to, in their order, of a bug with these
--- shared fields of which this is the open head; those of `merge` and `unmerge` are in `Merges`.
-abbrev pub own_tests : Command ℕ → Option Node → Shared → List (Option Refusal)
-own_tests (commands.Archive n) head f = (if f.closed then None else Some (NotDone n)) ∷ option_map StillFound head ∷ []
-own_tests (commands.Unarchive n) head f = (if f.archived then None else Some (NotArchived n)) ∷ []
-own_tests command head f = []
+-- What the tests of a command that changes records come to, in their order, of a bug of which this is
+-- the open head, which is merged with these bugs and has these shared fields; those of `merge` and
+-- `unmerge` are in `Merges`.
+abbrev pub own_tests : Command ℕ → Option Node → List ℕ → Shared → List (Option Refusal)
+own_tests (commands.Block n ns) head merged f = option_map OwnSet (find (has merged) ns) ∷ []
+own_tests (commands.Archive n) head merged f = (if f.closed then None else Some (NotDone n)) ∷ option_map StillFound head ∷ []
+own_tests (commands.Unarchive n) head merged f = (if f.archived then None else Some (NotArchived n)) ∷ []
+own_tests command head merged f = []
 
 -- a command that changes records, and no set, after its own tests; `head_of` gives open heads
 abbrev pub records_changed : (Shared → Option Node) → List ℕ → Command ℕ → Desk → Result Desk Refusal
 records_changed head_of sender command d =
     at_bug (d.bug (bug_named command)) (bug_named command)
-    (λ b. unless (first_of (own_tests command (head_of b.shared) b.shared))
+    (λ b. unless (first_of (own_tests command (head_of b.shared) b.merged b.shared))
     (Ok (change_set d (bug_named command) (shared_after sender command) (new_title command) (new_submitter sender command))))
 
 -- what a command of this sender comes to, none of whose bug words is refused
@@ -178,6 +195,8 @@ carried_out head_of d sender (commands.Tags n steps) = records_changed head_of s
 carried_out head_of d sender (commands.Retitle n text) = records_changed head_of sender (commands.Retitle n text) d
 carried_out head_of d sender (commands.Submitter n who) = records_changed head_of sender (commands.Submitter n who) d
 carried_out head_of d sender (commands.Reassign n package_name version) = records_changed head_of sender (commands.Reassign n package_name version) d
+carried_out head_of d sender (commands.Block n ns) = records_changed head_of sender (commands.Block n ns) d
+carried_out head_of d sender (commands.Unblock n ns) = records_changed head_of sender (commands.Unblock n ns) d
 carried_out head_of d sender (commands.Forwarded n text) = records_changed head_of sender (commands.Forwarded n text) d
 carried_out head_of d sender (commands.NotForwarded n) = records_changed head_of sender (commands.NotForwarded n) d
 carried_out head_of d sender (commands.Owner n who) = records_changed head_of sender (commands.Owner n who) d
@@ -189,7 +208,7 @@ carried_out head_of d sender (commands.Unarchive n) = records_changed head_of se
 -- bugs have these open heads: the first refusal of a bug word, or else what the command comes to.
 abbrev pub step_by : {N : Type 0} → (N → Result ℕ Refusal) → (Shared → Option Node) → Desk → List ℕ → Command N → Result Desk Refusal
 step_by means head_of d sender command =
-    unless (first_word_refusal (may_be_archived command) means d.bug (bugs_named command))
+    unless (words_refusal means d.bug command)
     (carried_out head_of d sender (command_over (number_by means) command))
 
 -- of a command over bug words, where these names are known
@@ -221,6 +240,7 @@ new_bug number sender package_name severity title node = record {
         [];
     found = found_first node;
     fixed = [];
+    blockers = [];
     archived = false;
   };
   merged = number ∷ [];

@@ -6,6 +6,7 @@ use Rattle.std.specs.Option.{option_or}
 use Rattle.std.specs.Result.{result_unwrap_or}
 use Rattle.line_words.specs.declared.named.Named.{Named}
 use Rattle.line_words.specs.declared.named.Named.TheVariants.{Number, Name}
+use Rattle.bug_record.specs.Commands.{bug_named, other_bugs}
 use Rattle.bug_record.specs.declared.bug.Bug.{Bug}
 use Rattle.bug_record.specs.declared.bug.Shared.{Shared}
 use Rattle.bug_record.specs.declared.command.Command.{Command}
@@ -50,10 +51,22 @@ first_word_refusal may_be means bug (word ∷ words) =
 abbrev pub first_bug_refusal : Bool → (ℕ → Option Bug) → List ℕ → Option Refusal
 first_bug_refusal may_be bug ns = first_word_refusal may_be (λ n. Ok n) bug ns
 
--- whether the bugs that a command names may be archived: the bug of `unarchive` alone
+-- whether the bug that a command names first may be archived: that of `unarchive` alone
 abbrev pub may_be_archived : {N : Type 0} → Command N → Bool
 may_be_archived (commands.Unarchive n) = true
 may_be_archived command = false
+
+-- whether those that it names besides may be: blockers alone
+abbrev pub others_may_be_archived : {N : Type 0} → Command N → Bool
+others_may_be_archived (commands.Block n ns) = true
+others_may_be_archived (commands.Unblock n ns) = true
+others_may_be_archived command = false
+
+-- the first refusal of a command's bug words, from the left
+abbrev pub words_refusal : {N : Type 0} → (N → Result ℕ Refusal) → (ℕ → Option Bug) → Command N → Option Refusal
+words_refusal means bug command =
+    option_or (word_refusal (may_be_archived command) bug (means (bug_named command)))
+    (first_word_refusal (others_may_be_archived command) means bug (other_bugs command))
 
 -- the number that a bug word means, where it means one
 abbrev pub number_by : {N : Type 0} → (N → Result ℕ Refusal) → N → ℕ

@@ -26,6 +26,8 @@ pub struct Shared {
     pub found: Nodes,
     /// The nodes that are marked as not having it.
     pub fixed: Nodes,
+    /// The bugs on which this one waits.
+    pub blockers: Numbers,
     pub archived: bool,
 }
 
@@ -86,6 +88,7 @@ impl Shared {
             tags: self.tags.copy()?,
             found: self.found.copy()?,
             fixed: self.fixed.copy()?,
+            blockers: self.blockers.copy()?,
             archived: self.archived,
         })
     }

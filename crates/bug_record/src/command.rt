@@ -79,6 +79,10 @@ pub enum Command<N> {
     ForceMerge(N, Sequence<N>),
     /// `unmerge n`: takes the bug out of its set. The others stay together.
     Unmerge(N),
+    /// `block n by m ..`: the bug waits on these bugs too.
+    Block(N, Sequence<N>),
+    /// `unblock n by m ..`: the bug waits on none of these.
+    Unblock(N, Sequence<N>),
     /// `forwarded n text`: the bug was forwarded to this address.
     Forwarded(N, Text),
     /// `notforwarded n`: the bug was forwarded to nobody.
@@ -132,6 +136,8 @@ impl Command<u64> {
             | Command::Merge(_, _)
             | Command::ForceMerge(_, _)
             | Command::Unmerge(_)
+            | Command::Block(_, _)
+            | Command::Unblock(_, _)
             | Command::NotForwarded(_)
             | Command::NoOwner(_)
             | Command::Archive(_)
@@ -179,6 +185,8 @@ pub enum Refusal {
     Differ(Field, u64),
     /// The bug is merged with no other.
     NotMerged(u64),
+    /// The bug that is to block another is merged with it, or is that bug.
+    OwnSet(u64),
     /// The bug that is to be archived is open.
     NotDone(u64),
     /// The bug that is to be archived is still found at this node, the first such head of its

@@ -15,7 +15,8 @@ ghost use Rattle.bug_record.specs.declared.bug.Shared.{Shared};
 ghost use Rattle.bug_record.specs.declared.tag.Tag.{Tag};
 
 /// Merged bugs have together what some of them has: a bug is merged with them where it is merged
-/// with one of them, and a tag or a mark is theirs where one of them has it.
+/// with one of them, a tag or a mark is theirs where one of them has it, and so is a blocker that is
+/// merged with none of them.
 pub fn joined_by_membership()
     ensures merged { (bugs : List Bug) (m : ℕ) → has (all_merged bugs) m ≡ list_any (λ b. has b.merged m) bugs }
     ensures tags { (bugs : List Bug) (t : Tag) → has_tag (joined_tags bugs) t ≡ list_any (λ b. has_tag b.shared.tags t) bugs }
@@ -23,14 +24,19 @@ pub fn joined_by_membership()
         has_node (joined_shared first bugs).found n ≡ list_any (λ b. has_node b.shared.found n) bugs }
     ensures fixed { (first : Shared) (bugs : List Bug) (n : Node) →
         has_node (joined_shared first bugs).fixed n ≡ list_any (λ b. has_node b.shared.fixed n) bugs }
+    ensures blockers { (first : Shared) (bugs : List Bug) (n : ℕ) →
+        has (joined_shared first bugs).blockers n
+        ≡ (list_any (λ b. has b.shared.blockers n) bugs && not (list_any (λ b. has b.merged n) bugs)) }
 {}
 
-/// The bugs, the tags and the marks of a joined set are sets: each item stands in its place, once.
+/// The bugs, the tags, the marks and the blockers of a joined set are sets: each item stands in its
+/// place, once.
 pub fn joined_are_sets()
     ensures merged { (bugs : List Bug) → IsAscending (all_merged bugs) }
     ensures tags { (bugs : List Bug) → IsTagSet (joined_tags bugs) }
     ensures found { (first : Shared) (bugs : List Bug) → IsStrictlySortedBy node_cmp (joined_shared first bugs).found }
     ensures fixed { (first : Shared) (bugs : List Bug) → IsStrictlySortedBy node_cmp (joined_shared first bugs).fixed }
+    ensures blockers { (first : Shared) (bugs : List Bug) → IsAscending (joined_shared first bugs).blockers }
 {}
 
 /// A node is in the list with n where it is in the list or is n, and it is in the list without n

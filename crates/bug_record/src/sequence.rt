@@ -9,9 +9,11 @@ use std::alloc::{AllocError, Global};
 use std::marker::Model;
 
 mod nodes;
+mod numbers;
 mod tags;
 
 pub use nodes::Nodes;
+pub use numbers::{Numbers, add_number, add_numbers, number_set};
 
 /// A list of values, which contracts see as that list.
 #[derive(Debug, Drop)]
@@ -144,28 +146,5 @@ impl<T: Numbered + Drop> Sequence<T> {
         }
         self.items.insert(place, item)?;
         Ok(())
-    }
-}
-
-/// A set of numbers, kept ascending.
-pub type Numbers = Sequence<u64>;
-
-impl Sequence<u64> {
-    /// The list of one number.
-    pub fn one(alloc: Global, number: u64) -> Result<Sequence<u64>, AllocError>
-        ensures { IfOk result (λ r. r ≡ number ∷ []) }
-    {
-        let mut items = Vec::new(alloc);
-        items.push(number)?;
-        Ok(Sequence { items })
-    }
-
-    /// An equal value of its own.
-    pub fn copy(&self) -> Result<Sequence<u64>, AllocError>
-        ensures { IfOk result (λ r. r ≡ self.now) }
-    {
-        Ok(Sequence {
-            items: Vec::from_slice(*self.items.allocator(), self.items.as_slice())?,
-        })
     }
 }

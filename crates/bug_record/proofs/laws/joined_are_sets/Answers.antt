@@ -1,5 +1,6 @@
 use Rattle.bug_record.specs.Bugs.{all_of}
 use Rattle.bug_record.proofs.SetLemmas.{IsAscending-number_set}
+use Rattle.bug_record.proofs.MergeLemmas.{ascending-joined_blockers}
 use Rattle.bug_record.proofs.MarkLemmas.{sorted-node_set}
 use Rattle.bug_record.proofs.TagLemmas.{set-joined_tags}
 use Rattle.bug_record.proofs.laws.joined_are_sets.Goals as goal
@@ -15,3 +16,6 @@ returns-clause-found c = λ first bugs. sorted-node_set (all_of (λ b. b.shared.
 
 pub returns-clause-fixed : goal.returns-clause-fixed
 returns-clause-fixed c = λ first bugs. sorted-node_set (all_of (λ b. b.shared.fixed) bugs)
+
+pub returns-clause-blockers : goal.returns-clause-blockers
+returns-clause-blockers c = λ first bugs. ascending-joined_blockers bugs

@@ -1,4 +1,4 @@
-use Rattle.bug_record.proofs.MergeLemmas.{has-all_merged, has-joined_nodes}
+use Rattle.bug_record.proofs.MergeLemmas.{has-all_merged, has-joined_nodes, has-joined_blockers}
 use Rattle.bug_record.proofs.TagLemmas.{has-joined_tags}
 use Rattle.bug_record.proofs.laws.joined_by_membership.Goals as goal
 
@@ -13,3 +13,6 @@ returns-clause-found c = λ first bugs n. has-joined_nodes (λ b. b.shared.found
 
 pub returns-clause-fixed : goal.returns-clause-fixed
 returns-clause-fixed c = λ first bugs n. has-joined_nodes (λ b. b.shared.fixed) bugs n
+
+pub returns-clause-blockers : goal.returns-clause-blockers
+returns-clause-blockers c = λ first bugs n. has-joined_blockers bugs n
