@@ -1,9 +1,10 @@
 -- A command keeps the limits of shared fields, and those of titles and submitters.
 use Rattle.std.proofs.Common.{ℕ, Bool, true, false, cond, eqb, List, [], ◌∷◌, Option, Some, None}
-use Rattle.std.specs.Prelude.{unwrap_or}
+use Rattle.std.specs.Prelude.{◌++◌, not, filter, unwrap_or}
 use Rattle.std.specs.Str.{bytes_eq}
 use Rattle.debver.specs.Names.{IsName}
 use Rattle.ancestry.specs.Nodes.{Node, IsNode}
+use Rattle.bug_record.specs.Sets.{has, number_set}
 use Rattle.bug_record.specs.Texts.{IsGoodText, IfGiven}
 use Rattle.bug_record.specs.Marks.{IsNodeSet, with_node, without_node}
 use Rattle.bug_record.specs.Tags.{IsTagSet, with_tag, without_tag}
@@ -127,6 +128,19 @@ good-archived archived f h =
           h.fixed;
     }
 
+-- fields of other blockers
+good-blockers : (blockers : List ℕ) (f : Shared) → IsGoodShared f → IsGoodShared (record f { blockers = blockers })
+good-blockers blockers f h =
+    record {
+      package_name = h.package_name;
+      forwarded = h.forwarded;
+      owner = h.owner;
+      tags = h.tags;
+      found = h.found;
+      fixed =
+          h.fixed;
+    }
+
 -- who is meant is a text
 good-person : (sender : List ℕ) (who : Who) → IsGoodText sender → IsGoodPerson who → IsUtf8Person who
     → IsGoodText (person sender who)
@@ -177,6 +191,8 @@ good-shared_after sender (commands.Reassign n package_name version) text good ut
 good-shared_after sender (commands.Merge n ns) text good utf8 f h = h
 good-shared_after sender (commands.ForceMerge n ns) text good utf8 f h = h
 good-shared_after sender (commands.Unmerge n) text good utf8 f h = h
+good-shared_after sender (commands.Block n ns) text good utf8 f h = good-blockers (number_set (f.blockers ++ ns)) f h
+good-shared_after sender (commands.Unblock n ns) text good utf8 f h = good-blockers (filter (λ m. not (has ns m)) f.blockers) f h
 good-shared_after sender (commands.Forwarded n address) text good utf8 f h = good-forwarded (Some address) f (good, utf8) h
 good-shared_after sender (commands.NotForwarded n) text good utf8 f h = good-forwarded None f tt h
 good-shared_after sender (commands.Owner n who) text good utf8 f h =
@@ -202,6 +218,8 @@ good-new_title (commands.Reassign n package_name version) good utf8 m = tt
 good-new_title (commands.Merge n ns) good utf8 m = tt
 good-new_title (commands.ForceMerge n ns) good utf8 m = tt
 good-new_title (commands.Unmerge n) good utf8 m = tt
+good-new_title (commands.Block n ns) good utf8 m = tt
+good-new_title (commands.Unblock n ns) good utf8 m = tt
 good-new_title (commands.Forwarded n address) good utf8 m = tt
 good-new_title (commands.NotForwarded n) good utf8 m = tt
 good-new_title (commands.Owner n who) good utf8 m = tt
@@ -230,6 +248,8 @@ good-new_submitter sender (commands.Reassign n package_name version) h good utf8
 good-new_submitter sender (commands.Merge n ns) h good utf8 f m = tt
 good-new_submitter sender (commands.ForceMerge n ns) h good utf8 f m = tt
 good-new_submitter sender (commands.Unmerge n) h good utf8 f m = tt
+good-new_submitter sender (commands.Block n ns) h good utf8 f m = tt
+good-new_submitter sender (commands.Unblock n ns) h good utf8 f m = tt
 good-new_submitter sender (commands.Forwarded n address) h good utf8 f m = tt
 good-new_submitter sender (commands.NotForwarded n) h good utf8 f m = tt
 good-new_submitter sender (commands.Owner n who) h good utf8 f m = tt

@@ -1,3 +1,4 @@
+pub mod BlockerLemmas
 pub mod NodeLemmas
 pub mod FieldLemmas
 pub mod MemberLemmas

@@ -4,7 +4,7 @@ ghost use Rattle.std.specs.Prelude.{◌≡◌, if◌then◌else◌, Some, None, 
 ghost use Rattle.bug_record.specs.Commands.{node_meant, person, IsGoodVersion, HasGoodParts};
 ghost use Rattle.bug_record.specs.Marks.{without_node};
 ghost use Rattle.bug_record.specs.Texts.{IfGiven};
-ghost use Rattle.bug_record.specs.Steps.{marked_fixed, opened, moved_to, reassigned, shared_after};
+ghost use Rattle.bug_record.specs.Steps.{marked_fixed, opened, moved_to, reassigned, blocked_by, unblocked_by, shared_after};
 ghost use Rattle.record_changes.specs.Fields.{found_in, closed_in, IsVersionFault};
 
 use crate::tags::take_steps;
@@ -178,6 +178,20 @@ fn clear_owner(shared: &mut Shared)
     shared.owner = None;
 }
 
+// A bug waits on these bugs too.
+fn add_blockers(shared: &mut Shared, numbers: &[u64]) -> Result<(), AllocError>
+    ensures { OnOk result (shared.new ≡ blocked_by numbers.now shared.old) }
+{
+    shared.blockers.add_all(numbers)
+}
+
+// A bug waits on none of these.
+fn remove_blockers(shared: &mut Shared, numbers: &[u64]) -> Result<(), AllocError>
+    ensures { OnOk result (shared.new ≡ unblocked_by numbers.now shared.old) }
+{
+    shared.blockers.remove_all(numbers)
+}
+
 // Puts a bug into the archive, or takes it out.
 fn set_archived(shared: &mut Shared, archived: bool)
     ensures { shared.new ≡ record shared.old { archived = archived } }
@@ -210,6 +224,8 @@ fn change(
         Command::NotForwarded(_) => clear_forwarded(shared),
         Command::Owner(_, who) => set_owner(alloc, shared, from, who)?,
         Command::NoOwner(_) => clear_owner(shared),
+        Command::Block(_, numbers) => add_blockers(shared, numbers.as_slice())?,
+        Command::Unblock(_, numbers) => remove_blockers(shared, numbers.as_slice())?,
         Command::Archive(_) => set_archived(shared, true),
         Command::Unarchive(_) => set_archived(shared, false),
         Command::Retitle(_, _)
