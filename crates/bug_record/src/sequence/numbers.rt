@@ -71,6 +71,13 @@ impl Sequence<u64> {
         Ok(())
     }
 
+    /// Takes the numbers of a set out.
+    pub fn remove_set(&mut self, set: &BTreeSet<u64>)
+        ensures { self.new ≡ filter (λ n. not (has set.now.keys n)) self.old }
+    {
+        self.items.retain(|number| !set.contains(number));
+    }
+
     /// Takes these numbers out.
     /// Where there is no memory, the list is as before.
     pub fn remove_all(&mut self, numbers: &[u64]) -> Result<(), AllocError>
@@ -78,7 +85,7 @@ impl Sequence<u64> {
         ensures err { OnErr result (self.new ≡ self.old) }
     {
         let set = number_set(*self.items.allocator(), numbers)?;
-        self.items.retain(|number| !set.contains(number));
+        self.remove_set(&set);
         Ok(())
     }
 

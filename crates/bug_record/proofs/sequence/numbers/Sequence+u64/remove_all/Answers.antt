@@ -1,18 +1,11 @@
-use Rattle.std.proofs.Common.{◌≡◌, ℕ, List, ap, ◌∙◌, rules}
+use Rattle.std.proofs.Common.{◌≡◌, ℕ, List, ap, ◌∙◌}
 use Rattle.std.specs.Prelude.{not, filter}
-use Rattle.std.specs.List.{list_any}
-use Rattle.std.specs.Ordering.{nat_cmp}
-use Rattle.std.specs.BTreeMap.{is_at}
-use Rattle.std.proofs.lemmas.Fn.{filter_same}
-use Rattle.bug_record.specs.Sets.{has, number_set}
+use Rattle.bug_record.specs.Sets.{has}
 use Rattle.bug_record.proofs.SetLemmas.{has-number_set}
-use Rattle.bug_record.proofs.OrderedLemmas.{has-key}
 use Rattle.bug_record.proofs.sequence.numbers.Sequence+u64.remove_all.Goals as goal
 
 pub returns-clause-ok : goal.returns-clause-ok
 returns-clause-ok c =
-    filter_same _ (λ n. not (list_any (is_at (nat_cmp n)) c.in_ok-set.set.keys)) _ (λ x b f' k. search rules) _ _
-    c.retain.ensures.filtered
-    ∙ (λ j. filter (λ n. not ((has-key c.in_ok-set.set.keys n
-    ∙ ap (λ ks. has ks n) c.in_ok-set.ensures ∙ has-number_set c.args.numbers.now n) j)) c.self.inside.items.items)
-    ∙ ap (λ (ns : List ℕ). filter (λ n. not (has c.args.numbers.now n)) ns) c.self.view_is
+    c.remove_set.ensures
+    ∙ (λ j. filter (λ n. not ((ap (λ ks. has ks n) c.in_ok-set.ensures ∙ has-number_set c.args.numbers.now n) j))
+    c.args.self.now)
