@@ -96,19 +96,24 @@ abbrev one_person : Shared → Shared → Bool
 one_person s t = same_text s.forwarded t.forwarded && same_text s.owner t.owner
 
 abbrev one_history : Shared → Shared → Bool
-one_history s t = same_nodes s.found t.found && same_nodes s.fixed t.fixed && same_flag s.archived t.archived
+one_history s t = same_nodes s.found t.found && same_nodes s.fixed t.fixed
+
+abbrev one_place : Shared → Shared → Bool
+one_place s t = bytes_eq s.blockers t.blockers && same_flag s.archived t.archived
 
 -- the tests tell equal records
 same_shared-true : (s t : Shared) → same_shared s t ≡ true → s ≡ t
 same_shared-true s t e =
-    let p = and_parts (one_package s t && same_state s t && (one_person s t && same_tags s.tags t.tags)) (one_history s t) e in
+    let l = and_parts (one_package s t && same_state s t && (one_person s t && same_tags s.tags t.tags) && one_history s t)
+    (one_place s t) e in
+    let p = and_parts (one_package s t && same_state s t && (one_person s t && same_tags s.tags t.tags)) (one_history s t) l.0 in
     let q = and_parts (one_package s t && same_state s t) (one_person s t && same_tags s.tags t.tags) p.0 in
     let r = and_parts (one_package s t) (same_state s t) q.0 in
     let a = and_parts (bytes_eq s.«package» t.«package») (eqb (rank s.severity) (rank t.severity)) r.0 in
     let b = and_parts (one_person s t) (same_tags s.tags t.tags) q.1 in
     let c = and_parts (same_text s.forwarded t.forwarded) (same_text s.owner t.owner) b.0 in
-    let u = and_parts (same_nodes s.found t.found && same_nodes s.fixed t.fixed) (same_flag s.archived t.archived) p.1 in
-    let w = and_parts (same_nodes s.found t.found) (same_nodes s.fixed t.fixed) u.0 in
+    let w = and_parts (same_nodes s.found t.found) (same_nodes s.fixed t.fixed) p.1 in
+    let u = and_parts (bytes_eq s.blockers t.blockers) (same_flag s.archived t.archived) l.1 in
     λ j. record {
       «package» = bytes s.«package» t.«package» a.0 j;
       severity = same_severity s.severity t.severity (eqb-true (rank s.severity) (rank t.severity) a.1) j;
@@ -118,12 +123,15 @@ same_shared-true s t e =
       tags = (tags_decide s.tags t.tags).0 b.1 j;
       found = (nodes_decide s.found t.found).0 w.0 j;
       fixed = (nodes_decide s.fixed t.fixed).0 w.1 j;
+      blockers = bytes s.blockers t.blockers u.0 j;
       archived = same_closed s.archived t.archived u.1 j;
     }
 
 same_shared-refl : (s : Shared) → same_shared s s ≡ true
 same_shared-refl s =
-    and_from (one_package s s && same_state s s && (one_person s s && same_tags s.tags s.tags)) (one_history s s)
+    and_from (one_package s s && same_state s s && (one_person s s && same_tags s.tags s.tags) && one_history s s)
+    (one_place s s)
+    (and_from (one_package s s && same_state s s && (one_person s s && same_tags s.tags s.tags)) (one_history s s)
     (and_from (one_package s s && same_state s s) (one_person s s && same_tags s.tags s.tags)
     (and_from (one_package s s) (same_state s s)
     (and_from (bytes_eq s.«package» s.«package») (eqb (rank s.severity) (rank s.severity)) (bytes_refl s.«package»)
@@ -133,9 +141,9 @@ same_shared-refl s =
     (and_from (same_text s.forwarded s.forwarded) (same_text s.owner s.owner) (same_text-refl s.forwarded)
     (same_text-refl s.owner))
     ((tags_decide s.tags s.tags).1 refl)))
-    (and_from (same_nodes s.found s.found && same_nodes s.fixed s.fixed) (same_flag s.archived s.archived)
     (and_from (same_nodes s.found s.found) (same_nodes s.fixed s.fixed) ((nodes_decide s.found s.found).1 refl)
-    ((nodes_decide s.fixed s.fixed).1 refl))
+    ((nodes_decide s.fixed s.fixed).1 refl)))
+    (and_from (bytes_eq s.blockers s.blockers) (same_flag s.archived s.archived) (bytes_refl s.blockers)
     (closed_same s.archived))
 
 same_bugs-true : (a b : Bug) → same_bugs a b ≡ true → a ≡ b

@@ -1,7 +1,6 @@
 pub mod FindLemmas
 pub mod ImageLemmas
 pub mod IndexLemmas
-pub mod OrderedLemmas
 pub mod JoinLemmas
 pub mod ChangedLemmas
 pub mod KeptLemmas

@@ -116,17 +116,6 @@ fn add_images(
     Ok(())
 }
 
-// The numbers of a set, in order.
-fn in_order(alloc: Global, set: &BTreeSet<u64>) -> Result<Numbers, AllocError>
-    ensures { IfOk result (λ numbers. numbers ≡ set.now.keys) }
-{
-    let mut numbers = Sequence::new(alloc);
-    for number in set {
-        numbers.push(*number)?;
-    }
-    Ok(numbers)
-}
-
 // The numbers of the bugs that differ, of any images.
 fn changed_between(alloc: Global, old: &[SetImage], new: &[SetImage]) -> Result<Numbers, AllocError>
     ensures { IfOk result (λ r. AreChanged (bug_in old.now) (bug_in new.now) r) }
@@ -141,7 +130,7 @@ fn changed_between(alloc: Global, old: &[SetImage], new: &[SetImage]) -> Result<
     };
     add_images(&mut set, &mut last, &before, &after, new)?;
     add_images(&mut set, &mut last, &before, &after, old)?;
-    in_order(alloc, &set)
+    Sequence::in_order(alloc, &set)
 }
 
 // The numbers of the bugs that differ.

@@ -60,6 +60,7 @@ pub(crate) fn same_shared(a: &Shared, b: &Shared) -> bool
         && same_tags(a.tags.as_slice(), b.tags.as_slice())
         && same_nodes(a.found.as_slice(), b.found.as_slice())
         && same_nodes(a.fixed.as_slice(), b.fixed.as_slice())
+        && a.blockers == b.blockers
         && a.archived == b.archived
 }
 
