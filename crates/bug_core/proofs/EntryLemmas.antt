@@ -12,7 +12,7 @@ use Rattle.bug_record.specs.Sets.{has, Each, IsAscending, with_item}
 use Rattle.bug_record.specs.Images.{numbers_of}
 use Rattle.bug_record.specs.declared.bug.Member.{Member}
 use Rattle.bug_record.proofs.SetLemmas.{has-above}
-use Rattle.set_images.proofs.OrderedLemmas.{eq_cmp, chosen}
+use Rattle.bug_record.proofs.OrderedLemmas.{eq_cmp, chosen}
 use Rattle.bug_core.specs.Joins.{number_of, IsEntry, AreByNumber}
 use Rattle.bug_core.proofs.MemberLemmas.{ascending-with_item}
 

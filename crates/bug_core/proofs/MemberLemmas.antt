@@ -13,7 +13,8 @@ use Rattle.bug_record.specs.declared.bug.Member.{Member}
 use Rattle.bug_record.specs.declared.bug.SetImage.{SetImage}
 use Rattle.bug_record.proofs.SetLemmas.{IsAscending-with_item, has-above, AllAbove-below}
 use Rattle.bug_core.specs.Others.{has_any, is_meant, those_meant}
-use Rattle.bug_core.specs.Joins.{with_items, with_members, number_of}
+use Rattle.bug_record.specs.Sets.{with_items}
+use Rattle.bug_core.specs.Joins.{with_members, number_of}
 use Rattle.set_images.proofs.ImageLemmas.{none_left, none_right, none_map, has-member_some, no_member-has}
 
 -- the numbers of members with one more

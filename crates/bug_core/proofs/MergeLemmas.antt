@@ -1,18 +1,19 @@
 -- Merging bugs: the joined image is that of the model's set, and the desk stays sound.
 use Rattle.std.proofs.Common.{◌≡◌, ℕ, Bool, true, false, cond, ◌||◌, ◌&&◌, eqb, List, [], ◌∷◌, Option, Some, None, Result, Ok, Err, sym}
 use Rattle.std.proofs.Common.{refl, ap, ◌∙◌, subst}
-use Rattle.std.specs.Prelude.{option_map}
+use Rattle.std.specs.Prelude.{not, option_map}
+use Rattle.std.specs.List.{list_any}
 use Rattle.std.specs.Option.{option_or}
 use Rattle.std.proofs.lemmas.Option.{none-some}
-use Rattle.std.proofs.lemmas.Bool.{false≢true, eqb-true, eq-eqb, false_from_ne_true}
+use Rattle.std.proofs.lemmas.Bool.{false≢true, eqb-true, eq-eqb, and_parts, false_from_ne_true}
 use Rattle.ancestry.specs.Nodes.{Node, IsNode}
 use Rattle.bug_record.specs.Sets.{has, IsAscending, Each}
 use Rattle.bug_record.specs.Texts.{IsGoodText, IfGiven}
-use Rattle.bug_record.specs.Desk.{Desk, IsSound, IsGoodShared}
+use Rattle.bug_record.specs.Desk.{Desk, IsSound, IsGoodShared, AreGoodBlockers}
 use Rattle.bug_record.specs.Bugs.{at_bug, unless, first_refusal, bugs_at, all_of}
 use Rattle.bug_record.specs.Differences.{differing}
 use Rattle.bug_record.specs.Words.{bug_refusal, first_bug_refusal}
-use Rattle.bug_record.specs.Merges.{first_owner, joined_shared, all_merged, with_merged, sets_joined}
+use Rattle.bug_record.specs.Merges.{first_owner, joined_shared, joined_blockers, all_merged, with_merged, sets_joined}
 use Rattle.bug_record.specs.Images.{numbers_of, member_at, bug_of, bug_in, AreApart, AreSetsOf, image_with}
 use Rattle.bug_record.specs.Plans.{AllKnown}
 use Rattle.bug_record.specs.declared.bug.Bug.{Bug}
@@ -27,16 +28,16 @@ use Rattle.bug_record.specs.declared.command.Refusal.TheVariants.{NoBug, Archive
 use Rattle.bug_record.proofs.SetLemmas.{IsAscending-number_set, same-ascending}
 use Rattle.bug_record.proofs.MarkLemmas.{set-node_set}
 use Rattle.bug_record.proofs.TagLemmas.{set-joined_tags}
-use Rattle.bug_record.proofs.MergeLemmas.{has-all_merged}
+use Rattle.bug_record.proofs.MergeLemmas.{has-all_merged, has-joined_blockers, ascending-joined_blockers}
 use Rattle.bug_core.specs.Others.{has_any, those_meant, others}
-use Rattle.bug_core.specs.Joins.{with_members, without_marks, with_all_shared}
+use Rattle.bug_core.specs.Joins.{with_members, joined_image}
 use Rattle.bug_record.specs.Words.{archived_refusal}
 use Rattle.bug_core.specs.Planned.{IsPlannedOf, IsRefusalOfPlan}
 use Rattle.set_images.proofs.ImageLemmas.{has-member_some, has-member_none, bug_in-merged, shown, image_with-has, image_with-shows}
 use Rattle.set_images.proofs.ImageLemmas.{image_with-none}
 use Rattle.bug_core.proofs.SoundLemmas.{agree, sound-each_bug}
 use Rattle.bug_core.proofs.ReplaceLemmas.{TakesPlace, Makes, each-append}
-use Rattle.bug_core.proofs.PlanLemmas.{Steps, planned-refused, planned-replaced, own-archived}
+use Rattle.bug_core.proofs.PlanLemmas.{Steps, planned-refused, planned-replaced, own-archived, own-refused}
 use Rattle.bug_core.proofs.MemberLemmas.{first_member, ascending-with_members, member-with_members, meant-nowhere, meant-inside}
 use Rattle.bug_core.proofs.MemberLemmas.{meant-outside}
 use Rattle.bug_core.proofs.ListedLemmas.{any-from, listed-of, each-listed, bugs-known, refusal-known, bugs_refused-known}
@@ -45,10 +46,7 @@ use Rattle.bug_core.proofs.SharedLemmas.{joined-fields}
 
 -- the joined image
 abbrev pub image_joined : List SetImage → List ℕ → SetImage → SetImage
-image_joined is ns i = record {
-  shared = record (with_all_shared (without_marks i.shared) (those_meant ns is)) { owner = first_owner (bugs_at (bug_in is) ns) };
-  members = with_members [] (those_meant ns is);
-}
+image_joined is ns i = joined_image i.shared is ns
 
 -- the member m of it
 member-joined : (is : List SetImage) (ns : List ℕ) (m : ℕ)
@@ -184,6 +182,7 @@ joined-makes d is n ns i sound sets known a h = record {
 
     fields : (image_joined is (n ∷ ns) i).shared ≡ joined_shared i.shared bugs
     fields = joined-fields is (n ∷ ns) n i named.0 a (own-first n ns) named.1 good.tags
+        (with_members [] (those_meant (n ∷ ns) is)) numbers
 
     numbers : numbers_of (with_members [] (those_meant (n ∷ ns) is)) ≡ all_merged bugs
     numbers = joined-numbers d is (n ∷ ns) sound sets known a ∙ ap all_merged (sym same)
@@ -221,6 +220,29 @@ good-joined d ns f sound good = record {
     bugs : List Bug
     bugs = bugs_at d.bug ns
 
+-- the joined blockers are bugs of the desk, outside the joined set
+good-joined_blockers : (d : Desk) (ns : List ℕ) → IsSound d
+    → AreGoodBlockers d (all_merged (bugs_at d.bug ns)) (joined_blockers (bugs_at d.bug ns))
+good-joined_blockers d ns sound = record {
+  ascending = ascending-joined_blockers bugs;
+  there = λ m h.
+      let p = and_parts (list_any (λ b. has b.shared.blockers m) bugs) (not (list_any (λ b. has b.merged m) bugs))
+      (sym (has-joined_blockers bugs m) ∙ h) in
+      let r = listed-of (λ b. has b.shared.blockers m) d.bug ns p.0 in
+      (sound.blockers r.0 r.1 r.3).there m r.4;
+  outside = λ m h.
+      let p = and_parts (list_any (λ b. has b.shared.blockers m) bugs) (not (list_any (λ b. has b.merged m) bugs))
+      (sym (has-joined_blockers bugs m) ∙ h) in
+      has-all_merged bugs m ∙ none (list_any (λ b. has b.merged m) bugs) p.1;
+}
+  where
+    bugs : List Bug
+    bugs = bugs_at d.bug ns
+
+    none : (t : Bool) → not t ≡ true → t ≡ false
+    none true h = absurd (false≢true h)
+    none false h = refl
+
 sound-joined : (d : Desk) (ns : List ℕ) (f : Shared) → IsSound d → IsGoodShared f
     → IsSound (with_merged d (all_merged (bugs_at d.bug ns)) (joined_shared f (bugs_at d.bug ns)))
 sound-joined d ns f sound good = sound-each_bug d (bug_joined merged shared) sound (record {
@@ -229,6 +251,7 @@ sound-joined d ns f sound good = sound-each_bug d (bug_joined merged shared) sou
   agree = λ m k b e q. agrees m k b e (has merged m) refl q;
   texts = λ m b e. let t = sound.texts m b e in
       record { title = t.title; submitter = t.submitter; shared = fields b (has merged m) t.shared };
+  blockers = λ m b e. blockers m b e (has merged m);
 })
   where
     merged : List ℕ
@@ -244,6 +267,11 @@ sound-joined d ns f sound good = sound-each_bug d (bug_joined merged shared) sou
     ascending : (m : ℕ) (b : Bug) → d.bug m ≡ Some b → (t : Bool) → IsAscending (cond t merged b.merged)
     ascending m b e true = IsAscending-number_set (all_of (λ b. b.merged) (bugs_at d.bug ns))
     ascending m b e false = sound.ascending m b e
+
+    blockers : (m : ℕ) (b : Bug) → d.bug m ≡ Some b → (t : Bool)
+        → AreGoodBlockers d (cond t merged b.merged) (cond t shared b.shared).blockers
+    blockers m b e true = good-joined_blockers d ns sound
+    blockers m b e false = sound.blockers m b e
 
     fields : (b : Bug) (t : Bool) → IsGoodShared b.shared → IsGoodShared (cond t shared b.shared)
     fields b true h = good-joined d ns f sound good
@@ -282,7 +310,7 @@ steps-merge difference is next n ns o h d e k = λ j.
     (joined_shared first.shared (sym (bugs-known d is (n ∷ ns) k) j))))))
 
 pub merge-no_bug : (difference : Shared → Shared → Option Field) (is : List SetImage) (next n : ℕ) (ns : List ℕ)
-    → image_with is n ≡ None → IsPlannedOf false (n ∷ ns) (λ d. sets_joined difference d n ns) is next (Err (Refused (NoBug n)))
+    → image_with is n ≡ None → IsPlannedOf false false n ns (λ d. sets_joined difference d n ns) is next (Err (Refused (NoBug n)))
 merge-no_bug difference is next n ns h =
     planned-refused (n ∷ ns) (merge_step difference n ns) is next (NoBug n) tt
     (steps-merge difference is next n ns None (image_with-none is n h))
@@ -298,20 +326,6 @@ own-first_refusal refuse h bug (n ∷ ns) =
         → IfGiven IsRefusalOfPlan (option_or o p)
     either None p h k = k
     either (Some refusal) p h k = h
-
-own-refused : (bug : ℕ → Option Bug) (ns : List ℕ) (refusal : Refusal) → first_bug_refusal false bug ns ≡ Some refusal
-    → IsRefusalOfPlan refusal
-own-refused bug ns refusal e = subst (IfGiven IsRefusalOfPlan) e (all ns)
-  where
-    one : (o : Option Bug) (n : ℕ) (p : Option Refusal) → IfGiven IsRefusalOfPlan p
-        → IfGiven IsRefusalOfPlan (option_or (bug_refusal false o n) p)
-    one None n p h = tt
-    one (Some b) n p h = elim (b.shared.archived && true) as (λ t. IfGiven IsRefusalOfPlan
-        (option_or (cond t (Some (Archived n)) None) p)) [ true ↦ tt | false ↦ h ]
-
-    all : (ns : List ℕ) → IfGiven IsRefusalOfPlan (first_bug_refusal false bug ns)
-    all [] = tt
-    all (n ∷ ns) = one (bug n) n (first_bug_refusal false bug ns) (all ns)
 
 own-differing : (difference : Shared → Option Field) (bug : ℕ → Option Bug) (ns : List ℕ) (refusal : Refusal)
     → first_refusal (differing difference) bug ns ≡ Some refusal → IsRefusalOfPlan refusal
@@ -339,7 +353,7 @@ steps-shown difference is next n ns i h =
 
 pub merge-archived : (difference : Shared → Shared → Option Field) (is : List SetImage) (next n : ℕ) (ns : List ℕ) (i : SetImage)
     (refusal : Refusal) → image_with is n ≡ Some i → archived_refusal false n i.shared ≡ Some refusal
-    → IsPlannedOf false (n ∷ ns) (λ d. sets_joined difference d n ns) is next (Err (Refused refusal))
+    → IsPlannedOf false false n ns (λ d. sets_joined difference d n ns) is next (Err (Refused refusal))
 merge-archived difference is next n ns i refusal h a =
     planned-refused (n ∷ ns) (merge_step difference n ns) is next refusal (own-archived false n i.shared refusal a)
     (λ d e k. steps-shown difference is next n ns i h d e k
@@ -349,9 +363,9 @@ merge-archived difference is next n ns i refusal h a =
 pub merge-refused : (difference : Shared → Shared → Option Field) (is : List SetImage) (next n : ℕ) (ns : List ℕ) (i : SetImage)
     (refusal : Refusal) → image_with is n ≡ Some i → archived_refusal false n i.shared ≡ None
     → first_bug_refusal false (bug_in is) ns ≡ Some refusal
-    → IsPlannedOf false (n ∷ ns) (λ d. sets_joined difference d n ns) is next (Err (Refused refusal))
+    → IsPlannedOf false false n ns (λ d. sets_joined difference d n ns) is next (Err (Refused refusal))
 merge-refused difference is next n ns i refusal h a r =
-    planned-refused (n ∷ ns) (merge_step difference n ns) is next refusal (own-refused (bug_in is) ns refusal r)
+    planned-refused (n ∷ ns) (merge_step difference n ns) is next refusal (own-refused false (bug_in is) ns refusal r)
     (λ d e k. steps-shown difference is next n ns i h d e k
     ∙ (λ j. first_shown difference is n ns i d (a j) (r j) (first_refusal (differing (difference i.shared)) (bug_in is) ns)))
 
@@ -359,7 +373,7 @@ pub merge-differs : (difference : Shared → Shared → Option Field) (is : List
     (refusal : Refusal) → image_with is n ≡ Some i → archived_refusal false n i.shared ≡ None
     → first_bug_refusal false (bug_in is) ns ≡ None
     → first_refusal (differing (difference i.shared)) (bug_in is) ns ≡ Some refusal
-    → IsPlannedOf false (n ∷ ns) (λ d. sets_joined difference d n ns) is next (Err (Refused refusal))
+    → IsPlannedOf false false n ns (λ d. sets_joined difference d n ns) is next (Err (Refused refusal))
 merge-differs difference is next n ns i refusal h a r q =
     planned-refused (n ∷ ns) (merge_step difference n ns) is next refusal
     (own-differing (difference i.shared) (bug_in is) ns refusal q)
@@ -370,7 +384,7 @@ pub merge-done : (difference : Shared → Shared → Option Field) (is : List Se
     → first_bug_refusal false (bug_in is) ns ≡ None
     → first_refusal (differing (difference i.shared)) (bug_in is) ns ≡ None
     → (change : Change) → change.images ≡ image_joined is (n ∷ ns) i ∷ others (n ∷ ns) is → change.next ≡ next
-    → IsPlannedOf false (n ∷ ns) (λ d. sets_joined difference d n ns) is next (Ok change)
+    → IsPlannedOf false false n ns (λ d. sets_joined difference d n ns) is next (Ok change)
 merge-done difference is next n ns i a h out r q =
     let b = image_with-shows is n i h in
     planned-replaced (n ∷ ns) (merge_step difference n ns) is next (n ∷ ns) (image_joined is (n ∷ ns) i ∷ [])

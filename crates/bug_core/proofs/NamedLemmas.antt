@@ -4,15 +4,15 @@ use Rattle.std.specs.Prelude.{filter, ◌==◌}
 use Rattle.std.specs.List.{list_any}
 use Rattle.std.specs.Ordering.{nat_cmp}
 use Rattle.std.specs.BTreeMap.{is_at}
-use Rattle.bug_record.specs.Sets.{has, with_item}
+use Rattle.bug_record.specs.Sets.{has, with_items, number_set}
 use Rattle.bug_record.specs.Images.{numbers_of}
 use Rattle.bug_record.specs.declared.bug.Member.{Member}
 use Rattle.bug_record.specs.declared.bug.SetImage.{SetImage}
-use Rattle.bug_core.specs.Joins.{with_items}
 use Rattle.bug_core.specs.Others.{is_any, has_any, is_meant, those_meant, others}
 use Rattle.bug_core.proofs.ListedLemmas.{same_test, any-from, any-of}
-use Rattle.bug_record.proofs.SetLemmas.{has-with_item}
-use Rattle.set_images.proofs.OrderedLemmas.{has-key}
+use Rattle.bug_record.proofs.SetLemmas.{has-number_set}
+use Rattle.bug_record.proofs.NumberLemmas.{has-with_items}
+use Rattle.bug_record.proofs.OrderedLemmas.{has-key}
 
 -- the same numbers name the same images
 meant-same : (ns ks : List ℕ) → ((n : ℕ) → has ns n ≡ has ks n) → (i : SetImage) → is_meant ns i ≡ is_meant ks i
@@ -45,20 +45,11 @@ any-member ms ks = over ms ∙ same_test (has_any ks (numbers_of ms)) (has_any (
     over [] = refl
     over (m ∷ ms) = λ j. has-key ks m.number j || over ms j
 
--- what is in a set with all numbers of a list
-has-with_items : (ns set : List ℕ) (n : ℕ) → has (with_items (λ k. k) set ns) n ≡ (has set n || has ns n)
-has-with_items [] set n = none (has set n)
-  where
-    none : (a : Bool) → a ≡ (a || false)
-    none true = refl
-    none false = refl
-has-with_items (k ∷ ns) set n =
-    has-with_items ns (with_item (λ k. k) set k) n ∙ ap (λ t. t || has ns n) (has-with_item set k n)
-    ∙ group (has set n) (k == n) (has ns n)
-  where
-    group : (a b c : Bool) → ((a || b) || c) ≡ (a || (b || c))
-    group true b c = refl
-    group false b c = refl
+-- the numbers of members, added one by one, are those of the members
+pub has-member_numbers : (ks : List ℕ) (ms : List Member) → ks ≡ with_items (λ k. k) [] (numbers_of ms) → (n : ℕ)
+    → has ks n ≡ has (numbers_of ms) n
+has-member_numbers ks ms e n = ap (λ z. has z n) e ∙ has-with_items (numbers_of ms) [] n
 
-pub has-set_of : (ks ns : List ℕ) → ks ≡ with_items (λ k. k) [] ns → (n : ℕ) → has ks n ≡ has ns n
-has-set_of ks ns e n = ap (λ z. has z n) e ∙ has-with_items ns [] n
+-- the set of a list of numbers
+pub has-set : (ks ns : List ℕ) → ks ≡ number_set ns → (n : ℕ) → has ks n ≡ has ns n
+has-set ks ns e n = ap (λ z. has z n) e ∙ has-number_set ns n

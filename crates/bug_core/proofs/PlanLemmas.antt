@@ -3,13 +3,14 @@ use Rattle.std.specs.Prelude.{option_map}
 use Rattle.std.proofs.Common.{Bool, ◌&&◌, not}
 use Rattle.std.proofs.Common.{◌≡◌, ℕ, true, false, cond, List, [], ◌∷◌, ◌++◌, Option, Some, None, Result, Ok, Err, refl, sym, ap}
 use Rattle.std.proofs.Common.{◌∙◌, subst, arith}
+use Rattle.std.specs.List.{find}
 use Rattle.std.specs.Option.{option_or}
 use Rattle.std.proofs.lemmas.Option.{none-some, same_Some}
 use Rattle.debver.specs.Names.{IsName}
-use Rattle.bug_record.specs.Desk.{Desk, IsSound}
+use Rattle.bug_record.specs.Desk.{Desk, IsSound, AreGoodBlockers}
 use Rattle.bug_record.specs.Bugs.{each_bug, at_bug, unless, first_of}
-use Rattle.bug_record.specs.Words.{bug_refusal, first_bug_refusal, may_be_archived}
-use Rattle.bug_record.specs.Commands.{bug_named, HasGoodParts, HasUtf8Texts}
+use Rattle.bug_record.specs.Words.{bug_refusal, first_bug_refusal, words_refusal, may_be_archived, others_may_be_archived}
+use Rattle.bug_record.specs.Commands.{bug_named, other_bugs, bugs_named, HasGoodParts, HasUtf8Texts}
 use Rattle.bug_record.specs.Steps.{own_tests, records_changed, change_set, shared_after, new_title, new_submitter}
 use Rattle.bug_record.specs.Sets.{has, Each}
 use Rattle.bug_record.specs.Texts.{IsGoodText, IfGiven}
@@ -22,16 +23,18 @@ use Rattle.bug_record.specs.declared.command.Change.{Change}
 use Rattle.bug_record.specs.declared.command.Command.{Command}
 use Rattle.bug_record.specs.declared.command.PlanFault.TheVariants.{Refused, Memory}
 use Rattle.bug_record.specs.declared.command.Refusal.{Refusal}
-use Rattle.bug_record.specs.declared.command.Refusal.TheVariants.{NoBug, Archived, NotArchived, NotDone, StillFound}
+use Rattle.bug_record.specs.declared.command.Refusal.TheVariants.{NoBug, Archived, NotArchived, OwnSet, NotDone, StillFound}
 use Rattle.bug_record.specs.declared.command.Command.TheVariants as commands
 use Rattle.ancestry.specs.Nodes.{Node}
 use Rattle.bug_record.specs.Words.{archived_refusal}
 use Rattle.bug_core.specs.Refusals.{records_refusal}
 use Rattle.bug_core.specs.Others.{others}
-use Rattle.bug_core.specs.Planned.{HasName, IsPlanned, IsPlannedOf, IsRefusedAs, IsRefusalOfPlan}
-use Rattle.set_images.proofs.ImageLemmas.{shown, image_with-shows, image_with-none}
+use Rattle.bug_core.specs.Planned.{HasName, IsPlanned, IsRecordsPlan, IsRefusedAs, IsRefusalOfPlan}
+use Rattle.set_images.proofs.ImageLemmas.{same_value, shown, image_with-shows, image_with-none}
 use Rattle.record_changes.proofs.FieldLemmas.{good-shared_after, good-new_title, good-new_submitter}
-use Rattle.bug_core.proofs.SoundLemmas.{sound-change_set}
+use Rattle.record_changes.proofs.BlockerLemmas.{good-blockers_after}
+use Rattle.bug_core.proofs.SoundLemmas.{agree, sound-change_set}
+use Rattle.bug_core.proofs.ListedLemmas.{bugs_refused-known}
 use Rattle.bug_core.proofs.ReplaceLemmas.{TakesPlace, Makes, apart-replaced, members-replaced, covers-replaced, none-replaced}
 use Rattle.bug_core.proofs.ReplaceLemmas.{whole-sets, put-replaced, image_after, bug_after, set-takes_place, set-makes}
 
@@ -48,7 +51,7 @@ planned-refused named step is next refusal own h = record {
   brings = λ d sh. tt;
   refusals = λ d e k names. subst (λ (z : Result Desk Refusal). IsRefusedAs z (Err (Refused refusal))) (sym (h d e k)) refl;
   own = own;
-  apart = λ d sh. tt;
+  apart = λ d sound e sets. tt;
   members = tt;
   covers = tt;
   later = tt;
@@ -69,7 +72,7 @@ planned-replaced named step is next ns new f a p known steps makes keeps change 
       refusals = λ d e k names. subst (λ (z : Result Desk Refusal). IsRefusedAs z (Ok (record { images = js; next = next })))
           (sym (steps d e k)) tt;
       own = tt;
-      apart = λ d sh. apart-replaced is ns new a p;
+      apart = λ d sound e sets. apart-replaced is ns new a p;
       members = members-replaced is ns new p;
       covers = covers;
       later = omega arith;
@@ -99,40 +102,43 @@ abbrev records_after : List ℕ → Command ℕ → Desk → Desk
 records_after sender command d =
     change_set d (bug_named command) (shared_after sender command) (new_title command) (new_submitter sender command)
 
--- its step, and it by what is known of the bug
+-- its step, and it by what is known of the bug, and of the others
 abbrev pub records_step : Option Node → List ℕ → Command ℕ → Desk → Result Desk Refusal
-records_step head sender command d =
-    unless (first_bug_refusal (may_be_archived command) d.bug (bug_named command ∷ []))
-    (records_changed (λ _. head) sender command d)
+records_step head sender command d = unless (words_refusal (λ n. Ok n) d.bug command) (records_changed (λ _. head) sender command d)
 
-abbrev by_bug : Option Node → List ℕ → Command ℕ → Option Bug → Desk → Result Desk Refusal
-by_bug head sender command o d =
-    unless (option_or (bug_refusal (may_be_archived command) o (bug_named command)) None)
-    (at_bug o (bug_named command) (λ b. unless (first_of (own_tests command head b.shared)) (Ok (records_after sender command d))))
+abbrev by_bug : Option Node → List ℕ → Command ℕ → Option Bug → Option Refusal → Desk → Result Desk Refusal
+by_bug head sender command o others d =
+    unless (option_or (bug_refusal (may_be_archived command) o (bug_named command)) others)
+    (at_bug o (bug_named command) (λ b. unless (first_of (own_tests command head b.merged b.shared)) (Ok (records_after sender command d))))
 
 -- by what the images show of it
 steps-shown : (head : Option Node) (sender : List ℕ) (command : Command ℕ) (is : List SetImage) (next : ℕ) (o : Option Bug)
     → bug_in is (bug_named command) ≡ o
-    → Steps (bug_named command ∷ []) (records_step head sender command) is next (by_bug head sender command o)
-steps-shown head sender command is next o h d e k = ap (λ (z : Option Bug). by_bug head sender command z d) (sym k.0 ∙ h)
+    → Steps (bugs_named command) (records_step head sender command) is next
+    (by_bug head sender command o (first_bug_refusal (others_may_be_archived command) (bug_in is) (other_bugs command)))
+steps-shown head sender command is next o h d e k = λ j.
+    by_bug head sender command ((sym k.0 ∙ h) j)
+    (sym (bugs_refused-known (others_may_be_archived command) d is (other_bugs command) k.1) j) d
 
--- two tests in turn are one
-two-tests : {A : Type 0} (o p : Option Refusal) (result : Result A Refusal)
-    → unless (option_or o None) (unless p result) ≡ unless (option_or o p) result
-two-tests None p result = refl
-two-tests (Some refusal) p result = refl
+-- three tests in turn are one
+three-tests : {A : Type 0} (o p q : Option Refusal) (result : Result A Refusal)
+    → unless (option_or o p) (unless q result) ≡ unless (option_or o (option_or p q)) result
+three-tests None None q result = refl
+three-tests None (Some refusal) q result = refl
+three-tests (Some refusal) p q result = refl
 
--- by the refusal of the bug that the images show
+-- by the refusal of the bugs that the images show
 steps-refusal : (head : Option Node) (sender : List ℕ) (command : Command ℕ) (is : List SetImage) (next : ℕ) (i : SetImage)
     (o : Option Refusal) → image_with is (bug_named command) ≡ Some i
-    → records_refusal command head (bug_named command) i.shared ≡ o
-    → Steps (bug_named command ∷ []) (records_step head sender command) is next
+    → records_refusal command head is i ≡ o
+    → Steps (bugs_named command) (records_step head sender command) is next
     (λ d. unless o (Ok (records_after sender command d)))
 steps-refusal head sender command is next i o h r d e k =
     let b = image_with-shows is (bug_named command) i h in
     steps-shown head sender command is next (Some (bug_of i b.0)) b.1 d e k
-    ∙ (two-tests (archived_refusal (may_be_archived command) (bug_named command) i.shared)
-    (first_of (own_tests command head i.shared)) (Ok (records_after sender command d))
+    ∙ (three-tests (archived_refusal (may_be_archived command) (bug_named command) i.shared)
+    (first_bug_refusal (others_may_be_archived command) (bug_in is) (other_bugs command))
+    (first_of (own_tests command head (numbers_of i.members) i.shared)) (Ok (records_after sender command d))
     ∙ ap (λ (z : Option Refusal). unless z (Ok (records_after sender command d))) r)
 
 -- these refusals are a plan's
@@ -150,63 +156,110 @@ pub own-archived : (may_be : Bool) (n : ℕ) (f : Shared) (refusal : Refusal) �
     → IsRefusalOfPlan refusal
 own-archived may_be n f refusal e = subst (IfGiven IsRefusalOfPlan) e (archived-own may_be n f)
 
-tests-own : (command : Command ℕ) (head : Option Node) (f : Shared)
-    → IfGiven IsRefusalOfPlan (first_of (own_tests command head f))
-tests-own (commands.Archive n) head f =
+-- the first refusal of bugs is one of those that they have
+words-own : (may_be : Bool) (bug : ℕ → Option Bug) (ns : List ℕ) → IfGiven IsRefusalOfPlan (first_bug_refusal may_be bug ns)
+words-own may_be bug [] = tt
+words-own may_be bug (n ∷ ns) =
+    own-either (bug_refusal may_be (bug n) n) (first_bug_refusal may_be bug ns) (one (bug n)) (words-own may_be bug ns)
+  where
+    one : (o : Option Bug) → IfGiven IsRefusalOfPlan (bug_refusal may_be o n)
+    one None = tt
+    one (Some b) = archived-own may_be n b.shared
+
+pub own-refused : (may_be : Bool) (bug : ℕ → Option Bug) (ns : List ℕ) (refusal : Refusal)
+    → first_bug_refusal may_be bug ns ≡ Some refusal → IsRefusalOfPlan refusal
+own-refused may_be bug ns refusal e = subst (IfGiven IsRefusalOfPlan) e (words-own may_be bug ns)
+
+tests-own : (command : Command ℕ) (head : Option Node) (merged : List ℕ) (f : Shared)
+    → IfGiven IsRefusalOfPlan (first_of (own_tests command head merged f))
+tests-own (commands.Block n ns) head merged f =
+    elim (find (has merged) ns) as (λ o. IfGiven IsRefusalOfPlan (option_or (option_map OwnSet o) None)) [ None ↦ tt | Some m ↦ tt ]
+tests-own (commands.Archive n) head merged f =
     elim f.closed as (λ t. IfGiven IsRefusalOfPlan
     (option_or (cond t None (Some (NotDone n))) (option_or (option_map StillFound head) None))) [
       | true ↦ elim head as (λ h. IfGiven IsRefusalOfPlan (option_or (option_map StillFound h) None)) [ None ↦ tt | Some v ↦ tt ]
       | false ↦ tt
     ]
-tests-own (commands.Unarchive n) head f =
+tests-own (commands.Unarchive n) head merged f =
     elim f.archived as (λ t. IfGiven IsRefusalOfPlan (option_or (cond t None (Some (NotArchived n))) None))
     [ true ↦ tt | false ↦ tt ]
-tests-own (commands.Found n version) head f = tt
-tests-own (commands.NotFound n version) head f = tt
-tests-own (commands.Fixed n version) head f = tt
-tests-own (commands.NotFixed n version) head f = tt
-tests-own (commands.Close n version) head f = tt
-tests-own (commands.Reopen n who) head f = tt
-tests-own (commands.Severity n severity) head f = tt
-tests-own (commands.Tags n steps) head f = tt
-tests-own (commands.Retitle n text) head f = tt
-tests-own (commands.Submitter n who) head f = tt
-tests-own (commands.Reassign n package_name version) head f = tt
-tests-own (commands.Merge n ns) head f = tt
-tests-own (commands.ForceMerge n ns) head f = tt
-tests-own (commands.Unmerge n) head f = tt
-tests-own (commands.Forwarded n text) head f = tt
-tests-own (commands.NotForwarded n) head f = tt
-tests-own (commands.Owner n who) head f = tt
-tests-own (commands.NoOwner n) head f = tt
+tests-own (commands.Found n version) head merged f = tt
+tests-own (commands.NotFound n version) head merged f = tt
+tests-own (commands.Fixed n version) head merged f = tt
+tests-own (commands.NotFixed n version) head merged f = tt
+tests-own (commands.Close n version) head merged f = tt
+tests-own (commands.Reopen n who) head merged f = tt
+tests-own (commands.Severity n severity) head merged f = tt
+tests-own (commands.Tags n steps) head merged f = tt
+tests-own (commands.Retitle n text) head merged f = tt
+tests-own (commands.Submitter n who) head merged f = tt
+tests-own (commands.Reassign n package_name version) head merged f = tt
+tests-own (commands.Merge n ns) head merged f = tt
+tests-own (commands.ForceMerge n ns) head merged f = tt
+tests-own (commands.Unmerge n) head merged f = tt
+tests-own (commands.Unblock n ns) head merged f = tt
+tests-own (commands.Forwarded n text) head merged f = tt
+tests-own (commands.NotForwarded n) head merged f = tt
+tests-own (commands.Owner n who) head merged f = tt
+tests-own (commands.NoOwner n) head merged f = tt
 
--- a refusal of the bug
+-- a refusal of the bugs
 pub planned-tested : (head : Option Node) (sender : List ℕ) (command : Command ℕ) (is : List SetImage) (next : ℕ) (i : SetImage)
     (refusal : Refusal) → image_with is (bug_named command) ≡ Some i
-    → records_refusal command head (bug_named command) i.shared ≡ Some refusal
-    → IsPlannedOf (may_be_archived command) (bug_named command ∷ []) (records_changed (λ _. head) sender command) is next
-    (Err (Refused refusal))
+    → records_refusal command head is i ≡ Some refusal → IsRecordsPlan head sender command is next (Err (Refused refusal))
 planned-tested head sender command is next i refusal h r =
-    planned-refused (bug_named command ∷ []) (records_step head sender command) is next refusal
+    planned-refused (bugs_named command) (records_step head sender command) is next refusal
     (subst (IfGiven IsRefusalOfPlan) r
     (own-either (archived_refusal (may_be_archived command) (bug_named command) i.shared)
-    (first_of (own_tests command head i.shared)) (archived-own (may_be_archived command) (bug_named command) i.shared)
-    (tests-own command head i.shared)))
+    (option_or (first_bug_refusal (others_may_be_archived command) (bug_in is) (other_bugs command))
+    (first_of (own_tests command head (numbers_of i.members) i.shared)))
+    (archived-own (may_be_archived command) (bug_named command) i.shared)
+    (own-either (first_bug_refusal (others_may_be_archived command) (bug_in is) (other_bugs command))
+    (first_of (own_tests command head (numbers_of i.members) i.shared))
+    (words-own (others_may_be_archived command) (bug_in is) (other_bugs command))
+    (tests-own command head (numbers_of i.members) i.shared))))
     (steps-refusal head sender command is next i (Some refusal) h r)
+
+-- where no bug is refused, the blockers after the command are good ones, in the whole set of its bug
+no-first : (o p : Option Refusal) → option_or o p ≡ None → o ≡ None
+no-first None p e = refl
+no-first (Some refusal) p e = absurd (none-some refusal (sym e))
+
+no-later : (o p : Option Refusal) → option_or o p ≡ None → p ≡ None
+no-later None p e = e
+no-later (Some refusal) p e = absurd (none-some refusal (sym e))
+
+good-blockers : (head : Option Node) (sender : List ℕ) (command : Command ℕ) (is : List SetImage) (next : ℕ) (i : SetImage) (d : Desk)
+    → image_with is (bug_named command) ≡ Some i → records_refusal command head is i ≡ None
+    → IsShownBy d is next (bugs_named command)
+    → (m : ℕ) (b : Bug) → d.bug m ≡ Some b → has b.merged (bug_named command) ≡ true
+    → AreGoodBlockers d b.merged (shared_after sender command b.shared).blockers
+good-blockers head sender command is next i d h r sh m b e k =
+    let n = bug_named command in
+    let x = image_with-shows is n i h in
+    let c = agree d sh.sound m n b e k in
+    let same : c.0 ≡ bug_of i x.0 = same_value c.0 (bug_of i x.0) c.1 (shown d is sh.sets n (bug_of i x.0) x.1) in
+    let words = first_bug_refusal (others_may_be_archived command) (bug_in is) (other_bugs command) in
+    let own = first_of (own_tests command head (numbers_of i.members) i.shared) in
+    let rest : option_or words own ≡ None
+    = no-later (archived_refusal (may_be_archived command) n i.shared) (option_or words own) r in
+    let merged : b.merged ≡ numbers_of i.members = sym c.2 ∙ ap (λ (z : Bug). z.merged) same in
+    let fields : b.shared ≡ i.shared = sym c.3 ∙ ap (λ (z : Bug). z.shared) same in
+    good-blockers_after d sender command head b.merged b.shared (sh.sound.blockers m b e)
+    (sym (bugs_refused-known (others_may_be_archived command) d is (other_bugs command) sh.known.1) ∙ no-first words own rest)
+    ((λ j. first_of (own_tests command head (merged j) (fields j))) ∙ no-later words own rest)
 
 pub planned-records : (head : Option Node) (sender : List ℕ) (command : Command ℕ) (is : List SetImage) (next : ℕ) (i : SetImage)
     → IsGoodText sender → HasGoodParts command → HasUtf8Texts command → AreApart is
-    → image_with is (bug_named command) ≡ Some i → records_refusal command head (bug_named command) i.shared ≡ None
+    → image_with is (bug_named command) ≡ Some i → records_refusal command head is i ≡ None
     → (change : Change) → change.images
     ≡ image_after i (shared_after sender command) (new_title command) (new_submitter sender command) ∷ others
-    (bug_named command ∷ []) is → change.next ≡ next
-    → IsPlannedOf (may_be_archived command) (bug_named command ∷ []) (records_changed (λ _. head) sender command) is next
-    (Ok change)
+    (bug_named command ∷ []) is → change.next ≡ next → IsRecordsPlan head sender command is next (Ok change)
 planned-records head sender command is next i text good utf8 a h r =
-    planned-replaced (bug_named command ∷ []) (records_step head sender command) is next (bug_named command ∷ [])
+    planned-replaced (bugs_named command) (records_step head sender command) is next (bug_named command ∷ [])
     (image_after i f title who ∷ []) (bug_after (bug_named command) f title who) a
     (set-takes_place is (bug_named command) i f title who a h)
-    (λ d k. k)
+    (λ d k. (k.0, tt))
     (steps-refusal head sender command is next i None h r)
     (λ d sh. set-makes d is (bug_named command) i f title who a h)
     (λ d sh. sound-change_set d (bug_named command) f title who sh.sound
@@ -215,7 +268,7 @@ planned-records head sender command is next i text good utf8 a h r =
       titles = good-new_title command good utf8;
       submitters =
           good-new_submitter sender command text good utf8;
-    }))
+    }) (good-blockers head sender command is next i d h r sh))
   where
     f : Shared → Shared
     f = shared_after sender command
@@ -229,10 +282,9 @@ planned-records head sender command is next i text good utf8 a h r =
 -- a bug in no image is refused
 pub planned-no_bug : (head : Option Node) (sender : List ℕ) (command : Command ℕ) (is : List SetImage) (next : ℕ)
     → image_with is (bug_named command) ≡ None
-    → IsPlannedOf (may_be_archived command) (bug_named command ∷ []) (records_changed (λ _. head) sender command) is next
-    (Err (Refused (NoBug (bug_named command))))
+    → IsRecordsPlan head sender command is next (Err (Refused (NoBug (bug_named command))))
 planned-no_bug head sender command is next h =
-    planned-refused (bug_named command ∷ []) (records_step head sender command) is next (NoBug (bug_named command)) tt
+    planned-refused (bugs_named command) (records_step head sender command) is next (NoBug (bug_named command)) tt
     (steps-shown head sender command is next None (image_with-none is (bug_named command) h))
 
 -- no desk shows an image whose package is no package name
@@ -256,7 +308,7 @@ planned-memory named step is next = record {
   brings = λ d sh. tt;
   refusals = λ d e k names. always (step d);
   own = tt;
-  apart = λ d sh. tt;
+  apart = λ d sound e sets. tt;
   members = tt;
   covers = tt;
   later = tt;
@@ -276,7 +328,7 @@ planned-nameless named step is next n i refusal own h w = record {
   brings = λ d sh. tt;
   refusals = λ d e k names. absurd (w (has_name is n i h names));
   own = own;
-  apart = λ d sh. tt;
+  apart = λ d sound e sets. tt;
   members = tt;
   covers = tt;
   later = tt;

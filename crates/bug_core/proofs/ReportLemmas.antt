@@ -1,8 +1,8 @@
 -- The desk after a report.
-use Rattle.std.proofs.Common.{◌≡◌, ◌<◌, ◌+◌, ℕ, Bool, true, false, cond, ◌||◌, eqb, List, [], ◌∷◌, Option, Some, None, sym, refl}
+use Rattle.std.proofs.Common.{◌≡◌, ◌≢◌, ◌<◌, ◌+◌, ℕ, Bool, true, false, cond, ◌||◌, eqb, List, [], ◌∷◌, Option, Some, None, sym, refl}
 use Rattle.std.proofs.Common.{ap, ◌∙◌, subst, arith}
 use Rattle.std.specs.Prelude.{option_map}
-use Rattle.std.proofs.lemmas.Option.{same_Some}
+use Rattle.std.proofs.lemmas.Option.{same_Some, none-some}
 use Rattle.std.proofs.lemmas.Bool.{false≢true, eqb-true, eq-eqb, ne_eqb}
 use Rattle.std.specs.List.Sorted.{IsStrictlySortedBy}
 use Rattle.debver.specs.Names.{IsName}
@@ -10,7 +10,7 @@ use Rattle.ancestry.specs.Nodes.{Node, IsNode}
 use Rattle.bug_record.specs.Marks.{IsNodeSet}
 use Rattle.bug_record.specs.Sets.{has, IsAscending}
 use Rattle.bug_record.specs.Texts.{IsGoodText, IfGiven}
-use Rattle.bug_record.specs.Desk.{Desk, IsSound, IsMergedWith, HasGoodTexts}
+use Rattle.bug_record.specs.Desk.{Desk, IsSound, IsMergedWith, HasGoodTexts, AreGoodBlockers}
 use Rattle.bug_record.specs.Steps.{found_first, reported, new_bug}
 use Rattle.bug_record.specs.Images.{put, bug_of, CoverSets, FitsDesk}
 use Rattle.std.specs.Option.{option_or}
@@ -20,7 +20,7 @@ use Rattle.bug_record.specs.declared.severity.Severity.{Severity}
 use Rattle.bug_core.specs.Reports.{image_of_report}
 use Rattle.bug_record.proofs.SetLemmas.{one_number}
 use Rattle.bug_record.proofs.MarkLemmas.{set-none}
-use Rattle.bug_core.proofs.SoundLemmas.{agree, merged-from}
+use Rattle.bug_core.proofs.SoundLemmas.{agree, merged-from, blockers-there}
 
 -- the texts of a report
 pub record IsReport (a p t : List ℕ) (v : Option Node) : Type 0 where
@@ -47,6 +47,12 @@ reported-old : (d : Desk) (a p : List ℕ) (s : Severity) (t : List ℕ) (v : Op
 reported-old d a p s t v m b sound h =
     let below : m < d.next = (sound.in_range m b h).1 in
     ap (λ z. cond z (Some (new_bug d.next a p s t v)) (d.bug m)) (ne_eqb m d.next (λ e. absurd (omega (arith, e, below)))) ∙ h
+
+stays-reported : (d : Desk) (a p : List ℕ) (s : Severity) (t : List ℕ) (v : Option Node) (m : ℕ) → d.bug m ≢ None
+    → (reported d a p s t v).bug m ≢ None
+stays-reported d a p s t v m h =
+    elim (eqb m d.next) as (λ z. cond z (Some (new_bug d.next a p s t v)) (d.bug m) ≢ None)
+    [ true ↦ λ e. none-some (new_bug d.next a p s t v) (sym e) | false ↦ h ]
 
 own_number : (m n : ℕ) → m ≡ n → has (n ∷ []) m ≡ true
 own_number m n e = ap (λ z. z || false) (eq-eqb n m (sym e))
@@ -86,6 +92,11 @@ sound-reported d a p s t v sound left good = record {
                   set-none;
             };
       })) (λ k. sound.texts m b k);
+  blockers = λ m b h. reported-cases d a p s t v (AreGoodBlockers (reported d a p s t v) b.merged b.shared.blockers) m b h
+      (λ e q. subst (λ (z : Bug). AreGoodBlockers (reported d a p s t v) z.merged z.shared.blockers) q
+      (record { ascending = tt; there = λ k w. absurd (false≢true w); outside = λ k w. absurd (false≢true w) }))
+      (λ k. blockers-there d (reported d a p s t v) b.merged b.shared.blockers (stays-reported d a p s t v)
+      (sound.blockers m b k));
   in_range = λ m b h. reported-cases d a p s t v ((0 < m) × (m < d.next + 1)) m b h
       (λ e q. (subst (λ z. 0 < z) (sym e) sound.next_in_range.0, omega (arith, e)))
       (λ k. ((sound.in_range m b k).0, (let below : m < d.next = (sound.in_range m b k).1 in omega (arith, below))));

@@ -1,18 +1,19 @@
 -- The fields of merged bugs, joined one image after another.
 use Rattle.std.proofs.Common.{◌≡◌, ℕ, Bool, true, false, ◌||◌, List, [], ◌∷◌, Some, sym, refl, ap, ◌∙◌}
+use Rattle.std.specs.Prelude.{not, filter}
 use Rattle.std.specs.BTreeSet.{insert_key}
 use Rattle.std.specs.List.{list_any}
 use Rattle.std.specs.Ordering.{match_ordering}
 use Rattle.std.specs.List.Sorted.{IsStrictlySortedBy}
 use Rattle.std.proofs.lemmas.Bool.{eqb-true, eq-eqb}
 use Rattle.ancestry.specs.Nodes.{Node, node_cmp, same_node}
-use Rattle.bug_record.specs.Sets.{has}
+use Rattle.bug_record.specs.Sets.{has, IsAscending, number_set}
 use Rattle.bug_record.specs.Tags.{tag_place, same_tag, has_tag, with_tag, IsTagSet}
 use Rattle.bug_record.specs.Marks.{with_node, node_set}
 use Rattle.ancestry.specs.Trees.{has_node}
 use Rattle.bug_record.specs.Bugs.{bugs_at, all_of}
-use Rattle.bug_record.specs.Merges.{first_owner, joined_tags, joined_shared}
-use Rattle.bug_record.specs.Images.{bug_of, bug_in, AreApart}
+use Rattle.bug_record.specs.Merges.{first_owner, all_merged, joined_tags, joined_shared}
+use Rattle.bug_record.specs.Images.{numbers_of, bug_of, bug_in, AreApart}
 use Rattle.bug_record.specs.declared.bug.Bug.{Bug}
 use Rattle.bug_record.specs.declared.bug.Shared.{Shared}
 use Rattle.bug_record.specs.declared.bug.Member.{Member}
@@ -20,9 +21,12 @@ use Rattle.bug_record.specs.declared.bug.SetImage.{SetImage}
 use Rattle.bug_record.specs.declared.tag.Tag.{Tag}
 use Rattle.bug_record.proofs.TagLemmas.{has-with_tag, set-with_tag, has-joined_tags, set-joined_tags, same-tag_sets}
 use Rattle.bug_record.proofs.MarkLemmas.{has-with_node, sorted-with_node, sorted-node_set, same-sorted_nodes}
-use Rattle.bug_record.proofs.MergeLemmas.{has-joined_nodes}
+use Rattle.bug_record.proofs.MergeLemmas.{has-all_of, has-joined_nodes}
+use Rattle.bug_record.proofs.NumberLemmas.{has-with_items, IsAscending-with_items}
+use Rattle.bug_record.proofs.SetLemmas.{has-number_set, IsAscending-number_set, same-ascending}
 use Rattle.bug_core.specs.Others.{those_meant}
-use Rattle.bug_core.specs.Joins.{with_items, with_nodes, without_marks, with_shared, with_all_shared}
+use Rattle.bug_record.specs.Sets.{with_items}
+use Rattle.bug_core.specs.Joins.{with_nodes, without_marks, without_own, with_shared, with_all_shared}
 use Rattle.bug_core.proofs.ListedLemmas.{same_test, listed-from, meant-listed}
 
 or_group : (a b c : Bool) → ((a || b) || c) ≡ (a || (b || c))
@@ -74,7 +78,12 @@ sorted-with_nodes (n ∷ ns) set h = sorted-with_nodes ns (with_node set n) (sor
 -- the fields with those of images
 kept : (js : List SetImage) (f : Shared)
     → with_all_shared f js
-    ≡ record f { tags = (with_all_shared f js).tags; found = (with_all_shared f js).found; fixed = (with_all_shared f js).fixed }
+    ≡ record f {
+      tags = (with_all_shared f js).tags;
+      found = (with_all_shared f js).found;
+      fixed = (with_all_shared f js).fixed;
+      blockers = (with_all_shared f js).blockers;
+    }
 kept [] f = refl
 kept (j ∷ js) f = kept js (with_shared f j.shared)
 
@@ -116,19 +125,39 @@ sorted-all_fixed : (js : List SetImage) (f : Shared) → IsStrictlySortedBy node
 sorted-all_fixed [] f h = h
 sorted-all_fixed (j ∷ js) f h = sorted-all_fixed js (with_shared f j.shared) (sorted-with_nodes j.shared.fixed f.fixed h)
 
+has-all_blockers : (js : List SetImage) (f : Shared) (m : ℕ)
+    → has (with_all_shared f js).blockers m ≡ (has f.blockers m || list_any (λ j. has j.shared.blockers m) js)
+has-all_blockers [] f m = or_nothing (has f.blockers m)
+has-all_blockers (j ∷ js) f m =
+    has-all_blockers js (with_shared f j.shared) m
+    ∙ ap (λ b. b || list_any (λ j. has j.shared.blockers m) js) (has-with_items j.shared.blockers f.blockers m)
+    ∙ or_group (has f.blockers m) (has j.shared.blockers m) (list_any (λ j. has j.shared.blockers m) js)
+
+ascending-all_blockers : (js : List SetImage) (f : Shared) → IsAscending f.blockers → IsAscending (with_all_shared f js).blockers
+ascending-all_blockers [] f h = h
+ascending-all_blockers (j ∷ js) f h =
+    ascending-all_blockers js (with_shared f j.shared) (IsAscending-with_items j.shared.blockers f.blockers h)
+
 sorted-none : IsStrictlySortedBy node_cmp []
 unfolding IsStrictlySortedBy
 sorted-none = tt
 
--- they are the joined fields of the listed bugs, among which is one of the first image
+-- they are the joined fields of the listed bugs, among which is one of the first image; the members
+-- have the numbers that are merged with some of them
 pub joined-fields : (is : List SetImage) (ns : List ℕ) (n : ℕ) (i : SetImage) (x : Member) → AreApart is → has ns n ≡ true
     → bug_in is n ≡ Some (bug_of i x)
-    → IsTagSet i.shared.tags
-    → record (with_all_shared (without_marks i.shared) (those_meant ns is)) { owner = first_owner (bugs_at (bug_in is) ns) }
+    → IsTagSet i.shared.tags → (ms : List Member) → numbers_of ms ≡ all_merged (bugs_at (bug_in is) ns)
+    → without_own ms (record (with_all_shared (without_marks i.shared) (those_meant ns is)) { owner = first_owner (bugs_at (bug_in is) ns) })
     ≡ joined_shared i.shared (bugs_at (bug_in is) ns)
-joined-fields is ns n i x a h e tags =
-    (λ j. record (kept js f j) { owner = first_owner bugs })
-    ∙ (λ j. record i.shared { owner = first_owner bugs; tags = same_tags j; found = same_found j; fixed = same_fixed j })
+joined-fields is ns n i x a h e tags ms numbers =
+    (λ j. without_own ms (record (kept js f j) { owner = first_owner bugs }))
+    ∙ (λ j. record i.shared {
+      owner = first_owner bugs;
+      tags = same_tags j;
+      found = same_found j;
+      fixed = same_fixed j;
+      blockers = filter (λ m. not (has (numbers j) m)) (same_blockers j);
+    })
   where
     f : Shared
     f = without_marks i.shared
@@ -161,3 +190,9 @@ joined-fields is ns n i x a h e tags =
         (sorted-all_fixed js f sorted-none) (sorted-node_set (all_of (λ b. b.shared.fixed) bugs))
         (λ m. has-all_fixed js f m ∙ meant-listed (λ s. has_node s.fixed m) is ns a
         ∙ sym (has-joined_nodes (λ b. b.shared.fixed) bugs m))
+
+    same_blockers : (with_all_shared f js).blockers ≡ number_set (all_of (λ b. b.shared.blockers) bugs)
+    same_blockers = same-ascending (with_all_shared f js).blockers (number_set (all_of (λ b. b.shared.blockers) bugs))
+        (ascending-all_blockers js f tt) (IsAscending-number_set (all_of (λ b. b.shared.blockers) bugs))
+        (λ m. has-all_blockers js f m ∙ meant-listed (λ s. has s.blockers m) is ns a
+        ∙ sym (has-number_set (all_of (λ b. b.shared.blockers) bugs) m ∙ has-all_of (λ b. b.shared.blockers) bugs m))

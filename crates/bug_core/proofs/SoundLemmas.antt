@@ -1,9 +1,9 @@
 -- What keeps a desk sound.
-use Rattle.std.proofs.Common.{◌≡◌, ℕ, Bool, true, false, cond, List, Option, Some, None, sym, refl, ap, ◌∙◌, subst}
+use Rattle.std.proofs.Common.{◌≡◌, ◌≢◌, ℕ, Bool, true, false, cond, List, Option, Some, None, sym, refl, ap, ◌∙◌, subst}
 use Rattle.std.specs.Prelude.{option_map, unwrap_or}
 use Rattle.std.proofs.lemmas.Option.{same_Some, none-some}
 use Rattle.bug_record.specs.Sets.{has, IsAscending}
-use Rattle.bug_record.specs.Desk.{Desk, IsSound, IsMergedWith, IsGoodShared, HasGoodTexts}
+use Rattle.bug_record.specs.Desk.{Desk, IsSound, IsMergedWith, IsGoodShared, HasGoodTexts, AreGoodBlockers}
 use Rattle.bug_record.specs.Steps.{change_set}
 use Rattle.bug_record.specs.Bugs.{each_bug}
 use Rattle.bug_record.specs.Texts.{IsGoodText, IfGiven}
@@ -42,6 +42,17 @@ pub record KeepsSound (d : Desk) (f : ℕ → Bug → Bug) : Type 0 where
   pub agree : (n m : ℕ) (b : Bug) → d.bug n ≡ Some b → has (f n b).merged m ≡ true → (c : Bug) × (d.bug m ≡ Some c)
       × ((f m c).merged ≡ (f n b).merged) × ((f m c).shared ≡ (f n b).shared)
   pub texts : (n : ℕ) (b : Bug) → d.bug n ≡ Some b → HasGoodTexts (f n b)
+  pub blockers : (n : ℕ) (b : Bug) → d.bug n ≡ Some b → AreGoodBlockers d (f n b).merged (f n b).shared.blockers
+
+-- blockers are there after a change of each bug, and where more bugs are there
+pub blockers-there : (d e : Desk) (merged blockers : List ℕ) → ((n : ℕ) → d.bug n ≢ None → e.bug n ≢ None)
+    → AreGoodBlockers d merged blockers → AreGoodBlockers e merged blockers
+blockers-there d e merged blockers stays h =
+    record { ascending = h.ascending; there = λ n k. stays n (h.there n k); outside = h.outside }
+
+stays-mapped : {A B : Type 0} (f : A → B) (o : Option A) → o ≢ None → option_map f o ≢ None
+stays-mapped f None h e = h refl
+stays-mapped f (Some a) h e = none-some (f a) (sym e)
 
 pub sound-each_bug : (d : Desk) (f : ℕ → Bug → Bug) → IsSound d → KeepsSound d f → IsSound (each_bug d f)
 sound-each_bug d f sound keeps = record {
@@ -54,6 +65,9 @@ sound-each_bug d f sound keeps = record {
       merged-from c (option_map (f m) (d.bug m)) (f m a.0) (ap (option_map (f m)) a.1) (a.2 ∙ ap (λ (z : Bug). z.merged) w.2)
       (a.3 ∙ ap (λ (z : Bug). z.shared) w.2);
   texts = λ n c h. let w = was-mapped (f n) (d.bug n) c h in subst HasGoodTexts w.2 (keeps.texts n w.0 w.1);
+  blockers = λ n c h. let w = was-mapped (f n) (d.bug n) c h in
+      blockers-there d (each_bug d f) c.merged c.shared.blockers (λ m. stays-mapped (f m) (d.bug m))
+      (subst (λ (z : Bug). AreGoodBlockers d z.merged z.shared.blockers) w.2 (keeps.blockers n w.0 w.1));
   in_range = λ n c h. let w = was-mapped (f n) (d.bug n) c h in sound.in_range n w.0 w.1;
   forest = sound.forest;
   next_in_range = sound.next_in_range;
@@ -66,8 +80,10 @@ pub record KeepsLimits (f : Shared → Shared) (title : ℕ → Option (List ℕ
   pub submitters : (s : Shared) (m : ℕ) → IfGiven IsGoodText (who s m)
 
 pub sound-change_set : (d : Desk) (n : ℕ) (f : Shared → Shared) (title : ℕ → Option (List ℕ)) (who : Shared → ℕ → Option (List ℕ))
-    → IsSound d → KeepsLimits f title who → IsSound (change_set d n f title who)
-sound-change_set d n f title who sound keeps =
+    → IsSound d → KeepsLimits f title who
+    → ((m : ℕ) (b : Bug) → d.bug m ≡ Some b → has b.merged n ≡ true → AreGoodBlockers d b.merged (f b.shared).blockers)
+    → IsSound (change_set d n f title who)
+sound-change_set d n f title who sound keeps good =
     sound-each_bug d (λ m b. record b {
       shared = cond (has b.merged n) (f b.shared) b.shared;
       title = cond (has b.merged n) (unwrap_or (title m) b.title) b.title;
@@ -81,8 +97,14 @@ sound-change_set d n f title who sound keeps =
         submitter = changed (has b.merged n) (who b.shared m) b.submitter (keeps.submitters b.shared m) t.submitter;
         shared = fields b (has b.merged n) t.shared;
       };
+      blockers = λ m b h. blockers b (has b.merged n) (good m b h) (sound.blockers m b h);
     })
   where
+    blockers : (b : Bug) (t : Bool) → (t ≡ true → AreGoodBlockers d b.merged (f b.shared).blockers)
+        → AreGoodBlockers d b.merged b.shared.blockers → AreGoodBlockers d b.merged (cond t (f b.shared) b.shared).blockers
+    blockers b true g h = g refl
+    blockers b false g h = h
+
     fields : (b : Bug) (t : Bool) → IsGoodShared b.shared → IsGoodShared (cond t (f b.shared) b.shared)
     fields b true h = keeps.fields b.shared h
     fields b false h = h

@@ -1,15 +1,14 @@
 -- The step of a command whose bugs are given as numbers.
 use Rattle.std.proofs.Common.{◌≡◌, ℕ, false, List, [], ◌∷◌, Option, Some, None, Result, Ok, refl, ap, subst}
 use Rattle.std.specs.Prelude.{map}
-use Rattle.bug_record.specs.Words.{first_bug_refusal}
+use Rattle.bug_record.specs.Words.{first_bug_refusal, words_refusal}
 use Rattle.bug_record.specs.Desk.{Desk}
 use Rattle.bug_record.specs.Differences.{first_difference, package_difference}
 use Rattle.bug_record.specs.Merges.{sets_joined}
 use Rattle.ancestry.specs.Nodes.{Node}
 use Rattle.bug_record.specs.Bugs.{at_bug, unless, first_of}
-use Rattle.bug_record.specs.Words.{may_be_archived}
 use Rattle.bug_record.specs.Heads.{open_head}
-use Rattle.bug_record.specs.Commands.{bug_named, bugs_named}
+use Rattle.bug_record.specs.Commands.{bugs_named}
 use Rattle.bug_record.specs.Plans.{IsOpenHeadFor}
 use Rattle.bug_record.specs.Steps.{own_tests, records_changed, change_set, shared_after, new_title, new_submitter, step_of_numbers}
 use Rattle.bug_record.specs.declared.bug.Bug.{Bug}
@@ -18,7 +17,7 @@ use Rattle.bug_record.specs.declared.bug.SetImage.{SetImage}
 use Rattle.bug_record.specs.declared.command.Change.{Change}
 use Rattle.bug_record.specs.declared.command.Command.TheVariants as commands
 use Rattle.bug_record.specs.declared.command.PlanFault.{PlanFault}
-use Rattle.bug_core.specs.Planned.{step_with, IsPlanned, IsPlannedOf}
+use Rattle.bug_core.specs.Planned.{step_with, IsPlanned, IsPlannedOf, IsRecordsPlan}
 
 -- numbers mean themselves
 map-same : (ns : List ℕ) → ns ≡ map (λ n. n) ns
@@ -26,7 +25,7 @@ map-same [] = refl
 map-same (n ∷ ns) = ap (λ ks. n ∷ ks) (map-same ns)
 
 pub planned-merge : (head : Option Node) (sender : List ℕ) (n : ℕ) (ns : List ℕ) (is : List SetImage) (next : ℕ) (result : Result Change PlanFault)
-    → IsPlannedOf false (n ∷ ns) (λ d. sets_joined first_difference d n ns) is next result
+    → IsPlannedOf false false n ns (λ d. sets_joined first_difference d n ns) is next result
     → IsPlanned (n ∷ ns) (step_with head sender (commands.Merge n ns)) is next result
 planned-merge head sender n ns is next result h =
     subst (λ (ks : List ℕ). IsPlanned (n ∷ ns)
@@ -34,7 +33,7 @@ planned-merge head sender n ns is next result h =
 
 pub planned-forcemerge : (head : Option Node) (sender : List ℕ) (n : ℕ) (ns : List ℕ) (is : List SetImage) (next : ℕ)
     (result : Result Change PlanFault)
-    → IsPlannedOf false (n ∷ ns) (λ d. sets_joined package_difference d n ns) is next result
+    → IsPlannedOf false false n ns (λ d. sets_joined package_difference d n ns) is next result
     → IsPlanned (n ∷ ns) (step_with head sender (commands.ForceMerge n ns)) is next result
 planned-forcemerge head sender n ns is next result h =
     subst (λ (ks : List ℕ). IsPlanned (n ∷ ns)
@@ -51,10 +50,10 @@ changed-with d head sender n h = at (d.bug n) h
         (new_submitter sender (commands.Archive n))
 
     at : (o : Option Bug) → ((b : Bug) → o ≡ Some b → head ≡ open_head d.tree b.shared)
-        → at_bug o n (λ b. unless (first_of (own_tests (commands.Archive n) head b.shared)) (Ok new))
-        ≡ at_bug o n (λ b. unless (first_of (own_tests (commands.Archive n) (open_head d.tree b.shared) b.shared)) (Ok new))
+        → at_bug o n (λ b. unless (first_of (own_tests (commands.Archive n) head b.merged b.shared)) (Ok new))
+        ≡ at_bug o n (λ b. unless (first_of (own_tests (commands.Archive n) (open_head d.tree b.shared) b.merged b.shared)) (Ok new))
     at None k = refl
-    at (Some b) k = λ j. unless (first_of (own_tests (commands.Archive n) (k b refl j) b.shared)) (Ok new)
+    at (Some b) k = λ j. unless (first_of (own_tests (commands.Archive n) (k b refl j) b.merged b.shared)) (Ok new)
 
 pub step-with : (d : Desk) (head : Option Node) (sender : List ℕ) (command : Command ℕ) → IsOpenHeadFor d command head
     → step_with head sender command d ≡ step_of_numbers d sender command
@@ -74,6 +73,8 @@ step-with d head sender (commands.Reassign n package_name version) h = refl
 step-with d head sender (commands.Merge n ns) h = refl
 step-with d head sender (commands.ForceMerge n ns) h = refl
 step-with d head sender (commands.Unmerge n) h = refl
+step-with d head sender (commands.Block n ns) h = refl
+step-with d head sender (commands.Unblock n ns) h = refl
 step-with d head sender (commands.Forwarded n text) h = refl
 step-with d head sender (commands.NotForwarded n) h = refl
 step-with d head sender (commands.Owner n who) h = refl
@@ -84,11 +85,17 @@ step-with d head sender (commands.Unarchive n) h = refl
 pub planned-others : (head : Option Node) (sender : List ℕ) (command : Command ℕ) (is : List SetImage) (next : ℕ)
     (result : Result Change PlanFault) → ((n : ℕ) (ns : List ℕ) → command ≡ commands.Merge n ns → ⊥)
     → ((n : ℕ) (ns : List ℕ) → command ≡ commands.ForceMerge n ns → ⊥) → ((n : ℕ) → command ≡ commands.Unmerge n → ⊥)
-    → IsPlannedOf (may_be_archived command) (bug_named command ∷ []) (records_changed (λ _. head) sender command) is next result
+    → IsRecordsPlan head sender command is next result
     → IsPlanned (bugs_named command) (step_with head sender command) is next result
 planned-others head sender (commands.Merge n ns) is next result a b c h = absurd (a n ns refl)
 planned-others head sender (commands.ForceMerge n ns) is next result a b c h = absurd (b n ns refl)
 planned-others head sender (commands.Unmerge n) is next result a b c h = absurd (c n refl)
+planned-others head sender (commands.Block n ns) is next result a b c h =
+    subst (λ (ks : List ℕ). IsPlanned (n ∷ ns) (λ d. unless (words_refusal (λ n. Ok n) d.bug (commands.Block n ns))
+    (records_changed (λ _. head) sender (commands.Block n ks) d)) is next result) (map-same ns) h
+planned-others head sender (commands.Unblock n ns) is next result a b c h =
+    subst (λ (ks : List ℕ). IsPlanned (n ∷ ns) (λ d. unless (words_refusal (λ n. Ok n) d.bug (commands.Unblock n ns))
+    (records_changed (λ _. head) sender (commands.Unblock n ks) d)) is next result) (map-same ns) h
 planned-others head sender (commands.Found n version) is next result a b c h = h
 planned-others head sender (commands.NotFound n version) is next result a b c h = h
 planned-others head sender (commands.Fixed n version) is next result a b c h = h

@@ -231,6 +231,8 @@ sound-parted d n b sound here = sound-each_bug d (bug_parted n rest) sound (reco
   ascending = λ m c e. ascending m c e (eqb m n) (has rest m);
   agree = λ m k c e q. agrees m k c e (eqb m n) refl (has rest m) refl q;
   texts = λ m c e. let t = sound.texts m c e in record { title = t.title; submitter = t.submitter; shared = t.shared };
+  blockers = λ m c e. let g = sound.blockers m c e in
+      record { ascending = g.ascending; there = g.there; outside = λ k h. parts_out m k c e (eqb m n) refl (has rest m) refl (g.outside k h) };
 })
   where
     rest : List ℕ
@@ -248,6 +250,16 @@ sound-parted d n b sound here = sound-each_bug d (bug_parted n rest) sound (reco
         turn : (t : Bool) → not t ≡ true → t ≡ false
         turn true h = absurd (false≢true h)
         turn false h = refl
+
+    -- what is outside a set is outside its parts
+    parts_out : (m k : ℕ) (c : Bug) → d.bug m ≡ Some c → (t : Bool) → eqb m n ≡ t → (u : Bool) → has rest m ≡ u
+        → has c.merged k ≡ false → has (cond t (n ∷ []) (cond u rest c.merged)) k ≡ false
+    parts_out m k c e true q u r h = false_from_ne_true (has (n ∷ []) k) (λ w.
+    false≢true (sym h ∙ ap (has c.merged) (one_number k n w ∙ sym (eqb-true m n q)) ∙ sound.own m c e))
+    parts_out m k c e false q true r h = false_from_ne_true (has rest k) (λ w.
+    let a = agree d sound n m b here (in_rest m r).0 in
+    false≢true (sym h ∙ ap (λ (z : Bug). has z.merged k) (same_value c a.0 e a.1) ∙ ap (λ z. has z k) a.2 ∙ (in_rest k w).0))
+    parts_out m k c e false q false r h = h
 
     own : (m : ℕ) (c : Bug) → d.bug m ≡ Some c → (t : Bool) → eqb m n ≡ t → (u : Bool) → has rest m ≡ u
         → has (cond t (n ∷ []) (cond u rest c.merged)) m ≡ true
@@ -316,21 +328,21 @@ steps-unmerge is next n i h d e k =
 
 pub unmerge-archived : (is : List SetImage) (next n : ℕ) (i : SetImage) (refusal : Refusal) → image_with is n ≡ Some i
     → archived_refusal false n i.shared ≡ Some refusal
-    → IsPlannedOf false (n ∷ []) (λ d. unmerged d n) is next (Err (Refused refusal))
+    → IsPlannedOf false false n [] (λ d. unmerged d n) is next (Err (Refused refusal))
 unmerge-archived is next n i refusal h r =
     planned-refused (n ∷ []) (unmerge_step n) is next refusal (own-archived false n i.shared refusal r)
     (λ d e k. steps-unmerge is next n i h d e k
     ∙ ap (λ (o : Option Refusal). unless (option_or o None) (taken_out d n (others_merged n (numbers_of i.members)))) r)
 
 pub unmerge-no_bug : (is : List SetImage) (next n : ℕ) → image_with is n ≡ None
-    → IsPlannedOf false (n ∷ []) (λ d. unmerged d n) is next (Err (Refused (NoBug n)))
+    → IsPlannedOf false false n [] (λ d. unmerged d n) is next (Err (Refused (NoBug n)))
 unmerge-no_bug is next n h =
     planned-refused (n ∷ []) (unmerge_step n) is next (NoBug n) tt
     (λ d e k. ap (by_bug d n) (sym k.0 ∙ image_with-none is n h))
 
 pub unmerge-alone : (is : List SetImage) (next n : ℕ) (i : SetImage) → image_with is n ≡ Some i
     → archived_refusal false n i.shared ≡ None → (part_of i false n).members ≡ []
-    → IsPlannedOf false (n ∷ []) (λ d. unmerged d n) is next (Err (Refused (NotMerged n)))
+    → IsPlannedOf false false n [] (λ d. unmerged d n) is next (Err (Refused (NotMerged n)))
 unmerge-alone is next n i h r none =
     planned-refused (n ∷ []) (unmerge_step n) is next (NotMerged n) tt
     (λ d e k. steps-unmerge is next n i h d e k
@@ -351,7 +363,7 @@ parts-apart is n i a h some = apart-replaced is (n ∷ []) (parts i n) a (parts-
 pub unmerge-done : (is : List SetImage) (next n : ℕ) (i : SetImage) → AreApart is → image_with is n ≡ Some i
     → archived_refusal false n i.shared ≡ None → ((part_of i false n).members ≡ [] → ⊥)
     → (change : Change) → change.images ≡ parts i n ++ others (n ∷ []) is → change.next ≡ next
-    → IsPlannedOf false (n ∷ []) (λ d. unmerged d n) is next (Ok change)
+    → IsPlannedOf false false n [] (λ d. unmerged d n) is next (Ok change)
 unmerge-done is next n i a h r some =
     planned-replaced (n ∷ []) (unmerge_step n) is next (n ∷ []) (parts i n)
     (bug_parted n (others_merged n (numbers_of i.members))) a

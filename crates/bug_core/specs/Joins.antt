@@ -1,8 +1,8 @@
 -- What joined sets have, one image after another.
-use Rattle.std.specs.Prelude.{ℕ, ◌≡◌, Bool, not, ◌==◌, List, [], ◌∷◌, if◌then◌else◌}
+use Rattle.std.specs.Prelude.{ℕ, ◌≡◌, Bool, not, ◌==◌, List, [], ◌∷◌, filter, if◌then◌else◌}
 use Rattle.std.specs.Map.{values_of}
 use Rattle.ancestry.specs.Nodes.{Node}
-use Rattle.bug_record.specs.Sets.{Each, IsAscending, with_item}
+use Rattle.bug_record.specs.Sets.{has, Each, IsAscending, with_item, with_items}
 use Rattle.bug_record.specs.Tags.{tag_place}
 use Rattle.bug_record.specs.Marks.{with_node}
 use Rattle.bug_record.specs.Bugs.{bugs_at}
@@ -13,11 +13,7 @@ use Rattle.bug_record.specs.declared.bug.Member.{Member}
 use Rattle.bug_record.specs.declared.bug.SetImage.{SetImage}
 use Rattle.bug_record.specs.declared.bug.Shared.{Shared}
 
--- a set with all items of a list
-abbrev pub with_items : {T : Type 0} → (T → ℕ) → List T → List T → List T
-with_items number set [] = set
-with_items number set (x ∷ xs) = with_items number (with_item number set x) xs
-
+-- a set with all nodes of a list
 abbrev pub with_nodes : List Node → List Node → List Node
 with_nodes set [] = set
 with_nodes set (n ∷ nodes) = with_nodes (with_node set n) nodes
@@ -39,16 +35,17 @@ abbrev pub with_members : List Member → List SetImage → List Member
 with_members ms [] = ms
 with_members ms (i ∷ is) = with_members (with_items number_of ms i.members) is
 
--- the fields without marks
+-- the fields without marks and blockers
 abbrev pub without_marks : Shared → Shared
-without_marks f = record f { found = []; fixed = [] }
+without_marks f = record f { found = []; fixed = []; blockers = [] }
 
--- the fields with the tags and marks of another set
+-- the fields with the tags, marks and blockers of another set
 abbrev pub with_shared : Shared → Shared → Shared
 with_shared f g = record f {
   tags = with_items tag_place f.tags g.tags;
   found = with_nodes f.found g.found;
   fixed = with_nodes f.fixed g.fixed;
+  blockers = with_items (λ n. n) f.blockers g.blockers;
 }
 
 -- the fields with those of these images
@@ -60,6 +57,17 @@ with_all_shared f (i ∷ is) = with_all_shared (with_shared f i.shared) is
 abbrev pub joined_shared : Shared → List SetImage → List ℕ → Shared
 joined_shared f images numbers =
     record (with_all_shared (without_marks f) (those_meant numbers images)) { owner = first_owner (bugs_at (bug_in images) numbers) }
+
+-- the fields without the blockers that are among these members
+abbrev pub without_own : List Member → Shared → Shared
+without_own ms f = record f { blockers = filter (λ n. not (has (numbers_of ms) n)) f.blockers }
+
+-- the image of the set that the sets of these bugs become, where the first of them has the fields f
+abbrev pub joined_image : Shared → List SetImage → List ℕ → SetImage
+joined_image f images numbers = record {
+  shared = without_own (with_members [] (those_meant numbers images)) (joined_shared f images numbers);
+  members = with_members [] (those_meant numbers images);
+}
 
 -- whether the member has the number n, or, of the rest, whether it has not
 abbrev pub is_part : Bool → ℕ → Member → Bool

@@ -1,14 +1,16 @@
 -- What is promised of the plan of each command.
-use Rattle.std.specs.Prelude.{ℕ, ◌≡◌, ◌≤◌, Bool, List, Option, Result, Ok, Err, IfOk, IfErr, ⊤}
+use Rattle.std.specs.Prelude.{ℕ, ◌≡◌, ◌≤◌, Bool, List, ◌∷◌, Option, Result, Ok, Err, IfOk, IfErr, ⊤}
+use Rattle.std.specs.Option.{option_or}
 use Rattle.debver.specs.Names.{IsName}
 use Rattle.bug_record.specs.Sets.{Each}
-use Rattle.bug_record.specs.Desk.{Desk}
+use Rattle.bug_record.specs.Desk.{Desk, IsSound}
 use Rattle.bug_record.specs.Bugs.{unless}
+use Rattle.bug_record.specs.Commands.{bug_named, other_bugs}
 use Rattle.ancestry.specs.Nodes.{Node}
-use Rattle.bug_record.specs.Words.{first_bug_refusal}
-use Rattle.bug_record.specs.Steps.{step_by}
+use Rattle.bug_record.specs.Words.{bug_refusal, first_bug_refusal, may_be_archived, others_may_be_archived}
+use Rattle.bug_record.specs.Steps.{step_by, records_changed}
 use Rattle.bug_record.specs.declared.command.Command.{Command}
-use Rattle.bug_record.specs.Images.{AreApart, HasMember, FitsDesk}
+use Rattle.bug_record.specs.Images.{AreApart, HasMember, AreSetsOf, FitsDesk}
 use Rattle.bug_record.specs.Plans.{AllKnown, IsShownBy, IsPlanOf, CoverImages, BringNone}
 use Rattle.bug_record.specs.declared.bug.SetImage.{SetImage}
 use Rattle.bug_record.specs.declared.command.Change.{Change}
@@ -17,7 +19,7 @@ use Rattle.bug_record.specs.declared.command.PlanFault.TheVariants.{Refused, Mem
 use Rattle.bug_record.specs.declared.command.Refusal.{Refusal}
 use Rattle.bug_record.specs.declared.command.Refusal.TheVariants.{Unknown, Malformed, TooLong, BadSeverity, BadTag, BadVersion}
 use Rattle.bug_record.specs.declared.command.Refusal.TheVariants.{BadPackage, NoName, NoBug, Archived, NotArchived, Differ}
-use Rattle.bug_record.specs.declared.command.Refusal.TheVariants.{NotMerged, NotDone, StillFound}
+use Rattle.bug_record.specs.declared.command.Refusal.TheVariants.{NotMerged, OwnSet, NotDone, StillFound}
 
 -- The answer is a refusal exactly where the step is one, and the same; out of memory is always
 -- allowed.
@@ -30,14 +32,15 @@ IsRefusedAs (Err r) (Err (Refused refusal)) = r ≡ refusal
 IsRefusedAs (Err r) (Err Memory) = Unit {0}
 
 -- The refusals of a plan: a bug is not there, is archived and may not be, or is to be taken out of
--- the archive and is not in it; one that is to be merged differs; one is merged with no other; or
--- one that is to be archived is open, or still found.
+-- the archive and is not in it; one that is to be merged differs; one is merged with no other; one
+-- that is to block another is in its set; or one that is to be archived is open, or still found.
 abbrev pub IsRefusalOfPlan : Refusal → Type 0
 IsRefusalOfPlan (NoBug n) = ⊤
 IsRefusalOfPlan (Archived n) = ⊤
 IsRefusalOfPlan (NotArchived n) = ⊤
 IsRefusalOfPlan (Differ field n) = ⊤
 IsRefusalOfPlan (NotMerged n) = ⊤
+IsRefusalOfPlan (OwnSet n) = ⊤
 IsRefusalOfPlan (NotDone n) = ⊤
 IsRefusalOfPlan (StillFound node) = ⊤
 IsRefusalOfPlan Unknown = ⊥
@@ -64,7 +67,7 @@ pub record IsPlanned (named : List ℕ) (after : Desk → Result Desk Refusal) (
   pub right : (d : Desk) → IsShownBy d images next named → IsPlanOf d (after d) result
   pub fits : (d : Desk) → IsShownBy d images next named → IfOk result (λ change. FitsDesk d change)
   pub brings : (d : Desk) → IsShownBy d images next named → IfOk result (λ change. BringNone d images change.images)
-  pub apart : (d : Desk) → IsShownBy d images next named → IfOk result (λ change. AreApart change.images)
+  pub apart : (d : Desk) → IsSound d → d.next ≡ next → AreSetsOf d images → IfOk result (λ change. AreApart change.images)
   -- of any desk, sound or not, of which the images show these bugs, where the images' packages are
   -- package names
   pub refusals : (d : Desk) → d.next ≡ next → AllKnown d images named → Each HasName images → IsRefusedAs (after d) result
@@ -78,8 +81,15 @@ pub record IsPlanned (named : List ℕ) (after : Desk → Result Desk Refusal) (
 abbrev pub step_with : Option Node → List ℕ → Command ℕ → Desk → Result Desk Refusal
 step_with head sender command d = step_by (λ n. Ok n) (λ _. head) d sender command
 
--- What is planned for a command of these bugs that comes to this where all of them are there, and
--- none is archived that may not be.
-abbrev pub IsPlannedOf : Bool → List ℕ → (Desk → Result Desk Refusal) → List SetImage → ℕ → Result Change PlanFault → Type 0
-IsPlannedOf may_be named own images next result =
-    IsPlanned named (λ d. unless (first_bug_refusal may_be d.bug named) (own d)) images next result
+-- What is planned for a command of the bug n, and of other bugs besides, that comes to this where all
+-- of them are there, and none is archived that may not be.
+abbrev pub IsPlannedOf : Bool → Bool → ℕ → List ℕ → (Desk → Result Desk Refusal) → List SetImage → ℕ → Result Change PlanFault → Type 0
+IsPlannedOf may_be others_may_be n others own images next result = IsPlanned (n ∷ others)
+    (λ d. unless (option_or (bug_refusal may_be (d.bug n) n) (first_bug_refusal others_may_be d.bug others)) (own d)) images next
+    result
+
+-- what is planned for a command that changes records, where this is the open head of its bug
+abbrev pub IsRecordsPlan : Option Node → List ℕ → Command ℕ → List SetImage → ℕ → Result Change PlanFault → Type 0
+IsRecordsPlan head sender command images next result =
+    IsPlannedOf (may_be_archived command) (others_may_be_archived command) (bug_named command) (other_bugs command)
+    (records_changed (λ _. head) sender command) images next result

@@ -22,6 +22,7 @@ shared_of_report package_name severity found =
       found =
           found;
       fixed = [];
+      blockers = [];
       archived = false;
     }
 

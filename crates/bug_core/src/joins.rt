@@ -6,30 +6,31 @@ ghost use Rattle.std.specs.Option.{option_copied};
 ghost use Rattle.bug_record.specs.Bugs.{bugs_at};
 ghost use Rattle.bug_record.specs.Images.{bug_in};
 ghost use Rattle.bug_record.specs.Merges.{first_owner};
-ghost use Rattle.bug_record.specs.Sets.{has, with_item};
+ghost use Rattle.bug_record.specs.Sets.{has, with_item, with_items};
 ghost use Rattle.bug_record.specs.Tags.{tag_place};
-ghost use Rattle.bug_core.specs.Joins.{with_items, with_nodes, with_members, with_shared, with_all_shared, joined_shared};
-ghost use Rattle.bug_core.specs.Joins.{number_of, without_marks, AreByNumber};
+ghost use Rattle.bug_core.specs.Joins.{with_nodes, with_members, with_shared, with_all_shared, joined_shared};
+ghost use Rattle.bug_core.specs.Joins.{number_of, without_marks, without_own, joined_image, AreByNumber};
 ghost use Rattle.bug_record.specs.Marks.{with_node};
 ghost use Rattle.bug_core.specs.Others.{those_meant};
 ghost use Rattle.bug_core.specs.Named.{named_numbers};
 
-use crate::images::{Named, has_any};
+use crate::images::{Named, has_any, member_numbers};
 use ancestry::Node;
-use bug_record::{Member, Members, Nodes, Sequence, SetImage, Shared, Tag, Tags};
+use bug_record::{Member, Members, Nodes, Sequence, SetImage, Shared, Tag, Tags, add_numbers};
 use debver::Text;
 use set_images::Index;
 use std::alloc::{AllocError, Global};
 use std::collections::{BTreeMap, BTreeSet};
 use std::marker::Model;
 
-// Fields that are joined, which contracts see as such. The marks are kept apart from the others, so
-// that one more is added in the logarithm of their number.
+// Fields that are joined, which contracts see as such. The marks and the blockers are kept apart
+// from the others, so that one more is added in the logarithm of their number.
 #[derive(Drop)]
 struct Joined {
     shared: Shared,
     found: BTreeSet<Node>,
     fixed: BTreeSet<Node>,
+    blockers: BTreeSet<u64>,
 }
 
 impl Model for Joined {
@@ -37,7 +38,7 @@ impl Model for Joined {
 
     ghost Value = { Shared };
 
-    ghost view = { λ j. record j.shared { found = j.found.keys; fixed = j.fixed.keys } };
+    ghost view = { λ j. record j.shared { found = j.found.keys; fixed = j.fixed.keys; blockers = j.blockers.keys } };
 }
 
 // The owner of a bug, if it is there and has one.
@@ -122,7 +123,7 @@ fn add_members(map: &mut BTreeMap<u64, Member>, members: &[Member]) -> Result<()
 }
 
 impl Joined {
-    // The fields of the first set, without marks.
+    // The fields of the first set, without marks and blockers.
     fn new(alloc: Global, first: &Shared) -> Result<Joined, AllocError>
         ensures { IfOk result (λ joined. joined ≡ without_marks first.now) }
     {
@@ -130,16 +131,18 @@ impl Joined {
             shared: first.copy()?,
             found: BTreeSet::new(alloc),
             fixed: BTreeSet::new(alloc),
+            blockers: BTreeSet::new(alloc),
         })
     }
 
-    // Adds the tags and marks of another set.
+    // Adds the tags, marks and blockers of another set.
     fn add_shared(&mut self, other: &Shared) -> Result<(), AllocError>
         ensures { OnOk result (self.new ≡ with_shared self.old other.now) }
     {
         add_tags(&mut self.shared.tags, other.tags.as_slice())?;
         add_nodes(&mut self.found, other.found.as_slice())?;
-        add_nodes(&mut self.fixed, other.fixed.as_slice())
+        add_nodes(&mut self.fixed, other.fixed.as_slice())?;
+        add_numbers(&mut self.blockers, other.blockers.as_slice())
     }
 
     // The fields.
@@ -149,6 +152,7 @@ impl Joined {
         let mut shared = self.shared;
         shared.found = in_order(alloc, self.found)?;
         shared.fixed = in_order(alloc, self.fixed)?;
+        shared.blockers = Sequence::in_order(alloc, &self.blockers)?;
         Ok(shared)
     }
 }
@@ -181,7 +185,7 @@ fn joined_members(alloc: Global, images: &[SetImage], named: Named) -> Result<Me
     Members::of(members)
 }
 
-// Adds the tags and marks of all sets of the bugs.
+// Adds the tags, marks and blockers of all sets of the bugs.
 fn add_all_shared(joined: &mut Joined, images: &[SetImage], named: Named) -> Result<(), AllocError>
     ensures { OnOk result (joined.new ≡ with_all_shared joined.old (those_meant (named_numbers named.entry) images.now)) }
 {
@@ -193,7 +197,7 @@ fn add_all_shared(joined: &mut Joined, images: &[SetImage], named: Named) -> Res
     Ok(())
 }
 
-// The shared fields of that set. The named bugs are those of the numbers.
+// The shared fields of those sets. The named bugs are those of the numbers.
 fn joined_shared(
     alloc: Global,
     first: &Shared,
@@ -213,8 +217,18 @@ fn joined_shared(
     Ok(shared)
 }
 
+// Takes the blockers out that are among these members.
+fn drop_own(alloc: Global, shared: &mut Shared, members: &[Member]) -> Result<(), AllocError>
+    ensures { OnOk result (shared.new ≡ without_own members.now shared.old) }
+{
+    let own = member_numbers(alloc, members)?;
+    shared.blockers.remove_set(&own);
+    Ok(())
+}
+
 /// The image of the set that the bugs' sets become: with the fields of the first one, the tags and
-/// marks of all, and the owner of the first bug that has one.
+/// marks of all, the blockers of all but for those that are in the set, and the owner of the first
+/// bug that has one.
 /// The index is that of the images, and the set is that of the numbers.
 pub(crate) fn joined_image(
     alloc: Global,
@@ -226,14 +240,11 @@ pub(crate) fn joined_image(
 ) -> Result<SetImage, AllocError>
     requires images { index.now ≡ images.now }
     requires set { (n : ℕ) → has set.now.keys n ≡ has numbers.now n }
-    ensures { IfOk result (λ i. i ≡ record {
-      shared = joined_shared first.now images.now numbers.now;
-      members = with_members [] (those_meant numbers.now images.now);
-    }) }
+    ensures { IfOk result (λ i. i ≡ joined_image first.now images.now numbers.now) }
 {
     let named = Named::Several(set);
-    Ok(SetImage {
-        shared: joined_shared(alloc, first, index, images, numbers, named)?,
-        members: joined_members(alloc, images, named)?,
-    })
+    let members = joined_members(alloc, images, named)?;
+    let mut shared = joined_shared(alloc, first, index, images, numbers, named)?;
+    drop_own(alloc, &mut shared, members.as_slice())?;
+    Ok(SetImage { shared, members })
 }

@@ -1,23 +1,19 @@
 //! The commands `merge` and `forcemerge`.
 
-ghost use Rattle.std.specs.Prelude.{◌≡◌, ◌∷◌, [], false, IfOk, OnOk};
+ghost use Rattle.std.specs.Prelude.{◌≡◌, ◌∷◌, false, IfOk};
 ghost use Rattle.bug_record.specs.Bugs.{first_refusal};
 ghost use Rattle.bug_record.specs.Differences.{differing};
 ghost use Rattle.bug_record.specs.Images.{bug_in, AreApart};
 ghost use Rattle.bug_record.specs.Merges.{sets_joined};
-ghost use Rattle.bug_record.specs.Sets.{with_item};
-ghost use Rattle.bug_record.specs.Words.{bug_refusal, first_bug_refusal};
 ghost use Rattle.bug_core.specs.Agreements.{difference_of};
-ghost use Rattle.bug_core.specs.Joins.{with_items};
 ghost use Rattle.bug_core.specs.Planned.{IsPlannedOf};
 
 use crate::images::{Named, replace_by_one};
 use crate::joins::joined_image;
-use crate::refusals::archived_refusal;
-use bug_record::{Change, Field, Numbers, PlanFault, Refusal, SetImage, Shared};
+use crate::refusals::{archived_refusal, first_refused};
+use bug_record::{Change, Field, Numbers, PlanFault, Refusal, SetImage, Shared, number_set};
 use set_images::{Index, find_image, same_text};
 use std::alloc::{AllocError, Global};
-use std::collections::BTreeSet;
 
 /// What has to be equal before bugs are merged.
 #[derive(Clone, Copy, Debug, PartialEq, Eq, Drop)]
@@ -45,28 +41,6 @@ fn difference(agreement: Agreement, first: &Shared, shared: &Shared) -> Option<F
         }
         Agreement::FourFields => None,
     }
-}
-
-// The refusal of a bug that is not there, or is archived.
-fn bug_refusal(index: &Index, number: u64) -> Option<Refusal>
-    ensures { result ≡ bug_refusal false (bug_in index.now number) number }
-{
-    match index.find_bug(number) {
-        Some((image, _)) => archived_refusal(false, number, &image.shared),
-        None => Some(Refusal::NoBug(number)),
-    }
-}
-
-// The refusal of the first such bug.
-fn first_refused(index: &Index, numbers: &[u64]) -> Option<Refusal>
-    ensures { result ≡ first_bug_refusal false (bug_in index.now) numbers.now }
-{
-    for number in numbers {
-        if let Some(refusal) = bug_refusal(index, *number) {
-            return Some(refusal);
-        }
-    }
-    None
 }
 
 // The refusal of a bug, if it is there and differs.
@@ -106,25 +80,6 @@ fn all_numbers(alloc: Global, first: u64, others: &[u64]) -> Result<Numbers, All
     Ok(numbers)
 }
 
-// Adds a number to a set.
-fn add_number(set: &mut BTreeSet<u64>, number: u64) -> Result<(), AllocError>
-    ensures { OnOk result (set.new.keys ≡ with_item (λ n. n) set.old.keys number) }
-{
-    set.insert(number)?;
-    Ok(())
-}
-
-// The set of these numbers.
-fn set_of(alloc: Global, numbers: &[u64]) -> Result<BTreeSet<u64>, AllocError>
-    ensures { IfOk result (λ set. set.keys ≡ with_items (λ n. n) [] numbers.now) }
-{
-    let mut set = BTreeSet::new(alloc);
-    for number in numbers {
-        add_number(&mut set, *number)?;
-    }
-    Ok(set)
-}
-
 /// Merges bugs: their sets become one.
 pub(crate) fn plan_merge(
     alloc: Global,
@@ -135,7 +90,7 @@ pub(crate) fn plan_merge(
     next: u64,
 ) -> Result<Change, PlanFault>
     requires apart { AreApart images.now }
-    ensures { IsPlannedOf false (first ∷ others.now) (λ d. sets_joined (difference_of agreement) d first others.now) images.now next
+    ensures { IsPlannedOf false false first others.now (λ d. sets_joined (difference_of agreement) d first others.now) images.now next
         result }
 {
     let Some(image) = find_image(images, first) else {
@@ -145,7 +100,7 @@ pub(crate) fn plan_merge(
         return Err(PlanFault::Refused(refusal));
     }
     let index = Index::of(alloc, images)?;
-    if let Some(refusal) = first_refused(&index, others) {
+    if let Some(refusal) = first_refused(&index, false, others) {
         return Err(PlanFault::Refused(refusal));
     }
     if let Some(refusal) = first_differing(agreement, &image.shared, &index, others) {
@@ -153,7 +108,7 @@ pub(crate) fn plan_merge(
     }
     let numbers = all_numbers(alloc, first, others)?;
     let numbers = numbers.as_slice();
-    let set = set_of(alloc, numbers)?;
+    let set = number_set(alloc, numbers)?;
     let image = joined_image(alloc, &image.shared, &index, images, numbers, &set)?;
     let named = Named::Several(&set);
     Ok(replace_by_one(alloc, image, images, named, next)?)

@@ -2,7 +2,7 @@
 
 ghost use Rattle.std.specs.Prelude.{◌≡◌};
 ghost use Rattle.bug_record.specs.Commands.{bug_named, other_bugs};
-ghost use Rattle.bug_record.specs.Words.{may_be_archived};
+ghost use Rattle.bug_record.specs.Words.{may_be_archived, others_may_be_archived};
 
 use bug_record::Command;
 
@@ -25,6 +25,8 @@ pub fn bug_named(command: &Command<u64>) -> u64
         | Command::Merge(number, _)
         | Command::ForceMerge(number, _)
         | Command::Unmerge(number)
+        | Command::Block(number, _)
+        | Command::Unblock(number, _)
         | Command::Forwarded(number, _)
         | Command::NotForwarded(number)
         | Command::Owner(number, _)
@@ -35,22 +37,36 @@ pub fn bug_named(command: &Command<u64>) -> u64
 }
 
 /// The bugs that a command names besides, in the order written: those that `merge` and `forcemerge`
-/// merge with the first one. Every other command names none.
+/// merge with the first one, and the blockers of `block` and `unblock`.
+/// Every other command names none.
 pub fn other_bugs(command: &Command<u64>) -> &[u64]
     ensures { result.now ≡ other_bugs command.now }
 {
     match command {
-        Command::Merge(_, numbers) | Command::ForceMerge(_, numbers) => numbers.as_slice(),
+        Command::Merge(_, numbers)
+        | Command::ForceMerge(_, numbers)
+        | Command::Block(_, numbers)
+        | Command::Unblock(_, numbers) => numbers.as_slice(),
         _ => &[],
     }
 }
 
-/// Whether the bugs that a command names may be archived: the bug of `unarchive` alone.
+/// Whether the bug that a command names first may be archived: that of `unarchive` alone.
 pub(crate) fn may_be_archived(command: &Command<u64>) -> bool
     ensures { result ≡ may_be_archived command.now }
 {
     match command {
         Command::Unarchive(_) => true,
+        _ => false,
+    }
+}
+
+/// Whether those that it names besides may be: blockers alone.
+pub(crate) fn others_may_be_archived(command: &Command<u64>) -> bool
+    ensures { result ≡ others_may_be_archived command.now }
+{
+    match command {
+        Command::Block(_, _) | Command::Unblock(_, _) => true,
         _ => false,
     }
 }

@@ -4,17 +4,16 @@ ghost use Rattle.std.specs.Prelude.{◌≡◌, ◌≤◌, ◌∷◌, [], map, If
 ghost use Rattle.ancestry.specs.Nodes.{Node};
 ghost use Rattle.bug_record.specs.Sets.{Each};
 ghost use Rattle.bug_record.specs.Texts.{IsText};
-ghost use Rattle.bug_record.specs.Desk.{Desk};
+ghost use Rattle.bug_record.specs.Desk.{Desk, IsSound};
 ghost use Rattle.bug_record.specs.Commands.{HasGoodParts, bug_named, bugs_named};
-ghost use Rattle.bug_record.specs.Steps.{step_of_numbers, records_changed};
-ghost use Rattle.bug_record.specs.Images.{AreApart, HasMember, FitsDesk, image_with};
+ghost use Rattle.bug_record.specs.Steps.{step_of_numbers};
+ghost use Rattle.bug_record.specs.Images.{AreApart, HasMember, AreSetsOf, FitsDesk, image_with};
 ghost use Rattle.bug_record.specs.Plans.{AllKnown, IsShownBy, IsOpenHeadFor, IsPlanFor, CoverImages, BringNone};
-ghost use Rattle.bug_record.specs.Words.{may_be_archived};
 ghost use Rattle.std.specs.Option.{option_copied};
 ghost use Rattle.record_changes.specs.Members.{member_after};
 ghost use Rattle.bug_core.specs.Others.{others};
 ghost use Rattle.bug_core.specs.Refusals.{records_refusal};
-ghost use Rattle.bug_core.specs.Planned.{step_with, HasName, IsRefusedAs, IsFaultOfPlan, IsPlanned, IsPlannedOf};
+ghost use Rattle.bug_core.specs.Planned.{step_with, HasName, IsRefusedAs, IsFaultOfPlan, IsPlanned, IsRecordsPlan};
 
 use crate::images::{Named, replace_by_one};
 use crate::merges::{Agreement, plan_merge};
@@ -63,9 +62,8 @@ fn change_records(
     requires parts { HasGoodParts command.now }
     requires apart { AreApart images.now }
     requires named { image_with images.now (bug_named command.now) ≡ Some image.now }
-    ensures { (head : Option Node) → records_refusal command.now head (bug_named command.now) image.now.shared ≡ None
-        → IsPlannedOf (may_be_archived command.now) (bug_named command.now ∷ [])
-        (records_changed (λ _. head) from.now command.now) images.now next result }
+    ensures { (head : Option Node) → records_refusal command.now head images.now image.now ≡ None
+        → IsRecordsPlan head from.now command.now images.now next result }
 {
     let shared = match shared_after(alloc, command, from, &image.shared) {
         Ok(shared) => shared,
@@ -94,14 +92,13 @@ fn plan_records(
     requires sender { IsText from.now }
     requires parts { HasGoodParts command.now }
     requires apart { AreApart images.now }
-    ensures { IsPlannedOf (may_be_archived command.now) (bug_named command.now ∷ [])
-        (records_changed (λ _. option_copied open_head.entry) from.now command.now) images.now next result }
+    ensures { IsRecordsPlan (option_copied open_head.entry) from.now command.now images.now next result }
 {
     let number = bug_named(command);
     let Some(image) = find_image(images, number) else {
         return Err(PlanFault::Refused(Refusal::NoBug(number)));
     };
-    if let Some(refusal) = records_refusal(command, open_head, number, &image.shared)? {
+    if let Some(refusal) = records_refusal(alloc, command, open_head, images, image)? {
         return Err(PlanFault::Refused(refusal));
     }
     change_records(alloc, command, from, image, images, next)
@@ -150,12 +147,14 @@ fn plan_command(
 /// # Errors
 ///
 /// `Refused(NoBug(n))` where the command names a bug n that is in no image: n may be any number.
-/// `Refused(Archived(n))` where a bug that it names is archived, unless the command is `unarchive`.
+/// `Refused(Archived(n))` where a bug that it names is archived, unless it is a blocker of `block` or
+/// `unblock`, or the command is `unarchive`.
 /// The bugs are tested from the left, and the first that is refused decides.
 /// Then `Refused(NotArchived(n))` where a bug is to be taken out of the archive and is not in it;
 /// `Refused(Differ(field, n))` where the bug n is to be merged and differs from the first one in a
 /// field that has to be equal; `Refused(NotMerged(n))` where a bug is to be taken out of its set
-/// and is merged with no other; `Refused(NotDone(n))` where a bug is to be archived and is open,
+/// and is merged with no other; `Refused(OwnSet(n))` where the bug n is to block a bug of its own set;
+/// `Refused(NotDone(n))` where a bug is to be archived and is open,
 /// and else `Refused(StillFound(node))` where there is an open head.
 /// There is no other refusal: where the command has a version for an image whose package is no
 /// package name, as no desk shows one, it is `Refused(NoBug(n))` of the bug named.
@@ -178,7 +177,7 @@ pub fn plan(
         → IsOpenHeadFor d command.now (option_copied open_head.entry)
         → IsRefusedAs (step_of_numbers d from.now command.now) result }
     ensures own { IfErr result IsFaultOfPlan }
-    ensures apart { (d : Desk) → IsShownBy d images.now next (bugs_named command.now)
+    ensures apart { (d : Desk) → IsSound d → d.next ≡ next → AreSetsOf d images.now
         → IfOk result (λ change. AreApart change.images) }
     ensures members { IfOk result (λ change. Each HasMember change.images) }
     ensures covers { IfOk result (λ change. CoverImages images.now change.images) }

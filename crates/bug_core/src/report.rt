@@ -55,6 +55,7 @@ fn shared_of_report(
         tags: Sequence::new(alloc),
         found,
         fixed: Sequence::new(alloc),
+        blockers: Sequence::new(alloc),
         archived: false,
     })
 }

@@ -1,6 +1,6 @@
 use Rattle.std.proofs.Common.{◌≡◌, drop}
 use Rattle.bug_record.specs.Tags.{tag_place}
-use Rattle.bug_core.specs.Joins.{with_items}
+use Rattle.bug_record.specs.Sets.{with_items}
 use Rattle.bug_core.proofs.joins.add_tags.Given as goal
 
 abbrev pub invariant-loop-tag : goal.invariant-loop-tag

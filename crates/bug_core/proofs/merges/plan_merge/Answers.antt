@@ -8,7 +8,7 @@ use Rattle.bug_record.specs.declared.bug.SetImage.{SetImage}
 use Rattle.bug_core.specs.Agreements.{difference_of}
 use Rattle.bug_core.specs.Others.{others}
 use Rattle.bug_core.proofs.MergeLemmas.{image_joined, merge-no_bug, merge-archived, merge-refused, merge-differs, merge-done}
-use Rattle.bug_core.proofs.NamedLemmas.{others-same, has-set_of}
+use Rattle.bug_core.proofs.NamedLemmas.{others-same, has-set}
 use Rattle.bug_core.proofs.merges.plan_merge.Goals as goal
 
 pub returns-in_default : goal.returns-in_default
@@ -35,7 +35,7 @@ returns-in-Some-first_differing c =
     c.args.others.now) (sym c.in_ok-index.ensures) ∙ sym c.first_differing.ensures ∙ c.in-Some-first_differing.is)
 
 pub joined_image-requires-clause-set : goal.joined_image-requires-clause-set
-joined_image-requires-clause-set c = λ n. has-set_of c.in_ok-set.set.keys c.as_slice-numbers.result.now c.in_ok-set.ensures n
+joined_image-requires-clause-set c = λ n. has-set c.in_ok-set.set.keys c.as_slice-numbers.result.now c.in_ok-set.ensures n
 
 pub returns : goal.returns
 returns c =
@@ -45,7 +45,7 @@ returns c =
     = c.in_ok-image.ensures ∙ ap (λ (ns : List ℕ). image_joined c.args.images.now ns c.in-Some.image.now) numbers in
     let rest : others c.in_ok-set.set.keys c.args.images.now ≡ others (c.args.first ∷ c.args.others.now) c.args.images.now
     = others-same c.in_ok-set.set.keys (c.args.first ∷ c.args.others.now)
-    (λ n. has-set_of c.in_ok-set.set.keys c.as_slice-numbers.result.now c.in_ok-set.ensures n
+    (λ n. has-set c.in_ok-set.set.keys c.as_slice-numbers.result.now c.in_ok-set.ensures n
     ∙ ap (λ (ns : List ℕ). has ns n) numbers) c.args.images.now in
     merge-done (difference_of c.args.agreement) c.args.images.now c.args.next c.args.first c.args.others.now c.in-Some.image.now
     c.requires.apart c.in-Some.ensures

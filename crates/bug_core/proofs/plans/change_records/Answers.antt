@@ -1,5 +1,5 @@
 use Rattle.std.proofs.Common.{[], ◌∷◌, ◌∙◌}
-use Rattle.bug_record.specs.Commands.{bug_named}
+use Rattle.bug_record.specs.Commands.{bug_named, bugs_named}
 use Rattle.std.specs.Prelude.{map}
 use Rattle.record_changes.specs.Members.{member_after}
 use Rattle.bug_record.specs.declared.command.Refusal.TheVariants.{NoBug}
@@ -10,13 +10,13 @@ use Rattle.bug_core.proofs.plans.change_records.Goals as goal
 
 pub returns-in-Err-Memory : goal.returns-in-Err-Memory
 returns-in-Err-Memory c = λ head r.
-    planned-memory (bug_named c.args.command.now ∷ []) (records_step head c.args.from.now c.args.command.now) c.args.images.now
+    planned-memory (bugs_named c.args.command.now) (records_step head c.args.from.now c.args.command.now) c.args.images.now
     c.args.next
 
 pub returns-in-Err-Refused : goal.returns-in-Err-Refused
 returns-in-Err-Refused c = λ head r.
     let nameless = rw c.in-Err-Refused.field-0-is at c.in-Err-Refused.ensures.fault in
-    planned-nameless (bug_named c.args.command.now ∷ []) (records_step head c.args.from.now c.args.command.now) c.args.images.now
+    planned-nameless (bugs_named c.args.command.now) (records_step head c.args.from.now c.args.command.now) c.args.images.now
     c.args.next (bug_named c.args.command.now) c.args.image.now (NoBug c.bug_named.result) tt c.requires.named nameless
 
 pub returns-in-Ok-changed_set : goal.returns-in-Ok-changed_set
@@ -33,5 +33,5 @@ returns-in-Ok-changed_set c = λ head r.
 
 pub returns-in-Err : goal.returns-in-Err
 returns-in-Err c = λ head r.
-    planned-memory (bug_named c.args.command.now ∷ []) (records_step head c.args.from.now c.args.command.now) c.args.images.now
+    planned-memory (bugs_named c.args.command.now) (records_step head c.args.from.now c.args.command.now) c.args.images.now
     c.args.next
