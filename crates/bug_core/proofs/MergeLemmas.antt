@@ -1,5 +1,5 @@
 -- Merging bugs: the joined image is that of the model's set, and the desk stays sound.
-use Rattle.std.proofs.Common.{◌≡◌, ℕ, Bool, true, false, cond, ◌||◌, ◌&&◌, eqb, List, [], ◌∷◌, Option, Some, None, Result, Ok, Err, sym}
+use Rattle.std.proofs.Common.{◌≡◌, ℕ, Bool, true, false, cond, ◌||◌, eqb, List, [], ◌∷◌, Option, Some, None, Result, Ok, Err, sym}
 use Rattle.std.proofs.Common.{refl, ap, ◌∙◌, subst}
 use Rattle.std.specs.Prelude.{not, option_map}
 use Rattle.std.specs.List.{list_any}
@@ -24,7 +24,7 @@ use Rattle.bug_record.specs.declared.command.Change.{Change}
 use Rattle.bug_record.specs.declared.command.Field.{Field}
 use Rattle.bug_record.specs.declared.command.PlanFault.TheVariants.{Refused}
 use Rattle.bug_record.specs.declared.command.Refusal.{Refusal}
-use Rattle.bug_record.specs.declared.command.Refusal.TheVariants.{NoBug, Archived}
+use Rattle.bug_record.specs.declared.command.Refusal.TheVariants.{NoBug}
 use Rattle.bug_record.proofs.SetLemmas.{IsAscending-number_set, same-ascending}
 use Rattle.bug_record.proofs.MarkLemmas.{set-node_set}
 use Rattle.bug_record.proofs.TagLemmas.{set-joined_tags}
@@ -180,12 +180,12 @@ joined-makes d is n ns i sound sets known a h = record {
     good : IsGoodShared i.shared
     good = (sound.texts n (bug_of i named.0) (shown d is sets n (bug_of i named.0) named.1)).shared
 
+    numbers : numbers_of (with_members [] (those_meant (n ∷ ns) is)) ≡ all_merged bugs
+    numbers = joined-numbers d is (n ∷ ns) sound sets known a ∙ ap all_merged (sym same)
+
     fields : (image_joined is (n ∷ ns) i).shared ≡ joined_shared i.shared bugs
     fields = joined-fields is (n ∷ ns) n i named.0 a (own-first n ns) named.1 good.tags
         (with_members [] (those_meant (n ∷ ns) is)) numbers
-
-    numbers : numbers_of (with_members [] (those_meant (n ∷ ns) is)) ≡ all_merged bugs
-    numbers = joined-numbers d is (n ∷ ns) sound sets known a ∙ ap all_merged (sym same)
 
 -- ---- the desk stays sound
 

@@ -255,10 +255,10 @@ sound-parted d n b sound here = sound-each_bug d (bug_parted n rest) sound (reco
     parts_out : (m k : ℕ) (c : Bug) → d.bug m ≡ Some c → (t : Bool) → eqb m n ≡ t → (u : Bool) → has rest m ≡ u
         → has c.merged k ≡ false → has (cond t (n ∷ []) (cond u rest c.merged)) k ≡ false
     parts_out m k c e true q u r h = false_from_ne_true (has (n ∷ []) k) (λ w.
-    false≢true (sym h ∙ ap (has c.merged) (one_number k n w ∙ sym (eqb-true m n q)) ∙ sound.own m c e))
+        false≢true (sym h ∙ ap (has c.merged) (one_number k n w ∙ sym (eqb-true m n q)) ∙ sound.own m c e))
     parts_out m k c e false q true r h = false_from_ne_true (has rest k) (λ w.
-    let a = agree d sound n m b here (in_rest m r).0 in
-    false≢true (sym h ∙ ap (λ (z : Bug). has z.merged k) (same_value c a.0 e a.1) ∙ ap (λ z. has z k) a.2 ∙ (in_rest k w).0))
+        let a = agree d sound n m b here (in_rest m r).0 in
+        false≢true (sym h ∙ ap (λ (z : Bug). has z.merged k) (same_value c a.0 e a.1) ∙ ap (λ z. has z k) a.2 ∙ (in_rest k w).0))
     parts_out m k c e false q false r h = h
 
     own : (m : ℕ) (c : Bug) → d.bug m ≡ Some c → (t : Bool) → eqb m n ≡ t → (u : Bool) → has rest m ≡ u

@@ -2,7 +2,7 @@
 use Rattle.std.specs.Prelude.{ℕ, ◌≡◌, Bool, not, ◌==◌, List, [], ◌∷◌, filter, if◌then◌else◌}
 use Rattle.std.specs.Map.{values_of}
 use Rattle.ancestry.specs.Nodes.{Node}
-use Rattle.bug_record.specs.Sets.{has, Each, IsAscending, with_item, with_items}
+use Rattle.bug_record.specs.Sets.{has, Each, IsAscending, with_items}
 use Rattle.bug_record.specs.Tags.{tag_place}
 use Rattle.bug_record.specs.Marks.{with_node}
 use Rattle.bug_record.specs.Bugs.{bugs_at}

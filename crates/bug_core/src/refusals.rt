@@ -17,6 +17,7 @@ use ancestry::Node;
 use bug_record::{Command, Refusal, SetImage, Shared};
 use set_images::Index;
 use std::alloc::{AllocError, Global};
+use std::collections::BTreeSet;
 
 /// The refusal of a bug that is archived and may not be.
 pub(crate) fn archived_refusal(may_be: bool, number: u64, shared: &Shared) -> Option<Refusal>
@@ -67,6 +68,25 @@ fn others_refusal(
     Ok(first_refused(&index, others_may_be_archived(command), others))
 }
 
+// Whether the number is in the set.
+fn is_in(set: &BTreeSet<u64>, number: u64) -> bool
+    ensures { result ≡ has set.now.keys number }
+{
+    set.contains(&number)
+}
+
+// The first of the numbers that is in the set.
+fn first_in(set: &BTreeSet<u64>, numbers: &[u64]) -> Option<u64>
+    ensures { result ≡ find (has set.now.keys) numbers.now }
+{
+    for number in numbers {
+        if is_in(set, *number) {
+            return Some(*number);
+        }
+    }
+    None
+}
+
 // The refusal of the first of these bugs that is in the set: no bug waits on its own set.
 fn own_set_refusal(
     alloc: Global,
@@ -77,12 +97,10 @@ fn own_set_refusal(
         (λ refusal. refusal ≡ option_map Refusal.OwnSet (find (has (numbers_of image.now.members)) numbers.now)) }
 {
     let own = member_numbers(alloc, image.members.as_slice())?;
-    for number in numbers {
-        if own.contains(number) {
-            return Ok(Some(Refusal::OwnSet(*number)));
-        }
+    match first_in(&own, numbers) {
+        Some(number) => Ok(Some(Refusal::OwnSet(number))),
+        None => Ok(None),
     }
-    Ok(None)
 }
 
 // Why a bug can't be archived: it is open, or still found at its open head.

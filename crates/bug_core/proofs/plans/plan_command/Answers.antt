@@ -1,4 +1,4 @@
-use Rattle.std.proofs.Common.{ℕ, false, List, ◌∷◌, sym, subst}
+use Rattle.std.proofs.Common.{ℕ, false, List, sym, subst}
 use Rattle.bug_record.specs.Commands.{bugs_named}
 use Rattle.bug_record.specs.Differences.{first_difference, package_difference}
 use Rattle.bug_record.specs.Merges.{sets_joined}

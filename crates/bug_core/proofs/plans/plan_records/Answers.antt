@@ -1,6 +1,5 @@
-use Rattle.std.proofs.Common.{◌≡◌, ℕ, Err, sym, ap, ◌∙◌, subst}
+use Rattle.std.proofs.Common.{ℕ, Err, sym, ap, ◌∙◌, subst}
 use Rattle.std.specs.Option.{option_copied}
-use Rattle.bug_record.specs.Commands.{bug_named}
 use Rattle.bug_record.specs.Images.{image_with}
 use Rattle.bug_record.specs.declared.command.PlanFault.TheVariants.{Refused}
 use Rattle.bug_record.specs.declared.command.Refusal.TheVariants.{NoBug}

@@ -1,4 +1,4 @@
-use Rattle.std.proofs.Common.{◌≡◌, ℕ, List, ap, ◌∙◌}
+use Rattle.std.proofs.Common.{ap, ◌∙◌}
 use Rattle.std.specs.Prelude.{not, filter}
 use Rattle.bug_record.specs.Sets.{has}
 use Rattle.bug_record.proofs.SetLemmas.{has-number_set}

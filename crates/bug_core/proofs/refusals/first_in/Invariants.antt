@@ -1,7 +1,7 @@
 use Rattle.std.proofs.Common.{◌≡◌, drop}
 use Rattle.std.specs.List.{find}
 use Rattle.bug_record.specs.Sets.{has}
-use Rattle.bug_core.proofs.refusals.own_set_refusal.Given as goal
+use Rattle.bug_core.proofs.refusals.first_in.Given as goal
 
 abbrev pub invariant-loop-number : goal.invariant-loop-number
-invariant-loop-number l = find (has l.own.keys) (drop l.number-index l.numbers) ≡ find (has l.own.keys) l.numbers
+invariant-loop-number l = find (has l.set.keys) (drop l.number-index l.numbers) ≡ find (has l.set.keys) l.numbers
