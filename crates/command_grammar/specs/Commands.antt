@@ -1,5 +1,5 @@
 -- The commands, each over the text after its own word (the BTS page 'control and manipulation').
-use Rattle.std.specs.Prelude.{ℕ, nat_lt, ◌==◌, codes, if◌then◌else◌, Bool, true, false, List, [], ◌∷◌, ◌++◌, length, Option, Some}
+use Rattle.std.specs.Prelude.{ℕ, nat_lt, ◌==◌, ◌||◌, codes, if◌then◌else◌, Bool, true, false, List, [], ◌∷◌, ◌++◌, length, Option, Some}
 use Rattle.std.specs.Prelude.{None, Result, Ok, Err}
 use Rattle.std.specs.Option.{ok_or}
 use Rattle.std.specs.Str.{bytes_eq}
@@ -16,6 +16,7 @@ use Rattle.bug_record.specs.declared.tag.Tag.{Tag}
 use Rattle.bug_record.specs.declared.command.Refusal.{Refusal}
 use Rattle.bug_record.specs.declared.command.Refusal.TheVariants.{Malformed, TooLong, BadSeverity, BadTag, BadVersion, BadPackage}
 use Rattle.line_words.specs.Words.{words, words_with_commas, first_word, after_word, trimmed}
+use Rattle.line_words.specs.AnyCase.{is_word}
 use Rattle.line_words.specs.Bugs.{bug_of_word}
 use Rattle.command_grammar.specs.Versions.{version_of_word, package_of_word}
 use Rattle.command_grammar.specs.declared.command_word.CommandWord.{CommandWord}
@@ -126,6 +127,24 @@ bug_and_others (n ∷ m ∷ more) =
     and_read (read_bug n) (λ bug. and_read (each_word read_bug (m ∷ more)) (λ others. Ok (bug, others)))
 bug_and_others _ = Err Malformed
 
+-- one bug or more
+abbrev pub some_bugs : List (List ℕ) → Result (List Named) Refusal
+some_bugs [] = Err Malformed
+some_bugs (m ∷ more) = each_word read_bug (m ∷ more)
+
+-- the words that stand before blockers, in any ASCII case
+abbrev pub is_by : List ℕ → Bool
+is_by word = is_word word (codes "by") || is_word word (codes "with")
+
+-- `by m ..`: `by` or `with`, then, with commas as blanks, one bug or more
+abbrev pub by_bugs : List ℕ → Result (List Named) Refusal
+by_bugs text = if is_by (first_word text) then some_bugs (words_with_commas (after_word text)) else Err Malformed
+
+-- `n by m ..`
+abbrev pub bug_by_bugs : List ℕ → Result (Named × List Named) Refusal
+bug_by_bugs arguments =
+    and_read (read_bug (first_word arguments)) (λ bug. and_read (by_bugs (after_word arguments)) (λ others. Ok (bug, others)))
+
 -- The sign that a word begins with, and the tag that follows it: one `+`, `-` or `=`, or none. What
 -- signs say here is this project's own rule.
 abbrev pub sign_and_tag : List ℕ → Option Sign × List ℕ
@@ -205,6 +224,8 @@ command_of command_words.Merge arguments = and_read (bug_and_others (words argum
 command_of command_words.ForceMerge arguments =
     and_read (bug_and_others (words arguments)) (λ both. Ok (commands.ForceMerge both.0 both.1))
 command_of command_words.Unmerge arguments = and_read (bug_alone (words arguments)) (λ bug. Ok (commands.Unmerge bug))
+command_of command_words.Block arguments = and_read (bug_by_bugs arguments) (λ both. Ok (commands.Block both.0 both.1))
+command_of command_words.Unblock arguments = and_read (bug_by_bugs arguments) (λ both. Ok (commands.Unblock both.0 both.1))
 command_of command_words.Forwarded arguments =
     and_read (bug_and_some_text arguments) (λ both. Ok (commands.Forwarded both.0 both.1))
 command_of command_words.NotForwarded arguments = and_read (bug_alone (words arguments)) (λ bug. Ok (commands.NotForwarded bug))

@@ -24,6 +24,8 @@ pub enum CommandWord {
     Merge,
     ForceMerge,
     Unmerge,
+    Block,
+    Unblock,
     Forwarded,
     NotForwarded,
     Owner,
@@ -33,7 +35,7 @@ pub enum CommandWord {
 }
 
 // All words of commands.
-const ALL: [CommandWord; 21] = [
+const ALL: [CommandWord; 23] = [
     CommandWord::Found,
     CommandWord::NotFound,
     CommandWord::Fixed,
@@ -49,6 +51,8 @@ const ALL: [CommandWord; 21] = [
     CommandWord::Merge,
     CommandWord::ForceMerge,
     CommandWord::Unmerge,
+    CommandWord::Block,
+    CommandWord::Unblock,
     CommandWord::Forwarded,
     CommandWord::NotForwarded,
     CommandWord::Owner,
@@ -85,6 +89,8 @@ impl CommandWord {
             CommandWord::Merge => "merge",
             CommandWord::ForceMerge => "forcemerge",
             CommandWord::Unmerge => "unmerge",
+            CommandWord::Block => "block",
+            CommandWord::Unblock => "unblock",
             CommandWord::Forwarded => "forwarded",
             CommandWord::NotForwarded => "notforwarded",
             CommandWord::Owner => "owner",

@@ -2,6 +2,8 @@
 //! are refused, by the BTS page 'control and manipulation'.
 #![tactic(auto)]
 
+mod blocks;
+mod bugs;
 mod command_word;
 mod commands;
 mod fault;

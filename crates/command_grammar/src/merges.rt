@@ -1,29 +1,16 @@
 //! The commands `merge` and `forcemerge`.
 
 ghost use Rattle.line_words.specs.Words.{words};
-ghost use Rattle.command_grammar.specs.Commands.{read_bug, each_word, bug_and_others, command_of};
+ghost use Rattle.command_grammar.specs.Commands.{bug_and_others, command_of};
 ghost use Rattle.command_grammar.specs.Reads.{Reads};
 ghost use Rattle.command_grammar.specs.declared.command_word.CommandWord.TheVariants.{Merge, ForceMerge};
 
+use crate::bugs::all_bugs;
 use crate::fault::LineFault;
 use crate::shapes::{MALFORMED, read_bug};
 use bug_record::{Command, Sequence};
-use line_words::{Named, split_word};
+use line_words::{Named, Separators, split_word};
 use std::alloc::Global;
-
-// The bug of each word.
-fn all_bugs(alloc: Global, text: &str) -> Result<Sequence<Named>, LineFault>
-    ensures { Reads (each_word read_bug (words text.now)) result }
-{
-    let mut bugs = Sequence::new(alloc);
-    let mut rest = text;
-    while let Some((word, more)) = split_word(rest) {
-        let bug = read_bug(word)?;
-        bugs.push(bug)?;
-        rest = more;
-    }
-    Ok(bugs)
-}
 
 // `n m ..`: two bugs or more.
 fn bug_and_others(alloc: Global, arguments: &str) -> Result<(Named, Sequence<Named>), LineFault>
@@ -34,7 +21,7 @@ fn bug_and_others(alloc: Global, arguments: &str) -> Result<(Named, Sequence<Nam
         return Err(MALFORMED);
     }
     let bug = read_bug(first)?;
-    let others = all_bugs(alloc, rest)?;
+    let others = all_bugs(alloc, Separators::Blanks, rest)?;
     Ok((bug, others))
 }
 

@@ -6,5 +6,6 @@ pub mod SpacedLemmas
 pub mod SpellingLemmas
 pub mod TextSpelling
 pub mod MergeSpelling
+pub mod BlockSpelling
 pub mod StepSpelling
 pub mod SpellingLaw

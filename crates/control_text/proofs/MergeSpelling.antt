@@ -12,7 +12,7 @@ pub bugs_plain : (ns : List Named) → Each IsGoodBug ns → ArePlain (map bug_t
 bugs_plain [] good = tt
 bugs_plain (n ∷ ns) good = (bug-plain n good.0, bugs_plain ns good.1)
 
-all-back : (ns : List Named) → Each IsGoodBug ns → each_word read_bug (map bug_text ns) ≡ Ok ns
+pub all-back : (ns : List Named) → Each IsGoodBug ns → each_word read_bug (map bug_text ns) ≡ Ok ns
 all-back [] good = refl
 all-back (n ∷ ns) good =
     ap (λ r. and_read {B = List Named} r (λ bug. and_read (each_word read_bug (map bug_text ns)) (λ bugs. Ok (bug ∷ bugs))))

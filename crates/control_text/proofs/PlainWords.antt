@@ -15,7 +15,7 @@ use Rattle.debver.specs.Names.{IsName, in_name, starts_name}
 use Rattle.debver.specs.Parts.{in_upstream, in_revision, epoch_text, revision_text, IsEpoch, IsRevision}
 use Rattle.debver.specs.Cut.{cut, IsVersion}
 use Rattle.line_words.specs.Blanks.{is_blank, is_control}
-use Rattle.line_words.specs.Words.{has_bytes}
+use Rattle.line_words.specs.Words.{has_bytes, is_blank_or_comma}
 use Rattle.line_words.proofs.NumberLemmas.{own}
 
 abbrev pub is_graphic : ℕ → Bool
@@ -176,3 +176,19 @@ written_is n most =
 pub decimal-plain : (n : ℕ) → n ≤ 999999999 → IsPlainWord (decimal n)
 decimal-plain n most = let w = written_is n most in
     record { some = some_bytes (decimal n) w.some; graphic = graphic-all is_ascii_digit digit (decimal n) w.digits }
+
+-- digits are no blanks and no commas
+digit_whole : (c : ℕ) → is_ascii_digit c ≡ true → is_blank_or_comma c ≡ false
+digit_whole c h =
+    let p = and_parts (nat_le 48 c) (nat_le c 57) h in
+    let low = leb-true 48 c p.0 in
+    or_from (is_blank c) (c == 44) (no_blank c (omega arith)) (ne_eqb c 44 (λ e. omega arith))
+
+digits-whole : (s : List ℕ) → list_all is_ascii_digit s ≡ true → list_any is_blank_or_comma s ≡ false
+digits-whole [] h = refl
+digits-whole (c ∷ s) h =
+    let p = and_parts (is_ascii_digit c) (list_all is_ascii_digit s) h in
+    or_from (is_blank_or_comma c) (list_any is_blank_or_comma s) (digit_whole c p.0) (digits-whole s p.1)
+
+pub decimal-whole : (n : ℕ) → n ≤ 999999999 → list_any is_blank_or_comma (decimal n) ≡ false
+decimal-whole n most = let w = written_is n most in digits-whole (decimal n) w.digits

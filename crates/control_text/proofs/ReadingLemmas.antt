@@ -36,6 +36,7 @@ use Rattle.command_grammar.specs.Versions.{bare_version, sourced_version, versio
 use Rattle.command_grammar.specs.Commands.{and_read, read_bug, read_version, bug_and_version, bug_and_optional_version}
 use Rattle.command_grammar.specs.Commands.{severity_command, read_package, reassign_command, limited_text, who_of_text, some_text}
 use Rattle.command_grammar.specs.Commands.{some_who, optional_who, bug_and_text, bug_and_some_text, bug_and_some_who, bug_alone}
+use Rattle.command_grammar.specs.Commands.{some_bugs, is_by, by_bugs, bug_by_bugs}
 use Rattle.command_grammar.specs.Commands.{each_word, bug_and_others, some_steps, tags_command, reopen_command, command_of}
 use Rattle.control_text.specs.WellFormed.{IsPlain, IsAddress, IsWellFormed}
 use Rattle.line_words.proofs.NumberLemmas.{number_of_digits-good}
@@ -268,12 +269,13 @@ all_bugs-good (n ∷ ws) =
     and_read-good (each_word read_bug ws) (λ bugs. Ok (bug ∷ bugs)) (Each IsGoodBug) (Each IsGoodBug) (all_bugs-good ws)
     (λ bugs fine. (good, fine)))
 
--- two bugs or more
+-- one bug or more
 abbrev AreOthers : List Named → Type 0
 AreOthers bugs = Each IsGoodBug bugs × (0 < length bugs)
 
-some_bugs-good : (n : List ℕ) (ws : List (List ℕ)) → IfOk (each_word read_bug (n ∷ ws)) AreOthers
-some_bugs-good n ws =
+some_bugs-good : (ws : List (List ℕ)) → IfOk (some_bugs ws) AreOthers
+some_bugs-good [] = tt
+some_bugs-good (n ∷ ws) =
     and_read-good (read_bug n) _ IsGoodBug AreOthers (read_bug-good n) (λ bug good.
     and_read-good (each_word read_bug ws) (λ bugs. Ok (bug ∷ bugs)) (Each IsGoodBug) AreOthers (all_bugs-good ws)
     (λ bugs fine. ((good, fine), omega arith)))
@@ -284,7 +286,22 @@ bug_and_others-good (n ∷ []) = tt
 bug_and_others-good (n ∷ m ∷ ws) =
     and_read-good (read_bug n) _ IsGoodBug (λ both. IsGoodBug both.0 × AreOthers both.1) (read_bug-good n) (λ bug good.
     and_read-good (each_word read_bug (m ∷ ws)) (λ others. Ok (bug, others)) AreOthers
-    (λ both. IsGoodBug both.0 × AreOthers both.1) (some_bugs-good m ws) (λ others fine. (good, fine)))
+    (λ both. IsGoodBug both.0 × AreOthers both.1) (some_bugs-good (m ∷ ws)) (λ others fine. (good, fine)))
+
+by_bugs-good : (text : List ℕ) → IfOk (by_bugs text) AreOthers
+by_bugs-good text =
+    let others = words_with_commas (after_word text) in
+    cond_both (is_by (first_word text)) (some_bugs others) (Err Malformed) (λ r. IfOk r AreOthers) (λ e. some_bugs-good others)
+    (λ e. tt)
+
+bug_by_bugs-good : (arguments : List ℕ) → IfOk (bug_by_bugs arguments) (λ both. IsGoodBug both.0 × AreOthers both.1)
+bug_by_bugs-good arguments =
+    let rest = after_word arguments in
+    let of_bug : Named → Result (Named × List Named) Refusal = λ bug. and_read (by_bugs rest) (λ others. Ok (bug, others)) in
+    and_read-good (read_bug (first_word arguments)) of_bug IsGoodBug (λ both. IsGoodBug both.0 × AreOthers both.1)
+    (read_bug-good (first_word arguments)) (λ bug good.
+    and_read-good (by_bugs rest) (λ others. Ok (bug, others)) AreOthers (λ both. IsGoodBug both.0 × AreOthers both.1)
+    (by_bugs-good rest) (λ others fine. (good, fine)))
 
 -- tags
 any_steps : (r : Result (List TagStep) Refusal) → IfOk r (λ _. ⊤)
@@ -350,6 +367,13 @@ command_of-good command_words.ForceMerge arguments clean =
 command_of-good command_words.Unmerge arguments clean =
     and_read-good (bug_alone (words arguments)) (λ bug. Ok (commands.Unmerge bug)) IsGoodBug IsWellFormed
     (bug_alone-good (words arguments)) (λ bug good. record { bugs = (good, tt); parts = tt; spellable = tt })
+command_of-good command_words.Block arguments clean =
+    and_read-good (bug_by_bugs arguments) (λ both. Ok (commands.Block both.0 both.1)) _ IsWellFormed (bug_by_bugs-good arguments)
+    (λ both good. record { bugs = (good.0, good.1.0); parts = tt; spellable = good.1.1 })
+command_of-good command_words.Unblock arguments clean =
+    and_read-good (bug_by_bugs arguments) (λ both. Ok (commands.Unblock both.0 both.1)) _ IsWellFormed
+    (bug_by_bugs-good arguments)
+    (λ both good. record { bugs = (good.0, good.1.0); parts = tt; spellable = good.1.1 })
 command_of-good command_words.Forwarded arguments clean =
     and_read-good (bug_and_some_text arguments) (λ both. Ok (commands.Forwarded both.0 both.1)) _ IsWellFormed
     (bug_and_some_text-good arguments clean) (λ both good. record { bugs = (good.0, tt); parts = good.1; spellable = tt })

@@ -24,6 +24,7 @@ use Rattle.command_grammar.specs.Versions.{version_of_word, package_of_word}
 use Rattle.command_grammar.specs.Commands.{and_read, read_bug, read_version, read_package, bug_alone, bug_and_version}
 use Rattle.command_grammar.specs.Commands.{bug_and_optional_version, severity_command, reassign_command, limited_text}
 use Rattle.command_grammar.specs.Commands.{who_of_text, some_text, some_who, optional_who, bug_and_text, bug_and_some_text}
+use Rattle.command_grammar.specs.Commands.{some_bugs, is_by, by_bugs, bug_by_bugs}
 use Rattle.command_grammar.specs.Commands.{bug_and_some_who, each_word, bug_and_others, sign_and_tag, adds_after, tag_step}
 use Rattle.command_grammar.specs.Commands.{tag_steps, word_steps, all_steps, some_steps, tags_command, reopen_command, command_of}
 use Rattle.control_text.specs.declared.line.Line.{Line}
@@ -153,6 +154,22 @@ bug_and_others-of (n ∷ m ∷ ws) =
     (λ bug. and_read-of (each_word read_bug (m ∷ ws)) (λ others. Ok (bug, others))
     (each_word-of read_bug read_bug-of (m ∷ ws)) (λ others. tt))
 
+some_bugs-of : (ws : List (List ℕ)) → IsOfLine (some_bugs ws)
+some_bugs-of [] = tt
+some_bugs-of (m ∷ ws) = each_word-of read_bug read_bug-of (m ∷ ws)
+
+by_bugs-of : (text : List ℕ) → IsOfLine (by_bugs text)
+by_bugs-of text =
+    let others = words_with_commas (after_word text) in
+    cond_both (is_by (first_word text)) (some_bugs others) (Err Malformed) (λ r. IsOfLine r) (λ e. some_bugs-of others) (λ e. tt)
+
+bug_by_bugs-of : (arguments : List ℕ) → IsOfLine (bug_by_bugs arguments)
+bug_by_bugs-of arguments =
+    let rest = after_word arguments in
+    let of_bug : Named → Result (Named × List Named) Refusal = λ bug. and_read (by_bugs rest) (λ others. Ok (bug, others)) in
+    and_read-of (read_bug (first_word arguments)) of_bug (read_bug-of (first_word arguments))
+    (λ bug. and_read-of (by_bugs rest) (λ others. Ok (bug, others)) (by_bugs-of rest) (λ others. tt))
+
 tag_steps-of : (adds : Bool) (word : List ℕ) → IsOfLine (tag_steps adds word)
 tag_steps-of adds [] = tt
 tag_steps-of adds (c ∷ word) =
@@ -205,6 +222,8 @@ command_of-of command_words.ForceMerge arguments =
     and_read-of (bug_and_others (words arguments)) _ (bug_and_others-of (words arguments)) (λ both. tt)
 command_of-of command_words.Unmerge arguments =
     and_read-of (bug_alone (words arguments)) _ (bug_alone-of (words arguments)) (λ bug. tt)
+command_of-of command_words.Block arguments = and_read-of (bug_by_bugs arguments) _ (bug_by_bugs-of arguments) (λ both. tt)
+command_of-of command_words.Unblock arguments = and_read-of (bug_by_bugs arguments) _ (bug_by_bugs-of arguments) (λ both. tt)
 command_of-of command_words.Forwarded arguments =
     and_read-of (bug_and_some_text arguments) _ (bug_and_some_text-of arguments) (λ both. tt)
 command_of-of command_words.NotForwarded arguments =

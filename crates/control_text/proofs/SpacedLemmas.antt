@@ -16,11 +16,12 @@ use Rattle.line_words.specs.declared.named.Named.{Named}
 use Rattle.command_grammar.specs.declared.command_word.CommandWord.{CommandWord}
 use Rattle.control_text.specs.declared.line.Line.{Line}
 use Rattle.control_text.specs.declared.line.Line.TheVariants.{Comment, Stop, Do}
+use Rattle.line_words.specs.Words.{is_blank_or_comma, words_with_commas}
 use Rattle.line_words.specs.Words.{has_bytes, words, EndsWord, trimmed, first_word, after_word, without_last_blanks}
 use Rattle.command_grammar.specs.CommandWords.{command_word}
 use Rattle.command_grammar.specs.Commands.{and_read, command_of}
 use Rattle.control_text.specs.Lines.{begins_hash, is_stop_word, is_stop_line, command_reading, reading_of_words, reading}
-use Rattle.control_text.specs.Spelling.{joined_by_blanks}
+use Rattle.control_text.specs.Spelling.{after_spaces, joined_by_blanks}
 use Rattle.line_words.proofs.WordLemmas.{words-nil, words-separator, words-word, without_first-separator, words-first, words-none}
 use Rattle.control_text.proofs.TextLemmas.{unblanked_first}
 use Rattle.control_text.proofs.PlainWords.{IsPlainWord, graphic-blank, graphic-control}
@@ -95,11 +96,6 @@ reading-command command w rest c h ends clean is =
     ∙ ap (λ s. as_line (command_of command s)) (after_word-is w rest h.some h.whole ends)
     ∙ ap as_line is
 
--- each word after a space
-abbrev pub after_spaces : List (List ℕ) → List ℕ
-after_spaces [] = []
-after_spaces (word ∷ more) = 32 ∷ (word ++ after_spaces more)
-
 pub joined_spaces : (word : List ℕ) (more : List (List ℕ)) → joined_by_blanks (word ∷ more) ≡ word ++ after_spaces more
 joined_spaces word [] = sym (append-nil word)
 joined_spaces word (next ∷ more) = ap (λ s. word ++ 32 ∷ s) (joined_spaces next more)
@@ -133,6 +129,26 @@ pub after_word-spaces : (w : List ℕ) (ws : List (List ℕ)) → IsPlainWord w 
 after_word-spaces w ws h =
     after_word-space (w ++ after_spaces ws)
     ∙ after_word-is w (after_spaces ws) h.some (graphic-blank w h.graphic) (ends-after_spaces ws)
+
+-- words between which no comma stands
+abbrev pub AreWhole : List (List ℕ) → Type 0
+AreWhole [] = ⊤
+AreWhole (w ∷ ws) = IsPlainWord w × (list_any is_blank_or_comma w ≡ false) × AreWhole ws
+
+pub whole_plain : (ws : List (List ℕ)) → AreWhole ws → ArePlain ws
+whole_plain [] h = tt
+whole_plain (w ∷ ws) h = (h.0, whole_plain ws h.2)
+
+ends-spaces : (ws : List (List ℕ)) → EndsWord is_blank_or_comma (after_spaces ws)
+ends-spaces [] = tt
+ends-spaces (w ∷ ws) = refl
+
+pub commas-spaces : (ws : List (List ℕ)) → AreWhole ws → words_with_commas (after_spaces ws) ≡ ws
+commas-spaces [] h = words-nil is_blank_or_comma
+commas-spaces (w ∷ ws) h =
+    let word = h.0 in
+    words-separator is_blank_or_comma 32 (w ++ after_spaces ws) refl
+    ∙ words-word is_blank_or_comma w (after_spaces ws) word.some h.1 (ends-spaces ws) ∙ ap (λ r. w ∷ r) (commas-spaces ws h.2)
 
 abbrev pub AreClean : List (List ℕ) → Type 0
 AreClean [] = ⊤

@@ -22,19 +22,21 @@ use Rattle.line_words.specs.Bugs.{IsGoodBug}
 use Rattle.line_words.specs.Words.{words, trimmed, after_word}
 use Rattle.command_grammar.specs.Commands.{and_read, read_version, read_package, bug_alone, bug_and_version}
 use Rattle.command_grammar.specs.Commands.{bug_and_optional_version, severity_command, reassign_command, optional_who}
-use Rattle.command_grammar.specs.Commands.{bug_and_some_text, bug_and_some_who, bug_and_others, reopen_command, command_of}
+use Rattle.command_grammar.specs.Commands.{bug_and_some_text, bug_and_some_who, bug_and_others, bug_by_bugs}
+use Rattle.command_grammar.specs.Commands.{reopen_command, command_of}
 use Rattle.control_text.specs.Lines.{reading}
 use Rattle.control_text.specs.WellFormed.{IsPlain, IsAddress, IsWellFormed}
 use Rattle.control_text.specs.Spelling.{bug_text, version_text, who_text, step_words, word_if, spelling, spelled_words}
-use Rattle.control_text.specs.Spelling.{joined_by_blanks}
+use Rattle.control_text.specs.Spelling.{after_spaces, joined_by_blanks}
 use Rattle.control_text.proofs.TextLemmas.{text_parts}
 use Rattle.control_text.proofs.PlainWords.{graphic-control, name-plain}
 use Rattle.control_text.proofs.SpacedLemmas.{IsCommandWord, reading-command, ArePlain, AreClean, plain_clean, clean-spaces}
 use Rattle.control_text.proofs.SpacedLemmas.{ends-after_spaces, words-space, words-spaces, after_word-spaces, trimmed-space}
-use Rattle.control_text.proofs.SpacedLemmas.{after_spaces, joined_spaces}
+use Rattle.control_text.proofs.SpacedLemmas.{joined_spaces}
 use Rattle.control_text.proofs.TextSpelling.{written_who, written_address, bug_and_text-back, bug_and_some_text-back}
 use Rattle.control_text.proofs.TextSpelling.{bug_and_some_who-back}
 use Rattle.control_text.proofs.MergeSpelling.{bugs_plain, bugs-back}
+use Rattle.control_text.proofs.BlockSpelling.{blockers_plain, bug_by_bugs-back}
 use Rattle.control_text.proofs.StepSpelling.{steps_plain, tags-back}
 use Rattle.control_text.proofs.SpellingLemmas.{bug-back, bug-plain, version-back, version_text-plain, package-back, severity-back}
 use Rattle.control_text.proofs.SpellingLemmas.{severity-plain}
@@ -178,6 +180,12 @@ forcemerge_word = record { some = refl; whole = refl; clean = refl; hash = refl;
 unmerge_word : IsCommandWord command_words.Unmerge (codes "unmerge")
 unmerge_word = record { some = refl; whole = refl; clean = refl; hash = refl; stop = refl; thank = refl; is = refl }
 
+block_word : IsCommandWord command_words.Block (codes "block")
+block_word = record { some = refl; whole = refl; clean = refl; hash = refl; stop = refl; thank = refl; is = refl }
+
+unblock_word : IsCommandWord command_words.Unblock (codes "unblock")
+unblock_word = record { some = refl; whole = refl; clean = refl; hash = refl; stop = refl; thank = refl; is = refl }
+
 forwarded_word : IsCommandWord command_words.Forwarded (codes "forwarded")
 forwarded_word = record { some = refl; whole = refl; clean = refl; hash = refl; stop = refl; thank = refl; is = refl }
 
@@ -218,7 +226,7 @@ by_optional_version command w make n v h means good fine =
     by_words command w ws (make n v) h (bug-plain n good, given_plain v fine)
     (means (after_spaces ws) ∙ ap (λ r. and_read r made) (bug_and_optional_version-back n v good fine))
 
--- a bug alone, two bugs or more, a bug and a text, and a bug and somebody
+-- a bug alone, two bugs or more, a bug and its blockers, a bug and a text, and a bug and somebody
 by_bug : (command : CommandWord) (w : List ℕ) (make : Named → Command Named) (n : Named) → IsCommandWord command w
     → ((s : List ℕ) → command_of command s ≡ and_read (bug_alone (words s)) (λ bug. Ok (make bug))) → IsGoodBug n
     → reading (w ++ after_spaces (bug_text n ∷ [])) ≡ Ok (Do (make n))
@@ -240,6 +248,17 @@ by_bugs command w make n ns h means good others =
     let plain : ArePlain ws = bugs_plain (n ∷ ns) good in
     by_words command w ws (make n ns) h plain
     (means (after_spaces ws) ∙ ap (λ r. and_read r made) (ap bug_and_others (words-spaces ws plain) ∙ bugs-back n ns good others))
+
+by_blockers : (command : CommandWord) (w : List ℕ) (make : Named → List Named → Command Named) (n : Named) (ns : List Named)
+    → IsCommandWord command w
+    → ((s : List ℕ) → command_of command s ≡ and_read (bug_by_bugs s) (λ both. Ok (make both.0 both.1)))
+    → Each IsGoodBug (n ∷ ns) → 0 < length ns
+    → reading (w ++ after_spaces (bug_text n ∷ codes "by" ∷ map bug_text ns)) ≡ Ok (Do (make n ns))
+by_blockers command w make n ns h means good others =
+    let made : Named × List Named → Result (Command Named) Refusal = λ both. Ok (make both.0 both.1) in
+    let ws = bug_text n ∷ codes "by" ∷ map bug_text ns in
+    by_words command w ws (make n ns) h (blockers_plain n ns good)
+    (means (after_spaces ws) ∙ ap (λ r. and_read r made) (bug_by_bugs-back n ns good others))
 
 by_text : (command : CommandWord) (w : List ℕ) (make : Named → List ℕ → Command Named) (n : Named) (text : List ℕ)
     → IsCommandWord command w
@@ -317,6 +336,10 @@ spaced-read (commands.ForceMerge n ns) good =
     good.spellable
 spaced-read (commands.Unmerge n) good =
     by_bug command_words.Unmerge (codes "unmerge") commands.Unmerge n unmerge_word (λ s. refl) good.bugs.0
+spaced-read (commands.Block n ns) good =
+    by_blockers command_words.Block (codes "block") commands.Block n ns block_word (λ s. refl) good.bugs good.spellable
+spaced-read (commands.Unblock n ns) good =
+    by_blockers command_words.Unblock (codes "unblock") commands.Unblock n ns unblock_word (λ s. refl) good.bugs good.spellable
 spaced-read (commands.Forwarded n text) good =
     by_text command_words.Forwarded (codes "forwarded") commands.Forwarded n text forwarded_word (λ s. refl) good.bugs.0
     good.parts

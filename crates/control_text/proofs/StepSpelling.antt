@@ -12,12 +12,12 @@ use Rattle.bug_record.specs.declared.command.TagStep.TheVariants.{Add, Remove, C
 use Rattle.bug_record.specs.declared.command.Refusal.{Refusal}
 use Rattle.line_words.specs.declared.named.Named.{Named}
 use Rattle.line_words.specs.Bugs.{IsGoodBug}
-use Rattle.line_words.specs.Words.{is_blank_or_comma, EndsWord, words, words_with_commas, after_word}
+use Rattle.line_words.specs.Words.{is_blank_or_comma, words, words_with_commas, after_word}
 use Rattle.command_grammar.specs.Commands.{and_read, read_bug, tag_step, tag_steps, all_steps, some_steps, tags_command}
-use Rattle.control_text.specs.Spelling.{bug_text, step_text, step_words}
-use Rattle.line_words.proofs.WordLemmas.{words-nil, words-separator, words-word}
+use Rattle.control_text.specs.Spelling.{bug_text, step_text, step_words, after_spaces}
 use Rattle.control_text.proofs.PlainWords.{IsGraphic, IsPlainWord}
-use Rattle.control_text.proofs.SpacedLemmas.{after_spaces, first_word-is, ArePlain, words-space, after_word-spaces}
+use Rattle.control_text.proofs.SpacedLemmas.{first_word-is, ArePlain, AreWhole, whole_plain, words-space, after_word-spaces}
+use Rattle.control_text.proofs.SpacedLemmas.{commas-spaces}
 use Rattle.control_text.proofs.SpellingLemmas.{bug-back, bug-plain}
 
 -- what is known of the name of a tag
@@ -45,11 +45,6 @@ tag_word tags.Unreproducible = record { graphic = refl; whole = refl; back = λ 
 tag_word tags.Upstream = record { graphic = refl; whole = refl; back = λ adds. refl }
 tag_word tags.Wontfix = record { graphic = refl; whole = refl; back = λ adds. refl }
 
--- words between which no comma stands
-abbrev AreWhole : List (List ℕ) → Type 0
-AreWhole [] = ⊤
-AreWhole (w ∷ ws) = IsPlainWord w × (list_any is_blank_or_comma w ≡ false) × AreWhole ws
-
 step_whole : (step : TagStep) → IsPlainWord (step_text step) × (list_any is_blank_or_comma (step_text step) ≡ false)
 step_whole (Add tag) = let name = tag_word tag in (record { some = refl; graphic = name.graphic }, name.whole)
 step_whole (Remove tag) = let name = tag_word tag in (record { some = refl; graphic = name.graphic }, name.whole)
@@ -63,23 +58,8 @@ steps_whole : (steps : List TagStep) → AreWhole (step_words steps)
 steps_whole [] = (record { some = refl; graphic = refl }, refl, tt)
 steps_whole (step ∷ more) = all_whole (step ∷ more)
 
-whole_plain : (ws : List (List ℕ)) → AreWhole ws → ArePlain ws
-whole_plain [] h = tt
-whole_plain (w ∷ ws) h = (h.0, whole_plain ws h.2)
-
 pub steps_plain : (steps : List TagStep) → ArePlain (step_words steps)
 steps_plain steps = whole_plain (step_words steps) (steps_whole steps)
-
-ends-spaces : (ws : List (List ℕ)) → EndsWord is_blank_or_comma (after_spaces ws)
-ends-spaces [] = tt
-ends-spaces (w ∷ ws) = refl
-
-commas-spaces : (ws : List (List ℕ)) → AreWhole ws → words_with_commas (after_spaces ws) ≡ ws
-commas-spaces [] h = words-nil is_blank_or_comma
-commas-spaces (w ∷ ws) h =
-    let word = h.0 in
-    words-separator is_blank_or_comma 32 (w ++ after_spaces ws) refl
-    ∙ words-word is_blank_or_comma w (after_spaces ws) word.some h.1 (ends-spaces ws) ∙ ap (λ r. w ∷ r) (commas-spaces ws h.2)
 
 -- each step's own sign says what it does
 all-back : (adds : Bool) (steps : List TagStep) → all_steps adds (map step_text steps) ≡ Ok steps

@@ -46,6 +46,11 @@ abbrev pub word_if : {A : Type 0} → (A → List ℕ) → Option A → List (Li
 word_if f None = []
 word_if f (Some x) = f x ∷ []
 
+-- each word after a space
+abbrev pub after_spaces : List (List ℕ) → List ℕ
+after_spaces [] = []
+after_spaces (word ∷ more) = 32 ∷ (word ++ after_spaces more)
+
 -- words with one blank between them
 abbrev pub joined_by_blanks : List (List ℕ) → List ℕ
 joined_by_blanks words = join_with_byte 32 words
@@ -67,6 +72,8 @@ spelled_words (commands.Submitter bug who) = codes "submitter" ∷ bug_text bug 
 spelled_words (commands.Merge bug others) = codes "merge" ∷ bug_text bug ∷ map bug_text others
 spelled_words (commands.ForceMerge bug others) = codes "forcemerge" ∷ bug_text bug ∷ map bug_text others
 spelled_words (commands.Unmerge bug) = codes "unmerge" ∷ bug_text bug ∷ []
+spelled_words (commands.Block bug others) = codes "block" ∷ bug_text bug ∷ codes "by" ∷ map bug_text others
+spelled_words (commands.Unblock bug others) = codes "unblock" ∷ bug_text bug ∷ codes "by" ∷ map bug_text others
 spelled_words (commands.Forwarded bug text) = codes "forwarded" ∷ bug_text bug ∷ text ∷ []
 spelled_words (commands.NotForwarded bug) = codes "notforwarded" ∷ bug_text bug ∷ []
 spelled_words (commands.Owner bug who) = codes "owner" ∷ bug_text bug ∷ who_text who ∷ []

@@ -22,13 +22,15 @@ IsPlain None = ⊤
 IsPlain (Some Sender) = ⊤
 IsPlain (Some (Given text)) = (¬ (text ≡ codes "!")) × (¬ (text ≡ codes "="))
 
--- no text that is given for somebody stands for somebody else, and a merge has a second bug
+-- no text that is given for somebody stands for somebody else, and what names other bugs has one
 abbrev pub IsSpellable : Command Named → Type 0
 IsSpellable (commands.Reopen bug who) = IsPlain who
 IsSpellable (commands.Submitter bug who) = IsAddress who
 IsSpellable (commands.Owner bug who) = IsAddress who
 IsSpellable (commands.Merge bug others) = 0 < length others
 IsSpellable (commands.ForceMerge bug others) = 0 < length others
+IsSpellable (commands.Block bug others) = 0 < length others
+IsSpellable (commands.Unblock bug others) = 0 < length others
 IsSpellable (commands.Found bug version) = ⊤
 IsSpellable (commands.NotFound bug version) = ⊤
 IsSpellable (commands.Fixed bug version) = ⊤

@@ -34,8 +34,8 @@ fn are_good_bugs(bugs: &[Named]) -> bool
     bugs.iter().all(|bug| is_good_bug(*bug))
 }
 
-// Two bugs or more.
-fn are_good_to_merge(bug: Named, others: &[Named]) -> bool
+// A bug, and one or more besides.
+fn are_bug_and_others(bug: Named, others: &[Named]) -> bool
     ensures { Decides result (Each IsGoodBug (bug ∷ others.now) × (0 < length others.now)) }
 {
     is_good_bug(bug) && are_good_bugs(others) && !others.is_empty()
@@ -94,8 +94,8 @@ fn is_good_optional_who(who: &Option<Who>) -> bool
 /// Whether a command can be written: its numbers and names are from 1 to 999,999,999, its versions,
 /// package names and texts are within their limits, no text that is given for a submitter or an
 /// owner is `!`, which stands for the sender, none that is given for `reopen` is `=`, which stands
-/// for nobody, and a merge has a second bug. This project's own rule. It holds of all that
-/// `read_line` gives.
+/// for nobody, a merge has a second bug, and what blocks or unblocks a bug names a blocker. This
+/// project's own rule. It holds of all that `read_line` gives.
 pub fn well_formed(command: &Command<Named>) -> bool
     ensures { Decides result (IsWellFormed command.now) }
 {
@@ -115,9 +115,11 @@ pub fn well_formed(command: &Command<Named>) -> bool
         Command::Tags(bug, _) => is_good_bug(*bug),
         Command::Retitle(bug, text) => is_good_bug(*bug) && is_text(text.as_str()),
         Command::Submitter(bug, who) => is_good_bug(*bug) && is_good_who(who),
-        Command::Merge(bug, others) => are_good_to_merge(*bug, others.as_slice()),
-        Command::ForceMerge(bug, others) => are_good_to_merge(*bug, others.as_slice()),
+        Command::Merge(bug, others) => are_bug_and_others(*bug, others.as_slice()),
+        Command::ForceMerge(bug, others) => are_bug_and_others(*bug, others.as_slice()),
         Command::Unmerge(bug) => is_good_bug(*bug),
+        Command::Block(bug, others) => are_bug_and_others(*bug, others.as_slice()),
+        Command::Unblock(bug, others) => are_bug_and_others(*bug, others.as_slice()),
         Command::Forwarded(bug, text) => is_good_bug(*bug) && is_text(text.as_str()),
         Command::NotForwarded(bug) => is_good_bug(*bug),
         Command::Owner(bug, who) => is_good_bug(*bug) && is_good_who(who),

@@ -1,8 +1,8 @@
 //! The canonical spelling of commands.
 
 ghost use Rattle.std.specs.Prelude.{◌≡◌, ◌∷◌, [], ◌++◌, map, IfOk, OnOk, string_bytes, codes};
-ghost use Rattle.control_text.specs.Spelling.{bug_text, version_text, who_text, step_text, step_words, word_if, joined_by_blanks};
-ghost use Rattle.control_text.specs.Spelling.{spelling};
+ghost use Rattle.control_text.specs.Spelling.{bug_text, version_text, who_text, step_text, step_words, word_if, after_spaces};
+ghost use Rattle.control_text.specs.Spelling.{joined_by_blanks, spelling};
 ghost use Rattle.control_text.specs.WellFormed.{IsWellFormed};
 
 use bug_record::{Command, TagStep, VersionArg, Who};
@@ -126,14 +126,36 @@ fn reassign(
     }
 }
 
+// Adds bugs, each after a space.
+fn push_bugs(line: &mut String, bugs: &[Named]) -> Result<(), AllocError>
+    ensures { OnOk result (string_bytes line.new ≡ string_bytes line.old ++ after_spaces (map bug_text bugs.now)) }
+{
+    for bug in bugs {
+        push_bug(line, *bug)?;
+    }
+    Ok(())
+}
+
 // A command's word and two bugs or more.
 fn with_bugs(alloc: Global, word: &str, bug: Named, others: &[Named]) -> Result<String, AllocError>
     ensures { IfOk result (λ s. string_bytes s ≡ joined_by_blanks (word.now ∷ bug_text bug ∷ map bug_text others.now)) }
 {
     let mut line = with_bug(alloc, word, bug)?;
-    for other in others {
-        push_bug(&mut line, *other)?;
-    }
+    push_bugs(&mut line, others)?;
+    Ok(line)
+}
+
+// A command's word, a bug, `by` and other bugs.
+fn bug_by_bugs(
+    alloc: Global,
+    word: &str,
+    bug: Named,
+    others: &[Named],
+) -> Result<String, AllocError>
+    ensures { IfOk result (λ s. string_bytes s ≡ joined_by_blanks (word.now ∷ bug_text bug ∷ codes "by" ∷ map bug_text others.now)) }
+{
+    let mut line = with_text(alloc, word, bug, "by")?;
+    push_bugs(&mut line, others)?;
     Ok(line)
 }
 
@@ -170,7 +192,8 @@ fn tags(alloc: Global, bug: Named, steps: &[TagStep]) -> Result<String, AllocErr
 
 /// The canonical spelling of a command, which is read back as it: its words in lower case with one
 /// space between them, numbers without `#` and leading zeros, a version with its source as
-/// `source/version`, each tag with its own sign, and the sender as `!`. This project's own rule.
+/// `source/version`, each tag with its own sign, blockers after `by` without commas, and the sender
+/// as `!`. This project's own rule.
 /// The command has to be well formed (see `well_formed`).
 ///
 /// # Errors
@@ -198,6 +221,8 @@ pub fn write_command(alloc: Global, command: &Command<Named>) -> Result<String, 
         Command::Merge(bug, others) => with_bugs(alloc, "merge", *bug, others.as_slice()),
         Command::ForceMerge(bug, others) => with_bugs(alloc, "forcemerge", *bug, others.as_slice()),
         Command::Unmerge(bug) => with_bug(alloc, "unmerge", *bug),
+        Command::Block(bug, others) => bug_by_bugs(alloc, "block", *bug, others.as_slice()),
+        Command::Unblock(bug, others) => bug_by_bugs(alloc, "unblock", *bug, others.as_slice()),
         Command::Forwarded(bug, text) => with_text(alloc, "forwarded", *bug, text.as_str()),
         Command::NotForwarded(bug) => with_bug(alloc, "notforwarded", *bug),
         Command::Owner(bug, who) => with_text(alloc, "owner", *bug, who_text(who)),

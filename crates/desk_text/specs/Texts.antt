@@ -6,7 +6,7 @@ use Rattle.bug_record.specs.declared.command.Field.TheVariants as fields
 use Rattle.bug_record.specs.declared.command.Refusal.{Refusal}
 use Rattle.bug_record.specs.declared.command.Refusal.TheVariants.{Unknown, Malformed, TooLong, BadSeverity, BadTag, BadVersion}
 use Rattle.bug_record.specs.declared.command.Refusal.TheVariants.{BadPackage, NoName, NoBug, Archived, NotArchived, Differ}
-use Rattle.bug_record.specs.declared.command.Refusal.TheVariants.{NotMerged, NotDone, StillFound}
+use Rattle.bug_record.specs.declared.command.Refusal.TheVariants.{NotMerged, OwnSet, NotDone, StillFound}
 use Rattle.ancestry.specs.Nodes.{Node, node_text}
 use Rattle.desk_text.specs.declared.outcome.StoreFault.{StoreFault}
 use Rattle.desk_text.specs.declared.outcome.StoreFault.TheVariants as faults
@@ -57,6 +57,7 @@ refusal_text (Archived n) = said_of_bug n (codes " is archived")
 refusal_text (NotArchived n) = said_of_bug n (codes " is not archived")
 refusal_text (Differ field n) = difference_text n (field_word field)
 refusal_text (NotMerged n) = said_of_bug n (codes " is not merged")
+refusal_text (OwnSet n) = said_of_bug n (codes " is in the same set")
 refusal_text (NotDone n) = said_of_bug n (codes " is open")
 refusal_text (StillFound v) = still_found_text v
 

@@ -95,6 +95,7 @@ fn append_refusal(out: &mut Vec<u8>, refusal: &Refusal) -> Result<(), AllocError
         Refusal::NotArchived(number) => append_of_bug(out, *number, " is not archived"),
         Refusal::Differ(field, number) => append_of_bug(out, *number, difference_end(*field)),
         Refusal::NotMerged(number) => append_of_bug(out, *number, " is not merged"),
+        Refusal::OwnSet(number) => append_of_bug(out, *number, " is in the same set"),
         Refusal::NotDone(number) => append_of_bug(out, *number, " is open"),
         Refusal::StillFound(node) => append_still_found(out, node),
     }

@@ -10,7 +10,7 @@ use crate::blanks::is_blank;
 
 /// What stands between words.
 #[derive(Clone, Copy, Debug, PartialEq, Eq, Drop)]
-pub(crate) enum Separators {
+pub enum Separators {
     /// Spaces and tabs.
     Blanks,
     /// Spaces, tabs and commas.
@@ -69,8 +69,8 @@ fn word_and_rest(separators: Separators, text: &str) -> (&str, &str)
     at_separator(separators, without_first(separators, text))
 }
 
-// The first word, and the text after it; `None` where there is no word.
-fn split(separators: Separators, text: &str) -> Option<(&str, &str)>
+/// The first word between these separators, and the text after it; `None` where there is no word.
+pub fn split_word_by(separators: Separators, text: &str) -> Option<(&str, &str)>
     ensures cut { MatchOption result
         (words_between (is_separator separators) text.now ≡ [])
         (λ parts. words_between (is_separator separators) text.now
@@ -103,7 +103,7 @@ pub fn split_word(text: &str) -> Option<(&str, &str)>
         (λ parts. words text.now ≡ parts.0.now ∷ words parts.1.now) }
     ensures shorter { IfSome result (λ parts. length parts.1.now < length text.now) }
 {
-    split(Separators::Blanks, text)
+    split_word_by(Separators::Blanks, text)
 }
 
 /// The first word, and the text after it, where commas are blanks too; `None` where there is no
@@ -114,7 +114,7 @@ pub fn split_word_with_commas(text: &str) -> Option<(&str, &str)>
         (λ parts. words_with_commas text.now ≡ parts.0.now ∷ words_with_commas parts.1.now) }
     ensures shorter { IfSome result (λ parts. length parts.1.now < length text.now) }
 {
-    split(Separators::BlanksAndCommas, text)
+    split_word_by(Separators::BlanksAndCommas, text)
 }
 
 fn last_blanks(s: &[u8]) -> usize
