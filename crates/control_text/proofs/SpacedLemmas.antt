@@ -1,6 +1,6 @@
 -- Lines of a command's word and words after spaces.
 use Rattle.std.proofs.Common.{◌≡◌, ℕ, ◌+◌, Bool, true, false, not, cond, List, [], ◌∷◌, ◌++◌, length, drop, Option, Some, Result}
-use Rattle.std.proofs.Common.{Ok, Err, codes, refl, ap, sym, ◌∙◌, subst, append-nil, arith}
+use Rattle.std.proofs.Common.{Ok, Err, codes, refl, ap, sym, ◌∙◌, subst, append-nil, append_assoc, arith}
 use Rattle.std.specs.Prelude.{IfOk, String, string_bytes, ⊤}
 use Rattle.std.specs.Option.{ok_or}
 use Rattle.std.specs.List.{list_any, position_or_len}
@@ -99,6 +99,21 @@ reading-command command w rest c h ends clean is =
 pub joined_spaces : (word : List ℕ) (more : List (List ℕ)) → joined_by_blanks (word ∷ more) ≡ word ++ after_spaces more
 joined_spaces word [] = sym (append-nil word)
 joined_spaces word (next ∷ more) = ap (λ s. word ++ 32 ∷ s) (joined_spaces next more)
+
+-- what is written behind words
+after_spaces-append : (ws more : List (List ℕ)) → after_spaces (ws ++ more) ≡ after_spaces ws ++ after_spaces more
+after_spaces-append [] more = refl
+after_spaces-append (w ∷ ws) more =
+    ap (λ s. 32 ∷ (w ++ s)) (after_spaces-append ws more) ∙ ap (λ s. 32 ∷ s) (sym (append_assoc w (after_spaces ws) (after_spaces more)))
+
+pub joined_more : (before after word : List ℕ) (ws more : List (List ℕ)) → before ≡ joined_by_blanks (word ∷ ws)
+    → after ≡ before ++ after_spaces more → after ≡ joined_by_blanks (word ∷ (ws ++ more))
+joined_more before after word ws more is then_more =
+    then_more
+    ∙ ap (λ s. s ++ after_spaces more) (is ∙ joined_spaces word ws)
+    ∙ append_assoc word (after_spaces ws) (after_spaces more)
+    ∙ ap (λ s. word ++ s) (sym (after_spaces-append ws more))
+    ∙ sym (joined_spaces word (ws ++ more))
 
 -- what is written word by word, once no word is left
 pub joined_last : (line word : List ℕ) (more rest : List (List ℕ)) → line ++ after_spaces rest ≡ word ++ after_spaces more

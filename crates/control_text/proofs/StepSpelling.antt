@@ -1,6 +1,5 @@
 -- Steps of tags, as they are written, are read as they are.
 use Rattle.std.proofs.Common.{◌≡◌, ℕ, Bool, true, false, List, [], ◌∷◌, ◌++◌, map, Result, Ok, refl, ap, ◌∙◌}
-use Rattle.std.specs.Prelude.{⊤}
 use Rattle.std.specs.List.{list_any}
 use Rattle.bug_record.specs.Tags.{tag_name}
 use Rattle.bug_record.specs.declared.tag.Tag.{Tag}
