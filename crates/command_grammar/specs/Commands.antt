@@ -121,16 +121,15 @@ abbrev pub each_word : {A : Type 0} → (List ℕ → Result A Refusal) → List
 each_word read [] = Ok []
 each_word read (word ∷ more) = and_read (read word) (λ x. and_read (each_word read more) (λ xs. Ok (x ∷ xs)))
 
--- `n m ..`, two bugs or more
-abbrev pub bug_and_others : List (List ℕ) → Result (Named × List Named) Refusal
-bug_and_others (n ∷ m ∷ more) =
-    and_read (read_bug n) (λ bug. and_read (each_word read_bug (m ∷ more)) (λ others. Ok (bug, others)))
-bug_and_others _ = Err Malformed
-
--- one bug or more
+-- `m ..`, one bug or more
 abbrev pub some_bugs : List (List ℕ) → Result (List Named) Refusal
 some_bugs [] = Err Malformed
 some_bugs (m ∷ more) = each_word read_bug (m ∷ more)
+
+-- `n m ..`, two bugs or more
+abbrev pub bug_and_others : List (List ℕ) → Result (Named × List Named) Refusal
+bug_and_others [] = Err Malformed
+bug_and_others (n ∷ others) = and_read (read_bug n) (λ bug. and_read (some_bugs others) (λ more. Ok (bug, more)))
 
 -- the words that stand before blockers, in any ASCII case
 abbrev pub is_by : List ℕ → Bool
@@ -140,7 +139,7 @@ is_by word = is_word word (codes "by") || is_word word (codes "with")
 abbrev pub by_bugs : List ℕ → Result (List Named) Refusal
 by_bugs text = if is_by (first_word text) then some_bugs (words_with_commas (after_word text)) else Err Malformed
 
--- `n by m ..`
+-- `n by m ..`: a bug, and those after `by`
 abbrev pub bug_by_bugs : List ℕ → Result (Named × List Named) Refusal
 bug_by_bugs arguments =
     and_read (read_bug (first_word arguments)) (λ bug. and_read (by_bugs (after_word arguments)) (λ others. Ok (bug, others)))

@@ -5,11 +5,11 @@ ghost use Rattle.command_grammar.specs.Commands.{is_by, by_bugs, bug_by_bugs, co
 ghost use Rattle.command_grammar.specs.Reads.{Reads};
 ghost use Rattle.command_grammar.specs.declared.command_word.CommandWord.TheVariants.{Block, Unblock};
 
-use crate::bugs::all_bugs;
+use crate::bugs::some_bugs;
 use crate::fault::LineFault;
 use crate::shapes::{MALFORMED, read_bug};
 use bug_record::{Command, Sequence};
-use line_words::{Named, Separators, is_word, next_word, split_word_with_commas};
+use line_words::{Named, Separators, is_word, next_word};
 use std::alloc::Global;
 
 // Whether the word may stand before blockers.
@@ -27,10 +27,7 @@ fn by_bugs(alloc: Global, text: &str) -> Result<Sequence<Named>, LineFault>
     if !is_by(by) {
         return Err(MALFORMED);
     }
-    if split_word_with_commas(rest).is_none() {
-        return Err(MALFORMED);
-    }
-    all_bugs(alloc, Separators::BlanksAndCommas, rest)
+    some_bugs(alloc, Separators::BlanksAndCommas, rest)
 }
 
 // `n by m ..`: a bug, and the bugs after `by`.

@@ -5,7 +5,7 @@ ghost use Rattle.command_grammar.specs.Commands.{bug_and_others, command_of};
 ghost use Rattle.command_grammar.specs.Reads.{Reads};
 ghost use Rattle.command_grammar.specs.declared.command_word.CommandWord.TheVariants.{Merge, ForceMerge};
 
-use crate::bugs::all_bugs;
+use crate::bugs::some_bugs;
 use crate::fault::LineFault;
 use crate::shapes::{MALFORMED, read_bug};
 use bug_record::{Command, Sequence};
@@ -17,11 +17,8 @@ fn bug_and_others(alloc: Global, arguments: &str) -> Result<(Named, Sequence<Nam
     ensures { Reads (bug_and_others (words arguments.now)) result }
 {
     let (first, rest) = split_word(arguments).ok_or(MALFORMED)?;
-    if split_word(rest).is_none() {
-        return Err(MALFORMED);
-    }
     let bug = read_bug(first)?;
-    let others = all_bugs(alloc, Separators::Blanks, rest)?;
+    let others = some_bugs(alloc, Separators::Blanks, rest)?;
     Ok((bug, others))
 }
 

@@ -1,5 +1,5 @@
 -- Blockers, as they are written, are read as they are.
-use Rattle.std.proofs.Common.{◌≡◌, ◌<◌, true, false, List, [], ◌∷◌, length, map, Result, Ok, Err, codes, ℕ, refl, ap, ◌∙◌, arith}
+use Rattle.std.proofs.Common.{◌≡◌, ◌<◌, true, false, List, [], ◌∷◌, length, map, Result, Ok, Err, codes, ℕ, refl, ap, ◌∙◌}
 use Rattle.std.specs.List.{list_any}
 use Rattle.std.proofs.lemmas.Bool.{cond-true}
 use Rattle.bug_record.specs.Sets.{Each}
@@ -14,7 +14,7 @@ use Rattle.control_text.specs.Spelling.{bug_text, after_spaces}
 use Rattle.control_text.proofs.PlainWords.{IsPlainWord, decimal-whole}
 use Rattle.control_text.proofs.SpacedLemmas.{first_word-is, ArePlain, AreWhole, words-space, after_word-spaces, commas-spaces}
 use Rattle.control_text.proofs.SpellingLemmas.{bug-back, bug-plain}
-use Rattle.control_text.proofs.MergeSpelling.{bugs_plain, all-back}
+use Rattle.control_text.proofs.MergeSpelling.{bugs_plain, some_bugs-back}
 
 bug-whole : (n : Named) → IsGoodBug n → list_any is_blank_or_comma (bug_text n) ≡ false
 bug-whole (Number n) good = decimal-whole n good.most
@@ -23,10 +23,6 @@ bug-whole (Name k) good = decimal-whole k good.most
 bugs_whole : (ns : List Named) → Each IsGoodBug ns → AreWhole (map bug_text ns)
 bugs_whole [] good = tt
 bugs_whole (n ∷ ns) good = (bug-plain n good.0, bug-whole n good.0, bugs_whole ns good.1)
-
-some_bugs-back : (ns : List Named) → Each IsGoodBug ns → 0 < length ns → some_bugs (map bug_text ns) ≡ Ok ns
-some_bugs-back [] good others = absurd (omega arith)
-some_bugs-back (n ∷ ns) good others = all-back (n ∷ ns) good
 
 by_plain : IsPlainWord (codes "by")
 by_plain = record { some = refl; graphic = refl }

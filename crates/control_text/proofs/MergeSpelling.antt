@@ -3,7 +3,7 @@ use Rattle.std.proofs.Common.{◌≡◌, ◌<◌, List, [], ◌∷◌, length, m
 use Rattle.bug_record.specs.Sets.{Each}
 use Rattle.line_words.specs.declared.named.Named.{Named}
 use Rattle.line_words.specs.Bugs.{IsGoodBug}
-use Rattle.command_grammar.specs.Commands.{and_read, read_bug, each_word, bug_and_others}
+use Rattle.command_grammar.specs.Commands.{and_read, read_bug, each_word, some_bugs, bug_and_others}
 use Rattle.control_text.specs.Spelling.{bug_text}
 use Rattle.control_text.proofs.SpacedLemmas.{ArePlain}
 use Rattle.control_text.proofs.SpellingLemmas.{bug-back, bug-plain}
@@ -12,17 +12,20 @@ pub bugs_plain : (ns : List Named) → Each IsGoodBug ns → ArePlain (map bug_t
 bugs_plain [] good = tt
 bugs_plain (n ∷ ns) good = (bug-plain n good.0, bugs_plain ns good.1)
 
-pub all-back : (ns : List Named) → Each IsGoodBug ns → each_word read_bug (map bug_text ns) ≡ Ok ns
+all-back : (ns : List Named) → Each IsGoodBug ns → each_word read_bug (map bug_text ns) ≡ Ok ns
 all-back [] good = refl
 all-back (n ∷ ns) good =
     ap (λ r. and_read {B = List Named} r (λ bug. and_read (each_word read_bug (map bug_text ns)) (λ bugs. Ok (bug ∷ bugs))))
     (bug-back n good.0)
     ∙ ap (λ r. and_read {B = List Named} r (λ bugs. Ok (n ∷ bugs))) (all-back ns good.1)
 
+pub some_bugs-back : (ns : List Named) → Each IsGoodBug ns → 0 < length ns → some_bugs (map bug_text ns) ≡ Ok ns
+some_bugs-back [] good others = absurd (omega arith)
+some_bugs-back (n ∷ ns) good others = all-back (n ∷ ns) good
+
 pub bugs-back : (n : Named) (ns : List Named) → Each IsGoodBug (n ∷ ns) → 0 < length ns
     → bug_and_others (bug_text n ∷ map bug_text ns) ≡ Ok (n, ns)
-bugs-back n [] good others = absurd (omega arith)
-bugs-back n (m ∷ ns) good others =
-    ap (λ r. and_read {B = Named × List Named} r
-    (λ bug. and_read (each_word read_bug (bug_text m ∷ map bug_text ns)) (λ bugs. Ok (bug, bugs)))) (bug-back n good.0)
-    ∙ ap (λ r. and_read {B = Named × List Named} r (λ bugs. Ok (n, bugs))) (all-back (m ∷ ns) good.1)
+bugs-back n ns good others =
+    ap (λ r. and_read {B = Named × List Named} r (λ bug. and_read (some_bugs (map bug_text ns)) (λ bugs. Ok (bug, bugs))))
+    (bug-back n good.0)
+    ∙ ap (λ r. and_read {B = Named × List Named} r (λ bugs. Ok (n, bugs))) (some_bugs-back ns good.1 others)

@@ -282,11 +282,10 @@ some_bugs-good (n ∷ ws) =
 
 bug_and_others-good : (ws : List (List ℕ)) → IfOk (bug_and_others ws) (λ both. IsGoodBug both.0 × AreOthers both.1)
 bug_and_others-good [] = tt
-bug_and_others-good (n ∷ []) = tt
-bug_and_others-good (n ∷ m ∷ ws) =
+bug_and_others-good (n ∷ ws) =
     and_read-good (read_bug n) _ IsGoodBug (λ both. IsGoodBug both.0 × AreOthers both.1) (read_bug-good n) (λ bug good.
-    and_read-good (each_word read_bug (m ∷ ws)) (λ others. Ok (bug, others)) AreOthers
-    (λ both. IsGoodBug both.0 × AreOthers both.1) (some_bugs-good (m ∷ ws)) (λ others fine. (good, fine)))
+    and_read-good (some_bugs ws) (λ others. Ok (bug, others)) AreOthers (λ both. IsGoodBug both.0 × AreOthers both.1)
+    (some_bugs-good ws) (λ others fine. (good, fine)))
 
 by_bugs-good : (text : List ℕ) → IfOk (by_bugs text) AreOthers
 by_bugs-good text =

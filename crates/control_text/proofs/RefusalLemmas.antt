@@ -146,17 +146,15 @@ each_word-of read each (word ∷ ws) =
     and_read-of (read word) _ (each word)
     (λ x. and_read-of (each_word read ws) (λ xs. Ok (x ∷ xs)) (each_word-of read each ws) (λ xs. tt))
 
-bug_and_others-of : (ws : List (List ℕ)) → IsOfLine (bug_and_others ws)
-bug_and_others-of [] = tt
-bug_and_others-of (n ∷ []) = tt
-bug_and_others-of (n ∷ m ∷ ws) =
-    and_read-of (read_bug n) _ (read_bug-of n)
-    (λ bug. and_read-of (each_word read_bug (m ∷ ws)) (λ others. Ok (bug, others))
-    (each_word-of read_bug read_bug-of (m ∷ ws)) (λ others. tt))
-
 some_bugs-of : (ws : List (List ℕ)) → IsOfLine (some_bugs ws)
 some_bugs-of [] = tt
 some_bugs-of (m ∷ ws) = each_word-of read_bug read_bug-of (m ∷ ws)
+
+bug_and_others-of : (ws : List (List ℕ)) → IsOfLine (bug_and_others ws)
+bug_and_others-of [] = tt
+bug_and_others-of (n ∷ ws) =
+    and_read-of (read_bug n) _ (read_bug-of n)
+    (λ bug. and_read-of (some_bugs ws) (λ others. Ok (bug, others)) (some_bugs-of ws) (λ others. tt))
 
 by_bugs-of : (text : List ℕ) → IsOfLine (by_bugs text)
 by_bugs-of text =
