@@ -3,3 +3,4 @@ pub mod KeyLemmas
 pub mod PlainLemmas
 pub mod PlaceLemmas
 pub mod HoldsLemmas
+pub mod WaitingLemmas

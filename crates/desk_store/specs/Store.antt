@@ -8,6 +8,7 @@ use Rattle.bug_record.specs.Sets.{has}
 use Rattle.bug_record.specs.Desk.{Desk}
 use Rattle.bug_record.specs.Heads.{open_head}
 use Rattle.bug_record.specs.Images.{numbers_of, IsSetOf, put}
+use Rattle.bug_record.specs.Waiting.{waiting_on}
 use Rattle.bug_record.specs.declared.bug.SetImage.{SetImage}
 use Rattle.bug_record.specs.declared.command.Change.{Change}
 use Rattle.desk_text.specs.declared.outcome.StoreFault.{StoreFault}
@@ -41,6 +42,10 @@ IsNext d n = n ≡ d.next
 -- the first head, in node order, at which the bugs of the image are still found, if there is one
 abbrev pub IsOpenHead : Desk → SetImage → Option Node → Type 0
 IsOpenHead d i head = head ≡ open_head d.tree i.shared
+
+-- the bugs that wait on the bug n, ascending
+abbrev pub IsWaiting : Desk → ℕ → List ℕ → Type 0
+IsWaiting d n numbers = numbers ≡ waiting_on d n
 
 -- the change is made, or none
 abbrev pub Applies : {T : Type 0} → Desk → Desk → Result T StoreFault → Change → Type 0

@@ -9,6 +9,7 @@ mod laws;
 mod places;
 mod plain;
 mod records;
+mod waiting;
 
 pub use fail_at::FailAt;
 pub use laws::faults_rise_by_one;

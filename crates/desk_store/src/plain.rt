@@ -7,15 +7,16 @@ ghost use Rattle.std.specs.Prelude.{nat_eq};
 ghost use Rattle.bug_record.specs.Desk.{IsSound};
 ghost use Rattle.bug_record.specs.Images.{AreApart, FitsDesk, put};
 ghost use Rattle.bug_record.proofs.SoundProp.{IsSound-prop};
-ghost use Rattle.desk_store.specs.Store.{IsImageOf, IsOpenHead, Branches, IsRefusal, no_faults};
+ghost use Rattle.desk_store.specs.Store.{IsImageOf, IsOpenHead, IsWaiting, Branches, IsRefusal, no_faults};
 ghost use Rattle.desk_store.specs.Keys.{IsKeyed};
 ghost use Rattle.desk_store.specs.Plain.{desk_of, empty_desk, keys, sets};
 
 use crate::heads::open_head;
 use crate::places::{Place, put_images};
 use crate::records::Records;
+use crate::waiting::waiting_on;
 use ancestry::{BranchFault, Node, Tree};
-use bug_record::{Change, SetImage};
+use bug_record::{Change, Numbers, SetImage};
 use desk_text::StoreFault;
 use std::alloc::{AllocError, Global};
 use std::collections::HashMap;
@@ -99,6 +100,17 @@ impl Records for PlainDesk {
     {
         match open_head(&self.tree, &image.shared) {
             Ok(head) => Ok(head),
+            Err(_) => Err(StoreFault::Memory),
+        }
+    }
+
+    fn waiting_on(&mut self, number: u64) -> Result<Numbers, StoreFault>
+        ensures same { self.new ≡ self.old }
+        ensures waiting { IfOk result (IsWaiting (desk_of self.old.bugs self.old.tree self.old.next) number) }
+        ensures memory { IfErr result (λ fault. fault ≡ StoreFault.Memory) }
+    {
+        match waiting_on(self.alloc, &self.bugs, number) {
+            Ok(numbers) => Ok(numbers),
             Err(_) => Err(StoreFault::Memory),
         }
     }

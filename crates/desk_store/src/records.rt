@@ -4,12 +4,13 @@ ghost use Rattle.std.specs.Prelude.{◌≡◌, Option, Result, IfOk};
 ghost use Rattle.bug_record.specs.Sets.{Each};
 ghost use Rattle.bug_record.specs.Desk.{Desk, IsSound};
 ghost use Rattle.bug_record.specs.Images.{AreApart, HasMember, IsSetOf, FitsDesk};
-ghost use Rattle.desk_store.specs.Store.{Holds, Asks, Answers, IsImageOf, IsNext, IsOpenHead, Applies, Branches, IsRefusal};
+ghost use Rattle.desk_store.specs.Store.{Holds, Asks, Answers, IsImageOf, IsNext, IsOpenHead, IsWaiting};
+ghost use Rattle.desk_store.specs.Store.{Applies, Branches, IsRefusal};
 ghost use Rattle.desk_store.specs.Store.{Faults};
 ghost use Rattle.desk_store.specs.Store.{faults_after, total};
 
 use ancestry::{BranchFault, Node};
-use bug_record::{Change, SetImage};
+use bug_record::{Change, Numbers, SetImage};
 use desk_text::StoreFault;
 
 /// A store of a desk, in memory or in tables.
@@ -51,6 +52,16 @@ pub trait Records {
         requires set { is_kept self.old → is_honest self.old → IsSetOf (desk self.old) image.now }
         ensures answer { Asks is_kept is_honest self.old self.new
             (Answers (desk self.old) (desk self.new) result (IsOpenHead (desk self.old) image.now)) }
+        ensures count { faults self.new ≡ faults_after result (faults self.old) };
+
+    /// The numbers of all bugs that wait on the bug of this number, ascending: those that have it
+    /// among their blockers.
+    /// Archived bugs are among them, and each bug of a set that waits.
+    /// This is this project's own rule.
+    /// Its errors are the store's faults, and `Memory` where there is none for the numbers.
+    fn waiting_on(&mut self, number: u64) -> Result<Numbers, StoreFault>
+        ensures answer { Asks is_kept is_honest self.old self.new
+            (Answers (desk self.old) (desk self.new) result (IsWaiting (desk self.old) number)) }
         ensures count { faults self.new ≡ faults_after result (faults self.old) };
 
     /// Carries a change out, in one step.
