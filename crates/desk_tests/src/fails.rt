@@ -4,13 +4,13 @@ ghost use Rattle.std.specs.Prelude.{◌≡◌, ◌||◌, true, false};
 ghost use Rattle.desk_tests.specs.Fails.{faults_with};
 
 use ancestry::{BranchFault, Node};
-use bug_record::{Change, SetImage};
+use bug_record::{Change, Numbers, SetImage};
 use desk_store::Records;
 use desk_text::StoreFault;
 
 /// A store round another.
-/// One call of `set_of`, `next`, `open_head`, `apply` or `branch` answers this fault, and changes
-/// nothing; every other call is the other store's.
+/// One call of `set_of`, `next`, `open_head`, `waiting_on`, `apply` or `branch` answers this fault,
+/// and changes nothing; every other call is the other store's.
 /// Its calls are counted.
 #[derive(Drop)]
 pub(crate) struct Fails<S> {
@@ -81,6 +81,13 @@ impl<S: Records> Records for Fails<S> {
             return Err(self.fault);
         }
         self.inner.open_head(image)
+    }
+
+    fn waiting_on(&mut self, number: u64) -> Result<Numbers, StoreFault> {
+        if self.is_due() {
+            return Err(self.fault);
+        }
+        self.inner.waiting_on(number)
     }
 
     fn apply(&mut self, change: &Change) -> Result<(), StoreFault> {

@@ -1,5 +1,6 @@
 //! Tests of what data can't show: readers and writers in pieces and failing, stores that fail, what
-//! a set holds, the plan of a merge as a call, and calls that no program makes.
+//! a set holds, which bugs wait on another one, the plan of a merge as a call, and calls that no
+//! program makes.
 #![tactic(auto)]
 
 #[cfg(test)]
@@ -24,3 +25,5 @@ mod sets;
 mod stores;
 #[cfg(test)]
 mod texts;
+#[cfg(test)]
+mod waiting;

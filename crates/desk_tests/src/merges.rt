@@ -36,6 +36,7 @@ fn image(alloc: Global, number: u64) -> Result<SetImage, AllocError>
             tags: Sequence::new(alloc),
             found: Sequence::new(alloc),
             fixed: Sequence::new(alloc),
+            blockers: Sequence::new(alloc),
             archived: false,
         },
         members: one_member(alloc, number)?,

@@ -1,0 +1,70 @@
+//! The bugs that wait on another one, as a call.
+
+use crate::fails::Fails;
+use crate::scripts::writes;
+use crate::stores::{REPORTS, written};
+use desk_run::ScriptEnd;
+use desk_store::{FailAt, PlainDesk, Records};
+use desk_text::StoreFault;
+use std::alloc::Global;
+
+// Whether these bugs, in this order, wait on the bug of this number.
+fn are_waiting<S: Records>(store: &mut S, number: u64, bugs: &[u64]) -> bool {
+    match store.waiting_on(number) {
+        Ok(numbers) => numbers.as_slice() == bugs,
+        Err(_) => false,
+    }
+}
+
+// Whether the question is answered with this fault.
+fn fails_with<S: Records>(store: &mut S, number: u64, fault: StoreFault) -> bool {
+    store.waiting_on(number).err() == Some(fault)
+}
+
+// Three bugs, of which the first two are merged and wait on the third.
+fn waiting_pair(alloc: Global) -> PlainDesk {
+    let mut desk = PlainDesk::new(alloc, 1);
+    written(alloc, &mut desk, REPORTS);
+    written(alloc, &mut desk, "merge 2 1\nblock 1 by 3\n");
+    desk
+}
+
+#[test]
+fn a_bug_waits_on_its_blockers_each_by_itself(rt: HostRuntime) {
+    let alloc = rt.alloc();
+    let mut desk = PlainDesk::new(alloc, 1);
+    written(alloc, &mut desk, REPORTS);
+    written(alloc, &mut desk, "block 1 by 2 3\n");
+    assert!(rt; are_waiting(&mut desk, 2, &[1]) && are_waiting(&mut desk, 3, &[1]));
+    let script = "merge 2 3\nblock 2 by 3\nunblock 1 with 2\n";
+    let answers =
+        "> merge 2 3\nOK 2 3\n> block 2 by 3\nNO bug 3 is in the same set\n\
+        > unblock 1 with 2\nOK 1\n";
+    let end = Ok(ScriptEnd::Accepted);
+    assert!(rt; writes(alloc, &mut desk, script.as_bytes(), end, answers));
+    assert!(rt; are_waiting(&mut desk, 3, &[1]));
+    assert!(rt; are_waiting(&mut desk, 2, &[]) && are_waiting(&mut desk, 1, &[]));
+    assert!(rt; are_waiting(&mut desk, 4, &[]));
+}
+
+#[test]
+fn each_bug_of_a_set_waits_archived_or_not(rt: HostRuntime) {
+    let alloc = rt.alloc();
+    let mut desk = waiting_pair(alloc);
+    assert!(rt; are_waiting(&mut desk, 3, &[1, 2]));
+    let end = Ok(ScriptEnd::Accepted);
+    let answers = "> close 1\nOK 1 2\n> archive 1\nOK 1 2\n";
+    assert!(rt; writes(alloc, &mut desk, b"close 1\narchive 1\n", end, answers));
+    assert!(rt; are_waiting(&mut desk, 3, &[1, 2]));
+}
+
+#[test]
+fn stores_that_fail_hand_the_question_on(rt: HostRuntime) {
+    let alloc = rt.alloc();
+    let mut store = FailAt::new(waiting_pair(alloc), 1);
+    assert!(rt; are_waiting(&mut store, 3, &[1, 2]) && store.faults() == 0);
+    let mut store = Fails::new(waiting_pair(alloc), 2, StoreFault::Foreign);
+    assert!(rt; are_waiting(&mut store, 3, &[1, 2]));
+    assert!(rt; fails_with(&mut store, 3, StoreFault::Foreign) && store.faults() == 1);
+    assert!(rt; are_waiting(&mut store, 3, &[1, 2]) && store.calls() == 3);
+}
