@@ -37,8 +37,7 @@ fn a_bug_waits_on_its_blockers_each_by_itself(rt: HostRuntime) {
     written(alloc, &mut desk, "block 1 by 2 3\n");
     assert!(rt; are_waiting(&mut desk, 2, &[1]) && are_waiting(&mut desk, 3, &[1]));
     let script = "merge 2 3\nblock 2 by 3\nunblock 1 with 2\n";
-    let answers =
-        "> merge 2 3\nOK 2 3\n> block 2 by 3\nNO bug 3 is in the same set\n\
+    let answers = "> merge 2 3\nOK 2 3\n> block 2 by 3\nNO bug 3 is in the same set\n\
         > unblock 1 with 2\nOK 1\n";
     let end = Ok(ScriptEnd::Accepted);
     assert!(rt; writes(alloc, &mut desk, script.as_bytes(), end, answers));
