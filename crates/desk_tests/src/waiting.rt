@@ -39,7 +39,7 @@ fn a_bug_waits_on_its_blockers_each_by_itself(rt: HostRuntime) {
     let script = "merge 2 3\nblock 2 by 3\nunblock 1 with 2\n";
     let answers = "> merge 2 3\nOK 2 3\n> block 2 by 3\nNO bug 3 is in the same set\n\
         > unblock 1 with 2\nOK 1\n";
-    let end = Ok(ScriptEnd::Accepted);
+    let end = Ok(ScriptEnd::Refused);
     assert!(rt; writes(alloc, &mut desk, script.as_bytes(), end, answers));
     assert!(rt; are_waiting(&mut desk, 3, &[1]));
     assert!(rt; are_waiting(&mut desk, 2, &[]) && are_waiting(&mut desk, 1, &[]));
