@@ -1,4 +1,5 @@
 pub mod NameLemmas
+pub mod WrittenLemmas
 pub mod CommandLemmas
 pub mod GatherLemmas
 pub mod QuestionLemmas

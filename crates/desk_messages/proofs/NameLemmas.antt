@@ -2,18 +2,19 @@
 use Rattle.std.proofs.Common.{◌≡◌, ◌<◌, ◌≤◌, ◌+◌, ◌-◌, ℕ, Bool, List, [], ◌∷◌, true, false, Option, Some, None, Result, Ok}
 use Rattle.std.proofs.Common.{◌∙◌, ap, sym, refl, arith}
 use Rattle.std.specs.Prelude.{nat_lt, map, option_map, not, ◌&&◌, if◌then◌else◌}
+use Rattle.std.specs.List.{find}
 use Rattle.std.specs.Option.{option_or}
 use Rattle.std.proofs.lemmas.Bool.{lt-ltb, le-ltb}
 use Rattle.std.proofs.lemmas.Option.{none-some}
 use Rattle.line_words.specs.Bugs.{IsGoodBug}
 use Rattle.line_words.specs.declared.named.Named.{Named}
 use Rattle.line_words.specs.declared.named.Named.TheVariants.{Number, Name}
-use Rattle.bug_record.specs.Sets.{Each}
+use Rattle.bug_record.specs.Sets.{has, Each}
 use Rattle.bug_record.specs.Texts.{IfGiven}
 use Rattle.bug_record.specs.Desk.{Desk, IsSound}
 use Rattle.bug_record.specs.Bugs.{at_bug, unless, first_of, first_refusal, bugs_at}
 use Rattle.bug_record.specs.Words.{meaning, bug_refusal, word_refusal, first_word_refusal, first_bug_refusal, number_by}
-use Rattle.bug_record.specs.Words.{may_be_archived}
+use Rattle.bug_record.specs.Words.{may_be_archived, others_may_be_archived, words_refusal}
 use Rattle.bug_record.specs.Heads.{open_head}
 use Rattle.ancestry.specs.Nodes.{Node}
 use Rattle.bug_record.specs.Differences.{differing, first_difference, package_difference}
@@ -27,7 +28,7 @@ use Rattle.bug_record.specs.declared.command.Command.{Command}
 use Rattle.bug_record.specs.declared.command.Command.TheVariants as commands
 use Rattle.bug_record.specs.declared.command.Field.{Field}
 use Rattle.bug_record.specs.declared.command.Refusal.{Refusal}
-use Rattle.bug_record.specs.declared.command.Refusal.TheVariants.{NoName, NoBug, Archived, NotArchived, NotDone, StillFound}
+use Rattle.bug_record.specs.declared.command.Refusal.TheVariants.{NoName, NoBug, Archived, NotArchived, NotDone, StillFound, OwnSet}
 use Rattle.desk_text.specs.declared.outcome.Outcome.TheVariants.{Refused}
 use Rattle.desk_store.specs.Message.{outcome_of}
 use Rattle.desk_messages.specs.Names.{number_told, command_told, refusal_meant, outcome_meant}
@@ -89,15 +90,37 @@ later-none : (o p : Option Refusal) → option_or o p ≡ None → p ≡ None
 later-none None p e = e
 later-none (Some refusal) p e = absurd (some-none refusal e)
 
+first-none : (o p : Option Refusal) → option_or o p ≡ None → o ≡ None
+first-none None p e = refl
+first-none (Some refusal) p e = absurd (some-none refusal e)
+
+word-number : (may_be : Bool) (d : Desk) (word : Named) → word_refusal may_be d.bug (meaning [] word) ≡ None
+    → number_told [] word ≡ number_by (meaning []) word
+word-number may_be d (Number n) e = refl
+word-number may_be d (Name k) e = absurd (some-none (NoName k) e)
+
 words-numbers : (may_be : Bool) (d : Desk) (words : List Named) → first_word_refusal may_be (meaning []) d.bug words ≡ None
     → Each (λ word. number_told [] word ≡ number_by (meaning []) word) words
 words-numbers may_be d [] e = tt
-words-numbers may_be d (Number n ∷ words) e = (
-  refl,
+words-numbers may_be d (word ∷ words) e = (
+  word-number may_be d word
+      (first-none (word_refusal may_be d.bug (meaning [] word)) (first_word_refusal may_be (meaning []) d.bug words) e),
   words-numbers may_be d words
-      (later-none (bug_refusal may_be (d.bug n) n) (first_word_refusal may_be (meaning []) d.bug words) e),
+      (later-none (word_refusal may_be d.bug (meaning [] word)) (first_word_refusal may_be (meaning []) d.bug words) e),
 )
-words-numbers may_be d (Name k ∷ words) e = absurd (some-none (NoName k) e)
+
+command-numbers : (d : Desk) (command : Command Named) → words_refusal (meaning []) d.bug command ≡ None
+    → Each (λ word. number_told [] word ≡ number_by (meaning []) word) (bugs_named command)
+command-numbers d command e = (
+  word-number (may_be_archived command) d (bug_named command) (first-none first others e),
+  words-numbers (others_may_be_archived command) d (other_bugs command) (later-none first others e),
+)
+  where
+    first : Option Refusal
+    first = word_refusal (may_be_archived command) d.bug (meaning [] (bug_named command))
+
+    others : Option Refusal
+    others = first_word_refusal (others_may_be_archived command) (meaning []) d.bug (other_bugs command)
 
 -- the bug that a command over others names
 bug-over : {N M : Type 0} (f : N → M) (command : Command N) → bug_named (command_over f command) ≡ f (bug_named command)
@@ -115,6 +138,8 @@ bug-over f (commands.Reassign n package_name version) = refl
 bug-over f (commands.Merge n ns) = refl
 bug-over f (commands.ForceMerge n ns) = refl
 bug-over f (commands.Unmerge n) = refl
+bug-over f (commands.Block n ns) = refl
+bug-over f (commands.Unblock n ns) = refl
 bug-over f (commands.Forwarded n text) = refl
 bug-over f (commands.NotForwarded n) = refl
 bug-over f (commands.Owner n who) = refl
@@ -122,7 +147,7 @@ bug-over f (commands.NoOwner n) = refl
 bug-over f (commands.Archive n) = refl
 bug-over f (commands.Unarchive n) = refl
 
--- whether its bugs may be archived
+-- whether that bug may be archived
 may-over : {N M : Type 0} (f : N → M) (command : Command N) → may_be_archived (command_over f command) ≡ may_be_archived command
 may-over f (commands.Found n version) = refl
 may-over f (commands.NotFound n version) = refl
@@ -138,6 +163,8 @@ may-over f (commands.Reassign n package_name version) = refl
 may-over f (commands.Merge n ns) = refl
 may-over f (commands.ForceMerge n ns) = refl
 may-over f (commands.Unmerge n) = refl
+may-over f (commands.Block n ns) = refl
+may-over f (commands.Unblock n ns) = refl
 may-over f (commands.Forwarded n text) = refl
 may-over f (commands.NotForwarded n) = refl
 may-over f (commands.Owner n who) = refl
@@ -145,28 +172,69 @@ may-over f (commands.NoOwner n) = refl
 may-over f (commands.Archive n) = refl
 may-over f (commands.Unarchive n) = refl
 
--- the bugs that it names
-bugs-over : {N M : Type 0} (f : N → M) (command : Command N) → bugs_named (command_over f command) ≡ map f (bugs_named command)
-bugs-over f (commands.Found n version) = refl
-bugs-over f (commands.NotFound n version) = refl
-bugs-over f (commands.Fixed n version) = refl
-bugs-over f (commands.NotFixed n version) = refl
-bugs-over f (commands.Close n version) = refl
-bugs-over f (commands.Reopen n who) = refl
-bugs-over f (commands.Severity n severity) = refl
-bugs-over f (commands.Tags n steps) = refl
-bugs-over f (commands.Retitle n text) = refl
-bugs-over f (commands.Submitter n who) = refl
-bugs-over f (commands.Reassign n package_name version) = refl
-bugs-over f (commands.Merge n ns) = refl
-bugs-over f (commands.ForceMerge n ns) = refl
-bugs-over f (commands.Unmerge n) = refl
-bugs-over f (commands.Forwarded n text) = refl
-bugs-over f (commands.NotForwarded n) = refl
-bugs-over f (commands.Owner n who) = refl
-bugs-over f (commands.NoOwner n) = refl
-bugs-over f (commands.Archive n) = refl
-bugs-over f (commands.Unarchive n) = refl
+-- whether those that it names besides may be
+others-may-over : {N M : Type 0} (f : N → M) (command : Command N) → others_may_be_archived (command_over f command) ≡ others_may_be_archived command
+others-may-over f (commands.Found n version) = refl
+others-may-over f (commands.NotFound n version) = refl
+others-may-over f (commands.Fixed n version) = refl
+others-may-over f (commands.NotFixed n version) = refl
+others-may-over f (commands.Close n version) = refl
+others-may-over f (commands.Reopen n who) = refl
+others-may-over f (commands.Severity n severity) = refl
+others-may-over f (commands.Tags n steps) = refl
+others-may-over f (commands.Retitle n text) = refl
+others-may-over f (commands.Submitter n who) = refl
+others-may-over f (commands.Reassign n package_name version) = refl
+others-may-over f (commands.Merge n ns) = refl
+others-may-over f (commands.ForceMerge n ns) = refl
+others-may-over f (commands.Unmerge n) = refl
+others-may-over f (commands.Block n ns) = refl
+others-may-over f (commands.Unblock n ns) = refl
+others-may-over f (commands.Forwarded n text) = refl
+others-may-over f (commands.NotForwarded n) = refl
+others-may-over f (commands.Owner n who) = refl
+others-may-over f (commands.NoOwner n) = refl
+others-may-over f (commands.Archive n) = refl
+others-may-over f (commands.Unarchive n) = refl
+
+-- the bugs that it names besides
+others-over : {N M : Type 0} (f : N → M) (command : Command N) → other_bugs (command_over f command) ≡ map f (other_bugs command)
+others-over f (commands.Found n version) = refl
+others-over f (commands.NotFound n version) = refl
+others-over f (commands.Fixed n version) = refl
+others-over f (commands.NotFixed n version) = refl
+others-over f (commands.Close n version) = refl
+others-over f (commands.Reopen n who) = refl
+others-over f (commands.Severity n severity) = refl
+others-over f (commands.Tags n steps) = refl
+others-over f (commands.Retitle n text) = refl
+others-over f (commands.Submitter n who) = refl
+others-over f (commands.Reassign n package_name version) = refl
+others-over f (commands.Merge n ns) = refl
+others-over f (commands.ForceMerge n ns) = refl
+others-over f (commands.Unmerge n) = refl
+others-over f (commands.Block n ns) = refl
+others-over f (commands.Unblock n ns) = refl
+others-over f (commands.Forwarded n text) = refl
+others-over f (commands.NotForwarded n) = refl
+others-over f (commands.Owner n who) = refl
+others-over f (commands.NoOwner n) = refl
+others-over f (commands.Archive n) = refl
+others-over f (commands.Unarchive n) = refl
+
+-- the refusal of a command's words that are told as numbers is that of the words
+command-told : (d : Desk) → IsSound d → (command : Command Named) → Each IsGoodBug (bugs_named command)
+    → option_map refusal_meant (words_refusal (λ n. Ok n) d.bug (command_told [] command)) ≡ words_refusal (meaning []) d.bug command
+command-told d sound command good =
+    (λ i. option_map refusal_meant (option_or (word_refusal (may-over f command i) d.bug (Ok (bug-over f command i)))
+    (first_bug_refusal (others-may-over f command i) d.bug (others-over f command i))))
+    ∙ option-told (word_refusal (may_be_archived command) d.bug (Ok (f (bug_named command))))
+    (first_bug_refusal (others_may_be_archived command) d.bug (map f (other_bugs command)))
+    ∙ (λ i. option_or (word-told (may_be_archived command) d sound (bug_named command) good.0 i)
+    (words-told (others_may_be_archived command) d sound (other_bugs command) good.1 i))
+  where
+    f : Named → ℕ
+    f = number_told []
 
 map-agree : {N M K : Type 0} (f : N → M) (g : M → K) (h : N → K) (ns : List N) → Each (λ n. g (f n) ≡ h n) ns
     → map g (map f ns) ≡ map h ns
@@ -189,6 +257,8 @@ over-agree f g h (commands.Reassign n package_name version) e = λ i. commands.R
 over-agree f g h (commands.Merge n ns) e = λ i. commands.Merge (e.0 i) (map-agree f g h ns e.1 i)
 over-agree f g h (commands.ForceMerge n ns) e = λ i. commands.ForceMerge (e.0 i) (map-agree f g h ns e.1 i)
 over-agree f g h (commands.Unmerge n) e = λ i. commands.Unmerge (e.0 i)
+over-agree f g h (commands.Block n ns) e = λ i. commands.Block (e.0 i) (map-agree f g h ns e.1 i)
+over-agree f g h (commands.Unblock n ns) e = λ i. commands.Unblock (e.0 i) (map-agree f g h ns e.1 i)
 over-agree f g h (commands.Forwarded n text) e = λ i. commands.Forwarded (e.0 i) text
 over-agree f g h (commands.NotForwarded n) e = λ i. commands.NotForwarded (e.0 i)
 over-agree f g h (commands.Owner n who) e = λ i. commands.Owner (e.0 i) who
@@ -240,44 +310,48 @@ taken-stays : (d : Desk) (n : ℕ) (rest : List ℕ) → Stays d (taken_out d n 
 taken-stays d n [] = refl
 taken-stays d n (m ∷ rest) = refl
 
-tests-stay : (command : Command ℕ) (head : Option Node) (f : Shared)
-    → IfGiven (λ refusal. refusal_meant refusal ≡ refusal) (first_of (own_tests command head f))
-tests-stay (commands.Archive n) head f =
+tests-stay : (command : Command ℕ) (head : Option Node) (merged : List ℕ) (f : Shared)
+    → IfGiven (λ refusal. refusal_meant refusal ≡ refusal) (first_of (own_tests command head merged f))
+tests-stay (commands.Block n ns) head merged f =
+    elim (find (has merged) ns) as (λ o. IfGiven (λ refusal. refusal_meant refusal ≡ refusal)
+    (option_or (option_map OwnSet o) None)) [ None ↦ tt | Some m ↦ refl ]
+tests-stay (commands.Archive n) head merged f =
     elim f.closed as (λ t. IfGiven (λ refusal. refusal_meant refusal ≡ refusal)
     (option_or (if t then None else Some (NotDone n)) (option_or (option_map StillFound head) None))) [
       | true ↦ elim head as (λ h. IfGiven (λ refusal. refusal_meant refusal ≡ refusal) (option_or (option_map StillFound h) None))
           [ None ↦ tt | Some v ↦ refl ]
       | false ↦ refl
     ]
-tests-stay (commands.Unarchive n) head f =
+tests-stay (commands.Unarchive n) head merged f =
     elim f.archived as (λ t. IfGiven (λ refusal. refusal_meant refusal ≡ refusal)
     (option_or (if t then None else Some (NotArchived n)) None)) [ true ↦ tt | false ↦ refl ]
-tests-stay (commands.Found n version) head f = tt
-tests-stay (commands.NotFound n version) head f = tt
-tests-stay (commands.Fixed n version) head f = tt
-tests-stay (commands.NotFixed n version) head f = tt
-tests-stay (commands.Close n version) head f = tt
-tests-stay (commands.Reopen n who) head f = tt
-tests-stay (commands.Severity n severity) head f = tt
-tests-stay (commands.Tags n steps) head f = tt
-tests-stay (commands.Retitle n text) head f = tt
-tests-stay (commands.Submitter n who) head f = tt
-tests-stay (commands.Reassign n package_name version) head f = tt
-tests-stay (commands.Merge n ns) head f = tt
-tests-stay (commands.ForceMerge n ns) head f = tt
-tests-stay (commands.Unmerge n) head f = tt
-tests-stay (commands.Forwarded n text) head f = tt
-tests-stay (commands.NotForwarded n) head f = tt
-tests-stay (commands.Owner n who) head f = tt
-tests-stay (commands.NoOwner n) head f = tt
+tests-stay (commands.Found n version) head merged f = tt
+tests-stay (commands.NotFound n version) head merged f = tt
+tests-stay (commands.Fixed n version) head merged f = tt
+tests-stay (commands.NotFixed n version) head merged f = tt
+tests-stay (commands.Close n version) head merged f = tt
+tests-stay (commands.Reopen n who) head merged f = tt
+tests-stay (commands.Severity n severity) head merged f = tt
+tests-stay (commands.Tags n steps) head merged f = tt
+tests-stay (commands.Retitle n text) head merged f = tt
+tests-stay (commands.Submitter n who) head merged f = tt
+tests-stay (commands.Reassign n package_name version) head merged f = tt
+tests-stay (commands.Merge n ns) head merged f = tt
+tests-stay (commands.ForceMerge n ns) head merged f = tt
+tests-stay (commands.Unmerge n) head merged f = tt
+tests-stay (commands.Unblock n ns) head merged f = tt
+tests-stay (commands.Forwarded n text) head merged f = tt
+tests-stay (commands.NotForwarded n) head merged f = tt
+tests-stay (commands.Owner n who) head merged f = tt
+tests-stay (commands.NoOwner n) head merged f = tt
 
 records-stay : (d : Desk) (sender : List ℕ) (command : Command ℕ) (b : Bug) → d.bug (bug_named command) ≡ Some b
     → Stays d (records_changed (open_head d.tree) sender command d)
 records-stay d sender command b e =
     at-stays d (d.bug (bug_named command)) (bug_named command) _ b e (λ c.
-    unless-stays d (first_of (own_tests command (open_head d.tree c.shared) c.shared))
+    unless-stays d (first_of (own_tests command (open_head d.tree c.shared) c.merged c.shared))
     (change_set d (bug_named command) (shared_after sender command) (new_title command) (new_submitter sender command))
-    (tests-stay command (open_head d.tree c.shared) c.shared))
+    (tests-stay command (open_head d.tree c.shared) c.merged c.shared))
 
 stays : (d : Desk) (sender : List ℕ) (command : Command ℕ) (b : Bug) → d.bug (bug_named command) ≡ Some b
     → Stays d (carried_out (open_head d.tree) d sender command)
@@ -295,6 +369,8 @@ stays d sender (commands.Reassign n package_name version) b e = records-stay d s
 stays d sender (commands.Merge n ns) b e = joined-stays d first_difference n ns b e
 stays d sender (commands.ForceMerge n ns) b e = joined-stays d package_difference n ns b e
 stays d sender (commands.Unmerge n) b e = at-stays d (d.bug n) n _ b e (λ c. taken-stays d n (others_merged n c.merged))
+stays d sender (commands.Block n ns) b e = records-stay d sender (commands.Block n ns) b e
+stays d sender (commands.Unblock n ns) b e = records-stay d sender (commands.Unblock n ns) b e
 stays d sender (commands.Forwarded n text) b e = records-stay d sender (commands.Forwarded n text) b e
 stays d sender (commands.NotForwarded n) b e = records-stay d sender (commands.NotForwarded n) b e
 stays d sender (commands.Owner n who) b e = records-stay d sender (commands.Owner n who) b e
@@ -311,43 +387,34 @@ first-there may_be (Some b) n p e = (b, refl)
 -- a command that was told comes to what it means
 pub step-told : (d : Desk) (sender : List ℕ) (command : Command Named) → IsSound d → Each IsGoodBug (bugs_named command)
     → outcome_meant d (step_of_numbers d sender (command_told [] command)) ≡ outcome_of d (step [] d sender command)
-step-told d sender command sound good =
-    ap (λ (t : Bool). outcome_meant d (unless (first_bug_refusal t d.bug (bugs_named (command_told [] command)))
-    (carried_out (open_head d.tree) d sender own))) (may-over (number_told []) command)
-    ∙ by (first_bug_refusal may_be d.bug (bugs_named (command_told [] command))) refl
+step-told d sender command sound good = by (words_refusal (λ n. Ok n) d.bug (command_told [] command)) refl
   where
-    may_be : Bool
-    may_be = may_be_archived command
-
     own : Command ℕ
     own = command_over (number_by (λ n. Ok n)) (command_told [] command)
 
     meant : Command ℕ
     meant = command_over (number_by (meaning [])) command
 
-    told : option_map refusal_meant (first_bug_refusal may_be d.bug (bugs_named (command_told [] command)))
-        ≡ first_word_refusal may_be (meaning []) d.bug (bugs_named command)
-    told = ap (λ (ns : List ℕ). option_map refusal_meant (first_bug_refusal may_be d.bug ns))
-        (bugs-over (number_told []) command) ∙ words-told may_be d sound (bugs_named command) good
+    told : option_map refusal_meant (words_refusal (λ n. Ok n) d.bug (command_told [] command))
+        ≡ words_refusal (meaning []) d.bug command
+    told = command-told d sound command good
 
-    by : (o : Option Refusal) → first_bug_refusal may_be d.bug (bugs_named (command_told [] command)) ≡ o
-        → outcome_meant d (unless (first_bug_refusal may_be d.bug (bugs_named (command_told [] command)))
+    by : (o : Option Refusal) → words_refusal (λ n. Ok n) d.bug (command_told [] command) ≡ o
+        → outcome_meant d (unless (words_refusal (λ n. Ok n) d.bug (command_told [] command))
         (carried_out (open_head d.tree) d sender own))
-        ≡ outcome_of d (unless (first_word_refusal may_be (meaning []) d.bug (bugs_named command))
-        (carried_out (open_head d.tree) d sender meant))
+        ≡ outcome_of d (unless (words_refusal (meaning []) d.bug command) (carried_out (open_head d.tree) d sender meant))
     by None e =
-        let none : first_word_refusal may_be (meaning []) d.bug (bugs_named command) ≡ None
-        = sym told ∙ ap (option_map refusal_meant) e in
+        let none : words_refusal (meaning []) d.bug command ≡ None = sym told ∙ ap (option_map refusal_meant) e in
         let same : own ≡ meant =
-        over-agree (number_told []) (number_by (λ n. Ok n)) (number_by (meaning [])) command
-        (words-numbers may_be d (bugs_named command) none) in
-        let there = first-there may_be (d.bug (bug_named (command_told [] command))) (bug_named (command_told [] command))
-        (first_bug_refusal may_be d.bug (other_bugs (command_told [] command))) e in
+        over-agree (number_told []) (number_by (λ n. Ok n)) (number_by (meaning [])) command (command-numbers d command none) in
+        let there = first-there (may_be_archived (command_told [] command)) (d.bug (bug_named (command_told [] command)))
+        (bug_named (command_told [] command))
+        (first_bug_refusal (others_may_be_archived (command_told [] command)) d.bug (other_bugs (command_told [] command))) e in
         (λ i. outcome_meant d (unless (e i) (carried_out (open_head d.tree) d sender own)))
         ∙ (stays d sender own there.0 (ap d.bug (bug-over (number_by (λ n. Ok n)) (command_told [] command)) ∙ there.1)
         ∙ (λ i. outcome_of d (unless (sym none i) (carried_out (open_head d.tree) d sender (same i)))))
     by (Some refusal) e =
-        let some : first_word_refusal may_be (meaning []) d.bug (bugs_named command) ≡ Some (refusal_meant refusal)
+        let some : words_refusal (meaning []) d.bug command ≡ Some (refusal_meant refusal)
         = sym told ∙ ap (option_map refusal_meant) e in
         (λ i. outcome_meant d (unless (e i) (carried_out (open_head d.tree) d sender own)))
         ∙ (λ i. outcome_of d (unless (sym some i) (carried_out (open_head d.tree) d sender meant)))

@@ -3,6 +3,7 @@ pub mod Reports
 -- definitions that only private functions cite
 pub mod Names
 pub mod Commands
+pub mod Written
 pub mod Images
 pub mod Questions
 pub mod Taking

@@ -11,6 +11,7 @@ ghost use Rattle.desk_messages.specs.Names.{number_told, command_told, refusal_m
 ghost use Rattle.desk_messages.specs.Commands.{MayBeMade, CarriesOut, DoesTold, Does};
 
 use crate::questions::ask;
+use crate::writing::written;
 use bug_core::{changed, plan};
 use bug_record::{Change, Command, PlanFault, Refusal, Sequence, SetImage};
 use control_text::Named;
@@ -64,6 +65,12 @@ fn command_told(alloc: Global, command: Command<Named>) -> Result<Command<u64>, 
             Command::ForceMerge(number_told(bug), numbers_told(alloc, bugs.as_slice())?)
         }
         Command::Unmerge(bug) => Command::Unmerge(number_told(bug)),
+        Command::Block(bug, bugs) => {
+            Command::Block(number_told(bug), numbers_told(alloc, bugs.as_slice())?)
+        }
+        Command::Unblock(bug, bugs) => {
+            Command::Unblock(number_told(bug), numbers_told(alloc, bugs.as_slice())?)
+        }
         Command::Forwarded(bug, address) => Command::Forwarded(number_told(bug), address),
         Command::NotForwarded(bug) => Command::NotForwarded(number_told(bug)),
         Command::Owner(bug, who) => Command::Owner(number_told(bug), who),
@@ -85,19 +92,20 @@ fn refusal_meant(refusal: Refusal) -> Refusal
     }
 }
 
-// Has the store carry a planned change out. A change of nothing isn't handed to it.
+// Has the store carry a planned change out. A change of nothing isn't handed to it, nor is the image
+// of a set that stays beside one that is changed.
 fn make_change<S: Records>(
     alloc: Global,
     store: &mut S,
     images: &[SetImage],
     next: u64,
-    change: &Change,
+    change: Change,
 ) -> Result<Outcome, StoreFault>
-    requires apart { S.is_kept store.old → S.is_honest store.old → AreApart change.now.images }
-    requires members { Each HasMember change.now.images }
-    requires planned { S.is_kept store.old → S.is_honest store.old → MayBeMade (S.desk store.old) images.now next change.now }
+    requires apart { S.is_kept store.old → S.is_honest store.old → AreApart change.images }
+    requires members { Each HasMember change.images }
+    requires planned { S.is_kept store.old → S.is_honest store.old → MayBeMade (S.desk store.old) images.now next change }
     ensures answer { Holds S.is_kept S.is_honest store.old store.new
-        (CarriesOut (S.desk store.old) change.now result (S.desk store.new)) }
+        (CarriesOut (S.desk store.old) change result (S.desk store.new)) }
     ensures count { S.faults store.new ≡ faults_after result (S.faults store.old) }
 {
     let Ok(numbers) = changed(alloc, images, change.images.as_slice()) else {
@@ -106,7 +114,10 @@ fn make_change<S: Records>(
     if numbers.as_slice().is_empty() && change.next == next {
         return Ok(Outcome::Changed(numbers));
     }
-    match store.apply(change) {
+    let Ok(change) = written(alloc, change, numbers.as_slice()) else {
+        return Err(StoreFault::Memory);
+    };
+    match store.apply(&change) {
         Ok(()) => Ok(Outcome::Changed(numbers)),
         Err(fault) => Err(fault),
     }
@@ -135,7 +146,7 @@ fn take_told<S: Records>(
     };
     let sets = images.as_slice();
     match plan(alloc, command, from, sets, next, open_head.as_ref()) {
-        Ok(change) => make_change(alloc, store, sets, next, &change),
+        Ok(change) => make_change(alloc, store, sets, next, change),
         Err(PlanFault::Refused(refusal)) => Ok(Outcome::Refused(refusal_meant(refusal))),
         Err(PlanFault::Memory) => Err(StoreFault::Memory),
     }

@@ -16,8 +16,8 @@ use desk_text::StoreFault;
 use std::alloc::{AllocError, Global};
 use std::collections::BTreeSet;
 
-// Whether one of the members is one of the bugs.
-fn meets(bugs: &BTreeSet<u64>, members: &[Member]) -> bool
+/// Whether one of the members is one of the bugs.
+pub(crate) fn meets(bugs: &BTreeSet<u64>, members: &[Member]) -> bool
     ensures { result ≡ meets (contains nat_cmp bugs.now) members.now }
 {
     members.iter().any(|member| bugs.contains(&member.number))

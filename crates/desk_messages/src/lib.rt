@@ -7,6 +7,7 @@ mod message;
 mod questions;
 mod reporting;
 mod transcript;
+mod writing;
 
 pub use desk_text::ReportFault;
 pub use message::{Received, receive, receive_lines};

@@ -10,9 +10,9 @@ make_change-requires-clause-apart g c k h =
     let b = c.in-Ok-next.ensures.answer in
     let early = b.holds.honest h in
     let kept = b.was_kept k h in
-    c.in-Ok-plan.ensures.apart _
-    (shown_with _ _ _ c.args.command.now _ _ _ _ c.as_slice-sets.ensures c.as_ref.ensures.value (a.holds.fact (a.was_kept kept early) early) (b.holds.fact kept h)
-    (g.met.S.Records.sound _ k)).0
+    let sh = shown_with _ _ _ c.args.command.now _ _ _ _ c.as_slice-sets.ensures c.as_ref.ensures.value (a.holds.fact (a.was_kept kept early) early) (b.holds.fact kept h)
+    (g.met.S.Records.sound _ k) in
+    c.in-Ok-plan.ensures.apart _ sh.0.sound sh.0.next_is sh.0.sets
 
 pub make_change-requires-clause-planned : goal.make_change-requires-clause-planned
 make_change-requires-clause-planned g c k h =

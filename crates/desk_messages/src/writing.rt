@@ -1,0 +1,36 @@
+//! What is written of a change.
+
+ghost use Rattle.std.specs.Prelude.{◌≡◌, IfOk};
+ghost use Rattle.desk_messages.specs.Written.{images_with, written};
+
+use crate::images::meets;
+use bug_record::{Change, Sequence, SetImage, number_set};
+use std::alloc::{AllocError, Global};
+
+// The images that have one of these bugs.
+fn images_with(
+    alloc: Global,
+    images: Sequence<SetImage>,
+    numbers: &[u64],
+) -> Result<Sequence<SetImage>, AllocError>
+    ensures { IfOk result (λ r. r ≡ images_with numbers.now images) }
+{
+    let bugs = number_set(alloc, numbers)?;
+    let mut images = images.into_vec();
+    images.retain(|image| meets(&bugs, image.members.as_slice()));
+    Ok(Sequence::from_vec(images))
+}
+
+/// What is written of a change that changes these bugs: where it has more than one image, those
+/// that have such a bug.
+pub(crate) fn written(alloc: Global, change: Change, numbers: &[u64]) -> Result<Change, AllocError>
+    ensures { IfOk result (λ r. r ≡ written numbers.now change) }
+{
+    if change.images.as_slice().len() < 2 {
+        return Ok(change);
+    }
+    Ok(Change {
+        images: images_with(alloc, change.images, numbers)?,
+        next: change.next,
+    })
+}
