@@ -310,7 +310,7 @@ steps-merge difference is next n ns o h d e k = λ j.
     (joined_shared first.shared (sym (bugs-known d is (n ∷ ns) k) j))))))
 
 pub merge-no_bug : (difference : Shared → Shared → Option Field) (is : List SetImage) (next n : ℕ) (ns : List ℕ)
-    → image_with is n ≡ None → IsPlannedOf false false n ns (λ d. sets_joined difference d n ns) is next (Err (Refused (NoBug n)))
+    → image_with is n ≡ None → IsPlannedOf (n ∷ ns) (λ d. sets_joined difference d n ns) is next (Err (Refused (NoBug n)))
 merge-no_bug difference is next n ns h =
     planned-refused (n ∷ ns) (merge_step difference n ns) is next (NoBug n) tt
     (steps-merge difference is next n ns None (image_with-none is n h))
@@ -353,7 +353,7 @@ steps-shown difference is next n ns i h =
 
 pub merge-archived : (difference : Shared → Shared → Option Field) (is : List SetImage) (next n : ℕ) (ns : List ℕ) (i : SetImage)
     (refusal : Refusal) → image_with is n ≡ Some i → archived_refusal false n i.shared ≡ Some refusal
-    → IsPlannedOf false false n ns (λ d. sets_joined difference d n ns) is next (Err (Refused refusal))
+    → IsPlannedOf (n ∷ ns) (λ d. sets_joined difference d n ns) is next (Err (Refused refusal))
 merge-archived difference is next n ns i refusal h a =
     planned-refused (n ∷ ns) (merge_step difference n ns) is next refusal (own-archived false n i.shared refusal a)
     (λ d e k. steps-shown difference is next n ns i h d e k
@@ -363,7 +363,7 @@ merge-archived difference is next n ns i refusal h a =
 pub merge-refused : (difference : Shared → Shared → Option Field) (is : List SetImage) (next n : ℕ) (ns : List ℕ) (i : SetImage)
     (refusal : Refusal) → image_with is n ≡ Some i → archived_refusal false n i.shared ≡ None
     → first_bug_refusal false (bug_in is) ns ≡ Some refusal
-    → IsPlannedOf false false n ns (λ d. sets_joined difference d n ns) is next (Err (Refused refusal))
+    → IsPlannedOf (n ∷ ns) (λ d. sets_joined difference d n ns) is next (Err (Refused refusal))
 merge-refused difference is next n ns i refusal h a r =
     planned-refused (n ∷ ns) (merge_step difference n ns) is next refusal (own-refused false (bug_in is) ns refusal r)
     (λ d e k. steps-shown difference is next n ns i h d e k
@@ -373,7 +373,7 @@ pub merge-differs : (difference : Shared → Shared → Option Field) (is : List
     (refusal : Refusal) → image_with is n ≡ Some i → archived_refusal false n i.shared ≡ None
     → first_bug_refusal false (bug_in is) ns ≡ None
     → first_refusal (differing (difference i.shared)) (bug_in is) ns ≡ Some refusal
-    → IsPlannedOf false false n ns (λ d. sets_joined difference d n ns) is next (Err (Refused refusal))
+    → IsPlannedOf (n ∷ ns) (λ d. sets_joined difference d n ns) is next (Err (Refused refusal))
 merge-differs difference is next n ns i refusal h a r q =
     planned-refused (n ∷ ns) (merge_step difference n ns) is next refusal
     (own-differing (difference i.shared) (bug_in is) ns refusal q)
@@ -384,7 +384,7 @@ pub merge-done : (difference : Shared → Shared → Option Field) (is : List Se
     → first_bug_refusal false (bug_in is) ns ≡ None
     → first_refusal (differing (difference i.shared)) (bug_in is) ns ≡ None
     → (change : Change) → change.images ≡ image_joined is (n ∷ ns) i ∷ others (n ∷ ns) is → change.next ≡ next
-    → IsPlannedOf false false n ns (λ d. sets_joined difference d n ns) is next (Ok change)
+    → IsPlannedOf (n ∷ ns) (λ d. sets_joined difference d n ns) is next (Ok change)
 merge-done difference is next n ns i a h out r q =
     let b = image_with-shows is n i h in
     planned-replaced (n ∷ ns) (merge_step difference n ns) is next (n ∷ ns) (image_joined is (n ∷ ns) i ∷ [])

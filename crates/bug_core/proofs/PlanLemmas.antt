@@ -9,7 +9,7 @@ use Rattle.std.proofs.lemmas.Option.{none-some, same_Some}
 use Rattle.debver.specs.Names.{IsName}
 use Rattle.bug_record.specs.Desk.{Desk, IsSound, AreGoodBlockers}
 use Rattle.bug_record.specs.Bugs.{each_bug, at_bug, unless, first_of}
-use Rattle.bug_record.specs.Words.{bug_refusal, first_bug_refusal, words_refusal, may_be_archived, others_may_be_archived}
+use Rattle.bug_record.specs.Words.{bug_refusal, first_bug_refusal, words_refusal, first_may_be_archived, others_may_be_archived}
 use Rattle.bug_record.specs.Commands.{bug_named, other_bugs, bugs_named, HasGoodParts, HasUtf8Texts}
 use Rattle.bug_record.specs.Steps.{own_tests, records_changed, change_set, shared_after, new_title, new_submitter}
 use Rattle.bug_record.specs.Sets.{has, Each}
@@ -108,7 +108,7 @@ records_step head sender command d = unless (words_refusal (λ n. Ok n) d.bug co
 
 abbrev by_bug : Option Node → List ℕ → Command ℕ → Option Bug → Option Refusal → Desk → Result Desk Refusal
 by_bug head sender command o others d =
-    unless (option_or (bug_refusal (may_be_archived command) o (bug_named command)) others)
+    unless (option_or (bug_refusal (first_may_be_archived command) o (bug_named command)) others)
     (at_bug o (bug_named command) (λ b. unless (first_of (own_tests command head b.merged b.shared)) (Ok (records_after sender command d))))
 
 -- by what the images show of it
@@ -120,12 +120,16 @@ steps-shown head sender command is next o h d e k = λ j.
     by_bug head sender command ((sym k.0 ∙ h) j)
     (sym (bugs_refused-known (others_may_be_archived command) d is (other_bugs command) k.1) j) d
 
--- three tests in turn are one
-three-tests : {A : Type 0} (o p q : Option Refusal) (result : Result A Refusal)
-    → unless (option_or o p) (unless q result) ≡ unless (option_or o (option_or p q)) result
-three-tests None None q result = refl
-three-tests None (Some refusal) q result = refl
-three-tests (Some refusal) p q result = refl
+-- two tests in turn are one
+two-tests : {A : Type 0} (o p : Option Refusal) (result : Result A Refusal)
+    → unless o (unless p result) ≡ unless (option_or o p) result
+two-tests None p result = refl
+two-tests (Some refusal) p result = refl
+
+-- the refusal of a bug that the images show
+pub shown-refusal : (may_be : Bool) (is : List SetImage) (n : ℕ) (i : SetImage) → image_with is n ≡ Some i
+    → bug_refusal may_be (bug_in is n) n ≡ archived_refusal may_be n i.shared
+shown-refusal may_be is n i h = let b = image_with-shows is n i h in ap (λ (o : Option Bug). bug_refusal may_be o n) b.1
 
 -- by the refusal of the bugs that the images show
 steps-refusal : (head : Option Node) (sender : List ℕ) (command : Command ℕ) (is : List SetImage) (next : ℕ) (i : SetImage)
@@ -135,11 +139,14 @@ steps-refusal : (head : Option Node) (sender : List ℕ) (command : Command ℕ)
     (λ d. unless o (Ok (records_after sender command d)))
 steps-refusal head sender command is next i o h r d e k =
     let b = image_with-shows is (bug_named command) i h in
+    let others = first_bug_refusal (others_may_be_archived command) (bug_in is) (other_bugs command) in
     steps-shown head sender command is next (Some (bug_of i b.0)) b.1 d e k
-    ∙ (three-tests (archived_refusal (may_be_archived command) (bug_named command) i.shared)
-    (first_bug_refusal (others_may_be_archived command) (bug_in is) (other_bugs command))
+    ∙ two-tests (option_or (archived_refusal (first_may_be_archived command) (bug_named command) i.shared) others)
     (first_of (own_tests command head (numbers_of i.members) i.shared)) (Ok (records_after sender command d))
-    ∙ ap (λ (z : Option Refusal). unless z (Ok (records_after sender command d))) r)
+    ∙ ap (λ (z : Option Refusal). unless (option_or (option_or z others)
+    (first_of (own_tests command head (numbers_of i.members) i.shared))) (Ok (records_after sender command d)))
+    (sym (shown-refusal (first_may_be_archived command) is (bug_named command) i h))
+    ∙ ap (λ (z : Option Refusal). unless z (Ok (records_after sender command d))) r
 
 -- these refusals are a plan's
 own-either : (o p : Option Refusal) → IfGiven IsRefusalOfPlan o → IfGiven IsRefusalOfPlan p
@@ -156,15 +163,15 @@ pub own-archived : (may_be : Bool) (n : ℕ) (f : Shared) (refusal : Refusal) �
     → IsRefusalOfPlan refusal
 own-archived may_be n f refusal e = subst (IfGiven IsRefusalOfPlan) e (archived-own may_be n f)
 
+bug-own : (may_be : Bool) (o : Option Bug) (n : ℕ) → IfGiven IsRefusalOfPlan (bug_refusal may_be o n)
+bug-own may_be None n = tt
+bug-own may_be (Some b) n = archived-own may_be n b.shared
+
 -- the first refusal of bugs is one of those that they have
 words-own : (may_be : Bool) (bug : ℕ → Option Bug) (ns : List ℕ) → IfGiven IsRefusalOfPlan (first_bug_refusal may_be bug ns)
 words-own may_be bug [] = tt
 words-own may_be bug (n ∷ ns) =
-    own-either (bug_refusal may_be (bug n) n) (first_bug_refusal may_be bug ns) (one (bug n)) (words-own may_be bug ns)
-  where
-    one : (o : Option Bug) → IfGiven IsRefusalOfPlan (bug_refusal may_be o n)
-    one None = tt
-    one (Some b) = archived-own may_be n b.shared
+    own-either (bug_refusal may_be (bug n) n) (first_bug_refusal may_be bug ns) (bug-own may_be (bug n) n) (words-own may_be bug ns)
 
 pub own-refused : (may_be : Bool) (bug : ℕ → Option Bug) (ns : List ℕ) (refusal : Refusal)
     → first_bug_refusal may_be bug ns ≡ Some refusal → IsRefusalOfPlan refusal
@@ -210,17 +217,15 @@ pub planned-tested : (head : Option Node) (sender : List ℕ) (command : Command
 planned-tested head sender command is next i refusal h r =
     planned-refused (bugs_named command) (records_step head sender command) is next refusal
     (subst (IfGiven IsRefusalOfPlan) r
-    (own-either (archived_refusal (may_be_archived command) (bug_named command) i.shared)
-    (option_or (first_bug_refusal (others_may_be_archived command) (bug_in is) (other_bugs command))
-    (first_of (own_tests command head (numbers_of i.members) i.shared)))
-    (archived-own (may_be_archived command) (bug_named command) i.shared)
-    (own-either (first_bug_refusal (others_may_be_archived command) (bug_in is) (other_bugs command))
-    (first_of (own_tests command head (numbers_of i.members) i.shared))
-    (words-own (others_may_be_archived command) (bug_in is) (other_bugs command))
-    (tests-own command head (numbers_of i.members) i.shared))))
+    (own-either (words_refusal (λ n. Ok n) (bug_in is) command) (first_of (own_tests command head (numbers_of i.members) i.shared))
+    (own-either (bug_refusal (first_may_be_archived command) (bug_in is (bug_named command)) (bug_named command))
+    (first_bug_refusal (others_may_be_archived command) (bug_in is) (other_bugs command))
+    (bug-own (first_may_be_archived command) (bug_in is (bug_named command)) (bug_named command))
+    (words-own (others_may_be_archived command) (bug_in is) (other_bugs command)))
+    (tests-own command head (numbers_of i.members) i.shared)))
     (steps-refusal head sender command is next i (Some refusal) h r)
 
--- where no bug is refused, the blockers after the command are good ones, in the whole set of its bug
+-- where neither of two tests refuses
 no-first : (o p : Option Refusal) → option_or o p ≡ None → o ≡ None
 no-first None p e = refl
 no-first (Some refusal) p e = absurd (none-some refusal (sym e))
@@ -229,6 +234,7 @@ no-later : (o p : Option Refusal) → option_or o p ≡ None → p ≡ None
 no-later None p e = e
 no-later (Some refusal) p e = absurd (none-some refusal (sym e))
 
+-- where no bug is refused, the blockers after the command are good ones, in the bug's whole set
 good-blockers : (head : Option Node) (sender : List ℕ) (command : Command ℕ) (is : List SetImage) (next : ℕ) (i : SetImage) (d : Desk)
     → image_with is (bug_named command) ≡ Some i → records_refusal command head is i ≡ None
     → IsShownBy d is next (bugs_named command)
@@ -239,15 +245,15 @@ good-blockers head sender command is next i d h r sh m b e k =
     let x = image_with-shows is n i h in
     let c = agree d sh.sound m n b e k in
     let same : c.0 ≡ bug_of i x.0 = same_value c.0 (bug_of i x.0) c.1 (shown d is sh.sets n (bug_of i x.0) x.1) in
-    let words = first_bug_refusal (others_may_be_archived command) (bug_in is) (other_bugs command) in
+    let first = bug_refusal (first_may_be_archived command) (bug_in is n) n in
+    let others = first_bug_refusal (others_may_be_archived command) (bug_in is) (other_bugs command) in
     let own = first_of (own_tests command head (numbers_of i.members) i.shared) in
-    let rest : option_or words own ≡ None
-    = no-later (archived_refusal (may_be_archived command) n i.shared) (option_or words own) r in
     let merged : b.merged ≡ numbers_of i.members = sym c.2 ∙ ap (λ (z : Bug). z.merged) same in
     let fields : b.shared ≡ i.shared = sym c.3 ∙ ap (λ (z : Bug). z.shared) same in
     good-blockers_after d sender command head b.merged b.shared (sh.sound.blockers m b e)
-    (sym (bugs_refused-known (others_may_be_archived command) d is (other_bugs command) sh.known.1) ∙ no-first words own rest)
-    ((λ j. first_of (own_tests command head (merged j) (fields j))) ∙ no-later words own rest)
+    (sym (bugs_refused-known (others_may_be_archived command) d is (other_bugs command) sh.known.1)
+    ∙ no-later first others (no-first (option_or first others) own r))
+    ((λ j. first_of (own_tests command head (merged j) (fields j))) ∙ no-later (option_or first others) own r)
 
 pub planned-records : (head : Option Node) (sender : List ℕ) (command : Command ℕ) (is : List SetImage) (next : ℕ) (i : SetImage)
     → IsGoodText sender → HasGoodParts command → HasUtf8Texts command → AreApart is

@@ -26,7 +26,7 @@ use Rattle.bug_record.proofs.NumberLemmas.{has-with_items, IsAscending-with_item
 use Rattle.bug_record.proofs.SetLemmas.{has-number_set, IsAscending-number_set, same-ascending}
 use Rattle.bug_core.specs.Others.{those_meant}
 use Rattle.bug_record.specs.Sets.{with_items}
-use Rattle.bug_core.specs.Joins.{with_nodes, without_marks, without_own, with_shared, with_all_shared}
+use Rattle.bug_core.specs.Joins.{with_nodes, without_marks_and_blockers, without_own, with_shared, with_all_shared}
 use Rattle.bug_core.proofs.ListedLemmas.{same_test, listed-from, meant-listed}
 
 or_group : (a b c : Bool) → ((a || b) || c) ≡ (a || (b || c))
@@ -147,7 +147,7 @@ sorted-none = tt
 pub joined-fields : (is : List SetImage) (ns : List ℕ) (n : ℕ) (i : SetImage) (x : Member) → AreApart is → has ns n ≡ true
     → bug_in is n ≡ Some (bug_of i x)
     → IsTagSet i.shared.tags → (ms : List Member) → numbers_of ms ≡ all_merged (bugs_at (bug_in is) ns)
-    → without_own ms (record (with_all_shared (without_marks i.shared) (those_meant ns is)) { owner = first_owner (bugs_at (bug_in is) ns) })
+    → without_own ms (record (with_all_shared (without_marks_and_blockers i.shared) (those_meant ns is)) { owner = first_owner (bugs_at (bug_in is) ns) })
     ≡ joined_shared i.shared (bugs_at (bug_in is) ns)
 joined-fields is ns n i x a h e tags ms numbers =
     (λ j. without_own ms (record (kept js f j) { owner = first_owner bugs }))
@@ -160,7 +160,7 @@ joined-fields is ns n i x a h e tags ms numbers =
     })
   where
     f : Shared
-    f = without_marks i.shared
+    f = without_marks_and_blockers i.shared
 
     js : List SetImage
     js = those_meant ns is

@@ -25,7 +25,7 @@ map-same [] = refl
 map-same (n ∷ ns) = ap (λ ks. n ∷ ks) (map-same ns)
 
 pub planned-merge : (head : Option Node) (sender : List ℕ) (n : ℕ) (ns : List ℕ) (is : List SetImage) (next : ℕ) (result : Result Change PlanFault)
-    → IsPlannedOf false false n ns (λ d. sets_joined first_difference d n ns) is next result
+    → IsPlannedOf (n ∷ ns) (λ d. sets_joined first_difference d n ns) is next result
     → IsPlanned (n ∷ ns) (step_with head sender (commands.Merge n ns)) is next result
 planned-merge head sender n ns is next result h =
     subst (λ (ks : List ℕ). IsPlanned (n ∷ ns)
@@ -33,7 +33,7 @@ planned-merge head sender n ns is next result h =
 
 pub planned-forcemerge : (head : Option Node) (sender : List ℕ) (n : ℕ) (ns : List ℕ) (is : List SetImage) (next : ℕ)
     (result : Result Change PlanFault)
-    → IsPlannedOf false false n ns (λ d. sets_joined package_difference d n ns) is next result
+    → IsPlannedOf (n ∷ ns) (λ d. sets_joined package_difference d n ns) is next result
     → IsPlanned (n ∷ ns) (step_with head sender (commands.ForceMerge n ns)) is next result
 planned-forcemerge head sender n ns is next result h =
     subst (λ (ks : List ℕ). IsPlanned (n ∷ ns)

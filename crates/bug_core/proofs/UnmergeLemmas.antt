@@ -328,21 +328,21 @@ steps-unmerge is next n i h d e k =
 
 pub unmerge-archived : (is : List SetImage) (next n : ℕ) (i : SetImage) (refusal : Refusal) → image_with is n ≡ Some i
     → archived_refusal false n i.shared ≡ Some refusal
-    → IsPlannedOf false false n [] (λ d. unmerged d n) is next (Err (Refused refusal))
+    → IsPlannedOf (n ∷ []) (λ d. unmerged d n) is next (Err (Refused refusal))
 unmerge-archived is next n i refusal h r =
     planned-refused (n ∷ []) (unmerge_step n) is next refusal (own-archived false n i.shared refusal r)
     (λ d e k. steps-unmerge is next n i h d e k
     ∙ ap (λ (o : Option Refusal). unless (option_or o None) (taken_out d n (others_merged n (numbers_of i.members)))) r)
 
 pub unmerge-no_bug : (is : List SetImage) (next n : ℕ) → image_with is n ≡ None
-    → IsPlannedOf false false n [] (λ d. unmerged d n) is next (Err (Refused (NoBug n)))
+    → IsPlannedOf (n ∷ []) (λ d. unmerged d n) is next (Err (Refused (NoBug n)))
 unmerge-no_bug is next n h =
     planned-refused (n ∷ []) (unmerge_step n) is next (NoBug n) tt
     (λ d e k. ap (by_bug d n) (sym k.0 ∙ image_with-none is n h))
 
 pub unmerge-alone : (is : List SetImage) (next n : ℕ) (i : SetImage) → image_with is n ≡ Some i
     → archived_refusal false n i.shared ≡ None → (part_of i false n).members ≡ []
-    → IsPlannedOf false false n [] (λ d. unmerged d n) is next (Err (Refused (NotMerged n)))
+    → IsPlannedOf (n ∷ []) (λ d. unmerged d n) is next (Err (Refused (NotMerged n)))
 unmerge-alone is next n i h r none =
     planned-refused (n ∷ []) (unmerge_step n) is next (NotMerged n) tt
     (λ d e k. steps-unmerge is next n i h d e k
@@ -363,7 +363,7 @@ parts-apart is n i a h some = apart-replaced is (n ∷ []) (parts i n) a (parts-
 pub unmerge-done : (is : List SetImage) (next n : ℕ) (i : SetImage) → AreApart is → image_with is n ≡ Some i
     → archived_refusal false n i.shared ≡ None → ((part_of i false n).members ≡ [] → ⊥)
     → (change : Change) → change.images ≡ parts i n ++ others (n ∷ []) is → change.next ≡ next
-    → IsPlannedOf false false n [] (λ d. unmerged d n) is next (Ok change)
+    → IsPlannedOf (n ∷ []) (λ d. unmerged d n) is next (Ok change)
 unmerge-done is next n i a h r some =
     planned-replaced (n ∷ []) (unmerge_step n) is next (n ∷ []) (parts i n)
     (bug_parted n (others_merged n (numbers_of i.members))) a

@@ -36,8 +36,8 @@ with_members ms [] = ms
 with_members ms (i ∷ is) = with_members (with_items number_of ms i.members) is
 
 -- the fields without marks and blockers
-abbrev pub without_marks : Shared → Shared
-without_marks f = record f { found = []; fixed = []; blockers = [] }
+abbrev pub without_marks_and_blockers : Shared → Shared
+without_marks_and_blockers f = record f { found = []; fixed = []; blockers = [] }
 
 -- the fields with the tags, marks and blockers of another set
 abbrev pub with_shared : Shared → Shared → Shared
@@ -53,10 +53,11 @@ abbrev pub with_all_shared : Shared → List SetImage → Shared
 with_all_shared f [] = f
 with_all_shared f (i ∷ is) = with_all_shared (with_shared f i.shared) is
 
--- the fields with those of the images of these bugs, and the owner of the first bug that has one
-abbrev pub joined_shared : Shared → List SetImage → List ℕ → Shared
-joined_shared f images numbers =
-    record (with_all_shared (without_marks f) (those_meant numbers images)) { owner = first_owner (bugs_at (bug_in images) numbers) }
+-- the fields with those of the images of these bugs, the blockers inside the new set not yet taken
+-- out, and the owner of the first bug that has one
+abbrev pub gathered_shared : Shared → List SetImage → List ℕ → Shared
+gathered_shared f images numbers =
+    record (with_all_shared (without_marks_and_blockers f) (those_meant numbers images)) { owner = first_owner (bugs_at (bug_in images) numbers) }
 
 -- the fields without the blockers that are among these members
 abbrev pub without_own : List Member → Shared → Shared
@@ -65,7 +66,7 @@ without_own ms f = record f { blockers = filter (λ n. not (has (numbers_of ms) 
 -- the image of the set that the sets of these bugs become, where the first of them has the fields f
 abbrev pub joined_image : Shared → List SetImage → List ℕ → SetImage
 joined_image f images numbers = record {
-  shared = without_own (with_members [] (those_meant numbers images)) (joined_shared f images numbers);
+  shared = without_own (with_members [] (those_meant numbers images)) (gathered_shared f images numbers);
   members = with_members [] (those_meant numbers images);
 }
 

@@ -1,13 +1,12 @@
 -- What is promised of the plan of each command.
-use Rattle.std.specs.Prelude.{ℕ, ◌≡◌, ◌≤◌, Bool, List, ◌∷◌, Option, Result, Ok, Err, IfOk, IfErr, ⊤}
-use Rattle.std.specs.Option.{option_or}
+use Rattle.std.specs.Prelude.{ℕ, ◌≡◌, ◌≤◌, false, List, Option, Result, Ok, Err, IfOk, IfErr, ⊤}
 use Rattle.debver.specs.Names.{IsName}
 use Rattle.bug_record.specs.Sets.{Each}
 use Rattle.bug_record.specs.Desk.{Desk, IsSound}
 use Rattle.bug_record.specs.Bugs.{unless}
-use Rattle.bug_record.specs.Commands.{bug_named, other_bugs}
+use Rattle.bug_record.specs.Commands.{bugs_named}
 use Rattle.ancestry.specs.Nodes.{Node}
-use Rattle.bug_record.specs.Words.{bug_refusal, first_bug_refusal, may_be_archived, others_may_be_archived}
+use Rattle.bug_record.specs.Words.{first_bug_refusal, words_refusal}
 use Rattle.bug_record.specs.Steps.{step_by, records_changed}
 use Rattle.bug_record.specs.declared.command.Command.{Command}
 use Rattle.bug_record.specs.Images.{AreApart, HasMember, AreSetsOf, FitsDesk}
@@ -33,7 +32,8 @@ IsRefusedAs (Err r) (Err Memory) = Unit {0}
 
 -- The refusals of a plan: a bug is not there, is archived and may not be, or is to be taken out of
 -- the archive and is not in it; one that is to be merged differs; one is merged with no other; one
--- that is to block another is in its set; or one that is to be archived is open, or still found.
+-- that is to block another is in that one's set; or one that is to be archived is open, or still
+-- found.
 abbrev pub IsRefusalOfPlan : Refusal → Type 0
 IsRefusalOfPlan (NoBug n) = ⊤
 IsRefusalOfPlan (Archived n) = ⊤
@@ -81,15 +81,13 @@ pub record IsPlanned (named : List ℕ) (after : Desk → Result Desk Refusal) (
 abbrev pub step_with : Option Node → List ℕ → Command ℕ → Desk → Result Desk Refusal
 step_with head sender command d = step_by (λ n. Ok n) (λ _. head) d sender command
 
--- What is planned for a command of the bug n, and of other bugs besides, that comes to this where all
--- of them are there, and none is archived that may not be.
-abbrev pub IsPlannedOf : Bool → Bool → ℕ → List ℕ → (Desk → Result Desk Refusal) → List SetImage → ℕ → Result Change PlanFault → Type 0
-IsPlannedOf may_be others_may_be n others own images next result = IsPlanned (n ∷ others)
-    (λ d. unless (option_or (bug_refusal may_be (d.bug n) n) (first_bug_refusal others_may_be d.bug others)) (own d)) images next
-    result
+-- What is planned for a command that comes to this where all of these bugs are there, and none is
+-- archived.
+abbrev pub IsPlannedOf : List ℕ → (Desk → Result Desk Refusal) → List SetImage → ℕ → Result Change PlanFault → Type 0
+IsPlannedOf named own images next result =
+    IsPlanned named (λ d. unless (first_bug_refusal false d.bug named) (own d)) images next result
 
 -- what is planned for a command that changes records, where this is the open head of its bug
 abbrev pub IsRecordsPlan : Option Node → List ℕ → Command ℕ → List SetImage → ℕ → Result Change PlanFault → Type 0
-IsRecordsPlan head sender command images next result =
-    IsPlannedOf (may_be_archived command) (others_may_be_archived command) (bug_named command) (other_bugs command)
-    (records_changed (λ _. head) sender command) images next result
+IsRecordsPlan head sender command images next result = IsPlanned (bugs_named command)
+    (λ d. unless (words_refusal (λ n. Ok n) d.bug command) (records_changed (λ _. head) sender command d)) images next result

@@ -8,8 +8,8 @@ ghost use Rattle.bug_record.specs.Images.{bug_in};
 ghost use Rattle.bug_record.specs.Merges.{first_owner};
 ghost use Rattle.bug_record.specs.Sets.{has, with_item, with_items};
 ghost use Rattle.bug_record.specs.Tags.{tag_place};
-ghost use Rattle.bug_core.specs.Joins.{with_nodes, with_members, with_shared, with_all_shared, joined_shared};
-ghost use Rattle.bug_core.specs.Joins.{number_of, without_marks, without_own, joined_image, AreByNumber};
+ghost use Rattle.bug_core.specs.Joins.{with_nodes, with_members, with_shared, with_all_shared, gathered_shared};
+ghost use Rattle.bug_core.specs.Joins.{number_of, without_marks_and_blockers, without_own, joined_image, AreByNumber};
 ghost use Rattle.bug_record.specs.Marks.{with_node};
 ghost use Rattle.bug_core.specs.Others.{those_meant};
 ghost use Rattle.bug_core.specs.Named.{named_numbers};
@@ -23,8 +23,9 @@ use std::alloc::{AllocError, Global};
 use std::collections::{BTreeMap, BTreeSet};
 use std::marker::Model;
 
-// Fields that are joined, which contracts see as such. The marks and the blockers are kept apart
-// from the others, so that one more is added in the logarithm of their number.
+// Fields that are joined, which contracts see as such.
+// The marks and the blockers are kept apart from the others, so that one more is added in the
+// logarithm of their number.
 #[derive(Drop)]
 struct Joined {
     shared: Shared,
@@ -125,7 +126,7 @@ fn add_members(map: &mut BTreeMap<u64, Member>, members: &[Member]) -> Result<()
 impl Joined {
     // The fields of the first set, without marks and blockers.
     fn new(alloc: Global, first: &Shared) -> Result<Joined, AllocError>
-        ensures { IfOk result (λ joined. joined ≡ without_marks first.now) }
+        ensures { IfOk result (λ joined. joined ≡ without_marks_and_blockers first.now) }
     {
         Ok(Joined {
             shared: first.copy()?,
@@ -197,8 +198,9 @@ fn add_all_shared(joined: &mut Joined, images: &[SetImage], named: Named) -> Res
     Ok(())
 }
 
-// The shared fields of those sets. The named bugs are those of the numbers.
-fn joined_shared(
+// The shared fields of those sets, with all blockers.
+// The named bugs are those of the numbers.
+fn gathered_shared(
     alloc: Global,
     first: &Shared,
     index: &Index,
@@ -208,7 +210,7 @@ fn joined_shared(
 ) -> Result<Shared, AllocError>
     requires images { index.now ≡ images.now }
     requires named { (n : ℕ) → has (named_numbers named) n ≡ has numbers.now n }
-    ensures { IfOk result (λ f. f ≡ joined_shared first.now images.now numbers.now) }
+    ensures { IfOk result (λ f. f ≡ gathered_shared first.now images.now numbers.now) }
 {
     let mut joined = Joined::new(alloc, first)?;
     add_all_shared(&mut joined, images, named)?;
@@ -244,7 +246,7 @@ pub(crate) fn joined_image(
 {
     let named = Named::Several(set);
     let members = joined_members(alloc, images, named)?;
-    let mut shared = joined_shared(alloc, first, index, images, numbers, named)?;
+    let mut shared = gathered_shared(alloc, first, index, images, numbers, named)?;
     drop_own(alloc, &mut shared, members.as_slice())?;
     Ok(SetImage { shared, members })
 }

@@ -90,7 +90,7 @@ pub(crate) fn plan_merge(
     next: u64,
 ) -> Result<Change, PlanFault>
     requires apart { AreApart images.now }
-    ensures { IsPlannedOf false false first others.now (λ d. sets_joined (difference_of agreement) d first others.now) images.now next
+    ensures { IsPlannedOf (first ∷ others.now) (λ d. sets_joined (difference_of agreement) d first others.now) images.now next
         result }
 {
     let Some(image) = find_image(images, first) else {

@@ -2,7 +2,7 @@
 
 ghost use Rattle.std.specs.Prelude.{◌≡◌};
 ghost use Rattle.bug_record.specs.Commands.{bug_named, other_bugs};
-ghost use Rattle.bug_record.specs.Words.{may_be_archived, others_may_be_archived};
+ghost use Rattle.bug_record.specs.Words.{first_may_be_archived, others_may_be_archived};
 
 use bug_record::Command;
 
@@ -52,8 +52,8 @@ pub fn other_bugs(command: &Command<u64>) -> &[u64]
 }
 
 /// Whether the bug that a command names first may be archived: that of `unarchive` alone.
-pub(crate) fn may_be_archived(command: &Command<u64>) -> bool
-    ensures { result ≡ may_be_archived command.now }
+pub(crate) fn first_may_be_archived(command: &Command<u64>) -> bool
+    ensures { result ≡ first_may_be_archived command.now }
 {
     match command {
         Command::Unarchive(_) => true,
@@ -61,7 +61,8 @@ pub(crate) fn may_be_archived(command: &Command<u64>) -> bool
     }
 }
 
-/// Whether those that it names besides may be: blockers alone.
+/// Whether the bugs that it names after the first may be archived: those of `block` and `unblock`
+/// alone.
 pub(crate) fn others_may_be_archived(command: &Command<u64>) -> bool
     ensures { result ≡ others_may_be_archived command.now }
 {

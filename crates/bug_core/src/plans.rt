@@ -147,15 +147,15 @@ fn plan_command(
 /// # Errors
 ///
 /// `Refused(NoBug(n))` where the command names a bug n that is in no image: n may be any number.
-/// `Refused(Archived(n))` where a bug that it names is archived, unless it is a blocker of `block` or
-/// `unblock`, or the command is `unarchive`.
+/// `Refused(Archived(n))` where a bug that it names is archived, unless it stands after the `by` of
+/// `block` or `unblock`, or the command is `unarchive`.
 /// The bugs are tested from the left, and the first that is refused decides.
 /// Then `Refused(NotArchived(n))` where a bug is to be taken out of the archive and is not in it;
 /// `Refused(Differ(field, n))` where the bug n is to be merged and differs from the first one in a
 /// field that has to be equal; `Refused(NotMerged(n))` where a bug is to be taken out of its set
-/// and is merged with no other; `Refused(OwnSet(n))` where the bug n is to block a bug of its own set;
-/// `Refused(NotDone(n))` where a bug is to be archived and is open,
-/// and else `Refused(StillFound(node))` where there is an open head.
+/// and is merged with no other; `Refused(OwnSet(n))` where the bug n is to block a bug of its own
+/// set; `Refused(NotDone(n))` where a bug is to be archived and is open, and else
+/// `Refused(StillFound(node))` where there is an open head.
 /// There is no other refusal: where the command has a version for an image whose package is no
 /// package name, as no desk shows one, it is `Refused(NoBug(n))` of the bug named.
 /// `Memory` where there was none.

@@ -1,18 +1,18 @@
 //! What is tested of bugs before a command of them is planned.
 
-ghost use Rattle.std.specs.Prelude.{◌≡◌, option_map, IfOk};
+ghost use Rattle.std.specs.Prelude.{◌≡◌, option_map, Some, IfOk};
 ghost use Rattle.std.specs.List.{find};
 ghost use Rattle.std.specs.Option.{option_copied};
 ghost use Rattle.bug_record.specs.Bugs.{first_of};
-ghost use Rattle.bug_record.specs.Commands.{other_bugs};
-ghost use Rattle.bug_record.specs.Images.{numbers_of, bug_in};
+ghost use Rattle.bug_record.specs.Commands.{bug_named, other_bugs};
+ghost use Rattle.bug_record.specs.Images.{numbers_of, bug_in, image_with};
 ghost use Rattle.bug_record.specs.Sets.{has};
 ghost use Rattle.bug_record.specs.Steps.{own_tests};
 ghost use Rattle.bug_record.specs.Words.{archived_refusal, bug_refusal, first_bug_refusal, others_may_be_archived};
 ghost use Rattle.bug_core.specs.Refusals.{records_refusal};
 
 use crate::images::member_numbers;
-use crate::named::{bug_named, may_be_archived, other_bugs, others_may_be_archived};
+use crate::named::{bug_named, first_may_be_archived, other_bugs, others_may_be_archived};
 use ancestry::Node;
 use bug_record::{Command, Refusal, SetImage, Shared};
 use set_images::Index;
@@ -79,9 +79,9 @@ fn is_in(set: &BTreeSet<u64>, number: u64) -> bool
 fn first_in(set: &BTreeSet<u64>, numbers: &[u64]) -> Option<u64>
     ensures { result ≡ find (has set.now.keys) numbers.now }
 {
-    for number in numbers {
-        if is_in(set, *number) {
-            return Some(*number);
+    for blocker in numbers {
+        if is_in(set, *blocker) {
+            return Some(*blocker);
         }
     }
     None
@@ -149,11 +149,12 @@ pub(crate) fn records_refusal(
     images: &[SetImage],
     image: &SetImage,
 ) -> Result<Option<Refusal>, AllocError>
+    requires named { image_with images.now (bug_named command.now) ≡ Some image.now }
     ensures { IfOk result
         (λ refusal. refusal ≡ records_refusal command.now (option_copied open_head.entry) images.now image.now) }
 {
     let number = bug_named(command);
-    if let Some(refusal) = archived_refusal(may_be_archived(command), number, &image.shared) {
+    if let Some(refusal) = archived_refusal(first_may_be_archived(command), number, &image.shared) {
         return Ok(Some(refusal));
     }
     if let Some(refusal) = others_refusal(alloc, command, images)? {

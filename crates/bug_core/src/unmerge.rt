@@ -71,7 +71,7 @@ pub(crate) fn plan_unmerge(
     next: u64,
 ) -> Result<Change, PlanFault>
     requires apart { AreApart images.now }
-    ensures planned { IsPlannedOf false false number [] (λ d. unmerged d number) images.now next result }
+    ensures planned { IsPlannedOf (number ∷ []) (λ d. unmerged d number) images.now next result }
     ensures apart { IfOk result (λ change. AreApart change.images) }
 {
     let Some(image) = find_image(images, number) else {

@@ -51,7 +51,7 @@ pub record IsSound (d : Desk) : Type 0 where
   pub agree : (n m : ℕ) (b : Bug) → d.bug n ≡ Some b → has b.merged m ≡ true → IsMergedWith b (d.bug m)
   -- every text, package name and node is within its limits, and every text is UTF-8
   pub texts : (n : ℕ) (b : Bug) → d.bug n ≡ Some b → HasGoodTexts b
-  -- blockers are bugs of the desk, and of other sets
+  -- blockers are as said above
   pub blockers : (n : ℕ) (b : Bug) → d.bug n ≡ Some b → AreGoodBlockers d b.merged b.shared.blockers
   -- numbers are from 1 to below the next one, which is from 1 to 1,000,000,000
   pub in_range : (n : ℕ) (b : Bug) → d.bug n ≡ Some b → (0 < n) × (n < d.next)

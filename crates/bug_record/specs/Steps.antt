@@ -1,6 +1,6 @@
 -- What a command does to a desk, over whole records (the BTS page 'control and manipulation'; when
 -- `found n v` opens a bug, what an open bug's `reopen` and a `reassign` to the bug's own package
--- do, and which bugs `archive` takes, is this project's own rule).
+-- do, which blockers `block` takes, and which bugs `archive` takes, is this project's own rule).
 use Rattle.std.specs.Prelude.{ℕ, ◌+◌, ◌==◌, ◌&&◌, false, true, List, [], ◌∷◌, Option, Some, None, Result, Ok, unwrap_or}
 use Rattle.std.specs.Prelude.{◌++◌, not, filter, option_map, if◌then◌else◌}
 use Rattle.std.specs.Str.{bytes_eq}
@@ -163,9 +163,10 @@ change_set d n f title who = each_bug d (λ m b. record b {
   submitter = if has b.merged n then unwrap_or (who b.shared m) b.submitter else b.submitter;
 })
 
--- What the tests of a command that changes records come to, in their order, of a bug of which this is
--- the open head, which is merged with these bugs and has these shared fields; those of `merge` and
--- `unmerge` are in `Merges`.
+-- The refusals of the own tests of a command that changes records, in their order; those of merging
+-- are in `Merges`.
+-- This is the open head of the bug that it names, these are the bugs merged with it, and these its
+-- shared fields.
 abbrev pub own_tests : Command ℕ → Option Node → List ℕ → Shared → List (Option Refusal)
 own_tests (commands.Block n ns) head merged f = option_map OwnSet (find (has merged) ns) ∷ []
 own_tests (commands.Archive n) head merged f = (if f.closed then None else Some (NotDone n)) ∷ option_map StillFound head ∷ []

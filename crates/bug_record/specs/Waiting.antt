@@ -1,4 +1,5 @@
--- Bugs that wait on another. This project's own rule.
+-- Bugs that wait on another.
+-- This project's own rule.
 use Rattle.std.specs.Prelude.{ℕ, Bool, false, List, filter, Option, Some, None}
 use Rattle.bug_record.specs.Sets.{has}
 use Rattle.bug_record.specs.Desk.{Desk}

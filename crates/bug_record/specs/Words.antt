@@ -1,5 +1,6 @@
 -- Bug words: what they mean, and their refusals, which come before the tests of their command's
--- own. This project's own rule.
+-- own.
+-- This project's own rule.
 use Rattle.std.specs.Prelude.{ℕ, ◌==◌, ◌&&◌, Bool, true, false, not, List, [], ◌∷◌, Option, Some, None, Result, Ok, Err, ok_or}
 use Rattle.std.specs.Prelude.{if◌then◌else◌}
 use Rattle.std.specs.Option.{option_or}
@@ -52,11 +53,12 @@ abbrev pub first_bug_refusal : Bool → (ℕ → Option Bug) → List ℕ → Op
 first_bug_refusal may_be bug ns = first_word_refusal may_be (λ n. Ok n) bug ns
 
 -- whether the bug that a command names first may be archived: that of `unarchive` alone
-abbrev pub may_be_archived : {N : Type 0} → Command N → Bool
-may_be_archived (commands.Unarchive n) = true
-may_be_archived command = false
+abbrev pub first_may_be_archived : {N : Type 0} → Command N → Bool
+first_may_be_archived (commands.Unarchive n) = true
+first_may_be_archived command = false
 
--- whether those that it names besides may be: blockers alone
+-- whether the bugs that it names after the first may be archived: those of `block` and `unblock`
+-- alone
 abbrev pub others_may_be_archived : {N : Type 0} → Command N → Bool
 others_may_be_archived (commands.Block n ns) = true
 others_may_be_archived (commands.Unblock n ns) = true
@@ -65,7 +67,7 @@ others_may_be_archived command = false
 -- the first refusal of a command's bug words, from the left
 abbrev pub words_refusal : {N : Type 0} → (N → Result ℕ Refusal) → (ℕ → Option Bug) → Command N → Option Refusal
 words_refusal means bug command =
-    option_or (word_refusal (may_be_archived command) bug (means (bug_named command)))
+    option_or (word_refusal (first_may_be_archived command) bug (means (bug_named command)))
     (first_word_refusal (others_may_be_archived command) means bug (other_bugs command))
 
 -- the number that a bug word means, where it means one

@@ -15,8 +15,8 @@ ghost use Rattle.bug_record.specs.declared.bug.Shared.{Shared};
 ghost use Rattle.bug_record.specs.declared.tag.Tag.{Tag};
 
 /// Merged bugs have together what some of them has: a bug is merged with them where it is merged
-/// with one of them, a tag or a mark is theirs where one of them has it, and so is a blocker that is
-/// merged with none of them.
+/// with one of them, a tag or a mark is theirs where one of them has it, and so is a blocker that
+/// is merged with none of them.
 pub fn joined_by_membership()
     ensures merged { (bugs : List Bug) (m : ℕ) → has (all_merged bugs) m ≡ list_any (λ b. has b.merged m) bugs }
     ensures tags { (bugs : List Bug) (t : Tag) → has_tag (joined_tags bugs) t ≡ list_any (λ b. has_tag b.shared.tags t) bugs }

@@ -22,7 +22,8 @@ IsPlain None = ⊤
 IsPlain (Some Sender) = ⊤
 IsPlain (Some (Given text)) = (¬ (text ≡ codes "!")) × (¬ (text ≡ codes "="))
 
--- no text that is given for somebody stands for somebody else, and what names other bugs has one
+-- no text that is given for somebody stands for somebody else, and a merge, a `block` and an
+-- `unblock` name a second bug
 abbrev pub IsSpellable : Command Named → Type 0
 IsSpellable (commands.Reopen bug who) = IsPlain who
 IsSpellable (commands.Submitter bug who) = IsAddress who

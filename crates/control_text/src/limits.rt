@@ -94,8 +94,9 @@ fn is_good_optional_who(who: &Option<Who>) -> bool
 /// Whether a command can be written: its numbers and names are from 1 to 999,999,999, its versions,
 /// package names and texts are within their limits, no text that is given for a submitter or an
 /// owner is `!`, which stands for the sender, none that is given for `reopen` is `=`, which stands
-/// for nobody, a merge has a second bug, and what blocks or unblocks a bug names a blocker. This
-/// project's own rule. It holds of all that `read_line` gives.
+/// for nobody, a merge has a second bug, and `block` and `unblock` name a blocker.
+/// This project's own rule.
+/// It holds of all that `read_line` gives.
 pub fn well_formed(command: &Command<Named>) -> bool
     ensures { Decides result (IsWellFormed command.now) }
 {

@@ -14,7 +14,7 @@ use Rattle.bug_record.specs.Texts.{IfGiven}
 use Rattle.bug_record.specs.Desk.{Desk, IsSound}
 use Rattle.bug_record.specs.Bugs.{at_bug, unless, first_of, first_refusal, bugs_at}
 use Rattle.bug_record.specs.Words.{meaning, bug_refusal, word_refusal, first_word_refusal, first_bug_refusal, number_by}
-use Rattle.bug_record.specs.Words.{may_be_archived, others_may_be_archived, words_refusal}
+use Rattle.bug_record.specs.Words.{first_may_be_archived, others_may_be_archived, words_refusal}
 use Rattle.bug_record.specs.Heads.{open_head}
 use Rattle.ancestry.specs.Nodes.{Node}
 use Rattle.bug_record.specs.Differences.{differing, first_difference, package_difference}
@@ -112,12 +112,12 @@ words-numbers may_be d (word ∷ words) e = (
 command-numbers : (d : Desk) (command : Command Named) → words_refusal (meaning []) d.bug command ≡ None
     → Each (λ word. number_told [] word ≡ number_by (meaning []) word) (bugs_named command)
 command-numbers d command e = (
-  word-number (may_be_archived command) d (bug_named command) (first-none first others e),
+  word-number (first_may_be_archived command) d (bug_named command) (first-none first others e),
   words-numbers (others_may_be_archived command) d (other_bugs command) (later-none first others e),
 )
   where
     first : Option Refusal
-    first = word_refusal (may_be_archived command) d.bug (meaning [] (bug_named command))
+    first = word_refusal (first_may_be_archived command) d.bug (meaning [] (bug_named command))
 
     others : Option Refusal
     others = first_word_refusal (others_may_be_archived command) (meaning []) d.bug (other_bugs command)
@@ -148,7 +148,7 @@ bug-over f (commands.Archive n) = refl
 bug-over f (commands.Unarchive n) = refl
 
 -- whether that bug may be archived
-may-over : {N M : Type 0} (f : N → M) (command : Command N) → may_be_archived (command_over f command) ≡ may_be_archived command
+may-over : {N M : Type 0} (f : N → M) (command : Command N) → first_may_be_archived (command_over f command) ≡ first_may_be_archived command
 may-over f (commands.Found n version) = refl
 may-over f (commands.NotFound n version) = refl
 may-over f (commands.Fixed n version) = refl
@@ -228,9 +228,9 @@ command-told : (d : Desk) → IsSound d → (command : Command Named) → Each I
 command-told d sound command good =
     (λ i. option_map refusal_meant (option_or (word_refusal (may-over f command i) d.bug (Ok (bug-over f command i)))
     (first_bug_refusal (others-may-over f command i) d.bug (others-over f command i))))
-    ∙ option-told (word_refusal (may_be_archived command) d.bug (Ok (f (bug_named command))))
+    ∙ option-told (word_refusal (first_may_be_archived command) d.bug (Ok (f (bug_named command))))
     (first_bug_refusal (others_may_be_archived command) d.bug (map f (other_bugs command)))
-    ∙ (λ i. option_or (word-told (may_be_archived command) d sound (bug_named command) good.0 i)
+    ∙ (λ i. option_or (word-told (first_may_be_archived command) d sound (bug_named command) good.0 i)
     (words-told (others_may_be_archived command) d sound (other_bugs command) good.1 i))
   where
     f : Named → ℕ
@@ -407,7 +407,7 @@ step-told d sender command sound good = by (words_refusal (λ n. Ok n) d.bug (co
         let none : words_refusal (meaning []) d.bug command ≡ None = sym told ∙ ap (option_map refusal_meant) e in
         let same : own ≡ meant =
         over-agree (number_told []) (number_by (λ n. Ok n)) (number_by (meaning [])) command (command-numbers d command none) in
-        let there = first-there (may_be_archived (command_told [] command)) (d.bug (bug_named (command_told [] command)))
+        let there = first-there (first_may_be_archived (command_told [] command)) (d.bug (bug_named (command_told [] command)))
         (bug_named (command_told [] command))
         (first_bug_refusal (others_may_be_archived (command_told [] command)) d.bug (other_bugs (command_told [] command))) e in
         (λ i. outcome_meant d (unless (e i) (carried_out (open_head d.tree) d sender own)))

@@ -44,8 +44,8 @@ abbrev pub IsOpenHead : Desk → SetImage → Option Node → Type 0
 IsOpenHead d i head = head ≡ open_head d.tree i.shared
 
 -- the bugs that wait on the bug n, ascending
-abbrev pub IsWaiting : Desk → ℕ → List ℕ → Type 0
-IsWaiting d n numbers = numbers ≡ waiting_on d n
+abbrev pub AreWaitingOn : Desk → ℕ → List ℕ → Type 0
+AreWaitingOn d n numbers = numbers ≡ waiting_on d n
 
 -- the change is made, or none
 abbrev pub Applies : {T : Type 0} → Desk → Desk → Result T StoreFault → Change → Type 0

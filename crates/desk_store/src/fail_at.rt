@@ -3,7 +3,7 @@
 ghost use Rattle.std.specs.Prelude.{◌≡◌, ◌≢◌, ◌-◌, ◌||◌, ◌==◌, true, false, Err, IfOk};
 ghost use Rattle.bug_record.specs.Sets.{Each};
 ghost use Rattle.bug_record.specs.Images.{AreApart, HasMember, IsSetOf, FitsDesk};
-ghost use Rattle.desk_store.specs.Store.{Holds, Asks, Answers, IsImageOf, IsNext, IsOpenHead, IsWaiting};
+ghost use Rattle.desk_store.specs.Store.{Holds, Asks, Answers, IsImageOf, IsNext, IsOpenHead, AreWaitingOn};
 ghost use Rattle.desk_store.specs.Store.{Applies, Branches, IsRefusal};
 ghost use Rattle.desk_store.specs.Store.{faults_after};
 ghost use Rattle.desk_store.specs.FailAt.{faults_with};
@@ -96,7 +96,7 @@ impl<S: Records> Records for FailAt<S> {
 
     fn waiting_on(&mut self, number: u64) -> Result<Numbers, StoreFault>
         ensures answer { Asks S.is_kept S.is_honest self.old.inner self.new.inner
-            (Answers (S.desk self.old.inner) (S.desk self.new.inner) result (IsWaiting (S.desk self.old.inner) number)) }
+            (Answers (S.desk self.old.inner) (S.desk self.new.inner) result (AreWaitingOn (S.desk self.old.inner) number)) }
         ensures count { S.faults self.new.inner ≡ faults_after result (S.faults self.old.inner) }
         ensures left { self.new.left ≡ self.old.left }
         ensures has_failed { self.new.has_failed ≡ self.old.has_failed }

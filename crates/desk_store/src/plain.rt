@@ -7,7 +7,7 @@ ghost use Rattle.std.specs.Prelude.{nat_eq};
 ghost use Rattle.bug_record.specs.Desk.{IsSound};
 ghost use Rattle.bug_record.specs.Images.{AreApart, FitsDesk, put};
 ghost use Rattle.bug_record.proofs.SoundProp.{IsSound-prop};
-ghost use Rattle.desk_store.specs.Store.{IsImageOf, IsOpenHead, IsWaiting, Branches, IsRefusal, no_faults};
+ghost use Rattle.desk_store.specs.Store.{IsImageOf, IsOpenHead, AreWaitingOn, Branches, IsRefusal, no_faults};
 ghost use Rattle.desk_store.specs.Keys.{IsKeyed};
 ghost use Rattle.desk_store.specs.Plain.{desk_of, empty_desk, keys, sets};
 
@@ -106,7 +106,7 @@ impl Records for PlainDesk {
 
     fn waiting_on(&mut self, number: u64) -> Result<Numbers, StoreFault>
         ensures same { self.new ≡ self.old }
-        ensures waiting { IfOk result (IsWaiting (desk_of self.old.bugs self.old.tree self.old.next) number) }
+        ensures waiting { IfOk result (AreWaitingOn (desk_of self.old.bugs self.old.tree self.old.next) number) }
         ensures memory { IfErr result (λ fault. fault ≡ StoreFault.Memory) }
     {
         match waiting_on(self.alloc, &self.bugs, number) {

@@ -4,7 +4,7 @@ ghost use Rattle.std.specs.Prelude.{◌≡◌, Option, Result, IfOk};
 ghost use Rattle.bug_record.specs.Sets.{Each};
 ghost use Rattle.bug_record.specs.Desk.{Desk, IsSound};
 ghost use Rattle.bug_record.specs.Images.{AreApart, HasMember, IsSetOf, FitsDesk};
-ghost use Rattle.desk_store.specs.Store.{Holds, Asks, Answers, IsImageOf, IsNext, IsOpenHead, IsWaiting};
+ghost use Rattle.desk_store.specs.Store.{Holds, Asks, Answers, IsImageOf, IsNext, IsOpenHead, AreWaitingOn};
 ghost use Rattle.desk_store.specs.Store.{Applies, Branches, IsRefusal};
 ghost use Rattle.desk_store.specs.Store.{Faults};
 ghost use Rattle.desk_store.specs.Store.{faults_after, total};
@@ -61,7 +61,7 @@ pub trait Records {
     /// Its errors are the store's faults, and `Memory` where there is none for the numbers.
     fn waiting_on(&mut self, number: u64) -> Result<Numbers, StoreFault>
         ensures answer { Asks is_kept is_honest self.old self.new
-            (Answers (desk self.old) (desk self.new) result (IsWaiting (desk self.old) number)) }
+            (Answers (desk self.old) (desk self.new) result (AreWaitingOn (desk self.old) number)) }
         ensures count { faults self.new ≡ faults_after result (faults self.old) };
 
     /// Carries a change out, in one step.

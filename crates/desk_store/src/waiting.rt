@@ -8,7 +8,7 @@ ghost use Rattle.bug_record.specs.Images.{numbers_of};
 ghost use Rattle.desk_store.specs.Keys.{IsKeyed};
 ghost use Rattle.desk_store.specs.Places.{waiting_there};
 ghost use Rattle.desk_store.specs.Plain.{desk_of, keys, sets};
-ghost use Rattle.desk_store.specs.Store.{IsWaiting};
+ghost use Rattle.desk_store.specs.Store.{AreWaitingOn};
 
 use crate::places::Place;
 use bug_record::{Member, Numbers, Sequence, SetImage, add_number};
@@ -49,7 +49,7 @@ fn add_waiting(waiting: &mut BTreeSet<u64>, place: &Place, number: u64) -> Resul
 }
 
 /// The bugs that wait on the bug of this number, ascending.
-/// Each set is looked at once, whichever of its bugs there are.
+/// Each set is looked at once, not once for each of its bugs.
 pub(crate) fn waiting_on(
     alloc: Global,
     bugs: &HashMap<u64, Place>,
@@ -57,7 +57,7 @@ pub(crate) fn waiting_on(
 ) -> Result<Numbers, AllocError>
     requires { IsKeyed (keys bugs.now) (sets bugs.now) }
     ensures { (tree : Ancestry) (next : ℕ) → IsSound (desk_of bugs.now tree next)
-        → IfOk result (IsWaiting (desk_of bugs.now tree next) number) }
+        → IfOk result (AreWaitingOn (desk_of bugs.now tree next) number) }
 {
     let mut waiting = BTreeSet::new(alloc);
     for place in bugs.values() {

@@ -7,7 +7,7 @@ use super::Sequence;
 use std::alloc::{AllocError, Global};
 use std::collections::BTreeSet;
 
-/// A set of numbers, kept ascending.
+/// A list of numbers; where it is a set, it ascends.
 pub type Numbers = Sequence<u64>;
 
 /// Adds a number to a set, unless it is there.
@@ -18,7 +18,7 @@ pub fn add_number(set: &mut BTreeSet<u64>, number: u64) -> Result<(), AllocError
     Ok(())
 }
 
-/// Adds these numbers to a set.
+/// Adds these numbers to a set, each in its place, unless it is there.
 pub fn add_numbers(set: &mut BTreeSet<u64>, numbers: &[u64]) -> Result<(), AllocError>
     ensures { OnOk result (set.new.keys ≡ with_items (λ n. n) set.old.keys numbers.now) }
 {
@@ -58,7 +58,7 @@ impl Sequence<u64> {
         Ok(numbers)
     }
 
-    /// Makes a set of the numbers, with these numbers too.
+    /// Adds these numbers, and makes the list the ascending set of all.
     /// Where there is no memory, the list is as before.
     pub fn add_all(&mut self, numbers: &[u64]) -> Result<(), AllocError>
         ensures ok { OnOk result (self.new ≡ number_set (self.old ++ numbers.now)) }

@@ -1,4 +1,4 @@
-use Rattle.std.proofs.Common.{ℕ, false, List, sym, subst}
+use Rattle.std.proofs.Common.{ℕ, List, ◌∷◌, sym, subst}
 use Rattle.bug_record.specs.Commands.{bugs_named}
 use Rattle.bug_record.specs.Differences.{first_difference, package_difference}
 use Rattle.bug_record.specs.Merges.{sets_joined}
@@ -13,7 +13,7 @@ returns-in-Merge c =
     subst (λ (command : Command ℕ). IsPlanned (bugs_named command)
     (step_with (option_copied c.args.open_head) c.args.from.now command) c.args.images.now c.args.next c.plan_merge.result) (sym c.in-Merge.is)
     (planned-merge (option_copied c.args.open_head) c.args.from.now c.in-Merge.number c.in-Merge.others c.args.images.now c.args.next c.plan_merge.result
-    (subst (λ (ns : List ℕ). IsPlannedOf false false c.in-Merge.number ns (λ d. sets_joined first_difference d c.in-Merge.number ns)
+    (subst (λ (ns : List ℕ). IsPlannedOf (c.in-Merge.number ∷ ns) (λ d. sets_joined first_difference d c.in-Merge.number ns)
     c.args.images.now c.args.next c.plan_merge.result) c.as_slice.ensures c.plan_merge.ensures))
 
 pub returns-in-ForceMerge : goal.returns-in-ForceMerge
@@ -22,7 +22,7 @@ returns-in-ForceMerge c =
     (step_with (option_copied c.args.open_head) c.args.from.now command) c.args.images.now c.args.next c.plan_merge-in-ForceMerge.result) (sym c.in-ForceMerge.is)
     (planned-forcemerge (option_copied c.args.open_head) c.args.from.now c.in-ForceMerge.number c.in-ForceMerge.others c.args.images.now c.args.next
     c.plan_merge-in-ForceMerge.result
-    (subst (λ (ns : List ℕ). IsPlannedOf false false c.in-ForceMerge.number ns
+    (subst (λ (ns : List ℕ). IsPlannedOf (c.in-ForceMerge.number ∷ ns)
     (λ d. sets_joined package_difference d c.in-ForceMerge.number ns) c.args.images.now c.args.next
     c.plan_merge-in-ForceMerge.result) c.as_slice-in-ForceMerge.ensures c.plan_merge-in-ForceMerge.ensures))
 

@@ -21,6 +21,10 @@ returns-in-Some-2 c =
     (ap (image_with c.args.images.now) (sym c.bug_named-number.ensures) ∙ c.in-Some.ensures)
     (sym c.in_ok-refusal.ensures ∙ c.in-Some-2.is)
 
+pub records_refusal-requires : goal.records_refusal-requires
+records_refusal-requires c =
+    record { named = ap (image_with c.args.images.now) (sym c.bug_named-number.ensures) ∙ c.in-Some.ensures }
+
 pub change_records-requires-clause-named : goal.change_records-requires-clause-named
 change_records-requires-clause-named c =
     ap (image_with c.args.images.now) (sym c.bug_named-number.ensures) ∙ c.in-Some.ensures

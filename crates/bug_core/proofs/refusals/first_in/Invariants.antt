@@ -3,5 +3,5 @@ use Rattle.std.specs.List.{find}
 use Rattle.bug_record.specs.Sets.{has}
 use Rattle.bug_core.proofs.refusals.first_in.Given as goal
 
-abbrev pub invariant-loop-number : goal.invariant-loop-number
-invariant-loop-number l = find (has l.set.keys) (drop l.number-index l.numbers) ≡ find (has l.set.keys) l.numbers
+abbrev pub invariant-loop-blocker : goal.invariant-loop-blocker
+invariant-loop-blocker l = find (has l.set.keys) (drop l.blocker-index l.numbers) ≡ find (has l.set.keys) l.numbers

@@ -3,16 +3,16 @@ use Rattle.bug_record.specs.Bugs.{bugs_at}
 use Rattle.bug_record.specs.Images.{bug_in}
 use Rattle.bug_record.specs.Merges.{first_owner}
 use Rattle.bug_record.specs.declared.bug.SetImage.{SetImage}
-use Rattle.bug_core.specs.Joins.{without_marks, with_all_shared}
+use Rattle.bug_core.specs.Joins.{without_marks_and_blockers, with_all_shared}
 use Rattle.bug_core.specs.Named.{named_numbers}
 use Rattle.bug_core.specs.Others.{those_meant}
 use Rattle.bug_core.proofs.NamedLemmas.{those-same}
-use Rattle.bug_core.proofs.joins.joined_shared.Goals as goal
+use Rattle.bug_core.proofs.joins.gathered_shared.Goals as goal
 
 pub returns : goal.returns
 returns c =
     let fields : c.in_ok-shared.shared
-    ≡ with_all_shared (without_marks c.args.first.now) (those_meant c.args.numbers.now c.args.images.now)
+    ≡ with_all_shared (without_marks_and_blockers c.args.first.now) (those_meant c.args.numbers.now c.args.images.now)
     = c.in_ok-shared.ensures ∙ c.in_ok-add_all_shared.ensures
     ∙ (λ j. with_all_shared (c.in_ok-joined.ensures j)
     (those-same (named_numbers c.args.named) c.args.numbers.now c.requires.named c.args.images.now j)) in
