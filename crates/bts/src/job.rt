@@ -12,6 +12,7 @@ use desk_run::{ScriptEnd, ScriptFault, run_script};
 use desk_store::PlainDesk;
 use std::alloc::Global;
 use std::io::{Read, Write};
+use std::mem;
 
 /// What the program is to do.
 #[derive(Clone, Copy, Debug, PartialEq, Eq, Drop)]
@@ -49,5 +50,8 @@ pub fn run_script_job<R: Read, W: Write>(alloc: Global, reader: &mut R, writer: 
     ensures { Known (R.remaining reader.old) (λ input. IsRun input (W.contents writer.old) (W.contents writer.new) result) }
 {
     let mut desk = PlainDesk::new(alloc, 1);
-    status_of(run_script(alloc, &mut desk, reader, writer))
+    let status = status_of(run_script(alloc, &mut desk, reader, writer));
+    // The program ends with this call, and the system takes its memory back as a whole.
+    mem::forget(desk);
+    status
 }
