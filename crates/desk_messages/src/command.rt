@@ -92,8 +92,8 @@ fn refusal_meant(refusal: Refusal) -> Refusal
     }
 }
 
-// Has the store carry a planned change out. A change of nothing isn't handed to it, nor is the image
-// of a set that stays beside one that is changed.
+// Has the store carry a planned change out: of several images, those with a changed bug.
+// A change of nothing isn't handed to it.
 fn make_change<S: Records>(
     alloc: Global,
     store: &mut S,
