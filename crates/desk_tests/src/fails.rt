@@ -11,7 +11,7 @@ use desk_text::StoreFault;
 /// A store round another.
 /// One call of `set_of`, `next`, `open_head`, `waiting_on`, `apply` or `branch` answers this fault,
 /// and changes nothing; every other call is the other store's.
-/// Its calls are counted.
+/// Its calls are counted, and the images of the changes that it is given.
 #[derive(Drop)]
 pub(crate) struct Fails<S> {
     inner: S,
@@ -19,6 +19,7 @@ pub(crate) struct Fails<S> {
     // Which call is to fail, counted from 1.
     at: u64,
     calls: u64,
+    images: usize,
     has_failed: bool,
 }
 
@@ -30,6 +31,7 @@ impl<S: Records> Fails<S> {
             fault,
             at,
             calls: 0,
+            images: 0,
             has_failed: false,
         }
     }
@@ -37,6 +39,11 @@ impl<S: Records> Fails<S> {
     /// How often the store has been called.
     pub fn calls(&self) -> u64 {
         self.calls
+    }
+
+    /// How many images the changes had that it was to apply.
+    pub fn images(&self) -> usize {
+        self.images
     }
 
     // Counts a call, and says whether it is the one that is to fail.
@@ -94,6 +101,7 @@ impl<S: Records> Records for Fails<S> {
         if self.is_due() {
             return Err(self.fault);
         }
+        self.images = self.images.saturating_add(change.images.as_slice().len());
         self.inner.apply(change)
     }
 

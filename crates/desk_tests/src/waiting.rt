@@ -67,3 +67,15 @@ fn stores_that_fail_hand_the_question_on(rt: HostRuntime) {
     assert!(rt; fails_with(&mut store, 3, StoreFault::Foreign) && store.faults() == 1);
     assert!(rt; are_waiting(&mut store, 3, &[1, 2]) && store.calls() == 3);
 }
+
+#[test]
+fn block_writes_the_set_of_its_bug_alone(rt: HostRuntime) {
+    let alloc = rt.alloc();
+    let mut store = Fails::new(PlainDesk::new(alloc, 1), 0, StoreFault::Device);
+    written(alloc, &mut store, REPORTS);
+    assert!(rt; store.images() == 3);
+    written(alloc, &mut store, "block 1 by 2 3\n");
+    assert!(rt; store.images() == 4 && are_waiting(&mut store, 2, &[1]));
+    written(alloc, &mut store, "merge 2 3\nunblock 1 by 3\n");
+    assert!(rt; store.images() == 6 && are_waiting(&mut store, 3, &[]));
+}
