@@ -223,6 +223,9 @@ fn gathered_shared(
 fn drop_own(alloc: Global, shared: &mut Shared, members: &[Member]) -> Result<(), AllocError>
     ensures { OnOk result (shared.new ≡ without_own members.now shared.old) }
 {
+    if shared.blockers.as_slice().is_empty() {
+        return Ok(());
+    }
     let own = member_numbers(alloc, members)?;
     shared.blockers.remove_set(&own);
     Ok(())
