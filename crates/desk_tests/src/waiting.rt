@@ -16,6 +16,14 @@ fn are_waiting<S: Records>(store: &mut S, number: u64, bugs: &[u64]) -> bool {
     }
 }
 
+// Whether the set of the bug of this number waits on these bugs.
+fn are_blockers<S: Records>(store: &mut S, number: u64, bugs: &[u64]) -> bool {
+    match store.set_of(number) {
+        Ok(Some(image)) => image.shared.blockers.as_slice() == bugs,
+        _ => false,
+    }
+}
+
 // Whether the question is answered with this fault.
 fn fails_with<S: Records>(store: &mut S, number: u64, fault: StoreFault) -> bool {
     store.waiting_on(number).err() == Some(fault)
@@ -78,4 +86,17 @@ fn block_writes_the_set_of_its_bug_alone(rt: HostRuntime) {
     assert!(rt; store.images() == 4 && are_waiting(&mut store, 2, &[1]));
     written(alloc, &mut store, "merge 2 3\nunblock 1 by 3\n");
     assert!(rt; store.images() == 6 && are_waiting(&mut store, 3, &[]));
+}
+
+#[test]
+fn an_image_has_the_blockers_of_its_set(rt: HostRuntime) {
+    let alloc = rt.alloc();
+    let mut desk = PlainDesk::new(alloc, 1);
+    written(alloc, &mut desk, REPORTS);
+    written(alloc, &mut desk, "block 1 by 3 2 3\n");
+    assert!(rt; are_blockers(&mut desk, 1, &[2, 3]) && are_blockers(&mut desk, 2, &[]));
+    written(alloc, &mut desk, "merge 1 2\n");
+    assert!(rt; are_blockers(&mut desk, 1, &[3]) && are_blockers(&mut desk, 2, &[3]));
+    written(alloc, &mut desk, "unmerge 1\nunblock 2 by 3\n");
+    assert!(rt; are_blockers(&mut desk, 1, &[3]) && are_blockers(&mut desk, 2, &[]));
 }
