@@ -32,7 +32,7 @@ use Rattle.bug_core.specs.Others.{others}
 use Rattle.bug_core.specs.Planned.{HasName, IsPlanned, IsRecordsPlan, IsRefusedAs, IsRefusalOfPlan}
 use Rattle.set_images.proofs.ImageLemmas.{same_value, shown, image_with-shows, image_with-none}
 use Rattle.record_changes.proofs.FieldLemmas.{good-shared_after, good-new_title, good-new_submitter}
-use Rattle.record_changes.proofs.BlockerLemmas.{good-blockers_after}
+use Rattle.record_changes.proofs.BlockerLemmas.{first-none, later-none, good-blockers_after}
 use Rattle.bug_core.proofs.SoundLemmas.{agree, sound-change_set}
 use Rattle.bug_core.proofs.ListedLemmas.{bugs_refused-known}
 use Rattle.bug_core.proofs.ReplaceLemmas.{TakesPlace, Makes, apart-replaced, members-replaced, covers-replaced, none-replaced}
@@ -225,15 +225,6 @@ planned-tested head sender command is next i refusal h r =
     (tests-own command head (numbers_of i.members) i.shared)))
     (steps-refusal head sender command is next i (Some refusal) h r)
 
--- where neither of two tests refuses
-no-first : (o p : Option Refusal) → option_or o p ≡ None → o ≡ None
-no-first None p e = refl
-no-first (Some refusal) p e = absurd (none-some refusal (sym e))
-
-no-later : (o p : Option Refusal) → option_or o p ≡ None → p ≡ None
-no-later None p e = e
-no-later (Some refusal) p e = absurd (none-some refusal (sym e))
-
 -- where no bug is refused, the blockers after the command are good ones, in the bug's whole set
 good-blockers : (head : Option Node) (sender : List ℕ) (command : Command ℕ) (is : List SetImage) (next : ℕ) (i : SetImage) (d : Desk)
     → image_with is (bug_named command) ≡ Some i → records_refusal command head is i ≡ None
@@ -252,8 +243,8 @@ good-blockers head sender command is next i d h r sh m b e k =
     let fields : b.shared ≡ i.shared = sym c.3 ∙ ap (λ (z : Bug). z.shared) same in
     good-blockers_after d sender command head b.merged b.shared (sh.sound.blockers m b e)
     (sym (bugs_refused-known (others_may_be_archived command) d is (other_bugs command) sh.known.1)
-    ∙ no-later first others (no-first (option_or first others) own r))
-    ((λ j. first_of (own_tests command head (merged j) (fields j))) ∙ no-later (option_or first others) own r)
+    ∙ later-none first others (first-none (option_or first others) own r))
+    ((λ j. first_of (own_tests command head (merged j) (fields j))) ∙ later-none (option_or first others) own r)
 
 pub planned-records : (head : Option Node) (sender : List ℕ) (command : Command ℕ) (is : List SetImage) (next : ℕ) (i : SetImage)
     → IsGoodText sender → HasGoodParts command → HasUtf8Texts command → AreApart is

@@ -22,6 +22,7 @@ use Rattle.bug_record.specs.Merges.{sets_joined, with_merged, all_merged, joined
 use Rattle.bug_record.specs.Commands.{bug_named, other_bugs, bugs_named, command_over}
 use Rattle.bug_record.specs.Steps.{own_tests, records_changed, change_set, shared_after, new_title, new_submitter}
 use Rattle.bug_record.specs.Steps.{carried_out, step, step_of_numbers}
+use Rattle.record_changes.proofs.BlockerLemmas.{first-none, later-none}
 use Rattle.bug_record.specs.declared.bug.Bug.{Bug}
 use Rattle.bug_record.specs.declared.bug.Shared.{Shared}
 use Rattle.bug_record.specs.declared.command.Command.{Command}
@@ -85,14 +86,6 @@ words-told may_be d sound (word ∷ words) good =
 -- where no word is refused, each is a number
 some-none : (refusal : Refusal) → Some refusal ≡ None → ⊥
 some-none refusal e = none-some refusal (sym e)
-
-later-none : (o p : Option Refusal) → option_or o p ≡ None → p ≡ None
-later-none None p e = e
-later-none (Some refusal) p e = absurd (some-none refusal e)
-
-first-none : (o p : Option Refusal) → option_or o p ≡ None → o ≡ None
-first-none None p e = refl
-first-none (Some refusal) p e = absurd (some-none refusal e)
 
 word-number : (may_be : Bool) (d : Desk) (word : Named) → word_refusal may_be d.bug (meaning [] word) ≡ None
     → number_told [] word ≡ number_by (meaning []) word

@@ -22,11 +22,16 @@ use Rattle.bug_record.specs.declared.bug.SetImage.{SetImage}
 use Rattle.bug_record.proofs.SetLemmas.{has-append, has-filter, has-number_set, has-numbers_below, same-ascending}
 use Rattle.bug_record.proofs.SetLemmas.{IsAscending-filter, IsAscending-number_set, IsAscending-numbers_below}
 use Rattle.desk_store.specs.Keys.{keyed_bug, IsKeyed}
-use Rattle.desk_store.specs.Places.{waiting_there, waiting_in}
+use Rattle.desk_store.specs.Places.{waiting_there}
 use Rattle.desk_store.specs.Plain.{image_at, keys, sets, desk_of}
 use Rattle.desk_store.specs.declared.places.Place.{Place}
 use Rattle.desk_store.specs.declared.places.Place.TheVariants.{First, After}
 use Rattle.desk_store.proofs.KeyLemmas.{found-image, shown-some}
+
+-- the bugs of the sets whose images stand at these places, where they wait on the bug n
+abbrev pub waiting_in : ℕ → List Place → List ℕ
+waiting_in n [] = []
+waiting_in n (p ∷ ps) = waiting_there n p ++ waiting_in n ps
 
 -- what `contains` says of a list of numbers
 pub contains-has : (ns : List ℕ) (n : ℕ) → list_any (λ x. nat_eq x n) ns ≡ has ns n

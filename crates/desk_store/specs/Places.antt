@@ -44,8 +44,3 @@ IsOnlyPlace bugs j key =
 abbrev pub waiting_there : ℕ → Place → List ℕ
 waiting_there n (First i) = if has i.shared.blockers n then numbers_of i.members else []
 waiting_there n (After k) = []
-
--- those of all these places
-abbrev pub waiting_in : ℕ → List Place → List ℕ
-waiting_in n [] = []
-waiting_in n (p ∷ ps) = waiting_there n p ++ waiting_in n ps

@@ -22,11 +22,11 @@ use Rattle.bug_record.specs.declared.command.Refusal.TheVariants.{NoBug, OwnSet}
 use Rattle.bug_record.proofs.SetLemmas.{has-append, has-number_set, has-filter, IsAscending-number_set, IsAscending-filter}
 
 -- where no test refuses, neither of two does
-first-none : (o p : Option Refusal) → option_or o p ≡ None → o ≡ None
+pub first-none : (o p : Option Refusal) → option_or o p ≡ None → o ≡ None
 first-none None p e = refl
 first-none (Some refusal) p e = absurd (none-some refusal (sym e))
 
-later-none : (o p : Option Refusal) → option_or o p ≡ None → p ≡ None
+pub later-none : (o p : Option Refusal) → option_or o p ≡ None → p ≡ None
 later-none None p e = e
 later-none (Some refusal) p e = absurd (none-some refusal (sym e))
 

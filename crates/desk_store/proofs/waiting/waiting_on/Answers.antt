@@ -5,9 +5,8 @@ use Rattle.std.proofs.lemmas.Map.Iter.{rest_more, rest_all}
 use Rattle.std.proofs.lemmas.Result.{IfOk-weaker}
 use Rattle.bug_record.specs.Sets.{with_items}
 use Rattle.bug_record.proofs.NumberLemmas.{with_items-set}
-use Rattle.desk_store.specs.Places.{waiting_in}
 use Rattle.desk_store.specs.declared.places.Place.{Place}
-use Rattle.desk_store.proofs.WaitingLemmas.{waiting-more, waiting-is}
+use Rattle.desk_store.proofs.WaitingLemmas.{waiting_in, waiting-more, waiting-is}
 use Rattle.desk_store.proofs.waiting.waiting_on.Goals as goal
 
 pub loop-place-preserved : goal.loop-place-preserved

@@ -1,7 +1,7 @@
 use Rattle.std.proofs.Common.{◌≡◌, []}
 use Rattle.std.specs.HashMap.{values}
 use Rattle.bug_record.specs.Sets.{with_items}
-use Rattle.desk_store.specs.Places.{waiting_in}
+use Rattle.desk_store.proofs.WaitingLemmas.{waiting_in}
 use Rattle.desk_store.proofs.waiting.waiting_on.Given as goal
 
 abbrev pub invariant-loop-place : goal.invariant-loop-place
