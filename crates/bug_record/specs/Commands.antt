@@ -45,6 +45,7 @@ HasGoodParts (commands.Reassign n package_name version) = IsName package_name ×
 HasGoodParts (commands.Merge n ns) = ⊤
 HasGoodParts (commands.ForceMerge n ns) = ⊤
 HasGoodParts (commands.Unmerge n) = ⊤
+HasGoodParts (commands.Clone n ks) = ⊤
 HasGoodParts (commands.Block n ns) = ⊤
 HasGoodParts (commands.Unblock n ns) = ⊤
 HasGoodParts (commands.Forwarded n text) = IsText text
@@ -76,6 +77,7 @@ HasUtf8Texts (commands.Reassign n package_name version) = ⊤
 HasUtf8Texts (commands.Merge n ns) = ⊤
 HasUtf8Texts (commands.ForceMerge n ns) = ⊤
 HasUtf8Texts (commands.Unmerge n) = ⊤
+HasUtf8Texts (commands.Clone n ks) = ⊤
 HasUtf8Texts (commands.Block n ns) = ⊤
 HasUtf8Texts (commands.Unblock n ns) = ⊤
 HasUtf8Texts (commands.NotForwarded n) = ⊤
@@ -99,6 +101,7 @@ bug_named (commands.Reassign n package_name version) = n
 bug_named (commands.Merge n ns) = n
 bug_named (commands.ForceMerge n ns) = n
 bug_named (commands.Unmerge n) = n
+bug_named (commands.Clone n ks) = n
 bug_named (commands.Block n ns) = n
 bug_named (commands.Unblock n ns) = n
 bug_named (commands.Forwarded n text) = n
@@ -126,6 +129,7 @@ other_bugs (commands.Retitle n text) = []
 other_bugs (commands.Submitter n who) = []
 other_bugs (commands.Reassign n package_name version) = []
 other_bugs (commands.Unmerge n) = []
+other_bugs (commands.Clone n ks) = []
 other_bugs (commands.Forwarded n text) = []
 other_bugs (commands.NotForwarded n) = []
 other_bugs (commands.Owner n who) = []
@@ -136,6 +140,11 @@ other_bugs (commands.Unarchive n) = []
 -- the bugs that a command names, in the order written
 abbrev pub bugs_named : {N : Type 0} → Command N → List N
 bugs_named command = bug_named command ∷ other_bugs command
+
+-- the names that a command gives, in the order written
+abbrev pub names_in : {N : Type 0} → Command N → List ℕ
+names_in (commands.Clone n ks) = ks
+names_in command = []
 
 -- the same command of the bugs that are meant
 abbrev pub command_over : {N M : Type 0} → (N → M) → Command N → Command M
@@ -153,6 +162,7 @@ command_over f (commands.Reassign n package_name version) = commands.Reassign (f
 command_over f (commands.Merge n ns) = commands.Merge (f n) (map f ns)
 command_over f (commands.ForceMerge n ns) = commands.ForceMerge (f n) (map f ns)
 command_over f (commands.Unmerge n) = commands.Unmerge (f n)
+command_over f (commands.Clone n ks) = commands.Clone (f n) ks
 command_over f (commands.Block n ns) = commands.Block (f n) (map f ns)
 command_over f (commands.Unblock n ns) = commands.Unblock (f n) (map f ns)
 command_over f (commands.Forwarded n text) = commands.Forwarded (f n) text

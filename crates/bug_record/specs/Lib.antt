@@ -11,6 +11,7 @@ pub mod Bugs
 pub mod Differences
 pub mod Merges
 pub mod Words
+pub mod Clones
 pub mod Heads
 pub mod Steps
 pub mod Images

@@ -14,6 +14,7 @@ use Rattle.bug_record.specs.Desk.{Desk}
 use Rattle.bug_record.specs.Commands.{node_meant, person, bug_named, command_over}
 use Rattle.bug_record.specs.Bugs.{each_bug, at_bug, unless, first_of}
 use Rattle.bug_record.specs.Words.{Names, meaning, words_refusal, number_by}
+use Rattle.bug_record.specs.Clones.{name_refusal, cloned}
 use Rattle.bug_record.specs.Heads.{open_head}
 use Rattle.bug_record.specs.Differences.{first_difference, package_difference}
 use Rattle.bug_record.specs.Merges.{sets_joined, unmerged}
@@ -101,6 +102,7 @@ shared_after sender (commands.Submitter n who) f = f
 shared_after sender (commands.Merge n ns) f = f
 shared_after sender (commands.ForceMerge n ns) f = f
 shared_after sender (commands.Unmerge n) f = f
+shared_after sender (commands.Clone n ks) f = f
 
 -- the new title of the bug m, where a command gives one: of the bug that it names alone
 abbrev pub new_title : Command ℕ → ℕ → Option (List ℕ)
@@ -118,6 +120,7 @@ new_title (commands.Reassign n package_name version) m = None
 new_title (commands.Merge n ns) m = None
 new_title (commands.ForceMerge n ns) m = None
 new_title (commands.Unmerge n) m = None
+new_title (commands.Clone n ks) m = None
 new_title (commands.Block n ns) m = None
 new_title (commands.Unblock n ns) m = None
 new_title (commands.Forwarded n text) m = None
@@ -145,6 +148,7 @@ new_submitter sender (commands.Reassign n package_name version) f m = None
 new_submitter sender (commands.Merge n ns) f m = None
 new_submitter sender (commands.ForceMerge n ns) f m = None
 new_submitter sender (commands.Unmerge n) f m = None
+new_submitter sender (commands.Clone n ks) f m = None
 new_submitter sender (commands.Block n ns) f m = None
 new_submitter sender (commands.Unblock n ns) f m = None
 new_submitter sender (commands.Forwarded n text) f m = None
@@ -164,7 +168,7 @@ change_set d n f title who = each_bug d (λ m b. record b {
 })
 
 -- The refusals of the own tests of a command that changes records, in their order; those of merging
--- are in `Merges`.
+-- are in `Merges`, those of copying in `Clones`.
 -- This is the open head of the bug that it names, these are the bugs merged with it, and these its
 -- shared fields.
 abbrev pub own_tests : Command ℕ → Option Node → List ℕ → Shared → List (Option Refusal)
@@ -180,45 +184,49 @@ records_changed head_of sender command d =
     (λ b. unless (first_of (own_tests command (head_of b.shared) b.merged b.shared))
     (Ok (change_set d (bug_named command) (shared_after sender command) (new_title command) (new_submitter sender command))))
 
--- what a command of this sender comes to, none of whose bug words is refused
-abbrev pub carried_out : (Shared → Option Node) → Desk → List ℕ → Command ℕ → Result Desk Refusal
-carried_out head_of d sender (commands.Merge n ns) = sets_joined first_difference d n ns
-carried_out head_of d sender (commands.ForceMerge n ns) = sets_joined package_difference d n ns
-carried_out head_of d sender (commands.Unmerge n) = unmerged d n
-carried_out head_of d sender (commands.Found n version) = records_changed head_of sender (commands.Found n version) d
-carried_out head_of d sender (commands.NotFound n version) = records_changed head_of sender (commands.NotFound n version) d
-carried_out head_of d sender (commands.Fixed n version) = records_changed head_of sender (commands.Fixed n version) d
-carried_out head_of d sender (commands.NotFixed n version) = records_changed head_of sender (commands.NotFixed n version) d
-carried_out head_of d sender (commands.Close n version) = records_changed head_of sender (commands.Close n version) d
-carried_out head_of d sender (commands.Reopen n who) = records_changed head_of sender (commands.Reopen n who) d
-carried_out head_of d sender (commands.Severity n severity) = records_changed head_of sender (commands.Severity n severity) d
-carried_out head_of d sender (commands.Tags n steps) = records_changed head_of sender (commands.Tags n steps) d
-carried_out head_of d sender (commands.Retitle n text) = records_changed head_of sender (commands.Retitle n text) d
-carried_out head_of d sender (commands.Submitter n who) = records_changed head_of sender (commands.Submitter n who) d
-carried_out head_of d sender (commands.Reassign n package_name version) = records_changed head_of sender (commands.Reassign n package_name version) d
-carried_out head_of d sender (commands.Block n ns) = records_changed head_of sender (commands.Block n ns) d
-carried_out head_of d sender (commands.Unblock n ns) = records_changed head_of sender (commands.Unblock n ns) d
-carried_out head_of d sender (commands.Forwarded n text) = records_changed head_of sender (commands.Forwarded n text) d
-carried_out head_of d sender (commands.NotForwarded n) = records_changed head_of sender (commands.NotForwarded n) d
-carried_out head_of d sender (commands.Owner n who) = records_changed head_of sender (commands.Owner n who) d
-carried_out head_of d sender (commands.NoOwner n) = records_changed head_of sender (commands.NoOwner n) d
-carried_out head_of d sender (commands.Archive n) = records_changed head_of sender (commands.Archive n) d
-carried_out head_of d sender (commands.Unarchive n) = records_changed head_of sender (commands.Unarchive n) d
+-- What a command of this sender comes to, none of whose bug words is refused.
+-- `taken` tells the refusal of the names that it gives, and `head_of` gives open heads.
+abbrev pub carried_out : (List ℕ → Option Refusal) → (Shared → Option Node) → Desk → List ℕ → Command ℕ → Result Desk Refusal
+carried_out taken head_of d sender (commands.Merge n ns) = sets_joined first_difference d n ns
+carried_out taken head_of d sender (commands.ForceMerge n ns) = sets_joined package_difference d n ns
+carried_out taken head_of d sender (commands.Unmerge n) = unmerged d n
+carried_out taken head_of d sender (commands.Clone n ks) = cloned taken d n ks
+carried_out taken head_of d sender (commands.Found n version) = records_changed head_of sender (commands.Found n version) d
+carried_out taken head_of d sender (commands.NotFound n version) = records_changed head_of sender (commands.NotFound n version) d
+carried_out taken head_of d sender (commands.Fixed n version) = records_changed head_of sender (commands.Fixed n version) d
+carried_out taken head_of d sender (commands.NotFixed n version) = records_changed head_of sender (commands.NotFixed n version) d
+carried_out taken head_of d sender (commands.Close n version) = records_changed head_of sender (commands.Close n version) d
+carried_out taken head_of d sender (commands.Reopen n who) = records_changed head_of sender (commands.Reopen n who) d
+carried_out taken head_of d sender (commands.Severity n severity) = records_changed head_of sender (commands.Severity n severity) d
+carried_out taken head_of d sender (commands.Tags n steps) = records_changed head_of sender (commands.Tags n steps) d
+carried_out taken head_of d sender (commands.Retitle n text) = records_changed head_of sender (commands.Retitle n text) d
+carried_out taken head_of d sender (commands.Submitter n who) = records_changed head_of sender (commands.Submitter n who) d
+carried_out taken head_of d sender (commands.Reassign n package_name version) = records_changed head_of sender (commands.Reassign n package_name version) d
+carried_out taken head_of d sender (commands.Block n ns) = records_changed head_of sender (commands.Block n ns) d
+carried_out taken head_of d sender (commands.Unblock n ns) = records_changed head_of sender (commands.Unblock n ns) d
+carried_out taken head_of d sender (commands.Forwarded n text) = records_changed head_of sender (commands.Forwarded n text) d
+carried_out taken head_of d sender (commands.NotForwarded n) = records_changed head_of sender (commands.NotForwarded n) d
+carried_out taken head_of d sender (commands.Owner n who) = records_changed head_of sender (commands.Owner n who) d
+carried_out taken head_of d sender (commands.NoOwner n) = records_changed head_of sender (commands.NoOwner n) d
+carried_out taken head_of d sender (commands.Archive n) = records_changed head_of sender (commands.Archive n) d
+carried_out taken head_of d sender (commands.Unarchive n) = records_changed head_of sender (commands.Unarchive n) d
 
--- The new desk, or the refusal, of a command by this sender whose bug words mean this, and whose
--- bugs have these open heads: the first refusal of a bug word, or else what the command comes to.
-abbrev pub step_by : {N : Type 0} → (N → Result ℕ Refusal) → (Shared → Option Node) → Desk → List ℕ → Command N → Result Desk Refusal
-step_by means head_of d sender command =
+-- The new desk, or the refusal, of a command by this sender whose bug words mean this, whose names
+-- have this refusal, and whose bugs have these open heads: the first refusal of a bug word, or else
+-- what the command comes to.
+abbrev pub step_by : {N : Type 0} → (N → Result ℕ Refusal) → (List ℕ → Option Refusal) → (Shared → Option Node)
+    → Desk → List ℕ → Command N → Result Desk Refusal
+step_by means taken head_of d sender command =
     unless (words_refusal means d.bug command)
-    (carried_out head_of d sender (command_over (number_by means) command))
+    (carried_out taken head_of d sender (command_over (number_by means) command))
 
 -- of a command over bug words, where these names are known
 abbrev pub step : Names → Desk → List ℕ → Command Named → Result Desk Refusal
-step names d sender command = step_by (meaning names) (open_head d.tree) d sender command
+step names d sender command = step_by (meaning names) (name_refusal names) (open_head d.tree) d sender command
 
--- of a command over numbers
+-- of a command over numbers, none of whose names is refused
 abbrev pub step_of_numbers : Desk → List ℕ → Command ℕ → Result Desk Refusal
-step_of_numbers d sender command = step_by (λ n. Ok n) (open_head d.tree) d sender command
+step_of_numbers d sender command = step_by (λ n. Ok n) (λ ks. None) (open_head d.tree) d sender command
 
 -- the found marks of a new report
 abbrev pub found_first : Option Node → List Node

@@ -79,6 +79,9 @@ pub enum Command<N> {
     ForceMerge(N, Sequence<N>),
     /// `unmerge n`: takes the bug out of its set. The others stay together.
     Unmerge(N),
+    /// `clone n -1 ..`: a copy of the bug, merged with no other, for each of these names.
+    /// The copies are numbered upward in the order written.
+    Clone(N, Sequence<u32>),
     /// `block n by m ..`: the bug waits on these bugs too.
     Block(N, Sequence<N>),
     /// `unblock n by m ..`: the bug waits on none of these.
@@ -136,6 +139,7 @@ impl Command<u64> {
             | Command::Merge(_, _)
             | Command::ForceMerge(_, _)
             | Command::Unmerge(_)
+            | Command::Clone(_, _)
             | Command::Block(_, _)
             | Command::Unblock(_, _)
             | Command::NotForwarded(_)
@@ -185,6 +189,10 @@ pub enum Refusal {
     Differ(Field, u64),
     /// The bug is merged with no other.
     NotMerged(u64),
+    /// The bug that is to be copied is merged with another.
+    Merged(u64),
+    /// The name -k is known already, or stands twice in the line.
+    NameTaken(u64),
     /// The bug that is to block another is merged with it, or is that bug.
     OwnSet(u64),
     /// The bug that is to be archived is open.
@@ -192,6 +200,8 @@ pub enum Refusal {
     /// The bug that is to be archived is still found at this node, the first such head of its
     /// package.
     StillFound(Node),
+    /// Fewer bug numbers are left than are asked for.
+    Full,
 }
 
 /// Why nothing is planned.

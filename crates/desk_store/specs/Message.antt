@@ -1,9 +1,10 @@
 -- A message, as a machine that takes its lines one at a time (stops: the BTS page 'control and
 -- manipulation'; the rest is this project's own rule).
 use Rattle.std.specs.Prelude.{ℕ, ◌≡◌, ◌-◌, ◌<◌, ◌≤◌, nat_le, Bool, true, false, List, [], ◌∷◌, ◌++◌, length}
-use Rattle.std.specs.Prelude.{take, count_by, Result, Ok, Err, if◌then◌else◌}
+use Rattle.std.specs.Prelude.{take, zip, count_by, Result, Ok, Err, if◌then◌else◌}
 use Rattle.std.specs.List.{list_any}
 use Rattle.bug_record.specs.Desk.{Desk}
+use Rattle.bug_record.specs.Commands.{names_in}
 use Rattle.bug_record.specs.Words.{Names}
 use Rattle.bug_record.specs.Steps.{step}
 use Rattle.bug_record.specs.Changed.{changed_numbers}
@@ -24,9 +25,14 @@ use Rattle.desk_store.specs.Store.{Faults, counted}
 abbrev pub Entry : Type 0
 Entry = List ℕ × Outcome
 
--- The names that an accepted line gives, with their numbers. No command gives a name so far.
+-- the names that a line which reads so gives, each with its number: those of an accepted `clone`,
+-- whose changed numbers are those of the copies
+abbrev pub names_with : Result Line Refusal → Outcome → Names
+names_with (Ok (Do command)) (Changed numbers) = zip (names_in command) numbers
+names_with read outcome = []
+
 abbrev pub names_given : Entry → Names
-names_given entry = []
+names_given entry = names_with (reading entry.0) entry.1
 
 -- the names known after these lines
 abbrev pub known_names : List Entry → Names
