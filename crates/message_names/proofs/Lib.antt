@@ -1,0 +1,5 @@
+pub mod KnownLemmas
+pub mod OverLemmas
+pub mod ToldLemmas
+pub mod StepLemmas
+pub mod TakenLemmas
