@@ -2,4 +2,3 @@ pub mod KnownLemmas
 pub mod OverLemmas
 pub mod ToldLemmas
 pub mod StepLemmas
-pub mod TakenLemmas

@@ -1,10 +1,15 @@
 //! What the refusals of a command that was told mean.
 
-ghost use Rattle.std.specs.Prelude.{◌≡◌};
-ghost use Rattle.message_names.specs.Telling.{refusal_meant};
+ghost use Rattle.std.specs.Prelude.{◌≡◌, ℕ, List, None, Ok, IfOk};
+ghost use Rattle.bug_record.specs.Clones.{name_refusal};
+ghost use Rattle.bug_record.specs.Commands.{names_in};
+ghost use Rattle.bug_record.specs.Desk.{Desk};
+ghost use Rattle.bug_record.specs.Plans.{IsPlanOf, IsPlanFor};
+ghost use Rattle.bug_record.specs.Words.{Names};
+ghost use Rattle.message_names.specs.Telling.{refusal_meant, step_among};
 ghost use Rattle.message_names.specs.Taken.{with_names};
 
-use bug_record::{Change, PlanFault, Refusal};
+use bug_record::{Change, Command, PlanFault, Refusal};
 
 /// The refusal that is meant: `NoName(k)` for a bug that is not there of the number
 /// 1,000,000,000 + k, as which a name that is not known is told, and any other as it is.
@@ -26,7 +31,11 @@ pub fn with_names(
     taken: Option<Refusal>,
     planned: Result<Change, PlanFault>,
 ) -> Result<Change, PlanFault>
-    ensures { result ≡ with_names taken planned }
+    ensures exact { result ≡ with_names taken planned }
+    ensures change { IfOk result (λ change. (taken ≡ None) × (planned ≡ Ok change)) }
+    ensures right { (names : Names) (d : Desk) (sender : List ℕ) (command : Command ℕ)
+        → taken ≡ name_refusal names (names_in command) → IsPlanFor d sender command planned
+        → IsPlanOf d (step_among names d sender command) result }
 {
     let Some(refusal) = taken else {
         return planned;

@@ -1,8 +1,13 @@
 //! A command as it is told, by numbers alone.
 
-ghost use Rattle.std.specs.Prelude.{◌≡◌, map, IfOk};
-ghost use Rattle.bug_record.specs.Commands.{names_in};
-ghost use Rattle.message_names.specs.Telling.{number_told, command_told};
+ghost use Rattle.std.specs.Prelude.{◌≡◌, ℕ, List, map, IfOk};
+ghost use Rattle.line_words.specs.Bugs.{IsGoodBug};
+ghost use Rattle.bug_record.specs.Commands.{HasGoodParts, bugs_named, names_in};
+ghost use Rattle.bug_record.specs.Desk.{Desk, IsSound};
+ghost use Rattle.bug_record.specs.Sets.{Each};
+ghost use Rattle.bug_record.specs.Steps.{step};
+ghost use Rattle.message_names.specs.Known.{AreOfBugs};
+ghost use Rattle.message_names.specs.Telling.{number_told, command_told, result_meant, step_among};
 
 use crate::known::KnownNames;
 use bug_record::{Command, Sequence};
@@ -37,10 +42,8 @@ fn numbers_told(
     Ok(numbers)
 }
 
-/// The command as it is told where these names are known: each name stands for its number, and one
-/// that is not known for 1,000,000,000 + k, which is above the number of any bug.
-/// The names that it gives are handed on.
-pub fn command_told(
+// The command over the numbers that its bug words are told as.
+fn numbered(
     alloc: Global,
     known: &KnownNames,
     command: Command<Named>,
@@ -86,6 +89,24 @@ pub fn command_told(
         Command::Archive(bug) => Command::Archive(number_told(known, bug)),
         Command::Unarchive(bug) => Command::Unarchive(number_told(known, bug)),
     })
+}
+
+/// The command as it is told where these names are known: each name stands for its number, and one
+/// that is not known for 1,000,000,000 + k, which is above the number of any bug.
+/// The names that it gives are handed on.
+pub fn command_told(
+    alloc: Global,
+    known: &KnownNames,
+    command: Command<Named>,
+) -> Result<Command<u64>, AllocError>
+    ensures told { IfOk result (λ told. told ≡ command_told known.now.names command) }
+    ensures meant { IfOk result (λ told. AreOfBugs known.now.names → Each IsGoodBug (bugs_named command)
+        → (d : Desk) (sender : List ℕ) → IsSound d
+        → result_meant (step_among known.now.names d sender told) ≡ step known.now.names d sender command) }
+    ensures parts { IfOk result (λ told. HasGoodParts command → HasGoodParts told) }
+    ensures names { IfOk result (λ told. names_in told ≡ names_in command) }
+{
+    numbered(alloc, known, command)
 }
 
 /// The names that a command gives, in the order written.
