@@ -1,7 +1,7 @@
 -- Copies of a bug, and the names that a message gives to them (the BTS page 'control and
 -- manipulation'; which names may be given, and how copies are numbered, is this project's own
 -- rule).
-use Rattle.std.specs.Prelude.{ℕ, ◌+◌, ◌==◌, ◌||◌, nat_lt, Bool, List, [], ◌∷◌, length, count_by}
+use Rattle.std.specs.Prelude.{ℕ, suc, zero, ◌+◌, ◌==◌, ◌||◌, nat_lt, Bool, List, [], ◌∷◌, ◌++◌, length, count_by}
 use Rattle.std.specs.Prelude.{Option, Some, None, is_some, option_map, Result, Ok, if◌then◌else◌}
 use Rattle.std.specs.List.{find}
 use Rattle.bug_record.specs.Desk.{Desk}
@@ -11,7 +11,8 @@ use Rattle.bug_record.specs.declared.bug.Bug.{Bug}
 use Rattle.bug_record.specs.declared.command.Refusal.{Refusal}
 use Rattle.bug_record.specs.declared.command.Refusal.TheVariants.{Merged, NameTaken, Full}
 
--- whether the name -k can't be given among these: it is known, or stands twice there
+-- whether the name -k, of these names of a line, can't be given: it is known, or stands twice among
+-- them
 abbrev pub is_taken : Names → List ℕ → ℕ → Bool
 is_taken names ks k = is_some (number_of_name names k) || nat_lt 1 (count_by (λ j. j == k) ks)
 
@@ -19,13 +20,18 @@ is_taken names ks k = is_some (number_of_name names k) || nat_lt 1 (count_by (λ
 abbrev pub name_refusal : Names → List ℕ → Option Refusal
 name_refusal names ks = option_map NameTaken (find (is_taken names ks) ks)
 
--- the refusal of the bug n, which is merged with these bugs: there is another among them
+-- the refusal of the bug n where there is another among the bugs merged with it
 abbrev pub merged_refusal : ℕ → List ℕ → Option Refusal
 merged_refusal n merged = if nat_lt 1 (length merged) then Some (Merged n) else None
 
 -- the refusal where fewer numbers are left than are asked for, the last one being 999,999,999
 abbrev pub full_refusal : ℕ → ℕ → Option Refusal
 full_refusal next asked = if nat_lt 1000000000 (next + asked) then Some Full else None
+
+-- so many numbers from n on, ascending
+unfoldable pub numbers_from : ℕ → ℕ → List ℕ
+numbers_from n zero = []
+numbers_from n (suc many) = numbers_from n many ++ (n + many) ∷ []
 
 -- a copy of a bug under the number n: with all its fields, and merged with no other
 abbrev pub clone_of : Bug → ℕ → Bug
