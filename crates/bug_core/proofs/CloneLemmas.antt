@@ -4,12 +4,14 @@ use Rattle.std.proofs.Common.{Result, Ok, Err, sym, refl, ap, ◌∙◌, subst, 
 use Rattle.std.specs.Prelude.{option_map, map, nat_lt}
 use Rattle.std.specs.Option.{option_or}
 use Rattle.std.proofs.lemmas.Option.{none-some}
+use Rattle.std.proofs.lemmas.List.{map-append}
 use Rattle.std.proofs.lemmas.Bool.{false≢true, eqb-true, eqb-false, eq-eqb, ne_eqb, ltb-true, ltb-false, le-ltb, lt-ltb, false_from_ne_true}
 use Rattle.bug_record.specs.Sets.{has, Each}
 use Rattle.bug_record.specs.Desk.{Desk, IsSound, AreGoodBlockers}
 use Rattle.bug_record.specs.Bugs.{with_new_bugs, at_bug, unless, first_of}
 use Rattle.bug_record.specs.Words.{archived_refusal, bug_refusal, first_bug_refusal}
-use Rattle.bug_record.specs.Clones.{numbers_from, merged_refusal, full_refusal, clone_of, cloned}
+use Rattle.bug_record.specs.Changed.{numbers_below}
+use Rattle.bug_record.specs.Clones.{merged_refusal, full_refusal, clone_of, cloned}
 use Rattle.bug_record.specs.Images.{numbers_of, member_at, bug_of, bug_in, put, AreApart, HasMember, AreSetsOf, CoverSets, image_with}
 use Rattle.bug_record.specs.Plans.{AllKnown, IsShownBy, CoverImages}
 use Rattle.bug_record.specs.declared.bug.Bug.{Bug}
@@ -37,15 +39,11 @@ copied f x n = bug_of (clone_image f x n) (record x { number = n })
 -- the copies one by one
 one_more : (f : Shared) (x : Member) (next many : ℕ)
     → clone_images f x next (suc many) ≡ clone_images f x next many ++ clone_image f x (next + many) ∷ []
-unfolding numbers_from
-one_more f x next many = over (numbers_from next many)
-  where
-    over : (ns : List ℕ) → map (clone_image f x) (ns ++ (next + many) ∷ []) ≡ map (clone_image f x) ns ++ clone_image f x (next + many) ∷ []
-    over [] = refl
-    over (n ∷ ns) = ap (λ is. clone_image f x n ∷ is) (over ns)
+unfolding numbers_below
+one_more f x next many = map-append (λ k. clone_image f x (next + k)) (numbers_below many) (many ∷ [])
 
 none_yet : (f : Shared) (x : Member) (next : ℕ) → clone_images f x next 0 ≡ []
-unfolding numbers_from
+unfolding numbers_below
 none_yet f x next = refl
 
 -- the copies show a bug for each new number
@@ -109,14 +107,14 @@ apart-clones f x next (suc many) =
         absurd (k (bug_in-clones f x next many m ∙ ap (λ t. cond t (Some (copied f x m)) None) e))
 
 members-clones : (f : Shared) (x : Member) (next many : ℕ) → Each HasMember (clone_images f x next many)
-members-clones f x next many = over (numbers_from next many)
+members-clones f x next many = over (numbers_below many)
   where
     cons_nil : (n : Member) → n ∷ [] ≡ [] → ⊥
     cons_nil n q = cc
 
-    over : (ns : List ℕ) → Each HasMember (map (clone_image f x) ns)
+    over : (ns : List ℕ) → Each HasMember (map (λ k. clone_image f x (next + k)) ns)
     over [] = tt
-    over (n ∷ ns) = (cons_nil (record x { number = n }), over ns)
+    over (n ∷ ns) = (cons_nil (record x { number = next + n }), over ns)
 
 -- ---- the copies, and the images that were handed in
 

@@ -1,6 +1,6 @@
 -- The images of copies of a bug.
-use Rattle.std.specs.Prelude.{ℕ, List, [], ◌∷◌, map}
-use Rattle.bug_record.specs.Clones.{numbers_from}
+use Rattle.std.specs.Prelude.{ℕ, ◌+◌, List, [], ◌∷◌, map}
+use Rattle.bug_record.specs.Changed.{numbers_below}
 use Rattle.bug_record.specs.declared.bug.Member.{Member}
 use Rattle.bug_record.specs.declared.bug.SetImage.{SetImage}
 use Rattle.bug_record.specs.declared.bug.Shared.{Shared}
@@ -11,4 +11,4 @@ clone_image f m n = record { shared = f; members = record m { number = n } ∷ [
 
 -- so many copies, numbered upward from the next number
 abbrev pub clone_images : Shared → Member → ℕ → ℕ → List SetImage
-clone_images f m next many = map (clone_image f m) (numbers_from next many)
+clone_images f m next many = map (λ k. clone_image f m (next + k)) (numbers_below many)

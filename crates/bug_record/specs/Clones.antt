@@ -1,7 +1,7 @@
 -- Copies of a bug, and the names that a message gives to them (the BTS page 'control and
 -- manipulation'; which names may be given, and how copies are numbered, is this project's own
 -- rule).
-use Rattle.std.specs.Prelude.{ℕ, suc, zero, ◌+◌, ◌==◌, ◌||◌, nat_lt, Bool, List, [], ◌∷◌, ◌++◌, length, count_by}
+use Rattle.std.specs.Prelude.{ℕ, ◌+◌, ◌==◌, ◌||◌, nat_lt, Bool, List, [], ◌∷◌, length, count_by}
 use Rattle.std.specs.Prelude.{Option, Some, None, is_some, option_map, Result, Ok, if◌then◌else◌}
 use Rattle.std.specs.List.{find}
 use Rattle.bug_record.specs.Desk.{Desk}
@@ -27,11 +27,6 @@ merged_refusal n merged = if nat_lt 1 (length merged) then Some (Merged n) else 
 -- the refusal where fewer numbers are left than are asked for, the last one being 999,999,999
 abbrev pub full_refusal : ℕ → ℕ → Option Refusal
 full_refusal next asked = if nat_lt 1000000000 (next + asked) then Some Full else None
-
--- so many numbers from n on, ascending
-unfoldable pub numbers_from : ℕ → ℕ → List ℕ
-numbers_from n zero = []
-numbers_from n (suc many) = numbers_from n many ++ (n + many) ∷ []
 
 -- a copy of a bug under the number n: with all its fields, and merged with no other
 abbrev pub clone_of : Bug → ℕ → Bug

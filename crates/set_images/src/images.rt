@@ -1,4 +1,4 @@
-//! The image of a bug's set, and the numbers of its members.
+//! The image of a bug's set, and the numbers of its bugs.
 
 ghost use Rattle.std.specs.Prelude.{◌≡◌, MatchOption, Some, None, IfOk};
 ghost use Rattle.bug_record.specs.Images.{image_with, numbers_of};
@@ -15,7 +15,7 @@ pub fn find_image(images: &[SetImage], number: u64) -> Option<&SetImage>
     images.iter().find(|image| image.has(number))
 }
 
-/// The set of the numbers of these members.
+/// The set of the numbers of the members.
 ///
 /// # Errors
 ///

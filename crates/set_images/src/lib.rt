@@ -15,4 +15,4 @@ pub use changes::changed;
 pub use equal::same_text;
 pub use images::{find_image, member_numbers};
 pub use index::Index;
-pub use laws::changed_numbers_differ;
+pub use laws::{changed_numbers_differ, new_bugs_are_changed};
