@@ -1,5 +1,6 @@
--- The bugs of a desk: one of them, some of them, and a change of each.
-use Rattle.std.specs.Prelude.{ℕ, List, [], ◌∷◌, ◌++◌, Option, Some, None, Result, Err, option_map}
+-- The bugs of a desk: one of them, some of them, a change of each, and new ones.
+use Rattle.std.specs.Prelude.{ℕ, ◌+◌, ◌&&◌, nat_le, nat_lt, List, [], ◌∷◌, ◌++◌, Option, Some, None, Result, Err, option_map}
+use Rattle.std.specs.Prelude.{if◌then◌else◌}
 use Rattle.std.specs.Option.{option_or}
 use Rattle.bug_record.specs.Desk.{Desk}
 use Rattle.bug_record.specs.declared.bug.Bug.{Bug}
@@ -9,6 +10,14 @@ use Rattle.bug_record.specs.declared.command.Refusal.TheVariants.{NoBug}
 -- each bug as the function makes it
 abbrev pub each_bug : Desk → (ℕ → Bug → Bug) → Desk
 each_bug d f = record { bug = λ m. option_map (f m) (d.bug m); tree = d.tree; next = d.next }
+
+-- the desk with so many new bugs, which are numbered upward from the next number
+abbrev pub with_new_bugs : Desk → (ℕ → Bug) → ℕ → Desk
+with_new_bugs d new many = record {
+  bug = λ n. if nat_le d.next n && nat_lt n (d.next + many) then Some (new n) else d.bug n;
+  tree = d.tree;
+  next = d.next + many;
+}
 
 -- what is done with the bug n, which has to be there
 abbrev pub at_bug : {A : Type 0} → Option Bug → ℕ → (Bug → Result A Refusal) → Result A Refusal

@@ -1,7 +1,7 @@
 -- What a command does to a desk, over whole records (the BTS page 'control and manipulation'; when
 -- `found n v` opens a bug, what an open bug's `reopen` and a `reassign` to the bug's own package
 -- do, which blockers `block` takes, and which bugs `archive` takes, is this project's own rule).
-use Rattle.std.specs.Prelude.{ℕ, ◌+◌, ◌==◌, ◌&&◌, false, true, List, [], ◌∷◌, Option, Some, None, Result, Ok, unwrap_or}
+use Rattle.std.specs.Prelude.{ℕ, ◌==◌, ◌&&◌, false, true, List, [], ◌∷◌, Option, Some, None, Result, Ok, unwrap_or}
 use Rattle.std.specs.Prelude.{◌++◌, not, filter, option_map, if◌then◌else◌}
 use Rattle.std.specs.Str.{bytes_eq}
 use Rattle.line_words.specs.declared.named.Named.{Named}
@@ -12,7 +12,7 @@ use Rattle.bug_record.specs.Marks.{with_node, without_node, is_below_some}
 use Rattle.bug_record.specs.Tags.{with_tag, without_tag}
 use Rattle.bug_record.specs.Desk.{Desk}
 use Rattle.bug_record.specs.Commands.{node_meant, person, bug_named, command_over}
-use Rattle.bug_record.specs.Bugs.{each_bug, at_bug, unless, first_of}
+use Rattle.bug_record.specs.Bugs.{each_bug, with_new_bugs, at_bug, unless, first_of}
 use Rattle.bug_record.specs.Words.{Names, meaning, words_refusal, number_by}
 use Rattle.bug_record.specs.Clones.{name_refusal, cloned}
 use Rattle.bug_record.specs.Heads.{open_head}
@@ -255,10 +255,7 @@ new_bug number sender package_name severity title node = record {
   merged = number ∷ [];
 }
 
--- The desk after a report: the record of the next number is new.
+-- the desk after a report: one bug is new
 abbrev pub reported : Desk → List ℕ → List ℕ → Severity → List ℕ → Option Node → Desk
-reported d sender package_name severity title node = record {
-  bug = λ m. if m == d.next then Some (new_bug d.next sender package_name severity title node) else d.bug m;
-  tree = d.tree;
-  next = d.next + 1;
-}
+reported d sender package_name severity title node =
+    with_new_bugs d (λ n. new_bug n sender package_name severity title node) 1

@@ -11,9 +11,9 @@ all_command_words =
     command_words.Found ∷ command_words.NotFound ∷ command_words.Fixed ∷ command_words.NotFixed ∷ command_words.Close
     ∷ command_words.Reopen ∷ command_words.Severity ∷ command_words.Tags ∷ command_words.Tag ∷ command_words.Retitle
     ∷ command_words.Submitter ∷ command_words.Reassign ∷ command_words.Merge ∷ command_words.ForceMerge
-    ∷ command_words.Unmerge ∷ command_words.Block ∷ command_words.Unblock ∷ command_words.Forwarded
-    ∷ command_words.NotForwarded ∷ command_words.Owner ∷ command_words.NoOwner ∷ command_words.Archive
-    ∷ command_words.Unarchive ∷ []
+    ∷ command_words.Unmerge ∷ command_words.Clone ∷ command_words.Block ∷ command_words.Unblock
+    ∷ command_words.Forwarded ∷ command_words.NotForwarded ∷ command_words.Owner ∷ command_words.NoOwner
+    ∷ command_words.Archive ∷ command_words.Unarchive ∷ []
 
 abbrev pub command_name : CommandWord → List ℕ
 command_name command_words.Found = codes "found"
@@ -31,6 +31,7 @@ command_name command_words.Reassign = codes "reassign"
 command_name command_words.Merge = codes "merge"
 command_name command_words.ForceMerge = codes "forcemerge"
 command_name command_words.Unmerge = codes "unmerge"
+command_name command_words.Clone = codes "clone"
 command_name command_words.Block = codes "block"
 command_name command_words.Unblock = codes "unblock"
 command_name command_words.Forwarded = codes "forwarded"

@@ -17,7 +17,7 @@ use Rattle.bug_record.specs.declared.command.Refusal.{Refusal}
 use Rattle.bug_record.specs.declared.command.Refusal.TheVariants.{Malformed, TooLong, BadSeverity, BadTag, BadVersion, BadPackage}
 use Rattle.line_words.specs.Words.{words, words_with_commas, first_word, after_word, trimmed}
 use Rattle.line_words.specs.AnyCase.{is_word}
-use Rattle.line_words.specs.Bugs.{bug_of_word}
+use Rattle.line_words.specs.Bugs.{bug_of_word, name_of_word}
 use Rattle.command_grammar.specs.Versions.{version_of_word, package_of_word}
 use Rattle.command_grammar.specs.declared.command_word.CommandWord.{CommandWord}
 use Rattle.command_grammar.specs.declared.command_word.CommandWord.TheVariants as command_words
@@ -131,6 +131,20 @@ abbrev pub bug_and_others : List (List ℕ) → Result (Named × List Named) Ref
 bug_and_others [] = Err Malformed
 bug_and_others (n ∷ others) = and_read (read_bug n) (λ bug. and_read (some_bugs others) (λ more. Ok (bug, more)))
 
+-- `-1`, a name that is given
+abbrev pub read_name : List ℕ → Result ℕ Refusal
+read_name word = ok_or (name_of_word word) Malformed
+
+-- `-1 ..`, one name or more
+abbrev pub some_names : List (List ℕ) → Result (List ℕ) Refusal
+some_names [] = Err Malformed
+some_names (k ∷ more) = each_word read_name (k ∷ more)
+
+-- `n -1 ..`: a bug, and one name or more
+abbrev pub bug_and_names : List (List ℕ) → Result (Named × List ℕ) Refusal
+bug_and_names [] = Err Malformed
+bug_and_names (n ∷ names) = and_read (read_bug n) (λ bug. and_read (some_names names) (λ more. Ok (bug, more)))
+
 -- the words that stand before blockers, in any ASCII case
 abbrev pub is_by : List ℕ → Bool
 is_by word = is_word word (codes "by") || is_word word (codes "with")
@@ -223,6 +237,7 @@ command_of command_words.Merge arguments = and_read (bug_and_others (words argum
 command_of command_words.ForceMerge arguments =
     and_read (bug_and_others (words arguments)) (λ both. Ok (commands.ForceMerge both.0 both.1))
 command_of command_words.Unmerge arguments = and_read (bug_alone (words arguments)) (λ bug. Ok (commands.Unmerge bug))
+command_of command_words.Clone arguments = and_read (bug_and_names (words arguments)) (λ both. Ok (commands.Clone both.0 both.1))
 command_of command_words.Block arguments = and_read (bug_by_bugs arguments) (λ both. Ok (commands.Block both.0 both.1))
 command_of command_words.Unblock arguments = and_read (bug_by_bugs arguments) (λ both. Ok (commands.Unblock both.0 both.1))
 command_of command_words.Forwarded arguments =

@@ -24,6 +24,7 @@ pub enum CommandWord {
     Merge,
     ForceMerge,
     Unmerge,
+    Clone,
     Block,
     Unblock,
     Forwarded,
@@ -35,7 +36,7 @@ pub enum CommandWord {
 }
 
 // All words of commands.
-const ALL: [CommandWord; 23] = [
+const ALL: [CommandWord; 24] = [
     CommandWord::Found,
     CommandWord::NotFound,
     CommandWord::Fixed,
@@ -51,6 +52,7 @@ const ALL: [CommandWord; 23] = [
     CommandWord::Merge,
     CommandWord::ForceMerge,
     CommandWord::Unmerge,
+    CommandWord::Clone,
     CommandWord::Block,
     CommandWord::Unblock,
     CommandWord::Forwarded,
@@ -89,6 +91,7 @@ impl CommandWord {
             CommandWord::Merge => "merge",
             CommandWord::ForceMerge => "forcemerge",
             CommandWord::Unmerge => "unmerge",
+            CommandWord::Clone => "clone",
             CommandWord::Block => "block",
             CommandWord::Unblock => "unblock",
             CommandWord::Forwarded => "forwarded",

@@ -5,6 +5,7 @@ ghost use Rattle.command_grammar.specs.Commands.{command_of};
 ghost use Rattle.command_grammar.specs.Reads.{Reads};
 
 use crate::blocks::{read_block, read_unblock};
+use crate::clones::read_clone;
 use crate::command_word::CommandWord;
 use crate::fault::LineFault;
 use crate::merges::{read_force_merge, read_merge};
@@ -60,6 +61,7 @@ pub fn read_command(
         CommandWord::Merge => read_merge(alloc, arguments),
         CommandWord::ForceMerge => read_force_merge(alloc, arguments),
         CommandWord::Unmerge => Ok(Command::Unmerge(bug_alone(arguments)?)),
+        CommandWord::Clone => read_clone(alloc, arguments),
         CommandWord::Block => read_block(alloc, arguments),
         CommandWord::Unblock => read_unblock(alloc, arguments),
         CommandWord::Forwarded => read_forwarded(alloc, arguments),

@@ -4,6 +4,7 @@
 
 mod blocks;
 mod bugs;
+mod clones;
 mod command_word;
 mod commands;
 mod fault;

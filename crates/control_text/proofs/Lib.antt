@@ -1,4 +1,5 @@
 pub mod TextLemmas
+pub mod BugReading
 pub mod ReadingLemmas
 pub mod RefusalLemmas
 pub mod PlainWords
@@ -6,6 +7,7 @@ pub mod SpacedLemmas
 pub mod SpellingLemmas
 pub mod TextSpelling
 pub mod MergeSpelling
+pub mod CloneSpelling
 pub mod BlockSpelling
 pub mod StepSpelling
 pub mod SpellingLaw

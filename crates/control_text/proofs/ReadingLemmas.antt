@@ -1,7 +1,7 @@
 -- What a line gives is well formed.
-use Rattle.std.proofs.Common.{◌≡◌, ℕ, ◌≤◌, ◌<◌, List, [], ◌∷◌, length, ◌==◌, ◌&&◌, nat_lt, true, false, Option, Result, Some}
+use Rattle.std.proofs.Common.{◌≡◌, ℕ, ◌≤◌, List, [], ◌∷◌, length, ◌&&◌, nat_lt, true, false, Option, Result, Some}
 use Rattle.std.proofs.Common.{None, Ok, Err, refl, cond, sym, ◌∙◌, subst, arith, codes}
-use Rattle.std.specs.Prelude.{IfOk, IfSome, is_none, option_map, ⊤}
+use Rattle.std.specs.Prelude.{IfOk, IfSome, is_none, ⊤}
 use Rattle.std.specs.Option.{ok_or}
 use Rattle.std.specs.List.{list_any, before_first, after_first, prefix_len, position_or_len}
 use Rattle.std.specs.Str.{bytes_eq}
@@ -14,7 +14,6 @@ use Rattle.ancestry.specs.Nodes.{node, is_slash, node_of}
 use Rattle.ancestry.proofs.ReadLemmas.{nodes_exactly}
 use Rattle.line_words.specs.Blanks.{is_blank, is_control}
 use Rattle.bug_record.specs.Texts.{IsText, IfGiven}
-use Rattle.bug_record.specs.Sets.{Each}
 use Rattle.bug_record.specs.Severities.{severity_of}
 use Rattle.bug_record.specs.Commands.{IsGoodVersion, IsGoodPerson}
 use Rattle.bug_record.specs.declared.severity.Severity.{Severity}
@@ -24,48 +23,22 @@ use Rattle.bug_record.specs.declared.command.TagStep.{TagStep}
 use Rattle.bug_record.specs.declared.command.Who.{Who}
 use Rattle.bug_record.specs.declared.command.Who.TheVariants.{Sender, Given}
 use Rattle.bug_record.specs.declared.command.Refusal.{Refusal}
-use Rattle.bug_record.specs.declared.command.Refusal.TheVariants.{Malformed, TooLong, BadSeverity, BadVersion, BadPackage}
+use Rattle.bug_record.specs.declared.command.Refusal.TheVariants.{TooLong, BadSeverity, BadVersion, BadPackage}
 use Rattle.line_words.specs.declared.named.Named.{Named}
-use Rattle.line_words.specs.declared.named.Named.TheVariants.{Number, Name}
 use Rattle.command_grammar.specs.declared.command_word.CommandWord.{CommandWord}
 use Rattle.command_grammar.specs.declared.command_word.CommandWord.TheVariants as command_words
-use Rattle.line_words.specs.Numbers.{without_hash, number_of_digits}
-use Rattle.line_words.specs.Bugs.{bug_of_text, bug_of_word, IsGoodBug}
+use Rattle.line_words.specs.Bugs.{IsGoodBug}
 use Rattle.line_words.specs.Words.{words, words_with_commas, trimmed, first_word, after_word, without_first}
 use Rattle.command_grammar.specs.Versions.{bare_version, sourced_version, version_of_word, without_src, package_of_word}
 use Rattle.command_grammar.specs.Commands.{and_read, read_bug, read_version, bug_and_version, bug_and_optional_version}
 use Rattle.command_grammar.specs.Commands.{severity_command, read_package, reassign_command, limited_text, who_of_text, some_text}
 use Rattle.command_grammar.specs.Commands.{some_who, optional_who, bug_and_text, bug_and_some_text, bug_and_some_who, bug_alone}
-use Rattle.command_grammar.specs.Commands.{some_bugs, is_by, by_bugs, bug_by_bugs}
-use Rattle.command_grammar.specs.Commands.{each_word, bug_and_others, some_steps, tags_command, reopen_command, command_of}
+use Rattle.command_grammar.specs.Commands.{bug_and_names, bug_by_bugs}
+use Rattle.command_grammar.specs.Commands.{bug_and_others, some_steps, tags_command, reopen_command, command_of}
 use Rattle.control_text.specs.WellFormed.{IsPlain, IsAddress, IsWellFormed}
-use Rattle.line_words.proofs.NumberLemmas.{number_of_digits-good}
 use Rattle.control_text.proofs.TextLemmas.{none-drop, trimmed-text}
-
-ok_or-good : {A : Type 0} (o : Option A) (refusal : Refusal) (P : A → Type 0) → IfSome o P → IfOk (ok_or o refusal) P
-ok_or-good None refusal P h = tt
-ok_or-good (Some x) refusal P h = h
-
-and_read-good : {A B : Type 0} (r : Result A Refusal) (f : A → Result B Refusal) (P : A → Type 0) (Q : B → Type 0) → IfOk r P
-    → ((x : A) → P x → IfOk (f x) Q) → IfOk (and_read r f) Q
-and_read-good (Err refusal) f P Q h each = tt
-and_read-good (Ok x) f P Q h each = each x h
-
-good_bug_by : (o : Option ℕ) (make : ℕ → Named) → ((n : ℕ) → o ≡ Some n → IsGoodBug (make n))
-    → IfSome (option_map make o) IsGoodBug
-good_bug_by None make h = tt
-good_bug_by (Some n) make h = h n refl
-
-bug_of_text-good : (s : List ℕ) → IfSome (bug_of_text s) IsGoodBug
-bug_of_text-good [] = tt
-bug_of_text-good (c ∷ s) =
-    let P : Option Named → Type 0 = λ o. IfSome o IsGoodBug in
-    cond_both (c == 45) (option_map Name (number_of_digits s)) (option_map Number (number_of_digits (c ∷ s))) P
-    (λ e. good_bug_by (number_of_digits s) Name (number_of_digits-good s))
-    (λ e. good_bug_by (number_of_digits (c ∷ s)) Number (number_of_digits-good (c ∷ s)))
-
-read_bug-good : (s : List ℕ) → IfOk (read_bug s) IsGoodBug
-read_bug-good s = ok_or-good (bug_of_word s) Malformed IsGoodBug (bug_of_text-good (without_hash s))
+use Rattle.control_text.proofs.BugReading.{ok_or-good, and_read-good, read_bug-good, bug_alone-good, bug_and_others-good}
+use Rattle.control_text.proofs.BugReading.{bug_and_names-good, bug_by_bugs-good}
 
 -- texts that give a node are a package name and a version
 both_good : (s v : List ℕ) → (is_none (name_fault s) && is_none (text_fault v)) ≡ true → IsName s × IsVersion v
@@ -256,52 +229,6 @@ bug_and_some_who-good arguments clean =
     and_read-good (some_who both.1) (λ who. Ok (both.0, who)) IsGoodAddress (λ read. IsGoodBug read.0 × IsGoodAddress read.1)
     (some_who-good both.1 good.1) (λ who fine. (good.0, fine)))
 
--- bugs
-bug_alone-good : (ws : List (List ℕ)) → IfOk (bug_alone ws) IsGoodBug
-bug_alone-good [] = tt
-bug_alone-good (n ∷ []) = read_bug-good n
-bug_alone-good (n ∷ m ∷ ws) = tt
-
-all_bugs-good : (ws : List (List ℕ)) → IfOk (each_word read_bug ws) (Each IsGoodBug)
-all_bugs-good [] = tt
-all_bugs-good (n ∷ ws) =
-    and_read-good (read_bug n) _ IsGoodBug (Each IsGoodBug) (read_bug-good n) (λ bug good.
-    and_read-good (each_word read_bug ws) (λ bugs. Ok (bug ∷ bugs)) (Each IsGoodBug) (Each IsGoodBug) (all_bugs-good ws)
-    (λ bugs fine. (good, fine)))
-
--- one bug or more
-abbrev AreOthers : List Named → Type 0
-AreOthers bugs = Each IsGoodBug bugs × (0 < length bugs)
-
-some_bugs-good : (ws : List (List ℕ)) → IfOk (some_bugs ws) AreOthers
-some_bugs-good [] = tt
-some_bugs-good (n ∷ ws) =
-    and_read-good (read_bug n) _ IsGoodBug AreOthers (read_bug-good n) (λ bug good.
-    and_read-good (each_word read_bug ws) (λ bugs. Ok (bug ∷ bugs)) (Each IsGoodBug) AreOthers (all_bugs-good ws)
-    (λ bugs fine. ((good, fine), omega arith)))
-
-bug_and_others-good : (ws : List (List ℕ)) → IfOk (bug_and_others ws) (λ both. IsGoodBug both.0 × AreOthers both.1)
-bug_and_others-good [] = tt
-bug_and_others-good (n ∷ ws) =
-    and_read-good (read_bug n) _ IsGoodBug (λ both. IsGoodBug both.0 × AreOthers both.1) (read_bug-good n) (λ bug good.
-    and_read-good (some_bugs ws) (λ others. Ok (bug, others)) AreOthers (λ both. IsGoodBug both.0 × AreOthers both.1)
-    (some_bugs-good ws) (λ others fine. (good, fine)))
-
-by_bugs-good : (text : List ℕ) → IfOk (by_bugs text) AreOthers
-by_bugs-good text =
-    let others = words_with_commas (after_word text) in
-    cond_both (is_by (first_word text)) (some_bugs others) (Err Malformed) (λ r. IfOk r AreOthers) (λ e. some_bugs-good others)
-    (λ e. tt)
-
-bug_by_bugs-good : (arguments : List ℕ) → IfOk (bug_by_bugs arguments) (λ both. IsGoodBug both.0 × AreOthers both.1)
-bug_by_bugs-good arguments =
-    let rest = after_word arguments in
-    let of_bug : Named → Result (Named × List Named) Refusal = λ bug. and_read (by_bugs rest) (λ others. Ok (bug, others)) in
-    and_read-good (read_bug (first_word arguments)) of_bug IsGoodBug (λ both. IsGoodBug both.0 × AreOthers both.1)
-    (read_bug-good (first_word arguments)) (λ bug good.
-    and_read-good (by_bugs rest) (λ others. Ok (bug, others)) AreOthers (λ both. IsGoodBug both.0 × AreOthers both.1)
-    (by_bugs-good rest) (λ others fine. (good, fine)))
-
 -- tags
 any_steps : (r : Result (List TagStep) Refusal) → IfOk r (λ _. ⊤)
 any_steps (Ok steps) = tt
@@ -366,6 +293,9 @@ command_of-good command_words.ForceMerge arguments clean =
 command_of-good command_words.Unmerge arguments clean =
     and_read-good (bug_alone (words arguments)) (λ bug. Ok (commands.Unmerge bug)) IsGoodBug IsWellFormed
     (bug_alone-good (words arguments)) (λ bug good. record { bugs = (good, tt); parts = tt; spellable = tt })
+command_of-good command_words.Clone arguments clean =
+    and_read-good (bug_and_names (words arguments)) (λ both. Ok (commands.Clone both.0 both.1)) _ IsWellFormed
+    (bug_and_names-good (words arguments)) (λ both good. record { bugs = (good.0, tt); parts = tt; spellable = good.1 })
 command_of-good command_words.Block arguments clean =
     and_read-good (bug_by_bugs arguments) (λ both. Ok (commands.Block both.0 both.1)) _ IsWellFormed (bug_by_bugs-good arguments)
     (λ both good. record { bugs = (good.0, good.1.0); parts = tt; spellable = good.1.1 })

@@ -5,7 +5,7 @@ use Rattle.std.specs.List.{list_any}
 use Rattle.std.specs.Str.{bytes_eq}
 use Rattle.std.proofs.lemmas.Bool.{cond_both}
 use Rattle.line_words.specs.Blanks.{is_control}
-use Rattle.line_words.specs.Bugs.{bug_of_word}
+use Rattle.line_words.specs.Bugs.{bug_of_word, name_of_word}
 use Rattle.line_words.specs.Words.{first_word, words, words_with_commas, trimmed, after_word}
 use Rattle.line_words.specs.declared.named.Named.{Named}
 use Rattle.std.specs.Option.{ok_or}
@@ -24,7 +24,7 @@ use Rattle.command_grammar.specs.Versions.{version_of_word, package_of_word}
 use Rattle.command_grammar.specs.Commands.{and_read, read_bug, read_version, read_package, bug_alone, bug_and_version}
 use Rattle.command_grammar.specs.Commands.{bug_and_optional_version, severity_command, reassign_command, limited_text}
 use Rattle.command_grammar.specs.Commands.{who_of_text, some_text, some_who, optional_who, bug_and_text, bug_and_some_text}
-use Rattle.command_grammar.specs.Commands.{some_bugs, is_by, by_bugs, bug_by_bugs}
+use Rattle.command_grammar.specs.Commands.{some_bugs, read_name, some_names, bug_and_names, is_by, by_bugs, bug_by_bugs}
 use Rattle.command_grammar.specs.Commands.{bug_and_some_who, each_word, bug_and_others, sign_and_tag, adds_after, tag_step}
 use Rattle.command_grammar.specs.Commands.{tag_steps, word_steps, all_steps, some_steps, tags_command, reopen_command, command_of}
 use Rattle.control_text.specs.declared.line.Line.{Line}
@@ -156,6 +156,19 @@ bug_and_others-of (n ∷ ws) =
     and_read-of (read_bug n) _ (read_bug-of n)
     (λ bug. and_read-of (some_bugs ws) (λ others. Ok (bug, others)) (some_bugs-of ws) (λ others. tt))
 
+read_name-of : (word : List ℕ) → IsOfLine (read_name word)
+read_name-of word = ok_or-of (name_of_word word) Malformed tt
+
+some_names-of : (ws : List (List ℕ)) → IsOfLine (some_names ws)
+some_names-of [] = tt
+some_names-of (k ∷ ws) = each_word-of read_name read_name-of (k ∷ ws)
+
+bug_and_names-of : (ws : List (List ℕ)) → IsOfLine (bug_and_names ws)
+bug_and_names-of [] = tt
+bug_and_names-of (n ∷ ws) =
+    and_read-of (read_bug n) _ (read_bug-of n)
+    (λ bug. and_read-of (some_names ws) (λ names. Ok (bug, names)) (some_names-of ws) (λ names. tt))
+
 by_bugs-of : (text : List ℕ) → IsOfLine (by_bugs text)
 by_bugs-of text =
     let others = words_with_commas (after_word text) in
@@ -220,6 +233,8 @@ command_of-of command_words.ForceMerge arguments =
     and_read-of (bug_and_others (words arguments)) _ (bug_and_others-of (words arguments)) (λ both. tt)
 command_of-of command_words.Unmerge arguments =
     and_read-of (bug_alone (words arguments)) _ (bug_alone-of (words arguments)) (λ bug. tt)
+command_of-of command_words.Clone arguments =
+    and_read-of (bug_and_names (words arguments)) _ (bug_and_names-of (words arguments)) (λ both. tt)
 command_of-of command_words.Block arguments = and_read-of (bug_by_bugs arguments) _ (bug_by_bugs-of arguments) (λ both. tt)
 command_of-of command_words.Unblock arguments = and_read-of (bug_by_bugs arguments) _ (bug_by_bugs-of arguments) (λ both. tt)
 command_of-of command_words.Forwarded arguments =

@@ -22,11 +22,11 @@ use Rattle.line_words.specs.Bugs.{IsGoodBug}
 use Rattle.line_words.specs.Words.{words, trimmed, after_word}
 use Rattle.command_grammar.specs.Commands.{and_read, read_version, read_package, bug_alone, bug_and_version}
 use Rattle.command_grammar.specs.Commands.{bug_and_optional_version, severity_command, reassign_command, optional_who}
-use Rattle.command_grammar.specs.Commands.{bug_and_some_text, bug_and_some_who, bug_and_others, bug_by_bugs}
+use Rattle.command_grammar.specs.Commands.{bug_and_some_text, bug_and_some_who, bug_and_others, bug_and_names, bug_by_bugs}
 use Rattle.command_grammar.specs.Commands.{reopen_command, command_of}
 use Rattle.control_text.specs.Lines.{reading}
 use Rattle.control_text.specs.WellFormed.{IsPlain, IsAddress, IsWellFormed}
-use Rattle.control_text.specs.Spelling.{bug_text, version_text, who_text, step_words, word_if, spelling, spelled_words}
+use Rattle.control_text.specs.Spelling.{name_text, bug_text, version_text, who_text, step_words, word_if, spelling, spelled_words}
 use Rattle.control_text.specs.Spelling.{after_spaces, joined_by_blanks}
 use Rattle.control_text.proofs.TextLemmas.{text_parts}
 use Rattle.control_text.proofs.PlainWords.{graphic-control, name-plain}
@@ -36,6 +36,7 @@ use Rattle.control_text.proofs.SpacedLemmas.{joined_spaces}
 use Rattle.control_text.proofs.TextSpelling.{written_who, written_address, bug_and_text-back, bug_and_some_text-back}
 use Rattle.control_text.proofs.TextSpelling.{bug_and_some_who-back}
 use Rattle.control_text.proofs.MergeSpelling.{bugs_plain, bugs-back}
+use Rattle.control_text.proofs.CloneSpelling.{clone_plain, clone-back}
 use Rattle.control_text.proofs.BlockSpelling.{blockers_plain, bug_by_bugs-back}
 use Rattle.control_text.proofs.StepSpelling.{steps_plain, tags-back}
 use Rattle.control_text.proofs.SpellingLemmas.{bug-back, bug-plain, version-back, version_text-plain, package-back, severity-back}
@@ -179,6 +180,9 @@ forcemerge_word = record { some = refl; whole = refl; clean = refl; hash = refl;
 
 unmerge_word : IsCommandWord command_words.Unmerge (codes "unmerge")
 unmerge_word = record { some = refl; whole = refl; clean = refl; hash = refl; stop = refl; thank = refl; is = refl }
+
+clone_word : IsCommandWord command_words.Clone (codes "clone")
+clone_word = record { some = refl; whole = refl; clean = refl; hash = refl; stop = refl; thank = refl; is = refl }
 
 block_word : IsCommandWord command_words.Block (codes "block")
 block_word = record { some = refl; whole = refl; clean = refl; hash = refl; stop = refl; thank = refl; is = refl }
@@ -336,6 +340,13 @@ spaced-read (commands.ForceMerge n ns) good =
     good.spellable
 spaced-read (commands.Unmerge n) good =
     by_bug command_words.Unmerge (codes "unmerge") commands.Unmerge n unmerge_word (λ s. refl) good.bugs.0
+spaced-read (commands.Clone n ks) good =
+    let ws = bug_text n ∷ map name_text ks in
+    let made : Named × List ℕ → Result (Command Named) Refusal = λ both. Ok (commands.Clone both.0 both.1) in
+    let names = good.spellable in
+    let plain = clone_plain n ks good.bugs.0 names.0 in
+    by_words command_words.Clone (codes "clone") ws (commands.Clone n ks) clone_word plain
+    (ap (λ r. and_read r made) (ap bug_and_names (words-spaces ws plain) ∙ clone-back n ks good.bugs.0 names.0 names.1))
 spaced-read (commands.Block n ns) good =
     by_blockers command_words.Block (codes "block") commands.Block n ns block_word (λ s. refl) good.bugs good.spellable
 spaced-read (commands.Unblock n ns) good =

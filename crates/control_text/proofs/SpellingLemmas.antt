@@ -66,7 +66,7 @@ digits-back (c ∷ s) n some digits h =
     (ne_eqb c 45 (λ e. omega arith))
     ∙ ap (option_map Number) h
 
-bug_word-back : (n : Named) → IsGoodBug n → bug_of_word (bug_text n) ≡ Some n
+pub bug_word-back : (n : Named) → IsGoodBug n → bug_of_word (bug_text n) ≡ Some n
 bug_word-back (Number n) good = let w = written_is n good.most in digits-back (decimal n) n w.some w.digits (number-back n good)
 bug_word-back (Name k) good = ap (option_map Name) (number-back k good)
 

@@ -7,7 +7,8 @@ use Rattle.line_words.specs.AnyCase.{is_word}
 use Rattle.bug_record.specs.declared.command.Refusal.{Refusal}
 use Rattle.bug_record.specs.declared.command.Refusal.TheVariants.{Unknown, Malformed, TooLong, BadSeverity, BadTag, BadVersion}
 use Rattle.bug_record.specs.declared.command.Refusal.TheVariants.{BadPackage, NoName, NoBug, Differ}
-use Rattle.bug_record.specs.declared.command.Refusal.TheVariants.{Archived, NotArchived, NotMerged, OwnSet, NotDone, StillFound}
+use Rattle.bug_record.specs.declared.command.Refusal.TheVariants.{Archived, NotArchived, NotMerged, Merged, NameTaken, OwnSet}
+use Rattle.bug_record.specs.declared.command.Refusal.TheVariants.{NotDone, StillFound, Full}
 use Rattle.line_words.specs.Words.{words, first_word, after_word}
 use Rattle.command_grammar.specs.CommandWords.{command_word}
 use Rattle.command_grammar.specs.Commands.{and_read, command_of}
@@ -68,9 +69,12 @@ IsRefusalOfLine (Differ field n) = ⊥
 IsRefusalOfLine (Archived n) = ⊥
 IsRefusalOfLine (NotArchived n) = ⊥
 IsRefusalOfLine (NotMerged n) = ⊥
+IsRefusalOfLine (Merged n) = ⊥
+IsRefusalOfLine (NameTaken k) = ⊥
 IsRefusalOfLine (OwnSet n) = ⊥
 IsRefusalOfLine (NotDone n) = ⊥
 IsRefusalOfLine (StillFound node) = ⊥
+IsRefusalOfLine Full = ⊥
 
 -- the line's first word is a command
 abbrev pub BeginsWithCommand : List ℕ → Type 0

@@ -17,10 +17,14 @@ use Rattle.bug_record.specs.declared.command.Who.TheVariants.{Sender, Given}
 use Rattle.line_words.specs.declared.named.Named.{Named}
 use Rattle.line_words.specs.declared.named.Named.TheVariants.{Number, Name}
 
--- a number without `#` and leading zeros; a name with its `-`
+-- a name with its `-`, and without leading zeros
+abbrev pub name_text : ℕ → List ℕ
+name_text k = 45 ∷ decimal k
+
+-- a number without `#` and leading zeros, or a name
 abbrev pub bug_text : Named → List ℕ
 bug_text (Number n) = decimal n
-bug_text (Name k) = 45 ∷ decimal k
+bug_text (Name k) = name_text k
 
 -- a version with a source is written `source/version`
 abbrev pub version_text : VersionArg → List ℕ
@@ -72,6 +76,7 @@ spelled_words (commands.Submitter bug who) = codes "submitter" ∷ bug_text bug 
 spelled_words (commands.Merge bug others) = codes "merge" ∷ bug_text bug ∷ map bug_text others
 spelled_words (commands.ForceMerge bug others) = codes "forcemerge" ∷ bug_text bug ∷ map bug_text others
 spelled_words (commands.Unmerge bug) = codes "unmerge" ∷ bug_text bug ∷ []
+spelled_words (commands.Clone bug names) = codes "clone" ∷ bug_text bug ∷ map name_text names
 spelled_words (commands.Block bug others) = codes "block" ∷ bug_text bug ∷ codes "by" ∷ map bug_text others
 spelled_words (commands.Unblock bug others) = codes "unblock" ∷ bug_text bug ∷ codes "by" ∷ map bug_text others
 spelled_words (commands.Forwarded bug text) = codes "forwarded" ∷ bug_text bug ∷ text ∷ []

@@ -6,6 +6,7 @@ use Rattle.bug_record.specs.declared.command.Command.{Command}
 use Rattle.bug_record.specs.declared.command.Command.TheVariants as commands
 use Rattle.bug_record.specs.declared.command.Who.{Who}
 use Rattle.bug_record.specs.declared.command.Who.TheVariants.{Sender, Given}
+use Rattle.line_words.specs.Numbers.{IsGoodNumber}
 use Rattle.line_words.specs.Bugs.{IsGoodBug}
 use Rattle.control_text.specs.declared.line.Line.{Line}
 use Rattle.control_text.specs.declared.line.Line.TheVariants.{Do}
@@ -22,14 +23,15 @@ IsPlain None = ⊤
 IsPlain (Some Sender) = ⊤
 IsPlain (Some (Given text)) = (¬ (text ≡ codes "!")) × (¬ (text ≡ codes "="))
 
--- no text that is given for somebody stands for somebody else, and a merge, a `block` and an
--- `unblock` name a second bug
+-- No text that is given for somebody stands for somebody else, a merge, a `block` and an `unblock`
+-- name a second bug, and `clone` gives a name and none beyond the limits.
 abbrev pub IsSpellable : Command Named → Type 0
 IsSpellable (commands.Reopen bug who) = IsPlain who
 IsSpellable (commands.Submitter bug who) = IsAddress who
 IsSpellable (commands.Owner bug who) = IsAddress who
 IsSpellable (commands.Merge bug others) = 0 < length others
 IsSpellable (commands.ForceMerge bug others) = 0 < length others
+IsSpellable (commands.Clone bug names) = Each IsGoodNumber names × (0 < length names)
 IsSpellable (commands.Block bug others) = 0 < length others
 IsSpellable (commands.Unblock bug others) = 0 < length others
 IsSpellable (commands.Found bug version) = ⊤

@@ -41,6 +41,13 @@ fn are_bug_and_others(bug: Named, others: &[Named]) -> bool
     is_good_bug(bug) && are_good_bugs(others) && !others.is_empty()
 }
 
+// One name or more, each from 1 to 999,999,999.
+fn are_good_names(names: &[u32]) -> bool
+    ensures { Decides result (Each IsGoodNumber names.now × (0 < length names.now)) }
+{
+    names.iter().all(|name| is_good_number(u64::from(*name))) && !names.is_empty()
+}
+
 fn is_good_source(source: &Option<Text>) -> bool
     ensures { Decides result (IfGiven IsName source.now) }
 {
@@ -94,7 +101,8 @@ fn is_good_optional_who(who: &Option<Who>) -> bool
 /// Whether a command can be written: its numbers and names are from 1 to 999,999,999, its versions,
 /// package names and texts are within their limits, no text that is given for a submitter or an
 /// owner is `!`, which stands for the sender, none that is given for `reopen` is `=`, which stands
-/// for nobody, a merge has a second bug, and `block` and `unblock` name a blocker.
+/// for nobody, a merge has a second bug, `block` and `unblock` name a blocker, and `clone` gives a
+/// name.
 /// This project's own rule.
 /// It holds of all that `read_line` gives.
 pub fn well_formed(command: &Command<Named>) -> bool
@@ -119,6 +127,7 @@ pub fn well_formed(command: &Command<Named>) -> bool
         Command::Merge(bug, others) => are_bug_and_others(*bug, others.as_slice()),
         Command::ForceMerge(bug, others) => are_bug_and_others(*bug, others.as_slice()),
         Command::Unmerge(bug) => is_good_bug(*bug),
+        Command::Clone(bug, names) => is_good_bug(*bug) && are_good_names(names.as_slice()),
         Command::Block(bug, others) => are_bug_and_others(*bug, others.as_slice()),
         Command::Unblock(bug, others) => are_bug_and_others(*bug, others.as_slice()),
         Command::Forwarded(bug, text) => is_good_bug(*bug) && is_text(text.as_str()),

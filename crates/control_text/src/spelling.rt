@@ -1,7 +1,7 @@
 //! The canonical spelling of commands.
 
 ghost use Rattle.std.specs.Prelude.{◌≡◌, ◌∷◌, [], ◌++◌, map, IfOk, OnOk, string_bytes, codes};
-ghost use Rattle.control_text.specs.Spelling.{bug_text, version_text, who_text, step_text, step_words, word_if, after_spaces};
+ghost use Rattle.control_text.specs.Spelling.{name_text, bug_text, version_text, who_text, step_text, step_words, word_if, after_spaces};
 ghost use Rattle.control_text.specs.Spelling.{joined_by_blanks, spelling};
 ghost use Rattle.control_text.specs.WellFormed.{IsWellFormed};
 
@@ -25,13 +25,20 @@ fn push_word(line: &mut String, word: &str) -> Result<(), AllocError>
     write!(line, " {word}")
 }
 
+// Adds a name after a space.
+fn push_name(line: &mut String, name: u32) -> Result<(), AllocError>
+    ensures { OnOk result (string_bytes line.new ≡ string_bytes line.old ++ 32 ∷ name_text name) }
+{
+    write!(line, " -{name}")
+}
+
 // Adds a bug after a space.
 fn push_bug(line: &mut String, bug: Named) -> Result<(), AllocError>
     ensures { OnOk result (string_bytes line.new ≡ string_bytes line.old ++ 32 ∷ bug_text bug) }
 {
     match bug {
         Named::Number(number) => write!(line, " {number}"),
-        Named::Name(name) => write!(line, " -{name}"),
+        Named::Name(name) => push_name(line, name),
     }
 }
 
@@ -145,6 +152,25 @@ fn with_bugs(alloc: Global, word: &str, bug: Named, others: &[Named]) -> Result<
     Ok(line)
 }
 
+// Adds names, each after a space.
+fn push_names(line: &mut String, names: &[u32]) -> Result<(), AllocError>
+    ensures { OnOk result (string_bytes line.new ≡ string_bytes line.old ++ after_spaces (map name_text names.now)) }
+{
+    for name in names {
+        push_name(line, *name)?;
+    }
+    Ok(())
+}
+
+// `clone`, its bug and the names that it gives.
+fn clone_with_names(alloc: Global, bug: Named, names: &[u32]) -> Result<String, AllocError>
+    ensures { IfOk result (λ s. string_bytes s ≡ joined_by_blanks (codes "clone" ∷ bug_text bug ∷ map name_text names.now)) }
+{
+    let mut line = with_bug(alloc, "clone", bug)?;
+    push_names(&mut line, names)?;
+    Ok(line)
+}
+
 // A command's word, a bug, `by` and other bugs.
 fn bug_by_bugs(
     alloc: Global,
@@ -221,6 +247,7 @@ pub fn write_command(alloc: Global, command: &Command<Named>) -> Result<String, 
         Command::Merge(bug, others) => with_bugs(alloc, "merge", *bug, others.as_slice()),
         Command::ForceMerge(bug, others) => with_bugs(alloc, "forcemerge", *bug, others.as_slice()),
         Command::Unmerge(bug) => with_bug(alloc, "unmerge", *bug),
+        Command::Clone(bug, names) => clone_with_names(alloc, *bug, names.as_slice()),
         Command::Block(bug, others) => bug_by_bugs(alloc, "block", *bug, others.as_slice()),
         Command::Unblock(bug, others) => bug_by_bugs(alloc, "unblock", *bug, others.as_slice()),
         Command::Forwarded(bug, text) => with_text(alloc, "forwarded", *bug, text.as_str()),

@@ -3,7 +3,7 @@ use Rattle.std.specs.Prelude.{ℕ, List, ◌++◌, Result, Ok, Err, codes}
 use Rattle.std.specs.Fmt.{decimal}
 use Rattle.ancestry.specs.declared.fault.BranchFault.{BranchFault}
 use Rattle.ancestry.specs.declared.fault.BranchFault.TheVariants.{EmptyBranch, Repeated, Conflict, TooLong, Memory}
-use Rattle.desk_text.specs.Texts.{as_line, fault_text}
+use Rattle.desk_text.specs.Texts.{as_line, full_text, fault_text}
 use Rattle.desk_text.specs.declared.outcome.ReportFault.{ReportFault}
 use Rattle.desk_text.specs.declared.outcome.ReportFault.TheVariants.{BadPackage, BadVersion, BadSeverity, BadTitle, Full, Store}
 use Rattle.desk_text.specs.declared.outcome.StoreFault.{StoreFault}
@@ -19,7 +19,7 @@ report_answer (Err BadPackage) = refused_line (codes "bad package name")
 report_answer (Err BadVersion) = refused_line (codes "bad version")
 report_answer (Err BadSeverity) = refused_line (codes "unknown severity")
 report_answer (Err BadTitle) = refused_line (codes "bad title")
-report_answer (Err Full) = refused_line (codes "no bug number is left")
+report_answer (Err Full) = refused_line full_text
 report_answer (Err (Store fault)) = fault_text fault
 
 -- a branch whose words are nodes: `OK`, the refusal, or the fault of the store (no store refuses

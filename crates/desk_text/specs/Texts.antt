@@ -6,7 +6,7 @@ use Rattle.bug_record.specs.declared.command.Field.TheVariants as fields
 use Rattle.bug_record.specs.declared.command.Refusal.{Refusal}
 use Rattle.bug_record.specs.declared.command.Refusal.TheVariants.{Unknown, Malformed, TooLong, BadSeverity, BadTag, BadVersion}
 use Rattle.bug_record.specs.declared.command.Refusal.TheVariants.{BadPackage, NoName, NoBug, Archived, NotArchived, Differ}
-use Rattle.bug_record.specs.declared.command.Refusal.TheVariants.{NotMerged, OwnSet, NotDone, StillFound}
+use Rattle.bug_record.specs.declared.command.Refusal.TheVariants.{NotMerged, Merged, NameTaken, OwnSet, NotDone, StillFound, Full}
 use Rattle.ancestry.specs.Nodes.{Node, node_text}
 use Rattle.desk_text.specs.declared.outcome.StoreFault.{StoreFault}
 use Rattle.desk_text.specs.declared.outcome.StoreFault.TheVariants as faults
@@ -42,6 +42,10 @@ difference_text n word = said_of_bug n (codes " differs in " ++ word)
 unfoldable pub still_found_text : Node → List ℕ
 still_found_text v = codes "still found in " ++ node_text v
 
+-- a command or a report that asks for more numbers than are left
+abbrev pub full_text : List ℕ
+full_text = codes "no bug number is left"
+
 -- why a line is refused
 abbrev pub refusal_text : Refusal → List ℕ
 refusal_text Unknown = codes "unknown command"
@@ -57,9 +61,12 @@ refusal_text (Archived n) = said_of_bug n (codes " is archived")
 refusal_text (NotArchived n) = said_of_bug n (codes " is not archived")
 refusal_text (Differ field n) = difference_text n (field_word field)
 refusal_text (NotMerged n) = said_of_bug n (codes " is not merged")
+refusal_text (Merged n) = said_of_bug n (codes " is merged")
+refusal_text (NameTaken k) = codes "name -" ++ (decimal k ++ codes " is taken")
 refusal_text (OwnSet n) = said_of_bug n (codes " is in the same set")
 refusal_text (NotDone n) = said_of_bug n (codes " is open")
 refusal_text (StillFound v) = still_found_text v
+refusal_text Full = full_text
 
 -- each number after a space
 abbrev pub numbers_text : List ℕ → List ℕ

@@ -5,7 +5,7 @@ ghost use Rattle.desk_text.specs.Texts.{as_line, fault_text};
 ghost use Rattle.desk_text.specs.Answers.{refused_line, report_answer, branch_answer, bad_version_answer, bad_directive_answer};
 
 use crate::outcome::{ReportFault, StoreFault};
-use crate::texts::{append_number, fault_text};
+use crate::texts::{append_number, fault_text, full_text};
 use ancestry::BranchFault;
 use std::alloc::{AllocError, Global};
 
@@ -69,7 +69,7 @@ pub fn report_answer(
         Err(ReportFault::BadVersion) => refused_line(alloc, "bad version"),
         Err(ReportFault::BadSeverity) => refused_line(alloc, "unknown severity"),
         Err(ReportFault::BadTitle) => refused_line(alloc, "bad title"),
-        Err(ReportFault::Full) => refused_line(alloc, "no bug number is left"),
+        Err(ReportFault::Full) => refused_line(alloc, full_text()),
         Err(ReportFault::Store(fault)) => fault_line(alloc, *fault),
     }
 }

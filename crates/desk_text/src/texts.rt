@@ -3,7 +3,7 @@
 ghost use Rattle.std.specs.Prelude.{◌≡◌, [], ◌++◌, IsOk, OnOk, OnErr, codes, decimal};
 ghost use Rattle.std.specs.Io.{StartsWith};
 ghost use Rattle.ancestry.specs.Nodes.{node_text};
-ghost use Rattle.desk_text.specs.Texts.{said_of_bug, still_found_text};
+ghost use Rattle.desk_text.specs.Texts.{full_text, said_of_bug, still_found_text};
 ghost use Rattle.desk_text.specs.Texts.{as_line, echo, field_word, refusal_text, numbers_text, changed_text, answer_text};
 ghost use Rattle.desk_text.specs.Texts.{fault_word, fault_text, outcome_text, store_end_text, end_text};
 
@@ -23,6 +23,13 @@ fn difference_end(field: Field) -> &'static str
         Field::Forwarded => " differs in forwarded",
         Field::Severity => " differs in severity",
     }
+}
+
+/// What is said where more numbers are asked for than are left.
+pub(crate) fn full_text() -> &'static str
+    ensures { result.now ≡ full_text }
+{
+    "no bug number is left"
 }
 
 pub(crate) fn append_number(out: &mut Vec<u8>, number: u64) -> Result<(), AllocError>
@@ -95,9 +102,12 @@ fn append_refusal(out: &mut Vec<u8>, refusal: &Refusal) -> Result<(), AllocError
         Refusal::NotArchived(number) => append_of_bug(out, *number, " is not archived"),
         Refusal::Differ(field, number) => append_of_bug(out, *number, difference_end(*field)),
         Refusal::NotMerged(number) => append_of_bug(out, *number, " is not merged"),
+        Refusal::Merged(number) => append_of_bug(out, *number, " is merged"),
+        Refusal::NameTaken(name) => append_between(out, "name -", *name, " is taken"),
         Refusal::OwnSet(number) => append_of_bug(out, *number, " is in the same set"),
         Refusal::NotDone(number) => append_of_bug(out, *number, " is open"),
         Refusal::StillFound(node) => append_still_found(out, node),
+        Refusal::Full => out.extend_from_slice(full_text().as_bytes()),
     }
 }
 

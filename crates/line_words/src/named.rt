@@ -4,7 +4,7 @@ ghost use Rattle.std.specs.Prelude.{◌≡◌};
 ghost use Rattle.std.specs.List.{list_all};
 ghost use Rattle.std.specs.Char.{is_ascii_digit};
 ghost use Rattle.line_words.specs.Numbers.{without_hash, number_of_digits, number_of_word};
-ghost use Rattle.line_words.specs.Bugs.{bug_of_word};
+ghost use Rattle.line_words.specs.Bugs.{bug_of_word, name_of_word};
 
 /// A bug as a line names it.
 #[derive(Clone, Copy, Debug, PartialEq, Eq, Drop)]
@@ -59,5 +59,16 @@ pub fn bug_word(text: &str) -> Option<Named>
     match word.strip_prefix('-') {
         Some(digits) => Some(Named::Name(number_of_digits(digits)?)),
         None => Some(Named::Number(u64::from(number_of_digits(word)?))),
+    }
+}
+
+/// The number k, from 1 to 999,999,999, of a word that is the name -k: an optional `#`, a `-` and
+/// one to nine ASCII digits of a value of at least 1; `None` for another text.
+pub fn name_word(text: &str) -> Option<u32>
+    ensures { result ≡ name_of_word text.now }
+{
+    match bug_word(text) {
+        Some(Named::Name(name)) => Some(name),
+        _ => None,
     }
 }
