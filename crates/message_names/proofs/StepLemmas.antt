@@ -11,11 +11,11 @@ use Rattle.ancestry.specs.Nodes.{Node}
 use Rattle.bug_record.specs.Sets.{has, Each}
 use Rattle.bug_record.specs.Texts.{IfGiven}
 use Rattle.bug_record.specs.Desk.{Desk, IsSound}
-use Rattle.bug_record.specs.Bugs.{at_bug, unless, first_of, first_refusal, bugs_at}
+use Rattle.bug_record.specs.Bugs.{with_new_bugs, at_bug, unless, first_of, first_refusal, bugs_at}
 use Rattle.bug_record.specs.Words.{Names, meaning, bug_refusal, number_by, first_bug_refusal, words_refusal}
 use Rattle.bug_record.specs.Words.{first_may_be_archived, others_may_be_archived}
 use Rattle.bug_record.specs.Heads.{open_head}
-use Rattle.bug_record.specs.Clones.{is_taken, name_refusal, merged_refusal, full_refusal, with_clones, cloned}
+use Rattle.bug_record.specs.Clones.{is_taken, name_refusal, merged_refusal, full_refusal, clone_of, cloned}
 use Rattle.bug_record.specs.Differences.{differing, first_difference, package_difference}
 use Rattle.bug_record.specs.Merges.{sets_joined, with_merged, all_merged, joined_shared, taken_out, others_merged}
 use Rattle.bug_record.specs.Commands.{bug_named, other_bugs, bugs_named, command_over}
@@ -94,7 +94,7 @@ cloned-stays : (names : Names) (d : Desk) (n : ℕ) (ks : List ℕ) (b : Bug) �
 cloned-stays names d n ks b e =
     at-stays (d.bug n) n _ b e (λ c.
     unless-stays (first_of (merged_refusal n c.merged ∷ name_refusal names ks ∷ full_refusal d.next (length ks) ∷ []))
-    (with_clones d c (length ks))
+    (with_new_bugs d (clone_of c) (length ks))
     (either (merged_refusal n c.merged) (first_of (name_refusal names ks ∷ full_refusal d.next (length ks) ∷ []))
     (merged-stays n c.merged)
     (either (name_refusal names ks) (first_of (full_refusal d.next (length ks) ∷ [])) (name-stays names ks)
