@@ -1,14 +1,15 @@
 -- A desk with new bugs.
-use Rattle.std.proofs.Common.{◌≡◌, ◌≢◌, ◌<◌, ◌≤◌, ◌+◌, ℕ, Bool, true, false, cond, ◌||◌, ◌&&◌, List, [], ◌∷◌, Option, Some, None}
+use Rattle.std.proofs.Common.{◌≡◌, ◌≢◌, ◌<◌, ◌≤◌, ◌+◌, ℕ, Bool, true, false, cond, ◌||◌, ◌&&◌, [], ◌∷◌, Some, None}
 use Rattle.std.proofs.Common.{sym, refl, ap, ◌∙◌, subst, arith}
 use Rattle.std.specs.Prelude.{nat_le, nat_lt}
 use Rattle.std.proofs.lemmas.Option.{same_Some, none-some}
-use Rattle.std.proofs.lemmas.Bool.{false≢true, eq-eqb, and_parts, lt-ltb, le-ltb, le-leb, lt-leb, leb-true, ltb-true}
+use Rattle.std.proofs.lemmas.Bool.{eq-eqb, and_parts, lt-ltb, le-ltb, le-leb, lt-leb, leb-true, ltb-true}
 use Rattle.bug_record.specs.Sets.{has, IsAscending}
 use Rattle.bug_record.specs.Desk.{Desk, IsSound, IsMergedWith, HasGoodTexts, AreGoodBlockers}
 use Rattle.bug_record.specs.Bugs.{with_new_bugs}
 use Rattle.bug_record.specs.declared.bug.Bug.{Bug}
 use Rattle.bug_record.proofs.SetLemmas.{one_number}
+use Rattle.set_images.proofs.ChangedLemmas.{none-from_next}
 use Rattle.bug_core.proofs.SoundLemmas.{agree, merged-from, blockers-there}
 
 -- whether m is one of so many numbers from the next one on
@@ -28,7 +29,7 @@ new-below next many m h = ap (λ t. t && nat_lt m (next + many)) (lt-leb next m 
 pub new-above : (next many m : ℕ) → next + many ≤ m → is_new next many m ≡ false
 new-above next many m h =
     elim (nat_le next m) as (λ t. (t && nat_lt m (next + many)) ≡ false)
-    [ true ↦ le-ltb (next + many) m h | false ↦ refl ]
+    [ true ↦ le-ltb m (next + many) h | false ↦ refl ]
 
 -- a bug after that is a new one, or was there
 added-cases : (d : Desk) (new : ℕ → Bug) (many : ℕ) (Q : Type 0) (m : ℕ) (b : Bug) → (with_new_bugs d new many).bug m ≡ Some b
@@ -41,11 +42,7 @@ added-cases d new many Q m b h f g =
 
 -- no bug of a sound desk has a number from the next one on
 pub none-beyond : (d : Desk) (m : ℕ) → IsSound d → d.next ≤ m → d.bug m ≡ None
-none-beyond d m sound h =
-    elim (d.bug m) as (λ o. d.bug m ≡ o → o ≡ None) [
-      | None ↦ λ e. refl
-      | Some b ↦ λ e. absurd (omega (arith, h, (sound.in_range m b e).1))
-    ] refl
+none-beyond d m sound h = none-from_next d sound m d.next (omega arith) (le-ltb m d.next h)
 
 -- a new bug, and one that was there
 pub added-new : (d : Desk) (new : ℕ → Bug) (many m : ℕ) → d.next ≤ m → m < d.next + many

@@ -1,19 +1,19 @@
 -- Copies of a bug.
 use Rattle.std.proofs.Common.{◌≡◌, ◌<◌, ◌≤◌, ◌+◌, suc, zero, ℕ, Bool, true, false, cond, ◌||◌, eqb, List, [], ◌∷◌, ◌++◌, Option, Some, None}
 use Rattle.std.proofs.Common.{Result, Ok, Err, sym, refl, ap, ◌∙◌, subst, arith, length}
-use Rattle.std.specs.Prelude.{option_map, map, nat_lt}
+use Rattle.std.specs.Prelude.{option_map, map, nat_lt, slice_get}
 use Rattle.std.specs.Option.{option_or}
-use Rattle.std.proofs.lemmas.Option.{none-some}
+use Rattle.std.proofs.lemmas.Option.{none-some, same_Some}
 use Rattle.std.proofs.lemmas.List.{map-append}
-use Rattle.std.proofs.lemmas.Bool.{false≢true, eqb-true, eqb-false, eq-eqb, ne_eqb, ltb-true, ltb-false, le-ltb, lt-ltb, false_from_ne_true}
+use Rattle.std.proofs.lemmas.Bool.{false≢true, eqb-true, eqb-false, ne_eqb, le-ltb, lt-ltb, false_from_ne_true}
 use Rattle.bug_record.specs.Sets.{has, Each}
-use Rattle.bug_record.specs.Desk.{Desk, IsSound, AreGoodBlockers}
+use Rattle.bug_record.specs.Desk.{Desk, IsSound}
 use Rattle.bug_record.specs.Bugs.{with_new_bugs, at_bug, unless, first_of}
 use Rattle.bug_record.specs.Words.{archived_refusal, bug_refusal, first_bug_refusal}
 use Rattle.bug_record.specs.Changed.{numbers_below}
 use Rattle.bug_record.specs.Clones.{merged_refusal, full_refusal, clone_of, cloned}
 use Rattle.bug_record.specs.Images.{numbers_of, member_at, bug_of, bug_in, put, AreApart, HasMember, AreSetsOf, CoverSets, image_with}
-use Rattle.bug_record.specs.Plans.{AllKnown, IsShownBy, CoverImages}
+use Rattle.bug_record.specs.Plans.{IsShownBy, CoverImages}
 use Rattle.bug_record.specs.declared.bug.Bug.{Bug}
 use Rattle.bug_record.specs.declared.bug.Shared.{Shared}
 use Rattle.bug_record.specs.declared.bug.Member.{Member}
@@ -22,10 +22,10 @@ use Rattle.bug_record.specs.declared.command.Change.{Change}
 use Rattle.bug_record.specs.declared.command.PlanFault.TheVariants.{Refused}
 use Rattle.bug_record.specs.declared.command.Refusal.{Refusal}
 use Rattle.bug_record.specs.declared.command.Refusal.TheVariants.{NoBug, Merged, Full}
-use Rattle.bug_core.specs.Others.{has_any, others}
+use Rattle.bug_core.specs.Others.{others}
 use Rattle.bug_core.specs.Clones.{clone_image, clone_images}
 use Rattle.bug_core.specs.Planned.{IsPlanned, IsPlannedOf, IsRefusedAs, IsRefusalOfPlan}
-use Rattle.set_images.proofs.ImageLemmas.{none_left, none_right, none_both, same_value, shown, bug_in-append, bug_in-merged}
+use Rattle.set_images.proofs.ImageLemmas.{same_value, shown, bug_in-append, bug_in-merged}
 use Rattle.set_images.proofs.ImageLemmas.{image_with-shows, image_with-none, image_with-has, image_with-member}
 use Rattle.bug_core.proofs.OtherLemmas.{others-none, others-kept, others-apart, others-members}
 use Rattle.bug_core.proofs.ReplaceLemmas.{apart-append, each-append}
@@ -37,12 +37,12 @@ abbrev pub copied : Shared → Member → ℕ → Bug
 copied f x n = bug_of (clone_image f x n) (record x { number = n })
 
 -- the copies one by one
-one_more : (f : Shared) (x : Member) (next many : ℕ)
+pub one_more : (f : Shared) (x : Member) (next many : ℕ)
     → clone_images f x next (suc many) ≡ clone_images f x next many ++ clone_image f x (next + many) ∷ []
 unfolding numbers_below
 one_more f x next many = map-append (λ k. clone_image f x (next + k)) (numbers_below many) (many ∷ [])
 
-none_yet : (f : Shared) (x : Member) (next : ℕ) → clone_images f x next 0 ≡ []
+pub none_yet : (f : Shared) (x : Member) (next : ℕ) → clone_images f x next 0 ≡ []
 unfolding numbers_below
 none_yet f x next = refl
 
@@ -59,6 +59,20 @@ bug_in-clones f x next (suc many) m =
     ∙ ap (λ o. option_or o (bug_in (clone_image f x (next + many) ∷ []) m)) (bug_in-clones f x next many m)
     ∙ last (eqb (next + many) m) refl
   where
+    either : (t : Bool) → option_or (cond t (Some (copied f x m)) None) None ≡ cond t (Some (copied f x m)) None
+    either true = refl
+    either false = refl
+
+    same_new : (next + many ≡ m → ⊥) → is_new next many m ≡ is_new next (suc many) m
+    same_new other =
+        elim (is_new next (suc many) m) as (λ t. is_new next (suc many) m ≡ t → is_new next many m ≡ t) [
+          | true ↦ λ e. let p = new-parts next (suc many) m e in
+              new-from next many m p.0 (omega (arith, p.1, other))
+          | false ↦ λ e. false_from_ne_true (is_new next many m) (λ k.
+              let p = new-parts next many m k in
+              false≢true (sym e ∙ new-from next (suc many) m p.0 (omega (arith, p.1))))
+        ] refl
+
     last : (t : Bool) → eqb (next + many) m ≡ t
         → option_or (cond (is_new next many m) (Some (copied f x m)) None) (bug_in (clone_image f x (next + many) ∷ []) m)
         ≡ cond (is_new next (suc many) m) (Some (copied f x m)) None
@@ -74,20 +88,6 @@ bug_in-clones f x next (suc many) m =
         (option_or (option_map (bug_of (clone_image f x (next + many))) (cond (e j) (Some (record x { number = next + many })) None)) None))
         ∙ either (is_new next many m)
         ∙ ap (λ t. cond t (Some (copied f x m)) None) (same_new other)
-
-    either : (t : Bool) → option_or (cond t (Some (copied f x m)) None) None ≡ cond t (Some (copied f x m)) None
-    either true = refl
-    either false = refl
-
-    same_new : (next + many ≡ m → ⊥) → is_new next many m ≡ is_new next (suc many) m
-    same_new other =
-        elim (is_new next (suc many) m) as (λ t. is_new next (suc many) m ≡ t → is_new next many m ≡ t) [
-          | true ↦ λ e. let p = new-parts next (suc many) m e in
-              new-from next many m p.0 (omega (arith, p.1, other))
-          | false ↦ λ e. false_from_ne_true (is_new next many m) (λ k.
-              let p = new-parts next many m k in
-              false≢true (sym e ∙ new-from next (suc many) m p.0 (omega (arith, p.1))))
-        ] refl
 
 -- they are disjoint, and have a member each
 apart-clones : (f : Shared) (x : Member) (next many : ℕ) → AreApart (clone_images f x next many)
@@ -172,7 +172,7 @@ brings-clones f x many d is m b sound none h = cases (is_new d.next many m) refl
   where
     cases : (t : Bool) → is_new d.next many m ≡ t → d.bug m ≡ None
     cases true e = none-beyond d m sound (new-parts d.next many m e).0
-    cases false e = absurd (none-some b (sym (sym (shows-old f x d.next many is m e) ∙ none) ∙ h))
+    cases false e = absurd (none-some b (sym none ∙ sym (shows-old f x d.next many is m e) ∙ h))
 
 -- they cover whole sets
 whole-clones : (f : Shared) (x : Member) (many : ℕ) (d : Desk) (is : List SetImage) → IsSound d → AreSetsOf d is
@@ -282,7 +282,7 @@ clone-merged is next n ks i h r many =
 -- a bug by itself
 alone : (n : ℕ) (i : SetImage) → length i.members ≤ 1 → merged_refusal n (numbers_of i.members) ≡ None
 alone n i few =
-    ap (λ t. cond t (Some (Merged n)) None) (ap (nat_lt 1) (length-numbers i.members) ∙ le-ltb (length i.members) 1 few)
+    ap (λ t. cond t (Some (Merged n)) None) (ap (nat_lt 1) (length-numbers i.members) ∙ le-ltb 1 (length i.members) few)
 
 pub clone-full : (is : List SetImage) (next n : ℕ) (ks : List ℕ) (i : SetImage) → image_with is n ≡ Some i
     → archived_refusal false n i.shared ≡ None → length i.members ≤ 1 → nat_lt 1000000000 (next + length ks) ≡ true
@@ -298,6 +298,18 @@ own_member n y h = ap (λ t. cond t (Some y) None) (or_first (eqb y.number n) h)
     or_first : (t : Bool) → (t || false) ≡ true → t ≡ true
     or_first true e = refl
     or_first false e = e
+
+-- the only member of a list
+pub only_first : (ms : List Member) (y : Member) → slice_get ms 0 ≡ Some y → length ms ≤ 1 → ms ≡ y ∷ []
+only_first [] y h few = absurd (none-some y h)
+only_first (m ∷ []) y h few = ap (λ z. z ∷ []) (same_Some _ _ h)
+only_first (m ∷ k ∷ ms) y h few = absurd (omega (arith, few))
+
+-- an image in which a bug was found has a first member
+pub some_first : (is : List SetImage) (n : ℕ) (i : SetImage) → image_with is n ≡ Some i → (ms : List Member) → ms ≡ i.members
+    → slice_get ms 0 ≡ None → ⊥
+some_first is n i h [] e none = false≢true (ap (λ ms. has (numbers_of ms) n) e ∙ image_with-has is n i h)
+some_first is n i h (m ∷ ms) e none = none-some m (sym none)
 
 pub clone-done : (is : List SetImage) (next n : ℕ) (ks : List ℕ) (i : SetImage) (y : Member) → AreApart is
     → image_with is n ≡ Some i → archived_refusal false n i.shared ≡ None → i.members ≡ y ∷ []
@@ -340,7 +352,7 @@ clone-done is next n ks i y a h r only few change same last =
     steps d e k =
         steps-clone is next n ks i y there d e k
         ∙ (λ j. unless (option_or (r j) None) (unless (option_or (alone n i (omega (arith, ap (λ (ms : List Member). length ms) only)) j)
-        (option_or (cond (le-ltb (next + many) 1000000000 few j) (Some Full) None) None))
+        (option_or (cond (le-ltb 1000000000 (next + many) few j) (Some Full) None) None))
         (Ok (with_new_bugs d (clone_of (bug_of i y)) many))))
 
     moved : (d : Desk) → d.next ≡ next → AreSetsOf d is → put d new ≡ with_new_bugs d (clone_of (bug_of i y)) many

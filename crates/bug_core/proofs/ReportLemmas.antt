@@ -70,6 +70,11 @@ put-report d a p s t v next same =
     x : Member
     x = record { number = d.next; title = t; submitter = a }
 
+    no_other : (m : ℕ) → (d.next ≡ m → ⊥) → is_new d.next 1 m ≡ false
+    no_other m h = false_from_ne_true (is_new d.next 1 m) (λ e.
+        let p = new-parts d.next 1 m e in
+        h (omega (arith, p.0, p.1)))
+
     -- a number is that of the new bug, or is no new one
     at : (m : ℕ) → option_or
         (option_or (option_map (bug_of (image_of_report a p s t v d.next)) (cond (eqb d.next m) (Some x) None)) None) (d.bug m)
@@ -83,11 +88,6 @@ put-report d a p s t v next same =
               ∙ sym (ap (λ z. cond z (Some (new m)) (d.bug m)) (new-from d.next 1 m (omega (arith, same)) (omega (arith, same))))
           | false ↦ λ e. sym (ap (λ z. cond z (Some (new m)) (d.bug m)) (no_other m (eqb-false d.next m e)))
         ] refl
-
-    no_other : (m : ℕ) → (d.next ≡ m → ⊥) → is_new d.next 1 m ≡ false
-    no_other m h = false_from_ne_true (is_new d.next 1 m) (λ e.
-        let p = new-parts d.next 1 m e in
-        h (omega (arith, p.0, p.1)))
 
 -- It covers whole sets, as the new number is no bug's.
 whole-report : (d : Desk) (a p : List ℕ) (s : Severity) (t : List ℕ) (v : Option Node) → IsSound d
