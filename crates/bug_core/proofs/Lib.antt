@@ -10,4 +10,6 @@ pub mod NamedLemmas
 pub mod SharedLemmas
 pub mod MergeLemmas
 pub mod StepLemmas
+pub mod AddedLemmas
 pub mod ReportLemmas
+pub mod CloneLemmas

@@ -4,14 +4,13 @@ use Rattle.std.specs.Prelude.{filter}
 use Rattle.std.specs.List.{list_any}
 use Rattle.std.specs.Ordering.{nat_cmp}
 use Rattle.std.specs.BTreeMap.{is_at}
-use Rattle.bug_record.specs.Sets.{has, with_items, number_set}
+use Rattle.bug_record.specs.Sets.{has, number_set}
 use Rattle.bug_record.specs.Images.{numbers_of}
 use Rattle.bug_record.specs.declared.bug.Member.{Member}
 use Rattle.bug_record.specs.declared.bug.SetImage.{SetImage}
 use Rattle.bug_core.specs.Others.{is_any, has_any, is_meant, those_meant, others}
 use Rattle.bug_core.proofs.ListedLemmas.{same_test, any-from, any-of}
 use Rattle.bug_record.proofs.SetLemmas.{has-number_set}
-use Rattle.bug_record.proofs.NumberLemmas.{has-with_items}
 use Rattle.bug_record.proofs.OrderedLemmas.{has-key}
 
 -- the same numbers name the same images
@@ -44,11 +43,6 @@ any-member ms ks = over ms ∙ same_test (has_any ks (numbers_of ms)) (has_any (
     over : (ms : List Member) → list_any (λ m. list_any (is_at (nat_cmp m.number)) ks) ms ≡ has_any ks (numbers_of ms)
     over [] = refl
     over (m ∷ ms) = λ j. has-key ks m.number j || over ms j
-
--- the numbers of members, added one by one, are those of the members
-pub has-member_numbers : (ks : List ℕ) (ms : List Member) → ks ≡ with_items (λ k. k) [] (numbers_of ms) → (n : ℕ)
-    → has ks n ≡ has (numbers_of ms) n
-has-member_numbers ks ms e n = ap (λ z. has z n) e ∙ has-with_items (numbers_of ms) [] n
 
 -- the set of a list of numbers
 pub has-set : (ks ns : List ℕ) → ks ≡ number_set ns → (n : ℕ) → has ks n ≡ has ns n

@@ -27,8 +27,9 @@ use Rattle.bug_record.specs.declared.command.Refusal.TheVariants.{NoBug, Archive
 use Rattle.bug_record.specs.declared.command.Command.TheVariants as commands
 use Rattle.ancestry.specs.Nodes.{Node}
 use Rattle.bug_record.specs.Words.{archived_refusal}
-use Rattle.bug_core.specs.Refusals.{records_refusal}
+use Rattle.bug_refusals.specs.Refusals.{records_refusal}
 use Rattle.bug_core.specs.Others.{others}
+use Rattle.bug_refusals.proofs.RefusalLemmas.{shown-refusal}
 use Rattle.bug_core.specs.Planned.{HasName, IsPlanned, IsRecordsPlan, IsRefusedAs, IsRefusalOfPlan}
 use Rattle.set_images.proofs.ImageLemmas.{same_value, shown, image_with-shows, image_with-none}
 use Rattle.record_changes.proofs.FieldLemmas.{good-shared_after, good-new_title, good-new_submitter}
@@ -126,11 +127,6 @@ two-tests : {A : Type 0} (o p : Option Refusal) (result : Result A Refusal)
 two-tests None p result = refl
 two-tests (Some refusal) p result = refl
 
--- the refusal of a bug that the images show
-pub shown-refusal : (may_be : Bool) (is : List SetImage) (n : ℕ) (i : SetImage) → image_with is n ≡ Some i
-    → bug_refusal may_be (bug_in is n) n ≡ archived_refusal may_be n i.shared
-shown-refusal may_be is n i h = let b = image_with-shows is n i h in ap (λ (o : Option Bug). bug_refusal may_be o n) b.1
-
 -- by the refusal of the bugs that the images show
 steps-refusal : (head : Option Node) (sender : List ℕ) (command : Command ℕ) (is : List SetImage) (next : ℕ) (i : SetImage)
     (o : Option Refusal) → image_with is (bug_named command) ≡ Some i
@@ -204,6 +200,7 @@ tests-own (commands.Reassign n package_name version) head merged f = tt
 tests-own (commands.Merge n ns) head merged f = tt
 tests-own (commands.ForceMerge n ns) head merged f = tt
 tests-own (commands.Unmerge n) head merged f = tt
+tests-own (commands.Clone n ks) head merged f = tt
 tests-own (commands.Unblock n ns) head merged f = tt
 tests-own (commands.Forwarded n text) head merged f = tt
 tests-own (commands.NotForwarded n) head merged f = tt

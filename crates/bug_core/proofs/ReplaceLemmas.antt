@@ -34,7 +34,7 @@ pub record Makes (d : Desk) (is : List SetImage) (ns : List ℕ) (new : List Set
   pub elsewhere : (m : ℕ) (b : Bug) → d.bug m ≡ Some b → has_any b.merged ns ≡ false → f m b ≡ b
 
 -- two lists of images that have no bug in common
-apart-append : (xs ys : List SetImage) → AreApart xs → AreApart ys → ((m : ℕ) → (bug_in xs m ≡ None → ⊥) → bug_in ys m ≡ None)
+pub apart-append : (xs ys : List SetImage) → AreApart xs → AreApart ys → ((m : ℕ) → (bug_in xs m ≡ None → ⊥) → bug_in ys m ≡ None)
     → AreApart (xs ++ ys)
 apart-append [] ys a b h = b
 apart-append (x ∷ xs) ys a b h = (

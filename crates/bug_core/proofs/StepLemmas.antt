@@ -73,6 +73,7 @@ step-with d head sender (commands.Reassign n package_name version) h = refl
 step-with d head sender (commands.Merge n ns) h = refl
 step-with d head sender (commands.ForceMerge n ns) h = refl
 step-with d head sender (commands.Unmerge n) h = refl
+step-with d head sender (commands.Clone n ks) h = refl
 step-with d head sender (commands.Block n ns) h = refl
 step-with d head sender (commands.Unblock n ns) h = refl
 step-with d head sender (commands.Forwarded n text) h = refl
@@ -85,31 +86,33 @@ step-with d head sender (commands.Unarchive n) h = refl
 pub planned-others : (head : Option Node) (sender : List ℕ) (command : Command ℕ) (is : List SetImage) (next : ℕ)
     (result : Result Change PlanFault) → ((n : ℕ) (ns : List ℕ) → command ≡ commands.Merge n ns → ⊥)
     → ((n : ℕ) (ns : List ℕ) → command ≡ commands.ForceMerge n ns → ⊥) → ((n : ℕ) → command ≡ commands.Unmerge n → ⊥)
+    → ((n : ℕ) (ks : List ℕ) → command ≡ commands.Clone n ks → ⊥)
     → IsRecordsPlan head sender command is next result
     → IsPlanned (bugs_named command) (step_with head sender command) is next result
-planned-others head sender (commands.Merge n ns) is next result a b c h = absurd (a n ns refl)
-planned-others head sender (commands.ForceMerge n ns) is next result a b c h = absurd (b n ns refl)
-planned-others head sender (commands.Unmerge n) is next result a b c h = absurd (c n refl)
-planned-others head sender (commands.Block n ns) is next result a b c h =
+planned-others head sender (commands.Merge n ns) is next result a b c e h = absurd (a n ns refl)
+planned-others head sender (commands.ForceMerge n ns) is next result a b c e h = absurd (b n ns refl)
+planned-others head sender (commands.Unmerge n) is next result a b c e h = absurd (c n refl)
+planned-others head sender (commands.Clone n ks) is next result a b c e h = absurd (e n ks refl)
+planned-others head sender (commands.Block n ns) is next result a b c e h =
     subst (λ (ks : List ℕ). IsPlanned (n ∷ ns) (λ d. unless (words_refusal (λ n. Ok n) d.bug (commands.Block n ns))
     (records_changed (λ _. head) sender (commands.Block n ks) d)) is next result) (map-same ns) h
-planned-others head sender (commands.Unblock n ns) is next result a b c h =
+planned-others head sender (commands.Unblock n ns) is next result a b c e h =
     subst (λ (ks : List ℕ). IsPlanned (n ∷ ns) (λ d. unless (words_refusal (λ n. Ok n) d.bug (commands.Unblock n ns))
     (records_changed (λ _. head) sender (commands.Unblock n ks) d)) is next result) (map-same ns) h
-planned-others head sender (commands.Found n version) is next result a b c h = h
-planned-others head sender (commands.NotFound n version) is next result a b c h = h
-planned-others head sender (commands.Fixed n version) is next result a b c h = h
-planned-others head sender (commands.NotFixed n version) is next result a b c h = h
-planned-others head sender (commands.Close n version) is next result a b c h = h
-planned-others head sender (commands.Reopen n who) is next result a b c h = h
-planned-others head sender (commands.Severity n severity) is next result a b c h = h
-planned-others head sender (commands.Tags n steps) is next result a b c h = h
-planned-others head sender (commands.Retitle n text) is next result a b c h = h
-planned-others head sender (commands.Submitter n who) is next result a b c h = h
-planned-others head sender (commands.Reassign n package_name version) is next result a b c h = h
-planned-others head sender (commands.Forwarded n text) is next result a b c h = h
-planned-others head sender (commands.NotForwarded n) is next result a b c h = h
-planned-others head sender (commands.Owner n who) is next result a b c h = h
-planned-others head sender (commands.NoOwner n) is next result a b c h = h
-planned-others head sender (commands.Archive n) is next result a b c h = h
-planned-others head sender (commands.Unarchive n) is next result a b c h = h
+planned-others head sender (commands.Found n version) is next result a b c e h = h
+planned-others head sender (commands.NotFound n version) is next result a b c e h = h
+planned-others head sender (commands.Fixed n version) is next result a b c e h = h
+planned-others head sender (commands.NotFixed n version) is next result a b c e h = h
+planned-others head sender (commands.Close n version) is next result a b c e h = h
+planned-others head sender (commands.Reopen n who) is next result a b c e h = h
+planned-others head sender (commands.Severity n severity) is next result a b c e h = h
+planned-others head sender (commands.Tags n steps) is next result a b c e h = h
+planned-others head sender (commands.Retitle n text) is next result a b c e h = h
+planned-others head sender (commands.Submitter n who) is next result a b c e h = h
+planned-others head sender (commands.Reassign n package_name version) is next result a b c e h = h
+planned-others head sender (commands.Forwarded n text) is next result a b c e h = h
+planned-others head sender (commands.NotForwarded n) is next result a b c e h = h
+planned-others head sender (commands.Owner n who) is next result a b c e h = h
+planned-others head sender (commands.NoOwner n) is next result a b c e h = h
+planned-others head sender (commands.Archive n) is next result a b c e h = h
+planned-others head sender (commands.Unarchive n) is next result a b c e h = h

@@ -1,8 +1,8 @@
 pub mod Planned
 -- definitions that only private functions cite
-pub mod Refusals
 pub mod Others
 pub mod Named
 pub mod Agreements
 pub mod Joins
 pub mod Reports
+pub mod Clones

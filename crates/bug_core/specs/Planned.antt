@@ -1,5 +1,5 @@
 -- What is promised of the plan of each command.
-use Rattle.std.specs.Prelude.{ℕ, ◌≡◌, ◌≤◌, false, List, Option, Result, Ok, Err, IfOk, IfErr, ⊤}
+use Rattle.std.specs.Prelude.{ℕ, ◌≡◌, ◌≤◌, false, List, Option, None, Result, Ok, Err, IfOk, IfErr, ⊤}
 use Rattle.debver.specs.Names.{IsName}
 use Rattle.bug_record.specs.Sets.{Each}
 use Rattle.bug_record.specs.Desk.{Desk, IsSound}
@@ -18,7 +18,7 @@ use Rattle.bug_record.specs.declared.command.PlanFault.TheVariants.{Refused, Mem
 use Rattle.bug_record.specs.declared.command.Refusal.{Refusal}
 use Rattle.bug_record.specs.declared.command.Refusal.TheVariants.{Unknown, Malformed, TooLong, BadSeverity, BadTag, BadVersion}
 use Rattle.bug_record.specs.declared.command.Refusal.TheVariants.{BadPackage, NoName, NoBug, Archived, NotArchived, Differ}
-use Rattle.bug_record.specs.declared.command.Refusal.TheVariants.{NotMerged, OwnSet, NotDone, StillFound}
+use Rattle.bug_record.specs.declared.command.Refusal.TheVariants.{NotMerged, Merged, NameTaken, OwnSet, NotDone, StillFound, Full}
 
 -- The answer is a refusal exactly where the step is one, and the same; out of memory is always
 -- allowed.
@@ -32,17 +32,19 @@ IsRefusedAs (Err r) (Err Memory) = Unit {0}
 
 -- The refusals of a plan: a bug is not there, is archived and may not be, or is to be taken out of
 -- the archive and is not in it; one that is to be merged differs; one is merged with no other; one
--- that is to block another is in that one's set; or one that is to be archived is open, or still
--- found.
+-- that is to be copied is merged with another; one that is to block another is in that one's set;
+-- one that is to be archived is open, or still found; or too few numbers are left.
 abbrev pub IsRefusalOfPlan : Refusal → Type 0
 IsRefusalOfPlan (NoBug n) = ⊤
 IsRefusalOfPlan (Archived n) = ⊤
 IsRefusalOfPlan (NotArchived n) = ⊤
 IsRefusalOfPlan (Differ field n) = ⊤
 IsRefusalOfPlan (NotMerged n) = ⊤
+IsRefusalOfPlan (Merged n) = ⊤
 IsRefusalOfPlan (OwnSet n) = ⊤
 IsRefusalOfPlan (NotDone n) = ⊤
 IsRefusalOfPlan (StillFound node) = ⊤
+IsRefusalOfPlan Full = ⊤
 IsRefusalOfPlan Unknown = ⊥
 IsRefusalOfPlan Malformed = ⊥
 IsRefusalOfPlan TooLong = ⊥
@@ -51,6 +53,7 @@ IsRefusalOfPlan BadTag = ⊥
 IsRefusalOfPlan BadVersion = ⊥
 IsRefusalOfPlan BadPackage = ⊥
 IsRefusalOfPlan (NoName k) = ⊥
+IsRefusalOfPlan (NameTaken k) = ⊥
 
 abbrev pub IsFaultOfPlan : PlanFault → Type 0
 IsFaultOfPlan Memory = ⊤
@@ -77,9 +80,10 @@ pub record IsPlanned (named : List ℕ) (after : Desk → Result Desk Refusal) (
   pub covers : IfOk result (λ change. CoverImages images change.images)
   pub later : IfOk result (λ change. next ≤ change.next)
 
--- the step of a command over numbers, of whose bug this is the open head
+-- the step of a command over numbers, none of whose names is refused, and of whose bug this is the
+-- open head
 abbrev pub step_with : Option Node → List ℕ → Command ℕ → Desk → Result Desk Refusal
-step_with head sender command d = step_by (λ n. Ok n) (λ _. head) d sender command
+step_with head sender command d = step_by (λ n. Ok n) (λ ks. None) (λ _. head) d sender command
 
 -- What is planned for a command that comes to this where all of these bugs are there, and none is
 -- archived.

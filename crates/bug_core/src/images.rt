@@ -3,10 +3,9 @@
 ghost use Rattle.std.specs.Prelude.{◌≡◌, [], ◌∷◌, ◌++◌, IfOk, OnOk};
 ghost use Rattle.bug_record.specs.Images.{numbers_of};
 ghost use Rattle.bug_core.specs.Others.{has_any, is_other, others};
-ghost use Rattle.bug_record.specs.Sets.{with_items};
 ghost use Rattle.bug_core.specs.Named.{named_numbers};
 
-use bug_record::{Change, Member, Sequence, SetImage, add_number};
+use bug_record::{Change, Member, Sequence, SetImage};
 use std::alloc::{AllocError, Global};
 use std::collections::BTreeSet;
 
@@ -15,17 +14,6 @@ use std::collections::BTreeSet;
 pub(crate) enum Named<'a> {
     One(u64),
     Several(&'a BTreeSet<u64>),
-}
-
-/// The numbers of the members.
-pub(crate) fn member_numbers(alloc: Global, members: &[Member]) -> Result<BTreeSet<u64>, AllocError>
-    ensures { IfOk result (λ set. set.keys ≡ with_items (λ n. n) [] (numbers_of members.now)) }
-{
-    let mut set = BTreeSet::new(alloc);
-    for member in members {
-        add_number(&mut set, member.number)?;
-    }
-    Ok(set)
 }
 
 // Whether one of the members has one of the numbers.

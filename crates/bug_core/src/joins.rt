@@ -14,11 +14,11 @@ ghost use Rattle.bug_record.specs.Marks.{with_node};
 ghost use Rattle.bug_core.specs.Others.{those_meant};
 ghost use Rattle.bug_core.specs.Named.{named_numbers};
 
-use crate::images::{Named, has_any, member_numbers};
+use crate::images::{Named, has_any};
 use ancestry::Node;
 use bug_record::{Member, Members, Nodes, Sequence, SetImage, Shared, Tag, Tags, add_numbers};
 use debver::Text;
-use set_images::Index;
+use set_images::{Index, member_numbers};
 use std::alloc::{AllocError, Global};
 use std::collections::{BTreeMap, BTreeSet};
 use std::marker::Model;

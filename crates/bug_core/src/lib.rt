@@ -3,12 +3,11 @@
 //! The values and definitions are those of `bug_record`, whose names stand here too.
 #![tactic(auto)]
 
+mod clones;
 mod images;
 mod joins;
 mod merges;
-mod named;
 mod plans;
-mod refusals;
 mod report;
 mod unmerge;
 
@@ -16,7 +15,7 @@ pub use bug_record::{
     Bug, Change, Command, Field, Member, Members, Nodes, Numbered, Numbers, PlanFault, Refusal,
     Sequence, SetImage, Severity, Shared, Tag, TagStep, Tags, VersionArg, Who, is_text,
 };
-pub use named::{bug_named, other_bugs};
+pub use bug_refusals::{bug_named, other_bugs};
 pub use plans::plan;
 pub use report::report_change;
 pub use set_images::{changed, changed_numbers_differ, find_image};

@@ -12,16 +12,16 @@ ghost use Rattle.bug_record.specs.Plans.{AllKnown, IsShownBy, IsOpenHeadFor, IsP
 ghost use Rattle.std.specs.Option.{option_copied};
 ghost use Rattle.record_changes.specs.Members.{member_after};
 ghost use Rattle.bug_core.specs.Others.{others};
-ghost use Rattle.bug_core.specs.Refusals.{records_refusal};
+ghost use Rattle.bug_refusals.specs.Refusals.{records_refusal};
 ghost use Rattle.bug_core.specs.Planned.{step_with, HasName, IsRefusedAs, IsFaultOfPlan, IsPlanned, IsRecordsPlan};
 
+use crate::clones::plan_clone;
 use crate::images::{Named, replace_by_one};
 use crate::merges::{Agreement, plan_merge};
-use crate::named::bug_named;
-use crate::refusals::records_refusal;
 use crate::unmerge::plan_unmerge;
 use ancestry::Node;
 use bug_record::{Change, Command, PlanFault, Refusal, SetImage, Shared};
+use bug_refusals::{bug_named, records_refusal};
 use record_changes::{members_with, shared_after};
 use set_images::find_image;
 use std::alloc::{AllocError, Global};
@@ -129,6 +129,9 @@ fn plan_command(
             plan_merge(alloc, package, *number, others.as_slice(), images, next)
         }
         Command::Unmerge(number) => plan_unmerge(alloc, *number, images, next),
+        Command::Clone(number, names) => {
+            plan_clone(alloc, *number, names.as_slice(), images, next)
+        }
         _ => plan_records(alloc, command, from, images, next, open_head),
     }
 }
@@ -153,9 +156,12 @@ fn plan_command(
 /// Then `Refused(NotArchived(n))` where a bug is to be taken out of the archive and is not in it;
 /// `Refused(Differ(field, n))` where the bug n is to be merged and differs from the first one in a
 /// field that has to be equal; `Refused(NotMerged(n))` where a bug is to be taken out of its set
-/// and is merged with no other; `Refused(OwnSet(n))` where the bug n is to block a bug of its own
-/// set; `Refused(NotDone(n))` where a bug is to be archived and is open, and else
-/// `Refused(StillFound(node))` where there is an open head.
+/// and is merged with no other; `Refused(Merged(n))` where a bug is to be copied and is merged with
+/// another; `Refused(OwnSet(n))` where the bug n is to block a bug of its own set;
+/// `Refused(NotDone(n))` where a bug is to be archived and is open, and else
+/// `Refused(StillFound(node))` where there is an open head; and `Refused(Full)` where fewer numbers
+/// are left than a `clone` has names, the last number being 999,999,999.
+/// Whether those names may be given is not looked at.
 /// There is no other refusal: where the command has a version for an image whose package is no
 /// package name, as no desk shows one, it is `Refused(NoBug(n))` of the bug named.
 /// `Memory` where there was none.

@@ -7,8 +7,8 @@ ghost use Rattle.bug_core.specs.Joins.{is_part};
 ghost use Rattle.bug_core.specs.Planned.{IsPlannedOf};
 
 use crate::images::{Named, replace};
-use crate::refusals::archived_refusal;
 use bug_record::{Change, Member, Members, PlanFault, Refusal, Sequence, SetImage, Shared};
+use bug_refusals::archived_refusal;
 use set_images::find_image;
 use std::alloc::{AllocError, Global};
 

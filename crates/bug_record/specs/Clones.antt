@@ -11,7 +11,8 @@ use Rattle.bug_record.specs.declared.bug.Bug.{Bug}
 use Rattle.bug_record.specs.declared.command.Refusal.{Refusal}
 use Rattle.bug_record.specs.declared.command.Refusal.TheVariants.{Merged, NameTaken, Full}
 
--- whether the name -k can't be given among these: it is known, or stands twice there
+-- whether the name -k, of these names of a line, can't be given: it is known, or stands twice among
+-- them
 abbrev pub is_taken : Names → List ℕ → ℕ → Bool
 is_taken names ks k = is_some (number_of_name names k) || nat_lt 1 (count_by (λ j. j == k) ks)
 
@@ -19,7 +20,7 @@ is_taken names ks k = is_some (number_of_name names k) || nat_lt 1 (count_by (λ
 abbrev pub name_refusal : Names → List ℕ → Option Refusal
 name_refusal names ks = option_map NameTaken (find (is_taken names ks) ks)
 
--- the refusal of the bug n, which is merged with these bugs: there is another among them
+-- the refusal of the bug n where there is another among the bugs merged with it
 abbrev pub merged_refusal : ℕ → List ℕ → Option Refusal
 merged_refusal n merged = if nat_lt 1 (length merged) then Some (Merged n) else None
 

@@ -79,8 +79,9 @@ pub enum Command<N> {
     ForceMerge(N, Sequence<N>),
     /// `unmerge n`: takes the bug out of its set. The others stay together.
     Unmerge(N),
-    /// `clone n -1 ..`: a copy of the bug, merged with no other, for each of these names.
-    /// The copies are numbered upward in the order written.
+    /// `clone n -1 ..`: one new bug for each of these names, which are numbered upward in the order
+    /// written, each a copy of the bug, which may be merged with no other. The name -k is given as
+    /// k.
     Clone(N, Sequence<u32>),
     /// `block n by m ..`: the bug waits on these bugs too.
     Block(N, Sequence<N>),
@@ -191,7 +192,7 @@ pub enum Refusal {
     NotMerged(u64),
     /// The bug that is to be copied is merged with another.
     Merged(u64),
-    /// The name -k is known already, or stands twice in the line.
+    /// The name -k is known already, or stands more than once in the line.
     NameTaken(u64),
     /// The bug that is to block another is merged with it, or is that bug.
     OwnSet(u64),

@@ -26,7 +26,7 @@ abbrev pub Entry : Type 0
 Entry = List ℕ × Outcome
 
 -- the names that a line which reads so gives, each with its number: those of an accepted `clone`,
--- whose changed numbers are those of the copies
+-- whose changed numbers are those of the copies, in the order of the names
 abbrev pub names_with : Result Line Refusal → Outcome → Names
 names_with (Ok (Do command)) (Changed numbers) = zip (names_in command) numbers
 names_with read outcome = []

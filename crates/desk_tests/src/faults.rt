@@ -46,6 +46,21 @@ const BEFORE: [(u64, &str); 16] = [
     ),
 ];
 
+// A report, two clones with names, and a command for one of them: eight calls of the store.
+const CLONES: &str = "@report foo 1 normal a\nclone 1 -1 -2\nretitle -2 b\n";
+
+// What is written of it where a call fails, before the line of the fault.
+const BEFORE_IN_CLONES: [(u64, &str); 8] = [
+    (1, ""),
+    (2, ""),
+    (3, "OK 1\n> clone 1 -1 -2\n"),
+    (4, "OK 1\n> clone 1 -1 -2\n"),
+    (5, "OK 1\n> clone 1 -1 -2\n"),
+    (6, "OK 1\n> clone 1 -1 -2\nOK 2 3\n> retitle -2 b\n"),
+    (7, "OK 1\n> clone 1 -1 -2\nOK 2 3\n> retitle -2 b\n"),
+    (8, "OK 1\n> clone 1 -1 -2\nOK 2 3\n> retitle -2 b\n"),
+];
+
 const FAULTS: [(StoreFault, &str); 4] = [
     (StoreFault::Memory, "Store fault: memory.\n"),
     (StoreFault::Device, "Store fault: device.\n"),
@@ -53,11 +68,18 @@ const FAULTS: [(StoreFault, &str); 4] = [
     (StoreFault::Foreign, "Store fault: foreign.\n"),
 ];
 
-// Whether the script ends with this fault where it is the answer to this call of the store, which
-// is the last one, and writes this text and then the fault's line.
-fn ends_so(alloc: Global, at: u64, fault: StoreFault, before: &str, line: &str) -> bool {
+// Whether a script ends with this fault where it is the answer to this call of the store, which is
+// the last one, and writes this text and then the fault's line.
+fn ends_so(
+    alloc: Global,
+    script: &str,
+    at: u64,
+    fault: StoreFault,
+    before: &str,
+    line: &str,
+) -> bool {
     let mut store = Fails::new(PlainDesk::new(alloc, 1), at, fault);
-    let mut reader = SCRIPT.as_bytes();
+    let mut reader = script.as_bytes();
     let mut writer = Vec::new(alloc);
     let end = run_script(alloc, &mut store, &mut reader, &mut writer);
     end == Err(ScriptFault::Store(fault))
@@ -70,7 +92,23 @@ fn a_fault_of_the_store_ends_the_script_as_that_fault(rt: HostRuntime) {
     let alloc = rt.alloc();
     for (fault, line) in FAULTS {
         for (at, before) in BEFORE {
-            assert!(rt; ends_so(alloc, at, fault, before, line), "{at} {line}");
+            assert!(rt;
+                ends_so(alloc, SCRIPT, at, fault, before, line),
+                "{at} {line}"
+            );
+        }
+    }
+}
+
+#[test]
+fn a_fault_of_the_store_at_a_clone_ends_the_script_as_that_fault(rt: HostRuntime) {
+    let alloc = rt.alloc();
+    for (fault, line) in FAULTS {
+        for (at, before) in BEFORE_IN_CLONES {
+            assert!(rt;
+                ends_so(alloc, CLONES, at, fault, before, line),
+                "{at} {line}"
+            );
         }
     }
 }
@@ -83,4 +121,14 @@ fn a_script_whose_store_does_not_fail_makes_sixteen_calls(rt: HostRuntime) {
     let written = "OK 1\nOK 2\n> merge 1 2\nOK 1 2\n> close 1\nOK 1 2\n> archive 1\nOK 1 2\nOK\n";
     assert!(rt; writes(alloc, &mut store, SCRIPT.as_bytes(), end, written));
     assert!(rt; store.calls() == 16);
+}
+
+#[test]
+fn a_script_of_clones_whose_store_does_not_fail_makes_eight_calls(rt: HostRuntime) {
+    let alloc = rt.alloc();
+    let mut store = Fails::new(PlainDesk::new(alloc, 1), 9, StoreFault::Device);
+    let end = Ok(ScriptEnd::Accepted);
+    let written = "OK 1\n> clone 1 -1 -2\nOK 2 3\n> retitle -2 b\nOK 3\n";
+    assert!(rt; writes(alloc, &mut store, CLONES.as_bytes(), end, written));
+    assert!(rt; store.calls() == 8);
 }

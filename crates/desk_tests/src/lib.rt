@@ -1,8 +1,10 @@
 //! Tests of what data can't show: readers and writers in pieces and failing, stores that fail, what
-//! a set holds, which bugs wait on another one, the plan of a merge as a call, and calls that no
-//! program makes.
+//! a set and a clone hold, which bugs wait on another one, the plan of a merge as a call, and calls
+//! that no program makes.
 #![tactic(auto)]
 
+#[cfg(test)]
+mod clones;
 #[cfg(test)]
 mod commands;
 #[cfg(test)]

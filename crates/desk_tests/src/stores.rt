@@ -68,6 +68,16 @@ fn a_report_at_which_the_store_fails_adds_no_bug(rt: HostRuntime) {
 }
 
 #[test]
+fn a_clone_at_which_the_store_fails_adds_no_bug(rt: HostRuntime) {
+    let script = "close 3\nclone 1 -1 -2\nretitle -1 x\n";
+    let answers = "> close 3\nOK 3\n> clone 1 -1 -2\nStore fault: device.\n";
+    let next = "close 3\nretitle 4 x\nretitle -1 x\nclone 1 -1 -2\n";
+    let next_answers = "> close 3\nOK, no change.\n> retitle 4 x\nNO no such bug 4\n\
+        > retitle -1 x\nNO no such name -1\n> clone 1 -1 -2\nOK 4 5\n";
+    assert!(rt; fails_so(rt.alloc(), script, answers, next, next_answers));
+}
+
+#[test]
 fn a_branch_at_which_the_store_fails_is_not_taken(rt: HostRuntime) {
     let script = "@branch foo/2 foo/1\n@branch foo/3 foo/2\n@branch foo/4 foo/3\n";
     let answers = "OK\nStore fault: device.\n";
@@ -104,9 +114,9 @@ fn no_change_fails_where_none_is_to(rt: HostRuntime) {
     assert!(rt; store.faults() == 0);
 }
 
-// Whether the store has the bug.
-fn is_there(desk: &mut PlainDesk, number: u64) -> Result<bool, StoreFault> {
-    Ok(desk.set_of(number)?.is_some())
+/// Whether the store has the bug.
+pub(crate) fn is_there<S: Records>(store: &mut S, number: u64) -> Result<bool, StoreFault> {
+    Ok(store.set_of(number)?.is_some())
 }
 
 #[test]
@@ -122,8 +132,8 @@ fn the_next_number_and_unknown_bugs(rt: HostRuntime) {
     assert!(rt; desk.faults() == 0);
 }
 
-// Whether the nodes are these, each by its source and its version, in this order.
-fn nodes_are(nodes: &Nodes, texts: &[(&str, &str)]) -> bool {
+/// Whether the nodes are these, each by its source and its version, in this order.
+pub(crate) fn nodes_are(nodes: &Nodes, texts: &[(&str, &str)]) -> bool {
     if nodes.as_slice().len() != texts.len() {
         return false;
     }
@@ -135,8 +145,8 @@ fn nodes_are(nodes: &Nodes, texts: &[(&str, &str)]) -> bool {
     true
 }
 
-// Whether the members are these, each by its number, title and submitter.
-fn members_are(image: &SetImage, texts: &[(u64, &str, &str)]) -> bool {
+/// Whether the members are these, each by its number, title and submitter.
+pub(crate) fn members_are(image: &SetImage, texts: &[(u64, &str, &str)]) -> bool {
     if image.members.as_slice().len() != texts.len() {
         return false;
     }

@@ -66,6 +66,19 @@ fn each_bug_of_a_set_waits_archived_or_not(rt: HostRuntime) {
 }
 
 #[test]
+fn a_clone_waits_on_the_blockers_of_its_bug(rt: HostRuntime) {
+    let alloc = rt.alloc();
+    let mut desk = PlainDesk::new(alloc, 1);
+    written(alloc, &mut desk, REPORTS);
+    written(alloc, &mut desk, "block 1 by 2\nclone 1 -1\n");
+    assert!(rt; are_waiting(&mut desk, 2, &[1, 4]) && are_blockers(&mut desk, 4, &[2]));
+    written(alloc, &mut desk, "clone 2 -2\nblock -2 by 2\n");
+    assert!(rt; are_waiting(&mut desk, 2, &[1, 4, 5]) && are_waiting(&mut desk, 5, &[]));
+    written(alloc, &mut desk, "unblock 1 by 2\n");
+    assert!(rt; are_waiting(&mut desk, 2, &[4, 5]) && are_blockers(&mut desk, 1, &[]));
+}
+
+#[test]
 fn stores_that_fail_hand_the_question_on(rt: HostRuntime) {
     let alloc = rt.alloc();
     let mut store = FailAt::new(waiting_pair(alloc), 1);

@@ -123,6 +123,7 @@ good-blockers_after d sender (commands.Submitter n who) head merged f h words te
 good-blockers_after d sender (commands.Merge n ns) head merged f h words tests = h
 good-blockers_after d sender (commands.ForceMerge n ns) head merged f h words tests = h
 good-blockers_after d sender (commands.Unmerge n) head merged f h words tests = h
+good-blockers_after d sender (commands.Clone n ks) head merged f h words tests = h
 good-blockers_after d sender (commands.Forwarded n text) head merged f h words tests = h
 good-blockers_after d sender (commands.NotForwarded n) head merged f h words tests = h
 good-blockers_after d sender (commands.Owner n who) head merged f h words tests = h

@@ -191,6 +191,7 @@ good-shared_after sender (commands.Reassign n package_name version) text good ut
 good-shared_after sender (commands.Merge n ns) text good utf8 f h = h
 good-shared_after sender (commands.ForceMerge n ns) text good utf8 f h = h
 good-shared_after sender (commands.Unmerge n) text good utf8 f h = h
+good-shared_after sender (commands.Clone n ks) text good utf8 f h = h
 good-shared_after sender (commands.Block n ns) text good utf8 f h = good-blockers (number_set (f.blockers ++ ns)) f h
 good-shared_after sender (commands.Unblock n ns) text good utf8 f h = good-blockers (filter (λ m. not (has ns m)) f.blockers) f h
 good-shared_after sender (commands.Forwarded n address) text good utf8 f h = good-forwarded (Some address) f (good, utf8) h
@@ -218,6 +219,7 @@ good-new_title (commands.Reassign n package_name version) good utf8 m = tt
 good-new_title (commands.Merge n ns) good utf8 m = tt
 good-new_title (commands.ForceMerge n ns) good utf8 m = tt
 good-new_title (commands.Unmerge n) good utf8 m = tt
+good-new_title (commands.Clone n ks) good utf8 m = tt
 good-new_title (commands.Block n ns) good utf8 m = tt
 good-new_title (commands.Unblock n ns) good utf8 m = tt
 good-new_title (commands.Forwarded n address) good utf8 m = tt
@@ -248,6 +250,7 @@ good-new_submitter sender (commands.Reassign n package_name version) h good utf8
 good-new_submitter sender (commands.Merge n ns) h good utf8 f m = tt
 good-new_submitter sender (commands.ForceMerge n ns) h good utf8 f m = tt
 good-new_submitter sender (commands.Unmerge n) h good utf8 f m = tt
+good-new_submitter sender (commands.Clone n ks) h good utf8 f m = tt
 good-new_submitter sender (commands.Block n ns) h good utf8 f m = tt
 good-new_submitter sender (commands.Unblock n ns) h good utf8 f m = tt
 good-new_submitter sender (commands.Forwarded n address) h good utf8 f m = tt

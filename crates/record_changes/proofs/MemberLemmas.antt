@@ -27,6 +27,7 @@ unchanged sender (commands.Reassign n package_name version) f h m = refl
 unchanged sender (commands.Merge n ns) f h m = refl
 unchanged sender (commands.ForceMerge n ns) f h m = refl
 unchanged sender (commands.Unmerge n) f h m = refl
+unchanged sender (commands.Clone n ks) f h m = refl
 unchanged sender (commands.Block n ns) f h m = refl
 unchanged sender (commands.Unblock n ns) f h m = refl
 unchanged sender (commands.Forwarded n text) f h m = refl

@@ -32,6 +32,7 @@ changes_members (commands.Reassign n package_name version) f = false
 changes_members (commands.Merge n ns) f = false
 changes_members (commands.ForceMerge n ns) f = false
 changes_members (commands.Unmerge n) f = false
+changes_members (commands.Clone n ks) f = false
 changes_members (commands.Block n ns) f = false
 changes_members (commands.Unblock n ns) f = false
 changes_members (commands.Forwarded n text) f = false

@@ -232,7 +232,8 @@ fn change(
         | Command::Submitter(_, _)
         | Command::Merge(_, _)
         | Command::ForceMerge(_, _)
-        | Command::Unmerge(_) => {}
+        | Command::Unmerge(_)
+        | Command::Clone(_, _) => {}
     }
     Ok(())
 }
@@ -240,8 +241,8 @@ fn change(
 /// The shared fields of a set of merged bugs after a command of the sender `from`, where those
 /// before it are `old` (the BTS page 'control and manipulation'). Whether the set has the bug that
 /// the command names is not looked at. `retitle` and `submitter` leave the shared fields as they
-/// were, and so do `merge`, `forcemerge` and `unmerge`: what a merge makes of them is not told by
-/// one set alone. The command's versions, package names and texts are within their limits.
+/// were, and so do `merge`, `forcemerge`, `unmerge` and `clone`: what a merge makes of them is not
+/// told by one set alone. The command's versions, package names and texts are within their limits.
 ///
 /// # Errors
 ///

@@ -171,7 +171,7 @@ same_at-true None (Some b) e = absurd (false≢true e)
 same_at-true (Some a) None e = absurd (false≢true e)
 same_at-true (Some a) (Some b) e = ap Some (same_bugs-true a b e)
 
-same_at-refl : (o : Option Bug) → same_at o o ≡ true
+pub same_at-refl : (o : Option Bug) → same_at o o ≡ true
 same_at-refl None = refl
 same_at-refl (Some a) = same_bugs-refl a
 
@@ -242,7 +242,7 @@ changed-on_desk d old new next r h are = record {
         absurd (w (e ∙ sym (shown d old h.sets n a e) ∙ k ∙ ap (λ o. option_or o (d.bug n)) q ∙ sym q))
 
 -- a sound desk has no bug from the next number on
-none-from_next : (d : Desk) → IsSound d → (n k : ℕ) → d.next ≤ k → nat_lt n k ≡ false → d.bug n ≡ None
+pub none-from_next : (d : Desk) → IsSound d → (n k : ℕ) → d.next ≤ k → nat_lt n k ≡ false → d.bug n ≡ None
 none-from_next d sound n k l h = cases (d.bug n) refl
   where
     cases : (o : Option Bug) → d.bug n ≡ o → d.bug n ≡ None

@@ -13,6 +13,6 @@ mod parted;
 
 pub use changes::changed;
 pub use equal::same_text;
-pub use images::find_image;
+pub use images::{find_image, member_numbers};
 pub use index::Index;
-pub use laws::changed_numbers_differ;
+pub use laws::{changed_numbers_differ, new_bugs_are_changed};

@@ -6,13 +6,13 @@ use Rattle.bug_record.specs.Images.{numbers_of}
 use Rattle.bug_record.specs.declared.bug.Member.{Member}
 use Rattle.bug_record.specs.declared.bug.Shared.{Shared}
 use Rattle.bug_core.specs.Joins.{without_own}
-use Rattle.bug_core.proofs.NamedLemmas.{has-member_numbers}
+use Rattle.bug_core.proofs.NamedLemmas.{has-set}
 use Rattle.bug_core.proofs.joins.drop_own.Goals as goal
 
 pub returns : goal.returns
 returns c = λ j. record c.args.shared.now {
   blockers = (c.remove_set.ensures
-      ∙ (λ k. filter (λ n. not (has-member_numbers c.in_ok-own.own.keys c.args.members.now c.in_ok-own.ensures n k))
+      ∙ (λ k. filter (λ n. not (has-set c.in_ok-own.own.keys (numbers_of c.args.members.now) c.in_ok-own.ensures n k))
       c.args.shared.now.blockers)) j;
 }
 

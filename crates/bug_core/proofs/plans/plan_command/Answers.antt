@@ -1,7 +1,8 @@
-use Rattle.std.proofs.Common.{ℕ, List, ◌∷◌, sym, subst}
+use Rattle.std.proofs.Common.{ℕ, List, [], ◌∷◌, None, sym, subst}
 use Rattle.bug_record.specs.Commands.{bugs_named}
 use Rattle.bug_record.specs.Differences.{first_difference, package_difference}
 use Rattle.bug_record.specs.Merges.{sets_joined}
+use Rattle.bug_record.specs.Clones.{cloned}
 use Rattle.std.specs.Option.{option_copied}
 use Rattle.bug_record.specs.declared.command.Command.{Command}
 use Rattle.bug_core.specs.Planned.{step_with, IsPlanned, IsPlannedOf}
@@ -26,7 +27,15 @@ returns-in-ForceMerge c =
     (λ d. sets_joined package_difference d c.in-ForceMerge.number ns) c.args.images.now c.args.next
     c.plan_merge-in-ForceMerge.result) c.as_slice-in-ForceMerge.ensures c.plan_merge-in-ForceMerge.ensures))
 
+pub returns-in-Clone : goal.returns-in-Clone
+returns-in-Clone c =
+    subst (λ (command : Command ℕ). IsPlanned (bugs_named command)
+    (step_with (option_copied c.args.open_head) c.args.from.now command) c.args.images.now c.args.next c.plan_clone.result) (sym c.in-Clone.is)
+    (subst (λ (ks : List ℕ). IsPlannedOf (c.in-Clone.number ∷ []) (λ d. cloned (λ _. None) d c.in-Clone.number ks) c.args.images.now
+    c.args.next c.plan_clone.result) c.as_slice-in-Clone.ensures c.plan_clone.ensures)
+
 pub returns-in_default : goal.returns-in_default
 returns-in_default c =
     planned-others (option_copied c.args.open_head) c.args.from.now c.args.command.now c.args.images.now c.args.next
-    c.plan_records.result c.in_default.not-Merge c.in_default.not-ForceMerge c.in_default.not-Unmerge c.plan_records.ensures
+    c.plan_records.result c.in_default.not-Merge c.in_default.not-ForceMerge c.in_default.not-Unmerge c.in_default.not-Clone
+    c.plan_records.ensures

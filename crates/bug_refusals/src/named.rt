@@ -25,6 +25,7 @@ pub fn bug_named(command: &Command<u64>) -> u64
         | Command::Merge(number, _)
         | Command::ForceMerge(number, _)
         | Command::Unmerge(number)
+        | Command::Clone(number, _)
         | Command::Block(number, _)
         | Command::Unblock(number, _)
         | Command::Forwarded(number, _)

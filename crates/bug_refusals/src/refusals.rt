@@ -9,18 +9,17 @@ ghost use Rattle.bug_record.specs.Images.{numbers_of, bug_in, image_with};
 ghost use Rattle.bug_record.specs.Sets.{has};
 ghost use Rattle.bug_record.specs.Steps.{own_tests};
 ghost use Rattle.bug_record.specs.Words.{archived_refusal, bug_refusal, first_bug_refusal, others_may_be_archived};
-ghost use Rattle.bug_core.specs.Refusals.{records_refusal};
+ghost use Rattle.bug_refusals.specs.Refusals.{records_refusal};
 
-use crate::images::member_numbers;
 use crate::named::{bug_named, first_may_be_archived, other_bugs, others_may_be_archived};
 use ancestry::Node;
 use bug_record::{Command, Refusal, SetImage, Shared};
-use set_images::Index;
+use set_images::{Index, member_numbers};
 use std::alloc::{AllocError, Global};
 use std::collections::BTreeSet;
 
 /// The refusal of a bug that is archived and may not be.
-pub(crate) fn archived_refusal(may_be: bool, number: u64, shared: &Shared) -> Option<Refusal>
+pub fn archived_refusal(may_be: bool, number: u64, shared: &Shared) -> Option<Refusal>
     ensures { result ≡ archived_refusal may_be number shared.now }
 {
     if shared.archived && !may_be {
@@ -40,7 +39,7 @@ fn bug_refusal(index: &Index, may_be: bool, number: u64) -> Option<Refusal>
 }
 
 /// The refusal of the first such bug.
-pub(crate) fn first_refused(index: &Index, may_be: bool, numbers: &[u64]) -> Option<Refusal>
+pub fn first_refused(index: &Index, may_be: bool, numbers: &[u64]) -> Option<Refusal>
     ensures { result ≡ first_bug_refusal may_be (bug_in index.now) numbers.now }
 {
     for number in numbers {
@@ -142,7 +141,7 @@ fn own_refusal(
 }
 
 /// The refusal of a command that changes records, of whose bug this is the image.
-pub(crate) fn records_refusal(
+pub fn records_refusal(
     alloc: Global,
     command: &Command<u64>,
     open_head: Option<&Node>,

@@ -1,0 +1,10 @@
+use Rattle.std.proofs.Common.{ℕ, List, ap, ◌∙◌}
+use Rattle.bug_record.specs.Images.{numbers_of}
+use Rattle.bug_record.specs.Sets.{with_items}
+use Rattle.bug_record.proofs.NumberLemmas.{with_items-set}
+use Rattle.set_images.proofs.images.member_numbers.Goals as goal
+
+pub loop-member-init : goal.loop-member-init
+loop-member-init c =
+    ap (λ (ks : List ℕ). with_items (λ n. n) ks (numbers_of c.args.members.now)) c.new-set.ensures.empty
+    ∙ with_items-set (numbers_of c.args.members.now)
