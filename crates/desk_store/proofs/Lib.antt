@@ -4,3 +4,4 @@ pub mod PlainLemmas
 pub mod PlaceLemmas
 pub mod HoldsLemmas
 pub mod WaitingLemmas
+pub mod NameLemmas

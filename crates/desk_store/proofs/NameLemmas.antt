@@ -1,6 +1,6 @@
 -- The names that an accepted `clone` gives stand for its copies, in order.
 use Rattle.std.proofs.Common.{◌≡◌, ◌+◌, ℕ, List, [], ◌∷◌, length, Option, Some, None, map, zip, sym, ap, ◌∙◌}
-use Rattle.std.specs.Prelude.{Result, Ok, Err}
+use Rattle.std.specs.Prelude.{Result, Ok}
 use Rattle.std.specs.Result.{is_ok, result_unwrap_or}
 use Rattle.std.proofs.lemmas.Bool.{false≢true}
 use Rattle.line_words.specs.declared.named.Named.{Named}

@@ -12,6 +12,6 @@ mod records;
 mod waiting;
 
 pub use fail_at::FailAt;
-pub use laws::faults_rise_by_one;
+pub use laws::{faults_rise_by_one, names_stand_for_copies};
 pub use plain::PlainDesk;
 pub use records::Records;
