@@ -16,8 +16,12 @@ abbrev pub status_by : List Node → Option Node → Status
 status_by found (Some n) = if has_node found n then Found else Fixed
 status_by found None = if length found == 0 then Found else Absent
 
--- the status at a node of a bug that has these marks, and is closed or not
-unfoldable pub status : Ancestry → List Node → List Node → Bool → Node → Status
-status t found fixed closed n =
+-- the status, where this is the line, of a bug that has these marks, and is closed or not
+unfoldable pub status_on : List Node → List Node → List Node → Bool → Status
+status_on line found fixed closed =
     if closed && (length fixed == 0) then Done
-    else status_by found (first_marked found fixed (line t n))
+    else status_by found (first_marked found fixed line)
+
+-- the status at a node
+unfoldable pub status : Ancestry → List Node → List Node → Bool → Node → Status
+status t found fixed closed n = status_on (line t n) found fixed closed

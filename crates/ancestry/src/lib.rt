@@ -12,7 +12,7 @@ mod tree;
 
 pub use fault::{BranchFault, NodeFault};
 pub use laws::{one_line, valid_nodes};
-pub use marks::status;
+pub use marks::{status, status_on};
 pub use node::{Node, at_first_slash};
 pub use statuses::Status;
 pub use tree::Tree;

@@ -2,7 +2,7 @@
 use Rattle.std.specs.Prelude.{ℕ, ◌≡◌, List, Option, Some, None, Result, Ok, Err, if◌then◌else◌, ◌==◌}
 use Rattle.bug_record.specs.Desk.{Desk}
 use Rattle.desk_store.specs.Store.{no_faults}
-use Rattle.desk_store.specs.Plain.{empty_desk}
+use Rattle.desk_places.specs.Plain.{empty_desk}
 use Rattle.desk_run.specs.Script.{begin}
 use Rattle.desk_run.specs.Running.{Ends}
 use Rattle.desk_run.specs.declared.script.ScriptEnd.{ScriptEnd}

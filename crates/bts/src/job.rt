@@ -5,7 +5,7 @@ ghost use Rattle.bug_record.specs.Desk.{Desk};
 ghost use Rattle.desk_lines.specs.Reading.{Known};
 ghost use Rattle.desk_run.specs.Script.{begin};
 ghost use Rattle.desk_run.specs.Running.{Ends};
-ghost use Rattle.desk_store.specs.Plain.{empty_desk};
+ghost use Rattle.desk_places.specs.Plain.{empty_desk};
 ghost use Rattle.bts.specs.Jobs.{job_of, status_of, IsRun};
 
 use desk_run::{ScriptEnd, ScriptFault, run_script};

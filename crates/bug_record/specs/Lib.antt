@@ -18,6 +18,7 @@ pub mod Images
 pub mod Plans
 pub mod Changed
 pub mod Waiting
+pub mod Lists
 -- definitions that only private functions cite
 pub mod Places
 pub mod Kept

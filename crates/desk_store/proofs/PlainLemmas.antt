@@ -11,14 +11,14 @@ use Rattle.bug_record.specs.Desk.{IsSound}
 use Rattle.bug_record.specs.Images.{numbers_of, bug_in, AreApart, FitsDesk, put, image_with}
 use Rattle.bug_record.specs.declared.bug.SetImage.{SetImage}
 use Rattle.bug_record.specs.declared.command.Change.{Change}
-use Rattle.desk_store.specs.Keys.{key_of, keyed_bug, IsKeyed, key_after, image_at_key, set_after}
-use Rattle.desk_store.specs.Plain.{key_at, image_at, keys, sets, desk_of}
-use Rattle.desk_store.specs.Places.{place_of, place_in}
-use Rattle.desk_store.specs.declared.places.Place.{Place}
-use Rattle.desk_store.specs.declared.places.Place.TheVariants.{First, After}
+use Rattle.desk_places.specs.Keys.{key_of, keyed_bug, IsKeyed, key_after, image_at_key, set_after}
+use Rattle.desk_places.specs.Plain.{key_at, image_at, keys, sets, desk_of}
+use Rattle.desk_places.specs.Places.{place_of, place_in}
+use Rattle.desk_places.specs.declared.places.Place.{Place}
+use Rattle.desk_places.specs.declared.places.Place.TheVariants.{First, After}
 use Rattle.desk_store.specs.Store.{IsImageOf}
-use Rattle.desk_store.proofs.ImageLemmas.{both_steps}
-use Rattle.desk_store.proofs.KeyLemmas.{image-of_key, keyed-after, bug-after}
+use Rattle.desk_places.proofs.ImageLemmas.{both_steps}
+use Rattle.desk_places.proofs.KeyLemmas.{image-of_key, keyed-after, bug-after}
 
 -- keys and images, as one value
 abbrev View : Type 0

@@ -4,12 +4,9 @@
 #![tactic(auto)]
 
 mod fail_at;
-mod heads;
 mod laws;
-mod places;
 mod plain;
 mod records;
-mod waiting;
 
 pub use fail_at::FailAt;
 pub use laws::{faults_rise_by_one, names_stand_for_copies};

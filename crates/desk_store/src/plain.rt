@@ -8,15 +8,13 @@ ghost use Rattle.bug_record.specs.Desk.{IsSound};
 ghost use Rattle.bug_record.specs.Images.{AreApart, FitsDesk, put};
 ghost use Rattle.bug_record.proofs.SoundProp.{IsSound-prop};
 ghost use Rattle.desk_store.specs.Store.{IsImageOf, IsOpenHead, AreWaitingOn, Branches, IsRefusal, no_faults};
-ghost use Rattle.desk_store.specs.Keys.{IsKeyed};
-ghost use Rattle.desk_store.specs.Plain.{desk_of, empty_desk, keys, sets};
+ghost use Rattle.desk_places.specs.Keys.{IsKeyed};
+ghost use Rattle.desk_places.specs.Plain.{desk_of, empty_desk, keys, sets};
 
-use crate::heads::open_head;
-use crate::places::{Place, put_images};
 use crate::records::Records;
-use crate::waiting::waiting_on;
 use ancestry::{BranchFault, Node, Tree};
 use bug_record::{Change, Numbers, SetImage};
+use desk_places::{Place, image_of, open_head, put_images, waiting_on};
 use desk_text::StoreFault;
 use std::alloc::{AllocError, Global};
 use std::collections::HashMap;
@@ -46,19 +44,6 @@ impl PlainDesk {
             next: first,
             alloc,
         }
-    }
-}
-
-// The image of the set that the bug is in.
-fn image_of(bugs: &HashMap<u64, Place>, number: u64) -> Option<&SetImage>
-    ensures { option_copied result ≡ option_and_then (sets bugs.now) (keys bugs.now number) }
-{
-    match bugs.get(&number)? {
-        Place::First(image) => Some(image),
-        Place::After(first) => match bugs.get(first)? {
-            Place::First(image) => Some(image),
-            Place::After(_) => None,
-        },
     }
 }
 

@@ -1,5 +1,5 @@
 -- The texts of a transcript. This project's own rule.
-use Rattle.std.specs.Prelude.{ℕ, List, [], ◌∷◌, ◌++◌, codes}
+use Rattle.std.specs.Prelude.{ℕ, List, [], ◌∷◌, ◌++◌, flat_map, codes}
 use Rattle.std.specs.Fmt.{decimal}
 use Rattle.bug_record.specs.declared.command.Field.{Field}
 use Rattle.bug_record.specs.declared.command.Field.TheVariants as fields
@@ -70,8 +70,7 @@ refusal_text Full = full_text
 
 -- each number after a space
 abbrev pub numbers_text : List ℕ → List ℕ
-numbers_text [] = []
-numbers_text (n ∷ ns) = (32 ∷ decimal n) ++ numbers_text ns
+numbers_text ns = flat_map (λ n. 32 ∷ decimal n) ns
 
 -- the changed numbers
 abbrev pub changed_text : List ℕ → List ℕ

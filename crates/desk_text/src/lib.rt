@@ -2,9 +2,13 @@
 #![tactic(auto)]
 
 mod answers;
+mod lists;
 mod outcome;
+mod pages;
 mod texts;
 
 pub use answers::{bad_directive_answer, bad_version_answer, branch_answer, report_answer};
+pub use lists::{ListRow, list_text};
 pub use outcome::{End, Outcome, ReportFault, StoreFault};
+pub use pages::{BugPage, bug_text};
 pub use texts::{end_text, fault_text, outcome_text};

@@ -63,8 +63,8 @@ fn append_of_bug(out: &mut Vec<u8>, number: u64, said: &str) -> Result<(), Alloc
     append_between(out, "bug ", number, said)
 }
 
-// Appends a node as it is written, `source/version`.
-fn append_node(out: &mut Vec<u8>, node: &Node) -> Result<(), AllocError>
+/// Appends a node as it is written, `source/version`.
+pub(crate) fn append_node(out: &mut Vec<u8>, node: &Node) -> Result<(), AllocError>
     ensures ok { OnOk result (out.new.items ≡ out.old.items ++ node_text node.now) }
     ensures err { OnErr result (StartsWith out.new.items out.old.items) }
 {
@@ -111,8 +111,8 @@ fn append_refusal(out: &mut Vec<u8>, refusal: &Refusal) -> Result<(), AllocError
     }
 }
 
-// Appends each number after a space.
-fn append_numbers(out: &mut Vec<u8>, numbers: &[u64]) -> Result<(), AllocError>
+/// Appends each number after a space.
+pub(crate) fn append_numbers(out: &mut Vec<u8>, numbers: &[u64]) -> Result<(), AllocError>
     ensures ok { OnOk result (out.new.items ≡ out.old.items ++ numbers_text numbers.now) }
     ensures err { OnErr result (StartsWith out.new.items out.old.items) }
 {

@@ -4,7 +4,7 @@ use Rattle.std.specs.Prelude.{nat_eq}
 use Rattle.std.specs.HashMap.{get}
 use Rattle.bug_record.specs.Desk.{IsSound}
 use Rattle.bug_record.specs.declared.bug.SetImage.{SetImage}
-use Rattle.desk_store.specs.Places.{place_in}
+use Rattle.desk_places.specs.Places.{place_in}
 use Rattle.desk_store.proofs.PlainLemmas.{desk_of-same, desk_of-put, keyed-same, keyed-put}
 use Rattle.desk_store.proofs.plain.PlainDeskRecords.apply.Goals as goal
 

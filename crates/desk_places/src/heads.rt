@@ -1,0 +1,29 @@
+//! The heads in which a bug is still found.
+
+ghost use Rattle.std.specs.Prelude.{◌≡◌, IfOk};
+ghost use Rattle.ancestry.specs.Statuses.{status};
+ghost use Rattle.bug_record.specs.Heads.{is_found, open_head};
+
+use ancestry::{Node, Status, Tree, status};
+use bug_record::Shared;
+use std::alloc::AllocError;
+
+// Whether a bug with these fields is found at a node.
+fn is_found(tree: &Tree, shared: &Shared, node: &Node) -> bool
+    ensures { result ≡ is_found (status tree.now shared.now.found shared.now.fixed shared.now.closed node.now) }
+{
+    let (found, fixed) = (shared.found.as_slice(), shared.fixed.as_slice());
+    match status(tree, found, fixed, shared.closed, node) {
+        Status::Found => true,
+        Status::Fixed | Status::Absent | Status::Done => false,
+    }
+}
+
+/// The first head of a bug's package, in node order, at which a bug with these fields is still
+/// found.
+pub fn open_head(tree: &Tree, shared: &Shared) -> Result<Option<Node>, AllocError>
+    ensures { IfOk result (λ head. head ≡ open_head tree.now shared.now) }
+{
+    let heads = tree.heads(shared.package.as_str())?;
+    Ok(heads.into_iter().find(|node| is_found(tree, shared, node)))
+}

@@ -1,0 +1,11 @@
+//! A desk in memory, by sets: a map that gives each bug its place in its set, where the image of the
+//! set stands at the first of them; what is put into it, and what is asked of it.
+#![tactic(auto)]
+
+mod heads;
+mod places;
+mod waiting;
+
+pub use heads::open_head;
+pub use places::{Place, image_of, put_images};
+pub use waiting::waiting_on;

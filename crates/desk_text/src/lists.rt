@@ -1,0 +1,167 @@
+//! The text of a list of bugs.
+
+ghost use Rattle.std.specs.Prelude.{◌≡◌, ◌++◌, ◌-◌, length, replicate, flat_map, OnOk, OnErr, codes};
+ghost use Rattle.std.specs.Io.{StartsWith};
+ghost use Rattle.std.specs.Fmt.{decimal};
+ghost use Rattle.ancestry.specs.Nodes.{node_text};
+ghost use Rattle.bug_record.specs.Severities.{severity_name};
+ghost use Rattle.desk_text.specs.Lists.{right_aligned, left_aligned, state_word, row_text, list_head, list_text};
+
+use crate::texts::{append_node, append_number};
+use ancestry::Node;
+use bug_record::Severity;
+use debver::Text;
+use itoa::Buffer;
+use std::alloc::{AllocError, Global};
+
+/// A bug in a list.
+#[derive(Debug, PartialEq, Eq, Drop)]
+pub struct ListRow {
+    pub number: u64,
+    pub severity: Severity,
+    pub closed: bool,
+    pub title: Text,
+}
+
+// The places in which a number and a severity stand.
+const PLACES: usize = 9;
+
+// Appends so many spaces.
+fn append_spaces(out: &mut Vec<u8>, count: usize) -> Result<(), AllocError>
+    ensures ok { OnOk result (out.new.items ≡ out.old.items ++ replicate count 32) }
+    ensures err { OnErr result (StartsWith out.new.items out.old.items) }
+{
+    for _ in 0..count {
+        out.push(b' ')?;
+    }
+    Ok(())
+}
+
+// Appends a text in so many places, with spaces before it.
+fn append_right(out: &mut Vec<u8>, places: usize, text: &str) -> Result<(), AllocError>
+    ensures ok { OnOk result (out.new.items ≡ out.old.items ++ right_aligned places text.now) }
+    ensures err { OnErr result (StartsWith out.new.items out.old.items) }
+{
+    append_spaces(out, places.saturating_sub(text.len()))?;
+    out.extend_from_slice(text.as_bytes())
+}
+
+// Appends a text in so many places, with spaces after it.
+fn append_left(out: &mut Vec<u8>, places: usize, text: &str) -> Result<(), AllocError>
+    ensures ok { OnOk result (out.new.items ≡ out.old.items ++ left_aligned places text.now) }
+    ensures err { OnErr result (StartsWith out.new.items out.old.items) }
+{
+    out.extend_from_slice(text.as_bytes())?;
+    append_spaces(out, places.saturating_sub(text.len()))
+}
+
+/// Whether a bug is closed, in a word.
+pub(crate) fn state_word(closed: bool) -> &'static str
+    ensures { result.now ≡ state_word closed }
+{
+    if closed { "done" } else { "open" }
+}
+
+// Appends the number of a row in its places, and two spaces.
+fn append_number_column(out: &mut Vec<u8>, number: u64) -> Result<(), AllocError>
+    ensures ok { OnOk result (out.new.items ≡ out.old.items ++ (right_aligned 9 (decimal number) ++ codes "  ")) }
+    ensures err { OnErr result (StartsWith out.new.items out.old.items) }
+{
+    append_right(out, PLACES, Buffer::new().format(number))?;
+    out.extend_from_slice(b"  ")
+}
+
+// Appends the number and the severity of a row, each in its places.
+fn append_columns(out: &mut Vec<u8>, number: u64, severity: Severity) -> Result<(), AllocError>
+    ensures ok { OnOk result (out.new.items ≡ out.old.items
+        ++ (right_aligned 9 (decimal number) ++ codes "  " ++ left_aligned 9 (severity_name severity))) }
+    ensures err { OnErr result (StartsWith out.new.items out.old.items) }
+{
+    append_number_column(out, number)?;
+    append_left(out, PLACES, severity.name())
+}
+
+// Appends the state and the title of a row.
+fn append_rest(out: &mut Vec<u8>, closed: bool, title: &str) -> Result<(), AllocError>
+    ensures ok { OnOk result (out.new.items ≡ out.old.items
+        ++ (codes "  " ++ state_word closed ++ codes "  " ++ title.now ++ codes "\n")) }
+    ensures err { OnErr result (StartsWith out.new.items out.old.items) }
+{
+    out.extend_from_slice(b"  ")?;
+    out.extend_from_slice(state_word(closed).as_bytes())?;
+    out.extend_from_slice(b"  ")?;
+    out.extend_from_slice(title.as_bytes())?;
+    out.extend_from_slice(b"\n")
+}
+
+// Appends the line of a row.
+fn append_row(out: &mut Vec<u8>, row: &ListRow) -> Result<(), AllocError>
+    ensures ok { OnOk result (out.new.items ≡ out.old.items ++ row_text row.now) }
+    ensures err { OnErr result (StartsWith out.new.items out.old.items) }
+{
+    append_columns(out, row.number, row.severity)?;
+    append_rest(out, row.closed, row.title.as_str())
+}
+
+// Appends the lines of rows.
+fn append_rows(out: &mut Vec<u8>, rows: &[ListRow]) -> Result<(), AllocError>
+    ensures ok { OnOk result (out.new.items ≡ out.old.items ++ flat_map row_text rows.now) }
+    ensures err { OnErr result (StartsWith out.new.items out.old.items) }
+{
+    for row in rows {
+        append_row(out, row)?;
+    }
+    Ok(())
+}
+
+// Appends the first line of a list.
+fn append_head(
+    out: &mut Vec<u8>,
+    package: &str,
+    node: &Node,
+    count: usize,
+) -> Result<(), AllocError>
+    ensures ok { OnOk result (out.new.items ≡ out.old.items ++ list_head «package».now node.now count) }
+    ensures err { OnErr result (StartsWith out.new.items out.old.items) }
+{
+    out.extend_from_slice(b"Bugs in ")?;
+    out.extend_from_slice(package.as_bytes())?;
+    out.extend_from_slice(b" at ")?;
+    append_node(out, node)?;
+    out.extend_from_slice(b": ")?;
+    append_number(out, count as u64)?;
+    out.extend_from_slice(b"\n")
+}
+
+fn append_list(
+    out: &mut Vec<u8>,
+    package: &str,
+    node: &Node,
+    rows: &[ListRow],
+) -> Result<(), AllocError>
+    ensures ok { OnOk result (out.new.items ≡ out.old.items ++ list_text «package».now node.now rows.now) }
+    ensures err { OnErr result (StartsWith out.new.items out.old.items) }
+{
+    append_head(out, package, node, rows.len())?;
+    append_rows(out, rows)
+}
+
+/// Appends the list of a package's bugs at a node: a line that says how many there are, and one for
+/// each of these rows, in their order.
+/// Where there is no memory, `out` is as before.
+pub fn list_text(
+    out: &mut Vec<u8>,
+    package: &str,
+    node: &Node,
+    rows: &[ListRow],
+) -> Result<(), AllocError>
+    ensures ok { OnOk result (out.new.items ≡ out.old.items ++ list_text «package».now node.now rows.now) }
+    ensures err { OnErr result (out.new.items ≡ out.old.items) }
+{
+    let before = out.len();
+    let done = append_list(out, package, node, rows);
+    if done.is_err() {
+        out.truncate(before);
+    }
+    done
+}
