@@ -8,7 +8,7 @@ use Rattle.std.proofs.lemmas.Bool.{false≢true, eqb-true, eq-eqb}
 use Rattle.ancestry.specs.Trees.{Ancestry}
 use Rattle.bug_record.specs.Sets.{has, Each, IsAscending}
 use Rattle.bug_record.specs.Desk.{IsSound}
-use Rattle.bug_record.specs.Images.{numbers_of, member_at, bug_of, bug_in, AreApart, CoverSets, image_with}
+use Rattle.bug_record.specs.Images.{numbers_of, member_at, bug_of, bug_in, IsSetOf, AreApart, CoverSets, image_with}
 use Rattle.bug_record.specs.declared.bug.Bug.{Bug}
 use Rattle.bug_record.specs.declared.bug.Member.{Member}
 use Rattle.bug_record.specs.declared.bug.SetImage.{SetImage}

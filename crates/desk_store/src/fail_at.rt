@@ -104,6 +104,17 @@ impl<S: Records> Records for FailAt<S> {
         self.inner.waiting_on(number)
     }
 
+    fn listed(&mut self, package: &str, node: &Node) -> Result<Sequence<ListRow>, StoreFault>
+        ensures answer { Asks S.is_kept S.is_honest self.old.inner self.new.inner
+            (Answers (S.desk self.old.inner) (S.desk self.new.inner) result
+            (AreListed (S.desk self.old.inner) «package».now node.now)) }
+        ensures count { S.faults self.new.inner ≡ faults_after result (S.faults self.old.inner) }
+        ensures left { self.new.left ≡ self.old.left }
+        ensures has_failed { self.new.has_failed ≡ self.old.has_failed }
+    {
+        self.inner.listed(package, node)
+    }
+
     fn apply(&mut self, change: &Change) -> Result<(), StoreFault>
         requires apart { S.is_kept self.old.inner → S.is_honest self.old.inner → AreApart change.now.images }
         requires members { Each HasMember change.now.images }
