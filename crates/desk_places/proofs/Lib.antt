@@ -1,4 +1,4 @@
 pub mod ImageLemmas
 pub mod KeyLemmas
 pub mod PlaceLemmas
-pub mod WaitingLemmas
+pub mod PassingLemmas
