@@ -3,15 +3,15 @@
 ghost use Rattle.std.specs.Prelude.{◌≡◌, ◌≢◌, ◌-◌, ◌||◌, ◌==◌, true, false, Err, IfOk};
 ghost use Rattle.bug_record.specs.Sets.{Each};
 ghost use Rattle.bug_record.specs.Images.{AreApart, HasMember, IsSetOf, FitsDesk};
-ghost use Rattle.desk_store.specs.Store.{Holds, Asks, Answers, IsImageOf, IsNext, IsOpenHead, AreWaitingOn};
+ghost use Rattle.desk_store.specs.Store.{Holds, Asks, Answers, IsImageOf, IsNext, IsOpenHead, AreWaitingOn, AreListed};
 ghost use Rattle.desk_store.specs.Store.{Applies, Branches, IsRefusal};
 ghost use Rattle.desk_store.specs.Store.{faults_after};
 ghost use Rattle.desk_store.specs.FailAt.{faults_with};
 
 use crate::records::Records;
 use ancestry::{BranchFault, Node};
-use bug_record::{Change, Numbers, SetImage};
-use desk_text::StoreFault;
+use bug_record::{Change, Numbers, Sequence, SetImage};
+use desk_text::{ListRow, StoreFault};
 
 /// A store round another.
 /// One call of `apply` or `branch` answers `Device`, changes nothing and is counted; every other
