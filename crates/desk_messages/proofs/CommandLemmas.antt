@@ -1,10 +1,11 @@
 -- A command that is carried out in parts is the machine's step.
 use Rattle.std.proofs.Common.{◌≡◌, ◌≤◌, ℕ, true, List, [], ◌∷◌, Option, Result, Ok, Err, sym, ap, ◌∙◌, subst, arith}
-use Rattle.std.specs.Prelude.{◌==◌, length}
+use Rattle.std.specs.Prelude.{◌==◌, length, IfOk}
 use Rattle.std.proofs.lemmas.Bool.{eqb-true}
-use Rattle.bug_record.specs.Sets.{has, Each}
+use Rattle.bug_record.specs.Sets.{has}
 use Rattle.bug_record.specs.Desk.{Desk, IsSound}
-use Rattle.bug_record.specs.Steps.{step_of_numbers}
+use Rattle.bug_record.specs.Steps.{step}
+use Rattle.bug_record.specs.Words.{Names}
 use Rattle.bug_record.specs.Images.{bug_in, put, FitsDesk}
 use Rattle.ancestry.specs.Nodes.{Node}
 use Rattle.bug_record.specs.Plans.{IsShownBy, IsOpenHeadFor, CoverImages, BringNone}
@@ -12,17 +13,14 @@ use Rattle.bug_record.specs.Changed.{changed_numbers, AreChanged, Replaces}
 use Rattle.set_images.proofs.ChangedLemmas.{changed-on_desk}
 use Rattle.bug_record.specs.declared.bug.SetImage.{SetImage}
 use Rattle.bug_record.specs.declared.command.Change.{Change}
-use Rattle.bug_record.specs.Commands.{HasGoodParts, bugs_named, command_over}
+use Rattle.bug_record.specs.Commands.{bugs_named}
 use Rattle.bug_record.specs.declared.command.Command.{Command}
-use Rattle.bug_record.specs.declared.command.Command.TheVariants as commands
 use Rattle.bug_record.specs.declared.command.Refusal.{Refusal}
 use Rattle.line_words.specs.declared.named.Named.{Named}
 use Rattle.desk_text.specs.declared.outcome.Outcome.{Outcome}
 use Rattle.desk_text.specs.declared.outcome.Outcome.TheVariants.{Changed, Refused}
-use Rattle.line_words.specs.Bugs.{IsGoodBug}
-use Rattle.desk_store.specs.Message.{does}
-use Rattle.desk_messages.specs.Names.{command_told, refusal_meant, outcome_meant}
-use Rattle.desk_messages.proofs.NameLemmas.{step-told}
+use Rattle.desk_store.specs.Message.{outcome_of, does}
+use Rattle.message_names.specs.Telling.{refusal_meant, result_meant, step_among}
 use Rattle.desk_text.specs.declared.outcome.StoreFault.{StoreFault}
 use Rattle.desk_messages.specs.Commands.{MayBeMade, CarriesOut, DoesTold, Does}
 use Rattle.desk_messages.specs.Images.{ShowBugs}
@@ -65,41 +63,38 @@ planned d images next ns change sh fits covers brings later = record {
   };
 }
 
-done : (sender : List ℕ) (d d1 d2 new : Desk) (command : Command ℕ) (change : Change) (outcome : Outcome) → d1 ≡ d → d2 ≡ d1
-    → step_of_numbers d2 sender command ≡ Ok (put d2 change) → (outcome ≡ Changed (changed_numbers d2 (put d2 change)))
-    × (new ≡ put d2 change) → outcome_meant d (step_of_numbers d sender command) ≡ (outcome, new)
-done sender d d1 d2 new command change outcome p q s c =
-    let same : d ≡ d2 = sym (q ∙ p) in
-    ap (λ (z : Desk). outcome_meant z (step_of_numbers z sender command)) same
-    ∙ (ap (outcome_meant d2) s
-    ∙ (λ i. (sym c.0 i, sym c.1 i)))
+-- a command that was told, on the same desk
+on_same : (sender : List ℕ) (names : Names) (d d1 d2 : Desk) (command : Command ℕ) (result : Result Desk Refusal) → d1 ≡ d
+    → d2 ≡ d1 → step_among names d2 sender command ≡ result
+    → outcome_of d (result_meant (step_among names d sender command)) ≡ outcome_of d2 (result_meant result)
+on_same sender names d d1 d2 command result p q s =
+    ap (λ (z : Desk). outcome_of z (result_meant (step_among names z sender command))) (sym (q ∙ p))
+    ∙ ap (λ (r : Result Desk Refusal). outcome_of d2 (result_meant r)) s
 
 -- a planned change that is carried out
-pub does_planned : (sender : List ℕ) (d d1 d2 new : Desk) (command : Command ℕ) (change : Change)
+pub does_planned : (sender : List ℕ) (names : Names) (d d1 d2 new : Desk) (command : Command ℕ) (change : Change)
     (result : Result Outcome StoreFault) → d1 ≡ d → d2 ≡ d1
-    → step_of_numbers d2 sender command ≡ Ok (put d2 change) → CarriesOut d2 change result new → DoesTold sender d command result new
-does_planned sender d d1 d2 new command change (Ok outcome) p q s c = done sender d d1 d2 new command change outcome p q s c
-does_planned sender d d1 d2 new command change (Err fault) p q s c = c ∙ (q ∙ p)
+    → step_among names d2 sender command ≡ Ok (put d2 change) → CarriesOut d2 change result new
+    → DoesTold sender names d command result new
+does_planned sender names d d1 d2 new command change (Ok outcome) p q s c =
+    on_same sender names d d1 d2 command (Ok (put d2 change)) p q s ∙ (λ i. (sym c.0 i, sym c.1 i))
+does_planned sender names d d1 d2 new command change (Err fault) p q s c = c ∙ (q ∙ p)
 
 -- a refused command
-pub does_refused : (sender : List ℕ) (d d1 d2 : Desk) (command : Command ℕ) (refusal said : Refusal) → d1 ≡ d → d2 ≡ d1
-    → step_of_numbers d2 sender command ≡ Err refusal → said ≡ refusal_meant refusal
-    → outcome_meant d (step_of_numbers d sender command) ≡ (Refused said, d2)
-does_refused sender d d1 d2 command refusal said p q s c =
-    let same : d ≡ d2 = sym (q ∙ p) in
-    ap (λ (z : Desk). outcome_meant z (step_of_numbers z sender command)) same
-    ∙ (ap (outcome_meant d2) s
-    ∙ (λ i. (Refused (sym c i), d2)))
+pub does_refused : (sender : List ℕ) (names : Names) (d d1 d2 : Desk) (command : Command ℕ) (refusal said : Refusal) → d1 ≡ d
+    → d2 ≡ d1 → step_among names d2 sender command ≡ Err refusal → said ≡ refusal_meant refusal
+    → outcome_of d (result_meant (step_among names d sender command)) ≡ (Refused said, d2)
+does_refused sender names d d1 d2 command refusal said p q s c =
+    on_same sender names d d1 d2 command (Err refusal) p q s ∙ (λ i. (Refused (sym c i), d2))
 
 -- a command that was told is the line's
-pub does_told : (sender : List ℕ) (d new : Desk) (command : Command Named) (told : Command ℕ)
-    (result : Result Outcome StoreFault) → IsSound d → Each IsGoodBug (bugs_named command) → told ≡ command_told [] command
-    → DoesTold sender d told result new → Does sender d command result new
+pub does_told : (sender : List ℕ) (names : Names) (d new : Desk) (command : Command Named) (told : Command ℕ)
+    (result : Result Outcome StoreFault)
+    → result_meant (step_among names d sender told) ≡ step names d sender command
+    → DoesTold sender names d told result new → Does sender names d command result new
 unfolding does
-does_told sender d new command told (Ok outcome) sound good e h =
-    sym (step-told d sender command sound good)
-    ∙ (ap (λ (x : Command ℕ). outcome_meant d (step_of_numbers d sender x)) (sym e) ∙ h)
-does_told sender d new command told (Err fault) sound good e h = h
+does_told sender names d new command told (Ok outcome) meant h = ap (outcome_of d) (sym meant) ∙ h
+does_told sender names d new command told (Err fault) meant h = h
 
 -- the numbers of a planned change are those at which the desks differ
 pub told : {d : Desk} (images sets : List SetImage) {next : ℕ} {change : Change} {numbers : List ℕ} → sets ≡ change.images
@@ -126,27 +121,6 @@ unchanged d images sets next change numbers e a p none same =
     let m : change.next ≡ d.next = same ∙ sym p.next_is in
     λ i. record { bug = λ n. f n i; tree = d.tree; next = m i }
 
--- the parts of a command that is meant are those of the command
-pub parts-meant : {N M : Type 0} (f : N → M) (command : Command N) → HasGoodParts command → HasGoodParts (command_over f command)
-parts-meant f (commands.Found n version) h = h
-parts-meant f (commands.NotFound n version) h = h
-parts-meant f (commands.Fixed n version) h = h
-parts-meant f (commands.NotFixed n version) h = h
-parts-meant f (commands.Close n version) h = h
-parts-meant f (commands.Reopen n who) h = h
-parts-meant f (commands.Severity n severity) h = h
-parts-meant f (commands.Tags n steps) h = h
-parts-meant f (commands.Retitle n text) h = h
-parts-meant f (commands.Submitter n who) h = h
-parts-meant f (commands.Reassign n package_name version) h = h
-parts-meant f (commands.Merge n ns) h = h
-parts-meant f (commands.ForceMerge n ns) h = h
-parts-meant f (commands.Unmerge n) h = h
-parts-meant f (commands.Block n ns) h = h
-parts-meant f (commands.Unblock n ns) h = h
-parts-meant f (commands.Forwarded n text) h = h
-parts-meant f (commands.NotForwarded n) h = h
-parts-meant f (commands.Owner n who) h = h
-parts-meant f (commands.NoOwner n) h = h
-parts-meant f (commands.Archive n) h = h
-parts-meant f (commands.Unarchive n) h = h
+-- what a plan promises of its change
+pub if_planned : {A E : Type 0} (P : A → Type 0) (r : Result A E) (x : A) → r ≡ Ok x → IfOk r P → P x
+if_planned P r x e h = subst (λ q. IfOk q P) e h

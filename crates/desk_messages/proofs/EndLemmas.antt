@@ -6,7 +6,7 @@ use Rattle.std.proofs.lemmas.List.Sums.{sum_by-append}
 use Rattle.std.proofs.lemmas.Bool.Decides.{nat_tests}
 use Rattle.desk_text.specs.declared.outcome.StoreFault.{StoreFault}
 use Rattle.desk_text.specs.declared.outcome.End.TheVariants.{All, Stopped, TooManyUnreadable, Store}
-use Rattle.desk_store.specs.Message.{Entry, is_stop, is_unreadable, unreadable_count, end_of, known_names}
+use Rattle.desk_store.specs.Message.{Entry, is_stop, is_unreadable, unreadable_count, end_of}
 
 any-push : (p : Entry → Bool) (es : List Entry) (e : Entry) → list_any p (es ++ e ∷ []) ≡ (list_any p es || p e)
 any-push p [] e = elim (p e) as (λ t. (t || false) ≡ t) [ true ↦ refl | false ↦ refl ]
@@ -89,8 +89,3 @@ never_store es fault k h = no_store_end (stops es) (nat_le 5 (unreadable_count e
 pub at_start_open : end_of [] ≡ All
 unfolding end_of
 at_start_open = refl
-
--- no name is known
-pub known_names-none : (es : List Entry) → known_names es ≡ []
-known_names-none [] = refl
-known_names-none (e ∷ es) = known_names-none es

@@ -1,4 +1,4 @@
-pub mod NameLemmas
+pub mod GivenLemmas
 pub mod WrittenLemmas
 pub mod CommandLemmas
 pub mod GatherLemmas

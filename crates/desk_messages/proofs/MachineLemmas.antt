@@ -1,35 +1,33 @@
 -- The machine over lists of lines.
 use Rattle.std.proofs.Common.{◌≡◌, ℕ, ◌<◌, ◌+◌, List, [], ◌∷◌, ◌++◌, length, get_or, take, drop, sym, ◌∙◌, ap, subst, refl, true}
-use Rattle.std.proofs.Common.{false, Result, Ok}
+use Rattle.std.proofs.Common.{false, Ok}
 use Rattle.std.proofs.lemmas.List.{take_more, take-append-drop}
 use Rattle.bug_record.specs.Desk.{Desk}
+use Rattle.bug_record.specs.Words.{Names}
 use Rattle.bug_record.specs.declared.command.Command.{Command}
-use Rattle.bug_record.specs.declared.command.Refusal.{Refusal}
 use Rattle.control_text.specs.Lines.{reading}
 use Rattle.line_words.specs.declared.named.Named.{Named}
-use Rattle.control_text.specs.declared.line.Line.{Line}
 use Rattle.control_text.specs.declared.line.Line.TheVariants.{Do}
 use Rattle.desk_text.specs.declared.outcome.Outcome.{Outcome}
 use Rattle.desk_text.specs.declared.outcome.End.{End}
 use Rattle.desk_text.specs.declared.outcome.End.TheVariants as ends
 use Rattle.desk_store.specs.Store.{Faults}
-use Rattle.desk_store.specs.Message.{Entry, Machine, machine, after_lines, at_start, takes, takes_at, end_of, does, with_outcome}
+use Rattle.desk_store.specs.Message.{Entry, Machine, machine, after_lines, at_start, takes, takes_at, end_of, does, with_outcome, known_names}
 use Rattle.desk_store.specs.Message.{Comes, IsReceived, faults_after_end}
 use Rattle.desk_messages.specs.Taking.{goes_on}
 use Rattle.desk_messages.specs.Transcripts.{IsLineOf}
-use Rattle.desk_messages.proofs.EndLemmas.{known_names-none, never_store, at_start_open}
+use Rattle.desk_messages.proofs.EndLemmas.{never_store, at_start_open}
 
 -- a command carried out
-pub took_command : (sender line text : List ℕ) (d new : Desk) (before room after : List Entry) (command : Command Named)
-    (outcome : Outcome) (r : Result Line Refusal) → r ≡ Ok (Do command) → does sender [] d command ≡ (outcome, new)
+pub took_command : (sender line text : List ℕ) (names : Names) (d new : Desk) (before room after : List Entry)
+    (command : Command Named) (outcome : Outcome) → names ≡ known_names before → does sender names d command ≡ (outcome, new)
     → room ≡ before → text ≡ line → after ≡ room ++ (text, outcome) ∷ []
-    → takes sender (machine d before) line r ≡ machine new after
-took_command sender line text d new before room after command outcome r e s same is pushed =
-    ap (takes sender (machine d before) line) e
-    ∙ (ap (λ (names : List (ℕ × ℕ)). with_outcome (machine d before) line (does sender names d command)) (known_names-none before)
+    → takes sender (machine d before) line (Ok (Do command)) ≡ machine new after
+took_command sender line text names d new before room after command outcome known s same is pushed =
+    ap (λ (ks : Names). with_outcome (machine d before) line (does sender ks d command)) (sym known)
     ∙ (ap (with_outcome (machine d before) line) s
     ∙ ap (machine new) (ap (λ (x : List ℕ). before ++ (x, outcome) ∷ []) (sym is)
-    ∙ (ap (λ (w : List Entry). w ++ (text, outcome) ∷ []) (sym same) ∙ sym pushed))))
+    ∙ (ap (λ (w : List Entry). w ++ (text, outcome) ∷ []) (sym same) ∙ sym pushed)))
 
 pub after_append : (sender : List ℕ) (m : Machine) (xs ys : List (List ℕ))
     → after_lines sender m (xs ++ ys) ≡ after_lines sender (after_lines sender m xs) ys

@@ -83,6 +83,7 @@ head-other d (commands.Reassign n package_name version) head h = tt
 head-other d (commands.Merge n ns) head h = tt
 head-other d (commands.ForceMerge n ns) head h = tt
 head-other d (commands.Unmerge n) head h = tt
+head-other d (commands.Clone n ks) head h = tt
 head-other d (commands.Block n ns) head h = tt
 head-other d (commands.Unblock n ns) head h = tt
 head-other d (commands.Forwarded n text) head h = tt

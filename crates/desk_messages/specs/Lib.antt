@@ -1,8 +1,8 @@
 pub mod Transcripts
 pub mod Reports
 -- definitions that only private functions cite
-pub mod Names
 pub mod Commands
+pub mod Named
 pub mod Written
 pub mod Images
 pub mod Questions

@@ -1,96 +1,27 @@
 //! One command of a message, carried out on a store.
 
-ghost use Rattle.std.specs.Prelude.{◌≡◌, [], map, IfOk};
+ghost use Rattle.std.specs.Prelude.{◌≡◌, ◌≤◌, ◌++◌, ℕ, List, length, Ok, None, IfOk, OnOk, OnErr};
 ghost use Rattle.bug_record.specs.Sets.{Each};
 ghost use Rattle.bug_record.specs.Texts.{IsText};
 ghost use Rattle.bug_record.specs.Images.{AreApart, HasMember};
-ghost use Rattle.bug_record.specs.Commands.{HasGoodParts, bugs_named};
+ghost use Rattle.bug_record.specs.Clones.{name_refusal};
+ghost use Rattle.bug_record.specs.Commands.{HasGoodParts, bugs_named, names_in};
+ghost use Rattle.bug_record.specs.Words.{Names};
 ghost use Rattle.line_words.specs.Bugs.{IsGoodBug};
 ghost use Rattle.desk_store.specs.Store.{Holds, faults_after};
-ghost use Rattle.desk_messages.specs.Names.{number_told, command_told, refusal_meant};
+ghost use Rattle.message_names.specs.Known.{AreOfBugs};
 ghost use Rattle.desk_messages.specs.Commands.{MayBeMade, CarriesOut, DoesTold, Does};
+ghost use Rattle.desk_messages.specs.Named.{names_of};
 
 use crate::questions::ask;
 use crate::writing::written;
 use bug_core::{changed, plan};
-use bug_record::{Change, Command, PlanFault, Refusal, Sequence, SetImage};
+use bug_record::{Change, Command, PlanFault, Refusal, SetImage};
 use control_text::Named;
 use desk_store::Records;
 use desk_text::{Outcome, StoreFault};
+use message_names::{KnownNames, command_told, names_in, refusal_meant, with_names};
 use std::alloc::{AllocError, Global};
-
-// The number that a bug word is told as; no name is known.
-fn number_told(bug: Named) -> u64
-    ensures { result ≡ number_told [] bug }
-{
-    match bug {
-        Named::Number(number) => number,
-        Named::Name(name) => 1_000_000_000 + u64::from(name),
-    }
-}
-
-// The numbers that bug words are told as.
-fn numbers_told(alloc: Global, bugs: &[Named]) -> Result<Sequence<u64>, AllocError>
-    ensures { IfOk result (λ numbers. numbers ≡ map (number_told []) bugs.now) }
-{
-    let mut numbers = Sequence::new(alloc);
-    for bug in bugs {
-        numbers.push(number_told(*bug))?;
-    }
-    Ok(numbers)
-}
-
-// The command as it is told.
-fn command_told(alloc: Global, command: Command<Named>) -> Result<Command<u64>, AllocError>
-    ensures { IfOk result (λ told. told ≡ command_told [] command) }
-{
-    Ok(match command {
-        Command::Found(bug, version) => Command::Found(number_told(bug), version),
-        Command::NotFound(bug, version) => Command::NotFound(number_told(bug), version),
-        Command::Fixed(bug, version) => Command::Fixed(number_told(bug), version),
-        Command::NotFixed(bug, version) => Command::NotFixed(number_told(bug), version),
-        Command::Close(bug, version) => Command::Close(number_told(bug), version),
-        Command::Reopen(bug, who) => Command::Reopen(number_told(bug), who),
-        Command::Severity(bug, severity) => Command::Severity(number_told(bug), severity),
-        Command::Tags(bug, steps) => Command::Tags(number_told(bug), steps),
-        Command::Retitle(bug, title) => Command::Retitle(number_told(bug), title),
-        Command::Submitter(bug, who) => Command::Submitter(number_told(bug), who),
-        Command::Reassign(bug, package, version) => {
-            Command::Reassign(number_told(bug), package, version)
-        }
-        Command::Merge(bug, bugs) => {
-            Command::Merge(number_told(bug), numbers_told(alloc, bugs.as_slice())?)
-        }
-        Command::ForceMerge(bug, bugs) => {
-            Command::ForceMerge(number_told(bug), numbers_told(alloc, bugs.as_slice())?)
-        }
-        Command::Unmerge(bug) => Command::Unmerge(number_told(bug)),
-        Command::Block(bug, bugs) => {
-            Command::Block(number_told(bug), numbers_told(alloc, bugs.as_slice())?)
-        }
-        Command::Unblock(bug, bugs) => {
-            Command::Unblock(number_told(bug), numbers_told(alloc, bugs.as_slice())?)
-        }
-        Command::Forwarded(bug, address) => Command::Forwarded(number_told(bug), address),
-        Command::NotForwarded(bug) => Command::NotForwarded(number_told(bug)),
-        Command::Owner(bug, who) => Command::Owner(number_told(bug), who),
-        Command::NoOwner(bug) => Command::NoOwner(number_told(bug)),
-        Command::Archive(bug) => Command::Archive(number_told(bug)),
-        Command::Unarchive(bug) => Command::Unarchive(number_told(bug)),
-    })
-}
-
-// A number that no bug can have stands for a name.
-fn refusal_meant(refusal: Refusal) -> Refusal
-    ensures { result ≡ refusal_meant refusal }
-{
-    match refusal {
-        Refusal::NoBug(number) if number > 1_000_000_000 => {
-            Refusal::NoName(number - 1_000_000_000)
-        }
-        _ => refusal,
-    }
-}
 
 // Has the store carry a planned change out: of several images, those with a changed bug.
 // A change of nothing isn't handed to it.
@@ -123,17 +54,20 @@ fn make_change<S: Records>(
     }
 }
 
-// Carries one command out that was told.
+// Carries one command out that was told; `taken` is the refusal of the names that it gives.
 fn take_told<S: Records>(
     alloc: Global,
     store: &mut S,
     from: &str,
+    taken: Option<Refusal>,
     command: &Command<u64>,
 ) -> Result<Outcome, StoreFault>
     requires sender { IsText from.now }
     requires parts { HasGoodParts command.now }
     ensures answer { Holds S.is_kept S.is_honest store.old store.new
-        (DoesTold from.now (S.desk store.old) command.now result (S.desk store.new)) }
+        ((names : Names) → taken ≡ name_refusal names (names_in command.now)
+        → DoesTold from.now names (S.desk store.old) command.now result (S.desk store.new)) }
+    ensures free { (numbers : List ℕ) → result ≡ Ok (Outcome.Changed numbers) → taken ≡ None }
     ensures count { S.faults store.new ≡ faults_after result (S.faults store.old) }
 {
     let (images, open_head) = match ask(alloc, store, command) {
@@ -145,29 +79,91 @@ fn take_told<S: Records>(
         Err(fault) => return Err(fault),
     };
     let sets = images.as_slice();
-    match plan(alloc, command, from, sets, next, open_head.as_ref()) {
+    let planned = plan(alloc, command, from, sets, next, open_head.as_ref());
+    match with_names(taken, planned) {
         Ok(change) => make_change(alloc, store, sets, next, change),
         Err(PlanFault::Refused(refusal)) => Ok(Outcome::Refused(refusal_meant(refusal))),
         Err(PlanFault::Memory) => Err(StoreFault::Memory),
     }
 }
 
+// The refusal of the first of these names that can't be given. Makes room for them.
+fn name_refusal(
+    alloc: Global,
+    known: &mut KnownNames,
+    names: &[u32],
+) -> Result<Option<Refusal>, AllocError>
+    ensures same { known.new.names ≡ known.old.names }
+    ensures refusal { IfOk result (λ refusal. refusal ≡ name_refusal known.old.names names.now) }
+    ensures room { OnOk result (length names.now ≤ known.new.room) }
+{
+    known.make_room(names.len())?;
+    known.refusal(alloc, names)
+}
+
+// Makes the names known that a command gives, where it is accepted.
+fn note_names(known: &mut KnownNames, names: &[u32], outcome: &Outcome)
+    requires room { length names.now ≤ known.old.room }
+    requires free { (numbers : List ℕ) → outcome.now ≡ Outcome.Changed numbers
+        → name_refusal known.old.names names.now ≡ None }
+    ensures { known.new.names ≡ known.old.names ++ names_of names.now outcome.now }
+{
+    if let Outcome::Changed(numbers) = outcome {
+        known.bind(names, numbers.as_slice());
+    }
+}
+
+// Carries one command out that was told where these names are known, and notes those that it
+// gives.
+fn take_known<S: Records>(
+    alloc: Global,
+    store: &mut S,
+    from: &str,
+    known: &mut KnownNames,
+    command: &Command<u64>,
+) -> Result<Outcome, StoreFault>
+    requires sender { IsText from.now }
+    requires parts { HasGoodParts command.now }
+    ensures answer { Holds S.is_kept S.is_honest store.old store.new
+        (DoesTold from.now known.old.names (S.desk store.old) command.now result (S.desk store.new)) }
+    ensures named { IfOk result (λ outcome. known.new.names ≡ known.old.names ++ names_of (names_in command.now) outcome) }
+    ensures same { OnErr result (known.new.names ≡ known.old.names) }
+    ensures count { S.faults store.new ≡ faults_after result (S.faults store.old) }
+{
+    let names = names_in(command);
+    let Ok(taken) = name_refusal(alloc, known, names) else {
+        return Err(StoreFault::Memory);
+    };
+    match take_told(alloc, store, from, taken, command) {
+        Ok(outcome) => {
+            note_names(known, names, &outcome);
+            Ok(outcome)
+        }
+        Err(fault) => Err(fault),
+    }
+}
+
 /// Carries one command out: its outcome, or a fault at which nothing is changed.
+/// The names that are known are then those that an accepted `clone` gives too.
 pub(crate) fn take_command<S: Records>(
     alloc: Global,
     store: &mut S,
     from: &str,
+    known: &mut KnownNames,
     command: Command<Named>,
 ) -> Result<Outcome, StoreFault>
     requires sender { IsText from.now }
     requires bugs { Each IsGoodBug (bugs_named command) }
     requires parts { HasGoodParts command }
-    ensures answer { Holds S.is_kept S.is_honest store.old store.new
-        (Does from.now (S.desk store.old) command result (S.desk store.new)) }
+    ensures answer { Holds S.is_kept S.is_honest store.old store.new (AreOfBugs known.old.names
+        → Does from.now known.old.names (S.desk store.old) command result (S.desk store.new)
+        × AreOfBugs known.new.names) }
+    ensures named { IfOk result (λ outcome. known.new.names ≡ known.old.names ++ names_of (names_in command) outcome) }
+    ensures same { OnErr result (known.new.names ≡ known.old.names) }
     ensures count { S.faults store.new ≡ faults_after result (S.faults store.old) }
 {
-    match command_told(alloc, command) {
-        Ok(command) => take_told(alloc, store, from, &command),
+    match command_told(alloc, known, command) {
+        Ok(command) => take_known(alloc, store, from, known, &command),
         Err(_) => Err(StoreFault::Memory),
     }
 }

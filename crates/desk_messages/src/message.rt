@@ -9,6 +9,8 @@ ghost use Rattle.control_text.specs.Lines.{reading};
 ghost use Rattle.control_text.specs.declared.line.Line.TheVariants.{Do};
 ghost use Rattle.desk_store.specs.Store.{Holds, faults_after};
 ghost use Rattle.desk_store.specs.Message.{is_stop, is_unreadable, unreadable_count, end_of, IsReceived, faults_after_end};
+ghost use Rattle.desk_store.specs.Message.{names_given, known_names};
+ghost use Rattle.message_names.specs.Known.{AreOfBugs};
 ghost use Rattle.desk_messages.specs.Taking.{goes_on, TakesLine};
 ghost use Rattle.desk_lines.specs.Lines.{lines_of};
 ghost use Rattle.desk_messages.specs.Transcripts.{IsLineOf};
@@ -20,6 +22,7 @@ use debver::Text;
 use desk_lines::split_lines;
 use desk_store::Records;
 use desk_text::{End, Outcome, StoreFault};
+use message_names::KnownNames;
 use std::alloc::Global;
 
 /// The outcomes of a message, each with its line as written, and its end.
@@ -29,11 +32,13 @@ pub struct Received {
     pub end: End,
 }
 
-/// What has come of a message so far, and how many of its lines could not be read.
+/// What has come of a message so far, how many of its lines could not be read, and the names that
+/// it has given.
 #[derive(Drop)]
 struct Progress {
     outcomes: Vec<(Text, Outcome)>,
     unreadable: u64,
+    known: KnownNames,
 }
 
 fn is_stop(outcome: &Outcome) -> bool
@@ -87,6 +92,7 @@ fn settle(progress: &mut Progress, text: Text, outcome: Outcome) -> End
     requires goes_on { end_of progress.old.outcomes.items ≡ End.All }
     ensures added { progress.new.outcomes.items ≡ progress.old.outcomes.items ++ (text, outcome) ∷ [] }
     ensures counted { progress.new.unreadable ≡ unreadable_count progress.new.outcomes.items }
+    ensures known { progress.new.known.names ≡ progress.old.known.names }
     ensures end { end_of progress.new.outcomes.items ≡ result }
 {
     let stops = is_stop(&outcome);
@@ -105,8 +111,12 @@ fn settle(progress: &mut Progress, text: Text, outcome: Outcome) -> End
 fn answer_line(progress: &mut Progress, line: &Text, outcome: Outcome) -> Result<End, StoreFault>
     requires counted { progress.old.unreadable ≡ unreadable_count progress.old.outcomes.items }
     requires goes_on { end_of progress.old.outcomes.items ≡ End.All }
+    requires known { progress.old.known.names ≡ known_names progress.old.outcomes.items }
+    requires plain { names_given (line.now, outcome) ≡ [] }
     ensures added { OnOk result (progress.new.outcomes.items ≡ progress.old.outcomes.items ++ (line.now, outcome) ∷ []) }
     ensures counted { progress.new.unreadable ≡ unreadable_count progress.new.outcomes.items }
+    ensures known { progress.new.known.names ≡ known_names progress.new.outcomes.items }
+    ensures names { progress.new.known.names ≡ progress.old.known.names }
     ensures end { IfOk result (λ end. end_of progress.new.outcomes.items ≡ end) }
     ensures same { OnErr result (progress.new.outcomes.items ≡ progress.old.outcomes.items) }
     ensures memory { OnErr result (result ≡ Result.Err StoreFault.Memory) }
@@ -130,13 +140,16 @@ fn take_command_line<S: Records>(
     requires sender { IsText from.now }
     requires bugs { Each IsGoodBug (bugs_named command) }
     requires parts { HasGoodParts command }
+    requires reads { reading line.now ≡ Ok (Do command) }
     requires counted { progress.old.unreadable ≡ unreadable_count progress.old.outcomes.items }
     requires goes_on { end_of progress.old.outcomes.items ≡ End.All }
-    ensures answer { Holds S.is_kept S.is_honest store.old store.new (TakesLine from.now
-        (S.desk store.old) progress.old.outcomes.items (S.desk store.new) progress.new.outcomes.items result line.now
-        (Ok (Do command))) }
+    requires known { progress.old.known.names ≡ known_names progress.old.outcomes.items }
+    ensures answer { Holds S.is_kept S.is_honest store.old store.new (AreOfBugs progress.old.known.names
+        → TakesLine from.now (S.desk store.old) progress.old.outcomes.items (S.desk store.new)
+        progress.new.outcomes.items result line.now (Ok (Do command)) × AreOfBugs progress.new.known.names) }
     ensures count { S.faults store.new ≡ faults_after result (S.faults store.old) }
     ensures counted { progress.new.unreadable ≡ unreadable_count progress.new.outcomes.items }
+    ensures known { progress.new.known.names ≡ known_names progress.new.outcomes.items }
     ensures end { IfOk result (λ end. end_of progress.new.outcomes.items ≡ end) }
     ensures same { OnErr result (progress.new.outcomes.items ≡ progress.old.outcomes.items) }
 {
@@ -144,7 +157,7 @@ fn take_command_line<S: Records>(
         Ok(text) => text,
         Err(fault) => return Err(fault),
     };
-    match take_command(alloc, store, from, command) {
+    match take_command(alloc, store, from, &mut progress.known, command) {
         Ok(outcome) => Ok(settle(progress, text, outcome)),
         Err(fault) => Err(fault),
     }
@@ -161,11 +174,13 @@ fn take_message_line<S: Records>(
     requires sender { IsText from.now }
     requires counted { progress.old.unreadable ≡ unreadable_count progress.old.outcomes.items }
     requires goes_on { end_of progress.old.outcomes.items ≡ End.All }
-    ensures answer { Holds S.is_kept S.is_honest store.old store.new (TakesLine from.now
-        (S.desk store.old) progress.old.outcomes.items (S.desk store.new) progress.new.outcomes.items result line.now
-        (reading line.now)) }
+    requires known { progress.old.known.names ≡ known_names progress.old.outcomes.items }
+    ensures answer { Holds S.is_kept S.is_honest store.old store.new (AreOfBugs progress.old.known.names
+        → TakesLine from.now (S.desk store.old) progress.old.outcomes.items (S.desk store.new)
+        progress.new.outcomes.items result line.now (reading line.now) × AreOfBugs progress.new.known.names) }
     ensures count { S.faults store.new ≡ faults_after result (S.faults store.old) }
     ensures counted { progress.new.unreadable ≡ unreadable_count progress.new.outcomes.items }
+    ensures known { progress.new.known.names ≡ known_names progress.new.outcomes.items }
     ensures end { IfOk result (λ end. end_of progress.new.outcomes.items ≡ end) }
     ensures same { OnErr result (progress.new.outcomes.items ≡ progress.old.outcomes.items) }
 {
@@ -207,6 +222,7 @@ pub fn receive_lines<S: Records>(
     let mut progress = Progress {
         outcomes: Vec::new(alloc),
         unreadable: 0,
+        known: KnownNames::new(alloc),
     };
     for (i, line) in lines.iter().enumerate() {
         match take_message_line(alloc, store, from, &mut progress, line) {

@@ -1,16 +1,21 @@
-use Rattle.std.proofs.Common.{[], sym, subst}
-use Rattle.bug_record.specs.Commands.{HasGoodParts}
-use Rattle.desk_messages.specs.Names.{number_told}
+use Rattle.std.proofs.Common.{◌++◌, ap, ◌∙◌}
+use Rattle.std.proofs.lemmas.Result.{IfOk-weaker}
 use Rattle.desk_store.proofs.HoldsLemmas.{holds_where}
-use Rattle.desk_messages.proofs.CommandLemmas.{parts-meant, does_told}
+use Rattle.desk_messages.specs.Named.{names_of}
+use Rattle.desk_messages.proofs.GivenLemmas.{does_known}
 use Rattle.desk_messages.proofs.command.take_command.Goals as goal
-
-pub take_told-requires-clause-parts : goal.take_told-requires-clause-parts
-take_told-requires-clause-parts g c =
-    subst HasGoodParts (sym c.in-Ok.ensures) (parts-meant (number_told []) c.args.command c.requires.parts)
 
 pub returns-in-Ok-clause-answer : goal.returns-in-Ok-clause-answer
 returns-in-Ok-clause-answer g c =
-    holds_where c.take_told.ensures.answer
-    (λ u w h. does_told c.args.from.now _ _ c.args.command c.in-Ok.command c.take_told.result (g.met.S.Records.sound _ u)
-    c.requires.bugs c.in-Ok.ensures h)
+    let a = c.take_known.ensures.answer in
+    holds_where a
+    (λ u w h known. does_known c.args.from.now c.args.known.now.names _ _ _ c.args.command c.in-Ok.command c.take_known.result
+    (g.met.S.Records.sound _ (a.kept u w)) known
+    (c.in-Ok.ensures.meant known c.requires.bugs _ c.args.from.now (g.met.S.Records.sound _ u)) h c.take_known.ensures.named
+    c.take_known.ensures.same)
+
+pub returns-in-Ok-clause-named : goal.returns-in-Ok-clause-named
+returns-in-Ok-clause-named g c =
+    IfOk-weaker c.take_known.result _ _
+    (λ outcome e. e ∙ ap (λ ks. c.args.known.now.names ++ names_of ks outcome) c.in-Ok.ensures.names)
+    c.take_known.ensures.named

@@ -1,6 +1,7 @@
-use Rattle.std.proofs.Common.{◌∙◌, sym, ap, refl}
+use Rattle.std.proofs.Common.{◌∙◌, sym, ap, subst, refl}
+use Rattle.message_names.specs.Known.{AreOfBugs}
 use Rattle.desk_store.proofs.HoldsLemmas.{holds_none, holds_then}
-use Rattle.desk_store.specs.Message.{machine, unreadable_count, end_of}
+use Rattle.desk_store.specs.Message.{machine, unreadable_count, end_of, known_names}
 use Rattle.desk_messages.specs.Taking.{goes_on}
 use Rattle.desk_messages.proofs.EndLemmas.{at_start_open}
 use Rattle.desk_messages.proofs.MachineLemmas.{line_more, all_ended, received_ended, goes_on-all, settled_faults, settled_line}
@@ -12,8 +13,10 @@ loop-i-init g c =
     record {
       counted = ap unreadable_count none;
       goes_on = ap end_of (sym none) ∙ at_start_open;
+      known = c.new-2.ensures ∙ ap known_names none;
       faults = refl;
-      taken = holds_none _ _ _ (ap (machine (g.S.Records.desk c.args.store.now)) none);
+      taken = holds_none _ _ _
+          (ap (machine (g.S.Records.desk c.args.store.now)) none, subst AreOfBugs (sym c.new-2.ensures) tt);
     }
 
 pub loop-i-preserved : goal.loop-i-preserved
@@ -22,10 +25,15 @@ loop-i-preserved g c =
     record {
       counted = c.in-Ok.ensures.counted;
       goes_on = c.in-Ok.ensures.end ∙ goes_on-all c.in-Ok.end (sym c.goes_on.ensures ∙ c.if-not-goes_on.false);
+      known = c.in-Ok.ensures.known;
       faults = c.in-Ok.ensures.count ∙ c.loop-i.invariant.faults;
       taken = holds_then c.loop-i.invariant.taken c.in-Ok.ensures.answer
-          (λ p q. line_more c.args.from.now _ c.args.lines.now c.loop-i.i c.index-lines-i.result _ _ c.loop-i-test.true is
-          c.loop-i.invariant.goes_on p q);
+          (λ p q.
+          let r = q p.1 in (
+            line_more c.args.from.now _ c.args.lines.now c.loop-i.i c.index-lines-i.result _ _ c.loop-i-test.true is
+                c.loop-i.invariant.goes_on p.0 r.0,
+            r.1,
+          ));
     }
 
 pub returns-then-not-goes_on-clause-answer : goal.returns-then-not-goes_on-clause-answer
@@ -38,7 +46,7 @@ returns-then-not-goes_on-clause-answer g c =
     (λ p q. received_ended c.args.from.now c.args.lines.now _ _ _ c.in-Ok.end stays ended
     (all_ended c.args.from.now _ c.args.lines.now _ _ here
     (line_more c.args.from.now _ c.args.lines.now c.loop-i.i c.index-lines-i.result _ _ c.loop-i-test.true is
-    c.loop-i.invariant.goes_on p q)
+    c.loop-i.invariant.goes_on p.0 (q p.1).0)
     ∙ ap (machine _) (sym c.from_vec.ensures)))
 
 pub returns-then-not-goes_on-clause-count : goal.returns-then-not-goes_on-clause-count

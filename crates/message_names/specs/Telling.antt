@@ -1,17 +1,18 @@
 -- How a command is handed to the plan, which knows numbers alone: a name that is not known is told
 -- as 1,000,000,000 + k, which no bug of a sound desk has, and its refusal is told by name again.
-use Rattle.std.specs.Prelude.{ℕ, ◌+◌, ◌-◌, nat_lt, Result, Ok, Err, unwrap_or, if◌then◌else◌}
-use Rattle.bug_record.specs.Changed.{changed_numbers}
+-- This project's own rule.
+use Rattle.std.specs.Prelude.{ℕ, ◌+◌, ◌-◌, nat_lt, List, Result, Ok, Err, unwrap_or, if◌then◌else◌}
+use Rattle.bug_record.specs.Clones.{name_refusal}
 use Rattle.bug_record.specs.Commands.{command_over}
 use Rattle.bug_record.specs.Desk.{Desk}
+use Rattle.bug_record.specs.Heads.{open_head}
+use Rattle.bug_record.specs.Steps.{step_by}
 use Rattle.bug_record.specs.Words.{Names, number_of_name}
 use Rattle.bug_record.specs.declared.command.Command.{Command}
 use Rattle.bug_record.specs.declared.command.Refusal.{Refusal}
 use Rattle.bug_record.specs.declared.command.Refusal.TheVariants.{NoName, NoBug}
 use Rattle.line_words.specs.declared.named.Named.{Named}
 use Rattle.line_words.specs.declared.named.Named.TheVariants.{Number, Name}
-use Rattle.desk_text.specs.declared.outcome.Outcome.{Outcome}
-use Rattle.desk_text.specs.declared.outcome.Outcome.TheVariants.{Changed, Refused}
 
 -- the number that a bug word is told as
 abbrev pub number_told : Names → Named → ℕ
@@ -26,7 +27,11 @@ abbrev pub refusal_meant : Refusal → Refusal
 refusal_meant (NoBug n) = if nat_lt 1000000000 n then NoName (n - 1000000000) else NoBug n
 refusal_meant refusal = refusal
 
--- the outcome of a command that was told, whose step is this, and the desk after it
-abbrev pub outcome_meant : Desk → Result Desk Refusal → Outcome × Desk
-outcome_meant d (Ok new) = (Changed (changed_numbers d new), new)
-outcome_meant d (Err refusal) = (Refused (refusal_meant refusal), d)
+-- what is meant by what the step of a command that was told comes to
+abbrev pub result_meant : Result Desk Refusal → Result Desk Refusal
+result_meant (Ok new) = Ok new
+result_meant (Err refusal) = Err (refusal_meant refusal)
+
+-- the step of a command over numbers, where these names are known
+abbrev pub step_among : Names → Desk → List ℕ → Command ℕ → Result Desk Refusal
+step_among names d sender command = step_by (λ n. Ok n) (name_refusal names) (open_head d.tree) d sender command

@@ -1,0 +1,4 @@
+pub mod KnownLemmas
+pub mod OverLemmas
+pub mod ToldLemmas
+pub mod StepLemmas
