@@ -75,14 +75,19 @@ fn each_bug_of_a_set_is_listed_by_itself(rt: HostRuntime) {
     let alloc = rt.alloc();
     let mut desk = PlainDesk::new(alloc, 1);
     written(alloc, &mut desk, REPORTS);
-    let script = "found 1 2\nfixed 2 2\nnotfound 3 1\nfixed 3 1\nblock 1 by 2\nmerge 1 2\n";
-    written(alloc, &mut desk, script);
+    written(
+        alloc,
+        &mut desk,
+        "found 1 2\nfixed 2 2\nblock 1 by 2\nmerge 1 2\n",
+    );
     let both = [
         (1, Severity::Normal, false, "a"),
         (2, Severity::Normal, false, "b"),
     ];
     assert!(rt; are_listed(alloc, &mut desk, "foo/2", &both));
     assert!(rt; are_listed_for(alloc, &mut desk, "bar", "foo/2", &[]));
+    written(alloc, &mut desk, "notfound 1 2\n");
+    assert!(rt; are_listed(alloc, &mut desk, "foo/2", &[]));
 }
 
 #[test]
@@ -91,7 +96,7 @@ fn lists_go_by_severity_and_then_by_number(rt: HostRuntime) {
     let mut desk = PlainDesk::new(alloc, 1);
     let script = "@from ann\n@report foo 1 wishlist a\n@report foo 1 grave b\n\
         @report foo 1 critical c\n@report foo 1 grave d\n@report bar 1 critical e\n\
-        @report foo 1 minor f\n@report foo 1 grave g\nretitle 4 longer\nclose 7\narchive 7\n";
+        @report foo 1 minor f\n@report foo 1 grave g\nretitle 4 longer\nclose 7\n";
     written(alloc, &mut desk, script);
     let rows = [
         (3, Severity::Critical, false, "c"),
@@ -121,10 +126,10 @@ fn a_bug_is_listed_at_the_versions_that_have_it(rt: HostRuntime) {
 }
 
 #[test]
-fn a_closed_bug_is_told_as_closed(rt: HostRuntime) {
+fn a_closed_bug_is_told_as_closed_until_it_is_archived(rt: HostRuntime) {
     let alloc = rt.alloc();
     let mut desk = PlainDesk::new(alloc, 1);
-    let script = "@from ann\n@report foo 1 normal a\nclose 1 2\n";
+    let script = "@from ann\n@branch foo/2 foo/1\n@report foo 1 normal a\nclose 1 2\n";
     written(alloc, &mut desk, script);
     assert!(rt;
         are_listed(
@@ -135,6 +140,8 @@ fn a_closed_bug_is_told_as_closed(rt: HostRuntime) {
         )
     );
     assert!(rt; are_listed(alloc, &mut desk, "foo/2", &[]));
+    written(alloc, &mut desk, "archive 1\n");
+    assert!(rt; are_listed(alloc, &mut desk, "foo/1", &[]));
 }
 
 #[test]
