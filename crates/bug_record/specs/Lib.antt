@@ -17,6 +17,7 @@ pub mod Steps
 pub mod Images
 pub mod Plans
 pub mod Changed
+pub mod Asked
 pub mod Waiting
 pub mod Lists
 -- definitions that only private functions cite

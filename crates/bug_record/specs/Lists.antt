@@ -1,6 +1,6 @@
 -- The bugs of a package that are listed at a version.
 -- This project's own rule.
-use Rattle.std.specs.Prelude.{ℕ, ◌==◌, ◌&&◌, Bool, false, not, List, filter, flat_map, Option, Some, None}
+use Rattle.std.specs.Prelude.{ℕ, ◌==◌, ◌&&◌, Bool, not, List, flat_map}
 use Rattle.std.specs.Str.{bytes_eq}
 use Rattle.ancestry.specs.Nodes.{Node}
 use Rattle.ancestry.specs.Trees.{Ancestry}
@@ -8,8 +8,7 @@ use Rattle.ancestry.specs.Statuses.{status}
 use Rattle.bug_record.specs.Severities.{all_severities, rank}
 use Rattle.bug_record.specs.Heads.{is_found}
 use Rattle.bug_record.specs.Desk.{Desk}
-use Rattle.bug_record.specs.Changed.{numbers_below}
-use Rattle.bug_record.specs.declared.bug.Bug.{Bug}
+use Rattle.bug_record.specs.Asked.{numbers_where}
 use Rattle.bug_record.specs.declared.bug.Shared.{Shared}
 use Rattle.bug_record.specs.declared.severity.Severity.{Severity}
 
@@ -20,12 +19,9 @@ is_listed tree package_name node f =
     bytes_eq f.package package_name && not f.archived && is_found (status tree f.found f.fixed f.closed node)
 
 -- whether it is, and of this severity
-abbrev pub is_listed_as : Ancestry → List ℕ → Node → Severity → Option Bug → Bool
-is_listed_as tree package_name node severity None = false
-is_listed_as tree package_name node severity (Some b) =
-    is_listed tree package_name node b.shared && (rank b.shared.severity == rank severity)
+abbrev pub is_listed_as : Ancestry → List ℕ → Node → Severity → Shared → Bool
+is_listed_as tree package_name node severity f = is_listed tree package_name node f && (rank f.severity == rank severity)
 
 -- the bugs that are listed, by severity, from critical to wishlist, and then by number
 abbrev pub listed : Desk → List ℕ → Node → List ℕ
-listed d package_name node = flat_map
-    (λ severity. filter (λ n. is_listed_as d.tree package_name node severity (d.bug n)) (numbers_below d.next)) all_severities
+listed d package_name node = flat_map (λ severity. numbers_where (is_listed_as d.tree package_name node severity) d) all_severities

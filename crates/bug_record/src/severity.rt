@@ -1,7 +1,7 @@
 //! Severities of bugs.
 
 ghost use Rattle.std.specs.Prelude.{◌≡◌};
-ghost use Rattle.bug_record.specs.Severities.{severity_of, severity_name, rank};
+ghost use Rattle.bug_record.specs.Severities.{all_severities, severity_of, severity_name, rank};
 
 use line_words::{Spelled, find_spelled};
 
@@ -29,6 +29,13 @@ const ALL: [Severity; 7] = [
 ];
 
 impl Severity {
+    /// All severities, from the most severe down.
+    pub fn all() -> [Severity; 7]
+        ensures { result ≡ all_severities }
+    {
+        ALL
+    }
+
     /// The severity of this name, in any ASCII case; `None` where the word names none.
     pub fn read(word: &str) -> Option<Severity>
         ensures { result ≡ severity_of word.now }

@@ -1,4 +1,5 @@
 pub mod ImageLemmas
 pub mod KeyLemmas
+pub mod ListLemmas
 pub mod PlaceLemmas
-pub mod WaitingLemmas
+pub mod PassingLemmas

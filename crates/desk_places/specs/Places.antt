@@ -39,8 +39,3 @@ KeepsSet set j = (i : SetImage) × (set (key_of j) ≡ Some i) × (numbers_of i.
 abbrev pub IsOnlyPlace : {S : Type 0} → HashMap ℕ Place S → SetImage → ℕ → Type 0
 IsOnlyPlace bugs j key =
     (n : ℕ) → option_or (place_in (j ∷ []) n) (get nat_eq bugs n) ≡ (if key == n then Some (First j) else get nat_eq bugs n)
-
--- the bugs of the set whose image stands at a place, where they wait on the bug n
-abbrev pub waiting_there : ℕ → Place → List ℕ
-waiting_there n (First i) = if has i.shared.blockers n then numbers_of i.members else []
-waiting_there n (After k) = []

@@ -8,15 +8,22 @@ use ancestry::{Node, Status, Tree, status};
 use bug_record::Shared;
 use std::alloc::AllocError;
 
+/// Whether a bug of this status is there.
+pub(crate) fn is_there(status: Status) -> bool
+    ensures { result ≡ is_found status }
+{
+    match status {
+        Status::Found => true,
+        Status::Fixed | Status::Absent | Status::Done => false,
+    }
+}
+
 // Whether a bug with these fields is found at a node.
 fn is_found(tree: &Tree, shared: &Shared, node: &Node) -> bool
     ensures { result ≡ is_found (status tree.now shared.now.found shared.now.fixed shared.now.closed node.now) }
 {
     let (found, fixed) = (shared.found.as_slice(), shared.fixed.as_slice());
-    match status(tree, found, fixed, shared.closed, node) {
-        Status::Found => true,
-        Status::Fixed | Status::Absent | Status::Done => false,
-    }
+    is_there(status(tree, found, fixed, shared.closed, node))
 }
 
 /// The first head of a bug's package, in node order, at which a bug with these fields is still

@@ -3,9 +3,12 @@
 #![tactic(auto)]
 
 mod heads;
+mod lists;
 mod places;
+mod questions;
 mod waiting;
 
 pub use heads::open_head;
+pub use lists::listed;
 pub use places::{Place, image_of, put_images};
 pub use waiting::waiting_on;

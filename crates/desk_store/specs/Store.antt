@@ -9,6 +9,9 @@ use Rattle.bug_record.specs.Desk.{Desk}
 use Rattle.bug_record.specs.Heads.{open_head}
 use Rattle.bug_record.specs.Images.{numbers_of, IsSetOf, put}
 use Rattle.bug_record.specs.Waiting.{waiting_on}
+use Rattle.bug_record.specs.Lists.{listed}
+use Rattle.desk_text.specs.Lists.{rows_of}
+use Rattle.desk_text.specs.declared.lists.ListRow.{ListRow}
 use Rattle.bug_record.specs.declared.bug.SetImage.{SetImage}
 use Rattle.bug_record.specs.declared.command.Change.{Change}
 use Rattle.desk_text.specs.declared.outcome.StoreFault.{StoreFault}
@@ -46,6 +49,10 @@ IsOpenHead d i head = head ≡ open_head d.tree i.shared
 -- the bugs that wait on the bug n, ascending
 abbrev pub AreWaitingOn : Desk → ℕ → List ℕ → Type 0
 AreWaitingOn d n numbers = numbers ≡ waiting_on d n
+
+-- the rows of the bugs that are listed for a package at a node
+abbrev pub AreListed : Desk → List ℕ → Node → List ListRow → Type 0
+AreListed d package_name node rows = rows ≡ rows_of d.bug (listed d package_name node)
 
 -- the change is made, or none
 abbrev pub Applies : {T : Type 0} → Desk → Desk → Result T StoreFault → Change → Type 0

@@ -3,15 +3,15 @@
 ghost use Rattle.std.specs.Prelude.{◌≡◌, ◌≢◌, ◌-◌, ◌||◌, ◌==◌, true, false, Err, IfOk};
 ghost use Rattle.bug_record.specs.Sets.{Each};
 ghost use Rattle.bug_record.specs.Images.{AreApart, HasMember, IsSetOf, FitsDesk};
-ghost use Rattle.desk_store.specs.Store.{Holds, Asks, Answers, IsImageOf, IsNext, IsOpenHead, AreWaitingOn};
+ghost use Rattle.desk_store.specs.Store.{Holds, Asks, Answers, IsImageOf, IsNext, IsOpenHead, AreWaitingOn, AreListed};
 ghost use Rattle.desk_store.specs.Store.{Applies, Branches, IsRefusal};
 ghost use Rattle.desk_store.specs.Store.{faults_after};
 ghost use Rattle.desk_store.specs.FailAt.{faults_with};
 
 use crate::records::Records;
 use ancestry::{BranchFault, Node};
-use bug_record::{Change, Numbers, SetImage};
-use desk_text::StoreFault;
+use bug_record::{Change, Numbers, Sequence, SetImage};
+use desk_text::{ListRow, StoreFault};
 
 /// A store round another.
 /// One call of `apply` or `branch` answers `Device`, changes nothing and is counted; every other
@@ -102,6 +102,17 @@ impl<S: Records> Records for FailAt<S> {
         ensures has_failed { self.new.has_failed ≡ self.old.has_failed }
     {
         self.inner.waiting_on(number)
+    }
+
+    fn listed(&mut self, package: &str, node: &Node) -> Result<Sequence<ListRow>, StoreFault>
+        ensures answer { Asks S.is_kept S.is_honest self.old.inner self.new.inner
+            (Answers (S.desk self.old.inner) (S.desk self.new.inner) result
+            (AreListed (S.desk self.old.inner) «package».now node.now)) }
+        ensures count { S.faults self.new.inner ≡ faults_after result (S.faults self.old.inner) }
+        ensures left { self.new.left ≡ self.old.left }
+        ensures has_failed { self.new.has_failed ≡ self.old.has_failed }
+    {
+        self.inner.listed(package, node)
     }
 
     fn apply(&mut self, change: &Change) -> Result<(), StoreFault>

@@ -7,15 +7,15 @@ ghost use Rattle.std.specs.Prelude.{nat_eq};
 ghost use Rattle.bug_record.specs.Desk.{IsSound};
 ghost use Rattle.bug_record.specs.Images.{AreApart, FitsDesk, put};
 ghost use Rattle.bug_record.proofs.SoundProp.{IsSound-prop};
-ghost use Rattle.desk_store.specs.Store.{IsImageOf, IsOpenHead, AreWaitingOn, Branches, IsRefusal, no_faults};
+ghost use Rattle.desk_store.specs.Store.{IsImageOf, IsOpenHead, AreWaitingOn, AreListed, Branches, IsRefusal, no_faults};
 ghost use Rattle.desk_places.specs.Keys.{IsKeyed};
 ghost use Rattle.desk_places.specs.Plain.{desk_of, empty_desk, keys, sets};
 
 use crate::records::Records;
 use ancestry::{BranchFault, Node, Tree};
-use bug_record::{Change, Numbers, SetImage};
-use desk_places::{Place, image_of, open_head, put_images, waiting_on};
-use desk_text::StoreFault;
+use bug_record::{Change, Numbers, Sequence, SetImage};
+use desk_places::{Place, image_of, listed, open_head, put_images, waiting_on};
+use desk_text::{ListRow, StoreFault};
 use std::alloc::{AllocError, Global};
 use std::collections::HashMap;
 
@@ -96,6 +96,18 @@ impl Records for PlainDesk {
     {
         match waiting_on(self.alloc, &self.bugs, number) {
             Ok(numbers) => Ok(numbers),
+            Err(_) => Err(StoreFault::Memory),
+        }
+    }
+
+    fn listed(&mut self, package: &str, node: &Node) -> Result<Sequence<ListRow>, StoreFault>
+        ensures same { self.new ≡ self.old }
+        ensures rows { IfOk result
+            (AreListed (desk_of self.old.bugs self.old.tree self.old.next) «package».now node.now) }
+        ensures memory { IfErr result (λ fault. fault ≡ StoreFault.Memory) }
+    {
+        match listed(self.alloc, &self.bugs, &self.tree, package, node) {
+            Ok(rows) => Ok(rows),
             Err(_) => Err(StoreFault::Memory),
         }
     }

@@ -4,14 +4,14 @@ ghost use Rattle.std.specs.Prelude.{◌≡◌, Option, Result, IfOk};
 ghost use Rattle.bug_record.specs.Sets.{Each};
 ghost use Rattle.bug_record.specs.Desk.{Desk, IsSound};
 ghost use Rattle.bug_record.specs.Images.{AreApart, HasMember, IsSetOf, FitsDesk};
-ghost use Rattle.desk_store.specs.Store.{Holds, Asks, Answers, IsImageOf, IsNext, IsOpenHead, AreWaitingOn};
+ghost use Rattle.desk_store.specs.Store.{Holds, Asks, Answers, IsImageOf, IsNext, IsOpenHead, AreWaitingOn, AreListed};
 ghost use Rattle.desk_store.specs.Store.{Applies, Branches, IsRefusal};
 ghost use Rattle.desk_store.specs.Store.{Faults};
 ghost use Rattle.desk_store.specs.Store.{faults_after, total};
 
 use ancestry::{BranchFault, Node};
-use bug_record::{Change, Numbers, SetImage};
-use desk_text::StoreFault;
+use bug_record::{Change, Numbers, Sequence, SetImage};
+use desk_text::{ListRow, StoreFault};
 
 /// A store of a desk, in memory or in tables.
 ///
@@ -62,6 +62,16 @@ pub trait Records {
     fn waiting_on(&mut self, number: u64) -> Result<Numbers, StoreFault>
         ensures answer { Asks is_kept is_honest self.old self.new
             (Answers (desk self.old) (desk self.new) result (AreWaitingOn (desk self.old) number)) }
+        ensures count { faults self.new ≡ faults_after result (faults self.old) };
+
+    /// The bugs of a package that are not archived and are found at a node, by severity, from
+    /// critical to wishlist, and then by number; each bug of a set stands by itself.
+    /// The node's source may be another package.
+    /// This is this project's own rule.
+    /// Its errors are the store's faults, and `Memory` where there is none for the rows.
+    fn listed(&mut self, package: &str, node: &Node) -> Result<Sequence<ListRow>, StoreFault>
+        ensures answer { Asks is_kept is_honest self.old self.new
+            (Answers (desk self.old) (desk self.new) result (AreListed (desk self.old) «package».now node.now)) }
         ensures count { faults self.new ≡ faults_after result (faults self.old) };
 
     /// Carries a change out, in one step.

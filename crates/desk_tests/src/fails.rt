@@ -4,13 +4,13 @@ ghost use Rattle.std.specs.Prelude.{◌≡◌, ◌||◌, true, false};
 ghost use Rattle.desk_tests.specs.Fails.{faults_with};
 
 use ancestry::{BranchFault, Node};
-use bug_record::{Change, Numbers, SetImage};
+use bug_record::{Change, Numbers, Sequence, SetImage};
 use desk_store::Records;
-use desk_text::StoreFault;
+use desk_text::{ListRow, StoreFault};
 
 /// A store round another.
-/// One call of `set_of`, `next`, `open_head`, `waiting_on`, `apply` or `branch` answers this fault,
-/// and changes nothing; every other call is the other store's.
+/// One call of `set_of`, `next`, `open_head`, `waiting_on`, `listed`, `apply` or `branch` answers
+/// this fault, and changes nothing; every other call is the other store's.
 /// Its calls are counted, and the images of the changes that it is given.
 #[derive(Drop)]
 pub(crate) struct Fails<S> {
@@ -95,6 +95,13 @@ impl<S: Records> Records for Fails<S> {
             return Err(self.fault);
         }
         self.inner.waiting_on(number)
+    }
+
+    fn listed(&mut self, package: &str, node: &Node) -> Result<Sequence<ListRow>, StoreFault> {
+        if self.is_due() {
+            return Err(self.fault);
+        }
+        self.inner.listed(package, node)
     }
 
     fn apply(&mut self, change: &Change) -> Result<(), StoreFault> {

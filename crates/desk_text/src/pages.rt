@@ -180,8 +180,8 @@ fn append_relations(
     Ok(())
 }
 
-// The member of the number.
-fn member_at(members: &[Member], number: u64) -> Option<&Member>
+/// The member of the number.
+pub(crate) fn member_at(members: &[Member], number: u64) -> Option<&Member>
     ensures { option_copied result ≡ member_at members.now number }
 {
     for member in members {

@@ -1,7 +1,7 @@
 use Rattle.std.proofs.Common.{List, ℕ, ap, ◌∙◌}
 use Rattle.bug_record.specs.Sets.{has}
-use Rattle.desk_places.proofs.WaitingLemmas.{contains-has}
-use Rattle.desk_places.proofs.waiting.waits_on.Goals as goal
+use Rattle.desk_places.proofs.PassingLemmas.{contains-has}
+use Rattle.desk_places.proofs.questions.waits_on.Goals as goal
 
 pub returns : goal.returns
 returns c =

@@ -1,0 +1,101 @@
+//! The bugs of a desk in memory that are listed for a package at a node.
+
+ghost use Rattle.std.specs.Prelude.{◌≡◌, ◌++◌, ℕ, [], filter, flat_map, IfOk, OnOk};
+ghost use Rattle.bug_record.specs.Desk.{IsSound};
+ghost use Rattle.bug_record.specs.Lists.{listed};
+ghost use Rattle.bug_record.specs.Severities.{all_severities};
+ghost use Rattle.desk_places.specs.Keys.{IsKeyed, keyed_bug};
+ghost use Rattle.desk_places.specs.Plain.{desk_of, keys, sets};
+ghost use Rattle.desk_places.specs.Questions.{is_row_of};
+ghost use Rattle.desk_text.specs.Lists.{rows_of, with_row};
+
+use crate::places::{Place, image_of};
+use crate::questions::{Question, passing};
+use ancestry::{Node, Tree};
+use bug_record::{Sequence, Severity};
+use desk_text::ListRow;
+use std::alloc::{AllocError, Global};
+use std::collections::HashMap;
+
+// Adds the row of a bug, if there is one.
+fn add_row(
+    rows: &mut Sequence<ListRow>,
+    bugs: &HashMap<u64, Place>,
+    number: u64,
+) -> Result<(), AllocError>
+    ensures { OnOk result
+        (rows.new ≡ rows.old ++ with_row number (keyed_bug (keys bugs.now) (sets bugs.now) number) []) }
+{
+    let Some(image) = image_of(bugs, number) else {
+        return Ok(());
+    };
+    let Some(row) = ListRow::of(image, number)? else {
+        return Ok(());
+    };
+    rows.push(row)
+}
+
+// The rows of the bugs of these numbers.
+fn rows_of(
+    alloc: Global,
+    bugs: &HashMap<u64, Place>,
+    numbers: &[u64],
+) -> Result<Sequence<ListRow>, AllocError>
+    ensures { IfOk result (λ rows. rows ≡ rows_of (keyed_bug (keys bugs.now) (sets bugs.now)) numbers.now) }
+{
+    let mut rows = Sequence::new(alloc);
+    for number in numbers {
+        add_row(&mut rows, bugs, *number)?;
+    }
+    Ok(rows)
+}
+
+// Adds those of the rows that are of a severity.
+fn add_rows_of(
+    sorted: &mut Sequence<ListRow>,
+    rows: &[ListRow],
+    severity: Severity,
+) -> Result<(), AllocError>
+    ensures { OnOk result (sorted.new ≡ sorted.old ++ filter (is_row_of severity) rows.now) }
+{
+    for row in rows {
+        if row.severity.rank() == severity.rank() {
+            sorted.push(row.copy()?)?;
+        }
+    }
+    Ok(())
+}
+
+// The rows by severity, from critical to wishlist, and of each severity in their order.
+fn by_severity(alloc: Global, rows: &[ListRow]) -> Result<Sequence<ListRow>, AllocError>
+    ensures { IfOk result (λ sorted. sorted ≡ flat_map (λ severity. filter (is_row_of severity) rows.now) all_severities) }
+{
+    let mut sorted = Sequence::new(alloc);
+    let severities = Severity::all();
+    for severity in severities.as_slice() {
+        add_rows_of(&mut sorted, rows, *severity)?;
+    }
+    Ok(sorted)
+}
+
+/// The bugs of a package that are not archived and are found at a node, by severity, from critical
+/// to wishlist, and then by number; each bug of a set stands by itself.
+/// Each set is looked at once, and the node's line is taken once.
+/// The only error is that there is no memory for the rows.
+pub fn listed(
+    alloc: Global,
+    bugs: &HashMap<u64, Place>,
+    tree: &Tree,
+    package: &str,
+    node: &Node,
+) -> Result<Sequence<ListRow>, AllocError>
+    requires { IsKeyed (keys bugs.now) (sets bugs.now) }
+    ensures { (next : ℕ) → IsSound (desk_of bugs.now tree.now next)
+        → IfOk result (λ rows. rows ≡ rows_of (desk_of bugs.now tree.now next).bug
+        (listed (desk_of bugs.now tree.now next) «package».now node.now)) }
+{
+    let line = tree.line(node)?;
+    let numbers = passing(alloc, bugs, Question::IsListed(package, line.as_slice()))?;
+    let rows = rows_of(alloc, bugs, numbers.as_slice())?;
+    by_severity(alloc, rows.as_slice())
+}
