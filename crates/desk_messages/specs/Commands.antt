@@ -31,7 +31,8 @@ abbrev pub DoesTold : List ℕ → Names → Desk → Command ℕ → Result Out
 DoesTold sender names old command (Ok outcome) new = outcome_of old (result_meant (step_among names old sender command)) ≡ (outcome, new)
 DoesTold sender names old command (Err fault) new = new ≡ old
 
--- a command carried out where these names are known: what the machine does, or a fault and no change
+-- a command carried out where these names are known: what the machine does, or a fault and no
+-- change
 abbrev pub Does : List ℕ → Names → Desk → Command Named → Result Outcome StoreFault → Desk → Type 0
 Does sender names old command (Ok outcome) new = does sender names old command ≡ (outcome, new)
 Does sender names old command (Err fault) new = new ≡ old

@@ -61,8 +61,8 @@ impl KnownNames {
         self.numbers.get(&name).copied()
     }
 
-    /// The refusal of the first of these names that can't be given: `NameTaken(k)` of a name -k that
-    /// is known, or stands twice among them; `None` where all can be given.
+    /// The refusal of the first of these names that can't be given: `NameTaken(k)` of a name -k
+    /// that is known, or stands more than once among them; `None` where all can be given.
     pub fn refusal(&self, alloc: Global, names: &[u32]) -> Result<Option<Refusal>, AllocError>
         ensures { IfOk result (λ refusal. refusal ≡ name_refusal self.now.names names.now) }
     {

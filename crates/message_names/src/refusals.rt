@@ -24,9 +24,9 @@ pub fn refusal_meant(refusal: Refusal) -> Refusal
     }
 }
 
-/// What is planned, with the refusal of the names that a command gives: that comes before a change,
-/// and before `Full`, and after any other refusal.
-/// A plan is made as if each name could be given.
+/// What is planned, with the refusal of the names that a command gives, if there is one: it comes
+/// before a change and before `Full`, and after any other refusal; `Memory` stays.
+/// A plan knows no names, and is made as if each could be given.
 pub fn with_names(
     taken: Option<Refusal>,
     planned: Result<Change, PlanFault>,
