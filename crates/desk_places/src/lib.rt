@@ -1,5 +1,5 @@
-//! A desk in memory, by sets: a map that gives each bug its place in its set, where the image of the
-//! set stands at the first of them; what is put into it, and what is asked of it.
+//! A desk in memory, by sets: a map that gives each bug its place in its set, where the image of
+//! the set stands at the first of them; what is put into it, and what is asked of it.
 #![tactic(auto)]
 
 mod heads;
