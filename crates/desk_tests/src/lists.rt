@@ -37,6 +37,9 @@ fn page_is<S: Records>(alloc: Global, store: &mut S, number: u64, page: &str) ->
         number,
         waiting,
     };
+    if !told.image.has(number) {
+        return false;
+    }
     let mut out = Vec::new(alloc);
     let done = bug_text(alloc, &mut out, &told);
     done.is_ok() && out.as_slice() == page.as_bytes()
