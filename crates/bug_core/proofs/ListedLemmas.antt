@@ -18,13 +18,8 @@ use Rattle.bug_record.specs.declared.bug.SetImage.{SetImage}
 use Rattle.bug_record.specs.declared.command.Refusal.{Refusal}
 use Rattle.bug_core.specs.Others.{has_any, is_meant, those_meant}
 use Rattle.set_images.proofs.ImageLemmas.{has-member_some, member-has, same_value}
+use Rattle.bug_record.proofs.SetLemmas.{same_test}
 use Rattle.bug_core.proofs.SoundLemmas.{agree}
-
--- tests that hold together are the same
-pub same_test : (a b : Bool) → (a ≡ true → b ≡ true) → (b ≡ true → a ≡ true) → a ≡ b
-same_test true b f g = sym (f refl)
-same_test false true f g = g refl
-same_test false false f g = refl
 
 -- one of two lists of numbers has a number of the other
 pub any-from : (xs ns : List ℕ) (k : ℕ) → has xs k ≡ true → has ns k ≡ true → has_any xs ns ≡ true

@@ -9,7 +9,8 @@ use Rattle.bug_record.specs.Images.{numbers_of}
 use Rattle.bug_record.specs.declared.bug.Member.{Member}
 use Rattle.bug_record.specs.declared.bug.SetImage.{SetImage}
 use Rattle.bug_core.specs.Others.{is_any, has_any, is_meant, those_meant, others}
-use Rattle.bug_core.proofs.ListedLemmas.{same_test, any-from, any-of}
+use Rattle.bug_record.proofs.SetLemmas.{same_test}
+use Rattle.bug_core.proofs.ListedLemmas.{any-from, any-of}
 use Rattle.bug_record.proofs.SetLemmas.{has-number_set}
 use Rattle.bug_record.proofs.OrderedLemmas.{has-key}
 

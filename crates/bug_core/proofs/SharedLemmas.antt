@@ -27,7 +27,8 @@ use Rattle.bug_record.proofs.SetLemmas.{has-number_set, IsAscending-number_set, 
 use Rattle.bug_core.specs.Others.{those_meant}
 use Rattle.bug_record.specs.Sets.{with_items}
 use Rattle.bug_core.specs.Joins.{with_nodes, without_marks_and_blockers, without_own, with_shared, with_all_shared}
-use Rattle.bug_core.proofs.ListedLemmas.{same_test, listed-from, meant-listed}
+use Rattle.bug_record.proofs.SetLemmas.{same_test}
+use Rattle.bug_core.proofs.ListedLemmas.{listed-from, meant-listed}
 
 or_group : (a b c : Bool) → ((a || b) || c) ≡ (a || (b || c))
 or_group true b c = refl

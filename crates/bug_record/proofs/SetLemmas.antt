@@ -1,7 +1,7 @@
 -- Sets of numbers as ascending lists.
 use Rattle.std.proofs.Common.{◌≡◌, ◌<◌, ℕ, suc, zero, eqb, Bool, true, false, cond, ◌||◌, ◌&&◌, List, [], ◌∷◌, ◌++◌, sym, refl}
 use Rattle.std.proofs.Common.{ap, ◌∙◌, subst, arith}
-use Rattle.std.specs.Prelude.{filter, ◌==◌, nat_lt}
+use Rattle.std.specs.Prelude.{filter, ◌==◌, nat_eq, nat_lt}
 use Rattle.std.proofs.lemmas.Bool.{false≢true, eqb-true, eq-eqb, ltb-true, or_right}
 use Rattle.std.proofs.lemmas.Bool.Decides.{nat_tests}
 use Rattle.bug_record.specs.Sets.{has, AllAbove, IsAscending, with_item, number_set}
@@ -9,6 +9,17 @@ use Rattle.bug_record.specs.Changed.{numbers_below}
 use Rattle.std.specs.List.{list_any}
 use Rattle.bug_record.specs.Images.{numbers_of}
 use Rattle.bug_record.specs.declared.bug.Member.{Member}
+
+-- tests that hold together are the same
+pub same_test : (a b : Bool) → (a ≡ true → b ≡ true) → (b ≡ true → a ≡ true) → a ≡ b
+same_test true b f g = sym (f refl)
+same_test false true f g = g refl
+same_test false false f g = refl
+
+-- what `contains` says of a list of numbers
+pub contains-has : (ns : List ℕ) (n : ℕ) → list_any (λ x. nat_eq x n) ns ≡ has ns n
+contains-has [] n = refl
+contains-has (x ∷ ns) n = ap (λ t. nat_eq x n || t) (contains-has ns n)
 
 -- what is in a list of two parts
 pub has-append : (xs ys : List ℕ) (m : ℕ) → has (xs ++ ys) m ≡ (has xs m || has ys m)

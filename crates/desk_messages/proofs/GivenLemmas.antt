@@ -22,7 +22,7 @@ use Rattle.desk_store.specs.Message.{Entry, names_with, names_given, known_names
 use Rattle.message_names.specs.Known.{AreOfBugs}
 use Rattle.message_names.specs.Telling.{result_meant, step_among}
 use Rattle.desk_messages.specs.Commands.{DoesTold, Does}
-use Rattle.desk_messages.specs.Named.{names_of}
+use Rattle.desk_store.specs.Message.{names_of}
 use Rattle.desk_messages.proofs.CommandLemmas.{does_told}
 
 -- the names after one line more

@@ -2,7 +2,6 @@ pub mod Transcripts
 pub mod Reports
 -- definitions that only private functions cite
 pub mod Commands
-pub mod Named
 pub mod Written
 pub mod Images
 pub mod Questions

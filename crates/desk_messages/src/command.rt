@@ -11,7 +11,7 @@ ghost use Rattle.line_words.specs.Bugs.{IsGoodBug};
 ghost use Rattle.desk_store.specs.Store.{Holds, faults_after};
 ghost use Rattle.message_names.specs.Known.{AreOfBugs};
 ghost use Rattle.desk_messages.specs.Commands.{MayBeMade, CarriesOut, DoesTold, Does};
-ghost use Rattle.desk_messages.specs.Named.{names_of};
+ghost use Rattle.desk_store.specs.Message.{names_of};
 
 use crate::questions::ask;
 use crate::writing::written;

@@ -3,7 +3,6 @@ use Rattle.std.proofs.Common.{◌≡◌, ◌<◌, ℕ, suc, Bool, true, false, c
 use Rattle.std.proofs.Common.{sym, refl, ap, ◌∙◌, arith, inl, inr}
 use Rattle.std.specs.Prelude.{nat_eq, nat_lt, slice_get, option_map}
 use Rattle.std.specs.Option.{option_and_then}
-use Rattle.std.specs.List.{list_any}
 use Rattle.std.specs.Cmp.{nat_eq_equiv}
 use Rattle.std.specs.Map.{lookup, values_of}
 use Rattle.std.specs.HashMap.{HashMap, get, values, IsUnique}
@@ -20,7 +19,7 @@ use Rattle.bug_record.specs.Asked.{passes, numbers_where}
 use Rattle.bug_record.specs.declared.bug.Bug.{Bug}
 use Rattle.bug_record.specs.declared.bug.SetImage.{SetImage}
 use Rattle.bug_record.specs.declared.bug.Shared.{Shared}
-use Rattle.bug_record.proofs.SetLemmas.{has-append, has-filter, has-number_set, has-numbers_below, same-ascending}
+use Rattle.bug_record.proofs.SetLemmas.{same_test, has-append, has-filter, has-number_set, has-numbers_below, same-ascending}
 use Rattle.bug_record.proofs.SetLemmas.{IsAscending-filter, IsAscending-number_set, IsAscending-numbers_below}
 use Rattle.desk_places.specs.Keys.{keyed_bug, IsKeyed}
 use Rattle.desk_places.specs.Plain.{image_at, keys, sets, desk_of}
@@ -33,17 +32,6 @@ use Rattle.desk_places.proofs.KeyLemmas.{found-image, shown-some}
 abbrev pub passing_in : (Shared → Bool) → List Place → List ℕ
 passing_in test [] = []
 passing_in test (p ∷ ps) = passing_there test p ++ passing_in test ps
-
--- what `contains` says of a list of numbers
-pub contains-has : (ns : List ℕ) (n : ℕ) → list_any (λ x. nat_eq x n) ns ≡ has ns n
-contains-has [] n = refl
-contains-has (x ∷ ns) n = ap (λ t. nat_eq x n || t) (contains-has ns n)
-
--- two tests that come to the same
-same_tests : (a b : Bool) → (a ≡ true → b ≡ true) → (b ≡ true → a ≡ true) → a ≡ b
-same_tests true b f g = sym (f refl)
-same_tests false true f g = g refl
-same_tests false false f g = refl
 
 -- ---- the sum over the places
 
@@ -139,7 +127,7 @@ module _ {S : Type 0} (bugs : HashMap ℕ Place S) (unique : IsUnique nat_eq bug
       (sym (as_set k m j.0 j.1 j.2) ∙ h) j.2
 
   pub has-passing : (m : ℕ) → has (passing_in test (values bugs)) m ≡ passes test (bug m)
-  has-passing m = same_tests _ _ (passing m) (is_there m (keys bugs m) refl)
+  has-passing m = same_test _ _ (passing m) (is_there m (keys bugs m) refl)
 
   -- those are the bugs of the desk that pass
   pub passing-is : (tree : Ancestry) (next : ℕ) → IsSound (desk_of bugs tree next)

@@ -25,10 +25,15 @@ use Rattle.desk_store.specs.Store.{Faults, counted}
 abbrev pub Entry : Type 0
 Entry = List ℕ × Outcome
 
--- the names that a line which reads so gives, each with its number: those of an accepted `clone`,
--- whose changed numbers are those of the copies, in the order of the names
+-- those of a command's names that are given where this is its outcome, each with its number: all of
+-- an accepted one, whose changed numbers are those of the copies, in the order of the names
+abbrev pub names_of : List ℕ → Outcome → Names
+names_of ks (Changed numbers) = zip ks numbers
+names_of ks outcome = []
+
+-- the names that a line which reads so gives
 abbrev pub names_with : Result Line Refusal → Outcome → Names
-names_with (Ok (Do command)) (Changed numbers) = zip (names_in command) numbers
+names_with (Ok (Do command)) outcome = names_of (names_in command) outcome
 names_with read outcome = []
 
 abbrev pub names_given : Entry → Names

@@ -1,7 +1,7 @@
 use Rattle.std.proofs.Common.{◌++◌, ap, ◌∙◌}
 use Rattle.std.proofs.lemmas.Result.{IfOk-weaker}
 use Rattle.desk_store.proofs.HoldsLemmas.{holds_where}
-use Rattle.desk_messages.specs.Named.{names_of}
+use Rattle.desk_store.specs.Message.{names_of}
 use Rattle.desk_messages.proofs.GivenLemmas.{does_known}
 use Rattle.desk_messages.proofs.command.take_command.Goals as goal
 

@@ -1,6 +1,6 @@
 use Rattle.std.proofs.Common.{List, ℕ, ap, ◌∙◌}
 use Rattle.bug_record.specs.Sets.{has}
-use Rattle.desk_places.proofs.PassingLemmas.{contains-has}
+use Rattle.bug_record.proofs.SetLemmas.{contains-has}
 use Rattle.desk_places.proofs.questions.waits_on.Goals as goal
 
 pub returns : goal.returns
