@@ -14,11 +14,12 @@ use Rattle.desk_store.specs.Message.{Entry, IsReceived}
 use Rattle.desk_lines.specs.Lines.{raw_lines, without_return}
 use Rattle.desk_lines.specs.Reading.{IsGoodLine, IsBegun}
 use Rattle.desk_messages.specs.Transcripts.{received_text}
-use Rattle.desk_run.specs.Script.{Part, Message, DirectiveLine, Directive, From, Report, Branch, Bad, directive_of, Standing}
-use Rattle.desk_run.specs.Script.{parts_of_lines, script_of, part_text, part_after, text_of, after_parts, end_of_script}
+use Rattle.desk_run.specs.Script.{Part, Message, DirectiveLine, Directive, From, Report, Branch, ListOf, Show, Bad, directive_of}
+use Rattle.desk_run.specs.Script.{Standing, parts_of_lines, script_of, part_text, part_after, text_of, after_parts, end_of_script}
 use Rattle.bug_record.specs.declared.severity.Severity.{Severity}
 use Rattle.ancestry.specs.Nodes.{Node}
 use Rattle.desk_messages.specs.Reports.{report_severity}
+use Rattle.desk_questions.specs.Questions.{AsksForList}
 use Rattle.desk_run.specs.Branches.{nodes_of}
 use Rattle.desk_lines.specs.declared.fault.ScriptFault.{ScriptFault}
 use Rattle.desk_lines.specs.declared.fault.ScriptFault.TheVariants.{Read, Write, NotUtf8, LineTooLong, Memory, Store}
@@ -28,11 +29,14 @@ use Rattle.desk_run.specs.declared.script.ScriptEnd.{ScriptEnd}
 abbrev pub Runs : List Part → Standing → Standing → Option (List ℕ) → Option (List ℕ) → Type 0
 Runs parts a b c0 c1 = (b ≡ after_parts parts a) × Appends c0 c1 (text_of parts a)
 
--- a directive that asks the store: a report whose words are good, or a branch whose words are nodes
+-- a directive that asks the store: a report whose words are good, a branch whose words are nodes, a
+-- list whose words give a node, or a page
 abbrev pub AsksStore : Directive → Type 0
 AsksStore (Report package_name version severity title) =
     (s : Severity) × (report_severity package_name version severity title ≡ Ok s)
 AsksStore (Branch words) = (nodes : List Node) × (nodes_of words ≡ Some nodes)
+AsksStore (ListOf package_name version) = AsksForList package_name version
+AsksStore (Show number) = ⊤
 AsksStore (From sender) = ⊥
 AsksStore Bad = ⊥
 

@@ -7,6 +7,7 @@ use Rattle.std.specs.Str.{bytes_eq}
 use Rattle.bug_record.specs.Texts.{is_text, IsText}
 use Rattle.bug_record.specs.Desk.{Desk}
 use Rattle.control_text.specs.Words.{has_bytes, words, trimmed, first_word, after_word}
+use Rattle.control_text.specs.Numbers.{number_of_word}
 use Rattle.desk_text.specs.Answers.{report_answer, branch_answer, bad_version_answer, bad_directive_answer}
 use Rattle.desk_text.specs.declared.outcome.Outcome.{Outcome}
 use Rattle.desk_text.specs.declared.outcome.Outcome.TheVariants as outcomes
@@ -17,6 +18,7 @@ use Rattle.desk_lines.specs.Lines.{lines_of}
 use Rattle.desk_messages.specs.Transcripts.{received_text}
 use Rattle.ancestry.specs.Trees.{Ancestry}
 use Rattle.desk_messages.specs.Reports.{report_of}
+use Rattle.desk_questions.specs.Questions.{Told, list_told, page_told}
 use Rattle.desk_run.specs.Branches.{BranchRefusal, BadNode, Refused, branch_of}
 use Rattle.desk_text.specs.declared.outcome.ReportFault.{ReportFault}
 use Rattle.desk_run.specs.declared.script.ScriptEnd.{ScriptEnd}
@@ -52,6 +54,8 @@ pub data Directive : Type 0 where
   From : List ℕ → Directive
   Report : List ℕ → Option (List ℕ) → List ℕ → List ℕ → Directive
   Branch : List (List ℕ) → Directive
+  ListOf : List ℕ → List ℕ → Directive
+  Show : ℕ → Directive
   Bad : Directive
 
 -- `@from TEXT`, where the text has 1 to 200 bytes
@@ -73,12 +77,28 @@ report_directive text =
     then Report (first_word text) (given_version (first_word after_package)) severity (trimmed (after_word after_version))
     else Bad
 
+-- `@list package version`: exactly two words
+abbrev pub list_directive : List (List ℕ) → Directive
+list_directive (package_name ∷ version ∷ []) = ListOf package_name version
+list_directive words = Bad
+
+abbrev pub show_directive_of : Option ℕ → Directive
+show_directive_of None = Bad
+show_directive_of (Some number) = Show number
+
+-- `@show n`: exactly one word, which is a number word
+abbrev pub show_directive : List (List ℕ) → Directive
+show_directive (word ∷ []) = show_directive_of (number_of_word word)
+show_directive words = Bad
+
 -- what a line says that begins with `@`
 unfoldable pub directive_of : List ℕ → Directive
 directive_of line =
     if bytes_eq (first_word line) (codes "@from") then from_directive (trimmed (after_word line))
     else if bytes_eq (first_word line) (codes "@report") then report_directive (after_word line)
     else if bytes_eq (first_word line) (codes "@branch") then Branch (words (after_word line))
+    else if bytes_eq (first_word line) (codes "@list") then list_directive (words (after_word line))
+    else if bytes_eq (first_word line) (codes "@show") then show_directive (words (after_word line))
     else Bad
 
 -- a sender is a text of 1 to 200 bytes
@@ -119,12 +139,18 @@ abbrev pub after_branch : Result Ancestry BranchRefusal → Standing → Standin
 after_branch (Ok tree) s = standing (record s.desk { tree = tree }) s.sender s.refused
 after_branch (Err refusal) s = standing s.desk s.sender true
 
+-- where a script stands after a question of which this is told
+abbrev pub after_question : Told → Standing → Standing
+after_question told s = standing s.desk s.sender (s.refused || told.refused)
+
 -- what is written for a directive, and where the script stands after it
 abbrev pub directive_text : Directive → Standing → List ℕ
 directive_text (From sender) s = []
 directive_text (Report package_name version severity title) s =
     report_text (report_of s.desk s.sender package_name version severity title) s.desk.next
 directive_text (Branch words) s = branch_text (branch_of s.desk.tree words)
+directive_text (ListOf package_name version) s = (list_told s.desk package_name version).text
+directive_text (Show number) s = (page_told s.desk number).text
 directive_text Bad s = bad_directive_answer
 
 abbrev pub after_directive : Directive → Standing → Standing
@@ -132,6 +158,8 @@ after_directive (From sender) s = standing s.desk sender s.refused
 after_directive (Report package_name version severity title) s =
     after_report (report_of s.desk s.sender package_name version severity title) s
 after_directive (Branch words) s = after_branch (branch_of s.desk.tree words) s
+after_directive (ListOf package_name version) s = after_question (list_told s.desk package_name version) s
+after_directive (Show number) s = after_question (page_told s.desk number) s
 after_directive Bad s = standing s.desk s.sender true
 
 -- whether an answer `NO ..` or `Too many unreadable lines.` is among those of a message

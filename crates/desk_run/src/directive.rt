@@ -2,13 +2,15 @@
 
 ghost use Rattle.std.specs.Prelude.{◌≡◌};
 ghost use Rattle.std.specs.Option.{option_copied};
-ghost use Rattle.control_text.specs.Words.{has_bytes};
-ghost use Rattle.desk_run.specs.Script.{is_directive, given_version, from_directive, report_directive, directive_of};
-ghost use Rattle.desk_run.specs.Script.{HasGoodSender};
+ghost use Rattle.control_text.specs.Words.{has_bytes, words};
+ghost use Rattle.control_text.specs.Numbers.{number_of_word};
+ghost use Rattle.desk_run.specs.Script.{is_directive, given_version, from_directive, report_directive, list_directive};
+ghost use Rattle.desk_run.specs.Script.{show_directive_of, show_directive, directive_of, HasGoodSender};
 ghost use Rattle.desk_run.specs.Directives.{said};
 
 use bug_core::is_text;
-use control_text::{next_word, trim};
+use control_text::{next_word, number_word, trim};
+use line_words::split_word;
 
 /// What a directive's line says.
 #[derive(Clone, Copy)]
@@ -19,6 +21,10 @@ pub(crate) enum Directive<'a> {
     Report(ReportWords<'a>),
     /// A branch, by the text of its words.
     Branch(&'a str),
+    /// The list of a package at a version.
+    ListOf(ListWords<'a>),
+    /// The page of a bug.
+    Show(u64),
     /// The line is no directive.
     Bad,
 }
@@ -30,6 +36,13 @@ pub(crate) struct ReportWords<'a> {
     pub version: Option<&'a str>,
     pub severity: &'a str,
     pub title: &'a str,
+}
+
+/// The words of a list.
+#[derive(Clone, Copy)]
+pub(crate) struct ListWords<'a> {
+    pub package: &'a str,
+    pub version: &'a str,
 }
 
 /// Whether the line is a directive's: whether its first byte is `@`.
@@ -77,6 +90,46 @@ fn report_directive(text: &str) -> Directive<'_>
     })
 }
 
+fn list_directive(text: &str) -> Directive<'_>
+    ensures value { said result ≡ list_directive (words text.now) }
+    ensures sender { HasGoodSender (said result) }
+{
+    let Some((package, after_package)) = split_word(text) else {
+        return Directive::Bad;
+    };
+    let Some((version, rest)) = split_word(after_package) else {
+        return Directive::Bad;
+    };
+    match split_word(rest) {
+        Some(_) => Directive::Bad,
+        None => Directive::ListOf(ListWords { package, version }),
+    }
+}
+
+// The bug of a page.
+fn show_number(word: &str) -> Directive<'_>
+    ensures value { said result ≡ show_directive_of (number_of_word word.now) }
+    ensures sender { HasGoodSender (said result) }
+{
+    match number_word(word) {
+        Some(number) => Directive::Show(number),
+        None => Directive::Bad,
+    }
+}
+
+fn show_directive(text: &str) -> Directive<'_>
+    ensures value { said result ≡ show_directive (words text.now) }
+    ensures sender { HasGoodSender (said result) }
+{
+    let Some((word, rest)) = split_word(text) else {
+        return Directive::Bad;
+    };
+    match split_word(rest) {
+        Some(_) => Directive::Bad,
+        None => show_number(word),
+    }
+}
+
 /// The directive of a line that begins with `@`.
 #[tactic(auto, unfolding(crate::specs::Script::directive_of))]
 pub(crate) fn read_directive(line: &str) -> Directive<'_>
@@ -90,6 +143,10 @@ pub(crate) fn read_directive(line: &str) -> Directive<'_>
         report_directive(rest)
     } else if name == "@branch" {
         Directive::Branch(rest)
+    } else if name == "@list" {
+        list_directive(rest)
+    } else if name == "@show" {
+        show_directive(rest)
     } else {
         Directive::Bad
     }

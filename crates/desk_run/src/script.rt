@@ -9,6 +9,7 @@ ghost use Rattle.desk_run.specs.Script.{Report, Branch, Part, Message, Directive
 ghost use Rattle.std.specs.Io.KnownBytes.{Appends};
 ghost use Rattle.desk_run.specs.Branches.{nodes_of};
 ghost use Rattle.desk_run.specs.Gathering.{parts_from};
+ghost use Rattle.desk_run.specs.Answers.{Tells, TellsFault};
 ghost use Rattle.desk_lines.specs.Reading.{Known, Left};
 ghost use Rattle.desk_run.specs.Running.{Runs, Stops, Carries, IsCounted, IsOfPart, EndsParts, IsReadInPart, Ends};
 
@@ -19,8 +20,12 @@ use ancestry::{Node, NodeFault};
 use debver::Text;
 use desk_lines::{Piece, ScriptFault, Source, next_line, write_out};
 use desk_messages::{receive_lines, received_bytes, report};
+use desk_questions::{QuestionFault, Told, list_of, page_of};
 use desk_store::Records;
-use desk_text::{bad_directive_answer, bad_version_answer, branch_answer, report_answer};
+use desk_text::{
+    StoreFault, bad_directive_answer, bad_version_answer, branch_answer, fault_answer,
+    report_answer,
+};
 use std::alloc::Global;
 use std::io::{Read, Write};
 
@@ -176,6 +181,47 @@ fn carry_nodes<S: Records, W: Write>(
     Ok(())
 }
 
+// Writes that the store failed in a directive, which ends the script.
+fn write_fault<W: Write>(
+    alloc: Global,
+    writer: &mut W,
+    fault: StoreFault,
+) -> Result<(), ScriptFault>
+    ensures { TellsFault fault (W.contents writer.old) (W.contents writer.new) result }
+{
+    let Ok(text) = fault_answer(alloc, fault) else {
+        return Err(ScriptFault::Memory);
+    };
+    match write_out(writer, text.as_slice()) {
+        Ok(()) => Err(ScriptFault::Store(fault)),
+        Err(_) => Err(ScriptFault::Write),
+    }
+}
+
+// Writes what a question is told, and keeps whether it is refused; or tells that the store failed.
+fn answer_question<W: Write>(
+    alloc: Global,
+    writer: &mut W,
+    run: &mut Run,
+    answer: Result<Told, QuestionFault>,
+) -> Result<(), ScriptFault>
+    ensures answer { Tells answer (W.contents writer.old) (W.contents writer.new) run.old.refused run.new.refused result }
+    ensures sender { run.new.sender ≡ run.old.sender }
+    ensures gathered { run.new.gathered.items ≡ run.old.gathered.items }
+{
+    match answer {
+        Ok(told) => match write_out(writer, told.text.as_slice()) {
+            Ok(()) => {
+                run.refused = either(run.refused, told.refused);
+                Ok(())
+            }
+            Err(_) => Err(ScriptFault::Write),
+        },
+        Err(QuestionFault::Memory) => Err(ScriptFault::Memory),
+        Err(QuestionFault::Store(fault)) => write_fault(alloc, writer, fault),
+    }
+}
+
 // Carries a directive out.
 fn carry_out<S: Records, W: Write>(
     alloc: Global,
@@ -205,6 +251,14 @@ fn carry_out<S: Records, W: Write>(
             Err(NodeFault::BadNode) => refuse(writer, run, bad_version_answer()),
             Err(NodeFault::Memory) => Err(ScriptFault::Memory),
         },
+        Directive::ListOf(words) => {
+            let answer = list_of(alloc, store, words.package, words.version);
+            answer_question(alloc, writer, run, answer)
+        }
+        Directive::Show(number) => {
+            let answer = page_of(alloc, store, number);
+            answer_question(alloc, writer, run, answer)
+        }
         Directive::Bad => refuse(writer, run, bad_directive_answer()),
     }
 }

@@ -37,6 +37,14 @@ branch_answer (Err fault) = fault_text fault
 abbrev pub bad_version_answer : List ℕ
 bad_version_answer = refused_line (codes "bad version")
 
+-- a list of no package
+abbrev pub bad_package_answer : List ℕ
+bad_package_answer = refused_line (codes "bad package name")
+
+-- the page of a bug that is not there
+abbrev pub no_bug_answer : ℕ → List ℕ
+no_bug_answer number = refused_line (codes "no such bug " ++ decimal number)
+
 -- a line that begins with `@` and is no directive
 abbrev pub bad_directive_answer : List ℕ
 bad_directive_answer = as_line (codes "Bad directive.")

@@ -6,8 +6,11 @@ use Rattle.ancestry.specs.Nodes.{node_text}
 use Rattle.bug_record.specs.Severities.{severity_name}
 use Rattle.bug_record.specs.Tags.{tag_name}
 use Rattle.bug_record.specs.Merges.{others_merged}
+use Rattle.bug_record.specs.Images.{bug_of}
 use Rattle.bug_record.specs.declared.bug.Bug.{Bug}
 use Rattle.bug_record.specs.declared.bug.Shared.{Shared}
+use Rattle.bug_record.specs.declared.bug.Member.{Member}
+use Rattle.bug_record.specs.declared.bug.SetImage.{SetImage}
 use Rattle.desk_text.specs.Texts.{as_line}
 use Rattle.desk_text.specs.Lists.{state_word}
 
@@ -58,3 +61,8 @@ abbrev pub page_text : ℕ → Bug → List ℕ → List ℕ
 page_text n b waiting =
     bug_lines n b ++ people_lines b ++ mark_lines b.shared
     ++ relation_lines b.shared.blockers waiting (others_merged n b.merged)
+
+-- the same of a bug that may be a member of the image
+abbrev pub page_in : SetImage → ℕ → List ℕ → Option Member → List ℕ
+page_in i n waiting None = []
+page_in i n waiting (Some m) = page_text n (bug_of i m) waiting

@@ -2,7 +2,8 @@
 
 ghost use Rattle.std.specs.Prelude.{◌≡◌, ◌++◌, IfOk, codes, decimal};
 ghost use Rattle.desk_text.specs.Texts.{as_line, fault_text};
-ghost use Rattle.desk_text.specs.Answers.{refused_line, report_answer, branch_answer, bad_version_answer, bad_directive_answer};
+ghost use Rattle.desk_text.specs.Answers.{refused_line, report_answer, branch_answer, bad_version_answer, bad_package_answer};
+ghost use Rattle.desk_text.specs.Answers.{no_bug_answer, bad_directive_answer};
 
 use crate::outcome::{ReportFault, StoreFault};
 use crate::texts::{append_number, fault_text, full_text};
@@ -22,14 +23,14 @@ fn refused_line(alloc: Global, why: &str) -> Result<Vec<u8>, AllocError>
     Ok(line)
 }
 
-// The refusal of a node, by its place.
-fn refused_at(alloc: Global, why: &str, place: u64) -> Result<Vec<u8>, AllocError>
-    ensures { IfOk result (λ line. line.items ≡ refused_line (why.now ++ decimal place)) }
+// The refusal of a node, by its place, or of a bug, by its number.
+fn refused_at(alloc: Global, why: &str, number: u64) -> Result<Vec<u8>, AllocError>
+    ensures { IfOk result (λ line. line.items ≡ refused_line (why.now ++ decimal number)) }
 {
     let mut line = Vec::with_capacity(alloc, ANSWER)?;
     line.extend_from_slice(b"NO ")?;
     line.extend_from_slice(why.as_bytes())?;
-    append_number(&mut line, place)?;
+    append_number(&mut line, number)?;
     line.push(b'\n')?;
     Ok(line)
 }
@@ -44,7 +45,12 @@ fn number_line(alloc: Global, number: u64) -> Result<Vec<u8>, AllocError>
     Ok(line)
 }
 
-fn fault_line(alloc: Global, fault: StoreFault) -> Result<Vec<u8>, AllocError>
+/// The line that answers a directive at which the store failed.
+///
+/// # Errors
+///
+/// Where there is no memory.
+pub fn fault_answer(alloc: Global, fault: StoreFault) -> Result<Vec<u8>, AllocError>
     ensures { IfOk result (λ line. line.items ≡ fault_text fault) }
 {
     let mut line = Vec::new(alloc);
@@ -70,7 +76,7 @@ pub fn report_answer(
         Err(ReportFault::BadSeverity) => refused_line(alloc, "unknown severity"),
         Err(ReportFault::BadTitle) => refused_line(alloc, "bad title"),
         Err(ReportFault::Full) => refused_line(alloc, full_text()),
-        Err(ReportFault::Store(fault)) => fault_line(alloc, *fault),
+        Err(ReportFault::Store(fault)) => fault_answer(alloc, *fault),
     }
 }
 
@@ -97,7 +103,7 @@ pub fn branch_answer(
         ),
         Ok(Err(BranchFault::Conflict(place))) => refused_at(alloc, "conflict at ", *place as u64),
         Ok(Err(BranchFault::Memory)) => refused_line(alloc, ""),
-        Err(fault) => fault_line(alloc, *fault),
+        Err(fault) => fault_answer(alloc, *fault),
     }
 }
 
@@ -106,6 +112,24 @@ pub fn bad_version_answer() -> &'static str
     ensures { result.now ≡ bad_version_answer }
 {
     "NO bad version\n"
+}
+
+/// The line that answers the list of a package whose name is bad.
+pub fn bad_package_answer() -> &'static str
+    ensures { result.now ≡ bad_package_answer }
+{
+    "NO bad package name\n"
+}
+
+/// The line that answers the page of a bug that is not there.
+///
+/// # Errors
+///
+/// Where there is no memory.
+pub fn no_bug_answer(alloc: Global, number: u64) -> Result<Vec<u8>, AllocError>
+    ensures { IfOk result (λ line. line.items ≡ no_bug_answer number) }
+{
+    refused_at(alloc, "no such bug ", number)
 }
 
 /// The line that answers a line that begins with `@` and is no directive.

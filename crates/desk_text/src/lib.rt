@@ -7,7 +7,10 @@ mod outcome;
 mod pages;
 mod texts;
 
-pub use answers::{bad_directive_answer, bad_version_answer, branch_answer, report_answer};
+pub use answers::{
+    bad_directive_answer, bad_package_answer, bad_version_answer, branch_answer, fault_answer,
+    no_bug_answer, report_answer,
+};
 pub use lists::{ListRow, list_text};
 pub use outcome::{End, Outcome, ReportFault, StoreFault};
 pub use pages::{BugPage, bug_text};

@@ -1,16 +1,14 @@
 //! The text of a bug's page.
 
-ghost use Rattle.std.specs.Prelude.{◌≡◌, ◌++◌, ◌∷◌, true, flat_map, Option, Some, IfOk, OnOk, OnErr, codes};
+ghost use Rattle.std.specs.Prelude.{◌≡◌, ◌++◌, ◌∷◌, flat_map, IfOk, OnOk, OnErr, codes};
 ghost use Rattle.std.specs.Option.{option_copied};
 ghost use Rattle.std.specs.Fmt.{decimal};
 ghost use Rattle.ancestry.specs.Nodes.{node_text};
-ghost use Rattle.bug_record.specs.Sets.{has};
 ghost use Rattle.bug_record.specs.Tags.{tag_name};
 ghost use Rattle.bug_record.specs.Images.{numbers_of, member_at, bug_of};
 ghost use Rattle.bug_record.specs.Merges.{others_merged};
-ghost use Rattle.bug_record.specs.declared.bug.Member.{Member};
 ghost use Rattle.desk_text.specs.Pages.{page_line, text_or_dash, yes_or_no, names_or_dash};
-ghost use Rattle.desk_text.specs.Pages.{bug_lines, people_lines, mark_lines, relation_lines, page_text};
+ghost use Rattle.desk_text.specs.Pages.{bug_lines, people_lines, mark_lines, relation_lines, page_text, page_in};
 
 use crate::lists::state_word;
 use crate::texts::{append_node, append_numbers};
@@ -216,11 +214,11 @@ fn page_of(alloc: Global, page: &BugPage, member: &Member) -> Result<Vec<u8>, Al
 /// Appends the page of a bug, which is a member of the page's image: fifteen lines that tell its
 /// whole record, the bugs on which it waits, those that wait on it, and those merged with it.
 /// What is not there is told as `-`.
+/// Where the bug is no member, it appends nothing.
 /// Where there is no memory, `out` is as before.
 pub fn bug_text(alloc: Global, out: &mut Vec<u8>, page: &BugPage) -> Result<(), AllocError>
-    requires member { has (numbers_of page.now.image.members) page.now.number ≡ true }
-    ensures ok { (m : Member) → member_at page.now.image.members page.now.number ≡ Some m
-        → OnOk result (out.new.items ≡ out.old.items ++ page_text page.now.number (bug_of page.now.image m) page.now.waiting) }
+    ensures ok { OnOk result (out.new.items ≡ out.old.items
+        ++ page_in page.now.image page.now.number page.now.waiting (member_at page.now.image.members page.now.number)) }
     ensures err { OnErr result (out.new.items ≡ out.old.items) }
 {
     match member_at(page.image.members.as_slice(), page.number) {
@@ -228,7 +226,6 @@ pub fn bug_text(alloc: Global, out: &mut Vec<u8>, page: &BugPage) -> Result<(), 
             let text = page_of(alloc, page, member)?;
             out.extend_from_slice(text.as_slice())
         }
-        // The bug is a member.
         None => Ok(()),
     }
 }

@@ -1,12 +1,13 @@
 use Rattle.std.proofs.Common.{Global, ◌≡◌, None, Err, Result, refl, sym, ◌∙◌, ap, subst}
-use Rattle.desk_store.proofs.HoldsLemmas.{holds_none}
+use Rattle.desk_store.proofs.HoldsLemmas.{holds_none, holds_weaker}
 use Rattle.ancestry.specs.Trees.{Ancestry}
 use Rattle.control_text.specs.Words.{words}
 use Rattle.desk_run.specs.Branches.{BranchRefusal, nodes_of, AreRead}
-use Rattle.desk_run.specs.Script.{From, Branch, Bad, standing, branch_text, after_branch}
+use Rattle.desk_run.specs.Script.{From, Branch, ListOf, Show, Bad, standing, branch_text, after_branch}
 use Rattle.desk_run.proofs.WrittenLemmas.{appends_none}
 use Rattle.desk_run.proofs.PartLemmas.{order_done, order_refused}
 use Rattle.desk_run.proofs.BranchLemmas.{branch_of_none}
+use Rattle.desk_run.proofs.QuestionLemmas.{question_carried}
 use Rattle.desk_run.proofs.script.carry_out.Goals as goal
 
 pub returns-in-Ok-clause-answer : goal.returns-in-Ok-clause-answer
@@ -35,3 +36,22 @@ returns-in-Bad-clause-answer g c =
     let done = c.refuse-in-Bad.ensures in
     holds_none _ _ _ (order_refused c.args.line.now s _ _ _ _ _ _ Bad c.refuse-in-Bad.result c.in-Bad.ensures.value refl
     c.bad_directive_answer.ensures done.all done.unfinished done.write done.refused done.sender)
+
+pub returns-in-ListOf-clause-answer : goal.returns-in-ListOf-clause-answer
+returns-in-ListOf-clause-answer g c =
+    let s = standing (g.S.Records.desk c.args.store.now) c.args.run.now.sender c.args.run.now.refused in
+    let words = c.in-ListOf.words in
+    let done = c.answer_question.ensures in
+    holds_weaker c.list_of-answer.ensures.answer
+    (λ h. question_carried c.args.line.now s _ _ _ _ _ _ (ListOf words.package.now words.version.now) _ _
+    c.list_of-answer.result _ c.answer_question.result c.in-ListOf.ensures.value refl refl (λ a. a)
+    c.list_of-answer.ensures.count done.sender h done.answer)
+
+pub returns-in-Show-clause-answer : goal.returns-in-Show-clause-answer
+returns-in-Show-clause-answer g c =
+    let s = standing (g.S.Records.desk c.args.store.now) c.args.run.now.sender c.args.run.now.refused in
+    let done = c.answer_question-in-Show.ensures in
+    holds_weaker c.page_of-answer.ensures.answer
+    (λ h. question_carried c.args.line.now s _ _ _ _ _ _ (Show c.in-Show.number) _ _
+    c.page_of-answer.result _ c.answer_question-in-Show.result c.in-Show.ensures.value refl refl (λ a. a)
+    c.page_of-answer.ensures.count done.sender h done.answer)
