@@ -192,6 +192,6 @@ def select(changelog):
 
 
 def branch_lines(nodes):
-    """The `@branch` lines of nodes, newest first: each begins with the last node of the one before."""
+    """The `@branch` lines of nodes, newest first; each begins with the last node of that above."""
     starts = range(0, max(len(nodes) - 1, 1), BRANCH_LENGTH - 1)
     return ["@branch " + " ".join(nodes[start:start + BRANCH_LENGTH]) for start in starts]
