@@ -61,6 +61,24 @@ const BEFORE_IN_CLONES: [(u64, &str); 8] = [
     (8, "OK 1\n> clone 1 -1 -2\nOK 2 3\n> retitle -2 b\n"),
 ];
 
+// A report, a list and a page: five calls of the store.
+const QUESTIONS: &str = "@report foo 1 normal a\n@list foo 1\n@show 1\n";
+
+// What is written of it where a call fails, before the line of the fault.
+const BEFORE_IN_QUESTIONS: [(u64, &str); 5] = [
+    (1, ""),
+    (2, ""),
+    (3, "OK 1\n"),
+    (
+        4,
+        "OK 1\nBugs in foo at foo/1: 1\n        1  normal     open  a\n",
+    ),
+    (
+        5,
+        "OK 1\nBugs in foo at foo/1: 1\n        1  normal     open  a\n",
+    ),
+];
+
 const FAULTS: [(StoreFault, &str); 4] = [
     (StoreFault::Memory, "Store fault: memory.\n"),
     (StoreFault::Device, "Store fault: device.\n"),
@@ -107,6 +125,19 @@ fn a_fault_of_the_store_at_a_clone_ends_the_script_as_that_fault(rt: HostRuntime
         for (at, before) in BEFORE_IN_CLONES {
             assert!(rt;
                 ends_so(alloc, CLONES, at, fault, before, line),
+                "{at} {line}"
+            );
+        }
+    }
+}
+
+#[test]
+fn a_fault_of_the_store_at_a_question_ends_the_script_as_that_fault(rt: HostRuntime) {
+    let alloc = rt.alloc();
+    for (fault, line) in FAULTS {
+        for (at, before) in BEFORE_IN_QUESTIONS {
+            assert!(rt;
+                ends_so(alloc, QUESTIONS, at, fault, before, line),
                 "{at} {line}"
             );
         }

@@ -1,5 +1,5 @@
 //! Tests of what data can't show: readers and writers in pieces and failing, stores that fail, what
-//! a set and a clone hold, which bugs wait on another one, lists and pages, the plan of a merge as
+//! a set and a clone hold, which bugs wait on another one, the plan of a merge as
 //! a call, and calls that no program makes.
 #![tactic(auto)]
 
@@ -14,7 +14,6 @@ mod faults;
 #[cfg(test)]
 mod lines;
 #[cfg(test)]
-mod lists;
 #[cfg(test)]
 mod merges;
 #[cfg(test)]
