@@ -219,9 +219,9 @@ def is_refusal(transcript):
     return any(line.startswith(("NO ", "Too many ")) for line in lines)
 
 
-def read_script(script):
+def read_script(script, first=1):
     """The output of a script, and the exit status: ACCEPTED, REFUSED or FAULT."""
-    desk, sender, message = new_desk(), FIRST_SENDER, []
+    desk, sender, message = new_desk(first), FIRST_SENDER, []
     output, end = [], ACCEPTED
 
     def end_message():
