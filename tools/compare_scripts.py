@@ -23,6 +23,7 @@ from compare_words import (
     PACKAGES,
     SENDERS,
     SETS,
+    SHORT_KINDS,
     SORTS,
     STOPS,
     STRANGE,
@@ -465,6 +466,11 @@ class ScriptMaker:
 
 
 def make_script(seed, kind, lists):
-    """The random script of a seed and a kind."""
-    return ScriptMaker(f"{seed} {kind}", kind, lists).script()
-
+    """The random script of a seed and a kind; a long one is made of short ones."""
+    if kind != "long":
+        return ScriptMaker(f"{seed} {kind}", kind, lists).script()
+    chance = random.Random(f"{seed} {kind}")
+    kinds = [chance.choice(SHORT_KINDS) for _ in range(chance.randint(5, 40))]
+    return b"\n".join(
+        ScriptMaker(f"{seed} {place}", short, lists).script() for place, short in enumerate(kinds)
+    )

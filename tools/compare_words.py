@@ -1,6 +1,7 @@
 """The words, texts and lines of which random scripts are made, and how often each is chosen."""
 
-KINDS = ("mixed", "versions", "merges", "malformed", "hundred", "bytes")
+SHORT_KINDS = ("mixed", "versions", "merges", "malformed", "bytes")
+KINDS = SHORT_KINDS + ("hundred", "long")
 
 PACKAGES = ("foo", "bar", "g++", "0ad", "libfoo-1.0", "aa")
 BAD_PACKAGES = (
