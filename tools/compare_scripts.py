@@ -39,10 +39,9 @@ from reading_lines import SEVERITIES, TAGS, Refused, lower_case
 class ScriptMaker:
     """Makes one random script."""
 
-    def __init__(self, seed, kind="mixed", lists=True):
+    def __init__(self, seed, kind="mixed"):
         self.chance = random.Random(seed)
         self.kind = kind
-        self.lists = lists
         self.bugs = 0
         self.names = []
         self.past = {}
@@ -411,17 +410,13 @@ class ScriptMaker:
             return self.chance.randint(50, 250)
         return self.pick((0, 1, 2, 4, 8, 15, 20, 30, 40, 60, 80, 100))
 
-    def wanted(self, line):
-        """Whether a line may stand in the script."""
-        return self.lists or not line.startswith(("@list", "@show"))
-
     def script(self):
         """The bytes of the script."""
         lines = self.opening() + [self.line() for _ in range(self.length())]
         if self.odds(0.3):
             lines += [f"@show {number}" for number in range(1, min(self.bugs, 12) + 1)]
         script = b""
-        for line in filter(self.wanted, lines):
+        for line in lines:
             end = self.line_end
             if self.odds(self.oddity / 10):
                 end = self.pick(("\n", "\r\n", "\r\r\n"))
@@ -432,7 +427,7 @@ class ScriptMaker:
             script = self.spoil(script)
         if self.odds(0.01):
             script = self.put_in(script, self.pick(WRONG_BYTES))
-        return self.without_lists(script)
+        return script
 
     def put_in(self, script, something):
         """The script with some bytes put in, more often late than early."""
@@ -457,20 +452,13 @@ class ScriptMaker:
                 script = b"\n".join(lines)
         return script
 
-    def without_lists(self, script):
-        """The script, where no lists are wanted without a line that asks for one."""
-        if self.lists:
-            return script
-        lines = script.split(b"\n")
-        return b"\n".join(line for line in lines if not line.startswith((b"@list", b"@show")))
 
-
-def make_script(seed, kind, lists):
+def make_script(seed, kind):
     """The random script of a seed and a kind; a long one is made of short ones."""
     if kind != "long":
-        return ScriptMaker(f"{seed} {kind}", kind, lists).script()
+        return ScriptMaker(f"{seed} {kind}", kind).script()
     chance = random.Random(f"{seed} {kind}")
     kinds = [chance.choice(SHORT_KINDS) for _ in range(chance.randint(5, 40))]
     return b"\n".join(
-        ScriptMaker(f"{seed} {place}", short, lists).script() for place, short in enumerate(kinds)
+        ScriptMaker(f"{seed} {place}", short).script() for place, short in enumerate(kinds)
     )
