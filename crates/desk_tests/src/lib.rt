@@ -1,6 +1,6 @@
 //! Tests of what data can't show: readers and writers in pieces and failing, stores that fail, what
-//! a set and a clone hold, which bugs wait on another one, lists and pages, the plan of a merge as
-//! a call, and calls that no program makes.
+//! a set and a clone hold, which bugs wait on another one, lists and pages, and calls that no
+//! program makes.
 #![tactic(auto)]
 
 #[cfg(test)]
@@ -15,8 +15,6 @@ mod faults;
 mod lines;
 #[cfg(test)]
 mod lists;
-#[cfg(test)]
-mod merges;
 #[cfg(test)]
 mod messages;
 #[cfg(test)]
