@@ -5,7 +5,6 @@ use Rattle.std.specs.Prelude.{Result, Ok, Err, IsOk, OnErr, is_some, filter, sli
 use Rattle.std.specs.Option.{option_or}
 use Rattle.std.specs.Prelude.{nat_eq}
 use Rattle.std.specs.HashMap.{HashMap, get}
-use Rattle.std.specs.Map.{lookup}
 use Rattle.std.proofs.lemmas.Bool.{false≢true, eqb-true, eq-eqb}
 use Rattle.std.proofs.lemmas.Option.{none-some, same_Some}
 use Rattle.bug_record.specs.Sets.{has}
