@@ -123,6 +123,23 @@ fn add_members(map: &mut BTreeMap<u64, Member>, members: &[Member]) -> Result<()
     Ok(())
 }
 
+// Puts the marks and blockers that were gathered into the fields.
+fn put_gathered(
+    alloc: Global,
+    shared: &mut Shared,
+    found: BTreeSet<Node>,
+    fixed: BTreeSet<Node>,
+    blockers: &BTreeSet<u64>,
+) -> Result<(), AllocError>
+    ensures { OnOk result
+        (shared.new ≡ record shared.old { found = found.keys; fixed = fixed.keys; blockers = blockers.now.keys }) }
+{
+    shared.found = in_order(alloc, found)?;
+    shared.fixed = in_order(alloc, fixed)?;
+    shared.blockers = Sequence::in_order(alloc, blockers)?;
+    Ok(())
+}
+
 impl Joined {
     // The fields of the first set, without marks and blockers.
     fn new(alloc: Global, first: &Shared) -> Result<Joined, AllocError>
@@ -151,9 +168,7 @@ impl Joined {
         ensures { IfOk result (λ shared. shared ≡ self) }
     {
         let mut shared = self.shared;
-        shared.found = in_order(alloc, self.found)?;
-        shared.fixed = in_order(alloc, self.fixed)?;
-        shared.blockers = Sequence::in_order(alloc, &self.blockers)?;
+        put_gathered(alloc, &mut shared, self.found, self.fixed, &self.blockers)?;
         Ok(shared)
     }
 }
@@ -198,6 +213,30 @@ fn add_all_shared(joined: &mut Joined, images: &[SetImage], named: Named) -> Res
     Ok(())
 }
 
+// The shared fields of those sets, with all blockers, and the owner of the first.
+fn joined_shared(
+    alloc: Global,
+    first: &Shared,
+    images: &[SetImage],
+    named: Named,
+) -> Result<Shared, AllocError>
+    ensures { IfOk result
+        (λ f. f ≡ with_all_shared (without_marks_and_blockers first.now) (those_meant (named_numbers named.entry) images.now)) }
+{
+    let mut joined = Joined::new(alloc, first)?;
+    add_all_shared(&mut joined, images, named)?;
+    joined.into_shared(alloc)
+}
+
+// Puts the owner of the first of the bugs that has one into the fields.
+fn put_owner(shared: &mut Shared, index: &Index, numbers: &[u64]) -> Result<(), AllocError>
+    ensures { OnOk result
+        (shared.new ≡ record shared.old { owner = first_owner (bugs_at (bug_in index.now) numbers.now) }) }
+{
+    shared.owner = first_owner(index, numbers)?;
+    Ok(())
+}
+
 // The shared fields of those sets, with all blockers.
 // The named bugs are those of the numbers.
 fn gathered_shared(
@@ -212,10 +251,8 @@ fn gathered_shared(
     requires named { (n : ℕ) → has (named_numbers named) n ≡ has numbers.now n }
     ensures { IfOk result (λ f. f ≡ gathered_shared first.now images.now numbers.now) }
 {
-    let mut joined = Joined::new(alloc, first)?;
-    add_all_shared(&mut joined, images, named)?;
-    let mut shared = joined.into_shared(alloc)?;
-    shared.owner = first_owner(index, numbers)?;
+    let mut shared = joined_shared(alloc, first, images, named)?;
+    put_owner(&mut shared, index, numbers)?;
     Ok(shared)
 }
 

@@ -75,20 +75,45 @@ fn copy_text(text: &Option<Text>) -> Result<Option<Text>, AllocError>
 }
 
 impl Shared {
+    // Copies of the package, of where it was forwarded to, and of the owner.
+    fn copy_texts(&self) -> Result<(Text, Option<Text>, Option<Text>), AllocError>
+        ensures { IfOk result (λ r. r ≡ (self.now.package, self.now.forwarded, self.now.owner)) }
+    {
+        Ok((
+            self.package.copy()?,
+            copy_text(&self.forwarded)?,
+            copy_text(&self.owner)?,
+        ))
+    }
+
+    // Copies of the tags, of the found and fixed nodes, and of the blockers.
+    fn copy_sets(&self) -> Result<(Tags, Nodes, Nodes, Numbers), AllocError>
+        ensures { IfOk result (λ r. r ≡ (self.now.tags, self.now.found, self.now.fixed, self.now.blockers)) }
+    {
+        Ok((
+            self.tags.copy()?,
+            self.found.copy()?,
+            self.fixed.copy()?,
+            self.blockers.copy()?,
+        ))
+    }
+
     /// An equal value of its own.
     pub fn copy(&self) -> Result<Shared, AllocError>
         ensures { IfOk result (λ r. r ≡ self.now) }
     {
+        let (package, forwarded, owner) = self.copy_texts()?;
+        let (tags, found, fixed, blockers) = self.copy_sets()?;
         Ok(Shared {
-            package: self.package.copy()?,
+            package,
             severity: self.severity,
             closed: self.closed,
-            forwarded: copy_text(&self.forwarded)?,
-            owner: copy_text(&self.owner)?,
-            tags: self.tags.copy()?,
-            found: self.found.copy()?,
-            fixed: self.fixed.copy()?,
-            blockers: self.blockers.copy()?,
+            forwarded,
+            owner,
+            tags,
+            found,
+            fixed,
+            blockers,
             archived: self.archived,
         })
     }
@@ -123,8 +148,8 @@ impl SetImage {
         ensures { IfOk result (λ r. r ≡ self.now) }
     {
         Ok(SetImage {
-            shared: self.shared.copy()?,
             members: self.members.copy()?,
+            shared: self.shared.copy()?,
         })
     }
 }

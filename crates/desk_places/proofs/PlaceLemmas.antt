@@ -5,7 +5,6 @@ use Rattle.std.specs.Prelude.{Result, Ok, Err, IsOk, OnErr, is_some, filter, sli
 use Rattle.std.specs.Option.{option_or}
 use Rattle.std.specs.Prelude.{nat_eq}
 use Rattle.std.specs.HashMap.{HashMap, get}
-use Rattle.std.specs.Map.{lookup}
 use Rattle.std.proofs.lemmas.Bool.{false≢true, eqb-true, eq-eqb}
 use Rattle.std.proofs.lemmas.Option.{none-some, same_Some}
 use Rattle.bug_record.specs.Sets.{has}
@@ -16,11 +15,6 @@ use Rattle.desk_places.specs.Keys.{first_number}
 use Rattle.desk_places.specs.Places.{place_of, place_in, numbers_in, is_there, is_fresh, IsOnlyPlace}
 use Rattle.desk_places.specs.declared.places.Place.{Place}
 use Rattle.desk_places.specs.declared.places.Place.TheVariants.{First, After}
-
--- the same entries have the same places
-pub get_unchanged : {S : Type 0} (old now : HashMap ℕ Place S) (n : ℕ) → now.entries ≡ old.entries
-    → get nat_eq now n ≡ get nat_eq old n
-get_unchanged old now n h = ap (λ (es : List (ℕ × Place)). lookup (nat_eq n) es) h
 
 cond_same : {A : Type 0} (t : Bool) (x : A) → cond t x x ≡ x
 cond_same true x = refl
@@ -37,23 +31,22 @@ on_err_from_ok (Ok x) P h = tt
 on_err_from_ok (Err e) P h = absurd (false≢true h)
 
 -- where all members have places, the first has one after the others are written
-pub absent_never : {S : Type 0} (bugs now : HashMap ℕ Place S) (ms others : List Member) (first : Member) (k : ℕ)
+pub stays_there : {S : Type 0} (bugs now : HashMap ℕ Place S) (ms others : List Member) (first : Member) (k : ℕ)
     → ms ≡ first ∷ others
     → ((n : ℕ) → has (numbers_of ms) n ≡ true → is_there bugs n ≡ true)
     → ((n : ℕ) → get nat_eq now n ≡ cond (has (numbers_of others) n) (Some (After k)) (get nat_eq bugs n))
-    → get nat_eq now first.number ≡ None → ⊥
-absent_never bugs now ms others first k is there u e = cases (has (numbers_of others) first.number) refl
+    → is_there now first.number ≡ true
+stays_there bugs now ms others first k is there u = cases (has (numbers_of others) first.number) refl
   where
-    cases : (t : Bool) → has (numbers_of others) first.number ≡ t → ⊥
-    cases true q = none-some (After k)
-        (sym e ∙ (u first.number ∙ ap (λ t. cond t (Some (After k)) (get nat_eq bugs first.number)) q))
+    cases : (t : Bool) → has (numbers_of others) first.number ≡ t → is_there now first.number ≡ true
+    cases true q = ap is_some
+        (u first.number ∙ ap (λ t. cond t (Some (After k)) (get nat_eq bugs first.number)) q)
     cases false q =
         let own : has (numbers_of ms) first.number ≡ true =
         ap (λ (z : List Member). has (numbers_of z) first.number) is
         ∙ ap (λ t. t || has (numbers_of others) first.number) (eq-eqb first.number first.number refl) in
-        let gone : get nat_eq bugs first.number ≡ None =
-        sym (u first.number ∙ ap (λ t. cond t (Some (After k)) (get nat_eq bugs first.number)) q) ∙ e in
-        false≢true (sym (ap is_some gone) ∙ there first.number own)
+        ap is_some (u first.number ∙ ap (λ t. cond t (Some (After k)) (get nat_eq bugs first.number)) q)
+        ∙ there first.number own
 
 -- ---- the places v of numbers, written one by one
 

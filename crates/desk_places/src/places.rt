@@ -122,6 +122,24 @@ fn copies_of(alloc: Global, images: &[SetImage]) -> Result<Vec<SetImage>, AllocE
     Ok(copies)
 }
 
+// Gives the bug of this number a place.
+// No memory is taken where it has one already.
+fn put(bugs: &mut HashMap<u64, Place>, number: u64, place: Place) -> Result<(), AllocError>
+    ensures ok { OnOk result ((n : ℕ) → get nat_eq bugs.new n ≡ (if number == n then Some place else get nat_eq bugs.old n)) }
+    ensures err { OnErr result ((n : ℕ) → get nat_eq bugs.new n ≡ get nat_eq bugs.old n) }
+    ensures known { IsTrue (is_there bugs.old number) → IsOk result }
+{
+    bugs.insert(number, place)?;
+    Ok(())
+}
+
+// Takes the bug of this number out of the map.
+fn take_out(bugs: &mut HashMap<u64, Place>, number: u64)
+    ensures { (n : ℕ) → get nat_eq bugs.new n ≡ (if number == n then None else get nat_eq bugs.old n) }
+{
+    bugs.remove(&number);
+}
+
 // Gives each of these numbers a place, which stands for itself.
 // Where there is no memory, some of them may have it, and all else is as before.
 fn add_places(bugs: &mut HashMap<u64, Place>, numbers: &[u64]) -> Result<(), AllocError>
@@ -130,7 +148,7 @@ fn add_places(bugs: &mut HashMap<u64, Place>, numbers: &[u64]) -> Result<(), All
     ensures err { OnErr result ((n : ℕ) → has numbers.now n ≡ false → get nat_eq bugs.new n ≡ get nat_eq bugs.old n) }
 {
     for number in numbers {
-        bugs.insert(*number, Place::After(*number))?;
+        put(bugs, *number, Place::After(*number))?;
     }
     Ok(())
 }
@@ -140,7 +158,7 @@ fn remove_all(bugs: &mut HashMap<u64, Place>, numbers: &[u64])
     ensures { (n : ℕ) → get nat_eq bugs.new n ≡ (if has numbers.now n then None else get nat_eq bugs.old n) }
 {
     for number in numbers {
-        bugs.remove(number);
+        take_out(bugs, *number);
     }
 }
 
@@ -164,8 +182,7 @@ fn put_one_after(bugs: &mut HashMap<u64, Place>, number: u64, key: u64) -> Resul
     if is_after(bugs, number, key) {
         return Ok(());
     }
-    bugs.insert(number, Place::After(key))?;
-    Ok(())
+    put(bugs, number, Place::After(key))
 }
 
 // Puts members after the bug of this number.
@@ -193,7 +210,7 @@ fn put_image(bugs: &mut HashMap<u64, Place>, image: SetImage) -> Result<(), Allo
     };
     let key = first.number;
     put_after(bugs, key, others)?;
-    bugs.insert(key, Place::First(image))?;
+    put(bugs, key, Place::First(image))?;
     Ok(())
 }
 
@@ -244,7 +261,7 @@ pub fn put_images(
 {
     if let [image] = images {
         if let Some(key) = only_place(bugs, image) {
-            bugs.insert(key, Place::First(image.copy()?))?;
+            put(bugs, key, Place::First(image.copy()?))?;
             return Ok(());
         }
     }

@@ -1,6 +1,5 @@
 //! Tests of what data can't show: readers and writers in pieces and failing, stores that fail, what
-//! a set and a clone hold, which bugs wait on another one, the plan of a merge as
-//! a call, and calls that no program makes.
+//! a set and a clone hold, which bugs wait on another one, and calls that no program makes.
 #![tactic(auto)]
 
 #[cfg(test)]
@@ -14,8 +13,6 @@ mod faults;
 #[cfg(test)]
 mod lines;
 #[cfg(test)]
-#[cfg(test)]
-mod merges;
 #[cfg(test)]
 mod messages;
 #[cfg(test)]

@@ -13,10 +13,10 @@ pub returns : goal.returns
 returns c =
     let fields : c.in_ok-shared.shared
     ≡ with_all_shared (without_marks_and_blockers c.args.first.now) (those_meant c.args.numbers.now c.args.images.now)
-    = c.in_ok-shared.ensures ∙ c.in_ok-add_all_shared.ensures
-    ∙ (λ j. with_all_shared (c.in_ok-joined.ensures j)
+    = c.in_ok-shared.ensures
+    ∙ (λ j. with_all_shared (without_marks_and_blockers c.args.first.now)
     (those-same (named_numbers c.args.named) c.args.numbers.now c.requires.named c.args.images.now j)) in
-    let owner : _ ≡ first_owner (bugs_at (bug_in c.args.images.now) c.args.numbers.now)
-    = c.in_ok-shared-2.ensures
-    ∙ ap (λ (is : List SetImage). first_owner (bugs_at (bug_in is) c.args.numbers.now)) c.requires.images in
-    λ j. record (fields j) { owner = owner j }
+    let owner : first_owner (bugs_at (bug_in c.args.index.now) c.args.numbers.now)
+    ≡ first_owner (bugs_at (bug_in c.args.images.now) c.args.numbers.now)
+    = ap (λ (is : List SetImage). first_owner (bugs_at (bug_in is) c.args.numbers.now)) c.requires.images in
+    c.in_ok-put_owner.ensures ∙ (λ j. record (fields j) { owner = owner j })

@@ -1,4 +1,4 @@
-use Rattle.std.proofs.Common.{◌≡◌, ℕ, false, List, ◌∷◌, sym, ap, ◌∙◌}
+use Rattle.std.proofs.Common.{rules, ◌≡◌, ℕ, false, List, ◌∷◌, sym, ap, ◌∙◌}
 use Rattle.bug_record.specs.Bugs.{first_refusal}
 use Rattle.bug_record.specs.Differences.{differing}
 use Rattle.bug_record.specs.Images.{bug_in}
@@ -63,3 +63,12 @@ returns-in-Some-archived_refusal c =
     merge-archived (difference_of c.args.agreement) c.args.images.now c.args.next c.args.first c.args.others.now
     c.in-Some.image.now c.in-Some-archived_refusal.refusal c.in-Some.ensures
     (sym c.archived_refusal.ensures ∙ c.in-Some-archived_refusal.is)
+
+pub returns-in_err-index : goal.returns-in_err-index
+returns-in_err-index c = search rules
+
+pub returns-in_err-numbers : goal.returns-in_err-numbers
+returns-in_err-numbers c = search rules
+
+pub returns-in_err-set : goal.returns-in_err-set
+returns-in_err-set c = search rules

@@ -1,4 +1,4 @@
-use Rattle.std.proofs.Common.{◌≡◌, ◌+◌, List, ◌∷◌, [], sym, ap, ◌∙◌, subst}
+use Rattle.std.proofs.Common.{rules, ◌≡◌, ◌+◌, List, ◌∷◌, [], sym, ap, ◌∙◌, subst}
 use Rattle.std.proofs.lemmas.Str.{is_utf8-from_IsUtf8}
 use Rattle.bug_record.specs.Images.{put, FitsDesk}
 use Rattle.bug_record.specs.declared.bug.SetImage.{SetImage}
@@ -25,3 +25,6 @@ returns-clause-fits c =
       title = (c.requires.title, is_utf8-from_IsUtf8 c.args.title.now c.utf8.title);
       node = c.requires.node;
     }))
+
+pub returns-in_err-image : goal.returns-in_err-image
+returns-in_err-image c = search rules

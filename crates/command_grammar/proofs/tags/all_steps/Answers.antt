@@ -8,3 +8,6 @@ loop-word-preserved c = (
   steps-preserved _ _ _ _ _ _ _ _ _ _ c.in-Some.ensures.cut c.sign_and_tag-sign.ensures.sign c.sign_and_tag-sign.ensures.tag
       c.adds_after-adds.ensures c.in_ok-push_steps.ensures c.loop-word.invariant.1,
 )
+
+pub returns-in_err-push_steps : goal.returns-in_err-push_steps
+returns-in_err-push_steps c = search rules

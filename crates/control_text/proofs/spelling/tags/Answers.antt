@@ -1,4 +1,4 @@
-use Rattle.std.proofs.Common.{◌≡◌, ◌==◌, false, List, [], ◌∷◌, length, map, drop, string_bytes, codes, refl, ap, sym, ◌∙◌}
+use Rattle.std.proofs.Common.{rules, ◌≡◌, ◌==◌, false, List, [], ◌∷◌, length, map, drop, string_bytes, codes, refl, ap, sym, ◌∙◌}
 use Rattle.std.proofs.lemmas.List.{drop_all}
 use Rattle.bug_record.specs.declared.command.TagStep.{TagStep}
 use Rattle.control_text.specs.Spelling.{bug_text, step_text, step_words, joined_by_blanks}
@@ -17,3 +17,9 @@ returns c =
     (map step_text (drop c.loop-step.step-index steps))
     c.loop-step.invariant (ap (map step_text) (drop_all c.loop-step.step-index steps c.loop-step-test.false))
     ∙ ap (λ ws. joined_by_blanks (codes "tags" ∷ bug ∷ ws)) (some_words steps (sym c.is_empty.ensures ∙ c.if-is_empty.false))
+
+pub returns-in_err-line : goal.returns-in_err-line
+returns-in_err-line c = search rules
+
+pub returns-in_err-push_step : goal.returns-in_err-push_step
+returns-in_err-push_step c = search rules

@@ -1,4 +1,4 @@
-use Rattle.std.proofs.Common.{◌≡◌, ℕ, ◌<◌, List, Some, length, drop, ap, ◌∙◌, subst, arith}
+use Rattle.std.proofs.Common.{rules, ◌≡◌, ℕ, ◌<◌, List, Some, length, drop, ap, ◌∙◌, subst, arith}
 use Rattle.std.proofs.lemmas.Bool.{false≢true}
 use Rattle.std.proofs.lemmas.Grind.{common_steps}
 use Rattle.std.proofs.lemmas.List.{drop-drop}
@@ -69,3 +69,72 @@ returns-in-Some-clause-raw g c =
     (all_taken c.args.source.now.unread c.loop-line.line.items c.loop-line.source.unread c.take_bytes.new.line.items
     (length c.unread-count.result.now) all is c.loop-line.invariant.read)
     c.in_ok-refill.ensures.read
+
+pub returns-in_err-take_bytes-clause-raw : goal.returns-in_err-take_bytes-clause-raw
+returns-in_err-take_bytes-clause-raw g c = search rules
+
+pub returns-in_err-take_bytes-clause-outside : goal.returns-in_err-take_bytes-clause-outside
+returns-in_err-take_bytes-clause-outside g c = search rules
+
+pub returns-in_err-take_bytes-clause-begun : goal.returns-in_err-take_bytes-clause-begun
+returns-in_err-take_bytes-clause-begun g c = search rules
+
+pub returns-in_err-take_bytes-clause-emptied : goal.returns-in_err-take_bytes-clause-emptied
+returns-in_err-take_bytes-clause-emptied g c = search rules
+
+pub returns-in_err-take_bytes-clause-reads : goal.returns-in_err-take_bytes-clause-reads
+returns-in_err-take_bytes-clause-reads g c = search rules
+
+pub returns-in_err-take_bytes-clause-fewer : goal.returns-in_err-take_bytes-clause-fewer
+returns-in_err-take_bytes-clause-fewer g c = search rules
+
+pub returns-in_err-take_bytes-clause-unasked : goal.returns-in_err-take_bytes-clause-unasked
+returns-in_err-take_bytes-clause-unasked g c = search rules
+
+pub returns-in_err-refill-clause-raw : goal.returns-in_err-refill-clause-raw
+returns-in_err-refill-clause-raw g c = search rules
+
+pub returns-in_err-refill-clause-fault : goal.returns-in_err-refill-clause-fault
+returns-in_err-refill-clause-fault g c = search rules
+
+pub returns-in_err-refill-clause-outside : goal.returns-in_err-refill-clause-outside
+returns-in_err-refill-clause-outside g c = search rules
+
+pub returns-in_err-refill-clause-emptied : goal.returns-in_err-refill-clause-emptied
+returns-in_err-refill-clause-emptied g c = search rules
+
+pub returns-in_err-refill-clause-reads : goal.returns-in_err-refill-clause-reads
+returns-in_err-refill-clause-reads g c = search rules
+
+pub returns-in_err-refill-clause-fewer : goal.returns-in_err-refill-clause-fewer
+returns-in_err-refill-clause-fewer g c = search rules
+
+pub returns-in_err-refill-clause-unasked : goal.returns-in_err-refill-clause-unasked
+returns-in_err-refill-clause-unasked g c = search rules
+
+pub returns-in_err-refill-clause-spent : goal.returns-in_err-refill-clause-spent
+returns-in_err-refill-clause-spent g c = search rules
+
+pub returns-in_err-take_bytes-2-clause-raw : goal.returns-in_err-take_bytes-2-clause-raw
+returns-in_err-take_bytes-2-clause-raw g c = search rules
+
+pub returns-in_err-take_bytes-2-clause-outside : goal.returns-in_err-take_bytes-2-clause-outside
+returns-in_err-take_bytes-2-clause-outside g c = search rules
+
+pub returns-in_err-take_bytes-2-clause-begun : goal.returns-in_err-take_bytes-2-clause-begun
+returns-in_err-take_bytes-2-clause-begun g c = search rules
+
+pub returns-in_err-take_bytes-2-clause-emptied : goal.returns-in_err-take_bytes-2-clause-emptied
+returns-in_err-take_bytes-2-clause-emptied g c = search rules
+
+pub returns-in_err-take_bytes-2-clause-reads : goal.returns-in_err-take_bytes-2-clause-reads
+returns-in_err-take_bytes-2-clause-reads g c = search rules
+
+pub returns-in_err-take_bytes-2-clause-fewer : goal.returns-in_err-take_bytes-2-clause-fewer
+returns-in_err-take_bytes-2-clause-fewer g c = search rules
+
+pub returns-in_err-take_bytes-2-clause-unasked : goal.returns-in_err-take_bytes-2-clause-unasked
+returns-in_err-take_bytes-2-clause-unasked g c = search rules
+
+pub returns-in_err-take_bytes-2-clause-spent : goal.returns-in_err-take_bytes-2-clause-spent
+returns-in_err-take_bytes-2-clause-spent g c = search rules

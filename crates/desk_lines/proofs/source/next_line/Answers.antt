@@ -1,4 +1,4 @@
-use Rattle.std.proofs.Common.{◌≡◌, ℕ, ◌≤◌, List, Some, length, take, ap, subst}
+use Rattle.std.proofs.Common.{rules, ◌≡◌, ℕ, ◌≤◌, List, Some, length, take, ap, subst}
 use Rattle.std.specs.Str.{IsUtf8}
 use Rattle.std.proofs.lemmas.Result.{err_from_is_err_and}
 use Rattle.desk_lines.specs.Buffered.{Buffered}
@@ -32,3 +32,105 @@ returns-in_err-text_of-in-Line-clause-fault g c =
     rw (p.1, p.2) (line_unread c.args.number c.in_err-text_of-in-Line.field-0.0 c.args.source.now.unread
     c.gather.new.source.unread c.deref.result.now c.in_ok-raw.raw c.in-Line.bytes c.in-Line.is c.deref.ensures.value
     c.in_ok-raw.ensures.raw c.in_err-text_of-in-Line.ensures.fault)
+
+pub returns-in_err-text-clause-piece : goal.returns-in_err-text-clause-piece
+returns-in_err-text-clause-piece g c = search rules
+
+pub returns-in_err-text-clause-outside : goal.returns-in_err-text-clause-outside
+returns-in_err-text-clause-outside g c = search rules
+
+pub returns-in_err-text-clause-begun : goal.returns-in_err-text-clause-begun
+returns-in_err-text-clause-begun g c = search rules
+
+pub returns-in_err-text-clause-emptied : goal.returns-in_err-text-clause-emptied
+returns-in_err-text-clause-emptied g c = search rules
+
+pub returns-in_err-text-clause-reads : goal.returns-in_err-text-clause-reads
+returns-in_err-text-clause-reads g c = search rules
+
+pub returns-in_err-text-clause-fewer : goal.returns-in_err-text-clause-fewer
+returns-in_err-text-clause-fewer g c = search rules
+
+pub returns-in_err-text-clause-unasked : goal.returns-in_err-text-clause-unasked
+returns-in_err-text-clause-unasked g c = search rules
+
+pub returns-in_err-text-clause-spent : goal.returns-in_err-text-clause-spent
+returns-in_err-text-clause-spent g c = search rules
+
+pub returns-in_err-raw-clause-piece : goal.returns-in_err-raw-clause-piece
+returns-in_err-raw-clause-piece g c = search rules
+
+pub returns-in_err-raw-clause-fault : goal.returns-in_err-raw-clause-fault
+returns-in_err-raw-clause-fault g c = search rules
+
+pub returns-in_err-raw-clause-outside : goal.returns-in_err-raw-clause-outside
+returns-in_err-raw-clause-outside g c = search rules
+
+pub returns-in_err-raw-clause-begun : goal.returns-in_err-raw-clause-begun
+returns-in_err-raw-clause-begun g c = search rules
+
+pub returns-in_err-raw-clause-emptied : goal.returns-in_err-raw-clause-emptied
+returns-in_err-raw-clause-emptied g c = search rules
+
+pub returns-in_err-raw-clause-reads : goal.returns-in_err-raw-clause-reads
+returns-in_err-raw-clause-reads g c = search rules
+
+pub returns-in_err-raw-clause-fewer : goal.returns-in_err-raw-clause-fewer
+returns-in_err-raw-clause-fewer g c = search rules
+
+pub returns-in_err-raw-clause-unasked : goal.returns-in_err-raw-clause-unasked
+returns-in_err-raw-clause-unasked g c = search rules
+
+pub returns-in_err-raw-clause-spent : goal.returns-in_err-raw-clause-spent
+returns-in_err-raw-clause-spent g c = search rules
+
+pub returns-in_err-text_of-in-Line-clause-piece : goal.returns-in_err-text_of-in-Line-clause-piece
+returns-in_err-text_of-in-Line-clause-piece g c = search rules
+
+pub returns-in_err-text_of-in-Line-clause-outside : goal.returns-in_err-text_of-in-Line-clause-outside
+returns-in_err-text_of-in-Line-clause-outside g c = search rules
+
+pub returns-in_err-text_of-in-Line-clause-begun : goal.returns-in_err-text_of-in-Line-clause-begun
+returns-in_err-text_of-in-Line-clause-begun g c = search rules
+
+pub returns-in_err-text_of-in-Line-clause-emptied : goal.returns-in_err-text_of-in-Line-clause-emptied
+returns-in_err-text_of-in-Line-clause-emptied g c = search rules
+
+pub returns-in_err-text_of-in-Line-clause-reads : goal.returns-in_err-text_of-in-Line-clause-reads
+returns-in_err-text_of-in-Line-clause-reads g c = search rules
+
+pub returns-in_err-text_of-in-Line-clause-fewer : goal.returns-in_err-text_of-in-Line-clause-fewer
+returns-in_err-text_of-in-Line-clause-fewer g c = search rules
+
+pub returns-in_err-text_of-in-Line-clause-unasked : goal.returns-in_err-text_of-in-Line-clause-unasked
+returns-in_err-text_of-in-Line-clause-unasked g c = search rules
+
+pub returns-in_err-text_of-in-Line-clause-spent : goal.returns-in_err-text_of-in-Line-clause-spent
+returns-in_err-text_of-in-Line-clause-spent g c = search rules
+
+pub returns-in_err-text_of-in-Last-clause-piece : goal.returns-in_err-text_of-in-Last-clause-piece
+returns-in_err-text_of-in-Last-clause-piece g c = search rules
+
+pub returns-in_err-text_of-in-Last-clause-fault : goal.returns-in_err-text_of-in-Last-clause-fault
+returns-in_err-text_of-in-Last-clause-fault g c = search rules
+
+pub returns-in_err-text_of-in-Last-clause-outside : goal.returns-in_err-text_of-in-Last-clause-outside
+returns-in_err-text_of-in-Last-clause-outside g c = search rules
+
+pub returns-in_err-text_of-in-Last-clause-begun : goal.returns-in_err-text_of-in-Last-clause-begun
+returns-in_err-text_of-in-Last-clause-begun g c = search rules
+
+pub returns-in_err-text_of-in-Last-clause-emptied : goal.returns-in_err-text_of-in-Last-clause-emptied
+returns-in_err-text_of-in-Last-clause-emptied g c = search rules
+
+pub returns-in_err-text_of-in-Last-clause-reads : goal.returns-in_err-text_of-in-Last-clause-reads
+returns-in_err-text_of-in-Last-clause-reads g c = search rules
+
+pub returns-in_err-text_of-in-Last-clause-fewer : goal.returns-in_err-text_of-in-Last-clause-fewer
+returns-in_err-text_of-in-Last-clause-fewer g c = search rules
+
+pub returns-in_err-text_of-in-Last-clause-unasked : goal.returns-in_err-text_of-in-Last-clause-unasked
+returns-in_err-text_of-in-Last-clause-unasked g c = search rules
+
+pub returns-in_err-text_of-in-Last-clause-spent : goal.returns-in_err-text_of-in-Last-clause-spent
+returns-in_err-text_of-in-Last-clause-spent g c = search rules

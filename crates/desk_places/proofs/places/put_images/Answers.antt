@@ -5,6 +5,6 @@ use Rattle.desk_places.proofs.places.put_images.Goals as goal
 pub returns-in-Some-clause-ok : goal.returns-in-Some-clause-ok
 returns-in-Some-clause-ok c = λ n.
     let one : length c.args.images.now ≡ 1 = omega arith in
-    only-put c.args.bugs.now c.insert.new.self c.args.images.now c.image-item.result c.in_ok-copy.field-0 c.in-Some.key n
+    only-put c.args.bugs.now c.put.new.bugs c.args.images.now c.image-item.result c.in_ok-copy.field-0 c.in-Some.key n
     (one_item c.args.images.now c.image-item.result one c.image-item.is) c.in_ok-copy.ensures c.in-Some.ensures
-    (c.in_ok-insert.ensures.updates.0 n)
+    (c.in_ok-put.ensures.ok n)

@@ -1,4 +1,4 @@
-use Rattle.std.proofs.Common.{ℕ, BTreeSet, refl, sym, ap, ◌∙◌}
+use Rattle.std.proofs.Common.{rules, ℕ, BTreeSet, refl, sym, ap, ◌∙◌}
 use Rattle.std.specs.BTreeSet.{contains}
 use Rattle.std.specs.Ordering.{nat_cmp}
 use Rattle.std.proofs.lemmas.Bool.{not-true, not-false}
@@ -25,3 +25,9 @@ loop-name-preserved c =
             (not-true _ (sym c.in_ok-insert.ensures.added ∙ w.if-not-branch.false)) c.loop-name.invariant.found k
       ];
     }
+
+pub returns-in_err-insert : goal.returns-in_err-insert
+returns-in_err-insert c = search rules
+
+pub returns-in_err-insert-2 : goal.returns-in_err-insert-2
+returns-in_err-insert-2 c = search rules

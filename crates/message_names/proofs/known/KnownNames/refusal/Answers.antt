@@ -1,4 +1,4 @@
-use Rattle.std.proofs.Common.{◌||◌, refl, sym, ap, ◌∙◌}
+use Rattle.std.proofs.Common.{rules, ◌||◌, refl, sym, ap, ◌∙◌}
 use Rattle.std.specs.Prelude.{is_some}
 use Rattle.bug_record.specs.Clones.{is_taken}
 use Rattle.message_names.proofs.KnownLemmas.{find-next}
@@ -11,3 +11,6 @@ loop-name-preserved c =
     (λ i. (ap is_some (sym c.number_of.ensures) ∙ (sym c.is_some.ensures ∙ c.if-is_some.false)) i
     || (sym (c.in_ok-repeated.ensures _) ∙ (sym c.contains.ensures ∙ c.if-contains.false)) i)
     ∙ c.loop-name.invariant
+
+pub returns-in_err-repeated : goal.returns-in_err-repeated
+returns-in_err-repeated c = search rules

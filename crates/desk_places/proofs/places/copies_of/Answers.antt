@@ -1,0 +1,8 @@
+use Rattle.std.proofs.Common.{rules}
+use Rattle.desk_places.proofs.places.copies_of.Goals as goal
+
+pub returns-in_err-copy : goal.returns-in_err-copy
+returns-in_err-copy c = search rules
+
+pub returns-in_err-push : goal.returns-in_err-push
+returns-in_err-push c = search rules
