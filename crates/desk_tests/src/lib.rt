@@ -1,9 +1,7 @@
 //! Tests of what data can't show: readers and writers in pieces and failing, stores that fail, what
-//! a set and a clone hold, which bugs wait on another one, and calls that no program makes.
+//! an image holds, which bugs wait on another one, and calls that no program makes.
 #![tactic(auto)]
 
-#[cfg(test)]
-mod clones;
 #[cfg(test)]
 mod commands;
 #[cfg(test)]
