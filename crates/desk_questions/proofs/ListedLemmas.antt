@@ -13,7 +13,7 @@ use Rattle.ancestry.specs.declared.statuses.Status.{Status}
 use Rattle.ancestry.specs.declared.statuses.Status.TheVariants.{Found, Fixed, Absent, Done}
 use Rattle.bug_record.specs.Sets.{Each, has}
 use Rattle.bug_record.specs.Heads.{is_found}
-use Rattle.bug_record.specs.Desk.{Desk, IsSound}
+use Rattle.bug_record.specs.Desk.{Desk}
 use Rattle.bug_record.specs.Asked.{passes, numbers_where}
 use Rattle.bug_record.specs.Changed.{numbers_below}
 use Rattle.bug_record.specs.Lists.{is_listed, is_listed_as, listed}
@@ -214,14 +214,13 @@ listed_there d name v n h =
     let b = passed (is_listed_as d.tree name v s.0) (d.bug n) p.1 in
     (b.0, b.1, listed_is_in d.tree name v b.0.shared (and_parts (is_listed d.tree name v b.0.shared) _ b.2).0)
 
-pub there_listed : (d : Desk) (name : List ℕ) (v : Node) (n : ℕ) (b : Bug) → IsSound d → d.bug n ≡ Some b
+pub there_listed : (d : Desk) (name : List ℕ) (v : Node) (n : ℕ) (b : Bug) → n < d.next → d.bug n ≡ Some b
     → IsIn d.tree name v b.shared → IsTrue (has (listed d name v) n)
-there_listed d name v n b sound e h =
+there_listed d name v n b low e h =
     let s = b.shared.severity in
     let test = is_listed_as d.tree name v s in
     let pass : IsTrue (passes test (d.bug n)) =
     ap (passes test) e ∙ and_from _ _ (in_is_listed d.tree name v b.shared h) (same_rank s) in
-    let low : n < d.next = (sound.in_range n b e).1 in
     let below : IsTrue (nat_lt n d.next) = grind (arith, nat_tests) in
     in_all (λ severity. numbers_where (is_listed_as d.tree name v severity) d) s n
     (where_is test d n ∙ and_from _ _ below pass)

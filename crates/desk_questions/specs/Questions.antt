@@ -31,14 +31,14 @@ abbrev pub list_at : Desk → List ℕ → Option Node → Told
 list_at d package_name None = refusal bad_version_answer
 list_at d package_name (Some node) = answered (list_text package_name node (rows_of d.bug (listed d package_name node)))
 
--- The list of a package at a version, which is bare, or a node of its own source; the name of the
--- package is tested first.
+-- The list of a package at a version, which is bare, or `source/version`; the name of the package
+-- is tested first.
 unfoldable pub list_told : Desk → List ℕ → List ℕ → Told
 list_told d package_name version =
     if is_some (name_fault package_name) then refusal bad_package_answer
     else list_at d package_name (node_at package_name version)
 
--- the page of the bug n, or that there is none
+-- the page of the bug n, or that there is no such bug
 abbrev pub page_at : Desk → ℕ → Option Bug → Told
 page_at d n None = refusal (no_bug_answer n)
 page_at d n (Some b) = answered (page_text n b (waiting_on d n))

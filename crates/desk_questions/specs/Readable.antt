@@ -23,10 +23,10 @@ pub record IsFoundFirst (versions : List Node) (f : Shared) : Type 0 where
 abbrev pub IsNowhereMarked : List Node → Shared → Type 0
 IsNowhereMarked versions f = Each (IsUnmarked f) versions × (f.found ≡ [])
 
--- A bug with these shared fields is in a package at a version: it is a bug of the package, not
--- archived, and not closed with nothing marked fixed; and on the line of the version, which begins
--- with it and goes up to its oldest ancestor, the first marked version is marked found, or no
--- version is marked and none at all is marked found.
+-- A bug with these shared fields belongs in the list of a package at a version: it is a bug of the
+-- package, not archived, and not closed with nothing marked fixed; and on the line of the version,
+-- which begins with it and goes up to its oldest ancestor, the first marked version is marked
+-- found, or no version is marked and none at all is marked found.
 pub record IsIn (tree : Ancestry) (package_name : List ℕ) (version : Node) (f : Shared) : Type 0 where
   pub of_package : f.«package» ≡ package_name
   pub not_archived : IsFalse f.archived

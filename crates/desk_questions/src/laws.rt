@@ -1,19 +1,20 @@
 //! The law of lists.
 //! Its body is empty: the contract is the law.
 
-ghost use Rattle.std.specs.Prelude.{◌≡◌, ℕ, List, Some, IsTrue};
+ghost use Rattle.std.specs.Prelude.{◌≡◌, ◌<◌, ℕ, List, Some, IsTrue};
 ghost use Rattle.ancestry.specs.Nodes.{Node};
-ghost use Rattle.bug_record.specs.Desk.{Desk, IsSound};
+ghost use Rattle.bug_record.specs.Desk.{Desk};
 ghost use Rattle.bug_record.specs.Lists.{listed};
 ghost use Rattle.bug_record.specs.Sets.{has};
 ghost use Rattle.bug_record.specs.declared.bug.Bug.{Bug};
 ghost use Rattle.desk_questions.specs.Readable.{IsIn};
 
-/// A bug is in the list of a package at a version exactly where it is in the package at that
-/// version: said by the line of the version and the two sets of marks alone.
+/// A bug is in the list of a package at a version exactly where it belongs there: said by its
+/// package, whether it is archived or closed, its two sets of marks and the line of the version,
+/// without its status.
 pub fn a_list_has_the_bugs_found_there()
     ensures listed { (d : Desk) (name : List ℕ) (version : Node) (n : ℕ) → IsTrue (has (listed d name version) n)
         → (b : Bug) × (d.bug n ≡ Some b) × IsIn d.tree name version b.shared }
-    ensures found { (d : Desk) (name : List ℕ) (version : Node) (n : ℕ) (b : Bug) → IsSound d → d.bug n ≡ Some b
+    ensures found { (d : Desk) (name : List ℕ) (version : Node) (n : ℕ) (b : Bug) → n < d.next → d.bug n ≡ Some b
         → IsIn d.tree name version b.shared → IsTrue (has (listed d name version) n) }
 {}

@@ -44,7 +44,8 @@ TellsFault fault c0 c1 (Err stops.Write) =
 TellsFault fault c0 c1 (Err stops.Memory) = Appends c0 c1 []
 TellsFault fault c0 c1 _ = ⊥
 
--- A question was answered so: its text is written, and a refusal is kept; or the script ends.
+-- A question was answered so: its text is written, and whether it refuses goes into the script's
+-- end; or the script ends.
 abbrev pub Tells : Result Told QuestionFault → Option (List ℕ) → Option (List ℕ) → Bool → Bool
     → Result (Unit {0}) ScriptFault → Type 0
 Tells (Ok told) c0 c1 before now (Ok done) = Appends c0 c1 told.text.items × (now ≡ (before || told.refused))

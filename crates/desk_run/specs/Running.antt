@@ -41,7 +41,7 @@ AsksStore (From sender) = ⊥
 AsksStore Bad = ⊥
 
 -- The store failed in a part: a message was received up to a line, and its text ends with the
--- fault's; a report or a branch changed nothing, and its text is the fault's.
+-- fault's; a directive changed nothing, and its text is the fault's.
 abbrev pub FaultsIn : Part → Standing → StoreFault → Desk → List ℕ → Type 0
 FaultsIn (Message lines) s fault d text =
     (outcomes : List Entry) × (k : ℕ) × IsReceived s.sender lines s.desk outcomes (ends.Store fault k) d

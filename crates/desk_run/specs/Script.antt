@@ -139,7 +139,7 @@ abbrev pub after_branch : Result Ancestry BranchRefusal → Standing → Standin
 after_branch (Ok tree) s = standing (record s.desk { tree = tree }) s.sender s.refused
 after_branch (Err refusal) s = standing s.desk s.sender true
 
--- where a script stands after a question of which this is told
+-- where a script stands after a question that is told this
 abbrev pub after_question : Told → Standing → Standing
 after_question told s = standing s.desk s.sender (s.refused || told.refused)
 

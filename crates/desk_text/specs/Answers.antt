@@ -33,7 +33,7 @@ branch_answer (Ok (Err (Conflict place))) = refused_line (codes "conflict at " +
 branch_answer (Ok (Err Memory)) = refused_line (codes "")
 branch_answer (Err fault) = fault_text fault
 
--- a branch of which a word is no node
+-- a branch of which a word is no node, or a list whose version is none
 abbrev pub bad_version_answer : List ℕ
 bad_version_answer = refused_line (codes "bad version")
 

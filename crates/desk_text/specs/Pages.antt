@@ -62,7 +62,7 @@ page_text n b waiting =
     bug_lines n b ++ people_lines b ++ mark_lines b.shared
     ++ relation_lines b.shared.blockers waiting (others_merged n b.merged)
 
--- the same of a bug that may be a member of the image
+-- the page of the bug n, which is this member of the image; nothing where it is none
 abbrev pub page_in : SetImage → ℕ → List ℕ → Option Member → List ℕ
 page_in i n waiting None = []
 page_in i n waiting (Some m) = page_text n (bug_of i m) waiting

@@ -107,7 +107,7 @@ pub fn branch_answer(
     }
 }
 
-/// The line that answers a branch of which a word is no node.
+/// The line that answers a branch of which a word is no node, or a list whose version is none.
 pub fn bad_version_answer() -> &'static str
     ensures { result.now ≡ bad_version_answer }
 {
