@@ -8,6 +8,7 @@ pub mod BranchLemmas
 pub mod ParentLemmas
 pub mod LowestLemmas
 pub mod HeadLemmas
+pub mod HeightLemmas
 pub mod AncestorLemmas
 pub mod ChangeLemmas
 pub mod RepeatLemmas

@@ -6,3 +6,4 @@ pub mod Statuses
 -- definitions that only private functions and fields cite
 pub mod Changes
 pub mod Kept
+pub mod Heights

@@ -4,6 +4,7 @@
 
 mod branch;
 mod fault;
+mod indexed;
 mod laws;
 mod marks;
 mod node;
@@ -11,8 +12,9 @@ mod statuses;
 mod tree;
 
 pub use fault::{BranchFault, NodeFault};
+pub use indexed::IndexedLine;
 pub use laws::{one_line, valid_nodes};
-pub use marks::{status, status_on};
+pub use marks::status;
 pub use node::{Node, at_first_slash};
 pub use statuses::Status;
 pub use tree::Tree;

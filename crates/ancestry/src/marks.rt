@@ -2,8 +2,7 @@
 
 ghost use Rattle.std.specs.Prelude.{◌≡◌};
 ghost use Rattle.ancestry.specs.Trees.{has_node, line};
-ghost use Rattle.std.specs.Option.{option_copied};
-ghost use Rattle.ancestry.specs.Statuses.{first_marked, status_by, status_on, status};
+ghost use Rattle.ancestry.specs.Statuses.{first_marked, status_by, status};
 
 use crate::node::Node;
 use crate::statuses::Status;
@@ -33,43 +32,6 @@ fn marked(tree: &Tree, found: &[Node], fixed: &[Node], node: &Node) -> Status
         Status::Found
     } else {
         Status::Absent
-    }
-}
-
-// The first node of a line that is in one of the lists.
-fn first_marked<'a>(line: &'a [Node], found: &[Node], fixed: &[Node]) -> Option<&'a Node>
-    ensures { option_copied result ≡ first_marked found.now fixed.now line.now }
-{
-    for here in line {
-        if has_node(found, here) || has_node(fixed, here) {
-            return Some(here);
-        }
-    }
-    None
-}
-
-// The status by that node.
-fn status_by(found: &[Node], marked: Option<&Node>) -> Status
-    ensures { result ≡ status_by found.now (option_copied marked.entry) }
-{
-    match marked {
-        Some(node) if has_node(found, node) => Status::Found,
-        Some(_) => Status::Fixed,
-        None if found.is_empty() => Status::Found,
-        None => Status::Absent,
-    }
-}
-
-/// The status of a bug that is found and fixed at these nodes, at the first node of this line: as
-/// `status` tells it, for one line and many bugs. Takes no memory. This project's own rule.
-#[tactic(auto, unfolding(crate::specs::Statuses::status_on))]
-pub fn status_on(line: &[Node], found: &[Node], fixed: &[Node], closed: bool) -> Status
-    ensures { result ≡ status_on line.now found.now fixed.now closed }
-{
-    if closed && fixed.is_empty() {
-        Status::Done
-    } else {
-        status_by(found, first_marked(line, found, fixed))
     }
 }
 

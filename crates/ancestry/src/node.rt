@@ -1,10 +1,13 @@
 //! Nodes: versions of source packages.
 
-ghost use Rattle.std.specs.Prelude.{◌≡◌, refl, is_some, Some, IfSome, IfOk};
+ghost use Rattle.std.specs.Prelude.{◌≡◌, ◌++◌, refl, is_some, Some, IfSome, IfOk};
 ghost use Rattle.std.specs.List.{list_any, before_first, after_first};
 ghost use Rattle.std.specs.Str.{bytes_eq};
 ghost use Rattle.std.specs.Cmp.{po, partial_equiv_from_equiv};
 ghost use Rattle.std.specs.Ordering.{as_partial_cmp};
+ghost use Rattle.std.specs.Hash as fed;
+ghost use Rattle.std.specs.Cmp.Rules.{hashing};
+ghost use Rattle.std.proofs.Common.{rules};
 ghost use Rattle.debver.specs.Names.{IsName};
 ghost use Rattle.debver.specs.Cut.{IsVersion};
 ghost use Rattle.debver.specs.Versions.{total_cmp};
@@ -18,6 +21,7 @@ use debver::{Text, check, check_name, cut, total};
 use std::alloc::{AllocError, Global};
 use std::cmp::Ordering;
 use std::fmt;
+use std::hash::{Hash, Hasher};
 use std::marker::Model;
 
 /// A version of a source package. Contracts see both texts.
@@ -180,6 +184,18 @@ impl PartialEq for Node {
 
 impl Eq for Node {
     ghost laws = { same_node_equiv };
+}
+
+/// A node is hashed by both texts.
+impl Hash for Node {
+    ghost hash_input = { λ n. fed.str n.source ++ fed.str n.version };
+
+    ghost respects_eq = { Prim.search (hashing, rules) };
+
+    fn hash<H: Hasher>(&self, state: &mut H) {
+        self.source().hash(state);
+        self.version().hash(state);
+    }
 }
 
 impl PartialOrd for Node {

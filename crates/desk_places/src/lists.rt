@@ -11,7 +11,7 @@ ghost use Rattle.desk_text.specs.Lists.{rows_of, with_row};
 
 use crate::places::{Place, image_of};
 use crate::questions::{Question, passing};
-use ancestry::{Node, Tree};
+use ancestry::{IndexedLine, Node, Tree};
 use bug_record::{Sequence, Severity};
 use desk_text::ListRow;
 use std::alloc::{AllocError, Global};
@@ -80,7 +80,8 @@ fn by_severity(alloc: Global, rows: &[ListRow]) -> Result<Sequence<ListRow>, All
 
 /// The bugs of a package that are not archived and are found at a node, by severity, from critical
 /// to wishlist, and then by number; each bug of a set stands by itself.
-/// Each set is looked at once, and the node's line is taken once.
+/// The node's line is taken once, and each set is looked at once: each of its marks is looked up in
+/// the line.
 /// The only error is that there is no memory for the rows.
 pub fn listed(
     alloc: Global,
@@ -94,8 +95,9 @@ pub fn listed(
         → IfOk result (λ rows. rows ≡ rows_of (desk_of bugs.now tree.now next).bug
         (listed (desk_of bugs.now tree.now next) «package».now node.now)) }
 {
-    let line = tree.line(node)?;
-    let numbers = passing(alloc, bugs, Question::IsListed(package, line.as_slice()))?;
+    let nodes = tree.line(node)?;
+    let line = IndexedLine::of(alloc, nodes)?;
+    let numbers = passing(alloc, bugs, Question::IsListed(package, &line))?;
     let rows = rows_of(alloc, bugs, numbers.as_slice())?;
     by_severity(alloc, rows.as_slice())
 }

@@ -14,7 +14,7 @@ ghost use Rattle.desk_places.specs.Questions.{is_listed_on, test_of, passing_the
 
 use crate::heads::is_there;
 use crate::places::Place;
-use ancestry::{Node, status_on};
+use ancestry::IndexedLine;
 use bug_record::{Member, Numbers, Sequence, Shared, add_number};
 use std::alloc::{AllocError, Global};
 use std::collections::{BTreeSet, HashMap};
@@ -25,19 +25,19 @@ pub(crate) enum Question<'a> {
     /// Whether it waits on the bug of this number.
     WaitsOn(u64),
     /// Whether it is a bug of this package, not archived, and found at the node of this line.
-    IsListed(&'a str, &'a [Node]),
+    IsListed(&'a str, &'a IndexedLine),
 }
 
 // Whether a bug with these fields is found at the node of this line.
-fn is_found_on(shared: &Shared, line: &[Node]) -> bool
+fn is_found_on(shared: &Shared, line: &IndexedLine) -> bool
     ensures { result ≡ is_found (status_on line.now shared.now.found shared.now.fixed shared.now.closed) }
 {
     let (found, fixed) = (shared.found.as_slice(), shared.fixed.as_slice());
-    is_there(status_on(line, found, fixed, shared.closed))
+    is_there(line.status(found, fixed, shared.closed))
 }
 
 // Whether a bug with these fields is listed for this package, at the node of this line.
-fn is_listed(shared: &Shared, package: &str, line: &[Node]) -> bool
+fn is_listed(shared: &Shared, package: &str, line: &IndexedLine) -> bool
     ensures { result ≡ is_listed_on line.now «package».now shared.now }
 {
     shared.package.as_str() == package && !shared.archived && is_found_on(shared, line)

@@ -17,9 +17,9 @@ returns c = λ next sound.
     let package_name = c.args.package.now in
     let are = c.in_ok-numbers.ensures c.args.tree.now next sound
     ∙ ap (λ (nodes : List Node). numbers_where (is_listed_on nodes package_name) d)
-    (c.as_slice.ensures.value ∙ c.in_ok-line.ensures.value) in
-    let shown = c.in_ok-rows.ensures ∙ ap (rows_of d.bug) c.as_slice-2.ensures in
+    (c.in_ok-line.ensures ∙ c.in_ok-nodes.ensures.value) in
+    let shown = c.in_ok-rows.ensures ∙ ap (rows_of d.bug) c.as_slice.ensures in
     IfOk-weaker c.by_severity.result _ _
     (λ sorted e. rows-listed d package_name c.args.node.now c.in_ok-numbers.numbers c.in_ok-rows.rows sorted are shown
-    (e ∙ ap (λ (rows : List ListRow). flat_map (λ severity. filter (is_row_of severity) rows) all_severities) c.as_slice-3.ensures))
+    (e ∙ ap (λ (rows : List ListRow). flat_map (λ severity. filter (is_row_of severity) rows) all_severities) c.as_slice-2.ensures))
     c.by_severity.ensures

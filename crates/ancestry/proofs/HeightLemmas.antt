@@ -1,0 +1,83 @@
+-- The first marked node of a line is the one that stands highest.
+use Rattle.std.proofs.Common.{◌≡◌, ◌≤◌, ◌<◌, ℕ, true, false, Bool, cond, ◌||◌, List, [], ◌∷◌, length, refl, sym, ap, ◌∙◌, arith}
+use Rattle.std.specs.Prelude.{max, ◌==◌, ◌+◌, if◌then◌else◌, Some}
+use Rattle.std.proofs.lemmas.Bool.Decides.{nat_tests}
+use Rattle.ancestry.specs.Heights.{height, greatest_height, status_at}
+use Rattle.ancestry.specs.Nodes.{Node, same_node}
+use Rattle.ancestry.specs.Statuses.{first_marked, status_by}
+use Rattle.ancestry.specs.Trees.{has_node}
+use Rattle.ancestry.specs.declared.statuses.Status.TheVariants.{Found, Fixed}
+
+height-le : (line : List Node) (n : Node) → height line n ≤ length line
+height-le [] n = omega arith
+height-le (m ∷ line) n = cases (height-le line n) (same_node m n)
+  where
+    cases : height line n ≤ length line → (t : Bool) → cond t (length line + 1) (height line n) ≤ length (m ∷ line)
+    cases less true = omega arith
+    cases less false = omega arith
+
+greatest-le : (line nodes : List Node) → greatest_height line nodes ≤ length line
+greatest-le line [] = omega arith
+greatest-le line (n ∷ nodes) = omega (arith, height-le line n, greatest-le line nodes)
+
+greatest-none : (nodes : List Node) → greatest_height [] nodes ≡ 0
+greatest-none nodes = omega (arith, greatest-le [] nodes)
+
+-- the first node of a line stands highest
+greatest-first : (m : Node) (line nodes : List Node)
+    → greatest_height (m ∷ line) nodes ≡ cond (has_node nodes m) (length line + 1) (greatest_height line nodes)
+greatest-first m line [] = refl
+greatest-first m line (n ∷ nodes) =
+    ap (max (height (m ∷ line) n)) (greatest-first m line nodes) ∙ cases (same_node m n) (has_node nodes m)
+  where
+    low : height line n ≤ length line
+    low = height-le line n
+
+    lows : greatest_height line nodes ≤ length line
+    lows = greatest-le line nodes
+
+    cases : (t u : Bool)
+        → max (cond t (length line + 1) (height line n)) (cond u (length line + 1) (greatest_height line nodes))
+        ≡ cond (t || u) (length line + 1) (max (height line n) (greatest_height line nodes))
+    cases true true = omega arith
+    cases true false = omega (arith, lows)
+    cases false true = omega (arith, low)
+    cases false false = refl
+
+-- found decides, where it stands as high, and fixed, where it stands higher
+found-decides : (found fixed : ℕ) (nowhere : Bool) → fixed ≤ found → 0 < found → status_at found fixed nowhere ≡ Found
+found-decides found fixed nowhere h g = grind (arith, nat_tests)
+
+fixed-decides : (found fixed : ℕ) (nowhere : Bool) → found < fixed → status_at found fixed nowhere ≡ Fixed
+fixed-decides found fixed nowhere h = grind (arith, nat_tests)
+
+-- one node more before the line, which may be marked
+one-more : (found fixed line : List Node) (m : Node) (a b : ℕ) (nowhere : Bool) → a ≤ length line → b ≤ length line
+    → status_by found (first_marked found fixed line) ≡ status_at a b nowhere
+    → (t u : Bool) → has_node found m ≡ t
+    → status_by found (cond (t || u) (Some m) (first_marked found fixed line))
+    ≡ status_at (cond t (length line + 1) a) (cond u (length line + 1) b) nowhere
+one-more found fixed line m a b nowhere h g same true true e =
+    ap (λ t. if t then Found else Fixed) e ∙ sym (found-decides (length line + 1) (length line + 1) nowhere (omega arith) (omega arith))
+one-more found fixed line m a b nowhere h g same true false e =
+    ap (λ t. if t then Found else Fixed) e ∙ sym (found-decides (length line + 1) b nowhere (omega arith) (omega arith))
+one-more found fixed line m a b nowhere h g same false true e =
+    ap (λ t. if t then Found else Fixed) e ∙ sym (fixed-decides a (length line + 1) nowhere (omega arith))
+one-more found fixed line m a b nowhere h g same false false e = same
+
+-- the nodes that stand highest decide as the first marked one does
+pub status-heights : (found fixed line : List Node)
+    → status_by found (first_marked found fixed line)
+    ≡ status_at (greatest_height line found) (greatest_height line fixed) (length found == 0)
+status-heights found fixed [] =
+    ap (λ k. status_at k 0 (length found == 0)) (sym (greatest-none found))
+    ∙ ap (λ k. status_at (greatest_height [] found) k (length found == 0)) (sym (greatest-none fixed))
+status-heights found fixed (m ∷ line) =
+    let nowhere = length found == 0 in
+    let a = greatest_height line found in
+    let b = greatest_height line fixed in
+    let high = length line + 1 in
+    one-more found fixed line m a b nowhere (greatest-le line found) (greatest-le line fixed) (status-heights found fixed line)
+    (has_node found m) (has_node fixed m) refl
+    ∙ ap (λ k. status_at k (cond (has_node fixed m) high b) nowhere) (sym (greatest-first m line found))
+    ∙ ap (λ k. status_at (greatest_height (m ∷ line) found) k nowhere) (sym (greatest-first m line fixed))

@@ -1,0 +1,27 @@
+-- How high the nodes of a line stand above its end, by which a line is asked about many bugs. This
+-- project's own rule.
+use Rattle.std.specs.Prelude.{ℕ, ◌≡◌, ◌+◌, ◌||◌, nat_lt, Bool, List, [], ◌∷◌, length, max, if◌then◌else◌}
+use Rattle.std.specs.Option.{option_map_or}
+use Rattle.std.specs.HashMap.{HashMap, get}
+use Rattle.ancestry.specs.Nodes.{Node, same_node}
+use Rattle.ancestry.specs.declared.statuses.Status.{Status}
+use Rattle.ancestry.specs.declared.statuses.Status.TheVariants.{Found, Fixed, Absent}
+
+-- how many nodes a line has from this one on; none, where it doesn't have this one
+abbrev pub height : List Node → Node → ℕ
+height [] n = 0
+height (m ∷ line) n = if same_node m n then length line + 1 else height line n
+
+-- the height of the one that stands highest
+abbrev pub greatest_height : List Node → List Node → ℕ
+greatest_height line [] = 0
+greatest_height line (n ∷ nodes) = max (height line n) (greatest_height line nodes)
+
+-- the map has the height of each node of the line, and no others
+abbrev pub HasHeights : {S : Type 0} → HashMap Node ℕ S → List Node → Type 0
+HasHeights heights line = (n : Node) → option_map_or (λ h. h) (get same_node heights n) 0 ≡ height line n
+
+-- the status by these heights of the nodes at which a bug is found and fixed
+abbrev pub status_at : ℕ → ℕ → Bool → Status
+status_at found fixed found_nowhere =
+    if nat_lt found fixed then Fixed else if nat_lt 0 found || found_nowhere then Found else Absent

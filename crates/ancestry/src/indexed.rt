@@ -1,0 +1,134 @@
+//! A line that is asked for the status of many bugs.
+
+ghost use Rattle.std.specs.Prelude.{◌≡◌, ℕ, IfOk, OnOk, if◌then◌else◌};
+ghost use Rattle.std.specs.HashMap.{get};
+ghost use Rattle.std.specs.Option.{option_map_or};
+ghost use Rattle.ancestry.specs.Heights.{HasHeights, height, greatest_height, status_at};
+ghost use Rattle.ancestry.specs.Nodes.{Node, same_node};
+ghost use Rattle.ancestry.specs.Statuses.{first_marked, status_by, status_on};
+
+use crate::node::Node;
+use crate::statuses::Status;
+use std::alloc::{AllocError, Global};
+use std::collections::HashMap;
+use std::marker::Model;
+
+/// A line, and of each of its nodes how high it stands above the line's end.
+/// Contracts see the line. This project's own rule.
+#[derive(Drop)]
+pub struct IndexedLine {
+    nodes: Vec<Node>,
+    // How many nodes the line has from each of its nodes on, from its first place.
+    heights: HashMap<Node, usize>,
+}
+
+impl Model for IndexedLine {
+    ghost use Rattle.std.specs.Prelude.{List};
+    ghost use Rattle.ancestry.specs.Heights.{HasHeights};
+    ghost use Rattle.ancestry.specs.Nodes.{Node as Seen};
+
+    ghost Value = { List Seen };
+
+    ghost view = { λ l. l.nodes.items };
+
+    ghost invariant = { λ l. HasHeights l.heights l.nodes.items };
+}
+
+// Keeps the height of a node, where none is kept yet.
+fn keep_height(
+    heights: &mut HashMap<Node, usize>,
+    node: &Node,
+    height: usize,
+) -> Result<(), AllocError>
+    ensures { OnOk result ((n : Node) (other : ℕ) → option_map_or (λ h. h) (get same_node heights.new n) other
+        ≡ option_map_or (λ h. h) (get same_node heights.old n) (if same_node node.now n then height else other)) }
+{
+    if !heights.contains_key(node) {
+        heights.insert(node.copy()?, height)?;
+    }
+    Ok(())
+}
+
+// The heights of the nodes of a line.
+fn heights_of(alloc: Global, line: &[Node]) -> Result<HashMap<Node, usize>, AllocError>
+    ensures { IfOk result (λ heights. HasHeights heights line.now) }
+{
+    let mut heights = HashMap::new(alloc);
+    for (place, node) in line.iter().enumerate() {
+        keep_height(&mut heights, node, line.len() - place)?;
+    }
+    Ok(heights)
+}
+
+// The status by the greatest heights of the nodes at which a bug is found and fixed.
+fn status_at(found: usize, fixed: usize, found_nowhere: bool) -> Status
+    ensures { result ≡ status_at found fixed found_nowhere }
+{
+    if fixed > found {
+        return Status::Fixed;
+    }
+    if found > 0 || found_nowhere {
+        Status::Found
+    } else {
+        Status::Absent
+    }
+}
+
+impl IndexedLine {
+    /// Keeps a line, and where its nodes stand.
+    /// The error is that there was no memory.
+    pub fn of(alloc: Global, line: Vec<Node>) -> Result<IndexedLine, AllocError>
+        ensures { IfOk result (λ indexed. indexed ≡ line.items) }
+    {
+        let heights = heights_of(alloc, line.as_slice())?;
+        Ok(IndexedLine {
+            nodes: line,
+            heights,
+        })
+    }
+
+    // How many nodes the line has from this one on; none, where it doesn't have this one.
+    fn height(&self, node: &Node) -> usize
+        ensures { result ≡ height self.now node.now }
+    {
+        match self.heights.get(node) {
+            Some(height) => *height,
+            None => 0,
+        }
+    }
+
+    // The height of the one of these nodes that stands highest.
+    fn greatest_height(&self, nodes: &[Node]) -> usize
+        ensures { result ≡ greatest_height self.now nodes.now }
+    {
+        let mut greatest = 0;
+        for node in nodes {
+            greatest = self.height(node).max(greatest);
+        }
+        greatest
+    }
+
+    // The status by the first node of the line that is in one of the lists.
+    fn marked(&self, found: &[Node], fixed: &[Node]) -> Status
+        ensures { result ≡ status_by found.now (first_marked found.now fixed.now self.now) }
+    {
+        let highest_found = self.greatest_height(found);
+        let highest_fixed = self.greatest_height(fixed);
+        status_at(highest_found, highest_fixed, found.is_empty())
+    }
+
+    /// The status of a bug that is found and fixed at these nodes, at the first node of the line:
+    /// as the function `status` tells it, for one line and many bugs.
+    /// Each of these nodes is looked up once, and the line isn't gone through.
+    /// Takes no memory. This project's own rule.
+    #[tactic(auto, unfolding(crate::specs::Statuses::status_on))]
+    pub fn status(&self, found: &[Node], fixed: &[Node], closed: bool) -> Status
+        ensures { result ≡ status_on self.now found.now fixed.now closed }
+    {
+        if closed && fixed.is_empty() {
+            Status::Done
+        } else {
+            self.marked(found, fixed)
+        }
+    }
+}
