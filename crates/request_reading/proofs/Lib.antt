@@ -1,0 +1,4 @@
+pub mod HeadLemmas
+pub mod PieceLemmas
+pub mod HeaderLemmas
+pub mod BodyLemmas

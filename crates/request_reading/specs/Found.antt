@@ -1,0 +1,45 @@
+-- What reading says of the bytes that a reader had before, `old`, and has left, `new`.
+use Rattle.std.specs.Prelude.{◌≡◌, ◌≢◌, ℕ, ◌+◌, ◌≤◌, List, [], ◌++◌, length, take, drop, Option, IfSome}
+use Rattle.std.specs.Io.KnownBytes.{Consumes}
+use Rattle.httparse.specs.Grammar.{RequestHead, HasNoRequest}
+use Rattle.httparse.specs.Spans.{IsRequestAt, IsRequestWithin}
+use Rattle.httparse.specs.declared.spans.HeaderSpan.{HeaderSpan}
+use Rattle.httparse.specs.declared.spans.RequestSpans.{RequestSpans}
+use Rattle.request_reading.specs.Head.{BeginsWithHead, HasNoHead}
+use Rattle.request_reading.specs.declared.head.Head.{Head}
+use Rattle.request_reading.specs.declared.head.Head.TheVariants.{Nothing, Wrong, Complete}
+
+-- the reader gave the bytes of the buffer from `filled` up to `total`, and those before stayed
+pub record Came (old new : Option (List ℕ)) (before after : List ℕ) (filled total : ℕ) : Type 0 where
+  pub within : total ≤ length after
+  pub bytes : List ℕ
+  pub count : filled + length bytes ≡ total
+  pub behind : take total after ≡ take filled before ++ bytes
+  pub took : Consumes old new bytes
+
+-- the reader gave the first `filled` bytes of the buffer, which begin with a head, and the spans
+-- cover its parts
+pub record IsComplete (old new : Option (List ℕ)) (buf : List ℕ) (headers : List HeaderSpan)
+    (spans : RequestSpans) (filled : ℕ) : Type 0 where
+  pub took : Consumes old new (take filled buf)
+  pub fits : filled ≤ length buf
+  pub head : RequestHead
+  pub begins : BeginsWithHead (take filled buf) head (drop spans.len (take filled buf))
+  pub within : IsRequestWithin (take filled buf) headers spans
+  pub covers : IsRequestAt (take filled buf) headers spans head
+
+-- the input is not empty, and begins with no head
+abbrev pub IsWrong : List ℕ → Type 0
+IsWrong input = (input ≢ []) × HasNoHead input
+
+-- what is answered of the bytes that the reader had
+abbrev pub IsFound : Option (List ℕ) → Option (List ℕ) → List ℕ → List HeaderSpan → Head → Type 0
+IsFound old new buf headers Nothing = IfSome old (λ input. input ≡ [])
+IsFound old new buf headers Wrong = IfSome old IsWrong
+IsFound old new buf headers (Complete spans filled) = IsComplete old new buf headers spans filled
+
+-- the reader gave bytes that begin with no head
+pub record LosesNoHead (old new : Option (List ℕ)) : Type 0 where
+  pub bytes : List ℕ
+  pub took : Consumes old new bytes
+  pub none : HasNoRequest bytes

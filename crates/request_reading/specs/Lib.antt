@@ -1,0 +1,4 @@
+pub mod Head
+pub mod Found
+pub mod Headers
+pub mod Body
