@@ -1,5 +1,5 @@
 -- What reading says of the bytes that a reader had before, `old`, and has left, `new`.
-use Rattle.std.specs.Prelude.{◌≡◌, ◌≢◌, ℕ, ◌+◌, ◌≤◌, List, [], ◌++◌, length, take, drop, Option, IfSome}
+use Rattle.std.specs.Prelude.{◌≡◌, ◌≢◌, ℕ, ◌+◌, ◌<◌, ◌≤◌, List, [], ◌++◌, length, take, drop, Option, IfSome}
 use Rattle.std.specs.Io.KnownBytes.{Consumes}
 use Rattle.httparse.specs.Grammar.{RequestHead, HasNoRequest}
 use Rattle.httparse.specs.Spans.{IsRequestAt, IsRequestWithin}
@@ -43,3 +43,9 @@ pub record LosesNoHead (old new : Option (List ℕ)) : Type 0 where
   pub bytes : List ℕ
   pub took : Consumes old new bytes
   pub none : HasNoRequest bytes
+
+-- the reader gave bytes, fewer than these
+pub record LosesFewer (old new : Option (List ℕ)) (count : ℕ) : Type 0 where
+  pub bytes : List ℕ
+  pub took : Consumes old new bytes
+  pub few : length bytes < count

@@ -1,9 +1,9 @@
 //! The body of a request: the bytes after its head.
 
-ghost use Rattle.std.specs.Prelude.{◌≡◌, ◌++◌, ◌≤◌, ◌<◌, ◌-◌, Ok, Err, length, take, drop, map, min, All, IfOk, IfErr, IfSome};
+ghost use Rattle.std.specs.Prelude.{◌≡◌, ◌≢◌, ◌++◌, ◌≤◌, ◌<◌, ◌-◌, Ok, Err, length, take, drop, map, min, All, IfOk, IfErr, IfSome, IsOk, OnErr};
 ghost use Rattle.std.specs.Io.KnownBytes.{Consumes, IsAtEnd};
 ghost use Rattle.httparse.specs.Spans.{IsHeaderWithin, header_bytes};
-ghost use Rattle.request_reading.specs.Found.{Came};
+ghost use Rattle.request_reading.specs.Found.{Came, LosesFewer};
 ghost use Rattle.request_reading.specs.Headers.{body_length};
 ghost use Rattle.request_reading.specs.Body.{body_of, whole, shown};
 
@@ -20,6 +20,8 @@ fn fill<R: Read>(reader: &mut R, buf: &mut [u8], filled: usize) -> io::Result<us
     requires { filled ≤ length buf.old }
     ensures came { IfOk result (Came (R.remaining reader.old) (R.remaining reader.new) buf.old buf.new filled) }
     ensures ended { IfOk result (λ total. total < length buf.new → IsAtEnd (R.remaining reader.new)) }
+    ensures cut { OnErr result (LosesFewer (R.remaining reader.old) (R.remaining reader.new)
+        (length buf.new - filled)) }
 {
     let mut total = filled;
     'pieces: while total < buf.len() {
@@ -35,6 +37,7 @@ fn fill<R: Read>(reader: &mut R, buf: &mut [u8], filled: usize) -> io::Result<us
 // Room for a body of this size, which begins with the bytes that are here.
 fn room(alloc: Global, here: &[u8], size: usize) -> Result<Vec<u8>, AllocError>
     ensures long { IfOk result (λ body. length body.items ≡ size) }
+    ensures empty { size ≡ 0 → IsOk result }
     ensures begins { IfOk result (λ body. let known = min (length here.now) size in
         take known body.items ≡ take known here.now) }
 {
@@ -56,7 +59,9 @@ fn read_whole<R: Read>(
         (λ more. shown body ≡ whole size (here.now ++ more))) }
     ensures taken { IfOk result (λ body. IfOk body (λ bytes.
         Consumes (R.remaining reader.old) (R.remaining reader.new) (drop (length here.now) bytes.items))) }
-    ensures memory { result ≡ Err ReadFault.Memory → reader.new ≡ reader.old }
+    ensures memory { result ≡ Err ReadFault.Memory → (reader.new ≡ reader.old) × (size ≢ 0) }
+    ensures cut { result ≡ Err ReadFault.Read → LosesFewer (R.remaining reader.old) (R.remaining reader.new)
+        (size - length here.now) }
 {
     let Ok(mut body) = room(alloc, here, size) else {
         return Err(ReadFault::Memory);
@@ -78,8 +83,8 @@ fn read_whole<R: Read>(
 ///
 /// # Errors
 ///
-/// `Memory` where there was none for the body, and then nothing was read; `Read` where a read
-/// failed, an interrupted one too.
+/// `Memory` where there was none for the body, which is not empty, and then nothing was read;
+/// `Read` where a read failed, an interrupted one too, before the body was whole.
 pub fn read_body<R: Read>(
     alloc: Global,
     reader: &mut R,
@@ -94,10 +99,15 @@ pub fn read_body<R: Read>(
     ensures taken { IfOk result (λ body. IfOk body (λ bytes.
         Consumes (R.remaining reader.old) (R.remaining reader.new) (drop (length buf.now - start) bytes.items))) }
 
-    // What the headers refuse is not read, and nothing is read where there is no memory.
+    // What the headers refuse is not read, and takes no memory.
     ensures refused { IfErr (body_length (map (header_bytes buf.now) headers.now))
         (λ refusal. (result ≡ Ok (Err refusal)) × (reader.new ≡ reader.old)) }
-    ensures memory { result ≡ Err ReadFault.Memory → reader.new ≡ reader.old }
+
+    // An empty body takes no memory, and a body that is at hand is not read.
+    ensures memory { result ≡ Err ReadFault.Memory → (reader.new ≡ reader.old)
+        × (body_length (map (header_bytes buf.now) headers.now) ≢ Ok 0) }
+    ensures cut { result ≡ Err ReadFault.Read → IfOk (body_length (map (header_bytes buf.now) headers.now))
+        (λ size. LosesFewer (R.remaining reader.old) (R.remaining reader.new) (size - (length buf.now - start))) }
 {
     match body_length(buf, headers) {
         Ok(size) => read_whole(alloc, reader, &buf[start..], size as usize),
