@@ -29,12 +29,12 @@ pub enum Head {
 
 /// Reads until a head is complete, by the grammar of `httparse`, with at most 8,192 bytes and 32
 /// headers.
-/// It takes no memory, and asks for no byte once the head is complete.
+/// It takes no memory, and reads no further once the head is complete.
 /// The limits are this project's own rule.
 ///
 /// # Errors
 ///
-/// A read failed, an interrupted one too.
+/// A read failed, an interrupted one too; of which kind the error is is left open.
 /// The bytes that the reader has lost by then begin with no head.
 pub fn read_head<R: Read>(
     reader: &mut R,
