@@ -1,6 +1,7 @@
 -- The parts of a request's target.
 -- Which they are is this project's own rule.
-use Rattle.std.specs.Prelude.{ℕ, Bool, List, Option, Some, None, codes, drop, length, if◌then◌else◌, ◌==◌}
+use Rattle.std.specs.Prelude.{ℕ, ◌==◌, Bool, List, length, drop, codes, Option, Some, None}
+use Rattle.std.specs.Prelude.{if◌then◌else◌}
 use Rattle.std.specs.List.{before_first, after_first}
 use Rattle.std.specs.Str.{is_utf8, byte}
 use Rattle.percent_encoding.specs.Percent.{percent_decode}
@@ -24,7 +25,7 @@ package_part path = before_first is_slash (drop (length (codes "/list/")) path)
 abbrev pub version_part : List ℕ → List ℕ
 version_part path = after_first is_slash (drop (length (codes "/list/")) path)
 
--- The text of a part: its bytes with each escape decoded, once (the URL Standard's percent-decoding),
--- where these are UTF-8.
+-- The text of a part: its bytes with each escape decoded, once, where these are UTF-8 (the URL
+-- Standard's percent-decoding).
 unfoldable pub decoded_text : List ℕ → Option (List ℕ)
 decoded_text part = if is_utf8 (percent_decode part) then Some (percent_decode part) else None

@@ -8,7 +8,8 @@ use Rattle.matchit.specs.Router.{RouteOf, route_from, nearest}
 use Rattle.matchit.specs.Seek.{first}
 use Rattle.matchit.specs.declared.error.InsertError.{InsertError}
 use Rattle.desk_routes.specs.declared.router.Route.{Route}
-use Rattle.desk_routes.specs.declared.router.Route.TheVariants.{Bugs, Control, Branches, Bug, List as ListRoute}
+use Rattle.desk_routes.specs.declared.router.Route.TheVariants.{Bugs, Control, Branches, Bug}
+use Rattle.desk_routes.specs.declared.router.Route.TheVariants.{List as ListRoute}
 
 -- the one method of a route
 abbrev pub method : Route → List ℕ
@@ -48,7 +49,9 @@ IsFree route rows = IsFreeAt (parse_route (route_text route)) rows
 
 -- the five routes
 unfoldable pub routes : Routes
-routes = with_route ListRoute (with_route Bug (with_route Branches (with_route Control (with_route Bugs []))))
+routes =
+    with_route ListRoute
+    (with_route Bug (with_route Branches (with_route Control (with_route Bugs []))))
 
 -- the route of a path: the one that `matchit` finds for it
 unfoldable pub route_at : List ℕ → Option Route

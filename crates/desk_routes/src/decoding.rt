@@ -6,8 +6,8 @@ ghost use Rattle.desk_routes.specs.Parts.{decoded_text};
 use percent_encoding::{DecodeError, percent_decode};
 use std::alloc::{AllocError, Global};
 
-/// The text of a part of a path: its escapes `%XX` are decoded, once, and a `%` that begins no escape
-/// stands for itself (the URL Standard's percent-decoding).
+/// The text of a part of a path: its bytes with each escape `%XX` decoded, once.
+/// A `%` that begins no escape stands for itself (the URL Standard's percent-decoding).
 /// There is none exactly where the decoded bytes are no UTF-8.
 ///
 /// # Errors

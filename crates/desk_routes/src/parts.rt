@@ -56,8 +56,8 @@ pub struct ListParts<'p> {
     pub version: &'p [u8],
 }
 
-/// The parts of a path `/list/{package}/{*version}`: what follows `/list/` up to the next slash, and
-/// the rest after that slash, which may have further ones.
+/// The parts of a path `/list/{package}/{*version}`: what follows `/list/`, up to the next
+/// slash, and the rest after that slash, which may have further ones.
 /// Of any other path, the same of what follows as many bytes.
 pub fn list_parts(path: &[u8]) -> ListParts<'_>
     ensures name { result.«package».now ≡ package_part path.now }

@@ -2,7 +2,8 @@
 
 ghost use Rattle.std.specs.Prelude.{◌≡◌, IfOk, OnOk, option_map};
 ghost use Rattle.matchit.specs.Seek.{first};
-ghost use Rattle.desk_routes.specs.Routes.{method, route_text, with_route, IsFree, routes, route_at};
+ghost use Rattle.desk_routes.specs.Routes.{method, route_text, with_route, IsFree};
+ghost use Rattle.desk_routes.specs.Routes.{routes, route_at};
 
 use matchit::{InsertError, Router};
 use std::alloc::{AllocError, Global};
@@ -81,8 +82,9 @@ fn route_in(router: &Router<Route>, path: &str) -> Option<Route>
     }
 }
 
-/// The route of a path, by the rules of `matchit`: a literal stands for itself, `{n}` and `{package}` for
-/// one byte or more without a slash, and `{*version}` for one byte or more, up to the end.
+/// The route of a path, by the rules of `matchit`.
+/// `{n}` and `{package}` stand for one byte or more without a slash, `{*version}` for one byte or
+/// more up to the end, and any other byte of a route for itself.
 /// Nothing of the path is decoded before.
 ///
 /// # Errors
