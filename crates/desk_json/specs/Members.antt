@@ -24,8 +24,8 @@ version_of (Some null) = Some None
 version_of (Some (string text)) = Some (Some text)
 version_of (Some (boolean b)) = None
 version_of (Some (number n)) = None
-version_of (Some (array items)) = None
-version_of (Some (object members)) = None
+version_of (Some (array values)) = None
+version_of (Some (object named)) = None
 
 -- a report, where all its parts are there
 abbrev pub report_of : Option (List ℕ) → Option (List ℕ) → Option (List ℕ) → Option (List ℕ)
