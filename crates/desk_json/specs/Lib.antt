@@ -1,0 +1,4 @@
+pub mod Body
+pub mod Members
+pub mod Shown
+pub mod Answers

@@ -1,0 +1,3 @@
+pub mod DecodingLemmas
+pub mod FreeLemmas
+pub mod PartLemmas

@@ -1,0 +1,10 @@
+//! The desk's routes over HTTP: which one a target names, and the parts of its path.
+#![tactic(auto)]
+
+mod decoding;
+mod parts;
+mod router;
+
+pub use decoding::decoded_text;
+pub use parts::{ListParts, bug_part, list_parts, path};
+pub use router::{Route, find_route, method};
