@@ -1,0 +1,4 @@
+pub mod Tokens
+pub mod BugPlaces
+pub mod Lines
+pub mod Writer
