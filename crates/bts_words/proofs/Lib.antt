@@ -1,0 +1,5 @@
+mod CutLemmas
+mod PlaceLemmas
+mod LineLemmas
+mod ReadLemmas
+mod FaultLemmas

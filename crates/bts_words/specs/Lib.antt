@@ -1,0 +1,5 @@
+pub mod Tokens
+pub mod BugPlaces
+pub mod Lines
+-- definitions that only private functions cite
+pub mod Writer
