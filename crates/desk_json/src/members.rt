@@ -11,7 +11,7 @@ use serde_json::Value;
 use std::alloc::{AllocError, Global};
 
 /// The members of a report: `POST /bugs`.
-#[derive(Clone, Copy, Debug, Drop)]
+#[derive(Clone, Copy)]
 pub struct ReportMembers<'v> {
     pub from: &'v str,
     pub package: &'v str,
@@ -22,7 +22,7 @@ pub struct ReportMembers<'v> {
 }
 
 /// The members of a control message: `POST /control`.
-#[derive(Clone, Copy, Debug, Drop)]
+#[derive(Clone, Copy)]
 pub struct ControlMembers<'v> {
     pub from: &'v str,
     pub message: &'v str,

@@ -50,7 +50,7 @@ pub fn bug_part(path: &[u8]) -> &[u8]
 }
 
 /// The two parts of a path `/list/{package}/{*version}`, as they stand, not decoded.
-#[derive(Clone, Copy, Debug, Drop)]
+#[derive(Clone, Copy)]
 pub struct ListParts<'p> {
     pub package: &'p [u8],
     pub version: &'p [u8],

@@ -9,7 +9,7 @@ use matchit::{InsertError, Router};
 use std::alloc::{AllocError, Global};
 
 /// A route of the desk.
-#[derive(Clone, Copy, Debug, PartialEq, Eq)]
+#[derive(Clone, Copy)]
 pub enum Route {
     /// `/bugs`: a report.
     Bugs,
