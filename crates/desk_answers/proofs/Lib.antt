@@ -1,0 +1,4 @@
+pub mod AnswerLemmas
+pub mod MessageLemmas
+pub mod NodesLemmas
+pub mod WrittenLemmas

@@ -1,0 +1,6 @@
+pub mod Answer
+pub mod Requests
+pub mod Answers
+pub mod Faults
+pub mod Shown
+pub mod Steps

@@ -1,0 +1,24 @@
+-- What a request asks of a desk, once it is read. This project's own rule.
+use Rattle.std.specs.Prelude.{ℕ, List, ⊤}
+use Rattle.bug_record.specs.Texts.{IsText}
+use Rattle.desk_json.specs.Members.{Report, Control}
+
+pub data Request : Type 0 where
+  -- a report of a bug
+  PostBug : Report → Request
+  -- a control message
+  PostControl : Control → Request
+  -- a branch, by the words of its nodes
+  PostBranch : List (List ℕ) → Request
+  -- the page of a bug
+  GetBug : ℕ → Request
+  -- the list of a package's bugs at a version
+  GetList : List ℕ → List ℕ → Request
+
+-- the sender, if there is one, is a text of 1 to 200 bytes
+abbrev pub HasGoodSender : Request → Type 0
+HasGoodSender (PostBug report) = IsText report.from
+HasGoodSender (PostControl control) = IsText control.from
+HasGoodSender (PostBranch words) = ⊤
+HasGoodSender (GetBug n) = ⊤
+HasGoodSender (GetList name version) = ⊤

@@ -1,0 +1,19 @@
+//! Requests to a desk and their answers over HTTP, once a request is read, over any store.
+#![tactic(auto)]
+
+mod answering;
+mod branches;
+mod laws;
+mod messages;
+mod questions;
+mod refusals;
+mod reply;
+mod reports;
+mod request;
+mod writing;
+
+pub use answering::answer_request;
+pub use laws::a_refusal_is_told_as_in_scripts;
+pub use reply::{Body, Reply, not_found, store_fault};
+pub use request::{ListRequest, MessageRequest, ReportRequest, Request};
+pub use writing::write_reply;

@@ -1,0 +1,105 @@
+//! Control messages.
+
+ghost use Rattle.std.specs.Prelude.{◌≡◌, None, IfOk, string_bytes};
+ghost use Rattle.bug_record.specs.Texts.{IsText};
+ghost use Rattle.desk_lines.specs.Lines.{lines_of};
+ghost use Rattle.desk_store.specs.Store.{Holds};
+ghost use Rattle.desk_answers.specs.Answer.{json_answer};
+ghost use Rattle.desk_answers.specs.Answers.{end_word, message_json};
+ghost use Rattle.desk_answers.specs.Requests.{PostControl};
+ghost use Rattle.desk_answers.specs.Faults.{IsAnswer, IsTold, counted_with};
+ghost use Rattle.desk_answers.specs.Shown.{shown, message_asked};
+ghost use Rattle.desk_answers.specs.Steps.{GivesOrFails, TellsFault, AnswersEnd};
+
+use crate::reply::{Body, Reply, json_reply, store_fault};
+use crate::request::MessageRequest;
+use desk_json::control_json;
+use desk_messages::{Received, receive, received_text};
+use desk_store::Records;
+use desk_text::{End, StoreFault};
+use http::StatusCode;
+use std::alloc::{AllocError, Global};
+
+// How a message ended.
+fn end_word(end: End) -> &'static str
+    ensures { result.now ≡ end_word end }
+{
+    match end {
+        End::All => "all",
+        End::Stopped => "stopped",
+        End::TooManyUnreadable => "unreadable",
+        End::Store(_, _) => "store",
+    }
+}
+
+// The end of a message and its transcript.
+#[tactic(auto, unfolding(crate::specs::Answers::message_json))]
+fn message_json(alloc: Global, received: &Received, message: &str) -> Result<String, AllocError>
+    ensures { IfOk result (λ text. string_bytes text
+        ≡ message_json received.now.outcomes received.now.end (lines_of message.now)) }
+{
+    let mut bytes = Vec::new(alloc);
+    received_text(alloc, &mut bytes, received, message)?;
+    let transcript = String::from_utf8_lossy(alloc, bytes.as_slice())?;
+    control_json(alloc, end_word(received.end), transcript.as_str())
+}
+
+// The answer to a message that came to its end.
+fn tell_end(alloc: Global, received: &Received, message: &str) -> Reply
+    ensures is { GivesOrFails (json_answer 200 (message_json received.now.outcomes received.now.end (lines_of message.now)))
+        result }
+    ensures told { IsTold result.fault (shown result) }
+{
+    match message_json(alloc, received, message) {
+        Ok(text) => json_reply(StatusCode::OK, text),
+        Err(_) => store_fault(StoreFault::Memory),
+    }
+}
+
+// The answer to a message at which the store failed.
+fn tell_fault(alloc: Global, received: &Received, message: &str, fault: StoreFault) -> Reply
+    ensures is { TellsFault (json_answer 500 (message_json received.now.outcomes received.now.end (lines_of message.now)))
+        fault result }
+    ensures told { IsTold result.fault (shown result) }
+{
+    if fault == StoreFault::Memory {
+        return store_fault(fault);
+    }
+    match message_json(alloc, received, message) {
+        Ok(text) => Reply {
+            status: StatusCode::INTERNAL_SERVER_ERROR,
+            allow: None,
+            body: Body::Json(text),
+            fault: Some(fault),
+        },
+        Err(_) => store_fault(fault),
+    }
+}
+
+// The answer to a message that was received.
+fn tell(alloc: Global, received: &Received, message: &str) -> Reply
+    ensures is { AnswersEnd received.now.outcomes received.now.end (lines_of message.now) result }
+    ensures told { IsTold result.fault (shown result) }
+{
+    match received.end {
+        End::Store(fault, _) => tell_fault(alloc, received, message, fault),
+        _ => tell_end(alloc, received, message),
+    }
+}
+
+/// Takes a control message.
+pub(crate) fn answer_message<S: Records>(
+    alloc: Global,
+    store: &mut S,
+    request: &MessageRequest,
+) -> Reply
+    requires { IsText (string_bytes request.now.from) }
+    ensures answer { Holds S.is_kept S.is_honest store.old store.new (IsAnswer (PostControl (message_asked request.now))
+        (S.desk store.old) result.fault (shown result) (S.desk store.new)) }
+    ensures count { S.faults store.new ≡ counted_with result.fault (S.faults store.old) }
+    ensures told { IsTold result.fault (shown result) }
+{
+    let message = request.message.as_str();
+    let received = receive(alloc, store, request.from.as_str(), message);
+    tell(alloc, &received, message)
+}

@@ -1,0 +1,100 @@
+-- What an input is answered, out of what was read of it.
+use Rattle.std.proofs.Common.{◌≡◌, ◌≢◌, inl, inr, ℕ, ◌++◌, List, [], take, drop, Option, Some, None, IfSome, Result, Ok, Err, refl, sym, ap, subst}
+use Rattle.std.specs.Bool.{⊤}
+use Rattle.std.specs.Io.KnownBytes.{Appends}
+use Rattle.httparse.specs.Grammar.{RequestHead}
+use Rattle.httparse.specs.Spans.{IsRequestAt}
+use Rattle.httparse.specs.declared.spans.HeaderSpan.{HeaderSpan}
+use Rattle.httparse.specs.declared.spans.RequestSpans.{RequestSpans}
+use Rattle.bug_record.specs.Desk.{Desk}
+use Rattle.desk_text.specs.declared.outcome.StoreFault.{StoreFault}
+use Rattle.desk_text.specs.declared.outcome.StoreFault.TheVariants.{Memory}
+use Rattle.request_reading.specs.Head.{HasNoHead}
+use Rattle.request_reading.specs.Found.{IsWrong, IsComplete}
+use Rattle.request_reading.proofs.HeadLemmas.{begins-input}
+use Rattle.desk_answers.specs.Answer.{Answer, answer_bytes}
+use Rattle.desk_answers.specs.Requests.{Request, PostBug, PostControl, PostBranch, GetBug, GetList}
+use Rattle.desk_answers.specs.Faults.{IsAnswer}
+use Rattle.desk_answers.specs.Shown.{shown}
+use Rattle.desk_answers.specs.Steps.{Fails, Gives}
+use Rattle.desk_answers.specs.declared.reply.Reply.{Reply}
+use Rattle.desk_answers.proofs.AnswerLemmas.{wants_memory}
+use Rattle.desk_http.specs.Requests.{asked_of, bad_request}
+use Rattle.desk_http.specs.Exchange.{IsReplyTo, Answers}
+use Rattle.desk_http.specs.Steps.{IsGiven}
+use Rattle.desk_http.specs.declared.serve.Served.TheVariants.{Answered}
+
+-- want of memory before anything was carried out
+memory_answers : (request : Request) (d : Desk) (reply : Reply) → Fails Memory reply
+    → IsAnswer request d (Some Memory) (shown reply) d
+memory_answers (PostBug report) d reply f = wants_memory (PostBug report) d d reply refl f
+memory_answers (PostControl c) d reply f = inr (f.0, (0, refl))
+memory_answers (PostBranch words) d reply f = wants_memory (PostBranch words) d d reply refl f
+memory_answers (GetBug n) d reply f = wants_memory (GetBug n) d d reply refl f
+memory_answers (GetList name version) d reply f = wants_memory (GetList name version) d d reply refl f
+
+memory_replies : (made : Result Request Answer) (d : Desk) (reply : Reply) → Fails Memory reply
+    → IsReplyTo made d (Some Memory) (shown reply) d
+memory_replies (Ok request) d reply f = memory_answers request d reply f
+memory_replies (Err refusal) d reply f = (refl, f.0, refl)
+
+-- the answer to an input that begins with a head, out of that to what the head asks
+pub complete_right : (old new : Option (List ℕ)) (buf : List ℕ) (headers : List HeaderSpan) (spans : RequestSpans) (filled : ℕ)
+    → IsComplete old new buf headers spans filled → (d e : Desk) (fault : Option StoreFault) (answer : Answer)
+    → ((head : RequestHead) → IsRequestAt (take filled buf) headers spans head
+    → IfSome new (λ more. IsReplyTo (asked_of head (drop spans.len (take filled buf) ++ more)) d fault answer e))
+    → IfSome old (λ bytes. Answers bytes d fault answer e)
+complete_right None new buf headers spans filled c d e fault answer gives = tt
+complete_right (Some x) None buf headers spans filled c d e fault answer gives = absurd c.took
+complete_right (Some x) (Some y) buf headers spans filled c d e fault answer gives = inl (record {
+  head = c.head;
+  rest = drop spans.len (take filled buf) ++ y;
+  begins = begins-input (Some x) (Some y) buf headers spans filled c x y refl refl;
+  gives = gives c.head c.covers;
+})
+
+-- what a request asks that was read, answered
+pub asked_right : (new : Option (List ℕ)) (buf : List ℕ) (headers : List HeaderSpan) (spans : RequestSpans)
+    (made : Result Request Answer) (d e : Desk) (fault : Option StoreFault) (answer : Answer)
+    → ((head : RequestHead) → IsRequestAt buf headers spans head
+    → IfSome new (λ more. made ≡ asked_of head (drop spans.len buf ++ more)))
+    → IsReplyTo made d fault answer e → (head : RequestHead) → IsRequestAt buf headers spans head
+    → IfSome new (λ more. IsReplyTo (asked_of head (drop spans.len buf ++ more)) d fault answer e)
+asked_right None buf headers spans made d e fault answer asks h head at = tt
+asked_right (Some more) buf headers spans made d e fault answer asks h head at =
+    subst (λ (r : Result Request Answer). IsReplyTo r d fault answer e) (asks head at) h
+
+-- want of memory where a request was read
+pub memory_right : (new : Option (List ℕ)) (buf : List ℕ) (spans : RequestSpans) (d : Desk) (reply : Reply) → Fails Memory reply
+    → (head : RequestHead) → IfSome new (λ more. IsReplyTo (asked_of head (drop spans.len buf ++ more)) d reply.fault (shown reply) d)
+memory_right None buf spans d reply f head = tt
+memory_right (Some more) buf spans d reply f head =
+    subst (λ (o : Option StoreFault). IsReplyTo (asked_of head (drop spans.len buf ++ more)) d o (shown reply) d) (sym f.1)
+    (memory_replies (asked_of head (drop spans.len buf ++ more)) d reply f)
+
+-- an input with a wrong head
+pub wrong_right : (old : Option (List ℕ)) (d : Desk) (reply : Reply) → IfSome old IsWrong → Gives bad_request reply
+    → IfSome old (λ bytes. Answers bytes d reply.fault (shown reply) d)
+wrong_right None d reply w g = tt
+wrong_right (Some x) d reply w g =
+    inr (record { not_empty = w.0; none = w.1; no_fault = g.1; is = g.0; same = refl })
+
+-- a wrong head whose answer was written
+pub wrong_served : (input : Option (List ℕ)) (same : Type 0) (made : Option Reply) (reply : Reply) (c0 c1 : Option (List ℕ))
+    → made ≡ Some reply
+    → IfSome input (λ bytes. bytes ≢ [] → HasNoHead bytes → same × IsGiven bad_request made)
+    → Appends c0 c1 (answer_bytes (shown reply))
+    → IfSome input (λ bytes. bytes ≢ [] → HasNoHead bytes
+    → same × ((Answered reply.status ≡ Answered 400) × Appends c0 c1 (answer_bytes bad_request)))
+wrong_served None same made reply c0 c1 is w written = tt
+wrong_served (Some x) same made reply c0 c1 is w written = λ some none.
+    let found = w some none in
+    let g : Gives bad_request reply = subst (λ (o : Option Reply). IsGiven bad_request o) is found.1 in
+    (found.0, (ap (λ (a : Answer). Answered a.status) g.0, subst (λ (a : Answer). Appends c0 c1 (answer_bytes a)) g.0 written))
+
+-- a wrong head, whatever was written
+pub wrong_unwritten : (input : Option (List ℕ)) (same given : Type 0)
+    → IfSome input (λ bytes. bytes ≢ [] → HasNoHead bytes → same × given)
+    → IfSome input (λ bytes. bytes ≢ [] → HasNoHead bytes → same × ⊤)
+wrong_unwritten None same given w = tt
+wrong_unwritten (Some x) same given w = λ some none. ((w some none).0, tt)

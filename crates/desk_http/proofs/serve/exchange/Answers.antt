@@ -1,0 +1,32 @@
+use Rattle.std.proofs.Common.{◌≡◌, Option, Some, refl, sym, subst, take}
+use Rattle.desk_text.specs.declared.outcome.StoreFault.{StoreFault}
+use Rattle.desk_text.specs.declared.outcome.StoreFault.TheVariants.{Memory}
+use Rattle.request_reading.specs.Found.{IsFound}
+use Rattle.request_reading.specs.declared.head.Head.{Head}
+use Rattle.desk_store.proofs.HoldsLemmas.{holds_none}
+use Rattle.desk_answers.specs.Faults.{counted_with}
+use Rattle.desk_answers.specs.Shown.{shown}
+use Rattle.desk_http.specs.Exchange.{IsRight}
+use Rattle.desk_http.proofs.ExchangeLemmas.{complete_right, memory_right}
+use Rattle.desk_http.proofs.serve.exchange.Goals as goal
+
+pub returns-in-Err-Memory-clause-answer : goal.returns-in-Err-Memory-clause-answer
+returns-in-Err-Memory-clause-answer g c =
+    let before = g.R.Read.remaining c.args.reader.now in
+    let after = g.R.Read.remaining c.read_head.new.reader in
+    let desk = g.S.Records.desk c.args.store.now in
+    let faults = g.S.Records.faults c.args.store.now in
+    let buf = c.read_head.new.buf in
+    let headers = c.read_head.new.headers in
+    let spans = c.in-Complete.spans in
+    let filled = c.in-Complete.filled in
+    let reply = c.store_fault.result in
+    let met : reply.fault ≡ Some Memory = subst (λ (f : StoreFault). reply.fault ≡ Some f) refl c.store_fault.ensures.is.1 in
+    holds_none g.S.Records.is_kept g.S.Records.is_honest c.args.store.now
+    {P = IsRight before desk desk faults faults reply.fault (shown reply)} (record {
+      answers = complete_right before after buf headers spans filled
+          (subst (λ (h : Head). IsFound before after buf headers h) c.in-Complete.is c.in-Ok.ensures.found)
+          desk desk reply.fault (shown reply)
+          (λ head at. memory_right after (take filled buf) spans desk reply c.store_fault.ensures.is head);
+      counts = subst (λ (f : Option StoreFault). faults ≡ counted_with f faults) (sym met) refl;
+    })

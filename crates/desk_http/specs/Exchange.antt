@@ -1,0 +1,83 @@
+-- One exchange: what an input is answered, whatever the pieces in which its bytes come.
+-- This project's own rule.
+use Rattle.std.specs.Prelude.{ℕ, ◌≡◌, ◌≢◌, ◌⊎◌, List, [], Option, Some, None, Result, Ok, Err, IfSome, ⊤}
+use Rattle.std.specs.Io.KnownBytes.{Appends}
+use Rattle.httparse.specs.Grammar.{RequestHead}
+use Rattle.bug_record.specs.Desk.{Desk}
+use Rattle.desk_text.specs.declared.outcome.StoreFault.{StoreFault}
+use Rattle.desk_text.specs.declared.outcome.StoreFault.TheVariants.{Memory}
+use Rattle.request_reading.specs.Head.{BeginsWithHead, HasNoHead}
+use Rattle.desk_store.specs.Store.{Faults}
+use Rattle.desk_answers.specs.Answer.{Answer, answer_bytes, store_fault}
+use Rattle.desk_answers.specs.Requests.{Request}
+use Rattle.desk_answers.specs.Faults.{IsAnswer, IsTold, counted_with}
+use Rattle.desk_http.specs.Requests.{asked_of, bad_request}
+use Rattle.desk_http.specs.declared.serve.Served.{Served}
+use Rattle.desk_http.specs.declared.serve.Served.TheVariants.{Answered, Closed}
+use Rattle.desk_http.specs.declared.serve.ServeFault.{ServeFault}
+use Rattle.desk_http.specs.declared.serve.ServeFault.TheVariants.{Read, Write}
+
+-- What is answered to what was asked, where this fault was met or none, and the desk after it: a
+-- request that is refused changes nothing, and only want of memory can come before its refusal.
+abbrev pub IsReplyTo : Result Request Answer → Desk → Option StoreFault → Answer → Desk → Type 0
+IsReplyTo (Ok request) old fault answer new = IsAnswer request old fault answer new
+IsReplyTo (Err refusal) old None answer new = (answer ≡ refusal) × (new ≡ old)
+IsReplyTo (Err refusal) old (Some fault) answer new =
+    (fault ≡ Memory) × (answer ≡ store_fault) × (new ≡ old)
+
+-- the input begins with a head, and what it asks is answered
+pub record AnswersHead (input : List ℕ) (old : Desk) (fault : Option StoreFault) (answer : Answer)
+    (new : Desk) : Type 0 where
+  pub head : RequestHead
+  pub rest : List ℕ
+  pub begins : BeginsWithHead input head rest
+  pub gives : IsReplyTo (asked_of head rest) old fault answer new
+
+-- the input is not empty and begins with no head within the limits
+pub record RefusesHead (input : List ℕ) (old : Desk) (fault : Option StoreFault) (answer : Answer)
+    (new : Desk) : Type 0 where
+  pub not_empty : input ≢ []
+  pub none : HasNoHead input
+  pub no_fault : fault ≡ None
+  pub is : answer ≡ bad_request
+  pub same : new ≡ old
+
+-- what an input is answered, where this fault was met or none, and the desk after it
+abbrev pub Answers : List ℕ → Desk → Option StoreFault → Answer → Desk → Type 0
+Answers input old fault answer new =
+    AnswersHead input old fault answer new ⊎ RefusesHead input old fault answer new
+
+-- the input, where the reader tells it, has this answer, and the fault that was met is counted
+pub record IsRight (input : Option (List ℕ)) (old new : Desk) (before after : Faults)
+    (fault : Option StoreFault) (answer : Answer) : Type 0 where
+  pub answers : IfSome input (λ bytes. Answers bytes old fault answer new)
+  pub counts : after ≡ counted_with fault before
+
+-- What serving one connection leaves and has written: at `Answered` the bytes of the input's
+-- answer, whose status it names; at `Closed` and `Read` nothing, and no change; at `Write` the desk
+-- is the one after the answer that was to be written.
+abbrev pub IsServed : Option (List ℕ) → Desk → Desk → Faults → Faults → Option (List ℕ)
+    → Option (List ℕ) → Result Served ServeFault → Type 0
+IsServed input old new n0 n1 c0 c1 (Ok (Answered status)) =
+    (fault : Option StoreFault) × (answer : Answer) × IsRight input old new n0 n1 fault answer
+    × (status ≡ answer.status) × Appends c0 c1 (answer_bytes answer)
+IsServed input old new n0 n1 c0 c1 (Ok Closed) =
+    IfSome input (λ bytes. bytes ≡ []) × (new ≡ old) × (c1 ≡ c0)
+IsServed input old new n0 n1 c0 c1 (Err Read) = (new ≡ old) × (c1 ≡ c0)
+IsServed input old new n0 n1 c0 c1 (Err Write) =
+    (fault : Option StoreFault) × (answer : Answer) × IsRight input old new n0 n1 fault answer
+
+-- the store's faults after a connection, whatever the store is: one more at most
+abbrev pub IsCounted : Result Served ServeFault → Faults → Faults → Type 0
+IsCounted (Ok (Answered status)) before after = (fault : Option StoreFault) × (after ≡ counted_with fault before)
+IsCounted (Ok Closed) before after = after ≡ before
+IsCounted (Err Read) before after = after ≡ before
+IsCounted (Err Write) before after = (fault : Option StoreFault) × (after ≡ counted_with fault before)
+
+-- What was written is an answer of this status that tells the fault which was met, if one was,
+-- whatever the store is; that fault is counted, and no other.
+abbrev pub TellsFault : Result Served ServeFault → Faults → Faults → Option (List ℕ) → Option (List ℕ) → Type 0
+TellsFault (Ok (Answered status)) n0 n1 c0 c1 =
+    (fault : Option StoreFault) × (answer : Answer) × (n1 ≡ counted_with fault n0) × IsTold fault answer
+    × (status ≡ answer.status) × Appends c0 c1 (answer_bytes answer)
+TellsFault _ n0 n1 c0 c1 = ⊤

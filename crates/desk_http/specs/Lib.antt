@@ -1,0 +1,4 @@
+pub mod Requests
+pub mod Exchange
+pub mod Shown
+pub mod Steps

@@ -1,0 +1,135 @@
+//! What the body of a request asks.
+
+ghost use Rattle.std.specs.Prelude.{◌≡◌, IfOk, map, option_map, string_bytes};
+ghost use Rattle.serde_json.specs.View.{view};
+ghost use Rattle.bug_record.specs.Texts.{IsText};
+ghost use Rattle.desk_json.specs.Shown.{report_shown, control_shown, texts_shown};
+ghost use Rattle.desk_answers.specs.Requests.{HasGoodSender};
+ghost use Rattle.desk_answers.specs.Shown.{asked, report_asked, message_asked};
+ghost use Rattle.desk_http.specs.Requests.{has_good_sender, posted, members_of, asked_by_body};
+ghost use Rattle.desk_http.specs.Shown.{asks};
+
+use crate::refusal::Refusal;
+use bug_core::is_text;
+use desk_answers::{MessageRequest, ReportRequest, Request};
+use desk_json::{
+    ControlMembers, ReportMembers, branch_member, control_members, parse, report_members,
+};
+use desk_routes::Route;
+use serde_json::Value;
+use std::alloc::{AllocError, Global};
+
+// A version, where one is given.
+fn copy_version(alloc: Global, version: Option<&str>) -> Result<Option<String>, AllocError>
+    ensures { IfOk result (λ copy. option_map string_bytes copy ≡ option_map (λ s. s.now) version.entry) }
+{
+    match version {
+        Some(version) => Ok(Some(String::from_str(alloc, version)?)),
+        None => Ok(None),
+    }
+}
+
+// The members of a report, kept.
+fn keep_report(alloc: Global, members: ReportMembers<'_>) -> Result<ReportRequest, AllocError>
+    ensures { IfOk result (λ request. report_asked request ≡ report_shown members.entry) }
+{
+    Ok(ReportRequest {
+        from: String::from_str(alloc, members.from)?,
+        package: String::from_str(alloc, members.package)?,
+        severity: String::from_str(alloc, members.severity)?,
+        title: String::from_str(alloc, members.title)?,
+        version: copy_version(alloc, members.version)?,
+    })
+}
+
+// The members of a control message, kept.
+fn keep_message(alloc: Global, members: ControlMembers<'_>) -> Result<MessageRequest, AllocError>
+    ensures { IfOk result (λ request. message_asked request ≡ control_shown members.entry) }
+{
+    Ok(MessageRequest {
+        from: String::from_str(alloc, members.from)?,
+        message: String::from_str(alloc, members.message)?,
+    })
+}
+
+// The words of a branch, kept.
+fn keep_words(alloc: Global, words: &[&str]) -> Result<Vec<String>, AllocError>
+    ensures { IfOk result (λ kept. map string_bytes kept.items ≡ map (λ s. s.now) words.now) }
+{
+    let mut kept = Vec::new(alloc);
+    for word in words {
+        kept.push(String::from_str(alloc, word)?)?;
+    }
+    Ok(kept)
+}
+
+// What the members of a value ask at a route; at one without a body, nothing.
+fn request_of(alloc: Global, route: Route, value: &Value) -> Result<Option<Request>, AllocError>
+    ensures { IfOk result (λ request. option_map asked request ≡ members_of route (view value.now)) }
+{
+    match route {
+        Route::Bugs => match report_members(value) {
+            Some(members) => Ok(Some(Request::Report(keep_report(alloc, members)?))),
+            None => Ok(None),
+        },
+        Route::Control => match control_members(value) {
+            Some(members) => Ok(Some(Request::Message(keep_message(alloc, members)?))),
+            None => Ok(None),
+        },
+        Route::Branches => match branch_member(alloc, value)? {
+            Some(words) => Ok(Some(Request::Branch(keep_words(alloc, words.as_slice())?))),
+            None => Ok(None),
+        },
+        Route::Bug | Route::List => Ok(None),
+    }
+}
+
+// Whether the sender, if there is one, is a text of 1 to 200 bytes.
+fn has_good_sender(request: &Request) -> bool
+    ensures { result ≡ has_good_sender (asked request.now) }
+{
+    match request {
+        Request::Report(report) => is_text(report.from.as_str()),
+        Request::Message(message) => is_text(message.from.as_str()),
+        Request::Branch(_) => true,
+        Request::Page(_) => true,
+        Request::ListOf(_) => true,
+    }
+}
+
+// The request, where there is one and its sender is good.
+fn posted(request: Option<Request>) -> Result<Request, Refusal>
+    ensures asks { asks result ≡ posted (option_map asked request) }
+    ensures sender { IfOk result (λ request. HasGoodSender (asked request)) }
+{
+    match request {
+        Some(request) => {
+            if has_good_sender(&request) {
+                Ok(request)
+            } else {
+                Err(Refusal::BadRequest)
+            }
+        }
+        None => Err(Refusal::BadRequest),
+    }
+}
+
+/// What a body asks at a route.
+///
+/// # Errors
+///
+/// Where there is no memory for it.
+#[tactic(auto, unfolding(crate::specs::Requests::asked_by_body))]
+pub(crate) fn ask_body(
+    alloc: Global,
+    route: Route,
+    body: &[u8],
+) -> Result<Result<Request, Refusal>, AllocError>
+    ensures asks { IfOk result (λ asked. asks asked ≡ asked_by_body route body.now) }
+    ensures sender { IfOk result (λ made. IfOk made (λ request. HasGoodSender (asked request))) }
+{
+    let Some(value) = parse(alloc, body)? else {
+        return Ok(Err(Refusal::BadRequest));
+    };
+    Ok(posted(request_of(alloc, route, &value)?))
+}

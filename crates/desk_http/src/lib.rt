@@ -1,0 +1,12 @@
+//! One HTTP exchange with a desk, over any store, reader and writer.
+#![tactic(auto)]
+
+mod asking;
+mod bodies;
+mod laws;
+mod paths;
+mod refusal;
+mod serve;
+
+pub use laws::an_input_has_one_request;
+pub use serve::{ServeFault, Served, serve_one};

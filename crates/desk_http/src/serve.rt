@@ -1,0 +1,135 @@
+//! One connection.
+
+ghost use Rattle.std.specs.Prelude.{◌≡◌, ◌≢◌, [], None, Ok, Err, IfOk, IfErr, IfSome};
+ghost use Rattle.std.specs.Io.KnownBytes.{Appends};
+ghost use Rattle.request_reading.specs.Head.{HasNoHead};
+ghost use Rattle.desk_store.specs.Store.{Holds};
+ghost use Rattle.desk_answers.specs.Answer.{answer_bytes};
+ghost use Rattle.desk_answers.specs.Faults.{IsTold, counted_with};
+ghost use Rattle.desk_answers.specs.Requests.{HasGoodSender};
+ghost use Rattle.desk_answers.specs.Shown.{asked, shown};
+ghost use Rattle.desk_http.specs.Requests.{bad_request};
+ghost use Rattle.desk_http.specs.Exchange.{IsReplyTo, IsServed, IsCounted, TellsFault};
+ghost use Rattle.desk_http.specs.Steps.{IsExchanged, IsExchangeCounted, IsGiven};
+ghost use Rattle.desk_http.specs.Shown.{asks};
+
+use crate::asking::ask;
+use crate::refusal::{Refusal, refuse};
+use desk_answers::{Reply, Request, answer_request, store_fault, write_reply};
+use desk_store::Records;
+use desk_text::StoreFault;
+use http::StatusCode;
+use httparse::spans::{EMPTY_HEADER_SPAN, HeaderSpan};
+use request_reading::{Head, MAX_HEAD, MAX_HEADERS, ReadFault, read_head};
+use std::alloc::Global;
+use std::io::{Read, Write};
+
+/// How a connection was served.
+#[derive(Clone, Copy, Drop)]
+pub enum Served {
+    /// An answer of this status was written.
+    Answered(StatusCode),
+    /// The input ended before its first byte, and nothing was written.
+    Closed,
+}
+
+/// Why a connection was not served.
+#[derive(Clone, Copy, Drop)]
+pub enum ServeFault {
+    /// A read failed, an interrupted one too: nothing was written, and nothing has changed.
+    Read,
+    /// A write failed, an interrupted one too, or took no byte: the request was carried out as far
+    /// as its answer says.
+    Write,
+}
+
+// Carries out what was asked, and answers it.
+fn carry_out<S: Records>(alloc: Global, store: &mut S, made: Result<Request, Refusal>) -> Reply
+    requires { IfOk made (λ request. HasGoodSender (asked request)) }
+    ensures answer { Holds S.is_kept S.is_honest store.old store.new (IsReplyTo (asks made)
+        (S.desk store.old) result.fault (shown result) (S.desk store.new)) }
+    ensures count { S.faults store.new ≡ counted_with result.fault (S.faults store.old) }
+    ensures told { IsTold result.fault (shown result) }
+{
+    match made {
+        Ok(request) => answer_request(alloc, store, &request),
+        Err(refusal) => refuse(refusal),
+    }
+}
+
+// Reads one request, carries it out, and answers it; there is no answer where no byte came.
+fn exchange<S: Records, R: Read>(
+    alloc: Global,
+    store: &mut S,
+    reader: &mut R,
+) -> Result<Option<Reply>, ServeFault>
+    ensures answer { Holds S.is_kept S.is_honest store.old store.new (IsExchanged (R.remaining reader.old)
+        (S.desk store.old) (S.desk store.new) (S.faults store.old) (S.faults store.new) result) }
+    ensures count { IsExchangeCounted result (S.faults store.old) (S.faults store.new) }
+    ensures closed { IfOk result (λ reply. reply ≡ None → (store.new ≡ store.old)
+        × IfSome (R.remaining reader.old) (λ input. input ≡ [])) }
+    ensures read { IfErr result (λ fault. (fault ≡ ServeFault.Read) × (store.new ≡ store.old)) }
+    ensures wrong { IfSome (R.remaining reader.old) (λ input. input ≢ [] → HasNoHead input
+        → (store.new ≡ store.old) × IfOk result (λ reply. IsGiven bad_request reply)) }
+{
+    let mut buf = [0; MAX_HEAD];
+    let mut headers = [EMPTY_HEADER_SPAN; MAX_HEADERS];
+    let Ok(head) = read_head(reader, &mut buf, &mut headers) else {
+        return Err(ServeFault::Read);
+    };
+    let (spans, filled) = match head {
+        Head::Nothing => return Ok(None),
+        Head::Wrong => return Ok(Some(refuse(Refusal::BadRequest))),
+        Head::Complete { spans, filled } => (spans, filled),
+    };
+    match ask(alloc, reader, &buf[..filled], &headers, spans) {
+        Ok(made) => Ok(Some(carry_out(alloc, store, made))),
+        Err(ReadFault::Memory) => Ok(Some(store_fault(StoreFault::Memory))),
+        Err(ReadFault::Read) => Err(ServeFault::Read),
+    }
+}
+
+/// Serves one connection: reads one request, carries it out, and writes its answer.
+///
+/// The answer depends on the bytes and the desk, and not on the pieces in which the bytes come.
+/// A head is read by the grammar of `httparse`, of at most 8,192 bytes and 32 headers, and a body
+/// of at most 65,536 bytes; bytes after the body are not looked at.
+/// A head that is wrong is answered 400, whatever the store, and takes no memory.
+/// Where the store fails, or there is no memory, the answer is 500, and nothing has changed, except
+/// that of a control message some lines from the first, or all, may have been taken.
+/// These are this project's own rules, within RFC 9110 and RFC 9112.
+///
+/// # Errors
+///
+/// `Read` where a read failed; `Write` where the answer could not be written.
+pub fn serve_one<S: Records, R: Read, W: Write>(
+    alloc: Global,
+    store: &mut S,
+    reader: &mut R,
+    writer: &mut W,
+) -> Result<Served, ServeFault>
+    ensures answer { Holds S.is_kept S.is_honest store.old store.new (IsServed (R.remaining reader.old)
+        (S.desk store.old) (S.desk store.new) (S.faults store.old) (S.faults store.new)
+        (W.contents writer.old) (W.contents writer.new) result) }
+    ensures count { IsCounted result (S.faults store.old) (S.faults store.new) }
+    ensures told { TellsFault result (S.faults store.old) (S.faults store.new) (W.contents writer.old) (W.contents writer.new) }
+
+    // No byte came: nothing is written, and the store is not called.
+    ensures closed { result ≡ Ok Served.Closed → (store.new ≡ store.old)
+        × (W.contents writer.new ≡ W.contents writer.old) × IfSome (R.remaining reader.old) (λ input. input ≡ []) }
+    ensures read { result ≡ Err ServeFault.Read → (store.new ≡ store.old)
+        × (W.contents writer.new ≡ W.contents writer.old) }
+
+    // A wrong head is answered 400, and the store is not called.
+    ensures wrong { IfSome (R.remaining reader.old) (λ input. input ≢ [] → HasNoHead input
+        → (store.new ≡ store.old) × IfOk result (λ served. (served ≡ Served.Answered 400)
+        × Appends (W.contents writer.old) (W.contents writer.new) (answer_bytes bad_request))) }
+{
+    let Some(reply) = exchange(alloc, store, reader)? else {
+        return Ok(Served::Closed);
+    };
+    match write_reply(writer, &reply) {
+        Ok(()) => Ok(Served::Answered(reply.status)),
+        Err(_) => Err(ServeFault::Write),
+    }
+}

@@ -1,0 +1,88 @@
+//! Runs the HTTP exchanges of its examples, each on two desks: to one a request comes at once, to
+//! the other one byte at a time.
+//! It prints the examples, and after each request what it is answered.
+#![tactic(auto)]
+
+mod answers;
+mod exchanges;
+mod lines;
+mod requests;
+
+use desk_store::PlainDesk;
+use exchanges::{Trickle, served};
+use lines::{Line, read_line};
+use requests::request_of;
+use std::alloc::Global;
+use std::{fs, io};
+
+/// The name of the file that lists the files with examples.
+const FILES: &str = "files";
+
+// Two desks that have taken the same requests.
+#[derive(Drop)]
+struct Desks {
+    at_once: PlainDesk,
+    in_pieces: PlainDesk,
+}
+
+impl Desks {
+    fn new(alloc: Global, first: u64) -> Desks {
+        let first = first.clamp(1, 999_999_999);
+        Desks {
+            at_once: PlainDesk::new(alloc, first),
+            in_pieces: PlainDesk::new(alloc, first),
+        }
+    }
+}
+
+// Serves a request on both desks, and prints what comes of it; for its pieces only where it is
+// something else.
+fn serve(rt: &HostRuntime, desks: &mut Desks, request: &[u8]) -> io::Result<()> {
+    let mut reader = request;
+    let at_once = served(rt.alloc(), &mut desks.at_once, &mut reader)?;
+    print!(rt; "{at_once}")?;
+    let mut reader = Trickle { left: request };
+    let in_pieces = served(rt.alloc(), &mut desks.in_pieces, &mut reader)?;
+    if in_pieces.as_str() != at_once.as_str() {
+        print!(rt; "-- in pieces:\n{in_pieces}")?;
+    }
+    Ok(())
+}
+
+// Serves the request of these lines, if there are any.
+fn serve_lines(rt: &HostRuntime, desks: &mut Desks, lines: &[&str]) -> io::Result<()> {
+    if lines.is_empty() {
+        return Ok(());
+    }
+    match request_of(rt.alloc(), lines)? {
+        Some(request) => serve(rt, desks, &request),
+        None => println!(rt; "-- bad request line"),
+    }
+}
+
+// Runs the exchanges of a file, whose lines they are, and prints these lines too.
+fn run_file(rt: &HostRuntime, text: &str) -> io::Result<()> {
+    let mut desks = Desks::new(rt.alloc(), 1);
+    let mut request = Vec::new(rt.alloc());
+    for line in text.split_terminator('\n') {
+        let part = read_line(line);
+        if !matches!(part, Line::More(_)) {
+            serve_lines(rt, &mut desks, &request)?;
+            request.clear();
+        }
+        println!(rt; "{line}")?;
+        match part {
+            Line::Desk { first } => desks = Desks::new(rt.alloc(), first),
+            Line::Note => {}
+            Line::Request(text) | Line::More(text) => request.push(text)?,
+        }
+    }
+    serve_lines(rt, &mut desks, &request)
+}
+
+fn main(rt: HostRuntime) -> io::Result<()> {
+    for name in fs::read_to_string(&rt, FILES)?.lines() {
+        run_file(&rt, fs::read_to_string(&rt, name)?.as_str())?;
+    }
+    Ok(())
+}

@@ -1,0 +1,59 @@
+//! Exchanges over a reader that fails.
+
+use crate::exchanges::{EXCHANGES, desk_after, is_after};
+use crate::streams::Source;
+use desk_http::{ServeFault, Served, serve_one};
+use std::alloc::Global;
+
+// Whether an exchange ends as it has to where the read after so many fails: nothing is written and
+// nothing changes, or no read has failed and the exchange is whole.
+// `None` where it does not end so, otherwise whether a read has failed.
+fn meets_failure(
+    alloc: Global,
+    place: usize,
+    request: &str,
+    answer: &str,
+    piece: usize,
+    good_reads: usize,
+) -> Option<bool> {
+    let mut desk = desk_after(alloc, place);
+    let mut reader = Source::new(request.as_bytes(), piece, good_reads);
+    let mut written = Vec::new(alloc);
+    let told = serve_one(alloc, &mut desk, &mut reader, &mut written);
+    match (told, reader.later()) {
+        (Err(ServeFault::Read), Some(0)) => {
+            (written.is_empty() && is_after(alloc, &mut desk, place)).then_some(true)
+        }
+        (Ok(Served::Answered(_)), None) => (written.as_slice() == answer.as_bytes()
+            && is_after(alloc, &mut desk, place.saturating_add(1))).then_some(false),
+        _ => None,
+    }
+}
+
+// How many reads are good before the first run that meets no failure; `None` where a run does not
+// end as it has to.
+fn reads_needed(
+    alloc: Global,
+    place: usize,
+    request: &str,
+    answer: &str,
+    piece: usize,
+) -> Option<usize> {
+    for good_reads in 0..=request.len() {
+        if !meets_failure(alloc, place, request, answer, piece, good_reads)? {
+            return Some(good_reads);
+        }
+    }
+    None
+}
+
+#[test]
+fn a_read_that_fails_changes_nothing_and_nothing_is_written(rt: HostRuntime) {
+    let alloc = rt.alloc();
+    for (place, (request, answer)) in EXCHANGES.iter().enumerate() {
+        let reads = reads_needed(alloc, place, request, answer, 1);
+        assert!(rt; reads == Some(request.len()), "{request}");
+        let reads = reads_needed(alloc, place, request, answer, usize::MAX);
+        assert!(rt; reads == Some(1), "{request}");
+    }
+}

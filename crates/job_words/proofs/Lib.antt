@@ -1,0 +1,4 @@
+mod CutLemmas
+mod OptionLemmas
+mod NumberLemmas
+mod JobLemmas

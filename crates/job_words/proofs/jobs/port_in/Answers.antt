@@ -1,0 +1,9 @@
+use Rattle.std.proofs.Common.{◌∙◌, sym, arith}
+use Rattle.job_words.proofs.NumberLemmas.{number_in-within}
+use Rattle.job_words.proofs.jobs.port_in.Goals as goal
+
+pub overflow_cast-result : goal.overflow_cast-result
+overflow_cast-result c =
+    let within = number_in-within _ _ c.in_ok-port.port c.in_ok-text.field-0.now (sym c.number_in.ensures ∙ c.in_ok-port.was) in
+    let high = within.high in
+    omega (arith, high)
