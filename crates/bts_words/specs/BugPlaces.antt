@@ -1,4 +1,6 @@
--- Where the words of a command stand for bugs (bts(1)).
+-- Where the words of a command stand for bugs.
+-- The commands are those of the BTS page 'control and manipulation'; which places are bug places is
+-- this project's own rule.
 use Rattle.std.specs.Prelude.{◌||◌, ◌&&◌, Bool, true, false, List, [], ◌∷◌, map, codes, is_some}
 use Rattle.line_words.specs.AnyCase.{is_word}
 use Rattle.line_words.specs.Bugs.{bug_of_word}

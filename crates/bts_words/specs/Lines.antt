@@ -1,4 +1,5 @@
 -- The lines that words stand for, and why they stand for none.
+-- The word `it` is bts(1)'s; what it stands for, and the faults, are this project's own rule.
 use Rattle.std.specs.Prelude.{ℕ, ◌≡◌, ⊤, if◌then◌else◌, List, [], ◌∷◌, map, fold, unwrap_or}
 use Rattle.std.specs.Prelude.{Option, Some, None, option_map}
 use Rattle.std.specs.List.{flat_map, join_with_byte, list_any, position}

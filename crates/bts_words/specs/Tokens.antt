@@ -1,4 +1,7 @@
--- The words that are handed in, cut into commands (bts(1); the limits are this project's own rule).
+-- The words that are handed in, cut into commands.
+-- That a `,` or `.` by itself ends a command is bts(1)'s rule.
+-- That the comma at the end of a longer word does, and that empty words and commands are skipped,
+-- is this project's own.
 use Rattle.std.specs.Prelude.{ℕ, ◌+◌, ◌==◌, ◌||◌, if◌then◌else◌, Bool, true, false, codes}
 use Rattle.std.specs.Prelude.{List, [], ◌∷◌, ◌++◌, filter}
 use Rattle.std.specs.Prelude.{Option, Some, None, option_map, unwrap_or, is_some}

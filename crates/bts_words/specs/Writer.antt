@@ -1,4 +1,5 @@
--- What a writer of lines holds, and how it grows. What the lines are is said in `Lines`.
+-- What a writer of lines holds, and how it grows.
+-- What the lines are is said in `Lines`.
 use Rattle.std.specs.Prelude.{◌≡◌, ℕ, ◌&&◌, if◌then◌else◌, Bool, true, false, List, [], ◌∷◌, ◌++◌}
 use Rattle.std.specs.Prelude.{map, Option, Some, None, ⊤}
 use Rattle.std.specs.Option.{option_copied}

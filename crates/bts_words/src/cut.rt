@@ -4,7 +4,9 @@ ghost use Rattle.std.specs.Prelude.{◌≡◌};
 ghost use Rattle.bts_words.specs.Tokens.{text_of, ends_command};
 
 /// The text of a word, which may be empty, and whether a separator follows it: a word `.`, or a
-/// comma at the very end of a word, is a separator (bts(1)).
+/// comma at the very end of a word, is a separator.
+/// A `,` or `.` by itself is bts(1)'s; the comma at the end of a longer word is this project's own
+/// rule.
 pub(crate) fn cut(word: &str) -> (&str, bool)
     ensures text { result.0.now ≡ text_of word.now }
     ensures ends { result.1 ≡ ends_command word.now }

@@ -1,7 +1,7 @@
 //! Why words are no lines.
 
-/// Why words are no lines, in the order in which it is tested. A place counts all words that were
-/// handed in, from 0.
+/// Why words are no lines, in the order in which it is tested.
+/// A place counts all words that were handed in, from 0.
 #[derive(Clone, Copy, Debug, PartialEq, Eq, Drop)]
 pub enum WordsFault {
     /// The word at this place, the first of its kind, has an ASCII control character other than

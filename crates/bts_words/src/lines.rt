@@ -39,13 +39,14 @@ fn lines_of<'a>(alloc: Global, words: &[&'a str]) -> Result<Vec<String>, WordsFa
 
 /// The lines of a message that words of a command line stand for, in the manner of bts(1).
 ///
-/// A word `,` or `.`, and the comma at the very end of a longer word, ends a command. Empty words
-/// and empty commands are skipped; the words of a command are joined by one space.
+/// A word `,` or `.`, and the comma at the very end of a longer word, ends a command.
+/// Empty words and empty commands are skipped; the words of a command are joined by one space.
 ///
 /// All words after the first of `merge`, `forcemerge`, `block` and `unblock` are at bug places, and
-/// the second word of any other command. The word `it`, in any ASCII case, at a bug place stands
-/// for the last bug word at a bug place before it, in the same or an earlier command, as written
-/// there.
+/// the second word of any other command.
+/// The word `it`, in any ASCII case, at a bug place stands for the last bug word at a bug place
+/// before it, in the same or an earlier command, as written there.
+/// All but a `,` or `.` by itself and the word `it` are this project's own rules.
 ///
 /// A fault says what is wrong first: a bad word, then no command, then an `it` that has no bug word
 /// before it.

@@ -61,8 +61,8 @@ end_word ends.Stopped = codes "stopped"
 end_word ends.TooManyUnreadable = codes "unreadable"
 end_word (ends.Store fault line) = codes "store"
 
--- The end of a message and its transcript, which is UTF-8 and stands as it is; were it not, its
--- bad bytes would be replaced.
+-- The end of a message and its transcript, whose bytes that are no UTF-8 would be replaced; that it
+-- has none is not proved.
 unfoldable pub message_json : List Entry → End → List (List ℕ) → List ℕ
 message_json outcomes end lines =
     control_json (end_word end) (utf8_lossy (received_text outcomes end lines))

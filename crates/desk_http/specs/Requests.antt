@@ -1,6 +1,8 @@
 -- What an HTTP request asks, step by step, out of its head and the bytes after it; or the answer
 -- that refuses it (the statuses: RFC 9110, section 15).
--- The order of the steps, the limits and the texts are this project's own rule.
+-- First comes the route, 404, then its method, 405; of a POST then the body, 501, 411, 400, 413 and
+-- 400, and what it holds, 400; of a GET the parts of its path, 404.
+-- This order, the limits and the texts are this project's own rule.
 use Rattle.std.specs.Prelude.{ℕ, Bool, true, List, Option, Some, None, Result, Ok, Err, codes, map}
 use Rattle.std.specs.Prelude.{option_map, option_and_then, if◌then◌else◌}
 use Rattle.std.specs.Str.{is_utf8, bytes_eq}
@@ -63,7 +65,7 @@ abbrev pub posted : Option Request → Result Request Answer
 posted None = Err bad_request
 posted (Some request) = if has_good_sender request then Ok request else Err bad_request
 
--- what the members of a value ask, by the route
+-- what the members of a value ask, by the route; a route of GET has no body
 abbrev pub members_of : Route → Data → Option Request
 members_of Bugs value = option_map PostBug (report_members value)
 members_of Control value = option_map PostControl (control_members value)
@@ -111,7 +113,7 @@ asked_on (Some route) method_asked path headers rest =
     if bytes_eq method_asked (method route) then asked_at route path headers rest
     else Err (not_allowed route)
 
--- the route of a path; one that is no UTF-8 has none
+-- the route of a path; one that is no UTF-8 has none, and `httparse` has refused it before
 unfoldable pub route_of : List ℕ → Option Route
 route_of path = if is_utf8 path then route_at path else None
 

@@ -94,10 +94,15 @@ fn exchange<S: Records, R: Read>(
 /// The answer depends on the bytes and the desk, and not on the pieces in which the bytes come.
 /// A head is read by the grammar of `httparse`, of at most 8,192 bytes and 32 headers, and a body
 /// of at most 65,536 bytes; bytes after the body are not looked at.
+/// `POST /bugs`, `/control` and `/branches`, `GET /bugs/{n}` and `/list/{package}/{version}` are
+/// answered 200, 201, or 400 or 404 where they are refused; what is no such request is answered 400
+/// for its head, 404, 405, 501, 411, 400 or 413 for its length, or 400 for its body, in this order.
 /// A head that is wrong is answered 400, whatever the store, and takes no memory.
 /// Where the store fails, or there is no memory, the answer is 500, and nothing has changed, except
 /// that of a control message some lines from the first, or all, may have been taken.
-/// These are this project's own rules, within RFC 9110 and RFC 9112.
+/// These are this project's own rules.
+/// Unlike RFC 9110 and RFC 9112, no `Host` is asked for, an absolute target has no route, `HEAD` is
+/// another method, whose 405 has a body, `Expect` is not looked at, and no `Date` is sent.
 ///
 /// # Errors
 ///

@@ -47,6 +47,31 @@ fn reads_needed(
     None
 }
 
+// Requests with a body that no step asks for, and that never comes.
+const WITHOUT_BODIES: [&str; 5] = [
+    "GET /bugs/1 HTTP/1.1\r\nContent-Length: 5\r\n\r\n",
+    "GET /list/foo/1 HTTP/1.1\r\nContent-Length: 5\r\n\r\n",
+    "POST /x HTTP/1.1\r\nContent-Length: 5\r\n\r\n",
+    "PUT /bugs HTTP/1.1\r\nContent-Length: 5\r\n\r\n",
+    "POST /bugs HTTP/1.1\r\nContent-Length: 65537\r\n\r\n",
+];
+
+// Whether a request is answered, and nothing is read after the piece that has its head.
+fn is_answered_by_its_head(alloc: Global, request: &str) -> bool {
+    let mut desk = desk_after(alloc, 0);
+    let mut reader = Source::new(request.as_bytes(), usize::MAX, 1);
+    let mut written = Vec::new(alloc);
+    let told = serve_one(alloc, &mut desk, &mut reader, &mut written);
+    matches!(told, Ok(Served::Answered(_))) && reader.later().is_none()
+}
+
+#[test]
+fn a_body_that_no_step_asks_for_is_not_waited_for(rt: HostRuntime) {
+    for request in WITHOUT_BODIES {
+        assert!(rt; is_answered_by_its_head(rt.alloc(), request), "{request}");
+    }
+}
+
 #[test]
 fn a_read_that_fails_changes_nothing_and_nothing_is_written(rt: HostRuntime) {
     let alloc = rt.alloc();

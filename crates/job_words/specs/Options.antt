@@ -1,4 +1,5 @@
 -- The options, as `clap` reads them: which of their words it refuses, and the values that it finds.
+-- Which options there are is this project's own rule.
 use Rattle.std.specs.Prelude.{Bool, true, false, not, codes}
 use Rattle.std.specs.Prelude.{List, [], ◌∷◌, Option, Some}
 use Rattle.std.specs.List.{list_any}

@@ -38,7 +38,7 @@ IsFound old new buf headers Nothing = IfSome old (λ input. input ≡ [])
 IsFound old new buf headers Wrong = IfSome old IsWrong
 IsFound old new buf headers (Complete spans filled) = IsComplete old new buf headers spans filled
 
--- the reader gave bytes that begin with no head
+-- the reader gave bytes that begin with no head of any length
 pub record LosesNoHead (old new : Option (List ℕ)) : Type 0 where
   pub bytes : List ℕ
   pub took : Consumes old new bytes

@@ -1,5 +1,6 @@
--- Which head an input begins with (RFC 9112, sections 2 to 5; the limits are this project's own
--- rule).
+-- Which head an input begins with, by the grammar of `httparse` (RFC 9112, sections 2, 3 and 5,
+-- with bare line feeds, and with empty lines before the head, which count).
+-- The limits are this project's own rule.
 use Rattle.std.specs.Prelude.{ℕ, ◌≤◌, List, length}
 use Rattle.httparse.specs.Grammar.{RequestHead, ReadsRequest, print_request}
 

@@ -1,5 +1,5 @@
--- What the headers of a request, each a name and a value, say of its body (RFC 9110, sections 5.1
--- and 8.6; RFC 9112, section 6).
+-- What the headers of a request, each a name and a value without the blanks around it, say of its
+-- body (RFC 9110, sections 5.1 and 8.6; RFC 9112, sections 5.1 and 6).
 -- The limits and the refusals are this project's own rule.
 use Rattle.std.specs.Prelude.{◌≡◌, ℕ, ◌<◌, Bool, ◌&&◌, if◌then◌else◌, nat_lt, nat_le, List, [], ◌∷◌, length, map, filter, Option, Some, None, Result, Ok, Err, codes}
 use Rattle.std.specs.List.{list_any, list_all}

@@ -83,7 +83,8 @@ fn length_of_value(value: &[u8]) -> Result<u64, BodyRefusal>
     Ok(length)
 }
 
-/// The length of the body of a request, in bytes, by its headers, whose names have any ASCII case.
+/// The length of the body of a request, in bytes, by its headers, whose names have any ASCII case
+/// (RFC 9110, section 8.6); the limit and the refusals are this project's own rule.
 ///
 /// # Errors
 ///

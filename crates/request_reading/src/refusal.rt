@@ -7,8 +7,8 @@ pub enum BodyRefusal {
     NotImplemented,
     /// It has no `Content-Length`.
     LengthRequired,
-    /// Its length is no number of one to nine digits, or is told twice, or the input ended before
-    /// the body was whole.
+    /// Its length is no number of one to nine digits, or is told more than once, or the input ended
+    /// before the body was whole.
     BadRequest,
     /// It is longer than 65,536 bytes.
     TooLarge,
