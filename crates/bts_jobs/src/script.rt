@@ -1,4 +1,4 @@
-//! What the program does for the words that it is given.
+//! The job of a script.
 
 ghost use Rattle.std.specs.Prelude.{◌≡◌, ℕ, Option, Result};
 ghost use Rattle.bug_record.specs.Desk.{Desk};
@@ -6,41 +6,27 @@ ghost use Rattle.desk_lines.specs.Reading.{Known};
 ghost use Rattle.desk_run.specs.Script.{begin};
 ghost use Rattle.desk_run.specs.Running.{Ends};
 ghost use Rattle.desk_places.specs.Plain.{empty_desk};
-ghost use Rattle.bts.specs.Jobs.{job_of, status_of, IsRun};
+ghost use Rattle.bts_jobs.specs.Statuses.{status_of};
+ghost use Rattle.bts_jobs.specs.Jobs.{IsRun};
 
+use crate::ending::{DONE, FAULT};
 use desk_run::{ScriptEnd, ScriptFault, run_script};
 use desk_store::PlainDesk;
 use std::alloc::Global;
 use std::io::{Read, Write};
 use std::mem;
 
-/// What the program is to do.
-#[derive(Clone, Copy, Debug, PartialEq, Eq, Drop)]
-pub enum Job {
-    /// Run a script.
-    Run,
-    /// Nothing: the words mean nothing.
-    Bad,
-}
+/// The exit status of a script in which something was refused.
+const REFUSED: u8 = 1;
 
-/// The job of so many words; `None` where the words can't be read.
-pub fn read_words(count: Option<usize>) -> Job
-    ensures { result ≡ job_of count }
-{
-    match count {
-        Some(0) => Job::Run,
-        _ => Job::Bad,
-    }
-}
-
-/// The exit status after a script.
+// The exit status after a script.
 fn status_of(end: Result<ScriptEnd, ScriptFault>) -> u8
     ensures { result ≡ status_of end }
 {
     match end {
-        Ok(ScriptEnd::Accepted) => 0,
-        Ok(ScriptEnd::Refused) => 1,
-        Err(_) => 3,
+        Ok(ScriptEnd::Accepted) => DONE,
+        Ok(ScriptEnd::Refused) => REFUSED,
+        Err(_) => FAULT,
     }
 }
 

@@ -4,7 +4,7 @@ use Rattle.desk_store.specs.Store.{no_faults}
 use Rattle.desk_places.specs.Plain.{desk_of}
 use Rattle.desk_run.specs.Script.{begin}
 use Rattle.desk_run.specs.Running.{Ends}
-use Rattle.bts.proofs.job.run_script_job.Goals as goal
+use Rattle.bts_jobs.proofs.script.run_script_job.Goals as goal
 
 pub returns : goal.returns
 returns g c = record {

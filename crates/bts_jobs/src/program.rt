@@ -1,0 +1,156 @@
+//! The program, from its words to its exit status.
+
+ghost use Rattle.std.specs.Prelude.{◌≡◌, ◌⊎◌, IfOk, IfErr, map, drop};
+ghost use Rattle.std.specs.String.{string_bytes};
+ghost use Rattle.bts_jobs.specs.Statuses.{IsTold};
+ghost use Rattle.bts_jobs.specs.Program.{GivesHelp, IsDone, IsProcess};
+
+use crate::ending::{BAD_WORDS, DONE, Ending, FAULT, end_with};
+use crate::jobs::run_job;
+use desk_lines::write_out;
+use job_words::{WordsError, read_words};
+use std::alloc::{AllocError, Global};
+use std::env::Env;
+use std::io::{ErrorKind, Read, Write};
+use std::net::{Net, TcpListener, TcpStream};
+use std::time::Clock;
+
+// Writes the help, and answers the exit status.
+fn write_help<W: Write>(writer: &mut W, text: &str) -> u8
+    ensures { GivesHelp text.now (W.contents writer.old) (W.contents writer.new) result }
+{
+    match write_out(writer, text.as_bytes()) {
+        Ok(()) => DONE,
+        Err(_) => FAULT,
+    }
+}
+
+// Does what words ask, and answers the exit status.
+fn do_words<N, R: Read, W: Write>(
+    rt: &N,
+    alloc: Global,
+    words: &[&str],
+    reader: &mut R,
+    writer: &mut W,
+) -> u8
+where
+    N: Net<Listener = TcpListener, Stream = TcpStream> + Clock,
+    ensures { IsDone (map (λ s. s.now) words.entry.now) (R.remaining reader.old) (W.contents writer.old)
+        (W.contents writer.new) result }
+{
+    match read_words(alloc, words) {
+        Ok(job) => run_job(rt, alloc, &job, reader, writer),
+        Err(WordsError::Help(text)) => write_help(writer, text.as_str()),
+        Err(WordsError::Bad) => BAD_WORDS,
+        Err(WordsError::Memory) => FAULT,
+    }
+}
+
+/// Does what words ask, over the input and the two outputs that are handed in; the program's own
+/// name is not one of the words.
+///
+/// The words are read by `job_words::read_words`, and the job is carried out by `run_job`.
+/// `--help` writes clap's text, with status 0, or 3 where it can't be written.
+/// Bad words have status 2, and words for which there is no memory 3; nothing is written for them.
+/// Then the complaint of the status, if it has one, is written to the error output.
+pub fn run_words<N, R: Read, W: Write, E: Write>(
+    rt: &N,
+    alloc: Global,
+    words: &[&str],
+    reader: &mut R,
+    writer: &mut W,
+    errors: &mut E,
+) -> Ending
+where
+    N: Net<Listener = TcpListener, Stream = TcpStream> + Clock,
+    ensures done { IsDone (map (λ s. s.now) words.entry.now) (R.remaining reader.old) (W.contents writer.old)
+        (W.contents writer.new) result.status }
+    ensures told { IsTold result.status result.is_told (E.contents errors.old) (E.contents errors.new) }
+{
+    end_with(errors, do_words(rt, alloc, words, reader, writer))
+}
+
+// The texts of strings.
+fn texts_of<'a>(alloc: Global, strings: &'a [String]) -> Result<Vec<&'a str>, AllocError>
+    ensures { IfOk result (λ v. map (λ s. s.now) v.items ≡ map string_bytes strings.now) }
+{
+    let mut texts = Vec::new(alloc);
+    for string in strings {
+        texts.push(string.as_str())?;
+    }
+    Ok(texts)
+}
+
+// What stands after the first one, if there is one.
+fn after_first(args: &[String]) -> &[String]
+    ensures { result.now ≡ drop 1 args.now }
+{
+    match args {
+        [_, rest @ ..] => rest,
+        [] => args,
+    }
+}
+
+/// Does what the arguments of a process ask, as `run_words` does; the first one, if there is one,
+/// is the program's own name, and no word.
+/// Where there is no memory for them, the status is 3.
+pub fn run_args<N, R: Read, W: Write, E: Write>(
+    rt: &N,
+    alloc: Global,
+    args: &[String],
+    reader: &mut R,
+    writer: &mut W,
+    errors: &mut E,
+) -> Ending
+where
+    N: Net<Listener = TcpListener, Stream = TcpStream> + Clock,
+    ensures done { IsDone (map string_bytes (drop 1 args.entry.now)) (R.remaining reader.old) (W.contents writer.old)
+        (W.contents writer.new) result.status }
+    ensures told { IsTold result.status result.is_told (E.contents errors.old) (E.contents errors.new) }
+{
+    match texts_of(alloc, after_first(args)) {
+        Ok(words) => run_words(rt, alloc, &words, reader, writer, errors),
+        Err(_) => end_with(errors, FAULT),
+    }
+}
+
+// The arguments of the process; the error is the exit status where they can't be read.
+fn read_args<N: Env + Alloc<A = Global>>(rt: &N, alloc: Global) -> Result<Vec<String>, u8>
+    ensures { IfErr result (λ status. (status ≡ 2) ⊎ (status ≡ 3)) }
+{
+    let args = match std::env::args(rt) {
+        Ok(args) => args,
+        Err(error) => match error.kind() {
+            ErrorKind::InvalidData => return Err(BAD_WORDS),
+            _ => return Err(FAULT),
+        },
+    };
+    let mut kept = Vec::new(alloc);
+    for arg in args {
+        if kept.push(arg).is_err() {
+            return Err(FAULT);
+        }
+    }
+    Ok(kept)
+}
+
+/// Does what the arguments of the process ask, as `run_args` does.
+/// Arguments that are no UTF-8 are bad words.
+/// What the process's arguments are is not told to a contract.
+pub fn run_program<N, R: Read, W: Write, E: Write>(
+    rt: &N,
+    alloc: Global,
+    reader: &mut R,
+    writer: &mut W,
+    errors: &mut E,
+) -> Ending
+where
+    N: Net<Listener = TcpListener, Stream = TcpStream> + Clock + Env + Alloc<A = Global>,
+    ensures done { IsProcess (R.remaining reader.old) (W.contents writer.old) (W.contents writer.new) result.status }
+    ensures told { IsTold result.status result.is_told (E.contents errors.old) (E.contents errors.new) }
+{
+    match read_args(rt, alloc) {
+        Ok(args) => run_args(rt, alloc, &args, reader, writer, errors),
+        Err(status) => end_with(errors, status),
+    }
+}
