@@ -1,4 +1,5 @@
--- What the jobs do. This project's own rule.
+-- What the jobs do.
+-- This project's own rule.
 use Rattle.std.specs.Prelude.{ℕ, ◌≡◌, List, Option, Some, None, Result, Ok, Err}
 use Rattle.std.specs.Io.KnownBytes.{Appends}
 use Rattle.bug_record.specs.Desk.{Desk}
@@ -10,7 +11,6 @@ use Rattle.desk_run.specs.Script.{begin}
 use Rattle.desk_run.specs.Running.{Ends}
 use Rattle.desk_run.specs.declared.script.ScriptEnd.{ScriptEnd}
 use Rattle.desk_server.specs.Port.{Serves, place_line}
-use Rattle.desk_server.specs.Serving.{Connection, InTurn, Leaves, EndsServer}
 use Rattle.desk_server.specs.declared.port.ServerFault.{ServerFault}
 use Rattle.desk_server.specs.declared.port.ServerFault.TheVariants.{Bind}
 use Rattle.job_words.specs.declared.job.Job.{Job}
@@ -26,21 +26,13 @@ pub record IsRun (input : List ℕ) (c0 c1 : Option (List ℕ)) (status : ℕ) :
   pub ends : Ends input (begin (empty_desk 1)) desk no_faults no_faults c0 c1 result
   pub status_is : status ≡ status_of result
 
--- So many connections were served one after another, over an empty desk whose first number is 1.
-pub record AreServed (count : ℕ) (result : Result (Unit {0}) ServerFault) : Type 0 where
-  pub course : List Connection
-  pub desk : Desk
-  pub ends : EndsServer count course no_faults no_faults result
-  pub leaves : InTurn Leaves course (empty_desk 1, no_faults) (desk, no_faults)
-
 -- A server was run, with this exit status: where it came to serve, the line that tells its port was
--- written before and nothing else, and connections were served; a port that can't be listened on
--- leaves nothing written.
-pub record IsServer (port count : ℕ) (c0 c1 : Option (List ℕ)) (status : ℕ) : Type 0 where
+-- written and nothing else; a port that can't be listened on leaves nothing written.
+-- Of its connections and its desk, which ends with it, nothing is said.
+pub record IsServer (port : ℕ) (c0 c1 : Option (List ℕ)) (status : ℕ) : Type 0 where
   pub result : Result (Unit {0}) ServerFault
   pub status_is : status ≡ status_of_server result
   pub told : Serves result (Appends c0 c1 (place_line port))
-  pub served : Serves result (AreServed count result)
   pub bind : result ≡ Err Bind → c1 ≡ c0
 
 -- nothing was written, and this is the exit status
@@ -51,7 +43,7 @@ EndsAtOnce wanted c0 c1 status = (status ≡ wanted) × (c1 ≡ c0)
 -- A job with a store is a fault, for there are no stores in files yet.
 abbrev pub IsJobDone : Job → Option (List ℕ) → Option (List ℕ) → Option (List ℕ) → ℕ → Type 0
 IsJobDone (Run None) r0 c0 c1 status = Known r0 (λ input. IsRun input c0 c1 status)
-IsJobDone (Serve None port count) r0 c0 c1 status = IsServer port count c0 c1 status
+IsJobDone (Serve None port count) r0 c0 c1 status = IsServer port c0 c1 status
 IsJobDone (Run (Some store)) r0 c0 c1 status = EndsAtOnce 3 c0 c1 status
 IsJobDone (Serve (Some store) port count) r0 c0 c1 status = EndsAtOnce 3 c0 c1 status
 IsJobDone (Init store first) r0 c0 c1 status = EndsAtOnce 3 c0 c1 status

@@ -1,4 +1,5 @@
--- What the program does for the words of its command line. This project's own rule.
+-- What the program does for the words of its command line.
+-- This project's own rule.
 use Rattle.std.specs.Prelude.{ℕ, ◌≡◌, ◌⊎◌, ◌<◌, List, length, take, Option, Result, Ok, Err}
 use Rattle.std.specs.Io.KnownBytes.{Appends}
 use Rattle.job_words.specs.Cut.{Text}

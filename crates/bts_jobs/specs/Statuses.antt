@@ -1,4 +1,5 @@
--- Exit statuses, and what is said of them on the error output. This project's own rule.
+-- Exit statuses, and what is said of them on the error output.
+-- This project's own rule.
 use Rattle.std.specs.Prelude.{ℕ, ◌<◌, ◌==◌, Bool, true, false, List, [], length, take, codes}
 use Rattle.std.specs.Prelude.{Option, Result, Ok, Err, if◌then◌else◌}
 use Rattle.std.specs.Io.KnownBytes.{Appends}

@@ -27,10 +27,11 @@ fn status_of_server(end: Result<(), ServerFault>) -> u8
 /// 1, ends after `count` connections, and answers the exit status: 0, or 3 where the port can't be
 /// listened on or the line that tells it can't be written.
 /// A desk in memory has no fault of its own that ends a server.
+/// What is said of connections is said by `desk_server::serve_port`, whose store is handed in.
 pub fn serve_job<N, W: Write>(rt: &N, alloc: Global, port: u16, count: u64, writer: &mut W) -> u8
 where
     N: Net<Listener = TcpListener, Stream = TcpStream> + Clock,
-    ensures { IsServer port count (W.contents writer.old) (W.contents writer.new) result }
+    ensures { IsServer port (W.contents writer.old) (W.contents writer.new) result }
 {
     let mut desk = PlainDesk::new(alloc, 1);
     let status = status_of_server(serve_port(rt, alloc, &mut desk, port, count, writer));
