@@ -1,2 +1,3 @@
 mod HeldLemmas
 mod ServingLemmas
+mod CountLemmas

@@ -3,8 +3,8 @@ use Rattle.desk_store.specs.Store.{Holds, total}
 use Rattle.desk_server.specs.Serving.{Connection, Leaves, Counts, InTurn}
 use Rattle.desk_server.proofs.connections.serve_connections.Given as goal
 
-abbrev pub invariant-loop-store : goal.invariant-loop-store
-invariant-loop-store g l =
+abbrev pub invariant-loop-done : goal.invariant-loop-done
+invariant-loop-done g l =
     let desk = g.S.Records.desk in
     let faults = g.S.Records.faults in
     record {
