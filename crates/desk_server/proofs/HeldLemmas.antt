@@ -1,5 +1,5 @@
 -- What is held of the bytes that were given, as some are handed on.
-use Rattle.std.proofs.Common.{◌≡◌, ℕ, ◌+◌, ◌-◌, ◌++◌, List, length, take, drop, Option, Some, None, arith, sym, ap, ◌∙◌, subst, append_assoc, take-append-drop, length-drop}
+use Rattle.std.proofs.Common.{◌≡◌, ℕ, ◌+◌, ◌-◌, ◌++◌, List, length, take, drop, Option, Some, None, arith, ap, ◌∙◌, subst, append_assoc, take-append-drop, length-drop}
 use Rattle.std.proofs.lemmas.List.{take_all, drop-drop}
 use Rattle.std.specs.Io.KnownBytes.{Keeps, Appends, append_known}
 

@@ -51,17 +51,20 @@ returns-then-before-faults g c =
     let last = c.serve_next.result in
     record {
       course = i.course ++ last ∷ [];
-      ends = (within_count i.course last c.loop-done.done c.args.count i.long c.loop-done-test.true, record {
-        good = i.course;
-        last = last;
-        between = faults before;
-        is = refl;
-        counts = i.counts;
-        none = i.same;
-        met = c.serve_next.ensures.count;
-        rose = has_risen (total (faults start)) (total (faults after)) c.faults-before.result c.faults.result
-            c.faults-before.ensures c.faults.ensures c.if-before-faults.true;
-      });
+      ends = (
+        within_count i.course last c.loop-done.done c.args.count i.long c.loop-done-test.true,
+        record {
+          good = i.course;
+          last = last;
+          between = faults before;
+          is = refl;
+          counts = i.counts;
+          none = i.same;
+          met = c.serve_next.ensures.count;
+          rose = has_risen (total (faults start)) (total (faults after)) c.faults-before.result c.faults.result
+              c.faults-before.ensures c.faults.ensures c.if-before-faults.true;
+        },
+      );
       counts = one_more Counts i.course last (faults start) (faults before) (faults after) i.counts c.serve_next.ensures.count;
       leaves = holds_then i.leaves c.serve_next.ensures.answer
           (one_more Leaves i.course last (desk start, faults start) (desk before, faults before) (desk after, faults after));

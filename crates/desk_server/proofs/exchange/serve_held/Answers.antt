@@ -1,6 +1,5 @@
-use Rattle.std.proofs.Common.{◌≡◌, true, Ok}
+use Rattle.std.proofs.Common.{◌≡◌, true}
 use Rattle.desk_store.proofs.HoldsLemmas.{holds_weaker}
-use Rattle.desk_http.specs.Exchange.{IsServed}
 use Rattle.desk_server.specs.Held.{given}
 use Rattle.desk_server.specs.Serving.{is_answered}
 use Rattle.desk_server.proofs.ServingLemmas.{answered_right, answered_kept}

@@ -1,4 +1,4 @@
-use Rattle.std.proofs.Common.{◌≤◌, ◌-◌, length, drop}
+use Rattle.std.proofs.Common.{◌-◌, length, drop}
 use Rattle.std.specs.Io.KnownBytes.{Keeps, append_known}
 use Rattle.desk_server.proofs.held.Held.hand_on.Given as goal
 
