@@ -1,0 +1,41 @@
+//! Clients of a server.
+
+use std::alloc::Global;
+use std::io::{self, Write};
+use std::net::{Ipv4Addr, Shutdown, TcpStream};
+use std::time::Duration;
+
+/// A report.
+pub(crate) const REPORT: &str = "POST /bugs HTTP/1.1\r\nContent-Length: 62\r\n\r\n\
+    {\"from\":\"ann\",\"package\":\"foo\",\"severity\":\"normal\",\"title\":\"a\"}";
+
+/// What the first report is answered.
+pub(crate) const FIRST_BUG: &str = "HTTP/1.1 201 Created\r\nConnection: close\r\n\
+    Content-Length: 9\r\nContent-Type: application/json\r\n\r\n{\"bug\":1}";
+
+/// How long a client waits for the server, in seconds.
+const PATIENCE: u64 = 20;
+
+/// A client that is connected.
+pub(crate) fn connect(rt: &HostRuntime, port: u16) -> io::Result<TcpStream> {
+    let client = TcpStream::connect(rt, (Ipv4Addr::LOCALHOST, port))?;
+    client.set_read_timeout(Some(Duration::from_secs(PATIENCE)))?;
+    client.set_write_timeout(Some(Duration::from_secs(PATIENCE)))?;
+    Ok(client)
+}
+
+/// A client that has sent these bytes, and sends no more.
+pub(crate) fn ask(rt: &HostRuntime, port: u16, request: &[u8]) -> io::Result<TcpStream> {
+    let mut client = connect(rt, port)?;
+    client.write_all(request)?;
+    client.shutdown(Shutdown::Write)?;
+    Ok(client)
+}
+
+/// Whether a client is sent exactly this.
+pub(crate) fn gets(alloc: Global, client: TcpStream, answer: &str) -> bool {
+    match io::read_to_string(alloc, client) {
+        Ok(text) => text.as_str() == answer,
+        Err(_) => false,
+    }
+}
