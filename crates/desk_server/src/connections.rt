@@ -1,0 +1,64 @@
+//! Connections, one after another.
+
+ghost use Rattle.desk_store.specs.Store.{Holds};
+ghost use Rattle.desk_server.specs.Serving.{Leaves, Counts, IsServing};
+
+use crate::exchange::serve_timed;
+use crate::port::ServerFault;
+use desk_http::{ServeFault, Served};
+use desk_store::Records;
+use std::alloc::Global;
+use std::net::TcpListener;
+use std::time::Clock;
+
+// Accepts a connection and serves it; `None` where none could be accepted.
+fn serve_next<C: Clock, S: Records>(
+    clock: &C,
+    alloc: Global,
+    store: &mut S,
+    listener: &TcpListener,
+) -> Option<Result<Served, ServeFault>>
+    ensures answer { Holds S.is_kept S.is_honest store.old store.new
+        (Leaves result (S.desk store.old, S.faults store.old) (S.desk store.new, S.faults store.new)) }
+    ensures count { Counts result (S.faults store.old) (S.faults store.new) }
+{
+    match listener.accept() {
+        Ok((stream, _)) => Some(serve_timed(clock, alloc, store, &stream)),
+        Err(_) => None,
+    }
+}
+
+/// Serves so many connections of a listener, one after another.
+///
+/// A connection that can't be accepted, or whose exchange fails, counts like any other, so a client
+/// that goes away ends nothing but its own exchange.
+/// A client that says nothing keeps the others waiting for 1 second, and one that sends or takes
+/// its bytes slowly for less than 60: the first byte has to come within 1 second, each other read
+/// or write has 10 seconds, and all of an exchange have 44.
+/// After an answer the server writes no more, and reads what the client still sends, for 1 second a
+/// read and 4 in all, and at most 2,048 times 8,192 bytes, so that the answer is not lost.
+/// These are this project's own rules.
+/// Which bytes a socket gives and takes, and how long anything takes, is not proved.
+///
+/// # Errors
+///
+/// `Store` where the count of the store's faults rose, right after the exchange that raised it; no
+/// other.
+pub fn serve_connections<C: Clock, S: Records>(
+    clock: &C,
+    alloc: Global,
+    store: &mut S,
+    listener: &TcpListener,
+    count: u64,
+) -> Result<(), ServerFault>
+    ensures { IsServing S.is_kept S.is_honest S.desk S.faults count store.old store.new result }
+{
+    let before = store.faults();
+    for done in 0..count {
+        serve_next(clock, alloc, store, listener);
+        if before < store.faults() {
+            return Err(ServerFault::Store);
+        }
+    }
+    Ok(())
+}
