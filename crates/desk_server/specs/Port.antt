@@ -1,4 +1,5 @@
--- What a server tells of itself. This project's own rule.
+-- What a server tells of itself.
+-- This project's own rule.
 use Rattle.std.specs.Prelude.{ℕ, ◌++◌, List, Result, Ok, Err, codes, decimal, ⊤}
 use Rattle.desk_server.specs.declared.port.ServerFault.{ServerFault}
 use Rattle.desk_server.specs.declared.port.ServerFault.TheVariants.{Bind, Write, Store}

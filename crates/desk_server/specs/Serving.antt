@@ -1,4 +1,5 @@
--- What a server leaves of a desk: its connections, one after another. This project's own rule.
+-- What a server leaves of a desk: its connections, one after another.
+-- This project's own rule.
 use Rattle.std.specs.Prelude.{ℕ, ◌≡◌, ◌<◌, ◌≤◌, Bool, true, false, List, [], ◌∷◌, ◌++◌, length, Option, Some, None, Result, Ok, Err}
 use Rattle.bug_record.specs.Desk.{Desk}
 use Rattle.desk_store.specs.Store.{Faults, Holds, total}

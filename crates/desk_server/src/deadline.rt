@@ -13,7 +13,8 @@ pub(crate) struct Deadline {
 }
 
 impl Deadline {
-    /// The point so many seconds after now; an error where the clock can't be read or tells no such point.
+    /// The point so many seconds after now; an error where the clock can't be read or tells no such
+    /// point.
     pub fn after<C: Clock>(clock: &C, seconds: u64) -> io::Result<Deadline> {
         match Instant::now(clock)?.checked_add(Duration::from_secs(seconds)) {
             Some(end) => Ok(Deadline { end }),
