@@ -3,3 +3,4 @@ mod PlaceLemmas
 mod LineLemmas
 mod ReadLemmas
 mod FaultLemmas
+mod JoinLemmas
