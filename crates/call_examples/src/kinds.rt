@@ -1,5 +1,14 @@
 //! The kinds of calls.
 
+/// What a tree is asked of a node.
+#[derive(Clone, Copy)]
+pub(crate) enum NodeKind {
+    /// Whether it is known.
+    Knows,
+    /// Its line.
+    Line,
+}
+
 /// What is called; the comment says what the text after the word is.
 #[derive(Clone, Copy)]
 pub(crate) enum Kind {

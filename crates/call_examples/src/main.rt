@@ -6,53 +6,85 @@ mod messages;
 mod trees;
 mod versions;
 
-use ancestry::Tree;
-use kinds::Kind;
+use ancestry::{Node, Tree};
+use kinds::{Kind, NodeKind};
 use std::alloc::{AllocError, Global};
 use std::{fs, io};
 
 /// The name of the file that lists the tables.
 const FILES: &str = "files";
 
-// What a call answers; `None` where the text is none of its kind.
-fn answer(
+// Adds what a call of versions, texts and lines answers.
+// Answers whether the text is of the call's kind.
+fn add_plain_answer(
     alloc: Global,
+    out: &mut String,
+    kind: Kind,
+    text: &str,
+) -> Result<bool, AllocError> {
+    match kind {
+        Kind::Version => versions::add_parts(out, text)?,
+        Kind::Name => versions::add_name(out, text)?,
+        Kind::Node => trees::add_node(out, Node::read(alloc, text))?,
+        Kind::Text => messages::add_is_text(out, text)?,
+        Kind::Number => messages::add_number(out, text)?,
+        Kind::Read => messages::add_line(alloc, out, text)?,
+        Kind::Order => return versions::add_sorted(alloc, out, text),
+        Kind::At => return trees::add_meant(alloc, out, text),
+        Kind::Nodes => return trees::add_node_list(alloc, out, text),
+        _ => return Ok(false),
+    }
+    Ok(true)
+}
+
+// Adds what a call answers, which may be about the tree.
+// Answers whether the text is of the call's kind.
+fn add_answer(
+    alloc: Global,
+    out: &mut String,
     tree: &mut Tree,
     kind: Kind,
     text: &str,
-) -> Result<Option<String>, AllocError> {
+) -> Result<bool, AllocError> {
     match kind {
-        Kind::Version => Ok(Some(versions::version_parts(alloc, text)?)),
-        Kind::Order => versions::versions_in_order(alloc, text),
-        Kind::Name => Ok(Some(versions::name_answer(alloc, text)?)),
-        Kind::Node => trees::node_read(alloc, text),
-        Kind::At => trees::node_meant(alloc, text),
-        Kind::Nodes => trees::nodes_in_order(alloc, text),
         Kind::Tree => {
             *tree = Tree::new(alloc);
-            Ok(Some(String::from_str(alloc, "nothing is known")?))
+            out.push_str("nothing is known")?;
+            Ok(true)
         }
-        Kind::Branch => trees::branch_taken(alloc, tree, text),
-        Kind::Knows => trees::is_known(alloc, tree, text),
-        Kind::Line => trees::line_of(alloc, tree, text),
-        Kind::Heads => Ok(Some(trees::heads_of(alloc, tree, text)?)),
-        Kind::Status => trees::status_at(alloc, tree, text),
-        Kind::Text => Ok(Some(messages::is_a_text(alloc, text)?)),
-        Kind::Number => Ok(Some(messages::number_of(alloc, text)?)),
-        Kind::Read => messages::line_read(alloc, text).map(Some),
+        Kind::Branch => trees::add_branch(alloc, out, tree, text),
+        Kind::Knows => trees::add_of_node(alloc, out, tree, NodeKind::Knows, text),
+        Kind::Line => trees::add_of_node(alloc, out, tree, NodeKind::Line, text),
+        Kind::Heads => {
+            trees::add_heads(out, tree, text)?;
+            Ok(true)
+        }
+        Kind::Status => trees::add_status(alloc, out, tree, text),
+        _ => add_plain_answer(alloc, out, kind, text),
+    }
+}
+
+// Adds what the call of a line answers; answers whether the line is a call.
+fn add_call(
+    alloc: Global,
+    out: &mut String,
+    tree: &mut Tree,
+    line: &str,
+) -> Result<bool, AllocError> {
+    let (word, text) = line.split_once(' ').unwrap_or((line, ""));
+    match Kind::read(word) {
+        Some(kind) => add_answer(alloc, out, tree, kind, text),
+        None => Ok(false),
     }
 }
 
 // Prints a line of a table, and what its call answers.
 fn print_call(rt: &HostRuntime, tree: &mut Tree, line: &str) -> io::Result<()> {
-    let (word, text) = line.split_once(' ').unwrap_or((line, ""));
-    let answer = match Kind::read(word) {
-        Some(kind) => answer(rt.alloc(), tree, kind, text)?,
-        None => None,
-    };
-    match answer {
-        Some(answer) => println!(rt; "{line} -> {answer}"),
-        None => println!(rt; "{line} -> bad line of a table"),
+    let mut answer = String::new(rt.alloc());
+    if add_call(rt.alloc(), &mut answer, tree, line)? {
+        println!(rt; "{line} -> {answer}")
+    } else {
+        println!(rt; "{line} -> bad line of a table")
     }
 }
 

@@ -7,45 +7,50 @@ use control_text::{Line, LineFault, number_word, read_line, write_command};
 use desk_text::{Outcome, outcome_text};
 use std::alloc::{AllocError, Global};
 
-/// Whether it is a text of 1 to 200 bytes.
-pub(crate) fn is_a_text(alloc: Global, text: &str) -> Result<String, AllocError> {
-    String::from_str(alloc, if is_text(text) { "yes" } else { "no" })
+/// Adds whether it is a text of 1 to 200 bytes.
+pub(crate) fn add_is_text(out: &mut String, text: &str) -> Result<(), AllocError> {
+    out.push_str(if is_text(text) { "yes" } else { "no" })
 }
 
-/// The number of a number word.
-pub(crate) fn number_of(alloc: Global, text: &str) -> Result<String, AllocError> {
+/// Adds the number of a number word.
+pub(crate) fn add_number(out: &mut String, text: &str) -> Result<(), AllocError> {
     match number_word(text) {
-        Some(number) => format!(in alloc; "{number}"),
-        None => String::from_str(alloc, "none"),
+        Some(number) => write!(out, "{number}"),
+        None => out.push_str("none"),
     }
 }
 
-// The answer to a refused line, as transcripts have it.
-fn refusal_answer(alloc: Global, refusal: Refusal) -> Result<String, AllocError> {
-    let mut told = Vec::new(alloc);
-    outcome_text(alloc, &mut told, "", &Outcome::Refused(refusal))?;
-    let text = str::from_utf8(&told).unwrap_or("");
-    String::from_str(alloc, text.trim_start_matches("> \n").trim_end())
+// Adds the answer of a transcript, which has an empty line for the one that is answered.
+fn add_answer(out: &mut String, transcript: &[u8]) -> Result<(), AllocError> {
+    let text = str::from_utf8(transcript).unwrap_or("");
+    out.push_str(text.trim_start_matches("> \n").trim_end())
 }
 
-// The canonical spelling of a line, or what the line is.
-fn line_text(alloc: Global, line: &Line) -> Result<String, AllocError>
+// Adds the answer to a refused line, as transcripts have it.
+fn add_refusal(alloc: Global, out: &mut String, refusal: Refusal) -> Result<(), AllocError> {
+    let mut told = Vec::new(alloc);
+    outcome_text(alloc, &mut told, "", &Outcome::Refused(refusal))?;
+    add_answer(out, &told)
+}
+
+// Adds the canonical spelling of a line, or what the line is.
+fn add_spelling(alloc: Global, out: &mut String, line: &Line) -> Result<(), AllocError>
     requires { IsWellFormedLine line.now }
 {
     match line {
-        Line::Blank => String::from_str(alloc, "blank"),
-        Line::Comment => String::from_str(alloc, "comment"),
-        Line::Stop => String::from_str(alloc, "stop"),
-        Line::Do(command) => write_command(alloc, command),
+        Line::Blank => out.push_str("blank"),
+        Line::Comment => out.push_str("comment"),
+        Line::Stop => out.push_str("stop"),
+        Line::Do(command) => out.push_str(write_command(alloc, command)?.as_str()),
     }
 }
 
-/// The canonical spelling of a line of a message, or what the line is, or the answer where it is
-/// refused.
-pub(crate) fn line_read(alloc: Global, text: &str) -> Result<String, AllocError> {
+/// Adds the canonical spelling of a line of a message, or what the line is, or the answer where it
+/// is refused.
+pub(crate) fn add_line(alloc: Global, out: &mut String, text: &str) -> Result<(), AllocError> {
     match read_line(alloc, text) {
-        Ok(line) => line_text(alloc, &line),
-        Err(LineFault::Refused(refusal)) => refusal_answer(alloc, refusal),
+        Ok(line) => add_spelling(alloc, out, &line),
+        Err(LineFault::Refused(refusal)) => add_refusal(alloc, out, refusal),
         Err(LineFault::Memory) => Err(AllocError),
     }
 }

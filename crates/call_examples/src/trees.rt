@@ -1,5 +1,6 @@
 //! Nodes, branches, and the status of a bug at a node.
 
+use crate::kinds::NodeKind;
 use ancestry::{BranchFault, Node, NodeFault, Tree, status};
 use bug_record::{Nodes, Sequence};
 use std::alloc::{AllocError, Global};
@@ -13,137 +14,157 @@ fn given(node: Result<Node, NodeFault>) -> Result<Option<Node>, AllocError> {
     }
 }
 
-fn node_answer(alloc: Global, node: Result<Node, NodeFault>) -> Result<Option<String>, AllocError> {
-    let Some(node) = given(node)? else {
-        return String::from_str(alloc, "BadNode").map(Some);
-    };
-    let (source, version) = (node.source(), node.version());
-    format!(in alloc; "source {source}, version {version}").map(Some)
-}
-
-/// The source and the version of a node that is written so.
-pub(crate) fn node_read(alloc: Global, text: &str) -> Result<Option<String>, AllocError> {
-    node_answer(alloc, Node::read(alloc, text))
-}
-
-/// The same of the node that a word means for a package, which stands before it.
-pub(crate) fn node_meant(alloc: Global, text: &str) -> Result<Option<String>, AllocError> {
-    match text.split_once(' ') {
-        Some((package, word)) => node_answer(alloc, Node::at(alloc, package, word)),
-        None => Ok(None),
+/// Adds the source and the version of a node, where there is one.
+pub(crate) fn add_node(out: &mut String, node: Result<Node, NodeFault>) -> Result<(), AllocError> {
+    match given(node)? {
+        Some(node) => write!(out, "source {}, version {}", node.source(), node.version()),
+        None => out.push_str("BadNode"),
     }
 }
 
-// The nodes that are written so, with blanks between them; `None` where a word is no node.
-fn nodes(alloc: Global, text: &str) -> Result<Option<Vec<Node>>, AllocError> {
-    let mut nodes = Vec::new(alloc);
+/// Adds the node that a word means for a package, which stands before it.
+/// Answers whether a package stands there.
+pub(crate) fn add_meant(alloc: Global, out: &mut String, text: &str) -> Result<bool, AllocError> {
+    match text.split_once(' ') {
+        Some((package, word)) => {
+            add_node(out, Node::at(alloc, package, word))?;
+            Ok(true)
+        }
+        None => Ok(false),
+    }
+}
+
+// Puts the nodes that are written so, with blanks between them, into a list; answers whether each
+// word is a node.
+fn read_nodes(alloc: Global, nodes: &mut Vec<Node>, text: &str) -> Result<bool, AllocError> {
     for word in text.split_ascii_whitespace() {
         match given(Node::read(alloc, word))? {
             Some(node) => nodes.push(node)?,
-            None => return Ok(None),
+            None => return Ok(false),
         }
     }
-    Ok(Some(nodes))
+    Ok(true)
 }
 
-// The nodes as they are written; `-` where there is none.
-fn nodes_text(alloc: Global, nodes: &[Node]) -> Result<String, AllocError> {
+// Adds nodes as they are written; `-` where there is none.
+fn add_nodes(out: &mut String, nodes: &[Node]) -> Result<(), AllocError> {
     if nodes.is_empty() {
-        return String::from_str(alloc, "-");
+        return out.push('-');
     }
-    let mut text = String::new(alloc);
-    for node in nodes {
-        if !text.is_empty() {
-            text.push(' ')?;
+    for (place, node) in nodes.iter().enumerate() {
+        if place > 0 {
+            out.push(' ')?;
         }
-        write!(text, "{node}")?;
+        write!(out, "{node}")?;
     }
-    Ok(text)
+    Ok(())
 }
 
-/// The nodes of a list in their order, each once.
-pub(crate) fn nodes_in_order(alloc: Global, text: &str) -> Result<Option<String>, AllocError> {
-    let Some(nodes) = nodes(alloc, text)? else {
-        return Ok(None);
-    };
-    let mut sorted: Nodes = Sequence::new(alloc);
+// Puts the nodes into their order, each once.
+fn sort(sorted: &mut Nodes, nodes: Vec<Node>) -> Result<(), AllocError> {
     for node in nodes {
         sorted.add_node(node)?;
     }
-    Ok(Some(nodes_text(alloc, sorted.as_slice())?))
+    Ok(())
 }
 
-/// Takes a branch.
-pub(crate) fn branch_taken(
+// Adds the nodes in their order, each once.
+fn add_sorted(alloc: Global, out: &mut String, nodes: Vec<Node>) -> Result<(), AllocError> {
+    let mut sorted = Sequence::new(alloc);
+    sort(&mut sorted, nodes)?;
+    add_nodes(out, sorted.as_slice())
+}
+
+/// Adds the nodes of a list in their order, each once.
+/// Answers whether each word is a node.
+pub(crate) fn add_node_list(
     alloc: Global,
-    tree: &mut Tree,
+    out: &mut String,
     text: &str,
-) -> Result<Option<String>, AllocError> {
-    let Some(nodes) = nodes(alloc, text)? else {
-        return Ok(None);
-    };
-    match tree.take_branch(&nodes) {
-        Ok(()) => Ok(Some(String::from_str(alloc, "Ok")?)),
+) -> Result<bool, AllocError> {
+    let mut nodes = Vec::new(alloc);
+    let are_nodes = read_nodes(alloc, &mut nodes, text)?;
+    if are_nodes {
+        add_sorted(alloc, out, nodes)?;
+    }
+    Ok(are_nodes)
+}
+
+// Takes a branch, and adds what came of it.
+fn add_taken(out: &mut String, tree: &mut Tree, nodes: &[Node]) -> Result<(), AllocError> {
+    match tree.take_branch(nodes) {
+        Ok(()) => out.push_str("Ok"),
         Err(BranchFault::Memory) => Err(AllocError),
-        Err(fault) => Ok(Some(format!(in alloc; "{fault:?}")?)),
+        Err(fault) => write!(out, "{fault:?}"),
     }
 }
 
-/// Whether a node is known.
-pub(crate) fn is_known(
+/// Takes the branch of these nodes, and adds what came of it.
+/// Answers whether each word is a node.
+pub(crate) fn add_branch(
     alloc: Global,
-    tree: &Tree,
+    out: &mut String,
+    tree: &mut Tree,
     text: &str,
-) -> Result<Option<String>, AllocError> {
-    let Some(node) = given(Node::read(alloc, text))? else {
-        return Ok(None);
-    };
-    let known = if tree.knows(&node) { "yes" } else { "no" };
-    String::from_str(alloc, known).map(Some)
+) -> Result<bool, AllocError> {
+    let mut nodes = Vec::new(alloc);
+    let are_nodes = read_nodes(alloc, &mut nodes, text)?;
+    if are_nodes {
+        add_taken(out, tree, &nodes)?;
+    }
+    Ok(are_nodes)
 }
 
-/// The line of a node.
-pub(crate) fn line_of(
-    alloc: Global,
-    tree: &Tree,
-    text: &str,
-) -> Result<Option<String>, AllocError> {
-    let Some(node) = given(Node::read(alloc, text))? else {
-        return Ok(None);
-    };
-    nodes_text(alloc, &tree.line(&node)?).map(Some)
+// Adds what a tree tells of a node.
+fn add_told(out: &mut String, tree: &Tree, kind: NodeKind, node: &Node) -> Result<(), AllocError> {
+    match kind {
+        NodeKind::Knows => out.push_str(if tree.knows(node) { "yes" } else { "no" }),
+        NodeKind::Line => add_nodes(out, &tree.line(node)?),
+    }
 }
 
-/// The heads of a package.
-pub(crate) fn heads_of(alloc: Global, tree: &Tree, text: &str) -> Result<String, AllocError> {
-    nodes_text(alloc, &tree.heads(text)?)
+/// Adds what a tree tells of the node that is written so.
+/// Answers whether it is a node.
+pub(crate) fn add_of_node(
+    alloc: Global,
+    out: &mut String,
+    tree: &Tree,
+    kind: NodeKind,
+    text: &str,
+) -> Result<bool, AllocError> {
+    match given(Node::read(alloc, text))? {
+        Some(node) => {
+            add_told(out, tree, kind, &node)?;
+            Ok(true)
+        }
+        None => Ok(false),
+    }
+}
+
+/// Adds the heads of a package.
+pub(crate) fn add_heads(out: &mut String, tree: &Tree, text: &str) -> Result<(), AllocError> {
+    add_nodes(out, &tree.heads(text)?)
 }
 
 // The parts of `NODE STATE, found NODES, fixed NODES`.
-fn status_parts(text: &str) -> Option<(&str, &str, &str, &str)> {
+#[derive(Clone, Copy)]
+struct StatusParts<'a> {
+    node: &'a str,
+    state: &'a str,
+    found: &'a str,
+    fixed: &'a str,
+}
+
+fn status_parts(text: &str) -> Option<StatusParts<'_>> {
     let (first, marks) = text.split_once(", found")?;
     let (node, state) = first.split_once(' ')?;
     let (found, fixed) = marks.split_once(", fixed")?;
-    Some((node, state, found, fixed))
-}
-
-// The status of a bug at a node, where it is found and fixed at the nodes that are written so.
-fn marked_status(
-    alloc: Global,
-    tree: &Tree,
-    found: &str,
-    fixed: &str,
-    closed: bool,
-    node: &Node,
-) -> Result<Option<String>, AllocError> {
-    let Some(found) = nodes(alloc, found)? else {
-        return Ok(None);
-    };
-    let Some(fixed) = nodes(alloc, fixed)? else {
-        return Ok(None);
-    };
-    let status = status(tree, &found, &fixed, closed, node);
-    format!(in alloc; "{status:?}").map(Some)
+    Some(StatusParts {
+        node,
+        state,
+        found,
+        fixed,
+    })
 }
 
 // Whether a state is that of a closed bug; `None` where it is no state.
@@ -155,20 +176,41 @@ fn is_closed(state: &str) -> Option<bool> {
     }
 }
 
-/// The status, at a node, of a bug in a state, with nodes where it is found and fixed.
-pub(crate) fn status_at(
+// Adds the status, at a node, of a bug that is found and fixed at the nodes that are written so.
+fn add_marked(
     alloc: Global,
+    out: &mut String,
+    tree: &Tree,
+    parts: StatusParts<'_>,
+    closed: bool,
+    node: &Node,
+) -> Result<bool, AllocError> {
+    let mut found = Vec::new(alloc);
+    let mut fixed = Vec::new(alloc);
+    let are_nodes = read_nodes(alloc, &mut found, parts.found)?
+        && read_nodes(alloc, &mut fixed, parts.fixed)?;
+    if are_nodes {
+        write!(out, "{:?}", status(tree, &found, &fixed, closed, node))?;
+    }
+    Ok(are_nodes)
+}
+
+/// Adds the status, at a node, of a bug in a state, with nodes where it is found and fixed.
+/// Answers whether the text tells all of these.
+pub(crate) fn add_status(
+    alloc: Global,
+    out: &mut String,
     tree: &Tree,
     text: &str,
-) -> Result<Option<String>, AllocError> {
-    let Some((node, state, found, fixed)) = status_parts(text) else {
-        return Ok(None);
+) -> Result<bool, AllocError> {
+    let Some(parts) = status_parts(text) else {
+        return Ok(false);
     };
-    let Some(closed) = is_closed(state) else {
-        return Ok(None);
+    let Some(closed) = is_closed(parts.state) else {
+        return Ok(false);
     };
-    let Some(node) = given(Node::read(alloc, node))? else {
-        return Ok(None);
-    };
-    marked_status(alloc, tree, found, fixed, closed, &node)
+    match given(Node::read(alloc, parts.node))? {
+        Some(node) => add_marked(alloc, out, tree, parts, closed, &node),
+        None => Ok(false),
+    }
 }

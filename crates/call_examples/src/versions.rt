@@ -6,31 +6,30 @@ use debver::{Parts, check, check_name, order, total};
 use std::alloc::{AllocError, Global};
 use std::cmp::Ordering;
 
-/// The parts of a version, or the fault of a text that is none.
-pub(crate) fn version_parts(alloc: Global, text: &str) -> Result<String, AllocError> {
+/// Adds the parts of a version, or the fault of a text that is none.
+pub(crate) fn add_parts(out: &mut String, text: &str) -> Result<(), AllocError> {
     match check(text) {
-        Ok(parts) => parts_text(alloc, &parts),
-        Err(fault) => format!(in alloc; "{fault:?}"),
+        Ok(parts) => add_parts_of(out, &parts),
+        Err(fault) => write!(out, "{fault:?}"),
     }
 }
 
-fn parts_text(alloc: Global, parts: &Parts<'_>) -> Result<String, AllocError> {
-    let mut text = String::new(alloc);
+fn add_parts_of(out: &mut String, parts: &Parts<'_>) -> Result<(), AllocError> {
     if let Some(epoch) = parts.epoch() {
-        write!(text, "epoch {epoch}, ")?;
+        write!(out, "epoch {epoch}, ")?;
     }
-    write!(text, "upstream {}", parts.upstream())?;
-    if let Some(revision) = parts.revision() {
-        write!(text, ", revision {revision}")?;
+    write!(out, "upstream {}", parts.upstream())?;
+    match parts.revision() {
+        Some(revision) => write!(out, ", revision {revision}"),
+        None => Ok(()),
     }
-    Ok(text)
 }
 
-/// `good`, or the fault of a text that is no package name.
-pub(crate) fn name_answer(alloc: Global, text: &str) -> Result<String, AllocError> {
+/// Adds `good`, or the fault of a text that is no package name.
+pub(crate) fn add_name(out: &mut String, text: &str) -> Result<(), AllocError> {
     match check_name(text) {
-        Ok(()) => String::from_str(alloc, "good"),
-        Err(fault) => format!(in alloc; "{fault:?}"),
+        Ok(()) => out.push_str("good"),
+        Err(fault) => write!(out, "{fault:?}"),
     }
 }
 
@@ -55,30 +54,38 @@ fn sign(first: &Parts<'_>, second: &Parts<'_>) -> &'static str {
     }
 }
 
-// The versions in the order of the list, with a sign between neighbours.
-fn signed(alloc: Global, versions: &[Parts<'_>]) -> Result<String, AllocError> {
-    let mut text = String::new(alloc);
+// Adds versions in the order of the list, with a sign between neighbours.
+fn add_signed(out: &mut String, versions: &[Parts<'_>]) -> Result<(), AllocError> {
     let mut before: Option<&Parts<'_>> = None;
     for parts in versions {
         if let Some(before) = before {
-            text.push_str(sign(before, parts))?;
+            out.push_str(sign(before, parts))?;
         }
-        text.push_str(parts.text())?;
+        out.push_str(parts.text())?;
         before = Some(parts);
     }
-    Ok(text)
+    Ok(())
 }
 
-/// The versions of a list in their total order, with a sign between neighbours; `None` where a word
-/// is no version.
-pub(crate) fn versions_in_order(alloc: Global, list: &str) -> Result<Option<String>, AllocError> {
-    let mut sorted: Vec<Parts<'_>> = Vec::new(alloc);
+// Puts the versions of a list in their total order; answers whether each word is one.
+fn sort<'a>(sorted: &mut Vec<Parts<'a>>, list: &'a str) -> Result<bool, AllocError> {
     for word in list.split(' ') {
         let Ok(parts) = check(word) else {
-            return Ok(None);
+            return Ok(false);
         };
-        let place = place_for(&sorted, &parts);
+        let place = place_for(sorted, &parts);
         sorted.insert(place, parts)?;
     }
-    Ok(Some(signed(alloc, &sorted)?))
+    Ok(true)
+}
+
+/// Adds the versions of a list in their total order, with a sign between neighbours.
+/// Answers whether each word is a version.
+pub(crate) fn add_sorted(alloc: Global, out: &mut String, list: &str) -> Result<bool, AllocError> {
+    let mut sorted = Vec::new(alloc);
+    let are_versions = sort(&mut sorted, list)?;
+    if are_versions {
+        add_signed(out, &sorted)?;
+    }
+    Ok(are_versions)
 }
