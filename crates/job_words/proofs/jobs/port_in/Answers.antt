@@ -1,3 +1,4 @@
+use Rattle.std.proofs.Common.{rules}
 use Rattle.std.proofs.Common.{◌∙◌, sym, arith}
 use Rattle.job_words.proofs.NumberLemmas.{number_in-within}
 use Rattle.job_words.proofs.jobs.port_in.Goals as goal
@@ -7,3 +8,9 @@ overflow_cast-result c =
     let within = number_in-within _ _ c.in_ok-port.port c.in_ok-text.field-0.now (sym c.number_in.ensures ∙ c.in_ok-port.was) in
     let high = within.high in
     omega (arith, high)
+
+pub returns-in_err-port : goal.returns-in_err-port
+returns-in_err-port c = search rules
+
+pub returns : goal.returns
+returns c = search rules

@@ -1,3 +1,4 @@
+use Rattle.std.proofs.Common.{rules}
 use Rattle.std.proofs.Common.{◌∙◌, map, ap, ap₂, sym, subst, inl}
 use Rattle.job_words.specs.Cut.{option_words}
 use Rattle.job_words.specs.Options.{given_in, refusals}
@@ -38,3 +39,6 @@ returns-in-Ok-Some-clause-ok c =
 pub returns-in-Ok-Some-clause-good : goal.returns-in-Ok-Some-clause-good
 returns-in-Ok-Some-clause-good c =
     job_of-good (given_of c.in-Ok.values) (map (λ s. s.now) c.cut.result.1.now) c.in-Ok-Some.job (sym c.in-Ok-Some.ensures ∙ c.in-Ok-Some.field-0-is)
+
+pub returns-in-Err-job_of-clause-err : goal.returns-in-Err-job_of-clause-err
+returns-in-Err-job_of-clause-err c = search rules
