@@ -1,6 +1,6 @@
 //! Messages and their transcripts, as calls.
 
-use crate::stores::{REPORTS, is_there, written};
+use crate::stores::{REPORTS, written};
 use desk_run::{Received, receive, received_text};
 use desk_store::{FailAt, PlainDesk, Records};
 use desk_text::{End, StoreFault};
@@ -78,24 +78,5 @@ fn a_store_that_fails_ends_the_message_before_its_line(rt: HostRuntime) -> Resul
     // a message that has no such line is told with an empty one
     let transcript = "before\n> severity 1 grave\nOK 1\n> \nStore fault: device.\n";
     assert!(rt; came_to(alloc, &received, "severity 1 grave\n", 1, end, transcript)?);
-    Ok(())
-}
-
-#[test]
-fn a_clone_at_which_the_store_fails_leaves_no_bug_and_no_name(rt: HostRuntime) -> Result<(), Fail> {
-    let alloc = rt.alloc();
-    let mut store = failing(alloc);
-    let message = "severity 1 grave\nclone 1 -1\nretitle -1 x\n";
-    let received = take_message(alloc, &mut store, message);
-    let end = End::Store(StoreFault::Device, 2);
-    let transcript = "before\n> severity 1 grave\nOK 1\n> clone 1 -1\nStore fault: device.\n";
-    assert!(rt; came_to(alloc, &received, message, 1, end, transcript)?);
-    assert!(rt; store.next() == Ok(4) && is_there(&mut store, 4) == Ok(false));
-    let message = "retitle -1 x\nclone 1 -1\nretitle -1 x\n";
-    let received = take_message(alloc, &mut store, message);
-    let transcript =
-        "before\n> retitle -1 x\nNO no such name -1\n> clone 1 -1\nOK 4\n> retitle -1 x\nOK 4\n";
-    assert!(rt; came_to(alloc, &received, message, 3, End::All, transcript)?);
-    assert!(rt; store.next() == Ok(5) && is_there(&mut store, 4) == Ok(true));
     Ok(())
 }

@@ -1,12 +1,10 @@
-//! Stores that fail once, and what a store holds.
+//! Stores that fail once.
 
 use crate::scripts::writes;
-use bug_record::{Nodes, SetImage};
 use desk_run::{ScriptEnd, ScriptFault, run_script};
 use desk_store::{FailAt, PlainDesk, Records};
 use desk_text::StoreFault;
 use std::alloc::Global;
-use std::test::Fail;
 
 /// Reports of three bugs of the package foo, with version 1 and severity normal.
 pub(crate) const REPORTS: &str =
@@ -112,83 +110,4 @@ fn no_change_fails_where_none_is_to(rt: HostRuntime) {
         )
     );
     assert!(rt; store.faults() == 0);
-}
-
-/// Whether the store has the bug.
-pub(crate) fn is_there<S: Records>(store: &mut S, number: u64) -> Result<bool, StoreFault> {
-    Ok(store.set_of(number)?.is_some())
-}
-
-#[test]
-fn the_next_number_and_unknown_bugs(rt: HostRuntime) {
-    let alloc = rt.alloc();
-    let mut desk = PlainDesk::new(alloc, 999_999_999);
-    assert!(rt; desk.next() == Ok(999_999_999));
-    assert!(rt; is_there(&mut desk, 999_999_999) == Ok(false));
-    written(alloc, &mut desk, REPORTS);
-    assert!(rt; desk.next() == Ok(1_000_000_000));
-    assert!(rt; is_there(&mut desk, 999_999_999) == Ok(true));
-    assert!(rt; is_there(&mut desk, 1_000_000_000) == Ok(false));
-    assert!(rt; desk.faults() == 0);
-}
-
-/// Whether the nodes are these, each by its source and its version, in this order.
-pub(crate) fn nodes_are(nodes: &Nodes, texts: &[(&str, &str)]) -> bool {
-    if nodes.as_slice().len() != texts.len() {
-        return false;
-    }
-    for (node, (source, version)) in nodes.as_slice().iter().zip(texts) {
-        if node.source() != *source || node.version() != *version {
-            return false;
-        }
-    }
-    true
-}
-
-/// Whether the members are these, each by its number, title and submitter.
-pub(crate) fn members_are(image: &SetImage, texts: &[(u64, &str, &str)]) -> bool {
-    if image.members.as_slice().len() != texts.len() {
-        return false;
-    }
-    for (member, (number, title, submitter)) in image.members.as_slice().iter().zip(texts) {
-        if member.number != *number
-            || member.title.as_str() != *title
-            || member.submitter.as_str() != *submitter
-        {
-            return false;
-        }
-    }
-    true
-}
-
-// A copy of the image of bug 1 after a script.
-fn first_image(alloc: Global, script: &str) -> Result<SetImage, Fail> {
-    let mut desk = PlainDesk::new(alloc, 1);
-    written(alloc, &mut desk, script);
-    match desk.set_of(1)? {
-        Some(image) => Ok(image.copy()?),
-        None => Err(Fail::new("no bug 1")),
-    }
-}
-
-#[test]
-fn an_image_has_the_marks_of_an_open_bug(rt: HostRuntime) -> Result<(), Fail> {
-    let script = "@from ann\n@report foo 1 normal a\nclose 1 1.0\nfound 1 1.0-0\n";
-    let image = first_image(rt.alloc(), script)?;
-    assert!(rt; !image.shared.closed && image.shared.package.as_str() == "foo");
-    assert!(rt; nodes_are(&image.shared.found, &[("foo", "1"), ("foo", "1.0-0")]));
-    assert!(rt; nodes_are(&image.shared.fixed, &[("foo", "1.0")]));
-    assert!(rt; members_are(&image, &[(1, "a", "ann")]));
-    Ok(())
-}
-
-#[test]
-fn an_image_has_the_marks_and_the_members_of_merged_bugs(rt: HostRuntime) -> Result<(), Fail> {
-    let script =
-        "@report foo 1 normal a\n@from bob\n@report foo 1 normal b\nfound 1 2\nfixed 2 2\nmerge 2 1\n";
-    let image = first_image(rt.alloc(), script)?;
-    assert!(rt; nodes_are(&image.shared.found, &[("foo", "1"), ("foo", "2")]));
-    assert!(rt; nodes_are(&image.shared.fixed, &[("foo", "2")]));
-    assert!(rt; members_are(&image, &[(1, "a", "nobody"), (2, "b", "bob")]));
-    Ok(())
 }

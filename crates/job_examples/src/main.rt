@@ -1,17 +1,22 @@
-//! Prints the jobs that words of a command line name.
-//! Each line of the table has the program's name and the words after it, with a bar between them; a
-//! `^` in a word is a line feed.
+//! Prints the jobs that words of a command line name, and the lines that words of a message stand
+//! for.
+//! Each line of a table has words with a bar between them, the first of a command line being the
+//! program's name; a `^` in a word is a line feed.
 //! A line that begins with `==` is a heading.
 #![tactic(auto)]
 
+use bts_words::{WordsFault, words_to_lines};
 use bug_record::Sequence;
 use debver::Text;
 use job_words::{Job, WordsError, read_words};
 use std::alloc::{AllocError, Global};
 use std::{fs, io};
 
-/// The name of the table.
-const TABLE: &str = "calls";
+/// The name of the table of command lines.
+const CALLS: &str = "calls";
+
+/// The name of the table of words of messages.
+const WORDS: &str = "words";
 
 /// What the help has to name.
 const NAMES: [&str; 11] = [
@@ -52,6 +57,14 @@ fn store_part(alloc: Global, store: &Option<Text>) -> Result<String, AllocError>
 fn print_lines(rt: &HostRuntime, lines: &Sequence<Text>) -> io::Result<()> {
     for line in lines.as_slice() {
         println!(rt; "   {}", line.as_str())?;
+    }
+    Ok(())
+}
+
+// Prints texts, one a line.
+fn print_texts(rt: &HostRuntime, texts: &[String]) -> io::Result<()> {
+    for text in texts {
+        println!(rt; "-> {}", text.as_str())?;
     }
     Ok(())
 }
@@ -102,25 +115,72 @@ fn print_answer(rt: &HostRuntime, words: &[&str]) -> io::Result<()> {
     }
 }
 
+// Keeps the words of a line of a table.
+fn keep_words(alloc: Global, kept: &mut Vec<String>, line: &str) -> Result<(), AllocError> {
+    for text in line.split('|') {
+        kept.push(word_of(alloc, text)?)?;
+    }
+    Ok(())
+}
+
+// Adds words that are kept.
+fn add_words<'a>(words: &mut Vec<&'a str>, kept: &'a [String]) -> Result<(), AllocError> {
+    for word in kept {
+        words.push(word.as_str())?;
+    }
+    Ok(())
+}
+
 // Prints what the words after the program's name come to.
 fn print_call(rt: &HostRuntime, call: &str) -> io::Result<()> {
     let mut kept = Vec::new(rt.alloc());
-    for text in call.split('|') {
-        kept.push(word_of(rt.alloc(), text)?)?;
-    }
+    keep_words(rt.alloc(), &mut kept, call)?;
     let mut words = Vec::new(rt.alloc());
-    for word in kept.iter().skip(1) {
-        words.push(word.as_str())?;
-    }
+    add_words(&mut words, kept.get(1..).unwrap_or(&[]))?;
     print_answer(rt, &words)
 }
 
-fn main(rt: HostRuntime) -> io::Result<()> {
-    for line in fs::read_to_string(&rt, TABLE)?.lines() {
-        println!(&rt; "{line}")?;
+// Prints the lines of words of a message, or why there are none.
+fn print_message(rt: &HostRuntime, words: &[&str]) -> io::Result<()> {
+    match words_to_lines(rt.alloc(), words) {
+        Ok(lines) => print_texts(rt, &lines),
+        Err(WordsFault::BadWord(place)) => println!(rt; "-- bad word at {place}"),
+        Err(WordsFault::NoCommand) => println!(rt; "-- no command"),
+        Err(WordsFault::ItUnset(place)) => println!(rt; "-- no bug for it at {place}"),
+        Err(WordsFault::Memory) => println!(rt; "-- no memory"),
+    }
+}
+
+// Prints what the words of a line come to.
+fn print_words(rt: &HostRuntime, line: &str) -> io::Result<()> {
+    let mut kept = Vec::new(rt.alloc());
+    keep_words(rt.alloc(), &mut kept, line)?;
+    let mut words = Vec::new(rt.alloc());
+    add_words(&mut words, &kept)?;
+    print_message(rt, &words)
+}
+
+// Prints a table of command lines.
+fn print_calls(rt: &HostRuntime, table: &str) -> io::Result<()> {
+    for line in table.lines() {
+        println!(rt; "{line}")?;
         if !line.starts_with("==") {
-            print_call(&rt, line)?;
+            print_call(rt, line)?;
         }
     }
     Ok(())
+}
+
+// Prints a table of words of messages.
+fn print_messages(rt: &HostRuntime, table: &str) -> io::Result<()> {
+    for line in table.lines() {
+        println!(rt; "{line}")?;
+        print_words(rt, line)?;
+    }
+    Ok(())
+}
+
+fn main(rt: HostRuntime) -> io::Result<()> {
+    print_calls(&rt, fs::read_to_string(&rt, CALLS)?.as_str())?;
+    print_messages(&rt, fs::read_to_string(&rt, WORDS)?.as_str())
 }
