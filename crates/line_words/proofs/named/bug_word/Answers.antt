@@ -1,3 +1,4 @@
+use Rattle.std.proofs.Common.{rules}
 use Rattle.std.proofs.Common.{sym, ◌∙◌, ap, lit<, None}
 use Rattle.std.proofs.lemmas.Str.Pattern.{strip_prefix_char}
 use Rattle.line_words.specs.Bugs.{bug_of_text}
@@ -11,3 +12,6 @@ returns-in_err-number_of_digits-in-None c =
     let none = sym c.number_of_digits-in-None.ensures ∙ c.in_err-number_of_digits-in-None.was in
     c.from_residual-in_err-number_of_digits-in-None.ensures
     ∙ sym (ap bug_of_text (sym c.without_hash-word.ensures) ∙ bug_of_text-none word other none)
+
+pub returns-in_ok-number_of_digits-in-Some : goal.returns-in_ok-number_of_digits-in-Some
+returns-in_ok-number_of_digits-in-Some c = search rules

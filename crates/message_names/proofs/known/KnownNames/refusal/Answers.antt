@@ -1,3 +1,5 @@
+use Rattle.std.proofs.lemmas.Grind.{common_steps}
+use Rattle.std.proofs.Common.{arith}
 use Rattle.std.proofs.Common.{rules, ◌||◌, refl, sym, ap, ◌∙◌}
 use Rattle.std.specs.Prelude.{is_some}
 use Rattle.bug_record.specs.Clones.{is_taken}
@@ -14,3 +16,6 @@ loop-name-preserved c =
 
 pub returns-in_err-repeated : goal.returns-in_err-repeated
 returns-in_err-repeated c = search rules
+
+pub returns-then-is_some : goal.returns-then-is_some
+returns-then-is_some c = grind (arith, common_steps)
