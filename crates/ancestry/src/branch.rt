@@ -5,6 +5,7 @@ ghost use Rattle.std.specs.Prelude.{OnErr, if◌then◌else◌};
 ghost use Rattle.std.specs.List.Sorted.{IsStrictlySortedBy};
 ghost use Rattle.std.specs.BTreeSet.{contains};
 ghost use Rattle.std.specs.Map.{keys_of};
+ghost use Rattle.std.specs.Ordering.{is_eq};
 ghost use Rattle.ancestry.specs.Nodes.{Node, same_node, node_cmp};
 ghost use Rattle.ancestry.specs.Trees.{Ancestry, has_node, known_at, knows, parent_of, line, is_ancestor, is_parent, IsForest};
 ghost use Rattle.ancestry.specs.Branches.{learn, learn_all, with_parent, or_conflict, base_on, base_all, is_repeat, first_repeat};
@@ -48,6 +49,29 @@ fn first_repeat(nodes: &[Node]) -> Option<usize>
     ensures { result ≡ first_repeat nodes.now }
 {
     (0..nodes.len()).find(|place| is_repeat(nodes, *place))
+}
+
+// Puts a copy of a node among the parents.
+fn mark_parent(parents: &mut BTreeSet<Node>, node: &Node) -> Result<(), AllocError>
+    ensures ok { OnOk result ((n : Node) → contains node_cmp parents.new n
+        ≡ (if is_eq (node_cmp node.now n) then true else contains node_cmp parents.old n)) }
+    ensures err { OnErr result ((n : Node) → contains node_cmp parents.new n ≡ contains node_cmp parents.old n) }
+{
+    parents.insert(node.copy()?)?;
+    Ok(())
+}
+
+// Gives a node its parent. For a known node there is always memory.
+fn link(
+    links: &mut BTreeMap<Node, Option<Node>>,
+    node: Node,
+    parent: Node,
+) -> Result<(), AllocError>
+    ensures ok { OnOk result (links.new.entries ≡ with_parent links.old.entries node parent) }
+    ensures err { OnErr result (knows links.old.entries node ≡ false) }
+{
+    links.insert(node, Some(parent))?;
+    Ok(())
 }
 
 // Takes a node's parent away, where the node is known.
@@ -193,12 +217,10 @@ impl Tree {
         ensures forest { OnOk result (IsForest self.new) }
         ensures err { OnErr result (self.new ≡ self.old) }
     {
-        let node = node.copy()?;
-        let marked = parent.copy()?;
-        let parent = parent.copy()?;
-        self.parents.insert(marked)?;
-        self.links.insert(node, Some(parent))?;
-        Ok(())
+        let child = node.copy()?;
+        let above = parent.copy()?;
+        mark_parent(&mut self.parents, parent)?;
+        link(&mut self.links, child, above)
     }
 
     // Bases a node, which has this place in a branch, on another.

@@ -12,7 +12,7 @@ use debver::Text;
 use std::alloc::AllocError;
 
 /// The fields on which merged bugs agree.
-#[derive(Debug, Drop)]
+#[derive(Drop)]
 pub struct Shared {
     pub package: Text,
     pub severity: Severity,
@@ -32,7 +32,7 @@ pub struct Shared {
 }
 
 /// A bug of a set, with the fields of its own.
-#[derive(Debug, Drop)]
+#[derive(Drop)]
 pub struct Member {
     pub number: u64,
     pub title: Text,
@@ -41,14 +41,14 @@ pub struct Member {
 
 /// The image of a set of merged bugs: the shared fields once, and the members by number, ascending.
 /// A bug that is merged with none is a set of one.
-#[derive(Debug, Drop)]
+#[derive(Drop)]
 pub struct SetImage {
     pub shared: Shared,
     pub members: Members,
 }
 
 /// A bug's whole record, and the numbers of the bugs merged with it, itself among them, ascending.
-#[derive(Debug, Drop)]
+#[derive(Drop)]
 pub struct Bug {
     pub title: Text,
     pub submitter: Text,

@@ -14,14 +14,14 @@ use std::alloc::AllocError;
 
 /// A version as a command names it: of this source package, or of the bug's own where there is
 /// none.
-#[derive(Debug, PartialEq, Eq, Drop)]
+#[derive(Drop)]
 pub struct VersionArg {
     pub source: Option<Text>,
     pub version: Text,
 }
 
 /// Somebody, as a command names them.
-#[derive(Debug, PartialEq, Eq, Drop)]
+#[derive(Drop)]
 pub enum Who {
     /// The sender, written `!`.
     Sender,
@@ -30,7 +30,7 @@ pub enum Who {
 }
 
 /// A step in a change of tags.
-#[derive(Clone, Copy, Debug, PartialEq, Eq, Drop)]
+#[derive(Clone, Copy, Drop)]
 pub enum TagStep {
     /// The tag is added.
     Add(Tag),
@@ -43,7 +43,7 @@ pub enum TagStep {
 /// A command of the BTS page 'control and manipulation', whose bugs are given as `N`.
 /// A change of a field on which merged bugs agree changes the bug and all bugs that are merged with
 /// it.
-#[derive(Debug, PartialEq, Eq, Drop)]
+#[derive(Drop)]
 pub enum Command<N> {
     /// `found n [v]`: the bug is in the version, which may reopen it; without a version it is open
     /// and nowhere fixed.
@@ -162,7 +162,7 @@ pub enum Field {
 }
 
 /// Why a line is refused, in the order in which the causes are tested.
-#[derive(Debug, PartialEq, Eq, Drop)]
+#[derive(Drop)]
 pub enum Refusal {
     /// The first word is no command.
     Unknown,
@@ -206,7 +206,7 @@ pub enum Refusal {
 }
 
 /// Why nothing is planned.
-#[derive(Debug, PartialEq, Eq, Drop)]
+#[derive(Drop)]
 pub enum PlanFault {
     /// The command is refused.
     Refused(Refusal),
@@ -227,7 +227,7 @@ impl From<AllocError> for PlanFault {
 
 /// A change of a desk: the images replace all sets that they cover, and `next` becomes the next
 /// number.
-#[derive(Debug, Drop)]
+#[derive(Drop)]
 pub struct Change {
     pub images: Sequence<SetImage>,
     pub next: u64,

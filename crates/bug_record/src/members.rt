@@ -9,7 +9,7 @@ use std::marker::Model;
 use std::rc::RcSlice;
 
 // How the members are kept: one by itself takes no memory of its own.
-#[derive(Debug, Drop)]
+#[derive(Drop)]
 enum Kept {
     One(Member),
     Many(RcSlice<Member>),
@@ -17,7 +17,7 @@ enum Kept {
 
 /// The members of a set of merged bugs, which contracts see as a list.
 /// A copy shares the members, and a bug by itself takes no memory for them.
-#[derive(Debug, Drop)]
+#[derive(Drop)]
 pub struct Members {
     kept: Kept,
 }

@@ -16,7 +16,7 @@ pub use nodes::Nodes;
 pub use numbers::{Numbers, add_number, add_numbers, number_set};
 
 /// A list of values, which contracts see as that list.
-#[derive(Debug, Drop)]
+#[derive(Drop)]
 pub struct Sequence<T> {
     items: Vec<T>,
 }

@@ -7,7 +7,7 @@ use crate::sequence::{Numbered, Sequence};
 use line_words::{Spelled, find_spelled};
 
 /// A tag of a bug (the tags of the BTS without those that name a distribution or a version).
-#[derive(Clone, Copy, Debug, PartialEq, Eq, Drop)]
+#[derive(Clone, Copy, PartialEq, Eq, Drop)]
 pub enum Tag {
     A11y,
     Confirmed,

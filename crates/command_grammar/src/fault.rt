@@ -4,7 +4,7 @@ use bug_record::Refusal;
 use std::alloc::AllocError;
 
 /// Why a line gives nothing.
-#[derive(Debug, PartialEq, Eq, Drop)]
+#[derive(Drop)]
 pub enum LineFault {
     /// The line is refused.
     Refused(Refusal),

@@ -12,7 +12,7 @@ use line_words::{Named, has_control, is_word, next_word, split_word};
 use std::alloc::Global;
 
 /// What a line says.
-#[derive(Debug, PartialEq, Eq, Drop)]
+#[derive(Drop)]
 pub enum Line {
     /// Nothing, or blanks alone.
     Blank,

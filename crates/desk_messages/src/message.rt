@@ -26,7 +26,7 @@ use message_names::KnownNames;
 use std::alloc::Global;
 
 /// The outcomes of a message, each with its line as written, and its end.
-#[derive(Debug, Drop)]
+#[derive(Drop)]
 pub struct Received {
     pub outcomes: Sequence<(Text, Outcome)>,
     pub end: End,

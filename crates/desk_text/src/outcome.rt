@@ -16,7 +16,7 @@ pub enum StoreFault {
 }
 
 /// What comes of a line that is neither blank nor a comment.
-#[derive(Debug, Drop)]
+#[derive(Drop)]
 pub enum Outcome {
     /// Accepted: the numbers of the bugs that differ afterwards, ascending.
     Changed(Numbers),

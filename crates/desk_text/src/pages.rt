@@ -20,7 +20,7 @@ use std::alloc::{AllocError, Global};
 
 /// What the page of a bug tells: the image of the set that it is in, its number, and the numbers of
 /// the bugs that wait on it, ascending.
-#[derive(Debug, Drop)]
+#[derive(Drop)]
 pub struct BugPage {
     pub image: SetImage,
     pub number: u64,

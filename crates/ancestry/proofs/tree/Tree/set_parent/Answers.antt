@@ -1,32 +1,24 @@
-use Rattle.std.proofs.Common.{◌≡◌, sym, subst, cond, true}
-use Rattle.std.specs.BTreeSet.{contains}
-use Rattle.std.specs.Ordering.{is_eq}
-use Rattle.ancestry.specs.Nodes.{Node, node_cmp}
-use Rattle.ancestry.specs.Trees.{Ancestry, IsForest}
+use Rattle.std.proofs.Common.{◌≡◌, true, false, Result, Ok, Err, OnOk, OnErr, sym, ap, subst, ◌∙◌}
+use Rattle.ancestry.specs.Nodes.{Node}
+use Rattle.ancestry.specs.Trees.{Ancestry, knows, IsForest}
 use Rattle.ancestry.specs.Branches.{with_parent}
 use Rattle.ancestry.specs.Kept.{AreParents}
 use Rattle.ancestry.proofs.BranchLemmas.{based_forest}
 use Rattle.ancestry.proofs.ParentLemmas.{kept_based}
 use Rattle.ancestry.proofs.tree.Tree.set_parent.Goals as goal
 
--- the same of the ancestry that the fields are, at copies of the node and its parent
-at_copies : (P : Ancestry → Type 0) (t u : Ancestry) (n p m q : Node) → u ≡ t → m ≡ n → q ≡ p → P (with_parent t n p)
-    → P (with_parent u m q)
-at_copies P t u n p m q d e f h =
-    subst (λ z. P (with_parent z m q)) (sym d)
-    (subst (λ z. P (with_parent t z q)) (sym e)
-    (subst (λ z. P (with_parent t n z)) (sym f) h))
+-- copies of a known node and of its parent are always linked
+linked : {A B : Type 0} (r : Result A B) (t u w : Ancestry) (n p m q : Node) → u ≡ t → m ≡ n → q ≡ p → knows t n ≡ true
+    → OnOk r (w ≡ with_parent u m q) → OnErr r (knows u m ≡ false) → w ≡ with_parent t n p
+linked (Ok x) t u w n p m q d e f known ok err =
+    ok ∙ ap (λ z. with_parent z m q) d ∙ ap (λ z. with_parent t z q) e ∙ ap (λ z. with_parent t n z) f
+linked (Err x) t u w n p m q d e f known ok err =
+    let is = ap (λ z. knows z m) d ∙ ap (λ z. knows t z) e ∙ known in
+    absurd (cc)
 
-pub returns-clause-forest : goal.returns-clause-forest
-returns-clause-forest c =
-    let t = c.args.self.now in
-    let n = c.args.node.now in
-    let p = c.args.parent.now in
-    let r = c.requires in
-    subst IsForest (sym c.in_ok-insert-2.ensures.entries)
-    (at_copies IsForest t c.self.inside.links.entries n p c.in_ok-node.node c.in_ok-parent.parent c.self.view_is
-    c.in_ok-node.ensures.value c.in_ok-parent.ensures.value
-    (based_forest t n p (subst IsForest c.self.view_is c.self.invariant.0) r.knows_node r.knows_parent r.root r.apart))
+on_ok : {A B : Type 0} {P : Type 0} (r : Result A B) → P → OnOk r P
+on_ok (Ok x) h = h
+on_ok (Err x) h = tt
 
 pub invariant_of-self-2 : goal.invariant_of-self-2
 invariant_of-self-2 c =
@@ -34,17 +26,14 @@ invariant_of-self-2 c =
     let n = c.args.node.now in
     let p = c.args.parent.now in
     let r = c.requires in
-    let before = c.self.inside.parents in
-    let after = c.insert.new.self in
-    let made = subst (λ m. (q : Node) → contains node_cmp after q ≡ cond (is_eq (node_cmp m q)) true (contains node_cmp before q))
-    c.in_ok-marked.ensures.value c.in_ok-insert.ensures.updates.0 in
-    let were = subst (λ u. AreParents u before) c.self.view_is c.self.invariant.1 in
-    let based = kept_based t n p before after r.root were made in (
-      subst IsForest (sym c.in_ok-insert-2.ensures.entries)
-          (at_copies IsForest t c.self.inside.links.entries n p c.in_ok-node.node c.in_ok-parent.parent
-          c.self.view_is c.in_ok-node.ensures.value c.in_ok-parent.ensures.value
-          (based_forest t n p (subst IsForest c.self.view_is c.self.invariant.0) r.knows_node r.knows_parent r.root r.apart)),
-      subst (λ u. AreParents u after) (sym c.in_ok-insert-2.ensures.entries)
-          (at_copies (λ u. AreParents u after) t c.self.inside.links.entries n p c.in_ok-node.node
-          c.in_ok-parent.parent c.self.view_is c.in_ok-node.ensures.value c.in_ok-parent.ensures.value based),
+    let same = linked c.link.result t _ c.link.new.links.entries n p _ _ c.self.view_is c.in_ok-child.ensures.value
+    c.in_ok-above.ensures.value r.knows_node c.link.ensures.ok c.link.ensures.err in
+    let were = subst (λ u. AreParents u c.self.inside.parents) c.self.view_is c.self.invariant.1 in
+    let based = kept_based t n p c.self.inside.parents c.mark_parent.new.parents r.root were c.in_ok-mark_parent.ensures.ok in (
+      subst IsForest (sym same)
+          (based_forest t n p (subst IsForest c.self.view_is c.self.invariant.0) r.knows_node r.knows_parent r.root r.apart),
+      subst (λ u. AreParents u c.mark_parent.new.parents) (sym same) based,
     )
+
+pub returns-clause-forest : goal.returns-clause-forest
+returns-clause-forest c = on_ok _ (invariant_of-self-2 c).0
