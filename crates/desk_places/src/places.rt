@@ -205,13 +205,16 @@ fn put_image(bugs: &mut HashMap<u64, Place>, image: SetImage) -> Result<(), Allo
     ensures ok { OnOk result ((n : ℕ) → get nat_eq bugs.new n ≡ option_or (place_in (image ∷ []) n) (get nat_eq bugs.old n)) }
     ensures known { ((n : ℕ) → IsTrue (has (numbers_of image.members) n) → IsTrue (is_there bugs.old n)) → IsOk result }
 {
-    let Some((first, others)) = image.members.as_slice().split_first() else {
-        return Ok(());
-    };
-    let key = first.number;
-    put_after(bugs, key, others)?;
-    put(bugs, key, Place::First(image))?;
-    Ok(())
+    match image.members.as_slice().split_first() {
+        Some((first, others)) => {
+            let key = first.number;
+            match put_after(bugs, key, others) {
+                Ok(()) => put(bugs, key, Place::First(image)),
+                Err(error) => Err(error),
+            }
+        }
+        None => Ok(()),
+    }
 }
 
 // Puts images, from the last to the first, so that a bug is in the first that has it.

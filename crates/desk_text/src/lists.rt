@@ -147,6 +147,18 @@ fn append_rows(out: &mut Vec<u8>, rows: &[ListRow]) -> Result<(), AllocError>
     Ok(())
 }
 
+// Appends what a list is of: the bugs in a package at a node.
+fn append_subject(out: &mut Vec<u8>, package: &str, node: &Node) -> Result<(), AllocError>
+    ensures ok { OnOk result (out.new.items ≡ out.old.items
+        ++ (codes "Bugs in " ++ «package».now ++ codes " at " ++ node_text node.now)) }
+    ensures err { OnErr result (StartsWith out.new.items out.old.items) }
+{
+    out.extend_from_slice(b"Bugs in ")?;
+    out.extend_from_slice(package.as_bytes())?;
+    out.extend_from_slice(b" at ")?;
+    append_node(out, node)
+}
+
 // Appends the first line of a list.
 fn append_head(
     out: &mut Vec<u8>,
@@ -157,10 +169,7 @@ fn append_head(
     ensures ok { OnOk result (out.new.items ≡ out.old.items ++ list_head «package».now node.now count) }
     ensures err { OnErr result (StartsWith out.new.items out.old.items) }
 {
-    out.extend_from_slice(b"Bugs in ")?;
-    out.extend_from_slice(package.as_bytes())?;
-    out.extend_from_slice(b" at ")?;
-    append_node(out, node)?;
+    append_subject(out, package, node)?;
     out.extend_from_slice(b": ")?;
     append_number(out, count as u64)?;
     out.extend_from_slice(b"\n")
