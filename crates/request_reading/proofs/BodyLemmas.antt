@@ -1,11 +1,14 @@
 -- A body that comes in pieces, of which the first bytes are here.
-use Rattle.std.proofs.Common.{◌≡◌, ℕ, ◌+◌, ◌<◌, ◌≤◌, List, [], ◌++◌, length, take, drop, min, Bool, true, false, nat_lt, Option, Ok, Err, refl, sym, ap, ◌∙◌, arith, append-nil, append_assoc, length-append, take-append-drop}
+use Rattle.std.proofs.Common.{◌≡◌, ℕ, ◌+◌, ◌<◌, ◌≤◌, List, [], ◌++◌, length, take, drop, min, Bool, true, false, nat_lt, Option, Result, Ok, Err, IfOk, refl, sym, ap, ◌∙◌, arith, append-nil, append_assoc, length-append, take-append-drop}
 use Rattle.std.proofs.lemmas.List.{take_all, take_at, nil_from_length}
 use Rattle.std.proofs.lemmas.Bool.Decides.{nat_tests}
 use Rattle.std.specs.Io.KnownBytes.{IsAtEnd}
 use Rattle.request_reading.specs.Found.{Came, HadBytes}
-use Rattle.request_reading.proofs.HadLemmas.{left, left-end, had_given}
-use Rattle.request_reading.specs.Body.{whole}
+use Rattle.request_reading.proofs.HadLemmas.{left, left-end, had_given, had_then}
+use Rattle.std.specs.Prelude.{Vec}
+use Rattle.std.specs.declared.alloc.Global.{Global}
+use Rattle.request_reading.specs.Body.{whole, body_of_length, shown}
+use Rattle.request_reading.specs.declared.refusal.BodyRefusal.{BodyRefusal}
 use Rattle.request_reading.specs.declared.refusal.BodyRefusal.TheVariants.{BadRequest}
 
 whole-all : (n : ℕ) (rest : List ℕ) → n ≤ length rest → whole n rest ≡ Ok (take n rest)
@@ -73,3 +76,12 @@ body-whole old new before after here n start total c l s k t =
     let all = here ++ (c.bytes ++ left new) in
     let p = front n all (take start here ++ c.bytes) b.0 b.1 (sym (ap length w) ∙ l) in
     had_given old new c.bytes (λ more. Ok after ≡ whole n (here ++ more)) c.took (ap Ok (w ∙ sym p.1) ∙ sym (whole-all n all p.0))
+
+-- the body of the length that the headers say, out of what is here and what comes
+pub body-asked : {E : Type 0} (read : Result (Result (Vec ℕ Global) BodyRefusal) E) (known : Option (List ℕ)) (told : Result ℕ BodyRefusal)
+    (n : ℕ) (here rest : List ℕ) → Ok n ≡ told → here ≡ rest
+    → IfOk read (λ body. HadBytes known (λ more. shown body ≡ whole n (here ++ more)))
+    → IfOk read (λ body. HadBytes known (λ more. shown body ≡ body_of_length told (rest ++ more)))
+body-asked (Err fault) known told n here rest is same had = tt
+body-asked (Ok body) known told n here rest is same had = had_then known (λ more. shown body ≡ whole n (here ++ more)) _
+    (λ more e. e ∙ ap (λ l. whole n (l ++ more)) same ∙ ap (λ t. body_of_length t (rest ++ more)) is) had

@@ -1,5 +1,5 @@
 -- Bytes that a reader had, out of those that it gave.
-use Rattle.std.proofs.Common.{◌≡◌, ℕ, List, [], ◌++◌, Option, Some, None, IfSome, refl, unwrap_or}
+use Rattle.std.proofs.Common.{◌≡◌, ℕ, List, [], ◌++◌, Option, Some, None, IfSome, refl, ap, ◌∙◌, unwrap_or}
 use Rattle.std.specs.Io.KnownBytes.{Consumes, IsAtEnd}
 use Rattle.request_reading.specs.Found.{HadBytes}
 
@@ -29,6 +29,18 @@ pub had_given : (old new : Option (List ℕ)) (front : List ℕ) (P : List ℕ �
     → P (front ++ left new) → HadBytes old P
 had_given old new front P took holds =
     record { bytes = front ++ left new; are = given_are old new front took; holds = holds }
+
+-- the bytes that were given, and then some that were left
+before_are : (old new : Option (List ℕ)) (front rest : List ℕ) → Consumes old new front → IfSome new (λ those. those ≡ rest)
+    → IfSome old (λ those. those ≡ front ++ rest)
+before_are None new front rest took are = tt
+before_are (Some x) None front rest took are = absurd took
+before_are (Some x) (Some y) front rest took are = took ∙ ap (λ l. front ++ l) are
+
+pub had_before : (old new : Option (List ℕ)) (front rest : List ℕ) (P : List ℕ → Type 0) → Consumes old new front
+    → IfSome new (λ those. those ≡ rest) → P (front ++ rest) → HadBytes old P
+had_before old new front rest P took are holds =
+    record { bytes = front ++ rest; are = before_are old new front rest took are; holds = holds }
 
 -- none are left at the end
 pub left-end : (new : Option (List ℕ)) → IsAtEnd new → left new ≡ []

@@ -1,5 +1,5 @@
 -- Which inputs begin with no head, and that none begins with two.
-use Rattle.std.proofs.Common.{◌≡◌, ◌≢◌, ℕ, ◌<◌, ◌≤◌, List, [], ◌++◌, length, take, drop, refl, sym, ap, ◌∙◌, arith, append-nil, subst, Option, Some, None, Result, Ok, Err, OnErr, take-append-drop, length-append, length-take-le}
+use Rattle.std.proofs.Common.{◌≡◌, ◌≢◌, ℕ, ◌<◌, ◌≤◌, List, [], ◌++◌, length, take, drop, refl, sym, ap, ◌∙◌, arith, append-nil, subst, Option, Result, Ok, Err, OnErr, take-append-drop, length-append, length-take-le}
 use Rattle.std.proofs.KnownBytes.{Consumes-kept, Consumes-trans}
 use Rattle.std.proofs.lemmas.List.{take-append-le, take_at, length-map, nil_from_length}
 use Rattle.std.specs.Io.KnownBytes.{Consumes, IsAtEnd, Keeps}
@@ -25,17 +25,6 @@ begins-more input more head rest b = record {
   few = b.few;
   short = b.short;
 }
-
--- so does the whole input, whose first bytes are in the buffer
-pub begins-input : (old new : Option (List ℕ)) (buf : List ℕ) (headers : List HeaderSpan) (spans : RequestSpans) (filled : ℕ)
-    → (c : IsComplete old new buf headers spans filled) → (input more : List ℕ) → old ≡ Some input → new ≡ Some more
-    → BeginsWithHead input c.head (drop spans.len (take filled buf) ++ more)
-begins-input None new buf headers spans filled c input more a b = cc
-begins-input (Some x) None buf headers spans filled c input more a b = absurd c.took
-begins-input (Some x) (Some y) buf headers spans filled c input more a b =
-    let taken : take filled buf ++ more ≡ input = cc (c.took) in
-    subst (λ l. BeginsWithHead l c.head (drop spans.len (take filled buf) ++ more)) taken
-    (begins-more (take filled buf) more c.head _ c.begins)
 
 -- no head is empty
 pub none-empty : HasNoRequest []
