@@ -16,4 +16,4 @@ pub use answering::answer_request;
 pub use laws::a_refusal_is_told_as_in_scripts;
 pub use reply::{Body, Reply, not_found, store_fault};
 pub use request::{ListRequest, MessageRequest, ReportRequest, Request};
-pub use writing::write_reply;
+pub use writing::{write_reply, write_three};

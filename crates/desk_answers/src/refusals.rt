@@ -59,7 +59,7 @@ fn refuse_at(alloc: Global, why: &str, place: usize) -> Reply
     }
 }
 
-/// A refusal of a branch of nodes.
+/// A refusal of a branch of nodes, which no store gives for want of memory.
 pub(crate) fn refuse_nodes(alloc: Global, fault: BranchFault) -> Reply
     ensures is { GivesOrFails (refused_answer (nodes_refusal fault)) result }
     ensures told { IsTold result.fault (shown result) }
@@ -69,6 +69,6 @@ pub(crate) fn refuse_nodes(alloc: Global, fault: BranchFault) -> Reply
         BranchFault::TooLong => refuse(alloc, "more than 200 versions"),
         BranchFault::Repeated(place) => refuse_at(alloc, "repeated version at ", place),
         BranchFault::Conflict(place) => refuse_at(alloc, "conflict at ", place),
-        BranchFault::Memory => refuse(alloc, ""),
+        BranchFault::Memory => store_fault(StoreFault::Memory),
     }
 }

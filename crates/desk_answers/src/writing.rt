@@ -12,8 +12,12 @@ use http::StatusCode;
 use itoa::Buffer;
 use std::io::Write;
 
-// Writes three texts.
-fn write_three<W: Write>(
+/// Writes three texts, one after another.
+///
+/// # Errors
+///
+/// `Write`: a write failed, an interrupted one too, or took no byte.
+pub fn write_three<W: Write>(
     writer: &mut W,
     first: &[u8],
     second: &[u8],

@@ -9,9 +9,10 @@ use Rattle.httparse.specs.declared.spans.RequestSpans.{RequestSpans}
 use Rattle.bug_record.specs.Desk.{Desk}
 use Rattle.desk_text.specs.declared.outcome.StoreFault.{StoreFault}
 use Rattle.desk_text.specs.declared.outcome.StoreFault.TheVariants.{Memory}
-use Rattle.request_reading.specs.Head.{HasNoHead}
-use Rattle.request_reading.specs.Found.{IsWrong, IsComplete}
-use Rattle.request_reading.proofs.HeadLemmas.{begins-input}
+use Rattle.request_reading.specs.Head.{BeginsWithHead, HasNoHead}
+use Rattle.request_reading.specs.Found.{HadBytes, IsWrong, IsComplete}
+use Rattle.request_reading.proofs.HeadLemmas.{begins-more}
+use Rattle.request_reading.proofs.HadLemmas.{had_any, had_then, had_before}
 use Rattle.desk_answers.specs.Answer.{Answer, answer_bytes}
 use Rattle.desk_answers.specs.Requests.{Request, PostBug, PostControl, PostBranch, GetBug, GetList}
 use Rattle.desk_answers.specs.Faults.{IsAnswer}
@@ -20,9 +21,13 @@ use Rattle.desk_answers.specs.Steps.{Fails, Gives}
 use Rattle.desk_answers.specs.declared.reply.Reply.{Reply}
 use Rattle.desk_answers.proofs.AnswerLemmas.{wants_memory}
 use Rattle.desk_http.specs.Requests.{asked_of, bad_request}
-use Rattle.desk_http.specs.Exchange.{IsReplyTo, Answers}
+use Rattle.desk_store.specs.Store.{Faults}
+use Rattle.desk_http.specs.Exchange.{IsReplyTo, Answers, IsRight, IsServed}
 use Rattle.desk_http.specs.Steps.{IsGiven}
-use Rattle.desk_http.specs.declared.serve.Served.TheVariants.{Answered}
+use Rattle.desk_http.specs.declared.serve.Served.{Served}
+use Rattle.desk_http.specs.declared.serve.Served.TheVariants.{Answered, Closed}
+use Rattle.desk_http.specs.declared.serve.ServeFault.{ServeFault}
+use Rattle.desk_http.specs.declared.serve.ServeFault.TheVariants.{Read, Write}
 
 -- want of memory before anything was carried out
 memory_answers : (request : Request) (d : Desk) (reply : Reply) → Fails Memory reply
@@ -42,42 +47,52 @@ memory_replies (Err refusal) d reply f = (refl, f.0, refl)
 pub complete_right : (old new : Option (List ℕ)) (buf : List ℕ) (headers : List HeaderSpan) (spans : RequestSpans) (filled : ℕ)
     → IsComplete old new buf headers spans filled → (d e : Desk) (fault : Option StoreFault) (answer : Answer)
     → ((head : RequestHead) → IsRequestAt (take filled buf) headers spans head
-    → IfSome new (λ more. IsReplyTo (asked_of head (drop spans.len (take filled buf) ++ more)) d fault answer e))
-    → IfSome old (λ bytes. Answers bytes d fault answer e)
-complete_right None new buf headers spans filled c d e fault answer gives = tt
-complete_right (Some x) None buf headers spans filled c d e fault answer gives = absurd c.took
-complete_right (Some x) (Some y) buf headers spans filled c d e fault answer gives = inl (record {
-  head = c.head;
-  rest = drop spans.len (take filled buf) ++ y;
-  begins = begins-input (Some x) (Some y) buf headers spans filled c x y refl refl;
-  gives = gives c.head c.covers;
-})
+    → HadBytes new (λ more. IsReplyTo (asked_of head (drop spans.len (take filled buf) ++ more)) d fault answer e))
+    → HadBytes old (λ bytes. Answers bytes d fault answer e)
+complete_right old new buf headers spans filled c d e fault answer gives =
+    let front = take filled buf in
+    let had = gives c.head c.covers in
+    had_before old new front had.bytes (λ bytes. Answers bytes d fault answer e) c.took had.are (inl (record {
+      head = c.head;
+      rest = drop spans.len front ++ had.bytes;
+      begins = begins-more front had.bytes c.head (drop spans.len front) c.begins;
+      gives = had.holds;
+    }))
 
 -- what a request asks that was read, answered
 pub asked_right : (new : Option (List ℕ)) (buf : List ℕ) (headers : List HeaderSpan) (spans : RequestSpans)
     (made : Result Request Answer) (d e : Desk) (fault : Option StoreFault) (answer : Answer)
     → ((head : RequestHead) → IsRequestAt buf headers spans head
-    → IfSome new (λ more. made ≡ asked_of head (drop spans.len buf ++ more)))
+    → HadBytes new (λ more. made ≡ asked_of head (drop spans.len buf ++ more)))
     → IsReplyTo made d fault answer e → (head : RequestHead) → IsRequestAt buf headers spans head
-    → IfSome new (λ more. IsReplyTo (asked_of head (drop spans.len buf ++ more)) d fault answer e)
-asked_right None buf headers spans made d e fault answer asks h head at = tt
-asked_right (Some more) buf headers spans made d e fault answer asks h head at =
-    subst (λ (r : Result Request Answer). IsReplyTo r d fault answer e) (asks head at) h
+    → HadBytes new (λ more. IsReplyTo (asked_of head (drop spans.len buf ++ more)) d fault answer e)
+asked_right new buf headers spans made d e fault answer asks h head at =
+    had_then new (λ more. made ≡ asked_of head (drop spans.len buf ++ more)) _
+    (λ more is. subst (λ (r : Result Request Answer). IsReplyTo r d fault answer e) is h) (asks head at)
 
 -- want of memory where a request was read
 pub memory_right : (new : Option (List ℕ)) (buf : List ℕ) (spans : RequestSpans) (d : Desk) (reply : Reply) → Fails Memory reply
-    → (head : RequestHead) → IfSome new (λ more. IsReplyTo (asked_of head (drop spans.len buf ++ more)) d reply.fault (shown reply) d)
-memory_right None buf spans d reply f head = tt
-memory_right (Some more) buf spans d reply f head =
+    → (head : RequestHead) → HadBytes new (λ more. IsReplyTo (asked_of head (drop spans.len buf ++ more)) d reply.fault (shown reply) d)
+memory_right new buf spans d reply f head = had_any new _ (λ more.
     subst (λ (o : Option StoreFault). IsReplyTo (asked_of head (drop spans.len buf ++ more)) d o (shown reply) d) (sym f.1)
-    (memory_replies (asked_of head (drop spans.len buf ++ more)) d reply f)
+    (memory_replies (asked_of head (drop spans.len buf ++ more)) d reply f))
 
 -- an input with a wrong head
-pub wrong_right : (old : Option (List ℕ)) (d : Desk) (reply : Reply) → IfSome old IsWrong → Gives bad_request reply
-    → IfSome old (λ bytes. Answers bytes d reply.fault (shown reply) d)
-wrong_right None d reply w g = tt
-wrong_right (Some x) d reply w g =
-    inr (record { not_empty = w.0; none = w.1; no_fault = g.1; is = g.0; same = refl })
+pub wrong_right : (old : Option (List ℕ)) (d : Desk) (reply : Reply) → HadBytes old IsWrong → Gives bad_request reply
+    → HadBytes old (λ bytes. Answers bytes d reply.fault (shown reply) d)
+wrong_right old d reply w g = had_then old IsWrong _
+    (λ bytes wrong. inr (record { not_empty = wrong.0; none = wrong.1; no_fault = g.1; is = g.0; same = refl })) w
+
+-- an input that begins with a head has no wrong one
+pub not_wrong : (old new : Option (List ℕ)) (buf : List ℕ) (headers : List HeaderSpan) (spans : RequestSpans) (filled : ℕ)
+    → IsComplete old new buf headers spans filled → (P : Type 0) → IfSome old (λ input. input ≢ [] → HasNoHead input → P)
+not_wrong None new buf headers spans filled c P = tt
+not_wrong (Some x) None buf headers spans filled c P = absurd c.took
+not_wrong (Some x) (Some y) buf headers spans filled c P = λ some none.
+    let front = take filled buf in
+    let rest = drop spans.len front in
+    absurd (none c.head (rest ++ y) (subst (λ l. BeginsWithHead l c.head (rest ++ y)) (sym c.took)
+    (begins-more front y c.head rest c.begins)))
 
 -- a wrong head whose answer was written
 pub wrong_served : (input : Option (List ℕ)) (same : Type 0) (made : Option Reply) (reply : Reply) (c0 c1 : Option (List ℕ))
@@ -98,3 +113,28 @@ pub wrong_unwritten : (input : Option (List ℕ)) (same given : Type 0)
     → IfSome input (λ bytes. bytes ≢ [] → HasNoHead bytes → same × ⊤)
 wrong_unwritten None same given w = tt
 wrong_unwritten (Some x) same given w = λ some none. ((w some none).0, tt)
+
+-- the input of what is right
+right_by : (known : Option (List ℕ)) (old new : Desk) (n0 n1 : Faults) (fault : Option StoreFault) (answer : Answer)
+    → (r : IsRight known old new n0 n1 fault answer) → IsRight (Some r.answers.bytes) old new n0 n1 fault answer
+right_by known old new n0 n1 fault answer r = record {
+  answers = record { bytes = r.answers.bytes; are = refl; holds = r.answers.holds };
+  counts = r.counts;
+}
+
+-- the input of what was served
+pub served_by : (known : Option (List ℕ)) (old new : Desk) (n0 n1 : Faults) (c0 c1 : Option (List ℕ)) (result : Result Served ServeFault)
+    → IsServed known old new n0 n1 c0 c1 result → HadBytes known (λ input. IsServed (Some input) old new n0 n1 c0 c1 result)
+served_by known old new n0 n1 c0 c1 (Ok (Answered status)) h = record {
+  bytes = h.2.answers.bytes;
+  are = h.2.answers.are;
+  holds = (h.0, h.1, right_by known old new n0 n1 h.0 h.1 h.2, h.3, h.4);
+}
+served_by None old new n0 n1 c0 c1 (Ok Closed) h = record { bytes = []; are = tt; holds = (refl, h.1, h.2) }
+served_by (Some x) old new n0 n1 c0 c1 (Ok Closed) h = record { bytes = x; are = refl; holds = h }
+served_by known old new n0 n1 c0 c1 (Err Read) h = had_any known _ (λ input. h)
+served_by known old new n0 n1 c0 c1 (Err Write) h = record {
+  bytes = h.2.answers.bytes;
+  are = h.2.answers.are;
+  holds = (h.0, h.1, right_by known old new n0 n1 h.0 h.1 h.2);
+}

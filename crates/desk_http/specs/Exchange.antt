@@ -7,6 +7,7 @@ use Rattle.bug_record.specs.Desk.{Desk}
 use Rattle.desk_text.specs.declared.outcome.StoreFault.{StoreFault}
 use Rattle.desk_text.specs.declared.outcome.StoreFault.TheVariants.{Memory}
 use Rattle.request_reading.specs.Head.{BeginsWithHead, HasNoHead}
+use Rattle.request_reading.specs.Found.{HadBytes}
 use Rattle.desk_store.specs.Store.{Faults}
 use Rattle.desk_answers.specs.Answer.{Answer, answer_bytes, store_fault}
 use Rattle.desk_answers.specs.Requests.{Request}
@@ -47,15 +48,17 @@ abbrev pub Answers : List ℕ → Desk → Option StoreFault → Answer → Desk
 Answers input old fault answer new =
     AnswersHead input old fault answer new ⊎ RefusesHead input old fault answer new
 
--- the input, where the reader tells it, has this answer, and the fault that was met is counted
+-- The input has this answer, and the fault that was met is counted.
+-- The input is that of the reader, where its bytes are known, and else some bytes.
 pub record IsRight (input : Option (List ℕ)) (old new : Desk) (before after : Faults)
     (fault : Option StoreFault) (answer : Answer) : Type 0 where
-  pub answers : IfSome input (λ bytes. Answers bytes old fault answer new)
+  pub answers : HadBytes input (λ bytes. Answers bytes old fault answer new)
   pub counts : after ≡ counted_with fault before
 
 -- What serving one connection leaves and has written: at `Answered` the bytes of the input's
 -- answer, whose status it names; at `Closed` and `Read` nothing, and no change; at `Write` the desk
 -- is the one after the answer that was to be written.
+-- Over a reader whose bytes no contract knows, as a socket, this is so of some input.
 abbrev pub IsServed : Option (List ℕ) → Desk → Desk → Faults → Faults → Option (List ℕ)
     → Option (List ℕ) → Result Served ServeFault → Type 0
 IsServed input old new n0 n1 c0 c1 (Ok (Answered status)) =

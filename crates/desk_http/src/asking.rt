@@ -1,11 +1,12 @@
 //! What a request asks, out of its head and its body.
 
-ghost use Rattle.std.specs.Prelude.{◌≡◌, ◌≤◌, ◌++◌, Ok, length, map, drop, IfOk, IfErr, IfSome, All};
+ghost use Rattle.std.specs.Prelude.{◌≡◌, ◌≤◌, ◌++◌, Ok, length, map, drop, IfOk, IfErr, All};
 ghost use Rattle.httparse.specs.Grammar.{RequestHead};
 ghost use Rattle.httparse.specs.Spans.{IsHeaderWithin, header_bytes, IsRequestWithin, IsRequestAt};
 ghost use Rattle.desk_answers.specs.Requests.{HasGoodSender};
 ghost use Rattle.desk_answers.specs.Shown.{asked};
 ghost use Rattle.request_reading.specs.Body.{body_of};
+ghost use Rattle.request_reading.specs.Found.{HadBytes};
 ghost use Rattle.desk_http.specs.Requests.{asked_at, asked_by, asked_with, asked_of};
 ghost use Rattle.desk_http.specs.Shown.{asks};
 
@@ -41,7 +42,7 @@ fn ask_with_body<R: Read>(
 ) -> Result<Result<Request, Refusal>, ReadFault>
     requires within { All (IsHeaderWithin (length buf.now)) headers.now }
     requires started { start ≤ length buf.now }
-    ensures asks { IfOk result (λ asked. IfSome (R.remaining reader.old) (λ more. asks asked
+    ensures asks { IfOk result (λ asked. HadBytes (R.remaining reader.old) (λ more. asks asked
         ≡ asked_with route (body_of (map (header_bytes buf.now) headers.now) (drop start buf.now ++ more)))) }
     ensures sender { IfOk result (λ made. IfOk made (λ request. HasGoodSender (asked request))) }
 {
@@ -63,7 +64,7 @@ fn ask_at<R: Read>(
 ) -> Result<Result<Request, Refusal>, ReadFault>
     requires within { All (IsHeaderWithin (length buf.now)) headers.now }
     requires started { start ≤ length buf.now }
-    ensures asks { IfOk result (λ asked. IfSome (R.remaining reader.old) (λ more. asks asked
+    ensures asks { IfOk result (λ asked. HadBytes (R.remaining reader.old) (λ more. asks asked
         ≡ asked_at route path.now (map (header_bytes buf.now) headers.now) (drop start buf.now ++ more))) }
     ensures sender { IfOk result (λ made. IfOk made (λ request. HasGoodSender (asked request))) }
 {
@@ -88,7 +89,7 @@ fn ask_target<R: Read>(
 ) -> Result<Result<Request, Refusal>, ReadFault>
     requires within { All (IsHeaderWithin (length buf.now)) headers.now }
     requires started { start ≤ length buf.now }
-    ensures asks { IfOk result (λ asked. IfSome (R.remaining reader.old) (λ more. asks asked
+    ensures asks { IfOk result (λ asked. HadBytes (R.remaining reader.old) (λ more. asks asked
         ≡ asked_by method_asked.now target.now (map (header_bytes buf.now) headers.now) (drop start buf.now ++ more))) }
     ensures sender { IfOk result (λ made. IfOk made (λ request. HasGoodSender (asked request))) }
 {
@@ -118,7 +119,7 @@ pub(crate) fn ask<R: Read>(
 ) -> Result<Result<Request, Refusal>, ReadFault>
     requires { IsRequestWithin buf.now headers.now spans }
     ensures asks { IfOk result (λ asked. (head : RequestHead) → IsRequestAt buf.now headers.now spans head
-        → IfSome (R.remaining reader.old) (λ more. asks asked ≡ asked_of head (drop spans.len buf.now ++ more))) }
+        → HadBytes (R.remaining reader.old) (λ more. asks asked ≡ asked_of head (drop spans.len buf.now ++ more))) }
     ensures sender { IfOk result (λ made. IfOk made (λ request. HasGoodSender (asked request))) }
 {
     let method_asked = spans.method.of(buf);

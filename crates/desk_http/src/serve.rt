@@ -92,6 +92,8 @@ fn exchange<S: Records, R: Read>(
 /// Serves one connection: reads one request, carries it out, and writes its answer.
 ///
 /// The answer depends on the bytes and the desk, and not on the pieces in which the bytes come.
+/// Over a reader whose bytes no contract knows, as a socket, there are some bytes of which the
+/// answer, its status and the desk after it are those.
 /// A head is read by the grammar of `httparse`, of at most 8,192 bytes and 32 headers, and a body
 /// of at most 65,536 bytes; bytes after the body are not looked at.
 /// `POST /bugs`, `/control` and `/branches`, `GET /bugs/{n}` and `/list/{package}/{version}` are

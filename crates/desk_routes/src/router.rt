@@ -1,6 +1,6 @@
 //! The five routes, and which of them a path has.
 
-ghost use Rattle.std.specs.Prelude.{◌≡◌, IfOk, OnOk, option_map};
+ghost use Rattle.std.specs.Prelude.{◌≡◌, [], IfOk, OnOk, option_map};
 ghost use Rattle.matchit.specs.Seek.{first};
 ghost use Rattle.desk_routes.specs.Routes.{method, route_text, with_route, IsFree};
 ghost use Rattle.desk_routes.specs.Routes.{routes, route_at};
@@ -59,17 +59,16 @@ fn add(router: &mut Router<Route>, route: Route) -> Result<(), AllocError>
     }
 }
 
-// A router of the five routes.
-fn make_router(alloc: Global) -> Result<Router<Route>, AllocError>
-    ensures { IfOk result (λ router. router ≡ routes) }
+// Adds the five routes to a router that has none.
+fn add_routes(router: &mut Router<Route>) -> Result<(), AllocError>
+    requires { router.old ≡ [] }
+    ensures { OnOk result (router.new ≡ routes) }
 {
-    let mut router = Router::new(alloc);
-    add(&mut router, Route::Bugs)?;
-    add(&mut router, Route::Control)?;
-    add(&mut router, Route::Branches)?;
-    add(&mut router, Route::Bug)?;
-    add(&mut router, Route::List)?;
-    Ok(router)
+    add(router, Route::Bugs)?;
+    add(router, Route::Control)?;
+    add(router, Route::Branches)?;
+    add(router, Route::Bug)?;
+    add(router, Route::List)
 }
 
 // The route that a router gives for a path.
@@ -93,6 +92,7 @@ fn route_in(router: &Router<Route>, path: &str) -> Option<Route>
 pub fn find_route(alloc: Global, path: &str) -> Result<Option<Route>, AllocError>
     ensures { IfOk result (λ route. route ≡ route_at path.now) }
 {
-    let router = make_router(alloc)?;
+    let mut router = Router::new(alloc);
+    add_routes(&mut router)?;
     Ok(route_in(&router, path))
 }

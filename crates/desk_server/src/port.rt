@@ -1,12 +1,12 @@
 //! A port of this machine.
 
-ghost use Rattle.std.specs.Prelude.{◌≡◌, ◌++◌, Err, OnOk, OnErr};
+ghost use Rattle.std.specs.Prelude.{◌≡◌, Err, OnOk, OnErr};
 ghost use Rattle.std.specs.Io.KnownBytes.{Appends};
 ghost use Rattle.desk_server.specs.Port.{Serves, place_line};
 ghost use Rattle.desk_server.specs.Serving.{IsServing};
 
 use crate::connections::serve_connections;
-use desk_lines::{ScriptFault, write_out};
+use desk_answers::write_three;
 use desk_store::Records;
 use itoa::Buffer;
 use std::alloc::Global;
@@ -23,21 +23,6 @@ pub enum ServerFault {
     Write,
     /// The store failed.
     Store,
-}
-
-// Writes three texts.
-fn write_three<W: Write>(
-    writer: &mut W,
-    first: &[u8],
-    second: &[u8],
-    third: &[u8],
-) -> Result<(), ScriptFault>
-    ensures { OnOk result (Appends (W.contents writer.old) (W.contents writer.new)
-        (first.now ++ second.now ++ third.now)) }
-{
-    write_out(writer, first)?;
-    write_out(writer, second)?;
-    write_out(writer, third)
 }
 
 // Writes where the server listens.

@@ -1,10 +1,14 @@
 -- A body that comes in pieces, of which the first bytes are here.
-use Rattle.std.proofs.Common.{◌≡◌, ℕ, ◌+◌, ◌<◌, ◌≤◌, List, [], ◌++◌, length, take, drop, min, Bool, true, false, nat_lt, Option, Some, None, Ok, Err, IfSome, refl, sym, ap, ◌∙◌, arith, append-nil, append_assoc, length-append, take-append-drop}
+use Rattle.std.proofs.Common.{◌≡◌, ℕ, ◌+◌, ◌<◌, ◌≤◌, List, [], ◌++◌, length, take, drop, min, Bool, true, false, nat_lt, Option, Result, Ok, Err, IfOk, refl, sym, ap, ◌∙◌, arith, append-nil, append_assoc, length-append, take-append-drop}
 use Rattle.std.proofs.lemmas.List.{take_all, take_at, nil_from_length}
 use Rattle.std.proofs.lemmas.Bool.Decides.{nat_tests}
 use Rattle.std.specs.Io.KnownBytes.{IsAtEnd}
-use Rattle.request_reading.specs.Found.{Came}
-use Rattle.request_reading.specs.Body.{whole}
+use Rattle.request_reading.specs.Found.{Came, HadBytes}
+use Rattle.request_reading.proofs.HadLemmas.{left, left-end, had_given, had_then}
+use Rattle.std.specs.Prelude.{Vec}
+use Rattle.std.specs.declared.alloc.Global.{Global}
+use Rattle.request_reading.specs.Body.{whole, body_of_length, shown}
+use Rattle.request_reading.specs.declared.refusal.BodyRefusal.{BodyRefusal}
 use Rattle.request_reading.specs.declared.refusal.BodyRefusal.TheVariants.{BadRequest}
 
 whole-all : (n : ℕ) (rest : List ℕ) → n ≤ length rest → whole n rest ≡ Ok (take n rest)
@@ -16,20 +20,18 @@ unfolding whole
 whole-cut n rest h = grind (arith, nat_tests)
 
 -- all that there was is less than the body
-short : (here x bytes y : List ℕ) (n start total : ℕ) → x ≡ bytes ++ y → y ≡ [] → start ≡ min (length here) n
-    → start + length bytes ≡ total → total < n → length (here ++ x) < n
-short here x bytes y n start total e z s m t =
-    let a : length x ≡ length bytes + length y = ap length e ∙ length-append bytes y in
-    let b : length y ≡ 0 = ap length z in
-    omega (arith, a, b, length-append here x, s, m, t)
+short : (here bytes rest : List ℕ) (n start total : ℕ) → rest ≡ [] → start ≡ min (length here) n
+    → start + length bytes ≡ total → total < n → length (here ++ (bytes ++ rest)) < n
+short here bytes rest n start total z s m t =
+    let b : length rest ≡ 0 = ap length z in
+    omega (arith, b, length-append bytes rest, length-append here (bytes ++ rest), s, m, t)
 
 -- the input ended before the body was whole
 pub body-cut : (old new : Option (List ℕ)) (before after here : List ℕ) (n start total : ℕ) → Came old new before after start total
-    → start ≡ min (length here) n → total < n → IsAtEnd new → IfSome old (λ more. Err BadRequest ≡ whole n (here ++ more))
-body-cut None new before after here n start total c s t ends = tt
-body-cut (Some x) None before after here n start total c s t ends = absurd c.took
-body-cut (Some x) (Some y) before after here n start total c s t ends =
-    sym (whole-cut n (here ++ x) (short here x c.bytes y n start total c.took ends s c.count t))
+    → start ≡ min (length here) n → total < n → IsAtEnd new → HadBytes old (λ more. Err BadRequest ≡ whole n (here ++ more))
+body-cut old new before after here n start total c s t ends =
+    had_given old new c.bytes (λ more. Err BadRequest ≡ whole n (here ++ more)) c.took
+    (sym (whole-cut n (here ++ (c.bytes ++ left new)) (short here c.bytes (left new) n start total (left-end new ends) s c.count t)))
 
 -- the body is the bytes that are here and those that came
 joined : (old new : Option (List ℕ)) (before after here : List ℕ) (n start total : ℕ) → (c : Came old new before after start total)
@@ -38,12 +40,14 @@ joined old new before after here n start total c l k t =
     sym (take_all total after (omega (arith, l, t))) ∙ c.behind ∙ ap (λ q. q ++ c.bytes) k
 
 -- the first n bytes are those here and those that came, and what follows them is the rest
-split : (here x bytes y : List ℕ) (n start : ℕ) → x ≡ bytes ++ y → start ≡ min (length here) n → start + length bytes ≡ n
-    → (b : Bool) → nat_lt n (length here) ≡ b → (back : List ℕ) × (here ++ x ≡ (take start here ++ bytes) ++ back)
-split here x bytes y n start e s m true t =
+split : (here bytes rest : List ℕ) (n start : ℕ) → start ≡ min (length here) n → start + length bytes ≡ n
+    → (b : Bool) → nat_lt n (length here) ≡ b
+    → (back : List ℕ) × (here ++ (bytes ++ rest) ≡ (take start here ++ bytes) ++ back)
+split here bytes rest n start s m true t =
     let below : n < length here = grind (arith, nat_tests, t) in
     let at : start ≡ n = omega (arith, s) in
-    let none : bytes ≡ [] = nil_from_length bytes (omega (arith, m, at)) in (
+    let none : bytes ≡ [] = nil_from_length bytes (omega (arith, m, at)) in
+    let x = bytes ++ rest in (
       drop n here ++ x,
       sym (
           ap (λ q. (take start here ++ q) ++ (drop n here ++ x)) none
@@ -53,10 +57,10 @@ split here x bytes y n start e s m true t =
           ∙ ap (λ q. q ++ x) (take-append-drop n here)
           ),
     )
-split here x bytes y n start e s m false t =
+split here bytes rest n start s m false t =
     let above : length here ≤ n = grind (arith, nat_tests, t) in
     let at : length here ≤ start = omega (arith, s) in
-    (y, ap (λ q. here ++ q) e ∙ sym (append_assoc here bytes y) ∙ ap (λ q. (q ++ bytes) ++ y) (sym (take_all start here at)))
+    (rest, sym (append_assoc here bytes rest) ∙ ap (λ q. (q ++ bytes) ++ rest) (sym (take_all start here at)))
 
 -- a front of n bytes is the first n
 front : (n : ℕ) (all first back : List ℕ) → all ≡ first ++ back → length first ≡ n → (n ≤ length all) × (take n all ≡ first)
@@ -65,11 +69,19 @@ front n all first back e h = (omega (arith, ap length e ∙ length-append first 
 -- the body is whole
 pub body-whole : (old new : Option (List ℕ)) (before after here : List ℕ) (n start total : ℕ) → Came old new before after start total
     → length after ≡ n → start ≡ min (length here) n → take start before ≡ take start here → n ≤ total
-    → IfSome old (λ more. Ok after ≡ whole n (here ++ more))
-body-whole None new before after here n start total c l s k t = tt
-body-whole (Some x) None before after here n start total c l s k t = absurd c.took
-body-whole (Some x) (Some y) before after here n start total c l s k t =
-    let w = joined (Some x) (Some y) before after here n start total c l k t in
-    let b = split here x c.bytes y n start c.took s (omega (arith, c.count, c.within, l, t)) (nat_lt n (length here)) refl in
-    let p = front n (here ++ x) (take start here ++ c.bytes) b.0 b.1 (sym (ap length w) ∙ l) in
-    ap Ok (w ∙ sym p.1) ∙ sym (whole-all n (here ++ x) p.0)
+    → HadBytes old (λ more. Ok after ≡ whole n (here ++ more))
+body-whole old new before after here n start total c l s k t =
+    let w = joined old new before after here n start total c l k t in
+    let b = split here c.bytes (left new) n start s (omega (arith, c.count, c.within, l, t)) (nat_lt n (length here)) refl in
+    let all = here ++ (c.bytes ++ left new) in
+    let p = front n all (take start here ++ c.bytes) b.0 b.1 (sym (ap length w) ∙ l) in
+    had_given old new c.bytes (λ more. Ok after ≡ whole n (here ++ more)) c.took (ap Ok (w ∙ sym p.1) ∙ sym (whole-all n all p.0))
+
+-- the body of the length that the headers say, out of what is here and what comes
+pub body-asked : {E : Type 0} (read : Result (Result (Vec ℕ Global) BodyRefusal) E) (known : Option (List ℕ)) (told : Result ℕ BodyRefusal)
+    (n : ℕ) (here rest : List ℕ) → Ok n ≡ told → here ≡ rest
+    → IfOk read (λ body. HadBytes known (λ more. shown body ≡ whole n (here ++ more)))
+    → IfOk read (λ body. HadBytes known (λ more. shown body ≡ body_of_length told (rest ++ more)))
+body-asked (Err fault) known told n here rest is same had = tt
+body-asked (Ok body) known told n here rest is same had = had_then known (λ more. shown body ≡ whole n (here ++ more)) _
+    (λ more e. e ∙ ap (λ l. whole n (l ++ more)) same ∙ ap (λ t. body_of_length t (rest ++ more)) is) had

@@ -1,7 +1,7 @@
 -- Which inputs begin with no head, and that none begins with two.
-use Rattle.std.proofs.Common.{◌≡◌, ◌≢◌, ℕ, ◌<◌, ◌≤◌, List, [], ◌++◌, length, take, drop, refl, sym, ap, ◌∙◌, arith, append-nil, subst, Option, Some, None, IfSome, Result, Ok, Err, OnErr, take-append-drop, length-append, length-take-le}
-use Rattle.std.proofs.KnownBytes.{Consumes-kept}
-use Rattle.std.proofs.lemmas.List.{take-append-le, take_at, length-map}
+use Rattle.std.proofs.Common.{◌≡◌, ◌≢◌, ℕ, ◌<◌, ◌≤◌, List, [], ◌++◌, length, take, drop, refl, sym, ap, ◌∙◌, arith, append-nil, subst, Option, Result, Ok, Err, OnErr, take-append-drop, length-append, length-take-le}
+use Rattle.std.proofs.KnownBytes.{Consumes-kept, Consumes-trans}
+use Rattle.std.proofs.lemmas.List.{take-append-le, take_at, length-map, nil_from_length}
 use Rattle.std.specs.Io.KnownBytes.{Consumes, IsAtEnd, Keeps}
 use Rattle.httparse.proofs.GrammarLemmas.{ReadsRequest-append, request_unique}
 use Rattle.httparse.specs.Grammar.{RequestHead, HasNoRequest, print_request}
@@ -9,7 +9,8 @@ use Rattle.httparse.specs.Spans.{RequestOverflows, IsRequestWithin, IsRequestOf,
 use Rattle.request_reading.specs.Head.{BeginsWithHead, HasNoHead, max_head, max_headers}
 use Rattle.httparse.specs.declared.spans.HeaderSpan.{HeaderSpan}
 use Rattle.httparse.specs.declared.spans.RequestSpans.{RequestSpans}
-use Rattle.request_reading.specs.Found.{IsWrong, IsComplete, LosesNoHead}
+use Rattle.request_reading.specs.Found.{Came, HadBytes, IsWrong, IsComplete, LosesNoHead}
+use Rattle.request_reading.proofs.HadLemmas.{left, left-end, had_given}
 
 -- one head
 pub one_head : (input : List ℕ) (head other : RequestHead) (rest left : List ℕ) → BeginsWithHead input head rest
@@ -24,17 +25,6 @@ begins-more input more head rest b = record {
   few = b.few;
   short = b.short;
 }
-
--- so does the whole input, whose first bytes are in the buffer
-pub begins-input : (old new : Option (List ℕ)) (buf : List ℕ) (headers : List HeaderSpan) (spans : RequestSpans) (filled : ℕ)
-    → (c : IsComplete old new buf headers spans filled) → (input more : List ℕ) → old ≡ Some input → new ≡ Some more
-    → BeginsWithHead input c.head (drop spans.len (take filled buf) ++ more)
-begins-input None new buf headers spans filled c input more a b = cc
-begins-input (Some x) None buf headers spans filled c input more a b = absurd c.took
-begins-input (Some x) (Some y) buf headers spans filled c input more a b =
-    let taken : take filled buf ++ more ≡ input = cc (c.took) in
-    subst (λ l. BeginsWithHead l c.head (drop spans.len (take filled buf) ++ more)) taken
-    (begins-more (take filled buf) more c.head _ c.begins)
 
 -- no head is empty
 pub none-empty : HasNoRequest []
@@ -62,35 +52,40 @@ no_head-refused : (front : List ℕ) → RequestOverflows max_headers front → 
 no_head-refused front over rest h r b = let more = over rest h r b.reads in omega (arith, b.few)
 
 -- what begins with a byte is not empty
-not_empty : (x front rest : List ℕ) → x ≡ front ++ rest → 0 < length front → x ≢ []
-not_empty x front rest e h n = absurd (omega (arith, h, ap length n, ap length e, length-append front rest))
+not_empty : (front rest : List ℕ) → 0 < length front → front ++ rest ≢ []
+not_empty front rest h n = absurd (omega (arith, h, ap length n, length-append front rest))
 
 -- the reader gave bytes, and with what it has left there is no head
 wrong : (old new : Option (List ℕ)) (front : List ℕ) → Consumes old new front → 0 < length front
-    → ((rest : List ℕ) → new ≡ Some rest → HasNoHead (front ++ rest)) → IfSome old IsWrong
-wrong None new front took h none = tt
-wrong (Some x) None front took h none = absurd took
-wrong (Some x) (Some y) front took h none = (not_empty x front y took h, subst HasNoHead (sym took) (none y refl))
+    → HasNoHead (front ++ left new) → HadBytes old IsWrong
+wrong old new front took h none = had_given old new front IsWrong took (not_empty front (left new) h, none)
 
 pub wrong-full : (old new : Option (List ℕ)) (front : List ℕ) → Consumes old new front
-    → max_head ≤ length front → HasNoRequest front → IfSome old IsWrong
-wrong-full old new front took long none = wrong old new front took (omega arith) (λ rest _. no_head-full front long none rest)
+    → max_head ≤ length front → HasNoRequest front → HadBytes old IsWrong
+wrong-full old new front took long none = wrong old new front took (omega arith) (no_head-full front long none (left new))
 
 pub wrong-refused : (old new : Option (List ℕ)) (front : List ℕ) → Consumes old new front
-    → 0 < length front → RequestOverflows max_headers front → IfSome old IsWrong
-wrong-refused old new front took h over = wrong old new front took h (λ rest _. no_head-refused front over rest)
+    → 0 < length front → RequestOverflows max_headers front → HadBytes old IsWrong
+wrong-refused old new front took h over = wrong old new front took h (no_head-refused front over (left new))
 
 -- the input has ended
-ended : (front : List ℕ) (new : Option (List ℕ)) → IsAtEnd new → HasNoRequest front → (rest : List ℕ) → new ≡ Some rest
-    → HasNoHead (front ++ rest)
-ended front None ends none rest e = cc
-ended front (Some y) ends none rest e =
-    let nil : rest ≡ [] = cc in
-    subst HasNoHead (sym (append-nil front) ∙ ap (λ l. front ++ l) (sym nil)) (λ h r b. none h r b.reads)
+ended : (front : List ℕ) (new : Option (List ℕ)) → IsAtEnd new → HasNoRequest front → HasNoHead (front ++ left new)
+ended front new ends none =
+    subst HasNoHead (sym (append-nil front) ∙ ap (λ l. front ++ l) (sym (left-end new ends))) (λ h r b. none h r b.reads)
 
 pub wrong-ended : (old new : Option (List ℕ)) (front : List ℕ) → Consumes old new front
-    → 0 < length front → IsAtEnd new → HasNoRequest front → IfSome old IsWrong
+    → 0 < length front → IsAtEnd new → HasNoRequest front → HadBytes old IsWrong
 wrong-ended old new front took h ends none = wrong old new front took h (ended front new ends none)
+
+-- a read that gave no byte behind those that had come
+pub wrong-stopped : (old mid new : Option (List ℕ)) (before after : List ℕ) (filled total : ℕ) → Consumes old mid (take filled before)
+    → Came mid new before after filled total → total ≡ filled → 0 < length (take filled before) → IsAtEnd new
+    → HasNoRequest (take filled before) → HadBytes old IsWrong
+wrong-stopped old mid new before after filled total took c t h ends none =
+    let front = take filled before in
+    let nil : c.bytes ≡ [] = nil_from_length c.bytes (omega (arith, c.count, t)) in
+    let all = subst (λ l. Consumes old new (front ++ l)) nil (Consumes-trans old mid new front c.bytes took c.took) in
+    wrong-ended old new front (subst (Consumes old new) (append-nil front) all) h ends none
 
 -- ---- what reading finds
 

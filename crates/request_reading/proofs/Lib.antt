@@ -1,3 +1,4 @@
+pub mod HadLemmas
 pub mod HeadLemmas
 pub mod PieceLemmas
 pub mod HeaderLemmas

@@ -9,6 +9,13 @@ use Rattle.request_reading.specs.Head.{BeginsWithHead, HasNoHead}
 use Rattle.request_reading.specs.declared.head.Head.{Head}
 use Rattle.request_reading.specs.declared.head.Head.TheVariants.{Nothing, Wrong, Complete}
 
+-- The reader had bytes of which this holds: those, where its bytes are known, and some, where it is
+-- a reader whose bytes no contract knows, as a socket.
+pub record HadBytes (known : Option (List ℕ)) (Holds : List ℕ → Type 0) : Type 0 where
+  pub bytes : List ℕ
+  pub are : IfSome known (λ those. those ≡ bytes)
+  pub holds : Holds bytes
+
 -- the reader gave the bytes of the buffer from `filled` up to `total`, and those before stayed
 pub record Came (old new : Option (List ℕ)) (before after : List ℕ) (filled total : ℕ) : Type 0 where
   pub within : total ≤ length after
@@ -35,7 +42,7 @@ IsWrong input = (input ≢ []) × HasNoHead input
 -- what is answered of the bytes that the reader had
 abbrev pub IsFound : Option (List ℕ) → Option (List ℕ) → List ℕ → List HeaderSpan → Head → Type 0
 IsFound old new buf headers Nothing = IfSome old (λ input. input ≡ [])
-IsFound old new buf headers Wrong = IfSome old IsWrong
+IsFound old new buf headers Wrong = HadBytes old IsWrong
 IsFound old new buf headers (Complete spans filled) = IsComplete old new buf headers spans filled
 
 -- the reader gave bytes that begin with no head of any length

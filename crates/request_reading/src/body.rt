@@ -1,9 +1,9 @@
 //! The body of a request: the bytes after its head.
 
-ghost use Rattle.std.specs.Prelude.{◌≡◌, ◌≢◌, ◌++◌, ◌≤◌, ◌<◌, ◌-◌, Ok, Err, length, take, drop, map, min, All, IfOk, IfErr, IfSome, IsOk, OnErr};
+ghost use Rattle.std.specs.Prelude.{◌≡◌, ◌≢◌, ◌++◌, ◌≤◌, ◌<◌, ◌-◌, Ok, Err, length, take, drop, map, min, All, IfOk, IfErr, IsOk, OnErr};
 ghost use Rattle.std.specs.Io.KnownBytes.{Consumes, IsAtEnd};
 ghost use Rattle.httparse.specs.Spans.{IsHeaderWithin, header_bytes};
-ghost use Rattle.request_reading.specs.Found.{Came, LosesFewer};
+ghost use Rattle.request_reading.specs.Found.{Came, HadBytes, LosesFewer};
 ghost use Rattle.request_reading.specs.Headers.{body_length};
 ghost use Rattle.request_reading.specs.Body.{body_of, whole, shown};
 
@@ -55,7 +55,7 @@ fn read_whole<R: Read>(
     here: &[u8],
     size: usize,
 ) -> Result<Result<Vec<u8>, BodyRefusal>, ReadFault>
-    ensures whole { IfOk result (λ body. IfSome (R.remaining reader.old)
+    ensures whole { IfOk result (λ body. HadBytes (R.remaining reader.old)
         (λ more. shown body ≡ whole size (here.now ++ more))) }
     ensures taken { IfOk result (λ body. IfOk body (λ bytes.
         Consumes (R.remaining reader.old) (R.remaining reader.new) (drop (length here.now) bytes.items))) }
@@ -94,7 +94,7 @@ pub fn read_body<R: Read>(
 ) -> Result<Result<Vec<u8>, BodyRefusal>, ReadFault>
     requires within { All (IsHeaderWithin (length buf.now)) headers.now }
     requires started { start ≤ length buf.now }
-    ensures body { IfOk result (λ body. IfSome (R.remaining reader.old)
+    ensures body { IfOk result (λ body. HadBytes (R.remaining reader.old)
         (λ more. shown body ≡ body_of (map (header_bytes buf.now) headers.now) (drop start buf.now ++ more))) }
     ensures taken { IfOk result (λ body. IfOk body (λ bytes.
         Consumes (R.remaining reader.old) (R.remaining reader.new) (drop (length buf.now - start) bytes.items))) }

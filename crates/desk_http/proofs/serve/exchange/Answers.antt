@@ -3,11 +3,12 @@ use Rattle.desk_text.specs.declared.outcome.StoreFault.{StoreFault}
 use Rattle.desk_text.specs.declared.outcome.StoreFault.TheVariants.{Memory}
 use Rattle.request_reading.specs.Found.{IsFound}
 use Rattle.request_reading.specs.declared.head.Head.{Head}
-use Rattle.desk_store.proofs.HoldsLemmas.{holds_none}
+use Rattle.desk_store.proofs.HoldsLemmas.{holds_none, holds_weaker}
 use Rattle.desk_answers.specs.Faults.{counted_with}
 use Rattle.desk_answers.specs.Shown.{shown}
 use Rattle.desk_http.specs.Exchange.{IsRight}
-use Rattle.desk_http.proofs.ExchangeLemmas.{complete_right, memory_right}
+use Rattle.desk_http.specs.Shown.{asks}
+use Rattle.desk_http.proofs.ExchangeLemmas.{complete_right, asked_right, memory_right, not_wrong}
 use Rattle.desk_http.proofs.serve.exchange.Goals as goal
 
 pub returns-in-Err-Memory-clause-answer : goal.returns-in-Err-Memory-clause-answer
@@ -30,3 +31,36 @@ returns-in-Err-Memory-clause-answer g c =
           (λ head at. memory_right after (take filled buf) spans desk reply c.store_fault.ensures.is head);
       counts = subst (λ (f : Option StoreFault). faults ≡ counted_with f faults) (sym met) refl;
     })
+
+pub returns-in-Ok-ask-clause-answer : goal.returns-in-Ok-ask-clause-answer
+returns-in-Ok-ask-clause-answer g c =
+    let before = g.R.Read.remaining c.args.reader.now in
+    let after = g.R.Read.remaining c.read_head.new.reader in
+    let desk = g.S.Records.desk in
+    let buf = c.read_head.new.buf in
+    let headers = c.read_head.new.headers in
+    let spans = c.in-Complete.spans in
+    let filled = c.in-Complete.filled in
+    let reply = c.carry_out.result in
+    let made = c.in-Ok-ask.made in
+    let answered = shown reply in
+    let old = desk c.args.store.now in
+    let new = desk c.carry_out.new.store in
+    let n0 = g.S.Records.faults c.args.store.now in
+    let n1 = g.S.Records.faults c.carry_out.new.store in
+    holds_weaker {Q = IsRight before old new n0 n1 reply.fault answered} c.carry_out.ensures.answer (λ replied. record {
+      answers = complete_right before after buf headers spans filled
+          (subst (λ (h : Head). IsFound before after buf headers h) c.in-Complete.is c.in-Ok.ensures.found)
+          old new reply.fault answered
+          (asked_right after (take filled buf) headers spans (asks made) old new reply.fault answered c.in-Ok-ask.ensures.asks replied);
+      counts = c.carry_out.ensures.count;
+    })
+
+pub returns-in-Ok-ask-clause-wrong : goal.returns-in-Ok-ask-clause-wrong
+returns-in-Ok-ask-clause-wrong g c =
+    let before = g.R.Read.remaining c.args.reader.now in
+    let after = g.R.Read.remaining c.read_head.new.reader in
+    let buf = c.read_head.new.buf in
+    let headers = c.read_head.new.headers in
+    not_wrong before after buf headers c.in-Complete.spans c.in-Complete.filled
+    (subst (λ (h : Head). IsFound before after buf headers h) c.in-Complete.is c.in-Ok.ensures.found) _

@@ -7,4 +7,4 @@ pub returns : goal.returns
 unfolding route_at
 returns c =
     c.route_in.ensures
-    ∙ ap (λ (rows : Routes). option_map (λ row. row.value) (first rows c.args.path.now)) c.in_ok-router.ensures
+    ∙ ap (λ (rows : Routes). option_map (λ row. row.value) (first rows c.args.path.now)) c.in_ok-add_routes.ensures

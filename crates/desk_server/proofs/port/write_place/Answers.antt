@@ -10,5 +10,5 @@ returns-in-Ok-flush-clause-all g c =
     let after = g.W.Write.contents c.write_three.new.writer in
     let number : c.as_bytes.result.now ≡ decimal c.args.port = c.as_bytes.ensures.value ∙ c.format-number.ensures.text in
     Appends-kept before after (g.W.Write.contents c.flush.new.self) (place_line c.args.port)
-    (subst (λ (n : List ℕ). Appends before after (codes "Listening on 127.0.0.1:" ++ (n ++ codes "\n"))) number c.in-Ok.ensures)
+    (subst (λ (n : List ℕ). Appends before after (codes "Listening on 127.0.0.1:" ++ (n ++ codes "\n"))) number c.in-Ok.ensures.all)
     c.in-Ok-flush.ensures.bytes
