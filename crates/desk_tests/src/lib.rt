@@ -1,7 +1,19 @@
 //! Tests of what data can't show: readers and writers in pieces and failing, stores that fail, which
-//! sets are written, and calls that no program makes.
+//! sets are written, calls that no program makes, requests that are cut at each byte, statuses that
+//! are told, and connections and a server on the loopback, both of whose ends are in one thread:
+//! clients connect and send before they are accepted.
 #![tactic(auto)]
 
+#[cfg(test)]
+mod clients;
+#[cfg(test)]
+mod connections;
+#[cfg(test)]
+mod cuts;
+#[cfg(test)]
+mod exchange_faults;
+#[cfg(test)]
+mod exchanges;
 #[cfg(test)]
 mod fails;
 #[cfg(test)]
@@ -9,14 +21,24 @@ mod faults;
 #[cfg(test)]
 mod lines;
 #[cfg(test)]
+mod loopback;
+#[cfg(test)]
 mod messages;
 #[cfg(test)]
-mod readers;
+mod port;
+#[cfg(test)]
+mod reads;
 #[cfg(test)]
 mod scripts;
 #[cfg(test)]
+mod statuses;
+#[cfg(test)]
 mod stores;
+#[cfg(test)]
+mod streams;
 #[cfg(test)]
 mod texts;
 #[cfg(test)]
 mod waiting;
+#[cfg(test)]
+mod writes;

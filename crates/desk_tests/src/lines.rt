@@ -1,6 +1,6 @@
 //! Lines in the pieces that readers give, bytes in the pieces that writers take, and their faults.
 
-use crate::readers::{Broken, Narrow, Pieces, Trickle};
+use crate::streams::{Failure, Feed, Pieces, Sink};
 use desk_lines::{Piece, ScriptFault, Source, next_line, split_lines, write_out};
 use std::alloc::{AllocError, Global};
 use std::io::Read;
@@ -55,7 +55,7 @@ fn lines_are_the_same_in_whatever_pieces_they_are_read(rt: HostRuntime) -> Resul
         ("end", ""),
     ];
     assert_pieces(&rt, rt.alloc(), &mut text.as_slice(), &want)?;
-    let mut slow = Trickle::new(text, 100);
+    let mut slow = Feed::new(text, 1, 100);
     assert_pieces(&rt, rt.alloc(), &mut slow, &want)?;
     Ok(())
 }
@@ -84,7 +84,7 @@ fn a_line_has_65_536_bytes_at_most(rt: HostRuntime) -> Result<(), Fail> {
 fn a_long_line_is_refused_at_its_first_byte_too_many(rt: HostRuntime) -> Result<(), Fail> {
     let alloc = rt.alloc();
     let bytes = long(alloc, 70_000, b"")?;
-    let mut reader = Trickle::new(&bytes, 65_537);
+    let mut reader = Feed::new(&bytes, 1, 65_537);
     let fault = next_line(alloc, &mut Source::new(), &mut reader, 7).err();
     assert!(rt; fault == Some(ScriptFault::LineTooLong(7)));
     Ok(())
@@ -94,7 +94,7 @@ fn a_long_line_is_refused_at_its_first_byte_too_many(rt: HostRuntime) -> Result<
 fn a_read_that_fails_is_the_fault(rt: HostRuntime) -> Result<(), Fail> {
     let alloc = rt.alloc();
     let mut source = Source::new();
-    let mut reader = Trickle::new(b"a\nbc\n", 3);
+    let mut reader = Feed::new(b"a\nbc\n", 1, 3);
     let first = next_line(alloc, &mut source, &mut reader, 1)?;
     assert!(rt; shown(&first) == ("line", "a"));
     let second = next_line(alloc, &mut source, &mut reader, 2);
@@ -159,7 +159,7 @@ fn all_bytes_are_written_in_any_pieces(rt: HostRuntime) -> Result<(), Fail> {
     write_out(&mut whole, b"ab")?;
     write_out(&mut whole, b"c")?;
     assert!(rt; whole.as_slice() == b"abc".as_slice());
-    let mut narrow = Narrow::new(Vec::new(alloc), 3);
+    let mut narrow = Sink::new(Vec::new(alloc), 1, 3, Failure::Full);
     write_out(&mut narrow, b"abc")?;
     assert!(rt; narrow.taken.as_slice() == b"abc".as_slice());
     Ok(())
@@ -167,12 +167,12 @@ fn all_bytes_are_written_in_any_pieces(rt: HostRuntime) -> Result<(), Fail> {
 
 #[test]
 fn a_write_that_fails_or_takes_no_byte_is_the_fault(rt: HostRuntime) {
-    let mut narrow = Narrow::new(Vec::new(rt.alloc()), 2);
+    let mut narrow = Sink::new(Vec::new(rt.alloc()), 1, 2, Failure::Full);
     assert!(rt; write_out(&mut narrow, b"abc") == Err(ScriptFault::Write));
     assert!(rt; narrow.taken.as_slice() == b"ab".as_slice());
     assert!(rt; narrow.later() == Some(0));
-    let mut broken = Broken { writes: 0 };
+    let mut broken = Sink::new(Vec::new(rt.alloc()), usize::MAX, 0, Failure::Interrupted);
     assert!(rt; write_out(&mut broken, b"") == Ok(()));
     assert!(rt; write_out(&mut broken, b"a") == Err(ScriptFault::Write));
-    assert!(rt; broken.writes == 1);
+    assert!(rt; broken.later() == Some(0));
 }

@@ -1,6 +1,6 @@
 //! Scripts over readers and writers that fail.
 
-use crate::readers::{Narrow, Trickle};
+use crate::streams::{Failure, Feed, Sink};
 use desk_run::{ScriptEnd, ScriptFault, run_script};
 use desk_store::{PlainDesk, Records};
 use std::alloc::{AllocError, Global};
@@ -34,7 +34,7 @@ pub(crate) fn writes<S: Records>(
 // What the script writes where a read fails after so many bytes; `None` where it ends otherwise, or
 // reads on.
 fn written_until(alloc: Global, desk: &mut PlainDesk, bytes: usize) -> Option<Vec<u8>> {
-    let mut reader = Trickle::new(SCRIPT.as_bytes(), bytes);
+    let mut reader = Feed::new(SCRIPT.as_bytes(), 1, bytes);
     let mut writer = Vec::new(alloc);
     let end = run_script(alloc, desk, &mut reader, &mut writer);
     if end == Err(ScriptFault::Read) && reader.later() == Some(0) {
@@ -79,7 +79,7 @@ fn fills(
 ) -> bool {
     let mut desk = PlainDesk::new(alloc, 1);
     let mut reader = SCRIPT.as_bytes();
-    let mut writer = Narrow::new(Vec::new(alloc), room);
+    let mut writer = Sink::new(Vec::new(alloc), 1, room, Failure::Full);
     let ended = run_script(alloc, &mut desk, &mut reader, &mut writer);
     ended == end
         && writer.later() == later

@@ -1,20 +1,22 @@
-//! Readers and writers that take their time, and fail once.
+//! Readers and writers that give and take so many bytes at a time, and fail once.
 
 use std::io::{self, ErrorKind, Read, Write};
 
-/// Gives one byte a read.
+/// Gives at most so many bytes a read.
 /// The read after so many is interrupted; later ones would go on, and are counted.
 #[derive(Drop)]
-pub(crate) struct Trickle<'a> {
+pub(crate) struct Feed<'a> {
     left: &'a [u8],
+    piece: usize,
     good_reads: usize,
     later: Option<u64>,
 }
 
-impl<'a> Trickle<'a> {
-    pub fn new(bytes: &'a [u8], good_reads: usize) -> Trickle<'a> {
-        Trickle {
+impl<'a> Feed<'a> {
+    pub fn new(bytes: &'a [u8], piece: usize, good_reads: usize) -> Feed<'a> {
+        Feed {
             left: bytes,
+            piece,
             good_reads,
             later: None,
         }
@@ -26,7 +28,7 @@ impl<'a> Trickle<'a> {
     }
 }
 
-impl Read for Trickle<'_> {
+impl Read for Feed<'_> {
     fn read(&mut self, buf: &mut [u8]) -> io::Result<usize> {
         match self.later {
             Some(later) => self.later = Some(later.saturating_add(1)),
@@ -38,7 +40,7 @@ impl Read for Trickle<'_> {
                 self.good_reads -= 1;
             }
         }
-        let len = self.left.len().min(buf.len()).min(1);
+        let len = self.left.len().min(buf.len()).min(self.piece);
         buf[..len].copy_from_slice(&self.left[..len]);
         self.left = &self.left[len..];
         Ok(len)
@@ -61,20 +63,33 @@ impl Read for Pieces<'_> {
     }
 }
 
-/// Takes one byte a write.
-/// The write after so many takes none; later ones would take one again, and are counted.
+/// How a writer fails.
+#[derive(Clone, Copy)]
+pub(crate) enum Failure {
+    /// It is interrupted.
+    Interrupted,
+    /// It takes no byte.
+    Full,
+}
+
+/// Takes at most so many bytes a write.
+/// The write after so many fails; later ones would go on, and are counted.
 #[derive(Drop)]
-pub(crate) struct Narrow {
+pub(crate) struct Sink {
     pub taken: Vec<u8>,
-    room: usize,
+    piece: usize,
+    good_writes: usize,
+    failure: Failure,
     later: Option<u64>,
 }
 
-impl Narrow {
-    pub fn new(taken: Vec<u8>, room: usize) -> Narrow {
-        Narrow {
+impl Sink {
+    pub fn new(taken: Vec<u8>, piece: usize, good_writes: usize, failure: Failure) -> Sink {
+        Sink {
             taken,
-            room,
+            piece,
+            good_writes,
+            failure,
             later: None,
         }
     }
@@ -85,41 +100,24 @@ impl Narrow {
     }
 }
 
-impl Write for Narrow {
+impl Write for Sink {
     fn write(&mut self, buf: &[u8]) -> io::Result<usize> {
         match self.later {
             Some(later) => self.later = Some(later.saturating_add(1)),
             None => {
-                if self.room == 0 {
+                if self.good_writes == 0 {
                     self.later = Some(0);
-                    return Ok(0);
+                    return match self.failure {
+                        Failure::Interrupted => Err(io::Error::from(ErrorKind::Interrupted)),
+                        Failure::Full => Ok(0),
+                    };
                 }
-                self.room -= 1;
+                self.good_writes -= 1;
             }
         }
-        let len = buf.len().min(1);
+        let len = buf.len().min(self.piece);
         self.taken.extend_from_slice(&buf[..len])?;
         Ok(len)
-    }
-
-    fn flush(&mut self) -> io::Result<()> {
-        Ok(())
-    }
-}
-
-/// Is interrupted at its first write. Later ones would take all, and are counted with it.
-#[derive(Drop)]
-pub(crate) struct Broken {
-    pub writes: u64,
-}
-
-impl Write for Broken {
-    fn write(&mut self, buf: &[u8]) -> io::Result<usize> {
-        self.writes = self.writes.saturating_add(1);
-        if self.writes == 1 {
-            return Err(io::Error::from(ErrorKind::Interrupted));
-        }
-        Ok(buf.len())
     }
 
     fn flush(&mut self) -> io::Result<()> {

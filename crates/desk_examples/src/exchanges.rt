@@ -1,22 +1,12 @@
-//! Runs the HTTP exchanges of its examples, each on two desks: to one a request comes at once, to
-//! the other one byte at a time.
-//! It prints the examples, and after each request what it is answered.
-#![tactic(auto)]
+//! HTTP exchanges, each run on two desks: to one a request comes at once, to the other one byte at
+//! a time.
 
-mod answers;
-mod exchanges;
-mod lines;
-mod requests;
-
+use crate::exchange::{Trickle, served};
+use crate::exchange_lines::{Line, read_line};
+use crate::requests::request_of;
 use desk_store::PlainDesk;
-use exchanges::{Trickle, served};
-use lines::{Line, read_line};
-use requests::request_of;
 use std::alloc::Global;
-use std::{fs, io};
-
-/// The name of the file that lists the files with examples.
-const FILES: &str = "files";
+use std::io;
 
 // Two desks that have taken the same requests.
 #[derive(Drop)]
@@ -60,8 +50,8 @@ fn serve_lines(rt: &HostRuntime, desks: &mut Desks, lines: &[&str]) -> io::Resul
     }
 }
 
-// Runs the exchanges of a file, whose lines they are, and prints these lines too.
-fn run_file(rt: &HostRuntime, text: &str) -> io::Result<()> {
+/// Runs the exchanges of a file, and prints its lines, and after each request what it is answered.
+pub(crate) fn run_file(rt: &HostRuntime, text: &str) -> io::Result<()> {
     let mut desks = Desks::new(rt.alloc(), 1);
     let mut request = Vec::new(rt.alloc());
     for line in text.split_terminator('\n') {
@@ -78,11 +68,4 @@ fn run_file(rt: &HostRuntime, text: &str) -> io::Result<()> {
         }
     }
     serve_lines(rt, &mut desks, &request)
-}
-
-fn main(rt: HostRuntime) -> io::Result<()> {
-    for name in fs::read_to_string(&rt, FILES)?.lines() {
-        run_file(&rt, fs::read_to_string(&rt, name)?.as_str())?;
-    }
-    Ok(())
 }

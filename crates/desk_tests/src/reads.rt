@@ -1,7 +1,7 @@
 //! Exchanges over a reader that fails.
 
 use crate::exchanges::{EXCHANGES, desk_after, is_after};
-use crate::streams::Source;
+use crate::streams::Feed;
 use desk_http::{ServeFault, Served, serve_one};
 use std::alloc::Global;
 
@@ -17,7 +17,7 @@ fn meets_failure(
     good_reads: usize,
 ) -> Option<bool> {
     let mut desk = desk_after(alloc, place);
-    let mut reader = Source::new(request.as_bytes(), piece, good_reads);
+    let mut reader = Feed::new(request.as_bytes(), piece, good_reads);
     let mut written = Vec::new(alloc);
     let told = serve_one(alloc, &mut desk, &mut reader, &mut written);
     match (told, reader.later()) {
@@ -59,7 +59,7 @@ const WITHOUT_BODIES: [&str; 5] = [
 // Whether a request is answered, and nothing is read after the piece that has its head.
 fn is_answered_by_its_head(alloc: Global, request: &str) -> bool {
     let mut desk = desk_after(alloc, 0);
-    let mut reader = Source::new(request.as_bytes(), usize::MAX, 1);
+    let mut reader = Feed::new(request.as_bytes(), usize::MAX, 1);
     let mut written = Vec::new(alloc);
     let told = serve_one(alloc, &mut desk, &mut reader, &mut written);
     matches!(told, Ok(Served::Answered(_))) && reader.later().is_none()

@@ -1,16 +1,9 @@
-//! Runs the scripts of its examples, each on a new desk, and prints what each wrote and how it
-//! ended.
-#![tactic(auto)]
+//! Scripts, each run on a new desk: what each wrote, and how it ended.
 
-mod header;
-
+use crate::header::{Header, read_header};
 use desk_run::{ScriptEnd, run_script};
 use desk_store::PlainDesk;
-use header::{Header, read_header};
-use std::{fs, io};
-
-/// The name of the file that lists the files with examples.
-const FILES: &str = "files";
+use std::io;
 
 // Runs one script, where it has a header.
 fn run_example(rt: &HostRuntime, header: Option<Header<'_>>, script: &[u8]) -> io::Result<()> {
@@ -27,9 +20,9 @@ fn run_example(rt: &HostRuntime, header: Option<Header<'_>>, script: &[u8]) -> i
     }
 }
 
-// Runs the scripts of a file. Each is the lines, as they are, between its header and the next one;
-// what precedes the first header is none.
-fn run_file(rt: &HostRuntime, bytes: &[u8]) -> io::Result<()> {
+/// Runs the scripts of a file. Each is the lines, as they are, between its header and the next one;
+/// what precedes the first header is none.
+pub(crate) fn run_file(rt: &HostRuntime, bytes: &[u8]) -> io::Result<()> {
     let mut header = None;
     let mut script = Vec::new(rt.alloc());
     for line in bytes.split_inclusive(|byte| *byte == b'\n') {
@@ -43,11 +36,4 @@ fn run_file(rt: &HostRuntime, bytes: &[u8]) -> io::Result<()> {
         }
     }
     run_example(rt, header, &script)
-}
-
-fn main(rt: HostRuntime) -> io::Result<()> {
-    for name in fs::read_to_string(&rt, FILES)?.lines() {
-        run_file(&rt, &fs::read(&rt, name)?)?;
-    }
-    Ok(())
 }

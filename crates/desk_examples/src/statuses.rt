@@ -1,40 +1,8 @@
-//! Runs command lines and prints how each ended.
-//! A line of the table that begins with `bts` is a command line: the program's name and the words
-//! after it, with a bar between them.
-//! The lines after it, up to the next such line or heading, are its standard input.
-//! A line that begins with `==` is a heading.
-#![tactic(auto)]
+//! Command lines, run on an input: what each wrote, and how it ended.
 
+use crate::help::print_help;
 use bts_jobs::{Ending, run_words};
-use std::{fs, io};
-
-/// The name of the table.
-const TABLE: &str = "calls";
-
-/// What the help has to name.
-const NAMES: [&str; 10] = [
-    "--store <FILE>",
-    "--from <TEXT>",
-    "--port <N>",
-    "--count <N>",
-    "--first <N>",
-    "--help",
-    "run",
-    "init",
-    "serve",
-    "other words",
-];
-
-// Prints what the help names.
-fn print_help(rt: &HostRuntime, text: &str) -> io::Result<()> {
-    println!(rt; "-- help, which names")?;
-    for name in NAMES {
-        if text.contains(name) {
-            println!(rt; "   {name}")?;
-        }
-    }
-    Ok(())
-}
+use std::io;
 
 // Prints what was written; of a help, what it names.
 fn print_output(rt: &HostRuntime, output: &[u8]) -> io::Result<()> {
@@ -87,22 +55,26 @@ fn run_pending(rt: &HostRuntime, call: Option<&str>, input: &mut Vec<u8>) -> io:
     Ok(())
 }
 
-fn main(rt: HostRuntime) -> io::Result<()> {
-    let table = fs::read_to_string(&rt, TABLE)?;
+/// Runs the command lines of a table.
+/// A line that begins with `bts` is one: the program's name and the words after it, with a bar
+/// between them.
+/// The lines after it, up to the next such line or heading, are its standard input.
+/// A line that begins with `==` is a heading.
+pub(crate) fn run_file(rt: &HostRuntime, table: &str) -> io::Result<()> {
     let mut call = None;
     let mut input = Vec::new(rt.alloc());
     for line in table.lines() {
         if line.starts_with("==") {
-            run_pending(&rt, call, &mut input)?;
+            run_pending(rt, call, &mut input)?;
             call = None;
-            println!(&rt; "{line}")?;
+            println!(rt; "{line}")?;
         } else if is_call(line) {
-            run_pending(&rt, call, &mut input)?;
+            run_pending(rt, call, &mut input)?;
             call = Some(line);
         } else {
             input.extend_from_slice(line.as_bytes())?;
             input.push(b'\n')?;
         }
     }
-    run_pending(&rt, call, &mut input)
+    run_pending(rt, call, &mut input)
 }

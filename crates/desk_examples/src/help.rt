@@ -1,0 +1,29 @@
+//! What the help names.
+
+use std::io;
+
+/// What the help has to name.
+const NAMES: [&str; 11] = [
+    "--store <FILE>",
+    "--from <TEXT>",
+    "--port <N>",
+    "--count <N>",
+    "--first <N>",
+    "--help",
+    "run",
+    "init",
+    "serve",
+    "other words",
+    "Example",
+];
+
+/// Prints what a text of help names.
+pub(crate) fn print_help(rt: &HostRuntime, text: &str) -> io::Result<()> {
+    println!(rt; "-- help, which names")?;
+    for name in NAMES {
+        if text.contains(name) {
+            println!(rt; "   {name}")?;
+        }
+    }
+    Ok(())
+}
