@@ -4,4 +4,3 @@ use Rattle.record_changes.proofs.tags.take_steps.Goals as goal
 
 pub loop-step-preserved : goal.loop-step-preserved
 loop-step-preserved c = grind (arith, common_steps)
-
