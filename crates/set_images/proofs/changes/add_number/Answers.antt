@@ -1,4 +1,4 @@
-use Rattle.std.proofs.Common.{◌≡◌, true, ◌∙◌}
+use Rattle.std.proofs.Common.{◌≡◌, true, not, sym, ap, ◌∙◌}
 use Rattle.set_images.specs.Changes.{differs}
 use Rattle.bug_record.proofs.OrderedLemmas.{with_key}
 use Rattle.set_images.proofs.JoinLemmas.{join-number}
@@ -6,6 +6,7 @@ use Rattle.set_images.proofs.changes.add_number.Goals as goal
 
 pub returns-in_ok-insert-clause-numbers : goal.returns-in_ok-insert-clause-numbers
 returns-in_ok-insert-clause-numbers c =
-    let differ : differs c.args.before.now c.args.after.now c.args.number ≡ true = cc in
+    let differ : differs c.args.before.now c.args.after.now c.args.number ≡ true =
+    ap not (sym c.same_bug.ensures.value ∙ c.if-not-same_bug.true) in
     join-number (differs c.args.before.now c.args.after.now) c.args.set.now.keys c.insert.new.self.keys c.args.number differ
     (c.in_ok-insert.ensures.keys ∙ with_key c.args.set.now.keys c.args.number)

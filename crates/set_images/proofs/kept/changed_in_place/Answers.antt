@@ -1,4 +1,5 @@
-use Rattle.std.proofs.Common.{◌≡◌, true, false, ap, ◌∙◌}
+use Rattle.std.proofs.Common.{◌≡◌, true, false, sym, ap, ◌∙◌, arith}
+use Rattle.std.proofs.lemmas.Grind.{common_steps}
 use Rattle.std.proofs.lemmas.Result.{IfOk-weaker}
 use Rattle.bug_record.specs.Changed.{same_shared}
 use Rattle.bug_record.specs.Images.{numbers_of}
@@ -8,14 +9,19 @@ use Rattle.set_images.proofs.kept.changed_in_place.Goals as goal
 
 pub returns-then-not-same_shared : goal.returns-then-not-same_shared
 returns-then-not-same_shared c =
-    let other : same_shared c.args.old.now.shared c.args.new.now.shared ≡ false = cc in
+    let other : same_shared c.args.old.now.shared c.args.new.now.shared ≡ false =
+    sym c.same_shared.ensures ∙ c.if-not-same_shared.true in
     IfOk-weaker c.numbers_of.result _ _
     (λ r e. changed-shared c.args.old.now c.args.new.now r c.requires.kept other
     (e ∙ ap numbers_of c.as_slice-members.ensures)) c.numbers_of.ensures
 
 pub returns : goal.returns
 returns c =
-    let alike : same_shared c.args.old.now.shared c.args.new.now.shared ≡ true = cc in
+    let alike : same_shared c.args.old.now.shared c.args.new.now.shared ≡ true =
+    sym c.same_shared.ensures ∙ c.if-not-same_shared.false in
     IfOk-weaker c.retold.result _ _
     (λ r e. changed-retold c.args.old.now c.args.new.now r c.requires.kept alike
     (e ∙ (λ j. retold (c.as_slice.ensures j) (c.as_slice-members.ensures j)))) c.retold.ensures
+
+pub retold-requires : goal.retold-requires
+retold-requires c = grind (arith, common_steps)
