@@ -1,4 +1,4 @@
-use Rattle.std.proofs.Common.{◌∙◌, ap}
+use Rattle.std.proofs.Common.{rules, ◌∙◌, ap}
 use Rattle.std.proofs.lemmas.Result.{IfOk-weaker}
 use Rattle.serde_json.specs.Written.{has_float, compact_text}
 use Rattle.desk_json.proofs.AnswerLemmas.{control_text}
@@ -10,3 +10,6 @@ returns-clause-text c =
     IfOk-weaker c.to_string.result _ _
     (λ s h. h (ap has_float e) ∙ ap compact_text e ∙ control_text _ _)
     c.to_string.ensures.text
+
+pub returns-clause-reads_back : goal.returns-clause-reads_back
+returns-clause-reads_back c = search rules

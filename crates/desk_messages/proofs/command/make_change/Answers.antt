@@ -1,4 +1,4 @@
-use Rattle.std.proofs.Common.{sym, ap, ◌∙◌, subst}
+use Rattle.std.proofs.Common.{rules, sym, ap, ◌∙◌, subst}
 use Rattle.bug_record.specs.Sets.{Each}
 use Rattle.bug_record.specs.Images.{bug_in, put, AreApart, HasMember, FitsDesk}
 use Rattle.bug_record.specs.Changed.{AreChanged}
@@ -57,3 +57,6 @@ returns-then-change-next-clause-answer g c =
                 (nothing _ _ c.as_slice-2.ensures (sym c.is_empty.ensures ∙ c.if-is_empty.true)) c.if-change-next.true),
           );
     }
+
+pub returns-in-Err-clause-count : goal.returns-in-Err-clause-count
+returns-in-Err-clause-count g c = c.in-Err.ensures.count

@@ -1,4 +1,4 @@
-use Rattle.std.proofs.Common.{◌≡◌, true, false, [], ◌∷◌, refl, sym, subst, ◌∙◌}
+use Rattle.std.proofs.Common.{rules, ◌≡◌, true, false, [], ◌∷◌, refl, sym, subst, ◌∙◌}
 use Rattle.std.specs.BTreeSet.{contains}
 use Rattle.std.specs.Ordering.{nat_cmp}
 use Rattle.bug_record.specs.Images.{AreApart}
@@ -55,3 +55,6 @@ returns-in-Ok-clause-apart g c =
     subst AreApart (sym c.in-Ok.ensures.images)
     (apart-more c.args.images.now c.in-Ok-Some.image c.requires.apart
     (sym (meets-listed _ c.args.images.now c.requires.bugs c.in-Ok-Some.image.members) ∙ apart))
+
+pub returns-in-Err-clause-count : goal.returns-in-Err-clause-count
+returns-in-Err-clause-count g c = c.in-Err.ensures.count

@@ -1,4 +1,4 @@
-use Rattle.std.proofs.Common.{◌∙◌, sym, ap}
+use Rattle.std.proofs.Common.{rules, ◌∙◌, sym, ap}
 use Rattle.bug_record.specs.Desk.{Desk}
 use Rattle.bug_record.specs.Steps.{reported}
 use Rattle.desk_store.proofs.HoldsLemmas.{holds_none, holds_weaker, holds_both, holds_where}
@@ -36,3 +36,6 @@ returns-in-Ok-apply-clause-answer g c =
     (p.1 ∙ c.in-Ok-report_change.ensures.right _ sound same
     ∙ ap (reported _ c.args.from.now c.args.package.now c.in-Ok.severity c.args.title.now)
     c.in-Ok-node_reported.ensures.node))
+
+pub returns-then-next-ge1000000000-clause-count : goal.returns-then-next-ge1000000000-clause-count
+returns-then-next-ge1000000000-clause-count g c = search rules

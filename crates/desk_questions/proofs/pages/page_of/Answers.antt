@@ -1,4 +1,4 @@
-use Rattle.std.proofs.Common.{◌∙◌, sym, ap, subst}
+use Rattle.std.proofs.Common.{rules, ◌∙◌, sym, ap, subst}
 use Rattle.desk_store.specs.Store.{IsImageOf}
 use Rattle.desk_store.proofs.HoldsLemmas.{holds_weaker}
 use Rattle.desk_questions.specs.Questions.{Told}
@@ -15,3 +15,6 @@ returns-in-Ok-clause-answer g c =
       sym (ap (λ (x : Told). x.refused) p),
       h.1,
     ))
+
+pub returns-in-Err-clause-count : goal.returns-in-Err-clause-count
+returns-in-Err-clause-count g c = search rules

@@ -1,5 +1,5 @@
 use Rattle.std.proofs.lemmas.List.{take_all}
-use Rattle.std.proofs.Common.{arith, length, length-drop, ◌-◌, ◌++◌, drop, ap}
+use Rattle.std.proofs.Common.{rules, arith, length, length-drop, ◌-◌, ◌++◌, drop, ap}
 use Rattle.request_reading.specs.Body.{body_of_length}
 use Rattle.request_reading.proofs.HadLemmas.{had_any}
 use Rattle.request_reading.proofs.BodyLemmas.{body-asked}
@@ -15,3 +15,9 @@ returns-in-Ok-clause-body g c =
     body-asked c.read_whole.result (g.R.Read.remaining c.args.reader.now) _ c.in-Ok.size _ (drop c.args.start c.args.buf.now) c.in-Ok.ensures
     (take_all (length c.args.buf.now - c.args.start) (drop c.args.start c.args.buf.now) (omega (arith, length-drop c.args.start c.args.buf.now)))
     c.read_whole.ensures.whole
+
+pub returns-in-Ok-clause-taken : goal.returns-in-Ok-clause-taken
+returns-in-Ok-clause-taken g c = search rules
+
+pub returns-in-Ok-clause-cut : goal.returns-in-Ok-clause-cut
+returns-in-Ok-clause-cut g c = search rules

@@ -1,4 +1,4 @@
-use Rattle.std.proofs.Common.{arith, ◌≡◌, length, take, drop, ◌++◌, ap, ◌∙◌}
+use Rattle.std.proofs.Common.{rules, arith, ◌≡◌, length, take, drop, ◌++◌, ap, ◌∙◌}
 use Rattle.std.proofs.lemmas.List.{take_at}
 use Rattle.request_reading.proofs.BodyLemmas.{body-cut, body-whole}
 use Rattle.request_reading.proofs.body.read_whole.Goals as goal
@@ -20,3 +20,6 @@ returns-clause-whole g c =
     let back : take c.in-Ok.body.len (c.fill.new.buf ++ drop (length c.fill.new.buf) c.in-Ok.body.items) ≡ c.fill.new.buf =
     take_at c.fill.new.buf (drop (length c.fill.new.buf) c.in-Ok.body.items) c.in-Ok.body.len long in
     simp back s
+
+pub returns-then-total-size-clause-taken : goal.returns-then-total-size-clause-taken
+returns-then-total-size-clause-taken g c = search rules

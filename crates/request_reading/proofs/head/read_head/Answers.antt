@@ -1,7 +1,8 @@
-use Rattle.std.proofs.Common.{arith, length-take}
+use Rattle.std.proofs.Common.{rules, arith, length-take}
 use Rattle.std.proofs.KnownBytes.{Consumes-nil}
 use Rattle.request_reading.proofs.HeadLemmas.{wrong-full, wrong-refused, wrong-stopped, none-empty, found-complete, loses-none}
 use Rattle.request_reading.proofs.PieceLemmas.{came-behind}
+use Rattle.std.proofs.lemmas.Grind.{common_steps}
 use Rattle.request_reading.proofs.head.read_head.Goals as goal
 
 pub pieces-init : goal.pieces-init
@@ -44,3 +45,9 @@ pub returns-clause-found : goal.returns-clause-found
 returns-clause-found g c =
     let i = c.pieces.invariant in
     wrong-full _ _ _ i.took (simp length-take (omega arith)) i.none_yet
+
+pub returns-then-filled-eq0-clause-found : goal.returns-then-filled-eq0-clause-found
+returns-then-filled-eq0-clause-found g c = search rules
+
+pub pieces-preserved : goal.pieces-preserved
+pieces-preserved g c = grind (arith, common_steps)
