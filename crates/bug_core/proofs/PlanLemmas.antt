@@ -5,7 +5,9 @@ use Rattle.std.proofs.Common.{◌≡◌, ℕ, true, false, cond, List, [], ◌�
 use Rattle.std.proofs.Common.{◌∙◌, subst, arith}
 use Rattle.std.specs.List.{find}
 use Rattle.std.specs.Option.{option_or}
+use Rattle.std.specs.Result.{IsErrAnd}
 use Rattle.std.proofs.lemmas.Option.{none-some, same_Some}
+use Rattle.std.proofs.lemmas.Result.{err_from_is_err_and}
 use Rattle.debver.specs.Names.{IsName}
 use Rattle.bug_record.specs.Desk.{Desk, IsSound, AreGoodBlockers}
 use Rattle.bug_record.specs.Bugs.{each_bug, at_bug, unless, first_of}
@@ -21,6 +23,7 @@ use Rattle.bug_record.specs.declared.bug.Shared.{Shared}
 use Rattle.bug_record.specs.declared.bug.SetImage.{SetImage}
 use Rattle.bug_record.specs.declared.command.Change.{Change}
 use Rattle.bug_record.specs.declared.command.Command.{Command}
+use Rattle.bug_record.specs.declared.command.PlanFault.{PlanFault}
 use Rattle.bug_record.specs.declared.command.PlanFault.TheVariants.{Refused, Memory}
 use Rattle.bug_record.specs.declared.command.Refusal.{Refusal}
 use Rattle.bug_record.specs.declared.command.Refusal.TheVariants.{NoBug, Archived, NotArchived, OwnSet, NotDone, StillFound}
@@ -311,6 +314,13 @@ planned-memory named step is next = record {
     always : (r : Result Desk Refusal) → IsRefusedAs r (Err Memory)
     always (Ok d) = tt
     always (Err refusal) = tt
+
+-- the same, at the exit of a call that had none
+pub planned-no_memory : (named : List ℕ) (step : Desk → Result Desk Refusal) (is : List SetImage) (next : ℕ)
+    (r : Result Change PlanFault) → IsErrAnd r (λ e. e ≡ Memory) → IsPlanned named step is next r
+planned-no_memory named step is next r h = let p = err_from_is_err_and r h in
+    subst (λ (z : Result Change PlanFault). IsPlanned named step is next z) (sym (p.1 ∙ ap (λ (e : PlanFault). Err e) p.2))
+    (planned-memory named step is next)
 
 -- what is answered where the image's package is no package name
 pub planned-nameless : (named : List ℕ) (step : Desk → Result Desk Refusal) (is : List SetImage) (next n : ℕ) (i : SetImage)

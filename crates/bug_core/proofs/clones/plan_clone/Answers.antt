@@ -2,6 +2,7 @@ use Rattle.std.proofs.Common.{length, List, sym, ap, arith, ◌∙◌}
 use Rattle.std.proofs.lemmas.Bool.{ltb-false}
 use Rattle.bug_record.specs.declared.bug.Member.{Member}
 use Rattle.bug_core.proofs.CloneLemmas.{clone-no_bug, clone-archived, clone-merged, clone-full, clone-done, only_first, some_first}
+use Rattle.bug_core.proofs.PlanLemmas.{planned-no_memory}
 use Rattle.bug_core.proofs.clones.plan_clone.Goals as goal
 
 pub returns-in_default : goal.returns-in_default
@@ -41,3 +42,6 @@ pub returns-in-None : goal.returns-in-None
 returns-in-None c =
     absurd (some_first c.args.images.now c.args.number c.in-Some.image.now c.in-Some.ensures c.as_slice-members.result.now
     c.as_slice-members.ensures (sym c.in-None.ensures.value))
+
+pub returns-in_err-add_clones-in-Some-first : goal.returns-in_err-add_clones-in-Some-first
+returns-in_err-add_clones-in-Some-first c = planned-no_memory _ _ _ _ c.from_residual.result c.from_residual.ensures.1

@@ -1,5 +1,10 @@
-use Rattle.std.proofs.Common.{rules}
+use Rattle.std.proofs.Common.{arith}
+use Rattle.std.proofs.lemmas.Grind.{common_steps}
+use Rattle.std.proofs.lemmas.Result.{IfOk-from_err}
 use Rattle.bug_core.proofs.joins.in_order.Goals as goal
 
 pub returns-in_err-push : goal.returns-in_err-push
-returns-in_err-push c = search rules
+returns-in_err-push c = IfOk-from_err _ _ c.from_residual.ensures.0
+
+pub loop-node-preserved : goal.loop-node-preserved
+loop-node-preserved c = grind (arith, common_steps)

@@ -1,4 +1,4 @@
-use Rattle.std.proofs.Common.{rules, ◌≡◌, ℕ, false, List, ◌∷◌, sym, ap, ◌∙◌}
+use Rattle.std.proofs.Common.{◌≡◌, ℕ, false, List, ◌∷◌, sym, ap, ◌∙◌}
 use Rattle.bug_record.specs.Bugs.{first_refusal}
 use Rattle.bug_record.specs.Differences.{differing}
 use Rattle.bug_record.specs.Images.{bug_in}
@@ -9,6 +9,7 @@ use Rattle.bug_core.specs.Agreements.{difference_of}
 use Rattle.bug_core.specs.Others.{others}
 use Rattle.bug_core.proofs.MergeLemmas.{image_joined, merge-no_bug, merge-archived, merge-refused, merge-differs, merge-done}
 use Rattle.bug_core.proofs.NamedLemmas.{others-same, has-set}
+use Rattle.bug_core.proofs.PlanLemmas.{planned-no_memory}
 use Rattle.bug_core.proofs.merges.plan_merge.Goals as goal
 
 pub returns-in_default : goal.returns-in_default
@@ -65,10 +66,16 @@ returns-in-Some-archived_refusal c =
     (sym c.archived_refusal.ensures ∙ c.in-Some-archived_refusal.is)
 
 pub returns-in_err-index : goal.returns-in_err-index
-returns-in_err-index c = search rules
+returns-in_err-index c = planned-no_memory _ _ _ _ c.from_residual.result c.from_residual.ensures.1
 
 pub returns-in_err-numbers : goal.returns-in_err-numbers
-returns-in_err-numbers c = search rules
+returns-in_err-numbers c = planned-no_memory _ _ _ _ c.from_residual-in_err-numbers.result c.from_residual-in_err-numbers.ensures.1
 
 pub returns-in_err-set : goal.returns-in_err-set
-returns-in_err-set c = search rules
+returns-in_err-set c = planned-no_memory _ _ _ _ c.from_residual-in_err-set.result c.from_residual-in_err-set.ensures.1
+
+pub returns-in_err-image : goal.returns-in_err-image
+returns-in_err-image c = planned-no_memory _ _ _ _ c.from_residual-in_err-image.result c.from_residual-in_err-image.ensures.1
+
+pub returns-in_err-replace_by_one : goal.returns-in_err-replace_by_one
+returns-in_err-replace_by_one c = planned-no_memory _ _ _ _ c.from_residual-in_err-replace_by_one.result c.from_residual-in_err-replace_by_one.ensures.1

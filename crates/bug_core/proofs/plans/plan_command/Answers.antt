@@ -1,4 +1,5 @@
-use Rattle.std.proofs.Common.{ℕ, List, [], ◌∷◌, None, sym, subst}
+use Rattle.std.proofs.Common.{ℕ, List, [], ◌∷◌, None, sym, subst, arith}
+use Rattle.std.proofs.lemmas.Grind.{common_steps}
 use Rattle.bug_record.specs.Commands.{bugs_named}
 use Rattle.bug_record.specs.Differences.{first_difference, package_difference}
 use Rattle.bug_record.specs.Merges.{sets_joined}
@@ -39,3 +40,6 @@ returns-in_default c =
     planned-others (option_copied c.args.open_head) c.args.from.now c.args.command.now c.args.images.now c.args.next
     c.plan_records.result c.in_default.not-Merge c.in_default.not-ForceMerge c.in_default.not-Unmerge c.in_default.not-Clone
     c.plan_records.ensures
+
+pub returns-in-Unmerge : goal.returns-in-Unmerge
+returns-in-Unmerge c = grind (arith, common_steps)

@@ -4,7 +4,7 @@ use Rattle.bug_record.specs.Images.{image_with}
 use Rattle.bug_record.specs.declared.command.PlanFault.TheVariants.{Refused}
 use Rattle.bug_record.specs.declared.command.Refusal.TheVariants.{NoBug}
 use Rattle.bug_core.specs.Planned.{IsRecordsPlan}
-use Rattle.bug_core.proofs.PlanLemmas.{planned-tested, planned-no_bug}
+use Rattle.bug_core.proofs.PlanLemmas.{planned-tested, planned-no_bug, planned-no_memory}
 use Rattle.bug_core.proofs.plans.plan_records.Goals as goal
 
 pub returns-in_default : goal.returns-in_default
@@ -31,3 +31,6 @@ change_records-requires-clause-named c =
 
 pub returns : goal.returns
 returns c = c.change_records.ensures (option_copied c.args.open_head) (sym c.in_ok-refusal.ensures ∙ c.in_default-2.is)
+
+pub returns-in_err-refusal : goal.returns-in_err-refusal
+returns-in_err-refusal c = planned-no_memory _ _ _ _ c.from_residual.result c.from_residual.ensures.1

@@ -1,4 +1,5 @@
-use Rattle.std.proofs.Common.{rules, ◌≡◌, ◌+◌, List, ◌∷◌, [], sym, ap, ◌∙◌, subst}
+use Rattle.std.proofs.Common.{rules, ◌≡◌, ◌+◌, List, ◌∷◌, [], sym, ap, ◌∙◌, subst, arith}
+use Rattle.std.proofs.lemmas.Grind.{common_steps}
 use Rattle.std.proofs.lemmas.Str.{is_utf8-from_IsUtf8}
 use Rattle.bug_record.specs.Images.{put, FitsDesk}
 use Rattle.bug_record.specs.declared.bug.SetImage.{SetImage}
@@ -28,3 +29,9 @@ returns-clause-fits c =
 
 pub returns-in_err-image : goal.returns-in_err-image
 returns-in_err-image c = search rules
+
+pub returns-clause-members : goal.returns-clause-members
+returns-clause-members c = grind (arith, common_steps)
+
+pub returns-clause-apart : goal.returns-clause-apart
+returns-clause-apart c = grind (arith, common_steps)

@@ -7,6 +7,7 @@ use Rattle.bug_core.specs.Joins.{is_part}
 use Rattle.bug_core.specs.Others.{others}
 use Rattle.bug_core.proofs.UnmergeLemmas.{part_of, parts, unmerge-no_bug, unmerge-archived, unmerge-alone, unmerge-done}
 use Rattle.bug_core.proofs.UnmergeLemmas.{parts-apart}
+use Rattle.bug_core.proofs.PlanLemmas.{planned-no_memory}
 use Rattle.bug_core.proofs.unmerge.plan_unmerge.Goals as goal
 
 pub returns-in_default-clause-planned : goal.returns-in_default-clause-planned
@@ -62,3 +63,15 @@ pub returns-in-Some-archived_refusal-clause-planned : goal.returns-in-Some-archi
 returns-in-Some-archived_refusal-clause-planned c =
     unmerge-archived c.args.images.now c.args.next c.args.number c.in-Some.image.now c.in-Some-archived_refusal.refusal
     c.in-Some.ensures (sym c.archived_refusal.ensures ∙ c.in-Some-archived_refusal.is)
+
+pub returns-in_err-rest-clause-planned : goal.returns-in_err-rest-clause-planned
+returns-in_err-rest-clause-planned c = planned-no_memory _ _ _ _ c.from_residual.result c.from_residual.ensures.1
+
+pub returns-in_err-own-clause-planned : goal.returns-in_err-own-clause-planned
+returns-in_err-own-clause-planned c = planned-no_memory _ _ _ _ c.from_residual-in_err-own.result c.from_residual-in_err-own.ensures.1
+
+pub returns-in_err-parts-clause-planned : goal.returns-in_err-parts-clause-planned
+returns-in_err-parts-clause-planned c = planned-no_memory _ _ _ _ c.from_residual-in_err-parts.result c.from_residual-in_err-parts.ensures.1
+
+pub returns-in_err-replace-clause-planned : goal.returns-in_err-replace-clause-planned
+returns-in_err-replace-clause-planned c = planned-no_memory _ _ _ _ c.from_residual-in_err-replace.result c.from_residual-in_err-replace.ensures.1

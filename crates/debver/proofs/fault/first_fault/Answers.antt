@@ -1,4 +1,5 @@
-use Rattle.std.proofs.Common.{◌≡◌, ◌==◌, ℕ, List, Bool, true, false, length, Option, Some, sym, ap, ◌∙◌}
+use Rattle.std.proofs.Common.{◌≡◌, ◌==◌, ℕ, List, Bool, true, false, length, Option, Some, sym, ap, ◌∙◌, arith}
+use Rattle.std.proofs.lemmas.Grind.{common_steps}
 use Rattle.std.specs.Bool.{then_some}
 use Rattle.std.specs.Option.{option_copied, option_or}
 use Rattle.debver.specs.Parts.{Version, parts_of, written}
@@ -34,3 +35,24 @@ returns-then-has_bad_epoch c =
     let v = parts_of (option_copied c.args.epoch) c.args.upstream.now (option_copied c.args.revision) in
     bad_epoch c.args.text.now v c.requires (sym c.is_empty.ensures ∙ c.if-is_empty.false)
     (sym c.has_bad_epoch.ensures ∙ c.if-has_bad_epoch.true)
+
+pub overflow_add-start-3 : goal.overflow_add-start-3
+overflow_add-start-3 c = grind (arith, common_steps)
+
+pub revision_fault-requires : goal.revision_fault-requires
+revision_fault-requires c = grind (arith, common_steps)
+
+pub returns-in-Some-upstream_fault : goal.returns-in-Some-upstream_fault
+returns-in-Some-upstream_fault c = grind (arith, common_steps)
+
+pub returns-then-text-gt100 : goal.returns-then-text-gt100
+returns-then-text-gt100 c = grind (arith, common_steps)
+
+pub returns-else-text-gt100 : goal.returns-else-text-gt100
+returns-else-text-gt100 c = grind (arith, common_steps)
+
+pub upstream_fault-requires : goal.upstream_fault-requires
+upstream_fault-requires c = grind (arith, common_steps)
+
+pub overflow_add-start-2 : goal.overflow_add-start-2
+overflow_add-start-2 c = grind (arith, common_steps)

@@ -1,4 +1,5 @@
-use Rattle.std.proofs.Common.{◌≡◌, ◌∷◌, Err, true, refl, sym, ap, ◌∙◌, subst}
+use Rattle.std.proofs.Common.{◌≡◌, ◌∷◌, Err, true, refl, sym, ap, ◌∙◌, subst, arith}
+use Rattle.std.proofs.lemmas.Grind.{common_steps}
 use Rattle.std.proofs.lemmas.List.{at_drop_all}
 use Rattle.std.proofs.lemmas.Result.{err_from_is_err_and}
 use Rattle.ancestry.specs.Trees.{has_node, is_parent, IsForest}
@@ -75,3 +76,12 @@ returns-clause-exact c =
     sym c.loop-place.invariant.left
     ∙ at_drop_all (λ ns. base_all c.loop-place.place c.loop-place.self (c.loop-place.node.now ∷ ns)) c.in-Some.others.now
     c.loop-place.place c.loop-place-test.false
+
+pub returns-in_default-clause-exact : goal.returns-in_default-clause-exact
+returns-in_default-clause-exact c = grind (arith, common_steps)
+
+pub returns-in_default-clause-forest : goal.returns-in_default-clause-forest
+returns-in_default-clause-forest c = grind (arith, common_steps)
+
+pub returns-in_default-clause-extends : goal.returns-in_default-clause-extends
+returns-in_default-clause-extends c = grind (arith, common_steps)

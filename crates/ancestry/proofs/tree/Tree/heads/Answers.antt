@@ -1,4 +1,5 @@
-use Rattle.std.proofs.Common.{◌≡◌, Err, false, sym, ap, ◌∙◌, subst, not, ◌&&◌}
+use Rattle.std.proofs.Common.{◌≡◌, Err, false, sym, ap, ◌∙◌, subst, not, ◌&&◌, arith}
+use Rattle.std.proofs.lemmas.Grind.{common_steps}
 use Rattle.std.specs.Prelude.{filter}
 use Rattle.std.specs.List.Sorted.{IsStrictlySortedBy}
 use Rattle.std.specs.Ordering.{is_le}
@@ -74,3 +75,9 @@ returns-clause-ascending c =
           (sym w.is_of.ensures ∙ w.if-not-is_of.true)
     ] in
     subst (IsStrictlySortedBy node_cmp) (sym all) (heads_ascend t source (subst IsForest c.self.view_is c.self.invariant.0))
+
+pub returns-in_err-push-clause-value : goal.returns-in_err-push-clause-value
+returns-in_err-push-clause-value c = grind (arith, common_steps)
+
+pub returns-in_err-push-clause-ascending : goal.returns-in_err-push-clause-ascending
+returns-in_err-push-clause-ascending c = grind (arith, common_steps)

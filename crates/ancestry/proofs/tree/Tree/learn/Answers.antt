@@ -1,4 +1,5 @@
-use Rattle.std.proofs.Common.{None, sym, ◌∙◌, subst}
+use Rattle.std.proofs.Common.{None, sym, ◌∙◌, subst, arith}
+use Rattle.std.proofs.lemmas.Grind.{common_steps}
 use Rattle.std.specs.BTreeMap.{insert_entry}
 use Rattle.ancestry.specs.Nodes.{node_cmp}
 use Rattle.ancestry.specs.Trees.{IsForest}
@@ -27,3 +28,12 @@ returns-clause-forest c =
     (subst (λ m. IsForest (insert_entry node_cmp t m None)) (sym c.in_ok-copy.ensures.value)
     (learnt_forest t c.args.node.now c.self.invariant.0 (sym c.contains_key.ensures ∙ c.if-contains_key.false)
     c.copy.ensures.valid))
+
+pub invariant_of-self-in_err-insert : goal.invariant_of-self-in_err-insert
+invariant_of-self-in_err-insert c = grind (arith, common_steps)
+
+pub returns-then-contains_key-clause-forest : goal.returns-then-contains_key-clause-forest
+returns-then-contains_key-clause-forest c = grind (arith, common_steps)
+
+pub returns-clause-ok : goal.returns-clause-ok
+returns-clause-ok c = grind (arith, common_steps)

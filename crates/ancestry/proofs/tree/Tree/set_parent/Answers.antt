@@ -1,4 +1,5 @@
-use Rattle.std.proofs.Common.{◌≡◌, true, false, Result, Ok, Err, OnOk, OnErr, sym, ap, subst, ◌∙◌}
+use Rattle.std.proofs.Common.{◌≡◌, true, false, Result, Ok, Err, OnOk, OnErr, sym, ap, subst, ◌∙◌, arith}
+use Rattle.std.proofs.lemmas.Grind.{common_steps}
 use Rattle.ancestry.specs.Nodes.{Node}
 use Rattle.ancestry.specs.Trees.{Ancestry, knows, IsForest}
 use Rattle.ancestry.specs.Branches.{with_parent}
@@ -37,3 +38,15 @@ invariant_of-self-2 c =
 
 pub returns-clause-forest : goal.returns-clause-forest
 returns-clause-forest c = on_ok _ (invariant_of-self-2 c).0
+
+pub invariant_of-self : goal.invariant_of-self
+invariant_of-self c = grind (arith, common_steps)
+
+pub returns-clause-err : goal.returns-clause-err
+returns-clause-err c = grind (arith, common_steps)
+
+pub returns-clause-ok : goal.returns-clause-ok
+returns-clause-ok c = grind (arith, common_steps)
+
+pub returns-in_err-mark_parent-clause-err : goal.returns-in_err-mark_parent-clause-err
+returns-in_err-mark_parent-clause-err c = grind (arith, common_steps)

@@ -1,4 +1,5 @@
-use Rattle.std.proofs.Common.{◌≡◌, true, List, sym, subst, All}
+use Rattle.std.proofs.Common.{◌≡◌, true, List, sym, subst, All, arith}
+use Rattle.std.proofs.lemmas.Grind.{common_steps}
 use Rattle.std.proofs.lemmas.List.Elements.{All-weaker}
 use Rattle.std.proofs.lemmas.Result.{on_ok_weaker}
 use Rattle.ancestry.specs.Nodes.{Node}
@@ -47,3 +48,6 @@ returns-in-Ok-clause-known c =
     let made = course_made t nodes c.base_all.result u c.learn_all.ensures.forest known c.base_all.ensures.exact in
     on_ok_weaker {P = Course t nodes u} {Q = All (λ n. knows u n ≡ true) nodes} c.base_all.result
     (λ h. All-weaker (λ n. knows t n ≡ true) (λ n. knows u n ≡ true) h.known nodes known) made
+
+pub returns-in-Ok-clause-extends : goal.returns-in-Ok-clause-extends
+returns-in-Ok-clause-extends c = grind (arith, common_steps)

@@ -1,4 +1,5 @@
-use Rattle.std.proofs.Common.{refl, sym, ap, ◌∙◌, subst}
+use Rattle.std.proofs.Common.{refl, sym, ap, ◌∙◌, subst, arith}
+use Rattle.std.proofs.lemmas.Grind.{common_steps}
 use Rattle.ancestry.specs.Trees.{is_parent, IsForest}
 use Rattle.ancestry.specs.Changes.{Extends}
 use Rattle.ancestry.specs.Kept.{Adds}
@@ -75,3 +76,27 @@ pub returns-clause-memory : goal.returns-clause-memory
 returns-clause-memory c = λ h.
     taken_takes c.args.self.now c.args.nodes.now (sym c.is_empty.ensures ∙ c.if-is_empty.false) c.if-nodes-gt-MOST_NODES.false
     (sym c.in_default.is ∙ c.first_repeat.ensures)
+
+pub returns-in-Some-clause-forest : goal.returns-in-Some-clause-forest
+returns-in-Some-clause-forest c = grind (arith, common_steps)
+
+pub returns-in_default-are_parents-clause-forest : goal.returns-in_default-are_parents-clause-forest
+returns-in_default-are_parents-clause-forest c = grind (arith, common_steps)
+
+pub returns-in_default-pasts-clause-forest : goal.returns-in_default-pasts-clause-forest
+returns-in_default-pasts-clause-forest c = grind (arith, common_steps)
+
+pub returns-then-nodes-gt-MOST_NODES-clause-forest : goal.returns-then-nodes-gt-MOST_NODES-clause-forest
+returns-then-nodes-gt-MOST_NODES-clause-forest c = grind (arith, common_steps)
+
+pub returns-in-Ok-take_all-clause-memory : goal.returns-in-Ok-take_all-clause-memory
+returns-in-Ok-take_all-clause-memory c = grind (arith, common_steps)
+
+pub returns-then-is_empty-clause-forest : goal.returns-then-is_empty-clause-forest
+returns-then-is_empty-clause-forest c = grind (arith, common_steps)
+
+pub returns-in-Some-clause-memory : goal.returns-in-Some-clause-memory
+returns-in-Some-clause-memory c = grind (arith, common_steps)
+
+pub returns-then-nodes-gt-MOST_NODES-clause-memory : goal.returns-then-nodes-gt-MOST_NODES-clause-memory
+returns-then-nodes-gt-MOST_NODES-clause-memory c = grind (arith, common_steps)

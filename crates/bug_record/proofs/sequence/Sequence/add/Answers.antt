@@ -8,20 +8,34 @@ pub returns-then-is_at-clause-ok : goal.returns-then-is_at-clause-ok
 returns-then-is_at-clause-ok g c =
     let key = g.T.Numbered.number in
     let s = c.args.self.now in
-    let h : is_at key (slice_get s (place_for key s (key c.args.item))) (key c.args.item) ≡ true = cc in
+    let number : c.number-number.result ≡ key c.args.item = c.number-number.ensures in
+    let now : c.as_slice.result.now ≡ s = c.as_slice.ensures.value ∙ c.self.view_is in
+    let now-2 : c.as_slice-2.result.now ≡ s = c.as_slice-2.ensures.value ∙ c.self.view_is in
+    let place : c.place_for-place.result ≡ place_for key s (key c.args.item) =
+    c.place_for-place.ensures ∙ (λ j. place_for key (now j) (number j)) in
+    let h : is_at key (slice_get s (place_for key s (key c.args.item))) (key c.args.item) ≡ true =
+    (λ j. is_at key (slice_get (sym now-2 j) (sym place j)) (sym number j)) ∙ sym c.is_at.ensures
+    ∙ c.if-is_at.true in
     sym (with_item-same key s c.args.item h)
 
 pub insert-requires : goal.insert-requires
 insert-requires g c =
     let key = g.T.Numbered.number in
-    let e : c.as_slice.result.now ≡ c.self.inside.items.items = cc in
+    let e : c.as_slice.result.now ≡ c.self.inside.items.items = c.as_slice.ensures.value in
     omega (arith, place_for-le key c.as_slice.result.now c.number-number.result, c.as_slice.ensures.len)
 
 pub returns-clause-ok : goal.returns-clause-ok
 returns-clause-ok g c =
     let key = g.T.Numbered.number in
     let s = c.args.self.now in
-    let h : is_at key (slice_get s (place_for key s (key c.args.item))) (key c.args.item) ≡ false = cc in
+    let number : c.number-number.result ≡ key c.args.item = c.number-number.ensures in
+    let now : c.as_slice.result.now ≡ s = c.as_slice.ensures.value ∙ c.self.view_is in
+    let now-2 : c.as_slice-2.result.now ≡ s = c.as_slice-2.ensures.value ∙ c.self.view_is in
+    let place : c.place_for-place.result ≡ place_for key s (key c.args.item) =
+    c.place_for-place.ensures ∙ (λ j. place_for key (now j) (number j)) in
+    let h : is_at key (slice_get s (place_for key s (key c.args.item))) (key c.args.item) ≡ false =
+    (λ j. is_at key (slice_get (sym now-2 j) (sym place j)) (sym number j)) ∙ sym c.is_at.ensures
+    ∙ c.if-is_at.false in
     let e : c.insert.new.self.items ≡ insert s (place_for key s (key c.args.item)) c.args.item =
-    cc (c.in_ok-insert.ensures.items) in
+    c.in_ok-insert.ensures.items ∙ (λ j. insert (c.self.view_is j) (place j) c.args.item) in
     e ∙ with_item-new key s c.args.item h
