@@ -1,4 +1,4 @@
-use Rattle.std.proofs.Common.{List, ℕ, false, ◌≡◌, sym, ◌∙◌, subst, Result}
+use Rattle.std.proofs.Common.{rules, List, ℕ, false, ◌≡◌, sym, ◌∙◌, subst, Result}
 use Rattle.std.specs.Prelude.{IfOk}
 use Rattle.std.specs.List.{list_any}
 use Rattle.line_words.specs.Blanks.{is_control}
@@ -6,6 +6,7 @@ use Rattle.bug_record.specs.declared.command.Command.{Command}
 use Rattle.bug_record.specs.declared.command.Refusal.{Refusal}
 use Rattle.line_words.specs.declared.named.Named.{Named}
 use Rattle.control_text.specs.WellFormed.{IsWellFormed}
+use Rattle.control_text.specs.Lines.{reading}
 use Rattle.control_text.proofs.ReadingLemmas.{command_of-good, clean_after_word}
 use Rattle.control_text.proofs.line.read_line.Goals as goal
 
@@ -15,3 +16,14 @@ returns-in-Ok-clause-well_formed c =
     let rest = subst (λ (s : List ℕ). list_any is_control s ≡ false) (sym c.next_word.ensures.rest) clean in
     subst (λ (r : Result (Command Named) Refusal). IfOk r IsWellFormed) c.in-Ok.ensures
     (command_of-good c.in-Some.command c.next_word.result.1.now rest)
+
+pub returns-then-is_empty-clause-memory : goal.returns-then-is_empty-clause-memory
+returns-then-is_empty-clause-memory c = tt
+
+pub returns-in_default-clause-exact : goal.returns-in_default-clause-exact
+unfolding reading
+returns-in_default-clause-exact c = search rules
+
+pub returns-then-has_control-clause-exact : goal.returns-then-has_control-clause-exact
+unfolding reading
+returns-then-has_control-clause-exact c = search rules

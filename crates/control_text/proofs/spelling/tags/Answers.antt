@@ -1,4 +1,5 @@
-use Rattle.std.proofs.Common.{rules, ◌≡◌, ◌==◌, false, List, [], ◌∷◌, length, map, drop, string_bytes, codes, refl, ap, sym, ◌∙◌}
+use Rattle.std.proofs.Common.{rules, arith, ◌≡◌, ◌==◌, false, List, [], ◌∷◌, length, map, drop, string_bytes, codes, refl, ap, sym, ◌∙◌}
+use Rattle.std.proofs.lemmas.Grind.{common_steps}
 use Rattle.std.proofs.lemmas.List.{drop_all}
 use Rattle.bug_record.specs.declared.command.TagStep.{TagStep}
 use Rattle.control_text.specs.Spelling.{bug_text, step_text, step_words, joined_by_blanks}
@@ -23,3 +24,6 @@ returns-in_err-line c = search rules
 
 pub returns-in_err-push_step : goal.returns-in_err-push_step
 returns-in_err-push_step c = search rules
+
+pub loop-step-preserved : goal.loop-step-preserved
+loop-step-preserved c = grind (arith, common_steps)

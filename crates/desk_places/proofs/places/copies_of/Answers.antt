@@ -1,4 +1,5 @@
-use Rattle.std.proofs.Common.{rules}
+use Rattle.std.proofs.Common.{rules, arith}
+use Rattle.std.proofs.lemmas.Grind.{common_steps}
 use Rattle.desk_places.proofs.places.copies_of.Goals as goal
 
 pub returns-in_err-copy : goal.returns-in_err-copy
@@ -6,3 +7,6 @@ returns-in_err-copy c = search rules
 
 pub returns-in_err-push : goal.returns-in_err-push
 returns-in_err-push c = search rules
+
+pub loop-image-preserved : goal.loop-image-preserved
+loop-image-preserved c = grind (arith, common_steps)
