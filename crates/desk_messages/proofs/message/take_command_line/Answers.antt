@@ -26,3 +26,9 @@ returns-in-Ok-take_command-clause-known g c =
     ∙ (c.in-Ok-take_command.ensures.named
     ∙ ap (λ (ks : Names). c.args.progress.now.known.names ++ ks)
     (sym (given-of c.args.line.now c.args.command c.in-Ok-take_command.outcome c.requires.reads))))
+
+pub returns-in-Err-take_command-clause-count : goal.returns-in-Err-take_command-clause-count
+returns-in-Err-take_command-clause-count g c = c.in-Err-take_command.ensures.count
+
+pub returns-in-Err-take_command-clause-answer : goal.returns-in-Err-take_command-clause-answer
+returns-in-Err-take_command-clause-answer g c = c.in-Err-take_command.ensures.answer

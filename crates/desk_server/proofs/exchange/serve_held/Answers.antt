@@ -21,3 +21,6 @@ returns-in-Err-flush-clause-answer g c =
     (given (g.W.Write.contents c.args.writer.now.inner) c.args.writer.now.start c.args.writer.now.bytes.items)
     (given (g.W.Write.contents c.serve_one.new.writer.inner) c.serve_one.new.writer.start c.serve_one.new.writer.bytes.items)
     c.in-Ok.served told)
+
+pub returns-in-Err-flush-clause-whole : goal.returns-in-Err-flush-clause-whole
+returns-in-Err-flush-clause-whole g c = tt
