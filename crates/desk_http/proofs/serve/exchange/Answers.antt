@@ -1,4 +1,4 @@
-use Rattle.std.proofs.Common.{◌≡◌, Option, Some, refl, sym, subst, take}
+use Rattle.std.proofs.Common.{rules, ◌≡◌, Option, Some, refl, sym, subst, take}
 use Rattle.desk_text.specs.declared.outcome.StoreFault.{StoreFault}
 use Rattle.desk_text.specs.declared.outcome.StoreFault.TheVariants.{Memory}
 use Rattle.request_reading.specs.Found.{IsFound}
@@ -64,3 +64,27 @@ returns-in-Ok-ask-clause-wrong g c =
     let headers = c.read_head.new.headers in
     not_wrong before after buf headers c.in-Complete.spans c.in-Complete.filled
     (subst (λ (h : Head). IsFound before after buf headers h) c.in-Complete.is c.in-Ok.ensures.found) _
+
+pub returns-in_default-clause-answer : goal.returns-in_default-clause-answer
+returns-in_default-clause-answer g c = holds_none _ _ _ refl
+
+pub returns-in_default-clause-count : goal.returns-in_default-clause-count
+returns-in_default-clause-count g c = refl
+
+pub returns-in_default-clause-closed : goal.returns-in_default-clause-closed
+returns-in_default-clause-closed g c = tt
+
+pub returns-in_default-clause-read : goal.returns-in_default-clause-read
+returns-in_default-clause-read g c = (refl, refl)
+
+pub returns-in-Wrong-clause-answer : goal.returns-in-Wrong-clause-answer
+returns-in-Wrong-clause-answer g c = search rules
+
+pub returns-in-Wrong-clause-closed : goal.returns-in-Wrong-clause-closed
+returns-in-Wrong-clause-closed g c = search rules
+
+pub returns-in-Wrong-clause-wrong : goal.returns-in-Wrong-clause-wrong
+returns-in-Wrong-clause-wrong g c = search rules
+
+pub returns-in-Err-Memory-clause-count : goal.returns-in-Err-Memory-clause-count
+returns-in-Err-Memory-clause-count g c = search rules

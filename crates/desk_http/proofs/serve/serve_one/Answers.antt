@@ -1,3 +1,4 @@
+use Rattle.std.proofs.Common.{rules}
 use Rattle.desk_http.proofs.ExchangeLemmas.{wrong_served, wrong_unwritten}
 use Rattle.desk_http.proofs.serve.serve_one.Goals as goal
 
@@ -9,3 +10,18 @@ returns-in-Ok-clause-wrong g c =
 
 pub returns-clause-wrong : goal.returns-clause-wrong
 returns-clause-wrong g c = wrong_unwritten (g.R.Read.remaining c.args.reader.now) _ _ c.in_ok-reply.ensures.wrong
+
+pub returns-clause-answer : goal.returns-clause-answer
+returns-clause-answer g c = search rules
+
+pub returns-clause-count : goal.returns-clause-count
+returns-clause-count g c = search rules
+
+pub returns-clause-read : goal.returns-clause-read
+returns-clause-read g c = search rules
+
+pub returns-in-Ok-clause-answer : goal.returns-in-Ok-clause-answer
+returns-in-Ok-clause-answer g c = search rules
+
+pub returns-in-Ok-clause-told : goal.returns-in-Ok-clause-told
+returns-in-Ok-clause-told g c = search rules
