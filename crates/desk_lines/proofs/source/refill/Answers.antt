@@ -1,4 +1,5 @@
 use Rattle.std.proofs.Common.{length, take, ap, ◌∙◌, arith}
+use Rattle.std.proofs.lemmas.Grind.{common_steps}
 use Rattle.std.proofs.lemmas.List.{drop_all, length-drop, length-take}
 use Rattle.desk_lines.specs.Buffered.{Buffered}
 use Rattle.desk_lines.proofs.source.refill.Goals as goal
@@ -18,3 +19,12 @@ returns-in-Err-clause-emptied g c =
       c.source.invariant.0,
       c.source.invariant.1,
     ))
+
+pub returns-in-Ok-clause-counted : goal.returns-in-Ok-clause-counted
+returns-in-Ok-clause-counted g c = grind (arith, common_steps)
+
+pub returns-in-Ok-clause-reads : goal.returns-in-Ok-clause-reads
+returns-in-Ok-clause-reads g c = grind (arith, common_steps)
+
+pub returns-in-Ok-clause-unasked : goal.returns-in-Ok-clause-unasked
+returns-in-Ok-clause-unasked g c = grind (arith, common_steps)
