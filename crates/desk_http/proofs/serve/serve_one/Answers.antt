@@ -1,4 +1,6 @@
-use Rattle.std.proofs.Common.{rules}
+use Rattle.std.proofs.Common.{rules, refl}
+use Rattle.desk_store.proofs.HoldsLemmas.{holds_weaker}
+use Rattle.desk_answers.specs.Shown.{shown}
 use Rattle.desk_http.proofs.ExchangeLemmas.{wrong_served, wrong_unwritten}
 use Rattle.desk_http.proofs.serve.serve_one.Goals as goal
 
@@ -21,7 +23,11 @@ pub returns-clause-read : goal.returns-clause-read
 returns-clause-read g c = search rules
 
 pub returns-in-Ok-clause-answer : goal.returns-in-Ok-clause-answer
-returns-in-Ok-clause-answer g c = search rules
+returns-in-Ok-clause-answer g c =
+    holds_weaker (rw c.in-Some.is at c.in_ok-reply.ensures.answer)
+    (λ right. (c.in-Some.reply.fault, shown c.in-Some.reply, right, refl, c.in-Ok.ensures.all))
 
 pub returns-in-Ok-clause-told : goal.returns-in-Ok-clause-told
-returns-in-Ok-clause-told g c = search rules
+returns-in-Ok-clause-told g c =
+    let count = rw c.in-Some.is at c.in_ok-reply.ensures.count in
+    (c.in-Some.reply.fault, shown c.in-Some.reply, count.0, count.1, refl, c.in-Ok.ensures.all)
