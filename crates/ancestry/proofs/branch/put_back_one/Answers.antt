@@ -6,4 +6,3 @@ pub returns-in-Unknown : goal.returns-in-Unknown
 returns-in-Unknown c = λ t nodes h f.
     put_back_unknown t c.args.links.now.entries c.remove.new.self.entries c.args.node.now nodes f (h ∙ c.in-Unknown.is)
     c.remove.ensures.updates.0 c.remove.ensures.ordered
-

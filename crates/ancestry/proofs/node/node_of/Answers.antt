@@ -4,4 +4,3 @@ use Rattle.ancestry.proofs.node.node_of.Goals as goal
 
 pub kept-requires-clause-version : goal.kept-requires-clause-version
 kept-requires-clause-version c = grind (arith, common_steps)
-

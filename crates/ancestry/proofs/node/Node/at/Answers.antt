@@ -10,4 +10,3 @@ returns-in-Some c =
     word_with_slash c.args.package.now c.args.word.now c.in-Some.own.now c.in-Some.version.now (search rules) (sym facts.slash)
     facts.before facts.after in
     subst (λ o. IsRead o c.node_of.result) (sym same) c.node_of.ensures
-
