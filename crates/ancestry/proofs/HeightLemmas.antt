@@ -1,12 +1,12 @@
 -- The first marked node of a line is the one that stands highest.
 use Rattle.std.proofs.Common.{◌≡◌, ◌≤◌, ◌<◌, ℕ, true, false, Bool, cond, ◌||◌, List, [], ◌∷◌, length, refl, sym, ap, ◌∙◌, arith}
-use Rattle.std.specs.Prelude.{max, ◌==◌, ◌+◌, if◌then◌else◌, Some}
+use Rattle.std.specs.Prelude.{max, ◌+◌, if◌then◌else◌, Some, option_map}
 use Rattle.std.proofs.lemmas.Bool.Decides.{nat_tests}
-use Rattle.ancestry.specs.Heights.{height, greatest_height, status_at}
+use Rattle.ancestry.specs.Heights.{height, greatest_height, kind_by_heights}
 use Rattle.ancestry.specs.Nodes.{Node, same_node}
-use Rattle.ancestry.specs.Statuses.{first_marked, status_by}
+use Rattle.ancestry.specs.Statuses.{first_marked, kind_at, first_kind}
 use Rattle.ancestry.specs.Trees.{has_node}
-use Rattle.ancestry.specs.declared.statuses.Status.TheVariants.{Found, Fixed}
+use Rattle.ancestry.specs.declared.statuses.MarkKind.TheVariants.{Found, Fixed}
 
 height-le : (line : List Node) (n : Node) → height line n ≤ length line
 height-le [] n = omega arith
@@ -45,39 +45,37 @@ greatest-first m line (n ∷ nodes) =
     cases false false = refl
 
 -- found decides, where it stands as high, and fixed, where it stands higher
-found-decides : (found fixed : ℕ) (nowhere : Bool) → fixed ≤ found → 0 < found → status_at found fixed nowhere ≡ Found
-found-decides found fixed nowhere h g = grind (arith, nat_tests)
+found-decides : (found fixed : ℕ) → fixed ≤ found → 0 < found → kind_by_heights found fixed ≡ Some Found
+found-decides found fixed h g = grind (arith, nat_tests)
 
-fixed-decides : (found fixed : ℕ) (nowhere : Bool) → found < fixed → status_at found fixed nowhere ≡ Fixed
-fixed-decides found fixed nowhere h = grind (arith, nat_tests)
+fixed-decides : (found fixed : ℕ) → found < fixed → kind_by_heights found fixed ≡ Some Fixed
+fixed-decides found fixed h = grind (arith, nat_tests)
 
 -- one node more before the line, which may be marked
-one-more : (found fixed line : List Node) (m : Node) (a b : ℕ) (nowhere : Bool) → a ≤ length line → b ≤ length line
-    → status_by found (first_marked found fixed line) ≡ status_at a b nowhere
+one-more : (found fixed line : List Node) (m : Node) (a b : ℕ) → a ≤ length line → b ≤ length line
+    → first_kind found fixed line ≡ kind_by_heights a b
     → (t u : Bool) → has_node found m ≡ t
-    → status_by found (cond (t || u) (Some m) (first_marked found fixed line))
-    ≡ status_at (cond t (length line + 1) a) (cond u (length line + 1) b) nowhere
-one-more found fixed line m a b nowhere h g same true true e =
-    ap (λ t. if t then Found else Fixed) e ∙ sym (found-decides (length line + 1) (length line + 1) nowhere (omega arith) (omega arith))
-one-more found fixed line m a b nowhere h g same true false e =
-    ap (λ t. if t then Found else Fixed) e ∙ sym (found-decides (length line + 1) b nowhere (omega arith) (omega arith))
-one-more found fixed line m a b nowhere h g same false true e =
-    ap (λ t. if t then Found else Fixed) e ∙ sym (fixed-decides a (length line + 1) nowhere (omega arith))
-one-more found fixed line m a b nowhere h g same false false e = same
+    → option_map (kind_at found) (cond (t || u) (Some m) (first_marked found fixed line))
+    ≡ kind_by_heights (cond t (length line + 1) a) (cond u (length line + 1) b)
+one-more found fixed line m a b h g same true true e =
+    ap (λ t. Some (if t then Found else Fixed)) e ∙ sym (found-decides (length line + 1) (length line + 1) (omega arith) (omega arith))
+one-more found fixed line m a b h g same true false e =
+    ap (λ t. Some (if t then Found else Fixed)) e ∙ sym (found-decides (length line + 1) b (omega arith) (omega arith))
+one-more found fixed line m a b h g same false true e =
+    ap (λ t. Some (if t then Found else Fixed)) e ∙ sym (fixed-decides a (length line + 1) (omega arith))
+one-more found fixed line m a b h g same false false e = same
 
--- the nodes that stand highest decide as the first marked one does
-pub status-heights : (found fixed line : List Node)
-    → status_by found (first_marked found fixed line)
-    ≡ status_at (greatest_height line found) (greatest_height line fixed) (length found == 0)
-status-heights found fixed [] =
-    ap (λ k. status_at k 0 (length found == 0)) (sym (greatest-none found))
-    ∙ ap (λ k. status_at (greatest_height [] found) k (length found == 0)) (sym (greatest-none fixed))
-status-heights found fixed (m ∷ line) =
-    let nowhere = length found == 0 in
+-- the nodes that stand highest tell the kind of the first mark
+pub kind-heights : (found fixed line : List Node)
+    → first_kind found fixed line ≡ kind_by_heights (greatest_height line found) (greatest_height line fixed)
+kind-heights found fixed [] =
+    ap (λ k. kind_by_heights k 0) (sym (greatest-none found))
+    ∙ ap (λ k. kind_by_heights (greatest_height [] found) k) (sym (greatest-none fixed))
+kind-heights found fixed (m ∷ line) =
     let a = greatest_height line found in
     let b = greatest_height line fixed in
     let high = length line + 1 in
-    one-more found fixed line m a b nowhere (greatest-le line found) (greatest-le line fixed) (status-heights found fixed line)
+    one-more found fixed line m a b (greatest-le line found) (greatest-le line fixed) (kind-heights found fixed line)
     (has_node found m) (has_node fixed m) refl
-    ∙ ap (λ k. status_at k (cond (has_node fixed m) high b) nowhere) (sym (greatest-first m line found))
-    ∙ ap (λ k. status_at (greatest_height (m ∷ line) found) k nowhere) (sym (greatest-first m line fixed))
+    ∙ ap (λ k. kind_by_heights k (cond (has_node fixed m) high b)) (sym (greatest-first m line found))
+    ∙ ap (λ k. kind_by_heights (greatest_height (m ∷ line) found) k) (sym (greatest-first m line fixed))

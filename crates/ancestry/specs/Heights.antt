@@ -1,11 +1,11 @@
 -- How high the nodes of a line stand above its end, by which a line is asked about many bugs. This
 -- project's own rule.
-use Rattle.std.specs.Prelude.{ℕ, ◌≡◌, ◌+◌, ◌||◌, nat_lt, Bool, List, [], ◌∷◌, length, max, if◌then◌else◌}
+use Rattle.std.specs.Prelude.{ℕ, ◌≡◌, ◌+◌, nat_lt, List, [], ◌∷◌, length, max, Option, Some, None, if◌then◌else◌}
 use Rattle.std.specs.Option.{option_map_or}
 use Rattle.std.specs.HashMap.{HashMap, get}
 use Rattle.ancestry.specs.Nodes.{Node, same_node}
-use Rattle.ancestry.specs.declared.statuses.Status.{Status}
-use Rattle.ancestry.specs.declared.statuses.Status.TheVariants.{Found, Fixed, Absent}
+use Rattle.ancestry.specs.declared.statuses.MarkKind.{MarkKind}
+use Rattle.ancestry.specs.declared.statuses.MarkKind.TheVariants.{Found, Fixed}
 
 -- how many nodes a line has from this one on; none, where it doesn't have this one
 abbrev pub height : List Node → Node → ℕ
@@ -21,7 +21,6 @@ greatest_height line (n ∷ nodes) = max (height line n) (greatest_height line n
 abbrev pub HasHeights : {S : Type 0} → HashMap Node ℕ S → List Node → Type 0
 HasHeights heights line = (n : Node) → option_map_or (λ h. h) (get same_node heights n) 0 ≡ height line n
 
--- the status by these heights of the nodes at which a bug is found and fixed
-abbrev pub status_at : ℕ → ℕ → Bool → Status
-status_at found fixed found_nowhere =
-    if nat_lt found fixed then Fixed else if nat_lt 0 found || found_nowhere then Found else Absent
+-- the kind of a line's first mark, by the heights of the nodes at which a bug is found and fixed
+abbrev pub kind_by_heights : ℕ → ℕ → Option MarkKind
+kind_by_heights found fixed = if nat_lt found fixed then Some Fixed else if nat_lt 0 found then Some Found else None

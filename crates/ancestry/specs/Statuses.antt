@@ -1,8 +1,10 @@
 -- The status of a bug at a version. This project's own rule.
-use Rattle.std.specs.Prelude.{◌==◌, ◌&&◌, ◌||◌, Bool, List, length, Option, Some, None, if◌then◌else◌}
+use Rattle.std.specs.Prelude.{◌==◌, ◌&&◌, ◌||◌, Bool, List, length, Option, Some, None, option_map, if◌then◌else◌}
 use Rattle.std.specs.List.{find}
 use Rattle.ancestry.specs.Nodes.{Node}
 use Rattle.ancestry.specs.Trees.{Ancestry, has_node, line}
+use Rattle.ancestry.specs.declared.statuses.MarkKind.{MarkKind}
+use Rattle.ancestry.specs.declared.statuses.MarkKind.TheVariants.{Found as MarkedFound, Fixed as MarkedFixed}
 use Rattle.ancestry.specs.declared.statuses.Status.{Status}
 use Rattle.ancestry.specs.declared.statuses.Status.TheVariants.{Found, Fixed, Absent, Done}
 
@@ -10,17 +12,25 @@ use Rattle.ancestry.specs.declared.statuses.Status.TheVariants.{Found, Fixed, Ab
 abbrev pub first_marked : List Node → List Node → List Node → Option Node
 first_marked found fixed line = find (λ n. has_node found n || has_node fixed n) line
 
--- that node decides, found before fixed; with no such node the bug is found where the found list is
--- empty
-abbrev pub status_by : List Node → Option Node → Status
-status_by found (Some n) = if has_node found n then Found else Fixed
-status_by found None = if length found == 0 then Found else Absent
+-- what a marked node is marked as, found before fixed
+abbrev pub kind_at : List Node → Node → MarkKind
+kind_at found n = if has_node found n then MarkedFound else MarkedFixed
+
+-- the kind of the first mark of a line
+abbrev pub first_kind : List Node → List Node → List Node → Option MarkKind
+first_kind found fixed line = option_map (kind_at found) (first_marked found fixed line)
+
+-- that kind decides; with no mark in the line the bug is found where the found list is empty
+abbrev pub status_by : Option MarkKind → List Node → Status
+status_by (Some MarkedFound) found = Found
+status_by (Some MarkedFixed) found = Fixed
+status_by None found = if length found == 0 then Found else Absent
 
 -- the status, where this is the line, of a bug that has these marks, and is closed or not
 unfoldable pub status_on : List Node → List Node → List Node → Bool → Status
 status_on line found fixed closed =
     if closed && (length fixed == 0) then Done
-    else status_by found (first_marked found fixed line)
+    else status_by (first_kind found fixed line) found
 
 -- the status at a node
 unfoldable pub status : Ancestry → List Node → List Node → Bool → Node → Status

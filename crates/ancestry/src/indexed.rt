@@ -3,12 +3,13 @@
 ghost use Rattle.std.specs.Prelude.{◌≡◌, ℕ, IfOk, OnOk, if◌then◌else◌};
 ghost use Rattle.std.specs.HashMap.{get};
 ghost use Rattle.std.specs.Option.{option_map_or};
-ghost use Rattle.ancestry.specs.Heights.{HasHeights, height, greatest_height, status_at};
+ghost use Rattle.ancestry.specs.Heights.{HasHeights, height, greatest_height, kind_by_heights};
 ghost use Rattle.ancestry.specs.Nodes.{Node, same_node};
-ghost use Rattle.ancestry.specs.Statuses.{first_marked, status_by, status_on};
+ghost use Rattle.ancestry.specs.Statuses.{first_kind, status_on};
 
+use crate::marks::status_by;
 use crate::node::Node;
-use crate::statuses::Status;
+use crate::statuses::{MarkKind, Status};
 use std::alloc::{AllocError, Global};
 use std::collections::HashMap;
 use std::marker::Model;
@@ -60,17 +61,17 @@ fn heights_of(alloc: Global, line: &[Node]) -> Result<HashMap<Node, usize>, Allo
     Ok(heights)
 }
 
-// The status by the greatest heights of the nodes at which a bug is found and fixed.
-fn status_at(found: usize, fixed: usize, found_nowhere: bool) -> Status
-    ensures { result ≡ status_at found fixed found_nowhere }
+// The kind of the line's first mark, by the greatest heights of the nodes at which a bug is found
+// and fixed.
+fn kind_by_heights(found: usize, fixed: usize) -> Option<MarkKind>
+    ensures { result ≡ kind_by_heights found fixed }
 {
     if fixed > found {
-        return Status::Fixed;
-    }
-    if found > 0 || found_nowhere {
-        Status::Found
+        Some(MarkKind::Fixed)
+    } else if found > 0 {
+        Some(MarkKind::Found)
     } else {
-        Status::Absent
+        None
     }
 }
 
@@ -108,13 +109,11 @@ impl IndexedLine {
         greatest
     }
 
-    // The status by the first node of the line that is in one of the lists.
-    fn marked(&self, found: &[Node], fixed: &[Node]) -> Status
-        ensures { result ≡ status_by found.now (first_marked found.now fixed.now self.now) }
+    // The kind of the first mark of the line.
+    fn first_kind(&self, found: &[Node], fixed: &[Node]) -> Option<MarkKind>
+        ensures { result ≡ first_kind found.now fixed.now self.now }
     {
-        let highest_found = self.greatest_height(found);
-        let highest_fixed = self.greatest_height(fixed);
-        status_at(highest_found, highest_fixed, found.is_empty())
+        kind_by_heights(self.greatest_height(found), self.greatest_height(fixed))
     }
 
     /// The status of a bug that is found and fixed at these nodes, at the first node of the line:
@@ -128,7 +127,7 @@ impl IndexedLine {
         if closed && fixed.is_empty() {
             Status::Done
         } else {
-            self.marked(found, fixed)
+            status_by(self.first_kind(found, fixed), found)
         }
     }
 }

@@ -2,10 +2,10 @@
 
 ghost use Rattle.std.specs.Prelude.{◌≡◌};
 ghost use Rattle.ancestry.specs.Trees.{has_node, line};
-ghost use Rattle.ancestry.specs.Statuses.{first_marked, status_by, status};
+ghost use Rattle.ancestry.specs.Statuses.{first_kind, status_by, status};
 
 use crate::node::Node;
-use crate::statuses::Status;
+use crate::statuses::{MarkKind, Status};
 use crate::tree::Tree;
 
 fn has_node(nodes: &[Node], node: &Node) -> bool
@@ -14,24 +14,34 @@ fn has_node(nodes: &[Node], node: &Node) -> bool
     nodes.contains(node)
 }
 
-// The status by the first node of a line that is in one of the lists.
-fn marked(tree: &Tree, found: &[Node], fixed: &[Node], node: &Node) -> Status
-    ensures { result ≡ status_by found.now (first_marked found.now fixed.now (line tree.now node.now)) }
+// The kind of the first mark of a node's line.
+fn first_kind(tree: &Tree, found: &[Node], fixed: &[Node], node: &Node) -> Option<MarkKind>
+    ensures { result ≡ first_kind found.now fixed.now (line tree.now node.now) }
 {
     let mut at = Some(node);
     while let Some(here) = at {
         if has_node(found, here) {
-            return Status::Found;
+            return Some(MarkKind::Found);
         }
         if has_node(fixed, here) {
-            return Status::Fixed;
+            return Some(MarkKind::Fixed);
         }
         at = tree.parent(here);
     }
-    if found.is_empty() {
-        Status::Found
-    } else {
-        Status::Absent
+    None
+}
+
+/// The status of a bug that isn't done, by the kind of the first mark of its line.
+/// With no mark there it is `Found` where it is found nowhere, and else `Absent`.
+/// Takes no memory. This project's own rule.
+pub fn status_by(kind: Option<MarkKind>, found: &[Node]) -> Status
+    ensures { result ≡ status_by kind found.now }
+{
+    match kind {
+        Some(MarkKind::Found) => Status::Found,
+        Some(MarkKind::Fixed) => Status::Fixed,
+        None if found.is_empty() => Status::Found,
+        None => Status::Absent,
     }
 }
 
@@ -46,6 +56,6 @@ pub fn status(tree: &Tree, found: &[Node], fixed: &[Node], closed: bool, node: &
     if closed && fixed.is_empty() {
         Status::Done
     } else {
-        marked(tree, found, fixed, node)
+        status_by(first_kind(tree, found, fixed, node), found)
     }
 }

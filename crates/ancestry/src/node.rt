@@ -134,7 +134,9 @@ impl Node {
         self.version.as_str()
     }
 
-    /// A second such node, in the same allocator.
+    /// A second such node, which shares the texts of this one.
+    /// It takes no memory itself, and answers out of memory only where no more copies of a text can
+    /// be counted.
     pub fn copy(&self) -> Result<Node, AllocError>
         ensures value { IfOk result (λ n. n ≡ self.now) }
         ensures valid { IsNode self.now }

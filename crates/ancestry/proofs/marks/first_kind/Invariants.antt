@@ -2,14 +2,14 @@ use Rattle.std.proofs.Common.{◌≡◌, length}
 use Rattle.std.specs.Option.{option_copied}
 use Rattle.ancestry.specs.Trees.{line}
 use Rattle.ancestry.proofs.LineLemmas.{line_above}
-use Rattle.ancestry.specs.Statuses.{first_marked, status_by}
-use Rattle.ancestry.proofs.marks.marked.Given as goal
+use Rattle.ancestry.specs.Statuses.{first_kind}
+use Rattle.ancestry.proofs.marks.first_kind.Given as goal
 
 -- the line from here on decides as the whole one does
 abbrev pub invariant-loop-at : goal.invariant-loop-at
 invariant-loop-at l =
-    status_by l.found (first_marked l.found l.fixed (line_above (line l.tree) (option_copied l.at)))
-    ≡ status_by l.found (first_marked l.found l.fixed (line l.tree l.node))
+    first_kind l.found l.fixed (line_above (line l.tree) (option_copied l.at))
+    ≡ first_kind l.found l.fixed (line l.tree l.node)
 
 abbrev pub decreases-loop-at : goal.decreases-loop-at
 decreases-loop-at l = length (line_above (line l.tree) (option_copied l.at))

@@ -1,10 +1,11 @@
 use Rattle.std.proofs.Common.{length, ap, sym, ◌∙◌, arith}
+use Rattle.std.specs.Prelude.{option_map}
 use Rattle.std.specs.Option.{option_copied}
 use Rattle.ancestry.specs.Trees.{line}
 use Rattle.ancestry.proofs.LineLemmas.{line_above}
-use Rattle.ancestry.specs.Statuses.{first_marked, status_by}
+use Rattle.ancestry.specs.Statuses.{first_marked, kind_at}
 use Rattle.ancestry.proofs.WalkLemmas.{walk_step, unmarked}
-use Rattle.ancestry.proofs.marks.marked.Goals as goal
+use Rattle.ancestry.proofs.marks.first_kind.Goals as goal
 
 pub loop-at-smaller : goal.loop-at-smaller
 loop-at-smaller c =
@@ -23,4 +24,4 @@ loop-at-preserved c =
     let none =
     unmarked found fixed above c.in-Some.here.now (sym c.has_node.ensures ∙ c.if-has_node.false)
     (sym c.has_node-in-Some.ensures ∙ c.if-has_node-2.false) in
-    sym (ap (status_by found) (ap (first_marked found fixed) step ∙ none)) ∙ c.loop-at.invariant
+    sym (ap (option_map (kind_at found)) (ap (first_marked found fixed) step ∙ none)) ∙ c.loop-at.invariant
