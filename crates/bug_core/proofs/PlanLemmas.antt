@@ -12,6 +12,7 @@ use Rattle.debver.specs.Names.{IsName}
 use Rattle.bug_record.specs.Desk.{Desk, IsSound, AreGoodBlockers}
 use Rattle.bug_record.specs.Bugs.{each_bug, at_bug, unless, first_of}
 use Rattle.bug_record.specs.Words.{bug_refusal, first_bug_refusal, words_refusal, first_may_be_archived, others_may_be_archived}
+use Rattle.bug_record.specs.Words.{archived_refusal}
 use Rattle.bug_record.specs.Commands.{bug_named, other_bugs, bugs_named, HasGoodParts, HasUtf8Texts}
 use Rattle.bug_record.specs.Steps.{own_tests, records_changed, change_set, shared_after, new_title, new_submitter}
 use Rattle.bug_record.specs.Sets.{has, Each}
@@ -337,3 +338,8 @@ planned-nameless named step is next n i refusal own h w = record {
   covers = tt;
   later = tt;
 }
+
+-- the refusal of a bug of an archived set, whose fields were looked at elsewhere
+pub archived-seen : (n : ℕ) {fields shared : Shared} {r : Option Refusal} → fields ≡ shared → r ≡ archived_refusal false n fields
+    → archived_refusal false n shared ≡ r
+archived-seen n e q = sym (q ∙ (λ j. archived_refusal false n (e j)))

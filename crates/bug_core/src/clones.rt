@@ -8,7 +8,7 @@ ghost use Rattle.bug_core.specs.Others.{others};
 ghost use Rattle.bug_core.specs.Planned.{IsPlannedOf};
 
 use crate::images::{Named, replace};
-use bug_record::{Change, Member, Members, PlanFault, Refusal, Sequence, SetImage, Shared};
+use bug_record::{Agreed, Change, Member, Members, PlanFault, Refusal, Sequence, SetImage};
 use bug_refusals::archived_refusal;
 use set_images::find_image;
 use std::alloc::{AllocError, Global};
@@ -26,7 +26,7 @@ fn clone_member(member: &Member, number: u64) -> Result<Member, AllocError>
 }
 
 // A copy of a bug under a number, alone in its set.
-fn clone_image(shared: &Shared, member: &Member, number: u64) -> Result<SetImage, AllocError>
+fn clone_image(shared: &Agreed, member: &Member, number: u64) -> Result<SetImage, AllocError>
     ensures { IfOk result (λ i. i ≡ clone_image shared.now member.now number) }
 {
     let members = Members::one(clone_member(member, number)?);
@@ -39,7 +39,7 @@ fn clone_image(shared: &Shared, member: &Member, number: u64) -> Result<SetImage
 // So many copies of a bug, numbered upward from the next number.
 fn clone_images(
     alloc: Global,
-    shared: &Shared,
+    shared: &Agreed,
     member: &Member,
     next: u64,
     many: u64,
@@ -64,7 +64,7 @@ fn is_full(next: u64, asked: u64) -> bool
 // The change that adds so many copies of a bug.
 fn add_clones(
     alloc: Global,
-    shared: &Shared,
+    shared: &Agreed,
     member: &Member,
     many: u64,
     images: &[SetImage],
@@ -93,7 +93,7 @@ pub(crate) fn plan_clone(
     let Some(image) = find_image(images, number) else {
         return Err(PlanFault::Refused(Refusal::NoBug(number)));
     };
-    if let Some(refusal) = archived_refusal(false, number, &image.shared) {
+    if let Some(refusal) = archived_refusal(false, number, image.shared.fields()) {
         return Err(PlanFault::Refused(refusal));
     }
     let members = image.members.as_slice();

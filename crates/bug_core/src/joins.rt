@@ -16,7 +16,9 @@ ghost use Rattle.bug_core.specs.Named.{named_numbers};
 
 use crate::images::{Named, has_any};
 use ancestry::Node;
-use bug_record::{Member, Members, Nodes, Sequence, SetImage, Shared, Tag, Tags, add_numbers};
+use bug_record::{
+    Agreed, Member, Members, Nodes, Sequence, SetImage, Shared, Tag, Tags, add_numbers,
+};
 use debver::Text;
 use set_images::{Index, member_numbers};
 use std::alloc::{AllocError, Global};
@@ -47,7 +49,7 @@ fn owner_of<'a>(index: &'a Index, number: u64) -> Option<&'a Text>
     ensures { option_copied result ≡ first_owner (bugs_at (bug_in index.now) (number ∷ [])) }
 {
     let (image, _) = index.find_bug(number)?;
-    image.shared.owner.as_ref()
+    image.shared.fields().owner.as_ref()
 }
 
 // A copy of the owner of the first bug that has one.
@@ -207,7 +209,7 @@ fn add_all_shared(joined: &mut Joined, images: &[SetImage], named: Named) -> Res
 {
     for image in images {
         if has_any(image, named) {
-            joined.add_shared(&image.shared)?;
+            joined.add_shared(image.shared.fields())?;
         }
     }
     Ok(())
@@ -237,25 +239,6 @@ fn put_owner(shared: &mut Shared, index: &Index, numbers: &[u64]) -> Result<(), 
     Ok(())
 }
 
-// The shared fields of those sets, with all blockers.
-// The named bugs are those of the numbers.
-fn gathered_shared(
-    alloc: Global,
-    first: &Shared,
-    index: &Index,
-    images: &[SetImage],
-    numbers: &[u64],
-    named: Named,
-) -> Result<Shared, AllocError>
-    requires images { index.now ≡ images.now }
-    requires named { (n : ℕ) → has (named_numbers named) n ≡ has numbers.now n }
-    ensures { IfOk result (λ f. f ≡ gathered_shared first.now images.now numbers.now) }
-{
-    let mut shared = joined_shared(alloc, first, images, named)?;
-    put_owner(&mut shared, index, numbers)?;
-    Ok(shared)
-}
-
 // Takes the blockers out that are among these members.
 fn drop_own(alloc: Global, shared: &mut Shared, members: &[Member]) -> Result<(), AllocError>
     ensures { OnOk result (shared.new ≡ without_own members.now shared.old) }
@@ -266,6 +249,42 @@ fn drop_own(alloc: Global, shared: &mut Shared, members: &[Member]) -> Result<()
     let own = member_numbers(alloc, members)?;
     shared.blockers.remove_set(&own);
     Ok(())
+}
+
+// Puts the owner of the first of the bugs that has one into the fields, and takes the blockers out
+// that are among these members.
+fn settle(
+    alloc: Global,
+    shared: &mut Shared,
+    index: &Index,
+    numbers: &[u64],
+    members: &[Member],
+) -> Result<(), AllocError>
+    ensures { OnOk result (shared.new
+        ≡ without_own members.now (record shared.old { owner = first_owner (bugs_at (bug_in index.now) numbers.now) })) }
+{
+    put_owner(shared, index, numbers)?;
+    drop_own(alloc, shared, members)
+}
+
+// The shared fields of those sets, without the blockers that are among these members.
+// The named bugs are those of the numbers.
+fn gathered_shared(
+    alloc: Global,
+    first: &Shared,
+    index: &Index,
+    images: &[SetImage],
+    numbers: &[u64],
+    named: Named,
+    members: &[Member],
+) -> Result<Agreed, AllocError>
+    requires images { index.now ≡ images.now }
+    requires named { (n : ℕ) → has (named_numbers named) n ≡ has numbers.now n }
+    ensures { IfOk result (λ f. f ≡ without_own members.now (gathered_shared first.now images.now numbers.now)) }
+{
+    let mut shared = joined_shared(alloc, first, images, named)?;
+    settle(alloc, &mut shared, index, numbers, members)?;
+    Agreed::of(alloc, shared)
 }
 
 /// The image of the set that the bugs' sets become: with the fields of the first one, the tags and
@@ -286,7 +305,7 @@ pub(crate) fn joined_image(
 {
     let named = Named::Several(set);
     let members = joined_members(alloc, images, named)?;
-    let mut shared = gathered_shared(alloc, first, index, images, numbers, named)?;
-    drop_own(alloc, &mut shared, members.as_slice())?;
+    let own = members.as_slice();
+    let shared = gathered_shared(alloc, first, index, images, numbers, named, own)?;
     Ok(SetImage { shared, members })
 }

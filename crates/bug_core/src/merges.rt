@@ -48,7 +48,7 @@ fn differing(agreement: Agreement, first: &Shared, index: &Index, number: u64) -
     ensures { result ≡ differing (difference_of agreement first.now) (bug_in index.now number) number }
 {
     let (image, _) = index.find_bug(number)?;
-    let field = difference(agreement, first, &image.shared)?;
+    let field = difference(agreement, first, image.shared.fields())?;
     Some(Refusal::Differ(field, number))
 }
 
@@ -96,20 +96,21 @@ pub(crate) fn plan_merge(
     let Some(image) = find_image(images, first) else {
         return Err(PlanFault::Refused(Refusal::NoBug(first)));
     };
-    if let Some(refusal) = archived_refusal(false, first, &image.shared) {
+    let shared = image.shared.fields();
+    if let Some(refusal) = archived_refusal(false, first, shared) {
         return Err(PlanFault::Refused(refusal));
     }
     let index = Index::of(alloc, images)?;
     if let Some(refusal) = first_refused(&index, false, others) {
         return Err(PlanFault::Refused(refusal));
     }
-    if let Some(refusal) = first_differing(agreement, &image.shared, &index, others) {
+    if let Some(refusal) = first_differing(agreement, shared, &index, others) {
         return Err(PlanFault::Refused(refusal));
     }
     let numbers = all_numbers(alloc, first, others)?;
     let numbers = numbers.as_slice();
     let set = number_set(alloc, numbers)?;
-    let image = joined_image(alloc, &image.shared, &index, images, numbers, &set)?;
+    let image = joined_image(alloc, shared, &index, images, numbers, &set)?;
     let named = Named::Several(&set);
     Ok(replace_by_one(alloc, image, images, named, next)?)
 }

@@ -20,7 +20,7 @@ use crate::images::{Named, replace_by_one};
 use crate::merges::{Agreement, plan_merge};
 use crate::unmerge::plan_unmerge;
 use ancestry::Node;
-use bug_record::{Change, Command, PlanFault, Refusal, SetImage, Shared};
+use bug_record::{Agreed, Change, Command, PlanFault, Refusal, SetImage, Shared};
 use bug_refusals::{bug_named, records_refusal};
 use record_changes::{members_with, shared_after};
 use set_images::find_image;
@@ -42,7 +42,8 @@ fn changed_set(
         ∷ others (bug_named command.now ∷ []) images.now) }
     ensures next { IfOk result (λ change. change.next ≡ next) }
 {
-    let members = members_with(alloc, command, from, &image.shared, &image.members)?;
+    let shared = Agreed::of(alloc, shared)?;
+    let members = members_with(alloc, command, from, image.shared.fields(), &image.members)?;
     let image = SetImage { shared, members };
     let named = Named::One(bug_named(command));
     replace_by_one(alloc, image, images, named, next)
@@ -65,7 +66,7 @@ fn change_records(
     ensures { (head : Option Node) → records_refusal command.now head images.now image.now ≡ None
         → IsRecordsPlan head from.now command.now images.now next result }
 {
-    let shared = match shared_after(alloc, command, from, &image.shared) {
+    let shared = match shared_after(alloc, command, from, image.shared.fields()) {
         Ok(shared) => shared,
         Err(PlanFault::Memory) => return Err(PlanFault::Memory),
         // The image's package is no package name: no desk has such a bug.

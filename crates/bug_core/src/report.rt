@@ -11,7 +11,7 @@ ghost use Rattle.bug_record.specs.Images.{put, AreApart, HasMember, FitsDesk};
 ghost use Rattle.bug_core.specs.Reports.{only_member, shared_of_report, image_of_report};
 
 use ancestry::Node;
-use bug_record::{Change, Member, Members, Nodes, Sequence, SetImage, Severity, Shared};
+use bug_record::{Agreed, Change, Member, Members, Nodes, Sequence, SetImage, Severity, Shared};
 use debver::Text;
 use std::alloc::{AllocError, Global};
 
@@ -74,7 +74,7 @@ fn image_of_report(
 {
     let shared = shared_of_report(alloc, package, severity, found_first(alloc, node)?)?;
     Ok(SetImage {
-        shared,
+        shared: Agreed::of(alloc, shared)?,
         members: only_member(alloc, number, title, from)?,
     })
 }

@@ -7,7 +7,7 @@ ghost use Rattle.bug_core.specs.Joins.{is_part};
 ghost use Rattle.bug_core.specs.Planned.{IsPlannedOf};
 
 use crate::images::{Named, replace};
-use bug_record::{Change, Member, Members, PlanFault, Refusal, Sequence, SetImage, Shared};
+use bug_record::{Agreed, Change, Member, Members, PlanFault, Refusal, Sequence, SetImage};
 use bug_refusals::archived_refusal;
 use set_images::find_image;
 use std::alloc::{AllocError, Global};
@@ -41,24 +41,28 @@ fn part(
     Ok(Sequence::from_vec(copies))
 }
 
+// The image of a set with a copy of the shared fields.
+fn part_image(shared: &Agreed, members: Sequence<Member>) -> Result<SetImage, AllocError>
+    ensures { IfOk result (λ image. image ≡ record { shared = shared.now; members = members }) }
+{
+    Ok(SetImage {
+        shared: shared.copy()?,
+        members: Members::of(members)?,
+    })
+}
+
 // The images of two sets with copies of the shared fields.
 fn two_images(
     alloc: Global,
-    shared: &Shared,
+    shared: &Agreed,
     own: Sequence<Member>,
     rest: Sequence<Member>,
 ) -> Result<Sequence<SetImage>, AllocError>
     ensures { IfOk result
         (λ is. is ≡ record { shared = shared.now; members = own } ∷ record { shared = shared.now; members = rest } ∷ []) }
 {
-    let own = SetImage {
-        shared: shared.copy()?,
-        members: Members::of(own)?,
-    };
-    let rest = SetImage {
-        shared: shared.copy()?,
-        members: Members::of(rest)?,
-    };
+    let own = part_image(shared, own)?;
+    let rest = part_image(shared, rest)?;
     Ok(Sequence::from_vec(Vec::from_array(alloc, [own, rest])?))
 }
 
@@ -77,7 +81,7 @@ pub(crate) fn plan_unmerge(
     let Some(image) = find_image(images, number) else {
         return Err(PlanFault::Refused(Refusal::NoBug(number)));
     };
-    if let Some(refusal) = archived_refusal(false, number, &image.shared) {
+    if let Some(refusal) = archived_refusal(false, number, image.shared.fields()) {
         return Err(PlanFault::Refused(refusal));
     }
     let members = image.members.as_slice();

@@ -4,6 +4,7 @@ ghost use Rattle.std.specs.Prelude.{◌≡◌, IfOk};
 ghost use Rattle.bug_record.specs.Sets.{has};
 ghost use Rattle.bug_record.specs.Images.{numbers_of};
 
+use crate::agreed::Agreed;
 use crate::members::Members;
 use crate::sequence::{Nodes, Numbered, Numbers};
 use crate::severity::Severity;
@@ -43,7 +44,7 @@ pub struct Member {
 /// A bug that is merged with none is a set of one.
 #[derive(Drop)]
 pub struct SetImage {
-    pub shared: Shared,
+    pub shared: Agreed,
     pub members: Members,
 }
 
@@ -64,7 +65,7 @@ impl Numbered for Member {
     }
 }
 
-// An equal text of its own, if there is one.
+// A copy of the text, if there is one.
 fn copy_text(text: &Option<Text>) -> Result<Option<Text>, AllocError>
     ensures { IfOk result (λ r. r ≡ text.now) }
 {
@@ -98,7 +99,9 @@ impl Shared {
         ))
     }
 
-    /// An equal value of its own.
+    /// Equal fields, which share their texts with these.
+    /// It answers out of memory where there is none for the lists of tags, nodes and blockers, or
+    /// where no more copies of a text can be counted.
     pub fn copy(&self) -> Result<Shared, AllocError>
         ensures { IfOk result (λ r. r ≡ self.now) }
     {
@@ -120,7 +123,9 @@ impl Shared {
 }
 
 impl Member {
-    /// An equal value of its own.
+    /// An equal member, which shares its texts with this one.
+    /// It takes no memory itself, and answers out of memory only where no more copies of a text can
+    /// be counted.
     pub fn copy(&self) -> Result<Member, AllocError>
         ensures { IfOk result (λ r. r ≡ self.now) }
     {
@@ -143,7 +148,9 @@ impl SetImage {
             .any(|member| member.number == number)
     }
 
-    /// An equal value of its own.
+    /// An equal image, which shares the fields and the members with this one.
+    /// It takes no memory itself, and answers out of memory only where no more copies of the fields,
+    /// of the members or of a text can be counted.
     pub fn copy(&self) -> Result<SetImage, AllocError>
         ensures { IfOk result (λ r. r ≡ self.now) }
     {

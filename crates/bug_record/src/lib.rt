@@ -3,6 +3,7 @@
 //! what each command does to it.
 #![tactic(auto)]
 
+mod agreed;
 mod bug;
 mod command;
 mod laws;
@@ -12,6 +13,7 @@ mod severity;
 mod tag;
 mod texts;
 
+pub use agreed::Agreed;
 pub use bug::{Bug, Member, SetImage, Shared};
 pub use command::{Change, Command, Field, PlanFault, Refusal, TagStep, VersionArg, Who};
 pub use laws::{joined_are_sets, joined_by_membership, marks_by_membership};

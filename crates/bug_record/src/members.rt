@@ -70,8 +70,8 @@ impl Members {
 
     /// An equal value, which shares the members of a set of several bugs: these are only counted,
     /// and there is no memory where the count of their owners is full.
-    /// Of a bug by itself the texts are copied, and there is no memory where a text's copy has
-    /// none.
+    /// A bug by itself shares its texts, and there is no memory where no more copies of a text can
+    /// be counted.
     pub fn copy(&self) -> Result<Members, AllocError>
         ensures { IfOk result (λ ms. ms ≡ self.now) }
     {

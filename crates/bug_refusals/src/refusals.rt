@@ -33,7 +33,7 @@ fn bug_refusal(index: &Index, may_be: bool, number: u64) -> Option<Refusal>
     ensures { result ≡ bug_refusal may_be (bug_in index.now number) number }
 {
     match index.find_bug(number) {
-        Some((image, _)) => archived_refusal(may_be, number, &image.shared),
+        Some((image, _)) => archived_refusal(may_be, number, image.shared.fields()),
         None => Some(Refusal::NoBug(number)),
     }
 }
@@ -111,7 +111,7 @@ fn archive_refusal(
     ensures { IfOk result
         (λ refusal. refusal ≡ first_of (own_tests (Command.Archive number) (option_copied open_head.entry) (numbers_of image.now.members) image.now.shared)) }
 {
-    if !image.shared.closed {
+    if !image.shared.fields().closed {
         return Ok(Some(Refusal::NotDone(number)));
     }
     match open_head {
@@ -133,7 +133,7 @@ fn own_refusal(
     match command {
         Command::Block(_, numbers) => own_set_refusal(alloc, image, numbers.as_slice()),
         Command::Archive(number) => archive_refusal(*number, open_head, image),
-        Command::Unarchive(number) if !image.shared.archived => {
+        Command::Unarchive(number) if !image.shared.fields().archived => {
             Ok(Some(Refusal::NotArchived(*number)))
         }
         _ => Ok(None),
@@ -153,7 +153,11 @@ pub fn records_refusal(
         (λ refusal. refusal ≡ records_refusal command.now (option_copied open_head.entry) images.now image.now) }
 {
     let number = bug_named(command);
-    if let Some(refusal) = archived_refusal(first_may_be_archived(command), number, &image.shared) {
+    if let Some(refusal) = archived_refusal(
+        first_may_be_archived(command),
+        number,
+        image.shared.fields(),
+    ) {
         return Ok(Some(refusal));
     }
     if let Some(refusal) = others_refusal(alloc, command, images)? {

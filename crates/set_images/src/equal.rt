@@ -90,5 +90,6 @@ pub(crate) fn same_texts(a: &Member, b: &Member) -> bool
 pub(crate) fn same_set(a: &SetImage, b: &SetImage) -> bool
     ensures { result ≡ same_set a.now b.now }
 {
-    same_numbers(a.members.as_slice(), b.members.as_slice()) && same_shared(&a.shared, &b.shared)
+    same_numbers(a.members.as_slice(), b.members.as_slice())
+        && same_shared(a.shared.fields(), b.shared.fields())
 }

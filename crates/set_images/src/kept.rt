@@ -73,7 +73,7 @@ pub(crate) fn changed_in_place(
     ensures { IfOk result (λ r. AreChanged (bug_in (old.now ∷ [])) (bug_in (new.now ∷ [])) r) }
 {
     let members = new.members.as_slice();
-    if !same_shared(&old.shared, &new.shared) {
+    if !same_shared(old.shared.fields(), new.shared.fields()) {
         return numbers_of(alloc, members);
     }
     retold(alloc, old.members.as_slice(), members)

@@ -58,7 +58,9 @@ impl Sequence<Node> {
         self.items.retain(|other| node != other);
     }
 
-    /// An equal value of its own.
+    /// An equal list, whose nodes share their texts with these.
+    /// It answers out of memory where there is none for the list, or where no more copies of a text
+    /// can be counted.
     pub fn copy(&self) -> Result<Sequence<Node>, AllocError>
         ensures { IfOk result (λ r. r ≡ self.now) }
     {

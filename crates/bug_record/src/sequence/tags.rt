@@ -15,7 +15,7 @@ impl Sequence<Tag> {
         self.items.retain(|other| tag.place() != other.place());
     }
 
-    /// An equal value of its own.
+    /// An equal list of its own. It answers out of memory where there is none for the list.
     pub fn copy(&self) -> Result<Sequence<Tag>, AllocError>
         ensures { IfOk result (λ r. r ≡ self.now) }
     {

@@ -1,9 +1,10 @@
-use Rattle.std.proofs.Common.{◌≡◌, List, ap, ◌∙◌}
+use Rattle.std.proofs.Common.{◌≡◌, List, ap, ◌∙◌, subst, IfOk}
 use Rattle.bug_record.specs.Bugs.{bugs_at}
 use Rattle.bug_record.specs.Images.{bug_in}
 use Rattle.bug_record.specs.Merges.{first_owner}
 use Rattle.bug_record.specs.declared.bug.SetImage.{SetImage}
-use Rattle.bug_core.specs.Joins.{without_marks_and_blockers, with_all_shared}
+use Rattle.bug_record.specs.declared.bug.Shared.{Shared}
+use Rattle.bug_core.specs.Joins.{without_marks_and_blockers, with_all_shared, without_own}
 use Rattle.bug_core.specs.Named.{named_numbers}
 use Rattle.bug_core.specs.Others.{those_meant}
 use Rattle.bug_core.proofs.NamedLemmas.{those-same}
@@ -19,4 +20,6 @@ returns c =
     let owner : first_owner (bugs_at (bug_in c.args.index.now) c.args.numbers.now)
     ≡ first_owner (bugs_at (bug_in c.args.images.now) c.args.numbers.now)
     = ap (λ (is : List SetImage). first_owner (bugs_at (bug_in is) c.args.numbers.now)) c.requires.images in
-    c.in_ok-put_owner.ensures ∙ (λ j. record (fields j) { owner = owner j })
+    subst (λ (f : Shared). IfOk c.of.result (λ (g : Shared). g ≡ f))
+    (c.in_ok-settle.ensures ∙ (λ j. without_own c.args.members.now (record (fields j) { owner = owner j })))
+    c.of.ensures

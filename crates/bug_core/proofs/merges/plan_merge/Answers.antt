@@ -6,10 +6,11 @@ use Rattle.bug_record.specs.Sets.{has}
 use Rattle.bug_record.specs.Words.{first_bug_refusal}
 use Rattle.bug_record.specs.declared.bug.SetImage.{SetImage}
 use Rattle.bug_core.specs.Agreements.{difference_of}
+use Rattle.bug_core.specs.Joins.{joined_image}
 use Rattle.bug_core.specs.Others.{others}
 use Rattle.bug_core.proofs.MergeLemmas.{image_joined, merge-no_bug, merge-archived, merge-refused, merge-differs, merge-done}
 use Rattle.bug_core.proofs.NamedLemmas.{others-same, has-set}
-use Rattle.bug_core.proofs.PlanLemmas.{planned-no_memory}
+use Rattle.bug_core.proofs.PlanLemmas.{planned-no_memory, archived-seen}
 use Rattle.bug_core.proofs.merges.plan_merge.Goals as goal
 
 pub returns-in_default : goal.returns-in_default
@@ -21,7 +22,7 @@ pub returns-in-Some-first_refused : goal.returns-in-Some-first_refused
 returns-in-Some-first_refused c =
     merge-refused (difference_of c.args.agreement) c.args.images.now c.args.next c.args.first c.args.others.now
     c.in-Some.image.now c.in-Some-first_refused.refusal c.in-Some.ensures
-    (sym c.archived_refusal.ensures ∙ c.in_default-archived_refusal.is)
+    (archived-seen c.args.first c.fields-shared.ensures c.archived_refusal.ensures ∙ c.in_default-archived_refusal.is)
     (ap (λ (is : List SetImage). first_bug_refusal false (bug_in is) c.args.others.now) (sym c.in_ok-index.ensures)
     ∙ sym c.first_refused.ensures ∙ c.in-Some-first_refused.is)
 
@@ -29,11 +30,11 @@ pub returns-in-Some-first_differing : goal.returns-in-Some-first_differing
 returns-in-Some-first_differing c =
     merge-differs (difference_of c.args.agreement) c.args.images.now c.args.next c.args.first c.args.others.now
     c.in-Some.image.now c.in-Some-first_differing.refusal c.in-Some.ensures
-    (sym c.archived_refusal.ensures ∙ c.in_default-archived_refusal.is)
+    (archived-seen c.args.first c.fields-shared.ensures c.archived_refusal.ensures ∙ c.in_default-archived_refusal.is)
     (ap (λ (is : List SetImage). first_bug_refusal false (bug_in is) c.args.others.now) (sym c.in_ok-index.ensures)
     ∙ sym c.first_refused.ensures ∙ c.in_default-first_refused.is)
-    (ap (λ (is : List SetImage). first_refusal (differing (difference_of c.args.agreement c.in-Some.image.now.shared)) (bug_in is)
-    c.args.others.now) (sym c.in_ok-index.ensures) ∙ sym c.first_differing.ensures ∙ c.in-Some-first_differing.is)
+    ((λ j. first_refusal (differing (difference_of c.args.agreement (sym c.fields-shared.ensures j)))
+    (bug_in (sym c.in_ok-index.ensures j)) c.args.others.now) ∙ sym c.first_differing.ensures ∙ c.in-Some-first_differing.is)
 
 pub joined_image-requires-clause-set : goal.joined_image-requires-clause-set
 joined_image-requires-clause-set c = λ n. has-set c.in_ok-set.set.keys c.as_slice-numbers.result.now c.in_ok-set.ensures n
@@ -43,18 +44,18 @@ returns c =
     let numbers : c.as_slice-numbers.result.now ≡ c.args.first ∷ c.args.others.now =
     c.as_slice-numbers.ensures ∙ c.in_ok-numbers.ensures in
     let joined : c.in_ok-image.image ≡ image_joined c.args.images.now (c.args.first ∷ c.args.others.now) c.in-Some.image.now
-    = c.in_ok-image.ensures ∙ ap (λ (ns : List ℕ). image_joined c.args.images.now ns c.in-Some.image.now) numbers in
+    = c.in_ok-image.ensures ∙ (λ j. joined_image (c.fields-shared.ensures j) c.args.images.now (numbers j)) in
     let rest : others c.in_ok-set.set.keys c.args.images.now ≡ others (c.args.first ∷ c.args.others.now) c.args.images.now
     = others-same c.in_ok-set.set.keys (c.args.first ∷ c.args.others.now)
     (λ n. has-set c.in_ok-set.set.keys c.as_slice-numbers.result.now c.in_ok-set.ensures n
     ∙ ap (λ (ns : List ℕ). has ns n) numbers) c.args.images.now in
     merge-done (difference_of c.args.agreement) c.args.images.now c.args.next c.args.first c.args.others.now c.in-Some.image.now
     c.requires.apart c.in-Some.ensures
-    (sym c.archived_refusal.ensures ∙ c.in_default-archived_refusal.is)
+    (archived-seen c.args.first c.fields-shared.ensures c.archived_refusal.ensures ∙ c.in_default-archived_refusal.is)
     (ap (λ (is : List SetImage). first_bug_refusal false (bug_in is) c.args.others.now) (sym c.in_ok-index.ensures)
     ∙ sym c.first_refused.ensures ∙ c.in_default-first_refused.is)
-    (ap (λ (is : List SetImage). first_refusal (differing (difference_of c.args.agreement c.in-Some.image.now.shared)) (bug_in is)
-    c.args.others.now) (sym c.in_ok-index.ensures) ∙ sym c.first_differing.ensures ∙ c.in_default-first_differing.is)
+    ((λ j. first_refusal (differing (difference_of c.args.agreement (sym c.fields-shared.ensures j)))
+    (bug_in (sym c.in_ok-index.ensures j)) c.args.others.now) ∙ sym c.first_differing.ensures ∙ c.in_default-first_differing.is)
     c.in_ok-replace_by_one.field-0
     (c.in_ok-replace_by_one.ensures.images ∙ (λ j. joined j ∷ rest j))
     c.in_ok-replace_by_one.ensures.next
@@ -63,7 +64,7 @@ pub returns-in-Some-archived_refusal : goal.returns-in-Some-archived_refusal
 returns-in-Some-archived_refusal c =
     merge-archived (difference_of c.args.agreement) c.args.images.now c.args.next c.args.first c.args.others.now
     c.in-Some.image.now c.in-Some-archived_refusal.refusal c.in-Some.ensures
-    (sym c.archived_refusal.ensures ∙ c.in-Some-archived_refusal.is)
+    (archived-seen c.args.first c.fields-shared.ensures c.archived_refusal.ensures ∙ c.in-Some-archived_refusal.is)
 
 pub returns-in_err-index : goal.returns-in_err-index
 returns-in_err-index c = planned-no_memory _ _ _ _ c.from_residual.result c.from_residual.ensures.1

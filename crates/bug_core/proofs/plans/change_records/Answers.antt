@@ -1,5 +1,8 @@
-use Rattle.std.proofs.Common.{[], ◌∷◌, ◌∙◌}
+use Rattle.std.proofs.Common.{[], ◌∷◌, ◌∙◌, subst}
+use Rattle.debver.specs.Names.{IsName}
 use Rattle.bug_record.specs.Commands.{bug_named, bugs_named}
+use Rattle.bug_record.specs.Steps.{shared_after}
+use Rattle.bug_record.specs.declared.bug.Shared.{Shared}
 use Rattle.std.specs.Prelude.{map}
 use Rattle.record_changes.specs.Members.{member_after}
 use Rattle.bug_record.specs.declared.command.Refusal.TheVariants.{NoBug}
@@ -16,8 +19,9 @@ returns-in-Err-Memory c = λ head r.
 pub returns-in-Err-Refused : goal.returns-in-Err-Refused
 returns-in-Err-Refused c = λ head r.
     let nameless = rw c.in-Err-Refused.field-0-is at c.in-Err-Refused.ensures.fault in
+    let shown = subst (λ (s : Shared). IsName s.«package» → ⊥) c.fields.ensures nameless in
     planned-nameless (bugs_named c.args.command.now) (records_step head c.args.from.now c.args.command.now) c.args.images.now
-    c.args.next (bug_named c.args.command.now) c.args.image.now (NoBug c.bug_named.result) tt c.requires.named nameless
+    c.args.next (bug_named c.args.command.now) c.args.image.now (NoBug c.bug_named.result) tt c.requires.named shown
 
 pub returns-in-Ok-changed_set : goal.returns-in-Ok-changed_set
 returns-in-Ok-changed_set c = λ head r.
@@ -26,7 +30,8 @@ returns-in-Ok-changed_set c = λ head r.
     c.requires.apart c.requires.named r
     c.in-Ok-changed_set.change
     (c.in-Ok-changed_set.ensures.images ∙ (λ j. record {
-      shared = c.in-Ok.ensures.value j;
+      shared = (c.in-Ok.ensures.value
+          ∙ (λ k. shared_after c.args.from.now c.args.command.now (c.fields.ensures k))) j;
       members = map (member_after c.args.from.now c.args.command.now c.args.image.now.shared) c.args.image.now.members;
     } ∷ others (bug_named c.args.command.now ∷ []) c.args.images.now))
     c.in-Ok-changed_set.ensures.next

@@ -1,4 +1,4 @@
-use Rattle.std.proofs.Common.{◌≡◌, [], ◌∷◌, List, subst, IfOk}
+use Rattle.std.proofs.Common.{◌≡◌, [], ◌∷◌, ◌∙◌, List, subst, IfOk}
 use Rattle.std.specs.Prelude.{map}
 use Rattle.record_changes.specs.Members.{member_after}
 use Rattle.bug_record.specs.declared.command.Change.{Change}
@@ -10,7 +10,8 @@ pub returns-clause-images : goal.returns-clause-images
 returns-clause-images c =
     let members : c.in_ok-members.members
     ≡ map (member_after c.args.from.now c.args.command.now c.args.image.now.shared) c.args.image.now.members
-    = c.in_ok-members.ensures in
+    = c.in_ok-members.ensures
+    ∙ (λ j. map (member_after c.args.from.now c.args.command.now (c.fields.ensures j)) c.args.image.now.members) in
     subst (λ (is : List SetImage). IfOk c.replace_by_one.result (λ (change : Change). change.images ≡ is))
-    (λ j. record { shared = c.args.shared; members = members j } ∷ others (c.bug_named.ensures j ∷ []) c.args.images.now)
+    (λ j. record { shared = c.in_ok-shared.ensures j; members = members j } ∷ others (c.bug_named.ensures j ∷ []) c.args.images.now)
     c.replace_by_one.ensures.images

@@ -7,7 +7,7 @@ use Rattle.bug_core.specs.Joins.{is_part}
 use Rattle.bug_core.specs.Others.{others}
 use Rattle.bug_core.proofs.UnmergeLemmas.{part_of, parts, unmerge-no_bug, unmerge-archived, unmerge-alone, unmerge-done}
 use Rattle.bug_core.proofs.UnmergeLemmas.{parts-apart}
-use Rattle.bug_core.proofs.PlanLemmas.{planned-no_memory}
+use Rattle.bug_core.proofs.PlanLemmas.{planned-no_memory, archived-seen}
 use Rattle.bug_core.proofs.unmerge.plan_unmerge.Goals as goal
 
 pub returns-in_default-clause-planned : goal.returns-in_default-clause-planned
@@ -23,7 +23,7 @@ returns-then-is_empty-clause-planned c =
     let rest : c.in_ok-rest.rest ≡ filter (is_part false c.args.number) c.in-Some.image.now.members =
     c.in_ok-rest.ensures ∙ ap (filter (is_part false c.args.number)) c.as_slice-members.ensures in
     unmerge-alone c.args.images.now c.args.next c.args.number c.in-Some.image.now c.in-Some.ensures
-    (sym c.archived_refusal.ensures ∙ c.in_default-archived_refusal.is)
+    (archived-seen c.args.number c.fields.ensures c.archived_refusal.ensures ∙ c.in_default-archived_refusal.is)
     (sym (c.as_slice.ensures ∙ rest) ∙ empty c.as_slice.result.now (sym c.is_empty.ensures ∙ c.if-is_empty.true))
 
 -- the rest has a member
@@ -51,7 +51,7 @@ images c =
 pub returns-clause-planned : goal.returns-clause-planned
 returns-clause-planned c =
     unmerge-done c.args.images.now c.args.next c.args.number c.in-Some.image.now c.requires.apart c.in-Some.ensures
-    (sym c.archived_refusal.ensures ∙ c.in_default-archived_refusal.is)
+    (archived-seen c.args.number c.fields.ensures c.archived_refusal.ensures ∙ c.in_default-archived_refusal.is)
     (some_left c) c.in_ok-replace.field-0 (images c) c.in_ok-replace.ensures.next
 
 pub returns-clause-apart : goal.returns-clause-apart
@@ -62,7 +62,7 @@ returns-clause-apart c =
 pub returns-in-Some-archived_refusal-clause-planned : goal.returns-in-Some-archived_refusal-clause-planned
 returns-in-Some-archived_refusal-clause-planned c =
     unmerge-archived c.args.images.now c.args.next c.args.number c.in-Some.image.now c.in-Some-archived_refusal.refusal
-    c.in-Some.ensures (sym c.archived_refusal.ensures ∙ c.in-Some-archived_refusal.is)
+    c.in-Some.ensures (archived-seen c.args.number c.fields.ensures c.archived_refusal.ensures ∙ c.in-Some-archived_refusal.is)
 
 pub returns-in_err-rest-clause-planned : goal.returns-in_err-rest-clause-planned
 returns-in_err-rest-clause-planned c = planned-no_memory _ _ _ _ c.from_residual.result c.from_residual.ensures.1

@@ -29,14 +29,14 @@ returns-in-Some c =
     by_parts c.args.command.now (option_copied c.args.open_head) c.args.images.now c.args.image.now (Some c.in-Some.refusal) _ _
     c.requires.named
     (sym c.in-Some.is ∙ c.archived_refusal.ensures
-    ∙ (λ j. archived_refusal (c.first_may_be_archived.ensures j) (c.bug_named-number.ensures j) c.args.image.now.shared)) refl refl
+    ∙ (λ j. archived_refusal (c.first_may_be_archived.ensures j) (c.bug_named-number.ensures j) (c.fields.ensures j))) refl refl
 
 pub returns-in-Some-2 : goal.returns-in-Some-2
 returns-in-Some-2 c =
     by_parts c.args.command.now (option_copied c.args.open_head) c.args.images.now c.args.image.now None (Some c.in-Some-2.refusal)
     _ c.requires.named
     (sym c.in_default.is ∙ c.archived_refusal.ensures
-    ∙ (λ j. archived_refusal (c.first_may_be_archived.ensures j) (c.bug_named-number.ensures j) c.args.image.now.shared))
+    ∙ (λ j. archived_refusal (c.first_may_be_archived.ensures j) (c.bug_named-number.ensures j) (c.fields.ensures j)))
     (sym c.in-Some-2.is ∙ c.in_ok-refusal.ensures) refl
 
 pub returns : goal.returns
@@ -52,5 +52,5 @@ returns c = given c.own_refusal.result c.own_refusal.ensures
         by_parts c.args.command.now (option_copied c.args.open_head) c.args.images.now c.args.image.now None None refusal
         c.requires.named
         (sym c.in_default.is ∙ c.archived_refusal.ensures
-        ∙ (λ j. archived_refusal (c.first_may_be_archived.ensures j) (c.bug_named-number.ensures j) c.args.image.now.shared))
+        ∙ (λ j. archived_refusal (c.first_may_be_archived.ensures j) (c.bug_named-number.ensures j) (c.fields.ensures j)))
         (sym c.in_default-2.is ∙ c.in_ok-refusal.ensures) h

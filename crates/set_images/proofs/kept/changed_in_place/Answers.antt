@@ -10,7 +10,8 @@ use Rattle.set_images.proofs.kept.changed_in_place.Goals as goal
 pub returns-then-not-same_shared : goal.returns-then-not-same_shared
 returns-then-not-same_shared c =
     let other : same_shared c.args.old.now.shared c.args.new.now.shared ≡ false =
-    sym c.same_shared.ensures ∙ c.if-not-same_shared.true in
+    sym (λ j. same_shared (c.fields.ensures j) (c.fields-2.ensures j)) ∙ sym c.same_shared.ensures
+    ∙ c.if-not-same_shared.true in
     IfOk-weaker c.numbers_of.result _ _
     (λ r e. changed-shared c.args.old.now c.args.new.now r c.requires.kept other
     (e ∙ ap numbers_of c.as_slice-members.ensures)) c.numbers_of.ensures
@@ -18,7 +19,8 @@ returns-then-not-same_shared c =
 pub returns : goal.returns
 returns c =
     let alike : same_shared c.args.old.now.shared c.args.new.now.shared ≡ true =
-    sym c.same_shared.ensures ∙ c.if-not-same_shared.false in
+    sym (λ j. same_shared (c.fields.ensures j) (c.fields-2.ensures j)) ∙ sym c.same_shared.ensures
+    ∙ c.if-not-same_shared.false in
     IfOk-weaker c.retold.result _ _
     (λ r e. changed-retold c.args.old.now c.args.new.now r c.requires.kept alike
     (e ∙ (λ j. retold (c.as_slice.ensures j) (c.as_slice-members.ensures j)))) c.retold.ensures
