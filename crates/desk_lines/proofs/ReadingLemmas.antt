@@ -1,7 +1,8 @@
 -- Bytes read, and the lines found in them.
 use Rattle.std.proofs.Common.{◌≡◌, ℕ, ◌+◌, ◌<◌, ◌≤◌, ◌==◌, List, [], ◌∷◌, ◌++◌, length, take, drop, get_or, Option, Some, None}
-use Rattle.std.proofs.Common.{Vec, false, sym, ◌∙◌, ap, subst, arith, refl, append_assoc, append-nil}
+use Rattle.std.proofs.Common.{false, sym, ◌∙◌, ap, subst, arith, refl, append_assoc, append-nil}
 use Rattle.std.specs.Str.{IsUtf8}
+use Rattle.std.specs.Prelude.{Result, Ok, Err, IfOk, IfErr, OnOk}
 use Rattle.std.specs.List.{list_any, onto_first, slice_split}
 use Rattle.std.proofs.lemmas.Bool.{eqb-true, or_parts}
 use Rattle.std.proofs.lemmas.Grind.{common_steps}
@@ -13,10 +14,9 @@ use Rattle.desk_lines.specs.Reading.{Known, Left, GivesBytes, GivesPiece, GivesR
 use Rattle.desk_lines.specs.Reading.{IsTextFault}
 use Rattle.desk_lines.specs.declared.fault.ScriptFault.{ScriptFault}
 use Rattle.desk_lines.specs.declared.fault.ScriptFault.TheVariants.{Read, Write, NotUtf8, LineTooLong, Memory, Store}
+use Rattle.desk_lines.specs.declared.source.Piece.{Piece}
 use Rattle.desk_lines.specs.declared.source.Piece.TheVariants as pieces
 use Rattle.desk_lines.specs.declared.source.RawLine.{RawLine}
-use Rattle.desk_lines.specs.declared.source.RawLine.TheVariants.{Line}
-use Rattle.std.specs.declared.alloc.Global.{Global}
 use Rattle.desk_lines.proofs.LineLemmas.{no_feed, raw_lines-first, raw_lines-last}
 
 left_then : {a b c : Option (List ℕ)} {P Q R : List ℕ → List ℕ → Type 0} → Left a b P → Left b c Q
@@ -185,17 +185,28 @@ text_fault number Write all raw more first short h = absurd h
 text_fault number (LineTooLong line) all raw more first short h = absurd h
 text_fault number (Store fault) all raw more first short h = absurd h
 
-pub line_unread : {a b : Option (List ℕ)} (number : ℕ) (fault : ScriptFault) (s t bytes : List ℕ) (raw : RawLine)
-    (line : Vec ℕ Global) → raw ≡ Line line → bytes ≡ line.items
-    → Left a b (λ xs ys. GivesRaw raw (s ++ xs) (t ++ ys)) → IsTextFault number bytes fault
-    → Known a (λ xs. IsLineFault number fault (s ++ xs))
-line_unread number fault s t bytes raw line is same read h = record {
-  known = λ xs e.
-      let given = read.known xs e in
-      let first = subst (λ (r : RawLine). GivesRaw r (s ++ xs) (t ++ given.0)) is given.2 in
-      text_fault number fault (s ++ xs) line.items (raw_lines (t ++ given.0)) first.0 first.1
-      (subst (λ (w : List ℕ). IsTextFault number w fault) same h);
+-- a piece as it was read, of what a reader has left
+pub piece_left : {a b : Option (List ℕ)} (s t : List ℕ) (raw : RawLine) (result : Result Piece ScriptFault)
+    → Left a b (λ xs ys. GivesRaw raw (s ++ xs) (t ++ ys))
+    → IfOk result (λ piece. (all rest : List ℕ) → GivesRaw raw all rest → GivesPiece piece all rest)
+    → IfOk result (λ piece. Left a b (λ xs ys. GivesPiece piece (s ++ xs) (t ++ ys)))
+piece_left s t raw (Ok piece) p f = record {
+  known = λ xs e. let u = p.known xs e in (u.0, u.1, f (s ++ xs) (t ++ u.0) u.2);
 }
+piece_left s t raw (Err fault) p f = tt
+
+pub fault_left : {a b : Option (List ℕ)} (number : ℕ) (s t : List ℕ) (raw : RawLine) (result : Result Piece ScriptFault)
+    → Left a b (λ xs ys. GivesRaw raw (s ++ xs) (t ++ ys))
+    → IfErr result (λ fault. (all rest : List ℕ) → GivesRaw raw all rest → IsLineFault number fault all)
+    → IfErr result (λ fault. Known a (λ xs. IsLineFault number fault (s ++ xs)))
+fault_left number s t raw (Ok piece) p f = tt
+fault_left number s t raw (Err fault) p f = record {
+  known = λ xs e. let u = p.known xs e in f (s ++ xs) (t ++ u.0) u.2;
+}
+
+pub on_ok : {P : Type 0} (result : Result Piece ScriptFault) → P → OnOk result P
+on_ok (Ok piece) p = p
+on_ok (Err fault) p = tt
 
 -- the whole line stands in what is unread
 pub line_at_hand : {a : Option (List ℕ)} (text unread left : List ℕ) (at : ℕ) → IsFirstFeed unread (Some at)

@@ -1,6 +1,7 @@
 //! Lines of a reader, and bytes to a writer.
 
 ghost use Rattle.std.specs.Prelude.{◌≡◌, ℕ, ◌+◌, ◌<◌, ◌≤◌, ◌++◌, [], length, take, drop, false, IsOk, IfOk, IfErr, OnOk, OnErr};
+ghost use Rattle.std.specs.Prelude.{List};
 ghost use Rattle.std.specs.Prelude.{IsUtf8, Result, None, Some};
 ghost use Rattle.std.specs.List.{list_any};
 ghost use Rattle.std.specs.Io.KnownBytes.{Appends};
@@ -216,6 +217,27 @@ fn text_of(alloc: Global, bytes: &[u8], number: u64) -> Result<Text, ScriptFault
     }
 }
 
+// A piece of text from a piece as it was read.
+fn piece_of(alloc: Global, raw: RawLine, number: u64) -> Result<Piece, ScriptFault>
+    ensures piece { IfOk result (λ piece. (all rest : List ℕ) → GivesRaw raw all rest → GivesPiece piece all rest) }
+    ensures fault { IfErr result
+        (λ fault. (all rest : List ℕ) → GivesRaw raw all rest → IsLineFault number fault all) }
+    ensures outside { IfErr result (IsReadingFault number) }
+    ensures whole { result ≡ Result.Err ScriptFault.Read → ⊥ }
+{
+    match raw {
+        RawLine::Line(bytes) => match text_of(alloc, &bytes, number) {
+            Ok(text) => Ok(Piece::Line(text)),
+            Err(fault) => Err(fault),
+        },
+        RawLine::Last(bytes) => match text_of(alloc, &bytes, number) {
+            Ok(text) => Ok(Piece::Last(text)),
+            Err(fault) => Err(fault),
+        },
+        RawLine::End => Ok(Piece::End),
+    }
+}
+
 /// The next line of a script, which has this number, counted from 1.
 ///
 /// The faults are those of this line alone: Read, where a read fails, an interrupted one too, or is
@@ -250,11 +272,9 @@ pub fn next_line<R: Read>(
         source.advance(end + 1);
         return Ok(Piece::Line(text?));
     }
-    let raw = gather(alloc, source, reader, number)?;
-    match raw {
-        RawLine::Line(bytes) => Ok(Piece::Line(text_of(alloc, &bytes, number)?)),
-        RawLine::Last(bytes) => Ok(Piece::Last(text_of(alloc, &bytes, number)?)),
-        RawLine::End => Ok(Piece::End),
+    match gather(alloc, source, reader, number) {
+        Ok(raw) => piece_of(alloc, raw, number),
+        Err(fault) => Err(fault),
     }
 }
 

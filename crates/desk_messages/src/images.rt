@@ -119,6 +119,14 @@ fn gather_all<S: Records>(
     Ok(())
 }
 
+// The image alone.
+fn only_image(alloc: Global, image: SetImage) -> Result<Sequence<SetImage>, AllocError>
+    ensures { IfOk result (λ images. images ≡ image ∷ []) }
+{
+    let images = Vec::from_array(alloc, [image])?;
+    Ok(Sequence::from_vec(images))
+}
+
 // The image of the set that the bug is in, if there is one.
 fn first_image<S: Records>(
     alloc: Global,
@@ -134,8 +142,8 @@ fn first_image<S: Records>(
     match found {
         Err(fault) => Err(fault),
         Ok(None) => Ok(Sequence::new(alloc)),
-        Ok(Some(image)) => match Vec::from_array(alloc, [image]) {
-            Ok(images) => Ok(Sequence::from_vec(images)),
+        Ok(Some(image)) => match only_image(alloc, image) {
+            Ok(images) => Ok(images),
             Err(_) => Err(StoreFault::Memory),
         },
     }

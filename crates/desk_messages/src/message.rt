@@ -155,7 +155,11 @@ fn take_command_line<S: Records>(
 {
     let text = match make_room(&mut progress.outcomes, line) {
         Ok(text) => text,
-        Err(fault) => return Err(fault),
+        Err(fault) => {
+            // In one call, so that what is promised is not proved for each kind of command.
+            drop(command);
+            return Err(fault);
+        }
     };
     match take_command(alloc, store, from, &mut progress.known, command) {
         Ok(outcome) => Ok(settle(progress, text, outcome)),

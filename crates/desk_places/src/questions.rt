@@ -81,7 +81,7 @@ fn add_passing(
 {
     match place {
         Place::First(image) => {
-            if holds(question, &image.shared) {
+            if holds(question, image.shared.fields()) {
                 return add_members(numbers, image.members.as_slice());
             }
             Ok(())

@@ -1,16 +1,17 @@
 -- Which bugs a list has.
 use Rattle.std.proofs.Common.{◌≡◌, inl, inr, ◌⊎◌, ℕ, ◌<◌, Bool, true, false, List, [], ◌∷◌, ◌++◌, Option, Some, None, refl, sym, ap, ◌∙◌}
 use Rattle.std.proofs.Common.{IsTrue, IsFalse, length, arith}
-use Rattle.std.specs.Prelude.{◌==◌, ◌&&◌, ◌||◌, if◌then◌else◌, not, flat_map, nat_lt}
+use Rattle.std.specs.Prelude.{◌==◌, ◌&&◌, ◌||◌, if◌then◌else◌, not, flat_map, nat_lt, option_map}
 use Rattle.std.specs.Str.{bytes_eq}
 use Rattle.std.proofs.lemmas.Bool.{eqb-true, false≢true, or_parts, or_from, or_cases, and_parts, and_from}
 use Rattle.std.proofs.lemmas.Bool.Decides.{nat_tests}
 use Rattle.std.proofs.lemmas.Slice.Eq.{bytes_eq-Decides}
 use Rattle.ancestry.specs.Nodes.{Node}
 use Rattle.ancestry.specs.Trees.{Ancestry, has_node, line}
-use Rattle.ancestry.specs.Statuses.{first_marked, status_by, status_on, status}
+use Rattle.ancestry.specs.Statuses.{first_marked, kind_at, status_by, status_on, status}
+use Rattle.ancestry.specs.declared.statuses.MarkKind.TheVariants.{Found as MarkedFound, Fixed as MarkedFixed}
 use Rattle.ancestry.specs.declared.statuses.Status.{Status}
-use Rattle.ancestry.specs.declared.statuses.Status.TheVariants.{Found, Fixed, Absent, Done}
+use Rattle.ancestry.specs.declared.statuses.Status.TheVariants.{Found, Absent, Done}
 use Rattle.bug_record.specs.Sets.{Each, has}
 use Rattle.bug_record.specs.Heads.{is_found}
 use Rattle.bug_record.specs.Desk.{Desk}
@@ -68,33 +69,41 @@ empty : (nodes : List Node) → IsTrue (length nodes == 0) → nodes ≡ []
 empty [] e = refl
 empty (n ∷ nodes) e = let none : length (n ∷ nodes) ≡ 0 = eqb-true (length (n ∷ nodes)) 0 e in absurd (omega arith)
 
+-- the status by the first marked version
+abbrev status_of : Shared → Option Node → Status
+status_of f o = status_by (option_map (kind_at f.found) o) f.found
+
 -- a status that is Found by a test alone
-found_by : (b : Bool) (s : Status) → is_found s ≡ false → IsTrue (is_found (if b then Found else s)) → IsTrue b
-found_by true s e h = refl
-found_by false s e h = absurd (false≢true (sym e ∙ h))
+absent_else : (b : Bool) → IsTrue (is_found (if b then Found else Absent)) → IsTrue b
+absent_else true h = refl
+absent_else false h = absurd (false≢true h)
+
+fixed_else : (f : Shared) (b : Bool) → IsTrue (is_found (status_by (Some (if b then MarkedFound else MarkedFixed)) f.found)) → IsTrue b
+fixed_else f true h = refl
+fixed_else f false h = absurd (false≢true h)
 
 -- the first mark decides
-by_marks : (versions : List Node) (f : Shared) (o : Option Node) → Marked versions f o → IsTrue (is_found (status_by f.found o))
+by_marks : (versions : List Node) (f : Shared) (o : Option Node) → Marked versions f o → IsTrue (is_found (status_of f o))
     → IsFoundFirst versions f ⊎ IsNowhereMarked versions f
-by_marks versions f None m h = inr (m, empty f.found (found_by (length f.found == 0) Absent refl h))
+by_marks versions f None m h = inr (m, empty f.found (absent_else (length f.found == 0) h))
 by_marks versions f (Some n) m h = inl (record {
   before = m.0;
   version = n;
   after = m.1;
   line_is = m.2;
   unmarked = m.3;
-  found = found_by (has_node f.found n) Fixed refl h;
+  found = fixed_else f (has_node f.found n) h;
 })
 
 marks_decide : (versions : List Node) (f : Shared) → IsFoundFirst versions f ⊎ IsNowhereMarked versions f
-    → IsTrue (is_found (status_by f.found (first_marked f.found f.fixed versions)))
+    → IsTrue (is_found (status_of f (first_marked f.found f.fixed versions)))
 marks_decide versions f (inl m) =
-    ap (λ (ns : List Node). is_found (status_by f.found (first_marked f.found f.fixed ns))) m.line_is
-    ∙ ap (λ (o : Option Node). is_found (status_by f.found o))
+    ap (λ (ns : List Node). is_found (status_of f (first_marked f.found f.fixed ns))) m.line_is
+    ∙ ap (λ (o : Option Node). is_found (status_of f o))
     (first_is f m.before m.version m.after m.unmarked (ap (λ (b : Bool). b || has_node f.fixed m.version) m.found))
-    ∙ ap (λ (b : Bool). is_found (if b then Found else Fixed)) m.found
+    ∙ ap (λ (b : Bool). is_found (status_by (Some (if b then MarkedFound else MarkedFixed)) f.found)) m.found
 marks_decide versions f (inr m) =
-    ap (λ (o : Option Node). is_found (status_by f.found o)) (none_is f versions m.0)
+    ap (λ (o : Option Node). is_found (status_of f o)) (none_is f versions m.0)
     ∙ ap (λ (ns : List Node). is_found (if length ns == 0 then Found else Absent)) m.1
 
 -- closed, with nothing marked fixed
@@ -106,7 +115,7 @@ done_is f h = λ i. h.0 i && (length (h.1 i) == 0)
 
 -- Found at a version
 found_there : (versions : List Node) (f : Shared) (b : Bool) → is_done f ≡ b
-    → IsTrue (is_found (if b then Done else status_by f.found (first_marked f.found f.fixed versions)))
+    → IsTrue (is_found (if b then Done else status_of f (first_marked f.found f.fixed versions)))
     → (¬ (IsTrue f.closed × (f.fixed ≡ []))) × (IsFoundFirst versions f ⊎ IsNowhereMarked versions f)
 found_there versions f true q h = absurd (false≢true h)
 found_there versions f false q h = (λ p. false≢true (sym q ∙ done_is f p), by_marks versions f _ (first versions f) h)
@@ -128,7 +137,7 @@ is_found_at : (tree : Ancestry) (f : Shared) (v : Node) → (¬ (IsTrue f.closed
     → IsTrue (is_found (status tree f.found f.fixed f.closed v))
 unfolding status status_on
 is_found_at tree f v done marks =
-    ap (λ (b : Bool). is_found (if b then Done else status_by f.found (first_marked f.found f.fixed (line tree v))))
+    ap (λ (b : Bool). is_found (if b then Done else status_of f (first_marked f.found f.fixed (line tree v))))
     (not_done_is f done)
     ∙ marks_decide (line tree v) f marks
 

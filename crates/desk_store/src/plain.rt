@@ -83,7 +83,7 @@ impl Records for PlainDesk {
         ensures head { IfOk result (IsOpenHead (desk_of self.old.bugs self.old.tree self.old.next) image.now) }
         ensures memory { IfErr result (λ fault. fault ≡ StoreFault.Memory) }
     {
-        match open_head(&self.tree, &image.shared) {
+        match open_head(&self.tree, image.shared.fields()) {
             Ok(head) => Ok(head),
             Err(_) => Err(StoreFault::Memory),
         }

@@ -9,7 +9,7 @@ ghost use Rattle.bug_record.specs.Images.{member_at, bug_of};
 ghost use Rattle.desk_text.specs.Lists.{row_of, right_aligned, left_aligned, state_word, row_text, list_head, list_text};
 
 use crate::pages::member_at;
-use crate::texts::{append_node, append_number};
+use crate::texts::{append_node, append_number, append_text};
 use ancestry::Node;
 use bug_record::{SetImage, Severity};
 use debver::Text;
@@ -37,13 +37,15 @@ impl ListRow {
         };
         Ok(Some(ListRow {
             number,
-            severity: image.shared.severity,
-            closed: image.shared.closed,
+            severity: image.shared.fields().severity,
+            closed: image.shared.fields().closed,
             title: member.title.copy()?,
         }))
     }
 
     /// An equal row, whose title shares the memory of this one's.
+    /// It takes no memory itself, and answers out of memory only where no more copies of the title
+    /// can be counted.
     pub fn copy(&self) -> Result<ListRow, AllocError>
         ensures { IfOk result (λ row. row ≡ self.now) }
     {
@@ -65,7 +67,7 @@ fn append_spaces(out: &mut Vec<u8>, count: usize) -> Result<(), AllocError>
     ensures err { OnErr result (StartsWith out.new.items out.old.items) }
 {
     for _ in 0..count {
-        out.push(b' ')?;
+        append_text(out, " ")?;
     }
     Ok(())
 }
@@ -76,7 +78,7 @@ fn append_right(out: &mut Vec<u8>, places: usize, text: &str) -> Result<(), Allo
     ensures err { OnErr result (StartsWith out.new.items out.old.items) }
 {
     append_spaces(out, places.saturating_sub(text.len()))?;
-    out.extend_from_slice(text.as_bytes())
+    append_text(out, text)
 }
 
 // Appends a text in so many places, with spaces after it.
@@ -84,7 +86,7 @@ fn append_left(out: &mut Vec<u8>, places: usize, text: &str) -> Result<(), Alloc
     ensures ok { OnOk result (out.new.items ≡ out.old.items ++ left_aligned places text.now) }
     ensures err { OnErr result (StartsWith out.new.items out.old.items) }
 {
-    out.extend_from_slice(text.as_bytes())?;
+    append_text(out, text)?;
     append_spaces(out, places.saturating_sub(text.len()))
 }
 
@@ -101,7 +103,7 @@ fn append_number_column(out: &mut Vec<u8>, number: u64) -> Result<(), AllocError
     ensures err { OnErr result (StartsWith out.new.items out.old.items) }
 {
     append_right(out, PLACES, Buffer::new().format(number))?;
-    out.extend_from_slice(b"  ")
+    append_text(out, "  ")
 }
 
 // Appends the number and the severity of a row, each in its places.
@@ -120,11 +122,11 @@ fn append_rest(out: &mut Vec<u8>, closed: bool, title: &str) -> Result<(), Alloc
         ++ (codes "  " ++ state_word closed ++ codes "  " ++ title.now ++ codes "\n")) }
     ensures err { OnErr result (StartsWith out.new.items out.old.items) }
 {
-    out.extend_from_slice(b"  ")?;
-    out.extend_from_slice(state_word(closed).as_bytes())?;
-    out.extend_from_slice(b"  ")?;
-    out.extend_from_slice(title.as_bytes())?;
-    out.extend_from_slice(b"\n")
+    append_text(out, "  ")?;
+    append_text(out, state_word(closed))?;
+    append_text(out, "  ")?;
+    append_text(out, title)?;
+    append_text(out, "\n")
 }
 
 // Appends the line of a row.
@@ -153,9 +155,9 @@ fn append_subject(out: &mut Vec<u8>, package: &str, node: &Node) -> Result<(), A
         ++ (codes "Bugs in " ++ «package».now ++ codes " at " ++ node_text node.now)) }
     ensures err { OnErr result (StartsWith out.new.items out.old.items) }
 {
-    out.extend_from_slice(b"Bugs in ")?;
-    out.extend_from_slice(package.as_bytes())?;
-    out.extend_from_slice(b" at ")?;
+    append_text(out, "Bugs in ")?;
+    append_text(out, package)?;
+    append_text(out, " at ")?;
     append_node(out, node)
 }
 
@@ -170,9 +172,9 @@ fn append_head(
     ensures err { OnErr result (StartsWith out.new.items out.old.items) }
 {
     append_subject(out, package, node)?;
-    out.extend_from_slice(b": ")?;
+    append_text(out, ": ")?;
     append_number(out, count as u64)?;
-    out.extend_from_slice(b"\n")
+    append_text(out, "\n")
 }
 
 fn append_list(

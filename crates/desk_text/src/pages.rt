@@ -11,7 +11,7 @@ ghost use Rattle.desk_text.specs.Pages.{page_line, text_or_dash, yes_or_no, name
 ghost use Rattle.desk_text.specs.Pages.{bug_lines, people_lines, mark_lines, relation_lines, page_text, page_in};
 
 use crate::lists::state_word;
-use crate::texts::{append_node, append_numbers};
+use crate::texts::{append_node, append_numbers, append_text};
 use ancestry::Node;
 use bug_record::{Member, Numbers, Sequence, SetImage, Shared, Tag};
 use debver::Text;
@@ -32,9 +32,9 @@ pub struct BugPage {
 fn append_line(out: &mut Vec<u8>, label: &str, text: &str) -> Result<(), AllocError>
     ensures { OnOk result (out.new.items ≡ out.old.items ++ page_line label.now text.now) }
 {
-    out.extend_from_slice(label.as_bytes())?;
-    out.extend_from_slice(text.as_bytes())?;
-    out.extend_from_slice(b"\n")
+    append_text(out, label)?;
+    append_text(out, text)?;
+    append_text(out, "\n")
 }
 
 fn yes_or_no(answer: bool) -> &'static str
@@ -61,7 +61,7 @@ fn append_bug(
 ) -> Result<(), AllocError>
     ensures { OnOk result (out.new.items ≡ out.old.items ++ bug_lines number (bug_of image.now member.now)) }
 {
-    let shared = &image.shared;
+    let shared = image.shared.fields();
     append_line(out, "Bug ", Buffer::new().format(number))?;
     append_line(out, "Title: ", member.title.as_str())?;
     append_line(out, "Package: ", shared.package.as_str())?;
@@ -74,9 +74,10 @@ fn append_bug(
 fn append_people(out: &mut Vec<u8>, member: &Member, image: &SetImage) -> Result<(), AllocError>
     ensures { OnOk result (out.new.items ≡ out.old.items ++ people_lines (bug_of image.now member.now)) }
 {
+    let shared = image.shared.fields();
     append_line(out, "Submitter: ", member.submitter.as_str())?;
-    append_line(out, "Owner: ", text_or_dash(&image.shared.owner))?;
-    append_line(out, "Forwarded: ", text_or_dash(&image.shared.forwarded))?;
+    append_line(out, "Owner: ", text_or_dash(&shared.owner))?;
+    append_line(out, "Forwarded: ", text_or_dash(&shared.forwarded))?;
     Ok(())
 }
 
@@ -85,8 +86,8 @@ fn append_each_tag(out: &mut Vec<u8>, tags: &[Tag]) -> Result<(), AllocError>
     ensures { OnOk result (out.new.items ≡ out.old.items ++ flat_map (λ tag. 32 ∷ tag_name tag) tags.now) }
 {
     for tag in tags {
-        out.push(b' ')?;
-        out.extend_from_slice(tag.name().as_bytes())?;
+        append_text(out, " ")?;
+        append_text(out, tag.name())?;
     }
     Ok(())
 }
@@ -99,9 +100,9 @@ fn append_tags(out: &mut Vec<u8>, tags: &[Tag]) -> Result<(), AllocError>
     if tags.is_empty() {
         return append_line(out, "Tags:", " -");
     }
-    out.extend_from_slice(b"Tags:")?;
+    append_text(out, "Tags:")?;
     append_each_tag(out, tags)?;
-    out.extend_from_slice(b"\n")
+    append_text(out, "\n")
 }
 
 // Appends each node after a space.
@@ -109,7 +110,7 @@ fn append_each_node(out: &mut Vec<u8>, nodes: &[Node]) -> Result<(), AllocError>
     ensures { OnOk result (out.new.items ≡ out.old.items ++ flat_map (λ node. 32 ∷ node_text node) nodes.now) }
 {
     for node in nodes {
-        out.push(b' ')?;
+        append_text(out, " ")?;
         append_node(out, node)?;
     }
     Ok(())
@@ -123,9 +124,9 @@ fn append_nodes(out: &mut Vec<u8>, label: &str, nodes: &[Node]) -> Result<(), Al
     if nodes.is_empty() {
         return append_line(out, label, " -");
     }
-    out.extend_from_slice(label.as_bytes())?;
+    append_text(out, label)?;
     append_each_node(out, nodes)?;
-    out.extend_from_slice(b"\n")
+    append_text(out, "\n")
 }
 
 // Appends the tags and marks of a bug.
@@ -145,9 +146,9 @@ fn append_number_line(out: &mut Vec<u8>, label: &str, numbers: &[u64]) -> Result
     if numbers.is_empty() {
         return append_line(out, label, " -");
     }
-    out.extend_from_slice(label.as_bytes())?;
+    append_text(out, label)?;
     append_numbers(out, numbers)?;
-    out.extend_from_slice(b"\n")
+    append_text(out, "\n")
 }
 
 // The numbers of the other members.
@@ -197,11 +198,11 @@ fn page_of(alloc: Global, page: &BugPage, member: &Member) -> Result<Vec<u8>, Al
 {
     let image = &page.image;
     let others = other_numbers(alloc, image.members.as_slice(), page.number)?;
-    let blockers = image.shared.blockers.as_slice();
+    let blockers = image.shared.fields().blockers.as_slice();
     let mut text = Vec::new(alloc);
     append_bug(&mut text, page.number, member, image)?;
     append_people(&mut text, member, image)?;
-    append_marks(&mut text, &image.shared)?;
+    append_marks(&mut text, image.shared.fields())?;
     append_relations(
         &mut text,
         blockers,

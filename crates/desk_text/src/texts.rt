@@ -32,11 +32,19 @@ pub(crate) fn full_text() -> &'static str
     "no bug number is left"
 }
 
+/// Appends a text.
+pub(crate) fn append_text(out: &mut Vec<u8>, text: &str) -> Result<(), AllocError>
+    ensures ok { OnOk result (out.new.items ≡ out.old.items ++ text.now) }
+    ensures err { OnErr result (out.new.items ≡ out.old.items) }
+{
+    out.extend_from_slice(text.as_bytes())
+}
+
 pub(crate) fn append_number(out: &mut Vec<u8>, number: u64) -> Result<(), AllocError>
     ensures ok { OnOk result (out.new.items ≡ out.old.items ++ decimal number) }
     ensures err { OnErr result (out.new.items ≡ out.old.items) }
 {
-    out.extend_from_slice(Buffer::new().format(number).as_bytes())
+    append_text(out, Buffer::new().format(number))
 }
 
 // Appends a number between two texts.
@@ -49,9 +57,9 @@ fn append_between(
     ensures ok { OnOk result (out.new.items ≡ out.old.items ++ (before.now ++ (decimal number ++ after.now))) }
     ensures err { OnErr result (StartsWith out.new.items out.old.items) }
 {
-    out.extend_from_slice(before.as_bytes())?;
+    append_text(out, before)?;
     append_number(out, number)?;
-    out.extend_from_slice(after.as_bytes())
+    append_text(out, after)
 }
 
 // Appends what is said of a bug.
@@ -68,9 +76,9 @@ pub(crate) fn append_node(out: &mut Vec<u8>, node: &Node) -> Result<(), AllocErr
     ensures ok { OnOk result (out.new.items ≡ out.old.items ++ node_text node.now) }
     ensures err { OnErr result (StartsWith out.new.items out.old.items) }
 {
-    out.extend_from_slice(node.source().as_bytes())?;
-    out.extend_from_slice(b"/")?;
-    out.extend_from_slice(node.version().as_bytes())
+    append_text(out, node.source())?;
+    append_text(out, "/")?;
+    append_text(out, node.version())
 }
 
 // Appends that a bug is still found at a node.
@@ -79,7 +87,7 @@ fn append_still_found(out: &mut Vec<u8>, node: &Node) -> Result<(), AllocError>
     ensures ok { OnOk result (out.new.items ≡ out.old.items ++ still_found_text node.now) }
     ensures err { OnErr result (StartsWith out.new.items out.old.items) }
 {
-    out.extend_from_slice(b"still found in ")?;
+    append_text(out, "still found in ")?;
     append_node(out, node)
 }
 
@@ -89,13 +97,13 @@ fn append_refusal(out: &mut Vec<u8>, refusal: &Refusal) -> Result<(), AllocError
     ensures err { OnErr result (StartsWith out.new.items out.old.items) }
 {
     match refusal {
-        Refusal::Unknown => out.extend_from_slice(b"unknown command"),
-        Refusal::Malformed => out.extend_from_slice(b"malformed command"),
-        Refusal::TooLong => out.extend_from_slice(b"text too long"),
-        Refusal::BadSeverity => out.extend_from_slice(b"unknown severity"),
-        Refusal::BadTag => out.extend_from_slice(b"unknown tag"),
-        Refusal::BadVersion => out.extend_from_slice(b"bad version"),
-        Refusal::BadPackage => out.extend_from_slice(b"bad package name"),
+        Refusal::Unknown => append_text(out, "unknown command"),
+        Refusal::Malformed => append_text(out, "malformed command"),
+        Refusal::TooLong => append_text(out, "text too long"),
+        Refusal::BadSeverity => append_text(out, "unknown severity"),
+        Refusal::BadTag => append_text(out, "unknown tag"),
+        Refusal::BadVersion => append_text(out, "bad version"),
+        Refusal::BadPackage => append_text(out, "bad package name"),
         Refusal::NoName(name) => append_between(out, "no such name -", *name, ""),
         Refusal::NoBug(number) => append_between(out, "no such bug ", *number, ""),
         Refusal::Archived(number) => append_of_bug(out, *number, " is archived"),
@@ -107,7 +115,7 @@ fn append_refusal(out: &mut Vec<u8>, refusal: &Refusal) -> Result<(), AllocError
         Refusal::OwnSet(number) => append_of_bug(out, *number, " is in the same set"),
         Refusal::NotDone(number) => append_of_bug(out, *number, " is open"),
         Refusal::StillFound(node) => append_still_found(out, node),
-        Refusal::Full => out.extend_from_slice(full_text().as_bytes()),
+        Refusal::Full => append_text(out, full_text()),
     }
 }
 
@@ -117,7 +125,7 @@ pub(crate) fn append_numbers(out: &mut Vec<u8>, numbers: &[u64]) -> Result<(), A
     ensures err { OnErr result (StartsWith out.new.items out.old.items) }
 {
     for number in numbers {
-        out.push(b' ')?;
+        append_text(out, " ")?;
         append_number(out, *number)?;
     }
     Ok(())
@@ -128,9 +136,9 @@ fn append_changed(out: &mut Vec<u8>, numbers: &[u64]) -> Result<(), AllocError>
     ensures err { OnErr result (StartsWith out.new.items out.old.items) }
 {
     if numbers.is_empty() {
-        return out.extend_from_slice(b"OK, no change.");
+        return append_text(out, "OK, no change.");
     }
-    out.extend_from_slice(b"OK")?;
+    append_text(out, "OK")?;
     append_numbers(out, numbers)
 }
 
@@ -141,10 +149,10 @@ fn append_answer(out: &mut Vec<u8>, outcome: &Outcome) -> Result<(), AllocError>
     match outcome {
         Outcome::Changed(numbers) => append_changed(out, numbers.as_slice()),
         Outcome::Refused(refusal) => {
-            out.extend_from_slice(b"NO ")?;
+            append_text(out, "NO ")?;
             append_refusal(out, refusal)
         }
-        Outcome::Stopped => out.extend_from_slice(b"Stopped."),
+        Outcome::Stopped => append_text(out, "Stopped."),
     }
 }
 
@@ -153,9 +161,9 @@ fn append_echo(out: &mut Vec<u8>, line: &str) -> Result<(), AllocError>
     ensures ok { OnOk result (out.new.items ≡ out.old.items ++ as_line (echo line.now)) }
     ensures err { OnErr result (StartsWith out.new.items out.old.items) }
 {
-    out.extend_from_slice(b"> ")?;
-    out.extend_from_slice(line.as_bytes())?;
-    out.extend_from_slice(b"\n")
+    append_text(out, "> ")?;
+    append_text(out, line)?;
+    append_text(out, "\n")
 }
 
 fn append_outcome(out: &mut Vec<u8>, line: &str, outcome: &Outcome) -> Result<(), AllocError>
@@ -164,7 +172,7 @@ fn append_outcome(out: &mut Vec<u8>, line: &str, outcome: &Outcome) -> Result<()
 {
     append_echo(out, line)?;
     append_answer(out, outcome)?;
-    out.extend_from_slice(b"\n")
+    append_text(out, "\n")
 }
 
 fn fault_word(fault: StoreFault) -> &'static str
@@ -183,9 +191,9 @@ fn append_fault(out: &mut Vec<u8>, fault: StoreFault) -> Result<(), AllocError>
     ensures ok { OnOk result (out.new.items ≡ out.old.items ++ fault_text fault) }
     ensures err { OnErr result (StartsWith out.new.items out.old.items) }
 {
-    out.extend_from_slice(b"Store fault: ")?;
-    out.extend_from_slice(fault_word(fault).as_bytes())?;
-    out.extend_from_slice(b".\n")
+    append_text(out, "Store fault: ")?;
+    append_text(out, fault_word(fault))?;
+    append_text(out, ".\n")
 }
 
 // The line at which the store failed, and the fault's line.
@@ -255,7 +263,7 @@ pub fn end_text(alloc: Global, out: &mut Vec<u8>, end: End, line: &str) -> Resul
     match end {
         End::All => Ok(()),
         End::Stopped => Ok(()),
-        End::TooManyUnreadable => out.extend_from_slice(b"Too many unreadable lines.\n"),
+        End::TooManyUnreadable => append_text(out, "Too many unreadable lines.\n"),
         End::Store(fault, _) => store_end_text(out, fault, line),
     }
 }

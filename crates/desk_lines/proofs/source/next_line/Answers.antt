@@ -4,7 +4,7 @@ use Rattle.std.proofs.lemmas.Result.{err_from_is_err_and}
 use Rattle.desk_lines.specs.Buffered.{Buffered}
 use Rattle.desk_lines.specs.Lines.{without_return}
 use Rattle.desk_lines.specs.Reading.{IsFirstFeed, IsTextFault}
-use Rattle.desk_lines.proofs.ReadingLemmas.{line_at_hand, fault_at_hand, line_unread}
+use Rattle.desk_lines.proofs.ReadingLemmas.{line_at_hand, fault_at_hand, piece_left, fault_left, on_ok}
 use Rattle.desk_lines.proofs.source.next_line.Goals as goal
 
 pub returns-in-Some-clause-piece : goal.returns-in-Some-clause-piece
@@ -25,13 +25,6 @@ returns-in_err-text-clause-fault g c =
     let h = subst (λ (w : List ℕ). IsTextFault c.args.number (take c.in-Some.end w) c.in_err-text.field-0.0)
     c.unread-in-Some.ensures.bytes c.in_err-text.ensures.fault in
     rw (p.1, p.2) (fault_at_hand c.args.number c.in_err-text.field-0.0 c.args.source.now.unread c.in-Some.end first short h)
-
-pub returns-in_err-text_of-in-Line-clause-fault : goal.returns-in_err-text_of-in-Line-clause-fault
-returns-in_err-text_of-in-Line-clause-fault g c =
-    let p = err_from_is_err_and c.from_residual-in_err-text_of-in-Line.result c.from_residual-in_err-text_of-in-Line.ensures.1 in
-    rw (p.1, p.2) (line_unread c.args.number c.in_err-text_of-in-Line.field-0.0 c.args.source.now.unread
-    c.gather.new.source.unread c.deref.result.now c.in_ok-raw.raw c.in-Line.bytes c.in-Line.is c.deref.ensures.value
-    c.in_ok-raw.ensures.raw c.in_err-text_of-in-Line.ensures.fault)
 
 pub returns-in_err-text-clause-piece : goal.returns-in_err-text-clause-piece
 returns-in_err-text-clause-piece g c = search rules
@@ -57,80 +50,47 @@ returns-in_err-text-clause-unasked g c = search rules
 pub returns-in_err-text-clause-spent : goal.returns-in_err-text-clause-spent
 returns-in_err-text-clause-spent g c = search rules
 
-pub returns-in_err-raw-clause-piece : goal.returns-in_err-raw-clause-piece
-returns-in_err-raw-clause-piece g c = search rules
+pub returns-in-Ok-clause-piece : goal.returns-in-Ok-clause-piece
+returns-in-Ok-clause-piece g c = piece_left c.args.source.now.unread c.gather.new.source.unread c.in-Ok.raw c.piece_of.result c.in-Ok.ensures.raw c.piece_of.ensures.piece
 
-pub returns-in_err-raw-clause-fault : goal.returns-in_err-raw-clause-fault
-returns-in_err-raw-clause-fault g c = search rules
+pub returns-in-Ok-clause-fault : goal.returns-in-Ok-clause-fault
+returns-in-Ok-clause-fault g c = fault_left c.args.number c.args.source.now.unread c.gather.new.source.unread c.in-Ok.raw c.piece_of.result c.in-Ok.ensures.raw c.piece_of.ensures.fault
 
-pub returns-in_err-raw-clause-outside : goal.returns-in_err-raw-clause-outside
-returns-in_err-raw-clause-outside g c = search rules
+pub returns-in-Ok-clause-outside : goal.returns-in-Ok-clause-outside
+returns-in-Ok-clause-outside g c = c.piece_of.ensures.outside
 
-pub returns-in_err-raw-clause-begun : goal.returns-in_err-raw-clause-begun
-returns-in_err-raw-clause-begun g c = search rules
+pub returns-in-Ok-clause-begun : goal.returns-in-Ok-clause-begun
+returns-in-Ok-clause-begun g c = λ e. absurd (c.piece_of.ensures.whole e)
 
-pub returns-in_err-raw-clause-emptied : goal.returns-in_err-raw-clause-emptied
-returns-in_err-raw-clause-emptied g c = search rules
+pub returns-in-Ok-clause-emptied : goal.returns-in-Ok-clause-emptied
+returns-in-Ok-clause-emptied g c = λ e. absurd (c.piece_of.ensures.whole e)
 
-pub returns-in_err-raw-clause-reads : goal.returns-in_err-raw-clause-reads
-returns-in_err-raw-clause-reads g c = search rules
+pub returns-in-Ok-clause-reads : goal.returns-in-Ok-clause-reads
+returns-in-Ok-clause-reads g c = c.in-Ok.ensures.reads
 
-pub returns-in_err-raw-clause-fewer : goal.returns-in_err-raw-clause-fewer
-returns-in_err-raw-clause-fewer g c = search rules
+pub returns-in-Ok-clause-fewer : goal.returns-in-Ok-clause-fewer
+returns-in-Ok-clause-fewer g c = on_ok c.piece_of.result c.in-Ok.ensures.fewer
 
-pub returns-in_err-raw-clause-unasked : goal.returns-in_err-raw-clause-unasked
-returns-in_err-raw-clause-unasked g c = search rules
+pub returns-in-Ok-clause-unasked : goal.returns-in-Ok-clause-unasked
+returns-in-Ok-clause-unasked g c = c.in-Ok.ensures.unasked
 
-pub returns-in_err-raw-clause-spent : goal.returns-in_err-raw-clause-spent
-returns-in_err-raw-clause-spent g c = search rules
+pub returns-in-Err-clause-fault : goal.returns-in-Err-clause-fault
+returns-in-Err-clause-fault g c = c.in-Err.ensures.fault
 
-pub returns-in_err-text_of-in-Line-clause-piece : goal.returns-in_err-text_of-in-Line-clause-piece
-returns-in_err-text_of-in-Line-clause-piece g c = search rules
+pub returns-in-Err-clause-outside : goal.returns-in-Err-clause-outside
+returns-in-Err-clause-outside g c = c.in-Err.ensures.outside
 
-pub returns-in_err-text_of-in-Line-clause-outside : goal.returns-in_err-text_of-in-Line-clause-outside
-returns-in_err-text_of-in-Line-clause-outside g c = search rules
+pub returns-in-Err-clause-begun : goal.returns-in-Err-clause-begun
+returns-in-Err-clause-begun g c = search rules
 
-pub returns-in_err-text_of-in-Line-clause-begun : goal.returns-in_err-text_of-in-Line-clause-begun
-returns-in_err-text_of-in-Line-clause-begun g c = search rules
+pub returns-in-Err-clause-emptied : goal.returns-in-Err-clause-emptied
+returns-in-Err-clause-emptied g c = search rules
 
-pub returns-in_err-text_of-in-Line-clause-emptied : goal.returns-in_err-text_of-in-Line-clause-emptied
-returns-in_err-text_of-in-Line-clause-emptied g c = search rules
+pub returns-in-Err-clause-reads : goal.returns-in-Err-clause-reads
+returns-in-Err-clause-reads g c = c.in-Err.ensures.reads
 
-pub returns-in_err-text_of-in-Line-clause-reads : goal.returns-in_err-text_of-in-Line-clause-reads
-returns-in_err-text_of-in-Line-clause-reads g c = search rules
+pub returns-in-Err-clause-unasked : goal.returns-in-Err-clause-unasked
+returns-in-Err-clause-unasked g c = c.in-Err.ensures.unasked
 
-pub returns-in_err-text_of-in-Line-clause-fewer : goal.returns-in_err-text_of-in-Line-clause-fewer
-returns-in_err-text_of-in-Line-clause-fewer g c = search rules
-
-pub returns-in_err-text_of-in-Line-clause-unasked : goal.returns-in_err-text_of-in-Line-clause-unasked
-returns-in_err-text_of-in-Line-clause-unasked g c = search rules
-
-pub returns-in_err-text_of-in-Line-clause-spent : goal.returns-in_err-text_of-in-Line-clause-spent
-returns-in_err-text_of-in-Line-clause-spent g c = search rules
-
-pub returns-in_err-text_of-in-Last-clause-piece : goal.returns-in_err-text_of-in-Last-clause-piece
-returns-in_err-text_of-in-Last-clause-piece g c = search rules
-
-pub returns-in_err-text_of-in-Last-clause-fault : goal.returns-in_err-text_of-in-Last-clause-fault
-returns-in_err-text_of-in-Last-clause-fault g c = search rules
-
-pub returns-in_err-text_of-in-Last-clause-outside : goal.returns-in_err-text_of-in-Last-clause-outside
-returns-in_err-text_of-in-Last-clause-outside g c = search rules
-
-pub returns-in_err-text_of-in-Last-clause-begun : goal.returns-in_err-text_of-in-Last-clause-begun
-returns-in_err-text_of-in-Last-clause-begun g c = search rules
-
-pub returns-in_err-text_of-in-Last-clause-emptied : goal.returns-in_err-text_of-in-Last-clause-emptied
-returns-in_err-text_of-in-Last-clause-emptied g c = search rules
-
-pub returns-in_err-text_of-in-Last-clause-reads : goal.returns-in_err-text_of-in-Last-clause-reads
-returns-in_err-text_of-in-Last-clause-reads g c = search rules
-
-pub returns-in_err-text_of-in-Last-clause-fewer : goal.returns-in_err-text_of-in-Last-clause-fewer
-returns-in_err-text_of-in-Last-clause-fewer g c = search rules
-
-pub returns-in_err-text_of-in-Last-clause-unasked : goal.returns-in_err-text_of-in-Last-clause-unasked
-returns-in_err-text_of-in-Last-clause-unasked g c = search rules
-
-pub returns-in_err-text_of-in-Last-clause-spent : goal.returns-in_err-text_of-in-Last-clause-spent
-returns-in_err-text_of-in-Last-clause-spent g c = search rules
+pub returns-in-Err-clause-spent : goal.returns-in-Err-clause-spent
+returns-in-Err-clause-spent g c = search rules

@@ -1,4 +1,4 @@
-use Rattle.std.proofs.Common.{◌≡◌, [], ◌∷◌, refl, sym, ◌∙◌, subst}
+use Rattle.std.proofs.Common.{[], ◌∷◌, refl, sym, subst}
 use Rattle.desk_store.proofs.HoldsLemmas.{asks_weaker}
 use Rattle.desk_messages.specs.Images.{Gather}
 use Rattle.desk_messages.proofs.GatherLemmas.{gather-one}
@@ -8,9 +8,8 @@ pub returns-in-Ok-clause-answer : goal.returns-in-Ok-clause-answer
 returns-in-Ok-clause-answer g c =
     let d = g.S.Records.desk c.args.store.now in
     let a = rw c.in-Ok-Some.field-0-is at c.in-Ok-Some.ensures.answer in
-    let e : c.from_vec.result ≡ c.in-Ok-Some.image ∷ [] = c.from_vec.ensures ∙ c.in-Ok.ensures.items in
     asks_weaker a (λ p. (
-      subst (λ images. Gather d (c.args.number ∷ []) [] images) (sym e)
+      subst (λ images. Gather d (c.args.number ∷ []) [] images) (sym c.in-Ok.ensures)
           (gather-one d [] c.args.number c.in-Ok-Some.image refl p.0),
       p.1,
     ))

@@ -10,6 +10,8 @@ returns c =
     (page_line (codes "Forwarded: ") (text_or_dash c.args.image.now.shared.forwarded))
     (c.in_ok-append_line.ensures ∙ (λ j. c.args.out.now.items ++ page_line (codes "Submitter: ") (c.as_str.ensures j)))
     (c.in_ok-append_line-2.ensures
-    ∙ (λ j. c.append_line.new.out.items ++ page_line (codes "Owner: ") (c.text_or_dash.ensures j)))
+    ∙ (λ j. c.append_line.new.out.items ++ page_line (codes "Owner: ")
+    ((c.text_or_dash.ensures ∙ (λ k. text_or_dash (c.fields-shared.ensures k).owner)) j)))
     (c.in_ok-append_line-3.ensures
-    ∙ (λ j. c.append_line-2.new.out.items ++ page_line (codes "Forwarded: ") (c.text_or_dash-2.ensures j)))
+    ∙ (λ j. c.append_line-2.new.out.items ++ page_line (codes "Forwarded: ")
+    ((c.text_or_dash-2.ensures ∙ (λ k. text_or_dash (c.fields-shared.ensures k).forwarded)) j)))
