@@ -10,10 +10,10 @@ const NAMES: [&str; 11] = [
     "--count <N>",
     "--first <N>",
     "--help",
-    "run",
-    "init",
-    "serve",
-    "other words",
+    "none, or run   Carries out the script on standard input",
+    "init           Makes the file of a new desk",
+    "serve          Answers HTTP on 127.0.0.1",
+    "other words    Sends them as one message, as bts(1) does",
     "Example",
 ];
 
