@@ -1,6 +1,6 @@
 -- What the jobs do.
 -- This project's own rule.
-use Rattle.std.specs.Prelude.{ℕ, ◌≡◌, List, Option, Some, None, Result, Ok, Err}
+use Rattle.std.specs.Prelude.{ℕ, ◌≡◌, List, Option, Some, None, Result, Err}
 use Rattle.std.specs.Io.KnownBytes.{Appends}
 use Rattle.bug_record.specs.Desk.{Desk}
 use Rattle.desk_store.specs.Store.{no_faults}

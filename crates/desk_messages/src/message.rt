@@ -41,6 +41,19 @@ struct Progress {
     known: KnownNames,
 }
 
+// What there is before the first line.
+fn at_first(alloc: Global) -> Progress
+    ensures outcomes { result.outcomes.items ≡ [] }
+    ensures readable { result.unreadable ≡ 0 }
+    ensures names { result.known.names ≡ [] }
+{
+    Progress {
+        outcomes: Vec::new(alloc),
+        unreadable: 0,
+        known: KnownNames::new(alloc),
+    }
+}
+
 fn is_stop(outcome: &Outcome) -> bool
     ensures { result ≡ is_stop outcome.now }
 {
@@ -223,11 +236,7 @@ pub fn receive_lines<S: Records>(
     ensures line { IsLineOf result.end lines.now }
     ensures count { S.faults store.new ≡ faults_after_end result.end (S.faults store.old) }
 {
-    let mut progress = Progress {
-        outcomes: Vec::new(alloc),
-        unreadable: 0,
-        known: KnownNames::new(alloc),
-    };
+    let mut progress = at_first(alloc);
     for (i, line) in lines.iter().enumerate() {
         match take_message_line(alloc, store, from, &mut progress, line) {
             Ok(end) => {

@@ -1,4 +1,4 @@
-use Rattle.std.proofs.Common.{rules, sym, ap, ◌∙◌, subst}
+use Rattle.std.proofs.Common.{sym, ap, ◌∙◌, subst}
 use Rattle.bug_record.specs.Sets.{Each}
 use Rattle.bug_record.specs.Images.{bug_in, put, AreApart, HasMember, FitsDesk}
 use Rattle.bug_record.specs.Changed.{AreChanged}

@@ -9,14 +9,16 @@ use Rattle.desk_messages.proofs.message.receive_lines.Goals as goal
 
 pub loop-i-init : goal.loop-i-init
 loop-i-init g c =
-    let none = sym c.new.ensures.items in
+    let none = sym c.at_first-progress.ensures.outcomes in
     record {
-      counted = ap unreadable_count none;
+      counted = c.at_first-progress.ensures.readable ∙ ap unreadable_count none;
       goes_on = ap end_of (sym none) ∙ at_start_open;
-      known = c.new-2.ensures ∙ ap known_names none;
+      known = c.at_first-progress.ensures.names ∙ ap known_names none;
       faults = refl;
-      taken = holds_none _ _ _
-          (ap (machine (g.S.Records.desk c.args.store.now)) none, subst AreOfBugs (sym c.new-2.ensures) tt);
+      taken = holds_none _ _ _ (
+          ap (machine (g.S.Records.desk c.args.store.now)) none,
+          subst AreOfBugs (sym c.at_first-progress.ensures.names) tt,
+      );
     }
 
 pub loop-i-preserved : goal.loop-i-preserved
