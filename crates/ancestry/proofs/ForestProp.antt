@@ -1,5 +1,5 @@
--- That a list is an ancestry is one fact: any two proofs of it are equal. And the list of no links
--- is an ancestry.
+-- That a list is an ancestry is one fact: any two proofs of it are equal.
+-- And the list of no links is an ancestry.
 use Rattle.std.proofs.Common.{ℕ, List, [], ◌∷◌, Option, Some, None, refl}
 use Rattle.std.proofs.Props.{props}
 use Rattle.std.specs.Coded.{Unit-prop}

@@ -1,4 +1,5 @@
--- Branches: lists of nodes, each based on the next. This project's own rule.
+-- Branches: lists of nodes, each based on the next.
+-- This project's own rule.
 use Rattle.std.specs.Prelude.{ℕ, ◌+◌, ◌==◌, ◌≡◌, ◌||◌, ⊤, Bool, true, false, nat_lt, List, [], ◌∷◌, length, take, slice_get}
 use Rattle.std.specs.Prelude.{Option, Some, None, is_some, All, Result, Ok, Err, if◌then◌else◌}
 use Rattle.std.specs.List.{find, range_with_len}
@@ -47,8 +48,8 @@ is_repeat nodes place = option_map_or (has_node (take place nodes)) (slice_get n
 abbrev pub first_repeat : List Node → Option ℕ
 first_repeat nodes = find (is_repeat nodes) (range_with_len 0 (length nodes))
 
--- The ancestry after a branch, or why it is refused, in this order. All nodes of a branch are known
--- after it.
+-- The ancestry after a branch, or why it is refused, in this order.
+-- All nodes of a branch are known after it.
 unfoldable pub branched : Ancestry → List Node → Result Ancestry BranchFault
 branched t nodes =
     if length nodes == 0 then Err EmptyBranch

@@ -1,5 +1,5 @@
--- What may have changed while a branch is taken, so that it can be put back. This project's own
--- rule.
+-- What may have changed while a branch is taken, so that it can be put back.
+-- This project's own rule.
 use Rattle.std.specs.Prelude.{◌≡◌, ◌&&◌, ⊤, Bool, true, false, List, Option, Some, None, is_none, Result, Ok, Err}
 use Rattle.std.specs.List.Sorted.{IsStrictlySortedBy}
 use Rattle.std.specs.Map.{keys_of}

@@ -1,5 +1,5 @@
--- What a tree keeps beside the links, and where the nodes of a package begin. This project's own
--- rule.
+-- What a tree keeps beside the links, and where the nodes of a package begin.
+-- This project's own rule.
 use Rattle.std.specs.Prelude.{ℕ, suc, zero, ◌≡◌, ◌&&◌, Bool, false, not, List, [], ◌∷◌}
 use Rattle.std.specs.BTreeSet.{BTreeSet, contains}
 use Rattle.ancestry.specs.Nodes.{Node, node_cmp}

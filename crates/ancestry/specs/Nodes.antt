@@ -51,7 +51,8 @@ abbrev pub node_of_text : List ℕ → Option Node
 node_of_text text = if list_any is_slash text then node_of (before_first is_slash text) (after_first is_slash text) else None
 
 -- The node that a version word means for a package: a bare version is one of the package, and
--- `source/version` has its own source. The package has to be a package name either way.
+-- `source/version` has its own source.
+-- The package has to be a package name either way.
 abbrev pub node_at : List ℕ → List ℕ → Option Node
 node_at package_name word =
     if is_none (name_fault package_name)

@@ -1,4 +1,5 @@
--- The status of a bug at a version. This project's own rule.
+-- The status of a bug at a version.
+-- This project's own rule.
 use Rattle.std.specs.Prelude.{◌==◌, ◌&&◌, ◌||◌, Bool, List, length, Option, Some, None, option_map, if◌then◌else◌}
 use Rattle.std.specs.List.{find}
 use Rattle.ancestry.specs.Nodes.{Node}
@@ -21,16 +22,21 @@ abbrev pub first_kind : List Node → List Node → List Node → Option MarkKin
 first_kind found fixed line = option_map (kind_at found) (first_marked found fixed line)
 
 -- that kind decides; with no mark in the line the bug is found where the found list is empty
-abbrev pub status_by : Option MarkKind → List Node → Status
-status_by (Some MarkedFound) found = Found
-status_by (Some MarkedFixed) found = Fixed
-status_by None found = if length found == 0 then Found else Absent
+abbrev pub status_by : Option MarkKind → Bool → Status
+status_by (Some MarkedFound) found_empty = Found
+status_by (Some MarkedFixed) found_empty = Fixed
+status_by None found_empty = if found_empty then Found else Absent
 
--- the status, where this is the line, of a bug that has these marks, and is closed or not
+-- done where the bug is closed and its fixed list is empty, and else by the kind of the first mark
+abbrev pub status_from : Option MarkKind → Bool → Bool → Bool → Status
+status_from kind found_empty fixed_empty closed =
+    if closed && fixed_empty then Done else status_by kind found_empty
+
+-- the status where this is the line, by the found list, the fixed list and whether the bug is
+-- closed
 unfoldable pub status_on : List Node → List Node → List Node → Bool → Status
 status_on line found fixed closed =
-    if closed && (length fixed == 0) then Done
-    else status_by (first_kind found fixed line) found
+    status_from (first_kind found fixed line) (length found == 0) (length fixed == 0) closed
 
 -- the status at a node
 unfoldable pub status : Ancestry → List Node → List Node → Bool → Node → Status

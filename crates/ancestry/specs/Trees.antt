@@ -1,4 +1,5 @@
--- Which node is based on which. This project's own rule.
+-- Which node is based on which.
+-- This project's own rule.
 use Rattle.std.specs.Prelude.{ℕ, suc, zero, ◌≡◌, ◌&&◌, Bool, true, false, not, List, [], ◌∷◌, length, drop, filter, Option, Some}
 use Rattle.std.specs.Prelude.{None, is_some}
 use Rattle.std.specs.List.{list_any}
@@ -41,8 +42,8 @@ abbrev pub line_within : ℕ → Ancestry → Node → List Node
 line_within zero t n = n ∷ []
 line_within (suc steps) t n = n ∷ option_map_or (line_within steps t) (parent_of t n) []
 
--- The line of a node; an unknown node's is itself alone. It has no more steps than there are known
--- nodes.
+-- The line of a node; an unknown node's is itself alone.
+-- It has no more steps than there are known nodes.
 abbrev pub line : Ancestry → Node → List Node
 line t n = line_within (length t) t n
 
@@ -50,10 +51,11 @@ line t n = line_within (length t) t n
 abbrev pub ancestors : Ancestry → Node → List Node
 ancestors t n = drop 1 (line t n)
 
+-- whether p is a proper ancestor of n
 abbrev pub is_ancestor : Ancestry → Node → Node → Bool
 is_ancestor t p n = has_node (ancestors t n) p
 
--- What holds of every ancestry.
+-- What holds of the ancestry of every tree, and of every sound desk.
 pub record IsForest (t : Ancestry) : Type 0 where
   -- each known node stands once, in node order, and is a package name and a version
   pub ascending : IsStrictlySortedBy node_cmp (keys_of t)
@@ -63,7 +65,7 @@ pub record IsForest (t : Ancestry) : Type 0 where
   -- no cycles: from each node the parents lead to one that has none
   pub lines : (n : Node) → IsLine t n (line t n)
 
--- whether the node is some node's parent, whatever the source of that one
+-- whether the node is some node's parent, whatever the source of the child
 abbrev pub is_parent : Ancestry → Node → Bool
 is_parent t n = list_any (λ parent. option_map_or (same_node n) parent false) (values_of t)
 

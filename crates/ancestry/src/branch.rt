@@ -61,7 +61,8 @@ fn mark_parent(parents: &mut BTreeSet<Node>, node: &Node) -> Result<(), AllocErr
     Ok(())
 }
 
-// Gives a node its parent. For a known node there is always memory.
+// Gives a node its parent.
+// For a known node there is always memory.
 fn link(
     links: &mut BTreeMap<Node, Option<Node>>,
     node: Node,
@@ -100,8 +101,8 @@ fn put_back_one(links: &mut BTreeMap<Node, Option<Node>>, node: &Node, past: Pas
     }
 }
 
-// Puts back what was known before a branch, whatever part of the branch was taken. This takes no
-// memory.
+// Puts back what was known before a branch, whatever part of the branch was taken.
+// This takes no memory.
 fn put_back(links: &mut BTreeMap<Node, Option<Node>>, nodes: &[Node], pasts: &[Past])
     ensures { (t : Ancestry) → IsForest t → pasts.now ≡ map (λ n. past_of (known_at t n)) nodes.now
         → Extends t nodes.now links.old.entries → links.new.entries ≡ t }
@@ -111,8 +112,8 @@ fn put_back(links: &mut BTreeMap<Node, Option<Node>>, nodes: &[Node], pasts: &[P
     }
 }
 
-// Takes out of the parents those nodes that were not among them before a branch. This takes no
-// memory.
+// Takes out of the parents those nodes that were not among them before a branch.
+// This takes no memory.
 fn forget_parents(parents: &mut BTreeSet<Node>, nodes: &[Node], were: &[bool])
     ensures { (was : Node → Bool) → were.now ≡ map was nodes.now → Adds was nodes.now (contains node_cmp parents.old)
         → (n : Node) → contains node_cmp parents.new n ≡ was n }
@@ -263,7 +264,8 @@ impl Tree {
         Ok(())
     }
 
-    // Takes a branch. After a refusal some of it may have been taken.
+    // Takes a branch.
+    // After a refusal some of it may have been taken.
     fn take_all(&mut self, nodes: &[Node]) -> Result<(), BranchFault>
         ensures exact { Makes (base_all 0 (learn_all self.old nodes.now) nodes.now) result self.new }
         ensures extends { Extends self.old nodes.now self.new }
@@ -279,13 +281,15 @@ impl Tree {
         }
     }
 
-    /// Takes a branch, which is a list of 1 to 200 nodes, each based on the next. From the left
-    /// each node gets the next one as its parent, unless that is a proper ancestor of it already.
-    /// All nodes of the branch are known afterwards, and no node loses a proper ancestor. Errors,
-    /// in this order: `EmptyBranch`; `TooLong`; `Repeated`, with the first place whose node stands
-    /// earlier; `Conflict`, with the place of a node that has another parent or is in the line of
-    /// the next one; and `Memory`, which no branch gets in place of one of the first three. After
-    /// an error the tree is as before. This project's own rule.
+    /// Takes a branch, which is a list of 1 to 200 nodes, each based on the next.
+    /// From the left each node gets the next one as its parent, unless that is a proper ancestor of
+    /// it already.
+    /// All nodes of the branch are known afterwards, and no node loses a proper ancestor.
+    /// Errors, in this order: `EmptyBranch`; `TooLong`; `Repeated`, with the first place whose node
+    /// stands earlier; `Conflict`, with the place of a node that has another parent or is in the
+    /// line of the next one; and `Memory`, which no branch gets in place of one of the first three.
+    /// After an error the tree is as before.
+    /// This project's own rule.
     pub fn take_branch(&mut self, nodes: &[Node]) -> Result<(), BranchFault>
         ensures exact { IsBranched self.old nodes.now result self.new }
         ensures memory { result ≡ Err Memory → TakesMemory (branched self.old nodes.now) }

@@ -9,7 +9,8 @@ pub enum NodeFault {
     Memory,
 }
 
-/// Why a branch is refused. Places count from 0.
+/// Why a branch is refused.
+/// Places count from 0.
 #[derive(Clone, Copy, Debug, PartialEq, Eq, Drop)]
 pub enum BranchFault {
     /// The branch has no node.

@@ -7,15 +7,16 @@ ghost use Rattle.ancestry.specs.Heights.{HasHeights, height, greatest_height, ki
 ghost use Rattle.ancestry.specs.Nodes.{Node, same_node};
 ghost use Rattle.ancestry.specs.Statuses.{first_kind, status_on};
 
-use crate::marks::status_by;
+use crate::marks::status_from;
 use crate::node::Node;
 use crate::statuses::{MarkKind, Status};
 use std::alloc::{AllocError, Global};
 use std::collections::HashMap;
 use std::marker::Model;
 
-/// A line, and of each of its nodes how high it stands above the line's end.
-/// Contracts see the line. This project's own rule.
+/// A line, and how many nodes it has from each of its nodes on.
+/// Contracts see the line.
+/// This project's own rule.
 #[derive(Drop)]
 pub struct IndexedLine {
     nodes: Vec<Node>,
@@ -116,18 +117,21 @@ impl IndexedLine {
         kind_by_heights(self.greatest_height(found), self.greatest_height(fixed))
     }
 
-    /// The status of a bug that is found and fixed at these nodes, at the first node of the line:
-    /// as the function `status` tells it, for one line and many bugs.
-    /// Each of these nodes is looked up once, and the line isn't gone through.
-    /// Takes no memory. This project's own rule.
+    /// The status of a bug that is marked as found and as fixed at these nodes, at the first node
+    /// of the line: as the function `status` tells it where this is that node's line.
+    /// It is for one line and many bugs: each of these nodes is looked up once, and the line isn't
+    /// gone through.
+    /// Takes no memory.
+    /// This project's own rule.
     #[tactic(auto, unfolding(crate::specs::Statuses::status_on))]
     pub fn status(&self, found: &[Node], fixed: &[Node], closed: bool) -> Status
         ensures { result ≡ status_on self.now found.now fixed.now closed }
     {
-        if closed && fixed.is_empty() {
-            Status::Done
-        } else {
-            status_by(self.first_kind(found, fixed), found)
-        }
+        status_from(
+            self.first_kind(found, fixed),
+            found.is_empty(),
+            fixed.is_empty(),
+            closed,
+        )
     }
 }

@@ -14,7 +14,7 @@ mod tree;
 pub use fault::{BranchFault, NodeFault};
 pub use indexed::IndexedLine;
 pub use laws::{one_line, valid_nodes};
-pub use marks::{status, status_by};
+pub use marks::{status, status_from};
 pub use node::{Node, at_first_slash};
 pub use statuses::{MarkKind, Status};
 pub use tree::Tree;

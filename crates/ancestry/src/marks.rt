@@ -2,7 +2,7 @@
 
 ghost use Rattle.std.specs.Prelude.{◌≡◌};
 ghost use Rattle.ancestry.specs.Trees.{has_node, line};
-ghost use Rattle.ancestry.specs.Statuses.{first_kind, status_by, status};
+ghost use Rattle.ancestry.specs.Statuses.{first_kind, status_from, status};
 
 use crate::node::Node;
 use crate::statuses::{MarkKind, Status};
@@ -31,31 +31,45 @@ fn first_kind(tree: &Tree, found: &[Node], fixed: &[Node], node: &Node) -> Optio
     None
 }
 
-/// The status of a bug that isn't done, by the kind of the first mark of its line.
-/// With no mark there it is `Found` where it is found nowhere, and else `Absent`.
-/// Takes no memory. This project's own rule.
-pub fn status_by(kind: Option<MarkKind>, found: &[Node]) -> Status
-    ensures { result ≡ status_by kind found.now }
+/// The status of a bug at a node by the kind of the first mark of the node's line, by whether no
+/// node at all is marked as found and none as fixed, and by whether the bug is closed.
+/// It is `Done` where the bug is closed and nothing is marked as fixed; otherwise the kind decides.
+/// With no mark in the line it is `Found` where nothing is marked as found, and else `Absent`.
+/// Takes no memory.
+/// This project's own rule.
+pub fn status_from(
+    nearest: Option<MarkKind>,
+    found_empty: bool,
+    fixed_empty: bool,
+    closed: bool,
+) -> Status
+    ensures { result ≡ status_from nearest found_empty fixed_empty closed }
 {
-    match kind {
+    if closed && fixed_empty {
+        return Status::Done;
+    }
+    match nearest {
         Some(MarkKind::Found) => Status::Found,
         Some(MarkKind::Fixed) => Status::Fixed,
-        None if found.is_empty() => Status::Found,
+        None if found_empty => Status::Found,
         None => Status::Absent,
     }
 }
 
-/// The status at a node of a bug that is found and fixed at these nodes: `Done` where it is closed
-/// and fixed nowhere; otherwise the first node of the line that is in a list decides, found before
-/// fixed; with no such node it is `Found` where it is found nowhere, and else `Absent`. Takes no
-/// memory. This project's own rule.
+/// The status at a node of a bug that is marked as found and as fixed at these nodes.
+/// It is `Done` where the bug is closed and nothing is marked as fixed.
+/// Otherwise the first node of the line that is marked decides, found before fixed.
+/// With no such node it is `Found` where nothing is marked as found, and else `Absent`.
+/// Takes no memory.
+/// This project's own rule.
 #[tactic(auto, unfolding(crate::specs::Statuses::status, crate::specs::Statuses::status_on))]
 pub fn status(tree: &Tree, found: &[Node], fixed: &[Node], closed: bool, node: &Node) -> Status
     ensures { result ≡ status tree.now found.now fixed.now closed node.now }
 {
-    if closed && fixed.is_empty() {
-        Status::Done
-    } else {
-        status_by(first_kind(tree, found, fixed, node), found)
-    }
+    status_from(
+        first_kind(tree, found, fixed, node),
+        found.is_empty(),
+        fixed.is_empty(),
+        closed,
+    )
 }

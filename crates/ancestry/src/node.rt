@@ -24,7 +24,8 @@ use std::fmt;
 use std::hash::{Hash, Hasher};
 use std::marker::Model;
 
-/// A version of a source package. Contracts see both texts.
+/// A version of a source package.
+/// Contracts see both texts.
 #[derive(Debug, Drop)]
 pub struct Node {
     source: Text,
@@ -82,8 +83,10 @@ pub fn at_first_slash(text: &str) -> Option<(&str, &str)>
 
 impl Node {
     /// Reads a node, which is written `source/version`: the name of a source package (Debian Policy
-    /// 5.6.1), a slash and a version (5.6.12). The text is cut at its first slash. Errors:
-    /// `BadNode` where there is no slash, or the parts are no such name and version, and `Memory`.
+    /// 5.6.1), a slash and a version (5.6.12).
+    /// The text is cut at its first slash.
+    /// Errors: `BadNode` where there is no slash, or the parts are no such name and version, and
+    /// `Memory`.
     /// How the two are written together is this project's own rule.
     pub fn read(alloc: Global, text: &str) -> Result<Node, NodeFault>
         ensures { IsRead (node_of_text text.now) result }
@@ -95,9 +98,10 @@ impl Node {
     }
 
     /// The node that a version word means for a package: a bare version is one of the package, and
-    /// a word with a slash is read as a node of its own source. Errors: `BadNode` where the package
-    /// is no package name (either way) or the word gives no node, and `Memory`. This project's own
-    /// rule.
+    /// a word with a slash is read as a node of its own source.
+    /// Errors: `BadNode` where the package is no package name (either way) or the word gives no
+    /// node, and `Memory`.
+    /// This project's own rule.
     pub fn at(alloc: Global, package: &str, word: &str) -> Result<Node, NodeFault>
         ensures { IsRead (node_at «package».now word.now) result }
     {
@@ -110,8 +114,8 @@ impl Node {
         }
     }
 
-    // The node of a package that comes before its other nodes. Errors: `BadNode` where the text is
-    // no package name, and `Memory`.
+    // The node of a package that comes before its other nodes.
+    // Errors: `BadNode` where the text is no package name, and `Memory`.
     pub(crate) fn lowest(alloc: Global, source: &str) -> Result<Node, NodeFault>
         ensures { IsRead (node_of source.now lowest_version) result }
     {
@@ -162,7 +166,8 @@ impl Node {
     }
 }
 
-/// A node is written `source/version`. This project's own rule.
+/// A node is written `source/version`.
+/// This project's own rule.
 impl fmt::Display for Node {
     ghost output = { λ n. Some (node_text n) };
 
@@ -210,8 +215,8 @@ impl PartialOrd for Node {
     }
 }
 
-/// Nodes are ordered by the bytes of the source, then by the total order of versions. This
-/// project's own rule.
+/// Nodes are ordered by the bytes of the source, then by the total order of versions.
+/// This project's own rule.
 impl Ord for Node {
     ghost cmp = { node_cmp };
 

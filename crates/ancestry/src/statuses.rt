@@ -7,7 +7,7 @@ pub enum Status {
     Found,
     /// It is fixed there.
     Fixed,
-    /// Nothing says that it is there.
+    /// No node of the line is marked, and it is marked as found elsewhere.
     Absent,
     /// It is closed, and no version is named that fixes it.
     Done,

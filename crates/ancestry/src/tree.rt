@@ -13,7 +13,9 @@ use std::collections::{BTreeMap, BTreeSet};
 use std::marker::Model;
 
 /// The known nodes, each with its parent, if it has one: parents are known, and there are no
-/// cycles. Contracts see the links in node order. This project's own rule.
+/// cycles.
+/// Contracts see the links in node order.
+/// This project's own rule.
 #[derive(Drop)]
 pub struct Tree {
     pub(crate) links: BTreeMap<Node, Option<Node>>,
@@ -45,7 +47,8 @@ impl Tree {
         }
     }
 
-    /// Whether a node is known. Takes no memory.
+    /// Whether a node is known.
+    /// Takes no memory.
     pub fn knows(&self, node: &Node) -> bool
         ensures { result ≡ knows self.now node.now }
     {
@@ -63,8 +66,9 @@ impl Tree {
         }
     }
 
-    /// The line of a node: copies of the node, its parent, and so on to one that has none. An
-    /// unknown node's line is itself alone. The error is that there was no memory.
+    /// The line of a node: copies of the node, its parent, and so on to one that has none.
+    /// An unknown node's line is itself alone.
+    /// The error is that there was no memory.
     pub fn line(&self, node: &Node) -> Result<Vec<Node>, AllocError>
         ensures value { IfOk result (λ nodes. nodes.items ≡ line self.now node.now) }
         ensures is_line { IfOk result (λ nodes. IsLine self.now node.now nodes.items) }
@@ -87,8 +91,10 @@ impl Tree {
     }
 
     /// The heads of a source package: copies of its known nodes that are no node's parent, in node
-    /// order. A text that is no package name has none. The error is that there was no memory. It
-    /// goes through the known nodes of that package alone, up to the one after them; to find the
+    /// order.
+    /// A text that is no package name has none.
+    /// The error is that there was no memory.
+    /// It goes through the known nodes of that package alone, up to the one after them; to find the
     /// first, and whether each is a parent, is a look-up in a sorted map.
     pub fn heads(&self, source: &str) -> Result<Vec<Node>, AllocError>
         ensures value { IfOk result (λ nodes. nodes.items ≡ heads self.now source.now) }

@@ -1,5 +1,6 @@
 //! What the commands of a desk do, planned on images of sets of merged bugs; and the change that a
-//! new report makes. Which numbers a change touches is told by `set_images`.
+//! new report makes.
+//! Which numbers a change touches is told by `set_images`.
 //! The values and definitions are those of `bug_record`, whose names stand here too.
 #![tactic(auto)]
 

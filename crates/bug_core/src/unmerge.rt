@@ -66,7 +66,8 @@ fn two_images(
     Ok(Sequence::from_vec(Vec::from_array(alloc, [own, rest])?))
 }
 
-/// Takes a bug out of its set. Both parts keep the shared fields.
+/// Takes a bug out of its set.
+/// Both parts keep the shared fields.
 /// No number is new, so the images stay disjoint.
 pub(crate) fn plan_unmerge(
     alloc: Global,

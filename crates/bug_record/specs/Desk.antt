@@ -42,7 +42,8 @@ pub record AreGoodBlockers (d : Desk) (merged blockers : List ℕ) : Type 0 wher
   pub there : (n : ℕ) → has blockers n ≡ true → d.bug n ≢ None
   pub outside : (n : ℕ) → has blockers n ≡ true → has merged n ≡ false
 
--- What a desk keeps. This project's own rule.
+-- What a desk keeps.
+-- This project's own rule.
 pub record IsSound (d : Desk) : Type 0 where
   -- a bug is merged with itself, and the numbers ascend
   pub own : (n : ℕ) (b : Bug) → d.bug n ≡ Some b → has b.merged n ≡ true

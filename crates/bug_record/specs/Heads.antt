@@ -1,4 +1,5 @@
--- Heads in which a bug is still found. This project's own rule.
+-- Heads in which a bug is still found.
+-- This project's own rule.
 use Rattle.std.specs.Prelude.{Bool, true, false, Option}
 use Rattle.std.specs.List.{find}
 use Rattle.ancestry.specs.Nodes.{Node}

@@ -20,6 +20,6 @@ pub mod Changed
 pub mod Asked
 pub mod Waiting
 pub mod Lists
+pub mod Kept
 -- definitions that only private functions cite
 pub mod Places
-pub mod Kept

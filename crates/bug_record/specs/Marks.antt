@@ -1,4 +1,5 @@
--- Sets of nodes, in node order, as a bug's marks are. This project's own rule.
+-- Sets of nodes, in node order, as a bug's marks are.
+-- This project's own rule.
 use Rattle.std.specs.Prelude.{Bool, not, List, [], ◌∷◌, filter}
 use Rattle.std.specs.List.Sorted.{IsStrictlySortedBy}
 use Rattle.std.specs.Ordering.{is_lt, match_ordering}

@@ -73,6 +73,7 @@ abbrev pub taken_out : Desk → ℕ → List ℕ → Result Desk Refusal
 taken_out d n [] = Err (NotMerged n)
 taken_out d n (m ∷ rest) = Ok (parted d n (m ∷ rest))
 
--- The bug is taken out of its set. No field changes.
+-- The bug is taken out of its set.
+-- No field changes.
 abbrev pub unmerged : Desk → ℕ → Result Desk Refusal
 unmerged d n = at_bug (d.bug n) n (λ b. taken_out d n (others_merged n b.merged))

@@ -1,4 +1,5 @@
--- Texts: titles, addresses and senders. This project's own rule.
+-- Texts: titles, addresses and senders.
+-- This project's own rule.
 use Rattle.std.specs.Prelude.{ℕ, ◌&&◌, not, nat_le, Bool, IsTrue, List, length, reverse, Option, Some, None, ⊤}
 use Rattle.std.specs.List.{list_all}
 use Rattle.std.specs.Str.{is_utf8}

@@ -23,7 +23,8 @@ impl Model for Agreed {
 }
 
 impl Agreed {
-    /// Keeps these fields. The error is that there was no memory.
+    /// Keeps these fields.
+    /// The error is that there was no memory.
     pub fn of(alloc: Global, fields: Shared) -> Result<Agreed, AllocError>
         ensures { IfOk result (λ a. a ≡ fields) }
     {
@@ -39,8 +40,9 @@ impl Agreed {
         self.kept.as_ref()
     }
 
-    /// An equal value, which shares the fields: these are only counted, and there is no memory
-    /// where the count of their owners is full.
+    /// An equal value, which shares the fields.
+    /// It takes no memory itself, and answers out of memory only where no more owners of the fields
+    /// can be counted.
     pub fn copy(&self) -> Result<Agreed, AllocError>
         ensures { IfOk result (λ a. a ≡ self.now) }
     {

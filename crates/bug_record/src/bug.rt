@@ -40,7 +40,8 @@ pub struct Member {
     pub submitter: Text,
 }
 
-/// The image of a set of merged bugs: the shared fields once, and the members by number, ascending.
+/// The image of a set of merged bugs: the shared fields once, and the members, which on every desk
+/// ascend by number.
 /// A bug that is merged with none is a set of one.
 #[derive(Drop)]
 pub struct SetImage {
@@ -149,8 +150,8 @@ impl SetImage {
     }
 
     /// An equal image, which shares the fields and the members with this one.
-    /// It takes no memory itself, and answers out of memory only where no more copies of the fields,
-    /// of the members or of a text can be counted.
+    /// It takes no memory itself, and answers out of memory only where no more copies of the
+    /// fields, of the members or of a text can be counted.
     pub fn copy(&self) -> Result<SetImage, AllocError>
         ensures { IfOk result (λ r. r ≡ self.now) }
     {

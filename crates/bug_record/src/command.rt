@@ -50,7 +50,8 @@ pub enum Command<N> {
     Found(N, Option<VersionArg>),
     /// `notfound n v`: the mark that the bug is in the version goes.
     NotFound(N, VersionArg),
-    /// `fixed n v`: the version does not have the bug. It is not closed by that.
+    /// `fixed n v`: the version does not have the bug.
+    /// It is not closed by that.
     Fixed(N, VersionArg),
     /// `notfixed n v`: the mark that the version does not have the bug goes.
     /// It is not reopened by that.
@@ -77,11 +78,12 @@ pub enum Command<N> {
     /// `forcemerge n m ..`: as `Merge`, but the package alone has to be equal, and the first bug's
     /// state, forwarded and severity become those of all.
     ForceMerge(N, Sequence<N>),
-    /// `unmerge n`: takes the bug out of its set. The others stay together.
+    /// `unmerge n`: takes the bug out of its set.
+    /// The others stay together.
     Unmerge(N),
     /// `clone n -1 ..`: one new bug for each of these names, which are numbered upward in the order
-    /// written, each a copy of the bug, which may be merged with no other. The name -k is given as
-    /// k.
+    /// written, each a copy of the bug, which may be merged with no other.
+    /// The name -k is given as k.
     Clone(N, Sequence<u32>),
     /// `block n by m ..`: the bug waits on these bugs too.
     Block(N, Sequence<N>),
@@ -96,7 +98,8 @@ pub enum Command<N> {
     /// `noowner n`: nobody works on the bug.
     NoOwner(N),
     /// `archive n`: puts a bug into the archive that is closed, and found in no head of its
-    /// package. Until it is taken out no command but `unarchive` changes it.
+    /// package.
+    /// Until it is taken out no command but `unarchive` changes it.
     Archive(N),
     /// `unarchive n`: takes the bug out of the archive.
     Unarchive(N),
@@ -120,7 +123,8 @@ fn person_is_utf8(who: &Who)
 }
 
 impl Command<u64> {
-    /// The law that the texts of a command are UTF-8, as every `Text` is. Nothing is done.
+    /// The law that the texts of a command are UTF-8, as every `Text` is.
+    /// Nothing is done.
     pub fn texts_are_utf8(&self)
         ensures { HasUtf8Texts self.now }
     {

@@ -34,7 +34,8 @@ impl Model for Members {
 }
 
 impl Members {
-    /// One bug by itself. It takes no memory.
+    /// One bug by itself.
+    /// It takes no memory.
     pub fn one(member: Member) -> Members
         ensures { result ≡ member ∷ [] }
     {
@@ -68,10 +69,10 @@ impl Members {
         }
     }
 
-    /// An equal value, which shares the members of a set of several bugs: these are only counted,
-    /// and there is no memory where the count of their owners is full.
-    /// A bug by itself shares its texts, and there is no memory where no more copies of a text can
-    /// be counted.
+    /// An equal value, which shares the members of a set of several bugs.
+    /// A bug by itself shares its texts.
+    /// It takes no memory itself, and answers out of memory only where no more owners of the
+    /// members, or of a text, can be counted.
     pub fn copy(&self) -> Result<Members, AllocError>
         ensures { IfOk result (λ ms. ms ≡ self.now) }
     {

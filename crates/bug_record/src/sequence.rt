@@ -28,7 +28,8 @@ impl<T> Model for Sequence<T> {
 }
 
 impl<T> Sequence<T> {
-    /// The empty list. It takes no memory.
+    /// The empty list.
+    /// It takes no memory.
     pub fn new(alloc: Global) -> Self
         ensures { result ≡ [] }
     {
@@ -44,14 +45,16 @@ impl<T> Sequence<T> {
         Sequence { items }
     }
 
-    /// The `Vec` of the elements. It takes no memory.
+    /// The `Vec` of the elements.
+    /// It takes no memory.
     pub fn into_vec(self) -> Vec<T>
         ensures { result.items ≡ self }
     {
         self.items
     }
 
-    /// An empty list over the same allocator. It takes no memory.
+    /// An empty list over the same allocator.
+    /// It takes no memory.
     pub fn empty<U>(&self) -> Sequence<U>
         ensures { result ≡ [] }
     {
@@ -69,7 +72,8 @@ impl<T> Sequence<T> {
 }
 
 impl<T: Drop> Sequence<T> {
-    /// Adds an element at the end. Where there is no memory, the list is as before.
+    /// Adds an element at the end.
+    /// Where there is no memory, the list is as before.
     pub fn push(&mut self, item: T) -> Result<(), AllocError>
         ensures ok { OnOk result (self.new ≡ self.old ++ item ∷ []) }
         ensures err { OnErr result (self.new ≡ self.old) }

@@ -88,7 +88,8 @@ fn print_call(rt: &HostRuntime, tree: &mut Tree, line: &str) -> io::Result<()> {
     }
 }
 
-// Prints the calls of a table. A line that begins with `==` is a heading.
+// Prints the calls of a table.
+// A line that begins with `==` is a heading.
 fn print_table(rt: &HostRuntime, table: &str) -> io::Result<()> {
     let mut tree = Tree::new(rt.alloc());
     for line in table.split_terminator('\n') {

@@ -158,8 +158,8 @@ abbrev pub bug_by_bugs : List ℕ → Result (Named × List Named) Refusal
 bug_by_bugs arguments =
     and_read (read_bug (first_word arguments)) (λ bug. and_read (by_bugs (after_word arguments)) (λ others. Ok (bug, others)))
 
--- The sign that a word begins with, and the tag that follows it: one `+`, `-` or `=`, or none. What
--- signs say here is this project's own rule.
+-- The sign that a word begins with, and the tag that follows it: one `+`, `-` or `=`, or none.
+-- What signs say here is this project's own rule.
 abbrev pub sign_and_tag : List ℕ → Option Sign × List ℕ
 sign_and_tag [] = (None, [])
 sign_and_tag (c ∷ word) =
@@ -168,8 +168,8 @@ sign_and_tag (c ∷ word) =
     else if c == 61 then (Some Equals, word)
     else (None, c ∷ word)
 
--- Whether tags are added, or taken out, from a sign on: `-` takes them out. Without a sign it is as
--- before.
+-- Whether tags are added, or taken out, from a sign on: `-` takes them out.
+-- Without a sign it is as before.
 abbrev pub adds_after : Option Sign → Bool → Bool
 adds_after None adds = adds
 adds_after (Some Plus) adds = true

@@ -23,7 +23,8 @@ use std::alloc::Global;
 /// # Errors
 ///
 /// `Refused` with the refusal that they have, of those that need no desk: `Malformed`, `TooLong`,
-/// `BadSeverity`, `BadTag`, `BadVersion`, `BadPackage`. `Memory` where there was none.
+/// `BadSeverity`, `BadTag`, `BadVersion`, `BadPackage`.
+/// `Memory` where there was none.
 pub fn read_command(
     alloc: Global,
     word: CommandWord,

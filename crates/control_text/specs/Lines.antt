@@ -34,15 +34,15 @@ is_stop_line (word ∷ []) = is_stop_word word
 is_stop_line (word ∷ second ∷ []) = is_word word (codes "thank") && is_word second (codes "you")
 is_stop_line _ = false
 
--- A line that begins with this command: it may hold no control character other than tab. The
--- arguments are the text after the first word.
+-- A line that begins with this command: it may hold no control character other than tab.
+-- The arguments are the text after the first word.
 abbrev pub command_reading : CommandWord → List ℕ → Result Line Refusal
 command_reading command text =
     if list_any is_control text then Err Malformed
     else and_read (command_of command (after_word text)) (λ meant. Ok (Do meant))
 
--- What a line of these words says: the first of these cases that fits. That only a command's line
--- is tested for control characters is this project's own rule.
+-- What a line of these words says: the first of these cases that fits.
+-- That only a command's line is tested for control characters is this project's own rule.
 abbrev pub reading_of_words : List ℕ → List (List ℕ) → Result Line Refusal
 reading_of_words text [] = Ok Blank
 reading_of_words text (word ∷ arguments) =

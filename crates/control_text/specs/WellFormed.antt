@@ -1,4 +1,5 @@
--- Commands that can be written. This project's own rule.
+-- Commands that can be written.
+-- This project's own rule.
 use Rattle.std.specs.Prelude.{◌≡◌, ◌<◌, length, Option, Some, None, codes, ⊤}
 use Rattle.bug_record.specs.Sets.{Each}
 use Rattle.bug_record.specs.Commands.{bugs_named, HasGoodParts}

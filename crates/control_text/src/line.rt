@@ -55,13 +55,14 @@ fn is_stop_line(word: &str, rest: &str) -> bool
 }
 
 /// What a line of a control message says, or why it is refused (the BTS page 'control and
-/// manipulation'). The line is given without its end.
+/// manipulation').
+/// The line is given without its end.
 ///
 /// # Errors
 ///
 /// `Refused` with the refusal that the line has, of those that need no desk: `Unknown`,
-/// `Malformed`, `TooLong`, `BadSeverity`, `BadTag`, `BadVersion`, `BadPackage`. `Memory` where
-/// there was none, which a line asks for only where its first word is a command.
+/// `Malformed`, `TooLong`, `BadSeverity`, `BadTag`, `BadVersion`, `BadPackage`.
+/// `Memory` where there was none, which a line asks for only where its first word is a command.
 #[tactic(auto, unfolding(crate::specs::Lines::reading))]
 pub fn read_line(alloc: Global, text: &str) -> Result<Line, LineFault>
     ensures exact { Reads (reading text.now) result }

@@ -219,7 +219,8 @@ fn tags(alloc: Global, bug: Named, steps: &[TagStep]) -> Result<String, AllocErr
 /// The canonical spelling of a command, which is read back as it: its words in lower case with one
 /// space between them, numbers without `#` and leading zeros, a version with its source as
 /// `source/version`, each tag with its own sign, blockers after `by` without commas, and the sender
-/// as `!`. This project's own rule.
+/// as `!`.
+/// This project's own rule.
 /// The command has to be well formed (see `well_formed`).
 ///
 /// # Errors

@@ -1,5 +1,5 @@
--- The order of two strings of a version, by Debian Policy 5.6.12. A string has a key, which is a
--- list of numbers of any size.
+-- The order of two strings of a version, by Debian Policy 5.6.12.
+-- A string has a key, which is a list of numbers of any size.
 
 use Rattle.std.specs.Prelude.{ℕ, ◌+◌, ◌-◌, ◌*◌, ◌==◌, suc, zero, Bool, false, if◌then◌else◌, List, [], ◌∷◌, length, Option, Some}
 use Rattle.std.specs.Prelude.{None}

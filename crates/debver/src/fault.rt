@@ -6,8 +6,8 @@ ghost use Rattle.debver.specs.Characters.{is_digit};
 ghost use Rattle.debver.specs.Parts.{parts_of, written, revision_text, in_upstream, in_revision};
 ghost use Rattle.debver.specs.Faults.{wrong_place, has_bad_epoch, upstream_fault_at, revision_fault_at, fault};
 
-/// The first fault of a text, in the order in which they stand here. A place is a byte offset in
-/// the whole text.
+/// The first fault of a text, in the order in which they stand here.
+/// A place is a byte offset in the whole text.
 #[derive(Clone, Copy, Debug, PartialEq, Eq)]
 pub enum VersionFault {
     /// The text is empty.

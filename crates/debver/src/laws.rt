@@ -1,5 +1,5 @@
-//! Laws of the definitions that the contracts of this crate cite. Each body is empty: the contract
-//! is the law.
+//! Laws of the definitions that the contracts of this crate cite.
+//! Each body is empty: the contract is the law.
 
 ghost use Rattle.std.specs.Prelude.{◌≡◌, ◌≢◌, ◌↔◌, ◌⊎◌, ℕ, ◌+◌, ◌≤◌, List, [], ◌∷◌, ◌++◌, None, IsTrue, IsFalse, map, length};
 ghost use Rattle.std.specs.List.{list_any, list_all};
@@ -15,15 +15,16 @@ ghost use Rattle.debver.specs.Versions.{text_cmp, total_cmp};
 
 use std::cmp::Ordering;
 
-/// A text is cut in just one way. It has parts exactly where it has no fault, and then these alone.
+/// A text is cut in just one way.
+/// It has parts exactly where it has no fault, and then these alone.
 pub fn one_reading()
     ensures cut { (t : List ℕ) (v : Version) → IsCut t v ↔ (v ≡ cut t) }
     ensures parts { (t : List ℕ) (v : Version) → HasParts t v ↔ ((v ≡ cut t) × (text_fault t ≡ None)) }
 {}
 
 /// The key of a string that begins with a part without digits and a part of digits: the weights of
-/// the one, 1, the value of the other, and the key of what follows them, if something does. Either
-/// part may be empty, the digits only at the string's end.
+/// the one, 1, the value of the other, and the key of what follows them, if something does.
+/// Either part may be empty, the digits only at the string's end.
 pub fn keys_go_by_parts()
     ensures { (word digits rest : List ℕ) →
         IsFalse (list_any is_digit word) → IsTrue (list_all is_digit digits) →

@@ -12,7 +12,8 @@ ghost use Rattle.debver.specs.Versions.{revision_or_zero};
 use crate::fault::{VersionFault, first_fault};
 use std::marker::Model;
 
-/// The parts of a version text. Contracts see the text, which has its parts in one way.
+/// The parts of a version text.
+/// Contracts see the text, which has its parts in one way.
 #[derive(Drop)]
 pub struct Parts<'a> {
     text: &'a str,

@@ -8,7 +8,8 @@ use std::alloc::{AllocError, Global};
 use std::marker::Model;
 use std::rc::RcStr;
 
-/// A text, which contracts see as its bytes. Its copies share one piece of memory.
+/// A text, which contracts see as its bytes.
+/// Its copies share one piece of memory.
 #[derive(Debug, Drop)]
 pub struct Text {
     kept: RcStr,

@@ -1,4 +1,5 @@
--- What is answered where the store fails, or there is no memory. This project's own rule.
+-- What is answered where the store fails, or there is no memory.
+-- This project's own rule.
 use Rattle.std.specs.Prelude.{ℕ, ◌≡◌, ◌≢◌, ◌⊎◌, List, take, Option, Some, None, ⊤}
 use Rattle.ancestry.specs.Nodes.{Node}
 use Rattle.bug_record.specs.Desk.{Desk}

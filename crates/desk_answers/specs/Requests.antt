@@ -1,4 +1,5 @@
--- What a request asks of a desk, once it is read. This project's own rule.
+-- What a request asks of a desk, once it is read.
+-- This project's own rule.
 use Rattle.std.specs.Prelude.{ℕ, List, ⊤}
 use Rattle.bug_record.specs.Texts.{IsText}
 use Rattle.desk_json.specs.Members.{Report, Control}

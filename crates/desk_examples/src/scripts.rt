@@ -20,8 +20,9 @@ fn run_example(rt: &HostRuntime, header: Option<Header<'_>>, script: &[u8]) -> i
     }
 }
 
-/// Runs the scripts of a file. Each is the lines, as they are, between its header and the next one;
-/// what precedes the first header is none.
+/// Runs the scripts of a file.
+/// Each is the lines, as they are, between its header and the next one; what precedes the first
+/// header is none.
 pub(crate) fn run_file(rt: &HostRuntime, bytes: &[u8]) -> io::Result<()> {
     let mut header = None;
     let mut script = Vec::new(rt.alloc());

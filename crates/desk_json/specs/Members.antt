@@ -1,4 +1,5 @@
--- The members that a request has. This project's own rule.
+-- The members that a request has.
+-- This project's own rule.
 -- `get` finds the one member of an object that has a name; no other value has members.
 use Rattle.std.specs.Prelude.{ℕ, List, [], ◌∷◌, Option, Some, None, option_and_then, codes}
 use Rattle.serde_json.specs.Data.{Data, null, boolean, number, string, array, object}

@@ -1,4 +1,5 @@
--- What a source has of its reader. This project's own rule.
+-- What a source has of its reader.
+-- This project's own rule.
 use Rattle.std.specs.Prelude.{ℕ, ◌+◌, ◌*◌, List, length}
 
 -- The bytes that were read and not yet given, and how many reads may follow.

@@ -1,4 +1,5 @@
--- The lines of a text. This project's own rule.
+-- The lines of a text.
+-- This project's own rule.
 use Rattle.std.specs.Prelude.{ℕ, Bool, ◌==◌, List, [], ◌∷◌, map, if◌then◌else◌}
 use Rattle.std.specs.List.{slice_split}
 

@@ -1,4 +1,5 @@
--- How a script is read: line by line, each line checked as it comes. This project's own rule.
+-- How a script is read: line by line, each line checked as it comes.
+-- This project's own rule.
 use Rattle.std.specs.Prelude.{◌≡◌, ℕ, ◌+◌, ◌<◌, ◌≤◌, List, [], ◌∷◌, ◌++◌, length, take, drop, false, Option, Some, None, IsUtf8}
 use Rattle.std.specs.Prelude.{⊤}
 use Rattle.std.specs.List.{list_any}

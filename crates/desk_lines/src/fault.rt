@@ -3,7 +3,8 @@
 use desk_text::StoreFault;
 use thiserror::Error;
 
-/// Why a script was not run to its end. Lines count from 1.
+/// Why a script was not run to its end.
+/// Lines count from 1.
 #[derive(Clone, Copy, Debug, PartialEq, Eq, Drop, Error)]
 pub enum ScriptFault {
     /// A read failed, or more than 16,777,216 reads were needed.

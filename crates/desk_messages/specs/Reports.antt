@@ -1,4 +1,5 @@
--- Reports. This project's own rule.
+-- Reports.
+-- This project's own rule.
 use Rattle.std.specs.Prelude.{ℕ, ◌≡◌, nat_lt, Bool, true, false, List, Option, Some, None, Result, Ok, Err, is_some, option_map}
 use Rattle.std.specs.Prelude.{if◌then◌else◌, ⊤}
 use Rattle.debver.specs.Names.{name_fault}

@@ -1,4 +1,5 @@
--- What is written of a change. This project's own rule.
+-- What is written of a change.
+-- This project's own rule.
 use Rattle.std.specs.Prelude.{ℕ, nat_lt, List, length, filter, if◌then◌else◌}
 use Rattle.bug_record.specs.Sets.{has}
 use Rattle.bug_record.specs.declared.bug.SetImage.{SetImage}

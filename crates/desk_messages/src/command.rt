@@ -87,7 +87,8 @@ fn take_told<S: Records>(
     }
 }
 
-// The refusal of the first of these names that can't be given. Makes room for them.
+// The refusal of the first of these names that can't be given.
+// Makes room for them.
 fn name_refusal(
     alloc: Global,
     known: &mut KnownNames,

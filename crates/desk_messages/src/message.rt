@@ -180,7 +180,8 @@ fn take_command_line<S: Records>(
     }
 }
 
-// Takes one line, and says whether it ends the message. After a fault nothing is changed.
+// Takes one line, and says whether it ends the message.
+// After a fault nothing is changed.
 fn take_message_line<S: Records>(
     alloc: Global,
     store: &mut S,

@@ -1,5 +1,5 @@
 pub mod Keys
 pub mod Plain
--- definitions that only private functions cite
 pub mod Places
+-- definitions that only private functions cite
 pub mod Questions

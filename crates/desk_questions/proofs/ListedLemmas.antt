@@ -24,7 +24,7 @@ use Rattle.bug_record.specs.declared.bug.Shared.{Shared}
 use Rattle.bug_record.specs.declared.severity.Severity.{Severity}
 use Rattle.bug_record.specs.declared.severity.Severity.TheVariants.{Critical, Grave, Serious, Important, Normal, Minor, Wishlist}
 use Rattle.bug_record.proofs.SetLemmas.{has-append, has-filter, has-numbers_below}
-use Rattle.desk_questions.specs.Readable.{IsUnmarked, IsFoundFirst, IsNowhereMarked, IsIn}
+use Rattle.desk_questions.specs.Readable.{IsUnmarked, IsFoundFirst, IsFoundUnmarked, IsIn}
 
 -- whether a version is marked
 abbrev is_marked : Shared → Node → Bool
@@ -71,37 +71,38 @@ empty (n ∷ nodes) e = let none : length (n ∷ nodes) ≡ 0 = eqb-true (length
 
 -- the status by the first marked version
 abbrev status_of : Shared → Option Node → Status
-status_of f o = status_by (option_map (kind_at f.found) o) f.found
+status_of f o = status_by (option_map (kind_at f.found) o) (length f.found == 0)
 
 -- a status that is Found by a test alone
 absent_else : (b : Bool) → IsTrue (is_found (if b then Found else Absent)) → IsTrue b
 absent_else true h = refl
 absent_else false h = absurd (false≢true h)
 
-fixed_else : (f : Shared) (b : Bool) → IsTrue (is_found (status_by (Some (if b then MarkedFound else MarkedFixed)) f.found)) → IsTrue b
+fixed_else : (f : Shared) (b : Bool)
+    → IsTrue (is_found (status_by (Some (if b then MarkedFound else MarkedFixed)) (length f.found == 0))) → IsTrue b
 fixed_else f true h = refl
 fixed_else f false h = absurd (false≢true h)
 
 -- the first mark decides
 by_marks : (versions : List Node) (f : Shared) (o : Option Node) → Marked versions f o → IsTrue (is_found (status_of f o))
-    → IsFoundFirst versions f ⊎ IsNowhereMarked versions f
+    → IsFoundFirst versions f ⊎ IsFoundUnmarked versions f
 by_marks versions f None m h = inr (m, empty f.found (absent_else (length f.found == 0) h))
 by_marks versions f (Some n) m h = inl (record {
   before = m.0;
-  version = n;
+  marked = n;
   after = m.1;
   line_is = m.2;
   unmarked = m.3;
   found = fixed_else f (has_node f.found n) h;
 })
 
-marks_decide : (versions : List Node) (f : Shared) → IsFoundFirst versions f ⊎ IsNowhereMarked versions f
+marks_decide : (versions : List Node) (f : Shared) → IsFoundFirst versions f ⊎ IsFoundUnmarked versions f
     → IsTrue (is_found (status_of f (first_marked f.found f.fixed versions)))
 marks_decide versions f (inl m) =
     ap (λ (ns : List Node). is_found (status_of f (first_marked f.found f.fixed ns))) m.line_is
     ∙ ap (λ (o : Option Node). is_found (status_of f o))
-    (first_is f m.before m.version m.after m.unmarked (ap (λ (b : Bool). b || has_node f.fixed m.version) m.found))
-    ∙ ap (λ (b : Bool). is_found (status_by (Some (if b then MarkedFound else MarkedFixed)) f.found)) m.found
+    (first_is f m.before m.marked m.after m.unmarked (ap (λ (b : Bool). b || has_node f.fixed m.marked) m.found))
+    ∙ ap (λ (b : Bool). is_found (status_by (Some (if b then MarkedFound else MarkedFixed)) (length f.found == 0))) m.found
 marks_decide versions f (inr m) =
     ap (λ (o : Option Node). is_found (status_of f o)) (none_is f versions m.0)
     ∙ ap (λ (ns : List Node). is_found (if length ns == 0 then Found else Absent)) m.1
@@ -116,12 +117,12 @@ done_is f h = λ i. h.0 i && (length (h.1 i) == 0)
 -- Found at a version
 found_there : (versions : List Node) (f : Shared) (b : Bool) → is_done f ≡ b
     → IsTrue (is_found (if b then Done else status_of f (first_marked f.found f.fixed versions)))
-    → (¬ (IsTrue f.closed × (f.fixed ≡ []))) × (IsFoundFirst versions f ⊎ IsNowhereMarked versions f)
+    → (¬ (IsTrue f.closed × (f.fixed ≡ []))) × (IsFoundFirst versions f ⊎ IsFoundUnmarked versions f)
 found_there versions f true q h = absurd (false≢true h)
 found_there versions f false q h = (λ p. false≢true (sym q ∙ done_is f p), by_marks versions f _ (first versions f) h)
 
 found_at : (tree : Ancestry) (f : Shared) (v : Node) → IsTrue (is_found (status tree f.found f.fixed f.closed v))
-    → (¬ (IsTrue f.closed × (f.fixed ≡ []))) × (IsFoundFirst (line tree v) f ⊎ IsNowhereMarked (line tree v) f)
+    → (¬ (IsTrue f.closed × (f.fixed ≡ []))) × (IsFoundFirst (line tree v) f ⊎ IsFoundUnmarked (line tree v) f)
 unfolding status status_on
 found_at tree f v h = found_there (line tree v) f (is_done f) refl h
 
@@ -133,7 +134,7 @@ not_done_is f h = decided (is_done f) refl
     decided false q = q
 
 is_found_at : (tree : Ancestry) (f : Shared) (v : Node) → (¬ (IsTrue f.closed × (f.fixed ≡ [])))
-    → IsFoundFirst (line tree v) f ⊎ IsNowhereMarked (line tree v) f
+    → IsFoundFirst (line tree v) f ⊎ IsFoundUnmarked (line tree v) f
     → IsTrue (is_found (status tree f.found f.fixed f.closed v))
 unfolding status status_on
 is_found_at tree f v done marks =

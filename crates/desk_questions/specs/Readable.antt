@@ -13,15 +13,15 @@ IsUnmarked f n = IsFalse (has_node f.found n) × IsFalse (has_node f.fixed n)
 -- a version of the line is marked found, and none before it is marked
 pub record IsFoundFirst (versions : List Node) (f : Shared) : Type 0 where
   pub before : List Node
-  pub version : Node
+  pub marked : Node
   pub after : List Node
-  pub line_is : versions ≡ before ++ version ∷ after
+  pub line_is : versions ≡ before ++ marked ∷ after
   pub unmarked : Each (IsUnmarked f) before
-  pub found : IsTrue (has_node f.found version)
+  pub found : IsTrue (has_node f.found marked)
 
 -- no version of the line is marked, and none at all is marked found
-abbrev pub IsNowhereMarked : List Node → Shared → Type 0
-IsNowhereMarked versions f = Each (IsUnmarked f) versions × (f.found ≡ [])
+abbrev pub IsFoundUnmarked : List Node → Shared → Type 0
+IsFoundUnmarked versions f = Each (IsUnmarked f) versions × (f.found ≡ [])
 
 -- A bug with these shared fields belongs in the list of a package at a version: it is a bug of the
 -- package, not archived, and not closed with nothing marked fixed; and on the line of the version,
@@ -31,4 +31,4 @@ pub record IsIn (tree : Ancestry) (package_name : List ℕ) (version : Node) (f 
   pub of_package : f.«package» ≡ package_name
   pub not_archived : IsFalse f.archived
   pub not_done : ¬ (IsTrue f.closed × (f.fixed ≡ []))
-  pub marks : IsFoundFirst (line tree version) f ⊎ IsNowhereMarked (line tree version) f
+  pub marks : IsFoundFirst (line tree version) f ⊎ IsFoundUnmarked (line tree version) f

@@ -9,12 +9,13 @@ ghost use Rattle.bug_record.specs.Sets.{has};
 ghost use Rattle.bug_record.specs.declared.bug.Bug.{Bug};
 ghost use Rattle.desk_questions.specs.Readable.{IsIn};
 
-/// A bug is in the list of a package at a version exactly where it belongs there: said by its
-/// package, whether it is archived or closed, its two sets of marks and the line of the version,
-/// without its status.
+/// A bug, of a number below the next one, as each bug of a sound desk has it, is in the list of a
+/// package at a version exactly where it belongs there.
+/// That is said by its package, whether it is archived or closed, its two sets of marks and the
+/// line of the version, without its status.
 pub fn a_list_has_the_bugs_found_there()
-    ensures listed { (d : Desk) (name : List ℕ) (version : Node) (n : ℕ) → IsTrue (has (listed d name version) n)
+    ensures only { (d : Desk) (name : List ℕ) (version : Node) (n : ℕ) → IsTrue (has (listed d name version) n)
         → (b : Bug) × (d.bug n ≡ Some b) × IsIn d.tree name version b.shared }
-    ensures found { (d : Desk) (name : List ℕ) (version : Node) (n : ℕ) (b : Bug) → n < d.next → d.bug n ≡ Some b
+    ensures all { (d : Desk) (name : List ℕ) (version : Node) (n : ℕ) (b : Bug) → n < d.next → d.bug n ≡ Some b
         → IsIn d.tree name version b.shared → IsTrue (has (listed d name version) n) }
 {}

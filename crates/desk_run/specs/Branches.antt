@@ -1,4 +1,5 @@
--- Branches in a script, by the words of their nodes. This project's own rule.
+-- Branches in a script, by the words of their nodes.
+-- This project's own rule.
 use Rattle.std.specs.Prelude.{ℕ, ◌≡◌, List, [], ◌∷◌, Option, Some, None, Result, Ok, Err, Vec, ⊤}
 use Rattle.ancestry.specs.Nodes.{Node, node_of_text}
 use Rattle.ancestry.specs.Trees.{Ancestry}

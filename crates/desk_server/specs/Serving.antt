@@ -23,8 +23,8 @@ abbrev pub State : Type 0
 State = Desk × Faults
 
 -- What a connection leaves.
--- Which bytes a socket gives and takes is not known: where there was an answer to write, the desk is
--- the one after the answer to some input, and the status that is named is that answer's.
+-- Which bytes a socket gives and takes is not known: where there was an answer to write, the desk
+-- is the one after the answer to some input, and the status that is named is that answer's.
 -- Else the desk stays; a fault that was met is counted.
 abbrev pub Leaves : Connection → State → State → Type 0
 Leaves None old new = new ≡ old

@@ -32,7 +32,8 @@ pub struct PlainDesk {
 }
 
 impl PlainDesk {
-    /// An empty desk, whose first bug gets this number: 1 to 999,999,999. It takes no memory.
+    /// An empty desk, whose first bug gets this number: 1 to 999,999,999.
+    /// It takes no memory.
     pub fn new(alloc: Global, first: u64) -> PlainDesk
         requires some { 1 ≤ first }
         requires few { first ≤ 999999999 }

@@ -22,10 +22,12 @@ pub trait Records {
     /// The content.
     ghost desk: { Self → Desk };
 
-    /// The content is kept as it has to be. Always so of a desk in memory.
+    /// The content is kept as it has to be.
+    /// Always so of a desk in memory.
     ghost is_kept: { Self → Type 0 };
 
-    /// So far the disk has returned what was written to it. Always so of a desk in memory.
+    /// So far the disk has returned what was written to it.
+    /// Always so of a desk in memory.
     ghost is_honest: { Self → Type 0 };
 
     /// How often the store has answered `Device`, `Full` and `Foreign`, each up to `u64::MAX`.

@@ -17,7 +17,8 @@ const STORE_FAULT: &str = "HTTP/1.1 500 Internal Server Error\r\nConnection: clo
 const NOT_FOUND: &str = "HTTP/1.1 404 Not Found\r\nConnection: close\r\nContent-Length: 21\r\n\
     Content-Type: application/json\r\n\r\n{\"error\":\"not found\"}";
 
-// A store of so many bugs. One of its next changes fails, the one of this number.
+// A store of so many bugs.
+// One of its next changes fails, the one of this number.
 fn failing(alloc: Global, bugs: u32, at: u64) -> FailAt<PlainDesk> {
     let mut desk = PlainDesk::new(alloc, 1);
     let mut written = Vec::new(alloc);

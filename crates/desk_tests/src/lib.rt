@@ -1,7 +1,7 @@
-//! Tests of what data can't show: readers and writers in pieces and failing, stores that fail, which
-//! sets are written, calls that no program makes, requests that are cut at each byte, statuses that
-//! are told, and connections and a server on the loopback, both of whose ends are in one thread:
-//! clients connect and send before they are accepted.
+//! Tests of what data can't show: readers and writers in pieces and failing, stores that fail,
+//! which sets are written, calls that no program makes, requests that are cut at each byte,
+//! statuses that are told, and connections and a server on the loopback, both of whose ends are in
+//! one thread: clients connect and send before they are accepted.
 #![tactic(auto)]
 
 #[cfg(test)]

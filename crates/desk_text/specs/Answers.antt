@@ -1,4 +1,5 @@
--- The answers to the directives of a script. This project's own rule.
+-- The answers to the directives of a script.
+-- This project's own rule.
 use Rattle.std.specs.Prelude.{ℕ, List, ◌++◌, Result, Ok, Err, codes}
 use Rattle.std.specs.Fmt.{decimal}
 use Rattle.ancestry.specs.declared.fault.BranchFault.{BranchFault}

@@ -1,4 +1,5 @@
--- The texts of a transcript. This project's own rule.
+-- The texts of a transcript.
+-- This project's own rule.
 use Rattle.std.specs.Prelude.{ℕ, List, [], ◌∷◌, ◌++◌, flat_map, codes}
 use Rattle.std.specs.Fmt.{decimal}
 use Rattle.bug_record.specs.declared.command.Field.{Field}

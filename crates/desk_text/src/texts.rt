@@ -224,7 +224,8 @@ pub fn outcome_text(
     done
 }
 
-/// Appends the line of a store fault. Where there is no memory, `out` is as before.
+/// Appends the line of a store fault.
+/// Where there is no memory, `out` is as before.
 pub fn fault_text(alloc: Global, out: &mut Vec<u8>, fault: StoreFault) -> Result<(), AllocError>
     ensures ok { OnOk result (out.new.items ≡ out.old.items ++ fault_text fault) }
     ensures err { OnErr result (out.new.items ≡ out.old.items) }

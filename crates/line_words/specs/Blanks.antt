@@ -1,4 +1,5 @@
--- Blanks and control characters. This project's own rule.
+-- Blanks and control characters.
+-- This project's own rule.
 use Rattle.std.specs.Prelude.{ℕ, ◌==◌, ◌&&◌, ◌||◌, not, Bool, false, List, [], ◌∷◌}
 use Rattle.std.specs.Char.{is_ascii_control}
 

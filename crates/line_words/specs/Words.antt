@@ -22,7 +22,8 @@ words text = words_between is_blank text
 abbrev pub is_blank_or_comma : ℕ → Bool
 is_blank_or_comma c = is_blank c || c == 44
 
--- the same where commas are blanks too. This project's own rule.
+-- the same where commas are blanks too.
+-- This project's own rule.
 abbrev pub words_with_commas : List ℕ → List (List ℕ)
 words_with_commas text = words_between is_blank_or_comma text
 

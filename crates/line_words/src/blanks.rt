@@ -1,4 +1,5 @@
-//! Blanks and control characters. This project's own rule.
+//! Blanks and control characters.
+//! This project's own rule.
 
 ghost use Rattle.std.specs.Prelude.{◌≡◌};
 ghost use Rattle.std.specs.List.{list_any};

@@ -1,5 +1,5 @@
-//! Laws of the definitions that the contracts of this crate cite. Each body is empty: the contract
-//! is the law.
+//! Laws of the definitions that the contracts of this crate cite.
+//! Each body is empty: the contract is the law.
 
 ghost use Rattle.std.specs.Prelude.{◌≡◌, ◌↔◌, ℕ, Bool, List};
 ghost use Rattle.line_words.specs.Words.{words_between, IsCutInto};

@@ -1,4 +1,5 @@
--- The names that are known within a message. This project's own rule.
+-- The names that are known within a message.
+-- This project's own rule.
 use Rattle.std.specs.Prelude.{ℕ, ◌≤◌, ◌==◌, nat_lt, Bool, List, count_by}
 use Rattle.bug_record.specs.Sets.{Each}
 use Rattle.bug_record.specs.Words.{Names}

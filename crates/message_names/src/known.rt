@@ -45,7 +45,8 @@ fn repeated(alloc: Global, names: &[u32]) -> Result<BTreeSet<u32>, AllocError>
 }
 
 impl KnownNames {
-    /// No name is known. It takes no memory.
+    /// No name is known.
+    /// It takes no memory.
     pub fn new(alloc: Global) -> KnownNames
         ensures { result.names ≡ [] }
     {
@@ -75,7 +76,8 @@ impl KnownNames {
         Ok(None)
     }
 
-    /// Makes room for so many more names. Where there is no memory, the names are as before.
+    /// Makes room for so many more names.
+    /// Where there is no memory, the names are as before.
     pub fn make_room(&mut self, count: usize) -> Result<(), AllocError>
         ensures same { self.new.names ≡ self.old.names }
         ensures room { OnOk result (count ≤ self.new.room) }
@@ -83,7 +85,8 @@ impl KnownNames {
         self.numbers.reserve(count)
     }
 
-    /// Gives each of these names its number. It takes no memory.
+    /// Gives each of these names its number.
+    /// It takes no memory.
     /// Names for which there is no number are not given.
     pub fn bind(&mut self, names: &[u32], numbers: &[u64])
         requires room { length names.now ≤ self.old.room }

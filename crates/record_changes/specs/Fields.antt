@@ -20,7 +20,8 @@ closed_in None f = closed f
 closed_in (Some version) f = closed (marked_fixed (node_meant f.package version) f)
 
 -- The fault where a version's node is asked for: there was no memory, or the package is no package
--- name. This project's own rule.
+-- name.
+-- This project's own rule.
 abbrev pub IsVersionFault : List ℕ → PlanFault → Type 0
 IsVersionFault package_name Memory = ⊤
 IsVersionFault package_name (Refused refusal) = ¬ (IsName package_name)

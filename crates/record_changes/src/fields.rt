@@ -239,15 +239,17 @@ fn change(
 }
 
 /// The shared fields of a set of merged bugs after a command of the sender `from`, where those
-/// before it are `old` (the BTS page 'control and manipulation'). Whether the set has the bug that
-/// the command names is not looked at. `retitle` and `submitter` leave the shared fields as they
-/// were, and so do `merge`, `forcemerge`, `unmerge` and `clone`: what a merge makes of them is not
-/// told by one set alone. The command's versions, package names and texts are within their limits.
+/// before it are `old` (the BTS page 'control and manipulation').
+/// Whether the set has the bug that the command names is not looked at.
+/// `retitle` and `submitter` leave the shared fields as they were, and so do `merge`, `forcemerge`,
+/// `unmerge` and `clone`: what a merge makes of them is not told by one set alone.
+/// The command's versions, package names and texts are within their limits.
 ///
 /// # Errors
 ///
-/// `Memory` where there was none. `Refused(BadPackage)` where the command has a version of the
-/// set's own package and that is no package name; every package of a sound desk is one.
+/// `Memory` where there was none.
+/// `Refused(BadPackage)` where the command has a version of the set's own package and that is no
+/// package name; every package of a sound desk is one.
 pub fn shared_after(
     alloc: Global,
     command: &Command<u64>,

@@ -1,5 +1,6 @@
 //! What a command makes of the records of a set of merged bugs: of the fields that they share, and
-//! of the title and submitter of each. The values and definitions are those of `bug_record`.
+//! of the title and submitter of each.
+//! The values and definitions are those of `bug_record`.
 #![tactic(auto)]
 
 mod fields;

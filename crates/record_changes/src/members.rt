@@ -96,9 +96,11 @@ fn members_after(
 
 /// The members of a set of merged bugs after a command of the sender `from`, in the order of
 /// `members`, where the set's shared fields before it are `old` (the BTS page 'control and
-/// manipulation'). `retitle` and `submitter` change the bug that they name alone, if it is a
-/// member; `reopen` by somebody changes the submitter of every member, where the set was closed.
-/// No number changes. Every other command hands a copy of the members on.
+/// manipulation').
+/// `retitle` and `submitter` change the bug that they name alone, if it is a member; `reopen` by
+/// somebody changes the submitter of every member, where the set was closed.
+/// No number changes.
+/// Every other command hands a copy of the members on.
 ///
 /// # Errors
 ///

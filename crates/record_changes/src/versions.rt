@@ -24,8 +24,8 @@ fn source_meant<'a>(package: &'a str, version: &'a VersionArg) -> &'a str
     }
 }
 
-/// The node that a version means for a package. A package that is no package name, as no bug of a
-/// desk has, is refused.
+/// The node that a version means for a package.
+/// A package that is no package name, as no bug of a desk has, is refused.
 pub(crate) fn node_meant(
     alloc: Global,
     package: &str,
@@ -72,7 +72,8 @@ pub(crate) fn mark_fixed(shared: &mut Shared, node: Node) -> Result<(), AllocErr
     shared.fixed.add_node(node)
 }
 
-/// Marks the node as found. A closed bug stays closed where a higher version is marked as fixed.
+/// Marks the node as found.
+/// A closed bug stays closed where a higher version is marked as fixed.
 pub(crate) fn mark_found_at(shared: &mut Shared, node: Node) -> Result<(), AllocError>
     ensures { OnOk result (shared.new ≡ found_at node shared.old) }
 {

@@ -1,4 +1,4 @@
--- definitions that only private functions cite
+-- definitions that only private functions and fields cite
 pub mod Index
 pub mod Changes
 pub mod Kept

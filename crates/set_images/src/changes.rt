@@ -25,8 +25,8 @@ struct Compared {
     same: bool,
 }
 
-// Whether the sets at two positions are the same. Those that were compared last are not compared
-// again.
+// Whether the sets at two positions are the same.
+// Those that were compared last are not compared again.
 fn same_sets(last: &mut Compared, i: usize, old: &SetImage, j: usize, new: &SetImage) -> bool
     ensures { (olds news : List SetImage) → IsRight olds news last.old → slice_get olds i ≡ Some old.now
         → slice_get news j ≡ Some new.now

@@ -89,7 +89,8 @@ impl Sequence<u64> {
         Ok(())
     }
 
-    /// An equal list of its own. It answers out of memory where there is none for the list.
+    /// An equal list of its own.
+    /// It answers out of memory where there is none for the list.
     pub fn copy(&self) -> Result<Sequence<u64>, AllocError>
         ensures { IfOk result (λ r. r ≡ self.now) }
     {

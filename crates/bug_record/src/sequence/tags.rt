@@ -15,7 +15,8 @@ impl Sequence<Tag> {
         self.items.retain(|other| tag.place() != other.place());
     }
 
-    /// An equal list of its own. It answers out of memory where there is none for the list.
+    /// An equal list of its own.
+    /// It answers out of memory where there is none for the list.
     pub fn copy(&self) -> Result<Sequence<Tag>, AllocError>
         ensures { IfOk result (λ r. r ≡ self.now) }
     {

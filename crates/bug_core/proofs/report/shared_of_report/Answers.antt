@@ -3,14 +3,14 @@ use Rattle.bug_core.proofs.report.shared_of_report.Goals as goal
 
 pub returns : goal.returns
 returns c = λ j. record {
-    «package» = c.in_ok-of.ensures j;
-    severity = c.args.severity;
-    closed = false;
-    forwarded = None;
-    owner = None;
-    tags = c.new.ensures j;
-    found = c.args.found;
-    fixed = c.new-2.ensures j;
-    blockers = c.new-3.ensures j;
-    archived = false
-    }
+  «package» = c.in_ok-of.ensures j;
+  severity = c.args.severity;
+  closed = false;
+  forwarded = None;
+  owner = None;
+  tags = c.new.ensures j;
+  found = c.args.found;
+  fixed = c.new-2.ensures j;
+  blockers = c.new-3.ensures j;
+  archived = false;
+}

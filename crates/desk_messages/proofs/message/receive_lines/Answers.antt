@@ -16,8 +16,8 @@ loop-i-init g c =
       known = c.at_first-progress.ensures.names ∙ ap known_names none;
       faults = refl;
       taken = holds_none _ _ _ (
-          ap (machine (g.S.Records.desk c.args.store.now)) none,
-          subst AreOfBugs (sym c.at_first-progress.ensures.names) tt,
+        ap (machine (g.S.Records.desk c.args.store.now)) none,
+        subst AreOfBugs (sym c.at_first-progress.ensures.names) tt,
       );
     }
 
