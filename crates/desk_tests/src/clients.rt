@@ -5,14 +5,6 @@ use std::io::{self, Write};
 use std::net::{Ipv4Addr, Shutdown, TcpStream};
 use std::time::Duration;
 
-/// A report.
-pub(crate) const REPORT: &str = "POST /bugs HTTP/1.1\r\nContent-Length: 62\r\n\r\n\
-    {\"from\":\"ann\",\"package\":\"foo\",\"severity\":\"normal\",\"title\":\"a\"}";
-
-/// What the first report is answered.
-pub(crate) const FIRST_BUG: &str = "HTTP/1.1 201 Created\r\nConnection: close\r\n\
-    Content-Length: 9\r\nContent-Type: application/json\r\n\r\n{\"bug\":1}";
-
 /// How long a client waits for the server, in seconds.
 const PATIENCE: u64 = 20;
 

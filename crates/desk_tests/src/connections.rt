@@ -1,6 +1,7 @@
 //! Connections, one after another.
 
-use crate::clients::{FIRST_BUG, REPORT, ask, connect, gets};
+use crate::clients::{ask, connect, gets};
+use crate::exchanges::{FIRST_BUG, REPORT, STORE_FAULT};
 use desk_server::{ServerFault, serve_connections};
 use desk_store::{FailAt, PlainDesk};
 use std::io::Write;
@@ -9,9 +10,6 @@ use std::test::Fail;
 
 const SECOND_BUG: &str = "HTTP/1.1 201 Created\r\nConnection: close\r\nContent-Length: 9\r\n\
     Content-Type: application/json\r\n\r\n{\"bug\":2}";
-
-const STORE_FAULT: &str = "HTTP/1.1 500 Internal Server Error\r\nConnection: close\r\n\
-    Content-Length: 23\r\nContent-Type: application/json\r\n\r\n{\"error\":\"store fault\"}";
 
 const TOO_LARGE: &str = "HTTP/1.1 413 Payload Too Large\r\nConnection: close\r\n\
     Content-Length: 21\r\nContent-Type: application/json\r\n\r\n{\"error\":\"too large\"}";

@@ -1,18 +1,9 @@
 //! Exchanges with a store that fails.
 
-use crate::exchanges::{answers, serve, status_told};
+use crate::exchanges::{FIRST_BUG, REPORT, STORE_FAULT, answers, serve, status_told};
 use desk_http::serve_one;
 use desk_store::{FailAt, PlainDesk, Records};
 use std::alloc::Global;
-
-const REPORT: &str = "POST /bugs HTTP/1.1\r\nContent-Length: 62\r\n\r\n\
-    {\"from\":\"ann\",\"package\":\"foo\",\"severity\":\"normal\",\"title\":\"a\"}";
-
-const FIRST_BUG: &str = "HTTP/1.1 201 Created\r\nConnection: close\r\nContent-Length: 9\r\n\
-    Content-Type: application/json\r\n\r\n{\"bug\":1}";
-
-const STORE_FAULT: &str = "HTTP/1.1 500 Internal Server Error\r\nConnection: close\r\n\
-    Content-Length: 23\r\nContent-Type: application/json\r\n\r\n{\"error\":\"store fault\"}";
 
 const NOT_FOUND: &str = "HTTP/1.1 404 Not Found\r\nConnection: close\r\nContent-Length: 21\r\n\
     Content-Type: application/json\r\n\r\n{\"error\":\"not found\"}";

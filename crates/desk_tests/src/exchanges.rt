@@ -34,6 +34,18 @@ pub(crate) const EXCHANGES: [(&str, &str); 4] = [
     ),
 ];
 
+/// A report without a version.
+pub(crate) const REPORT: &str = "POST /bugs HTTP/1.1\r\nContent-Length: 62\r\n\r\n\
+    {\"from\":\"ann\",\"package\":\"foo\",\"severity\":\"normal\",\"title\":\"a\"}";
+
+/// The answer to the first report.
+pub(crate) const FIRST_BUG: &str = "HTTP/1.1 201 Created\r\nConnection: close\r\n\
+    Content-Length: 9\r\nContent-Type: application/json\r\n\r\n{\"bug\":1}";
+
+/// The answer to what a store that fails leaves undone.
+pub(crate) const STORE_FAULT: &str = "HTTP/1.1 500 Internal Server Error\r\nConnection: close\r\n\
+    Content-Length: 23\r\nContent-Type: application/json\r\n\r\n{\"error\":\"store fault\"}";
+
 /// The answer to a request that is cut.
 pub(crate) const BAD_REQUEST: &str =
     "HTTP/1.1 400 Bad Request\r\nConnection: close\r\nContent-Length: 23\r\n\

@@ -11,39 +11,33 @@ use std::alloc::Global;
 const SCRIPT: &str =
     "@report foo 1 normal a\n@report foo 1 normal b\nmerge 1 2\nclose 1\narchive 1\n@branch foo/2 foo/1\n";
 
+// What is written up to the merge, the closing and the archiving.
+const MERGE: &str = "OK 1\nOK 2\n> merge 1 2\n";
+
+const CLOSE: &str = "OK 1\nOK 2\n> merge 1 2\nOK 1 2\n> close 1\n";
+
+const ARCHIVE: &str = "OK 1\nOK 2\n> merge 1 2\nOK 1 2\n> close 1\nOK 1 2\n> archive 1\n";
+
+const ARCHIVED: &str = "OK 1\nOK 2\n> merge 1 2\nOK 1 2\n> close 1\nOK 1 2\n> archive 1\nOK 1 2\n";
+
 // What is written where a call fails, before the line of the fault.
 const BEFORE: [(u64, &str); 16] = [
     (1, ""),
     (2, ""),
     (3, "OK 1\n"),
     (4, "OK 1\n"),
-    (5, "OK 1\nOK 2\n> merge 1 2\n"),
-    (6, "OK 1\nOK 2\n> merge 1 2\n"),
-    (7, "OK 1\nOK 2\n> merge 1 2\n"),
-    (8, "OK 1\nOK 2\n> merge 1 2\n"),
-    (9, "OK 1\nOK 2\n> merge 1 2\nOK 1 2\n> close 1\n"),
-    (10, "OK 1\nOK 2\n> merge 1 2\nOK 1 2\n> close 1\n"),
-    (11, "OK 1\nOK 2\n> merge 1 2\nOK 1 2\n> close 1\n"),
-    (
-        12,
-        "OK 1\nOK 2\n> merge 1 2\nOK 1 2\n> close 1\nOK 1 2\n> archive 1\n",
-    ),
-    (
-        13,
-        "OK 1\nOK 2\n> merge 1 2\nOK 1 2\n> close 1\nOK 1 2\n> archive 1\n",
-    ),
-    (
-        14,
-        "OK 1\nOK 2\n> merge 1 2\nOK 1 2\n> close 1\nOK 1 2\n> archive 1\n",
-    ),
-    (
-        15,
-        "OK 1\nOK 2\n> merge 1 2\nOK 1 2\n> close 1\nOK 1 2\n> archive 1\n",
-    ),
-    (
-        16,
-        "OK 1\nOK 2\n> merge 1 2\nOK 1 2\n> close 1\nOK 1 2\n> archive 1\nOK 1 2\n",
-    ),
+    (5, MERGE),
+    (6, MERGE),
+    (7, MERGE),
+    (8, MERGE),
+    (9, CLOSE),
+    (10, CLOSE),
+    (11, CLOSE),
+    (12, ARCHIVE),
+    (13, ARCHIVE),
+    (14, ARCHIVE),
+    (15, ARCHIVE),
+    (16, ARCHIVED),
 ];
 
 // A report, two clones with names, and a command for one of them: eight calls of the store.
@@ -64,19 +58,16 @@ const BEFORE_IN_CLONES: [(u64, &str); 8] = [
 // A report, a list and a page: five calls of the store.
 const QUESTIONS: &str = "@report foo 1 normal a\n@list foo 1\n@show 1\n";
 
+// What is written up to the list.
+const LIST: &str = "OK 1\nBugs in foo at foo/1: 1\n        1  normal     open  a\n";
+
 // What is written of it where a call fails, before the line of the fault.
 const BEFORE_IN_QUESTIONS: [(u64, &str); 5] = [
     (1, ""),
     (2, ""),
     (3, "OK 1\n"),
-    (
-        4,
-        "OK 1\nBugs in foo at foo/1: 1\n        1  normal     open  a\n",
-    ),
-    (
-        5,
-        "OK 1\nBugs in foo at foo/1: 1\n        1  normal     open  a\n",
-    ),
+    (4, LIST),
+    (5, LIST),
 ];
 
 const FAULTS: [(StoreFault, &str); 4] = [

@@ -1,6 +1,7 @@
 //! A port, from the line that tells it.
 
-use crate::clients::{FIRST_BUG, REPORT, ask, gets};
+use crate::clients::{ask, gets};
+use crate::exchanges::{FIRST_BUG, REPORT};
 use desk_server::{ServerFault, serve_port};
 use desk_store::PlainDesk;
 use std::io::{self, Write};

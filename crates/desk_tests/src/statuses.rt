@@ -1,6 +1,6 @@
 //! The status that is told of an answer.
 
-use crate::exchanges::status_told;
+use crate::exchanges::{REPORT, status_told};
 use desk_http::serve_one;
 use desk_store::PlainDesk;
 use std::alloc::Global;
@@ -12,12 +12,7 @@ const STATUSES: [(&str, u16, &str); 8] = [
         200,
         "HTTP/1.1 200 OK\r\n",
     ),
-    (
-        "POST /bugs HTTP/1.1\r\nContent-Length: 62\r\n\r\n\
-        {\"from\":\"ann\",\"package\":\"foo\",\"severity\":\"normal\",\"title\":\"a\"}",
-        201,
-        "HTTP/1.1 201 Created\r\n",
-    ),
+    (REPORT, 201, "HTTP/1.1 201 Created\r\n"),
     ("GET\r\n\r\n", 400, "HTTP/1.1 400 Bad Request\r\n"),
     ("GET /x HTTP/1.1\r\n\r\n", 404, "HTTP/1.1 404 Not Found\r\n"),
     (
