@@ -31,9 +31,9 @@ use Rattle.bug_record.specs.declared.command.Refusal.TheVariants.{NoBug, Archive
 use Rattle.bug_record.specs.declared.command.Command.TheVariants as commands
 use Rattle.ancestry.specs.Nodes.{Node}
 use Rattle.bug_record.specs.Words.{archived_refusal}
-use Rattle.bug_refusals.specs.Refusals.{records_refusal}
+use Rattle.set_images.specs.Refusals.{records_refusal}
 use Rattle.bug_core.specs.Others.{others}
-use Rattle.bug_refusals.proofs.RefusalLemmas.{shown-refusal}
+use Rattle.set_images.proofs.RefusalLemmas.{shown-refusal}
 use Rattle.bug_core.specs.Planned.{HasName, IsPlanned, IsRecordsPlan, IsRefusedAs, IsRefusalOfPlan}
 use Rattle.set_images.proofs.ImageLemmas.{same_value, shown, image_with-shows, image_with-none}
 use Rattle.record_changes.proofs.FieldLemmas.{good-shared_after, good-new_title, good-new_submitter}

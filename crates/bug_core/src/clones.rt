@@ -9,8 +9,8 @@ ghost use Rattle.bug_core.specs.Planned.{IsPlannedOf};
 
 use crate::images::{Named, replace};
 use bug_record::{Agreed, Change, Member, Members, PlanFault, Refusal, Sequence, SetImage};
-use bug_refusals::archived_refusal;
-use set_images::find_image;
+use line_words::AFTER_LARGEST;
+use set_images::{archived_refusal, find_image};
 use std::alloc::{AllocError, Global};
 use std::collections::BTreeSet;
 
@@ -44,7 +44,7 @@ fn clone_images(
     next: u64,
     many: u64,
 ) -> Result<Sequence<SetImage>, AllocError>
-    requires { next + many ≤ 1000000000 }
+    requires { next + many ≤ AFTER_LARGEST }
     ensures { IfOk result (λ is. is ≡ clone_images shared.now member.now next many) }
 {
     let mut images = Sequence::new(alloc);
@@ -56,9 +56,9 @@ fn clone_images(
 
 // Whether fewer numbers are left than are asked for.
 fn is_full(next: u64, asked: u64) -> bool
-    ensures { result ≡ nat_lt 1000000000 (next + asked) }
+    ensures { result ≡ nat_lt AFTER_LARGEST (next + asked) }
 {
-    asked > 1_000_000_000 || next > 1_000_000_000 - asked
+    asked > AFTER_LARGEST || next > AFTER_LARGEST - asked
 }
 
 // The change that adds so many copies of a bug.
@@ -70,7 +70,7 @@ fn add_clones(
     images: &[SetImage],
     next: u64,
 ) -> Result<Change, AllocError>
-    requires { next + many ≤ 1000000000 }
+    requires { next + many ≤ AFTER_LARGEST }
     ensures images { IfOk result (λ change. change.images ≡ clone_images shared.now member.now next many ++ others [] images.now) }
     ensures next { IfOk result (λ change. change.next ≡ next + many) }
 {

@@ -16,7 +16,6 @@ pub use bug_record::{
     Bug, Change, Command, Field, Member, Members, Nodes, Numbered, Numbers, PlanFault, Refusal,
     Sequence, SetImage, Severity, Shared, Tag, TagStep, Tags, VersionArg, Who, is_text,
 };
-pub use bug_refusals::{bug_named, other_bugs};
 pub use plans::plan;
 pub use report::report_change;
-pub use set_images::{changed, changed_numbers_differ, find_image};
+pub use set_images::{bug_named, changed, changed_numbers_differ, find_image, other_bugs};

@@ -11,8 +11,7 @@ ghost use Rattle.bug_core.specs.Planned.{IsPlannedOf};
 use crate::images::{Named, replace_by_one};
 use crate::joins::joined_image;
 use bug_record::{Change, Field, Numbers, PlanFault, Refusal, SetImage, Shared, number_set};
-use bug_refusals::{archived_refusal, first_refused};
-use set_images::{Index, find_image, same_text};
+use set_images::{Index, archived_refusal, find_image, first_refused, same_text};
 use std::alloc::{AllocError, Global};
 
 /// What has to be equal before bugs are merged.

@@ -12,7 +12,7 @@ ghost use Rattle.bug_record.specs.Plans.{AllKnown, IsShownBy, IsOpenHeadFor, IsP
 ghost use Rattle.std.specs.Option.{option_copied};
 ghost use Rattle.record_changes.specs.Members.{member_after};
 ghost use Rattle.bug_core.specs.Others.{others};
-ghost use Rattle.bug_refusals.specs.Refusals.{records_refusal};
+ghost use Rattle.set_images.specs.Refusals.{records_refusal};
 ghost use Rattle.bug_core.specs.Planned.{step_with, HasName, IsRefusedAs, IsFaultOfPlan, IsPlanned, IsRecordsPlan};
 
 use crate::clones::plan_clone;
@@ -21,9 +21,8 @@ use crate::merges::{Agreement, plan_merge};
 use crate::unmerge::plan_unmerge;
 use ancestry::Node;
 use bug_record::{Agreed, Change, Command, PlanFault, Refusal, SetImage, Shared};
-use bug_refusals::{bug_named, records_refusal};
 use record_changes::{members_with, shared_after};
-use set_images::find_image;
+use set_images::{bug_named, find_image, records_refusal};
 use std::alloc::{AllocError, Global};
 
 // The change that gives the bug's set these shared fields, and its members what the command gives

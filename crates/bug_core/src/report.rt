@@ -9,6 +9,7 @@ ghost use Rattle.ancestry.specs.Nodes.{IsNode};
 ghost use Rattle.bug_record.specs.Steps.{found_first, reported};
 ghost use Rattle.bug_record.specs.Images.{put, AreApart, HasMember, FitsDesk};
 ghost use Rattle.bug_core.specs.Reports.{only_member, shared_of_report, image_of_report};
+ghost use Rattle.line_words.specs.declared.named.TheConstants.{AFTER_LARGEST};
 
 use ancestry::Node;
 use bug_record::{Agreed, Change, Member, Members, Nodes, Sequence, SetImage, Severity, Shared};
@@ -99,7 +100,7 @@ pub fn report_change(
     requires name { IsName «package».now }
     requires title { IsText title.now }
     requires node { IfGiven IsNode node }
-    requires some_left { next < 1000000000 }
+    requires some_left { next < AFTER_LARGEST }
     ensures right { (d : Desk) → IsSound d → d.next ≡ next
         → IfOk result (λ change. put d change ≡ reported d from.now «package».now severity title.now node) }
     ensures fits { (d : Desk) → IsSound d → d.next ≡ next → IfOk result (λ change. FitsDesk d change) }

@@ -8,8 +8,7 @@ ghost use Rattle.bug_core.specs.Planned.{IsPlannedOf};
 
 use crate::images::{Named, replace};
 use bug_record::{Agreed, Change, Member, Members, PlanFault, Refusal, Sequence, SetImage};
-use bug_refusals::archived_refusal;
-use set_images::find_image;
+use set_images::{archived_refusal, find_image};
 use std::alloc::{AllocError, Global};
 
 // Whether this is the member of the number, or, of the rest, whether it is another.

@@ -4,6 +4,7 @@
 use Rattle.std.specs.Prelude.{ℕ, ◌+◌, ◌==◌, ◌||◌, nat_lt, Bool, List, [], ◌∷◌, length, count_by}
 use Rattle.std.specs.Prelude.{Option, Some, None, is_some, option_map, Result, Ok, if◌then◌else◌}
 use Rattle.std.specs.List.{find}
+use Rattle.line_words.specs.declared.named.TheConstants.{AFTER_LARGEST}
 use Rattle.bug_record.specs.Desk.{Desk}
 use Rattle.bug_record.specs.Bugs.{with_new_bugs, at_bug, unless, first_of}
 use Rattle.bug_record.specs.Words.{Names, number_of_name}
@@ -26,7 +27,7 @@ merged_refusal n merged = if nat_lt 1 (length merged) then Some (Merged n) else 
 
 -- the refusal where fewer numbers are left than are asked for, the last one being 999,999,999
 abbrev pub full_refusal : ℕ → ℕ → Option Refusal
-full_refusal next asked = if nat_lt 1000000000 (next + asked) then Some Full else None
+full_refusal next asked = if nat_lt AFTER_LARGEST (next + asked) then Some Full else None
 
 -- a copy of a bug under the number n: with all its fields, and merged with no other
 abbrev pub clone_of : Bug → ℕ → Bug

@@ -66,24 +66,7 @@ HasUtf8Texts (commands.Retitle n text) = IsTrue (is_utf8 text)
 HasUtf8Texts (commands.Submitter n who) = IsUtf8Person who
 HasUtf8Texts (commands.Forwarded n text) = IsTrue (is_utf8 text)
 HasUtf8Texts (commands.Owner n who) = IsUtf8Person who
-HasUtf8Texts (commands.Found n version) = ⊤
-HasUtf8Texts (commands.NotFound n version) = ⊤
-HasUtf8Texts (commands.Fixed n version) = ⊤
-HasUtf8Texts (commands.NotFixed n version) = ⊤
-HasUtf8Texts (commands.Close n version) = ⊤
-HasUtf8Texts (commands.Severity n severity) = ⊤
-HasUtf8Texts (commands.Tags n steps) = ⊤
-HasUtf8Texts (commands.Reassign n package_name version) = ⊤
-HasUtf8Texts (commands.Merge n ns) = ⊤
-HasUtf8Texts (commands.ForceMerge n ns) = ⊤
-HasUtf8Texts (commands.Unmerge n) = ⊤
-HasUtf8Texts (commands.Clone n ks) = ⊤
-HasUtf8Texts (commands.Block n ns) = ⊤
-HasUtf8Texts (commands.Unblock n ns) = ⊤
-HasUtf8Texts (commands.NotForwarded n) = ⊤
-HasUtf8Texts (commands.NoOwner n) = ⊤
-HasUtf8Texts (commands.Archive n) = ⊤
-HasUtf8Texts (commands.Unarchive n) = ⊤
+HasUtf8Texts command = ⊤
 
 -- the bug that a command names first
 abbrev pub bug_named : {N : Type 0} → Command N → N
@@ -117,25 +100,7 @@ other_bugs (commands.Merge n ns) = ns
 other_bugs (commands.ForceMerge n ns) = ns
 other_bugs (commands.Block n ns) = ns
 other_bugs (commands.Unblock n ns) = ns
-other_bugs (commands.Found n version) = []
-other_bugs (commands.NotFound n version) = []
-other_bugs (commands.Fixed n version) = []
-other_bugs (commands.NotFixed n version) = []
-other_bugs (commands.Close n version) = []
-other_bugs (commands.Reopen n who) = []
-other_bugs (commands.Severity n severity) = []
-other_bugs (commands.Tags n steps) = []
-other_bugs (commands.Retitle n text) = []
-other_bugs (commands.Submitter n who) = []
-other_bugs (commands.Reassign n package_name version) = []
-other_bugs (commands.Unmerge n) = []
-other_bugs (commands.Clone n ks) = []
-other_bugs (commands.Forwarded n text) = []
-other_bugs (commands.NotForwarded n) = []
-other_bugs (commands.Owner n who) = []
-other_bugs (commands.NoOwner n) = []
-other_bugs (commands.Archive n) = []
-other_bugs (commands.Unarchive n) = []
+other_bugs command = []
 
 -- the bugs that a command names, in the order written
 abbrev pub bugs_named : {N : Type 0} → Command N → List N

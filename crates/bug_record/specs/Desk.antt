@@ -2,6 +2,7 @@
 use Rattle.std.specs.Prelude.{ℕ, ◌≡◌, ◌≢◌, ◌<◌, ◌≤◌, true, false, List, Option, Some, None}
 use Rattle.debver.specs.Names.{IsName}
 use Rattle.ancestry.specs.Trees.{Ancestry, IsForest}
+use Rattle.line_words.specs.declared.named.TheConstants.{AFTER_LARGEST}
 use Rattle.bug_record.specs.Sets.{has, IsAscending}
 use Rattle.bug_record.specs.Texts.{IsGoodText, IfGiven}
 use Rattle.bug_record.specs.Tags.{IsTagSet}
@@ -58,4 +59,4 @@ pub record IsSound (d : Desk) : Type 0 where
   pub in_range : (n : ℕ) (b : Bug) → d.bug n ≡ Some b → (0 < n) × (n < d.next)
   -- every node has a line to its root, of known nodes
   pub forest : IsForest d.tree
-  pub next_in_range : (0 < d.next) × (d.next ≤ 1000000000)
+  pub next_in_range : (0 < d.next) × (d.next ≤ AFTER_LARGEST)

@@ -97,66 +97,19 @@ shared_after sender (commands.Block n ns) f = blocked_by ns f
 shared_after sender (commands.Unblock n ns) f = unblocked_by ns f
 shared_after sender (commands.Archive n) f = record f { archived = true }
 shared_after sender (commands.Unarchive n) f = record f { archived = false }
-shared_after sender (commands.Retitle n text) f = f
-shared_after sender (commands.Submitter n who) f = f
-shared_after sender (commands.Merge n ns) f = f
-shared_after sender (commands.ForceMerge n ns) f = f
-shared_after sender (commands.Unmerge n) f = f
-shared_after sender (commands.Clone n ks) f = f
+shared_after sender command f = f
 
 -- the new title of the bug m, where a command gives one: of the bug that it names alone
 abbrev pub new_title : Command ℕ → ℕ → Option (List ℕ)
 new_title (commands.Retitle n text) m = if m == n then Some text else None
-new_title (commands.Found n version) m = None
-new_title (commands.NotFound n version) m = None
-new_title (commands.Fixed n version) m = None
-new_title (commands.NotFixed n version) m = None
-new_title (commands.Close n version) m = None
-new_title (commands.Reopen n who) m = None
-new_title (commands.Severity n severity) m = None
-new_title (commands.Tags n steps) m = None
-new_title (commands.Submitter n who) m = None
-new_title (commands.Reassign n package_name version) m = None
-new_title (commands.Merge n ns) m = None
-new_title (commands.ForceMerge n ns) m = None
-new_title (commands.Unmerge n) m = None
-new_title (commands.Clone n ks) m = None
-new_title (commands.Block n ns) m = None
-new_title (commands.Unblock n ns) m = None
-new_title (commands.Forwarded n text) m = None
-new_title (commands.NotForwarded n) m = None
-new_title (commands.Owner n who) m = None
-new_title (commands.NoOwner n) m = None
-new_title (commands.Archive n) m = None
-new_title (commands.Unarchive n) m = None
+new_title command m = None
 
 -- the new submitter of the bug m, where a command gives one: of the bug that it names alone, or of
 -- each closed bug that is reopened by somebody
 abbrev pub new_submitter : List ℕ → Command ℕ → Shared → ℕ → Option (List ℕ)
 new_submitter sender (commands.Submitter n who) f m = if m == n then Some (person sender who) else None
 new_submitter sender (commands.Reopen n (Some who)) f m = if f.closed then Some (person sender who) else None
-new_submitter sender (commands.Reopen n None) f m = None
-new_submitter sender (commands.Found n version) f m = None
-new_submitter sender (commands.NotFound n version) f m = None
-new_submitter sender (commands.Fixed n version) f m = None
-new_submitter sender (commands.NotFixed n version) f m = None
-new_submitter sender (commands.Close n version) f m = None
-new_submitter sender (commands.Severity n severity) f m = None
-new_submitter sender (commands.Tags n steps) f m = None
-new_submitter sender (commands.Retitle n text) f m = None
-new_submitter sender (commands.Reassign n package_name version) f m = None
-new_submitter sender (commands.Merge n ns) f m = None
-new_submitter sender (commands.ForceMerge n ns) f m = None
-new_submitter sender (commands.Unmerge n) f m = None
-new_submitter sender (commands.Clone n ks) f m = None
-new_submitter sender (commands.Block n ns) f m = None
-new_submitter sender (commands.Unblock n ns) f m = None
-new_submitter sender (commands.Forwarded n text) f m = None
-new_submitter sender (commands.NotForwarded n) f m = None
-new_submitter sender (commands.Owner n who) f m = None
-new_submitter sender (commands.NoOwner n) f m = None
-new_submitter sender (commands.Archive n) f m = None
-new_submitter sender (commands.Unarchive n) f m = None
+new_submitter sender command f m = None
 
 -- a change to the record of every bug m that is merged with n: of its shared fields, and of its
 -- title and its submitter, where there is a new one
@@ -191,25 +144,7 @@ carried_out taken head_of d sender (commands.Merge n ns) = sets_joined first_dif
 carried_out taken head_of d sender (commands.ForceMerge n ns) = sets_joined package_difference d n ns
 carried_out taken head_of d sender (commands.Unmerge n) = unmerged d n
 carried_out taken head_of d sender (commands.Clone n ks) = cloned taken d n ks
-carried_out taken head_of d sender (commands.Found n version) = records_changed head_of sender (commands.Found n version) d
-carried_out taken head_of d sender (commands.NotFound n version) = records_changed head_of sender (commands.NotFound n version) d
-carried_out taken head_of d sender (commands.Fixed n version) = records_changed head_of sender (commands.Fixed n version) d
-carried_out taken head_of d sender (commands.NotFixed n version) = records_changed head_of sender (commands.NotFixed n version) d
-carried_out taken head_of d sender (commands.Close n version) = records_changed head_of sender (commands.Close n version) d
-carried_out taken head_of d sender (commands.Reopen n who) = records_changed head_of sender (commands.Reopen n who) d
-carried_out taken head_of d sender (commands.Severity n severity) = records_changed head_of sender (commands.Severity n severity) d
-carried_out taken head_of d sender (commands.Tags n steps) = records_changed head_of sender (commands.Tags n steps) d
-carried_out taken head_of d sender (commands.Retitle n text) = records_changed head_of sender (commands.Retitle n text) d
-carried_out taken head_of d sender (commands.Submitter n who) = records_changed head_of sender (commands.Submitter n who) d
-carried_out taken head_of d sender (commands.Reassign n package_name version) = records_changed head_of sender (commands.Reassign n package_name version) d
-carried_out taken head_of d sender (commands.Block n ns) = records_changed head_of sender (commands.Block n ns) d
-carried_out taken head_of d sender (commands.Unblock n ns) = records_changed head_of sender (commands.Unblock n ns) d
-carried_out taken head_of d sender (commands.Forwarded n text) = records_changed head_of sender (commands.Forwarded n text) d
-carried_out taken head_of d sender (commands.NotForwarded n) = records_changed head_of sender (commands.NotForwarded n) d
-carried_out taken head_of d sender (commands.Owner n who) = records_changed head_of sender (commands.Owner n who) d
-carried_out taken head_of d sender (commands.NoOwner n) = records_changed head_of sender (commands.NoOwner n) d
-carried_out taken head_of d sender (commands.Archive n) = records_changed head_of sender (commands.Archive n) d
-carried_out taken head_of d sender (commands.Unarchive n) = records_changed head_of sender (commands.Unarchive n) d
+carried_out taken head_of d sender command = records_changed head_of sender command d
 
 -- The new desk, or the refusal, of a command by this sender whose bug words mean this, whose names
 -- have this refusal, and whose bugs have these open heads: the first refusal of a bug word, or else

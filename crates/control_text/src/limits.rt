@@ -11,12 +11,12 @@ ghost use Rattle.control_text.specs.WellFormed.{IsPlain, IsAddress, IsWellFormed
 
 use bug_record::{Command, VersionArg, Who, is_text};
 use debver::{Text, check, check_name};
-use line_words::Named;
+use line_words::{LARGEST_NUMBER, Named};
 
 fn is_good_number(number: u64) -> bool
     ensures { Decides result (IsGoodNumber number) }
 {
-    1 <= number && number <= 999_999_999
+    1 <= number && number <= LARGEST_NUMBER
 }
 
 fn is_good_bug(bug: Named) -> bool

@@ -5,6 +5,7 @@ use crate::exchange::{Trickle, served};
 use crate::exchange_lines::{Line, read_line};
 use crate::requests::request_of;
 use desk_store::PlainDesk;
+use line_words::LARGEST_NUMBER;
 use std::alloc::Global;
 use std::io;
 
@@ -17,7 +18,7 @@ struct Desks {
 
 impl Desks {
     fn new(alloc: Global, first: u64) -> Desks {
-        let first = first.clamp(1, 999_999_999);
+        let first = first.clamp(1, LARGEST_NUMBER);
         Desks {
             at_once: PlainDesk::new(alloc, first),
             in_pieces: PlainDesk::new(alloc, first),

@@ -3,6 +3,7 @@
 use crate::header::{Header, read_header};
 use desk_run::{ScriptEnd, run_script};
 use desk_store::PlainDesk;
+use line_words::LARGEST_NUMBER;
 use std::io;
 
 // Runs one script, where it has a header.
@@ -11,7 +12,7 @@ fn run_example(rt: &HostRuntime, header: Option<Header<'_>>, script: &[u8]) -> i
         return Ok(());
     };
     println!(rt; "== {}", header.text)?;
-    let mut desk = PlainDesk::new(rt.alloc(), header.first.clamp(1, 999_999_999));
+    let mut desk = PlainDesk::new(rt.alloc(), header.first.clamp(1, LARGEST_NUMBER));
     let mut reader = script;
     match run_script(rt.alloc(), &mut desk, &mut reader, &mut io::writer(rt)) {
         Ok(ScriptEnd::Accepted) => println!(rt; "-- accepted"),

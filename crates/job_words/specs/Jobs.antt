@@ -5,6 +5,7 @@ use Rattle.std.specs.Prelude.{List, [], ◌∷◌, Option, Some, None, is_none}
 use Rattle.std.specs.Str.{bytes_eq}
 use Rattle.bug_record.specs.Texts.{is_text, IsText}
 use Rattle.bts_words.specs.Lines.{first_fault, lines}
+use Rattle.line_words.specs.declared.named.TheConstants.{LARGEST_NUMBER}
 use Rattle.job_words.specs.Cut.{Text, option_words, command_words, has_lone_dash}
 use Rattle.job_words.specs.Options.{Given, given_in, refusals, asks_help, has_bad_option}
 use Rattle.job_words.specs.Numbers.{number_in, number_or, IsWithin}
@@ -21,7 +22,7 @@ run_job g =
 
 -- the number of the first bug, from 1 to 999,999,999, or 1
 abbrev pub first_in : Option Text → Option ℕ
-first_in value = number_or 1 1 999999999 value
+first_in value = number_or 1 1 LARGEST_NUMBER value
 
 abbrev pub init_with : Option Text → Option ℕ → Option Job
 init_with (Some store) (Some first) = Some (Init store first)
@@ -97,7 +98,7 @@ IsJobOf words job = (has_lone_dash (option_words words) ≡ false)
 -- The numbers of a job are in their ranges, and its sender is a text.
 abbrev pub IsGoodJob : Job → Type 0
 IsGoodJob (Run store) = ⊤
-IsGoodJob (Init store first) = IsWithin 1 999999999 first
+IsGoodJob (Init store first) = IsWithin 1 LARGEST_NUMBER first
 IsGoodJob (Serve store port count) = IsWithin 1 65535 port × IsWithin 1 1000000 count
 IsGoodJob (Send store from message) = IsText from
 

@@ -12,10 +12,8 @@ use crate::numbers::{number_in, number_or};
 use crate::options::Values;
 use bug_record::is_text;
 use debver::Text;
+use line_words::LARGEST_NUMBER;
 use std::alloc::{AllocError, Global};
-
-/// The highest number that a first bug may have.
-const MAX_FIRST: u64 = 999_999_999;
 
 /// The highest port.
 const MAX_PORT: u64 = 65_535;
@@ -52,7 +50,7 @@ fn run_job(alloc: Global, values: &Values) -> Result<Option<Job>, AllocError>
 fn first_in(text: Option<&str>) -> Option<u64>
     ensures { result ≡ first_in (option_copied text.entry) }
 {
-    number_or(1, 1, MAX_FIRST, text)
+    number_or(1, 1, LARGEST_NUMBER, text)
 }
 
 // `init`, with the options `--store` and `--first`.

@@ -4,6 +4,7 @@ use Rattle.std.specs.Prelude.{ℕ, ◌≤◌, ◌==◌, ◌&&◌, nat_le, if◌t
 use Rattle.std.specs.List.{list_all}
 use Rattle.std.specs.Char.{is_ascii_digit}
 use Rattle.std.specs.Str.Parse.{digits_value}
+use Rattle.line_words.specs.declared.named.TheConstants.{LARGEST_NUMBER}
 
 -- the word without one `#` at its beginning
 abbrev pub without_hash : List ℕ → List ℕ
@@ -24,4 +25,4 @@ number_of_word word = number_of_digits (without_hash word)
 -- from 1 to 999,999,999
 pub record IsGoodNumber (n : ℕ) : Type 0 where
   pub least : 1 ≤ n
-  pub most : n ≤ 999999999
+  pub most : n ≤ LARGEST_NUMBER

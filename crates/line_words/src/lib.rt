@@ -11,5 +11,5 @@ mod words;
 pub use any_case::{Spelled, find_spelled, is_word};
 pub use blanks::{has_control, is_blank, is_control};
 pub use laws::one_list_of_words;
-pub use named::{Named, bug_word, name_word, number_word};
+pub use named::{AFTER_LARGEST, LARGEST_NUMBER, Named, bug_word, name_word, number_word};
 pub use words::{Separators, next_word, split_word, split_word_by, split_word_with_commas, trim};

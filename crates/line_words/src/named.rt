@@ -6,6 +6,13 @@ ghost use Rattle.std.specs.Char.{is_ascii_digit};
 ghost use Rattle.line_words.specs.Numbers.{without_hash, number_of_digits, number_of_word};
 ghost use Rattle.line_words.specs.Bugs.{bug_of_word, name_of_word};
 
+/// The largest number of a bug.
+/// The names that `clone` gives end with the same number.
+pub const LARGEST_NUMBER: u64 = 999_999_999;
+
+/// The number after the largest one, which no bug has: the next number where none is left.
+pub const AFTER_LARGEST: u64 = LARGEST_NUMBER + 1;
+
 /// A bug as a line names it.
 #[derive(Clone, Copy, Debug, PartialEq, Eq, Drop)]
 pub enum Named {

@@ -12,19 +12,20 @@ use Rattle.bug_record.specs.declared.command.Command.{Command}
 use Rattle.bug_record.specs.declared.command.Refusal.{Refusal}
 use Rattle.bug_record.specs.declared.command.Refusal.TheVariants.{NoName, NoBug}
 use Rattle.line_words.specs.declared.named.Named.{Named}
+use Rattle.line_words.specs.declared.named.TheConstants.{AFTER_LARGEST}
 use Rattle.line_words.specs.declared.named.Named.TheVariants.{Number, Name}
 
 -- the number that a bug word is told as
 abbrev pub number_told : Names → Named → ℕ
 number_told names (Number n) = n
-number_told names (Name k) = unwrap_or (number_of_name names k) (1000000000 + k)
+number_told names (Name k) = unwrap_or (number_of_name names k) (AFTER_LARGEST + k)
 
 abbrev pub command_told : Names → Command Named → Command ℕ
 command_told names command = command_over (number_told names) command
 
 -- the refusal that is meant
 abbrev pub refusal_meant : Refusal → Refusal
-refusal_meant (NoBug n) = if nat_lt 1000000000 n then NoName (n - 1000000000) else NoBug n
+refusal_meant (NoBug n) = if nat_lt AFTER_LARGEST n then NoName (n - AFTER_LARGEST) else NoBug n
 refusal_meant refusal = refusal
 
 -- what is meant by what the step of a command that was told comes to

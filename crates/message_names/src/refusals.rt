@@ -10,6 +10,7 @@ ghost use Rattle.message_names.specs.Telling.{refusal_meant, step_among};
 ghost use Rattle.message_names.specs.Taken.{with_names};
 
 use bug_record::{Change, Command, PlanFault, Refusal};
+use line_words::AFTER_LARGEST;
 
 /// The refusal that is meant: `NoName(k)` for a bug that is not there of the number
 /// 1,000,000,000 + k, as which a name that is not known is told, and any other as it is.
@@ -17,8 +18,8 @@ pub fn refusal_meant(refusal: Refusal) -> Refusal
     ensures { result ≡ refusal_meant refusal }
 {
     match refusal {
-        Refusal::NoBug(number) if number > 1_000_000_000 => {
-            Refusal::NoName(number - 1_000_000_000)
+        Refusal::NoBug(number) if number > AFTER_LARGEST => {
+            Refusal::NoName(number - AFTER_LARGEST)
         }
         _ => refusal,
     }

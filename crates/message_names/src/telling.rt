@@ -11,7 +11,7 @@ ghost use Rattle.message_names.specs.Telling.{number_told, command_told, result_
 
 use crate::known::KnownNames;
 use bug_record::{Command, Sequence};
-use line_words::Named;
+use line_words::{AFTER_LARGEST, Named};
 use std::alloc::{AllocError, Global};
 
 // The number that a bug word is told as.
@@ -22,7 +22,7 @@ fn number_told(known: &KnownNames, bug: Named) -> u64
         Named::Number(number) => number,
         Named::Name(name) => match known.number_of(name) {
             Some(number) => number,
-            None => 1_000_000_000 + u64::from(name),
+            None => AFTER_LARGEST + u64::from(name),
         },
     }
 }

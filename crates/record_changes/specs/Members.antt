@@ -1,6 +1,6 @@
 -- Members of a set of merged bugs, as a command changes them (the BTS page 'control and
 -- manipulation').
-use Rattle.std.specs.Prelude.{ℕ, List, Bool, true, false, Some, None, unwrap_or}
+use Rattle.std.specs.Prelude.{ℕ, List, Bool, true, false, Some, unwrap_or}
 use Rattle.bug_record.specs.Steps.{new_title, new_submitter}
 use Rattle.bug_record.specs.declared.bug.Member.{Member}
 use Rattle.bug_record.specs.declared.bug.Shared.{Shared}
@@ -20,24 +20,4 @@ abbrev pub changes_members : Command ℕ → Shared → Bool
 changes_members (commands.Retitle n text) f = true
 changes_members (commands.Submitter n who) f = true
 changes_members (commands.Reopen n (Some who)) f = f.closed
-changes_members (commands.Reopen n None) f = false
-changes_members (commands.Found n version) f = false
-changes_members (commands.NotFound n version) f = false
-changes_members (commands.Fixed n version) f = false
-changes_members (commands.NotFixed n version) f = false
-changes_members (commands.Close n version) f = false
-changes_members (commands.Severity n severity) f = false
-changes_members (commands.Tags n steps) f = false
-changes_members (commands.Reassign n package_name version) f = false
-changes_members (commands.Merge n ns) f = false
-changes_members (commands.ForceMerge n ns) f = false
-changes_members (commands.Unmerge n) f = false
-changes_members (commands.Clone n ks) f = false
-changes_members (commands.Block n ns) f = false
-changes_members (commands.Unblock n ns) f = false
-changes_members (commands.Forwarded n text) f = false
-changes_members (commands.NotForwarded n) f = false
-changes_members (commands.Owner n who) f = false
-changes_members (commands.NoOwner n) f = false
-changes_members (commands.Archive n) f = false
-changes_members (commands.Unarchive n) f = false
+changes_members command f = false

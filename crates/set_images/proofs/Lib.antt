@@ -6,3 +6,4 @@ pub mod ChangedLemmas
 pub mod NewBugLemmas
 pub mod KeptLemmas
 pub mod PartedLemmas
+pub mod RefusalLemmas

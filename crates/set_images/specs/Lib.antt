@@ -1,3 +1,4 @@
+pub mod Refusals
 -- definitions that only private functions and fields cite
 pub mod Index
 pub mod Changes

@@ -1,5 +1,5 @@
-//! Images of sets of merged bugs: the one that has a bug, where each bug stands, and which bugs two
-//! lists of images show otherwise.
+//! Images of sets of merged bugs: the one that has a bug, where each bug stands, which bugs two lists
+//! of images show otherwise, and why a command is refused for a bug of them before it is planned.
 //! The values and definitions are those of `bug_record`.
 #![tactic(auto)]
 
@@ -9,10 +9,14 @@ mod images;
 mod index;
 mod kept;
 mod laws;
+mod named;
 mod parted;
+mod refusals;
 
 pub use changes::changed;
 pub use equal::same_text;
 pub use images::{find_image, member_numbers};
 pub use index::Index;
 pub use laws::{changed_numbers_differ, new_bugs_are_changed};
+pub use named::{bug_named, other_bugs};
+pub use refusals::{archived_refusal, first_refused, records_refusal};

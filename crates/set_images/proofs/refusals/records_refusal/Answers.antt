@@ -10,9 +10,9 @@ use Rattle.bug_record.specs.Words.{archived_refusal, first_bug_refusal, first_ma
 use Rattle.bug_record.specs.declared.bug.SetImage.{SetImage}
 use Rattle.bug_record.specs.declared.command.Command.{Command}
 use Rattle.bug_record.specs.declared.command.Refusal.{Refusal}
-use Rattle.bug_refusals.specs.Refusals.{records_refusal}
-use Rattle.bug_refusals.proofs.RefusalLemmas.{shown-refusal}
-use Rattle.bug_refusals.proofs.refusals.records_refusal.Goals as goal
+use Rattle.set_images.specs.Refusals.{records_refusal}
+use Rattle.set_images.proofs.RefusalLemmas.{shown-refusal}
+use Rattle.set_images.proofs.refusals.records_refusal.Goals as goal
 
 -- the refusal, by its three parts
 by_parts : (command : Command ℕ) (head : Option Node) (is : List SetImage) (i : SetImage) (archived others own : Option Refusal)

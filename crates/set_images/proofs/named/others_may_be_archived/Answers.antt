@@ -1,5 +1,5 @@
 use Rattle.std.proofs.Common.{rules}
-use Rattle.bug_refusals.proofs.named.others_may_be_archived.Goals as goal
+use Rattle.set_images.proofs.named.others_may_be_archived.Goals as goal
 
 pub returns-in-Block : goal.returns-in-Block
 returns-in-Block c = search rules

@@ -9,12 +9,13 @@ ghost use Rattle.bug_record.specs.Images.{numbers_of, bug_in, image_with};
 ghost use Rattle.bug_record.specs.Sets.{has};
 ghost use Rattle.bug_record.specs.Steps.{own_tests};
 ghost use Rattle.bug_record.specs.Words.{archived_refusal, bug_refusal, first_bug_refusal, others_may_be_archived};
-ghost use Rattle.bug_refusals.specs.Refusals.{records_refusal};
+ghost use Rattle.set_images.specs.Refusals.{records_refusal};
 
+use crate::images::member_numbers;
+use crate::index::Index;
 use crate::named::{bug_named, first_may_be_archived, other_bugs, others_may_be_archived};
 use ancestry::Node;
 use bug_record::{Command, Refusal, SetImage, Shared};
-use set_images::{Index, member_numbers};
 use std::alloc::{AllocError, Global};
 use std::collections::BTreeSet;
 

@@ -1,5 +1,5 @@
 use Rattle.std.proofs.Common.{rules}
-use Rattle.bug_refusals.proofs.refusals.own_refusal.Goals as goal
+use Rattle.set_images.proofs.refusals.own_refusal.Goals as goal
 
 pub returns-in-Unarchive : goal.returns-in-Unarchive
 returns-in-Unarchive c = search rules

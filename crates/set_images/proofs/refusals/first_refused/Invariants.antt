@@ -1,7 +1,7 @@
 use Rattle.std.proofs.Common.{◌≡◌, drop}
 use Rattle.bug_record.specs.Images.{bug_in}
 use Rattle.bug_record.specs.Words.{first_bug_refusal}
-use Rattle.bug_refusals.proofs.refusals.first_refused.Given as goal
+use Rattle.set_images.proofs.refusals.first_refused.Given as goal
 
 abbrev pub invariant-loop-number : goal.invariant-loop-number
 invariant-loop-number l =

@@ -1,6 +1,6 @@
 use Rattle.std.proofs.Common.{arith}
 use Rattle.std.proofs.lemmas.Grind.{common_steps}
-use Rattle.bug_refusals.proofs.refusals.first_in.Goals as goal
+use Rattle.set_images.proofs.refusals.first_in.Goals as goal
 
 pub loop-blocker-preserved : goal.loop-blocker-preserved
 loop-blocker-preserved c = grind (arith, common_steps)
