@@ -8,33 +8,37 @@ use Rattle.job_words.specs.declared.job.Job.{Job}
 use Rattle.job_words.specs.declared.job.WordsError.{WordsError}
 use Rattle.job_words.specs.declared.job.WordsError.TheVariants.{Help, Bad, Memory}
 use Rattle.bts_jobs.specs.Jobs.{IsJobDone, EndsAtOnce}
+use Rattle.bts_jobs.specs.declared.ending.Cause.TheVariants as causes
+use Rattle.bts_jobs.specs.declared.ending.Cause.TheVariants.{Output}
+use Rattle.bts_jobs.specs.declared.ending.JobEnd.{JobEnd}
+use Rattle.bts_jobs.specs.declared.ending.JobEnd.TheVariants.{Done, BadWords, Fault}
 
--- The help was written with status 0, or a front of it, not all, with status 3.
-abbrev pub GivesHelp : Text → Option (List ℕ) → Option (List ℕ) → ℕ → Type 0
-GivesHelp text c0 c1 status = ((status ≡ 0) × Appends c0 c1 text)
-    ⊎ ((status ≡ 3) × ((n : ℕ) × (n < length text) × Appends c0 c1 (take n text)))
+-- the help was written, or a front of it, not all, which is a fault
+abbrev pub GivesHelp : Text → Option (List ℕ) → Option (List ℕ) → JobEnd → Type 0
+GivesHelp text c0 c1 end = ((end ≡ Done) × Appends c0 c1 text)
+    ⊎ ((end ≡ Fault Output) × ((n : ℕ) × (n < length text) × Appends c0 c1 (take n text)))
 
 -- the words may be read so
 abbrev pub AreReadAs : List Text → Result Job WordsError → Type 0
 AreReadAs words (Ok job) = IsJobOf words job
 AreReadAs words (Err error) = IsErrorOf words error
 
--- What is done for words that are read so: their job is, or the help is given; bad words end at
--- once with status 2, and want of memory with 3.
-abbrev pub Does : Result Job WordsError → Option (List ℕ) → Option (List ℕ) → Option (List ℕ) → ℕ → Type 0
-Does (Ok job) r0 c0 c1 status = IsJobDone job r0 c0 c1 status
-Does (Err (Help text)) r0 c0 c1 status = GivesHelp text c0 c1 status
-Does (Err Bad) r0 c0 c1 status = EndsAtOnce 2 c0 c1 status
-Does (Err Memory) r0 c0 c1 status = EndsAtOnce 3 c0 c1 status
+-- What is done for words that are read so: their job is, or the help is given; bad words and want
+-- of memory end at once.
+abbrev pub Does : Result Job WordsError → Option (List ℕ) → Option (List ℕ) → Option (List ℕ) → JobEnd → Type 0
+Does (Ok job) r0 c0 c1 end = IsJobDone job r0 c0 c1 end
+Does (Err (Help text)) r0 c0 c1 end = GivesHelp text c0 c1 end
+Does (Err Bad) r0 c0 c1 end = EndsAtOnce BadWords c0 c1 end
+Does (Err Memory) r0 c0 c1 end = EndsAtOnce (Fault causes.Memory) c0 c1 end
 
 -- The words were read, and what they ask was done.
-pub record IsDone (words : List Text) (r0 c0 c1 : Option (List ℕ)) (status : ℕ) : Type 0 where
+pub record IsDone (words : List Text) (r0 c0 c1 : Option (List ℕ)) (end : JobEnd) : Type 0 where
   pub reading : Result Job WordsError
   pub read : AreReadAs words reading
-  pub does : Does reading r0 c0 c1 status
+  pub does : Does reading r0 c0 c1 end
 
 -- A process has words, its arguments after the first one, of which a contract knows nothing.
 -- Arguments that are no UTF-8 are bad words, and there may be no memory for them.
-abbrev pub IsProcess : Option (List ℕ) → Option (List ℕ) → Option (List ℕ) → ℕ → Type 0
-IsProcess r0 c0 c1 status = ((words : List Text) × IsDone words r0 c0 c1 status)
-    ⊎ (EndsAtOnce 2 c0 c1 status ⊎ EndsAtOnce 3 c0 c1 status)
+abbrev pub IsProcess : Option (List ℕ) → Option (List ℕ) → Option (List ℕ) → JobEnd → Type 0
+IsProcess r0 c0 c1 end = ((words : List Text) × IsDone words r0 c0 c1 end)
+    ⊎ (EndsAtOnce BadWords c0 c1 end ⊎ EndsAtOnce (Fault causes.Memory) c0 c1 end)

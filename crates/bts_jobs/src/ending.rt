@@ -1,56 +1,79 @@
 //! How the program ends.
 
 ghost use Rattle.std.specs.Prelude.{◌≡◌};
-ghost use Rattle.bts_jobs.specs.Statuses.{complaint_of, IsTold};
+ghost use Rattle.bts_jobs.specs.Endings.{status_of, IsTold};
 
-use desk_lines::write_out;
+use crate::complaint::write_complaint;
+use desk_text::StoreFault;
 use std::io::Write;
 
-/// The exit status where all went well.
-pub(crate) const DONE: u8 = 0;
+/// Why the program did not do all that its words ask.
+#[derive(Clone, Copy, Debug, PartialEq, Eq, Drop)]
+pub enum Cause {
+    /// There was no memory.
+    Memory,
+    /// The input could not be read, or took more than 16,777,216 reads.
+    Input,
+    /// The output could not be written.
+    Output,
+    /// The line of the input that has this number, counted from 1, is not UTF-8.
+    NotUtf8(u64),
+    /// The line of the input that has this number has more than 65,536 bytes.
+    LineTooLong(u64),
+    /// The store failed at a line of a script.
+    Store(StoreFault),
+    /// The store failed while it was served.
+    ServedStore,
+    /// This port of 127.0.0.1 could not be listened on.
+    Port(u16),
+    /// The job has a store, and there are no stores in files yet.
+    NoStores,
+}
 
-/// The exit status of bad words.
-pub(crate) const BAD_WORDS: u8 = 2;
+/// How a job ended, or words that name none.
+#[derive(Clone, Copy, Debug, PartialEq, Eq, Drop)]
+pub enum JobEnd {
+    /// All of a script was accepted, a server served all its connections, or the help was written.
+    Done,
+    /// Something of a script was refused.
+    Refused,
+    /// The words of the command line are no good.
+    BadWords,
+    /// A fault.
+    Fault(Cause),
+}
 
-/// The exit status of a fault.
-pub(crate) const FAULT: u8 = 3;
+impl JobEnd {
+    /// The exit status: 0 where all was done, 1 where something was refused, 2 of bad words, and 3
+    /// of a fault.
+    /// This is this project's own rule.
+    pub fn status(self) -> u8
+        ensures { result ≡ status_of self }
+    {
+        match self {
+            JobEnd::Done => 0,
+            JobEnd::Refused => 1,
+            JobEnd::BadWords => 2,
+            JobEnd::Fault(_) => 3,
+        }
+    }
+}
 
 /// How the program ended.
-#[derive(Clone, Copy, Drop)]
+#[derive(Clone, Copy, Debug, PartialEq, Eq, Drop)]
 pub struct Ending {
-    /// The exit status, 0 to 3.
-    pub status: u8,
+    /// How its job ended.
+    pub end: JobEnd,
     /// Whether its complaint was written, all of it; so it is where there is none.
     pub is_told: bool,
 }
 
-/// What is said on the error output of an exit status: `bts: bad words` of 2, `bts: fault` of 3,
-/// each with a line feed, and nothing of any other.
-/// This is this project's own rule.
-pub fn complaint_of(status: u8) -> &'static str
-    ensures { result.now ≡ complaint_of status }
-{
-    match status {
-        BAD_WORDS => "bts: bad words\n",
-        FAULT => "bts: fault\n",
-        _ => "",
-    }
-}
-
-/// Ends with an exit status, and writes its complaint.
+/// Ends so, and writes the complaint of that end, if it has one.
 /// Where the complaint can't be written, a front of it is, and the status alone tells the end.
-pub(crate) fn end_with<E: Write>(errors: &mut E, status: u8) -> Ending
-    ensures status { result.status ≡ status }
-    ensures told { IsTold status result.is_told (E.contents errors.old) (E.contents errors.new) }
+pub(crate) fn end_with<E: Write>(errors: &mut E, end: JobEnd) -> Ending
+    ensures end { result.end ≡ end }
+    ensures told { IsTold end result.is_told (E.contents errors.old) (E.contents errors.new) }
 {
-    match write_out(errors, complaint_of(status).as_bytes()) {
-        Ok(()) => Ending {
-            status,
-            is_told: true,
-        },
-        Err(_) => Ending {
-            status,
-            is_told: false,
-        },
-    }
+    let is_told = write_complaint(errors, end);
+    Ending { end, is_told }
 }

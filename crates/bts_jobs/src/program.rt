@@ -2,11 +2,11 @@
 
 ghost use Rattle.std.specs.Prelude.{◌≡◌, ◌⊎◌, IfOk, IfErr, map, drop};
 ghost use Rattle.std.specs.String.{string_bytes};
-ghost use Rattle.bts_jobs.specs.Statuses.{IsTold};
+ghost use Rattle.bts_jobs.specs.Endings.{IsTold};
 ghost use Rattle.bts_jobs.specs.Program.{GivesHelp, IsDone, IsProcess};
 
-use crate::ending::{BAD_WORDS, DONE, Ending, FAULT, end_with};
-use crate::jobs::run_job;
+use crate::ending::{Cause, Ending, JobEnd, end_with};
+use crate::jobs::do_job;
 use desk_lines::write_out;
 use job_words::{WordsError, read_words};
 use std::alloc::{AllocError, Global};
@@ -15,44 +15,45 @@ use std::io::{ErrorKind, Read, Write};
 use std::net::{Net, TcpListener, TcpStream};
 use std::time::Clock;
 
-// Writes the help, and answers the exit status.
-fn write_help<W: Write>(writer: &mut W, text: &str) -> u8
+// Writes the help, and answers how that ended.
+fn write_help<W: Write>(writer: &mut W, text: &str) -> JobEnd
     ensures { GivesHelp text.now (W.contents writer.old) (W.contents writer.new) result }
 {
     match write_out(writer, text.as_bytes()) {
-        Ok(()) => DONE,
-        Err(_) => FAULT,
+        Ok(()) => JobEnd::Done,
+        Err(_) => JobEnd::Fault(Cause::Output),
     }
 }
 
-// Does what words ask, and answers the exit status.
+// Does what words ask, and answers how that ended.
 fn do_words<N, R: Read, W: Write>(
     rt: &N,
     alloc: Global,
     words: &[&str],
     reader: &mut R,
     writer: &mut W,
-) -> u8
+) -> JobEnd
 where
     N: Net<Listener = TcpListener, Stream = TcpStream> + Clock,
     ensures { IsDone (map (λ s. s.now) words.entry.now) (R.remaining reader.old) (W.contents writer.old)
         (W.contents writer.new) result }
 {
     match read_words(alloc, words) {
-        Ok(job) => run_job(rt, alloc, &job, reader, writer),
+        Ok(job) => do_job(rt, alloc, &job, reader, writer),
         Err(WordsError::Help(text)) => write_help(writer, text.as_str()),
-        Err(WordsError::Bad) => BAD_WORDS,
-        Err(WordsError::Memory) => FAULT,
+        Err(WordsError::Bad) => JobEnd::BadWords,
+        Err(WordsError::Memory) => JobEnd::Fault(Cause::Memory),
     }
 }
 
 /// Does what words ask, over the input and the two outputs that are handed in; the program's own
 /// name is not one of the words.
 ///
-/// The words are read by `job_words::read_words`, and the job is carried out by `run_job`.
-/// `--help` writes clap's text, with status 0, or 3 where it can't be written.
-/// Bad words have status 2, and words for which there is no memory 3; nothing is written for them.
-/// Then the complaint of the status, if it has one, is written to the error output.
+/// The words are read by `job_words::read_words`, and the job is carried out by `do_job`.
+/// `--help` writes clap's text, which is a fault where it can't be written.
+/// Of bad words, and of words for which there is no memory, nothing is written.
+/// Then the complaint of the end, if it has one, is written to the error output: `bts: bad words` or
+/// `bts: fault`, and a second line that says what to do, or why.
 pub fn run_words<N, R: Read, W: Write, E: Write>(
     rt: &N,
     alloc: Global,
@@ -64,8 +65,8 @@ pub fn run_words<N, R: Read, W: Write, E: Write>(
 where
     N: Net<Listener = TcpListener, Stream = TcpStream> + Clock,
     ensures done { IsDone (map (λ s. s.now) words.entry.now) (R.remaining reader.old) (W.contents writer.old)
-        (W.contents writer.new) result.status }
-    ensures told { IsTold result.status result.is_told (E.contents errors.old) (E.contents errors.new) }
+        (W.contents writer.new) result.end }
+    ensures told { IsTold result.end result.is_told (E.contents errors.old) (E.contents errors.new) }
 {
     end_with(errors, do_words(rt, alloc, words, reader, writer))
 }
@@ -93,7 +94,7 @@ fn after_first(args: &[String]) -> &[String]
 
 /// Does what the arguments of a process ask, as `run_words` does; the first one, if there is one,
 /// is the program's own name, and no word.
-/// Where there is no memory for them, the status is 3.
+/// Where there is no memory for them, that is a fault.
 pub fn run_args<N, R: Read, W: Write, E: Write>(
     rt: &N,
     alloc: Global,
@@ -105,30 +106,31 @@ pub fn run_args<N, R: Read, W: Write, E: Write>(
 where
     N: Net<Listener = TcpListener, Stream = TcpStream> + Clock,
     ensures done { IsDone (map string_bytes (drop 1 args.entry.now)) (R.remaining reader.old) (W.contents writer.old)
-        (W.contents writer.new) result.status }
-    ensures told { IsTold result.status result.is_told (E.contents errors.old) (E.contents errors.new) }
+        (W.contents writer.new) result.end }
+    ensures told { IsTold result.end result.is_told (E.contents errors.old) (E.contents errors.new) }
 {
     match texts_of(alloc, after_first(args)) {
         Ok(words) => run_words(rt, alloc, &words, reader, writer, errors),
-        Err(_) => end_with(errors, FAULT),
+        Err(_) => end_with(errors, JobEnd::Fault(Cause::Memory)),
     }
 }
 
-// The arguments of the process; the error is the exit status where they can't be read.
-fn read_args<N: Env + Alloc<A = Global>>(rt: &N, alloc: Global) -> Result<Vec<String>, u8>
-    ensures { IfErr result (λ status. (status ≡ 2) ⊎ (status ≡ 3)) }
+// The arguments of the process; the error is the end where they can't be read: bad words where one
+// is not UTF-8, or want of memory.
+fn read_args<N: Env + Alloc<A = Global>>(rt: &N, alloc: Global) -> Result<Vec<String>, JobEnd>
+    ensures { IfErr result (λ end. (end ≡ JobEnd.BadWords) ⊎ (end ≡ JobEnd.Fault Cause.Memory)) }
 {
     let args = match std::env::args(rt) {
         Ok(args) => args,
         Err(error) => match error.kind() {
-            ErrorKind::InvalidData => return Err(BAD_WORDS),
-            _ => return Err(FAULT),
+            ErrorKind::InvalidData => return Err(JobEnd::BadWords),
+            _ => return Err(JobEnd::Fault(Cause::Memory)),
         },
     };
     let mut kept = Vec::new(alloc);
     for arg in args {
         if kept.push(arg).is_err() {
-            return Err(FAULT);
+            return Err(JobEnd::Fault(Cause::Memory));
         }
     }
     Ok(kept)
@@ -146,11 +148,11 @@ pub fn run_program<N, R: Read, W: Write, E: Write>(
 ) -> Ending
 where
     N: Net<Listener = TcpListener, Stream = TcpStream> + Clock + Env + Alloc<A = Global>,
-    ensures done { IsProcess (R.remaining reader.old) (W.contents writer.old) (W.contents writer.new) result.status }
-    ensures told { IsTold result.status result.is_told (E.contents errors.old) (E.contents errors.new) }
+    ensures done { IsProcess (R.remaining reader.old) (W.contents writer.old) (W.contents writer.new) result.end }
+    ensures told { IsTold result.end result.is_told (E.contents errors.old) (E.contents errors.new) }
 {
     match read_args(rt, alloc) {
         Ok(args) => run_args(rt, alloc, &args, reader, writer, errors),
-        Err(status) => end_with(errors, status),
+        Err(end) => end_with(errors, end),
     }
 }

@@ -16,6 +16,6 @@ returns g c = record {
             (desk_of c.run_script.new.store.bugs c.run_script.new.store.tree c.run_script.new.store.next) no_faults no_faults
             (g.W.Write.contents c.args.writer.now) (g.W.Write.contents c.run_script.new.writer) c.run_script.result)
             c.new-desk.ensures ((c.run_script.ensures.answer.fact tt tt).known input left);
-        status_is = c.status_of-status.ensures;
+        end_is = c.end_of.ensures;
       };
 }
