@@ -154,7 +154,7 @@ learn_lines t n q ns h =
     (learnt_lines t n off q ns h))
     (cases_Bool (knows t n))
 
-learn_kept : (t : Ancestry) (n q : Node) → knows t q ≡ true → knows (learn t n) q ≡ true
+pub learn_kept : (t : Ancestry) (n q : Node) → knows t q ≡ true → knows (learn t n) q ≡ true
 learn_kept t n q h =
     ⊎_elim
     (λ yes. subst (λ u. knows u q ≡ true) (sym (ap (λ b. cond b t (insert_entry node_cmp t n None)) yes)) h)
@@ -162,14 +162,14 @@ learn_kept t n q h =
     (knows_kept t n None q h))
     (cases_Bool (knows t n))
 
-learn_known : (t : Ancestry) (n : Node) → knows (learn t n) n ≡ true
+pub learn_known : (t : Ancestry) (n : Node) → knows (learn t n) n ≡ true
 learn_known t n =
     ⊎_elim
     (λ yes. subst (λ u. knows u n ≡ true) (sym (ap (λ b. cond b t (insert_entry node_cmp t n None)) yes)) yes)
     (λ off. subst (λ u. knows u n ≡ true) (sym (ap (λ b. cond b t (insert_entry node_cmp t n None)) off)) (knows_put t n None))
     (cases_Bool (knows t n))
 
-learn_all_lines : (t : Ancestry) (nodes : List Node) (q : Node) (ns : List Node) → IsLine t q ns → IsLine (learn_all t nodes) q ns
+pub learn_all_lines : (t : Ancestry) (nodes : List Node) (q : Node) (ns : List Node) → IsLine t q ns → IsLine (learn_all t nodes) q ns
 learn_all_lines t [] q ns h = h
 learn_all_lines t (n ∷ nodes) q ns h = learn_all_lines (learn t n) nodes q ns (learn_lines t n q ns h)
 

@@ -13,7 +13,8 @@ use Rattle.ancestry.specs.Nodes.{Node, same_node, node_cmp}
 use Rattle.std.specs.Option.{option_flatten}
 use Rattle.ancestry.specs.Trees.{Ancestry, has_node, known_at, knows, parent_of, line, is_ancestor, IsForest}
 use Rattle.ancestry.specs.Branches.{learn, with_parent, base_on}
-use Rattle.ancestry.specs.Changes.{Extends, past_of}
+use Rattle.ancestry.specs.Branches.{Extends}
+use Rattle.ancestry.specs.Changes.{past_of}
 use Rattle.ancestry.specs.declared.branch.Past.{Past}
 use Rattle.ancestry.specs.declared.branch.Past.TheVariants.{Unknown, Root, Based}
 use Rattle.ancestry.proofs.NodeLemmas.{same_true, same_itself, same_back, ties_same, has_head, has_cases, known_others}

@@ -13,3 +13,5 @@ pub mod AncestorLemmas
 pub mod ChangeLemmas
 pub mod RepeatLemmas
 pub mod TakeLemmas
+pub mod LinkedLemmas
+pub mod ReplayLemmas

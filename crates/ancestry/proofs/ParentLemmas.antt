@@ -67,13 +67,17 @@ adds_one f g nodes p here e q off =
     was_true true h = refl
     was_true false h = absurd (cc)
 
-pub adds_learn : (t : Ancestry) (nodes : List Node) (n : Node) → Adds (is_parent t) nodes (is_parent (learn t n))
-adds_learn t nodes n =
+-- no node becomes a parent where one becomes known
+pub parents_learn : (t : Ancestry) (n q : Node) → is_parent (learn t n) q ≡ is_parent t q
+parents_learn t n q =
     ⊎_elim
-    (λ yes. adds_same _ _ nodes (λ q. ap (λ b. is_parent (cond b t (insert_entry node_cmp t n None)) q) yes))
-    (λ off. adds_same _ _ nodes (λ q. ap (λ b. is_parent (cond b t (insert_entry node_cmp t n None)) q) off
-    ∙ parents_put t n None q (unknown_has_none t n off)))
+    (λ yes. ap (λ b. is_parent (cond b t (insert_entry node_cmp t n None)) q) yes)
+    (λ off. ap (λ b. is_parent (cond b t (insert_entry node_cmp t n None)) q) off
+    ∙ parents_put t n None q (unknown_has_none t n off))
     (cases_Bool (knows t n))
+
+pub adds_learn : (t : Ancestry) (nodes : List Node) (n : Node) → Adds (is_parent t) nodes (is_parent (learn t n))
+adds_learn t nodes n = adds_same _ _ nodes (parents_learn t n)
 
 pub adds_base : (t u : Ancestry) (nodes : List Node) (n p : Node) → has_node nodes p ≡ true → base_on t n p ≡ Some u
     → Adds (is_parent t) nodes (is_parent u)

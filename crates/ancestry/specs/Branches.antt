@@ -1,12 +1,14 @@
 -- Branches: lists of nodes, each based on the next.
 -- This project's own rule.
-use Rattle.std.specs.Prelude.{ℕ, ◌+◌, ◌==◌, ◌≡◌, ◌||◌, ⊤, Bool, true, false, nat_lt, List, [], ◌∷◌, length, take, slice_get}
-use Rattle.std.specs.Prelude.{Option, Some, None, is_some, All, Result, Ok, Err, if◌then◌else◌}
+use Rattle.std.specs.Prelude.{ℕ, ◌+◌, ◌==◌, ◌≡◌, ◌&&◌, ◌||◌, ⊤, Bool, true, false, nat_lt, List, [], ◌∷◌, length, take, slice_get}
+use Rattle.std.specs.Prelude.{Option, Some, None, is_none, is_some, All, Result, Ok, Err, if◌then◌else◌}
 use Rattle.std.specs.List.{find, range_with_len}
+use Rattle.std.specs.List.Sorted.{IsStrictlySortedBy}
+use Rattle.std.specs.Map.{keys_of}
 use Rattle.std.specs.Option.{option_map_or}
 use Rattle.std.specs.BTreeMap.{insert_entry}
 use Rattle.ancestry.specs.Nodes.{Node, node_cmp}
-use Rattle.ancestry.specs.Trees.{Ancestry, has_node, knows, parent_of, line, is_ancestor}
+use Rattle.ancestry.specs.Trees.{Ancestry, has_node, known_at, knows, parent_of, line, is_ancestor}
 use Rattle.ancestry.specs.declared.fault.BranchFault.{BranchFault}
 use Rattle.ancestry.specs.declared.fault.BranchFault.TheVariants.{EmptyBranch, Repeated, Conflict, TooLong, Memory}
 
@@ -73,3 +75,13 @@ IsBranched t nodes (Err fault) t' = (branched t nodes ≡ Err fault) × (t' ≡ 
 abbrev pub AreBased : Ancestry → List Node → Type 0
 AreBased t [] = ⊤
 AreBased t (n ∷ nodes) = All (λ p. is_ancestor t p n ≡ true) nodes × AreBased t nodes
+
+-- only nodes of a branch may change, and of these only such as have no parent
+abbrev pub may_change : Ancestry → List Node → Node → Bool
+may_change t nodes n = has_node nodes n && is_none (parent_of t n)
+
+-- of all other nodes the same is known, no known node is forgotten, and the nodes stand in order
+pub record Extends (t : Ancestry) (nodes : List Node) (t' : Ancestry) : Type 0 where
+  pub others : (n : Node) → may_change t nodes n ≡ false → known_at t' n ≡ known_at t n
+  pub kept : (n : Node) → knows t n ≡ true → knows t' n ≡ true
+  pub ascending : IsStrictlySortedBy node_cmp (keys_of t')

@@ -9,8 +9,8 @@ ghost use Rattle.std.specs.Ordering.{is_eq};
 ghost use Rattle.ancestry.specs.Nodes.{Node, same_node, node_cmp};
 ghost use Rattle.ancestry.specs.Trees.{Ancestry, has_node, known_at, knows, parent_of, line, is_ancestor, is_parent, IsForest};
 ghost use Rattle.ancestry.specs.Branches.{learn, learn_all, with_parent, or_conflict, base_on, base_all, is_repeat, first_repeat};
-ghost use Rattle.ancestry.specs.Branches.{branched, IsBranched, TakesMemory, AreBased};
-ghost use Rattle.ancestry.specs.Changes.{Makes, Extends, past_of};
+ghost use Rattle.ancestry.specs.Branches.{branched, IsBranched, TakesMemory, AreBased, Extends};
+ghost use Rattle.ancestry.specs.Changes.{Makes, past_of};
 ghost use Rattle.ancestry.specs.Kept.{Adds};
 ghost use Rattle.ancestry.specs.declared.fault.BranchFault.TheVariants.{Memory};
 
@@ -88,7 +88,7 @@ fn make_root(links: &mut BTreeMap<Node, Option<Node>>, node: &Node)
 }
 
 // Puts back what was known of a node.
-fn put_back_one(links: &mut BTreeMap<Node, Option<Node>>, node: &Node, past: Past)
+pub(crate) fn put_back_one(links: &mut BTreeMap<Node, Option<Node>>, node: &Node, past: Past)
     ensures { (t : Ancestry) (nodes : List Node) → past_of (known_at t node.now) ≡ past
         → Extends t (node.now ∷ nodes) links.old.entries → Extends t nodes links.new.entries }
 {
@@ -127,7 +127,7 @@ fn forget_parents(parents: &mut BTreeSet<Node>, nodes: &[Node], were: &[bool])
 
 impl Tree {
     // What is known of a node, in a word.
-    fn past(&self, node: &Node) -> Past
+    pub(crate) fn past(&self, node: &Node) -> Past
         ensures { result ≡ past_of (known_at self.now node.now) }
     {
         match self.links.get(node) {
@@ -155,7 +155,7 @@ impl Tree {
     }
 
     // Makes a node known.
-    fn learn(&mut self, node: &Node) -> Result<(), AllocError>
+    pub(crate) fn learn(&mut self, node: &Node) -> Result<(), AllocError>
         ensures ok { OnOk result (self.new ≡ learn self.old node.now) }
         ensures err { OnErr result (self.new ≡ self.old) }
         ensures forest { IsForest self.new }
@@ -184,7 +184,7 @@ impl Tree {
     }
 
     // Whether a node is in the line of another.
-    fn leads_to<'a>(&'a self, from: &'a Node, node: &Node) -> bool
+    pub(crate) fn leads_to<'a>(&'a self, from: &'a Node, node: &Node) -> bool
         ensures { result ≡ has_node (line self.now from.now) node.now }
     {
         let mut at = from;
@@ -209,7 +209,7 @@ impl Tree {
     }
 
     // Gives a root its parent, and puts that one among the parents.
-    fn set_parent(&mut self, node: &Node, parent: &Node) -> Result<(), AllocError>
+    pub(crate) fn set_parent(&mut self, node: &Node, parent: &Node) -> Result<(), AllocError>
         requires knows_node { knows self.old node.now ≡ true }
         requires knows_parent { knows self.old parent.now ≡ true }
         requires root { parent_of self.old node.now ≡ None }
@@ -285,6 +285,7 @@ impl Tree {
     /// From the left each node gets the next one as its parent, unless that is a proper ancestor of
     /// it already.
     /// All nodes of the branch are known afterwards, and no node loses a proper ancestor.
+    /// A node that had a parent keeps it, and of a node that is not of the branch the same is known.
     /// Errors, in this order: `EmptyBranch`; `TooLong`; `Repeated`, with the first place whose node
     /// stands earlier; `Conflict`, with the place of a node that has another parent or is in the
     /// line of the next one; and `Memory`, which no branch gets in place of one of the first three.
@@ -296,6 +297,7 @@ impl Tree {
         ensures based { OnOk result (AreBased self.new nodes.now) }
         ensures keeps { OnOk result ((n p : Node) → is_ancestor self.old p n ≡ true → is_ancestor self.new p n ≡ true) }
         ensures known { OnOk result (All (λ n. knows self.new n ≡ true) nodes.now) }
+        ensures extends { OnOk result (Extends self.old nodes.now self.new) }
         ensures forest { IsForest self.new }
     {
         // A look at the tree, so that its invariant is known here.

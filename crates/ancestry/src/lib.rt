@@ -6,6 +6,7 @@ mod branch;
 mod fault;
 mod indexed;
 mod laws;
+mod links;
 mod marks;
 mod node;
 mod statuses;
@@ -13,7 +14,7 @@ mod tree;
 
 pub use fault::{BranchFault, NodeFault};
 pub use indexed::IndexedLine;
-pub use laws::{one_line, valid_nodes};
+pub use laws::{one_line, replayed, valid_nodes};
 pub use marks::{status, status_from};
 pub use node::{Node, at_first_slash};
 pub use statuses::{MarkKind, Status};

@@ -55,8 +55,9 @@ impl Tree {
         self.links.contains_key(node)
     }
 
-    // The node's parent, where it is known and has one.
-    pub(crate) fn parent(&self, node: &Node) -> Option<&Node>
+    /// The node's parent, where it is known and has one.
+    /// Takes no memory.
+    pub fn parent(&self, node: &Node) -> Option<&Node>
         ensures value { option_copied result ≡ parent_of self.now node.now }
         ensures forest { IsForest self.now }
     {

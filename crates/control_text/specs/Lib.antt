@@ -1,3 +1,6 @@
+pub use Rattle.bts_words.specs.Tokens
+pub use Rattle.bts_words.specs.BugPlaces
+pub use Rattle.bts_words.specs.Lines as WordLines
 pub use Rattle.line_words.specs.Words
 pub use Rattle.line_words.specs.Numbers
 pub use Rattle.line_words.specs.Bugs

@@ -7,6 +7,7 @@ mod limits;
 mod line;
 mod spelling;
 
+pub use bts_words::{WordsFault, words_to_lines};
 pub use command_grammar::LineFault;
 pub use laws::{refusals_of_lines, spelling_is_read_back};
 pub use limits::well_formed;

@@ -64,9 +64,13 @@ impl KnownNames {
 
     /// The refusal of the first of these names that can't be given: `NameTaken(k)` of a name -k
     /// that is known, or stands more than once among them; `None` where all can be given.
+    /// Where there are none of them, it takes no memory.
     pub fn refusal(&self, alloc: Global, names: &[u32]) -> Result<Option<Refusal>, AllocError>
         ensures { IfOk result (λ refusal. refusal ≡ name_refusal self.now.names names.now) }
     {
+        if names.is_empty() {
+            return Ok(None);
+        }
         let repeated = repeated(alloc, names)?;
         for name in names {
             if self.number_of(*name).is_some() || repeated.contains(name) {

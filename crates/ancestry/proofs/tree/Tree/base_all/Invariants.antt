@@ -2,7 +2,7 @@ use Rattle.std.proofs.Common.{◌≡◌, ◌∷◌, true, drop}
 use Rattle.ancestry.specs.Nodes.{Node}
 use Rattle.ancestry.specs.Trees.{has_node, knows, is_parent, IsForest}
 use Rattle.ancestry.specs.Branches.{base_all}
-use Rattle.ancestry.specs.Changes.{Extends}
+use Rattle.ancestry.specs.Branches.{Extends}
 use Rattle.ancestry.specs.Kept.{Adds}
 use Rattle.ancestry.proofs.tree.Tree.base_all.Given as goal
 

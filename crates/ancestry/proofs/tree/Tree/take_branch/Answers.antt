@@ -1,7 +1,7 @@
 use Rattle.std.proofs.Common.{refl, sym, ap, ◌∙◌, subst, arith}
 use Rattle.std.proofs.lemmas.Grind.{common_steps}
 use Rattle.ancestry.specs.Trees.{is_parent, IsForest}
-use Rattle.ancestry.specs.Changes.{Extends}
+use Rattle.ancestry.specs.Branches.{Extends}
 use Rattle.ancestry.specs.Kept.{Adds}
 use Rattle.ancestry.proofs.ParentLemmas.{adds_kept}
 use Rattle.ancestry.proofs.TakeLemmas.{branched_empty, branched_long, branched_repeated, branched_taken, taken_takes, refused}

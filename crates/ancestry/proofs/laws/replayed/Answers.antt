@@ -1,0 +1,5 @@
+use Rattle.ancestry.proofs.ReplayLemmas.{replayed}
+use Rattle.ancestry.proofs.laws.replayed.Goals as goal
+
+pub returns : goal.returns
+returns c = replayed
