@@ -10,9 +10,11 @@ use Rattle.bts_jobs.specs.Endings.{IsWritten}
 pub written_both : (a b : List ℕ) (told : Bool) (e0 e1 e2 : Option (List ℕ)) → IsWritten a true e0 e1 → IsWritten b told e1 e2
     → IsWritten (a ++ b) told e0 e2
 written_both a b true e0 e1 e2 first second = Appends-trans e0 e1 e2 a b first second
-written_both a b false e0 e1 e2 first (n, less, second) =
-    (length a + n, omega (arith, length-append a b),
-    subst (Appends e0 e2) (sym (take-append-add a b n)) (Appends-trans e0 e1 e2 a (take n b) first second))
+written_both a b false e0 e1 e2 first (n, less, second) = (
+  length a + n,
+  omega (arith, length-append a b),
+  subst (Appends e0 e2) (sym (take-append-add a b n)) (Appends-trans e0 e1 e2 a (take n b) first second),
+)
 
 -- a front of a text is a front of what it begins
 pub written_front : (a b : List ℕ) (e0 e1 : Option (List ℕ)) → IsWritten a false e0 e1 → IsWritten (a ++ b) false e0 e1

@@ -67,7 +67,12 @@ fn write_cause<E: Write>(errors: &mut E, cause: Cause) -> bool
         Cause::Store(fault) => write_text(errors, store_line(fault)),
         Cause::ServedStore => write_text(errors, "bts: the store failed while it was served\n"),
         Cause::Port(port) => {
-            write_numbered(errors, "bts: port ", u64::from(port), " can't be listened on\n")
+            write_numbered(
+                errors,
+                "bts: port ",
+                u64::from(port),
+                " can't be listened on\n",
+            )
         }
         Cause::NoStores => write_text(errors, "bts: no store can be opened yet\n"),
     }

@@ -24,7 +24,8 @@ use Rattle.bug_record.specs.declared.command.Refusal.{Refusal}
 use Rattle.bug_record.specs.declared.command.Refusal.TheVariants.{NoBug, Merged, Full}
 use Rattle.bug_core.specs.Others.{others}
 use Rattle.bug_core.specs.Clones.{clone_image, clone_images}
-use Rattle.bug_core.specs.Planned.{IsPlanned, IsPlannedOf, IsRefusedAs, IsRefusalOfPlan}
+use Rattle.bug_core.specs.Planned.{IsPlanned, IsPlannedOf}
+use Rattle.bug_core.specs.Refused.{IsRefusedAs, IsRefusalOfPlan}
 use Rattle.set_images.proofs.ImageLemmas.{same_value, shown, bug_in-append, bug_in-merged}
 use Rattle.set_images.proofs.ImageLemmas.{image_with-shows, image_with-none, image_with-has, image_with-member}
 use Rattle.bug_core.proofs.OtherLemmas.{others-none, others-kept, others-apart, others-members}

@@ -32,7 +32,8 @@ use Rattle.bug_record.proofs.MergeLemmas.{has-all_merged, has-joined_blockers, a
 use Rattle.bug_core.specs.Others.{has_any, those_meant, others}
 use Rattle.bug_core.specs.Joins.{with_members, joined_image}
 use Rattle.bug_record.specs.Words.{archived_refusal}
-use Rattle.bug_core.specs.Planned.{IsPlannedOf, IsRefusalOfPlan}
+use Rattle.bug_core.specs.Planned.{IsPlannedOf}
+use Rattle.bug_core.specs.Refused.{IsRefusalOfPlan}
 use Rattle.set_images.proofs.ImageLemmas.{has-member_some, has-member_none, bug_in-merged, shown, image_with-has, image_with-shows}
 use Rattle.set_images.proofs.ImageLemmas.{image_with-none}
 use Rattle.bug_core.proofs.SoundLemmas.{agree, sound-each_bug}

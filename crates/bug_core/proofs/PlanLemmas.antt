@@ -34,7 +34,8 @@ use Rattle.bug_record.specs.Words.{archived_refusal}
 use Rattle.set_images.specs.Refusals.{records_refusal}
 use Rattle.bug_core.specs.Others.{others}
 use Rattle.set_images.proofs.RefusalLemmas.{shown-refusal}
-use Rattle.bug_core.specs.Planned.{HasName, IsPlanned, IsRecordsPlan, IsRefusedAs, IsRefusalOfPlan}
+use Rattle.bug_core.specs.Planned.{IsPlanned, IsRecordsPlan}
+use Rattle.bug_core.specs.Refused.{HasName, IsRefusedAs, IsRefusalOfPlan}
 use Rattle.set_images.proofs.ImageLemmas.{same_value, shown, image_with-shows, image_with-none}
 use Rattle.record_changes.proofs.FieldLemmas.{good-shared_after, good-new_title, good-new_submitter}
 use Rattle.record_changes.proofs.BlockerLemmas.{first-none, later-none, good-blockers_after}

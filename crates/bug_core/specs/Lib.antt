@@ -1,5 +1,6 @@
-pub mod Planned
+pub mod Refused
 -- definitions that only private functions cite
+pub mod Planned
 pub mod Others
 pub mod Named
 pub mod Agreements

@@ -13,7 +13,8 @@ ghost use Rattle.std.specs.Option.{option_copied};
 ghost use Rattle.record_changes.specs.Members.{member_after};
 ghost use Rattle.bug_core.specs.Others.{others};
 ghost use Rattle.set_images.specs.Refusals.{records_refusal};
-ghost use Rattle.bug_core.specs.Planned.{step_with, HasName, IsRefusedAs, IsFaultOfPlan, IsPlanned, IsRecordsPlan};
+ghost use Rattle.bug_core.specs.Planned.{step_with, IsPlanned, IsRecordsPlan};
+ghost use Rattle.bug_core.specs.Refused.{HasName, IsRefusedAs, IsFaultOfPlan};
 
 use crate::clones::plan_clone;
 use crate::images::{Named, replace_by_one};

@@ -1,4 +1,5 @@
-//! Runs the examples that lie in its folders of data, and prints what comes of them.
+//! Runs the examples that lie in its folders of data, and then its own words, and prints what comes
+//! of them.
 #![tactic(auto)]
 
 mod answers;
@@ -12,6 +13,7 @@ mod messages;
 mod requests;
 mod scripts;
 mod statuses;
+mod streams;
 mod words;
 
 use std::{fs, io};
@@ -43,5 +45,5 @@ fn main(rt: HostRuntime) -> io::Result<()> {
     for name in fs::read_to_string(&rt, FILES)?.lines() {
         run_file(&rt, name)?;
     }
-    Ok(())
+    statuses::run_process(&rt)
 }

@@ -23,9 +23,9 @@ fn add_sign(bytes: &mut Vec<u8>, sign: &str) -> Result<bool, AllocError> {
     Ok(true)
 }
 
-// Adds the bytes of a text with its signs.
-// Answers whether they all are signs.
-fn add_text(bytes: &mut Vec<u8>, text: &str) -> Result<bool, AllocError> {
+/// Adds the bytes of a text with its signs.
+/// Answers whether they all are signs.
+pub(crate) fn add_text(bytes: &mut Vec<u8>, text: &str) -> Result<bool, AllocError> {
     let mut is_good = true;
     for (place, piece) in text.split('<').enumerate() {
         if place == 0 {

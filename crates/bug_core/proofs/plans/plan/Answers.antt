@@ -4,7 +4,7 @@ use Rattle.std.proofs.Common.{Result}
 use Rattle.bug_record.specs.Desk.{Desk}
 use Rattle.bug_record.specs.Plans.{IsPlanOf}
 use Rattle.bug_record.specs.declared.command.Refusal.{Refusal}
-use Rattle.bug_core.specs.Planned.{IsRefusedAs}
+use Rattle.bug_core.specs.Refused.{IsRefusedAs}
 use Rattle.bug_core.proofs.StepLemmas.{step-with}
 use Rattle.bug_core.proofs.plans.plan.Goals as goal
 
