@@ -3,3 +3,4 @@ pub mod KeyLemmas
 pub mod ListLemmas
 pub mod PlaceLemmas
 pub mod PassingLemmas
+pub mod AfterLemmas

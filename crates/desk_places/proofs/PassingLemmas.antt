@@ -21,8 +21,8 @@ use Rattle.bug_record.specs.declared.bug.SetImage.{SetImage}
 use Rattle.bug_record.specs.declared.bug.Shared.{Shared}
 use Rattle.bug_record.proofs.SetLemmas.{same_test, has-append, has-filter, has-number_set, has-numbers_below, same-ascending}
 use Rattle.bug_record.proofs.SetLemmas.{IsAscending-filter, IsAscending-number_set, IsAscending-numbers_below}
-use Rattle.desk_places.specs.Keys.{keyed_bug, IsKeyed}
-use Rattle.desk_places.specs.Plain.{image_at, keys, sets, desk_of}
+use Rattle.desk_places.specs.Keys.{keyed_bug, keyed_desk, IsKeyed}
+use Rattle.desk_places.specs.Places.{image_at, keys, sets}
 use Rattle.desk_places.specs.Questions.{passing_there}
 use Rattle.desk_places.specs.declared.places.Place.{Place}
 use Rattle.desk_places.specs.declared.places.Place.TheVariants.{First, After}
@@ -130,10 +130,10 @@ module _ {S : Type 0} (bugs : HashMap ℕ Place S) (unique : IsUnique nat_eq bug
   has-passing m = same_test _ _ (passing m) (is_there m (keys bugs m) refl)
 
   -- those are the bugs of the desk that pass
-  pub passing-is : (tree : Ancestry) (next : ℕ) → IsSound (desk_of bugs tree next)
-      → number_set (passing_in test (values bugs)) ≡ numbers_where test (desk_of bugs tree next)
+  pub passing-is : (tree : Ancestry) (next : ℕ) → IsSound (keyed_desk (keys bugs) (sets bugs) tree next)
+      → number_set (passing_in test (values bugs)) ≡ numbers_where test (keyed_desk (keys bugs) (sets bugs) tree next)
   passing-is tree next sound =
-      same-ascending (number_set (passing_in test (values bugs))) (numbers_where test (desk_of bugs tree next))
+      same-ascending (number_set (passing_in test (values bugs))) (numbers_where test (keyed_desk (keys bugs) (sets bugs) tree next))
       (IsAscending-number_set (passing_in test (values bugs)))
       (IsAscending-filter (λ m. passes test (bug m)) (numbers_below next) (IsAscending-numbers_below next))
       (λ m. has-number_set (passing_in test (values bugs)) m ∙ has-passing m ∙ below m (bug m) refl

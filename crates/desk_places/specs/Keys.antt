@@ -10,6 +10,15 @@ use Rattle.bug_record.specs.declared.bug.Bug.{Bug}
 use Rattle.bug_record.specs.declared.bug.Member.{Member}
 use Rattle.bug_record.specs.declared.bug.SetImage.{SetImage}
 
+-- Bugs by their sets: the key of each bug, and the image of each key.
+pub record Keyed : Type 0 where
+  pub key : ℕ → Option ℕ
+  pub set : ℕ → Option SetImage
+
+-- no bug is there
+abbrev pub no_bugs : Keyed
+no_bugs = record { key = λ n. None; set = λ k. None }
+
 -- the number of the first member; 0 where there is none
 abbrev pub first_number : List Member → ℕ
 first_number [] = 0
@@ -55,3 +64,7 @@ image_at_key k old (Some i) = if key_of i == k then Some i else None
 -- and no key any more where it isn't.
 abbrev pub set_after : List SetImage → (ℕ → Option SetImage) → ℕ → Option SetImage
 set_after is set k = image_at_key k (set k) (image_with is k)
+
+-- both after images are put
+abbrev pub after_images : Keyed → List SetImage → Keyed
+after_images b is = record { key = key_after is b.key; set = set_after is b.set }

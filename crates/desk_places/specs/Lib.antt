@@ -1,5 +1,5 @@
 pub mod Keys
-pub mod Plain
 pub mod Places
+pub mod Plain
 -- definitions that only private functions cite
 pub mod Questions

@@ -1,36 +1,18 @@
--- A desk in memory, as a map from each number to what stands in its place.
-use Rattle.std.specs.Prelude.{ℕ, Option, Some, None, option_map}
-use Rattle.std.specs.Option.{option_and_then}
-use Rattle.std.specs.Prelude.{nat_eq}
-use Rattle.std.specs.HashMap.{HashMap, get}
+-- A desk in memory: its bugs by sets, an ancestry and the next number.
+use Rattle.std.specs.Prelude.{ℕ, None}
 use Rattle.ancestry.specs.Trees.{Ancestry, no_nodes}
 use Rattle.bug_record.specs.Desk.{Desk}
-use Rattle.bug_record.specs.declared.bug.SetImage.{SetImage}
-use Rattle.desk_places.specs.Keys.{keyed_desk}
-use Rattle.desk_places.specs.declared.places.Place.{Place}
-use Rattle.desk_places.specs.declared.places.Place.TheVariants.{First, After}
+use Rattle.desk_places.specs.Keys.{Keyed, keyed_desk}
+use Rattle.desk_places.specs.Places.{keys, sets}
+use Rattle.desk_places.specs.declared.bug_sets.BugSets.{BugSets}
 
--- the key of the bug n, which has this place: its own number, or that of the first bug of its set
-abbrev pub key_at : ℕ → Place → ℕ
-key_at n (First i) = n
-key_at n (After k) = k
-
--- the image that stands there
-abbrev pub image_at : Place → Option SetImage
-image_at (First i) = Some i
-image_at (After k) = None
-
--- the key of each bug
-abbrev pub keys : {S : Type 0} → HashMap ℕ Place S → ℕ → Option ℕ
-keys bugs n = option_map (key_at n) (get nat_eq bugs n)
-
--- the image of each key
-abbrev pub sets : {S : Type 0} → HashMap ℕ Place S → ℕ → Option SetImage
-sets bugs k = option_and_then image_at (get nat_eq bugs k)
+-- the key of each bug, and the image of each key
+abbrev pub keyed_of : BugSets → Keyed
+keyed_of bugs = record { key = keys bugs.places; set = sets bugs.places }
 
 -- the desk of these bugs and this ancestry
-abbrev pub desk_of : {S : Type 0} → HashMap ℕ Place S → Ancestry → ℕ → Desk
-desk_of bugs tree next = keyed_desk (keys bugs) (sets bugs) tree next
+abbrev pub desk_of : BugSets → Ancestry → ℕ → Desk
+desk_of bugs tree next = keyed_desk (keyed_of bugs).key (keyed_of bugs).set tree next
 
 -- a desk with no bug and no node
 abbrev pub empty_desk : ℕ → Desk

@@ -2,13 +2,12 @@
 //! the set stands at the first of them; what is put into it, and what is asked of it.
 #![tactic(auto)]
 
+mod bug_sets;
 mod heads;
 mod lists;
 mod places;
 mod questions;
 mod waiting;
 
+pub use bug_sets::BugSets;
 pub use heads::open_head;
-pub use lists::listed;
-pub use places::{Place, image_of, put_images};
-pub use waiting::waiting_on;

@@ -4,29 +4,23 @@ ghost use Rattle.std.specs.Prelude.{◌≡◌, ◌++◌, ℕ, [], filter, flat_m
 ghost use Rattle.bug_record.specs.Desk.{IsSound};
 ghost use Rattle.bug_record.specs.Lists.{listed};
 ghost use Rattle.bug_record.specs.Severities.{all_severities};
-ghost use Rattle.desk_places.specs.Keys.{IsKeyed, keyed_bug};
-ghost use Rattle.desk_places.specs.Plain.{desk_of, keys, sets};
+ghost use Rattle.desk_places.specs.Keys.{keyed_bug};
+ghost use Rattle.desk_places.specs.Plain.{keyed_of, desk_of};
 ghost use Rattle.desk_places.specs.Questions.{is_row_of};
 ghost use Rattle.desk_text.specs.Lists.{rows_of, with_row};
 
-use crate::places::{Place, image_of};
-use crate::questions::{Question, passing};
+use crate::bug_sets::BugSets;
+use crate::questions::Question;
 use ancestry::{IndexedLine, Node, Tree};
 use bug_record::{Sequence, Severity};
 use desk_text::ListRow;
 use std::alloc::{AllocError, Global};
-use std::collections::HashMap;
 
 // Adds the row of a bug, if there is one.
-fn add_row(
-    rows: &mut Sequence<ListRow>,
-    bugs: &HashMap<u64, Place>,
-    number: u64,
-) -> Result<(), AllocError>
-    ensures { OnOk result
-        (rows.new ≡ rows.old ++ with_row number (keyed_bug (keys bugs.now) (sets bugs.now) number) []) }
+fn add_row(rows: &mut Sequence<ListRow>, bugs: &BugSets, number: u64) -> Result<(), AllocError>
+    ensures { OnOk result (rows.new ≡ rows.old ++ with_row number (keyed_bug (keyed_of bugs.now).key (keyed_of bugs.now).set number) []) }
 {
-    let Some(image) = image_of(bugs, number) else {
+    let Some(image) = bugs.image_of(number) else {
         return Ok(());
     };
     let Some(row) = ListRow::of(image, number)? else {
@@ -36,12 +30,8 @@ fn add_row(
 }
 
 // The rows of the bugs of these numbers.
-fn rows_of(
-    alloc: Global,
-    bugs: &HashMap<u64, Place>,
-    numbers: &[u64],
-) -> Result<Sequence<ListRow>, AllocError>
-    ensures { IfOk result (λ rows. rows ≡ rows_of (keyed_bug (keys bugs.now) (sets bugs.now)) numbers.now) }
+fn rows_of(alloc: Global, bugs: &BugSets, numbers: &[u64]) -> Result<Sequence<ListRow>, AllocError>
+    ensures { IfOk result (λ rows. rows ≡ rows_of (keyed_bug (keyed_of bugs.now).key (keyed_of bugs.now).set) numbers.now) }
 {
     let mut rows = Sequence::new(alloc);
     for number in numbers {
@@ -78,26 +68,27 @@ fn by_severity(alloc: Global, rows: &[ListRow]) -> Result<Sequence<ListRow>, All
     Ok(sorted)
 }
 
-/// The bugs of a package that are not archived and are found at a node, by severity, from critical
-/// to wishlist, and then by number; each bug of a set stands by itself.
-/// The node's line is taken once, and each set is looked at once: each of its marks is looked up in
-/// the line.
-/// The only error is that there is no memory for the rows.
-pub fn listed(
-    alloc: Global,
-    bugs: &HashMap<u64, Place>,
-    tree: &Tree,
-    package: &str,
-    node: &Node,
-) -> Result<Sequence<ListRow>, AllocError>
-    requires { IsKeyed (keys bugs.now) (sets bugs.now) }
-    ensures { (next : ℕ) → IsSound (desk_of bugs.now tree.now next)
-        → IfOk result (λ rows. rows ≡ rows_of (desk_of bugs.now tree.now next).bug
-        (listed (desk_of bugs.now tree.now next) «package».now node.now)) }
-{
-    let nodes = tree.line(node)?;
-    let line = IndexedLine::of(alloc, nodes)?;
-    let numbers = passing(alloc, bugs, Question::IsListed(package, &line))?;
-    let rows = rows_of(alloc, bugs, numbers.as_slice())?;
-    by_severity(alloc, rows.as_slice())
+impl BugSets {
+    /// The bugs of a package that are not archived and are found at a node, by severity, from
+    /// critical to wishlist, and then by number; each bug of a set stands by itself.
+    /// The node's line is taken once, and each set is looked at once: each of its marks is looked
+    /// up in the line.
+    /// The only error is that there is no memory for the rows.
+    pub fn listed(
+        &self,
+        alloc: Global,
+        tree: &Tree,
+        package: &str,
+        node: &Node,
+    ) -> Result<Sequence<ListRow>, AllocError>
+        ensures { (next : ℕ) → IsSound (desk_of self.now tree.now next)
+            → IfOk result (λ rows. rows ≡ rows_of (desk_of self.now tree.now next).bug
+            (listed (desk_of self.now tree.now next) «package».now node.now)) }
+    {
+        let nodes = tree.line(node)?;
+        let line = IndexedLine::of(alloc, nodes)?;
+        let numbers = self.passing(alloc, Question::IsListed(package, &line))?;
+        let rows = rows_of(alloc, self, numbers.as_slice())?;
+        by_severity(alloc, rows.as_slice())
+    }
 }

@@ -9,7 +9,7 @@ ghost use Rattle.std.specs.Str.{bytes_eq};
 ghost use Rattle.bug_record.specs.Sets.{has};
 ghost use Rattle.bug_record.specs.Images.{numbers_of};
 ghost use Rattle.desk_places.specs.Keys.{IsKeyed};
-ghost use Rattle.desk_places.specs.Plain.{keys, sets};
+ghost use Rattle.desk_places.specs.Places.{keys, sets};
 ghost use Rattle.desk_places.specs.Places.{place_in, numbers_in, is_there, is_fresh, KeepsSet, IsOnlyPlace};
 
 use bug_record::{Member, SetImage};
@@ -18,7 +18,7 @@ use std::collections::HashMap;
 
 /// A bug's place in its set.
 #[derive(Drop)]
-pub enum Place {
+pub(crate) enum Place {
     /// The first of its members, where the image of the set stands.
     First(SetImage),
     /// Another one, and the number of the first.
@@ -26,7 +26,7 @@ pub enum Place {
 }
 
 /// The image of the set that the bug is in.
-pub fn image_of(bugs: &HashMap<u64, Place>, number: u64) -> Option<&SetImage>
+pub(crate) fn image_of(bugs: &HashMap<u64, Place>, number: u64) -> Option<&SetImage>
     ensures { option_copied result ≡ option_and_then (sets bugs.now) (keys bugs.now number) }
 {
     match bugs.get(&number)? {
@@ -253,7 +253,7 @@ fn put_all(
 /// Puts the images into the map, and retires the keys that their bugs were, but the first of each.
 /// Where there is no memory, the map is as before.
 /// One image that keeps its set, or has one bug alone, is put with one or two look-ups.
-pub fn put_images(
+pub(crate) fn put_images(
     alloc: Global,
     bugs: &mut HashMap<u64, Place>,
     images: &[SetImage],

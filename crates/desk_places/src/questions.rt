@@ -8,16 +8,16 @@ ghost use Rattle.bug_record.specs.Desk.{IsSound};
 ghost use Rattle.bug_record.specs.Heads.{is_found};
 ghost use Rattle.bug_record.specs.Images.{numbers_of};
 ghost use Rattle.bug_record.specs.Sets.{has, with_items};
-ghost use Rattle.desk_places.specs.Keys.{IsKeyed};
-ghost use Rattle.desk_places.specs.Plain.{desk_of, keys, sets};
+ghost use Rattle.desk_places.specs.Plain.{desk_of};
 ghost use Rattle.desk_places.specs.Questions.{is_listed_on, test_of, passing_there};
 
+use crate::bug_sets::BugSets;
 use crate::heads::is_there;
 use crate::places::Place;
 use ancestry::IndexedLine;
 use bug_record::{Member, Numbers, Sequence, Shared, add_number};
 use std::alloc::{AllocError, Global};
-use std::collections::{BTreeSet, HashMap};
+use std::collections::BTreeSet;
 
 /// What is asked of a bug.
 #[derive(Clone, Copy)]
@@ -90,20 +90,17 @@ fn add_passing(
     }
 }
 
-/// The bugs of which the answer is yes, ascending.
-/// Each set is looked at once, not once for each of its bugs.
-pub(crate) fn passing(
-    alloc: Global,
-    bugs: &HashMap<u64, Place>,
-    question: Question,
-) -> Result<Numbers, AllocError>
-    requires { IsKeyed (keys bugs.now) (sets bugs.now) }
-    ensures { (tree : Ancestry) (next : ℕ) → IsSound (desk_of bugs.now tree next)
-        → IfOk result (λ numbers. numbers ≡ numbers_where (test_of question.entry) (desk_of bugs.now tree next)) }
-{
-    let mut numbers = BTreeSet::new(alloc);
-    for place in bugs.values() {
-        add_passing(&mut numbers, place, question)?;
+impl BugSets {
+    /// The bugs of which the answer is yes, ascending.
+    /// Each set is looked at once, not once for each of its bugs.
+    pub(crate) fn passing(&self, alloc: Global, question: Question) -> Result<Numbers, AllocError>
+        ensures { (tree : Ancestry) (next : ℕ) → IsSound (desk_of self.now tree next)
+            → IfOk result (λ numbers. numbers ≡ numbers_where (test_of question.entry) (desk_of self.now tree next)) }
+    {
+        let mut numbers = BTreeSet::new(alloc);
+        for place in self.places.values() {
+            add_passing(&mut numbers, place, question)?;
+        }
+        Sequence::in_order(alloc, &numbers)
     }
-    Sequence::in_order(alloc, &numbers)
 }

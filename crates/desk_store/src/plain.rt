@@ -1,33 +1,27 @@
 //! A desk in memory.
 
 ghost use Rattle.std.specs.Prelude.{◌≡◌, ◌≤◌, None, Ok, IfOk, IfErr, OnOk, OnErr};
-ghost use Rattle.std.specs.HashMap.{get};
 ghost use Rattle.std.specs.Option.{option_and_then, option_copied};
-ghost use Rattle.std.specs.Prelude.{nat_eq};
 ghost use Rattle.bug_record.specs.Desk.{IsSound};
 ghost use Rattle.bug_record.specs.Images.{AreApart, FitsDesk, put};
 ghost use Rattle.bug_record.proofs.SoundProp.{IsSound-prop};
 ghost use Rattle.desk_store.specs.Store.{IsImageOf, IsOpenHead, AreWaitingOn, AreListed, Branches, IsRefusal, no_faults};
-ghost use Rattle.desk_places.specs.Keys.{IsKeyed};
-ghost use Rattle.desk_places.specs.Plain.{desk_of, empty_desk, keys, sets};
+ghost use Rattle.desk_places.specs.Plain.{keyed_of, desk_of, empty_desk};
 
 use crate::records::Records;
 use ancestry::{BranchFault, Node, Tree};
 use bug_record::{Change, Numbers, Sequence, SetImage};
-use desk_places::{Place, image_of, listed, open_head, put_images, waiting_on};
+use desk_places::{BugSets, open_head};
 use desk_text::{ListRow, StoreFault};
 use std::alloc::{AllocError, Global};
-use std::collections::HashMap;
 
-/// A desk in memory: the image of each set of merged bugs at the first of them, the number of the
-/// first at the others, and the tree of nodes.
+/// A desk in memory: its bugs by sets, and the tree of nodes.
 #[derive(Drop)]
 pub struct PlainDesk {
-    bugs: HashMap<u64, Place>,
+    bugs: BugSets,
     tree: Tree,
     next: u64,
     alloc: Global,
-    ghost keyed: { IsKeyed (keys bugs) (sets bugs) },
     ghost sound: { IsSound (desk_of bugs tree next) } by { IsSound-prop (desk_of bugs tree next) },
 }
 
@@ -40,7 +34,7 @@ impl PlainDesk {
         ensures { desk_of result.bugs result.tree result.next ≡ empty_desk first }
     {
         PlainDesk {
-            bugs: HashMap::new(alloc),
+            bugs: BugSets::new(alloc),
             tree: Tree::new(alloc),
             next: first,
             alloc,
@@ -60,10 +54,10 @@ impl Records for PlainDesk {
     fn set_of(&mut self, number: u64) -> Result<Option<SetImage>, StoreFault>
         ensures same { self.new ≡ self.old }
         ensures image { IfOk result (IsImageOf (desk_of self.old.bugs self.old.tree self.old.next) number) }
-        ensures none { get nat_eq self.old.bugs number ≡ None → result ≡ Ok None }
+        ensures none { (keyed_of self.old.bugs).key number ≡ None → result ≡ Ok None }
         ensures memory { IfErr result (λ fault. fault ≡ StoreFault.Memory) }
     {
-        match image_of(&self.bugs, number) {
+        match self.bugs.image_of(number) {
             Some(image) => match image.copy() {
                 Ok(image) => Ok(Some(image)),
                 Err(_) => Err(StoreFault::Memory),
@@ -95,7 +89,7 @@ impl Records for PlainDesk {
         ensures waiting { IfOk result (AreWaitingOn (desk_of self.old.bugs self.old.tree self.old.next) number) }
         ensures memory { IfErr result (λ fault. fault ≡ StoreFault.Memory) }
     {
-        match waiting_on(self.alloc, &self.bugs, number) {
+        match self.bugs.waiting_on(self.alloc, number) {
             Ok(numbers) => Ok(numbers),
             Err(_) => Err(StoreFault::Memory),
         }
@@ -107,7 +101,7 @@ impl Records for PlainDesk {
             (AreListed (desk_of self.old.bugs self.old.tree self.old.next) «package».now node.now) }
         ensures memory { IfErr result (λ fault. fault ≡ StoreFault.Memory) }
     {
-        match listed(self.alloc, &self.bugs, &self.tree, package, node) {
+        match self.bugs.listed(self.alloc, &self.tree, package, node) {
             Ok(rows) => Ok(rows),
             Err(_) => Err(StoreFault::Memory),
         }
@@ -123,7 +117,7 @@ impl Records for PlainDesk {
             (desk_of self.new.bugs self.new.tree self.new.next ≡ desk_of self.old.bugs self.old.tree self.old.next) }
         ensures memory { IfErr result (λ fault. fault ≡ StoreFault.Memory) }
     {
-        match put_images(self.alloc, &mut self.bugs, change.images.as_slice()) {
+        match self.bugs.put(self.alloc, change.images.as_slice()) {
             Ok(()) => {
                 self.next = change.next;
                 Ok(())

@@ -5,7 +5,7 @@ use Rattle.std.specs.Prelude.{nat_eq}
 use Rattle.std.specs.HashMap.{get}
 use Rattle.std.proofs.lemmas.Slice.Eq.{bytes_eq-Decides}
 use Rattle.bug_record.specs.Images.{numbers_of}
-use Rattle.desk_places.specs.Plain.{sets, image_at}
+use Rattle.desk_places.specs.Places.{sets, image_at}
 use Rattle.desk_places.specs.declared.places.Place.TheVariants.{First}
 use Rattle.desk_places.proofs.PlaceLemmas.{first-key}
 use Rattle.desk_places.proofs.places.keeps_set.Goals as goal

@@ -9,11 +9,11 @@ use Rattle.desk_text.specs.declared.lists.ListRow.{ListRow}
 use Rattle.desk_places.specs.Plain.{desk_of}
 use Rattle.desk_places.specs.Questions.{is_listed_on, is_row_of}
 use Rattle.desk_places.proofs.ListLemmas.{rows-listed}
-use Rattle.desk_places.proofs.lists.listed.Goals as goal
+use Rattle.desk_places.proofs.bug_sets.BugSets.listed.Goals as goal
 
 pub returns : goal.returns
 returns c = λ next sound.
-    let d = desk_of c.args.bugs.now c.args.tree.now next in
+    let d = desk_of c.args.self.now c.args.tree.now next in
     let package_name = c.args.package.now in
     let are = c.in_ok-numbers.ensures c.args.tree.now next sound
     ∙ ap (λ (nodes : List Node). numbers_where (is_listed_on nodes package_name) d)

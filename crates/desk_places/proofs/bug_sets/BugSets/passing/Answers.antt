@@ -8,7 +8,7 @@ use Rattle.bug_record.proofs.NumberLemmas.{with_items-set}
 use Rattle.desk_places.specs.declared.places.Place.{Place}
 use Rattle.desk_places.specs.Questions.{test_of}
 use Rattle.desk_places.proofs.PassingLemmas.{passing_in, passing-more, passing-is}
-use Rattle.desk_places.proofs.questions.passing.Goals as goal
+use Rattle.desk_places.proofs.bug_sets.BugSets.passing.Goals as goal
 
 pub loop-place-preserved : goal.loop-place-preserved
 loop-place-preserved c =
@@ -20,7 +20,7 @@ loop-place-preserved c =
 
 pub returns : goal.returns
 returns c = λ tree next sound.
-    let bugs = c.args.bugs.now in
+    let bugs = c.args.self.now.places in
     let test = test_of c.args.question in
     let none : c.loop-place.place-iterator ≡ [] =
     rest_all deref c.loop-place.place-iterator c.next.new.self c.next.result c.in-None.is c.next.ensures.steps in
@@ -28,5 +28,6 @@ returns c = λ tree next sound.
     ap (λ (ps : List Place). with_items (λ k. k) c.loop-place.numbers.keys (passing_in test ps)) (sym none)
     ∙ c.loop-place.invariant in
     IfOk-weaker c.in_order.result _ _
-    (λ ns e. e ∙ all ∙ with_items-set (passing_in test (values bugs)) ∙ passing-is bugs c.values-place-items.ensures.unique c.requires test tree next sound)
+    (λ ns e. e ∙ all ∙ with_items-set (passing_in test (values bugs))
+    ∙ passing-is bugs c.values-place-items.ensures.unique c.args.self.now.keyed test tree next sound)
     c.in_order.ensures

@@ -3,9 +3,9 @@ use Rattle.std.specs.HashMap.{values}
 use Rattle.bug_record.specs.Sets.{with_items}
 use Rattle.desk_places.specs.Questions.{test_of}
 use Rattle.desk_places.proofs.PassingLemmas.{passing_in}
-use Rattle.desk_places.proofs.questions.passing.Given as goal
+use Rattle.desk_places.proofs.bug_sets.BugSets.passing.Given as goal
 
 abbrev pub invariant-loop-place : goal.invariant-loop-place
 invariant-loop-place l =
     with_items (λ n. n) l.numbers.keys (passing_in (test_of l.question) l.place-iterator) ≡ with_items (λ n. n) []
-    (passing_in (test_of l.question) (values l.bugs))
+    (passing_in (test_of l.question) (values l.self.places))

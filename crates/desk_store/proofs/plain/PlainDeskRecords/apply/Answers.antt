@@ -1,38 +1,41 @@
-use Rattle.std.proofs.Common.{ℕ, ap, sym, ◌∙◌, List, subst}
+use Rattle.std.proofs.Common.{List, sym, ap, ◌∙◌, subst}
 use Rattle.std.specs.Option.{option_or}
-use Rattle.std.specs.Prelude.{nat_eq}
-use Rattle.std.specs.HashMap.{get}
 use Rattle.bug_record.specs.Desk.{IsSound}
+use Rattle.bug_record.specs.Images.{AreApart, CoverSets, bug_in}
 use Rattle.bug_record.specs.declared.bug.SetImage.{SetImage}
-use Rattle.desk_places.specs.Places.{place_in}
-use Rattle.desk_store.proofs.PlainLemmas.{desk_of-same, desk_of-put, keyed-same, keyed-put}
+use Rattle.desk_places.specs.Plain.{keyed_of, desk_of}
+use Rattle.desk_store.proofs.PlainLemmas.{desk_of-keyed, desk_of-put}
 use Rattle.desk_store.proofs.plain.PlainDeskRecords.apply.Goals as goal
+
+pub put-requires : goal.put-requires
+put-requires c = record {
+  apart = subst AreApart (sym c.as_slice.ensures) c.requires.apart;
+  whole = λ tree next. subst (CoverSets (desk_of c.args.self.now.bugs tree next)) (sym c.as_slice.ensures) c.requires.fits.whole;
+}
 
 pub returns-in-Ok-clause-done : goal.returns-in-Ok-clause-done
 returns-in-Ok-clause-done c =
     let old = c.args.self.now in
-    desk_of-put old.bugs c.put_images.new.bugs old.tree old.next c.args.change.now c.requires.apart c.requires.fits old.keyed
-    (λ n. c.in-Ok.ensures.ok n
-    ∙ ap (λ (is : List SetImage). option_or (place_in is n) (get nat_eq old.bugs n)) c.as_slice.ensures)
+    desk_of-put old.bugs c.put.new.self old.tree old.next c.args.change.now
+    (λ n. c.in-Ok.ensures.bugs old.tree old.next n
+    ∙ ap (λ (is : List SetImage). option_or (bug_in is n) ((desk_of old.bugs old.tree old.next).bug n)) c.as_slice.ensures)
 
 pub invariant_of-self : goal.invariant_of-self
 invariant_of-self c =
     let old = c.args.self.now in
-    let now = c.put_images.new.bugs in
-    let change = c.args.change.now in
-    let after = λ (n : ℕ).
-    c.in-Ok.ensures.ok n ∙ ap (λ (is : List SetImage). option_or (place_in is n) (get nat_eq old.bugs n)) c.as_slice.ensures in
-    let put = desk_of-put old.bugs now old.tree old.next change c.requires.apart c.requires.fits old.keyed after in
-    record {
-      keyed = keyed-put old.bugs now old.tree old.next change c.requires.apart c.requires.fits old.keyed after;
-      sound = subst IsSound (sym put) c.requires.fits.sound;
-    }
+    let done = desk_of-put old.bugs c.put.new.self old.tree old.next c.args.change.now
+    (λ n. c.in-Ok.ensures.bugs old.tree old.next n
+    ∙ ap (λ (is : List SetImage). option_or (bug_in is n) ((desk_of old.bugs old.tree old.next).bug n)) c.as_slice.ensures) in
+    record { sound = subst IsSound (sym done) c.requires.fits.sound }
+
+-- out of memory the desk is as before
+pub returns-in-Err-clause-fault : goal.returns-in-Err-clause-fault
+returns-in-Err-clause-fault c =
+    let old = c.args.self.now in
+    desk_of-keyed c.put.new.self (keyed_of old.bugs) old.tree old.next c.in-Err.ensures.err
 
 pub invariant_of-self-in-Err : goal.invariant_of-self-in-Err
 invariant_of-self-in-Err c =
     let old = c.args.self.now in
-    let now = c.put_images.new.bugs in
-    record {
-      keyed = keyed-same now old.bugs c.in-Err.ensures.err old.keyed;
-      sound = subst IsSound (sym (desk_of-same now old.bugs old.tree old.next c.in-Err.ensures.err)) old.sound;
-    }
+    let same = desk_of-keyed c.put.new.self (keyed_of old.bugs) old.tree old.next c.in-Err.ensures.err in
+    record { sound = subst IsSound (sym same) old.sound }

@@ -8,4 +8,4 @@ pub returns-in-Ok-clause-image : goal.returns-in-Ok-clause-image
 returns-in-Ok-clause-image c =
     let desk = c.args.self.now in
     subst (λ i. IsImageOf (desk_of desk.bugs desk.tree desk.next) c.args.number (Some i)) (sym c.in-Ok.ensures)
-    (image-is desk.bugs desk.tree desk.next desk.keyed desk.sound c.args.number c.in-Some.image.now (sym c.in-Some.ensures))
+    (image-is desk.bugs desk.tree desk.next desk.sound c.args.number c.in-Some.image.now (sym c.in-Some.ensures))

@@ -1,0 +1,20 @@
+use Rattle.std.proofs.Common.{◌≡◌, ◌∙◌, ap, sym, subst, rules}
+use Rattle.ancestry.specs.Trees.{Ancestry}
+use Rattle.bug_record.specs.Desk.{IsSound}
+use Rattle.desk_places.specs.Keys.{no_bugs, keyed_desk}
+use Rattle.desk_places.specs.Plain.{desk_of, empty_desk}
+use Rattle.desk_store.proofs.PlainLemmas.{desk_of-keyed}
+use Rattle.desk_store.proofs.plain.PlainDesk.new.Goals as goal
+
+pub invariant_of-result : goal.invariant_of-result
+invariant_of-result c =
+    let is : desk_of c.new.result c.new-2.result c.args.first ≡ empty_desk c.args.first =
+    desk_of-keyed c.new.result no_bugs c.new-2.result c.args.first c.new.ensures
+    ∙ ap (λ (tree : Ancestry). keyed_desk no_bugs.key no_bugs.set tree c.args.first) c.new-2.ensures in
+    let sound : IsSound (empty_desk c.args.first) = search rules in
+    record { sound = subst IsSound (sym is) sound }
+
+pub returns : goal.returns
+returns c =
+    desk_of-keyed c.new.result no_bugs c.new-2.result c.args.first c.new.ensures
+    ∙ ap (λ (tree : Ancestry). keyed_desk no_bugs.key no_bugs.set tree c.args.first) c.new-2.ensures
