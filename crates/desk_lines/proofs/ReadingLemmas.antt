@@ -10,8 +10,9 @@ use Rattle.std.proofs.lemmas.List.{drop_more, get_or-take, length-take, take-app
 use Rattle.std.proofs.lemmas.List.Splits.{slice_split-cons_no}
 use Rattle.memchr.specs.Find.{IsFirstByte, is_byte}
 use Rattle.desk_lines.specs.Lines.{is_feed, without_empty_last, without_return, raw_lines}
-use Rattle.desk_lines.specs.Reading.{Known, Left, GivesBytes, GivesPiece, GivesRaw, IsFirstFeed, IsLineFault, IsLengthFault}
-use Rattle.desk_lines.specs.Reading.{IsTextFault}
+use Rattle.desk_lines.specs.Reading.{Known, Left, GivesPiece, IsLineFault}
+use Rattle.desk_lines.specs.Pieces.{GivesBytes, GivesRaw, IsFirstFeed, IsLengthFault}
+use Rattle.desk_lines.specs.Pieces.{IsTextFault}
 use Rattle.desk_lines.specs.declared.fault.ScriptFault.{ScriptFault}
 use Rattle.desk_lines.specs.declared.fault.ScriptFault.TheVariants.{Read, Write, NotUtf8, LineTooLong, Memory, Store}
 use Rattle.desk_lines.specs.declared.source.Piece.{Piece}

@@ -7,8 +7,10 @@ ghost use Rattle.std.specs.List.{list_any};
 ghost use Rattle.std.specs.Io.KnownBytes.{Appends};
 ghost use Rattle.desk_lines.specs.Lines.{without_return, is_feed};
 ghost use Rattle.desk_lines.specs.Buffered.{bytes_left};
-ghost use Rattle.desk_lines.specs.Reading.{Known, Left, GivesBytes, GivesRaw, GivesPiece, IsFirstFeed, IsLineFault};
-ghost use Rattle.desk_lines.specs.Reading.{IsReadingFault, IsBegun, IsLengthFault, IsTextFault};
+ghost use Rattle.desk_lines.specs.Reading.{Known, Left, GivesPiece, IsLineFault};
+ghost use Rattle.desk_lines.specs.Pieces.{GivesBytes, GivesRaw, IsFirstFeed};
+ghost use Rattle.desk_lines.specs.Reading.{IsReadingFault, IsBegun};
+ghost use Rattle.desk_lines.specs.Pieces.{IsLengthFault, IsTextFault};
 
 use crate::fault::ScriptFault;
 use crate::lines::without_return;

@@ -1,6 +1,7 @@
 -- A report that is carried out in parts.
-use Rattle.std.proofs.Common.{◌≡◌, ◌≤◌, ◌<◌, ℕ, Bool, true, false, List, Option, Ok, Err, sym, ◌∙◌, ap, refl, arith}
-use Rattle.std.specs.Prelude.{nat_lt, if◌then◌else◌}
+use Rattle.std.proofs.Common.{◌≡◌, ◌≤◌, ◌<◌, ℕ, Bool, true, false, List, Option, Result, Ok, Err, sym, ◌∙◌, ap, refl, arith}
+use Rattle.std.proofs.Common.{subst}
+use Rattle.std.specs.Prelude.{nat_lt, if◌then◌else◌, OnOk}
 use Rattle.std.proofs.lemmas.Bool.Decides.{nat_tests}
 use Rattle.bug_record.specs.Desk.{Desk}
 use Rattle.bug_record.specs.Steps.{reported}
@@ -9,7 +10,8 @@ use Rattle.desk_text.specs.declared.outcome.ReportFault.{ReportFault}
 use Rattle.desk_text.specs.declared.outcome.ReportFault.TheVariants.{BadPackage, BadVersion, BadSeverity, BadTitle, Full, Store}
 use Rattle.desk_store.specs.Store.{Faults}
 use Rattle.desk_messages.specs.Reports.{node_reported, report_severity, desk_reported, report_of, IsOfWords, IsReported}
-use Rattle.desk_messages.specs.Reports.{faults_after_report}
+use Rattle.desk_messages.specs.Reports.{faults_after_report, FollowsNext, AsksForNext}
+use Rattle.desk_text.specs.declared.outcome.StoreFault.{StoreFault}
 
 -- words that are refused
 words_of : (sender p : List ℕ) (v : Option (List ℕ)) (s t : List ℕ) (d : Desk) (fault : ReportFault)
@@ -61,3 +63,21 @@ report_done sender p v s t d e new severity next w n lt is =
           ∙ ap Ok (ap (λ (z : Desk). reported z sender p severity t (node_reported p v)) (sym n.1) ∙ sym is)),
       n.0,
     )
+
+-- a report whose words are refused asks for no number
+pub asks_not : {S : Type 0} (gives : S → S → Result ℕ StoreFault → Type 0) (old : S) (words : Result Severity ReportFault)
+    (fault : ReportFault) (answer : Result ℕ ReportFault) → Err fault ≡ words → OnOk words (AsksForNext gives old answer)
+asks_not gives old words fault answer e =
+    subst (λ (r : Result Severity ReportFault). OnOk r (AsksForNext gives old answer)) e tt
+
+-- one whose words are good asks for it first
+pub asks_first : {S : Type 0} (gives : S → S → Result ℕ StoreFault → Type 0) (old asked : S) (words : Result Severity ReportFault)
+    (severity : Severity) (next : Result ℕ StoreFault) (answer : Result ℕ ReportFault) → Ok severity ≡ words
+    → gives old asked next → FollowsNext next answer → OnOk words (AsksForNext gives old answer)
+asks_first gives old asked words severity next answer e given follows =
+    subst (λ (r : Result Severity ReportFault). OnOk r (AsksForNext gives old answer)) e
+    (record { next = next; asked = asked; gives = given; follows = follows })
+
+-- where a number is left
+pub some_left : (next : ℕ) (answer : Result ℕ ReportFault) → next < 1000000000 → FollowsNext (Ok next) answer
+some_left next answer few many = absurd (omega (arith, few, many))

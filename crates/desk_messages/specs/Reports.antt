@@ -1,6 +1,6 @@
 -- Reports.
 -- This project's own rule.
-use Rattle.std.specs.Prelude.{ℕ, ◌≡◌, nat_lt, Bool, true, false, List, Option, Some, None, Result, Ok, Err, is_some, option_map}
+use Rattle.std.specs.Prelude.{ℕ, ◌≡◌, ◌≤◌, nat_lt, Bool, true, false, List, Option, Some, None, Result, Ok, Err, is_some, option_map}
 use Rattle.std.specs.Prelude.{if◌then◌else◌, ⊤}
 use Rattle.debver.specs.Names.{name_fault}
 use Rattle.debver.specs.Faults.{text_fault}
@@ -10,6 +10,7 @@ use Rattle.bug_record.specs.Severities.{severity_of}
 use Rattle.bug_record.specs.Desk.{Desk}
 use Rattle.bug_record.specs.Steps.{reported}
 use Rattle.bug_record.specs.declared.severity.Severity.{Severity}
+use Rattle.desk_text.specs.declared.outcome.StoreFault.{StoreFault}
 use Rattle.desk_text.specs.declared.outcome.ReportFault.{ReportFault}
 use Rattle.desk_text.specs.declared.outcome.ReportFault.TheVariants.{BadPackage, BadVersion, BadSeverity, BadTitle, Full, Store}
 use Rattle.desk_store.specs.Store.{Faults, counted}
@@ -70,3 +71,17 @@ abbrev pub faults_after_report : Result ℕ ReportFault → Faults → Faults
 faults_after_report (Ok number) faults = faults
 faults_after_report (Err (Store fault)) faults = counted fault faults
 faults_after_report (Err refusal) faults = faults
+
+-- What a report whose words are good is answered, where this is the store's answer to the question
+-- for the next number: its fault, or `Full` where no number is left.
+abbrev pub FollowsNext : Result ℕ StoreFault → Result ℕ ReportFault → Type 0
+FollowsNext (Err fault) answer = answer ≡ Err (Store fault)
+FollowsNext (Ok next) answer = 1000000000 ≤ next → answer ≡ Err Full
+
+-- The store was asked for the next number, before anything that may meet a want of memory.
+pub record AsksForNext {S : Type 0} (next_gives : S → S → Result ℕ StoreFault → Type 0) (old : S) (answer : Result ℕ ReportFault) :
+    Type 0 where
+  pub next : Result ℕ StoreFault
+  pub asked : S
+  pub gives : next_gives old asked next
+  pub follows : FollowsNext next answer

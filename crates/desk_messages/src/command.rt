@@ -88,7 +88,7 @@ fn take_told<S: Records>(
 }
 
 // The refusal of the first of these names that can't be given.
-// Makes room for them.
+// Makes room for them; no names need none.
 fn name_refusal(
     alloc: Global,
     known: &mut KnownNames,
@@ -98,6 +98,9 @@ fn name_refusal(
     ensures refusal { IfOk result (λ refusal. refusal ≡ name_refusal known.old.names names.now) }
     ensures room { OnOk result (length names.now ≤ known.new.room) }
 {
+    if names.is_empty() {
+        return Ok(None);
+    }
     known.make_room(names.len())?;
     known.refusal(alloc, names)
 }

@@ -7,7 +7,7 @@ ghost use Rattle.debver.specs.Cut.{IsVersion};
 ghost use Rattle.bug_record.specs.Texts.{IsText, IfGiven};
 ghost use Rattle.desk_store.specs.Store.{Holds};
 ghost use Rattle.desk_messages.specs.Reports.{has_bad_version, node_reported, report_severity, IsOfWords, IsReported};
-ghost use Rattle.desk_messages.specs.Reports.{faults_after_report};
+ghost use Rattle.desk_messages.specs.Reports.{faults_after_report, AsksForNext};
 
 use ancestry::{Node, NodeFault};
 use bug_core::{is_text, report_change};
@@ -93,6 +93,8 @@ fn node_reported(
 /// Takes a report: a new bug of the next number, open and merged with none, whose submitter is the
 /// sender, and which is found in the version of its package, if one is given.
 /// Answers its number.
+/// Where its words are good, the store is asked for the next number first, so that `Full` is
+/// answered before any want of memory that comes after.
 pub fn report<S: Records>(
     alloc: Global,
     store: &mut S,
@@ -106,6 +108,8 @@ pub fn report<S: Records>(
     ensures answer { Holds S.is_kept S.is_honest store.old store.new
         (IsReported from.now «package».now (option_copied version.entry) severity.now title.now (S.desk store.old) result
         (S.desk store.new)) }
+    ensures first { OnOk (report_severity «package».now (option_copied version.entry) severity.now title.now)
+        (AsksForNext S.next_gives store.old result) }
     ensures count { S.faults store.new ≡ faults_after_report result (S.faults store.old) }
 {
     let severity = match report_severity(package, version, severity, title) {

@@ -1,6 +1,6 @@
 //! The transcript of a message.
 
-ghost use Rattle.std.specs.Prelude.{◌≡◌, ◌++◌, IfOk, OnOk, OnErr};
+ghost use Rattle.std.specs.Prelude.{◌≡◌, ◌++◌, IfOk, OnOk, OnErr, IsUtf8};
 ghost use Rattle.desk_lines.specs.Lines.{lines_of};
 ghost use Rattle.desk_messages.specs.Transcripts.{transcript, line_of_end, received_text};
 
@@ -18,7 +18,8 @@ fn append_outcomes(
     out: &mut Vec<u8>,
     outcomes: &[(Text, Outcome)],
 ) -> Result<(), AllocError>
-    ensures { OnOk result (out.new.items ≡ out.old.items ++ transcript outcomes.now) }
+    ensures ok { OnOk result (out.new.items ≡ out.old.items ++ transcript outcomes.now) }
+    ensures utf8 { IsUtf8 out.old.items → IsUtf8 out.new.items }
 {
     for entry in outcomes {
         outcome_text(alloc, out, entry.0.as_str(), &entry.1)?;
@@ -40,6 +41,7 @@ fn line_of_end(end: End, lines: &[Text]) -> &str
 }
 
 /// The transcript of a message of these lines, as `received_text` appends it.
+/// It is UTF-8.
 ///
 /// # Errors
 ///
@@ -50,7 +52,8 @@ pub fn received_bytes(
     received: &Received,
     lines: &[Text],
 ) -> Result<Vec<u8>, AllocError>
-    ensures { IfOk result (λ text. text.items ≡ received_text received.now.outcomes received.now.end lines.now) }
+    ensures text { IfOk result (λ text. text.items ≡ received_text received.now.outcomes received.now.end lines.now) }
+    ensures utf8 { IfOk result (λ text. IsUtf8 text.items) }
 {
     let outcomes = received.outcomes.as_slice();
     let mut text = Vec::new(alloc);
@@ -66,6 +69,7 @@ pub fn received_bytes(
 /// Where the message has no line of the number at which the store failed (`receive` never says so),
 /// an empty line is told; 0 is taken for 1.
 /// Where there is no memory, `out` is as before.
+/// The transcript is UTF-8: after UTF-8, `out` is UTF-8.
 pub fn received_text(
     alloc: Global,
     out: &mut Vec<u8>,
@@ -75,6 +79,7 @@ pub fn received_text(
     ensures ok { OnOk result
         (out.new.items ≡ out.old.items ++ received_text received.now.outcomes received.now.end (lines_of message.now)) }
     ensures err { OnErr result (out.new.items ≡ out.old.items) }
+    ensures utf8 { IsUtf8 out.old.items → IsUtf8 out.new.items }
 {
     let lines = split_lines(alloc, message)?;
     let text = received_bytes(alloc, received, lines.as_slice())?;

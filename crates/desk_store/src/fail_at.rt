@@ -62,6 +62,8 @@ impl<S: Records> Records for FailAt<S> {
 
     ghost faults = { λ s. faults_with s.has_failed (S.faults s.inner) };
 
+    ghost next_gives = { λ old new answer. S.next_gives old.inner new.inner answer };
+
     fn set_of(&mut self, number: u64) -> Result<Option<SetImage>, StoreFault>
         ensures answer { Asks S.is_kept S.is_honest self.old.inner self.new.inner
             (Answers (S.desk self.old.inner) (S.desk self.new.inner) result (IsImageOf (S.desk self.old.inner) number)) }
@@ -75,6 +77,7 @@ impl<S: Records> Records for FailAt<S> {
     fn next(&mut self) -> Result<u64, StoreFault>
         ensures answer { Asks S.is_kept S.is_honest self.old.inner self.new.inner
             (Answers (S.desk self.old.inner) (S.desk self.new.inner) result (IsNext (S.desk self.old.inner))) }
+        ensures gives { S.next_gives self.old.inner self.new.inner result }
         ensures count { S.faults self.new.inner ≡ faults_after result (S.faults self.old.inner) }
         ensures left { self.new.left ≡ self.old.left }
         ensures has_failed { self.new.has_failed ≡ self.old.has_failed }

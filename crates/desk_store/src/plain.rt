@@ -51,6 +51,8 @@ impl Records for PlainDesk {
 
     ghost faults = { λ _. no_faults };
 
+    ghost next_gives = { λ old new answer. (new ≡ old) × (answer ≡ Ok old.next) };
+
     fn set_of(&mut self, number: u64) -> Result<Option<SetImage>, StoreFault>
         ensures same { self.new ≡ self.old }
         ensures image { IfOk result (IsImageOf (desk_of self.old.bugs self.old.tree self.old.next) number) }

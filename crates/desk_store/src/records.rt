@@ -1,11 +1,12 @@
 //! What a store of a desk does, whatever keeps the desk.
 
-ghost use Rattle.std.specs.Prelude.{◌≡◌, Option, Result, IfOk};
+ghost use Rattle.std.specs.Prelude.{◌≡◌, ℕ, Option, Result, IfOk};
 ghost use Rattle.bug_record.specs.Sets.{Each};
 ghost use Rattle.bug_record.specs.Desk.{Desk, IsSound};
 ghost use Rattle.bug_record.specs.Images.{AreApart, HasMember, IsSetOf, FitsDesk};
 ghost use Rattle.desk_store.specs.Store.{Holds, Asks, Answers, IsImageOf, IsNext, IsOpenHead, AreWaitingOn, AreListed};
 ghost use Rattle.desk_store.specs.Store.{Applies, Branches, IsRefusal};
+ghost use Rattle.desk_text.specs.declared.outcome.StoreFault.{StoreFault};
 ghost use Rattle.desk_store.specs.Store.{Faults};
 ghost use Rattle.desk_store.specs.Store.{faults_after, total};
 
@@ -33,6 +34,9 @@ pub trait Records {
     /// How often the store has answered `Device`, `Full` and `Foreign`, each up to `u64::MAX`.
     ghost faults: { Self → Faults };
 
+    /// What `next` may answer, and what it leaves of the store.
+    ghost next_gives: { Self → Self → Result ℕ StoreFault → Type 0 };
+
     /// The image of the set that the bug is in; `None` exactly where there is no bug of this
     /// number.
     fn set_of(&mut self, number: u64) -> Result<Option<SetImage>, StoreFault>
@@ -44,6 +48,7 @@ pub trait Records {
     fn next(&mut self) -> Result<u64, StoreFault>
         ensures answer { Asks is_kept is_honest self.old self.new
             (Answers (desk self.old) (desk self.new) result (IsNext (desk self.old))) }
+        ensures gives { next_gives self.old self.new result }
         ensures count { faults self.new ≡ faults_after result (faults self.old) };
 
     /// The first head of the package of a set's bugs, in node order, at which they are still found;

@@ -1,6 +1,6 @@
 //! A store that fails once, at any of its calls, in any way.
 
-ghost use Rattle.std.specs.Prelude.{◌≡◌, ◌||◌, true, false};
+ghost use Rattle.std.specs.Prelude.{◌≡◌, ◌⊎◌, ◌||◌, true, false, Err};
 ghost use Rattle.desk_tests.specs.Fails.{faults_with};
 
 use ancestry::{BranchFault, Node};
@@ -68,6 +68,8 @@ impl<S: Records> Records for Fails<S> {
     ghost is_honest = { λ s. S.is_honest s.inner };
 
     ghost faults = { λ s. faults_with s.has_failed s.fault (S.faults s.inner) };
+
+    ghost next_gives = { λ old new answer. (answer ≡ Err old.fault) ⊎ S.next_gives old.inner new.inner answer };
 
     fn set_of(&mut self, number: u64) -> Result<Option<SetImage>, StoreFault> {
         if self.is_due() {

@@ -1,8 +1,9 @@
 -- Texts that are appended one after another, where the memory may end.
-use Rattle.std.proofs.Common.{◌≡◌, ℕ, ◌+◌, ◌<◌, List, ◌++◌, length, get_or, drop, flat_map, Result, Ok, Err, sym, ap, ◌∙◌}
-use Rattle.std.specs.Prelude.{OnOk, OnErr}
+use Rattle.std.proofs.Common.{◌≡◌, ℕ, ◌+◌, ◌<◌, List, [], ◌++◌, length, get_or, drop, flat_map, Result, Ok, Err, sym, ap, ◌∙◌, subst}
+use Rattle.std.specs.Prelude.{OnOk, OnErr, is_ok, if◌then◌else◌, IsUtf8}
+use Rattle.std.proofs.lemmas.Str.{IsUtf8-append}
 use Rattle.std.specs.Io.{StartsWith}
-use Rattle.std.proofs.lemmas.List.{append_assoc, at_drop_more}
+use Rattle.std.proofs.lemmas.List.{append_assoc, append-nil, at_drop_more}
 use Rattle.std.proofs.Transfers.{starts_with_of_append, starts_with_trans}
 
 -- a text and one more
@@ -41,3 +42,13 @@ module _ {T E : Type 0} where
   pub within_err : (r : Result T E) (a x b c : List ℕ) → b ≡ a ++ x → OnErr r (StartsWith c b) → OnErr r (StartsWith c a)
   within_err (Ok v) a x b c e f = tt
   within_err (Err v) a x b c e f = starts_with_trans c b a f (starts_with_of_append b a x e)
+
+  -- a text after UTF-8, or nothing
+  pub utf8_more : (r : Result T E) (a x b : List ℕ) → b ≡ (if is_ok r then a ++ x else a) → IsUtf8 x → IsUtf8 a → IsUtf8 b
+  utf8_more (Ok v) a x b e of_x of_a = subst IsUtf8 (sym e) (IsUtf8-append a x of_a of_x)
+  utf8_more (Err v) a x b e of_x of_a = subst IsUtf8 (sym e) of_a
+
+  -- nothing after the last of two
+  pub nothing_after : (r : Result T E) (a x y b : List ℕ) → OnOk r (b ≡ a ++ (x ++ (y ++ []))) → OnOk r (b ≡ a ++ (x ++ y))
+  nothing_after (Ok v) a x y b e = e ∙ ap (λ w. a ++ (x ++ w)) (append-nil y)
+  nothing_after (Err v) a x y b e = tt

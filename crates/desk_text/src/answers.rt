@@ -1,13 +1,14 @@
 //! The answers to the directives of a script.
 
-ghost use Rattle.std.specs.Prelude.{◌≡◌, ◌++◌, IfOk, codes, decimal};
+ghost use Rattle.std.specs.Prelude.{◌≡◌, ◌++◌, IfOk, codes, decimal, string_bytes};
 ghost use Rattle.desk_text.specs.Texts.{as_line, fault_text};
 ghost use Rattle.desk_text.specs.Answers.{refused_line, report_answer, branch_answer, bad_version_answer, bad_package_answer};
-ghost use Rattle.desk_text.specs.Answers.{no_bug_answer, bad_directive_answer};
+ghost use Rattle.desk_text.specs.Answers.{no_bug_answer, bad_directive_answer, report_refusal, nodes_refusal};
 
 use crate::outcome::{ReportFault, StoreFault};
 use crate::texts::{append_number, fault_text, full_text};
 use ancestry::BranchFault;
+use itoa::Buffer;
 use std::alloc::{AllocError, Global};
 
 // The bytes that a short answer has room for at once.
@@ -23,7 +24,7 @@ fn refused_line(alloc: Global, why: &str) -> Result<Vec<u8>, AllocError>
     Ok(line)
 }
 
-// The refusal of a node, by its place, or of a bug, by its number.
+// The refusal of a bug, by its number.
 fn refused_at(alloc: Global, why: &str, number: u64) -> Result<Vec<u8>, AllocError>
     ensures { IfOk result (λ line. line.items ≡ refused_line (why.now ++ decimal number)) }
 {
@@ -58,6 +59,20 @@ pub fn fault_answer(alloc: Global, fault: StoreFault) -> Result<Vec<u8>, AllocEr
     Ok(line)
 }
 
+/// Why a report is refused; nothing of a fault of the store.
+pub fn report_refusal(fault: ReportFault) -> &'static str
+    ensures { result.now ≡ report_refusal fault }
+{
+    match fault {
+        ReportFault::BadPackage => "bad package name",
+        ReportFault::BadVersion => "bad version",
+        ReportFault::BadSeverity => "unknown severity",
+        ReportFault::BadTitle => "bad title",
+        ReportFault::Full => full_text(),
+        ReportFault::Store(_) => "",
+    }
+}
+
 /// The line that answers a report: its number, the refusal, or the fault of the store.
 ///
 /// # Errors
@@ -71,13 +86,44 @@ pub fn report_answer(
 {
     match answer {
         Ok(number) => number_line(alloc, *number),
-        Err(ReportFault::BadPackage) => refused_line(alloc, "bad package name"),
-        Err(ReportFault::BadVersion) => refused_line(alloc, "bad version"),
-        Err(ReportFault::BadSeverity) => refused_line(alloc, "unknown severity"),
-        Err(ReportFault::BadTitle) => refused_line(alloc, "bad title"),
-        Err(ReportFault::Full) => refused_line(alloc, full_text()),
         Err(ReportFault::Store(fault)) => fault_answer(alloc, *fault),
+        Err(refusal) => refused_line(alloc, report_refusal(*refusal)),
     }
+}
+
+// A text and a place.
+fn text_at(alloc: Global, text: &str, place: usize) -> Result<String, AllocError>
+    ensures { IfOk result (λ made. string_bytes made ≡ text.now ++ decimal place) }
+{
+    let mut made = String::from_str(alloc, text)?;
+    made.push_str(Buffer::new().format(place as u64))?;
+    Ok(made)
+}
+
+/// Why a branch of nodes is refused; nothing where it was for being out of memory, for which no
+/// store refuses one.
+///
+/// # Errors
+///
+/// Where there is no memory.
+pub fn nodes_refusal(alloc: Global, fault: BranchFault) -> Result<String, AllocError>
+    ensures { IfOk result (λ text. string_bytes text ≡ nodes_refusal fault) }
+{
+    match fault {
+        BranchFault::EmptyBranch => String::from_str(alloc, "empty branch"),
+        BranchFault::TooLong => String::from_str(alloc, "more than 200 versions"),
+        BranchFault::Repeated(place) => text_at(alloc, "repeated version at ", place),
+        BranchFault::Conflict(place) => text_at(alloc, "conflict at ", place),
+        BranchFault::Memory => Ok(String::new(alloc)),
+    }
+}
+
+// The line of a refusal of a branch.
+fn refused_branch(alloc: Global, fault: BranchFault) -> Result<Vec<u8>, AllocError>
+    ensures { IfOk result (λ line. line.items ≡ refused_line (nodes_refusal fault)) }
+{
+    let why = nodes_refusal(alloc, fault)?;
+    refused_line(alloc, why.as_str())
 }
 
 /// The line that answers a branch whose words are nodes: `OK`, the refusal, or the fault of the
@@ -94,15 +140,7 @@ pub fn branch_answer(
 {
     match answer {
         Ok(Ok(())) => Vec::from_slice(alloc, b"OK\n"),
-        Ok(Err(BranchFault::EmptyBranch)) => refused_line(alloc, "empty branch"),
-        Ok(Err(BranchFault::TooLong)) => refused_line(alloc, "more than 200 versions"),
-        Ok(Err(BranchFault::Repeated(place))) => refused_at(
-            alloc,
-            "repeated version at ",
-            *place as u64,
-        ),
-        Ok(Err(BranchFault::Conflict(place))) => refused_at(alloc, "conflict at ", *place as u64),
-        Ok(Err(BranchFault::Memory)) => refused_line(alloc, ""),
+        Ok(Err(refusal)) => refused_branch(alloc, *refusal),
         Err(fault) => fault_answer(alloc, *fault),
     }
 }

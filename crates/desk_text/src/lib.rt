@@ -9,7 +9,7 @@ mod texts;
 
 pub use answers::{
     bad_directive_answer, bad_package_answer, bad_version_answer, branch_answer, fault_answer,
-    no_bug_answer, report_answer,
+    no_bug_answer, nodes_refusal, report_answer, report_refusal,
 };
 pub use lists::{ListRow, list_text};
 pub use outcome::{End, Outcome, ReportFault, StoreFault};

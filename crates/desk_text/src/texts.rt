@@ -1,6 +1,6 @@
 //! The texts of outcomes and ends, appended to a transcript.
 
-ghost use Rattle.std.specs.Prelude.{◌≡◌, [], ◌++◌, IsOk, OnOk, OnErr, codes, decimal};
+ghost use Rattle.std.specs.Prelude.{◌≡◌, [], ◌++◌, IsOk, OnOk, OnErr, IsUtf8, codes, decimal};
 ghost use Rattle.std.specs.Io.{StartsWith};
 ghost use Rattle.ancestry.specs.Nodes.{node_text};
 ghost use Rattle.desk_text.specs.Texts.{full_text, said_of_bug, still_found_text};
@@ -36,6 +36,7 @@ pub(crate) fn full_text() -> &'static str
 pub(crate) fn append_text(out: &mut Vec<u8>, text: &str) -> Result<(), AllocError>
     ensures ok { OnOk result (out.new.items ≡ out.old.items ++ text.now) }
     ensures err { OnErr result (out.new.items ≡ out.old.items) }
+    ensures utf8 { IsUtf8 out.old.items → IsUtf8 out.new.items }
 {
     out.extend_from_slice(text.as_bytes())
 }
@@ -43,6 +44,7 @@ pub(crate) fn append_text(out: &mut Vec<u8>, text: &str) -> Result<(), AllocErro
 pub(crate) fn append_number(out: &mut Vec<u8>, number: u64) -> Result<(), AllocError>
     ensures ok { OnOk result (out.new.items ≡ out.old.items ++ decimal number) }
     ensures err { OnErr result (out.new.items ≡ out.old.items) }
+    ensures utf8 { IsUtf8 out.old.items → IsUtf8 out.new.items }
 {
     append_text(out, Buffer::new().format(number))
 }
@@ -56,6 +58,7 @@ fn append_between(
 ) -> Result<(), AllocError>
     ensures ok { OnOk result (out.new.items ≡ out.old.items ++ (before.now ++ (decimal number ++ after.now))) }
     ensures err { OnErr result (StartsWith out.new.items out.old.items) }
+    ensures utf8 { IsUtf8 out.old.items → IsUtf8 out.new.items }
 {
     append_text(out, before)?;
     append_number(out, number)?;
@@ -67,6 +70,7 @@ fn append_between(
 fn append_of_bug(out: &mut Vec<u8>, number: u64, said: &str) -> Result<(), AllocError>
     ensures ok { OnOk result (out.new.items ≡ out.old.items ++ said_of_bug number said.now) }
     ensures err { OnErr result (StartsWith out.new.items out.old.items) }
+    ensures utf8 { IsUtf8 out.old.items → IsUtf8 out.new.items }
 {
     append_between(out, "bug ", number, said)
 }
@@ -75,6 +79,7 @@ fn append_of_bug(out: &mut Vec<u8>, number: u64, said: &str) -> Result<(), Alloc
 pub(crate) fn append_node(out: &mut Vec<u8>, node: &Node) -> Result<(), AllocError>
     ensures ok { OnOk result (out.new.items ≡ out.old.items ++ node_text node.now) }
     ensures err { OnErr result (StartsWith out.new.items out.old.items) }
+    ensures utf8 { IsUtf8 out.old.items → IsUtf8 out.new.items }
 {
     append_text(out, node.source())?;
     append_text(out, "/")?;
@@ -86,6 +91,7 @@ pub(crate) fn append_node(out: &mut Vec<u8>, node: &Node) -> Result<(), AllocErr
 fn append_still_found(out: &mut Vec<u8>, node: &Node) -> Result<(), AllocError>
     ensures ok { OnOk result (out.new.items ≡ out.old.items ++ still_found_text node.now) }
     ensures err { OnErr result (StartsWith out.new.items out.old.items) }
+    ensures utf8 { IsUtf8 out.old.items → IsUtf8 out.new.items }
 {
     append_text(out, "still found in ")?;
     append_node(out, node)
@@ -95,6 +101,7 @@ fn append_still_found(out: &mut Vec<u8>, node: &Node) -> Result<(), AllocError>
 fn append_refusal(out: &mut Vec<u8>, refusal: &Refusal) -> Result<(), AllocError>
     ensures ok { OnOk result (out.new.items ≡ out.old.items ++ refusal_text refusal.now) }
     ensures err { OnErr result (StartsWith out.new.items out.old.items) }
+    ensures utf8 { IsUtf8 out.old.items → IsUtf8 out.new.items }
 {
     match refusal {
         Refusal::Unknown => append_text(out, "unknown command"),
@@ -123,6 +130,7 @@ fn append_refusal(out: &mut Vec<u8>, refusal: &Refusal) -> Result<(), AllocError
 pub(crate) fn append_numbers(out: &mut Vec<u8>, numbers: &[u64]) -> Result<(), AllocError>
     ensures ok { OnOk result (out.new.items ≡ out.old.items ++ numbers_text numbers.now) }
     ensures err { OnErr result (StartsWith out.new.items out.old.items) }
+    ensures utf8 { IsUtf8 out.old.items → IsUtf8 out.new.items }
 {
     for number in numbers {
         append_text(out, " ")?;
@@ -134,6 +142,7 @@ pub(crate) fn append_numbers(out: &mut Vec<u8>, numbers: &[u64]) -> Result<(), A
 fn append_changed(out: &mut Vec<u8>, numbers: &[u64]) -> Result<(), AllocError>
     ensures ok { OnOk result (out.new.items ≡ out.old.items ++ changed_text numbers.now) }
     ensures err { OnErr result (StartsWith out.new.items out.old.items) }
+    ensures utf8 { IsUtf8 out.old.items → IsUtf8 out.new.items }
 {
     if numbers.is_empty() {
         return append_text(out, "OK, no change.");
@@ -145,6 +154,7 @@ fn append_changed(out: &mut Vec<u8>, numbers: &[u64]) -> Result<(), AllocError>
 fn append_answer(out: &mut Vec<u8>, outcome: &Outcome) -> Result<(), AllocError>
     ensures ok { OnOk result (out.new.items ≡ out.old.items ++ answer_text outcome.now) }
     ensures err { OnErr result (StartsWith out.new.items out.old.items) }
+    ensures utf8 { IsUtf8 out.old.items → IsUtf8 out.new.items }
 {
     match outcome {
         Outcome::Changed(numbers) => append_changed(out, numbers.as_slice()),
@@ -160,6 +170,7 @@ fn append_answer(out: &mut Vec<u8>, outcome: &Outcome) -> Result<(), AllocError>
 fn append_echo(out: &mut Vec<u8>, line: &str) -> Result<(), AllocError>
     ensures ok { OnOk result (out.new.items ≡ out.old.items ++ as_line (echo line.now)) }
     ensures err { OnErr result (StartsWith out.new.items out.old.items) }
+    ensures utf8 { IsUtf8 out.old.items → IsUtf8 out.new.items }
 {
     append_text(out, "> ")?;
     append_text(out, line)?;
@@ -169,6 +180,7 @@ fn append_echo(out: &mut Vec<u8>, line: &str) -> Result<(), AllocError>
 fn append_outcome(out: &mut Vec<u8>, line: &str, outcome: &Outcome) -> Result<(), AllocError>
     ensures ok { OnOk result (out.new.items ≡ out.old.items ++ outcome_text line.now outcome.now) }
     ensures err { OnErr result (StartsWith out.new.items out.old.items) }
+    ensures utf8 { IsUtf8 out.old.items → IsUtf8 out.new.items }
 {
     append_echo(out, line)?;
     append_answer(out, outcome)?;
@@ -190,6 +202,7 @@ fn fault_word(fault: StoreFault) -> &'static str
 fn append_fault(out: &mut Vec<u8>, fault: StoreFault) -> Result<(), AllocError>
     ensures ok { OnOk result (out.new.items ≡ out.old.items ++ fault_text fault) }
     ensures err { OnErr result (StartsWith out.new.items out.old.items) }
+    ensures utf8 { IsUtf8 out.old.items → IsUtf8 out.new.items }
 {
     append_text(out, "Store fault: ")?;
     append_text(out, fault_word(fault))?;
@@ -200,6 +213,7 @@ fn append_fault(out: &mut Vec<u8>, fault: StoreFault) -> Result<(), AllocError>
 fn append_store_end(out: &mut Vec<u8>, fault: StoreFault, line: &str) -> Result<(), AllocError>
     ensures ok { OnOk result (out.new.items ≡ out.old.items ++ store_end_text fault line.now) }
     ensures err { OnErr result (StartsWith out.new.items out.old.items) }
+    ensures utf8 { IsUtf8 out.old.items → IsUtf8 out.new.items }
 {
     append_echo(out, line)?;
     append_fault(out, fault)
@@ -207,6 +221,7 @@ fn append_store_end(out: &mut Vec<u8>, fault: StoreFault, line: &str) -> Result<
 
 /// Appends the two lines of an outcome: `> ` and the line as it was written, then the answer.
 /// Where there is no memory, `out` is as before.
+/// What is appended is UTF-8.
 pub fn outcome_text(
     alloc: Global,
     out: &mut Vec<u8>,
@@ -215,6 +230,7 @@ pub fn outcome_text(
 ) -> Result<(), AllocError>
     ensures ok { OnOk result (out.new.items ≡ out.old.items ++ outcome_text line.now outcome.now) }
     ensures err { OnErr result (out.new.items ≡ out.old.items) }
+    ensures utf8 { IsUtf8 out.old.items → IsUtf8 out.new.items }
 {
     let before = out.len();
     let done = append_outcome(out, line, outcome);
@@ -226,9 +242,11 @@ pub fn outcome_text(
 
 /// Appends the line of a store fault.
 /// Where there is no memory, `out` is as before.
+/// What is appended is UTF-8.
 pub fn fault_text(alloc: Global, out: &mut Vec<u8>, fault: StoreFault) -> Result<(), AllocError>
     ensures ok { OnOk result (out.new.items ≡ out.old.items ++ fault_text fault) }
     ensures err { OnErr result (out.new.items ≡ out.old.items) }
+    ensures utf8 { IsUtf8 out.old.items → IsUtf8 out.new.items }
 {
     let before = out.len();
     let done = append_fault(out, fault);
@@ -241,6 +259,7 @@ pub fn fault_text(alloc: Global, out: &mut Vec<u8>, fault: StoreFault) -> Result
 fn store_end_text(out: &mut Vec<u8>, fault: StoreFault, line: &str) -> Result<(), AllocError>
     ensures ok { OnOk result (out.new.items ≡ out.old.items ++ store_end_text fault line.now) }
     ensures err { OnErr result (out.new.items ≡ out.old.items) }
+    ensures utf8 { IsUtf8 out.old.items → IsUtf8 out.new.items }
 {
     let before = out.len();
     let done = append_store_end(out, fault, line);
@@ -256,9 +275,11 @@ fn store_end_text(out: &mut Vec<u8>, fault: StoreFault, line: &str) -> Result<()
 /// `line` is looked at for a store fault alone.
 /// Where there is no memory, `out` is as before.
 /// An end that appends nothing takes no memory.
+/// What is appended is UTF-8.
 pub fn end_text(alloc: Global, out: &mut Vec<u8>, end: End, line: &str) -> Result<(), AllocError>
     ensures ok { OnOk result (out.new.items ≡ out.old.items ++ end_text end line.now) }
     ensures err { OnErr result (out.new.items ≡ out.old.items) }
+    ensures utf8 { IsUtf8 out.old.items → IsUtf8 out.new.items }
     ensures nothing { end_text end line.now ≡ [] → IsOk result }
 {
     match end {

@@ -4,7 +4,7 @@ use Rattle.std.proofs.lemmas.Grind.{common_steps}
 use Rattle.std.proofs.lemmas.List.{drop-drop}
 use Rattle.std.proofs.lemmas.Result.{err_from_is_err_and}
 use Rattle.desk_lines.specs.Buffered.{Buffered}
-use Rattle.desk_lines.specs.Reading.{IsFirstFeed}
+use Rattle.desk_lines.specs.Pieces.{IsFirstFeed}
 use Rattle.desk_lines.proofs.ReadingLemmas.{line_ended, last_ended, all_taken, all_free, rest_too_long, piece_too_long}
 use Rattle.desk_lines.proofs.source.gather.Goals as goal
 

@@ -3,7 +3,7 @@ use Rattle.std.specs.Str.{IsUtf8}
 use Rattle.std.proofs.lemmas.Result.{err_from_is_err_and}
 use Rattle.desk_lines.specs.Buffered.{Buffered}
 use Rattle.desk_lines.specs.Lines.{without_return}
-use Rattle.desk_lines.specs.Reading.{IsFirstFeed, IsTextFault}
+use Rattle.desk_lines.specs.Pieces.{IsFirstFeed, IsTextFault}
 use Rattle.desk_lines.proofs.ReadingLemmas.{line_at_hand, fault_at_hand, piece_left, fault_left, on_ok}
 use Rattle.desk_lines.proofs.source.next_line.Goals as goal
 

@@ -1,8 +1,8 @@
-use Rattle.std.proofs.Common.{rules, ◌∙◌, sym, ap}
+use Rattle.std.proofs.Common.{rules, ◌∙◌, sym, ap, refl, Ok, Err}
 use Rattle.bug_record.specs.Desk.{Desk}
 use Rattle.bug_record.specs.Steps.{reported}
 use Rattle.desk_store.proofs.HoldsLemmas.{holds_none, holds_weaker, holds_both, holds_where}
-use Rattle.desk_messages.proofs.ReportLemmas.{words_refused, words_not_counted, report_full, report_done}
+use Rattle.desk_messages.proofs.ReportLemmas.{words_refused, words_not_counted, report_full, report_done, asks_not, asks_first, some_left}
 use Rattle.desk_messages.proofs.reporting.report.Goals as goal
 
 pub returns-in-Err-clause-answer : goal.returns-in-Err-clause-answer
@@ -39,3 +39,36 @@ returns-in-Ok-apply-clause-answer g c =
 
 pub returns-then-next-ge1000000000-clause-count : goal.returns-then-next-ge1000000000-clause-count
 returns-then-next-ge1000000000-clause-count g c = search rules
+
+pub returns-in-Err-clause-first : goal.returns-in-Err-clause-first
+returns-in-Err-clause-first g c = asks_not g.S.Records.next_gives _ _ c.in-Err.fault _ c.in-Err.ensures.value
+
+pub returns-in-Err-next-clause-first : goal.returns-in-Err-next-clause-first
+returns-in-Err-next-clause-first g c =
+    asks_first g.S.Records.next_gives _ _ _ c.in-Ok.severity (Err c.in-Err-next.fault) _ c.in-Ok.ensures.value
+    c.in-Err-next.ensures.gives refl
+
+pub returns-then-next-ge1000000000-clause-first : goal.returns-then-next-ge1000000000-clause-first
+returns-then-next-ge1000000000-clause-first g c =
+    asks_first g.S.Records.next_gives _ _ _ c.in-Ok.severity (Ok c.in-Ok-next.next) _ c.in-Ok.ensures.value
+    c.in-Ok-next.ensures.gives (λ many. refl)
+
+pub returns-in-Err-node_reported-clause-first : goal.returns-in-Err-node_reported-clause-first
+returns-in-Err-node_reported-clause-first g c =
+    asks_first g.S.Records.next_gives _ _ _ c.in-Ok.severity (Ok c.in-Ok-next.next) _ c.in-Ok.ensures.value
+    c.in-Ok-next.ensures.gives (some_left c.in-Ok-next.next _ c.if-next-ge1000000000.false)
+
+pub returns-in_default-clause-first : goal.returns-in_default-clause-first
+returns-in_default-clause-first g c =
+    asks_first g.S.Records.next_gives _ _ _ c.in-Ok.severity (Ok c.in-Ok-next.next) _ c.in-Ok.ensures.value
+    c.in-Ok-next.ensures.gives (some_left c.in-Ok-next.next _ c.if-next-ge1000000000.false)
+
+pub returns-in-Ok-apply-clause-first : goal.returns-in-Ok-apply-clause-first
+returns-in-Ok-apply-clause-first g c =
+    asks_first g.S.Records.next_gives _ _ _ c.in-Ok.severity (Ok c.in-Ok-next.next) _ c.in-Ok.ensures.value
+    c.in-Ok-next.ensures.gives (some_left c.in-Ok-next.next _ c.if-next-ge1000000000.false)
+
+pub returns-clause-first : goal.returns-clause-first
+returns-clause-first g c =
+    asks_first g.S.Records.next_gives _ _ _ c.in-Ok.severity (Ok c.in-Ok-next.next) _ c.in-Ok.ensures.value
+    c.in-Ok-next.ensures.gives (some_left c.in-Ok-next.next _ c.if-next-ge1000000000.false)

@@ -12,4 +12,5 @@ loop-number-preserved c =
     record {
       text = next (λ k. 32 ∷ decimal k) ns l.number-index 0 n l.out.items _ _ c.loop-number-test.true refl l.invariant.text e;
       front = front_more c.args.out.now.items l.out.items _ (32 ∷ decimal n) l.invariant.front e;
+      utf8 = λ u. c.in_ok-append_number.ensures.utf8 (c.in_ok-append_text.ensures.utf8 (l.invariant.utf8 u));
     }

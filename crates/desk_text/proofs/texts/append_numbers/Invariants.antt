@@ -1,4 +1,5 @@
 use Rattle.std.proofs.Common.{◌≡◌, ◌++◌, drop}
+use Rattle.std.specs.Prelude.{IsUtf8}
 use Rattle.std.specs.Io.{StartsWith}
 use Rattle.desk_text.specs.Texts.{numbers_text}
 use Rattle.desk_text.proofs.texts.append_numbers.Given as goal
@@ -7,4 +8,5 @@ abbrev pub invariant-loop-number : goal.invariant-loop-number
 invariant-loop-number l = record {
   text : l.out.items ++ numbers_text (drop l.number-index l.numbers) ≡ l.fn.out.items ++ numbers_text l.numbers;
   front : StartsWith l.out.items l.fn.out.items;
+  utf8 : IsUtf8 l.fn.out.items → IsUtf8 l.out.items;
 }
