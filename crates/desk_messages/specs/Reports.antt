@@ -5,6 +5,7 @@ use Rattle.std.specs.Prelude.{if◌then◌else◌, ⊤}
 use Rattle.debver.specs.Names.{name_fault}
 use Rattle.debver.specs.Faults.{text_fault}
 use Rattle.ancestry.specs.Nodes.{Node, node}
+use Rattle.line_words.specs.declared.named.TheConstants.{AFTER_LARGEST}
 use Rattle.bug_record.specs.Texts.{is_text}
 use Rattle.bug_record.specs.Severities.{severity_of}
 use Rattle.bug_record.specs.Desk.{Desk}
@@ -48,7 +49,7 @@ abbrev pub desk_reported : Result Severity ReportFault → Desk → List ℕ →
     → Result Desk ReportFault
 desk_reported (Err fault) d sender package_name version title = Err fault
 desk_reported (Ok severity) d sender package_name version title =
-    if nat_lt d.next 1000000000 then Ok (reported d sender package_name severity title (node_reported package_name version))
+    if nat_lt d.next AFTER_LARGEST then Ok (reported d sender package_name severity title (node_reported package_name version))
     else Err Full
 
 -- the new desk, or the refusal, of a report by this sender
@@ -76,7 +77,7 @@ faults_after_report (Err refusal) faults = faults
 -- for the next number: its fault, or `Full` where no number is left.
 abbrev pub FollowsNext : Result ℕ StoreFault → Result ℕ ReportFault → Type 0
 FollowsNext (Err fault) answer = answer ≡ Err (Store fault)
-FollowsNext (Ok next) answer = 1000000000 ≤ next → answer ≡ Err Full
+FollowsNext (Ok next) answer = AFTER_LARGEST ≤ next → answer ≡ Err Full
 
 -- The store was asked for the next number, before anything that may meet a want of memory.
 pub record AsksForNext {S : Type 0} (next_gives : S → S → Result ℕ StoreFault → Type 0) (old : S) (answer : Result ℕ ReportFault) :

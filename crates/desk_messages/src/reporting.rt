@@ -15,6 +15,7 @@ use bug_record::Severity;
 use debver::{check, check_name};
 use desk_store::Records;
 use desk_text::{ReportFault, StoreFault};
+use line_words::AFTER_LARGEST;
 use std::alloc::Global;
 
 fn has_bad_version(version: Option<&str>) -> bool
@@ -120,7 +121,7 @@ pub fn report<S: Records>(
         Ok(next) => next,
         Err(fault) => return Err(ReportFault::Store(fault)),
     };
-    if next >= 1_000_000_000 {
+    if next >= AFTER_LARGEST {
         return Err(ReportFault::Full);
     }
     let node = match node_reported(alloc, package, version) {

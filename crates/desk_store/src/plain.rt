@@ -2,6 +2,7 @@
 
 ghost use Rattle.std.specs.Prelude.{◌≡◌, ◌≤◌, None, Ok, IfOk, IfErr, OnOk, OnErr};
 ghost use Rattle.std.specs.Option.{option_and_then, option_copied};
+ghost use Rattle.line_words.specs.declared.named.TheConstants.{LARGEST_NUMBER};
 ghost use Rattle.bug_record.specs.Desk.{IsSound};
 ghost use Rattle.bug_record.specs.Images.{AreApart, FitsDesk, put};
 ghost use Rattle.bug_record.proofs.SoundProp.{IsSound-prop};
@@ -30,7 +31,7 @@ impl PlainDesk {
     /// It takes no memory.
     pub fn new(alloc: Global, first: u64) -> PlainDesk
         requires some { 1 ≤ first }
-        requires few { first ≤ 999999999 }
+        requires few { first ≤ LARGEST_NUMBER }
         ensures { desk_of result.bugs result.tree result.next ≡ empty_desk first }
     {
         PlainDesk {
