@@ -19,7 +19,8 @@ use Rattle.desk_store.specs.Store.{Branches, Faults, counted, faults_after}
 use Rattle.desk_run.specs.Branches.{BranchRefusal, BadNode, node_before, nodes_of, or_refused, branched_by, branch_of, AreRead}
 use Rattle.desk_run.specs.Script.{DirectiveLine, Branch, Standing, standing, part_text, part_after, directive_of, branch_text}
 use Rattle.desk_run.specs.Script.{after_branch}
-use Rattle.desk_run.specs.Running.{AsksStore, FaultsIn, IsCarried}
+use Rattle.desk_run.specs.Running.{AsksStore, FaultsIn}
+use Rattle.desk_run.proofs.WrittenLemmas.{Carried}
 use Rattle.desk_text.specs.Answers.{branch_answer}
 use Rattle.desk_run.specs.Answers.{refuses_branch, fault_of_branch}
 use Rattle.desk_run.proofs.PartLemmas.{order_is}
@@ -76,7 +77,7 @@ branch_fault line names nodes s d (Err told) fault e n f h =
 pub branch_carried : (line : List ℕ) (names : List (List ℕ)) (nodes : List Node) (s : Standing) (d : Desk) (n0 n1 : Faults)
     (answer : Result (Result (Unit {0}) BranchFault) StoreFault) → directive_of line ≡ Branch names
     → nodes_of names ≡ Some nodes → n1 ≡ faults_after answer n0
-    → Branches s.desk d answer nodes → IsCarried (DirectiveLine line) s d n0 n1 (branch_answer answer)
+    → Branches s.desk d answer nodes → Carried (DirectiveLine line) s d n0 n1 (branch_answer answer)
 branch_carried line names nodes s d n0 n1 (Ok answer) e n counted h =
     let w = branch_whole line names nodes s d (Ok answer) (s.refused || refuses_branch (Ok answer)) e n refl refl h in
     inl (ap (λ (x : Standing). x.desk) w.0, w.1, counted)

@@ -17,14 +17,15 @@ use Rattle.desk_messages.specs.Reports.{report_of, IsReported, faults_after_repo
 use Rattle.desk_run.specs.Script.{Part, Message, DirectiveLine, Directive, Report, Standing, standing, part_text, part_after}
 use Rattle.desk_run.specs.Script.{message_text, after_message, refuses, directive_of, directive_text, after_directive}
 use Rattle.desk_run.specs.Script.{report_text, after_report}
-use Rattle.desk_run.specs.Running.{AsksStore, FaultsIn, IsCarried, StopsIn, Carries}
+use Rattle.desk_run.specs.Running.{AsksStore, FaultsIn, StopsIn}
+use Rattle.desk_run.specs.Carrying.{Carries}
 use Rattle.desk_text.specs.Answers.{report_answer}
 use Rattle.desk_run.specs.Answers.{fault_of_end, store_fault}
 use Rattle.desk_text.specs.declared.outcome.ReportFault.{ReportFault}
 use Rattle.desk_text.specs.declared.outcome.ReportFault.TheVariants as reports
 use Rattle.desk_lines.specs.declared.fault.ScriptFault.{ScriptFault}
 use Rattle.desk_lines.specs.declared.fault.ScriptFault.TheVariants as stops
-use Rattle.desk_run.proofs.WrittenLemmas.{appends_none}
+use Rattle.desk_run.proofs.WrittenLemmas.{appends_none, course, Carried}
 
 -- what a message comes to
 message_is : (lines : List (List ℕ)) (s : Standing) (m : Machine) → after_lines s.sender (at_start s.desk) lines ≡ m
@@ -43,7 +44,7 @@ message_whole lines s outcomes end d h =
     )
 
 carried_whole : (lines : List (List ℕ)) (s : Standing) (outcomes : List Entry) (end : End) (d : Desk) (n0 n1 : Faults) → n1 ≡ n0
-    → Comes s.sender lines s.desk outcomes end d → IsCarried (Message lines) s d n0 n1 (received_text outcomes end lines)
+    → Comes s.sender lines s.desk outcomes end d → Carried (Message lines) s d n0 n1 (received_text outcomes end lines)
 carried_whole lines s outcomes end d n0 n1 n h =
     let w = message_whole lines s outcomes end d h in
     inl (sym (ap (λ (x : Standing). x.desk) w.1), sym w.0, n)
@@ -51,7 +52,7 @@ carried_whole lines s outcomes end d n0 n1 n h =
 -- a message that was received is carried out, whole or up to a fault
 pub received_carried : (lines : List (List ℕ)) (s : Standing) (outcomes : List Entry) (end : End) (d : Desk) (n0 n1 : Faults)
     → n1 ≡ faults_after_end end n0 → IsReceived s.sender lines s.desk outcomes end d
-    → IsCarried (Message lines) s d n0 n1 (received_text outcomes end lines)
+    → Carried (Message lines) s d n0 n1 (received_text outcomes end lines)
 received_carried lines s outcomes ends.All d n0 n1 n h = carried_whole lines s outcomes ends.All d n0 n1 n h
 received_carried lines s outcomes ends.Stopped d n0 n1 n h = carried_whole lines s outcomes ends.Stopped d n0 n1 n h
 received_carried lines s outcomes ends.TooManyUnreadable d n0 n1 n h =
@@ -105,7 +106,7 @@ order_done line s b c0 c1 text directive e f t h =
 pub order_unwritten : (line : List ℕ) (s : Standing) (d : Desk) (faults : Faults) (c0 c1 : Option (List ℕ)) (text : List ℕ)
     (n : ℕ) (directive : Directive) → directive ≡ directive_of line → d ≡ (after_directive directive s).desk
     → text ≡ directive_text directive s → n < length text → Appends c0 c1 (take n text)
-    → StopsIn (DirectiveLine line) s d faults faults c0 c1 stops.Write
+    → StopsIn (DirectiveLine line) (course s d faults faults c0 c1) stops.Write
 order_unwritten line s d faults c0 c1 text n directive e f t few h =
     let o = order_is line s directive (sym e) in
     (text, n, few, inl (f ∙ sym (ap (λ (x : Standing). x.desk) o.1), t ∙ sym o.0, refl), h)
@@ -121,24 +122,24 @@ pub order_refused : (line : List ℕ) (s : Standing) (sender : List ℕ) (refuse
     → text ≡ directive_text directive s
     → OnOk r (Appends c0 c1 text) → OnErr r ((n : ℕ) × (n < length text) × Appends c0 c1 (take n text))
     → OnErr r (r ≡ Err stops.Write) → OnOk r (refused ≡ true) → sender ≡ s.sender
-    → Carries (DirectiveLine line) s (standing s.desk sender refused) faults faults c0 c1 r
+    → Carries (DirectiveLine line) sender refused (course s s.desk faults faults c0 c1) r
 order_refused line s sender refused faults c0 c1 text directive (Ok done) e after t all some write told same =
     order_done line s (standing s.desk sender refused) c0 c1 text directive e
     ((λ i. standing s.desk (same i) (told i)) ∙ sym after) t all
 order_refused line s sender refused faults c0 c1 text directive (Err fault) e after t all some write told same =
-    subst (λ (f : ScriptFault). StopsIn (DirectiveLine line) s s.desk faults faults c0 c1 f) (sym (ap (fault_of fault) write))
+    subst (λ (f : ScriptFault). StopsIn (DirectiveLine line) (course s s.desk faults faults c0 c1) f) (sym (ap (fault_of fault) write))
     (order_unwritten line s s.desk faults c0 c1 text some.0 directive e (ap (λ (x : Standing). x.desk) (sym after)) t some.1
     some.2)
 
 -- out of memory before anything was done
 pub not_begun : (part : Part) (s : Standing) (d : Desk) (n0 n1 : Faults) (c : Option (List ℕ)) → d ≡ s.desk → n1 ≡ n0
-    → StopsIn part s d n0 n1 c c stops.Memory
-not_begun part s d n0 n1 c e n = (inl (e, n), appends_none c)
+    → StopsIn part (course s d n0 n1 c c) stops.Memory
+not_begun part s d n0 n1 c e n = inl (e, n, appends_none c)
 
 -- out of memory for the text of what was done
 pub untold : (part : Part) (s : Standing) (d : Desk) (n0 n1 : Faults) (c : Option (List ℕ)) (text : List ℕ)
-    → IsCarried part s d n0 n1 text → StopsIn part s d n0 n1 c c stops.Memory
-untold part s d n0 n1 c text h = (inr (text, h), appends_none c)
+    → Carried part s d n0 n1 text → StopsIn part (course s d n0 n1 c c) stops.Memory
+untold part s d n0 n1 c text h = inr (text, h, appends_none c)
 
 -- what a report comes to
 report_is : (line p : List ℕ) (v : Option (List ℕ)) (sev t : List ℕ) (s : Standing) (r : Result Desk ReportFault)
@@ -154,7 +155,7 @@ report_is line p v sev t s r e h =
 refused_carried : (line p : List ℕ) (v : Option (List ℕ)) (sev t : List ℕ) (s : Standing) (d : Desk) (n0 n1 : Faults)
     (fault : ReportFault) → directive_of line ≡ Report p v sev t
     → n1 ≡ n0 → (report_of s.desk s.sender p v sev t ≡ Err fault) × (d ≡ s.desk)
-    → IsCarried (DirectiveLine line) s d n0 n1 (report_text (Err fault) s.desk.next)
+    → Carried (DirectiveLine line) s d n0 n1 (report_text (Err fault) s.desk.next)
 refused_carried line p v sev t s d n0 n1 fault e n h =
     let o = report_is line p v sev t s (Err fault) e h.0 in
     inl (h.1 ∙ sym (ap (λ (x : Standing). x.desk) o.1), sym o.0, n)
@@ -162,7 +163,7 @@ refused_carried line p v sev t s d n0 n1 fault e n h =
 pub reported_carried : (line p : List ℕ) (v : Option (List ℕ)) (sev t : List ℕ) (s : Standing) (d : Desk) (n0 n1 : Faults)
     (answer : Result ℕ ReportFault) → directive_of line ≡ Report p v sev t → n1 ≡ faults_after_report answer n0
     → IsReported s.sender p v sev t s.desk answer d
-    → IsCarried (DirectiveLine line) s d n0 n1 (report_answer answer)
+    → Carried (DirectiveLine line) s d n0 n1 (report_answer answer)
 reported_carried line p v sev t s d n0 n1 (Ok number) e n h =
     let o = report_is line p v sev t s (Ok d) e h.0 in
     inl (sym (ap (λ (x : Standing). x.desk) o.1), ap (λ (k : ℕ). report_text (Ok d) k) h.1 ∙ sym o.0, n)

@@ -1,18 +1,20 @@
 -- Parts of a script, carried out one after another.
-use Rattle.std.proofs.Common.{◌≡◌, ℕ, Bool, true, false, List, [], ◌∷◌, ◌++◌, sym, ◌∙◌, ap, subst, refl, append_assoc, append-nil}
+use Rattle.std.proofs.Common.{◌≡◌, inl, inr, ℕ, Bool, true, false, List, [], ◌∷◌, ◌++◌, sym, ◌∙◌, ap, subst, refl, append_assoc, append-nil}
 use Rattle.std.proofs.Common.{Option, Result, Ok, Err}
+use Rattle.std.specs.Prelude.{◌≢◌, ⊤}
 use Rattle.std.specs.Io.KnownBytes.{Appends}
 use Rattle.bug_record.specs.Desk.{Desk}
 use Rattle.desk_store.specs.Store.{Faults}
 use Rattle.desk_run.specs.Script.{Part, Message, DirectiveLine, Standing, part_text, part_after, text_of, after_parts}
 use Rattle.desk_run.specs.Script.{parts_of_lines, with_line, is_directive, end_of_script}
 use Rattle.desk_run.specs.Gathering.{parts_from}
-use Rattle.desk_run.specs.Running.{Runs, StopsIn, Stops, EndsParts}
+use Rattle.desk_run.specs.Running.{Course, StopsIn, Stops, IfBegun, part_course}
+use Rattle.desk_run.specs.Carrying.{Runs, EndsParts}
 use Rattle.desk_lines.specs.declared.fault.ScriptFault.{ScriptFault}
 use Rattle.desk_lines.specs.declared.fault.ScriptFault.TheVariants as stops
 use Rattle.desk_run.specs.declared.script.ScriptEnd.{ScriptEnd}
 use Rattle.std.proofs.KnownBytes.{Appends-trans}
-use Rattle.desk_run.proofs.WrittenLemmas.{appends_none}
+use Rattle.desk_run.proofs.WrittenLemmas.{appends_none, course}
 use Rattle.desk_run.proofs.PartLemmas.{not_begun}
 
 text_nil : (a : Standing) → text_of [] a ≡ []
@@ -50,16 +52,36 @@ one_ran part a b c0 c1 h = (h.0 ∙ sym (after_one part a), subst (Appends c0 c1
 
 -- a stop in one part
 pub one_stops : (part : Part) (a : Standing) (d : Desk) (n0 n1 : Faults) (c0 c1 : Option (List ℕ)) (fault : ScriptFault)
-    → StopsIn part a d n0 n1 c0 c1 fault → Stops (part ∷ []) a d n0 n1 c0 c1 fault
-one_stops part a d n0 n1 c0 c1 fault h = record {
+    (P : List Part → Type 0) → StopsIn part (course a d n0 n1 c0 c1) fault → IfBegun fault (course a d n0 n1 c0 c1) (P [])
+    → Stops (part ∷ []) (course a d n0 n1 c0 c1) fault P
+one_stops part a d n0 n1 c0 c1 fault P h b = record {
   before = [];
   part = part;
   after = [];
   split = refl;
   between = c0;
   ran = subst (Appends c0 c0) (sym (text_nil a)) (appends_none c0);
-  stops = subst (λ (s : Standing). StopsIn part s d n0 n1 c0 c1 fault) (sym (after_none a)) h;
+  stops = subst (λ (s : Standing). StopsIn part (course s d n0 n1 c0 c1) fault) (sym (after_none a)) h;
+  begun = subst (λ (s : Standing). IfBegun fault (course s d n0 n1 c0 c1) (P [])) (sym (after_none a)) b;
 }
+
+-- a part that was begun, whatever the fault
+pub if_begun : (fault : ScriptFault) (p : Course) (P : Type 0) → P → IfBegun fault p P
+if_begun (stops.Store f) p P h = h
+if_begun stops.Write p P h = h
+if_begun stops.Memory p P h = inr h
+if_begun stops.Read p P h = tt
+if_begun (stops.NotUtf8 line) p P h = tt
+if_begun (stops.LineTooLong line) p P h = tt
+
+pub if_begun_more : (fault : ScriptFault) (p : Course) (P Q : Type 0) → (P → Q) → IfBegun fault p P → IfBegun fault p Q
+if_begun_more (stops.Store f) p P Q more h = more h
+if_begun_more stops.Write p P Q more h = more h
+if_begun_more stops.Memory p P Q more (inl none) = inl none
+if_begun_more stops.Memory p P Q more (inr h) = inr (more h)
+if_begun_more stops.Read p P Q more h = tt
+if_begun_more (stops.NotUtf8 line) p P Q more h = tt
+if_begun_more (stops.LineTooLong line) p P Q more h = tt
 
 pub runs_none : (a : Standing) (c : Option (List ℕ)) → Runs [] a a c c
 runs_none a c = (sym (after_none a), subst (Appends c c) (sym (text_nil a)) (appends_none c))
@@ -73,8 +95,9 @@ runs_then ps qs a b e c0 c1 c2 p q = (
 )
 
 pub runs_then_stops : (ps qs : List Part) (a b : Standing) (d : Desk) (n0 n1 : Faults) (c0 c1 c2 : Option (List ℕ))
-    (fault : ScriptFault) → Runs ps a b c0 c1 → Stops qs b d n0 n1 c1 c2 fault → Stops (ps ++ qs) a d n0 n1 c0 c2 fault
-runs_then_stops ps qs a b d n0 n1 c0 c1 c2 fault p q =
+    (fault : ScriptFault) (P : List Part → Type 0) → Runs ps a b c0 c1 → Stops qs (course b d n0 n1 c1 c2) fault P
+    → Stops (ps ++ qs) (course a d n0 n1 c0 c2) fault P
+runs_then_stops ps qs a b d n0 n1 c0 c1 c2 fault P p q =
     let s : after_parts (ps ++ q.before) a ≡ after_parts q.before b =
     after_append ps q.before a ∙ ap (after_parts q.before) (sym p.0) in
     let t : text_of (ps ++ q.before) a ≡ text_of ps a ++ text_of q.before b =
@@ -86,13 +109,15 @@ runs_then_stops ps qs a b d n0 n1 c0 c1 c2 fault p q =
       split = ap (λ (w : List Part). ps ++ w) q.split ∙ sym (append_assoc ps q.before (q.part ∷ q.after));
       between = q.between;
       ran = subst (Appends c0 q.between) (sym t) (Appends-trans c0 c1 q.between (text_of ps a) (text_of q.before b) p.1 q.ran);
-      stops = subst (λ (x : Standing). StopsIn q.part x d n0 n1 q.between c2 fault) (sym s) q.stops;
+      stops = subst (λ (x : Standing). StopsIn q.part (course x d n0 n1 q.between c2) fault) (sym s) q.stops;
+      begun = subst (λ (x : Standing). IfBegun fault (course x d n0 n1 q.between c2) (P q.after)) (sym s) q.begun;
     }
 
 -- more parts would have followed
 pub stops_more : (ps qs : List Part) (a : Standing) (d : Desk) (n0 n1 : Faults) (c0 c1 : Option (List ℕ)) (fault : ScriptFault)
-    → Stops ps a d n0 n1 c0 c1 fault → Stops (ps ++ qs) a d n0 n1 c0 c1 fault
-stops_more ps qs a d n0 n1 c0 c1 fault q = record {
+    (P Q : List Part → Type 0) → ((after : List Part) → P after → Q (after ++ qs))
+    → Stops ps (course a d n0 n1 c0 c1) fault P → Stops (ps ++ qs) (course a d n0 n1 c0 c1) fault Q
+stops_more ps qs a d n0 n1 c0 c1 fault P Q more q = record {
   before = q.before;
   part = q.part;
   after = q.after ++ qs;
@@ -100,6 +125,22 @@ stops_more ps qs a d n0 n1 c0 c1 fault q = record {
   between = q.between;
   ran = q.ran;
   stops = q.stops;
+  begun = if_begun_more fault (part_course (course a d n0 n1 c0 c1) q.before q.between) (P q.after) (Q (q.after ++ qs))
+      (more q.after) q.begun;
+}
+
+-- what is true of the parts after it
+pub stops_so : (ps : List Part) (p : Course) (fault : ScriptFault) (P Q : List Part → Type 0)
+    → ((after : List Part) → P after → Q after) → Stops ps p fault P → Stops ps p fault Q
+stops_so ps p fault P Q more q = record {
+  before = q.before;
+  part = q.part;
+  after = q.after;
+  split = q.split;
+  between = q.between;
+  ran = q.ran;
+  stops = q.stops;
+  begun = if_begun_more fault (part_course p q.before q.between) (P q.after) (Q q.after) (more q.after) q.begun;
 }
 
 -- the parts begin with a message
@@ -116,13 +157,14 @@ parts_begin gathered (line ∷ lines) =
     parts_begin_at gathered line lines (is_directive line) refl (parts_begin (gathered ++ line ∷ []) lines)
 
 -- out of memory while a message is gathered
-pub gathered_stops : (gathered lines : List (List ℕ)) (a : Standing) (d : Desk) (n : Faults) (c : Option (List ℕ)) → d ≡ a.desk
-    → Stops (parts_from gathered lines) a d n n c c stops.Memory
-gathered_stops gathered lines a d n c e =
+pub gathered_stops : (gathered lines : List (List ℕ)) (a : Standing) (d : Desk) (n : Faults) (c : Option (List ℕ))
+    (P : List Part → Type 0) → d ≡ a.desk → Stops (parts_from gathered lines) (course a d n n c c) stops.Memory P
+gathered_stops gathered lines a d n c P e =
     let p = parts_begin gathered lines in
-    subst (λ (ps : List Part). Stops ps a d n n c c stops.Memory) (sym p.2)
-    (stops_more (Message p.0 ∷ []) p.1 a d n n c c stops.Memory
-    (one_stops (Message p.0) a d n n c c stops.Memory (not_begun (Message p.0) a d n n c e refl)))
+    subst (λ (ps : List Part). Stops ps (course a d n n c c) stops.Memory P) (sym p.2)
+    (stops_more (Message p.0 ∷ []) p.1 a d n n c c stops.Memory (λ after. ⊥) P (λ after none. absurd none)
+    (one_stops (Message p.0) a d n n c c stops.Memory (λ after. ⊥) (not_begun (Message p.0) a d n n c e refl)
+    (inl (e, refl, appends_none c))))
 
 pub parts_directive : (gathered : List (List ℕ)) (line : List ℕ) (lines : List (List ℕ)) → is_directive line ≡ true
     → parts_from gathered (line ∷ lines) ≡ Message gathered ∷ DirectiveLine line ∷ parts_from [] lines
@@ -132,38 +174,60 @@ pub parts_gathered : (gathered : List (List ℕ)) (line : List ℕ) (lines : Lis
     → parts_from gathered (line ∷ lines) ≡ parts_from (gathered ++ line ∷ []) lines
 parts_gathered gathered line lines e = rw e refl
 
+-- no directive is the last part
+some_first : {A : Type 0} (x : A) (xs : List A) → x ∷ xs ≢ []
+some_first x xs e = cc
+
+some_more : {A : Type 0} (xs : List A) (x : A) (ys : List A) → xs ++ x ∷ ys ≢ []
+some_more [] x ys = some_first x ys
+some_more (y ∷ xs) x ys = some_first y (xs ++ x ∷ ys)
+
+some_parts : (lines : List (List ℕ)) (before : List Part) → before ++ parts_from [] lines ≢ []
+some_parts lines before =
+    let p = parts_begin [] lines in
+    subst (λ (ps : List Part). before ++ ps ≢ []) (sym p.2) (some_more before (Message p.0) p.1)
+
 -- the script stops in the message before a directive
 pub stops_at_message : (gathered : List (List ℕ)) (line : List ℕ) (lines : List (List ℕ)) (a : Standing) (d : Desk)
     (n0 n1 : Faults) (c0 c1 : Option (List ℕ)) (fault : ScriptFault) → is_directive line ≡ true
-    → StopsIn (Message gathered) a d n0 n1 c0 c1 fault → Stops (parts_from gathered (line ∷ lines)) a d n0 n1 c0 c1 fault
+    → StopsIn (Message gathered) (course a d n0 n1 c0 c1) fault
+    → Stops (parts_from gathered (line ∷ lines)) (course a d n0 n1 c0 c1) fault (λ after. after ≢ [])
 stops_at_message gathered line lines a d n0 n1 c0 c1 fault e s =
-    subst (λ (ps : List Part). Stops ps a d n0 n1 c0 c1 fault) (sym (parts_directive gathered line lines e))
-    (stops_more (Message gathered ∷ []) (DirectiveLine line ∷ parts_from [] lines) a d n0 n1 c0 c1 fault
-    (one_stops (Message gathered) a d n0 n1 c0 c1 fault s))
+    let more = DirectiveLine line ∷ parts_from [] lines in
+    subst (λ (ps : List Part). Stops ps (course a d n0 n1 c0 c1) fault (λ after. after ≢ []))
+    (sym (parts_directive gathered line lines e))
+    (stops_more (Message gathered ∷ []) more a d n0 n1 c0 c1 fault (λ after. ⊤) (λ after. after ≢ [])
+    (λ after t. some_more after (DirectiveLine line) (parts_from [] lines))
+    (one_stops (Message gathered) a d n0 n1 c0 c1 fault (λ after. ⊤) s (if_begun fault (course a d n0 n1 c0 c1) ⊤ tt)))
 
 -- the script stops in a directive
 pub stops_at_order : (gathered : List (List ℕ)) (line : List ℕ) (lines : List (List ℕ)) (a b : Standing) (d : Desk)
     (m n0 n1 : Faults) (c0 c1 c2 : Option (List ℕ)) (fault : ScriptFault) → is_directive line ≡ true → m ≡ n0
     → (b ≡ part_after (Message gathered) a) × Appends c0 c1 (part_text (Message gathered) a)
-    → StopsIn (DirectiveLine line) b d m n1 c1 c2 fault → Stops (parts_from gathered (line ∷ lines)) a d n0 n1 c0 c2 fault
+    → StopsIn (DirectiveLine line) (course b d m n1 c1 c2) fault
+    → Stops (parts_from gathered (line ∷ lines)) (course a d n0 n1 c0 c2) fault (λ after. after ≢ [])
 stops_at_order gathered line lines a b d m n0 n1 c0 c1 c2 fault e same r s =
-    subst (λ (ps : List Part). Stops ps a d n0 n1 c0 c2 fault) (sym (parts_directive gathered line lines e))
-    (stops_more (Message gathered ∷ DirectiveLine line ∷ []) (parts_from [] lines) a d n0 n1 c0 c2 fault
-    (runs_then_stops (Message gathered ∷ []) (DirectiveLine line ∷ []) a b d n0 n1 c0 c1 c2 fault
+    subst (λ (ps : List Part). Stops ps (course a d n0 n1 c0 c2) fault (λ after. after ≢ []))
+    (sym (parts_directive gathered line lines e))
+    (stops_more (Message gathered ∷ DirectiveLine line ∷ []) (parts_from [] lines) a d n0 n1 c0 c2 fault (λ after. ⊤)
+    (λ after. after ≢ []) (λ after t. some_parts lines after)
+    (runs_then_stops (Message gathered ∷ []) (DirectiveLine line ∷ []) a b d n0 n1 c0 c1 c2 fault (λ after. ⊤)
     (one_ran (Message gathered) a b c0 c1 r)
-    (one_stops (DirectiveLine line) b d n0 n1 c1 c2 fault
-    (subst (λ (n : Faults). StopsIn (DirectiveLine line) b d n n1 c1 c2 fault) same s))))
+    (one_stops (DirectiveLine line) b d n0 n1 c1 c2 fault (λ after. ⊤)
+    (subst (λ (n : Faults). StopsIn (DirectiveLine line) (course b d n n1 c1 c2) fault) same s)
+    (if_begun fault (course b d n0 n1 c1 c2) ⊤ tt))))
 
 -- a run of the parts to their end
 pub runs_ends : (ps : List Part) (a b : Standing) (n0 n1 : Faults) (c0 c1 : Option (List ℕ)) (end : ScriptEnd)
-    → end ≡ end_of_script b.refused → Runs ps a b c0 c1 → EndsParts ps a b.desk n0 n1 c0 c1 (Ok end)
+    → end ≡ end_of_script b.refused → Runs ps a b c0 c1 → EndsParts ps (course a b.desk n0 n1 c0 c1) (Ok end)
 runs_ends ps a b n0 n1 c0 c1 end e p =
     (ap (λ (x : Standing). x.desk) p.0, e ∙ ap (λ (x : Standing). end_of_script x.refused) p.0, p.1)
 
 pub runs_then_ends : (ps qs : List Part) (a b : Standing) (d : Desk) (n0 n1 : Faults) (c0 c1 c2 : Option (List ℕ))
-    (r : Result ScriptEnd ScriptFault) → Runs ps a b c0 c1 → EndsParts qs b d n0 n1 c1 c2 r
-    → EndsParts (ps ++ qs) a d n0 n1 c0 c2 r
-runs_then_ends ps qs a b d n0 n1 c0 c1 c2 (Err fault) p q = runs_then_stops ps qs a b d n0 n1 c0 c1 c2 fault p q
+    (r : Result ScriptEnd ScriptFault) → Runs ps a b c0 c1
+    → EndsParts qs (course b d n0 n1 c1 c2) r → EndsParts (ps ++ qs) (course a d n0 n1 c0 c2) r
+runs_then_ends ps qs a b d n0 n1 c0 c1 c2 (Err fault) p q =
+    runs_then_stops ps qs a b d n0 n1 c0 c1 c2 fault (λ after. ⊤) p q
 runs_then_ends ps qs a b d n0 n1 c0 c1 c2 (Ok end) p q =
     let s : after_parts (ps ++ qs) a ≡ after_parts qs b = after_append ps qs a ∙ ap (after_parts qs) (sym p.0) in (
       q.0 ∙ ap (λ (x : Standing). x.desk) (sym s),

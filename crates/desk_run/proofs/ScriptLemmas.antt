@@ -1,6 +1,7 @@
 -- A script, from the lines that are left.
-use Rattle.std.proofs.Common.{◌≡◌, inl, ℕ, ◌+◌, List, [], ◌∷◌, ◌++◌, length, map, sym, ◌∙◌, ap, subst, refl, arith, Option}
+use Rattle.std.proofs.Common.{◌≡◌, inl, inr, ℕ, ◌+◌, List, [], ◌∷◌, ◌++◌, length, map, sym, ◌∙◌, ap, subst, refl, arith, Option, Some}
 use Rattle.std.proofs.Common.{Result, Ok, Err, append_assoc, append-nil, length-append}
+use Rattle.std.specs.Prelude.{◌≢◌, ⊤}
 use Rattle.std.specs.Result.{IfErr, OnOk}
 use Rattle.bug_record.specs.Desk.{Desk}
 use Rattle.desk_store.specs.Store.{Faults}
@@ -8,13 +9,15 @@ use Rattle.desk_lines.specs.Lines.{without_return, raw_lines, lines_of}
 use Rattle.desk_lines.specs.Reading.{IsGoodLine, IsLineFault, IsReadingFault, IsBegun, Known, Left}
 use Rattle.desk_run.specs.Script.{Part, Message, Standing, parts_of_lines, script_of, after_parts}
 use Rattle.desk_run.specs.Gathering.{parts_from}
-use Rattle.desk_run.specs.Running.{Runs, Stops, StopsIn, EndsParts, Ends, AreGood, IsFirstBad, IsPlace, IsReadInPart, IsOfPart}
+use Rattle.desk_run.specs.Running.{Stops, StopsIn, IfBegun, Ends, AreGood, IsFirstBad, IsPlace, IsReadInPart, IsFinished}
 use Rattle.desk_run.specs.Running.{StopsInGoodLines}
+use Rattle.desk_run.specs.Carrying.{Runs, EndsParts, IsOfPart}
 use Rattle.desk_lines.specs.declared.fault.ScriptFault.{ScriptFault}
 use Rattle.desk_lines.specs.declared.fault.ScriptFault.TheVariants as stops
 use Rattle.desk_run.specs.declared.script.ScriptEnd.{ScriptEnd}
-use Rattle.desk_run.proofs.WrittenLemmas.{appends_none}
-use Rattle.desk_run.proofs.RunLemmas.{runs_then_stops, runs_then_ends, one_stops, parts_begin, runs_none, from_start}
+use Rattle.desk_run.proofs.WrittenLemmas.{appends_none, course}
+use Rattle.desk_run.proofs.RunLemmas.{runs_then_stops, runs_then_ends, one_stops, parts_begin, runs_none, from_start, stops_so}
+use Rattle.desk_run.proofs.RunLemmas.{stops_more}
 
 map_append : {A B : Type 0} (f : A → B) (xs ys : List A) → map f (xs ++ ys) ≡ map f xs ++ map f ys
 map_append f [] ys = refl
@@ -84,17 +87,19 @@ cut_here : (texts : List (List ℕ)) (before : List Part) (g : List (List ℕ)) 
 cut_here texts before g c = ap (parts_from []) (sym (append-nil texts)) ∙ c []
 
 -- a stop in the parts of the lines that are read
-good_stops : (texts : List (List ℕ)) (before tail : List Part) (input rest : List ℕ) (a b : Standing) (d : Desk)
-    (n0 n1 : Faults) (c0 c1 c2 : Option (List ℕ)) (fault : ScriptFault) → ReadTo texts input rest
+good_stops : (texts : List (List ℕ)) (before tail : List Part) (input left : List ℕ) (rest : Option (List ℕ))
+    (a b : Standing) (d : Desk) (n0 n1 : Faults) (c0 c1 c2 : Option (List ℕ)) (fault : ScriptFault) → ReadTo texts input left
     → parts_from [] texts ≡ before ++ tail → Runs before a b c0 c1
-    → Stops tail b d n0 n1 c1 c2 fault → StopsInGoodLines (raw_lines input) a d n0 n1 c0 c2 fault
-good_stops texts before tail input rest a b d n0 n1 c0 c1 c2 fault r e ran s = record {
+    → Stops tail (course b d n0 n1 c1 c2) fault (λ after. IsFinished after left rest)
+    → StopsInGoodLines input rest (course a d n0 n1 c0 c2) fault
+good_stops texts before tail input left rest a b d n0 n1 c0 c1 c2 fault r e ran s = record {
   good = r.raws;
-  more = raw_lines rest;
+  left = left;
   lines = r.lines;
   are_good = r.good;
-  stops = subst (λ (ps : List Part). Stops ps a d n0 n1 c0 c2 fault) (sym (read_cut texts tail before input rest r e))
-      (runs_then_stops before tail a b d n0 n1 c0 c1 c2 fault ran s);
+  stops = subst (λ (ps : List Part). Stops ps (course a d n0 n1 c0 c2) fault (λ after. IsFinished after left rest))
+      (sym (read_cut texts tail before input left r e))
+      (runs_then_stops before tail a b d n0 n1 c0 c1 c2 fault (λ after. IsFinished after left rest) ran s);
 }
 
 -- nothing is left
@@ -112,43 +117,75 @@ place_of_part (stops.NotUtf8 line) raws before o = absurd o
 place_of_part (stops.LineTooLong line) raws before o = absurd o
 
 -- a stop in the parts that are left
-pub stops_in : (texts : List (List ℕ)) (before : List Part) (g : List (List ℕ)) (input rest : List ℕ) (a b : Standing)
-    (d : Desk) (n0 n1 : Faults) (c0 c1 c2 : Option (List ℕ)) (fault : ScriptFault) → ReadTo texts input rest
-    → IsCut texts before g → Runs before a b c0 c1
-    → IsOfPart fault → Stops (parts_from g (map without_return (raw_lines rest))) b d n0 n1 c1 c2 fault
-    → StopsInGoodLines (raw_lines input) a d n0 n1 c0 c2 fault → Ends input a d n0 n1 c0 c2 (Err fault)
-stops_in texts before g input rest a b d n0 n1 c0 c1 c2 fault r c ran o s good =
-    let cut = script_cut texts before g input rest r c in
-    let stop = subst (λ (ps : List Part). Stops ps a d n0 n1 c0 c2 fault) (sym cut)
-    (runs_then_stops before (parts_from g (map without_return (raw_lines rest))) a b d n0 n1 c0 c1 c2 fault ran s) in
+pub stops_in : (texts : List (List ℕ)) (before : List Part) (g : List (List ℕ)) (input left : List ℕ)
+    (rest : Option (List ℕ)) (a b : Standing) (d : Desk) (n0 n1 : Faults) (c0 c1 c2 : Option (List ℕ)) (fault : ScriptFault)
+    (P : List Part → Type 0) → ReadTo texts input left → IsCut texts before g → Runs before a b c0 c1 → IsOfPart fault
+    → Stops (parts_from g (map without_return (raw_lines left))) (course b d n0 n1 c1 c2) fault P
+    → StopsInGoodLines input rest (course a d n0 n1 c0 c2) fault → Ends input rest (course a d n0 n1 c0 c2) (Err fault)
+stops_in texts before g input left rest a b d n0 n1 c0 c1 c2 fault P r c ran o s good =
+    let cut = script_cut texts before g input left r c in
+    let tail = parts_from g (map without_return (raw_lines left)) in
+    let stop = subst (λ (ps : List Part). Stops ps (course a d n0 n1 c0 c2) fault (λ after. ⊤)) (sym cut)
+    (runs_then_stops before tail a b d n0 n1 c0 c1 c2 fault (λ after. ⊤) ran
+    (stops_so tail (course b d n0 n1 c1 c2) fault P (λ after. ⊤) (λ after h. tt) s)) in
     (stop, place_of_part fault (raw_lines input) stop.before o, good)
 
+-- the part is finished where nothing is left
+ended : (after : List Part) (left unused untaken : List ℕ) (rest : Option (List ℕ)) → left ≡ unused ++ untaken
+    → rest ≡ Some untaken → left ≡ [] → IsFinished after left rest
+ended after left unused untaken rest e f none =
+    record { unused = unused; untaken = untaken; is_left = e; is_untaken = f; finished = inr none }
+
+-- the part is finished where a part follows it
+followed : (after : List Part) (unused untaken : List ℕ) (rest : Option (List ℕ)) → rest ≡ Some untaken → after ≢ []
+    → IsFinished after (unused ++ untaken) rest
+followed after unused untaken rest f some =
+    record { unused = unused; untaken = untaken; is_left = refl; is_untaken = f; finished = inl some }
+
 -- the end of the input
-pub ends_at : (texts : List (List ℕ)) (before : List Part) (g : List (List ℕ)) (input rest : List ℕ) (a b : Standing) (d : Desk)
-    (m n0 n1 : Faults) (c0 c1 c2 : Option (List ℕ)) (r : Result ScriptEnd ScriptFault) → ReadTo texts input rest
-    → raw_lines rest ≡ [] → IsCut texts before g → Runs before a b c0 c1
-    → IfErr r IsOfPart → m ≡ n0 → EndsParts (Message g ∷ []) b d m n1 c1 c2 r → Ends input a d n0 n1 c0 c2 r
-ends_at texts before g input rest a b d m n0 n1 c0 c1 c2 (Ok end) r e c ran o same ends =
-    let cut = script_cut texts before g input rest r c
-    ∙ ap (λ (w : List (List ℕ)). before ++ parts_from g (map without_return w)) e in
-    let all = subst (λ (ps : List Part). EndsParts ps a d n0 n1 c0 c2 (Ok end)) (sym cut)
+pub ends_at : (texts : List (List ℕ)) (before : List Part) (g : List (List ℕ)) (input unused untaken : List ℕ)
+    (rest : Option (List ℕ)) (a b : Standing) (d : Desk) (m n0 n1 : Faults) (c0 c1 c2 : Option (List ℕ))
+    (r : Result ScriptEnd ScriptFault) → ReadTo texts input (unused ++ untaken) → rest ≡ Some untaken
+    → unused ++ untaken ≡ [] → IsCut texts before g → Runs before a b c0 c1
+    → IfErr r IsOfPart → m ≡ n0 → EndsParts (Message g ∷ []) (course b d m n1 c1 c2) r
+    → Ends input rest (course a d n0 n1 c0 c2) r
+ends_at texts before g input unused untaken rest a b d m n0 n1 c0 c1 c2 (Ok end) r f e c ran o same ends =
+    let cut = script_cut texts before g input (unused ++ untaken) r c
+    ∙ ap (λ (w : List ℕ). before ++ parts_from g (map without_return (raw_lines w))) e in
+    let all = subst (λ (ps : List Part). EndsParts ps (course a d n0 n1 c0 c2) (Ok end)) (sym cut)
     (runs_then_ends before (Message g ∷ []) a b d n0 n1 c0 c1 c2 (Ok end) ran ends) in
-    (all_good texts input rest r e, all.0, all.1, all.2)
-ends_at texts before g input rest a b d m n0 n1 c0 c1 c2 (Err fault) r e c ran o same ends =
-    let here = subst (λ (n : Faults). Stops (Message g ∷ []) b d n n1 c1 c2 fault) same ends in
-    stops_in texts before g input rest a b d n0 n1 c0 c1 c2 fault r c ran o
-    (subst (λ (w : List (List ℕ)). Stops (parts_from g (map without_return w)) b d n0 n1 c1 c2 fault) (sym e) here)
-    (good_stops texts before (Message g ∷ []) input rest a b d n0 n1 c0 c1 c2 fault r (cut_here texts before g c) ran here)
+    (all_good texts input (unused ++ untaken) r (ap raw_lines e), all.0, all.1, all.2)
+ends_at texts before g input unused untaken rest a b d m n0 n1 c0 c1 c2 (Err fault) r f e c ran o same ends =
+    let here = subst (λ (n : Faults). Stops (Message g ∷ []) (course b d n n1 c1 c2) fault (λ after. ⊤)) same ends in
+    let done : Stops (Message g ∷ []) (course b d n0 n1 c1 c2) fault (λ after. IsFinished after (unused ++ untaken) rest) =
+    stops_so (Message g ∷ []) (course b d n0 n1 c1 c2) fault (λ after. ⊤) (λ after. IsFinished after (unused ++ untaken) rest)
+    (λ after t. ended after (unused ++ untaken) unused untaken rest refl f e) here in
+    stops_in texts before g input (unused ++ untaken) rest a b d n0 n1 c0 c1 c2 fault (λ after. ⊤) r c ran o
+    (subst (λ (w : List ℕ). Stops (parts_from g (map without_return (raw_lines w))) (course b d n0 n1 c1 c2) fault (λ after. ⊤))
+    (sym e) here)
+    (good_stops texts before (Message g ∷ []) input (unused ++ untaken) rest a b d n0 n1 c0 c1 c2 fault r
+    (cut_here texts before g c) ran done)
 
 -- a stop in the reading
 unbegun : (fault : ScriptFault) (number : ℕ) (m : List (List ℕ)) (s : Standing) (d : Desk) (n0 n1 : Faults)
-    (c : Option (List ℕ)) → IsReadingFault number fault → d ≡ s.desk → n1 ≡ n0 → StopsIn (Message m) s d n0 n1 c c fault
-unbegun stops.Read number m s d n0 n1 c o e n = (tt, e, n, appends_none c)
-unbegun (stops.NotUtf8 line) number m s d n0 n1 c o e n = (tt, e, n, appends_none c)
-unbegun (stops.LineTooLong line) number m s d n0 n1 c o e n = (tt, e, n, appends_none c)
-unbegun stops.Memory number m s d n0 n1 c o e n = (inl (e, n), appends_none c)
+    (c : Option (List ℕ)) → IsReadingFault number fault → d ≡ s.desk → n1 ≡ n0
+    → StopsIn (Message m) (course s d n0 n1 c c) fault
+unbegun stops.Read number m s d n0 n1 c o e n = (tt, (e, n, appends_none c))
+unbegun (stops.NotUtf8 line) number m s d n0 n1 c o e n = (tt, (e, n, appends_none c))
+unbegun (stops.LineTooLong line) number m s d n0 n1 c o e n = (tt, (e, n, appends_none c))
+unbegun stops.Memory number m s d n0 n1 c o e n = inl (e, n, appends_none c)
 unbegun stops.Write number m s d n0 n1 c o e n = absurd o
 unbegun (stops.Store fault) number m s d n0 n1 c o e n = absurd o
+
+-- no part is begun while a line is read
+none_begun : (fault : ScriptFault) (number : ℕ) (s : Standing) (d : Desk) (n0 n1 : Faults) (c : Option (List ℕ))
+    (P : Type 0) → IsReadingFault number fault → d ≡ s.desk → n1 ≡ n0 → IfBegun fault (course s d n0 n1 c c) P
+none_begun stops.Read number s d n0 n1 c P o e n = tt
+none_begun (stops.NotUtf8 line) number s d n0 n1 c P o e n = tt
+none_begun (stops.LineTooLong line) number s d n0 n1 c P o e n = tt
+none_begun stops.Memory number s d n0 n1 c P o e n = inl (e, n, appends_none c)
+none_begun stops.Write number s d n0 n1 c P o e n = absurd o
+none_begun (stops.Store fault) number s d n0 n1 c P o e n = absurd o
 
 first_bad : (texts : List (List ℕ)) (before : List Part) (g : List (List ℕ)) (input rest : List ℕ) (line number : ℕ)
     (P : List ℕ → Type 0) → ReadTo texts input rest → IsCut texts before g → length texts + 1 ≡ number → line ≡ number
@@ -177,15 +214,15 @@ place_of_line texts before g input rest number (stops.NotUtf8 line) r c n f =
 place_of_line texts before g input rest number (stops.LineTooLong line) r c n f =
     first_bad texts before g input rest line number _ r c n f.0 f.1 f.2 f.3 f.4
 
-pub stops_reading : (texts : List (List ℕ)) (before : List Part) (g : List (List ℕ)) (input rest : List ℕ) (number : ℕ)
-    (a b : Standing) (d : Desk) (n0 n1 : Faults) (c0 c1 : Option (List ℕ)) (fault : ScriptFault) → ReadTo texts input rest
-    → IsCut texts before g → Runs before a b c0 c1 → d ≡ b.desk → n1 ≡ n0
-    → length texts + 1 ≡ number → IsReadingFault number fault → IsLineFault number fault rest
-    → Ends input a d n0 n1 c0 c1 (Err fault)
-stops_reading texts before g input rest number a b d n0 n1 c0 c1 fault r c ran same uncounted n o f =
-    let left = map without_return (raw_lines rest) in
-    let p = parts_begin g left in
-    let cut = script_cut texts before g input rest r c ∙ ap (λ (w : List Part). before ++ w) p.2 in (
+pub stops_reading : (texts : List (List ℕ)) (before : List Part) (g : List (List ℕ)) (input left : List ℕ)
+    (rest : Option (List ℕ)) (number : ℕ) (a b : Standing) (d : Desk) (n0 n1 : Faults) (c0 c1 : Option (List ℕ))
+    (fault : ScriptFault) → ReadTo texts input left → IsCut texts before g → Runs before a b c0 c1 → d ≡ b.desk → n1 ≡ n0
+    → length texts + 1 ≡ number → IsReadingFault number fault → IsLineFault number fault left
+    → Ends input rest (course a d n0 n1 c0 c1) (Err fault)
+stops_reading texts before g input left rest number a b d n0 n1 c0 c1 fault r c ran same uncounted n o f =
+    let p = parts_begin g (map without_return (raw_lines left)) in
+    let cut = script_cut texts before g input left r c ∙ ap (λ (w : List Part). before ++ w) p.2 in
+    let still : d ≡ (after_parts before a).desk = same ∙ ap (λ (s : Standing). s.desk) ran.0 in (
       record {
         before = before;
         part = Message p.0;
@@ -193,20 +230,22 @@ stops_reading texts before g input rest number a b d n0 n1 c0 c1 fault r c ran s
         split = cut;
         between = c1;
         ran = ran.1;
-        stops = unbegun fault number p.0 (after_parts before a) d n0 n1 c1 o (same ∙ ap (λ (s : Standing). s.desk) ran.0)
-            uncounted;
+        stops = unbegun fault number p.0 (after_parts before a) d n0 n1 c1 o still uncounted;
+        begun = none_begun fault number (after_parts before a) d n0 n1 c1 ⊤ o still uncounted;
       },
-      place_of_line texts before g input rest number fault r c n f,
-      good_stops texts before (Message g ∷ []) input rest a b d n0 n1 c0 c1 c1 fault r (cut_here texts before g c) ran
-          (one_stops (Message g) b d n0 n1 c1 c1 fault (unbegun fault number g b d n0 n1 c1 o same uncounted)),
+      place_of_line texts before g input left number fault r c n f,
+      good_stops texts before (Message g ∷ []) input left rest a b d n0 n1 c0 c1 c1 fault r (cut_here texts before g c) ran
+          (one_stops (Message g) b d n0 n1 c1 c1 fault (λ after. IsFinished after left rest)
+          (unbegun fault number g b d n0 n1 c1 o same uncounted)
+          (none_begun fault number b d n0 n1 c1 (IsFinished [] left rest) o same uncounted)),
     )
 
 -- nothing read, out of memory
-pub stops_at_once : (input : List ℕ) (a : Standing) (n : Faults) (c : Option (List ℕ))
-    → Ends input a a.desk n n c c (Err stops.Memory)
-stops_at_once input a n c =
-    stops_reading [] [] [] input input 1 a a a.desk n n c c stops.Memory (nothing_read input) (λ lines. refl) (runs_none a c) refl
-    refl refl tt tt
+pub stops_at_once : (input : List ℕ) (rest : Option (List ℕ)) (a : Standing) (n : Faults) (c : Option (List ℕ))
+    → Ends input rest (course a a.desk n n c c) (Err stops.Memory)
+stops_at_once input rest a n c =
+    stops_reading [] [] [] input input rest 1 a a a.desk n n c c stops.Memory (nothing_read input) (λ lines. refl)
+    (runs_none a c) refl refl refl tt tt
 
 pub left_more : {a b c : Option (List ℕ)} {P Q R : List ℕ → List ℕ → Type 0} → Left a b P → Left b c Q
     → ((xs ys zs : List ℕ) → P xs ys → Q ys zs → R xs zs) → Left a c R
@@ -254,25 +293,32 @@ IsNextLine line all rest = (raw : List ℕ) × (raw_lines all ≡ raw ∷ raw_li
 
 -- a stop in a line that was read
 pub stops_in_line : {r0 r1 r2 : Option (List ℕ)} (texts : List (List ℕ)) (before : List Part) (g : List (List ℕ))
-    (source rest line : List ℕ) (a b : Standing) (d : Desk) (m n0 n1 : Faults) (c0 c1 c2 : Option (List ℕ))
+    (source unused line : List ℕ) (a b : Standing) (d : Desk) (m n0 n1 : Faults) (c0 c1 c2 : Option (List ℕ))
     (fault : ScriptFault) → m ≡ n0 → Left r0 r1 (λ xs ys. ReadTo texts xs (source ++ ys))
-    → Left r1 r2 (λ ys zs. IsNextLine line (source ++ ys) (rest ++ zs)) → IsCut texts before g → Runs before a b c0 c1
-    → IsOfPart fault → ((lines : List (List ℕ)) → Stops (parts_from g (line ∷ lines)) b d m n1 c1 c2 fault)
-    → Known r0 (λ xs. Ends xs a d n0 n1 c0 c2 (Err fault))
-stops_in_line texts before g source rest line a b d m n0 n1 c0 c1 c2 fault same read piece c ran o stop = record {
+    → Left r1 r2 (λ ys zs. IsNextLine line (source ++ ys) (unused ++ zs)) → IsCut texts before g → Runs before a b c0 c1
+    → IsOfPart fault
+    → ((lines : List (List ℕ)) → Stops (parts_from g (line ∷ lines)) (course b d m n1 c1 c2) fault (λ after. after ≢ []))
+    → Known r0 (λ xs. Ends xs r2 (course a d n0 n1 c0 c2) (Err fault))
+stops_in_line {r2 = r2} texts before g source unused line a b d m n0 n1 c0 c1 c2 fault same read piece c ran o stop = record {
   known = λ xs e.
       let u = read.known xs e in
       let v = piece.known u.0 u.1 in
       let p = v.2 in
-      let told : (lines : List (List ℕ)) → Stops (parts_from g (line ∷ lines)) b d n0 n1 c1 c2 fault =
-      λ lines. subst (λ (n : Faults). Stops (parts_from g (line ∷ lines)) b d n n1 c1 c2 fault) same (stop lines) in
-      let here : line ∷ map without_return (raw_lines (rest ++ v.0)) ≡ map without_return (raw_lines (source ++ u.0)) =
-      ap (λ (w : List ℕ). w ∷ map without_return (raw_lines (rest ++ v.0))) p.3 ∙ sym (ap (map without_return) p.1) in
-      stops_in texts before g xs (source ++ u.0) a b d n0 n1 c0 c1 c2 fault u.2 c ran o
-      (subst (λ (ls : List (List ℕ)). Stops (parts_from g ls) b d n0 n1 c1 c2 fault) here
-      (told (map without_return (raw_lines (rest ++ v.0)))))
-      (good_stops (texts ++ line ∷ []) before (parts_from g (line ∷ [])) xs (rest ++ v.0) a b d n0 n1 c0 c1 c2 fault
-      (read_more texts xs (source ++ u.0) (rest ++ v.0) line u.2 p) (c (line ∷ [])) ran (told []));
+      let left = unused ++ v.0 in
+      let told : (lines : List (List ℕ))
+          → Stops (parts_from g (line ∷ lines)) (course b d n0 n1 c1 c2) fault (λ after. after ≢ []) =
+      λ lines. subst (λ (n : Faults). Stops (parts_from g (line ∷ lines)) (course b d n n1 c1 c2) fault (λ after. after ≢ []))
+          same (stop lines) in
+      let here : line ∷ map without_return (raw_lines left) ≡ map without_return (raw_lines (source ++ u.0)) =
+      ap (λ (w : List ℕ). w ∷ map without_return (raw_lines left)) p.3 ∙ sym (ap (map without_return) p.1) in
+      let finished : Stops (parts_from g (line ∷ [])) (course b d n0 n1 c1 c2) fault (λ after. IsFinished after left r2) =
+      stops_so (parts_from g (line ∷ [])) (course b d n0 n1 c1 c2) fault (λ after. after ≢ [])
+      (λ after. IsFinished after left r2) (λ after some. followed after unused v.0 r2 v.1 some) (told []) in
+      stops_in texts before g xs (source ++ u.0) r2 a b d n0 n1 c0 c1 c2 fault (λ after. after ≢ []) u.2 c ran o
+      (subst (λ (ls : List (List ℕ)). Stops (parts_from g ls) (course b d n0 n1 c1 c2) fault (λ after. after ≢ [])) here
+      (told (map without_return (raw_lines left))))
+      (good_stops (texts ++ line ∷ []) before (parts_from g (line ∷ [])) xs left r2 a b d n0 n1 c0 c1 c2 fault
+      (read_more texts xs (source ++ u.0) left line u.2 p) (c (line ∷ [])) ran finished);
 }
 
 -- the last line, as one that is read
@@ -284,20 +330,46 @@ last_line source rest line p =
 
 -- the end of the input, after its last line
 pub ends_at_last : {r0 r1 r2 : Option (List ℕ)} (texts : List (List ℕ)) (before parts : List Part) (g h : List (List ℕ))
-    (source rest line : List ℕ) (a b : Standing) (d : Desk) (m n0 n1 : Faults) (c0 c1 c2 : Option (List ℕ))
+    (source unused line : List ℕ) (a b : Standing) (d : Desk) (m n0 n1 : Faults) (c0 c1 c2 : Option (List ℕ))
     (r : Result ScriptEnd ScriptFault) → Left r0 r1 (λ xs ys. ReadTo texts xs (source ++ ys))
     → Left r1 r2 (λ ys zs. (raw : List ℕ) × (raw_lines (source ++ ys) ≡ raw ∷ []) × IsGoodLine raw × (line ≡ without_return raw)
-    × (rest ++ zs ≡ [])) → IsCut texts before g
+    × (unused ++ zs ≡ [])) → IsCut texts before g
     → ((lines : List (List ℕ)) → parts_from g (line ∷ lines) ≡ parts ++ parts_from h lines) → Runs (before ++ parts) a b c0 c1
-    → IfErr r IsOfPart → m ≡ n0 → EndsParts (Message h ∷ []) b d m n1 c1 c2 r → Known r0 (λ xs. Ends xs a d n0 n1 c0 c2 r)
-ends_at_last texts before parts g h source rest line a b d m n0 n1 c0 c1 c2 r read piece c f ran o same ends = record {
+    → IfErr r IsOfPart → m ≡ n0 → EndsParts (Message h ∷ []) (course b d m n1 c1 c2) r
+    → Known r0 (λ xs. Ends xs r2 (course a d n0 n1 c0 c2) r)
+ends_at_last {r2 = r2} texts before parts g h source unused line a b d m n0 n1 c0 c1 c2 r read piece c f ran o same ends = record {
   known = λ xs e.
       let u = read.known xs e in
       let v = piece.known u.0 u.1 in
       let p = v.2 in
-      ends_at (texts ++ line ∷ []) (before ++ parts) h xs (rest ++ v.0) a b d m n0 n1 c0 c1 c2 r
-      (read_more texts xs (source ++ u.0) (rest ++ v.0) line u.2 (no_lines_left line (source ++ u.0) (rest ++ v.0) p))
-      (ap raw_lines p.4) (cut_more texts before parts g h line c f) ran o same ends;
+      ends_at (texts ++ line ∷ []) (before ++ parts) h xs unused v.0 r2 a b d m n0 n1 c0 c1 c2 r
+      (read_more texts xs (source ++ u.0) (unused ++ v.0) line u.2 (no_lines_left line (source ++ u.0) (unused ++ v.0) p))
+      v.1 p.4 (cut_more texts before parts g h line c f) ran o same ends;
+}
+
+-- nothing is left, either way
+read_end : (texts : List (List ℕ)) (input rest left : List ℕ) → ReadTo texts input rest → raw_lines rest ≡ [] → left ≡ []
+    → ReadTo texts input left
+read_end texts input rest left r e none = record {
+  raws = r.raws;
+  lines = r.lines ∙ ap (λ (w : List (List ℕ)). r.raws ++ w) (e ∙ sym (ap raw_lines none));
+  texts_are = r.texts_are;
+  good = r.good;
+}
+
+-- the end of the input, after its line feed
+pub ends_at_end : {r0 r1 r2 : Option (List ℕ)} (texts : List (List ℕ)) (before : List Part) (g : List (List ℕ))
+    (source unused : List ℕ) (a b : Standing) (d : Desk) (m n0 n1 : Faults) (c0 c1 c2 : Option (List ℕ))
+    (r : Result ScriptEnd ScriptFault) → Left r0 r1 (λ xs ys. ReadTo texts xs (source ++ ys))
+    → Left r1 r2 (λ ys zs. (raw_lines (source ++ ys) ≡ []) × (unused ++ zs ≡ [])) → IsCut texts before g → Runs before a b c0 c1
+    → IfErr r IsOfPart → m ≡ n0 → EndsParts (Message g ∷ []) (course b d m n1 c1 c2) r
+    → Known r0 (λ xs. Ends xs r2 (course a d n0 n1 c0 c2) r)
+ends_at_end {r2 = r2} texts before g source unused a b d m n0 n1 c0 c1 c2 r read piece c ran o same ends = record {
+  known = λ xs e.
+      let u = read.known xs e in
+      let v = piece.known u.0 u.1 in
+      let left = read_end texts xs (source ++ u.0) (unused ++ v.0) u.2 v.2.0 v.2.1 in
+      ends_at texts before g xs unused v.0 r2 a b d m n0 n1 c0 c1 c2 r left v.1 v.2.1 c ran o same ends;
 }
 
 pub one_line_more : (texts : List (List ℕ)) (line : List ℕ) (number : ℕ) → length texts + 1 ≡ number

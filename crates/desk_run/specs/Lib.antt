@@ -7,3 +7,4 @@ pub mod Running
 pub mod Directives
 pub mod Gathering
 pub mod Answers
+pub mod Carrying

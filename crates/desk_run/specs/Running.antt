@@ -1,6 +1,6 @@
 -- What running a script leaves and has written, at its end and at each fault.
 -- This project's own rule.
-use Rattle.std.specs.Prelude.{ℕ, ◌≡◌, ◌⊎◌, ◌+◌, ◌<◌, ◌≤◌, List, [], ◌∷◌, ◌++◌, length, take, map, Option, Some, Result, Ok, Err}
+use Rattle.std.specs.Prelude.{ℕ, ◌≡◌, ◌≢◌, ◌⊎◌, ◌+◌, ◌<◌, ◌≤◌, List, [], ◌∷◌, ◌++◌, length, take, map, Option, Some, Result, Ok, Err}
 use Rattle.std.specs.Prelude.{⊤}
 use Rattle.std.specs.Io.KnownBytes.{Appends}
 use Rattle.std.specs.Str.{IsUtf8}
@@ -25,10 +25,6 @@ use Rattle.desk_lines.specs.declared.fault.ScriptFault.{ScriptFault}
 use Rattle.desk_lines.specs.declared.fault.ScriptFault.TheVariants.{Read, Write, NotUtf8, LineTooLong, Memory, Store}
 use Rattle.desk_run.specs.declared.script.ScriptEnd.{ScriptEnd}
 
--- these parts were carried out, and their texts written
-abbrev pub Runs : List Part → Standing → Standing → Option (List ℕ) → Option (List ℕ) → Type 0
-Runs parts a b c0 c1 = (b ≡ after_parts parts a) × Appends c0 c1 (text_of parts a)
-
 -- a directive that asks the store: a report whose words are good, a branch whose words are nodes, a
 -- list whose words give a node, or a page
 abbrev pub AsksStore : Directive → Type 0
@@ -48,44 +44,81 @@ FaultsIn (Message lines) s fault d text =
     × (text ≡ received_text outcomes (ends.Store fault k) lines)
 FaultsIn (DirectiveLine line) s fault d text = AsksStore (directive_of line) × (d ≡ s.desk) × (text ≡ fault_text fault)
 
+-- What there is before parts of a script, and at their end or where the script stops in them.
+pub record Course : Type 0 where
+  -- where the script stands before them
+  pub from : Standing
+  pub desk : Desk
+  -- the store's faults
+  pub faults_before : Faults
+  pub faults : Faults
+  -- the bytes written, if they are known
+  pub written_before : Option (List ℕ)
+  pub written : Option (List ℕ)
+
+-- this is what was written
+abbrev pub Writes : Course → List ℕ → Type 0
+Writes course text = Appends course.written_before course.written text
+
 -- A part was carried out, whole and with no fault, or up to a fault of the store, which is counted;
 -- and this is to be written for it.
-abbrev pub IsCarried : Part → Standing → Desk → Faults → Faults → List ℕ → Type 0
-IsCarried part s d n0 n1 text =
-    ((d ≡ (part_after part s).desk) × (text ≡ part_text part s) × (n1 ≡ n0))
-    ⊎ ((fault : StoreFault) × FaultsIn part s fault d text × (n1 ≡ counted fault n0))
+abbrev pub IsCarried : Part → Course → List ℕ → Type 0
+IsCarried part course text =
+    ((course.desk ≡ (part_after part course.from).desk) × (text ≡ part_text part course.from)
+    × (course.faults ≡ course.faults_before))
+    ⊎ ((fault : StoreFault) × FaultsIn part course.from fault course.desk text
+    × (course.faults ≡ counted fault course.faults_before))
+
+-- nothing was carried out or written
+abbrev pub IsUnbegun : Course → Type 0
+IsUnbegun course =
+    (course.desk ≡ course.from.desk) × (course.faults ≡ course.faults_before) × Writes course []
 
 -- the part is a message
 abbrev pub IsMessage : Part → Type 0
 IsMessage (Message lines) = ⊤
 IsMessage (DirectiveLine line) = ⊥
 
--- How a script stops in a part, and counts the store's faults from n0 to n1.
+-- How a script stops in a part.
 -- At a fault of the store all that is to be written for the part is written; at `Write` a front of
 -- it, not all; at `Memory` nothing of it, and the part may not have been begun; at a fault of
 -- reading the part is a message that was not begun.
-abbrev pub StopsIn : Part → Standing → Desk → Faults → Faults → Option (List ℕ) → Option (List ℕ) → ScriptFault → Type 0
-StopsIn part s d n0 n1 c0 c1 (Store fault) =
-    (text : List ℕ) × FaultsIn part s fault d text × (n1 ≡ counted fault n0) × Appends c0 c1 text
-StopsIn part s d n0 n1 c0 c1 Write =
-    (text : List ℕ) × (n : ℕ) × (n < length text) × IsCarried part s d n0 n1 text × Appends c0 c1 (take n text)
-StopsIn part s d n0 n1 c0 c1 Memory =
-    (((d ≡ s.desk) × (n1 ≡ n0)) ⊎ ((text : List ℕ) × IsCarried part s d n0 n1 text)) × Appends c0 c1 []
-StopsIn part s d n0 n1 c0 c1 Read = IsMessage part × (d ≡ s.desk) × (n1 ≡ n0) × Appends c0 c1 []
-StopsIn part s d n0 n1 c0 c1 (NotUtf8 line) = IsMessage part × (d ≡ s.desk) × (n1 ≡ n0) × Appends c0 c1 []
-StopsIn part s d n0 n1 c0 c1 (LineTooLong line) = IsMessage part × (d ≡ s.desk) × (n1 ≡ n0) × Appends c0 c1 []
+abbrev pub StopsIn : Part → Course → ScriptFault → Type 0
+StopsIn part course (Store fault) =
+    (text : List ℕ) × FaultsIn part course.from fault course.desk text
+    × (course.faults ≡ counted fault course.faults_before) × Writes course text
+StopsIn part course Write =
+    (text : List ℕ) × (n : ℕ) × (n < length text) × IsCarried part course text × Writes course (take n text)
+StopsIn part course Memory =
+    IsUnbegun course ⊎ ((text : List ℕ) × IsCarried part course text × Writes course [])
+StopsIn part course Read = IsMessage part × IsUnbegun course
+StopsIn part course (NotUtf8 line) = IsMessage part × IsUnbegun course
+StopsIn part course (LineTooLong line) = IsMessage part × IsUnbegun course
+
+-- P is true if the part of this course was begun: of a fault of the store and at `Write` it was, of
+-- a fault of reading it was not, and at `Memory` it may have been.
+abbrev pub IfBegun : ScriptFault → Course → Type 0 → Type 0
+IfBegun (Store fault) course P = P
+IfBegun Write course P = P
+IfBegun Memory course P = IsUnbegun course ⊎ P
+IfBegun fault course P = ⊤
+
+-- the course of the part after these, where so much was written before it
+abbrev pub part_course : Course → List Part → Option (List ℕ) → Course
+part_course course before between = record course { from = after_parts before course.from; written_before = between }
 
 -- The parts before one were carried out and their texts written, and in that one the script stops.
-pub record Stops (parts : List Part) (a : Standing) (d : Desk) (n0 n1 : Faults) (c0 c1 : Option (List ℕ)) (fault : ScriptFault) :
-    Type 0 where
+-- If that part was begun, P is true of the parts after it.
+pub record Stops (parts : List Part) (course : Course) (fault : ScriptFault) (P : List Part → Type 0) : Type 0 where
   pub before : List Part
   pub part : Part
   pub after : List Part
   pub split : parts ≡ before ++ part ∷ after
   -- the bytes written before that part
   pub between : Option (List ℕ)
-  pub ran : Appends c0 between (text_of before a)
-  pub stops : StopsIn part (after_parts before a) d n0 n1 between c1 fault
+  pub ran : Appends course.written_before between (text_of before course.from)
+  pub stops : StopsIn part (part_course course before between) fault
+  pub begun : IfBegun fault (part_course course before between) (P after)
 
 -- each line is good: at most 65,536 bytes, and UTF-8
 abbrev pub AreGood : List (List ℕ) → Type 0
@@ -104,15 +137,26 @@ pub record IsFirstBad (raws : List (List ℕ)) (number : ℕ) (before : List Par
   pub gathered : List (List ℕ)
   pub parts : parts_of_lines (map without_return good) ≡ before ++ Message gathered ∷ []
 
--- No line beyond the good ones played a part in a stop: the first lines, which are good, are a
--- script that stops so too.
-pub record StopsInGoodLines (raws : List (List ℕ)) (a : Standing) (d : Desk) (n0 n1 : Faults) (c0 c1 : Option (List ℕ))
-    (fault : ScriptFault) : Type 0 where
+-- A part before these is finished where so much of the input is left after the lines that were
+-- read, which were taken from the reader: a part follows it in those lines, or the input has ended.
+pub record IsFinished (after : List Part) (left : List ℕ) (rest : Option (List ℕ)) : Type 0 where
+  -- what was taken from the reader besides those lines
+  pub unused : List ℕ
+  pub untaken : List ℕ
+  pub is_left : left ≡ unused ++ untaken
+  pub is_untaken : rest ≡ Some untaken
+  pub finished : (after ≢ []) ⊎ (left ≡ [])
+
+-- No line beyond the good ones that were read played a part in a stop: the first lines, which are
+-- good, are a script that stops so too, and in them the part at hand is finished, if it was begun.
+-- So a message whose lines are still gathered is not begun.
+-- `rest` is what the reader has left.
+pub record StopsInGoodLines (input : List ℕ) (rest : Option (List ℕ)) (course : Course) (fault : ScriptFault) : Type 0 where
   pub good : List (List ℕ)
-  pub more : List (List ℕ)
-  pub lines : raws ≡ good ++ more
+  pub left : List ℕ
+  pub lines : raw_lines input ≡ good ++ raw_lines left
   pub are_good : AreGood good
-  pub stops : Stops (parts_of_lines (map without_return good)) a d n0 n1 c0 c1 fault
+  pub stops : Stops (parts_of_lines (map without_return good)) course fault (λ after. IsFinished after left rest)
 
 -- What a script has read of its input at a failed read: good lines, and a front of the next one,
 -- of at most 65,536 bytes.
@@ -129,39 +173,18 @@ IsPlace (NotUtf8 number) raws before = IsFirstBad raws number before (λ raw. (l
 IsPlace (LineTooLong number) raws before = IsFirstBad raws number before (λ raw. 65536 < length raw)
 IsPlace fault raws before = ⊤
 
--- What these parts leave and have written: at their end all are carried out and their texts
--- written, and the end says whether anything was refused; at a fault the script stops in one.
-abbrev pub EndsParts : List Part → Standing → Desk → Faults → Faults → Option (List ℕ) → Option (List ℕ)
-    → Result ScriptEnd ScriptFault → Type 0
-EndsParts parts a d n0 n1 c0 c1 (Ok end) =
-    (d ≡ (after_parts parts a).desk) × (end ≡ end_of_script (after_parts parts a).refused) × Appends c0 c1 (text_of parts a)
-EndsParts parts a d n0 n1 c0 c1 (Err fault) = Stops parts a d n0 n1 c0 c1 fault
-
--- a fault of a part, and not of the reading
-abbrev pub IsOfPart : ScriptFault → Type 0
-IsOfPart (Store fault) = ⊤
-IsOfPart Write = ⊤
-IsOfPart Memory = ⊤
-IsOfPart fault = ⊥
-
--- What a script over this input leaves and has written.
+-- What a script over this input leaves and has written, where its reader has so much left.
 -- At its end all lines are good, all parts are carried out and their texts written, and the end
 -- says whether anything was refused; at a fault it stops in a part, and did nothing for a line that
--- is not good.
-abbrev pub Ends : List ℕ → Standing → Desk → Faults → Faults → Option (List ℕ) → Option (List ℕ)
-    → Result ScriptEnd ScriptFault → Type 0
-Ends input a d n0 n1 c0 c1 (Ok end) =
-    AreGood (raw_lines input) × (d ≡ (after_parts (script_of input) a).desk)
-    × (end ≡ end_of_script (after_parts (script_of input) a).refused) × Appends c0 c1 (text_of (script_of input) a)
-Ends input a d n0 n1 c0 c1 (Err fault) =
-    (stop : Stops (script_of input) a d n0 n1 c0 c1 fault) × IsPlace fault (raw_lines input) stop.before
-    × StopsInGoodLines (raw_lines input) a d n0 n1 c0 c1 fault
-
--- a part was carried out, or the script stops in it
-abbrev pub Carries : {T : Type 0} → Part → Standing → Standing → Faults → Faults → Option (List ℕ) → Option (List ℕ)
-    → Result T ScriptFault → Type 0
-Carries part a b n0 n1 c0 c1 (Ok done) = (b ≡ part_after part a) × Appends c0 c1 (part_text part a)
-Carries part a b n0 n1 c0 c1 (Err fault) = StopsIn part a b.desk n0 n1 c0 c1 fault
+-- is not good, nor for a message whose lines were still gathered.
+abbrev pub Ends : List ℕ → Option (List ℕ) → Course → Result ScriptEnd ScriptFault → Type 0
+Ends input rest course (Ok end) =
+    AreGood (raw_lines input) × (course.desk ≡ (after_parts (script_of input) course.from).desk)
+    × (end ≡ end_of_script (after_parts (script_of input) course.from).refused)
+    × Writes course (text_of (script_of input) course.from)
+Ends input rest course (Err fault) =
+    (stop : Stops (script_of input) course fault (λ after. ⊤)) × IsPlace fault (raw_lines input) stop.before
+    × StopsInGoodLines input rest course fault
 
 -- The store's faults after a script, or a part of one.
 -- Before `Write` and `Memory` the store may have failed once: where it has not, or failed for want

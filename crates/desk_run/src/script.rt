@@ -1,7 +1,7 @@
 //! Scripts: messages and directives, from a reader to a writer.
 
 ghost use Rattle.std.specs.Prelude.{◌≡◌, ℕ, ◌<◌, ◌||◌, true, length, take, Some, Result, List, [], ◌∷◌, ◌++◌, OnOk, OnErr, IfOk};
-ghost use Rattle.std.specs.Prelude.{IfErr};
+ghost use Rattle.std.specs.Prelude.{IfErr, ◌≢◌};
 ghost use Rattle.std.specs.Option.{option_copied};
 ghost use Rattle.bug_record.specs.Texts.{IsText};
 ghost use Rattle.desk_store.specs.Store.{Holds};
@@ -11,7 +11,8 @@ ghost use Rattle.desk_run.specs.Branches.{nodes_of};
 ghost use Rattle.desk_run.specs.Gathering.{parts_from};
 ghost use Rattle.desk_run.specs.Answers.{Tells, TellsFault};
 ghost use Rattle.desk_lines.specs.Reading.{Known, Left};
-ghost use Rattle.desk_run.specs.Running.{Runs, Stops, Carries, IsCounted, IsOfPart, EndsParts, IsReadInPart, Ends};
+ghost use Rattle.desk_run.specs.Running.{Stops, IsCounted, IsReadInPart, Ends};
+ghost use Rattle.desk_run.specs.Carrying.{Runs, Carries, IsOfPart, EndsParts};
 
 use crate::answer::{fault_of_branch, fault_of_end, refuses, refuses_branch, store_fault};
 use crate::branch::read_nodes;
@@ -61,9 +62,11 @@ fn finish_message<S: Records, W: Write>(
     writer: &mut W,
     run: &mut Run,
 ) -> Result<(), ScriptFault>
-    ensures answer { Holds S.is_kept S.is_honest store.old store.new (Carries (Message run.old.gathered.items)
-        (standing (S.desk store.old) run.old.sender run.old.refused) (standing (S.desk store.new) run.new.sender run.new.refused)
-        (S.faults store.old) (S.faults store.new) (W.contents writer.old) (W.contents writer.new) result) }
+    ensures answer { Holds S.is_kept S.is_honest store.old store.new
+        (Carries (Message run.old.gathered.items) run.new.sender run.new.refused (record {
+            from = standing (S.desk store.old) run.old.sender run.old.refused; desk = S.desk store.new;
+            faults_before = S.faults store.old; faults = S.faults store.new;
+            written_before = W.contents writer.old; written = W.contents writer.new }) result) }
     ensures own { IfErr result IsOfPart }
     ensures count { IsCounted result (S.faults store.old) (S.faults store.new) }
     ensures cleared { OnOk result (run.new.gathered.items ≡ []) }
@@ -114,9 +117,11 @@ fn carry_report<S: Records, W: Write>(
     words: ReportWords<'_>,
 ) -> Result<(), ScriptFault>
     requires { directive_of line.now ≡ Report words.package.now (option_copied words.version) words.severity.now words.title.now }
-    ensures answer { Holds S.is_kept S.is_honest store.old store.new (Carries (DirectiveLine line.now)
-        (standing (S.desk store.old) run.old.sender run.old.refused) (standing (S.desk store.new) run.new.sender run.new.refused)
-        (S.faults store.old) (S.faults store.new) (W.contents writer.old) (W.contents writer.new) result) }
+    ensures answer { Holds S.is_kept S.is_honest store.old store.new
+        (Carries (DirectiveLine line.now) run.new.sender run.new.refused (record {
+            from = standing (S.desk store.old) run.old.sender run.old.refused; desk = S.desk store.new;
+            faults_before = S.faults store.old; faults = S.faults store.new;
+            written_before = W.contents writer.old; written = W.contents writer.new }) result) }
     ensures own { IfErr result IsOfPart }
     ensures count { IsCounted result (S.faults store.old) (S.faults store.new) }
     ensures gathered { run.new.gathered.items ≡ run.old.gathered.items }
@@ -159,9 +164,11 @@ fn carry_nodes<S: Records, W: Write>(
     nodes: &[Node],
 ) -> Result<(), ScriptFault>
     requires { (names : List (List ℕ)) × (directive_of line.now ≡ Branch names) × (nodes_of names ≡ Some nodes.now) }
-    ensures answer { Holds S.is_kept S.is_honest store.old store.new (Carries (DirectiveLine line.now)
-        (standing (S.desk store.old) run.old.sender run.old.refused) (standing (S.desk store.new) run.new.sender run.new.refused)
-        (S.faults store.old) (S.faults store.new) (W.contents writer.old) (W.contents writer.new) result) }
+    ensures answer { Holds S.is_kept S.is_honest store.old store.new
+        (Carries (DirectiveLine line.now) run.new.sender run.new.refused (record {
+            from = standing (S.desk store.old) run.old.sender run.old.refused; desk = S.desk store.new;
+            faults_before = S.faults store.old; faults = S.faults store.new;
+            written_before = W.contents writer.old; written = W.contents writer.new }) result) }
     ensures own { IfErr result IsOfPart }
     ensures count { IsCounted result (S.faults store.old) (S.faults store.new) }
     ensures gathered { run.new.gathered.items ≡ run.old.gathered.items }
@@ -230,9 +237,11 @@ fn carry_out<S: Records, W: Write>(
     run: &mut Run,
     line: &str,
 ) -> Result<(), ScriptFault>
-    ensures answer { Holds S.is_kept S.is_honest store.old store.new (Carries (DirectiveLine line.now)
-        (standing (S.desk store.old) run.old.sender run.old.refused) (standing (S.desk store.new) run.new.sender run.new.refused)
-        (S.faults store.old) (S.faults store.new) (W.contents writer.old) (W.contents writer.new) result) }
+    ensures answer { Holds S.is_kept S.is_honest store.old store.new
+        (Carries (DirectiveLine line.now) run.new.sender run.new.refused (record {
+            from = standing (S.desk store.old) run.old.sender run.old.refused; desk = S.desk store.new;
+            faults_before = S.faults store.old; faults = S.faults store.new;
+            written_before = W.contents writer.old; written = W.contents writer.new }) result) }
     ensures own { IfErr result IsOfPart }
     ensures count { IsCounted result (S.faults store.old) (S.faults store.new) }
     ensures gathered { run.new.gathered.items ≡ run.old.gathered.items }
@@ -278,9 +287,10 @@ fn take_line<S: Records, W: Write>(
         (standing (S.desk store.old) run.old.sender run.old.refused) (standing (S.desk store.new) run.new.sender run.new.refused)
         (W.contents writer.old) (W.contents writer.new))) }
     ensures err { IfErr result (λ fault. Holds S.is_kept S.is_honest store.old store.new
-        ((lines : List (List ℕ)) → Stops (parts_from run.old.gathered.items (line ∷ lines))
-        (standing (S.desk store.old) run.old.sender run.old.refused) (S.desk store.new)
-        (S.faults store.old) (S.faults store.new) (W.contents writer.old) (W.contents writer.new) fault)) }
+        ((lines : List (List ℕ)) → Stops (parts_from run.old.gathered.items (line ∷ lines)) (record {
+            from = standing (S.desk store.old) run.old.sender run.old.refused; desk = S.desk store.new;
+            faults_before = S.faults store.old; faults = S.faults store.new;
+            written_before = W.contents writer.old; written = W.contents writer.new }) fault (λ after. after ≢ []))) }
     ensures own { IfErr result IsOfPart }
     ensures count { IsCounted result (S.faults store.old) (S.faults store.new) }
 {
@@ -308,9 +318,10 @@ fn finish_script<S: Records, W: Write>(
     writer: &mut W,
     run: &mut Run,
 ) -> Result<ScriptEnd, ScriptFault>
-    ensures answer { Holds S.is_kept S.is_honest store.old store.new (EndsParts (Message run.old.gathered.items ∷ [])
-        (standing (S.desk store.old) run.old.sender run.old.refused) (S.desk store.new)
-        (S.faults store.old) (S.faults store.new) (W.contents writer.old) (W.contents writer.new) result) }
+    ensures answer { Holds S.is_kept S.is_honest store.old store.new (EndsParts (Message run.old.gathered.items ∷ []) (record {
+            from = standing (S.desk store.old) run.old.sender run.old.refused; desk = S.desk store.new;
+            faults_before = S.faults store.old; faults = S.faults store.new;
+            written_before = W.contents writer.old; written = W.contents writer.new }) result) }
     ensures own { IfErr result IsOfPart }
     ensures count { IsCounted result (S.faults store.old) (S.faults store.new) }
 {
@@ -335,7 +346,9 @@ fn finish_script<S: Records, W: Write>(
 /// `Memory` or `Write`.
 /// After `Read` (also where more than 16,777,216 reads were needed), `NotUtf8` and `LineTooLong`
 /// the text of all earlier parts was written, whole, and the message whose lines were being
-/// gathered was not begun; after `Memory` the same, and the part at hand may have been carried out;
+/// gathered was not begun; after `Memory` the same, and a part that was finished in the lines read,
+/// by a directive that follows it or by the end, may have been carried out, with nothing written
+/// for it;
 /// after `Write` a front of the output, and not all of what was to be written for the part at hand.
 /// `NotUtf8` and `LineTooLong` name the first line of either kind; one that is both is too long.
 /// At `Read` good lines were taken from the reader, and at most 65,536 bytes of the next one.
@@ -346,8 +359,10 @@ pub fn run_script<S: Records, R: Read, W: Write>(
     writer: &mut W,
 ) -> Result<ScriptEnd, ScriptFault>
     ensures answer { Holds S.is_kept S.is_honest store.old store.new (Known (R.remaining reader.old) (λ input.
-        Ends input (begin (S.desk store.old)) (S.desk store.new) (S.faults store.old) (S.faults store.new)
-        (W.contents writer.old) (W.contents writer.new) result)) }
+        Ends input (R.remaining reader.new) (record {
+            from = begin (S.desk store.old); desk = S.desk store.new;
+            faults_before = S.faults store.old; faults = S.faults store.new;
+            written_before = W.contents writer.old; written = W.contents writer.new }) result)) }
     ensures read { OnOk result (Left (R.remaining reader.old) (R.remaining reader.new) (λ input rest. rest ≡ [])) }
     ensures begun { result ≡ Result.Err ScriptFault.Read → Left (R.remaining reader.old) (R.remaining reader.new) IsReadInPart }
     ensures count { IsCounted result (S.faults store.old) (S.faults store.new) }

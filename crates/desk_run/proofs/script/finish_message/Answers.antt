@@ -18,7 +18,7 @@ returns-in_default-clause-answer g c =
 pub returns-in-Err-clause-answer : goal.returns-in-Err-clause-answer
 returns-in-Err-clause-answer g c =
     let s = standing (g.S.Records.desk c.args.store.now) c.args.run.now.sender c.args.run.now.refused in
-    let text = c.as_slice.ensures.value ∙ c.in-Ok.ensures in
+    let text = c.as_slice.ensures.value ∙ c.in-Ok.ensures.text in
     holds_weaker c.receive_lines-received.ensures.answer
     (λ r. (
       _,
@@ -38,7 +38,7 @@ returns-in-Err-clause-answer g c =
 pub returns-in-Some-clause-answer : goal.returns-in-Some-clause-answer
 returns-in-Some-clause-answer g c =
     let s = standing (g.S.Records.desk c.args.store.now) c.args.run.now.sender c.args.run.now.refused in
-    let text = c.as_slice.ensures.value ∙ c.in-Ok.ensures in
+    let text = c.as_slice.ensures.value ∙ c.in-Ok.ensures.text in
     holds_weaker c.receive_lines-received.ensures.answer
     (λ r. (
       _,
@@ -54,7 +54,7 @@ returns-in-Some-clause-answer g c =
 pub returns-clause-answer : goal.returns-clause-answer
 returns-clause-answer g c =
     let s = standing (g.S.Records.desk c.args.store.now) c.args.run.now.sender c.args.run.now.refused in
-    let text = c.as_slice.ensures.value ∙ c.in-Ok.ensures in
+    let text = c.as_slice.ensures.value ∙ c.in-Ok.ensures.text in
     let none = sym c.fault_of_end.ensures ∙ c.in_default-fault_of_end.is in
     let either = c.either-run.ensures ∙ ap (λ b. c.args.run.now.refused || b) c.refuses.ensures in
     holds_weaker c.receive_lines-received.ensures.answer

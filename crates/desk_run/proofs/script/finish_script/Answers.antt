@@ -1,12 +1,14 @@
+use Rattle.std.specs.Prelude.{⊤}
 use Rattle.std.proofs.Common.{sym, ap, [], ◌∷◌}
 use Rattle.desk_store.proofs.HoldsLemmas.{holds_weaker}
 use Rattle.desk_run.specs.Script.{Message, end_of_script}
-use Rattle.desk_run.proofs.RunLemmas.{one_ran, one_stops, runs_ends}
+use Rattle.desk_run.proofs.RunLemmas.{one_ran, one_stops, runs_ends, if_begun}
 use Rattle.desk_run.proofs.script.finish_script.Goals as goal
 
 pub returns-in-Err-clause-answer : goal.returns-in-Err-clause-answer
 returns-in-Err-clause-answer g c =
-    holds_weaker c.in-Err.ensures.answer (λ s. one_stops (Message c.args.run.now.gathered.items) _ _ _ _ _ _ c.in-Err.fault s)
+    holds_weaker c.in-Err.ensures.answer (λ s. one_stops (Message c.args.run.now.gathered.items) _ _ _ _ _ _ c.in-Err.fault _ s
+    (if_begun c.in-Err.fault _ ⊤ tt))
 
 pub returns-then-run-clause-answer : goal.returns-then-run-clause-answer
 returns-then-run-clause-answer g c =

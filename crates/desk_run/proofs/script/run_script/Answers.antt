@@ -8,14 +8,14 @@ use Rattle.desk_lines.specs.declared.fault.ScriptFault.{ScriptFault}
 use Rattle.desk_lines.specs.declared.fault.ScriptFault.TheVariants.{Read}
 use Rattle.desk_run.proofs.RunLemmas.{runs_then, runs_none}
 use Rattle.desk_run.proofs.ScriptLemmas.{ReadTo, nothing_read, read_more, cut_more, ends_at, stops_reading, stops_at_once}
-use Rattle.desk_run.proofs.ScriptLemmas.{left_more, left_same, read_in_part, known_before, known_of, none_right, on_ok}
-use Rattle.desk_run.proofs.ScriptLemmas.{stops_in_line, last_line, ends_at_last, one_line_more}
+use Rattle.desk_run.proofs.ScriptLemmas.{left_more, left_same, read_in_part, known_before, none_right, on_ok}
+use Rattle.desk_run.proofs.ScriptLemmas.{stops_in_line, last_line, ends_at_last, ends_at_end, one_line_more}
 use Rattle.desk_run.proofs.script.run_script.Goals as goal
 
 pub returns-in_default-clause-answer : goal.returns-in_default-clause-answer
 returns-in_default-clause-answer g c =
     holds_none _ _ _ (record {
-      known = λ xs e. stops_at_once xs (begin (g.S.Records.desk c.args.store.now)) (g.S.Records.faults c.args.store.now)
+      known = λ xs e. stops_at_once xs (g.R.Read.remaining c.args.reader.now) (begin (g.S.Records.desk c.args.store.now)) (g.S.Records.faults c.args.store.now)
           (g.W.Write.contents c.args.writer.now);
     })
 
@@ -42,7 +42,7 @@ returns-in-Err-clause-answer g c =
     let i = c.loop-number.invariant in
     holds_weaker i.ran
     (λ ran. known_before i.read c.in-Err.ensures.fault
-    (λ xs ys r f. stops_reading i.texts i.before c.loop-number.run.gathered.items xs (c.loop-number.source.unread ++ ys)
+    (λ xs ys r f. stops_reading i.texts i.before c.loop-number.run.gathered.items xs (c.loop-number.source.unread ++ ys) _
     c.loop-number.number _ _ _ _ _ _ _ c.in-Err.fault r i.cut ran refl i.faults i.counted c.in-Err.ensures.outside f))
 
 pub returns-in-Err-clause-begun : goal.returns-in-Err-clause-begun
@@ -94,9 +94,9 @@ returns-in-Ok-End-clause-answer g c =
     let i = c.loop-number.invariant in
     let piece = rw c.in-Ok-End.field-0-is at c.in-Ok-End.ensures.piece in
     holds_then i.ran c.finish_script-in-Ok-End.ensures.answer
-    (λ ran ends. known_before i.read (known_of piece (λ ys zs p. p.0))
-    (λ xs ys r none. ends_at i.texts i.before c.loop-number.run.gathered.items xs (c.loop-number.source.unread ++ ys) _ _ _ _ _ _
-    _ _ _ c.finish_script-in-Ok-End.result r none i.cut ran c.finish_script-in-Ok-End.ensures.own i.faults ends))
+    (λ ran ends. ends_at_end i.texts i.before c.loop-number.run.gathered.items c.loop-number.source.unread
+    c.next_line.new.source.unread _ _ _ _ _ _ _ _ _ c.finish_script-in-Ok-End.result i.read piece i.cut ran
+    c.finish_script-in-Ok-End.ensures.own i.faults ends)
 
 pub returns-in-Ok-End-clause-read : goal.returns-in-Ok-End-clause-read
 returns-in-Ok-End-clause-read g c =
@@ -130,4 +130,4 @@ returns-clause-answer g c =
     holds_weaker i.ran
     (λ ran. known_before i.read (record { known = λ ys e. tt })
     (λ xs ys r (t : Unit {0}). stops_reading i.texts i.before c.loop-number.run.gathered.items xs
-    (c.loop-number.source.unread ++ ys) c.loop-number.number _ _ _ _ _ _ _ Read r i.cut ran refl i.faults i.counted tt tt))
+    (c.loop-number.source.unread ++ ys) _ c.loop-number.number _ _ _ _ _ _ _ Read r i.cut ran refl i.faults i.counted tt tt))

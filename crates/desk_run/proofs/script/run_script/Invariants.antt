@@ -3,7 +3,7 @@ use Rattle.desk_store.specs.Store.{Holds}
 use Rattle.desk_lines.specs.Buffered.{bytes_left}
 use Rattle.desk_lines.specs.Reading.{Left}
 use Rattle.desk_run.specs.Script.{Part, begin, standing}
-use Rattle.desk_run.specs.Running.{Runs}
+use Rattle.desk_run.specs.Carrying.{Runs}
 use Rattle.desk_run.proofs.ScriptLemmas.{ReadTo, IsCut}
 use Rattle.desk_run.proofs.script.run_script.Given as goal
 

@@ -46,4 +46,4 @@ returns-in-Ok-push-clause-ok g c =
 
 pub returns-clause-err : goal.returns-clause-err
 returns-clause-err g c =
-    holds_none _ _ _ (λ lines. gathered_stops c.args.run.now.gathered.items (c.args.line ∷ lines) _ _ _ _ refl)
+    holds_none _ _ _ (λ lines. gathered_stops c.args.run.now.gathered.items (c.args.line ∷ lines) _ _ _ _ _ refl)
