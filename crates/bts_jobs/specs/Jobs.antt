@@ -4,7 +4,7 @@ use Rattle.std.specs.Prelude.{ℕ, ◌≡◌, List, Option, None, Result, Err}
 use Rattle.std.specs.Io.KnownBytes.{Appends}
 use Rattle.bug_record.specs.Desk.{Desk}
 use Rattle.desk_store.specs.Store.{no_faults}
-use Rattle.desk_places.specs.Plain.{desk_of, empty_desk}
+use Rattle.desk_places.specs.Plain.{empty_desk}
 use Rattle.desk_lines.specs.Reading.{Known}
 use Rattle.desk_lines.specs.declared.fault.ScriptFault.{ScriptFault}
 use Rattle.desk_run.specs.Script.{begin}
@@ -15,8 +15,7 @@ use Rattle.desk_server.specs.declared.port.ServerFault.{ServerFault}
 use Rattle.desk_server.specs.declared.port.ServerFault.TheVariants.{Bind}
 use Rattle.job_words.specs.declared.job.Job.{Job}
 use Rattle.job_words.specs.declared.job.Job.TheVariants.{Run, Serve}
-use Rattle.desk_store.specs.declared.plain.PlainDesk.{PlainDesk}
-use Rattle.desk_server.specs.Serving.{IsServing}
+use Rattle.desk_server.specs.Serving.{State, IsInTurn}
 use Rattle.bts_jobs.specs.Endings.{end_of_script, end_of_server}
 use Rattle.bts_jobs.specs.declared.ending.Cause.TheVariants.{NoStores}
 use Rattle.bts_jobs.specs.declared.ending.JobEnd.{JobEnd}
@@ -27,12 +26,11 @@ use Rattle.bts_jobs.specs.declared.ending.JobEnd.TheVariants.{Fault}
 pub record IsRun (input : List ℕ) (c0 c1 : Option (List ℕ)) (end : JobEnd) : Type 0 where
   pub result : Result ScriptEnd ScriptFault
   pub desk : Desk
-  pub ends : Ends input (begin (empty_desk 1)) desk no_faults no_faults c0 c1 result
+  -- what its reader has left, if that is known
+  pub rest : Option (List ℕ)
+  pub ends : Ends input rest (record { from = begin (empty_desk 1); desk = desk; faults_before = no_faults; faults = no_faults;
+      written_before = c0; written = c1 }) result
   pub end_is : end ≡ end_of_script result
-
--- what a desk in memory shows
-abbrev pub desk_shown : PlainDesk → Desk
-desk_shown s = desk_of s.bugs s.tree s.next
 
 -- A server was run on this port, for so many connections, and ended so.
 -- Where it came to serve, the line that tells its port was written and nothing else, the desk was
@@ -43,10 +41,9 @@ pub record IsServer (port count : ℕ) (c0 c1 : Option (List ℕ)) (end : JobEnd
   pub end_is : end ≡ end_of_server port result
   pub told : Serves result (Appends c0 c1 (place_line port))
   pub bind : result ≡ Err Bind → c1 ≡ c0
-  pub first : PlainDesk
-  pub last : PlainDesk
-  pub begins : desk_shown first ≡ empty_desk 1
-  pub serving : Serves result (IsServing (λ s. Unit {0}) (λ s. Unit {0}) desk_shown (λ s. no_faults) count first last result)
+  -- the desk at the end, and the faults of its store
+  pub last : State
+  pub served : Serves result (IsInTurn count (empty_desk 1, no_faults) last result)
 
 -- nothing was written, and this is the end
 abbrev pub EndsAtOnce : JobEnd → Option (List ℕ) → Option (List ℕ) → JobEnd → Type 0

@@ -12,9 +12,16 @@ returns g c = record {
       record {
         result = c.run_script.result;
         desk = desk_of c.run_script.new.store.bugs c.run_script.new.store.tree c.run_script.new.store.next;
-        ends = subst (λ (d : Desk). Ends input (begin d)
-            (desk_of c.run_script.new.store.bugs c.run_script.new.store.tree c.run_script.new.store.next) no_faults no_faults
-            (g.W.Write.contents c.args.writer.now) (g.W.Write.contents c.run_script.new.writer) c.run_script.result)
+        rest = g.R.Read.remaining c.run_script.new.reader;
+        ends = subst (λ (d : Desk). Ends input (g.R.Read.remaining c.run_script.new.reader)
+            (record {
+              from = begin d;
+              desk = desk_of c.run_script.new.store.bugs c.run_script.new.store.tree c.run_script.new.store.next;
+              faults_before = no_faults;
+              faults = no_faults;
+              written_before = g.W.Write.contents c.args.writer.now;
+              written = g.W.Write.contents c.run_script.new.writer;
+            }) c.run_script.result)
             c.new-desk.ensures ((c.run_script.ensures.answer.fact tt tt).known input left);
         end_is = c.end_of.ensures;
       };
