@@ -17,7 +17,6 @@ use Rattle.desk_lines.specs.declared.fault.ScriptFault.TheVariants as stops
 use Rattle.desk_run.specs.declared.script.ScriptEnd.{ScriptEnd}
 use Rattle.desk_run.proofs.WrittenLemmas.{appends_none, course}
 use Rattle.desk_run.proofs.RunLemmas.{runs_then_stops, runs_then_ends, one_stops, parts_begin, runs_none, from_start, stops_so}
-use Rattle.desk_run.proofs.RunLemmas.{stops_more}
 
 map_append : {A B : Type 0} (f : A → B) (xs ys : List A) → map f (xs ++ ys) ≡ map f xs ++ map f ys
 map_append f [] ys = refl
