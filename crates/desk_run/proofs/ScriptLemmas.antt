@@ -17,7 +17,6 @@ use Rattle.desk_lines.specs.declared.fault.ScriptFault.TheVariants as stops
 use Rattle.desk_run.specs.declared.script.ScriptEnd.{ScriptEnd}
 use Rattle.desk_run.proofs.WrittenLemmas.{appends_none, course}
 use Rattle.desk_run.proofs.RunLemmas.{runs_then_stops, runs_then_ends, one_stops, parts_begin, runs_none, from_start, stops_so}
-use Rattle.desk_run.proofs.RunLemmas.{stops_more}
 
 map_append : {A B : Type 0} (f : A → B) (xs ys : List A) → map f (xs ++ ys) ≡ map f xs ++ map f ys
 map_append f [] ys = refl
@@ -306,9 +305,9 @@ stops_in_line {r2 = r2} texts before g source unused line a b d m n0 n1 c0 c1 c2
       let p = v.2 in
       let left = unused ++ v.0 in
       let told : (lines : List (List ℕ))
-          → Stops (parts_from g (line ∷ lines)) (course b d n0 n1 c1 c2) fault (λ after. after ≢ []) =
+      → Stops (parts_from g (line ∷ lines)) (course b d n0 n1 c1 c2) fault (λ after. after ≢ []) =
       λ lines. subst (λ (n : Faults). Stops (parts_from g (line ∷ lines)) (course b d n n1 c1 c2) fault (λ after. after ≢ []))
-          same (stop lines) in
+      same (stop lines) in
       let here : line ∷ map without_return (raw_lines left) ≡ map without_return (raw_lines (source ++ u.0)) =
       ap (λ (w : List ℕ). w ∷ map without_return (raw_lines left)) p.3 ∙ sym (ap (map without_return) p.1) in
       let finished : Stops (parts_from g (line ∷ [])) (course b d n0 n1 c1 c2) fault (λ after. IsFinished after left r2) =

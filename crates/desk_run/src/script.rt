@@ -64,9 +64,13 @@ fn finish_message<S: Records, W: Write>(
 ) -> Result<(), ScriptFault>
     ensures answer { Holds S.is_kept S.is_honest store.old store.new
         (Carries (Message run.old.gathered.items) run.new.sender run.new.refused (record {
-            from = standing (S.desk store.old) run.old.sender run.old.refused; desk = S.desk store.new;
-            faults_before = S.faults store.old; faults = S.faults store.new;
-            written_before = W.contents writer.old; written = W.contents writer.new }) result) }
+          from = standing (S.desk store.old) run.old.sender run.old.refused;
+          desk = S.desk store.new;
+          faults_before = S.faults store.old;
+          faults = S.faults store.new;
+          written_before = W.contents writer.old;
+          written = W.contents writer.new;
+        }) result) }
     ensures own { IfErr result IsOfPart }
     ensures count { IsCounted result (S.faults store.old) (S.faults store.new) }
     ensures cleared { OnOk result (run.new.gathered.items ≡ []) }
@@ -119,9 +123,13 @@ fn carry_report<S: Records, W: Write>(
     requires { directive_of line.now ≡ Report words.package.now (option_copied words.version) words.severity.now words.title.now }
     ensures answer { Holds S.is_kept S.is_honest store.old store.new
         (Carries (DirectiveLine line.now) run.new.sender run.new.refused (record {
-            from = standing (S.desk store.old) run.old.sender run.old.refused; desk = S.desk store.new;
-            faults_before = S.faults store.old; faults = S.faults store.new;
-            written_before = W.contents writer.old; written = W.contents writer.new }) result) }
+          from = standing (S.desk store.old) run.old.sender run.old.refused;
+          desk = S.desk store.new;
+          faults_before = S.faults store.old;
+          faults = S.faults store.new;
+          written_before = W.contents writer.old;
+          written = W.contents writer.new;
+        }) result) }
     ensures own { IfErr result IsOfPart }
     ensures count { IsCounted result (S.faults store.old) (S.faults store.new) }
     ensures gathered { run.new.gathered.items ≡ run.old.gathered.items }
@@ -166,9 +174,13 @@ fn carry_nodes<S: Records, W: Write>(
     requires { (names : List (List ℕ)) × (directive_of line.now ≡ Branch names) × (nodes_of names ≡ Some nodes.now) }
     ensures answer { Holds S.is_kept S.is_honest store.old store.new
         (Carries (DirectiveLine line.now) run.new.sender run.new.refused (record {
-            from = standing (S.desk store.old) run.old.sender run.old.refused; desk = S.desk store.new;
-            faults_before = S.faults store.old; faults = S.faults store.new;
-            written_before = W.contents writer.old; written = W.contents writer.new }) result) }
+          from = standing (S.desk store.old) run.old.sender run.old.refused;
+          desk = S.desk store.new;
+          faults_before = S.faults store.old;
+          faults = S.faults store.new;
+          written_before = W.contents writer.old;
+          written = W.contents writer.new;
+        }) result) }
     ensures own { IfErr result IsOfPart }
     ensures count { IsCounted result (S.faults store.old) (S.faults store.new) }
     ensures gathered { run.new.gathered.items ≡ run.old.gathered.items }
@@ -239,9 +251,13 @@ fn carry_out<S: Records, W: Write>(
 ) -> Result<(), ScriptFault>
     ensures answer { Holds S.is_kept S.is_honest store.old store.new
         (Carries (DirectiveLine line.now) run.new.sender run.new.refused (record {
-            from = standing (S.desk store.old) run.old.sender run.old.refused; desk = S.desk store.new;
-            faults_before = S.faults store.old; faults = S.faults store.new;
-            written_before = W.contents writer.old; written = W.contents writer.new }) result) }
+          from = standing (S.desk store.old) run.old.sender run.old.refused;
+          desk = S.desk store.new;
+          faults_before = S.faults store.old;
+          faults = S.faults store.new;
+          written_before = W.contents writer.old;
+          written = W.contents writer.new;
+        }) result) }
     ensures own { IfErr result IsOfPart }
     ensures count { IsCounted result (S.faults store.old) (S.faults store.new) }
     ensures gathered { run.new.gathered.items ≡ run.old.gathered.items }
@@ -288,9 +304,13 @@ fn take_line<S: Records, W: Write>(
         (W.contents writer.old) (W.contents writer.new))) }
     ensures err { IfErr result (λ fault. Holds S.is_kept S.is_honest store.old store.new
         ((lines : List (List ℕ)) → Stops (parts_from run.old.gathered.items (line ∷ lines)) (record {
-            from = standing (S.desk store.old) run.old.sender run.old.refused; desk = S.desk store.new;
-            faults_before = S.faults store.old; faults = S.faults store.new;
-            written_before = W.contents writer.old; written = W.contents writer.new }) fault (λ after. after ≢ []))) }
+          from = standing (S.desk store.old) run.old.sender run.old.refused;
+          desk = S.desk store.new;
+          faults_before = S.faults store.old;
+          faults = S.faults store.new;
+          written_before = W.contents writer.old;
+          written = W.contents writer.new;
+        }) fault (λ after. after ≢ []))) }
     ensures own { IfErr result IsOfPart }
     ensures count { IsCounted result (S.faults store.old) (S.faults store.new) }
 {
@@ -319,9 +339,13 @@ fn finish_script<S: Records, W: Write>(
     run: &mut Run,
 ) -> Result<ScriptEnd, ScriptFault>
     ensures answer { Holds S.is_kept S.is_honest store.old store.new (EndsParts (Message run.old.gathered.items ∷ []) (record {
-            from = standing (S.desk store.old) run.old.sender run.old.refused; desk = S.desk store.new;
-            faults_before = S.faults store.old; faults = S.faults store.new;
-            written_before = W.contents writer.old; written = W.contents writer.new }) result) }
+      from = standing (S.desk store.old) run.old.sender run.old.refused;
+      desk = S.desk store.new;
+      faults_before = S.faults store.old;
+      faults = S.faults store.new;
+      written_before = W.contents writer.old;
+      written = W.contents writer.new;
+    }) result) }
     ensures own { IfErr result IsOfPart }
     ensures count { IsCounted result (S.faults store.old) (S.faults store.new) }
 {
@@ -360,9 +384,13 @@ pub fn run_script<S: Records, R: Read, W: Write>(
 ) -> Result<ScriptEnd, ScriptFault>
     ensures answer { Holds S.is_kept S.is_honest store.old store.new (Known (R.remaining reader.old) (λ input.
         Ends input (R.remaining reader.new) (record {
-            from = begin (S.desk store.old); desk = S.desk store.new;
-            faults_before = S.faults store.old; faults = S.faults store.new;
-            written_before = W.contents writer.old; written = W.contents writer.new }) result)) }
+          from = begin (S.desk store.old);
+          desk = S.desk store.new;
+          faults_before = S.faults store.old;
+          faults = S.faults store.new;
+          written_before = W.contents writer.old;
+          written = W.contents writer.new;
+        }) result)) }
     ensures read { OnOk result (Left (R.remaining reader.old) (R.remaining reader.new) (λ input rest. rest ≡ [])) }
     ensures begun { result ≡ Result.Err ScriptFault.Read → Left (R.remaining reader.old) (R.remaining reader.new) IsReadInPart }
     ensures count { IsCounted result (S.faults store.old) (S.faults store.new) }

@@ -7,7 +7,7 @@ use Rattle.desk_lines.specs.Buffered.{Buffered, bytes_left}
 use Rattle.desk_lines.specs.declared.fault.ScriptFault.{ScriptFault}
 use Rattle.desk_lines.specs.declared.fault.ScriptFault.TheVariants.{Read}
 use Rattle.desk_run.proofs.RunLemmas.{runs_then, runs_none}
-use Rattle.desk_run.proofs.ScriptLemmas.{ReadTo, nothing_read, read_more, cut_more, ends_at, stops_reading, stops_at_once}
+use Rattle.desk_run.proofs.ScriptLemmas.{ReadTo, nothing_read, read_more, cut_more, stops_reading, stops_at_once}
 use Rattle.desk_run.proofs.ScriptLemmas.{left_more, left_same, read_in_part, known_before, none_right, on_ok}
 use Rattle.desk_run.proofs.ScriptLemmas.{stops_in_line, last_line, ends_at_last, ends_at_end, one_line_more}
 use Rattle.desk_run.proofs.script.run_script.Goals as goal
