@@ -18,7 +18,8 @@ use Rattle.desk_run.specs.Branches.{BranchRefusal, nodes_of, branched_by, or_ref
 use Rattle.desk_run.proofs.BranchLemmas.{branch_of_none}
 use Rattle.desk_answers.specs.Answer.{Answer, json_answer, page_answer, not_found}
 use Rattle.desk_answers.specs.Requests.{Request, PostBranch, GetList}
-use Rattle.desk_answers.specs.Answers.{answer_to, answered_branch, answered_question, nodes_refusal, refused_answer}
+use Rattle.desk_answers.specs.Answers.{answer_to, answered_branch, answered_question, refused_answer}
+use Rattle.desk_text.specs.Answers.{nodes_refusal}
 use Rattle.desk_answers.specs.Faults.{AsksStore, IsFixed, IsAnswer}
 use Rattle.desk_answers.specs.Shown.{shown}
 use Rattle.desk_answers.specs.Steps.{Fails, Gives, GivesOrFails, AnswersQuestion}

@@ -1,18 +1,13 @@
 -- What a request is answered on a desk, and the desk after it, where no fault of the store and no
 -- want of memory is met.
 -- This project's own rule.
-use Rattle.std.specs.Prelude.{ℕ, List, ◌++◌, Result, Ok, Err, codes, if◌then◌else◌}
-use Rattle.std.specs.Fmt.{decimal}
-use Rattle.std.specs.Str.Lossy.{utf8_lossy}
+use Rattle.std.specs.Prelude.{ℕ, List, Result, Ok, Err, codes, if◌then◌else◌}
 use Rattle.ancestry.specs.Trees.{Ancestry}
-use Rattle.ancestry.specs.declared.fault.BranchFault.{BranchFault}
-use Rattle.ancestry.specs.declared.fault.BranchFault.TheVariants as branches
 use Rattle.bug_record.specs.Desk.{Desk}
-use Rattle.desk_text.specs.Texts.{full_text}
+use Rattle.desk_text.specs.Answers.{report_refusal, nodes_refusal}
 use Rattle.desk_text.specs.declared.outcome.End.{End}
 use Rattle.desk_text.specs.declared.outcome.End.TheVariants as ends
 use Rattle.desk_text.specs.declared.outcome.ReportFault.{ReportFault}
-use Rattle.desk_text.specs.declared.outcome.ReportFault.TheVariants.{BadPackage, BadVersion, BadSeverity, BadTitle, Full, Store}
 use Rattle.desk_lines.specs.Lines.{lines_of}
 use Rattle.desk_store.specs.Message.{Entry, Machine, at_start, after_lines, end_of}
 use Rattle.desk_questions.specs.Questions.{Told, page_told, list_told}
@@ -22,23 +17,6 @@ use Rattle.desk_run.specs.Branches.{BranchRefusal, BadNode, Refused, branch_of}
 use Rattle.desk_json.specs.Answers.{bug_json, error_json, control_json, ok_json}
 use Rattle.desk_answers.specs.Answer.{Answer, json_answer, page_answer, not_found}
 use Rattle.desk_answers.specs.Requests.{Request, PostBug, PostControl, PostBranch, GetBug, GetList}
-
--- why a report is refused; a fault of the store refuses none
-abbrev pub report_refusal : ReportFault → List ℕ
-report_refusal BadPackage = codes "bad package name"
-report_refusal BadVersion = codes "bad version"
-report_refusal BadSeverity = codes "unknown severity"
-report_refusal BadTitle = codes "bad title"
-report_refusal Full = full_text
-report_refusal (Store fault) = codes ""
-
--- why a branch of nodes is refused; no store refuses one for being out of memory
-abbrev pub nodes_refusal : BranchFault → List ℕ
-nodes_refusal branches.EmptyBranch = codes "empty branch"
-nodes_refusal branches.TooLong = codes "more than 200 versions"
-nodes_refusal (branches.Repeated place) = codes "repeated version at " ++ decimal place
-nodes_refusal (branches.Conflict place) = codes "conflict at " ++ decimal place
-nodes_refusal branches.Memory = codes ""
 
 -- why a branch of words is refused
 abbrev pub branch_refusal : BranchRefusal → List ℕ
@@ -61,11 +39,10 @@ end_word ends.Stopped = codes "stopped"
 end_word ends.TooManyUnreadable = codes "unreadable"
 end_word (ends.Store fault line) = codes "store"
 
--- The end of a message and its transcript, whose bytes that are no UTF-8 would be replaced; that it
--- has none is not proved.
+-- the end of a message and its transcript
 unfoldable pub message_json : List Entry → End → List (List ℕ) → List ℕ
 message_json outcomes end lines =
-    control_json (end_word end) (utf8_lossy (received_text outcomes end lines))
+    control_json (end_word end) (received_text outcomes end lines)
 
 abbrev pub answered_message : Machine → List (List ℕ) → Answer × Desk
 answered_message m lines =

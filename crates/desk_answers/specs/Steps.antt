@@ -11,7 +11,8 @@ use Rattle.desk_questions.specs.declared.told.Told.{Told}
 use Rattle.desk_questions.specs.declared.told.QuestionFault.{QuestionFault}
 use Rattle.desk_questions.specs.declared.told.QuestionFault.TheVariants as questions
 use Rattle.desk_answers.specs.Answer.{Answer, json_answer, page_answer, not_found, store_fault}
-use Rattle.desk_answers.specs.Answers.{report_refusal, refused_answer, message_json}
+use Rattle.desk_text.specs.Answers.{report_refusal}
+use Rattle.desk_answers.specs.Answers.{refused_answer, message_json}
 use Rattle.desk_answers.specs.Shown.{shown}
 use Rattle.desk_answers.specs.declared.reply.Reply.{Reply}
 

@@ -3,7 +3,6 @@
 
 mod answering;
 mod branches;
-mod laws;
 mod messages;
 mod questions;
 mod refusals;
@@ -13,7 +12,6 @@ mod request;
 mod writing;
 
 pub use answering::answer_request;
-pub use laws::a_refusal_is_told_as_in_scripts;
 pub use reply::{Body, Reply, not_found, store_fault};
 pub use request::{ListRequest, MessageRequest, ReportRequest, Request};
 pub use writing::{write_reply, write_three};

@@ -2,7 +2,6 @@
 
 ghost use Rattle.std.specs.Prelude.{◌≡◌, None, IfOk, string_bytes};
 ghost use Rattle.bug_record.specs.Texts.{IsText};
-ghost use Rattle.desk_lines.specs.Lines.{lines_of};
 ghost use Rattle.desk_store.specs.Store.{Holds};
 ghost use Rattle.desk_answers.specs.Answer.{json_answer};
 ghost use Rattle.desk_answers.specs.Answers.{end_word, message_json};
@@ -13,8 +12,10 @@ ghost use Rattle.desk_answers.specs.Steps.{GivesOrFails, TellsFault, AnswersEnd}
 
 use crate::reply::{Body, Reply, json_reply, store_fault};
 use crate::request::MessageRequest;
+use debver::Text;
 use desk_json::control_json;
-use desk_messages::{Received, receive, received_text};
+use desk_lines::split_lines;
+use desk_messages::{Received, receive_lines, received_bytes};
 use desk_store::Records;
 use desk_text::{End, StoreFault};
 use http::StatusCode;
@@ -34,38 +35,37 @@ fn end_word(end: End) -> &'static str
 
 // The end of a message and its transcript.
 #[tactic(auto, unfolding(crate::specs::Answers::message_json))]
-fn message_json(alloc: Global, received: &Received, message: &str) -> Result<String, AllocError>
+fn message_json(alloc: Global, received: &Received, lines: &[Text]) -> Result<String, AllocError>
     ensures { IfOk result (λ text. string_bytes text
-        ≡ message_json received.now.outcomes received.now.end (lines_of message.now)) }
+        ≡ message_json received.now.outcomes received.now.end lines.now) }
 {
-    let mut bytes = Vec::new(alloc);
-    received_text(alloc, &mut bytes, received, message)?;
-    let transcript = String::from_utf8_lossy(alloc, bytes.as_slice())?;
-    control_json(alloc, end_word(received.end), transcript.as_str())
+    let transcript = received_bytes(alloc, received, lines)?;
+    let Ok(transcript) = str::from_utf8(transcript.as_slice()) else {
+        unreachable!("a transcript is UTF-8")
+    };
+    control_json(alloc, end_word(received.end), transcript)
 }
 
 // The answer to a message that came to its end.
-fn tell_end(alloc: Global, received: &Received, message: &str) -> Reply
-    ensures is { GivesOrFails (json_answer 200 (message_json received.now.outcomes received.now.end (lines_of message.now)))
-        result }
+fn tell_end(alloc: Global, received: &Received, lines: &[Text]) -> Reply
+    ensures is { GivesOrFails (json_answer 200 (message_json received.now.outcomes received.now.end lines.now)) result }
     ensures told { IsTold result.fault (shown result) }
 {
-    match message_json(alloc, received, message) {
+    match message_json(alloc, received, lines) {
         Ok(text) => json_reply(StatusCode::OK, text),
         Err(_) => store_fault(StoreFault::Memory),
     }
 }
 
 // The answer to a message at which the store failed.
-fn tell_fault(alloc: Global, received: &Received, message: &str, fault: StoreFault) -> Reply
-    ensures is { TellsFault (json_answer 500 (message_json received.now.outcomes received.now.end (lines_of message.now)))
-        fault result }
+fn tell_fault(alloc: Global, received: &Received, lines: &[Text], fault: StoreFault) -> Reply
+    ensures is { TellsFault (json_answer 500 (message_json received.now.outcomes received.now.end lines.now)) fault result }
     ensures told { IsTold result.fault (shown result) }
 {
     if fault == StoreFault::Memory {
         return store_fault(fault);
     }
-    match message_json(alloc, received, message) {
+    match message_json(alloc, received, lines) {
         Ok(text) => Reply {
             status: StatusCode::INTERNAL_SERVER_ERROR,
             allow: None,
@@ -77,13 +77,13 @@ fn tell_fault(alloc: Global, received: &Received, message: &str, fault: StoreFau
 }
 
 // The answer to a message that was received.
-fn tell(alloc: Global, received: &Received, message: &str) -> Reply
-    ensures is { AnswersEnd received.now.outcomes received.now.end (lines_of message.now) result }
+fn tell(alloc: Global, received: &Received, lines: &[Text]) -> Reply
+    ensures is { AnswersEnd received.now.outcomes received.now.end lines.now result }
     ensures told { IsTold result.fault (shown result) }
 {
     match received.end {
-        End::Store(fault, _) => tell_fault(alloc, received, message, fault),
-        _ => tell_end(alloc, received, message),
+        End::Store(fault, _) => tell_fault(alloc, received, lines, fault),
+        _ => tell_end(alloc, received, lines),
     }
 }
 
@@ -99,7 +99,9 @@ pub(crate) fn answer_message<S: Records>(
     ensures count { S.faults store.new ≡ counted_with result.fault (S.faults store.old) }
     ensures told { IsTold result.fault (shown result) }
 {
-    let message = request.message.as_str();
-    let received = receive(alloc, store, request.from.as_str(), message);
-    tell(alloc, &received, message)
+    let Ok(lines) = split_lines(alloc, request.message.as_str()) else {
+        return store_fault(StoreFault::Memory);
+    };
+    let received = receive_lines(alloc, store, request.from.as_str(), lines.as_slice());
+    tell(alloc, &received, lines.as_slice())
 }

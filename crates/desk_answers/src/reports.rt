@@ -8,13 +8,13 @@ ghost use Rattle.desk_answers.specs.Faults.{IsAnswer, IsTold, counted_with};
 ghost use Rattle.desk_answers.specs.Shown.{shown, report_asked};
 ghost use Rattle.desk_answers.specs.Steps.{RefusesReport};
 
-use crate::refusals::{refuse, report_refusal};
+use crate::refusals::refuse;
 use crate::reply::{Reply, json_reply, store_fault};
 use crate::request::ReportRequest;
 use desk_json::bug_json;
 use desk_messages::report;
 use desk_store::Records;
-use desk_text::{ReportFault, StoreFault};
+use desk_text::{ReportFault, StoreFault, report_refusal};
 use http::StatusCode;
 use std::alloc::Global;
 
