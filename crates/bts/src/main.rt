@@ -13,5 +13,5 @@ fn main(rt: HostRuntime) -> ExitCode {
         &mut io::writer(&rt),
         &mut rt.stderr(),
     );
-    ExitCode::from(ending.status)
+    ExitCode::from(ending.end.status())
 }
