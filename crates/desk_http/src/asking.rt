@@ -5,10 +5,12 @@ ghost use Rattle.httparse.specs.Grammar.{RequestHead};
 ghost use Rattle.httparse.specs.Spans.{IsHeaderWithin, header_bytes, IsRequestWithin, IsRequestAt};
 ghost use Rattle.desk_answers.specs.Requests.{HasGoodSender};
 ghost use Rattle.desk_answers.specs.Shown.{asked};
-ghost use Rattle.request_reading.specs.Body.{body_of};
+ghost use Rattle.request_reading.specs.Body.{body_of, size_told, TakesBody};
 ghost use Rattle.request_reading.specs.Found.{HadBytes};
+ghost use Rattle.request_reading.specs.Headers.{body_length};
 ghost use Rattle.desk_http.specs.Requests.{asked_at, asked_by, asked_with, asked_of};
 ghost use Rattle.desk_http.specs.Shown.{asks};
+ghost use Rattle.desk_http.specs.Taken.{size_at, size_by, size_of};
 
 use crate::bodies::ask_body;
 use crate::paths::{ask_list, ask_page, route_of};
@@ -45,6 +47,8 @@ fn ask_with_body<R: Read>(
     ensures asks { IfOk result (λ asked. HadBytes (R.remaining reader.old) (λ more. asks asked
         ≡ asked_with route (body_of (map (header_bytes buf.now) headers.now) (drop start buf.now ++ more)))) }
     ensures sender { IfOk result (λ made. IfOk made (λ request. HasGoodSender (asked request))) }
+    ensures taken { TakesBody (size_told (body_length (map (header_bytes buf.now) headers.now)))
+        (drop start buf.now) (R.remaining reader.old) (R.remaining reader.new) }
 {
     match read_body(alloc, reader, buf, headers, start)? {
         Ok(body) => or_memory(ask_body(alloc, route, body.as_slice())),
@@ -67,6 +71,8 @@ fn ask_at<R: Read>(
     ensures asks { IfOk result (λ asked. HadBytes (R.remaining reader.old) (λ more. asks asked
         ≡ asked_at route path.now (map (header_bytes buf.now) headers.now) (drop start buf.now ++ more))) }
     ensures sender { IfOk result (λ made. IfOk made (λ request. HasGoodSender (asked request))) }
+    ensures taken { TakesBody (size_at route (map (header_bytes buf.now) headers.now))
+        (drop start buf.now) (R.remaining reader.old) (R.remaining reader.new) }
 {
     match route {
         Route::Bug => or_memory(ask_page(alloc, bug_part(path))),
@@ -92,6 +98,8 @@ fn ask_target<R: Read>(
     ensures asks { IfOk result (λ asked. HadBytes (R.remaining reader.old) (λ more. asks asked
         ≡ asked_by method_asked.now target.now (map (header_bytes buf.now) headers.now) (drop start buf.now ++ more))) }
     ensures sender { IfOk result (λ made. IfOk made (λ request. HasGoodSender (asked request))) }
+    ensures taken { TakesBody (size_by method_asked.now target.now (map (header_bytes buf.now) headers.now))
+        (drop start buf.now) (R.remaining reader.old) (R.remaining reader.new) }
 {
     let path = path(target);
     let Some(route) = or_memory(route_of(alloc, path))? else {
@@ -121,6 +129,8 @@ pub(crate) fn ask<R: Read>(
     ensures asks { IfOk result (λ asked. (head : RequestHead) → IsRequestAt buf.now headers.now spans head
         → HadBytes (R.remaining reader.old) (λ more. asks asked ≡ asked_of head (drop spans.len buf.now ++ more))) }
     ensures sender { IfOk result (λ made. IfOk made (λ request. HasGoodSender (asked request))) }
+    ensures taken { (head : RequestHead) → IsRequestAt buf.now headers.now spans head
+        → TakesBody (size_of head) (drop spans.len buf.now) (R.remaining reader.old) (R.remaining reader.new) }
 {
     let method_asked = spans.method.of(buf);
     let target = spans.path.of(buf);

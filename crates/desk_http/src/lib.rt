@@ -8,5 +8,7 @@ mod paths;
 mod refusal;
 mod serve;
 
-pub use laws::{an_input_has_one_request, what_was_served_has_an_input};
-pub use serve::{ServeFault, Served, serve_one};
+pub use laws::{
+    an_input_has_one_request, nothing_is_taken_after_a_request, what_was_served_has_an_input,
+};
+pub use serve::{ServeFault, Served, exchange, serve_one};

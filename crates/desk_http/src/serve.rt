@@ -12,6 +12,7 @@ ghost use Rattle.desk_http.specs.Requests.{bad_request};
 ghost use Rattle.desk_http.specs.Exchange.{IsReplyTo, IsServed, IsCounted, TellsFault};
 ghost use Rattle.desk_http.specs.Steps.{IsExchanged, IsExchangeCounted, IsGiven};
 ghost use Rattle.desk_http.specs.Shown.{asks};
+ghost use Rattle.desk_http.specs.Taken.{TakesRequest};
 
 use crate::asking::ask;
 use crate::refusal::{Refusal, refuse};
@@ -57,8 +58,14 @@ fn carry_out<S: Records>(alloc: Global, store: &mut S, made: Result<Request, Ref
     }
 }
 
-// Reads one request, carries it out, and answers it; there is no answer where no byte came.
-fn exchange<S: Records, R: Read>(
+/// Reads one request, carries it out, and makes its answer, which is not written yet; there is none
+/// where no byte came.
+/// All of `serve_one` holds of it but the writing.
+///
+/// # Errors
+///
+/// `Read` where a read failed.
+pub fn exchange<S: Records, R: Read>(
     alloc: Global,
     store: &mut S,
     reader: &mut R,
@@ -71,6 +78,7 @@ fn exchange<S: Records, R: Read>(
     ensures read { IfErr result (λ fault. (fault ≡ ServeFault.Read) × (store.new ≡ store.old)) }
     ensures wrong { IfSome (R.remaining reader.old) (λ input. input ≢ [] → HasNoHead input
         → (store.new ≡ store.old) × IfOk result (λ reply. IsGiven bad_request reply)) }
+    ensures taken { TakesRequest (R.remaining reader.old) (R.remaining reader.new) }
 {
     let mut buf = [0; MAX_HEAD];
     let mut headers = [EMPTY_HEADER_SPAN; MAX_HEADERS];
@@ -96,6 +104,9 @@ fn exchange<S: Records, R: Read>(
 /// answer, its status and the desk after it are those.
 /// A head is read by the grammar of `httparse`, of at most 8,192 bytes and 32 headers, and a body
 /// of at most 65,536 bytes; bytes after the body are not looked at.
+/// No read is begun once the head is whole, where none of its body is asked for (a GET, a 404, 405,
+/// 411, 413, 501 and a wrong length), nor once the head is wrong; and none of a body takes a byte
+/// after it.
 /// `POST /bugs`, `/control` and `/branches`, `GET /bugs/{n}` and `/list/{package}/{version}` are
 /// answered 200, 201, or 400 or 404 where they are refused; what is no such request is answered 400
 /// for its head, 404, 405, 501, 411, 400 or 413 for its length, or 400 for its body, in this order.
@@ -131,6 +142,9 @@ pub fn serve_one<S: Records, R: Read, W: Write>(
     ensures wrong { IfSome (R.remaining reader.old) (λ input. input ≢ [] → HasNoHead input
         → (store.new ≡ store.old) × IfOk result (λ served. (served ≡ Served.Answered 400)
         × Appends (W.contents writer.old) (W.contents writer.new) (answer_bytes bad_request))) }
+
+    // However it ends, what is read ends with the head, or with the body that its head asks for.
+    ensures taken { TakesRequest (R.remaining reader.old) (R.remaining reader.new) }
 {
     let Some(reply) = exchange(alloc, store, reader)? else {
         return Ok(Served::Closed);

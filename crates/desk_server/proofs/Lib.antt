@@ -1,3 +1,3 @@
 mod HeldLemmas
-mod ServingLemmas
+pub mod ServingLemmas
 mod CountLemmas

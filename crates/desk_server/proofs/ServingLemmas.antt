@@ -1,16 +1,17 @@
 -- Connections, one after another, and one of them.
-use Rattle.std.proofs.Common.{◌≡◌, ℕ, List, [], ◌∷◌, ◌++◌, Option, Ok, true, refl, subst}
-use Rattle.std.proofs.lemmas.Bool.{false≢true}
-use Rattle.std.proofs.KnownBytes.{Appends-kept}
-use Rattle.std.specs.Io.KnownBytes.{Keeps}
+use Rattle.std.proofs.Common.{◌≡◌, ℕ, List, [], ◌∷◌, ◌++◌, Option, Some, None, Result, Ok, Err, IfOk, OnErr, refl, sym, subst}
 use Rattle.bug_record.specs.Desk.{Desk}
-use Rattle.desk_text.specs.declared.outcome.StoreFault.{StoreFault}
 use Rattle.desk_store.specs.Store.{Faults}
-use Rattle.desk_answers.specs.Answer.{Answer, answer_bytes}
-use Rattle.desk_http.specs.Exchange.{IsServed, IsRight}
+use Rattle.desk_answers.specs.Faults.{counted_with}
+use Rattle.desk_answers.specs.Shown.{shown}
+use Rattle.desk_answers.specs.declared.reply.Reply.{Reply}
+use Rattle.desk_http.specs.Exchange.{IsServed, IsCounted, IsRight}
 use Rattle.desk_http.specs.declared.serve.Served.{Served}
 use Rattle.desk_http.specs.declared.serve.Served.TheVariants.{Answered, Closed}
-use Rattle.desk_server.specs.Serving.{Connection, InTurn, is_answered}
+use Rattle.desk_http.specs.declared.serve.ServeFault.{ServeFault}
+use Rattle.desk_http.specs.declared.serve.ServeFault.TheVariants.{Read, Write}
+use Rattle.desk_server.specs.Serving.{Connection, InTurn, IsServing, IsInTurn}
+use Rattle.desk_server.specs.declared.port.ServerFault.{ServerFault}
 
 -- one connection more
 pub one_more : {A : Type 0} (Does : Connection → A → A → Type 0) (course : List Connection) (last : Connection) (a b c : A)
@@ -19,17 +20,30 @@ one_more {A} Does [] last a b c same does = (c, subst (λ (x : A). Does last x c
 one_more Does (first ∷ rest) last a b c turns does =
     (turns.0, turns.1, one_more Does rest last turns.0 b c turns.2 does)
 
--- an answer whose bytes were written to the end, or not
-pub answered_right : (input : Option (List ℕ)) (old new : Desk) (n0 n1 : Faults) (c0 c1 : Option (List ℕ)) (served : Served)
-    → is_answered served ≡ true → IsServed input old new n0 n1 c0 c1 (Ok served)
-    → (fault : Option StoreFault) × (answer : Answer) × IsRight input old new n0 n1 fault answer
-answered_right input old new n0 n1 c0 c1 (Answered status) is h = (h.0, h.1, h.2)
-answered_right input old new n0 n1 c0 c1 Closed is h = absurd (false≢true is)
+-- what a server leaves of a store that is kept and honest
+pub in_turn : {S : Type 0} (k h : S → Type 0) (desk : S → Desk) (faults : S → Faults) (count : ℕ) (old new : S)
+    (result : Result (Unit {0}) ServerFault) → IsServing k h desk faults count old new result → k old → h new
+    → IsInTurn count (desk old, faults old) (desk new, faults new) result
+in_turn k h desk faults count old new result s kept honest =
+    record { course = s.course; ends = s.ends; leaves = s.leaves.fact kept honest }
 
--- what was written of an answer stays
-pub answered_kept : (input : Option (List ℕ)) (old new : Desk) (n0 n1 : Faults) (c0 c1 c2 : Option (List ℕ)) (served : Served)
-    → is_answered served ≡ true → Keeps c1 c2 → IsServed input old new n0 n1 c0 c1 (Ok served)
-    → IsServed input old new n0 n1 c0 c2 (Ok served)
-answered_kept input old new n0 n1 c0 c1 c2 (Answered status) is k h =
-    (h.0, h.1, h.2, h.3, Appends-kept c0 c1 c2 (answer_bytes h.1) h.4 k)
-answered_kept input old new n0 n1 c0 c1 c2 Closed is k h = absurd (false≢true is)
+-- a fault of writing
+is_write : (fault : ServeFault) → Err {T = Served} fault ≡ Err Write → fault ≡ Write
+is_write fault e = cc
+
+-- an answer that was written, or not
+pub sent_right : (input : Option (List ℕ)) (old new : Desk) (n0 n1 : Faults) (reply : Reply) (r : Result Served ServeFault)
+    → IfOk r (λ served. served ≡ Answered reply.status) → OnErr r (r ≡ Err Write)
+    → IsRight input old new n0 n1 reply.fault (shown reply) → IsServed input old new n0 n1 None None r
+sent_right input old new n0 n1 reply (Ok served) status write right =
+    subst (λ (s : Served). IsServed input old new n0 n1 None None (Ok s)) (sym status) (reply.fault, shown reply, right, refl, tt)
+sent_right input old new n0 n1 reply (Err fault) status write right =
+    subst (λ (f : ServeFault). IsServed input old new n0 n1 None None (Err f)) (sym (is_write fault write)) (reply.fault, shown reply, right)
+
+pub sent_counted : (n0 n1 : Faults) (reply : Reply) (r : Result Served ServeFault)
+    → IfOk r (λ served. served ≡ Answered reply.status) → OnErr r (r ≡ Err Write)
+    → n1 ≡ counted_with reply.fault n0 → IsCounted r n0 n1
+sent_counted n0 n1 reply (Ok served) status write counts =
+    subst (λ (s : Served). IsCounted (Ok s) n0 n1) (sym status) (reply.fault, counts)
+sent_counted n0 n1 reply (Err fault) status write counts =
+    subst (λ (f : ServeFault). IsCounted (Err f) n0 n1) (sym (is_write fault write)) (reply.fault, counts)

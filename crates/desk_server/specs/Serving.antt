@@ -1,18 +1,13 @@
 -- What a server leaves of a desk: its connections, one after another.
 -- This project's own rule.
-use Rattle.std.specs.Prelude.{ℕ, ◌≡◌, ◌<◌, ◌≤◌, Bool, true, false, List, [], ◌∷◌, ◌++◌, length, Option, Some, None, Result, Ok, Err}
+use Rattle.std.specs.Prelude.{ℕ, ◌≡◌, ◌<◌, ◌≤◌, List, [], ◌∷◌, ◌++◌, length, Option, Some, None, Result, Ok, Err}
 use Rattle.bug_record.specs.Desk.{Desk}
 use Rattle.desk_store.specs.Store.{Faults, Holds, total}
 use Rattle.desk_http.specs.Exchange.{IsServed, IsCounted}
 use Rattle.desk_http.specs.declared.serve.Served.{Served}
-use Rattle.desk_http.specs.declared.serve.Served.TheVariants.{Answered, Closed}
 use Rattle.desk_http.specs.declared.serve.ServeFault.{ServeFault}
 use Rattle.desk_server.specs.declared.port.ServerFault.{ServerFault}
 use Rattle.desk_server.specs.declared.port.ServerFault.TheVariants.{Bind, Write, Store}
-
-abbrev pub is_answered : Served → Bool
-is_answered (Answered status) = true
-is_answered Closed = false
 
 -- what came of a connection: how it was served, or None where none could be accepted
 abbrev pub Connection : Type 0
@@ -69,3 +64,10 @@ pub record IsServing {S : Type 0} (is_kept is_honest : S → Type 0) (desk : S �
   pub counts : InTurn Counts course (faults old) (faults new)
   pub leaves : Holds is_kept is_honest old new
       (InTurn Leaves course (desk old, faults old) (desk new, faults new))
+
+-- The same without the store, where it is kept and honest: these connections came one after another
+-- and left this of its desk and its faults, and the server ends as they say.
+pub record IsInTurn (count : ℕ) (old new : State) (result : Result (Unit {0}) ServerFault) : Type 0 where
+  pub course : List Connection
+  pub ends : EndsServer count course old.1 new.1 result
+  pub leaves : InTurn Leaves course old new

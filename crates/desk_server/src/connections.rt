@@ -3,7 +3,7 @@
 ghost use Rattle.desk_store.specs.Store.{Holds};
 ghost use Rattle.desk_server.specs.Serving.{Leaves, Counts, IsServing};
 
-use crate::exchange::serve_timed;
+use crate::exchange::serve_within;
 use crate::port::ServerFault;
 use desk_http::{ServeFault, Served};
 use desk_store::Records;
@@ -23,7 +23,7 @@ fn serve_next<C: Clock, S: Records>(
     ensures count { Counts result (S.faults store.old) (S.faults store.new) }
 {
     match listener.accept() {
-        Ok((stream, _)) => Some(serve_timed(clock, alloc, store, &stream)),
+        Ok((stream, _)) => Some(serve_within(clock, alloc, store, &stream, &stream)),
         Err(_) => None,
     }
 }
@@ -32,11 +32,11 @@ fn serve_next<C: Clock, S: Records>(
 ///
 /// A connection that can't be accepted, or whose exchange fails, counts like any other, so a client
 /// that goes away ends nothing but its own exchange.
-/// A client that says nothing keeps the others waiting for 1 second, and one that sends or takes
-/// its bytes slowly for less than 60: the first byte has to come within 1 second, each other read
-/// or write has 10 seconds, and all of an exchange have 44.
+/// A client that says nothing keeps the others waiting for 1 second, one that sends its request
+/// slowly for less than 10, and one that takes its answer slowly for 5, and one more for each 10,000
+/// bytes of the answer's body.
 /// After an answer the server writes no more, and reads what the client still sends, for 1 second a
-/// read and 4 in all, and at most 2,048 times 8,192 bytes, so that the answer is not lost.
+/// read and 4 in all, and at most 16,777,216 bytes, so that the answer is not lost.
 /// These are this project's own rules.
 /// Which bytes a socket gives and takes, and how long anything takes, is not proved.
 ///

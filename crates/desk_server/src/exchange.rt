@@ -1,30 +1,35 @@
 //! One connection of a server.
 
-ghost use Rattle.std.specs.Prelude.{◌≡◌, [], true, None, IfOk};
+ghost use Rattle.std.specs.Prelude.{◌≡◌, [], None, Ok, Err, IfOk, OnErr};
+ghost use Rattle.std.specs.Io.KnownBytes.{Appends};
 ghost use Rattle.desk_store.specs.Store.{Holds};
+ghost use Rattle.desk_answers.specs.Answer.{answer_bytes};
+ghost use Rattle.desk_answers.specs.Shown.{shown};
 ghost use Rattle.desk_http.specs.Exchange.{IsServed, IsCounted};
 ghost use Rattle.desk_server.specs.Held.{given};
-ghost use Rattle.desk_server.specs.Serving.{is_answered};
 
 use crate::deadline::Deadline;
 use crate::held::Held;
-use crate::timed::Timed;
-use desk_http::{ServeFault, Served, serve_one};
+use crate::timed::{Limits, Timed};
+use desk_answers::{Reply, write_reply};
+use desk_http::{ServeFault, Served, exchange};
 use desk_store::Records;
 use std::alloc::Global;
 use std::io::{Read, Write};
-use std::net::{Shutdown, TcpStream};
 use std::time::Clock;
 
 /// How long a client may be silent before its first byte, in seconds.
 /// A browser opens further connections on which it says nothing.
 const FIRST_BYTE: u64 = 1;
 
-/// How long any other read or write may take, in seconds.
-const CALL: u64 = 10;
+/// How long a client may take for the head and the body of its request, in seconds.
+const REQUEST: u64 = 10;
 
-/// How long the reads and writes of an exchange may take in all, in seconds.
-const EXCHANGE: u64 = 44;
+/// How long a client may take to be given its answer, in seconds.
+const ANSWER: u64 = 5;
+
+/// For so many bytes of the answer's body it may take a second more.
+const BYTES_A_SECOND: usize = 10_000;
 
 /// How long a read may take after the answer, in seconds.
 const LATE_CALL: u64 = 1;
@@ -32,44 +37,51 @@ const LATE_CALL: u64 = 1;
 /// How long the reads after the answer may take in all, in seconds.
 const DRAIN: u64 = 4;
 
-/// The most reads after the answer.
-const LATE_READS: u32 = 2_048;
+/// The most bytes that are read after the answer.
+const LATE_BYTES: usize = 16_777_216;
 
 /// The most bytes of a read after the answer.
 const PIECE: usize = 8_192;
 
-fn is_answered(served: &Served) -> bool
-    ensures { result ≡ is_answered served.now }
+// How long an answer may take, in seconds.
+fn answer_seconds(reply: &Reply) -> u64 {
+    ANSWER + (reply.body.bytes().len() / BYTES_A_SECOND) as u64
+}
+
+// Writes an answer, and hands it on whole.
+fn send<W: Write>(writer: &mut Held<W>, reply: &Reply) -> Result<Served, ServeFault>
+    ensures bytes { IfOk result (λ served. Appends
+        (given (W.contents writer.old.inner) writer.old.start writer.old.bytes.items)
+        (given (W.contents writer.new.inner) writer.new.start writer.new.bytes.items)
+        (answer_bytes (shown reply.now))) }
+    ensures whole { IfOk result (λ served. writer.new.bytes.items ≡ []) }
+    ensures status { IfOk result (λ served. served ≡ Served.Answered reply.now.status) }
+    ensures write { OnErr result (result ≡ Err ServeFault.Write) }
 {
-    match served {
-        Served::Answered(_) => true,
-        Served::Closed => false,
+    if write_reply(writer, reply).is_err() {
+        return Err(ServeFault::Write);
+    }
+    match writer.flush() {
+        Ok(()) => Ok(Served::Answered(reply.status)),
+        Err(_) => Err(ServeFault::Write),
     }
 }
 
-// Serves one exchange; the answer is handed on whole, or the fault is that of a write.
-fn serve_held<S: Records, R: Read, W: Write>(
-    alloc: Global,
-    store: &mut S,
-    reader: &mut R,
-    writer: &mut Held<W>,
+// Writes an answer within its time.
+fn send_within<C: Clock, W: Write + Limits + Drop>(
+    clock: &C,
+    writer: W,
+    reply: &Reply,
 ) -> Result<Served, ServeFault>
-    ensures answer { Holds S.is_kept S.is_honest store.old store.new (IsServed (R.remaining reader.old)
-        (S.desk store.old) (S.desk store.new) (S.faults store.old) (S.faults store.new)
-        (given (W.contents writer.old.inner) writer.old.start writer.old.bytes.items)
-        (given (W.contents writer.new.inner) writer.new.start writer.new.bytes.items) result) }
-    ensures count { IsCounted result (S.faults store.old) (S.faults store.new) }
-    ensures whole { IfOk result (λ served. is_answered served ≡ true → writer.new.bytes.items ≡ []) }
+    ensures status { IfOk result (λ served. served ≡ Served.Answered reply.now.status) }
+    ensures write { OnErr result (result ≡ Err ServeFault.Write) }
 {
-    let served = match serve_one(alloc, store, reader, writer) {
-        Ok(served) => served,
-        Err(fault) => return Err(fault),
-    };
-    if !is_answered(&served) {
-        return Ok(served);
-    }
-    match writer.flush() {
-        Ok(()) => Ok(served),
+    let seconds = answer_seconds(reply);
+    match Deadline::after(clock, seconds) {
+        Ok(deadline) => {
+            let timed = Timed::new(clock, writer, deadline, seconds, seconds);
+            send(&mut Held::new(timed), reply)
+        }
         Err(_) => Err(ServeFault::Write),
     }
 }
@@ -77,49 +89,64 @@ fn serve_held<S: Records, R: Read, W: Write>(
 // Reads what a client still sends, up to its end, an error or the bound, and lets it go.
 fn drain<R: Read>(reader: &mut R) {
     let mut piece = [0; PIECE];
-    for _ in 0..LATE_READS {
-        match reader.read(&mut piece) {
+    let mut left = LATE_BYTES;
+    while left > 0 {
+        let most = left.min(PIECE);
+        match reader.read(&mut piece[..most]) {
             Ok(0) | Err(_) => return,
-            Ok(_) => {}
+            Ok(count) => left -= count,
         }
     }
 }
 
 // Ends a connection whose answer is written: no more is written, and what the client still sends is
 // read, since a connection that is closed with bytes unread may be reset, and the answer lost.
-fn close<C: Clock>(clock: &C, stream: &TcpStream) {
-    if stream.shutdown(Shutdown::Write).is_err() {
+fn close<C: Clock, R: Read + Limits>(clock: &C, reader: &mut Timed<'_, C, R>) {
+    if reader.end_writes().is_err() {
         return;
     }
     if let Ok(deadline) = Deadline::after(clock, DRAIN) {
-        drain(&mut Timed::new(clock, stream, deadline, LATE_CALL, LATE_CALL));
+        reader.restart(deadline, LATE_CALL);
+        drain(reader);
     }
 }
 
-/// Serves one connection within the limits of time.
+/// Serves one connection, of which the two ends are given, within its limits of time.
+///
+/// The first byte has to come within 1 second, and the head and the body within 10 seconds of the
+/// call.
+/// The answer has 5 seconds from its first byte, and one more for each 10,000 bytes of its body.
+/// After it no more is written, and what the client still sends is read, for 1 second a read, 4
+/// seconds in all and 16,777,216 bytes, so that the answer is not lost.
+/// These are this project's own rules.
+/// How long anything takes is not proved.
 ///
 /// # Errors
 ///
-/// `Read` where a read failed or took too long, or the clock can't be read; `Write` where a write
-/// did.
-pub(crate) fn serve_timed<C: Clock, S: Records>(
+/// `Read` where a read failed or took too long, or the clock can't be read: no answer is begun, and
+/// nothing has changed.
+/// `Write` where a write did: the request was carried out as far as its answer says.
+pub fn serve_within<C: Clock, S: Records, R: Read + Limits + Drop, W: Write + Limits + Drop>(
     clock: &C,
     alloc: Global,
     store: &mut S,
-    stream: &TcpStream,
+    reader: R,
+    writer: W,
 ) -> Result<Served, ServeFault>
-    ensures answer { Holds S.is_kept S.is_honest store.old store.new (IsServed None
+    ensures answer { Holds S.is_kept S.is_honest store.old store.new (IsServed (R.remaining reader)
         (S.desk store.old) (S.desk store.new) (S.faults store.old) (S.faults store.new) None None result) }
     ensures count { IsCounted result (S.faults store.old) (S.faults store.new) }
 {
-    let Ok(deadline) = Deadline::after(clock, EXCHANGE) else {
+    let Ok(deadline) = Deadline::after(clock, REQUEST) else {
         return Err(ServeFault::Read);
     };
-    let mut reader = Timed::new(clock, stream, deadline, FIRST_BYTE, CALL);
-    let mut writer = Held::new(Timed::new(clock, stream, deadline, CALL, CALL));
-    let served = serve_held(alloc, store, &mut reader, &mut writer);
+    let mut reader = Timed::new(clock, reader, deadline, FIRST_BYTE, REQUEST);
+    let Some(reply) = exchange(alloc, store, &mut reader)? else {
+        return Ok(Served::Closed);
+    };
+    let served = send_within(clock, writer, &reply);
     if served.is_ok() {
-        close(clock, stream);
+        close(clock, &mut reader);
     }
     served
 }

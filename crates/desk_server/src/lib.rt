@@ -9,4 +9,6 @@ mod port;
 mod timed;
 
 pub use connections::serve_connections;
+pub use exchange::serve_within;
 pub use port::{ServerFault, serve_port};
+pub use timed::Limits;

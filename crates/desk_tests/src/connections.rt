@@ -61,7 +61,7 @@ fn a_client_that_says_nothing_is_left_after_a_while(rt: HostRuntime) -> Result<(
 }
 
 #[test]
-fn an_answer_is_not_lost_where_its_body_was_not_read(rt: HostRuntime) -> Result<(), Fail> {
+fn what_is_left_unread_is_drained_so_that_no_answer_is_lost(rt: HostRuntime) -> Result<(), Fail> {
     let alloc = rt.alloc();
     let listener = TcpListener::bind(&rt, "127.0.0.1:0")?;
     let mut client = connect(&rt, listener.local_addr()?.port())?;
@@ -69,6 +69,8 @@ fn an_answer_is_not_lost_where_its_body_was_not_read(rt: HostRuntime) -> Result<
     client.write_all(&[b'x'; 65_537])?;
     let mut desk = PlainDesk::new(alloc, 1);
     assert!(rt; serve_connections(&rt, alloc, &mut desk, &listener, 1) == Ok(()));
+    // A connection that is closed with bytes unread is reset.
+    assert!(rt; client.take_error()?.is_none());
     assert!(rt; gets(alloc, client, TOO_LARGE));
     Ok(())
 }

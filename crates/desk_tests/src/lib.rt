@@ -25,6 +25,8 @@ mod loopback;
 #[cfg(test)]
 mod messages;
 #[cfg(test)]
+mod paces;
+#[cfg(test)]
 mod port;
 #[cfg(test)]
 mod reads;

@@ -5,16 +5,18 @@ use crate::exchanges::{FIRST_BUG, REPORT};
 use desk_server::{ServerFault, serve_port};
 use desk_store::PlainDesk;
 use std::io::{self, Write};
-use std::net::{TcpListener, TcpStream};
+use std::net::{Ipv4Addr, TcpListener, TcpStream};
 use std::test::Fail;
 
-// A writer that keeps what it is given, and calls a port where it is flushed.
+// A writer that keeps what it is given, and calls a port where it is flushed, also by another
+// address of this machine.
 #[derive(Drop)]
 struct Caller<'a> {
     rt: &'a HostRuntime,
     port: u16,
     told: Vec<u8>,
     client: Option<TcpStream>,
+    is_refused: bool,
 }
 
 impl Write for Caller<'_> {
@@ -24,6 +26,8 @@ impl Write for Caller<'_> {
     }
 
     fn flush(&mut self) -> io::Result<()> {
+        let other = Ipv4Addr::new(127, 0, 0, 2);
+        self.is_refused = TcpStream::connect(self.rt, (other, self.port)).is_err();
         self.client = Some(ask(self.rt, self.port, REPORT.as_bytes())?);
         Ok(())
     }
@@ -36,7 +40,7 @@ fn free_port(rt: &HostRuntime) -> io::Result<u16> {
 }
 
 #[test]
-fn a_port_is_told_and_then_served(rt: HostRuntime) -> Result<(), Fail> {
+fn a_port_is_told_and_then_served_at_127_0_0_1_alone(rt: HostRuntime) -> Result<(), Fail> {
     let alloc = rt.alloc();
     let port = free_port(&rt)?;
     let mut caller = Caller {
@@ -44,16 +48,18 @@ fn a_port_is_told_and_then_served(rt: HostRuntime) -> Result<(), Fail> {
         port,
         told: Vec::new(alloc),
         client: None,
+        is_refused: false,
     };
     let mut desk = PlainDesk::new(alloc, 1);
     assert!(rt; serve_port(&rt, alloc, &mut desk, port, 1, &mut caller) == Ok(()));
     let line = format!(in alloc; "Listening on 127.0.0.1:{port}\n")?;
     assert!(rt; caller.told.as_slice() == line.as_bytes());
+    let is_refused = caller.is_refused;
     let is_answered = match caller.client {
         Some(client) => gets(alloc, client, FIRST_BUG),
         None => false,
     };
-    assert!(rt; is_answered);
+    assert!(rt; is_answered && is_refused);
     Ok(())
 }
 

@@ -3,3 +3,4 @@ pub mod HeadLemmas
 pub mod PieceLemmas
 pub mod HeaderLemmas
 pub mod BodyLemmas
+pub mod TakenLemmas

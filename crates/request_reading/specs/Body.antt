@@ -1,5 +1,6 @@
 -- The body of a request, out of the bytes after its head (RFC 9112, section 6).
-use Rattle.std.specs.Prelude.{ℕ, if◌then◌else◌, nat_le, List, length, take, Result, Ok, Err, Vec}
+use Rattle.std.specs.Prelude.{ℕ, ◌-◌, ◌≤◌, if◌then◌else◌, nat_le, List, length, take, Option, Some, None, Result, Ok, Err, Vec}
+use Rattle.std.specs.Io.KnownBytes.{Consumes, Keeps}
 use Rattle.std.specs.declared.alloc.Global.{Global}
 use Rattle.request_reading.specs.Headers.{body_length}
 use Rattle.request_reading.specs.declared.refusal.BodyRefusal.{BodyRefusal}
@@ -22,3 +23,15 @@ body_of headers rest = body_of_length (body_length headers) rest
 abbrev pub shown : Result (Vec ℕ Global) BodyRefusal → Result (List ℕ) BodyRefusal
 shown (Ok body) = Ok body.items
 shown (Err refusal) = Err refusal
+
+-- the size of the body that is read, by what the headers say of its length
+abbrev pub size_told : Result ℕ BodyRefusal → Option ℕ
+size_told (Ok n) = Some n
+size_told (Err refusal) = None
+
+-- What a reader gave for a body of this size, where these bytes had come before: none after the
+-- body, and none where no body is read.
+abbrev pub TakesBody : Option ℕ → List ℕ → Option (List ℕ) → Option (List ℕ) → Type 0
+TakesBody None here old new = Keeps old new
+TakesBody (Some size) here old new =
+    (more : List ℕ) × Consumes old new more × (length more ≤ size - length here)

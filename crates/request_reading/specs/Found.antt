@@ -1,11 +1,11 @@
 -- What reading says of the bytes that a reader had before, `old`, and has left, `new`.
-use Rattle.std.specs.Prelude.{◌≡◌, ◌≢◌, ℕ, ◌+◌, ◌<◌, ◌≤◌, List, [], ◌++◌, length, take, drop, Option, IfSome}
+use Rattle.std.specs.Prelude.{◌≡◌, ◌≢◌, ◌⊎◌, ℕ, ◌+◌, ◌<◌, ◌≤◌, List, [], ◌++◌, length, take, drop, Option, IfSome, Result, Ok, Err}
 use Rattle.std.specs.Io.KnownBytes.{Consumes}
-use Rattle.httparse.specs.Grammar.{RequestHead, HasNoRequest}
+use Rattle.httparse.specs.Grammar.{RequestHead, HasNoRequest, MayBecomeRequest}
 use Rattle.httparse.specs.Spans.{IsRequestAt, IsRequestWithin}
 use Rattle.httparse.specs.declared.spans.HeaderSpan.{HeaderSpan}
 use Rattle.httparse.specs.declared.spans.RequestSpans.{RequestSpans}
-use Rattle.request_reading.specs.Head.{BeginsWithHead, HasNoHead}
+use Rattle.request_reading.specs.Head.{BeginsWithHead, HasNoHead, max_head}
 use Rattle.request_reading.specs.declared.head.Head.{Head}
 use Rattle.request_reading.specs.declared.head.Head.TheVariants.{Nothing, Wrong, Complete}
 
@@ -56,3 +56,26 @@ pub record LosesFewer (old new : Option (List ℕ)) (count : ℕ) : Type 0 where
   pub bytes : List ℕ
   pub took : Consumes old new bytes
   pub few : length bytes < count
+
+-- no head has come yet, and one still may
+pub record IsUnfinished (front : List ℕ) : Type 0 where
+  pub none : HasNoRequest front
+  pub may : (front ≡ []) ⊎ MayBecomeRequest front
+
+-- The reader gave these bytes for a head.
+-- Before the piece that came last there was room, and what had come was unfinished: so no read was
+-- begun once the head was whole, or once none could come any more.
+pub record GaveHead (old new : Option (List ℕ)) (taken : List ℕ) : Type 0 where
+  pub took : Consumes old new taken
+  pub before : List ℕ
+  pub piece : List ℕ
+  pub are : taken ≡ before ++ piece
+  pub room : length before < max_head
+  pub unfinished : IsUnfinished before
+
+-- what was taken, whatever was found; of a complete head it is what the buffer has
+abbrev pub TakesHead : {E : Type 0} → Option (List ℕ) → Option (List ℕ) → List ℕ → Result Head E → Type 0
+TakesHead old new buf (Ok (Complete spans filled)) = GaveHead old new (take filled buf)
+TakesHead old new buf (Ok Nothing) = (taken : List ℕ) × GaveHead old new taken
+TakesHead old new buf (Ok Wrong) = (taken : List ℕ) × GaveHead old new taken
+TakesHead old new buf (Err error) = (taken : List ℕ) × GaveHead old new taken

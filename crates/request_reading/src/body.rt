@@ -1,11 +1,11 @@
 //! The body of a request: the bytes after its head.
 
-ghost use Rattle.std.specs.Prelude.{◌≡◌, ◌≢◌, ◌++◌, ◌≤◌, ◌<◌, ◌-◌, Ok, Err, length, take, drop, map, min, All, IfOk, IfErr, IsOk, OnErr};
+ghost use Rattle.std.specs.Prelude.{◌≡◌, ◌≢◌, ◌++◌, ◌≤◌, ◌<◌, ◌-◌, Ok, Err, Some, length, take, drop, map, min, All, IfOk, IfErr, IsOk, OnErr};
 ghost use Rattle.std.specs.Io.KnownBytes.{Consumes, IsAtEnd};
 ghost use Rattle.httparse.specs.Spans.{IsHeaderWithin, header_bytes};
 ghost use Rattle.request_reading.specs.Found.{Came, HadBytes, LosesFewer};
 ghost use Rattle.request_reading.specs.Headers.{body_length};
-ghost use Rattle.request_reading.specs.Body.{body_of, whole, shown};
+ghost use Rattle.request_reading.specs.Body.{body_of, whole, shown, size_told, TakesBody};
 
 use crate::headers::body_length;
 use crate::pieces::read_piece;
@@ -62,6 +62,7 @@ fn read_whole<R: Read>(
     ensures memory { result ≡ Err ReadFault.Memory → (reader.new ≡ reader.old) × (size ≢ 0) }
     ensures cut { result ≡ Err ReadFault.Read → LosesFewer (R.remaining reader.old) (R.remaining reader.new)
         (size - length here.now) }
+    ensures within { TakesBody (Some size) here.now (R.remaining reader.old) (R.remaining reader.new) }
 {
     let Ok(mut body) = room(alloc, here, size) else {
         return Err(ReadFault::Memory);
@@ -98,6 +99,10 @@ pub fn read_body<R: Read>(
         (λ more. shown body ≡ body_of (map (header_bytes buf.now) headers.now) (drop start buf.now ++ more))) }
     ensures taken { IfOk result (λ body. IfOk body (λ bytes.
         Consumes (R.remaining reader.old) (R.remaining reader.new) (drop (length buf.now - start) bytes.items))) }
+
+    // However it ends, no byte after the body is taken.
+    ensures within { TakesBody (size_told (body_length (map (header_bytes buf.now) headers.now)))
+        (drop start buf.now) (R.remaining reader.old) (R.remaining reader.new) }
 
     // What the headers refuse is not read, and takes no memory.
     ensures refused { IfErr (body_length (map (header_bytes buf.now) headers.now))

@@ -2,7 +2,7 @@
 
 ghost use Rattle.std.specs.Prelude.{◌≡◌, length, IfOk, OnErr};
 ghost use Rattle.request_reading.specs.Head.{max_head, max_headers};
-ghost use Rattle.request_reading.specs.Found.{IsFound, LosesNoHead};
+ghost use Rattle.request_reading.specs.Found.{IsFound, LosesNoHead, TakesHead};
 
 use crate::pieces::read_piece;
 use httparse::Status;
@@ -29,7 +29,8 @@ pub enum Head {
 
 /// Reads until a head is complete, by the grammar of `httparse`, with at most 8,192 bytes and 32
 /// headers.
-/// It takes no memory, and reads no further once the head is complete.
+/// It takes no memory, and reads no further once the head is complete, or wrong: what it takes from
+/// the reader beyond a head came with the head's last byte.
 /// The limits are this project's own rule.
 ///
 /// # Errors
@@ -45,6 +46,7 @@ pub fn read_head<R: Read>(
     requires slots { length headers.old ≡ max_headers }
     ensures found { IfOk result (IsFound (R.remaining reader.old) (R.remaining reader.new) buf.new headers.new) }
     ensures cut { OnErr result (LosesNoHead (R.remaining reader.old) (R.remaining reader.new)) }
+    ensures taken { TakesHead (R.remaining reader.old) (R.remaining reader.new) buf.new result }
 {
     let mut filled = 0;
     'pieces: while filled < buf.len() {

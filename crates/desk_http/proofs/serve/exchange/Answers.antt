@@ -9,6 +9,7 @@ use Rattle.desk_answers.specs.Shown.{shown}
 use Rattle.desk_http.specs.Exchange.{IsRight}
 use Rattle.desk_http.specs.Shown.{asks}
 use Rattle.desk_http.proofs.ExchangeLemmas.{complete_right, asked_right, memory_right, not_wrong}
+use Rattle.desk_http.proofs.TakenLemmas.{takes_head, takes_behind}
 use Rattle.desk_http.proofs.serve.exchange.Goals as goal
 
 pub returns-in-Err-Memory-clause-answer : goal.returns-in-Err-Memory-clause-answer
@@ -88,3 +89,60 @@ returns-in-Wrong-clause-wrong g c = search rules
 
 pub returns-in-Err-Memory-clause-count : goal.returns-in-Err-Memory-clause-count
 returns-in-Err-Memory-clause-count g c = search rules
+
+pub returns-in_default-clause-taken : goal.returns-in_default-clause-taken
+returns-in_default-clause-taken g c = takes_head c.read_head.result _ _ _ c.read_head.ensures.taken
+
+pub returns-in-Nothing-clause-taken : goal.returns-in-Nothing-clause-taken
+returns-in-Nothing-clause-taken g c = takes_head c.read_head.result _ _ _ c.read_head.ensures.taken
+
+pub returns-in-Wrong-clause-taken : goal.returns-in-Wrong-clause-taken
+returns-in-Wrong-clause-taken g c = takes_head c.read_head.result _ _ _ c.read_head.ensures.taken
+
+pub returns-in-Ok-ask-clause-taken : goal.returns-in-Ok-ask-clause-taken
+returns-in-Ok-ask-clause-taken g c =
+    let before = g.R.Read.remaining c.args.reader.now in
+    let after = g.R.Read.remaining c.read_head.new.reader in
+    let buf = c.read_head.new.buf in
+    let headers = c.read_head.new.headers in
+    takes_behind c.read_head.result c.in-Ok.head before after (g.R.Read.remaining c.ask.new.reader) buf headers
+    c.in-Complete.spans c.in-Complete.filled c.read_head.ensures.taken c.in-Ok.is c.in-Complete.is
+    (subst (λ (h : Head). IsFound before after buf headers h) c.in-Complete.is c.in-Ok.ensures.found) c.ask.ensures.taken
+
+pub returns-in-Err-Memory-clause-taken : goal.returns-in-Err-Memory-clause-taken
+returns-in-Err-Memory-clause-taken g c =
+    let before = g.R.Read.remaining c.args.reader.now in
+    let after = g.R.Read.remaining c.read_head.new.reader in
+    let buf = c.read_head.new.buf in
+    let headers = c.read_head.new.headers in
+    takes_behind c.read_head.result c.in-Ok.head before after (g.R.Read.remaining c.ask.new.reader) buf headers
+    c.in-Complete.spans c.in-Complete.filled c.read_head.ensures.taken c.in-Ok.is c.in-Complete.is
+    (subst (λ (h : Head). IsFound before after buf headers h) c.in-Complete.is c.in-Ok.ensures.found) c.ask.ensures.taken
+
+pub returns-in-Err-Read-clause-taken : goal.returns-in-Err-Read-clause-taken
+returns-in-Err-Read-clause-taken g c =
+    let before = g.R.Read.remaining c.args.reader.now in
+    let after = g.R.Read.remaining c.read_head.new.reader in
+    let buf = c.read_head.new.buf in
+    let headers = c.read_head.new.headers in
+    takes_behind c.read_head.result c.in-Ok.head before after (g.R.Read.remaining c.ask.new.reader) buf headers
+    c.in-Complete.spans c.in-Complete.filled c.read_head.ensures.taken c.in-Ok.is c.in-Complete.is
+    (subst (λ (h : Head). IsFound before after buf headers h) c.in-Complete.is c.in-Ok.ensures.found) c.ask.ensures.taken
+
+pub returns-in-Err-Memory-clause-wrong : goal.returns-in-Err-Memory-clause-wrong
+returns-in-Err-Memory-clause-wrong g c =
+    let before = g.R.Read.remaining c.args.reader.now in
+    let after = g.R.Read.remaining c.read_head.new.reader in
+    let buf = c.read_head.new.buf in
+    let headers = c.read_head.new.headers in
+    not_wrong before after buf headers c.in-Complete.spans c.in-Complete.filled
+    (subst (λ (h : Head). IsFound before after buf headers h) c.in-Complete.is c.in-Ok.ensures.found) _
+
+pub returns-in-Err-Read-clause-wrong : goal.returns-in-Err-Read-clause-wrong
+returns-in-Err-Read-clause-wrong g c =
+    let before = g.R.Read.remaining c.args.reader.now in
+    let after = g.R.Read.remaining c.read_head.new.reader in
+    let buf = c.read_head.new.buf in
+    let headers = c.read_head.new.headers in
+    not_wrong before after buf headers c.in-Complete.spans c.in-Complete.filled
+    (subst (λ (h : Head). IsFound before after buf headers h) c.in-Complete.is c.in-Ok.ensures.found) _

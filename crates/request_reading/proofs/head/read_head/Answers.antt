@@ -1,8 +1,8 @@
-use Rattle.std.proofs.Common.{rules, arith, length-take}
-use Rattle.std.proofs.KnownBytes.{Consumes-nil}
+use Rattle.std.proofs.Common.{rules, arith, inr, length-take, length-take-le, lit<}
+use Rattle.std.proofs.KnownBytes.{Consumes-nil, Keeps-refl}
+use Rattle.request_reading.proofs.TakenLemmas.{unfinished-empty, gave-kept, gave-more, takes-error}
 use Rattle.request_reading.proofs.HeadLemmas.{wrong-full, wrong-refused, wrong-stopped, none-empty, found-complete, loses-none}
 use Rattle.request_reading.proofs.PieceLemmas.{came-behind}
-use Rattle.std.proofs.lemmas.Grind.{common_steps}
 use Rattle.request_reading.proofs.head.read_head.Goals as goal
 
 pub pieces-init : goal.pieces-init
@@ -12,6 +12,8 @@ pieces-init g c = record {
   room = c.requires.room;
   slots = c.requires.slots;
   none_yet = none-empty;
+  unfinished = unfinished-empty;
+  gave = gave-kept _ _ _ _ (Consumes-nil _) unfinished-empty (lit< tt) (Keeps-refl _);
 }
 
 pub returns-in_err-n-clause-cut : goal.returns-in_err-n-clause-cut
@@ -50,4 +52,45 @@ pub returns-then-filled-eq0-clause-found : goal.returns-then-filled-eq0-clause-f
 returns-then-filled-eq0-clause-found g c = search rules
 
 pub pieces-preserved : goal.pieces-preserved
-pieces-preserved g c = grind (arith, common_steps)
+pieces-preserved g c =
+    let i = c.pieces.invariant in
+    let came = c.in_ok-n.ensures.came in
+    let told = rw c.in-Ok-Partial.field-0-is at c.in-Ok-Partial.ensures in
+    record {
+      took = came-behind _ _ _ _ _ _ _ i.took came;
+      fits = came.within;
+      room = omega (arith, c.read_piece.auto.buf, i.room);
+      slots = omega (arith, c.parse_request.auto.headers, i.slots);
+      none_yet = told.partial;
+      unfinished = record { none = told.partial; may = inr told.unfinished };
+      gave = gave-more _ _ _ _ _ _ _ i.took i.unfinished (omega (arith, length-take-le c.pieces.filled c.pieces.buf i.fits, i.room, c.pieces-test.true)) came;
+    }
+
+pub returns-in_err-n-clause-taken : goal.returns-in_err-n-clause-taken
+returns-in_err-n-clause-taken g c =
+    let i = c.pieces.invariant in
+    takes-error c.from_residual.result _ _ _ _ c.from_residual.ensures.0
+    (gave-kept _ _ _ _ i.took i.unfinished (omega (arith, length-take-le c.pieces.filled c.pieces.buf i.fits, i.room, c.pieces-test.true)) c.in_err-n.ensures.none_lost)
+
+pub returns-clause-taken : goal.returns-clause-taken
+returns-clause-taken g c = (_, c.pieces.invariant.gave)
+
+pub returns-in-Err-clause-taken : goal.returns-in-Err-clause-taken
+returns-in-Err-clause-taken g c =
+    let i = c.pieces.invariant in
+    (_, gave-more _ _ _ _ _ _ _ i.took i.unfinished (omega (arith, length-take-le c.pieces.filled c.pieces.buf i.fits, i.room, c.pieces-test.true)) c.in_ok-n.ensures.came)
+
+pub returns-in-Ok-Complete-clause-taken : goal.returns-in-Ok-Complete-clause-taken
+returns-in-Ok-Complete-clause-taken g c =
+    let i = c.pieces.invariant in
+    gave-more _ _ _ _ _ _ _ i.took i.unfinished (omega (arith, length-take-le c.pieces.filled c.pieces.buf i.fits, i.room, c.pieces-test.true)) c.in_ok-n.ensures.came
+
+pub returns-then-filled-eq0-clause-taken : goal.returns-then-filled-eq0-clause-taken
+returns-then-filled-eq0-clause-taken g c =
+    let i = c.pieces.invariant in
+    (_, gave-more _ _ _ _ _ _ _ i.took i.unfinished (omega (arith, length-take-le c.pieces.filled c.pieces.buf i.fits, i.room, c.pieces-test.true)) c.in_ok-n.ensures.came)
+
+pub returns-else-filled-eq0-clause-taken : goal.returns-else-filled-eq0-clause-taken
+returns-else-filled-eq0-clause-taken g c =
+    let i = c.pieces.invariant in
+    (_, gave-more _ _ _ _ _ _ _ i.took i.unfinished (omega (arith, length-take-le c.pieces.filled c.pieces.buf i.fits, i.room, c.pieces-test.true)) c.in_ok-n.ensures.came)

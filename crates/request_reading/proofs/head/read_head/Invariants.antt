@@ -1,6 +1,7 @@
 use Rattle.std.proofs.Common.{length, ◌-◌, ◌≡◌, ◌≤◌, take}
 use Rattle.std.specs.Io.KnownBytes.{Consumes}
 use Rattle.httparse.specs.Grammar.{HasNoRequest}
+use Rattle.request_reading.specs.Found.{IsUnfinished, GaveHead}
 use Rattle.request_reading.proofs.head.read_head.Given as goal
 
 abbrev pub invariant-pieces : goal.invariant-pieces
@@ -10,6 +11,8 @@ invariant-pieces g l = record {
   room : length l.buf ≡ 8192;
   slots : length l.headers ≡ 32;
   none_yet : HasNoRequest (take l.filled l.buf);
+  unfinished : IsUnfinished (take l.filled l.buf);
+  gave : GaveHead (g.R.Read.remaining l.initial.reader) (g.R.Read.remaining l.reader) (take l.filled l.buf);
 }
 
 abbrev pub decreases-pieces : goal.decreases-pieces

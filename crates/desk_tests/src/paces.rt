@@ -1,0 +1,321 @@
+//! A clock and two ends of a connection that pass the time by themselves: how long a server waits.
+
+use crate::exchanges::REPORT;
+use desk_http::{ServeFault, Served};
+use desk_server::{Limits, serve_within};
+use desk_store::{PlainDesk, Records};
+use std::alloc::Global;
+use std::cell::Cell;
+use std::io::{self, ErrorKind, Read, Write};
+use std::test::Fail;
+use std::time::{Clock, Duration};
+
+// A clock that goes on where somebody waits, in milliseconds.
+#[derive(Drop)]
+struct Watch {
+    now: Cell<u64>,
+}
+
+impl Watch {
+    fn new() -> Watch {
+        Watch { now: Cell::new(0) }
+    }
+
+    // Waits so long, but no longer than the limit; whether that was long enough.
+    fn waits(&self, pause: u64, limit: u64) -> bool {
+        self.now.set(self.now.get().saturating_add(pause.min(limit)));
+        pause <= limit
+    }
+}
+
+impl Clock for Watch {
+    fn monotonic(&self) -> io::Result<Duration> {
+        Ok(Duration::from_millis(self.now.get()))
+    }
+
+    fn since_1970(&self) -> io::Result<Duration> {
+        Ok(Duration::from_millis(self.now.get()))
+    }
+}
+
+// A call at a pace: so many bytes after each pause, the first after another, in milliseconds.
+#[derive(Clone, Copy)]
+struct Pace {
+    first: u64,
+    pause: u64,
+    piece: usize,
+}
+
+// The paces of a client: it sends its request, takes its answer, and sends so many bytes more.
+#[derive(Clone, Copy)]
+struct Paces {
+    sends: Pace,
+    takes: Pace,
+    more: usize,
+    sends_more: Pace,
+}
+
+// A client at its paces.
+#[derive(Drop)]
+struct Client<'a> {
+    watch: &'a Watch,
+    request: &'a [u8],
+    paces: Paces,
+    // How many bytes were read and written, and the limits of the calls.
+    read: Cell<usize>,
+    written: Cell<usize>,
+    read_limit: Cell<u64>,
+    write_limit: Cell<u64>,
+}
+
+// How long a limit is, in milliseconds.
+fn millis(limit: Duration) -> u64 {
+    limit.as_secs().saturating_mul(1_000).saturating_add(u64::from(limit.subsec_millis()))
+}
+
+impl<'a> Client<'a> {
+    fn new(watch: &'a Watch, request: &'a [u8], paces: Paces) -> Client<'a> {
+        Client {
+            watch,
+            request,
+            paces,
+            read: Cell::new(0),
+            written: Cell::new(0),
+            read_limit: Cell::new(0),
+            write_limit: Cell::new(0),
+        }
+    }
+}
+
+// Whether a call at a pace, after so many bytes, has waited long enough.
+fn comes(watch: &Watch, pace: Pace, done: usize, limit: u64) -> bool {
+    watch.waits(if done == 0 { pace.first } else { pace.pause }, limit)
+}
+
+impl Limits for &Client<'_> {
+    fn limit_reads(&self, limit: Duration) -> io::Result<()> {
+        self.read_limit.set(millis(limit));
+        Ok(())
+    }
+
+    fn limit_writes(&self, limit: Duration) -> io::Result<()> {
+        self.write_limit.set(millis(limit));
+        Ok(())
+    }
+
+    fn end_writes(&self) -> io::Result<()> {
+        Ok(())
+    }
+}
+
+impl Read for &Client<'_> {
+    fn read(&mut self, buf: &mut [u8]) -> io::Result<usize> {
+        let done = self.read.get();
+        let left = self.request.get(done..).unwrap_or(&[]);
+        let count = if left.is_empty() {
+            let sent = self.request.len().saturating_add(self.paces.more);
+            sent.saturating_sub(done)
+        } else {
+            left.len()
+        };
+        if count == 0 {
+            return Ok(0);
+        }
+        let pace = if left.is_empty() {
+            self.paces.sends_more
+        } else {
+            self.paces.sends
+        };
+        if !comes(self.watch, pace, done, self.read_limit.get()) {
+            return Err(io::Error::from(ErrorKind::WouldBlock));
+        }
+        let len = count.min(buf.len()).min(pace.piece);
+        for (place, byte) in buf.iter_mut().zip(left) {
+            *place = *byte;
+        }
+        self.read.set(done.saturating_add(len));
+        Ok(len)
+    }
+}
+
+impl Write for &Client<'_> {
+    fn write(&mut self, buf: &[u8]) -> io::Result<usize> {
+        let done = self.written.get();
+        if !comes(self.watch, self.paces.takes, done, self.write_limit.get()) {
+            return Err(io::Error::from(ErrorKind::WouldBlock));
+        }
+        let len = buf.len().min(self.paces.takes.piece);
+        self.written.set(done.saturating_add(len));
+        Ok(len)
+    }
+
+    fn flush(&mut self) -> io::Result<()> {
+        Ok(())
+    }
+}
+
+const AT_ONCE: Pace = Pace {
+    first: 0,
+    pause: 0,
+    piece: usize::MAX,
+};
+
+// What came of serving a client.
+#[derive(Clone, Copy, PartialEq, Eq)]
+enum Outcome {
+    Answered,
+    Closed,
+    ReadFault,
+    WriteFault,
+}
+
+fn outcome_of(told: &Result<Served, ServeFault>) -> Outcome {
+    match told {
+        Ok(Served::Answered(_)) => Outcome::Answered,
+        Ok(Served::Closed) => Outcome::Closed,
+        Err(ServeFault::Read) => Outcome::ReadFault,
+        Err(ServeFault::Write) => Outcome::WriteFault,
+    }
+}
+
+// What came of a request at these paces: how it ended and when, and how many bugs there are then.
+fn ends(alloc: Global, watch: &Watch, client: &Client<'_>) -> (Outcome, u64, u64) {
+    let mut desk = PlainDesk::new(alloc, 1);
+    let told = serve_within(watch, alloc, &mut desk, client, client);
+    let bugs = desk.next().unwrap_or(0).saturating_sub(1);
+    (outcome_of(&told), watch.now.get(), bugs)
+}
+
+// The same of a report that is sent and whose answer is taken at these paces.
+fn report_at(alloc: Global, sends: Pace, takes: Pace) -> (Outcome, u64, u64) {
+    let watch = Watch::new();
+    let paces = Paces {
+        sends,
+        takes,
+        more: 0,
+        sends_more: AT_ONCE,
+    };
+    ends(alloc, &watch, &Client::new(&watch, REPORT.as_bytes(), paces))
+}
+
+// The first call waits so long, and no other waits.
+fn late(first: u64) -> Pace {
+    Pace { first, ..AT_ONCE }
+}
+
+// A byte after each pause, the first at once.
+fn trickle(pause: u64) -> Pace {
+    Pace {
+        first: 0,
+        pause,
+        piece: 1,
+    }
+}
+
+#[test]
+fn a_client_may_be_silent_for_a_second(rt: HostRuntime) {
+    let alloc = rt.alloc();
+    assert!(rt; report_at(alloc, late(1_000), AT_ONCE) == (Outcome::Answered, 1_000, 1));
+    assert!(rt; report_at(alloc, late(1_001), AT_ONCE) == (Outcome::ReadFault, 1_000, 0));
+}
+
+#[test]
+fn a_request_has_ten_seconds(rt: HostRuntime) {
+    let alloc = rt.alloc();
+    // It stops in its body, after 60 bytes of 105.
+    let stops = |pause: u64| Pace {
+        first: 500,
+        pause,
+        piece: 60,
+    };
+    assert!(rt; report_at(alloc, stops(9_500), AT_ONCE) == (Outcome::Answered, 10_000, 1));
+    assert!(rt; report_at(alloc, stops(9_501), AT_ONCE) == (Outcome::ReadFault, 10_000, 0));
+    // Of 104 pauses the head, of 43 bytes, has 42.
+    assert!(rt; report_at(alloc, trickle(96), AT_ONCE) == (Outcome::Answered, 9_984, 1));
+    assert!(rt; report_at(alloc, trickle(97), AT_ONCE) == (Outcome::ReadFault, 10_000, 0));
+    assert!(rt; report_at(alloc, trickle(300), AT_ONCE) == (Outcome::ReadFault, 10_000, 0));
+}
+
+#[test]
+fn a_short_answer_has_five_seconds(rt: HostRuntime) {
+    let alloc = rt.alloc();
+    assert!(rt; report_at(alloc, AT_ONCE, late(5_000)) == (Outcome::Answered, 5_000, 1));
+    assert!(rt; report_at(alloc, AT_ONCE, late(5_001)) == (Outcome::WriteFault, 5_000, 1));
+    // 103 bytes, and so 102 pauses.
+    assert!(rt; report_at(alloc, AT_ONCE, trickle(49)) == (Outcome::Answered, 4_998, 1));
+    assert!(rt; report_at(alloc, AT_ONCE, trickle(50)) == (Outcome::WriteFault, 5_000, 1));
+}
+
+// A message of so many lines.
+fn long_message(alloc: Global, lines: usize) -> Result<String, Fail> {
+    let mut body = String::from_str(alloc, "{\"from\":\"ann\",\"message\":\"")?;
+    for _ in 0..lines {
+        body.push_str("severity 1 grave\\n")?;
+    }
+    body.push_str("\"}")?;
+    let len = body.len();
+    Ok(format!(in alloc; "POST /control HTTP/1.1\r\nContent-Length: {len}\r\n\r\n{body}")?)
+}
+
+#[test]
+fn an_answer_has_a_second_more_for_each_10_000_bytes(rt: HostRuntime) -> Result<(), Fail> {
+    let alloc = rt.alloc();
+    let message = long_message(alloc, 600)?;
+    for (first, end) in [
+        (6_999, (Outcome::Answered, 6_999, 0)),
+        (7_001, (Outcome::WriteFault, 7_000, 0)),
+    ] {
+        let watch = Watch::new();
+        let paces = Paces {
+            sends: AT_ONCE,
+            takes: late(first),
+            more: 0,
+            sends_more: AT_ONCE,
+        };
+        let client = Client::new(&watch, message.as_bytes(), paces);
+        assert!(rt; ends(alloc, &watch, &client) == end);
+        if end.0 == Outcome::Answered {
+            let written = client.written.get();
+            assert!(rt; 20_200 < written && written < 30_000, "{written}");
+        }
+    }
+    Ok(())
+}
+
+// How many bytes are read of those that a client sends after its request, at this pace, and how
+// long that takes.
+fn drained(alloc: Global, more: usize, sends_more: Pace) -> (usize, u64) {
+    let watch = Watch::new();
+    let paces = Paces {
+        sends: AT_ONCE,
+        takes: AT_ONCE,
+        more,
+        sends_more,
+    };
+    let client = Client::new(&watch, REPORT.as_bytes(), paces);
+    ends(alloc, &watch, &client);
+    (client.read.get().saturating_sub(REPORT.len()), watch.now.get())
+}
+
+#[test]
+fn what_a_connection_leaves_unread_is_drained(rt: HostRuntime) {
+    let alloc = rt.alloc();
+    assert!(rt; drained(alloc, 100_000, AT_ONCE) == (100_000, 0));
+    assert!(rt; drained(alloc, 16_777_216, AT_ONCE) == (16_777_216, 0));
+    assert!(rt; drained(alloc, 16_777_217, AT_ONCE) == (16_777_216, 0));
+    let tens = |pause: u64| Pace {
+        first: 0,
+        pause,
+        piece: 10,
+    };
+    assert!(rt; drained(alloc, 100, tens(1_000)) == (40, 4_000));
+    assert!(rt; drained(alloc, 100, tens(900)) == (40, 4_000));
+    assert!(rt; drained(alloc, 100, tens(1_001)) == (0, 1_000));
+    assert!(rt; drained(alloc, 100, tens(400)) == (100, 4_000));
+    // The pieces may be small.
+    let ones = Pace {
+        piece: 1,
+        ..AT_ONCE
+    };
+    assert!(rt; drained(alloc, 3_000, ones) == (3_000, 0));
+}
