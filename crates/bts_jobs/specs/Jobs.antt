@@ -28,8 +28,14 @@ pub record IsRun (input : List ℕ) (c0 c1 : Option (List ℕ)) (end : JobEnd) :
   pub desk : Desk
   -- what its reader has left, if that is known
   pub rest : Option (List ℕ)
-  pub ends : Ends input rest (record { from = begin (empty_desk 1); desk = desk; faults_before = no_faults; faults = no_faults;
-      written_before = c0; written = c1 }) result
+  pub ends : Ends input rest (record {
+    from = begin (empty_desk 1);
+    desk = desk;
+    faults_before = no_faults;
+    faults = no_faults;
+    written_before = c0;
+    written = c1;
+  }) result
   pub end_is : end ≡ end_of_script result
 
 -- A server was run on this port, for so many connections, and ended so.

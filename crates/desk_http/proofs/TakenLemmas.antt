@@ -79,21 +79,27 @@ takes_behind {E} r h old mid new buf headers spans filled gave is shape c body =
 -- ---- where the bytes are known
 
 gave_kept : (old mid new : Option (List ℕ)) (taken : List ℕ) → GaveHead old mid taken → Keeps mid new → TakesHeadAlone old new
-gave_kept old mid new taken gave kept = (taken, record {
-  took = Consumes-kept old mid new taken gave.took kept;
-  before = gave.before;
-  piece = gave.piece;
-  are = gave.are;
-  room = gave.room;
-  unfinished = gave.unfinished;
-})
+gave_kept old mid new taken gave kept = (
+  taken,
+  record {
+    took = Consumes-kept old mid new taken gave.took kept;
+    before = gave.before;
+    piece = gave.piece;
+    are = gave.are;
+    room = gave.room;
+    unfinished = gave.unfinished;
+  },
+)
 
 -- the input begins with the head that was found
 found_head : (input taken : List ℕ) (mid new : Option (List ℕ)) → Consumes (Some input) mid taken → (b : TakesBehind taken mid new)
     → (y : List ℕ) × (mid ≡ Some y) × BeginsWithHead input b.head (b.behind ++ y)
 found_head input taken None new took b = absurd took
-found_head input taken (Some y) new took b = (y, refl,
-    subst (λ l. BeginsWithHead l b.head (b.behind ++ y)) (sym took) (begins-more taken y b.head b.behind b.begins))
+found_head input taken (Some y) new took b = (
+  y,
+  refl,
+  subst (λ l. BeginsWithHead l b.head (b.behind ++ y)) (sym took) (begins-more taken y b.head b.behind b.begins),
+)
 
 kept_by : (size : Option ℕ) (here : List ℕ) (mid new : Option (List ℕ)) → size ≡ None → TakesBody size here mid new → Keeps mid new
 kept_by size here mid new none takes = subst (λ (s : Option ℕ). TakesBody s here mid new) none takes
@@ -109,16 +115,16 @@ head_then input taken mid new head rest gave begins none b =
 pub head_alone : (input left : List ℕ) (head : RequestHead) (rest : List ℕ) → TakesRequest (Some input) (Some left)
     → BeginsWithHead input head rest → size_of head ≡ None → TakesHeadAlone (Some input) (Some left)
 head_alone input left head rest t begins none = elim t.behind [
-    inl kept ↦ gave_kept (Some input) t.mid (Some left) t.taken t.gave kept
-    | inr b ↦ head_then input t.taken t.mid (Some left) head rest t.gave begins none b
-    ]
+  | inl kept ↦ gave_kept (Some input) t.mid (Some left) t.taken t.gave kept
+  | inr b ↦ head_then input t.taken t.mid (Some left) head rest t.gave begins none b
+]
 
 pub wrong_alone : (input left : List ℕ) → TakesRequest (Some input) (Some left) → HasNoHead input
     → TakesHeadAlone (Some input) (Some left)
 wrong_alone input left t none = elim t.behind [
-    inl kept ↦ gave_kept (Some input) t.mid (Some left) t.taken t.gave kept
-    | inr b ↦ (let f = found_head input t.taken t.mid (Some left) t.gave.took b in absurd (none b.head (b.behind ++ f.0) f.2))
-    ]
+  | inl kept ↦ gave_kept (Some input) t.mid (Some left) t.taken t.gave kept
+  | inr b ↦ (let f = found_head input t.taken t.mid (Some left) t.gave.took b in absurd (none b.head (b.behind ++ f.0) f.2))
+]
 
 some_is_none : (y : List ℕ) → None ≡ Some y → ⊥
 some_is_none y e = cc
@@ -150,11 +156,11 @@ pub body_then : (input left : List ℕ) (head : RequestHead) (rest : List ℕ) (
     → BeginsWithHead input head rest → size_of head ≡ Some size
     → (length rest ≤ length left + size) ⊎ TakesHeadAlone (Some input) (Some left)
 body_then input left head rest size t begins some = elim t.behind [
-    inl kept ↦ inr (gave_kept (Some input) t.mid (Some left) t.taken t.gave kept)
-    | inr b ↦ (
-    let f = found_head input t.taken t.mid (Some left) t.gave.took b in
-    let one = one_head input head b.head rest (b.behind ++ f.0) begins f.2 in
-    let takes = subst (λ (s : Option ℕ). TakesBody s b.behind t.mid (Some left)) (sym (ap size_of one.0) ∙ some) b.body in
-    subst (λ (r : List ℕ). (length r ≤ length left + size) ⊎ TakesHeadAlone (Some input) (Some left)) (sym one.1)
-    (few_left input t.taken left t.mid size b.behind f.0 f.1 t.gave takes))
-    ]
+  | inl kept ↦ inr (gave_kept (Some input) t.mid (Some left) t.taken t.gave kept)
+  | inr b ↦ (
+      let f = found_head input t.taken t.mid (Some left) t.gave.took b in
+      let one = one_head input head b.head rest (b.behind ++ f.0) begins f.2 in
+      let takes = subst (λ (s : Option ℕ). TakesBody s b.behind t.mid (Some left)) (sym (ap size_of one.0) ∙ some) b.body in
+      subst (λ (r : List ℕ). (length r ≤ length left + size) ⊎ TakesHeadAlone (Some input) (Some left)) (sym one.1)
+      (few_left input t.taken left t.mid size b.behind f.0 f.1 t.gave takes))
+]

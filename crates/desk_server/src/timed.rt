@@ -50,13 +50,7 @@ impl<'a, C: Clock, T> Timed<'a, C, T> {
     ghost use Rattle.std.specs.Prelude.{◌≡◌};
 
     /// The first call has one limit, and those after it another, in seconds.
-    pub fn new(
-        clock: &'a C,
-        inner: T,
-        deadline: Deadline,
-        next: u64,
-        later: u64,
-    ) -> Timed<'a, C, T>
+    pub fn new(clock: &'a C, inner: T, deadline: Deadline, next: u64, later: u64) -> Timed<'a, C, T>
         ensures { result.inner ≡ inner }
     {
         Timed {

@@ -23,7 +23,8 @@ impl Watch {
 
     // Waits so long, but no longer than the limit; whether that was long enough.
     fn waits(&self, pause: u64, limit: u64) -> bool {
-        self.now.set(self.now.get().saturating_add(pause.min(limit)));
+        self.now
+            .set(self.now.get().saturating_add(pause.min(limit)));
         pause <= limit
     }
 }
@@ -70,7 +71,10 @@ struct Client<'a> {
 
 // How long a limit is, in milliseconds.
 fn millis(limit: Duration) -> u64 {
-    limit.as_secs().saturating_mul(1_000).saturating_add(u64::from(limit.subsec_millis()))
+    limit
+        .as_secs()
+        .saturating_mul(1_000)
+        .saturating_add(u64::from(limit.subsec_millis()))
 }
 
 impl<'a> Client<'a> {
@@ -195,7 +199,11 @@ fn report_at(alloc: Global, sends: Pace, takes: Pace) -> (Outcome, u64, u64) {
         more: 0,
         sends_more: AT_ONCE,
     };
-    ends(alloc, &watch, &Client::new(&watch, REPORT.as_bytes(), paces))
+    ends(
+        alloc,
+        &watch,
+        &Client::new(&watch, REPORT.as_bytes(), paces),
+    )
 }
 
 // The first call waits so long, and no other waits.
@@ -294,7 +302,10 @@ fn drained(alloc: Global, more: usize, sends_more: Pace) -> (usize, u64) {
     };
     let client = Client::new(&watch, REPORT.as_bytes(), paces);
     ends(alloc, &watch, &client);
-    (client.read.get().saturating_sub(REPORT.len()), watch.now.get())
+    (
+        client.read.get().saturating_sub(REPORT.len()),
+        watch.now.get(),
+    )
 }
 
 #[test]
