@@ -28,8 +28,8 @@ in_turn k h desk faults count old new result s kept honest =
     record { course = s.course; ends = s.ends; leaves = s.leaves.fact kept honest }
 
 -- a fault of writing
-is_write : (fault : ServeFault) → Err {T = Served} fault ≡ Err Write → fault ≡ Write
-is_write fault e = cc
+is_write : (fault : ServeFault) (r : Result Served ServeFault) → r ≡ Err fault → r ≡ Err Write → fault ≡ Write
+is_write fault r is write = cc
 
 -- an answer that was written, or not
 pub sent_right : (input : Option (List ℕ)) (old new : Desk) (n0 n1 : Faults) (reply : Reply) (r : Result Served ServeFault)
@@ -38,7 +38,7 @@ pub sent_right : (input : Option (List ℕ)) (old new : Desk) (n0 n1 : Faults) (
 sent_right input old new n0 n1 reply (Ok served) status write right =
     subst (λ (s : Served). IsServed input old new n0 n1 None None (Ok s)) (sym status) (reply.fault, shown reply, right, refl, tt)
 sent_right input old new n0 n1 reply (Err fault) status write right =
-    subst (λ (f : ServeFault). IsServed input old new n0 n1 None None (Err f)) (sym (is_write fault write)) (reply.fault, shown reply, right)
+    subst (λ (f : ServeFault). IsServed input old new n0 n1 None None (Err f)) (sym (is_write fault (Err fault) refl write)) (reply.fault, shown reply, right)
 
 pub sent_counted : (n0 n1 : Faults) (reply : Reply) (r : Result Served ServeFault)
     → IfOk r (λ served. served ≡ Answered reply.status) → OnErr r (r ≡ Err Write)
@@ -46,4 +46,4 @@ pub sent_counted : (n0 n1 : Faults) (reply : Reply) (r : Result Served ServeFaul
 sent_counted n0 n1 reply (Ok served) status write counts =
     subst (λ (s : Served). IsCounted (Ok s) n0 n1) (sym status) (reply.fault, counts)
 sent_counted n0 n1 reply (Err fault) status write counts =
-    subst (λ (f : ServeFault). IsCounted (Err f) n0 n1) (sym (is_write fault write)) (reply.fault, counts)
+    subst (λ (f : ServeFault). IsCounted (Err f) n0 n1) (sym (is_write fault (Err fault) refl write)) (reply.fault, counts)

@@ -68,8 +68,8 @@ fn send<W: Write>(writer: &mut Held<W>, reply: &Reply) -> Result<Served, ServeFa
 }
 
 // Writes an answer within its time.
-fn send_within<C: Clock, W: Write + Limits + Drop>(
-    clock: &C,
+fn send_within<C: Clock + Copy + Drop, W: Write + Limits + Drop>(
+    clock: C,
     writer: W,
     reply: &Reply,
 ) -> Result<Served, ServeFault>
@@ -77,7 +77,7 @@ fn send_within<C: Clock, W: Write + Limits + Drop>(
     ensures write { OnErr result (result ≡ Err ServeFault.Write) }
 {
     let seconds = answer_seconds(reply);
-    match Deadline::after(clock, seconds) {
+    match Deadline::after(&clock, seconds) {
         Ok(deadline) => {
             let timed = Timed::new(clock, writer, deadline, seconds, seconds);
             send(&mut Held::new(timed), reply)
@@ -101,11 +101,11 @@ fn drain<R: Read>(reader: &mut R) {
 
 // Ends a connection whose answer is written: no more is written, and what the client still sends is
 // read, since a connection that is closed with bytes unread may be reset, and the answer lost.
-fn close<C: Clock, R: Read + Limits>(clock: &C, reader: &mut Timed<'_, C, R>) {
+fn close<C: Clock + Copy + Drop, R: Read + Limits>(clock: C, reader: &mut Timed<C, R>) {
     if reader.end_writes().is_err() {
         return;
     }
-    if let Ok(deadline) = Deadline::after(clock, DRAIN) {
+    if let Ok(deadline) = Deadline::after(&clock, DRAIN) {
         reader.restart(deadline, LATE_CALL);
         drain(reader);
     }
@@ -126,18 +126,22 @@ fn close<C: Clock, R: Read + Limits>(clock: &C, reader: &mut Timed<'_, C, R>) {
 /// `Read` where a read failed or took too long, or the clock can't be read: no answer is begun, and
 /// nothing has changed.
 /// `Write` where a write did: the request was carried out as far as its answer says.
-pub fn serve_within<C: Clock, S: Records, R: Read + Limits + Drop, W: Write + Limits + Drop>(
-    clock: &C,
+pub fn serve_within<C, S: Records, R, W>(
+    clock: C,
     alloc: Global,
     store: &mut S,
     reader: R,
     writer: W,
 ) -> Result<Served, ServeFault>
+where
+    C: Clock + Copy + Drop,
+    R: Read + Limits + Drop,
+    W: Write + Limits + Drop,
     ensures answer { Holds S.is_kept S.is_honest store.old store.new (IsServed (R.remaining reader)
         (S.desk store.old) (S.desk store.new) (S.faults store.old) (S.faults store.new) None None result) }
     ensures count { IsCounted result (S.faults store.old) (S.faults store.new) }
 {
-    let Ok(deadline) = Deadline::after(clock, REQUEST) else {
+    let Ok(deadline) = Deadline::after(&clock, REQUEST) else {
         return Err(ServeFault::Read);
     };
     let mut reader = Timed::new(clock, reader, deadline, FIRST_BYTE, REQUEST);

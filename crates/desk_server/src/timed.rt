@@ -37,8 +37,8 @@ impl Limits for &TcpStream {
 /// written was taken by it.
 /// How long anything takes is not proved.
 #[derive(Drop)]
-pub(crate) struct Timed<'a, C, T> {
-    clock: &'a C,
+pub(crate) struct Timed<C, T> {
+    clock: C,
     inner: T,
     deadline: Deadline,
     // The limit of the next call, and of those after one that went well, in seconds.
@@ -46,11 +46,11 @@ pub(crate) struct Timed<'a, C, T> {
     later: u64,
 }
 
-impl<'a, C: Clock, T> Timed<'a, C, T> {
+impl<C: Clock, T> Timed<C, T> {
     ghost use Rattle.std.specs.Prelude.{◌≡◌};
 
     /// The first call has one limit, and those after it another, in seconds.
-    pub fn new(clock: &'a C, inner: T, deadline: Deadline, next: u64, later: u64) -> Timed<'a, C, T>
+    pub fn new(clock: C, inner: T, deadline: Deadline, next: u64, later: u64) -> Timed<C, T>
         ensures { result.inner ≡ inner }
     {
         Timed {
@@ -70,18 +70,18 @@ impl<'a, C: Clock, T> Timed<'a, C, T> {
     }
 }
 
-impl<C: Clock, T: Limits> Timed<'_, C, T> {
+impl<C: Clock, T: Limits> Timed<C, T> {
     /// Tells the other end that nothing more is written.
     pub fn end_writes(&self) -> io::Result<()> {
         self.inner.end_writes()
     }
 }
 
-impl<C: Clock, R: Read + Limits> Read for Timed<'_, C, R> {
+impl<C: Clock, R: Read + Limits> Read for Timed<C, R> {
     ghost remaining = { λ s. R.remaining s.inner };
 
     fn read(&mut self, buf: &mut [u8]) -> io::Result<usize> {
-        let limit = self.deadline.limit(self.clock, self.next)?;
+        let limit = self.deadline.limit(&self.clock, self.next)?;
         self.inner.limit_reads(limit)?;
         let count = self.inner.read(buf)?;
         self.next = self.later;
@@ -89,11 +89,11 @@ impl<C: Clock, R: Read + Limits> Read for Timed<'_, C, R> {
     }
 }
 
-impl<C: Clock, W: Write + Limits> Write for Timed<'_, C, W> {
+impl<C: Clock, W: Write + Limits> Write for Timed<C, W> {
     ghost contents = { λ s. W.contents s.inner };
 
     fn write(&mut self, buf: &[u8]) -> io::Result<usize> {
-        let limit = self.deadline.limit(self.clock, self.next)?;
+        let limit = self.deadline.limit(&self.clock, self.next)?;
         self.inner.limit_writes(limit)?;
         let count = self.inner.write(buf)?;
         self.next = self.later;
