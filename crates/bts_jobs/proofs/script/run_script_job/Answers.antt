@@ -23,6 +23,6 @@ returns g c = record {
               written = g.W.Write.contents c.run_script.new.writer;
             }) c.run_script.result)
             c.new-desk.ensures ((c.run_script.ensures.answer.fact tt tt).known input left);
-        end_is = c.end_of.ensures;
+        end_is = c.end_of-end.ensures;
       };
 }

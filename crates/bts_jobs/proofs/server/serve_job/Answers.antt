@@ -12,7 +12,7 @@ returns g c =
     let new = c.serve_port.new.store in
     record {
       result = c.serve_port.result;
-      end_is = c.end_of.ensures;
+      end_is = c.end_of-end.ensures;
       told = c.serve_port.ensures.told;
       bind = λ e. ap g.W.Write.contents (c.serve_port.ensures.bind e).1;
       last = (desk_of new.bugs new.tree new.next, no_faults);

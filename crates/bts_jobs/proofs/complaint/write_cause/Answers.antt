@@ -1,0 +1,35 @@
+use Rattle.std.proofs.Common.{◌≡◌, ◌++◌, ℕ, subst, sym, codes, decimal, rules}
+use Rattle.bts_jobs.specs.Endings.{cause_line, IsWritten}
+use Rattle.bts_jobs.specs.declared.ending.Cause.{Cause}
+use Rattle.bts_jobs.proofs.complaint.write_cause.Goals as goal
+
+pub returns-in-Memory : goal.returns-in-Memory
+returns-in-Memory g c =
+    subst (λ (cause : Cause). IsWritten (cause_line cause) c.write_text.result (g.E.Write.contents c.args.errors.now)
+    (g.E.Write.contents c.write_text.new.errors)) (sym c.in-Memory.is) c.write_text.ensures
+
+pub returns-in-Output : goal.returns-in-Output
+returns-in-Output g c =
+    subst (λ (cause : Cause). IsWritten (cause_line cause) c.write_text-in-Output.result (g.E.Write.contents c.args.errors.now)
+    (g.E.Write.contents c.write_text-in-Output.new.errors)) (sym c.in-Output.is) c.write_text-in-Output.ensures
+
+pub returns-in-NotUtf8 : goal.returns-in-NotUtf8
+returns-in-NotUtf8 g c =
+    subst (λ (cause : Cause). IsWritten (cause_line cause) c.write_numbered.result (g.E.Write.contents c.args.errors.now)
+    (g.E.Write.contents c.write_numbered.new.errors)) (sym c.in-NotUtf8.is) c.write_numbered.ensures
+
+pub returns-in-LineTooLong : goal.returns-in-LineTooLong
+returns-in-LineTooLong g c =
+    subst (λ (cause : Cause). IsWritten (cause_line cause) c.write_numbered-in-LineTooLong.result
+    (g.E.Write.contents c.args.errors.now) (g.E.Write.contents c.write_numbered-in-LineTooLong.new.errors))
+    (sym c.in-LineTooLong.is) c.write_numbered-in-LineTooLong.ensures
+
+pub returns-in-Port : goal.returns-in-Port
+returns-in-Port g c =
+    let e0 = g.E.Write.contents c.args.errors.now in
+    let e1 = g.E.Write.contents c.write_numbered-in-Port.new.errors in
+    let told = c.write_numbered-in-Port.result in
+    let same : c.from.result ≡ c.in-Port.port = search rules in
+    subst (λ (cause : Cause). IsWritten (cause_line cause) told e0 e1) (sym c.in-Port.is)
+    (subst (λ (n : ℕ). IsWritten (codes "bts: port " ++ (decimal n ++ codes " can't be listened on\n")) told e0 e1) same
+    c.write_numbered-in-Port.ensures)
