@@ -2,9 +2,11 @@
 #![tactic(auto)]
 
 mod decoding;
+mod laws;
 mod parts;
 mod router;
 
 pub use decoding::decoded_text;
+pub use laws::paths_have_these_routes;
 pub use parts::{ListParts, bug_part, list_parts, path};
 pub use router::{Route, find_route, method};
