@@ -10,35 +10,6 @@ use std::io::{self, ErrorKind, Read, Write};
 use std::test::Fail;
 use std::time::{Clock, Duration};
 
-// A clock that goes on where somebody waits, in milliseconds.
-#[derive(Drop)]
-struct Watch {
-    now: Cell<u64>,
-}
-
-impl Watch {
-    fn new() -> Watch {
-        Watch { now: Cell::new(0) }
-    }
-
-    // Waits so long, but no longer than the limit; whether that was long enough.
-    fn waits(&self, pause: u64, limit: u64) -> bool {
-        self.now
-            .set(self.now.get().saturating_add(pause.min(limit)));
-        pause <= limit
-    }
-}
-
-impl Clock for Watch {
-    fn monotonic(&self) -> io::Result<Duration> {
-        Ok(Duration::from_millis(self.now.get()))
-    }
-
-    fn since_1970(&self) -> io::Result<Duration> {
-        Ok(Duration::from_millis(self.now.get()))
-    }
-}
-
 // A call at a pace: so many bytes after each pause, the first after another, in milliseconds.
 #[derive(Clone, Copy)]
 struct Pace {
@@ -56,11 +27,11 @@ struct Paces {
     sends_more: Pace,
 }
 
-// A client at its paces.
+// A client at its paces, and the clock, which goes on where somebody waits, in milliseconds.
 #[derive(Drop)]
-struct Client<'a> {
-    watch: &'a Watch,
-    request: &'a [u8],
+struct Client {
+    now: Cell<u64>,
+    request: String,
     paces: Paces,
     // How many bytes were read and written, and the limits of the calls.
     read: Cell<usize>,
@@ -77,10 +48,10 @@ fn millis(limit: Duration) -> u64 {
         .saturating_add(u64::from(limit.subsec_millis()))
 }
 
-impl<'a> Client<'a> {
-    fn new(watch: &'a Watch, request: &'a [u8], paces: Paces) -> Client<'a> {
+impl Client {
+    fn new(request: String, paces: Paces) -> Client {
         Client {
-            watch,
+            now: Cell::new(0),
             request,
             paces,
             read: Cell::new(0),
@@ -89,14 +60,31 @@ impl<'a> Client<'a> {
             write_limit: Cell::new(0),
         }
     }
+
+    // Waits so long, but no longer than the limit; whether that was long enough.
+    fn waits(&self, pause: u64, limit: u64) -> bool {
+        self.now
+            .set(self.now.get().saturating_add(pause.min(limit)));
+        pause <= limit
+    }
+
+    // Whether a call at a pace, after so many bytes, has waited long enough.
+    fn comes(&self, pace: Pace, done: usize, limit: u64) -> bool {
+        self.waits(if done == 0 { pace.first } else { pace.pause }, limit)
+    }
 }
 
-// Whether a call at a pace, after so many bytes, has waited long enough.
-fn comes(watch: &Watch, pace: Pace, done: usize, limit: u64) -> bool {
-    watch.waits(if done == 0 { pace.first } else { pace.pause }, limit)
+impl Clock for Client {
+    fn monotonic(&self) -> io::Result<Duration> {
+        Ok(Duration::from_millis(self.now.get()))
+    }
+
+    fn since_1970(&self) -> io::Result<Duration> {
+        Ok(Duration::from_millis(self.now.get()))
+    }
 }
 
-impl Limits for &Client<'_> {
+impl Limits for &Client {
     fn limit_reads(&self, limit: Duration) -> io::Result<()> {
         self.read_limit.set(millis(limit));
         Ok(())
@@ -112,10 +100,10 @@ impl Limits for &Client<'_> {
     }
 }
 
-impl Read for &Client<'_> {
+impl Read for &Client {
     fn read(&mut self, buf: &mut [u8]) -> io::Result<usize> {
         let done = self.read.get();
-        let left = self.request.get(done..).unwrap_or(&[]);
+        let left = self.request.as_bytes().get(done..).unwrap_or(&[]);
         let count = if left.is_empty() {
             let sent = self.request.len().saturating_add(self.paces.more);
             sent.saturating_sub(done)
@@ -130,7 +118,7 @@ impl Read for &Client<'_> {
         } else {
             self.paces.sends
         };
-        if !comes(self.watch, pace, done, self.read_limit.get()) {
+        if !self.comes(pace, done, self.read_limit.get()) {
             return Err(io::Error::from(ErrorKind::WouldBlock));
         }
         let len = count.min(buf.len()).min(pace.piece);
@@ -142,10 +130,10 @@ impl Read for &Client<'_> {
     }
 }
 
-impl Write for &Client<'_> {
+impl Write for &Client {
     fn write(&mut self, buf: &[u8]) -> io::Result<usize> {
         let done = self.written.get();
-        if !comes(self.watch, self.paces.takes, done, self.write_limit.get()) {
+        if !self.comes(self.paces.takes, done, self.write_limit.get()) {
             return Err(io::Error::from(ErrorKind::WouldBlock));
         }
         let len = buf.len().min(self.paces.takes.piece);
@@ -183,27 +171,23 @@ fn outcome_of(told: &Result<Served, ServeFault>) -> Outcome {
 }
 
 // What came of a request at these paces: how it ended and when, and how many bugs there are then.
-fn ends(alloc: Global, watch: &Watch, client: &Client<'_>) -> (Outcome, u64, u64) {
+fn ends(alloc: Global, client: &Client) -> (Outcome, u64, u64) {
     let mut desk = PlainDesk::new(alloc, 1);
-    let told = serve_within(watch, alloc, &mut desk, client, client);
+    let told = serve_within(client, alloc, &mut desk, client, client);
     let bugs = desk.next().unwrap_or(0).saturating_sub(1);
-    (outcome_of(&told), watch.now.get(), bugs)
+    (outcome_of(&told), client.now.get(), bugs)
 }
 
 // The same of a report that is sent and whose answer is taken at these paces.
-fn report_at(alloc: Global, sends: Pace, takes: Pace) -> (Outcome, u64, u64) {
-    let watch = Watch::new();
+fn report_at(alloc: Global, sends: Pace, takes: Pace) -> Result<(Outcome, u64, u64), Fail> {
     let paces = Paces {
         sends,
         takes,
         more: 0,
         sends_more: AT_ONCE,
     };
-    ends(
-        alloc,
-        &watch,
-        &Client::new(&watch, REPORT.as_bytes(), paces),
-    )
+    let client = Client::new(String::from_str(alloc, REPORT)?, paces);
+    Ok(ends(alloc, &client))
 }
 
 // The first call waits so long, and no other waits.
@@ -221,14 +205,15 @@ fn trickle(pause: u64) -> Pace {
 }
 
 #[test]
-fn a_client_may_be_silent_for_a_second(rt: HostRuntime) {
+fn a_client_may_be_silent_for_a_second(rt: HostRuntime) -> Result<(), Fail> {
     let alloc = rt.alloc();
-    assert!(rt; report_at(alloc, late(1_000), AT_ONCE) == (Outcome::Answered, 1_000, 1));
-    assert!(rt; report_at(alloc, late(1_001), AT_ONCE) == (Outcome::ReadFault, 1_000, 0));
+    assert!(rt; report_at(alloc, late(1_000), AT_ONCE)? == (Outcome::Answered, 1_000, 1));
+    assert!(rt; report_at(alloc, late(1_001), AT_ONCE)? == (Outcome::ReadFault, 1_000, 0));
+    Ok(())
 }
 
 #[test]
-fn a_request_has_ten_seconds(rt: HostRuntime) {
+fn a_request_has_ten_seconds(rt: HostRuntime) -> Result<(), Fail> {
     let alloc = rt.alloc();
     // It stops in its body, after 60 bytes of 105.
     let stops = |pause: u64| Pace {
@@ -236,22 +221,24 @@ fn a_request_has_ten_seconds(rt: HostRuntime) {
         pause,
         piece: 60,
     };
-    assert!(rt; report_at(alloc, stops(9_500), AT_ONCE) == (Outcome::Answered, 10_000, 1));
-    assert!(rt; report_at(alloc, stops(9_501), AT_ONCE) == (Outcome::ReadFault, 10_000, 0));
+    assert!(rt; report_at(alloc, stops(9_500), AT_ONCE)? == (Outcome::Answered, 10_000, 1));
+    assert!(rt; report_at(alloc, stops(9_501), AT_ONCE)? == (Outcome::ReadFault, 10_000, 0));
     // Of 104 pauses the head, of 43 bytes, has 42.
-    assert!(rt; report_at(alloc, trickle(96), AT_ONCE) == (Outcome::Answered, 9_984, 1));
-    assert!(rt; report_at(alloc, trickle(97), AT_ONCE) == (Outcome::ReadFault, 10_000, 0));
-    assert!(rt; report_at(alloc, trickle(300), AT_ONCE) == (Outcome::ReadFault, 10_000, 0));
+    assert!(rt; report_at(alloc, trickle(96), AT_ONCE)? == (Outcome::Answered, 9_984, 1));
+    assert!(rt; report_at(alloc, trickle(97), AT_ONCE)? == (Outcome::ReadFault, 10_000, 0));
+    assert!(rt; report_at(alloc, trickle(300), AT_ONCE)? == (Outcome::ReadFault, 10_000, 0));
+    Ok(())
 }
 
 #[test]
-fn a_short_answer_has_five_seconds(rt: HostRuntime) {
+fn a_short_answer_has_five_seconds(rt: HostRuntime) -> Result<(), Fail> {
     let alloc = rt.alloc();
-    assert!(rt; report_at(alloc, AT_ONCE, late(5_000)) == (Outcome::Answered, 5_000, 1));
-    assert!(rt; report_at(alloc, AT_ONCE, late(5_001)) == (Outcome::WriteFault, 5_000, 1));
+    assert!(rt; report_at(alloc, AT_ONCE, late(5_000))? == (Outcome::Answered, 5_000, 1));
+    assert!(rt; report_at(alloc, AT_ONCE, late(5_001))? == (Outcome::WriteFault, 5_000, 1));
     // 103 bytes, and so 102 pauses.
-    assert!(rt; report_at(alloc, AT_ONCE, trickle(49)) == (Outcome::Answered, 4_998, 1));
-    assert!(rt; report_at(alloc, AT_ONCE, trickle(50)) == (Outcome::WriteFault, 5_000, 1));
+    assert!(rt; report_at(alloc, AT_ONCE, trickle(49))? == (Outcome::Answered, 4_998, 1));
+    assert!(rt; report_at(alloc, AT_ONCE, trickle(50))? == (Outcome::WriteFault, 5_000, 1));
+    Ok(())
 }
 
 // A message of so many lines.
@@ -268,20 +255,18 @@ fn long_message(alloc: Global, lines: usize) -> Result<String, Fail> {
 #[test]
 fn an_answer_has_a_second_more_for_each_10_000_bytes(rt: HostRuntime) -> Result<(), Fail> {
     let alloc = rt.alloc();
-    let message = long_message(alloc, 600)?;
     for (first, end) in [
         (6_999, (Outcome::Answered, 6_999, 0)),
         (7_001, (Outcome::WriteFault, 7_000, 0)),
     ] {
-        let watch = Watch::new();
         let paces = Paces {
             sends: AT_ONCE,
             takes: late(first),
             more: 0,
             sends_more: AT_ONCE,
         };
-        let client = Client::new(&watch, message.as_bytes(), paces);
-        assert!(rt; ends(alloc, &watch, &client) == end);
+        let client = Client::new(long_message(alloc, 600)?, paces);
+        assert!(rt; ends(alloc, &client) == end);
         if end.0 == Outcome::Answered {
             let written = client.written.get();
             assert!(rt; 20_200 < written && written < 30_000, "{written}");
@@ -292,41 +277,41 @@ fn an_answer_has_a_second_more_for_each_10_000_bytes(rt: HostRuntime) -> Result<
 
 // How many bytes are read of those that a client sends after its request, at this pace, and how
 // long that takes.
-fn drained(alloc: Global, more: usize, sends_more: Pace) -> (usize, u64) {
-    let watch = Watch::new();
+fn drained(alloc: Global, more: usize, sends_more: Pace) -> Result<(usize, u64), Fail> {
     let paces = Paces {
         sends: AT_ONCE,
         takes: AT_ONCE,
         more,
         sends_more,
     };
-    let client = Client::new(&watch, REPORT.as_bytes(), paces);
-    ends(alloc, &watch, &client);
-    (
+    let client = Client::new(String::from_str(alloc, REPORT)?, paces);
+    ends(alloc, &client);
+    Ok((
         client.read.get().saturating_sub(REPORT.len()),
-        watch.now.get(),
-    )
+        client.now.get(),
+    ))
 }
 
 #[test]
-fn what_a_connection_leaves_unread_is_drained(rt: HostRuntime) {
+fn what_a_connection_leaves_unread_is_drained(rt: HostRuntime) -> Result<(), Fail> {
     let alloc = rt.alloc();
-    assert!(rt; drained(alloc, 100_000, AT_ONCE) == (100_000, 0));
-    assert!(rt; drained(alloc, 16_777_216, AT_ONCE) == (16_777_216, 0));
-    assert!(rt; drained(alloc, 16_777_217, AT_ONCE) == (16_777_216, 0));
+    assert!(rt; drained(alloc, 100_000, AT_ONCE)? == (100_000, 0));
+    assert!(rt; drained(alloc, 16_777_216, AT_ONCE)? == (16_777_216, 0));
+    assert!(rt; drained(alloc, 16_777_217, AT_ONCE)? == (16_777_216, 0));
     let tens = |pause: u64| Pace {
         first: 0,
         pause,
         piece: 10,
     };
-    assert!(rt; drained(alloc, 100, tens(1_000)) == (40, 4_000));
-    assert!(rt; drained(alloc, 100, tens(900)) == (40, 4_000));
-    assert!(rt; drained(alloc, 100, tens(1_001)) == (0, 1_000));
-    assert!(rt; drained(alloc, 100, tens(400)) == (100, 4_000));
+    assert!(rt; drained(alloc, 100, tens(1_000))? == (40, 4_000));
+    assert!(rt; drained(alloc, 100, tens(900))? == (40, 4_000));
+    assert!(rt; drained(alloc, 100, tens(1_001))? == (0, 1_000));
+    assert!(rt; drained(alloc, 100, tens(400))? == (100, 4_000));
     // The pieces may be small.
     let ones = Pace {
         piece: 1,
         ..AT_ONCE
     };
-    assert!(rt; drained(alloc, 3_000, ones) == (3_000, 0));
+    assert!(rt; drained(alloc, 3_000, ones)? == (3_000, 0));
+    Ok(())
 }
