@@ -6,7 +6,8 @@ use Rattle.std.specs.List.{flat_map, position, list_any}
 use Rattle.line_words.specs.Blanks.{is_control}
 use Rattle.bts_words.specs.Tokens.{Text, Word, commands}
 use Rattle.bts_words.specs.BugPlaces.{marked}
-use Rattle.bts_words.specs.Lines.{bad_word, bad_word_or, command_fault, first_fault, lines, lines_after, unset, unset_it, IsFaultOf, IsUnsetIn}
+use Rattle.bts_words.specs.Lines.{bad_word, bad_word_or, command_fault, first_fault, lines, lines_after, unset_it, IsFaultOf}
+use Rattle.bts_words.specs.Unset.{unset, IsUnsetIn}
 use Rattle.bts_words.specs.declared.fault.WordsFault.{WordsFault}
 use Rattle.bts_words.specs.declared.fault.WordsFault.TheVariants.{BadWord, NoCommand, ItUnset, Memory}
 use Rattle.bts_words.proofs.ReadLemmas.{position-map}

@@ -4,7 +4,8 @@ use Rattle.std.specs.Prelude.{if◌then◌else◌, ◌&&◌, map, filter}
 use Rattle.std.specs.List.{flat_map}
 use Rattle.bts_words.specs.Tokens.{Text, Word, Token, separator, said_at, text_of, ends_command, tokens_from, first_run, later_runs, has_words}
 use Rattle.bts_words.specs.BugPlaces.{Marked, mark, marked, takes_bugs, is_it, is_bug_word}
-use Rattle.bts_words.specs.Lines.{unset_it, unset}
+use Rattle.bts_words.specs.Lines.{unset_it}
+use Rattle.bts_words.specs.Unset.{unset}
 use Rattle.bts_words.specs.Writer.{State, start, place_after, stands_for_bug, with_word, with_meant, text_taken, ended, then_ended, read}
 use Rattle.bts_words.specs.declared.bug_places.Place.{Place}
 use Rattle.bts_words.specs.declared.bug_places.Place.TheVariants.{First, Second, Later}

@@ -6,7 +6,8 @@ use Rattle.std.proofs.Math.Seq.{drop-cons}
 use Rattle.std.specs.Prelude.{if◌then◌else◌, not}
 use Rattle.std.specs.List.{position, position_or_len}
 use Rattle.bts_words.specs.Tokens.{Text}
-use Rattle.bts_words.specs.Lines.{lines, unset, IsUnsetIn}
+use Rattle.bts_words.specs.Lines.{lines}
+use Rattle.bts_words.specs.Unset.{unset, IsUnsetIn}
 use Rattle.bts_words.specs.Writer.{State, start, read, ended, IsUnsetAt}
 use Rattle.bts_words.specs.declared.fault.WordsFault.{WordsFault}
 use Rattle.bts_words.specs.declared.fault.WordsFault.TheVariants.{BadWord, NoCommand, ItUnset, Memory}

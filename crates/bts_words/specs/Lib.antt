@@ -3,3 +3,4 @@ pub mod BugPlaces
 pub mod Lines
 -- definitions that only private functions cite
 pub mod Writer
+pub mod Unset

@@ -43,9 +43,6 @@ unset_it (m ∷ ms) =
     if stands_for_last m then Some m.word.place
     else (if names_bug m then None else unset_it ms)
 
-abbrev pub unset : List Text → Option ℕ
-unset words = unset_it (flat_map marked (commands words))
-
 -- a word with a control character other than tab
 abbrev pub bad_word : List Text → Option ℕ
 bad_word words = position (list_any is_control) words
@@ -69,10 +66,3 @@ IsFaultOf words Memory = ⊤
 IsFaultOf words (BadWord place) = first_fault words ≡ Some (BadWord place)
 IsFaultOf words NoCommand = first_fault words ≡ Some NoCommand
 IsFaultOf words (ItUnset place) = first_fault words ≡ Some (ItUnset place)
-
--- An `it` has no bug to stand for, or memory was refused.
-abbrev pub IsUnsetIn : List Text → WordsFault → Type 0
-IsUnsetIn words Memory = ⊤
-IsUnsetIn words (ItUnset place) = unset words ≡ Some place
-IsUnsetIn words NoCommand = ⊥
-IsUnsetIn words (BadWord place) = ⊥

@@ -4,7 +4,8 @@ ghost use Rattle.std.specs.Prelude.{◌≡◌, IfOk, IfErr, map};
 ghost use Rattle.std.specs.List.{list_any, position};
 ghost use Rattle.std.specs.String.{string_bytes};
 ghost use Rattle.line_words.specs.Blanks.{is_control};
-ghost use Rattle.bts_words.specs.Lines.{first_fault, lines, unset, IsFaultOf, IsUnsetIn};
+ghost use Rattle.bts_words.specs.Lines.{first_fault, lines, IsFaultOf};
+ghost use Rattle.bts_words.specs.Unset.{unset, IsUnsetIn};
 
 use crate::fault::WordsFault;
 use crate::writer::Writer;

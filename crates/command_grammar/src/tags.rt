@@ -3,7 +3,8 @@
 ghost use Rattle.std.specs.Prelude.{◌≡◌, true};
 ghost use Rattle.line_words.specs.Words.{words_with_commas};
 ghost use Rattle.command_grammar.specs.Commands.{sign_and_tag, adds_after, tag_step, word_steps, all_steps, tags_command};
-ghost use Rattle.command_grammar.specs.Reads.{Reads, ReadsMore};
+ghost use Rattle.command_grammar.specs.Reads.{Reads};
+ghost use Rattle.command_grammar.specs.Growing.{ReadsMore};
 
 use crate::fault::LineFault;
 use crate::shapes::{MALFORMED, read_bug};

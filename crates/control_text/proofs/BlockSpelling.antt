@@ -10,7 +10,8 @@ use Rattle.line_words.specs.declared.named.Named.TheVariants.{Number, Name}
 use Rattle.line_words.specs.Bugs.{IsGoodBug}
 use Rattle.line_words.specs.Words.{is_blank_or_comma, words, words_with_commas, first_word, after_word}
 use Rattle.command_grammar.specs.Commands.{and_read, read_bug, some_bugs, is_by, by_bugs, bug_by_bugs}
-use Rattle.control_text.specs.Spelling.{bug_text, after_spaces}
+use Rattle.control_text.specs.Spelling.{bug_text}
+use Rattle.control_text.specs.Spaces.{after_spaces}
 use Rattle.control_text.proofs.PlainWords.{IsPlainWord, decimal-whole}
 use Rattle.control_text.proofs.SpacedLemmas.{first_word-is, ArePlain, AreWhole, words-space, after_word-spaces, commas-spaces}
 use Rattle.control_text.proofs.SpellingLemmas.{bug-back, bug-plain}

@@ -21,7 +21,8 @@ use Rattle.line_words.specs.Words.{has_bytes, words, EndsWord, trimmed, first_wo
 use Rattle.command_grammar.specs.CommandWords.{command_word}
 use Rattle.command_grammar.specs.Commands.{and_read, command_of}
 use Rattle.control_text.specs.Lines.{begins_hash, is_stop_word, is_stop_line, command_reading, reading_of_words, reading}
-use Rattle.control_text.specs.Spelling.{after_spaces, joined_by_blanks}
+use Rattle.control_text.specs.Spelling.{joined_by_blanks}
+use Rattle.control_text.specs.Spaces.{after_spaces}
 use Rattle.line_words.proofs.WordLemmas.{words-nil, words-separator, words-word, without_first-separator, words-first, words-none}
 use Rattle.control_text.proofs.TextLemmas.{unblanked_first}
 use Rattle.control_text.proofs.PlainWords.{IsPlainWord, graphic-blank, graphic-control}

@@ -27,7 +27,8 @@ use Rattle.command_grammar.specs.Commands.{reopen_command, command_of}
 use Rattle.control_text.specs.Lines.{reading}
 use Rattle.control_text.specs.WellFormed.{IsPlain, IsAddress, IsWellFormed}
 use Rattle.control_text.specs.Spelling.{name_text, bug_text, version_text, who_text, step_words, word_if, spelling, spelled_words}
-use Rattle.control_text.specs.Spelling.{after_spaces, joined_by_blanks}
+use Rattle.control_text.specs.Spelling.{joined_by_blanks}
+use Rattle.control_text.specs.Spaces.{after_spaces}
 use Rattle.control_text.proofs.TextLemmas.{text_parts}
 use Rattle.control_text.proofs.PlainWords.{graphic-control, name-plain}
 use Rattle.control_text.proofs.SpacedLemmas.{IsCommandWord, reading-command, ArePlain, AreClean, plain_clean, clean-spaces}

@@ -13,7 +13,8 @@ use Rattle.line_words.specs.declared.named.Named.{Named}
 use Rattle.line_words.specs.Bugs.{IsGoodBug}
 use Rattle.line_words.specs.Words.{is_blank_or_comma, words, words_with_commas, after_word}
 use Rattle.command_grammar.specs.Commands.{and_read, read_bug, tag_step, tag_steps, all_steps, some_steps, tags_command}
-use Rattle.control_text.specs.Spelling.{bug_text, step_text, step_words, after_spaces}
+use Rattle.control_text.specs.Spelling.{bug_text, step_text, step_words}
+use Rattle.control_text.specs.Spaces.{after_spaces}
 use Rattle.control_text.proofs.PlainWords.{IsGraphic, IsPlainWord}
 use Rattle.control_text.proofs.SpacedLemmas.{first_word-is, ArePlain, AreWhole, whole_plain, words-space, after_word-spaces}
 use Rattle.control_text.proofs.SpacedLemmas.{commas-spaces}

@@ -11,3 +11,5 @@ pub use Rattle.command_grammar.specs.Reads
 pub mod Lines
 pub mod WellFormed
 pub mod Spelling
+-- definitions that only private functions cite
+pub mod Spaces

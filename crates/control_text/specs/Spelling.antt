@@ -50,11 +50,6 @@ abbrev pub word_if : {A : Type 0} → (A → List ℕ) → Option A → List (Li
 word_if f None = []
 word_if f (Some x) = f x ∷ []
 
--- each word after a space
-abbrev pub after_spaces : List (List ℕ) → List ℕ
-after_spaces [] = []
-after_spaces (word ∷ more) = 32 ∷ (word ++ after_spaces more)
-
 -- words with one blank between them
 abbrev pub joined_by_blanks : List (List ℕ) → List ℕ
 joined_by_blanks words = join_with_byte 32 words

@@ -1,7 +1,8 @@
 //! The canonical spelling of commands.
 
 ghost use Rattle.std.specs.Prelude.{◌≡◌, ◌∷◌, [], ◌++◌, map, IfOk, OnOk, string_bytes, codes};
-ghost use Rattle.control_text.specs.Spelling.{name_text, bug_text, version_text, who_text, step_text, step_words, word_if, after_spaces};
+ghost use Rattle.control_text.specs.Spelling.{name_text, bug_text, version_text, who_text, step_text, step_words, word_if};
+ghost use Rattle.control_text.specs.Spaces.{after_spaces};
 ghost use Rattle.control_text.specs.Spelling.{joined_by_blanks, spelling};
 ghost use Rattle.control_text.specs.WellFormed.{IsWellFormed};
 

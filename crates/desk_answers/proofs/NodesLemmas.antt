@@ -5,7 +5,8 @@ use Rattle.std.proofs.Common.{drop-cons, drop_of_length-le}
 use Rattle.ancestry.specs.Nodes.{Node, node_of_text, IsRead}
 use Rattle.ancestry.specs.declared.fault.NodeFault.{NodeFault}
 use Rattle.ancestry.specs.declared.fault.NodeFault.TheVariants.{BadNode as WordIsNoNode, Memory as NoMemory}
-use Rattle.desk_run.specs.Branches.{node_before, nodes_of, AreRead}
+use Rattle.desk_run.specs.Branches.{node_before, nodes_of}
+use Rattle.desk_run.specs.BranchWords.{AreRead}
 
 -- the nodes from the word i on, after these
 abbrev pub nodes_from : List Node → List (String Global) → ℕ → Option (List Node)

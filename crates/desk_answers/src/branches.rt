@@ -2,7 +2,8 @@
 
 ghost use Rattle.std.specs.Prelude.{◌≡◌, None, Some, IfOk, map, string_bytes};
 ghost use Rattle.desk_store.specs.Store.{Holds};
-ghost use Rattle.desk_run.specs.Branches.{nodes_of, AreRead};
+ghost use Rattle.desk_run.specs.Branches.{nodes_of};
+ghost use Rattle.desk_run.specs.BranchWords.{AreRead};
 ghost use Rattle.desk_json.specs.Answers.{ok_json};
 ghost use Rattle.desk_answers.specs.Answer.{json_answer};
 ghost use Rattle.desk_answers.specs.Requests.{PostBranch};

@@ -9,7 +9,8 @@ use Rattle.bug_record.specs.declared.severity.Severity.{Severity}
 use Rattle.desk_text.specs.declared.outcome.ReportFault.{ReportFault}
 use Rattle.desk_text.specs.declared.outcome.ReportFault.TheVariants.{BadPackage, BadVersion, BadSeverity, BadTitle, Full, Store}
 use Rattle.desk_store.specs.Store.{Faults}
-use Rattle.desk_messages.specs.Reports.{node_reported, report_severity, desk_reported, report_of, IsOfWords, IsReported}
+use Rattle.desk_messages.specs.Reports.{node_reported, report_severity, desk_reported, report_of, IsReported}
+use Rattle.desk_messages.specs.ReportWords.{IsOfWords}
 use Rattle.desk_messages.specs.Reports.{faults_after_report, FollowsNext, AsksForNext}
 use Rattle.desk_text.specs.declared.outcome.StoreFault.{StoreFault}
 

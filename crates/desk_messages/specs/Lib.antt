@@ -6,3 +6,4 @@ pub mod Written
 pub mod Images
 pub mod Questions
 pub mod Taking
+pub mod ReportWords

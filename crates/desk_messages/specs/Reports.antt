@@ -1,7 +1,7 @@
 -- Reports.
 -- This project's own rule.
 use Rattle.std.specs.Prelude.{ℕ, ◌≡◌, ◌≤◌, nat_lt, Bool, true, false, List, Option, Some, None, Result, Ok, Err, is_some, option_map}
-use Rattle.std.specs.Prelude.{if◌then◌else◌, ⊤}
+use Rattle.std.specs.Prelude.{if◌then◌else◌}
 use Rattle.debver.specs.Names.{name_fault}
 use Rattle.debver.specs.Faults.{text_fault}
 use Rattle.ancestry.specs.Nodes.{Node, node}
@@ -32,12 +32,6 @@ report_severity package_name version severity title =
     if is_some (name_fault package_name) then Err BadPackage
     else if has_bad_version version then Err BadVersion
     else titled_severity (severity_of severity) (is_text title)
-
--- a refusal of a report's words
-abbrev pub IsOfWords : ReportFault → Type 0
-IsOfWords Full = ⊥
-IsOfWords (Store fault) = ⊥
-IsOfWords _ = ⊤
 
 -- the node of a report: the version of the package, if one is given
 abbrev pub node_reported : List ℕ → Option (List ℕ) → Option Node

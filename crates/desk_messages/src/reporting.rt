@@ -6,7 +6,8 @@ ghost use Rattle.debver.specs.Names.{IsName, name_fault};
 ghost use Rattle.debver.specs.Cut.{IsVersion};
 ghost use Rattle.bug_record.specs.Texts.{IsText, IfGiven};
 ghost use Rattle.desk_store.specs.Store.{Holds};
-ghost use Rattle.desk_messages.specs.Reports.{has_bad_version, node_reported, report_severity, IsOfWords, IsReported};
+ghost use Rattle.desk_messages.specs.Reports.{has_bad_version, node_reported, report_severity, IsReported};
+ghost use Rattle.desk_messages.specs.ReportWords.{IsOfWords};
 ghost use Rattle.desk_messages.specs.Reports.{faults_after_report, AsksForNext};
 
 use ancestry::{Node, NodeFault};

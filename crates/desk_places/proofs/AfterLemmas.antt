@@ -10,7 +10,7 @@ use Rattle.bug_record.specs.Images.{numbers_of, AreApart, CoverSets, bug_in, ima
 use Rattle.bug_record.specs.declared.bug.SetImage.{SetImage}
 use Rattle.desk_places.specs.Keys.{Keyed, key_of, keyed_bug, keyed_desk, IsKeyed, key_after, image_at_key, set_after, after_images}
 use Rattle.desk_places.specs.Places.{key_at, image_at, keys, sets}
-use Rattle.desk_places.specs.Places.{place_of, place_in}
+use Rattle.desk_places.specs.PlacesOfImages.{place_of, place_in}
 use Rattle.desk_places.specs.declared.places.Place.{Place}
 use Rattle.desk_places.specs.declared.places.Place.TheVariants.{First, After}
 use Rattle.desk_places.proofs.KeyLemmas.{keyed-after, bug-after}

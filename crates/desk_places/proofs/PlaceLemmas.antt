@@ -12,7 +12,7 @@ use Rattle.bug_record.specs.Images.{numbers_of}
 use Rattle.bug_record.specs.declared.bug.Member.{Member}
 use Rattle.bug_record.specs.declared.bug.SetImage.{SetImage}
 use Rattle.desk_places.specs.Keys.{first_number}
-use Rattle.desk_places.specs.Places.{place_of, place_in, numbers_in, is_there, is_fresh, IsOnlyPlace}
+use Rattle.desk_places.specs.PlacesOfImages.{place_of, place_in, numbers_in, is_there, is_fresh, IsOnlyPlace}
 use Rattle.desk_places.specs.declared.places.Place.{Place}
 use Rattle.desk_places.specs.declared.places.Place.TheVariants.{First, After}
 

@@ -3,3 +3,4 @@ pub mod Places
 pub mod Plain
 -- definitions that only private functions cite
 pub mod Questions
+pub mod PlacesOfImages

@@ -10,7 +10,7 @@ ghost use Rattle.bug_record.specs.Sets.{has};
 ghost use Rattle.bug_record.specs.Images.{numbers_of};
 ghost use Rattle.desk_places.specs.Keys.{IsKeyed};
 ghost use Rattle.desk_places.specs.Places.{keys, sets};
-ghost use Rattle.desk_places.specs.Places.{place_in, numbers_in, is_there, is_fresh, KeepsSet, IsOnlyPlace};
+ghost use Rattle.desk_places.specs.PlacesOfImages.{place_in, numbers_in, is_there, is_fresh, KeepsSet, IsOnlyPlace};
 
 use bug_record::{Member, SetImage};
 use std::alloc::{AllocError, Global};

@@ -1,7 +1,8 @@
 -- Each of the five routes is free among those before it.
 use Rattle.std.proofs.Common.{[], refl}
 use Rattle.matchit.proofs.OnLiterals.{matchit_on_literals}
-use Rattle.desk_routes.specs.Routes.{with_route, IsFree}
+use Rattle.desk_routes.specs.Routes.{with_route}
+use Rattle.desk_routes.specs.Free.{IsFree}
 use Rattle.desk_routes.specs.declared.router.Route.TheVariants.{Bugs, Control, Branches, Bug, List as ListRoute}
 
 pub bugs_free : IsFree Bugs []

@@ -1,2 +1,4 @@
 pub mod Routes
 pub mod Parts
+-- definitions that only private functions cite
+pub mod Free

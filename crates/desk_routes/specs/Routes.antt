@@ -1,10 +1,10 @@
 -- The five routes of the desk, and which of them a path has, by the rules of `matchit`.
 -- Which they are is this project's own rule.
-use Rattle.std.specs.Prelude.{◌≡◌, ℕ, List, [], Option, None, Result, Ok, Err, option_map, codes}
+use Rattle.std.specs.Prelude.{ℕ, List, [], Option, Result, Ok, Err, option_map, codes}
 use Rattle.matchit.specs.Rows.{RowsOf}
 use Rattle.matchit.specs.Order.{placed}
 use Rattle.matchit.specs.Route.{Scan, parse_route}
-use Rattle.matchit.specs.Router.{RouteOf, route_from, nearest}
+use Rattle.matchit.specs.Router.{RouteOf, route_from}
 use Rattle.matchit.specs.Seek.{first}
 use Rattle.matchit.specs.declared.error.InsertError.{InsertError}
 use Rattle.desk_routes.specs.declared.router.Route.{Route}
@@ -38,14 +38,6 @@ placed_at (Err error) route rows = rows
 -- these routes and one more
 abbrev pub with_route : Route → Routes → Routes
 with_route route rows = placed_at (parse_route (route_text route)) route rows
-
--- the text reads well, and no route of these conflicts with it
-abbrev pub IsFreeAt : Result Scan InsertError → Routes → Type 0
-IsFreeAt (Ok text) rows = nearest text.pattern rows ≡ None
-IsFreeAt (Err error) rows = ⊥
-
-abbrev pub IsFree : Route → Routes → Type 0
-IsFree route rows = IsFreeAt (parse_route (route_text route)) rows
 
 -- the five routes
 unfoldable pub routes : Routes

@@ -2,7 +2,8 @@
 
 ghost use Rattle.std.specs.Prelude.{◌≡◌, [], IfOk, OnOk, option_map};
 ghost use Rattle.matchit.specs.Seek.{first};
-ghost use Rattle.desk_routes.specs.Routes.{method, route_text, with_route, IsFree};
+ghost use Rattle.desk_routes.specs.Routes.{method, route_text, with_route};
+ghost use Rattle.desk_routes.specs.Free.{IsFree};
 ghost use Rattle.desk_routes.specs.Routes.{routes, route_at};
 
 use matchit::{InsertError, Router};

@@ -16,7 +16,8 @@ use Rattle.desk_text.specs.declared.outcome.StoreFault.{StoreFault}
 use Rattle.desk_text.specs.declared.outcome.StoreFault.TheVariants as faults
 use Rattle.desk_text.specs.Texts.{fault_text}
 use Rattle.desk_store.specs.Store.{Branches, Faults, counted, faults_after}
-use Rattle.desk_run.specs.Branches.{BranchRefusal, BadNode, node_before, nodes_of, or_refused, branched_by, branch_of, AreRead}
+use Rattle.desk_run.specs.Branches.{BranchRefusal, BadNode, node_before, nodes_of, or_refused, branched_by, branch_of}
+use Rattle.desk_run.specs.BranchWords.{AreRead}
 use Rattle.desk_run.specs.Script.{DirectiveLine, Branch, Standing, standing, part_text, part_after, directive_of, branch_text}
 use Rattle.desk_run.specs.Script.{after_branch}
 use Rattle.desk_run.specs.Running.{AsksStore, FaultsIn}

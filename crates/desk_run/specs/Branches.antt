@@ -1,11 +1,9 @@
 -- Branches in a script, by the words of their nodes.
 -- This project's own rule.
-use Rattle.std.specs.Prelude.{ℕ, ◌≡◌, List, [], ◌∷◌, Option, Some, None, Result, Ok, Err, Vec, ⊤}
+use Rattle.std.specs.Prelude.{ℕ, List, [], ◌∷◌, Option, Some, None, Result, Ok, Err}
 use Rattle.ancestry.specs.Nodes.{Node, node_of_text}
 use Rattle.ancestry.specs.Trees.{Ancestry}
 use Rattle.ancestry.specs.Branches.{branched}
-use Rattle.ancestry.specs.declared.fault.NodeFault.{NodeFault}
-use Rattle.ancestry.specs.declared.fault.NodeFault.TheVariants.{BadNode as WordIsNoNode, Memory as NoMemory}
 use Rattle.ancestry.specs.declared.fault.BranchFault.{BranchFault}
 
 -- a node before others, if all are nodes
@@ -35,9 +33,3 @@ branched_by tree (Some nodes) = or_refused (branched tree nodes)
 -- the branch is looked at.
 unfoldable pub branch_of : Ancestry → List (List ℕ) → Result Ancestry BranchRefusal
 branch_of tree words = branched_by tree (nodes_of words)
-
--- what is read of the words of a branch, unless there was no memory
-abbrev pub AreRead : {A : Type 0} → Option (List Node) → Result (Vec Node A) NodeFault → Type 0
-AreRead nodes (Ok read) = nodes ≡ Some read.items
-AreRead nodes (Err WordIsNoNode) = nodes ≡ None
-AreRead nodes (Err NoMemory) = ⊤

@@ -4,6 +4,8 @@ use Rattle.control_text.specs.Words.{words}
 use Rattle.desk_run.specs.Script as script
 use Rattle.desk_run.specs.declared.directive.Directive.{Directive}
 use Rattle.desk_run.specs.declared.directive.Directive.TheVariants.{From, Report, Branch, ListOf, Show, Bad}
+use Rattle.std.specs.Prelude.{⊤}
+use Rattle.bug_record.specs.Texts.{IsText}
 
 abbrev pub said : Directive → script.Directive
 said (From sender) = script.From sender.now
@@ -12,3 +14,8 @@ said (Branch rest) = script.Branch (words rest.now)
 said (ListOf words) = script.ListOf words.package.now words.version.now
 said (Show number) = script.Show number
 said Bad = script.Bad
+
+-- a sender is a text of 1 to 200 bytes
+abbrev pub HasGoodSender : script.Directive → Type 0
+HasGoodSender (script.From sender) = IsText sender
+HasGoodSender directive = ⊤

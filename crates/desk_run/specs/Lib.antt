@@ -8,3 +8,4 @@ pub mod Directives
 pub mod Gathering
 pub mod Answers
 pub mod Carrying
+pub mod BranchWords

@@ -1,10 +1,10 @@
 -- A script: its parts, what is written for them, and the desk that they leave.
 -- This project's own rule.
 use Rattle.std.specs.Prelude.{ℕ, ◌==◌, Bool, true, false, ◌||◌, List, [], ◌∷◌, ◌++◌, Option, Some, None, Result, Ok, Err, codes}
-use Rattle.std.specs.Prelude.{if◌then◌else◌, ⊤}
+use Rattle.std.specs.Prelude.{if◌then◌else◌}
 use Rattle.std.specs.List.{list_any}
 use Rattle.std.specs.Str.{bytes_eq}
-use Rattle.bug_record.specs.Texts.{is_text, IsText}
+use Rattle.bug_record.specs.Texts.{is_text}
 use Rattle.bug_record.specs.Desk.{Desk}
 use Rattle.control_text.specs.Words.{has_bytes, words, trimmed, first_word, after_word}
 use Rattle.control_text.specs.Numbers.{number_of_word}
@@ -100,11 +100,6 @@ directive_of line =
     else if bytes_eq (first_word line) (codes "@list") then list_directive (words (after_word line))
     else if bytes_eq (first_word line) (codes "@show") then show_directive (words (after_word line))
     else Bad
-
--- a sender is a text of 1 to 200 bytes
-abbrev pub HasGoodSender : Directive → Type 0
-HasGoodSender (From sender) = IsText sender
-HasGoodSender directive = ⊤
 
 -- where a script stands between two parts: the desk, the current sender, and whether anything was
 -- refused

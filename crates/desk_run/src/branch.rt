@@ -2,7 +2,8 @@
 
 ghost use Rattle.std.specs.Prelude.{◌≡◌, Some, None};
 ghost use Rattle.control_text.specs.Words.{words};
-ghost use Rattle.desk_run.specs.Branches.{nodes_of, AreRead};
+ghost use Rattle.desk_run.specs.Branches.{nodes_of};
+ghost use Rattle.desk_run.specs.BranchWords.{AreRead};
 
 use ancestry::{Node, NodeFault};
 use control_text::next_word;

@@ -4,6 +4,7 @@
 
 mod answer;
 mod branch;
+mod carrying;
 mod directive;
 mod script;
 

@@ -5,7 +5,7 @@ ghost use Rattle.std.specs.BTreeSet.{contains};
 ghost use Rattle.std.specs.Ordering.{nat_cmp};
 ghost use Rattle.bug_record.specs.Words.{number_of_name};
 ghost use Rattle.bug_record.specs.Clones.{name_refusal};
-ghost use Rattle.message_names.specs.Known.{stands_twice};
+ghost use Rattle.message_names.specs.Twice.{stands_twice};
 
 use bug_record::Refusal;
 use indexmap::IndexMap;

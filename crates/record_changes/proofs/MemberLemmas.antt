@@ -7,7 +7,8 @@ use Rattle.bug_record.specs.declared.bug.Member.{Member}
 use Rattle.bug_record.specs.declared.bug.Shared.{Shared}
 use Rattle.bug_record.specs.declared.command.Command.{Command}
 use Rattle.bug_record.specs.declared.command.Command.TheVariants as commands
-use Rattle.record_changes.specs.Members.{member_after, changes_members}
+use Rattle.record_changes.specs.Members.{member_after}
+use Rattle.record_changes.specs.Parts.{changes_members}
 
 unchanged : (sender : List ℕ) (command : Command ℕ) (f : Shared) → changes_members command f ≡ false → (m : Member)
     → member_after sender command f m ≡ m

@@ -5,7 +5,8 @@ ghost use Rattle.bug_record.specs.Commands.{node_meant, person, IsGoodVersion, H
 ghost use Rattle.bug_record.specs.Marks.{without_node};
 ghost use Rattle.bug_record.specs.Texts.{IfGiven};
 ghost use Rattle.bug_record.specs.Steps.{marked_fixed, opened, moved_to, reassigned, blocked_by, unblocked_by, shared_after};
-ghost use Rattle.record_changes.specs.Fields.{found_in, closed_in, IsVersionFault};
+ghost use Rattle.record_changes.specs.Fields.{IsVersionFault};
+ghost use Rattle.record_changes.specs.Parts.{found_in, closed_in};
 
 use crate::tags::take_steps;
 use crate::versions::{mark_fixed, mark_found, mark_found_at, node_meant};

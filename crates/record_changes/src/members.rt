@@ -3,7 +3,8 @@
 ghost use Rattle.std.specs.Prelude.{◌≡◌, ℕ, List, false, map, unwrap_or, IfOk};
 ghost use Rattle.std.specs.Option.{option_copied};
 ghost use Rattle.bug_record.specs.Steps.{new_title, new_submitter};
-ghost use Rattle.record_changes.specs.Members.{member_after, changes_members};
+ghost use Rattle.record_changes.specs.Members.{member_after};
+ghost use Rattle.record_changes.specs.Parts.{changes_members};
 
 use crate::fields::person;
 use bug_record::{Command, Member, Members, Sequence, Shared};

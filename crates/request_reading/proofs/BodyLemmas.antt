@@ -3,7 +3,8 @@ use Rattle.std.proofs.Common.{◌≡◌, ℕ, ◌+◌, ◌<◌, ◌≤◌, List,
 use Rattle.std.proofs.lemmas.List.{take_all, take_at, nil_from_length}
 use Rattle.std.proofs.lemmas.Bool.Decides.{nat_tests}
 use Rattle.std.specs.Io.KnownBytes.{IsAtEnd}
-use Rattle.request_reading.specs.Found.{Came, HadBytes}
+use Rattle.request_reading.specs.Found.{HadBytes}
+use Rattle.request_reading.specs.Pieces.{Came}
 use Rattle.request_reading.proofs.HadLemmas.{left, left-end, had_given, had_then}
 use Rattle.std.specs.Prelude.{Vec}
 use Rattle.std.specs.declared.alloc.Global.{Global}

@@ -9,7 +9,8 @@ use Rattle.httparse.specs.Spans.{RequestOverflows, IsRequestWithin, IsRequestOf,
 use Rattle.request_reading.specs.Head.{BeginsWithHead, HasNoHead, max_head, max_headers}
 use Rattle.httparse.specs.declared.spans.HeaderSpan.{HeaderSpan}
 use Rattle.httparse.specs.declared.spans.RequestSpans.{RequestSpans}
-use Rattle.request_reading.specs.Found.{Came, HadBytes, IsWrong, IsComplete, LosesNoHead}
+use Rattle.request_reading.specs.Found.{HadBytes, IsWrong, IsComplete, LosesNoHead}
+use Rattle.request_reading.specs.Pieces.{Came}
 use Rattle.request_reading.proofs.HadLemmas.{left, left-end, had_given}
 
 -- one head

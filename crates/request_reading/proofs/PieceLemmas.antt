@@ -6,7 +6,7 @@ use borrow.Rule.Slice.PartMut.{put_mid, post_of}
 use Rattle.std.specs.Io.{ReadsAtMost}
 use Rattle.std.proofs.KnownBytes.{Consumes-trans}
 use Rattle.std.specs.Io.KnownBytes.{Consumes, ReadConsumes}
-use Rattle.request_reading.specs.Found.{Came}
+use Rattle.request_reading.specs.Pieces.{Came}
 
 -- the first bytes after a write behind the first a
 take-behind : (a k n : ℕ) (xs ys : List ℕ) → a ≤ length xs → n ≤ length ys

@@ -4,7 +4,8 @@ use Rattle.std.proofs.KnownBytes.{Consumes-kept}
 use Rattle.std.proofs.lemmas.Bool.{false≢true}
 use Rattle.std.specs.Io.KnownBytes.{Consumes, Keeps}
 use Rattle.request_reading.specs.Head.{max_head}
-use Rattle.request_reading.specs.Found.{Came, IsUnfinished, GaveHead, TakesHead}
+use Rattle.request_reading.specs.Found.{IsUnfinished, GaveHead, TakesHead}
+use Rattle.request_reading.specs.Pieces.{Came}
 use Rattle.request_reading.specs.declared.head.Head.{Head}
 use Rattle.request_reading.proofs.HeadLemmas.{none-empty}
 use Rattle.request_reading.proofs.PieceLemmas.{came-behind}

@@ -16,14 +16,6 @@ pub record HadBytes (known : Option (List ℕ)) (Holds : List ℕ → Type 0) : 
   pub are : IfSome known (λ those. those ≡ bytes)
   pub holds : Holds bytes
 
--- the reader gave the bytes of the buffer from `filled` up to `total`, and those before stayed
-pub record Came (old new : Option (List ℕ)) (before after : List ℕ) (filled total : ℕ) : Type 0 where
-  pub within : total ≤ length after
-  pub bytes : List ℕ
-  pub count : filled + length bytes ≡ total
-  pub behind : take total after ≡ take filled before ++ bytes
-  pub took : Consumes old new bytes
-
 -- the reader gave the first `filled` bytes of the buffer, which begin with a head, and the spans
 -- cover its parts
 pub record IsComplete (old new : Option (List ℕ)) (buf : List ℕ) (headers : List HeaderSpan)

@@ -1,15 +1,13 @@
 -- What the headers of a request, each a name and a value without the blanks around it, say of its
 -- body (RFC 9110, sections 5.1 and 8.6; RFC 9112, sections 5.1 and 6).
 -- The limits and the refusals are this project's own rule.
-use Rattle.std.specs.Prelude.{◌≡◌, ℕ, ◌<◌, Bool, ◌&&◌, if◌then◌else◌, nat_lt, nat_le, List, [], ◌∷◌, length, map, filter, Option, Some, None, Result, Ok, Err, codes}
+use Rattle.std.specs.Prelude.{ℕ, Bool, ◌&&◌, if◌then◌else◌, nat_lt, nat_le, List, [], ◌∷◌, length, map, filter, Option, Some, None, Result, Ok, Err, codes}
 use Rattle.std.specs.List.{list_any, list_all}
 use Rattle.std.specs.Char.{is_ascii_digit}
 use Rattle.std.specs.Str.{str_eq_ignore_ascii_case}
 use Rattle.std.specs.Str.Parse.{digits_value}
 use Rattle.request_reading.specs.declared.refusal.BodyRefusal.{BodyRefusal}
 use Rattle.request_reading.specs.declared.refusal.BodyRefusal.TheVariants.{NotImplemented, LengthRequired, BadRequest, TooLarge}
-use Rattle.request_reading.specs.declared.headers.Values.{Values}
-use Rattle.request_reading.specs.declared.headers.Values.TheVariants as values
 
 -- the bytes of a body, at most
 abbrev pub max_body : ℕ
@@ -26,12 +24,6 @@ has_header name headers = list_any (is_named name) headers
 -- the values of the headers of this name
 abbrev pub values_of : List ℕ → List (List ℕ × List ℕ) → List (List ℕ)
 values_of name headers = map (λ header. header.1) (filter (is_named name) headers)
-
--- there is no such value, or this one, or there are several
-abbrev pub AreShown : Values → List (List ℕ) → Type 0
-AreShown values.None found = found ≡ []
-AreShown (values.One value) found = found ≡ value.now ∷ []
-AreShown values.Several found = 1 < length found
 
 -- the number that one to nine digits write
 unfoldable pub number_of : List ℕ → Option ℕ

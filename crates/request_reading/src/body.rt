@@ -3,7 +3,8 @@
 ghost use Rattle.std.specs.Prelude.{◌≡◌, ◌≢◌, ◌++◌, ◌≤◌, ◌<◌, ◌-◌, Ok, Err, Some, length, take, drop, map, min, All, IfOk, IfErr, IsOk, OnErr};
 ghost use Rattle.std.specs.Io.KnownBytes.{Consumes, IsAtEnd};
 ghost use Rattle.httparse.specs.Spans.{IsHeaderWithin, header_bytes};
-ghost use Rattle.request_reading.specs.Found.{Came, HadBytes, LosesFewer};
+ghost use Rattle.request_reading.specs.Found.{HadBytes, LosesFewer};
+ghost use Rattle.request_reading.specs.Pieces.{Came};
 ghost use Rattle.request_reading.specs.Headers.{body_length};
 ghost use Rattle.request_reading.specs.Body.{body_of, whole, shown, size_told, TakesBody};
 

@@ -3,7 +3,8 @@
 ghost use Rattle.std.specs.Prelude.{◌≡◌, length, map, All};
 ghost use Rattle.std.specs.List.{list_any};
 ghost use Rattle.httparse.specs.Spans.{IsHeaderWithin, header_bytes};
-ghost use Rattle.request_reading.specs.Headers.{is_named, values_of, AreShown, number_of, body_length, length_of_value};
+ghost use Rattle.request_reading.specs.Headers.{is_named, values_of, number_of, body_length, length_of_value};
+ghost use Rattle.request_reading.specs.Shown.{AreShown};
 
 use crate::refusal::BodyRefusal;
 use httparse::spans::HeaderSpan;

@@ -2,7 +2,7 @@
 
 ghost use Rattle.std.specs.Prelude.{◌≡◌, ◌+◌, ◌<◌, length, IfOk, OnErr};
 ghost use Rattle.std.specs.Io.KnownBytes.{IsAtEnd, Keeps};
-ghost use Rattle.request_reading.specs.Found.{Came};
+ghost use Rattle.request_reading.specs.Pieces.{Came};
 
 use std::io;
 use std::io::Read;

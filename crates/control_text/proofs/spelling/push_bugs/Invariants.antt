@@ -1,5 +1,6 @@
 use Rattle.std.proofs.Common.{◌≡◌, ◌++◌, map, drop, string_bytes}
-use Rattle.control_text.specs.Spelling.{bug_text, after_spaces}
+use Rattle.control_text.specs.Spelling.{bug_text}
+use Rattle.control_text.specs.Spaces.{after_spaces}
 use Rattle.control_text.proofs.spelling.push_bugs.Given as goal
 
 abbrev pub invariant-loop-bug : goal.invariant-loop-bug

@@ -1,5 +1,6 @@
 use Rattle.std.proofs.Common.{◌≡◌, ◌++◌, map, drop, string_bytes}
-use Rattle.control_text.specs.Spelling.{name_text, after_spaces}
+use Rattle.control_text.specs.Spelling.{name_text}
+use Rattle.control_text.specs.Spaces.{after_spaces}
 use Rattle.control_text.proofs.spelling.push_names.Given as goal
 
 abbrev pub invariant-loop-name : goal.invariant-loop-name

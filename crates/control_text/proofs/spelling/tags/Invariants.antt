@@ -1,5 +1,6 @@
 use Rattle.std.proofs.Common.{◌≡◌, ◌∷◌, ◌++◌, map, drop, string_bytes, codes}
-use Rattle.control_text.specs.Spelling.{bug_text, step_text, after_spaces}
+use Rattle.control_text.specs.Spelling.{bug_text, step_text}
+use Rattle.control_text.specs.Spaces.{after_spaces}
 use Rattle.control_text.proofs.spelling.tags.Given as goal
 
 abbrev pub invariant-loop-step : goal.invariant-loop-step

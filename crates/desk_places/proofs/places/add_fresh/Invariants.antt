@@ -1,7 +1,7 @@
 use Rattle.std.proofs.Common.{◌≡◌, ◌++◌, drop}
 use Rattle.std.specs.Prelude.{filter}
 use Rattle.bug_record.specs.Images.{numbers_of}
-use Rattle.desk_places.specs.Places.{is_fresh}
+use Rattle.desk_places.specs.PlacesOfImages.{is_fresh}
 use Rattle.desk_places.proofs.places.add_fresh.Given as goal
 
 abbrev pub invariant-loop-member : goal.invariant-loop-member

@@ -1,6 +1,6 @@
 use Rattle.std.proofs.Common.{◌≡◌, ◌++◌, drop}
 use Rattle.std.specs.Prelude.{filter}
-use Rattle.desk_places.specs.Places.{numbers_in, is_fresh}
+use Rattle.desk_places.specs.PlacesOfImages.{numbers_in, is_fresh}
 use Rattle.desk_places.proofs.places.fresh_numbers.Given as goal
 
 abbrev pub invariant-loop-image : goal.invariant-loop-image

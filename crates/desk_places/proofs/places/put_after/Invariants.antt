@@ -3,7 +3,7 @@ use Rattle.std.specs.Prelude.{nat_eq}
 use Rattle.std.specs.HashMap.{get}
 use Rattle.bug_record.specs.Sets.{has}
 use Rattle.bug_record.specs.Images.{numbers_of}
-use Rattle.desk_places.specs.Places.{is_there}
+use Rattle.desk_places.specs.PlacesOfImages.{is_there}
 use Rattle.desk_places.specs.declared.places.Place.TheVariants.{After}
 use Rattle.desk_places.proofs.places.put_after.Given as goal
 

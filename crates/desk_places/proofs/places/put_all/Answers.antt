@@ -6,7 +6,7 @@ use Rattle.std.specs.HashMap.{get}
 use Rattle.std.proofs.lemmas.Result.{on_ok_weaker}
 use Rattle.bug_record.specs.Sets.{has}
 use Rattle.bug_record.specs.declared.bug.SetImage.{SetImage}
-use Rattle.desk_places.specs.Places.{place_in}
+use Rattle.desk_places.specs.PlacesOfImages.{place_in}
 use Rattle.desk_places.specs.declared.places.Place.TheVariants.{After}
 use Rattle.desk_places.proofs.PlaceLemmas.{all-there, put-over, taken-out, on_err_from_ok}
 use Rattle.desk_places.proofs.places.put_all.Goals as goal

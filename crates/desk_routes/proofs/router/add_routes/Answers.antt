@@ -1,5 +1,6 @@
 use Rattle.std.proofs.Common.{◌≡◌, ◌∙◌, sym, ap, subst, OnOk}
-use Rattle.desk_routes.specs.Routes.{Routes, with_route, IsFree, routes}
+use Rattle.desk_routes.specs.Routes.{Routes, with_route, routes}
+use Rattle.desk_routes.specs.Free.{IsFree}
 use Rattle.desk_routes.specs.declared.router.Route.TheVariants.{Bugs, Control, Branches, Bug, List as ListRoute}
 use Rattle.desk_routes.proofs.FreeLemmas.{bugs_free, control_free, branches_free, bug_free, list_free}
 use Rattle.desk_routes.proofs.router.add_routes.Goals as goal

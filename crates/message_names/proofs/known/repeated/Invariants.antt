@@ -2,7 +2,7 @@ use Rattle.std.proofs.Common.{◌≡◌, ℕ, take}
 use Rattle.std.specs.Prelude.{◌==◌, nat_lt, count_by}
 use Rattle.std.specs.BTreeSet.{contains}
 use Rattle.std.specs.Ordering.{nat_cmp}
-use Rattle.message_names.specs.Known.{stands_twice}
+use Rattle.message_names.specs.Twice.{stands_twice}
 use Rattle.message_names.proofs.known.repeated.Given as goal
 
 abbrev pub invariant-loop-name : goal.invariant-loop-name

@@ -1,5 +1,5 @@
 use Rattle.std.proofs.Common.{length, ◌-◌}
-use Rattle.request_reading.specs.Found.{Came}
+use Rattle.request_reading.specs.Pieces.{Came}
 use Rattle.request_reading.proofs.body.fill.Given as goal
 
 abbrev pub invariant-pieces : goal.invariant-pieces

@@ -5,7 +5,7 @@ use Rattle.desk_run.specs.Script.{DirectiveLine, standing}
 use Rattle.desk_text.specs.Answers.{report_answer}
 use Rattle.desk_run.proofs.PartLemmas.{untold, reported_carried, reported_whole, reported_refused, reported_fault, fault_count}
 use Rattle.desk_run.proofs.PartLemmas.{refused_count, report_count}
-use Rattle.desk_run.proofs.script.carry_report.Goals as goal
+use Rattle.desk_run.proofs.carrying.carry_report.Goals as goal
 
 pub returns-in_default-clause-answer : goal.returns-in_default-clause-answer
 returns-in_default-clause-answer g c =

@@ -6,7 +6,7 @@ use Rattle.desk_run.specs.Script.{DirectiveLine, standing}
 use Rattle.desk_text.specs.Answers.{branch_answer}
 use Rattle.desk_run.proofs.PartLemmas.{untold}
 use Rattle.desk_run.proofs.BranchLemmas.{branch_whole, branch_fault, branch_carried, whole_count, fault_count, branch_count}
-use Rattle.desk_run.proofs.script.carry_nodes.Goals as goal
+use Rattle.desk_run.proofs.carrying.carry_nodes.Goals as goal
 
 pub returns-in_default-clause-answer : goal.returns-in_default-clause-answer
 returns-in_default-clause-answer g c =

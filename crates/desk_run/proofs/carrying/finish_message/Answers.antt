@@ -5,7 +5,7 @@ use Rattle.desk_store.proofs.HoldsLemmas.{holds_weaker}
 use Rattle.desk_messages.specs.Transcripts.{received_text}
 use Rattle.desk_run.specs.Script.{Message, standing}
 use Rattle.desk_run.proofs.PartLemmas.{untold, received_carried, received_fault, received_whole, end_count, message_count}
-use Rattle.desk_run.proofs.script.finish_message.Goals as goal
+use Rattle.desk_run.proofs.carrying.finish_message.Goals as goal
 
 pub returns-in_default-clause-answer : goal.returns-in_default-clause-answer
 returns-in_default-clause-answer g c =
