@@ -126,7 +126,6 @@ module _ (key : ℕ → Option ℕ) (set : ℕ → Option SetImage) (keyed : IsK
       found = λ n k e. found n k e (image_with is n) refl;
       known = λ n k i s h. known n k i s h (image_with is k) refl;
       own = λ k i s. own k i s (image_with is k) refl;
-      first = λ k i s. first k i s (image_with is k) refl;
     }
       where
         none-given : (n : ℕ) → image_with is n ≡ None → key_after is key n ≡ key n
@@ -157,10 +156,6 @@ module _ (key : ℕ → Option ℕ) (set : ℕ → Option SetImage) (keyed : IsK
         own k i s None o = keyed.own k i (sym (set-stays k o) ∙ s)
         own k i s (Some j) o =
             ap (λ (z : SetImage). has (numbers_of z.members) k) (sym (key-kept k i j o s).1) ∙ image_with-has is k j o
-
-        first : (k : ℕ) (i : SetImage) → set_after is set k ≡ Some i → (o : Option SetImage) → image_with is k ≡ o → key_of i ≡ k
-        first k i s None o = keyed.first k i (sym (set-stays k o) ∙ s)
-        first k i s (Some j) o = let kept = key-kept k i j o s in ap key_of (sym kept.1) ∙ kept.0
 
     -- each bug after the change
     pub bug-after : (n : ℕ) → keyed_bug (key_after is key) (set_after is set) n ≡ option_or (bug_in is n) (keyed_bug key set n)

@@ -47,9 +47,8 @@ pub record IsKeyed (key : ℕ → Option ℕ) (set : ℕ → Option SetImage) : 
   pub found : (n k : ℕ) → key n ≡ Some k → has_bug (set k) n ≡ true
   -- a bug of a set has the key of that set
   pub known : (n k : ℕ) (i : SetImage) → set k ≡ Some i → has (numbers_of i.members) n ≡ true → key n ≡ Some k
-  -- the key of a set is the number of its first bug
+  -- the key of a set is the number of one of its bugs, whichever
   pub own : (k : ℕ) (i : SetImage) → set k ≡ Some i → has (numbers_of i.members) k ≡ true
-  pub first : (k : ℕ) (i : SetImage) → set k ≡ Some i → key_of i ≡ k
 
 -- The keys after images are put: a bug that they have gets the key of its image.
 abbrev pub key_after : List SetImage → (ℕ → Option ℕ) → ℕ → Option ℕ
