@@ -1,0 +1,42 @@
+-- What the tables of a desk say, with no row in it.
+-- This project's own rule.
+use Rattle.std.specs.Prelude.{ℕ, List, [], Option, None}
+use Rattle.ancestry.specs.Nodes.{Node}
+use Rattle.ancestry.specs.Trees.{Ancestry, no_nodes}
+use Rattle.bug_record.specs.declared.bug.Member.{Member}
+use Rattle.nearest_marks.specs.declared.near.Near.{Near}
+use Rattle.desk_content.specs.declared.edit.SetFields.{SetFields}
+
+-- A set of merged bugs has a key, which is the number of one of its bugs.
+pub record Content : Type 0 where
+  -- the next number to give
+  pub next : ℕ
+  -- the key of each bug's set
+  pub key : ℕ → Option ℕ
+  -- of each key, the bugs of its set, by number
+  pub members : ℕ → List Member
+  -- of each key, the fields of its set, if there is one
+  pub fields : ℕ → Option SetFields
+  -- of each key, the nodes that are marked found and fixed, in node order
+  pub found : ℕ → List Node
+  pub fixed : ℕ → List Node
+  -- of each key, the bugs on which its set waits, by number
+  pub blockers : ℕ → List ℕ
+  -- the known nodes with their parents
+  pub nodes : Ancestry
+  -- of each key, the nearest mark of its set as seen from a node
+  pub near : ℕ → Node → Option Near
+
+-- no bug, no node
+abbrev pub no_content : ℕ → Content
+no_content first = record {
+  next = first;
+  key = λ n. None;
+  members = λ k. [];
+  fields = λ k. None;
+  found = λ k. [];
+  fixed = λ k. [];
+  blockers = λ k. [];
+  nodes = no_nodes;
+  near = λ k v. None;
+}

@@ -1,0 +1,78 @@
+-- What one edit makes of a content.
+-- This project's own rule.
+use Rattle.std.specs.Prelude.{ℕ, ◌==◌, ◌&&◌, nat_lt, not, List, [], ◌∷◌, filter, Some, None, if◌then◌else◌}
+use Rattle.ancestry.specs.Nodes.{Node, same_node}
+use Rattle.ancestry.specs.declared.statuses.MarkKind.{MarkKind}
+use Rattle.ancestry.specs.declared.statuses.MarkKind.TheVariants.{Found, Fixed}
+use Rattle.bug_record.specs.Marks.{with_node}
+use Rattle.bug_record.specs.declared.bug.Member.{Member}
+use Rattle.nearest_marks.specs.declared.near.Near.{Near}
+use Rattle.desk_content.specs.Content.{Content}
+use Rattle.desk_content.specs.declared.edit.Edit.{Edit}
+use Rattle.desk_content.specs.declared.edit.Edit.TheVariants as edits
+use Rattle.desk_content.specs.declared.edit.SetFields.{SetFields}
+
+-- the function with another value at k
+abbrev pub put_at : {A : Type 0} → ℕ → A → (ℕ → A) → ℕ → A
+put_at k x f n = if n == k then x else f n
+
+-- a list by number with one more item, behind those of its number
+abbrev pub placed : {T : Type 0} → (T → ℕ) → List T → T → List T
+placed number [] x = x ∷ []
+placed number (y ∷ ys) x = if nat_lt (number x) (number y) then x ∷ y ∷ ys else y ∷ placed number ys x
+
+abbrev pub with_fields : ℕ → SetFields → Content → Content
+with_fields k f c = record c { fields = put_at k (Some f) c.fields }
+
+abbrev pub without_fields : ℕ → Content → Content
+without_fields k c = record c { fields = put_at k None c.fields }
+
+-- a bug comes into a set, and goes from every set
+abbrev pub with_member : ℕ → Member → Content → Content
+with_member k m c = record c {
+  key = put_at m.number (Some k) c.key;
+  members = put_at k (placed (λ (x : Member). x.number) (c.members k) m) c.members;
+}
+
+abbrev pub without_member : ℕ → Content → Content
+without_member n c = record c {
+  key = put_at n None c.key;
+  members = λ k. filter (λ m. not (m.number == n)) (c.members k);
+}
+
+abbrev pub with_mark : ℕ → MarkKind → Node → Content → Content
+with_mark k Found v c = record c { found = put_at k (with_node (c.found k) v) c.found }
+with_mark k Fixed v c = record c { fixed = put_at k (with_node (c.fixed k) v) c.fixed }
+
+abbrev pub without_marks : ℕ → Content → Content
+without_marks k c = record c { found = put_at k [] c.found; fixed = put_at k [] c.fixed }
+
+abbrev pub with_blocker : ℕ → ℕ → Content → Content
+with_blocker k b c = record c { blockers = put_at k (placed (λ n. n) (c.blockers k) b) c.blockers }
+
+abbrev pub without_blockers : ℕ → Content → Content
+without_blockers k c = record c { blockers = put_at k [] c.blockers }
+
+abbrev pub with_near : ℕ → Node → Near → Content → Content
+with_near k v x c = record c { near = λ j w. if (j == k) && same_node v w then Some x else c.near j w }
+
+abbrev pub without_near : ℕ → Content → Content
+without_near k c = record c { near = put_at k (λ v. None) c.near }
+
+-- what the edit makes of the content
+abbrev pub edited : Edit → Content → Content
+edited (edits.DropFields k) c = without_fields k c
+edited (edits.PutFields k f) c = with_fields k f c
+edited (edits.DropMember n) c = without_member n c
+edited (edits.PutMember k m) c = with_member k m c
+edited (edits.DropMarks k) c = without_marks k c
+edited (edits.PutMark k kind v) c = with_mark k kind v c
+edited (edits.DropBlockers k) c = without_blockers k c
+edited (edits.PutBlocker k b) c = with_blocker k b c
+edited (edits.DropNear k) c = without_near k c
+edited (edits.PutNear k v x) c = with_near k v x c
+
+-- one edit after another
+abbrev pub edited_all : List Edit → Content → Content
+edited_all [] c = c
+edited_all (e ∷ es) c = edited_all es (edited e c)

@@ -1,0 +1,4 @@
+pub mod Content
+pub mod View
+pub mod Kept
+pub mod Edits

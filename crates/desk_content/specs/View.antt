@@ -1,0 +1,44 @@
+-- The desk that a content shows: a bug is the join of its own row with the row, the marks and the
+-- blockers of its set.
+-- This project's own rule.
+use Rattle.std.specs.Prelude.{ℕ, Option, option_map}
+use Rattle.bug_record.specs.Desk.{Desk}
+use Rattle.bug_record.specs.declared.bug.Shared.{Shared}
+use Rattle.bug_record.specs.declared.bug.SetImage.{SetImage}
+use Rattle.desk_places.specs.Keys.{keyed_desk}
+use Rattle.desk_content.specs.Content.{Content}
+use Rattle.desk_content.specs.declared.edit.SetFields.{SetFields}
+
+-- the fields of a row of sets, without marks and blockers
+abbrev pub fields_of : Shared → SetFields
+fields_of s = record {
+  «package» = s.«package»;
+  severity = s.severity;
+  closed = s.closed;
+  forwarded = s.forwarded;
+  owner = s.owner;
+  tags = s.tags;
+  archived = s.archived;
+}
+
+-- the shared fields of the set of a key that has this row
+abbrev pub shared_of : Content → ℕ → SetFields → Shared
+shared_of c k f = record {
+  «package» = f.«package»;
+  severity = f.severity;
+  closed = f.closed;
+  forwarded = f.forwarded;
+  owner = f.owner;
+  tags = f.tags;
+  found = c.found k;
+  fixed = c.fixed k;
+  blockers = c.blockers k;
+  archived = f.archived;
+}
+
+-- the image of the set of a key
+abbrev pub image : Content → ℕ → Option SetImage
+image c k = option_map (λ f. record { shared = shared_of c k f; members = c.members k }) (c.fields k)
+
+abbrev pub desk_in : Content → Desk
+desk_in c = keyed_desk c.key (image c) c.nodes c.next

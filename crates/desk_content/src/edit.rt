@@ -1,0 +1,74 @@
+//! The edits of tables that a change is made of.
+
+use ancestry::{MarkKind, Node};
+use bug_record::{Member, Severity, Tags};
+use debver::Text;
+use nearest_marks::Near;
+
+/// The fields that a set of merged bugs has in its own row.
+/// Its marks, blockers and members stand in tables of their own.
+#[derive(Drop)]
+pub struct SetFields {
+    pub package: Text,
+    pub severity: Severity,
+    pub closed: bool,
+    /// Where the bugs were forwarded to.
+    pub forwarded: Option<Text>,
+    /// Who works on them.
+    pub owner: Option<Text>,
+    pub tags: Tags,
+    pub archived: bool,
+}
+
+/// One edit of the tables: what goes, or what comes.
+/// A set is named by its key, which is the number of one of its bugs.
+#[derive(Drop)]
+pub enum Edit {
+    /// The set of this key is no set any more.
+    DropFields {
+        key: u64,
+    },
+    /// The set of this key gets these fields.
+    PutFields {
+        key: u64,
+        fields: SetFields,
+    },
+    /// The bug of this number is in no set any more.
+    DropMember {
+        number: u64,
+    },
+    /// This bug comes into the set of this key.
+    PutMember {
+        key: u64,
+        member: Member,
+    },
+    /// The set of this key has no marks any more.
+    DropMarks {
+        key: u64,
+    },
+    /// The set of this key is marked at a node.
+    PutMark {
+        key: u64,
+        kind: MarkKind,
+        node: Node,
+    },
+    /// The set of this key has no blockers any more.
+    DropBlockers {
+        key: u64,
+    },
+    /// The set of this key waits on this bug.
+    PutBlocker {
+        key: u64,
+        blocker: u64,
+    },
+    /// The set of this key has no nearest marks any more.
+    DropNear {
+        key: u64,
+    },
+    /// The nearest mark of the set of this key, as seen from a node.
+    PutNear {
+        key: u64,
+        node: Node,
+        near: Near,
+    },
+}
