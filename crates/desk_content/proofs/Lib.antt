@@ -1,0 +1,5 @@
+pub mod EditLemmas
+pub mod ClearLemmas
+pub mod PlaceLemmas
+pub mod PutLemmas
+pub mod RowLemmas

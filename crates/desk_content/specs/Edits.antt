@@ -14,7 +14,7 @@ use Rattle.desk_content.specs.declared.edit.SetFields.{SetFields}
 
 -- the function with another value at k
 abbrev pub put_at : {A : Type 0} → ℕ → A → (ℕ → A) → ℕ → A
-put_at k x f n = if n == k then x else f n
+put_at k x f n = if k == n then x else f n
 
 -- a list by number with one more item, behind those of its number
 abbrev pub placed : {T : Type 0} → (T → ℕ) → List T → T → List T
@@ -37,7 +37,7 @@ with_member k m c = record c {
 abbrev pub without_member : ℕ → Content → Content
 without_member n c = record c {
   key = put_at n None c.key;
-  members = λ k. filter (λ m. not (m.number == n)) (c.members k);
+  members = λ k. filter (λ m. not (n == m.number)) (c.members k);
 }
 
 abbrev pub with_mark : ℕ → MarkKind → Node → Content → Content
@@ -54,7 +54,7 @@ abbrev pub without_blockers : ℕ → Content → Content
 without_blockers k c = record c { blockers = put_at k [] c.blockers }
 
 abbrev pub with_near : ℕ → Node → Near → Content → Content
-with_near k v x c = record c { near = λ j w. if (j == k) && same_node v w then Some x else c.near j w }
+with_near k v x c = record c { near = λ j w. if (k == j) && same_node v w then Some x else c.near j w }
 
 abbrev pub without_near : ℕ → Content → Content
 without_near k c = record c { near = put_at k (λ v. None) c.near }

@@ -2,3 +2,6 @@ pub mod Content
 pub mod View
 pub mod Kept
 pub mod Edits
+pub mod Images
+-- definitions that only private functions cite
+pub mod EditLists

@@ -4,5 +4,7 @@
 #![tactic(auto)]
 
 mod edit;
+mod images;
 
 pub use edit::{Edit, SetFields};
+pub use images::{RowEdits, row_edits};

@@ -1,10 +1,11 @@
 -- The nearest mark of a set, as seen from a node.
 -- This project's own rule.
-use Rattle.std.specs.Prelude.{List, Option, None, option_map, if◌then◌else◌}
-use Rattle.ancestry.specs.Nodes.{Node}
+use Rattle.std.specs.Prelude.{◌≡◌, List, [], ◌∷◌, Option, Some, None, option_map, if◌then◌else◌, ⊤}
+use Rattle.ancestry.specs.Nodes.{Node, same_node}
 use Rattle.ancestry.specs.Trees.{Ancestry, knows, line}
 use Rattle.ancestry.specs.Statuses.{first_marked, kind_at}
 use Rattle.nearest_marks.specs.declared.near.Near.{Near}
+use Rattle.nearest_marks.specs.declared.near.NearRow.{NearRow}
 
 -- the first marked node of a line, and as what it is marked, found before fixed
 abbrev pub nearest_on : List Node → List Node → List Node → Option Near
@@ -13,3 +14,13 @@ nearest_on found fixed line = option_map (λ v. record { mark = v; kind = kind_a
 -- as seen from a known node; an unknown node sees none
 abbrev pub nearest_of : Ancestry → List Node → List Node → Node → Option Near
 nearest_of t found fixed v = if knows t v then nearest_on found fixed (line t v) else None
+
+-- the first row of a node
+abbrev pub row_at : List NearRow → Node → Option Near
+row_at [] v = None
+row_at (r ∷ rows) v = if same_node r.node v then Some r.near else row_at rows v
+
+-- each node has one row at most
+abbrev pub once : List NearRow → Type 0
+once [] = ⊤
+once (r ∷ rows) = (row_at rows r.node ≡ None) × once rows

@@ -3,4 +3,4 @@
 
 mod near;
 
-pub use near::Near;
+pub use near::{Family, Near, NearRow, nearest_rows};
