@@ -3,3 +3,5 @@ pub mod ClearLemmas
 pub mod PlaceLemmas
 pub mod PutLemmas
 pub mod RowLemmas
+pub mod ClosedLemmas
+pub mod ChangeLemmas

@@ -33,9 +33,9 @@ module _ (i : SetImage) (found fixed : List Node) (key : ℕ) (keeps : Bool) (is
 
   pub puts_new : (edits before : List Edit) (t : Ancestry) → before ≡ set_puts i → keeps ≡ false
       → (rows : List NearRow) × once rows × ((v : Node) → row_at rows v ≡ nearest_of t i.shared.found i.shared.fixed v)
-          × (edits ≡ before ++ all_mark_puts i rows)
+      × (edits ≡ before ++ all_mark_puts i rows)
       → (c : Content) → c.nodes ≡ t → IsGoodImage i → IsCleared (same_marks i found fixed) i c → edited_all edits c ≡ with_image i c
   puts_new edits before t b new rows c tree good clear =
       ap (λ (es : List Edit). edited_all es c) (rows.3 ∙ ap (λ (es : List Edit). es ++ all_mark_puts i rows.0) b)
       ∙ put_new i good c (subst (λ t. IsCleared t i c) (sym is_kept ∙ new) clear) rows.0 rows.1
-          (λ v. rows.2 v ∙ ap (λ (u : Ancestry). nearest_of u i.shared.found i.shared.fixed v) (sym tree))
+      (λ v. rows.2 v ∙ ap (λ (u : Ancestry). nearest_of u i.shared.found i.shared.fixed v) (sym tree))

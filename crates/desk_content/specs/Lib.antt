@@ -3,5 +3,6 @@ pub mod View
 pub mod Kept
 pub mod Edits
 pub mod Images
+pub mod Changes
 -- definitions that only private functions cite
 pub mod EditLists

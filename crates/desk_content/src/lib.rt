@@ -5,6 +5,8 @@
 
 mod edit;
 mod images;
+mod laws;
 
 pub use edit::{Edit, SetFields};
 pub use images::{RowEdits, row_edits};
+pub use laws::changes_are_put;

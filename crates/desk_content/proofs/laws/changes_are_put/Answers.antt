@@ -1,0 +1,8 @@
+use Rattle.desk_content.proofs.ChangeLemmas.{change_desk, change_kept}
+use Rattle.desk_content.proofs.laws.changes_are_put.Goals as goal
+
+pub returns-clause-desk : goal.returns-clause-desk
+returns-clause-desk c = change_desk
+
+pub returns-clause-kept : goal.returns-clause-kept
+returns-clause-kept c = change_kept
