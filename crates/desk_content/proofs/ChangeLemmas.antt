@@ -210,7 +210,7 @@ module _ (c : Content) (is : List SetImage) (kept : IsKeptContent c) (apart : Ar
             ∙ together k n k here.0 here.1 h (kept.keyed.own k here.0 here.1) q))
         not_in n h false q = q
 
-    members_go : (j : SetImage) → image_with is k ≡ Some j → rest is (c.members k) ≡ []
+    pub members_go : (j : SetImage) → image_with is k ≡ Some j → rest is (c.members k) ≡ []
     members_go j e = cases (c.fields k) refl
       where
         cases : (o : Option SetFields) → c.fields k ≡ o → rest is (c.members k) ≡ []

@@ -5,3 +5,5 @@ pub mod PutLemmas
 pub mod RowLemmas
 pub mod ClosedLemmas
 pub mod ChangeLemmas
+pub mod ReadyLemmas
+pub mod FreeLemmas

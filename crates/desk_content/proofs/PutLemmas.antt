@@ -25,11 +25,11 @@ use Rattle.desk_content.proofs.PlaceLemmas.{at_same, put_each, put_all, placed_a
 
 -- ---- each kind of edit
 
-abbrev put_keys : ℕ → List Member → (ℕ → Option ℕ) → ℕ → Option ℕ
+abbrev pub put_keys : ℕ → List Member → (ℕ → Option ℕ) → ℕ → Option ℕ
 put_keys k [] f = f
 put_keys k (m ∷ ms) f = put_keys k ms (put_at m.number (Some k) f)
 
-put_keys-is : (k : ℕ) (ms : List Member) (f : ℕ → Option ℕ) (n : ℕ) → put_keys k ms f n ≡ cond (has (numbers_of ms) n) (Some k) (f n)
+pub put_keys-is : (k : ℕ) (ms : List Member) (f : ℕ → Option ℕ) (n : ℕ) → put_keys k ms f n ≡ cond (has (numbers_of ms) n) (Some k) (f n)
 put_keys-is k [] f n = refl
 put_keys-is k (m ∷ ms) f n =
     put_keys-is k ms (put_at m.number (Some k) f) n ∙ first_or_later (m.number == n) (has (numbers_of ms) n) (Some k) (f n)
@@ -54,7 +54,7 @@ put_near-is k (r ∷ rows) f o j w =
       | false ↦ refl
     ]
 
-members_put : (k : ℕ) (ms : List Member) (c : Content) → edited_all (member_puts k ms) c
+pub members_put : (k : ℕ) (ms : List Member) (c : Content) → edited_all (member_puts k ms) c
     ≡ record c { key = put_keys k ms c.key; members = put_each (placed (λ (m : Member). m.number)) k ms c.members }
 members_put k [] c = refl
 members_put k (m ∷ ms) c = members_put k ms (record c {
@@ -67,12 +67,12 @@ blockers_put : (k : ℕ) (bs : List ℕ) (c : Content) → edited_all (blocker_p
 blockers_put k [] c = refl
 blockers_put k (b ∷ bs) c = blockers_put k bs (record c { blockers = put_at k (placed (λ n. n) (c.blockers k) b) c.blockers })
 
-found_put : (k : ℕ) (vs : List Node) (c : Content) → edited_all (mark_puts k Found vs) c
+pub found_put : (k : ℕ) (vs : List Node) (c : Content) → edited_all (mark_puts k Found vs) c
     ≡ record c { found = put_each with_node k vs c.found }
 found_put k [] c = refl
 found_put k (v ∷ vs) c = found_put k vs (record c { found = put_at k (with_node (c.found k) v) c.found })
 
-fixed_put : (k : ℕ) (vs : List Node) (c : Content) → edited_all (mark_puts k Fixed vs) c
+pub fixed_put : (k : ℕ) (vs : List Node) (c : Content) → edited_all (mark_puts k Fixed vs) c
     ≡ record c { fixed = put_each with_node k vs c.fixed }
 fixed_put k [] c = refl
 fixed_put k (v ∷ vs) c = fixed_put k vs (record c { fixed = put_at k (with_node (c.fixed k) v) c.fixed })
@@ -85,7 +85,7 @@ near_put k (r ∷ rows) c =
 -- ---- an image
 
 -- all but the marks
-abbrev after_set : SetImage → Content → Content
+abbrev pub after_set : SetImage → Content → Content
 after_set i c = record c {
   key = put_keys (key_of i) i.members c.key;
   members = put_each (placed (λ (m : Member). m.number)) (key_of i) i.members c.members;
@@ -93,7 +93,7 @@ after_set i c = record c {
   blockers = put_each (placed (λ n. n)) (key_of i) i.shared.blockers c.blockers;
 }
 
-set_put : (i : SetImage) (c : Content) → edited_all (set_puts i) c ≡ after_set i c
+pub set_put : (i : SetImage) (c : Content) → edited_all (set_puts i) c ≡ after_set i c
 set_put i c =
     let k = key_of i in
     let d : Content = record c {

@@ -1,9 +1,10 @@
 -- What the rows of an image are made of: first all that stands under its bugs' numbers goes, and
 -- then its own rows come.
 -- This project's own rule.
-use Rattle.std.specs.Prelude.{ℕ, ◌≡◌, ◌≢◌, ◌==◌, ◌&&◌, Bool, true, false, not, List, [], filter, Option, Some, None, if◌then◌else◌}
+use Rattle.std.specs.Prelude.{ℕ, ◌≡◌, ◌≢◌, ◌≤◌, ◌==◌, ◌&&◌, Bool, true, false, not, List, [], filter, Option, Some, None, if◌then◌else◌}
 use Rattle.std.specs.Cmp.Lexicographic.{pointwise}
 use Rattle.ancestry.specs.Nodes.{Node, same_node}
+use Rattle.line_words.specs.declared.named.TheConstants.{LARGEST_NUMBER}
 use Rattle.bug_record.specs.Sets.{has, IsAscending}
 use Rattle.bug_record.specs.Marks.{IsNodeSet}
 use Rattle.bug_record.specs.Images.{numbers_of}
@@ -55,6 +56,8 @@ with_image i c = record c {
 -- an image as every set of a sound desk has one
 pub record IsGoodImage (i : SetImage) : Type 0 where
   pub some : i.members ≢ []
+  pub numbers : (n : ℕ) → is_member i n ≡ true → n ≤ LARGEST_NUMBER
+  pub blocker_numbers : (n : ℕ) → has i.shared.blockers n ≡ true → n ≤ LARGEST_NUMBER
   pub members : IsAscending (numbers_of i.members)
   pub blockers : IsAscending i.shared.blockers
   pub found : IsNodeSet i.shared.found

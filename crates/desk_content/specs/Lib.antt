@@ -2,6 +2,7 @@ pub mod Content
 pub mod View
 pub mod Kept
 pub mod Edits
+pub mod Free
 pub mod Images
 pub mod Changes
 -- definitions that only private functions cite

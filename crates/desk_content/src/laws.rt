@@ -1,13 +1,15 @@
 //! Laws of the definitions that the contracts of this crate cite.
 //! Each body is empty: the contract is the law.
 
-ghost use Rattle.std.specs.Prelude.{◌≡◌};
+ghost use Rattle.std.specs.Prelude.{◌≡◌, List, ◌∷◌, ◌++◌};
 ghost use Rattle.bug_record.specs.Images.{put};
+ghost use Rattle.bug_record.specs.declared.bug.SetImage.{SetImage};
 ghost use Rattle.bug_record.specs.declared.command.Change.{Change};
 ghost use Rattle.desk_content.specs.Content.{Content};
 ghost use Rattle.desk_content.specs.View.{desk_in};
 ghost use Rattle.desk_content.specs.Kept.{IsKeptContent};
-ghost use Rattle.desk_content.specs.Changes.{changed, FitsContent};
+ghost use Rattle.desk_content.specs.Images.{IsGoodImage, IsCleared};
+ghost use Rattle.desk_content.specs.Changes.{keeps_marks, with_images, cleared_for, changed, FitsContent};
 
 /// Where the rows of all images of a change are cleared and put, the content shows the desk after
 /// the change, and is one that a desk keeps again.
@@ -16,4 +18,16 @@ pub fn changes_are_put()
         desk_in (changed c change) ≡ put (desk_in c) change }
     ensures kept { (c : Content) (change : Change) → IsKeptContent c → FitsContent c change →
         IsKeptContent (changed c change) }
+{}
+
+/// The rows of all images of a change are cleared; when then the turn of an image comes to be put,
+/// the image is good, and nothing stands under its key and its bugs but marks that it has itself.
+pub fn images_are_ready()
+    ensures good { (c : Content) (change : Change) (xs : List SetImage) (i : SetImage) (ys : List SetImage) →
+        IsKeptContent c → FitsContent c change → change.images ≡ xs ++ i ∷ ys → IsGoodImage i }
+    ensures cleared { (c : Content) (change : Change) (xs : List SetImage) (i : SetImage) (ys : List SetImage) →
+        IsKeptContent c → FitsContent c change → change.images ≡ xs ++ i ∷ ys →
+        IsCleared (keeps_marks c i) i (with_images xs (cleared_for c change)) }
+    ensures nodes { (c : Content) (change : Change) (xs : List SetImage) →
+        (with_images xs (cleared_for c change)).nodes ≡ c.nodes }
 {}

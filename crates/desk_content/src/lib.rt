@@ -9,4 +9,4 @@ mod laws;
 
 pub use edit::{Edit, SetFields};
 pub use images::{RowEdits, row_edits};
-pub use laws::changes_are_put;
+pub use laws::{changes_are_put, images_are_ready};

@@ -1,0 +1,35 @@
+-- Edits that no row stands in the way of: the numbers are those of bugs, and what comes is not
+-- there.
+-- This project's own rule.
+use Rattle.std.specs.Prelude.{ℕ, ◌≡◌, ◌≤◌, false, List, [], ◌∷◌, None, ⊤}
+use Rattle.ancestry.specs.Nodes.{Node}
+use Rattle.ancestry.specs.Trees.{has_node}
+use Rattle.ancestry.specs.declared.statuses.MarkKind.{MarkKind}
+use Rattle.ancestry.specs.declared.statuses.MarkKind.TheVariants.{Found, Fixed}
+use Rattle.bug_record.specs.Sets.{has}
+use Rattle.line_words.specs.declared.named.TheConstants.{LARGEST_NUMBER}
+use Rattle.desk_content.specs.Content.{Content}
+use Rattle.desk_content.specs.Edits.{edited}
+use Rattle.desk_content.specs.declared.edit.Edit.{Edit}
+use Rattle.desk_content.specs.declared.edit.Edit.TheVariants as edits
+
+abbrev pub marks_of : MarkKind → Content → ℕ → List Node
+marks_of Found c k = c.found k
+marks_of Fixed c k = c.fixed k
+
+abbrev pub IsFree : Edit → Content → Type 0
+IsFree (edits.DropFields k) c = k ≤ LARGEST_NUMBER
+IsFree (edits.PutFields k f) c = (k ≤ LARGEST_NUMBER) × (c.fields k ≡ None)
+IsFree (edits.DropMember n) c = n ≤ LARGEST_NUMBER
+IsFree (edits.PutMember k m) c = (k ≤ LARGEST_NUMBER) × (m.number ≤ LARGEST_NUMBER) × (c.key m.number ≡ None)
+IsFree (edits.DropMarks k) c = k ≤ LARGEST_NUMBER
+IsFree (edits.PutMark k kind v) c = (k ≤ LARGEST_NUMBER) × (has_node (marks_of kind c k) v ≡ false)
+IsFree (edits.DropBlockers k) c = k ≤ LARGEST_NUMBER
+IsFree (edits.PutBlocker k b) c = (k ≤ LARGEST_NUMBER) × (b ≤ LARGEST_NUMBER) × (has (c.blockers k) b ≡ false)
+IsFree (edits.DropNear k) c = k ≤ LARGEST_NUMBER
+IsFree (edits.PutNear k v x) c = (k ≤ LARGEST_NUMBER) × (c.near k v ≡ None)
+
+-- each edit is free when its turn comes
+abbrev pub AreFree : List Edit → Content → Type 0
+AreFree [] c = ⊤
+AreFree (e ∷ es) c = IsFree e c × AreFree es (edited e c)
