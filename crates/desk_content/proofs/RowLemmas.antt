@@ -9,11 +9,13 @@ use Rattle.nearest_marks.specs.Nearest.{nearest_of, row_at, once}
 use Rattle.nearest_marks.specs.declared.near.NearRow.{NearRow}
 use Rattle.desk_content.specs.Content.{Content}
 use Rattle.desk_content.specs.Edits.{edited_all}
+use Rattle.desk_content.specs.Free.{AreFree}
 use Rattle.desk_content.specs.EditLists.{drops, set_puts, all_mark_puts}
 use Rattle.desk_content.specs.Images.{same_marks, without_image, with_image, IsGoodImage, IsCleared}
 use Rattle.desk_content.specs.declared.edit.Edit.{Edit}
 use Rattle.desk_content.proofs.ClearLemmas.{cleared}
 use Rattle.desk_content.proofs.PutLemmas.{put_kept, put_new}
+use Rattle.desk_content.proofs.FreeLemmas.{free-append, drops_free, set_free, all_marks_free}
 
 module _ (i : SetImage) (found fixed : List Node) (key : ℕ) (keeps : Bool) (is_key : key ≡ key_of i)
     (is_kept : keeps ≡ same_marks i found fixed) where
@@ -39,3 +41,20 @@ module _ (i : SetImage) (found fixed : List Node) (key : ℕ) (keeps : Bool) (is
       ap (λ (es : List Edit). edited_all es c) (rows.3 ∙ ap (λ (es : List Edit). es ++ all_mark_puts i rows.0) b)
       ∙ put_new i good c (subst (λ t. IsCleared t i c) (sym is_kept ∙ new) clear) rows.0 rows.1
       (λ v. rows.2 v ∙ ap (λ (u : Ancestry). nearest_of u i.shared.found i.shared.fixed v) (sym tree))
+
+  pub cleared_free : (edits : List Edit) → edits ≡ drops keeps key i.members → (c : Content) → IsGoodImage i → AreFree edits c
+  cleared_free edits e c good = subst (λ (es : List Edit). AreFree es c) (sym e) (drops_free keeps key i.members c good.numbers)
+
+  pub kept_free : (edits : List Edit) → edits ≡ set_puts i → (c : Content) → IsGoodImage i
+      → IsCleared (same_marks i found fixed) i c → AreFree edits c
+  kept_free edits e c good clear = subst (λ (es : List Edit). AreFree es c) (sym e) (set_free i good (same_marks i found fixed) c clear)
+
+  pub new_free : (edits before : List Edit) (t : Ancestry) → before ≡ set_puts i → keeps ≡ false
+      → (rows : List NearRow) × once rows × ((v : Node) → row_at rows v ≡ nearest_of t i.shared.found i.shared.fixed v)
+      × (edits ≡ before ++ all_mark_puts i rows)
+      → (c : Content) → IsGoodImage i → IsCleared (same_marks i found fixed) i c → AreFree edits c
+  new_free edits before t b new rows c good clear =
+      let cleared : IsCleared false i c = subst (λ u. IsCleared u i c) (sym is_kept ∙ new) clear in
+      subst (λ (es : List Edit). AreFree es c) (sym (rows.3 ∙ ap (λ (es : List Edit). es ++ all_mark_puts i rows.0) b))
+      (free-append (set_puts i) (all_mark_puts i rows.0) c (set_free i good false c cleared)
+      (all_marks_free i good c cleared rows.0 rows.1))

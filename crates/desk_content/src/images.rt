@@ -7,6 +7,7 @@ ghost use Rattle.nearest_marks.specs.Nearest.{nearest_of, row_at, once};
 ghost use Rattle.nearest_marks.specs.declared.near.NearRow.{NearRow};
 ghost use Rattle.desk_content.specs.Content.{Content};
 ghost use Rattle.desk_content.specs.Edits.{edited_all};
+ghost use Rattle.desk_content.specs.Free.{AreFree};
 ghost use Rattle.desk_content.specs.Images.{same_marks, without_image, with_image, IsCleared, IsGoodImage};
 ghost use Rattle.desk_content.specs.View.{fields_of};
 ghost use Rattle.desk_content.specs.EditLists.{drops_of, drops, mark_drops, member_puts, blocker_puts, mark_puts, near_puts, all_mark_puts, set_puts};
@@ -209,6 +210,8 @@ fn put_set(alloc: Global, key: u64, image: &SetImage) -> Result<Sequence<Edit>, 
 /// What is cleared and what is put for the image of a set, where these are the marks that stand
 /// under its key, the number of its first bug.
 /// Where they are the image's marks, they and their nearest marks stay as they are.
+/// The edits are free, where the image is one of a sound desk and its rows are cleared before they
+/// are put.
 /// The error is that there was no memory.
 /// This project's own rule.
 pub fn row_edits(
@@ -222,6 +225,9 @@ pub fn row_edits(
         edited_all edits.cleared c ≡ without_image (same_marks image.now found.now fixed.now) image.now c) }
     ensures put { IfOk result (λ edits. (c : Content) → c.nodes ≡ family.now → IsGoodImage image.now →
         IsCleared (same_marks image.now found.now fixed.now) image.now c → edited_all edits.put c ≡ with_image image.now c) }
+    ensures free { IfOk result (λ edits. (c : Content) → IsGoodImage image.now → AreFree edits.cleared c) }
+    ensures put_free { IfOk result (λ edits. (c : Content) → IsGoodImage image.now →
+        IsCleared (same_marks image.now found.now fixed.now) image.now c → AreFree edits.put c) }
 {
     let key = key_of(image);
     let keeps = has_marks(image, found, fixed);
