@@ -1,6 +1,14 @@
 //! The nearest marks of a set of merged bugs, as seen from the nodes of a tree.
 #![tactic(auto)]
 
+mod family;
+mod laws;
 mod near;
+mod touched;
 
-pub use near::{Family, Near, NearRow, nearest_rows};
+pub use family::Family;
+pub use laws::{
+    nearest_after_branches, nearest_by_parents, nearest_elsewhere, nearest_of_longer_lines,
+};
+pub use near::{Near, NearRow, nearest_rows};
+pub use touched::affected;
