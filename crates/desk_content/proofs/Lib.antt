@@ -7,3 +7,4 @@ pub mod ClosedLemmas
 pub mod ChangeLemmas
 pub mod ReadyLemmas
 pub mod FreeLemmas
+pub mod TagLemmas

@@ -5,5 +5,6 @@ pub mod Edits
 pub mod Free
 pub mod Images
 pub mod Changes
+pub mod Encodings
 -- definitions that only private functions cite
 pub mod EditLists

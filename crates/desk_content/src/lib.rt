@@ -4,9 +4,14 @@
 #![tactic(auto)]
 
 mod edit;
+mod encodings;
 mod images;
 mod laws;
 
 pub use edit::{Edit, SetFields};
+pub use encodings::{
+    flag_of_number, kind_of_number, number_of_flag, number_of_kind, number_of_tags,
+    severity_of_number, tags_of_number,
+};
 pub use images::{RowEdits, row_edits};
-pub use laws::{changes_are_put, images_are_ready};
+pub use laws::{changes_are_put, images_are_ready, numbers_are_read_back};
