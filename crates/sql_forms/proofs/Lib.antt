@@ -1,0 +1,10 @@
+pub mod InsertLemmas
+pub mod QueryLemmas
+pub mod DeleteLemmas
+pub mod OrderLemmas
+pub mod ErrorLemmas
+pub mod FailLemmas
+pub mod UniqueLemmas
+pub mod DeleteErrors
+pub mod QueryErrors
+pub mod ReadLemmas
