@@ -8,3 +8,4 @@ pub mod ChangeLemmas
 pub mod ReadyLemmas
 pub mod FreeLemmas
 pub mod TagLemmas
+pub mod BranchLemmas

@@ -1,7 +1,8 @@
 -- What one edit makes of a content.
 -- This project's own rule.
-use Rattle.std.specs.Prelude.{ℕ, ◌==◌, ◌&&◌, nat_lt, not, List, [], ◌∷◌, filter, Some, None, if◌then◌else◌}
-use Rattle.ancestry.specs.Nodes.{Node, same_node}
+use Rattle.std.specs.Prelude.{ℕ, ◌==◌, ◌&&◌, nat_lt, not, List, [], ◌∷◌, filter, Some, None, if◌then◌else◌, Option}
+use Rattle.std.specs.BTreeMap.{insert_entry}
+use Rattle.ancestry.specs.Nodes.{Node, same_node, node_cmp}
 use Rattle.ancestry.specs.declared.statuses.MarkKind.{MarkKind}
 use Rattle.ancestry.specs.declared.statuses.MarkKind.TheVariants.{Found, Fixed}
 use Rattle.bug_record.specs.Marks.{with_node}
@@ -59,6 +60,12 @@ with_near k v x c = record c { near = λ j w. if (k == j) && same_node v w then 
 abbrev pub without_near : ℕ → Content → Content
 without_near k c = record c { near = put_at k (λ v. None) c.near }
 
+abbrev pub with_link : Node → Option Node → Content → Content
+with_link v p c = record c { nodes = insert_entry node_cmp c.nodes v p }
+
+abbrev pub without_link : Node → Content → Content
+without_link v c = record c { nodes = filter (λ e. not (same_node v e.0)) c.nodes }
+
 -- what the edit makes of the content
 abbrev pub edited : Edit → Content → Content
 edited (edits.DropFields k) c = without_fields k c
@@ -71,6 +78,8 @@ edited (edits.DropBlockers k) c = without_blockers k c
 edited (edits.PutBlocker k b) c = with_blocker k b c
 edited (edits.DropNear k) c = without_near k c
 edited (edits.PutNear k v x) c = with_near k v x c
+edited (edits.DropLink v) c = without_link v c
+edited (edits.PutLink v p) c = with_link v p c
 
 -- one edit after another
 abbrev pub edited_all : List Edit → Content → Content

@@ -3,7 +3,7 @@
 -- This project's own rule.
 use Rattle.std.specs.Prelude.{ℕ, ◌≡◌, ◌≤◌, false, List, [], ◌∷◌, None, ⊤}
 use Rattle.ancestry.specs.Nodes.{Node}
-use Rattle.ancestry.specs.Trees.{has_node}
+use Rattle.ancestry.specs.Trees.{has_node, knows}
 use Rattle.ancestry.specs.declared.statuses.MarkKind.{MarkKind}
 use Rattle.ancestry.specs.declared.statuses.MarkKind.TheVariants.{Found, Fixed}
 use Rattle.bug_record.specs.Sets.{has}
@@ -28,6 +28,8 @@ IsFree (edits.DropBlockers k) c = k ≤ LARGEST_NUMBER
 IsFree (edits.PutBlocker k b) c = (k ≤ LARGEST_NUMBER) × (b ≤ LARGEST_NUMBER) × (has (c.blockers k) b ≡ false)
 IsFree (edits.DropNear k) c = k ≤ LARGEST_NUMBER
 IsFree (edits.PutNear k v x) c = (k ≤ LARGEST_NUMBER) × (c.near k v ≡ None)
+IsFree (edits.DropLink v) c = ⊤
+IsFree (edits.PutLink v p) c = knows c.nodes v ≡ false
 
 -- each edit is free when its turn comes
 abbrev pub AreFree : List Edit → Content → Type 0

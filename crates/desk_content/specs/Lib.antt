@@ -5,6 +5,8 @@ pub mod Edits
 pub mod Free
 pub mod Images
 pub mod Changes
+pub mod Branches
 pub mod Encodings
 -- definitions that only private functions cite
 pub mod EditLists
+pub mod BranchLists

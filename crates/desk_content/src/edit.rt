@@ -71,4 +71,13 @@ pub enum Edit {
         node: Node,
         near: Near,
     },
+    /// The node is not known any more.
+    DropLink {
+        node: Node,
+    },
+    /// The node is known, with this parent or none.
+    PutLink {
+        node: Node,
+        parent: Option<Node>,
+    },
 }

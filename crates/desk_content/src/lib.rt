@@ -3,11 +3,13 @@
 //! This crate knows no SQL.
 #![tactic(auto)]
 
+mod branches;
 mod edit;
 mod encodings;
 mod images;
 mod laws;
 
+pub use branches::{SetNear, branch_edits};
 pub use edit::{Edit, SetFields};
 pub use encodings::{
     flag_of_number, kind_of_number, number_of_flag, number_of_kind, number_of_tags,
