@@ -1,5 +1,5 @@
 -- What the edits of a branch make of a content.
-use Rattle.std.proofs.Common.{◌≡◌, ◌≤◌, ℕ, Bool, true, false, cond, ◌||◌, ◌&&◌, List, [], ◌∷◌, ◌++◌, Option, Some, None, map, sym, refl, ap, ◌∙◌, subst}
+use Rattle.std.proofs.Common.{◌≡◌, ◌≤◌, ℕ, Bool, true, false, cond, ◌||◌, ◌&&◌, List, [], ◌∷◌, ◌++◌, Option, Some, None, sym, refl, ap, ◌∙◌, subst}
 use Rattle.std.specs.Prelude.{filter, not, is_some, ◌==◌}
 use Rattle.std.specs.Option.{option_or, option_flatten}
 use Rattle.std.specs.Map.{keys_of}
@@ -11,20 +11,19 @@ use Rattle.std.proofs.lemmas.List.Kept.{IsStrictlySortedBy-filter}
 use Rattle.line_words.specs.declared.named.TheConstants.{LARGEST_NUMBER}
 use Rattle.ancestry.specs.Nodes.{Node, same_node, node_cmp}
 use Rattle.ancestry.specs.NodeLaws.{same_node_equiv}
-use Rattle.ancestry.specs.Trees.{Ancestry, IsForest, has_node, knows, known_at, parent_of}
+use Rattle.ancestry.specs.Trees.{Ancestry, IsForest, has_node, known_at, parent_of}
 use Rattle.ancestry.proofs.NodeLemmas.{same_true, same_itself, same_back, past_first, at_first, known_put, known_others}
 use Rattle.ancestry.proofs.LinkLemmas.{ascends_put, same_links}
 use Rattle.bug_record.specs.Sets.{Each}
 use Rattle.nearest_marks.specs.Nearest.{nearest_of}
 use Rattle.nearest_marks.specs.declared.near.Near.{Near}
 use Rattle.desk_content.specs.Content.{Content}
-use Rattle.desk_content.specs.Edits.{edited, edited_all}
+use Rattle.desk_content.specs.Edits.{edited_all}
 use Rattle.desk_content.specs.Free.{AreFree}
 use Rattle.desk_content.specs.Branches.{with_nodes, ChangesNodes, AreMissing, set_row_at, stand_once}
 use Rattle.desk_content.specs.BranchLists.{link_puts, set_near_puts}
 use Rattle.desk_content.specs.declared.branches.SetNear.{SetNear}
-use Rattle.desk_content.specs.declared.edit.Edit.{Edit}
-use Rattle.desk_content.proofs.EditLemmas.{SaysSame, same_content, edited_all-append}
+use Rattle.desk_content.proofs.EditLemmas.{same_content, edited_all-append}
 use Rattle.desk_content.proofs.FreeLemmas.{free-append}
 
 -- ---- links

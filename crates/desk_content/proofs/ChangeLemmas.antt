@@ -1,16 +1,14 @@
 -- A change of a content is the change of the desk that it shows, and the content is kept again.
-use Rattle.std.proofs.Common.{◌≡◌, ℕ, Bool, true, false, cond, ◌||◌, ◌&&◌, List, [], ◌∷◌, ◌++◌, Option, Some, None, sym, refl, ap, ◌∙◌, subst, eqb}
+use Rattle.std.proofs.Common.{◌≡◌, ℕ, Bool, true, false, cond, ◌||◌, ◌&&◌, List, [], ◌∷◌, Option, Some, None, sym, refl, ap, ◌∙◌, subst}
 use Rattle.std.specs.Prelude.{filter, not, option_map, is_some, ◌==◌, ◌≢◌}
-use Rattle.std.specs.Option.{option_or, option_and_then}
-use Rattle.std.proofs.lemmas.Bool.{false≢true, eqb-true, eq-eqb}
+use Rattle.std.specs.Option.{option_or}
+use Rattle.std.proofs.lemmas.Bool.{false≢true, eq-eqb}
 use Rattle.std.proofs.lemmas.Option.{same_Some, none-some}
 use Rattle.ancestry.specs.Nodes.{Node}
 use Rattle.ancestry.specs.Trees.{Ancestry, knows, line}
-use Rattle.ancestry.specs.Statuses.{first_marked}
 use Rattle.bug_record.specs.Sets.{has, Each}
-use Rattle.bug_record.specs.Desk.{Desk, IsSound}
-use Rattle.bug_record.specs.Images.{numbers_of, image_with, bug_in, bug_of, AreApart, HasMember, CoverSets, FitsDesk, put}
-use Rattle.bug_record.specs.declared.bug.Bug.{Bug}
+use Rattle.bug_record.specs.Desk.{IsSound}
+use Rattle.bug_record.specs.Images.{numbers_of, image_with, bug_in, bug_of, AreApart, HasMember, CoverSets, put}
 use Rattle.bug_record.specs.declared.bug.Member.{Member}
 use Rattle.bug_record.specs.declared.bug.SetImage.{SetImage}
 use Rattle.bug_record.specs.declared.command.Change.{Change}
@@ -22,7 +20,7 @@ use Rattle.nearest_marks.specs.declared.near.Near.{Near}
 use Rattle.desk_content.specs.Content.{Content}
 use Rattle.desk_content.specs.View.{fields_of, image, desk_in}
 use Rattle.desk_content.specs.Kept.{IsKeptContent}
-use Rattle.desk_content.specs.Images.{is_member, loses_marks}
+use Rattle.desk_content.specs.Images.{is_member}
 use Rattle.desk_content.specs.Changes.{keeps_marks, without_images, with_images, changed, FitsContent}
 use Rattle.desk_content.specs.declared.edit.SetFields.{SetFields}
 use Rattle.desk_content.proofs.ClosedLemmas.{in_some, loses_some, no_key, no_members, no_fields, no_blockers, no_found, no_fixed}

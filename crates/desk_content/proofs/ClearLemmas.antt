@@ -1,6 +1,6 @@
 -- What the edits that clear an image's rows make of a content.
-use Rattle.std.proofs.Common.{◌≡◌, ℕ, Bool, true, false, cond, ◌||◌, ◌&&◌, List, [], ◌∷◌, ◌++◌, Option, None, sym, refl, ap, ◌∙◌}
-use Rattle.std.specs.Prelude.{filter, not, ◌==◌, if◌then◌else◌}
+use Rattle.std.proofs.Common.{◌≡◌, ℕ, Bool, true, false, cond, ◌||◌, ◌&&◌, List, [], ◌∷◌, None, sym, refl, ap, ◌∙◌}
+use Rattle.std.specs.Prelude.{filter, not, ◌==◌}
 use Rattle.std.proofs.lemmas.Bool.{eqb-true}
 use Rattle.ancestry.specs.Nodes.{Node}
 use Rattle.bug_record.specs.Sets.{has}
@@ -12,7 +12,7 @@ use Rattle.desk_content.specs.Content.{Content}
 use Rattle.desk_content.specs.Edits.{put_at, edited_all}
 use Rattle.desk_content.specs.EditLists.{mark_drops, drops_of, drops}
 use Rattle.desk_content.specs.Images.{without_image}
-use Rattle.desk_content.proofs.EditLemmas.{SaysSame, same_content, edited_all-append, first_or_later, filter_all, filter_twice}
+use Rattle.desk_content.proofs.EditLemmas.{same_content, edited_all-append, first_or_later, filter_all, filter_twice}
 
 -- whether the marks of a number go
 abbrev goes : Bool → ℕ → ℕ → Bool

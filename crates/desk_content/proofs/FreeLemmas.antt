@@ -1,12 +1,12 @@
 -- The edits of an image are free.
-use Rattle.std.proofs.Common.{◌≡◌, ◌<◌, ◌≤◌, ℕ, Bool, true, false, cond, ◌||◌, ◌&&◌, List, [], ◌∷◌, ◌++◌, Option, Some, None, map, sym, refl, ap, ◌∙◌, subst, arith}
+use Rattle.std.proofs.Common.{◌≡◌, ◌<◌, ◌≤◌, ℕ, Bool, true, false, cond, ◌||◌, ◌&&◌, List, [], ◌∷◌, ◌++◌, Option, Some, None, sym, refl, ap, ◌∙◌, subst, arith}
 use Rattle.std.specs.Prelude.{nat_lt, ◌==◌, ◌≢◌}
 use Rattle.std.specs.Ordering.{is_eq}
 use Rattle.std.specs.declared.cmp.Ordering.TheVariants.{Less}
 use Rattle.std.specs.List.{AllByRecursion}
 use Rattle.std.proofs.lemmas.Option.{none-some}
 use Rattle.std.specs.List.Sorted.{IsStrictlySortedBy}
-use Rattle.std.proofs.lemmas.Bool.{false≢true, eqb-true, eq-eqb}
+use Rattle.std.proofs.lemmas.Bool.{false≢true, eq-eqb}
 use Rattle.std.proofs.lemmas.Bool.Decides.{nat_tests}
 use Rattle.line_words.specs.declared.named.TheConstants.{LARGEST_NUMBER}
 use Rattle.ancestry.specs.Nodes.{Node, same_node, node_cmp}
@@ -14,7 +14,7 @@ use Rattle.ancestry.specs.Trees.{has_node}
 use Rattle.ancestry.specs.declared.statuses.MarkKind.{MarkKind}
 use Rattle.ancestry.specs.declared.statuses.MarkKind.TheVariants.{Found, Fixed}
 use Rattle.ancestry.proofs.NodeLemmas.{same_true, same_itself, ties_same}
-use Rattle.bug_record.specs.Sets.{has, AllAbove, IsAscending}
+use Rattle.bug_record.specs.Sets.{has, IsAscending}
 use Rattle.bug_record.specs.Images.{numbers_of}
 use Rattle.bug_record.specs.declared.bug.Member.{Member}
 use Rattle.bug_record.specs.declared.bug.SetImage.{SetImage}
@@ -22,18 +22,17 @@ use Rattle.bug_record.specs.Marks.{with_node}
 use Rattle.bug_record.proofs.MarkLemmas.{has-with_node}
 use Rattle.bug_record.proofs.SetLemmas.{has-above}
 use Rattle.desk_places.specs.Keys.{key_of}
-use Rattle.nearest_marks.specs.Nearest.{nearest_of, row_at, once}
+use Rattle.nearest_marks.specs.Nearest.{row_at, once}
 use Rattle.nearest_marks.specs.declared.near.Near.{Near}
 use Rattle.nearest_marks.specs.declared.near.NearRow.{NearRow}
 use Rattle.desk_content.specs.Content.{Content}
 use Rattle.desk_content.specs.Edits.{put_at, placed, edited, edited_all}
-use Rattle.desk_content.specs.Free.{IsFree, AreFree, marks_of}
+use Rattle.desk_content.specs.Free.{AreFree, marks_of}
 use Rattle.desk_content.specs.declared.edit.Edit.{Edit}
 use Rattle.desk_content.specs.declared.edit.Edit.TheVariants.{PutMark, PutFields}
 use Rattle.desk_content.specs.EditLists.{mark_drops, drops_of, drops, member_puts, blocker_puts, mark_puts, near_puts, set_puts, all_mark_puts}
-use Rattle.desk_content.specs.Images.{is_member, IsGoodImage, IsCleared}
+use Rattle.desk_content.specs.Images.{IsGoodImage, IsCleared}
 use Rattle.desk_content.specs.View.{fields_of}
-use Rattle.desk_content.proofs.EditLemmas.{edited_all-append}
 use Rattle.desk_content.proofs.PlaceLemmas.{at_itself, put_each}
 use Rattle.desk_content.proofs.ClosedLemmas.{own_key}
 use Rattle.desk_content.proofs.PutLemmas.{put_keys, members_put, set_put, after_set, found_put, fixed_put}

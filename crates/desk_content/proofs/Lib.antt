@@ -9,3 +9,4 @@ pub mod ReadyLemmas
 pub mod FreeLemmas
 pub mod TagLemmas
 pub mod BranchLemmas
+pub mod QuestionLemmas

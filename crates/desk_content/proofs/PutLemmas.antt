@@ -1,8 +1,8 @@
 -- What the edits that put an image's rows make of a content.
-use Rattle.std.proofs.Common.{◌≡◌, ℕ, Bool, true, false, cond, ◌||◌, ◌&&◌, List, [], ◌∷◌, ◌++◌, Option, Some, None, map, sym, refl, ap, ◌∙◌, subst}
-use Rattle.std.specs.Prelude.{fold, ◌==◌}
+use Rattle.std.proofs.Common.{◌≡◌, ℕ, true, false, cond, ◌&&◌, List, [], ◌∷◌, ◌++◌, Option, Some, None, sym, refl, ap, ◌∙◌, subst}
+use Rattle.std.specs.Prelude.{◌==◌}
 use Rattle.std.specs.Option.{option_or}
-use Rattle.std.proofs.lemmas.Bool.{eqb-true, eq-eqb}
+use Rattle.std.proofs.lemmas.Bool.{eqb-true}
 use Rattle.ancestry.specs.Nodes.{Node, same_node}
 use Rattle.ancestry.specs.declared.statuses.MarkKind.TheVariants.{Found, Fixed}
 use Rattle.ancestry.proofs.NodeLemmas.{same_true}
@@ -18,9 +18,9 @@ use Rattle.nearest_marks.specs.declared.near.NearRow.{NearRow}
 use Rattle.desk_content.specs.Content.{Content}
 use Rattle.desk_content.specs.Edits.{put_at, placed, edited_all}
 use Rattle.desk_content.specs.EditLists.{member_puts, blocker_puts, mark_puts, near_puts, set_puts, all_mark_puts}
-use Rattle.desk_content.specs.Images.{with_image, IsGoodImage, IsCleared, HasMarks, HasNoMarks}
+use Rattle.desk_content.specs.Images.{with_image, IsGoodImage, IsCleared}
 use Rattle.desk_content.specs.View.{fields_of}
-use Rattle.desk_content.proofs.EditLemmas.{SaysSame, same_content, edited_all-append, first_or_later}
+use Rattle.desk_content.proofs.EditLemmas.{same_content, edited_all-append, first_or_later}
 use Rattle.desk_content.proofs.PlaceLemmas.{at_same, put_each, put_all, placed_all, same_numbers, nodes_all}
 
 -- ---- each kind of edit

@@ -4,14 +4,12 @@ use Rattle.std.specs.Prelude.{not, option_map, is_some, ◌==◌, ◌≢◌}
 use Rattle.std.specs.Option.{option_or, option_and_then}
 use Rattle.std.specs.Cmp.Lexicographic.{pointwise}
 use Rattle.std.proofs.lemmas.Bool.{false≢true, eq-eqb}
-use Rattle.std.proofs.lemmas.Option.{none-some}
 use Rattle.line_words.specs.declared.named.TheConstants.{AFTER_LARGEST, LARGEST_NUMBER}
 use Rattle.ancestry.specs.Nodes.{Node, same_node}
 use Rattle.ancestry.specs.Trees.{Ancestry}
 use Rattle.ancestry.proofs.NodeLemmas.{same_true}
-use Rattle.bug_record.specs.Sets.{has, Each}
-use Rattle.bug_record.specs.Desk.{IsSound}
-use Rattle.bug_record.specs.Images.{numbers_of, image_with, bug_in, bug_of, member_at, AreApart, HasMember, put}
+use Rattle.bug_record.specs.Sets.{Each}
+use Rattle.bug_record.specs.Images.{image_with, bug_of, member_at, AreApart, HasMember, put}
 use Rattle.bug_record.specs.declared.bug.Bug.{Bug}
 use Rattle.bug_record.specs.declared.bug.Member.{Member}
 use Rattle.bug_record.specs.declared.bug.SetImage.{SetImage}
@@ -23,8 +21,8 @@ use Rattle.nearest_marks.specs.declared.near.Near.{Near}
 use Rattle.desk_content.specs.Content.{Content}
 use Rattle.desk_content.specs.View.{fields_of, desk_in}
 use Rattle.desk_content.specs.Kept.{IsKeptContent}
-use Rattle.desk_content.specs.Images.{is_member, same_marks, loses_marks, IsGoodImage, IsCleared, MarksStand}
-use Rattle.desk_content.specs.Changes.{keeps_marks, without_images, with_images, cleared_for, FitsContent}
+use Rattle.desk_content.specs.Images.{is_member, loses_marks, IsGoodImage, IsCleared, MarksStand}
+use Rattle.desk_content.specs.Changes.{keeps_marks, with_images, cleared_for, FitsContent}
 use Rattle.desk_content.proofs.ClosedLemmas.{in_some, loses_some, no_key, no_members, no_fields, no_blockers, no_found, no_fixed}
 use Rattle.desk_content.proofs.ClosedLemmas.{no_near, no_nodes, pick, put_key, put_nodes, put_members, put_fields, put_blockers, put_found}
 use Rattle.desk_content.proofs.ClosedLemmas.{put_fixed, put_near, own_key, apart_none}

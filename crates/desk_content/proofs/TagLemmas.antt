@@ -1,12 +1,9 @@
 -- Sets of tags and their numbers.
-use Rattle.std.proofs.Common.{rules, ◌≡◌, ◌<◌, ℕ, suc, zero, Bool, true, false, cond, ◌||◌, ◌&&◌, ◌+◌, ◌*◌, List, [], ◌∷◌, map, sym, refl, ap, ◌∙◌, subst, arith}
+use Rattle.std.proofs.Common.{rules, ◌≡◌, ℕ, Bool, true, false, cond, ◌&&◌, ◌+◌, ◌*◌, List, [], ◌∷◌, map, refl, ap, ◌∙◌, arith}
 use Rattle.std.specs.Prelude.{filter, ◌==◌, ◌/◌, ◌%◌}
-use Rattle.std.proofs.lemmas.Bool.{false≢true, eqb-true}
-use Rattle.std.proofs.lemmas.Bool.Decides.{nat_tests}
-use Rattle.bug_record.specs.Sets.{has, IsAscending}
 use Rattle.bug_record.specs.declared.tag.Tag.TheVariants as tags
 use Rattle.bug_record.proofs.TagLemmas.{same-tag_sets, set-tag_filter, has-tag_filter}
-use Rattle.bug_record.specs.Tags.{all_tags, tag_place, same_tag, has_tag, IsTagSet}
+use Rattle.bug_record.specs.Tags.{all_tags, has_tag, IsTagSet}
 use Rattle.bug_record.specs.declared.tag.Tag.{Tag}
 use Rattle.desk_content.specs.Encodings.{flag, binary, chosen, tags_number, tags_in}
 

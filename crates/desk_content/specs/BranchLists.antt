@@ -1,5 +1,5 @@
 -- The edits of a branch, one after another.
-use Rattle.std.specs.Prelude.{List, [], ◌∷◌, ◌++◌, map, flat_map}
+use Rattle.std.specs.Prelude.{List, [], ◌∷◌, map, flat_map}
 use Rattle.ancestry.specs.Nodes.{Node}
 use Rattle.ancestry.specs.Trees.{Ancestry, parent_of}
 use Rattle.desk_content.specs.declared.branches.SetNear.{SetNear}

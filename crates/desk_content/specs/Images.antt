@@ -1,7 +1,7 @@
 -- What the rows of an image are made of: first all that stands under its bugs' numbers goes, and
 -- then its own rows come.
 -- This project's own rule.
-use Rattle.std.specs.Prelude.{ℕ, ◌≡◌, ◌≢◌, ◌≤◌, ◌==◌, ◌&&◌, Bool, true, false, not, List, [], filter, Option, Some, None, if◌then◌else◌}
+use Rattle.std.specs.Prelude.{ℕ, ◌≡◌, ◌≢◌, ◌≤◌, ◌==◌, ◌&&◌, Bool, true, false, not, List, [], filter, Some, None, if◌then◌else◌}
 use Rattle.std.specs.Cmp.Lexicographic.{pointwise}
 use Rattle.ancestry.specs.Nodes.{Node, same_node}
 use Rattle.line_words.specs.declared.named.TheConstants.{LARGEST_NUMBER}

@@ -6,6 +6,7 @@ pub mod Free
 pub mod Images
 pub mod Changes
 pub mod Branches
+pub mod Questions
 pub mod Encodings
 -- definitions that only private functions cite
 pub mod EditLists

@@ -1,18 +1,26 @@
 //! Laws of the definitions that the contracts of this crate cite.
 //! Each body is empty: the contract is the law.
 
-ghost use Rattle.std.specs.Prelude.{◌≡◌, Bool, List, ◌∷◌, ◌++◌, Some};
+ghost use Rattle.std.specs.Prelude.{◌≡◌, ℕ, Bool, List, ◌∷◌, ◌++◌, Some};
+ghost use Rattle.ancestry.specs.Nodes.{Node};
+ghost use Rattle.ancestry.specs.Trees.{Ancestry, IsForest, line};
+ghost use Rattle.ancestry.specs.Statuses.{first_kind};
 ghost use Rattle.ancestry.specs.declared.statuses.MarkKind.{MarkKind};
+ghost use Rattle.bug_record.specs.Asked.{numbers_where};
+ghost use Rattle.bug_record.specs.Sets.{has, IsAscending};
 ghost use Rattle.bug_record.specs.Images.{put};
 ghost use Rattle.bug_record.specs.Severities.{rank};
 ghost use Rattle.bug_record.specs.Tags.{IsTagSet};
 ghost use Rattle.bug_record.specs.declared.severity.Severity.{Severity};
 ghost use Rattle.bug_record.specs.declared.tag.Tag.{Tag};
 ghost use Rattle.bug_record.specs.declared.bug.SetImage.{SetImage};
+ghost use Rattle.bug_record.specs.declared.bug.Shared.{Shared};
 ghost use Rattle.bug_record.specs.declared.command.Change.{Change};
 ghost use Rattle.desk_content.specs.Content.{Content};
 ghost use Rattle.desk_content.specs.View.{desk_in};
 ghost use Rattle.desk_content.specs.Kept.{IsKeptContent};
+ghost use Rattle.desk_content.specs.Branches.{with_nodes};
+ghost use Rattle.desk_content.specs.Questions.{bug_passes, kind_of};
 ghost use Rattle.desk_content.specs.Images.{IsGoodImage, IsCleared};
 ghost use Rattle.desk_content.specs.Encodings.{severity_in, flag, flag_in, kind_number, kind_in, tags_number, tags_in};
 ghost use Rattle.desk_content.specs.Changes.{keeps_marks, with_images, cleared_for, changed, FitsContent};
@@ -45,4 +53,25 @@ pub fn numbers_are_read_back()
     ensures flags { (is_set : Bool) → flag_in (flag is_set) ≡ Some is_set }
     ensures kinds { (kind : MarkKind) → kind_in (kind_number kind) ≡ Some kind }
     ensures tags { (tags : List Tag) → IsTagSet tags → tags_in (tags_number tags) ≡ tags }
+{}
+
+/// A content over another ancestry, with the nearest marks there, shows the desk over that ancestry,
+/// and is one that a desk keeps.
+pub fn branches_are_put()
+    ensures desk { (c : Content) (t : Ancestry) → desk_in (with_nodes t c) ≡ record (desk_in c) { tree = t } }
+    ensures kept { (c : Content) (t : Ancestry) → IsKeptContent c → IsForest t → IsKeptContent (with_nodes t c) }
+{}
+
+/// The numbers of the bugs that have a set whose shared fields pass a test are those of the bugs of
+/// the desk that pass it.
+pub fn bugs_are_asked_by_sets()
+    ensures { (c : Content) (test : Shared → Bool) (numbers : List ℕ) → IsKeptContent c → IsAscending numbers →
+        ((n : ℕ) → has numbers n ≡ bug_passes test c n) → numbers ≡ numbers_where test (desk_in c) }
+{}
+
+/// The kind that a row of nearest marks says, after a node's own, is that of the first mark on the
+/// node's line, also where the node is not known.
+pub fn kinds_are_nearest()
+    ensures { (c : Content) (k : ℕ) (v : Node) → IsKeptContent c →
+        kind_of c k v ≡ first_kind (c.found k) (c.fixed k) (line c.nodes v) }
 {}

@@ -8,6 +8,7 @@ mod edit;
 mod encodings;
 mod images;
 mod laws;
+mod questions;
 
 pub use branches::{SetNear, branch_edits};
 pub use edit::{Edit, SetFields};
@@ -16,4 +17,8 @@ pub use encodings::{
     severity_of_number, tags_of_number,
 };
 pub use images::{RowEdits, row_edits};
-pub use laws::{changes_are_put, images_are_ready, numbers_are_read_back};
+pub use laws::{
+    branches_are_put, bugs_are_asked_by_sets, changes_are_put, images_are_ready, kinds_are_nearest,
+    numbers_are_read_back,
+};
+pub use questions::kind_here;

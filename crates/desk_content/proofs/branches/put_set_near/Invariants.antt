@@ -1,4 +1,4 @@
-use Rattle.std.proofs.Common.{◌≡◌, ◌++◌, drop}
+use Rattle.std.proofs.Common.{◌≡◌, ◌++◌}
 use Rattle.desk_content.specs.BranchLists.{set_near_puts}
 use Rattle.desk_content.proofs.branches.put_set_near.Given as goal
 

@@ -1,4 +1,4 @@
-use Rattle.std.proofs.Common.{◌≡◌, ◌++◌, drop}
+use Rattle.std.proofs.Common.{◌≡◌, ◌++◌}
 use Rattle.desk_content.specs.EditLists.{near_puts}
 use Rattle.desk_content.proofs.images.put_near.Given as goal
 

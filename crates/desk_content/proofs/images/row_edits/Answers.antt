@@ -1,4 +1,3 @@
-use Rattle.std.proofs.Common.{rules, sym}
 use Rattle.desk_content.proofs.RowLemmas.{clears, puts_kept, puts_new, cleared_free, kept_free, new_free}
 use Rattle.desk_content.proofs.images.row_edits.Goals as goal
 

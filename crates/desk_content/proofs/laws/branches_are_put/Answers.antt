@@ -1,0 +1,9 @@
+use Rattle.std.proofs.Common.{refl}
+use Rattle.desk_content.proofs.QuestionLemmas.{branch_kept}
+use Rattle.desk_content.proofs.laws.branches_are_put.Goals as goal
+
+pub returns-clause-desk : goal.returns-clause-desk
+returns-clause-desk c = λ x t. refl
+
+pub returns-clause-kept : goal.returns-clause-kept
+returns-clause-kept c = branch_kept
