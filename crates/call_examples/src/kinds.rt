@@ -42,6 +42,19 @@ pub(crate) enum Kind {
     Number,
     /// `read`: a line of a message, as it is spelled canonically, or its refusal.
     Read,
+    /// `tags`: the number of these tags, and the tags of that number.
+    Tags,
+    /// `tagnumber`: the tags of a number.
+    TagNumber,
+    /// `severity`: the severity of a number.
+    Severity,
+    /// `nearest`: `NODE, found NODES, fixed NODES`: the nearest mark as seen from the node.
+    Nearest,
+    /// `affected`: the nodes whose line has one of these.
+    Affected,
+    /// `edits`: `NUMBERS, found NODES, fixed NODES, waits NUMBERS, had NODES, had fixed NODES`: what
+    /// is cleared and what is put for the set of these bugs.
+    Edits,
 }
 
 impl Kind {
@@ -63,6 +76,12 @@ impl Kind {
             "text" => Some(Kind::Text),
             "number" => Some(Kind::Number),
             "read" => Some(Kind::Read),
+            "tags" => Some(Kind::Tags),
+            "tagnumber" => Some(Kind::TagNumber),
+            "severity" => Some(Kind::Severity),
+            "nearest" => Some(Kind::Nearest),
+            "affected" => Some(Kind::Affected),
+            "edits" => Some(Kind::Edits),
             _ => None,
         }
     }

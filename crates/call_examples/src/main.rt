@@ -3,11 +3,14 @@
 
 mod kinds;
 mod messages;
+mod numbers;
+mod rows;
 mod trees;
 mod versions;
 
-use ancestry::{Node, Tree};
+use ancestry::Node;
 use kinds::{Kind, NodeKind};
+use nearest_marks::Family;
 use std::alloc::{AllocError, Global};
 use std::{fs, io};
 
@@ -32,9 +35,29 @@ fn add_plain_answer(
         Kind::Order => return versions::add_sorted(alloc, out, text),
         Kind::At => return trees::add_meant(alloc, out, text),
         Kind::Nodes => return trees::add_node_list(alloc, out, text),
+        Kind::Tags => return numbers::add_tags(alloc, out, text),
+        Kind::TagNumber => return numbers::add_tags_of(alloc, out, text),
+        Kind::Severity => return numbers::add_severity(out, text),
         _ => return Ok(false),
     }
     Ok(true)
+}
+
+// Adds what a call answers, which may be about the nearest marks in a tree.
+// Answers whether the text is of the call's kind.
+fn add_row_answer(
+    alloc: Global,
+    out: &mut String,
+    family: &Family,
+    kind: Kind,
+    text: &str,
+) -> Result<bool, AllocError> {
+    match kind {
+        Kind::Nearest => rows::add_nearest(alloc, out, family, text),
+        Kind::Affected => rows::add_affected(alloc, out, family, text),
+        Kind::Edits => rows::add_edits(alloc, out, family, text),
+        _ => add_plain_answer(alloc, out, kind, text),
+    }
 }
 
 // Adds what a call answers, which may be about the tree.
@@ -42,25 +65,25 @@ fn add_plain_answer(
 fn add_answer(
     alloc: Global,
     out: &mut String,
-    tree: &mut Tree,
+    family: &mut Family,
     kind: Kind,
     text: &str,
 ) -> Result<bool, AllocError> {
     match kind {
         Kind::Tree => {
-            *tree = Tree::new(alloc);
+            *family = Family::new(alloc);
             out.push_str("nothing is known")?;
             Ok(true)
         }
-        Kind::Branch => trees::add_branch(alloc, out, tree, text),
-        Kind::Knows => trees::add_of_node(alloc, out, tree, NodeKind::Knows, text),
-        Kind::Line => trees::add_of_node(alloc, out, tree, NodeKind::Line, text),
+        Kind::Branch => trees::add_branch(alloc, out, family, text),
+        Kind::Knows => trees::add_of_node(alloc, out, family.tree(), NodeKind::Knows, text),
+        Kind::Line => trees::add_of_node(alloc, out, family.tree(), NodeKind::Line, text),
         Kind::Heads => {
-            trees::add_heads(out, tree, text)?;
+            trees::add_heads(out, family.tree(), text)?;
             Ok(true)
         }
-        Kind::Status => trees::add_status(alloc, out, tree, text),
-        _ => add_plain_answer(alloc, out, kind, text),
+        Kind::Status => trees::add_status(alloc, out, family.tree(), text),
+        _ => add_row_answer(alloc, out, family, kind, text),
     }
 }
 
@@ -68,20 +91,20 @@ fn add_answer(
 fn add_call(
     alloc: Global,
     out: &mut String,
-    tree: &mut Tree,
+    family: &mut Family,
     line: &str,
 ) -> Result<bool, AllocError> {
     let (word, text) = line.split_once(' ').unwrap_or((line, ""));
     match Kind::read(word) {
-        Some(kind) => add_answer(alloc, out, tree, kind, text),
+        Some(kind) => add_answer(alloc, out, family, kind, text),
         None => Ok(false),
     }
 }
 
 // Prints a line of a table, and what its call answers.
-fn print_call(rt: &HostRuntime, tree: &mut Tree, line: &str) -> io::Result<()> {
+fn print_call(rt: &HostRuntime, family: &mut Family, line: &str) -> io::Result<()> {
     let mut answer = String::new(rt.alloc());
-    if add_call(rt.alloc(), &mut answer, tree, line)? {
+    if add_call(rt.alloc(), &mut answer, family, line)? {
         println!(rt; "{line} -> {answer}")
     } else {
         println!(rt; "{line} -> bad line of a table")
@@ -91,12 +114,12 @@ fn print_call(rt: &HostRuntime, tree: &mut Tree, line: &str) -> io::Result<()> {
 // Prints the calls of a table.
 // A line that begins with `==` is a heading.
 fn print_table(rt: &HostRuntime, table: &str) -> io::Result<()> {
-    let mut tree = Tree::new(rt.alloc());
+    let mut family = Family::new(rt.alloc());
     for line in table.split_terminator('\n') {
         if line.starts_with("==") {
             println!(rt; "{line}")?;
         } else {
-            print_call(rt, &mut tree, line)?;
+            print_call(rt, &mut family, line)?;
         }
     }
     Ok(())

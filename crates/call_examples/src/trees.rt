@@ -3,10 +3,11 @@
 use crate::kinds::NodeKind;
 use ancestry::{BranchFault, Node, NodeFault, Tree, status};
 use bug_record::{Nodes, Sequence};
+use nearest_marks::Family;
 use std::alloc::{AllocError, Global};
 
 // The node, if the text gave one.
-fn given(node: Result<Node, NodeFault>) -> Result<Option<Node>, AllocError> {
+pub(crate) fn given(node: Result<Node, NodeFault>) -> Result<Option<Node>, AllocError> {
     match node {
         Ok(node) => Ok(Some(node)),
         Err(NodeFault::BadNode) => Ok(None),
@@ -36,7 +37,11 @@ pub(crate) fn add_meant(alloc: Global, out: &mut String, text: &str) -> Result<b
 
 // Puts the nodes that are written so, with blanks between them, into a list; answers whether each
 // word is a node.
-fn read_nodes(alloc: Global, nodes: &mut Vec<Node>, text: &str) -> Result<bool, AllocError> {
+pub(crate) fn read_nodes(
+    alloc: Global,
+    nodes: &mut Vec<Node>,
+    text: &str,
+) -> Result<bool, AllocError> {
     for word in text.split_ascii_whitespace() {
         match given(Node::read(alloc, word))? {
             Some(node) => nodes.push(node)?,
@@ -61,7 +66,7 @@ fn add_nodes(out: &mut String, nodes: &[Node]) -> Result<(), AllocError> {
 }
 
 // Puts the nodes into their order, each once.
-fn sort(sorted: &mut Nodes, nodes: Vec<Node>) -> Result<(), AllocError> {
+pub(crate) fn sort(sorted: &mut Nodes, nodes: Vec<Node>) -> Result<(), AllocError> {
     for node in nodes {
         sorted.add_node(node)?;
     }
@@ -69,7 +74,11 @@ fn sort(sorted: &mut Nodes, nodes: Vec<Node>) -> Result<(), AllocError> {
 }
 
 // Adds the nodes in their order, each once.
-fn add_sorted(alloc: Global, out: &mut String, nodes: Vec<Node>) -> Result<(), AllocError> {
+pub(crate) fn add_sorted(
+    alloc: Global,
+    out: &mut String,
+    nodes: Vec<Node>,
+) -> Result<(), AllocError> {
     let mut sorted = Sequence::new(alloc);
     sort(&mut sorted, nodes)?;
     add_nodes(out, sorted.as_slice())
@@ -91,8 +100,8 @@ pub(crate) fn add_node_list(
 }
 
 // Takes a branch, and adds what came of it.
-fn add_taken(out: &mut String, tree: &mut Tree, nodes: &[Node]) -> Result<(), AllocError> {
-    match tree.take_branch(nodes) {
+fn add_taken(out: &mut String, family: &mut Family, nodes: &[Node]) -> Result<(), AllocError> {
+    match family.take_branch(nodes) {
         Ok(()) => out.push_str("Ok"),
         Err(BranchFault::Memory) => Err(AllocError),
         Err(fault) => write!(out, "{fault:?}"),
@@ -104,13 +113,13 @@ fn add_taken(out: &mut String, tree: &mut Tree, nodes: &[Node]) -> Result<(), Al
 pub(crate) fn add_branch(
     alloc: Global,
     out: &mut String,
-    tree: &mut Tree,
+    family: &mut Family,
     text: &str,
 ) -> Result<bool, AllocError> {
     let mut nodes = Vec::new(alloc);
     let are_nodes = read_nodes(alloc, &mut nodes, text)?;
     if are_nodes {
-        add_taken(out, tree, &nodes)?;
+        add_taken(out, family, &nodes)?;
     }
     Ok(are_nodes)
 }
