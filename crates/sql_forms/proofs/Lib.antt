@@ -3,6 +3,7 @@ pub mod QueryLemmas
 pub mod DeleteLemmas
 pub mod OrderLemmas
 pub mod RowLemmas
+pub mod ChangeLemmas
 pub mod AnswerLemmas
 pub mod RefusalLemmas
 pub mod ErrorLemmas
