@@ -9,7 +9,14 @@ use Rattle.sqlite_resolve.specs.declared.compiled.Compiled.{Compiled}
 use Rattle.sqlite_schema.specs.declared.command.Returning.{Returning}
 use Rattle.desk_text.specs.declared.outcome.StoreFault.TheVariants.{Foreign}
 use Rattle.sql_forms.specs.Faults.{fault_of, written, told}
-use Rattle.sql_forms.proofs.ReadLemmas.{shown_open}
+use Rattle.sql_forms.proofs.ReadLemmas.{shown_open, shown_same}
+use Rattle.sql_forms.proofs.FailLemmas.{stored_free, query_fault_or_same}
+use Rattle.sql_forms.proofs.QueryErrors.{IsQueryOf, query_free}
+use Rattle.sql_forms.proofs.QueryLemmas.{Finds, finds}
+use Rattle.sqlite.specs.Listing.{understood}
+use Rattle.sqlite.specs.Term.{Term}
+use Rattle.sqlite.proofs.Callers.{IsPlain, reads_as}
+use Rattle.sqlite_value.specs.declared.keys.Key.{Key}
 use Rattle.desk_content.specs.Content.{Content}
 use Rattle.desk_schema.specs.Tables.{desk_schema}
 use Rattle.desk_schema.specs.Rows.{content_of, AreShown}
@@ -119,3 +126,21 @@ acts_query items sql params P it old new (Err e) survives ok err = record {
 pub serves_query : {A : Type 0} (items : A → List Row) (sql : List ℕ) (params : Row) (old new : State) (r : Result A Error) → (HasCleanDisk new → IfOk r (λ rows. Shown sql params old new (items rows))) → Serves old new (told r)
 serves_query items sql params old new (Ok rows) ok clean inside = shown_open old new sql params (items rows) (ok clean)
 serves_query items sql params old new (Err e) ok clean inside = tt
+
+-- a query over one table reads what P says, where P holds of the rows that it finds
+pub reads_plain : (sql : List ℕ) (params : Row) (tree : ℕ) (tests shown : List Term) (order : List (Term × Key)) (names : List (List ℕ)) → IsQueryOf desk_schema sql params tree tests shown order names
+    → (P : Content → List Row → Type 0) → ((s : State) (rows : List Row) → AreShown s.now.trees → Finds tree tests shown order s.now.trees params rows → P (seen s) rows) → IsRead sql params P
+reads_plain sql params tree tests shown order names it P says = record {
+  shows = λ old new rows inside h.
+      let live = shown_open old new sql params rows h in
+      let has = inside.schema live in
+      let read = reads_as sql params old new desk_schema has _ it.command_is it.plain it.unlisted rows h in
+      (
+        shown_same old new sql params rows (subst (λ schema. IsPlain (understood schema sql)) (sym has) it.plain) h,
+        says old rows (inside.shown live) (finds tree tests shown order old.now.trees params rows read.answer),
+      );
+  free = λ old new e inside h. elim (query_fault_or_same old new sql params e h) [
+    | inl store ↦ stored_free e store
+    | inr same ↦ query_free desk_schema sql params tree tests shown order names it old new (inside.schema same.0.was_open) inside.unlimited e h
+  ];
+}

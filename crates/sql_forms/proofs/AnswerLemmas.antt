@@ -9,25 +9,26 @@ use Rattle.std.proofs.lemmas.Grind.{common_steps}
 use Rattle.sqlite.specs.Order.{Row, column}
 use Rattle.sql_forms.specs.Numbers.{number_in, number_row}
 
-abbrev back : Row → ℕ
-back r = number_in (column r 0)
+-- the number in the first cell of a row
+abbrev pub number_at_front : Row → ℕ
+number_at_front r = number_in (column r 0)
 
-rows_are : (ns : List ℕ) → AllByRecursion (λ r. r ≡ number_row (back r)) (map number_row ns)
+rows_are : (ns : List ℕ) → AllByRecursion (λ r. r ≡ number_row (number_at_front r)) (map number_row ns)
 rows_are [] = tt
 rows_are (n ∷ ns) = (refl, rows_are ns)
 
-rebuilt : (rows : List Row) → AllByRecursion (λ r. r ≡ number_row (back r)) rows → rows ≡ map number_row (map back rows)
+rebuilt : (rows : List Row) → AllByRecursion (λ r. r ≡ number_row (number_at_front r)) rows → rows ≡ map number_row (map number_at_front rows)
 rebuilt [] h = refl
-rebuilt (r ∷ rows) h = ap (λ rs. r ∷ rs) (rebuilt rows h.1) ∙ ap (λ x. x ∷ map number_row (map back rows)) h.0
+rebuilt (r ∷ rows) h = ap (λ rs. r ∷ rs) (rebuilt rows h.1) ∙ ap (λ x. x ∷ map number_row (map number_at_front rows)) h.0
 
-backs : (ns : List ℕ) → map back (map number_row ns) ≡ ns
+backs : (ns : List ℕ) → map number_at_front (map number_row ns) ≡ ns
 backs [] = refl
 backs (n ∷ ns) = ap (λ ms. n ∷ ms) (backs ns)
 
-pub numbers_in_any : (ns : List ℕ) (rows : List Row) → IsPermutation (map number_row ns) rows → (rows ≡ map number_row (map back rows)) × IsPermutation ns (map back rows)
+pub numbers_in_any : (ns : List ℕ) (rows : List Row) → IsPermutation (map number_row ns) rows → (rows ≡ map number_row (map number_at_front rows)) × IsPermutation ns (map number_at_front rows)
 numbers_in_any ns rows same = (
-  rebuilt rows (recursion_from_All (λ r. r ≡ number_row (back r)) rows (All-permutation (λ r. r ≡ number_row (back r)) _ rows same (All-from_recursion (λ r. r ≡ number_row (back r)) _ (rows_are ns)))),
-  subst (λ ms. IsPermutation ms (map back rows)) (backs ns) (IsPermutation-map back _ _ same),
+  rebuilt rows (recursion_from_All (λ r. r ≡ number_row (number_at_front r)) rows (All-permutation (λ r. r ≡ number_row (number_at_front r)) _ rows same (All-from_recursion (λ r. r ≡ number_row (number_at_front r)) _ (rows_are ns)))),
+  subst (λ ms. IsPermutation ms (map number_at_front rows)) (backs ns) (IsPermutation-map number_at_front _ _ same),
 )
 
 -- ---- one row after another

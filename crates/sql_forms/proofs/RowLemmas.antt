@@ -80,12 +80,12 @@ put_next new (x ∷ rows) up keyed is = last_put new _ is (x ∷ rows) keyed (be
 
 -- ---- typed rows
 
-all_filter : {X : Type 0} (P : X → Type 0) (p : X → Bool) (xs : List X) → AllByRecursion P xs → AllByRecursion P (filter p xs)
+pub all_filter : {X : Type 0} (P : X → Type 0) (p : X → Bool) (xs : List X) → AllByRecursion P xs → AllByRecursion P (filter p xs)
 all_filter P p [] h = tt
 all_filter P p (x ∷ xs) h = elim (p x) as (λ b. AllByRecursion P (cond b (x ∷ filter p xs) (filter p xs))) [ true ↦ (h.0, all_filter P p xs h.1) | false ↦ all_filter P p xs h.1 ]
 
 -- a row with the next rowid comes behind the others
-pub rows_more : {T : Type 0} (cells : T → Row) (rows : List Row) (x : T) → rowid (cells x) ≡ Int (next_rowid rows) → AreRows cells rows → AreRows cells (put_row (cells x) rows)
+abbrev pub rows_more : {T : Type 0} (cells : T → Row) (rows : List Row) (x : T) → rowid (cells x) ≡ Int (next_rowid rows) → AreRows cells rows → AreRows cells (put_row (cells x) rows)
 rows_more cells rows x is it = record {
   items = it.items ++ x ∷ [];
   are = put_next (cells x) rows it.up it.keyed is ∙ ap (λ rs. rs ++ cells x ∷ []) it.are ∙ sym (map-append cells it.items (x ∷ []));
@@ -94,7 +94,7 @@ rows_more cells rows x is it = record {
 }
 
 -- rows are left out
-pub rows_less : {T : Type 0} (cells : T → Row) (rows : List Row) (p : Row → Bool) (q : T → Bool) → ((x : T) → p (cells x) ≡ q x) → AreRows cells rows → AreRows cells (filter p rows)
+abbrev pub rows_less : {T : Type 0} (cells : T → Row) (rows : List Row) (p : Row → Bool) (q : T → Bool) → ((x : T) → p (cells x) ≡ q x) → AreRows cells rows → AreRows cells (filter p rows)
 rows_less cells rows p q same it = record {
   items = filter q it.items;
   are = ap (filter p) it.are ∙ kept_rows cells p q same it.items;
