@@ -2,6 +2,10 @@ pub mod InsertLemmas
 pub mod QueryLemmas
 pub mod DeleteLemmas
 pub mod OrderLemmas
+pub mod RowLemmas
+pub mod ChangeLemmas
+pub mod AnswerLemmas
+pub mod RefusalLemmas
 pub mod ErrorLemmas
 pub mod FailLemmas
 pub mod UniqueLemmas

@@ -1,0 +1,5 @@
+pub mod StepLemmas
+pub mod StatementLemmas
+pub mod SchemaLemmas
+pub mod BlockLists
+pub mod BlockLemmas

@@ -1,0 +1,132 @@
+-- What calls inside a transaction come to together.
+-- Nothing here speaks of a statement.
+use Rattle.std.proofs.Common.{◌≡◌, ◌≢◌, inl, ℕ, ◌+◌, ◌<◌, suc, add-one, length, drop, get_or, drop-cons, map, List, ◌∷◌, Result, Ok, Err, IfOk, IfErr, arith, refl, sym, ap, subst, ◌∙◌}
+use Rattle.std.specs.Prelude.{⊤}
+use Rattle.sqlite.specs.State.{State, HasCleanDisk, Survives}
+use Rattle.sqlite.proofs.InsideLemmas.{keeps_then}
+use Rattle.sqlite.proofs.StateLemmas.{survives_then}
+use Rattle.desk_text.specs.declared.outcome.StoreFault.{StoreFault}
+use Rattle.desk_text.specs.declared.outcome.StoreFault.TheVariants.{Foreign}
+use Rattle.desk_content.specs.Content.{Content}
+use Rattle.desk_content.specs.Edits.{edited_all}
+use Rattle.desk_content.specs.Free.{IsFree, AreFree}
+use Rattle.desk_content.specs.declared.edit.Edit.{Edit}
+use Rattle.desk_schema.specs.Steps.{IsInside, seen, Goes, Acts, Plays, PlaysAll}
+
+survives_stay : (s : State) → Survives s s (λ _. ⊥)
+survives_stay s = record { clean = omega arith; shield = λ h. h; counts = omega arith; limit = refl; closes = λ clean o. inl o; crash = λ clean db h. inl h }
+
+-- nothing is called
+pub acts_none : {A : Type 0} (s : State) (a : A) (Free : Content → Type 0) (P : Content → Content → A → Type 0) → ((c : Content) → P c c a) → Acts s s (Ok a) Free P
+acts_none s a Free P same = record {
+  survives = survives_stay s;
+  keeps = λ clean inside. record { was_open = λ o. o; committed = λ _. refl };
+  ok = λ clean inside. record { inside = inside; serves = λ o. o; changed = same (seen s) };
+  sure = λ clean inside free. tt;
+}
+
+-- the call failed, and with it the step
+pub acts_stop : {A B : Type 0} (old new : State) (fault : StoreFault) (F G : Content → Type 0) (P : Content → Content → A → Type 0) (Q : Content → Content → B → Type 0)
+    → ((c : Content) → G c → F c) → Acts {A = A} old new (Err fault) F P → Acts {A = B} old new (Err fault) G Q
+acts_stop old new fault F G P Q weaker h = record { survives = h.survives; keeps = h.keeps; ok = λ clean inside. tt; sure = λ clean inside free. h.sure clean inside (λ o. weaker _ (free o)) }
+
+module _ {A B : Type 0} (old mid new : State) (a : A) (F G H : Content → Type 0) (P : Content → Content → A → Type 0) (Q : Content → Content → B → Type 0) (R : Content → Content → B → Type 0) where
+  -- one call after another
+  pub acts_then : (r : Result B StoreFault) → ((c : Content) → H c → F c) → ((c d : Content) → P c d a → H c → G d) → ((c d e : Content) (b : B) → P c d a → Q d e b → R c e b)
+      → Acts old mid (Ok a) F P → Acts mid new r G Q → Acts old new r H R
+  acts_then r first free join one two = record {
+    survives = survives_then old mid new _ _ (λ _. ⊥) (λ _ db none. none) (λ _ db none. none) one.survives two.survives;
+    keeps = λ clean inside. keeps_then old mid new (one.keeps (early clean) inside) (two.keeps clean (went clean inside).inside);
+    ok = λ clean inside. goes r (went clean inside) (two.ok clean (went clean inside).inside);
+    sure = λ clean inside all. two.sure clean (went clean inside).inside (λ o. free _ _ (went clean inside).changed (all ((one.keeps (early clean) inside).was_open o)));
+  }
+    where
+      early : HasCleanDisk new → HasCleanDisk mid
+      early clean = omega (arith, two.survives.clean, clean)
+
+      went : HasCleanDisk new → IsInside old → Goes old mid (λ c d. P c d a)
+      went clean inside = one.ok (early clean) inside
+
+      goes : (r : Result B StoreFault) → Goes old mid (λ c d. P c d a) → IfOk r (λ b. Goes mid new (λ c d. Q c d b)) → IfOk r (λ b. Goes old new (λ c d. R c d b))
+      goes (Ok b) g h = record { inside = h.inside; serves = λ o. h.serves (g.serves o); changed = join _ _ _ b g.changed h.changed }
+      goes (Err e) g h = tt
+
+pub acts_weaker : {A : Type 0} (old new : State) (r : Result A StoreFault) (F G : Content → Type 0) (P Q : Content → Content → A → Type 0) → ((c : Content) → G c → F c) → ((c d : Content) (a : A) → P c d a → Q c d a)
+    → Acts old new r F P → Acts old new r G Q
+acts_weaker old new r F G P Q free weaker h = record { survives = h.survives; keeps = h.keeps; ok = λ clean inside. goes r (h.ok clean inside); sure = λ clean inside all. h.sure clean inside (λ o. free _ (all o)) }
+  where
+    goes : (r : Result _ StoreFault) → IfOk r (λ a. Goes old new (λ c d. P c d a)) → IfOk r (λ a. Goes old new (λ c d. Q c d a))
+    goes (Ok a) g = record { inside = g.inside; serves = g.serves; changed = weaker _ _ a g.changed }
+    goes (Err e) g = tt
+
+-- pure work on what a call answered
+pub acts_work : {A B : Type 0} (old new : State) (a : A) (r : Result B StoreFault) (F : Content → Type 0) (P : Content → Content → A → Type 0) (Q : Content → Content → B → Type 0)
+    → ((c d : Content) → P c d a → IfOk r (Q c d) × IfErr r (λ fault. fault ≢ Foreign)) → Acts old new (Ok a) F P → Acts old new r F Q
+acts_work old new a r F P Q work h = record {
+  survives = h.survives;
+  keeps = h.keeps;
+  ok = λ clean inside. let g = h.ok clean inside in goes r g (work _ _ g.changed).0;
+  sure = λ clean inside free. (work _ _ (h.ok clean inside).changed).1;
+}
+  where
+    goes : (r : Result _ StoreFault) → Goes old new (λ c d. P c d a) → IfOk r (Q (seen old) (seen new)) → IfOk r (λ b. Goes old new (λ c d. Q c d b))
+    goes (Ok b) g q = record { inside = g.inside; serves = g.serves; changed = q }
+    goes (Err e) g q = tt
+
+both : {B X : Type 0} (Q : B → Type 0) (r : Result B StoreFault) → X → IfOk r Q → IfOk r (λ b. X × Q b)
+both Q (Ok b) x q = (x, q)
+both Q (Err e) x q = tt
+
+-- the same of a question
+pub reads_work : {A B : Type 0} (old new : State) (a : A) (r : Result B StoreFault) (F : Content → Type 0) (P : Content → A → Type 0) (Q : Content → B → Type 0)
+    → ((c : Content) → P c a → IfOk r (Q c) × IfErr r (λ fault. fault ≢ Foreign)) → Acts old new (Ok a) F (λ c d a. (d ≡ c) × P c a) → Acts old new r F (λ c d b. (d ≡ c) × Q c b)
+reads_work old new a r F P Q work h = acts_work old new a r F _ _ (λ c d p. let w = work c p.1 in (both (Q c) r p.0 w.0, w.1)) h
+
+-- ---- edits
+
+abbrev pub done : Result (Unit {0}) StoreFault
+done = Ok tt
+
+abbrev pub failed : StoreFault → Result (Unit {0}) StoreFault
+failed fault = Err fault
+
+abbrev none : Unit {0}
+none = tt
+
+-- one edit, and then others
+pub plays_then : (old mid new : State) (e : Edit) (es : List Edit) (r : Result (Unit {0}) StoreFault) → Plays e old mid done → PlaysAll es mid new r → PlaysAll (e ∷ es) old new r
+plays_then old mid new e es r one two = acts_then old mid new none (IsFree e) (AreFree es) (AreFree (e ∷ es)) _ _ (λ c d _. d ≡ edited_all (e ∷ es) c) r
+    (λ c all. all.0) (λ c d p all. subst (AreFree es) (sym p) all.1) (λ c d x _ p q. q ∙ ap (edited_all es) p) one two
+
+-- the first of several edits failed
+pub plays_stop : (old new : State) (e : Edit) (es : List Edit) (fault : StoreFault) → Plays e old new (failed fault) → PlaysAll (e ∷ es) old new (failed fault)
+plays_stop old new e es fault one = acts_stop old new fault (IsFree e) (AreFree (e ∷ es)) _ _ (λ c all. all.0) one
+
+-- ---- a loop that makes an edit for each item
+
+module _ {T : Type 0} (edit : T → Edit) (xs : List T) where
+  -- some of the edits are made; those that are left are free, and make the whole
+  abbrev pub IsLeft : ℕ → Content → Content → Type 0
+  IsLeft at c d = (AreFree (map edit xs) c → AreFree (map edit (drop at xs)) d) × (edited_all (map edit (drop at xs)) d ≡ edited_all (map edit xs) c)
+
+  next : (at : ℕ) (x other : T) → at < length xs → x ≡ get_or xs at other → drop at xs ≡ x ∷ drop (at + 1) xs
+  next at x other low is = drop-cons xs at other low ∙ ap (λ y. y ∷ drop (suc at) xs) (sym is) ∙ ap (λ k. x ∷ drop k xs) (sym (add-one at))
+
+  pub left_step : (old mid new : State) (at : ℕ) (x other : T) → at < length xs → x ≡ get_or xs at other → Acts old mid done (AreFree (map edit xs)) (λ c d _. IsLeft at c d)
+      → Plays (edit x) mid new done → Acts old new done (AreFree (map edit xs)) (λ c d _. IsLeft (at + 1) c d)
+  left_step old mid new at x other low is one two =
+      let here = next at x other low is in
+      acts_then old mid new none (AreFree (map edit xs)) (IsFree (edit x)) (AreFree (map edit xs)) _ _ (λ c d _. IsLeft (at + 1) c d) done
+      (λ c all. all) (λ c d p all. (subst (λ ys. AreFree (map edit ys) d) here (p.0 all)).0)
+      (λ c d e _ p q. (
+        (λ all. subst (AreFree (map edit (drop (at + 1) xs))) (sym q) (subst (λ ys. AreFree (map edit ys) d) here (p.0 all)).1),
+        ap (edited_all (map edit (drop (at + 1) xs))) q ∙ sym (ap (λ ys. edited_all (map edit ys) d) here) ∙ p.1,
+      )) one two
+
+  pub left_stop : (old mid new : State) (at : ℕ) (x other : T) (fault : StoreFault) → at < length xs → x ≡ get_or xs at other → Acts old mid done (AreFree (map edit xs)) (λ c d _. IsLeft at c d)
+      → Plays (edit x) mid new (failed fault) → PlaysAll (map edit xs) old new (failed fault)
+  left_stop old mid new at x other fault low is one two =
+      let here = next at x other low is in
+      acts_stop old new fault (AreFree (map edit xs)) (AreFree (map edit xs)) (λ c d _. ⊤) _ (λ c all. all)
+      (acts_then old mid new none (AreFree (map edit xs)) (IsFree (edit x)) (AreFree (map edit xs)) _ _ (λ c d _. ⊤) (failed fault)
+      (λ c all. all) (λ c d p all. (subst (λ ys. AreFree (map edit ys) d) here (p.0 all)).0) (λ c d e _ p q. tt) one two)

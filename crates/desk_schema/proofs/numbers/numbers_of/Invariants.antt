@@ -1,0 +1,6 @@
+use Rattle.std.proofs.Common.{◌≡◌, ℕ, List, map, take}
+use Rattle.sql_forms.specs.Numbers.{number_row}
+use Rattle.desk_schema.proofs.numbers.numbers_of.Given as goal
+
+abbrev pub invariant-loop-row : goal.invariant-loop-row
+invariant-loop-row l = (ns : List ℕ) → l.rows ≡ map number_row ns → l.numbers ≡ take l.row-index ns

@@ -1,0 +1,4 @@
+pub mod AddBlocker
+pub mod ClearBlockers
+pub mod ReadBlockers
+pub mod ReadWaiting

@@ -1,0 +1,119 @@
+-- When a statement is refused for memory, the disk or its size alone.
+use Rattle.std.proofs.Common.{◌≡◌, ◌≢◌, inl, inr, ℕ, ℤ, List, [], ◌∷◌, Bool, true, false, not, ◌&&◌, length, nat_lt, None, Err, IsTrue, refl, sym, ap, ◌∙◌, true≢false}
+use Rattle.std.specs.List.{list_all}
+use Rattle.sqlite.specs.Order.{Row}
+use Rattle.sqlite.specs.Term.{Term, col}
+use Rattle.sqlite.specs.Table.{Table}
+use Rattle.sqlite.specs.Schema.{Schema}
+use Rattle.sqlite.specs.Tree.{Trees, put_row, rowid}
+use Rattle.sqlite.specs.View.{is_int}
+use Rattle.sqlite.specs.Edit.{IsRefused, is_taken, edit_of, without_all}
+use Rattle.sqlite.specs.Rowids.TheVariants.{Given}
+use Rattle.sqlite.specs.Command.TheVariants.{Insert, Delete}
+use Rattle.sqlite.specs.Source.TheVariants.{Values}
+use Rattle.sqlite.specs.State.{State, ExecutesInside}
+use Rattle.sqlite.specs.declared.error.Error.{Error}
+use Rattle.sqlite.specs.Effect.{edit_error}
+use Rattle.sqlite_schema.specs.declared.schema.Index.{Index}
+use Rattle.sqlite_schema.specs.declared.schema.Constraint.TheVariants.{Datatype, NotNull, Check, PrimaryKey, Unique, ForeignKey}
+use Rattle.sqlite_schema.specs.declared.schema.Keys.TheVariants.{Enforced}
+use Rattle.sqlite_schema.specs.Rules.{Keeps, references_fit, passes}
+use Rattle.sqlite_rules.specs.Lists.{Has}
+use Rattle.sqlite_rules.specs.Keys.{are_unique}
+use Rattle.sqlite_rules.specs.declared.error.Refusal.{Refusal}
+use Rattle.sqlite_rules.specs.declared.error.Refusal.TheVariants.{Violates, Mismatch, NoRowid, BadReference, TooDeep}
+use Rattle.sqlite_trees.specs.Tree.{with_tree, IsAscending}
+use Rattle.sqlite_typing.specs.Types.{accepts_terms, accepts_program}
+use Rattle.desk_text.specs.declared.outcome.StoreFault.TheVariants.{Foreign}
+use Rattle.sql_forms.specs.Faults.{fault_of}
+use Rattle.sql_forms.specs.Forms.{inserted, query_of}
+use Rattle.sql_forms.proofs.InsertLemmas.{InsertsRow}
+use Rattle.sql_forms.proofs.DeleteLemmas.{DeletesRows}
+use Rattle.sql_forms.proofs.ErrorLemmas.{IsCallOf, HasNoReferences, insert_errors}
+use Rattle.sql_forms.proofs.DeleteErrors.{delete_errors, rowids_of}
+use Rattle.sql_forms.proofs.FailLemmas.{stored_free, not_foreign}
+use Rattle.sql_forms.proofs.UniqueLemmas.{unique_more, unique_less}
+
+-- a table of a schema in which no table has the tree of another, and none declares a reference
+pub record IsPlainTable (schema : Schema) (table : Table) : Type 0 where
+  pub apart : IsAscending (λ a b. a.tree ≡ b.tree → ⊥) schema.tables
+  pub listed : Has schema.tables table
+  pub refers : (adds removes : Bool) → references_fit schema table adds removes ≡ true
+  pub none : HasNoReferences schema
+
+never : {X : Type 0} (p : X → Bool) (xs : List X) → list_all (λ x. not (p x && false)) xs ≡ true
+never p [] = refl
+never p (x ∷ xs) = go (p x) (never p xs)
+  where
+    go : (b : Bool) → list_all (λ y. not (p y && false)) xs ≡ true → (not (b && false) && list_all (λ y. not (p y && false)) xs) ≡ true
+    go true h = h
+    go false h = h
+
+-- no row that is added clashes, where none is
+none_clash : (indexes : List Index) (db : Trees) (table : Table) → are_unique indexes db table [] ≡ true
+none_clash indexes db table = never _ indexes
+
+-- ---- rows are removed
+
+module _ (schema : Schema) (table : Table) (plain : IsPlainTable schema table) (db : Trees) (unique : Keeps Unique schema db) (ids : List ℤ) where
+  removal_free : (why : Refusal) → IsRefused schema Enforced db (edit_of db table ids Given 0 []) why → fault_of (edit_error why) ≢ Foreign
+  removal_free (Violates Datatype) h e = true≢false h
+  removal_free (Violates NotNull) h e = true≢false h
+  removal_free (Violates Check) h e = true≢false h
+  removal_free (Violates PrimaryKey) h e = true≢false h
+  removal_free (Violates Unique) h e = h (unique_less schema db table plain.apart plain.listed unique ids (none_clash schema.indexes (with_tree db table.tree (without_all (db table.tree) ids)) table))
+  removal_free (Violates ForeignKey) h e = h
+  removal_free Mismatch h e = true≢false h
+  removal_free NoRowid h e = absurd cc
+  removal_free BadReference h e = true≢false (sym (plain.refers false (nat_lt 0 (length ids))) ∙ h)
+  removal_free TooDeep h e = h
+
+-- a DELETE over unique keys is never refused for what the tables hold
+pub delete_free : (schema : Schema) (sql : List ℕ) (at : ℕ) (table : Table) (tests : List Term) → DeletesRows schema sql at table tests → IsPlainTable schema table
+    → (params : Row) → IsCallOf schema sql params (Delete at (rowids_of table.tree tests)) → accepts_program schema [] (query_of table.tree tests (col 1 0 ∷ []) []) params ≡ true
+    → (old new : State) (e : Error) → old.step_limit ≡ None → (IsTrue old.is_open → old.now.schema ≡ schema) → (IsTrue old.is_open → Keeps Unique schema old.now.trees)
+    → ExecutesInside 0 sql params old new (Err e) → fault_of e ≢ Foreign
+delete_free schema sql at table tests it plain params call typed old new e limit has unique =
+    not_foreign old new sql params e (λ live h.
+    elim (delete_errors schema sql at table tests it plain.none old new params e call (has live) limit typed h) [
+      | inl store ↦ stored_free e store
+      | inr refused ↦ λ f. removal_free schema table plain old.now.trees (unique live) refused.0 refused.1 refused.2 (ap fault_of (sym refused.3) ∙ f)
+    ])
+
+-- ---- a row is added
+
+-- the row keeps the rules of its own table, all but that of unique keys
+pub record IsGoodRow (schema : Schema) (table : Table) (row : Row) : Type 0 where
+  pub datatype : (db : Trees) → list_all (passes Datatype schema db table) (row ∷ []) ≡ true
+  pub not_null : (db : Trees) → list_all (passes NotNull schema db table) (row ∷ []) ≡ true
+  pub check : (db : Trees) → list_all (passes Check schema db table) (row ∷ []) ≡ true
+  pub keyed : is_int (rowid row) ≡ true
+
+module _ (schema : Schema) (table : Table) (plain : IsPlainTable schema table) (db : Trees) (unique : Keeps Unique schema db) (row : Row) (good : IsGoodRow schema table row)
+    (untaken : is_taken (db table.tree) row ≡ false) (apart : are_unique schema.indexes (with_tree db table.tree (put_row row (db table.tree))) table (row ∷ []) ≡ true) where
+  adding_free : (why : Refusal) → IsRefused schema Enforced db (record { table = table; gone = []; news = row ∷ [] }) why → fault_of (edit_error why) ≢ Foreign
+  adding_free (Violates Datatype) h e = true≢false (sym (good.datatype db) ∙ h)
+  adding_free (Violates NotNull) h e = true≢false (sym (good.not_null db) ∙ h)
+  adding_free (Violates Check) h e = true≢false (sym (good.check db) ∙ h)
+  adding_free (Violates PrimaryKey) h e = absurd (let x = rw untaken at h in cc)
+  adding_free (Violates Unique) h e = h (unique_more schema db table plain.apart plain.listed unique row untaken apart)
+  adding_free (Violates ForeignKey) h e = h
+  adding_free Mismatch h e = absurd (let x = rw good.keyed at h in cc)
+  adding_free NoRowid h e = absurd cc
+  adding_free BadReference h e = true≢false (sym (plain.refers true false) ∙ h)
+  adding_free TooDeep h e = h
+
+-- an INSERT of a good row, whose keys no row has, is never refused for what the tables hold
+pub insert_free : (schema : Schema) (sql : List ℕ) (at : ℕ) (table : Table) (terms : List Term) → InsertsRow schema sql at table terms → IsPlainTable schema table
+    → (params : Row) → IsCallOf schema sql params (Insert at (Values terms (length terms))) → accepts_terms terms params ≡ true
+    → (old new : State) (e : Error) → old.step_limit ≡ None → (IsTrue old.is_open → old.now.schema ≡ schema) → (IsTrue old.is_open → Keeps Unique schema old.now.trees)
+    → (IsTrue old.is_open → IsGoodRow schema table (inserted table (old.now.trees table.tree) terms params))
+    → (IsTrue old.is_open → is_taken (old.now.trees table.tree) (inserted table (old.now.trees table.tree) terms params) ≡ false)
+    → (IsTrue old.is_open → are_unique schema.indexes (with_tree old.now.trees table.tree (put_row (inserted table (old.now.trees table.tree) terms params) (old.now.trees table.tree))) table (inserted table (old.now.trees table.tree) terms params ∷ []) ≡ true)
+    → ExecutesInside 0 sql params old new (Err e) → fault_of e ≢ Foreign
+insert_free schema sql at table terms it plain params call typed old new e limit has unique good untaken apart =
+    not_foreign old new sql params e (λ live h.
+    elim (insert_errors schema sql at table terms it plain.none old new params e call (has live) limit typed h) [
+      | inl store ↦ stored_free e store
+      | inr refused ↦ λ f. adding_free schema table plain old.now.trees (unique live) (inserted table (old.now.trees table.tree) terms params) (good live) (untaken live) (apart live) refused.0 refused.1 (ap fault_of (sym refused.2) ∙ f)
+    ])
