@@ -12,3 +12,6 @@ pub mod UniqueLemmas
 pub mod DeleteErrors
 pub mod QueryErrors
 pub mod ReadLemmas
+pub mod CreateLemmas
+pub mod UpdateLemmas
+pub mod UpdateErrors
