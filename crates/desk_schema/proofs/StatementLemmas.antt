@@ -134,8 +134,7 @@ reads_plain sql params tree tests shown order names it P says = record {
   shows = λ old new rows inside h.
       let live = shown_open old new sql params rows h in
       let has = inside.schema live in
-      let read = reads_as sql params old new desk_schema has _ it.command_is it.plain it.unlisted rows h in
-      (
+      let read = reads_as sql params old new desk_schema has _ it.command_is it.plain it.unlisted rows h in (
         shown_same old new sql params rows (subst (λ schema. IsPlain (understood schema sql)) (sym has) it.plain) h,
         says old rows (inside.shown live) (finds tree tests shown order old.now.trees params rows read.answer),
       );

@@ -25,6 +25,15 @@ acts_none s a Free P same = record {
   sure = λ clean inside free. tt;
 }
 
+-- nothing is called, since it can't be done
+pub acts_unable : {A : Type 0} (s : State) (fault : StoreFault) (Free : Content → Type 0) (P : Content → Content → A → Type 0) → fault ≢ Foreign → Acts {A = A} s s (Err fault) Free P
+acts_unable s fault Free P other = record {
+  survives = survives_stay s;
+  keeps = λ clean inside. record { was_open = λ o. o; committed = λ _. refl };
+  ok = λ clean inside. tt;
+  sure = λ clean inside free. other;
+}
+
 -- the call failed, and with it the step
 pub acts_stop : {A B : Type 0} (old new : State) (fault : StoreFault) (F G : Content → Type 0) (P : Content → Content → A → Type 0) (Q : Content → Content → B → Type 0)
     → ((c : Content) → G c → F c) → Acts {A = A} old new (Err fault) F P → Acts {A = B} old new (Err fault) G Q
