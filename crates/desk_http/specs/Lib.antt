@@ -1,6 +1,6 @@
 pub mod Requests
 pub mod Exchange
 pub mod Taken
--- definitions that only private functions cite
 pub mod Steps
+-- definitions that only private functions cite
 pub mod Shown
