@@ -166,19 +166,35 @@ struct EditParts {
     had_fixed: Nodes,
 }
 
-// The parts of `NUMBERS, found NODES, fixed NODES, waits NUMBERS, had NODES, had fixed NODES`.
-fn edit_words(text: &str) -> Option<[&str; 6]> {
+// The words of `NUMBERS, found NODES, fixed NODES, waits NUMBERS, had NODES, had fixed NODES`.
+#[derive(Clone, Copy)]
+struct EditWords<'a> {
+    numbers: &'a str,
+    found: &'a str,
+    fixed: &'a str,
+    waits: &'a str,
+    had_found: &'a str,
+    had_fixed: &'a str,
+}
+
+fn edit_words(text: &str) -> Option<EditWords<'_>> {
     let (numbers, rest) = text.split_once(", found")?;
     let (found, rest) = rest.split_once(", fixed")?;
     let (fixed, rest) = rest.split_once(", waits")?;
     let (waits, rest) = rest.split_once(", had")?;
     let (had_found, had_fixed) = rest.split_once(", had fixed")?;
-    Some([numbers, found, fixed, waits, had_found, had_fixed])
+    Some(EditWords {
+        numbers,
+        found,
+        fixed,
+        waits,
+        had_found,
+        had_fixed,
+    })
 }
 
 // Reads the parts; `None` where a word is no number or node.
-fn edit_parts(alloc: Global, words: [&str; 6]) -> Result<Option<EditParts>, AllocError> {
-    let [numbers, found, fixed, waits, had_found, had_fixed] = words;
+fn edit_parts(alloc: Global, words: EditWords<'_>) -> Result<Option<EditParts>, AllocError> {
     let mut parts = EditParts {
         numbers: Numbers::new(alloc),
         found: Nodes::new(alloc),
@@ -187,12 +203,12 @@ fn edit_parts(alloc: Global, words: [&str; 6]) -> Result<Option<EditParts>, Allo
         had_found: Nodes::new(alloc),
         had_fixed: Nodes::new(alloc),
     };
-    let are_read = read_numbers(&mut parts.numbers, numbers)?
-        && read_set(alloc, &mut parts.found, found)?
-        && read_set(alloc, &mut parts.fixed, fixed)?
-        && read_numbers(&mut parts.waits, waits)?
-        && read_set(alloc, &mut parts.had_found, had_found)?
-        && read_set(alloc, &mut parts.had_fixed, had_fixed)?;
+    let are_read = read_numbers(&mut parts.numbers, words.numbers)?
+        && read_set(alloc, &mut parts.found, words.found)?
+        && read_set(alloc, &mut parts.fixed, words.fixed)?
+        && read_numbers(&mut parts.waits, words.waits)?
+        && read_set(alloc, &mut parts.had_found, words.had_found)?
+        && read_set(alloc, &mut parts.had_fixed, words.had_fixed)?;
     Ok(if are_read { Some(parts) } else { None })
 }
 
@@ -210,9 +226,22 @@ pub(crate) fn add_edits(
     let Some(parts) = edit_parts(alloc, words)? else {
         return Ok(false);
     };
-    let image = image_of(alloc, &parts.numbers, parts.found, parts.fixed, parts.waits)?;
-    let (had_found, had_fixed) = (parts.had_found.as_slice(), parts.had_fixed.as_slice());
-    let edits = row_edits(alloc, family, &image, had_found, had_fixed)?;
+    let EditParts {
+        numbers,
+        found,
+        fixed,
+        waits,
+        had_found,
+        had_fixed,
+    } = parts;
+    let image = image_of(alloc, &numbers, found, fixed, waits)?;
+    let edits = row_edits(
+        alloc,
+        family,
+        &image,
+        had_found.as_slice(),
+        had_fixed.as_slice(),
+    )?;
     out.push_str("clear")?;
     add_all(out, edits.cleared.as_slice())?;
     out.push_str("; put")?;
