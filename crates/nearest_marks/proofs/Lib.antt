@@ -1,3 +1,4 @@
-pub mod KnownLemmas
-pub mod NearLemmas
+pub mod ChildLemmas
+pub mod PairLemmas
 pub mod LineLemmas
+pub mod FamilyLemmas
