@@ -1,6 +1,6 @@
 -- The children of nodes, as one is added or taken out.
-use Rattle.std.proofs.Common.{◌≡◌, Bool, true, false, cond, not, ◌||◌, ◌&&◌, List, [], ◌∷◌, Option, Some, None, is_some, OnErr, Result, Ok, Err}
-use Rattle.std.proofs.Common.{sym, refl, ap, ◌∙◌, subst, ⊎_elim}
+use Rattle.std.proofs.Common.{◌≡◌, Bool, true, false, cond, not, ◌||◌, ◌&&◌, [], Option, Some, None, is_some, OnErr, Result, Ok, Err}
+use Rattle.std.proofs.Common.{sym, refl, ap, ◌∙◌, ⊎_elim}
 use Rattle.std.proofs.lemmas.Bool.{cases_Bool, false≢true}
 use Rattle.std.specs.BTreeMap.{BTreeMap, get, is_at}
 use Rattle.std.specs.BTreeSet.{BTreeSet, contains}
@@ -8,7 +8,7 @@ use Rattle.std.specs.List.{list_any}
 use Rattle.std.specs.Option.{option_map_or}
 use Rattle.ancestry.specs.Nodes.{Node, same_node, node_cmp}
 use Rattle.ancestry.specs.NodeLaws.{same_node_equiv}
-use Rattle.ancestry.proofs.NodeLemmas.{same_true, same_itself, same_back, ties_same}
+use Rattle.ancestry.proofs.NodeLemmas.{same_true, ties_same}
 use Rattle.nearest_marks.specs.Children.{is_child}
 
 in_set : Option (BTreeSet Node) → Node → Bool
@@ -67,24 +67,24 @@ module _ (m m' : BTreeMap Node (BTreeSet Node)) (n : Node) (s s' : BTreeSet Node
 
   module _ (k : Node) (b : Bool) (changed : (q : Node) → contains node_cmp s' q ≡ cond (is_at (node_cmp k) q) b (contains node_cmp s q))
     where
-    child_at : (p c : Node) → is_child m' p c ≡ cond (same_node c k && same_node p n) b (is_child m p c)
-    child_at p c =
-        set_at p c
-        ∙ ⊎_elim
-        (λ yes. ap (λ d. cond d (contains node_cmp s' c) (is_child m p c)) yes ∙ changed c
-        ∙ ap (λ d. cond d b (contains node_cmp s c)) (turned k c)
-        ∙ ap (λ d. cond (same_node c k) b d) (sym (was_at p c yes))
-        ∙ one (same_node c k) (same_node p n) yes)
-        (λ no. ap (λ d. cond d (contains node_cmp s' c) (is_child m p c)) no ∙ none (same_node c k) (same_node p n) no)
-        (cases_Bool (same_node p n))
-      where
-        one : (x y : Bool) → y ≡ true → cond x b (is_child m p c) ≡ cond (x && y) b (is_child m p c)
-        one true y e = sym (ap (λ z. cond z b (is_child m p c)) e)
-        one false y e = refl
+      child_at : (p c : Node) → is_child m' p c ≡ cond (same_node c k && same_node p n) b (is_child m p c)
+      child_at p c =
+          set_at p c
+          ∙ ⊎_elim
+          (λ yes. ap (λ d. cond d (contains node_cmp s' c) (is_child m p c)) yes ∙ changed c
+          ∙ ap (λ d. cond d b (contains node_cmp s c)) (turned k c)
+          ∙ ap (λ d. cond (same_node c k) b d) (sym (was_at p c yes))
+          ∙ one (same_node c k) (same_node p n) yes)
+          (λ no. ap (λ d. cond d (contains node_cmp s' c) (is_child m p c)) no ∙ none (same_node c k) (same_node p n) no)
+          (cases_Bool (same_node p n))
+        where
+          one : (x y : Bool) → y ≡ true → cond x b (is_child m p c) ≡ cond (x && y) b (is_child m p c)
+          one true y e = sym (ap (λ z. cond z b (is_child m p c)) e)
+          one false y e = refl
 
-        none : (x y : Bool) → y ≡ false → is_child m p c ≡ cond (x && y) b (is_child m p c)
-        none true y e = sym (ap (λ z. cond z b (is_child m p c)) e)
-        none false y e = refl
+          none : (x y : Bool) → y ≡ false → is_child m p c ≡ cond (x && y) b (is_child m p c)
+          none true y e = sym (ap (λ z. cond z b (is_child m p c)) e)
+          none false y e = refl
 
   pub added : (k : Node) → ((q : Node) → contains node_cmp s' q ≡ cond (is_at (node_cmp k) q) true (contains node_cmp s q))
       → (p c : Node) → is_child m' p c ≡ ((same_node c k && same_node p n) || is_child m p c)

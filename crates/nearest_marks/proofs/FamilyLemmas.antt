@@ -1,14 +1,14 @@
 -- Which links a branch and a single link bring, and that the children are kept to them.
 use Rattle.std.proofs.Common.{◌≡◌, ◌==◌, ℕ, ◌+◌, Bool, true, false, cond, not, ◌||◌, ◌&&◌, nat_lt, List, [], ◌∷◌, length, Option, Some, None}
-use Rattle.std.proofs.Common.{is_some, is_none, unwrap_or, Result, Ok, Err, OnOk, OnErr, sym, refl, ap, ◌∙◌, subst, ⊎_elim}
+use Rattle.std.proofs.Common.{is_some, unwrap_or, Result, Ok, Err, OnOk, OnErr, sym, refl, ap, ◌∙◌, subst, ⊎_elim}
 use Rattle.std.proofs.lemmas.Bool.{cases_Bool, false≢true}
 use Rattle.std.specs.BTreeMap.{BTreeMap}
 use Rattle.std.specs.BTreeSet.{BTreeSet}
 use Rattle.std.specs.Option.{option_flatten, option_map_or}
 use Rattle.ancestry.specs.Nodes.{Node, same_node}
-use Rattle.ancestry.specs.Trees.{Ancestry, has_node, known_at, knows, parent_of, line, is_ancestor, IsForest}
+use Rattle.ancestry.specs.Trees.{Ancestry, has_node, parent_of, line, is_ancestor}
 use Rattle.ancestry.specs.Branches.{learn, learn_all, with_parent, base_on, or_conflict, base_all, first_repeat, branched, IsBranched}
-use Rattle.ancestry.specs.Links.{has_parent, under, linked}
+use Rattle.ancestry.specs.Links.{has_parent, linked}
 use Rattle.ancestry.specs.declared.fault.BranchFault.{BranchFault}
 use Rattle.ancestry.specs.declared.fault.BranchFault.TheVariants.{EmptyBranch, Repeated, Conflict, TooLong, Memory}
 use Rattle.ancestry.proofs.NodeLemmas.{same_true, known_put, known_others}

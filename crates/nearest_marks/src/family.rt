@@ -141,13 +141,7 @@ impl Family {
         ensures err { OnErr result (self.new ≡ self.old) }
         ensures forest { IsForest self.new }
     {
-        let result = put_into(
-            self.alloc,
-            &mut self.tree,
-            &mut self.children,
-            node,
-            parent,
-        );
+        let result = put_into(self.alloc, &mut self.tree, &mut self.children, node, parent);
         settle(&mut self.children, &self.tree, node, parent);
         result
     }

@@ -2,6 +2,8 @@
 
 ghost use Rattle.std.specs.Prelude.{◌≡◌, ◌<◌, ◌++◌, Some, is_some, length, IfOk, OnOk, if◌then◌else◌};
 ghost use Rattle.std.specs.BTreeMap.{get};
+ghost use Rattle.std.specs.List.Sorted.{IsStrictlySortedBy};
+ghost use Rattle.std.specs.Map.{keys_of};
 ghost use Rattle.ancestry.specs.Nodes.{Node, node_cmp};
 ghost use Rattle.ancestry.specs.Trees.{has_node};
 ghost use Rattle.nearest_marks.specs.Nearest.{nearest_of, row_at, once};
@@ -74,7 +76,8 @@ fn rows_of_marks(
     tree: &Tree,
     marks: &BTreeMap<Node, MarkKind>,
 ) -> Result<Vec<NearRow>, AllocError>
-    ensures { IfOk result (λ rows. rows.items ≡ rows_of_marks tree.now marks.now.entries) }
+    ensures rows { IfOk result (λ rows. rows.items ≡ rows_of_marks tree.now marks.now.entries) }
+    ensures ordered { IsStrictlySortedBy node_cmp (keys_of marks.now.entries) }
 {
     let mut rows = Vec::new(alloc);
     for (mark, kind) in marks {
@@ -92,8 +95,9 @@ fn push_below(
     near: &Near,
     children: &BTreeSet<Node>,
 ) -> Result<(), AllocError>
-    ensures { OnOk result (rows.new.items
+    ensures rows { OnOk result (rows.new.items
         ≡ rows.old.items ++ rows_below (λ c. is_some (get node_cmp marks.now c)) near.now children.now.keys) }
+    ensures ordered { IsStrictlySortedBy node_cmp children.now.keys }
 {
     for child in children {
         if !marks.contains_key(child) {

@@ -1,5 +1,4 @@
-use Rattle.std.proofs.Common.{◌&&◌, ◌||◌, sym, ap, ◌∙◌}
-use Rattle.ancestry.specs.Nodes.{same_node}
+use Rattle.std.proofs.Common.{◌||◌, sym, ap, ◌∙◌}
 use Rattle.nearest_marks.specs.Children.{is_child}
 use Rattle.nearest_marks.proofs.FamilyLemmas.{link_links}
 use Rattle.nearest_marks.proofs.family.put_into.Goals as goal
