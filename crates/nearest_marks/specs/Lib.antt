@@ -1,4 +1,4 @@
 pub mod Nearest
 -- definitions that only private functions and fields cite
-pub mod Known
+pub mod Children
 pub mod Walks

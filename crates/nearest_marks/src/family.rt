@@ -1,59 +1,90 @@
-//! A tree of versions with the list of its known nodes.
+//! A tree of versions in which one can go from a node to its children.
 
-ghost use Rattle.std.specs.Prelude.{◌≡◌, true, length, take, drop, fold, OnOk};
-ghost use Rattle.ancestry.specs.Nodes.{Node};
-ghost use Rattle.ancestry.specs.Trees.{no_nodes, knows, has_node, IsForest};
-ghost use Rattle.ancestry.specs.Branches.{branched, TakesMemory, IsBranched, Extends};
+ghost use Rattle.std.specs.Prelude.{◌≡◌, ◌&&◌, true, false, Some, None, Err, All, IfOk, OnOk, OnErr, is_some, unwrap_or};
+ghost use Rattle.std.specs.Option.{option_copied, option_map_or};
+ghost use Rattle.std.specs.BTreeSet.{contains};
+ghost use Rattle.ancestry.specs.Nodes.{Node, same_node, node_cmp};
+ghost use Rattle.ancestry.specs.Trees.{Ancestry, no_nodes, knows, is_ancestor, IsForest};
+ghost use Rattle.ancestry.specs.Branches.{branched, TakesMemory, IsBranched, AreBased, Extends};
+ghost use Rattle.ancestry.specs.Links.{has_parent, linked};
 ghost use Rattle.ancestry.specs.declared.fault.BranchFault.TheVariants.{Memory};
-ghost use Rattle.nearest_marks.specs.Nearest.{is_once};
-ghost use Rattle.nearest_marks.specs.Known.{AreKnown, noted};
+ghost use Rattle.nearest_marks.specs.Children.{is_child, is_pair, AreChildren};
 
+use crate::children::{add_child, add_pairs, settle, settle_pairs};
+use crate::refusals::fault_without_memory;
 use ancestry::{BranchFault, Node, Tree};
 use std::alloc::{AllocError, Global};
+use std::collections::{BTreeMap, BTreeSet};
 use std::marker::Model;
 
-/// A tree of versions, of which one can go through the known nodes.
+/// A tree of versions in which one can go from a node to those that are based on it.
 /// Contracts see its ancestry.
 #[derive(Drop)]
 pub struct Family {
     tree: Tree,
-    known: Vec<Node>,
-    ghost listed: { AreKnown tree known.items },
-    ghost once: { is_once known.items ≡ true },
+    // The children of each node that has some; of others there may be none, too.
+    children: BTreeMap<Node, BTreeSet<Node>>,
+    alloc: Global,
 }
 
 impl Model for Family {
-    ghost use Rattle.ancestry.specs.Trees.{Ancestry};
+    ghost use Rattle.ancestry.specs.Trees.{Ancestry, IsForest};
+    ghost use Rattle.nearest_marks.specs.Children.{AreChildren};
 
     ghost Value = { Ancestry };
 
     ghost view = { λ f. f.tree };
+
+    ghost invariant = { λ f. IsForest f.tree × AreChildren f.tree f.children };
 }
 
-// Whether the node stands behind the first nodes, so many.
-fn stands_behind(nodes: &[Node], count: usize, node: &Node) -> bool
-    ensures { result ≡ has_node (drop count nodes.now) node.now }
+// Takes a branch, and adds its nodes to the children of the next ones, whether they are or not.
+fn take_into(
+    alloc: Global,
+    tree: &mut Tree,
+    children: &mut BTreeMap<Node, BTreeSet<Node>>,
+    nodes: &[Node],
+) -> Result<(), BranchFault>
+    requires was_forest { IsForest tree.old }
+    requires fitted { AreChildren tree.old children.old }
+    ensures exact { IsBranched tree.old nodes.now result tree.new }
+    ensures memory { result ≡ Err Memory → TakesMemory (branched tree.old nodes.now) }
+    ensures based { OnOk result (AreBased tree.new nodes.now) }
+    ensures keeps { OnOk result ((n p : Node) → is_ancestor tree.old p n ≡ true → is_ancestor tree.new p n ≡ true) }
+    ensures known { OnOk result (All (λ n. knows tree.new n ≡ true) nodes.now) }
+    ensures extends { OnOk result (Extends tree.old nodes.now tree.new) }
+    ensures forest { IsForest tree.new }
+    ensures others { (p c : Node) → is_pair nodes.now c p ≡ false → is_child children.new p c ≡ has_parent tree.new c (Some p) }
+    ensures pairs { (p c : Node) → is_pair nodes.now c p ≡ true → has_parent tree.new c (Some p) ≡ true
+        → is_child children.new p c ≡ true }
 {
-    if count > nodes.len() {
-        return false;
+    match add_pairs(alloc, children, nodes) {
+        Ok(()) => tree.take_branch(nodes),
+        Err(_) => Err(fault_without_memory(nodes)),
     }
-    let (_, later) = nodes.split_at(count);
-    later.contains(node)
 }
 
-// Adds the nodes that are not known, each once.
-// After an error some of them may have been added.
-fn note_unknown(tree: &Tree, known: &mut Vec<Node>, nodes: &[Node]) -> Result<(), AllocError>
-    ensures ok { OnOk result (known.new.items ≡ fold (noted tree.now (length known.old.items)) known.old.items nodes.now) }
-    ensures front { take (length known.old.items) known.new.items ≡ known.old.items }
+// Puts in a node with its parent, and adds it to the children of that one, whether it is or not.
+fn put_into(
+    alloc: Global,
+    tree: &mut Tree,
+    children: &mut BTreeMap<Node, BTreeSet<Node>>,
+    node: &Node,
+    parent: &Node,
+) -> Result<bool, AllocError>
+    requires was_forest { IsForest tree.old }
+    requires fitted { AreChildren tree.old children.old }
+    ensures answer { IfOk result (λ put. put ≡ is_some (linked tree.old node.now (Some parent.now))) }
+    ensures links { OnOk result (tree.new ≡ unwrap_or (linked tree.old node.now (Some parent.now)) tree.old) }
+    ensures err { OnErr result (tree.new ≡ tree.old) }
+    ensures forest { IsForest tree.new }
+    ensures others { (p c : Node) → (same_node c node.now && same_node p parent.now) ≡ false →
+        is_child children.new p c ≡ has_parent tree.new c (Some p) }
+    ensures pairs { (p c : Node) → (same_node c node.now && same_node p parent.now) ≡ true →
+        has_parent tree.new c (Some p) ≡ true → is_child children.new p c ≡ true }
 {
-    let count = known.len();
-    for node in nodes {
-        if !tree.knows(node) && !stands_behind(known.as_slice(), count, node) {
-            known.push(node.copy()?)?;
-        }
-    }
-    Ok(())
+    add_child(alloc, children, node, parent)?;
+    tree.put(node, Some(parent))
 }
 
 impl Family {
@@ -64,45 +95,71 @@ impl Family {
     {
         Family {
             tree: Tree::new(alloc),
-            known: Vec::new(alloc),
+            children: BTreeMap::new(alloc),
+            alloc,
         }
     }
 
     /// The tree.
     pub fn tree(&self) -> &Tree
-        ensures { result.now ≡ self.now }
+        ensures tree { result.now ≡ self.now }
+        ensures forest { IsForest self.now }
     {
         &self.tree
     }
 
-    // The known nodes, each once.
-    pub(crate) fn known(&self) -> &[Node]
-        ensures listed { AreKnown self.now result.now }
-        ensures once { is_once result.now ≡ true }
+    // The children of a node, if it has some.
+    pub(crate) fn children(&self, node: &Node) -> Option<&BTreeSet<Node>>
+        ensures { (c : Node) → option_map_or (λ cs. contains node_cmp cs c) (option_copied result) false
+            ≡ has_parent self.now c (Some node.now) }
     {
-        self.known.as_slice()
+        self.children.get(node)
     }
 
-    /// Takes a branch, as `ancestry::Tree::take_branch` does.
-    /// After an error the tree is as before.
+    /// Takes a branch, which is a list of 1 to 200 nodes, each based on the next, as
+    /// `ancestry::Tree::take_branch` does.
+    /// The error says why it is refused, or that there was no memory; after it the tree is as
+    /// before.
     pub fn take_branch(&mut self, nodes: &[Node]) -> Result<(), BranchFault>
         ensures exact { IsBranched self.old nodes.now result self.new }
+        ensures memory { result ≡ Err Memory → TakesMemory (branched self.old nodes.now) }
+        ensures based { OnOk result (AreBased self.new nodes.now) }
+        ensures keeps { OnOk result ((n p : Node) → is_ancestor self.old p n ≡ true → is_ancestor self.new p n ≡ true) }
+        ensures known { OnOk result (All (λ n. knows self.new n ≡ true) nodes.now) }
         ensures extends { OnOk result (Extends self.old nodes.now self.new) }
+        ensures forest { IsForest self.new }
     {
-        let count = self.known.len();
-        match note_unknown(&self.tree, &mut self.known, nodes) {
-            Ok(()) => {}
-            Err(_) => {
-                self.known.truncate(count);
-                return Err(BranchFault::Memory);
-            }
-        }
-        match self.tree.take_branch(nodes) {
-            Ok(()) => Ok(()),
-            Err(fault) => {
-                self.known.truncate(count);
-                Err(fault)
-            }
+        let result = take_into(self.alloc, &mut self.tree, &mut self.children, nodes);
+        settle_pairs(&mut self.children, &self.tree, nodes);
+        result
+    }
+
+    // Puts in a node with its parent.
+    fn put_under(&mut self, node: &Node, parent: &Node) -> Result<bool, AllocError>
+        ensures answer { IfOk result (λ put. put ≡ is_some (linked self.old node.now (Some parent.now))) }
+        ensures links { OnOk result (self.new ≡ unwrap_or (linked self.old node.now (Some parent.now)) self.old) }
+        ensures err { OnErr result (self.new ≡ self.old) }
+        ensures forest { IsForest self.new }
+    {
+        let result = put_into(self.alloc, &mut self.tree, &mut self.children, node, parent);
+        settle(&mut self.children, &self.tree, node, parent);
+        result
+    }
+
+    /// Puts in a node with its parent, or with none, as `ancestry::Tree::put` does: as it is read
+    /// back from where a tree was kept.
+    /// `false`, and nothing is changed, where the node has another parent, also where it is to have
+    /// none, or where it is in the line of its parent to be.
+    /// The error is that there was no memory, and then the tree is as before.
+    pub fn put(&mut self, node: &Node, parent: Option<&Node>) -> Result<bool, AllocError>
+        ensures answer { IfOk result (λ put. put ≡ is_some (linked self.old node.now (option_copied parent.entry))) }
+        ensures links { OnOk result (self.new ≡ unwrap_or (linked self.old node.now (option_copied parent.entry)) self.old) }
+        ensures err { OnErr result (self.new ≡ self.old) }
+        ensures forest { IsForest self.new }
+    {
+        match parent {
+            Some(parent) => self.put_under(node, parent),
+            None => self.tree.put(node, None),
         }
     }
 }

@@ -1,9 +1,11 @@
 //! The nearest marks of a set of merged bugs, as seen from the nodes of a tree.
 #![tactic(auto)]
 
+mod children;
 mod family;
 mod laws;
 mod near;
+mod refusals;
 mod touched;
 
 pub use family::Family;

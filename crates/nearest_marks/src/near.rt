@@ -1,14 +1,18 @@
 //! Nearest marks.
 
-ghost use Rattle.std.specs.Prelude.{◌≡◌, IfOk};
-ghost use Rattle.ancestry.specs.Nodes.{Node};
-ghost use Rattle.ancestry.specs.Trees.{has_node, line};
-ghost use Rattle.nearest_marks.specs.Nearest.{nearest_on, nearest_of, row_at, once};
-ghost use Rattle.nearest_marks.specs.Walks.{rows_on};
+ghost use Rattle.std.specs.Prelude.{◌≡◌, ◌<◌, ◌++◌, Some, is_some, length, IfOk, OnOk, if◌then◌else◌};
+ghost use Rattle.std.specs.BTreeMap.{get};
+ghost use Rattle.std.specs.List.Sorted.{IsStrictlySortedBy};
+ghost use Rattle.std.specs.Map.{keys_of};
+ghost use Rattle.ancestry.specs.Nodes.{Node, node_cmp};
+ghost use Rattle.ancestry.specs.Trees.{has_node};
+ghost use Rattle.nearest_marks.specs.Nearest.{nearest_of, row_at, once};
+ghost use Rattle.nearest_marks.specs.Walks.{row_of, rows_of_marks, rows_below, AreMarks, Step};
 
 use crate::family::Family;
 use ancestry::{MarkKind, Node, Tree};
 use std::alloc::{AllocError, Global};
+use std::collections::{BTreeMap, BTreeSet};
 
 /// The nearest mark as seen from a node: the first marked node of its line, and as what it is
 /// marked.
@@ -25,68 +29,109 @@ pub struct NearRow {
     pub near: Near,
 }
 
-pub(crate) fn has_node(nodes: &[Node], node: &Node) -> bool
-    ensures { result ≡ has_node nodes.now node.now }
+// Gives each of these nodes this kind.
+fn put_marks(
+    marks: &mut BTreeMap<Node, MarkKind>,
+    nodes: &[Node],
+    kind: MarkKind,
+) -> Result<(), AllocError>
+    ensures { OnOk result ((v : Node) → get node_cmp marks.new v
+        ≡ (if has_node nodes.now v then Some kind else get node_cmp marks.old v)) }
 {
-    nodes.contains(node)
-}
-
-// The first marked node of a line, and as what it is marked.
-fn nearest_on(found: &[Node], fixed: &[Node], line: &[Node]) -> Result<Option<Near>, AllocError>
-    ensures { IfOk result (λ near. near ≡ nearest_on found.now fixed.now line.now) }
-{
-    for node in line {
-        if has_node(found, node) {
-            let mark = node.copy()?;
-            let kind = MarkKind::Found;
-            return Ok(Some(Near { mark, kind }));
-        }
-        if has_node(fixed, node) {
-            let mark = node.copy()?;
-            let kind = MarkKind::Fixed;
-            return Ok(Some(Near { mark, kind }));
-        }
+    for node in nodes {
+        marks.insert(node.copy()?, kind)?;
     }
-    Ok(None)
+    Ok(())
 }
 
-// The nearest mark as seen from a node.
-fn nearest_at(
-    tree: &Tree,
+// The marked nodes, found before fixed.
+fn marks_of(
+    alloc: Global,
     found: &[Node],
     fixed: &[Node],
-    node: &Node,
-) -> Result<Option<Near>, AllocError>
-    ensures { IfOk result (λ near. near ≡ nearest_on found.now fixed.now (line tree.now node.now)) }
+) -> Result<BTreeMap<Node, MarkKind>, AllocError>
+    ensures { IfOk result (λ marks. AreMarks found.now fixed.now marks) }
 {
-    let line = tree.line(node)?;
-    nearest_on(found, fixed, line.as_slice())
+    let mut marks = BTreeMap::new(alloc);
+    put_marks(&mut marks, fixed, MarkKind::Fixed)?;
+    put_marks(&mut marks, found, MarkKind::Found)?;
+    Ok(marks)
 }
 
-// The rows of these nodes.
-fn rows_on(
+// The row of a node that sees this mark.
+fn row_of(node: &Node, mark: &Node, kind: MarkKind) -> Result<NearRow, AllocError>
+    ensures { IfOk result (λ row. row ≡ row_of node.now mark.now kind) }
+{
+    let node = node.copy()?;
+    let mark = mark.copy()?;
+    Ok(NearRow {
+        node,
+        near: Near { mark, kind },
+    })
+}
+
+// The rows of the marked nodes that are known: each sees itself.
+fn rows_of_marks(
     alloc: Global,
     tree: &Tree,
-    found: &[Node],
-    fixed: &[Node],
-    nodes: &[Node],
+    marks: &BTreeMap<Node, MarkKind>,
 ) -> Result<Vec<NearRow>, AllocError>
-    ensures { IfOk result (λ rows. rows.items ≡ rows_on tree.now found.now fixed.now nodes.now) }
+    ensures rows { IfOk result (λ rows. rows.items ≡ rows_of_marks tree.now marks.now.entries) }
+    ensures ordered { IsStrictlySortedBy node_cmp (keys_of marks.now.entries) }
 {
     let mut rows = Vec::new(alloc);
-    for node in nodes {
-        if let Some(near) = nearest_at(tree, found, fixed, node)? {
-            rows.push(NearRow {
-                node: node.copy()?,
-                near,
-            })?;
+    for (mark, kind) in marks {
+        if tree.knows(mark) {
+            rows.push(row_of(mark, mark, *kind)?)?;
         }
     }
     Ok(rows)
 }
 
+// Adds the rows of those children of a node that aren't marked: they see what it sees.
+fn push_below(
+    rows: &mut Vec<NearRow>,
+    marks: &BTreeMap<Node, MarkKind>,
+    near: &Near,
+    children: &BTreeSet<Node>,
+) -> Result<(), AllocError>
+    ensures rows { OnOk result (rows.new.items
+        ≡ rows.old.items ++ rows_below (λ c. is_some (get node_cmp marks.now c)) near.now children.now.keys) }
+    ensures ordered { IsStrictlySortedBy node_cmp children.now.keys }
+{
+    for child in children {
+        if !marks.contains_key(child) {
+            rows.push(row_of(child, &near.mark, near.kind)?)?;
+        }
+    }
+    Ok(())
+}
+
+// Adds the rows of those children of the node of a row that aren't marked.
+fn push_children(
+    family: &Family,
+    marks: &BTreeMap<Node, MarkKind>,
+    rows: &mut Vec<NearRow>,
+    place: usize,
+) -> Result<(), AllocError>
+    requires within { place < length rows.old.items }
+    ensures { OnOk result (Step family.now (λ c. is_some (get node_cmp marks.now c)) rows.old.items place rows.new.items) }
+{
+    let row = &rows[place];
+    let Some(children) = family.children(&row.node) else {
+        return Ok(());
+    };
+    let near = Near {
+        mark: row.near.mark.copy()?,
+        kind: row.near.kind,
+    };
+    push_below(rows, marks, &near, children)
+}
+
 /// The nearest marks of a set with these marks, as seen from the known nodes of a tree: a row for
 /// each known node whose line has a marked node, and no other.
+/// It goes down from the known marks, and past none that is marked itself, so it looks up each
+/// mark, and each child of a node with a row.
 /// The error is that there was no memory.
 /// This project's own rule.
 pub fn nearest_rows(
@@ -98,5 +143,12 @@ pub fn nearest_rows(
     ensures once { IfOk result (λ rows. once rows.items) }
     ensures rows { IfOk result (λ rows. (v : Node) → row_at rows.items v ≡ nearest_of family.now found.now fixed.now v) }
 {
-    rows_on(alloc, family.tree(), found, fixed, family.known())
+    let marks = marks_of(alloc, found, fixed)?;
+    let mut rows = rows_of_marks(alloc, family.tree(), &marks)?;
+    let mut place = 0;
+    while place < rows.len() {
+        push_children(family, &marks, &mut rows, place)?;
+        place += 1;
+    }
+    Ok(rows)
 }

@@ -1,11 +1,10 @@
-use Rattle.nearest_marks.proofs.KnownLemmas.{listed-after, once-after}
+use Rattle.nearest_marks.specs.Children.{is_pair}
+use Rattle.nearest_marks.proofs.FamilyLemmas.{settled}
 use Rattle.nearest_marks.proofs.family.Family.take_branch.Goals as goal
 
-pub invariant_of-self-inside-in-Ok-take_branch : goal.invariant_of-self-inside-in-Ok-take_branch
-invariant_of-self-inside-in-Ok-take_branch c =
-    let known = c.self.inside.known.items in
-    let listed = c.self.inside.listed in (
-      rw c.in-Ok.ensures.ok (listed-after c.self.inside.tree known listed c.args.nodes.now c.take_branch.new.self
-          c.in-Ok-take_branch.ensures.extends c.in-Ok-take_branch.ensures.known),
-      (rw c.in-Ok.ensures.ok (once-after c.self.inside.tree known listed c.args.nodes.now c.self.inside.once), tt),
-    )
+pub invariant_of-self : goal.invariant_of-self
+invariant_of-self c = (
+  c.take_into-result.ensures.forest,
+  settled c.take_into-result.new.tree c.take_into-result.new.children c.settle_pairs.new.children (is_pair c.args.nodes.now)
+      c.take_into-result.ensures.others c.take_into-result.ensures.pairs c.settle_pairs.ensures,
+)
