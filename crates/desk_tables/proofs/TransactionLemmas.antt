@@ -1,6 +1,5 @@
 -- What a transaction comes to: a question that is rolled back, and a change that is committed.
-use Rattle.std.proofs.Common.{◌≡◌, ◌≢◌, ◌⊎◌, inl, inr, List, [], Result, Ok, Err, IfOk, IfErr, IsTrue, IsOk, None, false, true, true≢false, arith, refl, sym, ap, subst, ◌∙◌}
-use Rattle.std.specs.Prelude.{⊤}
+use Rattle.std.proofs.Common.{◌≡◌, ◌≢◌, ◌⊎◌, inl, inr, [], Result, Ok, Err, IfOk, IfErr, IsTrue, IsOk, None, false, true, true≢false, arith, refl, sym, ap, subst, ◌∙◌}
 use Rattle.sqlite.specs.Effect.{Database, IsDatabase}
 use Rattle.sqlite.specs.Steps.{FailsToCommit}
 use Rattle.sqlite.specs.State.{State, Shows, KeepsCounts, HasCleanDisk, KeepsCommit, Survives, IsRolledBack}
@@ -11,7 +10,6 @@ use Rattle.desk_text.specs.declared.outcome.StoreFault.TheVariants.{Foreign}
 use Rattle.sql_forms.specs.Faults.{fault_of}
 use Rattle.sql_forms.proofs.FailLemmas.{commit_free}
 use Rattle.desk_content.specs.Content.{Content}
-use Rattle.desk_schema.specs.Tables.{desk_schema}
 use Rattle.desk_schema.specs.Rows.{content_of, AreShown}
 use Rattle.desk_schema.specs.Steps.{IsInside, seen, Goes, Acts, Reads, Serves}
 use Rattle.desk_schema.proofs.StepLemmas.{done, failed}
@@ -96,7 +94,7 @@ it_went (Err e) o x = absurd (true≢false (sym o))
 
 pub altered : (old mid new : State) (did r : Result (Unit {0}) StoreFault) (Free : Content → Type 0) (after : Content → Content) → old.step_limit ≡ None
     → Acts (begun old) mid did Free (λ c d _. d ≡ after c) → Serves (begun old) mid did → Ends mid new did r → IsChanged old new r Free after
-altered old mid new did r Free after limit runs serves ends = record { ok = oks r ends.ok; err = λ c shows. errs r ends.err c shows; sure = sures r ends.err; crash = crash }
+altered old mid new did r Free after limit runs serves ends = record { honest = early; ok = oks r ends.ok; err = λ c shows. errs r ends.err c shows; sure = sures r ends.err; crash = crash }
   where
     one : Survives (begun old) mid (λ _. ⊥)
     one = runs.survives

@@ -18,6 +18,7 @@ pub record IsAsked {A : Type 0} (old new : State) (result : Result A StoreFault)
 -- A change: it is made and committed, or the connection shows the same desk as before.
 -- A crash at any moment leaves what it would have left before, or the desk after the change.
 pub record IsChanged (old new : State) (result : Result (Unit {0}) StoreFault) (Free : Content → Type 0) (after : Content → Content) : Type 0 where
+  pub honest : HasCleanDisk new → HasCleanDisk old
   pub ok : (c : Content) → HasCleanDisk new → HasContent c old → IfOk result (λ _. IsTrue new.is_open × IsDesk new × (seen new ≡ after c))
   pub err : (c : Content) → HasContent c old → IfErr result (λ _. HasContent c new)
   pub sure : (c : Content) → HasCleanDisk new → HasContent c old → Free c → IfErr result (λ fault. fault ≢ Foreign)

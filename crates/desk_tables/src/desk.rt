@@ -75,13 +75,15 @@ pub struct TableDesk<S: Alter> {
 }
 
 impl<S: Alter> TableDesk<S> {
-    /// The desk that a connection shows, whose tables nobody looks at yet.
-    /// It is kept where the connection shows a desk; statements may take as long as they want.
+    /// The desk that a connection shows, outside a transaction; nothing is read yet.
+    /// It is kept where the tables are a desk's.
+    /// From now on no statement has a limit of steps.
     pub fn over(alloc: Global, conn: Connection<S>) -> TableDesk<S>
         requires autocommit { conn.in_transaction ≡ false }
-        ensures conn { result.conn ≡ record conn { step_limit = None } }
-        ensures last { result.last.values ≡ result.conn ∷ [] }
-        ensures begun { result.begun.values ≡ [] }
+        ensures content { content_seen S.Store result.last.values ≡ seen (state S.Store conn) }
+        ensures kept { HasContent (seen (state S.Store conn)) (state S.Store conn) →
+            IsKept S.Store result.last.values result.begun.values result.conn }
+        ensures honest { HasCleanDisk (state S.Store conn) → HasCleanDisk (state S.Store result.conn) }
     {
         let mut conn = conn;
         conn.set_step_limit(None);
@@ -92,6 +94,18 @@ impl<S: Alter> TableDesk<S> {
             last,
             begun: Seen::new(),
         }
+    }
+}
+
+// It is written out, so that a caller does not prove again how each part is dropped.
+impl<S: Alter + Drop> Drop for TableDesk<S> {
+    fn drop(self) {
+        let TableDesk {
+            conn: _,
+            alloc: _,
+            last: _,
+            begun: _,
+        } = self;
     }
 }
 
@@ -112,7 +126,16 @@ impl<S: Alter> BlockerRecords for TableDesk<S> {
         ask_waiting(self.alloc, &mut self.conn, blocker)
     }
 
-    fn put_blockers(&mut self, key: u64, blockers: &[u64]) -> Result<(), StoreFault> {
+    /// A crash at any moment of the call leaves what it would have left before, or the content
+    /// after the call.
+    fn put_blockers(&mut self, key: u64, blockers: &[u64]) -> Result<(), StoreFault>
+        ensures answer { Holds (λ d. IsKept S.Store d.last.values d.begun.values d.conn) (λ d. HasCleanDisk (state S.Store d.conn)) self.old self.new
+            (Becomes (content_seen S.Store self.old.last.values) (content_seen S.Store self.new.last.values) result (edited_all (blocker_edits key blockers.now))) }
+        ensures sure { IsKept S.Store self.old.last.values self.old.begun.values self.old.conn → HasCleanDisk (state S.Store self.new.conn) →
+            AreFree (blocker_edits key blockers.now) (content_seen S.Store self.old.last.values) → IfErr result (λ fault. fault ≢ Foreign) }
+        ensures crash { IsKept S.Store self.old.last.values self.old.begun.values self.old.conn →
+            Survives (state S.Store self.old.conn) (state S.Store self.new.conn) (AreTablesOf (edited_all (blocker_edits key blockers.now) (content_seen S.Store self.old.last.values))) }
+    {
         change_blockers(&mut self.conn, key, blockers)?;
         self.last = Seen::new().and(&self.conn);
         self.begun = Seen::new();
