@@ -1,0 +1,159 @@
+-- What a transaction comes to: a question that is rolled back, and a change that is committed.
+use Rattle.std.proofs.Common.{◌≡◌, ◌≢◌, ◌⊎◌, inl, inr, [], Result, Ok, Err, IfOk, IfErr, IsTrue, IsOk, None, false, true, true≢false, arith, refl, sym, ap, subst, ◌∙◌}
+use Rattle.sqlite.specs.Effect.{Database, IsDatabase}
+use Rattle.sqlite.specs.Steps.{FailsToCommit}
+use Rattle.sqlite.specs.State.{State, Shows, KeepsCounts, HasCleanDisk, KeepsCommit, Survives, IsRolledBack}
+use Rattle.sqlite.specs.declared.error.Error.{Error}
+use Rattle.sqlite.proofs.StateLemmas.{survives_then, survives_weaker}
+use Rattle.desk_text.specs.declared.outcome.StoreFault.{StoreFault}
+use Rattle.desk_text.specs.declared.outcome.StoreFault.TheVariants.{Foreign}
+use Rattle.sql_forms.specs.Faults.{fault_of}
+use Rattle.sql_forms.proofs.FailLemmas.{commit_free}
+use Rattle.desk_content.specs.Content.{Content}
+use Rattle.desk_schema.specs.Rows.{content_of, AreShown}
+use Rattle.desk_schema.specs.Steps.{IsInside, seen, Goes, Acts, Reads, Serves}
+use Rattle.desk_schema.proofs.StepLemmas.{done, failed}
+use Rattle.desk_tables.specs.Shown.{IsDesk, HasContent, AreTablesOf}
+use Rattle.desk_tables.specs.Transactions.{IsAsked, IsChanged, Ends}
+
+-- ---- a question in a transaction that is rolled back
+
+abbrev pub begun : State → State
+begun s = record s { in_transaction = true }
+
+begins : (s : State) (c : Content) → s.step_limit ≡ None → HasCleanDisk s → HasContent c s → IsInside (begun s)
+begins s c limit clean shows = record { begun = refl; unlimited = limit; schema = λ o. (shows clean o).0.schema; sound = λ o. (shows clean o).0.sound; shown = λ o. (shows clean o).0.shown }
+
+-- what was begun is undone
+undone : (old mid new : State) (c : Content) → (IsTrue old.is_open → IsDesk old × (seen old ≡ c)) → KeepsCommit (begun old) mid → IsRolledBack mid new → IsTrue new.is_open → IsDesk new × (seen new ≡ c)
+undone old mid new c shows kept back o =
+    let live = back.was_open o in
+    let was = shows (kept.was_open live) in
+    let now : new.now ≡ old.now = (back.undone o).0 ∙ kept.committed live ∙ sym was.0.settled in (
+      record {
+        settled = (back.undone o).0 ∙ sym (back.undone o).1;
+        schema = ap (λ (d : Database). d.schema) now ∙ was.0.schema;
+        sound = subst IsDatabase (sym now) was.0.sound;
+        shown = subst (λ (d : Database). AreShown d.trees) (sym now) was.0.shown;
+      },
+      ap (λ (d : Database). content_of d.trees) now ∙ was.1,
+    )
+
+pub asked : {A : Type 0} (old mid new : State) (r : Result A StoreFault) (P : Content → A → Type 0) → old.step_limit ≡ None → Reads P (begun old) mid r → Serves (begun old) mid r
+    → (HasCleanDisk new → IsRolledBack mid new) → Survives mid new (λ _. ⊥) → IsAsked old new r P
+asked {A = A} old mid new r P limit runs serves back survives = record {
+  survives = survives_then old mid new _ _ (λ _. ⊥) (λ _ db none. none) (λ _ db none. none) (record { clean = one.clean; shield = one.shield; counts = one.counts; limit = one.limit; closes = one.closes; crash = one.crash }) survives;
+  stays = λ c shows clean o. undone old mid new c (shows (early clean)) (runs.keeps (late clean) (begins old c limit (early clean) shows)) (back clean) o;
+  ok = λ c clean shows. answered r c (λ o. (shows (early clean) o).1) (serves (late clean) refl) (runs.ok (late clean) (begins old c limit (early clean) shows));
+  sure = λ c clean shows. runs.sure (late clean) (begins old c limit (early clean) shows) (λ o. tt);
+}
+  where
+    one : Survives (begun old) mid (λ _. ⊥)
+    one = runs.survives
+
+    late : HasCleanDisk new → HasCleanDisk mid
+    late clean = omega (arith, survives.clean, clean)
+
+    early : HasCleanDisk new → HasCleanDisk old
+    early clean = omega (arith, survives.clean, one.clean, clean)
+
+    answered : (r : Result A StoreFault) (c : Content) → (IsTrue old.is_open → seen old ≡ c) → IfOk r (λ _. IsTrue old.is_open) → IfOk r (λ a. Goes (begun old) mid (λ c d. (d ≡ c) × P c a)) → IfOk r (P c)
+    answered (Ok a) c same live g = subst (λ d. P d a) (same live) g.changed.1
+    answered (Err e) c same live g = tt
+
+-- ---- the end of a transaction
+
+pub ends_ok : (mid new : State) → (HasCleanDisk new → IsTrue mid.in_transaction × Shows mid new mid.now mid.now false × KeepsCounts mid new × (new.marks ≡ [])) → Survives mid new (λ db. db ≡ mid.now.trees) → Ends mid new done done
+ends_ok mid new ok survives = record {
+  survives = survives_weaker mid new _ _ (λ clean db is. (refl, is)) survives;
+  ok = λ clean. let h = (ok clean).1 in (refl, h.was_open, h.is_open, h.now_is, h.committed_is);
+  err = λ clean inside. tt;
+}
+
+pub ends_failed : (mid new : State) (e : Error) → (HasCleanDisk new → FailsToCommit mid new e) → Survives mid new (λ db. db ≡ mid.now.trees) → Ends mid new done (failed (fault_of e))
+ends_failed mid new e fails survives = record {
+  survives = survives_weaker mid new _ _ (λ clean db is. (refl, is)) survives;
+  ok = λ clean. tt;
+  err = λ clean inside. go (inside refl) (fails clean);
+}
+  where
+    go : IsTrue mid.in_transaction → FailsToCommit mid new e → IsRolledBack mid new × (fault_of e ≢ Foreign ⊎ (done ≡ failed (fault_of e)))
+    go inside (inl fails) = (fails.3, inl (commit_free mid new e inside (inl fails)))
+    go inside (inr (why, off, same)) = absurd (true≢false (sym inside ∙ off))
+
+pub ends_undone : (mid new : State) (fault : StoreFault) → (HasCleanDisk new → IsRolledBack mid new) → Survives mid new (λ _. ⊥) → Ends mid new (failed fault) (failed fault)
+ends_undone mid new fault back survives = record {
+  survives = survives_weaker mid new _ _ (λ clean db none. absurd none) survives;
+  ok = λ clean. tt;
+  err = λ clean inside. (back clean, inr refl);
+}
+
+it_went : {X : Type 0} (did : Result (Unit {0}) StoreFault) → IsOk did → IfOk did (λ _. X) → X
+it_went (Ok u) o x = x
+it_went (Err e) o x = absurd (true≢false (sym o))
+
+pub altered : (old mid new : State) (did r : Result (Unit {0}) StoreFault) (Free : Content → Type 0) (after : Content → Content) → old.step_limit ≡ None
+    → Acts (begun old) mid did Free (λ c d _. d ≡ after c) → Serves (begun old) mid did → Ends mid new did r → IsChanged old new r Free after
+altered old mid new did r Free after limit runs serves ends = record { honest = early; ok = oks r ends.ok; err = λ c shows. errs r ends.err c shows; sure = sures r ends.err; crash = crash }
+  where
+    one : Survives (begun old) mid (λ _. ⊥)
+    one = runs.survives
+
+    late : HasCleanDisk new → HasCleanDisk mid
+    late clean = omega (arith, ends.survives.clean, clean)
+
+    early : HasCleanDisk new → HasCleanDisk old
+    early clean = omega (arith, ends.survives.clean, one.clean, clean)
+
+    inside : (c : Content) → HasCleanDisk new → HasContent c old → IsInside (begun old)
+    inside c clean shows = begins old c limit (early clean) shows
+
+    went : (c : Content) → HasCleanDisk new → HasContent c old → IsOk did → Goes (begun old) mid (λ c d. d ≡ after c)
+    went c clean shows o = it_went did o (runs.ok (late clean) (inside c clean shows))
+
+    live : HasCleanDisk new → IsOk did → IsTrue old.is_open
+    live clean o = it_went did o (serves (late clean) refl)
+
+    content : (c : Content) → HasCleanDisk new → HasContent c old → IsOk did → seen mid ≡ after c
+    content c clean shows o = (went c clean shows o).changed ∙ ap after (shows (early clean) (live clean o)).1
+
+    oks : (r : Result (Unit {0}) StoreFault) → (HasCleanDisk new → IfOk r (λ _. IsOk did × IsTrue mid.is_open × IsTrue new.is_open × (new.now ≡ mid.now) × (new.committed ≡ mid.now)))
+        → (c : Content) → HasCleanDisk new → HasContent c old → IfOk r (λ _. IsTrue new.is_open × IsDesk new × (seen new ≡ after c))
+    oks (Err e) ended c clean shows = tt
+    oks (Ok u) ended c clean shows =
+        let h = ended clean in
+        let g = went c clean shows h.0 in (
+          h.2,
+          record {
+            settled = h.3 ∙ sym h.4;
+            schema = ap (λ (d : Database). d.schema) h.3 ∙ g.inside.schema h.1;
+            sound = subst IsDatabase (sym h.3) (g.inside.sound h.1);
+            shown = subst (λ (d : Database). AreShown d.trees) (sym h.3) (g.inside.shown h.1);
+          },
+          ap (λ (d : Database). content_of d.trees) h.3 ∙ content c clean shows h.0,
+        )
+
+    errs : (r : Result (Unit {0}) StoreFault) → (HasCleanDisk new → (IsOk did → IsTrue mid.in_transaction) → IfErr r (λ fault. IsRolledBack mid new × (fault ≢ Foreign ⊎ (did ≡ failed fault))))
+        → (c : Content) → HasContent c old → IfErr r (λ _. HasContent c new)
+    errs (Ok u) ended c shows = tt
+    errs (Err e) ended c shows = λ clean o. undone old mid new c (shows (early clean)) (runs.keeps (late clean) (inside c clean shows)) (ended clean (λ ok. (went c clean shows ok).inside.begun)).0 o
+
+    sures : (r : Result (Unit {0}) StoreFault) → (HasCleanDisk new → (IsOk did → IsTrue mid.in_transaction) → IfErr r (λ fault. IsRolledBack mid new × (fault ≢ Foreign ⊎ (did ≡ failed fault))))
+        → (c : Content) → HasCleanDisk new → HasContent c old → Free c → IfErr r (λ fault. fault ≢ Foreign)
+    sures (Ok u) ended c clean shows free = tt
+    sures (Err e) ended c clean shows free = elim ((ended clean (λ ok. (went c clean shows ok).inside.begun)).1) [
+      | inl sure ↦ sure
+      | inr same ↦ subst (λ r. IfErr r (λ fault. fault ≢ Foreign)) same (runs.sure (late clean) (inside c clean shows) (λ o. subst Free (sym (shows (early clean) o).1) free))
+    ]
+
+    crash : (c : Content) → HasContent c old → Survives old new (AreTablesOf (after c))
+    crash c shows = survives_then old mid new _ _ (AreTablesOf (after c)) (λ _ db none. absurd none)
+        (λ clean db p.
+        let g = went c clean shows p.0 in
+        let o = g.serves (live clean p.0) in
+        subst (AreTablesOf (after c)) (sym p.1) (record {
+          sound = subst (λ s. IsDatabase (record { schema = s; trees = mid.now.trees })) (g.inside.schema o) (g.inside.sound o);
+          shown = g.inside.shown o;
+          content = content c clean shows p.0;
+        }))
+        (record { clean = one.clean; shield = one.shield; counts = one.counts; limit = one.limit; closes = one.closes; crash = one.crash }) ends.survives

@@ -1,0 +1,26 @@
+-- What a connection shows of a desk, between two calls.
+use Rattle.std.specs.Prelude.{◌≡◌, IsTrue}
+use Rattle.sqlite.specs.Effect.{IsDatabase}
+use Rattle.sqlite.specs.State.{State, HasCleanDisk}
+use Rattle.sqlite.specs.Tree.{Trees}
+use Rattle.desk_content.specs.Content.{Content}
+use Rattle.desk_schema.specs.Tables.{desk_schema}
+use Rattle.desk_schema.specs.Rows.{content_of, AreShown}
+use Rattle.desk_schema.specs.Steps.{seen}
+
+-- the tables of a desk, as the last commit left them
+pub record IsDesk (s : State) : Type 0 where
+  pub settled : s.now ≡ s.committed
+  pub schema : s.now.schema ≡ desk_schema
+  pub sound : IsDatabase s.now
+  pub shown : AreShown s.now.trees
+
+-- as far as the disk is honest and the connection serves, it shows a desk with this content
+abbrev pub HasContent : Content → State → Type 0
+HasContent c s = HasCleanDisk s → IsTrue s.is_open → IsDesk s × (seen s ≡ c)
+
+-- these trees, with the desk's schema, are a desk with this content
+pub record AreTablesOf (c : Content) (db : Trees) : Type 0 where
+  pub sound : IsDatabase (record { schema = desk_schema; trees = db })
+  pub shown : AreShown db
+  pub content : content_of db ≡ c
