@@ -102,13 +102,13 @@ module _ (found fixed : List Node) where
       cases true b p q =
           ap (λ t. cond t (Some Found) (cond (has_node fixed v) (Some Fixed) nearest)) p
           ∙ sym (ap (λ t. option_map (kind_at found) (cond (t || has_node fixed v) (Some v) (first_marked found fixed ns))) p
-            ∙ ap (λ t. Some (cond t Found Fixed)) p)
+          ∙ ap (λ t. Some (cond t Found Fixed)) p)
       cases false true p q =
           ap (λ t. cond t (Some Found) (cond (has_node fixed v) (Some Fixed) nearest)) p
           ∙ ap (λ t. cond t (Some Fixed) nearest) q
           ∙ sym (ap (λ t. option_map (kind_at found) (cond (t || has_node fixed v) (Some v) (first_marked found fixed ns))) p
-            ∙ ap (λ t. option_map (kind_at found) (cond t (Some v) (first_marked found fixed ns))) q
-            ∙ ap (λ t. Some (cond t Found Fixed)) p)
+          ∙ ap (λ t. option_map (kind_at found) (cond t (Some v) (first_marked found fixed ns))) q
+          ∙ ap (λ t. Some (cond t Found Fixed)) p)
       cases false false p q =
           ap (λ t. cond t (Some Found) (cond (has_node fixed v) (Some Fixed) nearest)) p
           ∙ ap (λ t. cond t (Some Fixed) nearest) q ∙ h p q

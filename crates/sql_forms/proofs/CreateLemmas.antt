@@ -38,9 +38,9 @@ pub creates : (schema : Schema) (sql : List ℕ) (table : Table) → CreatesTabl
 creates schema sql table it old new count has h =
     let w = runs_as sql [] old new schema has CreateTable it.command it.plain count h in
     let does = subst (λ s. Defines (mode_of old) (Then (MakesTable (statement_of sql (understood schema sql)) s) MakesSequence) (Ok (w.tally, new.now)))
-        (ap (λ s. let d : Database = record { schema = s; trees = old.now.trees } in d) has) w.changed in
+    (ap (λ s. let d : Database = record { schema = s; trees = old.now.trees } in d) has) w.changed in
     let texted = subst (λ t. Defines (mode_of old) (Then (MakesTable t (record { schema = schema; trees = old.now.trees })) MakesSequence) (Ok (w.tally, new.now)))
-        it.text does in
+    it.text does in
     defined (mode_of old) (record { schema = schema; trees = old.now.trees }) w.tally new.now w.sound refl texted
   where
     made : (db mid after : Database) → IsDatabase after → db.schema ≡ schema → MakesTable sql db (Ok mid) → MakesSequence mid (Ok after)
@@ -99,7 +99,7 @@ creates_index schema sql at table index it old new count has h =
     let text = statement_of sql (understood schema sql) in
     let does = subst (λ s. Does old.step_limit (mode_of old) [] (record old.now { schema = s }) text None (CreateIndex at) (Ok (w.tally, new.now))) has w.changed in
     let on = subst (λ t. AtPlace (λ table. Defines (mode_of old) (MakesIndex text (record { schema = schema; trees = old.now.trees }) table)) t (Ok (w.tally, new.now)))
-        it.found does in
+    it.found does in
     made_index schema sql at table index it text it.text old.now.trees w.tally new.now (mode_of old) w.sound on
 
 -- a table that was empty is empty still

@@ -103,4 +103,4 @@ update_errors schema sql at table tests terms it none old new params row e call 
     go does =
         let here = subst (λ s. Does old.step_limit (mode_of old) params (record old.now { schema = s }) (statement_of sql (understood schema sql)) None command (Err (Some e))) has does in
         split (subst (λ t. AtPlace (λ table. OnRows (record { limit = old.step_limit; keys = Enforced; schema = schema; table = table; params = params })
-            (mode_of old) None command db) t (Err (Some e))) it.found here)
+        (mode_of old) None command db) t (Err (Some e))) it.found here)

@@ -41,14 +41,14 @@ update_edit db table row = edit_of db table (ids_of (row ∷ [])) Given 1 (row �
 module _ (task : Task) (q : Program) (db : Trees) where
   updated : (done : Written) → Updates task q task.params db (Ok done)
       → (rows : List Row) × Answers (record { schema = task.schema; trees = db }) q task.params rows
-        × Writes task.schema task.keys db (edit_of db task.table (ids_of rows) Given 1 rows) (Ok done.trees)
+      × Writes task.schema task.keys db (edit_of db task.table (ids_of rows) Given 1 rows) (Ok done.trees)
   updated done (inl stop) = absurd (let e = stop.2 in cc)
   updated done (inr (rows, answers, inl stop)) = absurd (let e = stop.2 in cc)
   updated done (inr (rows, answers, inr (next, wrote, is))) = (
     rows,
     answers,
     subst (λ t. Writes task.schema task.keys db (edit_of db task.table (ids_of rows) Given 1 rows) (Ok t))
-    (sym (ap (λ (w : Written). w.trees) (same_value is))) wrote,
+        (sym (ap (λ (w : Written). w.trees) (same_value is))) wrote,
   )
 
 -- where one row passes, it has the cells of the terms
@@ -65,13 +65,13 @@ updates_one schema sql at table tests terms it old new params row count has one 
     let does = subst (λ s. Does old.step_limit (mode_of old) params (record old.now { schema = s }) text None command (Ok (w.tally, new.now))) has w.changed in
     let task : Task = record { limit = old.step_limit; keys = Enforced; schema = schema; table = table; params = params } in
     let on = subst (λ t. AtPlace (λ table. OnRows (record { limit = old.step_limit; keys = Enforced; schema = schema; table = table; params = params })
-        (mode_of old) None command db) t (Ok (w.tally, new.now))) it.found does in
+    (mode_of old) None command db) t (Ok (w.tally, new.now))) it.found does in
     let parts = through (WritesRows task db command) (Concludes task (mode_of old) None) (w.tally, new.now) on in
     let now = concludes task (mode_of old) parts.0 w.tally new.now parts.2 in
     let wrote = updated task q db parts.0 parts.1 in
     let permuted = found table.tree tests terms [] db params wrote.0 (finds table.tree tests terms [] db params wrote.0 wrote.1.answer) in
     let rows : wrote.0 ≡ eval_all terms (params ∷ row ∷ []) ∷ [] =
-        one_permutation _ wrote.0 (subst (λ xs. IsPermutation (map (λ r. eval_all terms (params ∷ r ∷ [])) xs) wrote.0) one permuted) in
+    one_permutation _ wrote.0 (subst (λ xs. IsPermutation (map (λ r. eval_all terms (params ∷ r ∷ [])) xs) wrote.0) one permuted) in
     let edit : Edit = edit_of db table (ids_of wrote.0) Given 1 wrote.0 in
     let applied = one_step schema Enforced db parts.0.trees edit (it.still _ _) wrote.2 in
     record {
