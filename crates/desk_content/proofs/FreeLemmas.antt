@@ -26,7 +26,7 @@ use Rattle.nearest_marks.specs.Nearest.{row_at, once}
 use Rattle.nearest_marks.specs.declared.near.Near.{Near}
 use Rattle.nearest_marks.specs.declared.near.NearRow.{NearRow}
 use Rattle.desk_content.specs.Content.{Content}
-use Rattle.desk_content.specs.Edits.{put_at, placed, edited, edited_all}
+use Rattle.desk_content.specs.Edits.{put_at, placed, kept_fields, edited, edited_all}
 use Rattle.desk_content.specs.Free.{AreFree, marks_of}
 use Rattle.desk_content.specs.declared.edit.Edit.{Edit}
 use Rattle.desk_content.specs.declared.edit.Edit.TheVariants.{PutMark, PutFields}
@@ -183,7 +183,7 @@ set_free i good same c clear =
     free-append (member_puts k i.members) _ c (members_free k i.members c l good.numbers good.members clear.keys)
     (subst (λ (x : Content). AreFree (PutFields k (fields_of i.shared) ∷ blocker_puts k i.shared.blockers) x) (sym (members_put k i.members c)) (
       (l, clear.fields),
-      blockers_free k i.shared.blockers (record d { fields = put_at k (Some (fields_of i.shared)) d.fields }) l
+      blockers_free k i.shared.blockers (record d { fields = put_at k (Some (kept_fields (fields_of i.shared))) d.fields }) l
           good.blocker_numbers good.blockers (λ n e. ap (λ (bs : List ℕ). has bs n) clear.blockers),
     ))
 

@@ -10,3 +10,4 @@ pub mod FreeLemmas
 pub mod TagLemmas
 pub mod BranchLemmas
 pub mod QuestionLemmas
+pub mod NewLemmas

@@ -16,7 +16,10 @@ use Rattle.nearest_marks.specs.Nearest.{nearest_of, row_at, once}
 use Rattle.nearest_marks.specs.declared.near.Near.{Near}
 use Rattle.nearest_marks.specs.declared.near.NearRow.{NearRow}
 use Rattle.desk_content.specs.Content.{Content}
-use Rattle.desk_content.specs.Edits.{put_at, placed, edited_all}
+use Rattle.bug_record.specs.declared.tag.Tag.{Tag}
+use Rattle.desk_content.specs.declared.edit.SetFields.{SetFields}
+use Rattle.desk_content.specs.Edits.{put_at, placed, kept_fields, edited_all}
+use Rattle.desk_content.proofs.TagLemmas.{read_back}
 use Rattle.desk_content.specs.EditLists.{member_puts, blocker_puts, mark_puts, near_puts, set_puts, all_mark_puts}
 use Rattle.desk_content.specs.Images.{with_image, IsGoodImage, IsCleared}
 use Rattle.desk_content.specs.View.{fields_of}
@@ -89,7 +92,7 @@ abbrev pub after_set : SetImage → Content → Content
 after_set i c = record c {
   key = put_keys (key_of i) i.members c.key;
   members = put_each (placed (λ (m : Member). m.number)) (key_of i) i.members c.members;
-  fields = put_at (key_of i) (Some (fields_of i.shared)) c.fields;
+  fields = put_at (key_of i) (Some (kept_fields (fields_of i.shared))) c.fields;
   blockers = put_each (placed (λ n. n)) (key_of i) i.shared.blockers c.blockers;
 }
 
@@ -101,9 +104,9 @@ set_put i c =
       members = put_each (placed (λ (m : Member). m.number)) k i.members c.members;
     } in
     edited_all-append (member_puts k i.members) _ c
-    ∙ ap (λ (x : Content). edited_all (blocker_puts k i.shared.blockers) (record x { fields = put_at k (Some (fields_of i.shared)) x.fields }))
+    ∙ ap (λ (x : Content). edited_all (blocker_puts k i.shared.blockers) (record x { fields = put_at k (Some (kept_fields (fields_of i.shared))) x.fields }))
     (members_put k i.members c)
-    ∙ blockers_put k i.shared.blockers (record d { fields = put_at k (Some (fields_of i.shared)) d.fields })
+    ∙ blockers_put k i.shared.blockers (record d { fields = put_at k (Some (kept_fields (fields_of i.shared))) d.fields })
 
 abbrev after_marks : SetImage → List NearRow → Content → Content
 after_marks i rows c = record c {
@@ -133,13 +136,19 @@ module _ (i : SetImage) (good : IsGoodImage i) (c : Content) where
   waits_put none = put_all (placed (λ n. n)) (key_of i) i.shared.blockers c.blockers none
       (placed_all (λ n. n) i.shared.blockers (subst IsAscending (sym (same_numbers i.shared.blockers)) good.blockers))
 
+  -- its tags are a set already
+  fields_put : (n : ℕ) → put_at (key_of i) (Some (kept_fields (fields_of i.shared))) c.fields n
+      ≡ put_at (key_of i) (Some (fields_of i.shared)) c.fields n
+  fields_put n = ap (λ (ts : List Tag). put_at (key_of i) (Some (let f : SetFields = record (fields_of i.shared) { tags = ts } in f)) c.fields n)
+      (read_back i.shared.tags good.tags)
+
   -- with the marks that stand there already
   pub put_kept : IsCleared true i c → edited_all (set_puts i ++ []) c ≡ with_image i c
   put_kept clear = edited_all-append (set_puts i) [] c ∙ set_put i c ∙ same_content _ _ (record {
     next = refl;
     key = put_keys-is (key_of i) i.members c.key;
     members = numbers_put clear.members;
-    fields = λ k. refl;
+    fields = fields_put;
     found = λ k. at_same (key_of i) c.found k ∙ ap (λ (x : List Node). put_at (key_of i) x c.found k) clear.marks.found;
     fixed = λ k. at_same (key_of i) c.fixed k ∙ ap (λ (x : List Node). put_at (key_of i) x c.fixed k) clear.marks.fixed;
     blockers = waits_put clear.blockers;
@@ -161,7 +170,7 @@ module _ (i : SetImage) (good : IsGoodImage i) (c : Content) where
         next = refl;
         key = put_keys-is (key_of i) i.members c.key;
         members = numbers_put clear.members;
-        fields = λ k. refl;
+        fields = fields_put;
         found = put_all with_node (key_of i) i.shared.found c.found clear.marks.found (nodes_all i.shared.found good.found);
         fixed = put_all with_node (key_of i) i.shared.fixed c.fixed clear.marks.fixed (nodes_all i.shared.fixed good.fixed);
         blockers = waits_put clear.blockers;

@@ -165,6 +165,7 @@ module _ (c : Content) (change : Change) (kept : IsKeptContent c) (fits : FitsCo
         blocker_numbers = λ n e. bounded n ((put (desk_in c) change).bug n) refl (blockers.there n e);
         members = sound.ascending (key_of i) (bug_of i x.0) x.1;
         blockers = blockers.ascending;
+        tags = texts.tags;
         found = texts.found;
         fixed = texts.fixed;
       }

@@ -11,7 +11,7 @@ use Rattle.nearest_marks.specs.declared.near.Near.{Near}
 use Rattle.desk_content.specs.Content.{Content}
 use Rattle.desk_content.specs.declared.branches.SetNear.{SetNear}
 
--- the content over this ancestry
+-- the content over this ancestry, with the nearest marks there
 abbrev pub with_nodes : Ancestry → Content → Content
 with_nodes t c = record c { nodes = t; near = λ k. nearest_of t (c.found k) (c.fixed k) }
 

@@ -9,6 +9,7 @@ use Rattle.bug_record.specs.Marks.{with_node}
 use Rattle.bug_record.specs.declared.bug.Member.{Member}
 use Rattle.nearest_marks.specs.declared.near.Near.{Near}
 use Rattle.desk_content.specs.Content.{Content}
+use Rattle.desk_content.specs.Encodings.{tags_number, tags_in}
 use Rattle.desk_content.specs.declared.edit.Edit.{Edit}
 use Rattle.desk_content.specs.declared.edit.Edit.TheVariants as edits
 use Rattle.desk_content.specs.declared.edit.SetFields.{SetFields}
@@ -22,8 +23,12 @@ abbrev pub placed : {T : Type 0} → (T → ℕ) → List T → T → List T
 placed number [] x = x ∷ []
 placed number (y ∷ ys) x = if nat_lt (number x) (number y) then x ∷ y ∷ ys else y ∷ placed number ys x
 
+-- the fields as a row keeps them: its tags as a set
+abbrev pub kept_fields : SetFields → SetFields
+kept_fields f = record f { tags = tags_in (tags_number f.tags) }
+
 abbrev pub with_fields : ℕ → SetFields → Content → Content
-with_fields k f c = record c { fields = put_at k (Some f) c.fields }
+with_fields k f c = record c { fields = put_at k (Some (kept_fields f)) c.fields }
 
 abbrev pub without_fields : ℕ → Content → Content
 without_fields k c = record c { fields = put_at k None c.fields }

@@ -27,7 +27,7 @@ kind_number Fixed = 1
 abbrev pub kind_in : ℕ → Option MarkKind
 kind_in number = if number == 0 then Some Found else if number == 1 then Some Fixed else None
 
--- the number of binary digits, the lowest first
+-- the number that these binary digits write, the lowest first
 abbrev pub binary : List Bool → ℕ
 binary [] = 0
 binary (b ∷ bs) = flag b + 2 * binary bs

@@ -1,5 +1,5 @@
--- Edits that no row stands in the way of: the numbers are those of bugs, and what comes is not
--- there.
+-- Edits that no row stands in the way of: the numbers are at most the largest one of a bug, and what
+-- comes is not there.
 -- This project's own rule.
 use Rattle.std.specs.Prelude.{ℕ, ◌≡◌, ◌≤◌, false, List, [], ◌∷◌, None, ⊤}
 use Rattle.ancestry.specs.Nodes.{Node}

@@ -7,6 +7,7 @@ use Rattle.ancestry.specs.Nodes.{Node, same_node}
 use Rattle.line_words.specs.declared.named.TheConstants.{LARGEST_NUMBER}
 use Rattle.bug_record.specs.Sets.{has, IsAscending}
 use Rattle.bug_record.specs.Marks.{IsNodeSet}
+use Rattle.bug_record.specs.Tags.{IsTagSet}
 use Rattle.bug_record.specs.Images.{numbers_of}
 use Rattle.bug_record.specs.declared.bug.SetImage.{SetImage}
 use Rattle.desk_places.specs.Keys.{key_of}
@@ -28,8 +29,8 @@ same_marks i found fixed = pointwise same_node found i.shared.found && pointwise
 abbrev pub loses_marks : Bool → SetImage → ℕ → Bool
 loses_marks same i k = is_member i k && not (same && (key_of i == k))
 
--- the content without the bugs of the image, and without what stands under their numbers; where the
--- image has the same marks as its key, those stay
+-- the content without the bugs of the image, and without what stands under their numbers; where it
+-- is said that the marks of its key are the image's, those stay
 abbrev pub without_image : Bool → SetImage → Content → Content
 without_image same i c = record c {
   key = λ n. if is_member i n then None else c.key n;
@@ -60,6 +61,7 @@ pub record IsGoodImage (i : SetImage) : Type 0 where
   pub blocker_numbers : (n : ℕ) → has i.shared.blockers n ≡ true → n ≤ LARGEST_NUMBER
   pub members : IsAscending (numbers_of i.members)
   pub blockers : IsAscending i.shared.blockers
+  pub tags : IsTagSet i.shared.tags
   pub found : IsNodeSet i.shared.found
   pub fixed : IsNodeSet i.shared.fixed
 

@@ -1,5 +1,6 @@
 pub mod Content
 pub mod View
+pub mod Encodings
 pub mod Kept
 pub mod Edits
 pub mod Free
@@ -7,7 +8,6 @@ pub mod Images
 pub mod Changes
 pub mod Branches
 pub mod Questions
-pub mod Encodings
 -- definitions that only private functions cite
 pub mod EditLists
 pub mod BranchLists

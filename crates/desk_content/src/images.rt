@@ -176,8 +176,10 @@ fn copy_fields(shared: &Shared) -> Result<SetFields, AllocError>
     })
 }
 
-// The number of the image's first member, and 0 where there is none.
-fn key_of(image: &SetImage) -> u64
+/// The key under which the image of a set is put: the number of its first bug, and 0 where it has
+/// none.
+/// This project's own rule.
+pub fn key_of(image: &SetImage) -> u64
     ensures { result ≡ key_of image.now }
 {
     match image.members.as_slice() {

@@ -1,7 +1,7 @@
 //! Laws of the definitions that the contracts of this crate cite.
 //! Each body is empty: the contract is the law.
 
-ghost use Rattle.std.specs.Prelude.{◌≡◌, ℕ, Bool, List, ◌∷◌, ◌++◌, Some};
+ghost use Rattle.std.specs.Prelude.{◌≡◌, ◌<◌, ◌≤◌, ℕ, Bool, List, ◌∷◌, ◌++◌, Some};
 ghost use Rattle.ancestry.specs.Nodes.{Node};
 ghost use Rattle.ancestry.specs.Trees.{Ancestry, IsForest, line};
 ghost use Rattle.ancestry.specs.Statuses.{first_kind};
@@ -16,7 +16,9 @@ ghost use Rattle.bug_record.specs.declared.tag.Tag.{Tag};
 ghost use Rattle.bug_record.specs.declared.bug.SetImage.{SetImage};
 ghost use Rattle.bug_record.specs.declared.bug.Shared.{Shared};
 ghost use Rattle.bug_record.specs.declared.command.Change.{Change};
-ghost use Rattle.desk_content.specs.Content.{Content};
+ghost use Rattle.line_words.specs.declared.named.TheConstants.{LARGEST_NUMBER};
+ghost use Rattle.desk_places.specs.Plain.{empty_desk};
+ghost use Rattle.desk_content.specs.Content.{Content, no_content};
 ghost use Rattle.desk_content.specs.View.{desk_in};
 ghost use Rattle.desk_content.specs.Kept.{IsKeptContent};
 ghost use Rattle.desk_content.specs.Branches.{with_nodes};
@@ -25,8 +27,8 @@ ghost use Rattle.desk_content.specs.Images.{IsGoodImage, IsCleared};
 ghost use Rattle.desk_content.specs.Encodings.{severity_in, flag, flag_in, kind_number, kind_in, tags_number, tags_in};
 ghost use Rattle.desk_content.specs.Changes.{keeps_marks, with_images, cleared_for, changed, FitsContent};
 
-/// Where the rows of all images of a change are cleared and put, the content shows the desk after
-/// the change, and is one that a desk keeps again.
+/// Where the rows of all images of a change are cleared and put, and last the next number, the
+/// content shows the desk after the change, and is one that a desk keeps again.
 pub fn changes_are_put()
     ensures desk { (c : Content) (change : Change) → IsKeptContent c → FitsContent c change →
         desk_in (changed c change) ≡ put (desk_in c) change }
@@ -74,4 +76,11 @@ pub fn bugs_are_asked_by_sets()
 pub fn kinds_are_nearest()
     ensures { (c : Content) (k : ℕ) (v : Node) → IsKeptContent c →
         kind_of c k v ≡ first_kind (c.found k) (c.fixed k) (line c.nodes v) }
+{}
+
+/// The content of a new desk, whose next number is one that a bug may have, shows the desk with no
+/// bug and no node, and is one that a desk keeps.
+pub fn new_contents_are_kept()
+    ensures desk { (first : ℕ) → desk_in (no_content first) ≡ empty_desk first }
+    ensures kept { (first : ℕ) → 0 < first → first ≤ LARGEST_NUMBER → IsKeptContent (no_content first) }
 {}

@@ -16,9 +16,9 @@ pub use encodings::{
     flag_of_number, kind_of_number, number_of_flag, number_of_kind, number_of_tags,
     severity_of_number, tags_of_number,
 };
-pub use images::{RowEdits, row_edits};
+pub use images::{RowEdits, key_of, row_edits};
 pub use laws::{
     branches_are_put, bugs_are_asked_by_sets, changes_are_put, images_are_ready, kinds_are_nearest,
-    numbers_are_read_back,
+    new_contents_are_kept, numbers_are_read_back,
 };
 pub use questions::kind_here;

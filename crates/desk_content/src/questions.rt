@@ -12,8 +12,8 @@ fn has_node(nodes: &[Node], node: &Node) -> bool
     nodes.contains(node)
 }
 
-/// The kind of the first mark on a node's line: of the node's own mark, found before fixed, or else
-/// of the nearest mark that its row says.
+/// The kind of the first mark on a node's line, where the row is that of a content that is kept: of
+/// the node's own mark, found before fixed, or else of the nearest mark that its row says.
 /// For a node that is not known there is no row, and its own mark is the whole answer.
 /// It takes no memory.
 /// This project's own rule.

@@ -15,7 +15,7 @@ pub fn nearest_of_longer_lines()
         nearest_on found fixed (ns ++ more) ≡ option_or (nearest_on found fixed ns) (nearest_on found fixed more) }
 {}
 
-/// A node that is marked sees its own mark, and another one what its parent sees.
+/// A known node that is marked sees its own mark, and another known one what its parent sees.
 pub fn nearest_by_parents()
     ensures { (t : Ancestry) (found fixed : List Node) (v : Node) → IsForest t → knows t v ≡ true →
         nearest_of t found fixed v ≡ (if has_node found v || has_node fixed v then Some (own_mark found v)
