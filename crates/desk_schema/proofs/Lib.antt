@@ -1,5 +1,7 @@
 pub mod StepLemmas
 pub mod StatementLemmas
 pub mod SchemaLemmas
+pub mod ContentLemmas
+pub mod PlacedLemmas
 pub mod BlockLists
 pub mod BlockLemmas

@@ -1,3 +1,10 @@
 pub mod Tables
+pub mod Cells
+pub mod SetRows
+pub mod BugRows
+pub mod MarkRows
+pub mod BlockRows
+pub mod NodeRows
+pub mod NearestRows
 pub mod Rows
 pub mod Steps

@@ -1,17 +1,22 @@
--- The cells of each row, and what the rows of all tables say.
+-- What the rows of all tables say.
 -- This project's own rule.
-use Rattle.std.specs.Prelude.{◌≡◌, ℕ, ℤ, pos, ◌==◌, filter, map, List, [], ◌∷◌}
-use Rattle.sqlite.specs.Edit.{id_in}
+use Rattle.std.specs.Prelude.{◌≡◌, ℕ, pos, map, List, [], ◌∷◌}
 use Rattle.sqlite.specs.Order.{Row, column}
 use Rattle.sqlite.specs.Tree.{Trees}
 use Rattle.sqlite.specs.declared.types.Value.TheVariants.{Null, Int}
-use Rattle.sql_forms.specs.Numbers.{number_in, with_numbers}
+use Rattle.ancestry.specs.declared.statuses.MarkKind.TheVariants.{Found, Fixed}
+use Rattle.sql_forms.specs.Numbers.{number_in}
 use Rattle.sql_forms.specs.TypedRows.{AreRows}
-use Rattle.desk_content.specs.Content.{Content, no_content}
-use Rattle.desk_schema.specs.Tables.{META, BLOCKS}
+use Rattle.desk_content.specs.Content.{Content}
+use Rattle.desk_schema.specs.Tables.{META, SETS, BUGS, MARKS, BLOCKS, NODES, NEAREST}
+use Rattle.desk_schema.specs.SetRows.{set_cells, set_in, IsSetRow, fields_in}
+use Rattle.desk_schema.specs.BugRows.{bug_cells, bug_in, IsBugRow, key_in, members_in}
+use Rattle.desk_schema.specs.MarkRows.{mark_cells, mark_in, IsMarkRow, marks_in}
+use Rattle.desk_schema.specs.BlockRows.{block_cells, block_in, IsBlockRow, blockers_in}
+use Rattle.desk_schema.specs.NodeRows.{node_cells, node_in, IsNodeRow, nodes_in}
+use Rattle.desk_schema.specs.NearestRows.{nearest_cells, nearest_in, IsNearestRow, near_in}
 
--- ---- meta: one row, with the schema's number and the next bug's
-
+-- meta has one row, with the schema's number and the next bug's
 abbrev pub meta_cells : ℕ → Row
 meta_cells next = Int (pos 1) ∷ Null ∷ Int (pos 1) ∷ Int (pos next) ∷ []
 
@@ -19,33 +24,26 @@ abbrev pub next_in : List Row → ℕ
 next_in [] = 0
 next_in (r ∷ rows) = number_in (column r 3)
 
--- ---- blocks: a row for each blocker of a set
-
-pub record Block : Type 0 where
-  pub id : ℤ
-  pub key : ℕ
-  pub blocker : ℕ
-
-abbrev pub block_cells : Block → Row
-block_cells x = Int x.id ∷ Int (pos x.key) ∷ Int (pos x.blocker) ∷ []
-
-abbrev pub block_in : Row → Block
-block_in r = record { id = id_in (column r 0); key = number_in (column r 1); blocker = number_in (column r 2) }
-
--- the blockers of a set's key, as the rows have them
-abbrev pub of_key : ℕ → List Block → List ℕ
-of_key k xs = map (λ (x : Block). x.blocker) (filter (λ x. x.key == k) xs)
-
-abbrev pub blockers_in : List Block → ℕ → List ℕ
-blockers_in xs k = with_numbers [] (of_key k xs)
-
--- ---- all tables
-
--- what the tables say; of what has no table yet they say nothing
+-- what the tables say
 abbrev pub content_of : Trees → Content
-content_of db = record (no_content (next_in (db META))) { blockers = blockers_in (map block_in (db BLOCKS)) }
+content_of db = record {
+  next = next_in (db META);
+  key = key_in (map bug_in (db BUGS));
+  members = members_in (map bug_in (db BUGS));
+  fields = fields_in (map set_in (db SETS));
+  found = marks_in Found (map mark_in (db MARKS));
+  fixed = marks_in Fixed (map mark_in (db MARKS));
+  blockers = blockers_in (map block_in (db BLOCKS));
+  nodes = nodes_in (map node_in (db NODES));
+  near = near_in (map nearest_in (db NEAREST));
+}
 
 -- each row is the cells of something
 pub record AreShown (db : Trees) : Type 0 where
   pub meta : (next : ℕ) × (db META ≡ meta_cells next ∷ [])
-  pub blocks : AreRows block_cells (db BLOCKS)
+  pub sets : AreRows set_cells IsSetRow (db SETS)
+  pub bugs : AreRows bug_cells IsBugRow (db BUGS)
+  pub marks : AreRows mark_cells IsMarkRow (db MARKS)
+  pub blocks : AreRows block_cells IsBlockRow (db BLOCKS)
+  pub nodes : AreRows node_cells IsNodeRow (db NODES)
+  pub nearest : AreRows nearest_cells IsNearestRow (db NEAREST)

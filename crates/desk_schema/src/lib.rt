@@ -1,11 +1,10 @@
 //! The tables in which a desk is kept, what their rows say, and how a call of the database is told.
-//!
-//! The schema has `meta` and `blocks` so far; the other tables of a desk come beside them, in the
-//! order in which they are made.
 #![tactic(auto)]
 
+mod cells;
 mod faults;
 mod numbers;
 
+pub use cells::{maybe_text_at, node_at, number_at, text_at};
 pub use faults::{fault_of, told, written};
-pub use numbers::numbers_of;
+pub use numbers::{number_in, numbers_of};

@@ -1,10 +1,11 @@
 //! Rows of one number.
 
-ghost use Rattle.std.specs.Prelude.{◌≡◌, ◌≢◌, ℕ, List, IfOk, IfErr, map};
+ghost use Rattle.std.specs.Prelude.{◌≡◌, ◌≢◌, ℕ, List, [], ◌∷◌, Option, IfOk, IfErr, map};
+ghost use Rattle.std.specs.Option.{option_map_or};
 ghost use Rattle.desk_text.specs.declared.outcome.StoreFault.TheVariants.{Foreign};
 ghost use Rattle.sql_forms.specs.Numbers.{number_row};
 
-use crate::faults::fault_of;
+use crate::cells::number_at;
 use bug_record::{Numbers, Sequence};
 use desk_text::StoreFault;
 use sqlite::Row;
@@ -15,9 +16,22 @@ fn number_of(row: &Row) -> Result<u64, StoreFault>
     ensures value { (n : ℕ) → row.now ≡ number_row n → IfOk result (λ v. v ≡ n) }
     ensures sure { (n : ℕ) → row.now ≡ number_row n → IfErr result (λ fault. fault ≢ Foreign) }
 {
-    match row.get::<u64>(0) {
-        Ok(number) => Ok(number),
-        Err(error) => Err(fault_of(&error)),
+    number_at(row, 0)
+}
+
+/// The number of the only row, if there is one.
+/// A number above the largest u64 can't be read.
+pub fn number_in(rows: &[Row]) -> Result<Option<u64>, StoreFault>
+    ensures value { (o : Option ℕ) → rows.now ≡ option_map_or (λ n. number_row n ∷ []) o [] → IfOk result (λ v. v ≡ o) }
+    ensures sure { (o : Option ℕ) → rows.now ≡ option_map_or (λ n. number_row n ∷ []) o [] →
+        IfErr result (λ fault. fault ≢ Foreign) }
+{
+    match rows {
+        [] => Ok(None),
+        [row, ..] => match number_of(row) {
+            Ok(number) => Ok(Some(number)),
+            Err(fault) => Err(fault),
+        },
     }
 }
 

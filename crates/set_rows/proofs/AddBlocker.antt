@@ -36,7 +36,7 @@ use Rattle.desk_content.specs.Edits.{put_at, placed, edited}
 use Rattle.desk_content.specs.Free.{IsFree}
 use Rattle.desk_content.specs.declared.edit.Edit.TheVariants.{PutBlocker}
 use Rattle.desk_schema.specs.Tables.{BLOCKS, blocks_table, desk_schema}
-use Rattle.desk_schema.specs.Rows.{Block, block_cells, of_key}
+use Rattle.desk_schema.specs.BlockRows.{BlockRow, block_cells, IsBlockRow, of_key}
 use Rattle.desk_schema.specs.Steps.{IsInside, seen}
 use Rattle.desk_schema.proofs.BlockLemmas.{blockers_are, blocks_remade}
 use Rattle.desk_schema.proofs.BlockLists.{one_more, has_blocker}
@@ -49,14 +49,14 @@ add_text = codes "INSERT INTO blocks VALUES (?1, ?2)"
 abbrev terms : List Term
 terms = lit Null ∷ col 0 0 ∷ col 0 1 ∷ []
 
-adds_row : InsertsRow desk_schema add_text 1 blocks_table terms
+adds_row : InsertsRow desk_schema add_text 4 blocks_table terms
 unfolding understood everything
 adds_row = record { command = refl; plain = (refl, refl); found = refl; uncounted = refl; unstamped = refl; one = λ params. refl; still = λ row. refl }
 
 abbrev pub params_of : ℕ → ℕ → Row
 params_of k b = Int (pos k) ∷ Int (pos b) ∷ []
 
-add_call : (k b : ℕ) → IsCallOf desk_schema add_text (params_of k b) (Insert 1 (Values terms 3))
+add_call : (k b : ℕ) → IsCallOf desk_schema add_text (params_of k b) (Insert 4 (Values terms 3))
 unfolding understood everything
 add_call k b = record { command_is = refl; writes = tt; plain = (refl, refl); whole = omega arith; given = refl }
 
@@ -74,7 +74,7 @@ cast_null : cast Integer Null ≡ Null
 unfolding unary
 cast_null = either _ Null
 
-abbrev new_block : List Row → ℕ → ℕ → Block
+abbrev new_block : List Row → ℕ → ℕ → BlockRow
 new_block rows k b = record { id = next_rowid rows; key = k; blocker = b }
 
 row_is : (rows : List Row) (k b : ℕ) → inserted blocks_table rows terms (params_of k b) ≡ block_cells (new_block rows k b)
@@ -83,11 +83,11 @@ row_is rows k b = rw (cast_null, cast_int (pos k), cast_int (pos b)) refl
 adds : (k b : ℕ) (old new : State) (count : ℕ) → IsInside old → ExecutesInside 0 add_text (params_of k b) old new (Ok count) → Makes old new (edited (PutBlocker k b))
 adds k b old new count inside h =
     let rows = old.now.trees BLOCKS in
-    let it = inserts desk_schema _ 1 blocks_table terms adds_row old new _ count (inside.schema h.1.was_open) h.0 in
+    let it = inserts desk_schema _ 4 blocks_table terms adds_row old new _ count (inside.schema h.1.was_open) h.0 in
     let shown = inside.shown h.1.was_open in
-    let x : Block = new_block rows k b in
-    let put = subst (λ row. Changes desk_schema old.now new.now BLOCKS (put_row row rows)) (row_is rows k b) it in
-    blocks_remade old new _ put shown (rows_more block_cells rows x refl shown.blocks) (λ f. put_at k (placed (λ n. n) (f k) b) f) (one_more shown.blocks.items x)
+    let x : BlockRow = new_block rows k b in
+    let put = subst (λ row. Changes desk_schema old.now new.now BLOCKS (put_row row rows)) (row_is rows k b) it.changes in
+    blocks_remade old new _ put shown (rows_more block_cells IsBlockRow rows x refl tt shown.blocks) (λ f. put_at k (placed (λ n. n) (f k) b) f) (one_more shown.blocks.items x)
 
 -- ---- a blocker that is not there is a key that is free
 
@@ -95,11 +95,11 @@ abbrev places : List ℕ
 places = 1 ∷ 2 ∷ []
 
 -- two rows agree where their numbers do
-alike : (k b : ℕ) (id : ℤ) (x : Block) → agree plain places (block_cells x) places (block_cells (record { id = id; key = k; blocker = b })) ≡ (eqb x.key k && eqb x.blocker b)
+alike : (k b : ℕ) (id : ℤ) (x : BlockRow) → agree plain places (block_cells x) places (block_cells (record { id = id; key = k; blocker = b })) ≡ (eqb x.key k && eqb x.blocker b)
 unfolding binary first_key
 alike k b id x = rw (same_number x.key k, same_number x.blocker b, truth_is (eqb x.key k), truth_is (eqb x.blocker b), and_true (eqb x.blocker b)) refl
 
-unlike : (k b : ℕ) (id : ℤ) (xs : List Block) → has (of_key k xs) b ≡ false
+unlike : (k b : ℕ) (id : ℤ) (xs : List BlockRow) → has (of_key k xs) b ≡ false
     → list_any (λ r. agree plain places r places (block_cells (record { id = id; key = k; blocker = b }))) (map block_cells xs) ≡ false
 unlike k b id [] h = refl
 unlike k b id (x ∷ xs) h = go (eqb x.key k) (eqb x.blocker b) refl refl (unlike k b id xs)
@@ -111,12 +111,12 @@ unlike k b id (x ∷ xs) h = go (eqb x.key k) (eqb x.blocker b) refl refl (unlik
     go true false is same more = rw (alike k b id x, is, same) (more (rw (is, same) at h))
     go false q is same more = rw (alike k b id x, is) (more (rw is at h))
 
-good_row : (x : Block) → IsGoodRow desk_schema blocks_table (block_cells x)
+good_row : (x : BlockRow) → IsGoodRow desk_schema blocks_table (block_cells x)
 good_row x = record { datatype = λ db. refl; not_null = λ db. refl; check = λ db. refl; keyed = refl }
 
 pub add_free : (k b : ℕ) (old new : State) (e : Error) → IsInside old → (IsTrue old.is_open → IsFree (PutBlocker k b) (seen old)) → ExecutesInside 0 add_text (params_of k b) old new (Err e) → fault_of e ≢ Foreign
 add_free k b old new e inside free =
-    insert_free desk_schema add_text 1 blocks_table terms adds_row blocks_plain (params_of k b) (add_call k b) refl old new e inside.unlimited inside.schema (unique_at old inside)
+    insert_free desk_schema add_text 4 blocks_table terms adds_row blocks_plain (params_of k b) (add_call k b) refl old new e inside.unlimited inside.schema (unique_at old inside)
     (λ live. subst (IsGoodRow desk_schema blocks_table) (sym (row_is rows k b)) (good_row x))
     (λ live. subst (λ row. is_taken rows row ≡ false) (sym (row_is rows k b)) (next_is_free Chosen rows (params_of k b) (shown live).up (shown live).keyed))
     (λ live. subst (λ row. are_unique desk_schema.indexes (with_tree old.now.trees BLOCKS (put_row row rows)) blocks_table (row ∷ []) ≡ true) (sym (row_is rows k b)) (apart live))
@@ -124,15 +124,15 @@ add_free k b old new e inside free =
     rows : List Row
     rows = old.now.trees BLOCKS
 
-    x : Block
+    x : BlockRow
     x = new_block rows k b
 
-    shown : IsTrue old.is_open → AreRows block_cells rows
+    shown : IsTrue old.is_open → AreRows block_cells IsBlockRow rows
     shown live = (inside.shown live).blocks
 
     none : (live : IsTrue old.is_open) → list_any (λ r. agree plain places r places (block_cells x)) rows ≡ false
     none live = subst (λ rs. list_any (λ r. agree plain places r places (block_cells x)) rs ≡ false) (sym (shown live).are)
-        (unlike k b (next_rowid rows) (shown live).items (sym (has_blocker k b (shown live).items) ∙ subst (λ f. has (f k) b ≡ false) (blockers_are old (shown live).items (shown live).are) (free live).2))
+        (unlike k b (next_rowid rows) (shown live).items (sym (has_blocker k b (shown live).items) ∙ subst (λ f. has (f k) b ≡ false) (blockers_are old (inside.shown live)) (free live).2))
 
     apart : (live : IsTrue old.is_open) → are_unique desk_schema.indexes (with_tree old.now.trees BLOCKS (put_row (block_cells x) rows)) blocks_table (block_cells x ∷ []) ≡ true
     apart live = rw (put_apart plain places rows (block_cells x) (next_rowid rows) refl (none live)) refl

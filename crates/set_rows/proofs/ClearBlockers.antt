@@ -15,7 +15,7 @@ use Rattle.desk_content.specs.Edits.{put_at, edited}
 use Rattle.desk_content.specs.Free.{IsFree}
 use Rattle.desk_content.specs.declared.edit.Edit.TheVariants.{DropBlockers}
 use Rattle.desk_schema.specs.Tables.{BLOCKS, blocks_table, desk_schema}
-use Rattle.desk_schema.specs.Rows.{Block, block_cells}
+use Rattle.desk_schema.specs.BlockRows.{BlockRow, block_cells, IsBlockRow}
 use Rattle.desk_schema.specs.Steps.{IsInside}
 use Rattle.desk_schema.proofs.BlockLemmas.{blocks_remade}
 use Rattle.desk_schema.proofs.BlockLists.{none_left}
@@ -25,26 +25,26 @@ use Rattle.desk_schema.proofs.StatementLemmas.{Makes, IsWrite}
 abbrev pub clear_text : List ℕ
 clear_text = codes "DELETE FROM blocks WHERE set_key = ?1"
 
-clears_rows : DeletesRows desk_schema clear_text 1 blocks_table (equals 1 ∷ [])
+clears_rows : DeletesRows desk_schema clear_text 4 blocks_table (equals 1 ∷ [])
 unfolding understood everything
 clears_rows = record { command = refl; plain = (refl, refl); found = refl; still = λ olds. refl }
 
-clear_call : (k : ℕ) → IsCallOf desk_schema clear_text (Int (pos k) ∷ []) (Delete 1 (rowids_of BLOCKS (equals 1 ∷ [])))
+clear_call : (k : ℕ) → IsCallOf desk_schema clear_text (Int (pos k) ∷ []) (Delete 4 (rowids_of BLOCKS (equals 1 ∷ [])))
 unfolding understood everything
 clear_call k = record { command_is = refl; writes = tt; plain = (refl, refl); whole = omega arith; given = refl }
 
 -- whether a row has the key
-pub hit_key : (k : ℕ) (x : Block) → passes (equals 1 ∷ []) (Int (pos k) ∷ []) (block_cells x) ≡ (x.key == k)
+pub hit_key : (k : ℕ) (x : BlockRow) → passes (equals 1 ∷ []) (Int (pos k) ∷ []) (block_cells x) ≡ (x.key == k)
 hit_key k x = hits 1 (pos k) (block_cells x) ∙ same_number x.key k
 
 clears : (k : ℕ) (old new : State) (count : ℕ) → IsInside old → ExecutesInside 0 clear_text (Int (pos k) ∷ []) old new (Ok count) → Makes old new (edited (DropBlockers k))
 clears k old new count inside h =
     let shown = inside.shown h.1.was_open in
-    let it = deletes desk_schema _ 1 blocks_table (equals 1 ∷ []) clears_rows old new _ count (inside.schema h.1.was_open) shown.blocks.up shown.blocks.keyed h.0 in
-    blocks_remade old new _ it shown (rows_less block_cells (old.now.trees BLOCKS) _ (λ x. not (x.key == k)) (λ x. ap not (hit_key k x)) shown.blocks) (put_at k []) (none_left k shown.blocks.items)
+    let it = deletes desk_schema _ 4 blocks_table (equals 1 ∷ []) clears_rows old new _ count (inside.schema h.1.was_open) shown.blocks.up shown.blocks.keyed h.0 in
+    blocks_remade old new _ it shown (rows_less block_cells IsBlockRow (old.now.trees BLOCKS) _ (λ x. not (x.key == k)) (λ x. ap not (hit_key k x)) shown.blocks) (put_at k []) (none_left k shown.blocks.items)
 
 pub clear_is : (k : ℕ) → IsWrite clear_text (Int (pos k) ∷ []) (IsFree (DropBlockers k)) (edited (DropBlockers k))
 clear_is k = record {
   makes = clears k;
-  free = λ old new e inside _. delete_free desk_schema clear_text 1 blocks_table (equals 1 ∷ []) clears_rows blocks_plain _ (clear_call k) refl old new e inside.unlimited inside.schema (unique_at old inside);
+  free = λ old new e inside _. delete_free desk_schema clear_text 4 blocks_table (equals 1 ∷ []) clears_rows blocks_plain _ (clear_call k) refl old new e inside.unlimited inside.schema (unique_at old inside);
 }

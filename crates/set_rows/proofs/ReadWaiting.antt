@@ -18,7 +18,7 @@ use Rattle.sql_forms.proofs.QueryLemmas.{found, map_map}
 use Rattle.sql_forms.proofs.RowLemmas.{kept_rows, hits, same_number}
 use Rattle.desk_content.specs.Content.{Content}
 use Rattle.desk_schema.specs.Tables.{BLOCKS, desk_schema}
-use Rattle.desk_schema.specs.Rows.{Block, block_cells, of_key}
+use Rattle.desk_schema.specs.BlockRows.{BlockRow, block_cells, of_key}
 use Rattle.desk_schema.proofs.BlockLemmas.{blockers_are}
 use Rattle.desk_schema.proofs.BlockLists.{has_blocker}
 use Rattle.desk_schema.proofs.StatementLemmas.{IsRead, reads_plain}
@@ -33,13 +33,13 @@ waiting_is b = record { command_is = refl; plain = (refl, refl); whole = omega a
 
 -- ---- the keys of the rows with a blocker
 
-abbrev keys_of : ℕ → List Block → List ℕ
-keys_of b xs = map (λ (x : Block). x.key) (filter (λ x. x.blocker == b) xs)
+abbrev keys_of : ℕ → List BlockRow → List ℕ
+keys_of b xs = map (λ (x : BlockRow). x.key) (filter (λ x. x.blocker == b) xs)
 
-hit_blocker : (b : ℕ) (x : Block) → passes (equals 2 ∷ []) (Int (pos b) ∷ []) (block_cells x) ≡ (x.blocker == b)
+hit_blocker : (b : ℕ) (x : BlockRow) → passes (equals 2 ∷ []) (Int (pos b) ∷ []) (block_cells x) ≡ (x.blocker == b)
 hit_blocker b x = hits 2 (pos b) (block_cells x) ∙ same_number x.blocker b
 
-turned : (b k : ℕ) (xs : List Block) → has (keys_of b xs) k ≡ has (of_key k xs) b
+turned : (b k : ℕ) (xs : List BlockRow) → has (keys_of b xs) k ≡ has (of_key k xs) b
 turned b k [] = refl
 turned b k (x ∷ xs) = go (eqb x.blocker b) (eqb x.key k) refl refl (turned b k xs)
   where
@@ -59,12 +59,12 @@ waiting_read b = reads_plain waiting_text (Int (pos b) ∷ []) BLOCKS (equals 2 
     let shows = λ (r : Row). eval_all (col 1 1 ∷ []) ((Int (pos b) ∷ []) ∷ r ∷ []) in
     let p = passes (equals 2 ∷ []) (Int (pos b) ∷ []) in
     let cells : map shows (filter p (s.now.trees BLOCKS)) ≡ map number_row (keys_of b shown.items) =
-    ap (λ rs. map shows (filter p rs)) shown.are ∙ ap (map shows) (kept_rows block_cells p (λ x. x.blocker == b) (hit_blocker b) shown.items) ∙ map_map block_cells _ _ ∙ sym (map_map (λ (x : Block). x.key) number_row _) in
+    ap (λ rs. map shows (filter p rs)) shown.are ∙ ap (map shows) (kept_rows block_cells p (λ x. x.blocker == b) (hit_blocker b) shown.items) ∙ map_map block_cells _ _ ∙ sym (map_map (λ (x : BlockRow). x.key) number_row _) in
     let any = numbers_in_any (keys_of b shown.items) rows (subst (λ os. IsPermutation os rows) cells (found BLOCKS (equals 2 ∷ []) (col 1 1 ∷ []) [] s.now.trees (Int (pos b) ∷ []) rows f)) in (
       map number_at_front rows,
       any.0,
       λ k. has_any k (map number_at_front rows) ∙ sym (list_any-IsPermutation (λ y. y == k) _ _ any.1) ∙ sym (has_any k (keys_of b shown.items))
-          ∙ turned b k shown.items ∙ sym (has_blocker k b shown.items) ∙ ap (λ (g : ℕ → List ℕ). has (g k) b) (sym (blockers_are s shown.items shown.are)),
+          ∙ turned b k shown.items ∙ sym (has_blocker k b shown.items) ∙ ap (λ (g : ℕ → List ℕ). has (g k) b) (sym (blockers_are s all)),
     ))
 
 pub keys_are : {A : Type 0} (items : A → List ℕ) (b : ℕ) (c : Content) (keys : List ℕ) (r : Result A StoreFault) → AreKeysOf b c keys → IfOk r (λ a. items a ≡ keys) → IfOk r (λ a. AreKeysOf b c (items a))

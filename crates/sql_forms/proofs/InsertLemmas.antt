@@ -1,5 +1,5 @@
 -- An INSERT of one row.
-use Rattle.std.proofs.Common.{◌≡◌, ◌⊎◌, inl, inr, ℕ, ◌/◌, List, [], ◌∷◌, ◌++◌, length, append-nil, drop, ◌-◌, slice_get, Bool, true, false, Some, None, Ok, Err, Result, sym, ap, subst, subst₂, MatchBool, if◌then◌else◌, ◌∙◌}
+use Rattle.std.proofs.Common.{◌≡◌, ◌⊎◌, inl, inr, ℕ, ◌/◌, List, [], ◌∷◌, ◌++◌, length, append-nil, drop, ◌-◌, slice_get, Bool, true, false, not, ◌&&◌, true≢false, Some, None, Ok, Err, Result, refl, sym, ap, subst, subst₂, MatchBool, if◌then◌else◌, ◌∙◌}
 use Rattle.sqlite.specs.Order.{Row}
 use Rattle.sqlite.specs.Term.{Term, eval_all}
 use Rattle.sqlite.specs.Table.{Table}
@@ -7,7 +7,7 @@ use Rattle.sqlite.specs.Schema.{Schema}
 use Rattle.sqlite.specs.Tree.{Trees, put_row}
 use Rattle.sqlite.specs.Source.TheVariants.{Values}
 use Rattle.sqlite.specs.Command.TheVariants.{Insert}
-use Rattle.sqlite.specs.Edit.{Edit, edit_of}
+use Rattle.sqlite.specs.Edit.{Edit, edit_of, is_taken}
 use Rattle.sqlite.specs.Rowids.TheVariants.{Chosen, Above}
 use Rattle.sqlite_rules.specs.Action.{works, Writes}
 use Rattle.sqlite_schema.specs.declared.schema.Keys.TheVariants.{Enforced}
@@ -77,9 +77,18 @@ concludes task mode w tally after (inl stop) = absurd (let e = stop.2 in cc)
 concludes task mode w tally after (inr (doubt, tested, inl stop)) = absurd (let e = stop.2 in cc)
 concludes task mode w tally after (inr (doubt, tested, inr (rows, shows, is))) = ap (λ (p : Tally × Database). p.1) (same_value is)
 
+-- what the statement leaves: no row had the new one's rowid, and the new one is put
+pub record IsInserted (schema : Schema) (old new : Database) (tree : ℕ) (row : Row) : Type 0 where
+  pub fresh : is_taken (old.trees tree) row ≡ false
+  pub changes : Changes schema old new tree (put_row row (old.trees tree))
+
+not_taken : (b : Bool) → (not b && true) ≡ true → b ≡ false
+not_taken true bad = absurd (true≢false (sym bad))
+not_taken false good = refl
+
 pub inserts : (schema : Schema) (sql : List ℕ) (at : ℕ) (table : Table) (terms : List Term) → InsertsRow schema sql at table terms
     → (old new : State) (params : Row) (count : ℕ) → old.now.schema ≡ schema → Executes sql params old new (Ok count)
-    → Changes schema old.now new.now table.tree (put_row (inserted table (old.now.trees table.tree) terms params) (old.now.trees table.tree))
+    → IsInserted schema old.now new.now table.tree (inserted table (old.now.trees table.tree) terms params)
 inserts schema sql at table terms it old new params count has h =
     let db = old.now.trees in
     let command = Insert at (Values terms (length terms)) in
@@ -93,8 +102,11 @@ inserts schema sql at table terms it old new params count has h =
     let wrote = edits task terms db it.uncounted it.unstamped it.one parts.0 parts.1 in
     let applied = one_step schema Enforced db parts.0.trees (the_edit task terms db) (it.still (inserted table (db table.tree) terms params)) wrote in
     record {
-      schema_is = ap (λ (d : Database). d.schema) now;
-      sound = w.sound;
-      rows_are = ap (λ (d : Database). d.trees table.tree) now ∙ applied.rows;
-      others = λ t apart none. ap (λ (d : Database). d.trees t) now ∙ applied.others t apart none;
+      fresh = not_taken _ applied.fresh;
+      changes = record {
+        schema_is = ap (λ (d : Database). d.schema) now;
+        sound = w.sound;
+        rows_are = ap (λ (d : Database). d.trees table.tree) now ∙ applied.rows;
+        others = λ t apart none. ap (λ (d : Database). d.trees t) now ∙ applied.others t apart none;
+      };
     }

@@ -80,24 +80,30 @@ put_next new (x ∷ rows) up keyed is = last_put new _ is (x ∷ rows) keyed (be
 
 -- ---- typed rows
 
+pub all_append : {X : Type 0} (P : X → Type 0) (xs ys : List X) → AllByRecursion P xs → AllByRecursion P ys → AllByRecursion P (xs ++ ys)
+all_append P [] ys h more = more
+all_append P (x ∷ xs) ys h more = (h.0, all_append P xs ys h.1 more)
+
 pub all_filter : {X : Type 0} (P : X → Type 0) (p : X → Bool) (xs : List X) → AllByRecursion P xs → AllByRecursion P (filter p xs)
 all_filter P p [] h = tt
 all_filter P p (x ∷ xs) h = elim (p x) as (λ b. AllByRecursion P (cond b (x ∷ filter p xs) (filter p xs))) [ true ↦ (h.0, all_filter P p xs h.1) | false ↦ all_filter P p xs h.1 ]
 
 -- a row with the next rowid comes behind the others
-abbrev pub rows_more : {T : Type 0} (cells : T → Row) (rows : List Row) (x : T) → rowid (cells x) ≡ Int (next_rowid rows) → AreRows cells rows → AreRows cells (put_row (cells x) rows)
-rows_more cells rows x is it = record {
+abbrev pub rows_more : {T : Type 0} (cells : T → Row) (IsGood : T → Type 0) (rows : List Row) (x : T) → rowid (cells x) ≡ Int (next_rowid rows) → IsGood x → AreRows cells IsGood rows → AreRows cells IsGood (put_row (cells x) rows)
+rows_more cells IsGood rows x is fine it = record {
   items = it.items ++ x ∷ [];
   are = put_next (cells x) rows it.up it.keyed is ∙ ap (λ rs. rs ++ cells x ∷ []) it.are ∙ sym (map-append cells it.items (x ∷ []));
   up = IsTable-put_row (cells x) rows it.up;
   keyed = all-put_row _ (cells x) rows (rw is refl) it.keyed;
+  good = all_append IsGood it.items (x ∷ []) it.good (fine, tt);
 }
 
 -- rows are left out
-abbrev pub rows_less : {T : Type 0} (cells : T → Row) (rows : List Row) (p : Row → Bool) (q : T → Bool) → ((x : T) → p (cells x) ≡ q x) → AreRows cells rows → AreRows cells (filter p rows)
-rows_less cells rows p q same it = record {
+abbrev pub rows_less : {T : Type 0} (cells : T → Row) (IsGood : T → Type 0) (rows : List Row) (p : Row → Bool) (q : T → Bool) → ((x : T) → p (cells x) ≡ q x) → AreRows cells IsGood rows → AreRows cells IsGood (filter p rows)
+rows_less cells IsGood rows p q same it = record {
   items = filter q it.items;
   are = ap (filter p) it.are ∙ kept_rows cells p q same it.items;
   up = ascending-filter _ p rows it.up;
   keyed = all_filter _ p rows it.keyed;
+  good = all_filter _ q it.items it.good;
 }

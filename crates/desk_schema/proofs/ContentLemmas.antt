@@ -1,0 +1,89 @@
+-- What other rows of one table make of all that the tables say.
+use Rattle.std.proofs.Common.{◌≡◌, ℕ, Bool, true, false, eqb, if◌then◌else◌, map, List, [], ◌∷◌, refl, sym, ap, subst, ◌∙◌}
+use Rattle.std.proofs.lemmas.Bool.{eqb-true}
+use Rattle.sqlite.specs.Order.{Row}
+use Rattle.sqlite.specs.State.{State}
+use Rattle.sqlite.specs.Tree.{Trees}
+use Rattle.sqlite_trees.specs.Tree.{with_tree}
+use Rattle.ancestry.specs.declared.statuses.MarkKind.TheVariants.{Found, Fixed}
+use Rattle.sql_forms.specs.Forms.{Changes}
+use Rattle.sql_forms.specs.TypedRows.{AreRows}
+use Rattle.sql_forms.proofs.ChangeLemmas.{is_index, stays}
+use Rattle.desk_content.specs.Content.{Content}
+use Rattle.desk_schema.specs.Tables.{META, SETS, BUGS, MARKS, BLOCKS, NODES, NEAREST, desk_schema}
+use Rattle.desk_schema.specs.SetRows.{set_cells, set_in, IsSetRow, fields_in}
+use Rattle.desk_schema.specs.BugRows.{bug_cells, bug_in, IsBugRow, key_in, members_in}
+use Rattle.desk_schema.specs.MarkRows.{mark_cells, mark_in, IsMarkRow, marks_in}
+use Rattle.desk_schema.specs.BlockRows.{block_cells, block_in, IsBlockRow, blockers_in}
+use Rattle.desk_schema.specs.NodeRows.{node_cells, node_in, IsNodeRow, nodes_in}
+use Rattle.desk_schema.specs.NearestRows.{nearest_cells, nearest_in, IsNearestRow, near_in}
+use Rattle.desk_schema.specs.Rows.{next_in, content_of, AreShown}
+use Rattle.desk_schema.specs.Steps.{seen}
+use Rattle.desk_schema.proofs.StatementLemmas.{Makes}
+
+-- the rows of all tables are the same
+pub record AreSame (db' db : Trees) : Type 0 where
+  pub meta : db' META ≡ db META
+  pub sets : db' SETS ≡ db SETS
+  pub bugs : db' BUGS ≡ db BUGS
+  pub marks : db' MARKS ≡ db MARKS
+  pub blocks : db' BLOCKS ≡ db BLOCKS
+  pub nodes : db' NODES ≡ db NODES
+  pub nearest : db' NEAREST ≡ db NEAREST
+
+pub same_content : (db' db : Trees) → AreSame db' db → content_of db' ≡ content_of db
+same_content db' db same = λ i. record {
+  next = next_in (same.meta i);
+  key = key_in (map bug_in (same.bugs i));
+  members = members_in (map bug_in (same.bugs i));
+  fields = fields_in (map set_in (same.sets i));
+  found = marks_in Found (map mark_in (same.marks i));
+  fixed = marks_in Fixed (map mark_in (same.marks i));
+  blockers = blockers_in (map block_in (same.blocks i));
+  nodes = nodes_in (map node_in (same.nodes i));
+  near = near_in (map nearest_in (same.nearest i));
+}
+
+pub same_shown : (db' db : Trees) → AreSame db' db → AreShown db → AreShown db'
+same_shown db' db same shown = record {
+  meta = (shown.meta.0, same.meta ∙ shown.meta.1);
+  sets = subst (AreRows set_cells IsSetRow) (sym same.sets) shown.sets;
+  bugs = subst (AreRows bug_cells IsBugRow) (sym same.bugs) shown.bugs;
+  marks = subst (AreRows mark_cells IsMarkRow) (sym same.marks) shown.marks;
+  blocks = subst (AreRows block_cells IsBlockRow) (sym same.blocks) shown.blocks;
+  nodes = subst (AreRows node_cells IsNodeRow) (sym same.nodes) shown.nodes;
+  nearest = subst (AreRows nearest_cells IsNearestRow) (sym same.nearest) shown.nearest;
+}
+
+-- one table has other rows
+module _ (old new : State) (tree : ℕ) (rows : List Row) (it : Changes desk_schema old.now new.now tree rows) where
+  placed_at : (t : ℕ) → is_index desk_schema t ≡ false → new.now.trees t ≡ with_tree old.now.trees tree rows t
+  placed_at t none = go (eqb t tree) refl
+    where
+      go : (b : Bool) → eqb t tree ≡ b → new.now.trees t ≡ (if b then rows else old.now.trees t)
+      go true is = ap new.now.trees (eqb-true t tree is) ∙ it.rows_are
+      go false is = stays desk_schema old.now new.now tree rows it t is none
+
+  are_same : AreSame new.now.trees (with_tree old.now.trees tree rows)
+  are_same = record {
+    meta = placed_at META refl;
+    sets = placed_at SETS refl;
+    bugs = placed_at BUGS refl;
+    marks = placed_at MARKS refl;
+    blocks = placed_at BLOCKS refl;
+    nodes = placed_at NODES refl;
+    nearest = placed_at NEAREST refl;
+  }
+
+  pub remade : AreShown (with_tree old.now.trees tree rows) → (after : Content → Content) → content_of (with_tree old.now.trees tree rows) ≡ after (seen old) → Makes old new after
+  remade shown after says = record {
+    schema = it.schema_is;
+    sound = it.sound;
+    shown = same_shown new.now.trees (with_tree old.now.trees tree rows) are_same shown;
+    content = same_content new.now.trees (with_tree old.now.trees tree rows) are_same ∙ says;
+  }
+
+-- typed rows are read back from their cells
+pub read_back : {T : Type 0} (cells : T → Row) (back : Row → T) → ((x : T) → back (cells x) ≡ x) → (xs : List T) → map back (map cells xs) ≡ xs
+read_back cells back same [] = refl
+read_back cells back same (x ∷ xs) = ap (λ y. y ∷ map back (map cells xs)) (same x) ∙ ap (λ ys. x ∷ ys) (read_back cells back same xs)

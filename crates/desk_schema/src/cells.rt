@@ -1,0 +1,92 @@
+//! Cells of a row as numbers, texts and nodes.
+
+ghost use Rattle.std.specs.Prelude.{◌≡◌, ◌≢◌, ◌<◌, ◌+◌, ℕ, pos, List, length, Option, IfOk, IfErr};
+ghost use Rattle.std.specs.Str.{IsUtf8};
+ghost use Rattle.sqlite.specs.Order.{column};
+ghost use Rattle.sqlite.specs.Values.{or_null};
+ghost use Rattle.sqlite.specs.declared.types.Value.TheVariants.{Int, Text as TextCell};
+ghost use Rattle.ancestry.specs.Nodes.{Node as SeenNode, IsNode};
+ghost use Rattle.bug_record.specs.Texts.{IfGiven};
+ghost use Rattle.desk_text.specs.declared.outcome.StoreFault.TheVariants.{Foreign};
+
+use crate::faults::fault_of;
+use ancestry::{Node, NodeFault};
+use debver::Text;
+use desk_text::StoreFault;
+use sqlite::Row;
+use std::alloc::Global;
+
+/// The number in a cell, counted from 0; one below 0 can't be read.
+pub fn number_at(row: &Row, at: usize) -> Result<u64, StoreFault>
+    ensures value { (n : ℕ) → column row.now at ≡ Int (pos n) → IfOk result (λ v. v ≡ n) }
+    ensures sure { (n : ℕ) → at < length row.now → column row.now at ≡ Int (pos n) → IfErr result (λ fault. fault ≢ Foreign) }
+{
+    match row.get::<u64>(at) {
+        Ok(number) => Ok(number),
+        Err(error) => Err(fault_of(&error)),
+    }
+}
+
+// A text that is kept.
+fn kept(alloc: Global, text: &str) -> Result<Text, StoreFault>
+    ensures value { IfOk result (λ t. t ≡ text.now) }
+    ensures sure { IfErr result (λ fault. fault ≢ Foreign) }
+{
+    match Text::of(alloc, text) {
+        Ok(text) => Ok(text),
+        Err(_) => Err(StoreFault::Memory),
+    }
+}
+
+/// The text in a cell, counted from 0; one that is no UTF-8 can't be read.
+pub fn text_at(alloc: Global, row: &Row, at: usize) -> Result<Text, StoreFault>
+    ensures value { (t : List ℕ) → column row.now at ≡ TextCell t → IfOk result (λ v. v ≡ t) }
+    ensures sure { (t : List ℕ) → at < length row.now → column row.now at ≡ TextCell t → IsUtf8 t → IfErr result (λ fault. fault ≢ Foreign) }
+{
+    match row.get::<String>(at) {
+        Ok(text) => kept(alloc, text.as_str()),
+        Err(error) => Err(fault_of(&error)),
+    }
+}
+
+/// The text in a cell, counted from 0, if it has one; one that is no UTF-8 can't be read.
+pub fn maybe_text_at(alloc: Global, row: &Row, at: usize) -> Result<Option<Text>, StoreFault>
+    ensures value { (t : Option (List ℕ)) → column row.now at ≡ or_null TextCell t → IfOk result (λ v. v ≡ t) }
+    ensures sure { (t : Option (List ℕ)) → at < length row.now → column row.now at ≡ or_null TextCell t → IfGiven IsUtf8 t →
+        IfErr result (λ fault. fault ≢ Foreign) }
+{
+    match row.get::<Option<String>>(at) {
+        Ok(Some(text)) => match kept(alloc, text.as_str()) {
+            Ok(text) => Ok(Some(text)),
+            Err(fault) => Err(fault),
+        },
+        Ok(None) => Ok(None),
+        Err(error) => Err(fault_of(&error)),
+    }
+}
+
+// The node of two texts.
+fn node_of(alloc: Global, source: &str, version: &str) -> Result<Node, StoreFault>
+    ensures value { (v : SeenNode) → IsNode v → source.now ≡ v.source → version.now ≡ v.version → IfOk result (λ node. node ≡ v) }
+    ensures sure { (v : SeenNode) → IsNode v → source.now ≡ v.source → version.now ≡ v.version → IfErr result (λ fault. fault ≢ Foreign) }
+{
+    match Node::at(alloc, source, version) {
+        Ok(node) => Ok(node),
+        Err(NodeFault::Memory) => Err(StoreFault::Memory),
+        Err(NodeFault::BadNode) => Err(StoreFault::Foreign),
+    }
+}
+
+/// The node whose source stands in a cell, counted from 0, and its version in the next one.
+/// `Foreign` where the texts are no package name and version.
+pub fn node_at(alloc: Global, row: &Row, at: usize) -> Result<Node, StoreFault>
+    requires { at < 100 }
+    ensures value { (v : SeenNode) → IsNode v → column row.now at ≡ TextCell v.source → column row.now (at + 1) ≡ TextCell v.version →
+        IfOk result (λ node. node ≡ v) }
+    ensures sure { (v : SeenNode) → at + 1 < length row.now → IsNode v → column row.now at ≡ TextCell v.source →
+        column row.now (at + 1) ≡ TextCell v.version → IfErr result (λ fault. fault ≢ Foreign) }
+{
+    let source = text_at(alloc, row, at)?;
+    let version = text_at(alloc, row, at + 1)?;
+    node_of(alloc, source.as_str(), version.as_str())
+}

@@ -1,0 +1,84 @@
+//! The bugs of sets.
+
+ghost use Rattle.std.specs.Prelude.{◌≡◌, List, map, [], ◌∷◌};
+ghost use Rattle.std.specs.Option.{option_map_or};
+ghost use Rattle.sqlite.specs.Held.{state};
+ghost use Rattle.desk_content.specs.declared.edit.Edit.TheVariants.{PutMember, DropMember};
+ghost use Rattle.desk_schema.specs.Steps.{Plays, Reads, Serves};
+ghost use Rattle.sql_forms.specs.Numbers.{number_row};
+ghost use Rattle.set_rows.specs.Members.{member_row};
+
+use bug_record::{Member, Members, Sequence};
+use desk_schema::{number_at, number_in, text_at, told, written};
+use desk_text::StoreFault;
+use sqlite::{Alter, Row, Transaction, params};
+use std::alloc::Global;
+
+/// A bug comes into the set of the key.
+pub fn add_bug<S: Alter>(
+    tx: &mut Transaction<'_, S>,
+    key: u32,
+    number: u32,
+    title: &str,
+    submitter: &str,
+) -> Result<(), StoreFault>
+    ensures same_reference { tx.new.conn.ghost_name ≡ tx.old.conn.ghost_name }
+    ensures plays { Plays (PutMember key (record { number = number; title = title.now; submitter = submitter.now }))
+        (state S.Store tx.old.conn.now) (state S.Store tx.new.conn.now) result }
+{
+    written(tx.execute(
+        "INSERT INTO bugs VALUES (?1, ?2, ?3, ?4)",
+        params![number, key, title, submitter],
+    ))
+}
+
+/// The bug of the number is in no set any more.
+pub fn clear_bug<S: Alter>(tx: &mut Transaction<'_, S>, number: u32) -> Result<(), StoreFault>
+    ensures same_reference { tx.new.conn.ghost_name ≡ tx.old.conn.ghost_name }
+    ensures plays { Plays (DropMember number) (state S.Store tx.old.conn.now) (state S.Store tx.new.conn.now) result }
+    ensures serves { Serves (state S.Store tx.old.conn.now) (state S.Store tx.new.conn.now) result }
+{
+    written(tx.execute("DELETE FROM bugs WHERE number = ?1", params![number]))
+}
+
+// The row of a bug's key.
+fn key_rows<S: Alter>(tx: &mut Transaction<'_, S>, number: u32) -> Result<Vec<Row>, StoreFault>
+    ensures same_reference { tx.new.conn.ghost_name ≡ tx.old.conn.ghost_name }
+    ensures reads { Reads (λ c rows. rows.items ≡ option_map_or (λ k. number_row k ∷ []) (c.key number) [])
+        (state S.Store tx.old.conn.now) (state S.Store tx.new.conn.now) result }
+    ensures serves { Serves (state S.Store tx.old.conn.now) (state S.Store tx.new.conn.now) result }
+{
+    told(tx.query_all(
+        "SELECT set_key FROM bugs WHERE number = ?1",
+        params![number],
+    ))
+}
+
+/// The key of the set that the bug is in, if there is such a bug.
+pub fn read_key<S: Alter>(
+    tx: &mut Transaction<'_, S>,
+    number: u32,
+) -> Result<Option<u64>, StoreFault>
+    ensures same_reference { tx.new.conn.ghost_name ≡ tx.old.conn.ghost_name }
+    ensures reads { Reads (λ c key. key ≡ c.key number) (state S.Store tx.old.conn.now) (state S.Store tx.new.conn.now) result }
+    ensures serves { Serves (state S.Store tx.old.conn.now) (state S.Store tx.new.conn.now) result }
+{
+    let rows = key_rows(tx, number)?;
+    number_in(rows.as_slice())
+}
+
+// The rows of a set's bugs, by number.
+fn member_rows<S: Alter>(tx: &mut Transaction<'_, S>, key: u32) -> Result<Vec<Row>, StoreFault>
+    ensures same_reference { tx.new.conn.ghost_name ≡ tx.old.conn.ghost_name }
+    ensures reads { Reads (λ c rows. rows.items ≡ map member_row (c.members key)) (state S.Store tx.old.conn.now) (state S.Store tx.new.conn.now) result }
+    ensures serves { Serves (state S.Store tx.old.conn.now) (state S.Store tx.new.conn.now) result }
+{
+    told(tx.query_all(
+        "SELECT number, title, submitter FROM bugs WHERE set_key = ?1 ORDER BY number",
+        params![key],
+    ))
+}
+
+// ... the member of a row, the members of rows (see desk_schema::numbers_of), and
+// pub fn read_members(alloc, tx, key: u32) -> Result<Members, StoreFault>
+//     ensures reads { Reads (λ c members. members ≡ c.members key) .. }
