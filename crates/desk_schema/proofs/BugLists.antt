@@ -159,3 +159,19 @@ one_key n (x ∷ xs) up = go (x.number == n) refl (one_key n xs up.1)
         → map (λ (x : BugRow). x.key) (filter (λ x. x.number == n) (x ∷ xs)) ≡ option_map_or (λ k. k ∷ []) (key_in (x ∷ xs) n) []
     go true is h = let none = none_at x.number xs up.0 in rw (is, none_at n xs (rw (eqb-true x.number n is) at up.0)) refl
     go false is h = rw is h
+
+-- a number with no key is no row's
+pub no_row : (n : ℕ) (xs : List BugRow) → key_in xs n ≡ None → AllByRecursion (λ y. eqb y.number n ≡ false) xs
+no_row n [] none = tt
+no_row n (x ∷ xs) none = go (eqb x.number n) refl none (no_row n xs)
+  where
+    go : (b : Bool) → eqb x.number n ≡ b → (if b then Some x.key else key_in xs n) ≡ None → (key_in xs n ≡ None → AllByRecursion (λ y. eqb y.number n ≡ false) xs)
+        → AllByRecursion (λ y. eqb y.number n ≡ false) (x ∷ xs)
+    go true is some more = absurd cc
+    go false is rest more = (is, more rest)
+
+-- what holds of the bugs of all rows holds of those of a key
+pub all_members : (P : Member → Type 0) (k : ℕ) (xs : List BugRow) → AllByRecursion (λ x. P (member_of x)) xs → AllByRecursion P (members_in xs k)
+all_members P k [] all = tt
+all_members P k (x ∷ xs) all = elim (x.key == k) as (λ b. AllByRecursion P (map member_of (cond b (x ∷ filter (λ y. y.key == k) xs) (filter (λ y. y.key == k) xs))))
+    [ true ↦ (all.0, all_members P k xs all.1) | false ↦ all_members P k xs all.1 ]
