@@ -6,3 +6,4 @@ pub mod AddBug
 pub mod ClearBug
 pub mod ReadKey
 pub mod ReadMembers
+pub mod MemberRows
