@@ -8,7 +8,7 @@ use Rattle.sql_forms.specs.Forms.{Changes}
 use Rattle.sql_forms.specs.TypedRows.{AreRows}
 use Rattle.desk_content.specs.Content.{Content}
 use Rattle.desk_schema.specs.Tables.{BUGS, desk_schema}
-use Rattle.desk_schema.specs.BugRows.{BugRow, bug_cells, bug_in, IsBugRow, key_in, members_in}
+use Rattle.desk_schema.specs.BugRows.{bug_cells, bug_in, IsBugRow, key_in, members_in}
 use Rattle.desk_schema.specs.Rows.{AreShown}
 use Rattle.desk_schema.specs.Steps.{seen}
 use Rattle.desk_schema.proofs.BugLists.{Rises, bug_number}

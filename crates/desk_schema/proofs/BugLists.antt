@@ -8,7 +8,7 @@ use Rattle.std.proofs.lemmas.Bool.Decides.{nat_tests}
 use Rattle.sqlite_trees.specs.Tree.{IsAscending}
 use Rattle.bug_record.specs.declared.bug.Member.{Member}
 use Rattle.desk_content.specs.Edits.{put_at, placed}
-use Rattle.desk_schema.specs.BugRows.{BugRow, IsBugRow, key_in, member_of, members_in}
+use Rattle.desk_schema.specs.BugRows.{BugRow, key_in, member_of, members_in}
 
 -- functions are equal where their values are
 same_at : {A : Type 0} (f g : ℕ → A) → ((k : ℕ) → f k ≡ g k) → f ≡ g

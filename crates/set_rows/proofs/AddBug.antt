@@ -1,5 +1,5 @@
 -- What the INSERT of a bug means, and when it is refused for memory, the disk or its size alone.
-use Rattle.std.proofs.Common.{◌≡◌, ◌≢◌, ℕ, ℤ, pos, Bool, true, false, ◌||◌, ◌==◌, eqb, cond, List, [], ◌∷◌, codes, map, Some, None, Err, Ok, IsTrue, refl, sym, ap, subst, ◌∙◌, arith}
+use Rattle.std.proofs.Common.{◌≡◌, ◌≢◌, ℕ, ℤ, pos, Bool, true, false, eqb, cond, List, [], ◌∷◌, codes, map, Some, None, Err, Ok, IsTrue, refl, sym, subst, arith}
 use Rattle.std.specs.List.{AllByRecursion}
 use Rattle.std.specs.Str.{IsUtf8}
 use Rattle.sqlite.specs.Cast.{cast}
@@ -16,14 +16,11 @@ use Rattle.sqlite.specs.Tree.{put_row}
 use Rattle.sqlite.specs.declared.error.Error.{Error}
 use Rattle.sqlite.specs.declared.types.Value.{Value}
 use Rattle.sqlite.specs.declared.types.Value.TheVariants.{Null, Int, Text}
-use Rattle.sqlite_rules.specs.Keys.{are_unique}
 use Rattle.sqlite_tied.specs.Compute.{everything}
-use Rattle.sqlite_trees.specs.Tree.{with_tree}
 use Rattle.bug_record.specs.declared.bug.Member.{Member}
 use Rattle.desk_text.specs.declared.outcome.StoreFault.TheVariants.{Foreign}
 use Rattle.sql_forms.specs.Faults.{fault_of}
 use Rattle.sql_forms.specs.Forms.{Changes, inserted}
-use Rattle.sql_forms.specs.TypedRows.{AreRows}
 use Rattle.sql_forms.proofs.InsertLemmas.{InsertsRow, inserts}
 use Rattle.sql_forms.proofs.ErrorLemmas.{IsCallOf}
 use Rattle.sql_forms.proofs.RefusalLemmas.{IsGoodRow, insert_free}

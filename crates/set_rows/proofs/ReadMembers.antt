@@ -1,6 +1,5 @@
 -- What the query of a set's bugs answers.
 use Rattle.std.proofs.Common.{◌≡◌, ℕ, ◌<◌, pos, false, ◌==◌, List, [], ◌∷◌, codes, map, filter, Less, refl, sym, ap, subst, ◌∙◌, arith}
-use Rattle.std.specs.List.{AllByRecursion}
 use Rattle.std.specs.List.Sorted.{IsPermutation, IsSorted}
 use Rattle.std.proofs.lemmas.Bool.Decides.{nat_tests}
 use Rattle.std.proofs.lemmas.Int.{ints}
