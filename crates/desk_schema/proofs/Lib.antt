@@ -6,3 +6,5 @@ pub mod PlacedLemmas
 pub mod NodeTexts
 pub mod BlockLists
 pub mod BlockLemmas
+pub mod BugLists
+pub mod BugLemmas

@@ -1,12 +1,14 @@
 //! The bugs of sets.
 
-ghost use Rattle.std.specs.Prelude.{◌≡◌, List, map, [], ◌∷◌};
+ghost use Rattle.std.specs.Prelude.{◌≡◌, ◌≢◌, List, [], ◌∷◌, IfOk, IfErr};
 ghost use Rattle.std.specs.Option.{option_map_or};
 ghost use Rattle.sqlite.specs.Held.{state};
+ghost use Rattle.bug_record.specs.declared.bug.Member.{Member as SeenMember};
+ghost use Rattle.desk_text.specs.declared.outcome.StoreFault.TheVariants.{Foreign};
 ghost use Rattle.desk_content.specs.declared.edit.Edit.TheVariants.{PutMember, DropMember};
 ghost use Rattle.desk_schema.specs.Steps.{Plays, Reads, Serves};
 ghost use Rattle.sql_forms.specs.Numbers.{number_row};
-ghost use Rattle.set_rows.specs.Members.{member_row};
+ghost use Rattle.set_rows.specs.Members.{member_row, HasUtf8, AreMemberRows};
 
 use bug_record::{Member, Members, Sequence};
 use desk_schema::{number_at, number_in, text_at, told, written};
@@ -70,7 +72,7 @@ pub fn read_key<S: Alter>(
 // The rows of a set's bugs, by number.
 fn member_rows<S: Alter>(tx: &mut Transaction<'_, S>, key: u32) -> Result<Vec<Row>, StoreFault>
     ensures same_reference { tx.new.conn.ghost_name ≡ tx.old.conn.ghost_name }
-    ensures reads { Reads (λ c rows. rows.items ≡ map member_row (c.members key)) (state S.Store tx.old.conn.now) (state S.Store tx.new.conn.now) result }
+    ensures reads { Reads (λ c rows. AreMemberRows rows.items (c.members key)) (state S.Store tx.old.conn.now) (state S.Store tx.new.conn.now) result }
     ensures serves { Serves (state S.Store tx.old.conn.now) (state S.Store tx.new.conn.now) result }
 {
     told(tx.query_all(
@@ -79,6 +81,58 @@ fn member_rows<S: Alter>(tx: &mut Transaction<'_, S>, key: u32) -> Result<Vec<Ro
     ))
 }
 
-// ... the member of a row, the members of rows (see desk_schema::numbers_of), and
-// pub fn read_members(alloc, tx, key: u32) -> Result<Members, StoreFault>
-//     ensures reads { Reads (λ c members. members ≡ c.members key) .. }
+// The bug of a row.
+fn member_in(alloc: Global, row: &Row) -> Result<Member, StoreFault>
+    ensures value { (m : SeenMember) → row.now ≡ member_row m → IfOk result (λ member. member ≡ m) }
+    ensures sure { (m : SeenMember) → row.now ≡ member_row m → HasUtf8 m → IfErr result (λ fault. fault ≢ Foreign) }
+{
+    let number = number_at(row, 0)?;
+    let title = text_at(alloc, row, 1)?;
+    let submitter = text_at(alloc, row, 2)?;
+    Ok(Member {
+        number,
+        title,
+        submitter,
+    })
+}
+
+// The bugs of rows, in their order.
+fn members_of(alloc: Global, rows: &[Row]) -> Result<Sequence<Member>, StoreFault>
+    ensures value { (ms : List SeenMember) → AreMemberRows rows.now ms → IfOk result (λ members. members ≡ ms) }
+    ensures sure { (ms : List SeenMember) → AreMemberRows rows.now ms → IfErr result (λ fault. fault ≢ Foreign) }
+{
+    let mut members = Sequence::new(alloc);
+    for row in rows {
+        let member = member_in(alloc, row)?;
+        match members.push(member) {
+            Ok(()) => {}
+            Err(_) => return Err(StoreFault::Memory),
+        }
+    }
+    Ok(members)
+}
+
+// The bugs of rows, to be shared.
+fn shared_members(alloc: Global, rows: &[Row]) -> Result<Members, StoreFault>
+    ensures value { (ms : List SeenMember) → AreMemberRows rows.now ms → IfOk result (λ members. members ≡ ms) }
+    ensures sure { (ms : List SeenMember) → AreMemberRows rows.now ms → IfErr result (λ fault. fault ≢ Foreign) }
+{
+    match Members::of(members_of(alloc, rows)?) {
+        Ok(members) => Ok(members),
+        Err(_) => Err(StoreFault::Memory),
+    }
+}
+
+/// The bugs of the set of the key, by number.
+pub fn read_members<S: Alter>(
+    alloc: Global,
+    tx: &mut Transaction<'_, S>,
+    key: u32,
+) -> Result<Members, StoreFault>
+    ensures same_reference { tx.new.conn.ghost_name ≡ tx.old.conn.ghost_name }
+    ensures reads { Reads (λ c members. members ≡ c.members key) (state S.Store tx.old.conn.now) (state S.Store tx.new.conn.now) result }
+    ensures serves { Serves (state S.Store tx.old.conn.now) (state S.Store tx.new.conn.now) result }
+{
+    let rows = member_rows(tx, key)?;
+    shared_members(alloc, rows.as_slice())
+}

@@ -1,0 +1,10 @@
+use Rattle.sqlite.specs.Held.{state}
+use Rattle.desk_schema.proofs.StatementLemmas.{acts_write}
+use Rattle.set_rows.proofs.AddBug.{add_is}
+use Rattle.set_rows.proofs.bugs.add_bug.Goals as goal
+
+pub returns-clause-plays : goal.returns-clause-plays
+returns-clause-plays g c =
+    rw c.written.ensures.told (acts_write _ _ _ _ (add_is c.args.key (record { number = c.args.number; title = c.args.title.now; submitter = c.args.submitter.now }) c.utf8.title c.utf8.submitter)
+    (state g.S.Store c.args.tx.now.conn.now) (state g.S.Store c.execute.new.self.conn.now) c.execute.result c.execute.ensures.survives
+    (rw (c.params-to_sql.ensures, c.params-to_sql-2.ensures, c.params-to_sql-3.ensures, c.params-to_sql-4.ensures) at c.execute.ensures.runs))
