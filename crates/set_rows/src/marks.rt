@@ -3,15 +3,13 @@
 ghost use Rattle.std.specs.Prelude.{◌≡◌};
 ghost use Rattle.sqlite.specs.Held.{state};
 ghost use Rattle.desk_content.specs.declared.edit.Edit.TheVariants.{PutMark, DropMarks};
-ghost use Rattle.desk_schema.specs.Steps.{Plays, Reads, Serves};
+ghost use Rattle.desk_schema.specs.Steps.{Plays, Serves};
 
 use ancestry::{MarkKind, Node};
-use bug_record::Nodes;
 use desk_content::number_of_kind;
-use desk_schema::{node_at, number_at, told, written};
+use desk_schema::written;
 use desk_text::StoreFault;
-use sqlite::{Alter, Row, Transaction, params};
-use std::alloc::Global;
+use sqlite::{Alter, Transaction, params};
 
 /// The set of the key is marked at a node.
 pub fn add_mark<S: Alter>(
@@ -37,8 +35,3 @@ pub fn clear_marks<S: Alter>(tx: &mut Transaction<'_, S>, key: u32) -> Result<()
 {
     written(tx.execute("DELETE FROM marks WHERE set_key = ?1", params![key]))
 }
-
-// ... the rows of "SELECT kind, source, version FROM marks WHERE set_key = ?1", in any order, and
-// pub struct Marks { pub found: Nodes, pub fixed: Nodes }   (#[derive(Drop)])
-// pub fn read_marks(alloc, tx, key: u32) -> Result<Marks, StoreFault>
-//     ensures reads { Reads (λ c marks. (marks.found ≡ c.found key) × (marks.fixed ≡ c.fixed key)) .. }   and serves
