@@ -5,3 +5,4 @@ pub mod ReadWaiting
 pub mod TextLemmas
 pub mod AddMark
 pub mod ClearMarks
+pub mod ReadMarks

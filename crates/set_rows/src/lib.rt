@@ -7,4 +7,4 @@ mod blocks;
 mod marks;
 
 pub use blocks::{add_blocker, clear_blockers, read_blockers, read_waiting};
-pub use marks::{add_mark, clear_marks};
+pub use marks::{Marks, add_mark, clear_marks, read_marks};
