@@ -7,3 +7,5 @@ pub mod BlockLists
 pub mod BlockLemmas
 pub mod MarkLists
 pub mod MarkLemmas
+pub mod NearestLists
+pub mod NearestLemmas
