@@ -3,6 +3,7 @@ pub mod StatementLemmas
 pub mod SchemaLemmas
 pub mod ContentLemmas
 pub mod PlacedLemmas
+pub mod CellLemmas
 pub mod BlockLists
 pub mod BlockLemmas
 pub mod MarkLists

@@ -8,7 +8,6 @@ use Rattle.ancestry.specs.declared.statuses.MarkKind.{MarkKind}
 use Rattle.ancestry.specs.declared.statuses.MarkKind.TheVariants.{Found, Fixed}
 use Rattle.sql_forms.specs.Forms.{Changes}
 use Rattle.sql_forms.specs.TypedRows.{AreRows}
-use Rattle.desk_content.specs.Content.{Content}
 use Rattle.desk_content.specs.Encodings.{kind_number, kind_in}
 use Rattle.desk_schema.specs.Tables.{MARKS, desk_schema}
 use Rattle.desk_schema.specs.MarkRows.{MarkRow, mark_cells, mark_in, IsMarkRow, marks_in}

@@ -1,8 +1,8 @@
 -- What a row that is added or left out makes of the marks that the rows say.
 -- Nothing here speaks of a statement.
-use Rattle.std.proofs.Common.{◌≡◌, ℕ, Bool, true, false, not, ◌&&◌, ◌||◌, ◌==◌, eqb, cond, if◌then◌else◌, filter, map, List, [], ◌∷◌, ◌++◌, append-nil, refl, sym, ap, ◌∙◌, true≢false}
+use Rattle.std.proofs.Common.{◌≡◌, ℕ, Bool, true, false, not, ◌&&◌, ◌||◌, ◌==◌, cond, if◌then◌else◌, filter, map, List, [], ◌∷◌, ◌++◌, append-nil, refl, sym, ap, ◌∙◌, true≢false}
 use Rattle.std.specs.List.Sorted.{IsStrictlySortedBy}
-use Rattle.std.proofs.lemmas.Bool.{eq-eqb, eqb-true}
+use Rattle.std.proofs.lemmas.Bool.{eqb-true}
 use Rattle.ancestry.specs.Nodes.{Node, same_node, node_cmp}
 use Rattle.ancestry.specs.Trees.{has_node}
 use Rattle.ancestry.specs.declared.statuses.MarkKind.{MarkKind}

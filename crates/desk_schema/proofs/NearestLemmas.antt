@@ -1,10 +1,9 @@
 -- What other rows of nearest make of all that the tables say.
-use Rattle.std.proofs.Common.{◌≡◌, ℕ, List, map, Option, Some, refl, sym, ap, ◌∙◌}
+use Rattle.std.proofs.Common.{◌≡◌, ℕ, List, map, Option, sym, ap, ◌∙◌}
 use Rattle.std.specs.Prelude.{unwrap_or}
 use Rattle.sqlite.specs.Order.{Row}
 use Rattle.sqlite.specs.State.{State}
 use Rattle.ancestry.specs.Nodes.{Node}
-use Rattle.ancestry.specs.declared.statuses.MarkKind.{MarkKind}
 use Rattle.ancestry.specs.declared.statuses.MarkKind.TheVariants.{Found}
 use Rattle.nearest_marks.specs.declared.near.Near.{Near}
 use Rattle.sql_forms.specs.Forms.{Changes}

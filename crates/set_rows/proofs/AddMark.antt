@@ -1,13 +1,11 @@
 -- What the INSERT of a mark means.
-use Rattle.std.proofs.Common.{◌≡◌, ◌≢◌, ℕ, ℤ, pos, List, [], ◌∷◌, codes, map, Bool, true, false, ◌==◌, ◌&&◌, eqb, cond, Err, Ok, IsTrue, refl, sym, ap, subst, ◌∙◌, arith}
+use Rattle.std.proofs.Common.{◌≡◌, ◌≢◌, ℕ, ℤ, pos, List, [], ◌∷◌, codes, map, Bool, true, false, ◌==◌, ◌&&◌, eqb, Err, Ok, IsTrue, refl, sym, subst, ◌∙◌, arith}
 use Rattle.std.specs.List.{list_any}
 use Rattle.std.specs.Str.{bytes_eq}
-use Rattle.sqlite.specs.Cast.{cast}
 use Rattle.sqlite.specs.Command.TheVariants.{Insert}
 use Rattle.sqlite.specs.Edit.{next_rowid, is_taken}
-use Rattle.sqlite.specs.Kind.TheVariants.{Integer}
 use Rattle.sqlite.specs.Listing.{understood}
-use Rattle.sqlite.specs.Ops.{unary, binary}
+use Rattle.sqlite.specs.Ops.{binary}
 use Rattle.sqlite.specs.Order.{Row}
 use Rattle.sqlite.specs.Rowids.TheVariants.{Chosen}
 use Rattle.sqlite.specs.Source.TheVariants.{Values}
@@ -15,7 +13,6 @@ use Rattle.sqlite.specs.State.{State, ExecutesInside}
 use Rattle.sqlite.specs.Term.{Term, lit, col}
 use Rattle.sqlite.specs.Tree.{put_row}
 use Rattle.sqlite.specs.declared.error.Error.{Error}
-use Rattle.sqlite.specs.declared.types.Value.{Value}
 use Rattle.sqlite.specs.declared.types.Value.TheVariants.{Null, Int, Text}
 use Rattle.sqlite_rules.proofs.PlaceLemmas.{next_is_free}
 use Rattle.sqlite_rules.specs.Keys.{are_unique}
@@ -37,7 +34,6 @@ use Rattle.sql_forms.proofs.InsertLemmas.{InsertsRow, inserts}
 use Rattle.sql_forms.proofs.ErrorLemmas.{IsCallOf}
 use Rattle.sql_forms.proofs.RefusalLemmas.{IsGoodRow, insert_free}
 use Rattle.sql_forms.proofs.RowLemmas.{rows_more, same_number, truth_is, and_true}
-use Rattle.set_rows.proofs.TextLemmas.{same_text}
 use Rattle.sql_forms.proofs.UniqueLemmas.{put_apart}
 use Rattle.desk_content.specs.Edits.{put_at, edited}
 use Rattle.desk_content.specs.Encodings.{kind_number}
@@ -47,6 +43,7 @@ use Rattle.desk_schema.specs.Tables.{MARKS, marks_table, desk_schema}
 use Rattle.desk_schema.specs.MarkRows.{MarkRow, mark_cells, IsMarkRow, marked_as, marks_in}
 use Rattle.desk_schema.specs.Rows.{AreShown}
 use Rattle.desk_schema.specs.Steps.{IsInside, seen}
+use Rattle.desk_schema.proofs.CellLemmas.{cast_int, cast_null, same_text}
 use Rattle.desk_schema.proofs.MarkLemmas.{found_are, fixed_are, marks_remade}
 use Rattle.desk_schema.proofs.MarkLists.{one_more, no_more, has_mark}
 use Rattle.desk_schema.proofs.SchemaLemmas.{marks_plain, unique_at}
@@ -70,18 +67,6 @@ unfolding understood everything
 add_call k kind v = record { command_is = refl; writes = tt; plain = (refl, refl); whole = omega arith; given = refl }
 
 -- ---- the row that is added
-
-either : (b : Bool) (x : Value) → cond b x x ≡ x
-either true x = refl
-either false x = refl
-
-cast_int : (n : ℤ) → cast Integer (Int n) ≡ Int n
-unfolding unary
-cast_int n = either _ (Int n)
-
-cast_null : cast Integer Null ≡ Null
-unfolding unary
-cast_null = either _ Null
 
 abbrev new_mark : List Row → ℕ → MarkKind → Node → MarkRow
 new_mark rows k kind v = record { id = next_rowid rows; key = k; kind = kind; node = v }

@@ -2,7 +2,6 @@ pub mod AddBlocker
 pub mod ClearBlockers
 pub mod ReadBlockers
 pub mod ReadWaiting
-pub mod TextLemmas
 pub mod AddMark
 pub mod ClearMarks
 pub mod ReadMarks

@@ -1,5 +1,5 @@
 -- What the query of a set's marks answers.
-use Rattle.std.proofs.Common.{◌≡◌, ℕ, pos, suc, zero, ◌+◌, ◌<◌, Bool, true, false, ◌==◌, ◌&&◌, ◌||◌, List, [], ◌∷◌, codes, length, get_or, drop, add-one, map, filter, Some, Result, Ok, Err, IfOk, refl, sym, ap, subst, ◌∙◌, arith}
+use Rattle.std.proofs.Common.{◌≡◌, ℕ, pos, suc, zero, ◌+◌, ◌<◌, Bool, true, false, ◌==◌, ◌&&◌, ◌||◌, List, [], ◌∷◌, codes, length, get_or, drop, add-one, map, filter, Result, Ok, Err, IfOk, refl, sym, ap, subst, ◌∙◌, arith}
 use Rattle.std.specs.Prelude.{unwrap_or}
 use Rattle.std.specs.List.{list_any, AllByRecursion}
 use Rattle.std.specs.List.Sorted.{IsPermutation}
@@ -8,10 +8,9 @@ use Rattle.std.proofs.lemmas.List.Sorted.{IsPermutation-map, All-permutation, li
 use Rattle.sqlite.specs.declared.types.Value.TheVariants.{Int}
 use Rattle.sqlite.specs.Listing.{understood}
 use Rattle.sqlite.specs.Order.{Row, column}
-use Rattle.sqlite.specs.State.{State}
 use Rattle.sqlite.specs.Term.{Term, col, eval_all}
 use Rattle.sqlite_tied.specs.Compute.{everything}
-use Rattle.ancestry.specs.Nodes.{Node, IsNode, node, same_node}
+use Rattle.ancestry.specs.Nodes.{Node, node, same_node}
 use Rattle.ancestry.specs.Trees.{has_node}
 use Rattle.ancestry.specs.declared.statuses.MarkKind.{MarkKind}
 use Rattle.ancestry.specs.declared.statuses.MarkKind.TheVariants.{Found, Fixed}

@@ -1,5 +1,5 @@
 use Rattle.std.proofs.Common.{◌≡◌, Err, ◌+◌, drop, sym, ap, ◌∙◌, rules}
-use Rattle.set_rows.specs.Marked.{Mark, with_marked, all_marked}
+use Rattle.set_rows.specs.Marked.{all_marked}
 use Rattle.set_rows.specs.declared.marks.Marks.{Marks}
 use Rattle.set_rows.proofs.ReadMarks.{mark_at}
 use Rattle.set_rows.proofs.marks.marks_of.Goals as goal
