@@ -8,3 +8,8 @@ pub mod BlockLists
 pub mod BlockLemmas
 pub mod BugLists
 pub mod BugLemmas
+pub mod CellLemmas
+pub mod MarkLists
+pub mod MarkLemmas
+pub mod NearestLists
+pub mod NearestLemmas

@@ -1,10 +1,10 @@
 //! The statements on the tables of sets, each with what it makes of all that the tables say.
-//!
-//! So far these are the statements on `blocks` and `bugs`.
 #![tactic(auto)]
 
 mod blocks;
 mod bugs;
+mod marks;
 
 pub use blocks::{add_blocker, clear_blockers, read_blockers, read_waiting};
 pub use bugs::{add_bug, clear_bug, read_key, read_members};
+pub use marks::{Marks, add_mark, clear_marks, read_marks};

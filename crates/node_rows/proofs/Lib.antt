@@ -1,0 +1,2 @@
+pub mod AddNear
+pub mod ClearNear

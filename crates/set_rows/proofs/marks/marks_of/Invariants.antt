@@ -1,0 +1,7 @@
+use Rattle.std.proofs.Common.{◌≡◌, List, map, drop}
+use Rattle.std.specs.List.{AllByRecursion}
+use Rattle.set_rows.specs.Marked.{Mark, mark_row, IsMark, no_marks, all_marked}
+use Rattle.set_rows.proofs.marks.marks_of.Given as goal
+
+abbrev pub invariant-loop-row : goal.invariant-loop-row
+invariant-loop-row l = (ms : List Mark) → AllByRecursion IsMark ms → l.rows ≡ map mark_row ms → all_marked l.marks (drop l.row-index ms) ≡ all_marked no_marks ms
