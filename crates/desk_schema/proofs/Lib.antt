@@ -5,3 +5,5 @@ pub mod ContentLemmas
 pub mod PlacedLemmas
 pub mod BlockLists
 pub mod BlockLemmas
+pub mod SetLists
+pub mod SetLemmas
