@@ -4,5 +4,7 @@
 #![tactic(auto)]
 
 mod blocks;
+mod sets;
 
 pub use blocks::{add_blocker, clear_blockers, read_blockers, read_waiting};
+pub use sets::{add_fields, clear_fields, read_fields};
