@@ -1,5 +1,5 @@
 -- What the INSERT of a set's fields means.
-use Rattle.std.proofs.Common.{◌≡◌, ◌≢◌, ℕ, ℤ, pos, List, [], ◌∷◌, codes, Bool, true, false, ◌==◌, cond, map, Bor, option_copied, Option, Some, None, Err, Ok, IsTrue, refl, sym, ap, subst, ◌∙◌, arith}
+use Rattle.std.proofs.Common.{◌≡◌, ◌≢◌, ℕ, ℤ, pos, List, [], ◌∷◌, codes, Bool, true, false, ◌==◌, cond, map, Bor, option_copied, Option, Some, None, Err, Ok, IsTrue, refl, sym, ap, subst, arith}
 use Rattle.std.specs.List.{AllByRecursion}
 use Rattle.sqlite.specs.Cast.{cast}
 use Rattle.sqlite.specs.Command.TheVariants.{Insert}

@@ -1,5 +1,5 @@
 -- What the query of a set's fields answers.
-use Rattle.std.proofs.Common.{◌≡◌, ℕ, suc, zero, pos, ◌==◌, List, [], ◌∷◌, length, codes, map, filter, Option, Some, None, refl, sym, ap, subst, ◌∙◌, arith}
+use Rattle.std.proofs.Common.{◌≡◌, ℕ, pos, ◌==◌, List, [], ◌∷◌, length, codes, map, filter, Option, Some, None, refl, ap, subst, ◌∙◌, arith}
 use Rattle.std.specs.List.{AllByRecursion}
 use Rattle.std.specs.List.Sorted.{IsPermutation}
 use Rattle.std.specs.Option.{option_map_or}
@@ -13,7 +13,7 @@ use Rattle.sqlite.specs.Tree.{IsTable}
 use Rattle.sqlite_tied.specs.Compute.{everything}
 use Rattle.sql_forms.specs.Forms.{passes, equals}
 use Rattle.sql_forms.proofs.QueryErrors.{IsQueryOf}
-use Rattle.sql_forms.proofs.QueryLemmas.{found, map_map}
+use Rattle.sql_forms.proofs.QueryLemmas.{found}
 use Rattle.sql_forms.proofs.RowLemmas.{kept_rows}
 use Rattle.desk_content.specs.declared.edit.SetFields.{SetFields}
 use Rattle.desk_schema.specs.Tables.{SETS, desk_schema}

@@ -70,13 +70,14 @@ pub fn clear_fields<S: Alter>(tx: &mut Transaction<'_, S>, key: u32) -> Result<(
 }
 
 // The row of a set's fields, if there is one.
-fn fields_rows<S: Alter>(tx: &mut Transaction<'_, S>, key: u32) -> Result<Vec<Row>, StoreFault>
+fn field_rows<S: Alter>(tx: &mut Transaction<'_, S>, key: u32) -> Result<Vec<Row>, StoreFault>
     ensures same_reference { tx.new.conn.ghost_name ≡ tx.old.conn.ghost_name }
     ensures reads { Reads (λ c rows. AreFieldsOf key c rows.items) (state S.Store tx.old.conn.now) (state S.Store tx.new.conn.now) result }
     ensures serves { Serves (state S.Store tx.old.conn.now) (state S.Store tx.new.conn.now) result }
 {
     told(tx.query_all(
-        "SELECT package, severity, closed, forwarded, owner, tags, archived FROM sets WHERE set_key = ?1",
+        "SELECT package, severity, closed, forwarded, owner, tags, archived \
+         FROM sets WHERE set_key = ?1",
         params![key],
     ))
 }
@@ -163,6 +164,6 @@ pub fn read_fields<S: Alter>(
     ensures reads { Reads (λ c fields. fields ≡ c.fields key) (state S.Store tx.old.conn.now) (state S.Store tx.new.conn.now) result }
     ensures serves { Serves (state S.Store tx.old.conn.now) (state S.Store tx.new.conn.now) result }
 {
-    let rows = fields_rows(tx, key)?;
+    let rows = field_rows(tx, key)?;
     fields_in(alloc, rows.as_slice())
 }
