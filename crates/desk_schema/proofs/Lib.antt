@@ -13,3 +13,5 @@ pub mod MarkLists
 pub mod MarkLemmas
 pub mod NearestLists
 pub mod NearestLemmas
+pub mod SetLists
+pub mod SetLemmas

@@ -10,3 +10,6 @@ pub mod MemberRows
 pub mod AddMark
 pub mod ClearMarks
 pub mod ReadMarks
+pub mod AddFields
+pub mod ClearFields
+pub mod ReadFields

@@ -1,3 +1,4 @@
 pub mod Waiting
 pub mod Members
 pub mod Marked
+pub mod Fields

@@ -1,0 +1,30 @@
+use Rattle.std.proofs.Common.{subst}
+use Rattle.std.specs.Str.{IsUtf8}
+use Rattle.sqlite.specs.Held.{state}
+use Rattle.desk_schema.specs.SetRows.{IsSetRow}
+use Rattle.desk_schema.proofs.StatementLemmas.{acts_write}
+use Rattle.set_rows.proofs.AddFields.{new_row, add_is, maybe_bound}
+use Rattle.set_rows.proofs.sets.add_fields.Goals as goal
+
+pub returns-clause-plays : goal.returns-clause-plays
+returns-clause-plays g c =
+    let fine : IsSetRow (new_row c.args.key c.args.fields.now) = record { «package» = subst IsUtf8 c.as_str.ensures c.as_str.utf8; forwarded = c.str_of.ensures.utf8; owner = c.str_of-2.ensures.utf8 } in
+    rw c.written.ensures.told (acts_write _ _ _ _ (add_is c.args.key c.args.fields.now fine) (state g.S.Store c.args.tx.now.conn.now) (state g.S.Store c.execute.new.self.conn.now) c.execute.result c.execute.ensures.survives
+    (rw (
+      c.params-to_sql.ensures,
+      c.params-to_sql-2.ensures,
+      c.params-to_sql-3.ensures,
+      c.params-to_sql-4.ensures,
+      c.params-to_sql-5.ensures,
+      c.params-to_sql-6.ensures,
+      c.params-to_sql-7.ensures,
+      c.params-to_sql-8.ensures,
+      c.as_str.ensures,
+      c.from.ensures,
+      c.rank.ensures,
+      c.number_of_flag.ensures,
+      maybe_bound c.str_of.result c.args.fields.now.forwarded c.str_of.ensures.value,
+      maybe_bound c.str_of-2.result c.args.fields.now.owner c.str_of-2.ensures.value,
+      c.number_of_tags.ensures,
+      c.number_of_flag-2.ensures,
+    ) at c.execute.ensures.runs))
