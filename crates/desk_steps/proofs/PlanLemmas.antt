@@ -1,24 +1,24 @@
 -- What the edits of all images come to.
-use Rattle.std.proofs.Common.{◌≡◌, ◌≢◌, List, [], ◌∷◌, ◌++◌, append-nil, append_assoc, refl, sym, ap, subst, ◌∙◌}
-use Rattle.std.specs.Prelude.{⊤}
+use Rattle.std.proofs.Common.{◌≡◌, ℕ, ◌+◌, ◌<◌, length, take, get_or, arith, List, [], ◌∷◌, ◌++◌, append-nil, append_assoc, refl, sym, ap, subst, ◌∙◌}
+use Rattle.std.proofs.lemmas.Grind.{common_steps}
 use Rattle.ancestry.specs.Trees.{Ancestry}
 use Rattle.bug_record.specs.declared.bug.SetImage.{SetImage}
 use Rattle.bug_record.specs.declared.command.Change.{Change}
 use Rattle.desk_content.specs.Content.{Content}
-use Rattle.desk_content.specs.Changes.{keeps_marks, without_images, with_images, cleared_for, changed, FitsContent}
+use Rattle.desk_content.specs.Changes.{keeps_marks, without_images, with_images, cleared_for, FitsContent}
 use Rattle.desk_content.specs.Edits.{edited_all}
 use Rattle.desk_content.specs.Free.{AreFree}
-use Rattle.desk_content.specs.Images.{with_image, without_image, IsCleared, IsGoodImage}
+use Rattle.desk_content.specs.Images.{with_image, without_image}
 use Rattle.desk_content.specs.Kept.{IsKeptContent}
 use Rattle.desk_content.specs.declared.images.RowEdits.{RowEdits}
 use Rattle.desk_content.proofs.ClosedLemmas.{put_nodes, no_nodes}
 use Rattle.desk_content.proofs.EditLemmas.{edited_all-append}
 use Rattle.desk_content.proofs.FreeLemmas.{free-append}
 use Rattle.desk_content.proofs.ReadyLemmas.{good, ready}
-use Rattle.desk_steps.specs.Plans.{IsPlan, ArePlans, cleared_edits, put_edits}
+use Rattle.desk_steps.specs.Plans.{IsPlanOf, ArePlans, cleared_edits, put_edits}
 
 -- one more plan
-pub one_more : (before : Content) (t : Ancestry) (is : List SetImage) (plans : List RowEdits) (i : SetImage) (plan : RowEdits) → ArePlans before t is plans → IsPlan before t i plan
+pub one_more : (before : Content) (t : Ancestry) (is : List SetImage) (plans : List RowEdits) (i : SetImage) (plan : RowEdits) → ArePlans before t is plans → IsPlanOf before t i plan
     → ArePlans before t (is ++ i ∷ []) (plans ++ plan ∷ [])
 one_more before t [] [] i plan are is = (is, tt)
 one_more before t [] (p ∷ plans) i plan are is = absurd are
@@ -78,3 +78,10 @@ module _ (c : Content) (change : Change) (kept : IsKeptContent c) (fits : FitsCo
 
   pub come_to : (plans : List RowEdits) → ArePlans c c.nodes change.images plans → edited_all (put_edits plans) (edited_all (cleared_edits plans) c) ≡ with_images change.images (cleared_for c change)
   come_to plans all = ap (edited_all (put_edits plans)) (all_cleared c c.nodes change.images plans all c) ∙ (puts [] change.images plans refl all).1
+
+-- the plans of the first images, and of one more
+pub grown : (before : Content) (t : Ancestry) (is : List SetImage) (at : ℕ) (i : SetImage) (plans : List RowEdits) (plan : RowEdits) (all : List RowEdits) → at < length is → i ≡ get_or is at i → all ≡ plans ++ plan ∷ []
+    → ArePlans before t (take at is) plans → IsPlanOf before t i plan → ArePlans before t (take (at + 1) is) all
+grown before t is at i plans plan all low here more are one =
+    let next : take (at + 1) is ≡ take at is ++ get_or is at i ∷ [] = grind (arith, common_steps) in
+    rw (more, next, sym here) (one_more before t (take at is) plans i plan are one)
