@@ -139,8 +139,8 @@ pub record ChangesWell (schema : Schema) (table : Table) (tests terms : List Ter
   pub good : IsGoodRow schema table (changed_row table (eval_all terms (params ∷ row ∷ [])))
   pub untaken : is_taken (left_rows db table (eval_all terms (params ∷ row ∷ []))) (changed_row table (eval_all terms (params ∷ row ∷ []))) ≡ false
   pub apart :
-    let cells = eval_all terms (params ∷ row ∷ []) in
-    are_unique schema.indexes (with_tree db table.tree (put_row (changed_row table cells) (left_rows db table cells))) table (changed_row table cells ∷ []) ≡ true
+      let cells = eval_all terms (params ∷ row ∷ []) in
+      are_unique schema.indexes (with_tree db table.tree (put_row (changed_row table cells) (left_rows db table cells))) table (changed_row table cells ∷ []) ≡ true
 
 module _ (schema : Schema) (table : Table) (plain : IsPlainTable schema table) (db : Trees) (unique : Keeps Unique schema db) (cells : Row) (good : IsGoodRow schema table (changed_row table cells))
     (untaken : is_taken (left_rows db table cells) (changed_row table cells) ≡ false)
