@@ -86,7 +86,7 @@ adds v p is is' old new count inside h =
 
 -- ---- a node that isn't known is a key that is free
 
-abbrev places : List ℕ
+abbrev pub places : List ℕ
 places = 1 ∷ 2 ∷ []
 
 -- two rows agree where their nodes do

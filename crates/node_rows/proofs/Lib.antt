@@ -4,3 +4,7 @@ pub mod WriteNext
 pub mod ReadNext
 pub mod AddNode
 pub mod ClearNode
+pub mod AnyOrder
+pub mod NodeKeys
+pub mod ReadLinks
+pub mod FamilyLemmas
