@@ -47,7 +47,7 @@ module _ (all : List Row) where
   other_node x [] there up alone = tt
   other_node x (y ∷ ys) there up alone = (
     false_from_ne_true _ (λ same. true≢false (sym (some_from (λ r. agree plain places r places (node_cells y) && differ (rowid r) (rowid (node_cells y))) all (node_cells x) there
-    (and_from _ _ (alike y.node y.parent y.id x ∙ same) (differs x.id y.id up.0))) ∙ alone.0)),
+        (and_from _ _ (alike y.node y.parent y.id x ∙ same) (differs x.id y.id up.0))) ∙ alone.0)),
     other_node x ys there up.1 alone.1,
   )
 
