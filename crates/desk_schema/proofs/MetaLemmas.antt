@@ -1,6 +1,5 @@
 -- What other rows of meta make of all that the tables say.
-use Rattle.std.proofs.Common.{◌≡◌, ℕ, List, [], ◌∷◌, refl, sym, ap}
-use Rattle.sqlite.specs.Order.{Row}
+use Rattle.std.proofs.Common.{◌≡◌, ℕ, [], ◌∷◌, refl, ap}
 use Rattle.sqlite.specs.State.{State}
 use Rattle.sql_forms.specs.Forms.{Changes}
 use Rattle.desk_schema.specs.Tables.{META, desk_schema}

@@ -15,7 +15,7 @@ use Rattle.bug_record.specs.Texts.{IfGiven}
 use Rattle.desk_text.specs.declared.outcome.StoreFault.{StoreFault}
 use Rattle.desk_text.specs.declared.outcome.StoreFault.TheVariants.{Foreign}
 use Rattle.desk_content.specs.Content.{Content}
-use Rattle.desk_schema.specs.Steps.{seen, Goes, Acts, Serves}
+use Rattle.desk_schema.specs.Steps.{seen, Goes, Acts}
 use Rattle.desk_schema.proofs.NodeTexts.{name_utf8}
 use Rattle.node_rows.specs.Links.{link_row, IsLink}
 
