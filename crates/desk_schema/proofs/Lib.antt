@@ -1,4 +1,5 @@
 pub mod StepLemmas
+pub mod ReadSteps
 pub mod StatementLemmas
 pub mod SchemaLemmas
 pub mod ContentLemmas

@@ -66,7 +66,7 @@ acts_write sql params Free after it old new (Err e) survives runs = record {
     kept (inr (h, why, same)) = unchanged same
 
 pub serves_write : (sql : List ℕ) (params : Row) (old new : State) (r : Result ℕ Error) → (HasCleanDisk new → IsTrue old.in_transaction → ExecutesInside 0 sql params old new r) → Serves old new (written r)
-serves_write sql params old new (Ok count) runs clean inside = (runs clean inside).1.was_open
+serves_write sql params old new (Ok count) runs clean inside = (runs clean inside.begun).1.was_open
 serves_write sql params old new (Err e) runs clean inside = tt
 
 -- ---- a statement that reads

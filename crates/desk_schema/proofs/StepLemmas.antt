@@ -1,6 +1,7 @@
 -- What calls inside a transaction come to together.
 -- Nothing here speaks of a statement.
-use Rattle.std.proofs.Common.{◌≡◌, ◌≢◌, inl, ℕ, ◌+◌, ◌<◌, suc, add-one, length, drop, get_or, drop-cons, map, List, ◌∷◌, Result, Ok, Err, IfOk, IfErr, arith, refl, sym, ap, subst, ◌∙◌}
+use Rattle.std.proofs.Common.{◌≡◌, ◌≢◌, inl, ℕ, ◌+◌, ◌<◌, suc, add-one, length, drop, get_or, drop-cons, ◌≤◌, map, flat_map, List, [], ◌∷◌, ◌++◌, Result, Ok, Err, IfOk, IfErr, arith, refl, sym, ap, subst, ◌∙◌}
+use Rattle.std.proofs.Math.ListN.{drop_of_length-le}
 use Rattle.std.specs.Prelude.{⊤}
 use Rattle.sqlite.specs.State.{State, HasCleanDisk, Survives}
 use Rattle.sqlite.proofs.InsideLemmas.{keeps_then}
@@ -8,10 +9,11 @@ use Rattle.sqlite.proofs.StateLemmas.{survives_then}
 use Rattle.desk_text.specs.declared.outcome.StoreFault.{StoreFault}
 use Rattle.desk_text.specs.declared.outcome.StoreFault.TheVariants.{Foreign}
 use Rattle.desk_content.specs.Content.{Content}
-use Rattle.desk_content.specs.Edits.{edited_all}
+use Rattle.desk_content.specs.Edits.{edited, edited_all}
 use Rattle.desk_content.specs.Free.{IsFree, AreFree}
 use Rattle.desk_content.specs.declared.edit.Edit.{Edit}
-use Rattle.desk_schema.specs.Steps.{IsInside, seen, Goes, Acts, Plays, PlaysAll}
+use Rattle.desk_content.proofs.EditLemmas.{edited_all-append}
+use Rattle.desk_schema.specs.Steps.{IsInside, seen, Goes, Acts, Serves, Plays, PlaysAll}
 
 survives_stay : (s : State) → Survives s s (λ _. ⊥)
 survives_stay s = record { clean = omega arith; shield = λ h. h; counts = omega arith; limit = refl; closes = λ clean o. inl o; crash = λ clean db h. inl h }
@@ -99,7 +101,7 @@ done = Ok tt
 abbrev pub failed : StoreFault → Result (Unit {0}) StoreFault
 failed fault = Err fault
 
-abbrev none : Unit {0}
+abbrev pub none : Unit {0}
 none = tt
 
 -- one edit, and then others
@@ -139,3 +141,71 @@ module _ {T : Type 0} (edit : T → Edit) (xs : List T) where
       acts_stop old new fault (AreFree (map edit xs)) (AreFree (map edit xs)) (λ c d _. ⊤) _ (λ c all. all)
       (acts_then old mid new none (AreFree (map edit xs)) (IsFree (edit x)) (AreFree (map edit xs)) _ _ (λ c d _. ⊤) (failed fault)
       (λ c all. all) (λ c d p all. (subst (λ ys. AreFree (map edit ys) d) here (p.0 all)).0) (λ c d e _ p q. tt) one two)
+
+-- each edit is made
+pub left_end : {T : Type 0} (edit : T → Edit) (xs : List T) (old new : State) (at : ℕ) → length xs ≤ at → Acts old new done (AreFree (map edit xs)) (λ c d _. IsLeft edit xs at c d) → PlaysAll (map edit xs) old new done
+left_end edit xs old new at past all =
+    acts_weaker old new done (AreFree (map edit xs)) (AreFree (map edit xs)) (λ c d _. IsLeft edit xs at c d) (λ c d _. d ≡ edited_all (map edit xs) c) (λ c g. g)
+    (λ c d _ p. sym (ap (λ ys. edited_all (map edit ys) d) (drop_of_length-le xs past)) ∙ p.1) all
+
+map_same : {X : Type 0} (xs : List X) → map (λ x. x) xs ≡ xs
+map_same [] = refl
+map_same (x ∷ xs) = ap (λ ys. x ∷ ys) (map_same xs)
+
+-- of a list of edits
+pub edits_end : (es : List Edit) (old new : State) (at : ℕ) → length es ≤ at → Acts old new done (AreFree (map (λ (e : Edit). e) es)) (λ c d _. IsLeft (λ (e : Edit). e) es at c d) → PlaysAll es old new done
+edits_end es old new at past all = subst (λ ds. PlaysAll ds old new done) (map_same es) (left_end (λ (e : Edit). e) es old new at past all)
+
+pub edits_stop : (es : List Edit) (old new : State) (fault : StoreFault) → PlaysAll (map (λ (e : Edit). e) es) old new (failed fault) → PlaysAll es old new (failed fault)
+edits_stop es old new fault all = subst (λ ds. PlaysAll ds old new (failed fault)) (map_same es) all
+
+-- ---- a loop that makes several edits for each item
+
+free_parts : (xs ys : List Edit) (c : Content) → AreFree (xs ++ ys) c → AreFree xs c × AreFree ys (edited_all xs c)
+free_parts [] ys c all = (tt, all)
+free_parts (x ∷ xs) ys c all = let more = free_parts xs ys (edited x c) all.1 in ((all.0, more.0), more.1)
+
+module _ {T : Type 0} (edits : T → List Edit) (xs : List T) where
+  -- the edits of some items are made; those that are left are free, and make the whole
+  abbrev pub AreLeft : ℕ → Content → Content → Type 0
+  AreLeft at c d = (AreFree (flat_map edits xs) c → AreFree (flat_map edits (drop at xs)) d) × (edited_all (flat_map edits (drop at xs)) d ≡ edited_all (flat_map edits xs) c)
+
+  here : (at : ℕ) (x other : T) → at < length xs → x ≡ get_or xs at other → flat_map edits (drop at xs) ≡ edits x ++ flat_map edits (drop (at + 1) xs)
+  here at x other low is =
+      ap (flat_map edits) (drop-cons xs at other low) ∙ ap (λ y. edits y ++ flat_map edits (drop (suc at) xs)) (sym is) ∙ ap (λ k. edits x ++ flat_map edits (drop k xs)) (sym (add-one at))
+
+  parts : (at : ℕ) (x other : T) → at < length xs → x ≡ get_or xs at other → (c d : Content) → AreLeft at c d → AreFree (flat_map edits xs) c
+      → AreFree (edits x) d × AreFree (flat_map edits (drop (at + 1) xs)) (edited_all (edits x) d)
+  parts at x other low is c d p all = free_parts (edits x) (flat_map edits (drop (at + 1) xs)) d (subst (λ ys. AreFree ys d) (here at x other low is) (p.0 all))
+
+  pub lists_step : (old mid new : State) (at : ℕ) (x other : T) → at < length xs → x ≡ get_or xs at other → Acts old mid done (AreFree (flat_map edits xs)) (λ c d _. AreLeft at c d)
+      → PlaysAll (edits x) mid new done → Acts old new done (AreFree (flat_map edits xs)) (λ c d _. AreLeft (at + 1) c d)
+  lists_step old mid new at x other low is one two =
+      acts_then old mid new none (AreFree (flat_map edits xs)) (AreFree (edits x)) (AreFree (flat_map edits xs)) _ _ (λ c d _. AreLeft (at + 1) c d) done
+      (λ c all. all) (λ c d p all. (parts at x other low is c d p all).0)
+      (λ c d e _ p q. (
+        (λ all. subst (AreFree (flat_map edits (drop (at + 1) xs))) (sym q) (parts at x other low is c d p all).1),
+        ap (edited_all (flat_map edits (drop (at + 1) xs))) q ∙ sym (edited_all-append (edits x) (flat_map edits (drop (at + 1) xs)) d)
+            ∙ sym (ap (λ ys. edited_all ys d) (here at x other low is)) ∙ p.1,
+      )) one two
+
+  pub lists_stop : (old mid new : State) (at : ℕ) (x other : T) (fault : StoreFault) → at < length xs → x ≡ get_or xs at other → Acts old mid done (AreFree (flat_map edits xs)) (λ c d _. AreLeft at c d)
+      → PlaysAll (edits x) mid new (failed fault) → PlaysAll (flat_map edits xs) old new (failed fault)
+  lists_stop old mid new at x other fault low is one two =
+      acts_stop old new fault (AreFree (flat_map edits xs)) (AreFree (flat_map edits xs)) (λ c d _. ⊤) _ (λ c all. all)
+      (acts_then old mid new none (AreFree (flat_map edits xs)) (AreFree (edits x)) (AreFree (flat_map edits xs)) _ _ (λ c d _. ⊤) (failed fault)
+      (λ c all. all) (λ c d p all. (parts at x other low is c d p all).0) (λ c d e _ p q. tt) one two)
+
+  pub lists_end : (old new : State) (at : ℕ) → length xs ≤ at → Acts old new done (AreFree (flat_map edits xs)) (λ c d _. AreLeft at c d) → PlaysAll (flat_map edits xs) old new done
+  lists_end old new at past all =
+      acts_weaker old new done (AreFree (flat_map edits xs)) (AreFree (flat_map edits xs)) (λ c d _. AreLeft at c d) (λ c d _. d ≡ edited_all (flat_map edits xs) c) (λ c g. g)
+      (λ c d _ p. sym (ap (λ ys. edited_all (flat_map edits ys) d) (drop_of_length-le xs past)) ∙ p.1) all
+
+-- ---- the last call found the store open, and so did the first
+
+pub serves_last : {A B : Type 0} (old mid new : State) (a : A) (r : Result B StoreFault) (F G : Content → Type 0) (P : Content → Content → A → Type 0) (Q : Content → Content → B → Type 0)
+    → Acts old mid (Ok a) F P → Acts mid new r G Q → Serves mid new r → Serves old new r
+serves_last old mid new a (Ok b) F G P Q one two serves clean inside =
+    let early : HasCleanDisk mid = omega (arith, two.survives.clean, clean) in
+    (one.keeps early inside).was_open (serves clean (one.ok early inside).inside)
+serves_last old mid new a (Err e) F G P Q one two serves clean inside = tt

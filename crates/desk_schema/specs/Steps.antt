@@ -40,7 +40,7 @@ pub record Acts {A : Type 0} (old new : State) (result : Result A StoreFault) (F
 
 -- a call that answered found the store open
 abbrev pub Serves : {A : Type 0} → State → State → Result A StoreFault → Type 0
-Serves old new result = HasCleanDisk new → IsTrue old.in_transaction → IfOk result (λ _. IsTrue old.is_open)
+Serves old new result = HasCleanDisk new → IsInside old → IfOk result (λ _. IsTrue old.is_open)
 
 -- one edit is made
 abbrev pub Plays : Edit → State → State → Result (Unit {0}) StoreFault → Type 0

@@ -1,1 +1,2 @@
-pub mod Blockers
+-- definitions that only private functions cite
+pub mod Plans

@@ -1,8 +1,11 @@
 //! What a call of a desk does inside a transaction, as a few statements together.
-//!
-//! So far this is what becomes of a set's blockers.
 #![tactic(auto)]
 
-mod blockers;
+mod change;
+mod drops;
+mod parameters;
+mod play;
+mod puts;
 
-pub use blockers::put_blockers;
+pub use change::put_change;
+pub use play::play_all;

@@ -44,7 +44,7 @@ pub asked : {A : Type 0} (old mid new : State) (r : Result A StoreFault) (P : Co
 asked {A = A} old mid new r P limit runs serves back survives = record {
   survives = survives_then old mid new _ _ (λ _. ⊥) (λ _ db none. none) (λ _ db none. none) (record { clean = one.clean; shield = one.shield; counts = one.counts; limit = one.limit; closes = one.closes; crash = one.crash }) survives;
   stays = λ c shows clean o. undone old mid new c (shows (early clean)) (runs.keeps (late clean) (begins old c limit (early clean) shows)) (back clean) o;
-  ok = λ c clean shows. answered r c (λ o. (shows (early clean) o).1) (serves (late clean) refl) (runs.ok (late clean) (begins old c limit (early clean) shows));
+  ok = λ c clean shows. answered r c (λ o. (shows (early clean) o).1) (serves (late clean) (begins old c limit (early clean) shows)) (runs.ok (late clean) (begins old c limit (early clean) shows));
   sure = λ c clean shows. runs.sure (late clean) (begins old c limit (early clean) shows) (λ o. tt);
 }
   where
@@ -111,11 +111,11 @@ altered old mid new did r Free after limit runs serves ends = record { honest = 
     went : (c : Content) → HasCleanDisk new → HasContent c old → IsOk did → Goes (begun old) mid (λ c d. d ≡ after c)
     went c clean shows o = it_went did o (runs.ok (late clean) (inside c clean shows))
 
-    live : HasCleanDisk new → IsOk did → IsTrue old.is_open
-    live clean o = it_went did o (serves (late clean) refl)
+    live : (c : Content) → HasCleanDisk new → HasContent c old → IsOk did → IsTrue old.is_open
+    live c clean shows o = it_went did o (serves (late clean) (inside c clean shows))
 
     content : (c : Content) → HasCleanDisk new → HasContent c old → IsOk did → seen mid ≡ after c
-    content c clean shows o = (went c clean shows o).changed ∙ ap after (shows (early clean) (live clean o)).1
+    content c clean shows o = (went c clean shows o).changed ∙ ap after (shows (early clean) (live c clean shows o)).1
 
     oks : (r : Result (Unit {0}) StoreFault) → (HasCleanDisk new → IfOk r (λ _. IsOk did × IsTrue mid.is_open × IsTrue new.is_open × (new.now ≡ mid.now) × (new.committed ≡ mid.now)))
         → (c : Content) → HasCleanDisk new → HasContent c old → IfOk r (λ _. IsTrue new.is_open × IsDesk new × (seen new ≡ after c))
@@ -150,7 +150,7 @@ altered old mid new did r Free after limit runs serves ends = record { honest = 
     crash c shows = survives_then old mid new _ _ (AreTablesOf (after c)) (λ _ db none. absurd none)
         (λ clean db p.
         let g = went c clean shows p.0 in
-        let o = g.serves (live clean p.0) in
+        let o = g.serves (live c clean shows p.0) in
         subst (AreTablesOf (after c)) (sym p.1) (record {
           sound = subst (λ s. IsDatabase (record { schema = s; trees = mid.now.trees })) (g.inside.schema o) (g.inside.sound o);
           shown = g.inside.shown o;

@@ -1,5 +1,5 @@
 use Rattle.std.proofs.Common.{◌≡◌, Option, Some, None, Err, sym, subst, subst₂, ◌∙◌}
-use Rattle.ancestry.specs.Nodes.{Node, IsRead, node_at}
+use Rattle.ancestry.specs.Nodes.{Node, node_at, IsRead}
 use Rattle.desk_schema.proofs.NodeTexts.{reads_back}
 use Rattle.desk_schema.proofs.cells.node_of.Goals as goal
 
@@ -11,5 +11,5 @@ returns-in-Ok-clause-value c v is source version =
 pub returns-in-Err-BadNode-clause-sure : goal.returns-in-Err-BadNode-clause-sure
 returns-in-Err-BadNode-clause-sure c v is source version e =
     let there : node_at c.args.source.now c.args.version.now ≡ Some v = subst₂ (λ s w. node_at s w ≡ Some v) (sym source) (sym version) (reads_back v is) in
-    let none : node_at c.args.source.now c.args.version.now ≡ None = subst (λ fault. IsRead (node_at c.args.source.now c.args.version.now) (Err fault)) c.in-Err-BadNode.field-0-is c.in-Err-BadNode.ensures in
+    let none : node_at c.args.source.now c.args.version.now ≡ None = subst (λ f. IsRead (node_at c.args.source.now c.args.version.now) (Err f)) c.in-Err-BadNode.field-0-is c.in-Err-BadNode.ensures in
     absurd (let e : ◌≡◌ {A = Option Node} None (Some v) = sym none ∙ there in cc)

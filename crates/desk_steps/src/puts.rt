@@ -1,0 +1,91 @@
+//! Edits that put something under a number.
+
+ghost use Rattle.std.specs.Prelude.{◌≡◌};
+ghost use Rattle.sqlite.specs.Held.{state};
+ghost use Rattle.desk_content.specs.declared.edit.Edit.TheVariants.{PutFields, PutMember, PutMark, PutBlocker, PutNear};
+ghost use Rattle.desk_schema.specs.Steps.{Plays};
+
+use crate::parameters::parameter;
+use ancestry::{MarkKind, Node};
+use bug_record::Member;
+use desk_content::SetFields;
+use desk_text::StoreFault;
+use nearest_marks::Near;
+use node_rows::add_near;
+use set_rows::{add_blocker, add_bug, add_fields, add_mark};
+use sqlite::{Alter, Transaction};
+
+// The set of the key gets these fields.
+pub(crate) fn put_fields<S: Alter>(
+    tx: &mut Transaction<'_, S>,
+    key: u64,
+    fields: &SetFields,
+) -> Result<(), StoreFault>
+    ensures same_reference { tx.new.conn.ghost_name ≡ tx.old.conn.ghost_name }
+    ensures plays { Plays (PutFields key fields.now) (state S.Store tx.old.conn.now) (state S.Store tx.new.conn.now) result }
+{
+    let key = parameter(key)?;
+    add_fields(tx, key, fields)
+}
+
+// The bug comes into the set of the key.
+pub(crate) fn put_member<S: Alter>(
+    tx: &mut Transaction<'_, S>,
+    key: u64,
+    member: &Member,
+) -> Result<(), StoreFault>
+    ensures same_reference { tx.new.conn.ghost_name ≡ tx.old.conn.ghost_name }
+    ensures plays { Plays (PutMember key member.now) (state S.Store tx.old.conn.now) (state S.Store tx.new.conn.now) result }
+{
+    let key = parameter(key)?;
+    let number = parameter(member.number)?;
+    add_bug(
+        tx,
+        key,
+        number,
+        member.title.as_str(),
+        member.submitter.as_str(),
+    )
+}
+
+// The set of the key is marked at a node.
+pub(crate) fn put_mark<S: Alter>(
+    tx: &mut Transaction<'_, S>,
+    key: u64,
+    kind: MarkKind,
+    node: &Node,
+) -> Result<(), StoreFault>
+    ensures same_reference { tx.new.conn.ghost_name ≡ tx.old.conn.ghost_name }
+    ensures plays { Plays (PutMark key kind node.now) (state S.Store tx.old.conn.now) (state S.Store tx.new.conn.now) result }
+{
+    let key = parameter(key)?;
+    add_mark(tx, key, kind, node)
+}
+
+// The set of the key waits on one more bug.
+pub(crate) fn put_blocker<S: Alter>(
+    tx: &mut Transaction<'_, S>,
+    key: u64,
+    blocker: u64,
+) -> Result<(), StoreFault>
+    ensures same_reference { tx.new.conn.ghost_name ≡ tx.old.conn.ghost_name }
+    ensures plays { Plays (PutBlocker key blocker) (state S.Store tx.old.conn.now) (state S.Store tx.new.conn.now) result }
+{
+    let key = parameter(key)?;
+    let blocker = parameter(blocker)?;
+    add_blocker(tx, key, blocker)
+}
+
+// The nearest mark of the set of the key, as seen from a node.
+pub(crate) fn put_near<S: Alter>(
+    tx: &mut Transaction<'_, S>,
+    key: u64,
+    node: &Node,
+    near: &Near,
+) -> Result<(), StoreFault>
+    ensures same_reference { tx.new.conn.ghost_name ≡ tx.old.conn.ghost_name }
+    ensures plays { Plays (PutNear key node.now near.now) (state S.Store tx.old.conn.now) (state S.Store tx.new.conn.now) result }
+{
+    let key = parameter(key)?;
+    add_near(tx, key, node, near)
+}
