@@ -5,7 +5,7 @@ use Rattle.std.specs.List.{AllByRecursion}
 use Rattle.std.specs.Option.{option_and_then}
 use Rattle.std.specs.Str.{IsUtf8}
 use Rattle.sqlite.specs.Order.{Row, column}
-use Rattle.sqlite.specs.State.{State, HasCleanDisk}
+use Rattle.sqlite.specs.State.{State}
 use Rattle.sqlite.specs.Values.{or_null}
 use Rattle.sqlite.specs.declared.types.Value.TheVariants.{Text}
 use Rattle.ancestry.specs.Nodes.{Node, IsNode}
@@ -15,7 +15,7 @@ use Rattle.bug_record.specs.Texts.{IfGiven}
 use Rattle.desk_text.specs.declared.outcome.StoreFault.{StoreFault}
 use Rattle.desk_text.specs.declared.outcome.StoreFault.TheVariants.{Foreign}
 use Rattle.desk_content.specs.Content.{Content}
-use Rattle.desk_schema.specs.Steps.{seen, Goes, Acts}
+use Rattle.desk_schema.specs.Steps.{seen, Goes, Acts, Serves}
 use Rattle.desk_schema.proofs.NodeTexts.{name_utf8}
 use Rattle.node_rows.specs.Links.{link_row, IsLink}
 
@@ -106,12 +106,12 @@ goes_on old new (Err e) P Q g q = tt
 
 pub acts_served : {A B : Type 0} (old new : State) (a : A) (r : Result B StoreFault) (F : Content → Type 0) (P : Content → Content → A → Type 0) (Q : Content → Content → B → Type 0)
     → ((c d : Content) → P c d a → IfOk r (Q c d)) → ((c d : Content) → F c → P c d a → IfErr r (λ fault. fault ≢ Foreign))
-    → (HasCleanDisk new → IsTrue old.in_transaction → IsTrue old.is_open) → Acts old new (Ok a) (λ _. ⊤) P → Acts old new r F Q
+    → Serves {A = A} old new (Ok a) → Acts old new (Ok a) (λ _. ⊤) P → Acts old new r F Q
 acts_served old new a r F P Q work sure serves h = record {
   survives = h.survives;
   keeps = h.keeps;
   ok = λ clean inside. let g = h.ok clean inside in goes_on old new r (λ c d. P c d a) Q g (work _ _ g.changed);
-  sure = λ clean inside free. sure _ _ (free (serves clean inside.begun)) (h.ok clean inside).changed;
+  sure = λ clean inside free. sure _ _ (free (serves clean inside)) (h.ok clean inside).changed;
 }
 
 -- what holds of the answer where something holds of the tables
