@@ -16,3 +16,6 @@ pub mod NearestLists
 pub mod NearestLemmas
 pub mod SetLists
 pub mod SetLemmas
+pub mod MetaLemmas
+pub mod NodeLists
+pub mod NodeLemmas

@@ -1,2 +1,10 @@
 pub mod AddNear
 pub mod ClearNear
+pub mod WriteNext
+pub mod ReadNext
+pub mod AddNode
+pub mod ClearNode
+pub mod AnyOrder
+pub mod NodeKeys
+pub mod ReadLinks
+pub mod FamilyLemmas

@@ -19,7 +19,8 @@ use Rattle.std.proofs.lemmas.List.{map-append}
 use Rattle.sqlite_sql.specs.declared.ops.BinaryOp.TheVariants.{Compare}
 use Rattle.sqlite_sql.specs.declared.ops.CompareOp.TheVariants.{Eq}
 use Rattle.sqlite_value.specs.declared.keys.Collation.TheVariants.{Binary}
-use Rattle.sql_forms.specs.Forms.{passes, equals}
+use Rattle.sqlite.specs.Term.{holds}
+use Rattle.sql_forms.specs.Forms.{passes, equals, equals_at}
 use Rattle.sql_forms.specs.TypedRows.{AreRows}
 
 pub truth_is : (b : Bool) → is_true (from_truth (Some b)) ≡ b
@@ -40,6 +41,18 @@ and_true false = refl
 
 pub hits : (place : ℕ) (k : ℤ) (r : Row) → passes (equals place ∷ []) (Int k ∷ []) r ≡ is_eq (value_cmp (column r place) (Int k))
 hits place k r = and_true _ ∙ test_is (column r place) k
+
+text_is : (v : Value) (t : List ℕ) → is_true (binary (Compare Eq Binary) v (Text t)) ≡ is_eq (value_cmp v (Text t))
+unfolding binary
+text_is Null t = sym (ap is_eq (value_cmp-Null (Text t)))
+text_is (Int n) t = truth_is _
+text_is (Real x) t = truth_is _
+text_is (Text s) t = truth_is _
+text_is (Blob b) t = truth_is _
+
+-- whether a column has the text of a parameter
+pub holds_text : (place at : ℕ) (params r : Row) (t : List ℕ) → column params at ≡ Text t → holds (params ∷ r ∷ []) (equals_at place at) ≡ is_eq (value_cmp (column r place) (Text t))
+holds_text place at params r t is = ap (λ v. is_true (binary (Compare Eq Binary) (column r place) v)) is ∙ text_is (column r place) t
 
 pub same_number : (a b : ℕ) → is_eq (value_cmp (Int (pos a)) (Int (pos b))) ≡ (a == b)
 same_number a b = ap is_eq (value_cmp-Int (pos a) (pos b)) ∙ grind (arith, ints, nat_tests)

@@ -1,0 +1,18 @@
+-- What other rows of meta make of all that the tables say.
+use Rattle.std.proofs.Common.{◌≡◌, ℕ, [], ◌∷◌, refl, ap}
+use Rattle.sqlite.specs.State.{State}
+use Rattle.sql_forms.specs.Forms.{Changes}
+use Rattle.desk_schema.specs.Tables.{META, desk_schema}
+use Rattle.desk_schema.specs.Rows.{meta_cells, next_in, AreShown}
+use Rattle.desk_schema.specs.Steps.{seen}
+use Rattle.desk_schema.proofs.ContentLemmas.{remade}
+use Rattle.desk_schema.proofs.StatementLemmas.{Makes}
+
+-- the next number that the row says
+pub next_is : (s : State) (shown : AreShown s.now.trees) → (seen s).next ≡ shown.meta.0
+next_is s shown = ap next_in shown.meta.1
+
+pub meta_remade : (old new : State) (next : ℕ) → Changes desk_schema old.now new.now META (meta_cells next ∷ []) → AreShown old.now.trees → Makes old new (λ c. record c { next = next })
+meta_remade old new next it shown =
+    remade old new META (meta_cells next ∷ []) it
+    (record { meta = (next, refl); sets = shown.sets; bugs = shown.bugs; marks = shown.marks; blocks = shown.blocks; nodes = shown.nodes; nearest = shown.nearest }) (λ c. record c { next = next }) refl
