@@ -1,14 +1,24 @@
 -- What a question and a change leave of what is remembered.
-use Rattle.std.proofs.Common.{◌≡◌, ◌≢◌, List, [], ◌∷◌, ◌++◌, Result, Ok, Err, IfOk, IfErr, arith, refl, sym, ap, subst, ◌∙◌}
+use Rattle.std.proofs.Common.{◌≡◌, ◌≢◌, List, [], ◌∷◌, ◌++◌, Option, None, Some, Result, Ok, Err, IfOk, IfErr, IfSome, arith, refl, sym, ap, subst, ◌∙◌}
 use Rattle.std.specs.List.{AllByRecursion}
 use Rattle.sqlite.specs.Held.{Held, state}
-use Rattle.sqlite.specs.State.{HasCleanDisk}
+use Rattle.sqlite.specs.State.{HasCleanDisk, Survives}
 use Rattle.sqlite_trees.specs.declared.store.Store as store
+use Rattle.ancestry.specs.Trees.{Ancestry, IsForest}
+use Rattle.bug_record.specs.Desk.{Desk}
+use Rattle.bug_record.specs.Images.{put}
+use Rattle.bug_record.specs.declared.command.Change.{Change}
 use Rattle.desk_text.specs.declared.outcome.StoreFault.{StoreFault}
 use Rattle.desk_text.specs.declared.outcome.StoreFault.TheVariants.{Foreign}
+use Rattle.desk_content.specs.Changes.{FitsContent, changed, cleared_for}
 use Rattle.desk_content.specs.Content.{Content}
-use Rattle.desk_tables.specs.Kept.{content_seen, IsKept, Replies}
-use Rattle.desk_tables.specs.Shown.{HasContent}
+use Rattle.desk_content.specs.Kept.{IsKeptContent}
+use Rattle.desk_content.specs.View.{desk_in}
+use Rattle.desk_content.proofs.ChangeLemmas.{change_desk, change_kept}
+use Rattle.desk_content.proofs.ClosedLemmas.{put_nodes, no_nodes}
+use Rattle.desk_store.specs.Store.{Answers, Applies}
+use Rattle.desk_tables.specs.Kept.{content_seen, desk_seen, IsKept}
+use Rattle.desk_tables.specs.Shown.{HasContent, AreTablesOf}
 use Rattle.desk_tables.specs.Transactions.{IsAsked, IsChanged}
 
 all_push : {X : Type 0} (P : X → Type 0) (xs : List X) (x : X) → AllByRecursion P xs → P x → AllByRecursion P (xs ++ x ∷ [])
@@ -23,53 +33,80 @@ all_last : {X : Type 0} (P : X → Type 0) (xs : List X) (x : X) → AllByRecurs
 all_last P [] x all = all.0
 all_last P (y ∷ xs) x all = all_last P xs x all.1
 
-replies : {A : Type 0} (c : Content) (r : Result A StoreFault) (P : A → Type 0) → IfOk r P → IfErr r (λ fault. fault ≢ Foreign) → Replies c c r P
-replies c (Ok a) P ok sure = (ok, refl)
-replies c (Err fault) P ok sure = (sure, refl)
+-- ---- a question, before which the connection was noted
 
--- a question, before which the connection was noted
-pub record IsNoted {S A : Type 0} (g : store.Ghosts S) (last begun more : List (Held S)) (old new : Held S) (r : Result A StoreFault) (P : Content → A → Type 0) : Type 0 where
+module _ {S A : Type 0} (g : store.Ghosts S) (last begun more : List (Held S)) (old new : Held S) (r : Result A StoreFault) (Fits : Content → Type 0) (P : Content → A → Type 0)
+    (asked : IsAsked (state g old) (state g new) r Fits P) (is : more ≡ begun ++ old ∷ []) where
   pub honest : HasCleanDisk (state g new) → HasCleanDisk (state g old)
-  pub kept : IsKept g last begun old → HasCleanDisk (state g new) → IsKept g last more new
-  pub fact : IsKept g last begun old → HasCleanDisk (state g new) → Replies (content_seen g last) (content_seen g last) r (P (content_seen g last))
-  pub was_kept : IsKept g last more new → HasCleanDisk (state g new) → IsKept g last begun old
+  honest clean = omega (arith, asked.survives.clean, clean)
 
-pub noted : {S A : Type 0} (g : store.Ghosts S) (last begun more : List (Held S)) (old new : Held S) (r : Result A StoreFault) (P : Content → A → Type 0)
-    → IsAsked (state g old) (state g new) r P → more ≡ begun ++ old ∷ [] → IsNoted g last begun more old new r P
-noted g last begun more old new r P asked is = record {
-  honest = λ clean. omega (arith, asked.survives.clean, clean);
-  kept = λ was clean. record {
+  pub kept : (family family' : Option Ancestry) → (IsKept g last begun old family → IfSome family' (λ t. t ≡ (content_seen g last).nodes)) → IsKept g last begun old family → IsKept g last more new family'
+  kept family family' same was = record {
     now = asked.stays (content_seen g last) was.now;
     before = subst (AllByRecursion (λ h. HasContent (content_seen g last) (state g h))) (sym is) (all_push _ begun old was.before was.now);
-  };
-  fact = λ was clean. replies (content_seen g last) r (P (content_seen g last)) (asked.ok (content_seen g last) clean was.now) (asked.sure (content_seen g last) clean was.now);
-  was_kept = λ now clean.
+    content = was.content;
+    family = same was;
+  }
+
+  pub was_kept : (family family' : Option Ancestry) → (IsKept g last more new family' → IfSome family (λ t. t ≡ (content_seen g last).nodes)) → IsKept g last more new family' → IsKept g last begun old family
+  was_kept family family' same now =
       let all = subst (AllByRecursion (λ h. HasContent (content_seen g last) (state g h))) is now.before in
-      record { now = all_last _ begun old all; before = all_front _ begun old all };
-}
+      record { now = all_last _ begun old all; before = all_front _ begun old all; content = now.content; family = same now }
 
--- a change that was made, after which the connection was noted anew
-pub record IsTaken {S : Type 0} (g : store.Ghosts S) (last begun last' begun' : List (Held S)) (old new : Held S) (after : Content → Content) : Type 0 where
-  pub kept : IsKept g last begun old → HasCleanDisk (state g new) → IsKept g last' begun' new
-  pub fact : IsKept g last begun old → HasCleanDisk (state g new) → content_seen g last' ≡ after (content_seen g last)
+  pub answer : (family : Option Ancestry) → IsKept g last begun old family → HasCleanDisk (state g new) → IfOk r (P (content_seen g last))
+  answer family was clean = asked.ok (content_seen g last) clean was.now
 
-abbrev made : Result (Unit {0}) StoreFault
+  pub never : (family : Option Ancestry) → Fits (content_seen g last) → IsKept g last begun old family → HasCleanDisk (state g new) → IfErr r (λ fault. fault ≢ Foreign)
+  never family fits was clean = asked.sure (content_seen g last) clean was.now fits
+
+-- what is answered, with the desk as it was
+pub answers : {A : Type 0} (d : Desk) (r : Result A StoreFault) (P Q : A → Type 0) → ((a : A) → P a → Q a) → IfOk r P → Answers d d r Q
+answers d (Ok a) P Q turn p = (turn a p, refl)
+answers d (Err fault) P Q turn p = refl
+
+-- ---- a change
+
+abbrev pub made : Result (Unit {0}) StoreFault
 made = Ok tt
 
-pub taken : {S : Type 0} (g : store.Ghosts S) (last begun last' begun' : List (Held S)) (old new : Held S) (Free : Content → Type 0) (after : Content → Content)
-    → IsChanged (state g old) (state g new) made Free after → last' ≡ new ∷ [] → begun' ≡ [] → IsTaken g last begun last' begun' old new after
-taken g last begun last' begun' old new Free after changed is none = record {
-  kept = λ was clean. subst (λ l. IsKept g l begun' new) (sym is) (subst (λ b. IsKept g (new ∷ []) b new) (sym none) (record {
-    now = λ clean' open'. ((changed.ok (content_seen g last) clean was.now).1, refl);
-    before = tt;
-  }));
-  fact = λ was clean. ap (content_seen g) is ∙ (changed.ok (content_seen g last) clean was.now).2;
-}
-
-abbrev refused : StoreFault → Result (Unit {0}) StoreFault
+abbrev pub refused : StoreFault → Result (Unit {0}) StoreFault
 refused fault = Err fault
 
--- a change that was not made
-pub stayed : {S : Type 0} (g : store.Ghosts S) (last begun : List (Held S)) (old new : Held S) (fault : StoreFault) (Free : Content → Type 0) (after : Content → Content)
-    → IsChanged (state g old) (state g new) (refused fault) Free after → IsKept g last begun old → IsKept g last begun new
-stayed g last begun old new fault Free after changed was = record { now = changed.err (content_seen g last) was.now; before = was.before }
+-- the change fits what was seen, over this tree
+abbrev pub FitsOver : Ancestry → Change → Content → Type 0
+FitsOver t change c = IsKeptContent c × FitsContent c change × (c.nodes ≡ t)
+
+module _ {S : Type 0} (g : store.Ghosts S) (last begun : List (Held S)) (old new : Held S) (t : Ancestry) (change : Change) where
+  fits_here : IsKept g last begun old (Some t) → FitsContent (content_seen g last) change → FitsOver t change (content_seen g last)
+  fits_here was fits = (was.content, fits, sym was.family)
+
+  -- it was made, and after it the connection was noted anew
+  module _ (last' begun' : List (Held S)) (changes : IsChanged (state g old) (state g new) made (FitsOver t change) (λ c. changed c change)) (is : last' ≡ new ∷ []) (none : begun' ≡ []) where
+    says : IsKept g last begun old (Some t) → FitsContent (content_seen g last) change → HasCleanDisk (state g new) → content_seen g last' ≡ changed (content_seen g last) change
+    says was fits clean = ap (content_seen g) is ∙ (changes.ok (content_seen g last) clean was.now (fits_here was fits)).2
+
+    pub taken_kept : IsKept g last begun old (Some t) → FitsContent (content_seen g last) change → HasCleanDisk (state g new) → IsKept g last' begun' new (Some t)
+    taken_kept was fits clean =
+        let c = content_seen g last in
+        let now = says was fits clean in
+        subst (λ b. IsKept g last' b new (Some t)) (sym none) (record {
+          now = subst (λ l. HasContent (content_seen g l) (state g new)) (sym is) (λ clean' open'. ((changes.ok c clean was.now (fits_here was fits)).1, refl));
+          before = tt;
+          content = subst IsKeptContent (sym now) (change_kept c change was.content fits);
+          family = was.family ∙ sym (put_nodes change.images (cleared_for c change) ∙ no_nodes c change.images c) ∙ sym (ap (λ (k : Content). k.nodes) now);
+        })
+
+    pub taken_desk : IsKept g last begun old (Some t) → FitsContent (content_seen g last) change → HasCleanDisk (state g new) → desk_seen g last' ≡ put (desk_seen g last) change
+    taken_desk was fits clean = ap desk_in (says was fits clean) ∙ change_desk (content_seen g last) change was.content fits
+
+  -- it was not made
+  pub stayed : (fault : StoreFault) → IsChanged (state g old) (state g new) (refused fault) (FitsOver t change) (λ c. changed c change) → IsKept g last begun old (Some t) → IsKept g last begun new (Some t)
+  stayed fault changes was = record { now = changes.err (content_seen g last) was.now; before = was.before; content = was.content; family = was.family }
+
+  pub crashed : (r : Result (Unit {0}) StoreFault) → IsChanged (state g old) (state g new) r (FitsOver t change) (λ c. changed c change) → IsKept g last begun old (Some t) → FitsContent (content_seen g last) change
+      → Survives (state g old) (state g new) (AreTablesOf (changed (content_seen g last) change))
+  crashed r changes was fits = changes.crash (content_seen g last) was.now (fits_here was fits)
+
+  pub never_foreign : (fault : StoreFault) → IsChanged (state g old) (state g new) (refused fault) (FitsOver t change) (λ c. changed c change) → IsKept g last begun old (Some t) → FitsContent (content_seen g last) change
+      → HasCleanDisk (state g new) → fault ≢ Foreign
+  never_foreign fault changes was fits clean = changes.sure (content_seen g last) clean was.now (fits_here was fits)

@@ -11,7 +11,7 @@ use Rattle.sql_forms.specs.Faults.{fault_of}
 use Rattle.sql_forms.proofs.FailLemmas.{commit_free}
 use Rattle.desk_content.specs.Content.{Content}
 use Rattle.desk_schema.specs.Rows.{content_of, AreShown}
-use Rattle.desk_schema.specs.Steps.{IsInside, seen, Goes, Acts, Reads, Serves}
+use Rattle.desk_schema.specs.Steps.{IsInside, seen, Goes, Acts, Serves}
 use Rattle.desk_schema.proofs.StepLemmas.{done, failed}
 use Rattle.desk_tables.specs.Shown.{IsDesk, HasContent, AreTablesOf}
 use Rattle.desk_tables.specs.Transactions.{IsAsked, IsChanged, Ends}
@@ -39,13 +39,13 @@ undone old mid new c shows kept back o =
       ap (λ (d : Database). content_of d.trees) now ∙ was.1,
     )
 
-pub asked : {A : Type 0} (old mid new : State) (r : Result A StoreFault) (P : Content → A → Type 0) → old.step_limit ≡ None → Reads P (begun old) mid r → Serves (begun old) mid r
-    → (HasCleanDisk new → IsRolledBack mid new) → Survives mid new (λ _. ⊥) → IsAsked old new r P
-asked {A = A} old mid new r P limit runs serves back survives = record {
+pub asked : {A : Type 0} (old mid new : State) (r : Result A StoreFault) (Fits : Content → Type 0) (P : Content → A → Type 0) → old.step_limit ≡ None
+    → Acts (begun old) mid r Fits (λ c d a. (d ≡ c) × P c a) → Serves (begun old) mid r → (HasCleanDisk new → IsRolledBack mid new) → Survives mid new (λ _. ⊥) → IsAsked old new r Fits P
+asked {A = A} old mid new r Fits P limit runs serves back survives = record {
   survives = survives_then old mid new _ _ (λ _. ⊥) (λ _ db none. none) (λ _ db none. none) (record { clean = one.clean; shield = one.shield; counts = one.counts; limit = one.limit; closes = one.closes; crash = one.crash }) survives;
   stays = λ c shows clean o. undone old mid new c (shows (early clean)) (runs.keeps (late clean) (begins old c limit (early clean) shows)) (back clean) o;
   ok = λ c clean shows. answered r c (λ o. (shows (early clean) o).1) (serves (late clean) (begins old c limit (early clean) shows)) (runs.ok (late clean) (begins old c limit (early clean) shows));
-  sure = λ c clean shows. runs.sure (late clean) (begins old c limit (early clean) shows) (λ o. tt);
+  sure = λ c clean shows fits. runs.sure (late clean) (begins old c limit (early clean) shows) (λ o. subst Fits (sym (shows (early clean) o).1) fits);
 }
   where
     one : Survives (begun old) mid (λ _. ⊥)
@@ -92,9 +92,9 @@ it_went : {X : Type 0} (did : Result (Unit {0}) StoreFault) → IsOk did → IfO
 it_went (Ok u) o x = x
 it_went (Err e) o x = absurd (true≢false (sym o))
 
-pub altered : (old mid new : State) (did r : Result (Unit {0}) StoreFault) (Free : Content → Type 0) (after : Content → Content) → old.step_limit ≡ None
-    → Acts (begun old) mid did Free (λ c d _. d ≡ after c) → Serves (begun old) mid did → Ends mid new did r → IsChanged old new r Free after
-altered old mid new did r Free after limit runs serves ends = record { honest = early; ok = oks r ends.ok; err = λ c shows. errs r ends.err c shows; sure = sures r ends.err; crash = crash }
+pub altered : (old mid new : State) (did r : Result (Unit {0}) StoreFault) (Fits : Content → Type 0) (after : Content → Content) → old.step_limit ≡ None
+    → Acts (begun old) mid did Fits (λ c d _. Fits c → d ≡ after c) → Serves (begun old) mid did → Ends mid new did r → IsChanged old new r Fits after
+altered old mid new did r Fits after limit runs serves ends = record { honest = early; ok = oks r ends.ok; err = λ c shows. errs r ends.err c shows; sure = sures r ends.err; crash = crash }
   where
     one : Survives (begun old) mid (λ _. ⊥)
     one = runs.survives
@@ -108,19 +108,21 @@ altered old mid new did r Free after limit runs serves ends = record { honest = 
     inside : (c : Content) → HasCleanDisk new → HasContent c old → IsInside (begun old)
     inside c clean shows = begins old c limit (early clean) shows
 
-    went : (c : Content) → HasCleanDisk new → HasContent c old → IsOk did → Goes (begun old) mid (λ c d. d ≡ after c)
+    went : (c : Content) → HasCleanDisk new → HasContent c old → IsOk did → Goes (begun old) mid (λ c d. Fits c → d ≡ after c)
     went c clean shows o = it_went did o (runs.ok (late clean) (inside c clean shows))
 
     live : (c : Content) → HasCleanDisk new → HasContent c old → IsOk did → IsTrue old.is_open
     live c clean shows o = it_went did o (serves (late clean) (inside c clean shows))
 
-    content : (c : Content) → HasCleanDisk new → HasContent c old → IsOk did → seen mid ≡ after c
-    content c clean shows o = (went c clean shows o).changed ∙ ap after (shows (early clean) (live c clean shows o)).1
+    content : (c : Content) → HasCleanDisk new → HasContent c old → Fits c → IsOk did → seen mid ≡ after c
+    content c clean shows fits o =
+        let same : seen old ≡ c = (shows (early clean) (live c clean shows o)).1 in
+        (went c clean shows o).changed (subst Fits (sym same) fits) ∙ ap after same
 
     oks : (r : Result (Unit {0}) StoreFault) → (HasCleanDisk new → IfOk r (λ _. IsOk did × IsTrue mid.is_open × IsTrue new.is_open × (new.now ≡ mid.now) × (new.committed ≡ mid.now)))
-        → (c : Content) → HasCleanDisk new → HasContent c old → IfOk r (λ _. IsTrue new.is_open × IsDesk new × (seen new ≡ after c))
-    oks (Err e) ended c clean shows = tt
-    oks (Ok u) ended c clean shows =
+        → (c : Content) → HasCleanDisk new → HasContent c old → Fits c → IfOk r (λ _. IsTrue new.is_open × IsDesk new × (seen new ≡ after c))
+    oks (Err e) ended c clean shows fits = tt
+    oks (Ok u) ended c clean shows fits =
         let h = ended clean in
         let g = went c clean shows h.0 in (
           h.2,
@@ -130,7 +132,7 @@ altered old mid new did r Free after limit runs serves ends = record { honest = 
             sound = subst IsDatabase (sym h.3) (g.inside.sound h.1);
             shown = subst (λ (d : Database). AreShown d.trees) (sym h.3) (g.inside.shown h.1);
           },
-          ap (λ (d : Database). content_of d.trees) h.3 ∙ content c clean shows h.0,
+          ap (λ (d : Database). content_of d.trees) h.3 ∙ content c clean shows fits h.0,
         )
 
     errs : (r : Result (Unit {0}) StoreFault) → (HasCleanDisk new → (IsOk did → IsTrue mid.in_transaction) → IfErr r (λ fault. IsRolledBack mid new × (fault ≢ Foreign ⊎ (did ≡ failed fault))))
@@ -139,21 +141,21 @@ altered old mid new did r Free after limit runs serves ends = record { honest = 
     errs (Err e) ended c shows = λ clean o. undone old mid new c (shows (early clean)) (runs.keeps (late clean) (inside c clean shows)) (ended clean (λ ok. (went c clean shows ok).inside.begun)).0 o
 
     sures : (r : Result (Unit {0}) StoreFault) → (HasCleanDisk new → (IsOk did → IsTrue mid.in_transaction) → IfErr r (λ fault. IsRolledBack mid new × (fault ≢ Foreign ⊎ (did ≡ failed fault))))
-        → (c : Content) → HasCleanDisk new → HasContent c old → Free c → IfErr r (λ fault. fault ≢ Foreign)
-    sures (Ok u) ended c clean shows free = tt
-    sures (Err e) ended c clean shows free = elim ((ended clean (λ ok. (went c clean shows ok).inside.begun)).1) [
+        → (c : Content) → HasCleanDisk new → HasContent c old → Fits c → IfErr r (λ fault. fault ≢ Foreign)
+    sures (Ok u) ended c clean shows fits = tt
+    sures (Err e) ended c clean shows fits = elim ((ended clean (λ ok. (went c clean shows ok).inside.begun)).1) [
       | inl sure ↦ sure
-      | inr same ↦ subst (λ r. IfErr r (λ fault. fault ≢ Foreign)) same (runs.sure (late clean) (inside c clean shows) (λ o. subst Free (sym (shows (early clean) o).1) free))
+      | inr same ↦ subst (λ r. IfErr r (λ fault. fault ≢ Foreign)) same (runs.sure (late clean) (inside c clean shows) (λ o. subst Fits (sym (shows (early clean) o).1) fits))
     ]
 
-    crash : (c : Content) → HasContent c old → Survives old new (AreTablesOf (after c))
-    crash c shows = survives_then old mid new _ _ (AreTablesOf (after c)) (λ _ db none. absurd none)
+    crash : (c : Content) → HasContent c old → Fits c → Survives old new (AreTablesOf (after c))
+    crash c shows fits = survives_then old mid new _ _ (AreTablesOf (after c)) (λ _ db none. absurd none)
         (λ clean db p.
         let g = went c clean shows p.0 in
         let o = g.serves (live c clean shows p.0) in
         subst (AreTablesOf (after c)) (sym p.1) (record {
           sound = subst (λ s. IsDatabase (record { schema = s; trees = mid.now.trees })) (g.inside.schema o) (g.inside.sound o);
           shown = g.inside.shown o;
-          content = content c clean shows p.0;
+          content = content c clean shows fits p.0;
         }))
         (record { clean = one.clean; shield = one.shield; counts = one.counts; limit = one.limit; closes = one.closes; crash = one.crash }) ends.survives

@@ -1,53 +1,128 @@
 //! Transactions over a connection, one for each call.
 
-ghost use Rattle.std.specs.Prelude.{◌≡◌, false, None};
+ghost use Rattle.std.specs.Prelude.{◌≡◌, false, None, ⊤};
 ghost use Rattle.sqlite.specs.Held.{state};
-ghost use Rattle.desk_content.specs.Edits.{edited_all};
-ghost use Rattle.desk_content.specs.Free.{AreFree};
-ghost use Rattle.desk_steps.specs.Blockers.{blocker_edits};
-ghost use Rattle.set_rows.specs.Waiting.{AreKeysOf};
+ghost use Rattle.ancestry.specs.Trees.{IsForest};
+ghost use Rattle.desk_content.specs.Changes.{FitsContent, changed};
+ghost use Rattle.desk_content.specs.Kept.{IsKeptContent};
+ghost use Rattle.desk_content.specs.View.{desk_in};
+ghost use Rattle.desk_store.specs.Store.{IsImageOf, AreWaitingOn};
 ghost use Rattle.desk_tables.specs.Transactions.{IsAsked, IsChanged, Ends};
 
-use bug_record::Numbers;
+use bug_record::{Change, Numbers, Sequence, SetImage};
+use desk_reads::{read_set_of, read_waiting_on};
 use desk_schema::fault_of;
-use desk_steps::put_blockers;
+use desk_steps::put_change;
 use desk_text::StoreFault;
-use set_rows::{read_blockers, read_waiting};
+use nearest_marks::Family;
+use node_rows::{read_family, read_next};
 use sqlite::{Alter, Connection, Transaction};
 use std::alloc::Global;
 
-// Which bugs the set of a key waits on.
-pub(crate) fn ask_blockers<S: Alter>(
+// The image of the set that the bug is in, if there is such a bug.
+fn ask_small_set_of<S: Alter>(
     alloc: Global,
     conn: &mut Connection<S>,
-    key: u32,
-) -> Result<Numbers, StoreFault>
+    number: u32,
+) -> Result<Option<SetImage>, StoreFault>
     requires autocommit { conn.old.in_transaction ≡ false }
     requires unlimited { conn.old.step_limit ≡ None }
     ensures autocommit { conn.new.in_transaction ≡ false }
     ensures unlimited { conn.new.step_limit ≡ None }
-    ensures asked { IsAsked (state S.Store conn.old) (state S.Store conn.new) result (λ c numbers. numbers ≡ c.blockers key) }
+    ensures asked { IsAsked (state S.Store conn.old) (state S.Store conn.new) result IsKeptContent
+        (λ c found. IsKeptContent c → IsImageOf (desk_in c) number found) }
 {
     let mut tx = conn.transaction();
-    let answer = read_blockers(alloc, &mut tx, key);
+    let answer = read_set_of(alloc, &mut tx, number);
     tx.rollback();
     answer
 }
 
-// Which keys' sets wait on a bug.
-pub(crate) fn ask_waiting<S: Alter>(
+// The image of the set that the bug is in, if there is such a bug; none has a number that is no u32.
+pub(crate) fn ask_set_of<S: Alter>(
     alloc: Global,
     conn: &mut Connection<S>,
-    blocker: u32,
+    number: u64,
+) -> Result<Option<SetImage>, StoreFault>
+    requires autocommit { conn.old.in_transaction ≡ false }
+    requires unlimited { conn.old.step_limit ≡ None }
+    ensures autocommit { conn.new.in_transaction ≡ false }
+    ensures unlimited { conn.new.step_limit ≡ None }
+    ensures asked { IsAsked (state S.Store conn.old) (state S.Store conn.new) result IsKeptContent
+        (λ c found. IsKeptContent c → IsImageOf (desk_in c) number found) }
+{
+    match u32::try_from(number) {
+        Ok(number) => ask_small_set_of(alloc, conn, number),
+        Err(_) => Ok(None),
+    }
+}
+
+// The next number.
+pub(crate) fn ask_next<S: Alter>(conn: &mut Connection<S>) -> Result<u64, StoreFault>
+    requires autocommit { conn.old.in_transaction ≡ false }
+    requires unlimited { conn.old.step_limit ≡ None }
+    ensures autocommit { conn.new.in_transaction ≡ false }
+    ensures unlimited { conn.new.step_limit ≡ None }
+    ensures asked { IsAsked (state S.Store conn.old) (state S.Store conn.new) result (λ _. ⊤) (λ c next. next ≡ c.next) }
+{
+    let mut tx = conn.transaction();
+    let answer = read_next(&mut tx);
+    tx.rollback();
+    answer
+}
+
+// The numbers of the bugs whose set waits on the bug.
+fn ask_small_waiting_on<S: Alter>(
+    alloc: Global,
+    conn: &mut Connection<S>,
+    number: u32,
 ) -> Result<Numbers, StoreFault>
     requires autocommit { conn.old.in_transaction ≡ false }
     requires unlimited { conn.old.step_limit ≡ None }
     ensures autocommit { conn.new.in_transaction ≡ false }
     ensures unlimited { conn.new.step_limit ≡ None }
-    ensures asked { IsAsked (state S.Store conn.old) (state S.Store conn.new) result (AreKeysOf blocker) }
+    ensures asked { IsAsked (state S.Store conn.old) (state S.Store conn.new) result IsKeptContent
+        (λ c numbers. IsKeptContent c → AreWaitingOn (desk_in c) number numbers) }
 {
     let mut tx = conn.transaction();
-    let answer = read_waiting(alloc, &mut tx, blocker);
+    let answer = read_waiting_on(alloc, &mut tx, number);
+    tx.rollback();
+    answer
+}
+
+// The numbers of the bugs whose set waits on the bug; none waits on a number that is no u32.
+pub(crate) fn ask_waiting_on<S: Alter>(
+    alloc: Global,
+    conn: &mut Connection<S>,
+    number: u64,
+) -> Result<Numbers, StoreFault>
+    requires autocommit { conn.old.in_transaction ≡ false }
+    requires unlimited { conn.old.step_limit ≡ None }
+    ensures autocommit { conn.new.in_transaction ≡ false }
+    ensures unlimited { conn.new.step_limit ≡ None }
+    ensures asked { IsAsked (state S.Store conn.old) (state S.Store conn.new) result IsKeptContent
+        (λ c numbers. IsKeptContent c → AreWaitingOn (desk_in c) number numbers) }
+{
+    match u32::try_from(number) {
+        Ok(number) => ask_small_waiting_on(alloc, conn, number),
+        Err(_) => Ok(Sequence::new(alloc)),
+    }
+}
+
+// The tree.
+pub(crate) fn ask_family<S: Alter>(
+    alloc: Global,
+    conn: &mut Connection<S>,
+) -> Result<Family, StoreFault>
+    requires autocommit { conn.old.in_transaction ≡ false }
+    requires unlimited { conn.old.step_limit ≡ None }
+    ensures autocommit { conn.new.in_transaction ≡ false }
+    ensures unlimited { conn.new.step_limit ≡ None }
+    ensures asked { IsAsked (state S.Store conn.old) (state S.Store conn.new) result (λ c. IsForest c.nodes)
+        (λ c family. IsForest c.nodes → family ≡ c.nodes) }
+{
+    let mut tx = conn.transaction();
+    let answer = read_family(alloc, &mut tx);
     tx.rollback();
     answer
 }
@@ -69,19 +144,21 @@ fn finish<S: Alter>(tx: Transaction<'_, S>, done: Result<(), StoreFault>) -> Res
     }
 }
 
-// Puts blockers in the place of those of the set of a key.
-pub(crate) fn change_blockers<S: Alter>(
+// Carries a change out.
+pub(crate) fn change_sets<S: Alter>(
+    alloc: Global,
     conn: &mut Connection<S>,
-    key: u64,
-    blockers: &[u64],
+    family: &Family,
+    change: &Change,
 ) -> Result<(), StoreFault>
     requires autocommit { conn.old.in_transaction ≡ false }
     requires unlimited { conn.old.step_limit ≡ None }
     ensures autocommit { conn.new.in_transaction ≡ false }
     ensures unlimited { conn.new.step_limit ≡ None }
-    ensures changed { IsChanged (state S.Store conn.old) (state S.Store conn.new) result (AreFree (blocker_edits key blockers.now)) (edited_all (blocker_edits key blockers.now)) }
+    ensures changed { IsChanged (state S.Store conn.old) (state S.Store conn.new) result
+        (λ c. IsKeptContent c × FitsContent c change.now × (c.nodes ≡ family.now)) (λ c. changed c change.now) }
 {
     let mut tx = conn.transaction();
-    let done = put_blockers(&mut tx, key, blockers);
+    let done = put_change(alloc, &mut tx, family, change);
     finish(tx, done)
 }

@@ -1,62 +1,24 @@
 //! The desk over a connection.
 
-ghost use Rattle.std.specs.Prelude.{◌≡◌, ◌≢◌, List, false, None, [], ◌∷◌, ◌++◌, IfErr, Result};
+ghost use Rattle.std.specs.Prelude.{◌≡◌, ◌≢◌, ◌++◌, ◌∷◌, [], List, false, Err, None, IfErr, OnOk, is_some, true, Result};
 ghost use Rattle.sqlite.specs.Held.{state};
 ghost use Rattle.sqlite.specs.State.{HasCleanDisk, Survives};
-ghost use Rattle.desk_content.specs.Content.{Content};
-ghost use Rattle.desk_content.specs.Edits.{edited_all};
-ghost use Rattle.desk_content.specs.Free.{AreFree};
-ghost use Rattle.desk_schema.specs.Steps.{seen};
-ghost use Rattle.desk_steps.specs.Blockers.{blocker_edits};
-ghost use Rattle.desk_store.specs.Store.{Holds, Asks};
-ghost use Rattle.desk_text.specs.declared.outcome.StoreFault.{StoreFault};
+ghost use Rattle.bug_record.specs.Sets.{Each};
+ghost use Rattle.bug_record.specs.Images.{AreApart, HasMember, FitsDesk};
+ghost use Rattle.desk_content.specs.Changes.{FitsContent, changed};
+ghost use Rattle.desk_store.specs.Store.{Holds, Asks, Answers, Applies, IsImageOf, IsNext, AreWaitingOn, faults_after, no_faults, total};
 ghost use Rattle.desk_text.specs.declared.outcome.StoreFault.TheVariants.{Foreign};
-ghost use Rattle.set_rows.specs.Waiting.{AreKeysOf};
-ghost use Rattle.desk_tables.specs.Kept.{content_seen, IsKept, Replies, Becomes};
-ghost use Rattle.desk_tables.specs.Shown.{HasContent, AreTablesOf};
+ghost use Rattle.desk_tables.specs.Kept.{content_seen, desk_seen, IsKept};
+ghost use Rattle.desk_tables.specs.Shown.{AreTablesOf};
 
-use crate::calls::{ask_blockers, ask_waiting, change_blockers};
-use bug_record::Numbers;
+use crate::calls::{ask_family, ask_next, ask_set_of, ask_waiting_on, change_sets};
+use crate::counts::Counts;
+use bug_record::{Change, Numbers, SetImage};
 use desk_text::StoreFault;
+use nearest_marks::Family;
 use seen_values::Seen;
 use sqlite::{Alter, Connection};
 use std::alloc::Global;
-
-/// A store of the blockers of sets.
-///
-/// What it says of its content holds where its tables are kept as a call begins and the disk was
-/// honest up to its end, and then they are kept again.
-/// After a fault the content is as before.
-pub trait BlockerRecords {
-    /// The content.
-    ghost content: { Self → Content };
-
-    /// The content is kept as it has to be.
-    ghost is_kept: { Self → Type 0 };
-
-    /// So far the disk has returned what was written to it.
-    ghost is_honest: { Self → Type 0 };
-
-    /// The bugs that the set of the key waits on, ascending.
-    /// Its errors are the store's faults, and `Memory` where there is none for the numbers.
-    fn blockers_of(&mut self, key: u32) -> Result<Numbers, StoreFault>
-        ensures answer { Asks is_kept is_honest self.old self.new
-            (Replies (content self.old) (content self.new) result (λ numbers. numbers ≡ (content self.old).blockers key)) };
-
-    /// The keys of the sets that wait on the bug, in any order.
-    /// Its errors are the store's faults, and `Memory` where there is none for the keys.
-    fn keys_waiting_on(&mut self, blocker: u32) -> Result<Numbers, StoreFault>
-        ensures answer { Asks is_kept is_honest self.old self.new
-            (Replies (content self.old) (content self.new) result (AreKeysOf blocker (content self.old))) };
-
-    /// Puts blockers in the place of those of the set of the key, in one step.
-    /// Where none comes twice, it fails for memory, the disk or its size alone.
-    fn put_blockers(&mut self, key: u64, blockers: &[u64]) -> Result<(), StoreFault>
-        ensures answer { Holds is_kept is_honest self.old self.new
-            (Becomes (content self.old) (content self.new) result (edited_all (blocker_edits key blockers.now))) }
-        ensures sure { is_kept self.old → is_honest self.new → AreFree (blocker_edits key blockers.now) (content self.old) →
-            IfErr result (λ fault. fault ≢ Foreign) };
-}
 
 /// A desk in the tables of a connection.
 ///
@@ -66,6 +28,9 @@ pub trait BlockerRecords {
 pub struct TableDesk<S: Alter> {
     conn: Connection<S>,
     alloc: Global,
+    // The tree, once a call has read it.
+    family: Option<Family>,
+    counts: Counts,
     // The connection as the content was last made or found.
     last: Seen<Connection<S>>,
     // The connection as each question since then began.
@@ -74,71 +39,187 @@ pub struct TableDesk<S: Alter> {
     ghost unlimited: { conn.step_limit ≡ None },
 }
 
-impl<S: Alter> TableDesk<S> {
-    /// The desk that a connection shows, outside a transaction; nothing is read yet.
-    /// It is kept where the tables are a desk's.
-    /// From now on no statement has a limit of steps.
-    pub fn over(alloc: Global, conn: Connection<S>) -> TableDesk<S>
-        requires autocommit { conn.in_transaction ≡ false }
-        ensures content { content_seen S.Store result.last.values ≡ seen (state S.Store conn) }
-        ensures kept { HasContent (seen (state S.Store conn)) (state S.Store conn) →
-            IsKept S.Store result.last.values result.begun.values result.conn }
-        ensures honest { HasCleanDisk (state S.Store conn) → HasCleanDisk (state S.Store result.conn) }
-    {
-        let mut conn = conn;
-        conn.set_step_limit(None);
-        let last = Seen::new().and(&conn);
-        TableDesk {
-            conn,
-            alloc,
-            last,
-            begun: Seen::new(),
-        }
-    }
-}
-
 // It is written out, so that a caller does not prove again how each part is dropped.
 impl<S: Alter + Drop> Drop for TableDesk<S> {
     fn drop(self) {
         let TableDesk {
             conn: _,
             alloc: _,
+            family: _,
+            counts: _,
             last: _,
             begun: _,
         } = self;
     }
 }
 
-impl<S: Alter> BlockerRecords for TableDesk<S> {
-    ghost content = { λ d. content_seen S.Store d.last.values };
-
-    ghost is_kept = { λ d. IsKept S.Store d.last.values d.begun.values d.conn };
-
-    ghost is_honest = { λ d. HasCleanDisk (state S.Store d.conn) };
-
-    fn blockers_of(&mut self, key: u32) -> Result<Numbers, StoreFault> {
-        self.begun = self.begun.and(&self.conn);
-        ask_blockers(self.alloc, &mut self.conn, key)
-    }
-
-    fn keys_waiting_on(&mut self, blocker: u32) -> Result<Numbers, StoreFault> {
-        self.begun = self.begun.and(&self.conn);
-        ask_waiting(self.alloc, &mut self.conn, blocker)
-    }
-
-    /// A crash at any moment of the call leaves what it would have left before, or the content
-    /// after the call.
-    fn put_blockers(&mut self, key: u64, blockers: &[u64]) -> Result<(), StoreFault>
-        ensures answer { Holds (λ d. IsKept S.Store d.last.values d.begun.values d.conn) (λ d. HasCleanDisk (state S.Store d.conn)) self.old self.new
-            (Becomes (content_seen S.Store self.old.last.values) (content_seen S.Store self.new.last.values) result (edited_all (blocker_edits key blockers.now))) }
-        ensures sure { IsKept S.Store self.old.last.values self.old.begun.values self.old.conn → HasCleanDisk (state S.Store self.new.conn) →
-            AreFree (blocker_edits key blockers.now) (content_seen S.Store self.old.last.values) → IfErr result (λ fault. fault ≢ Foreign) }
-        ensures crash { IsKept S.Store self.old.last.values self.old.begun.values self.old.conn →
-            Survives (state S.Store self.old.conn) (state S.Store self.new.conn) (AreTablesOf (edited_all (blocker_edits key blockers.now) (content_seen S.Store self.old.last.values))) }
+impl<S: Alter> TableDesk<S> {
+    // The desk that a connection shows, outside a transaction and with no limit of steps.
+    // Nothing is read yet.
+    pub(crate) fn over(alloc: Global, conn: Connection<S>) -> TableDesk<S>
+        requires autocommit { conn.in_transaction ≡ false }
+        requires unlimited { conn.step_limit ≡ None }
+        ensures conn { result.conn ≡ conn }
+        ensures last { result.last.values ≡ conn ∷ [] }
+        ensures begun { result.begun.values ≡ [] }
+        ensures family { result.family ≡ None }
+        ensures counts { result.counts ≡ no_faults }
     {
-        change_blockers(&mut self.conn, key, blockers)?;
+        let last = Seen::new().and(&conn);
+        TableDesk {
+            conn,
+            alloc,
+            family: None,
+            counts: Counts::new(),
+            last,
+            begun: Seen::new(),
+        }
+    }
+
+    /// Hands the connection back.
+    /// It takes no memory.
+    pub fn close(self) -> Connection<S>
+        ensures conn { result ≡ self.conn }
+        ensures autocommit { result.in_transaction ≡ false }
+    {
+        let TableDesk {
+            conn,
+            alloc: _,
+            family: _,
+            counts: _,
+            last: _,
+            begun: _,
+        } = self;
+        conn
+    }
+
+    /// The image of the set that the bug is in; `None` exactly where there is no bug of this
+    /// number.
+    pub fn set_of(&mut self, number: u64) -> Result<Option<SetImage>, StoreFault>
+        ensures answer { Asks (λ d. IsKept S.Store d.last.values d.begun.values d.conn d.family) (λ d. HasCleanDisk (state S.Store d.conn)) self.old self.new
+            (Answers (desk_seen S.Store self.old.last.values) (desk_seen S.Store self.new.last.values) result (IsImageOf (desk_seen S.Store self.old.last.values) number)) }
+        ensures sure { IsKept S.Store self.old.last.values self.old.begun.values self.old.conn self.old.family → HasCleanDisk (state S.Store self.new.conn) →
+            IfErr result (λ fault. fault ≢ Foreign) }
+        ensures count { self.new.counts ≡ faults_after result self.old.counts }
+    {
+        self.begun = self.begun.and(&self.conn);
+        let answer = ask_set_of(self.alloc, &mut self.conn, number);
+        self.counts.note(answer)
+    }
+
+    /// The number of the next bug: 1,000,000,000 where no number is left.
+    pub fn next(&mut self) -> Result<u64, StoreFault>
+        ensures answer { Asks (λ d. IsKept S.Store d.last.values d.begun.values d.conn d.family) (λ d. HasCleanDisk (state S.Store d.conn)) self.old self.new
+            (Answers (desk_seen S.Store self.old.last.values) (desk_seen S.Store self.new.last.values) result (IsNext (desk_seen S.Store self.old.last.values))) }
+        ensures sure { IsKept S.Store self.old.last.values self.old.begun.values self.old.conn self.old.family → HasCleanDisk (state S.Store self.new.conn) →
+            IfErr result (λ fault. fault ≢ Foreign) }
+        ensures count { self.new.counts ≡ faults_after result self.old.counts }
+    {
+        self.begun = self.begun.and(&self.conn);
+        let answer = ask_next(&mut self.conn);
+        self.counts.note(answer)
+    }
+
+    /// The numbers of all bugs that wait on the bug of this number, ascending: those that have it
+    /// among their blockers.
+    /// Its errors are the store's faults, and `Memory` where there is none for the numbers.
+    pub fn waiting_on(&mut self, number: u64) -> Result<Numbers, StoreFault>
+        ensures answer { Asks (λ d. IsKept S.Store d.last.values d.begun.values d.conn d.family) (λ d. HasCleanDisk (state S.Store d.conn)) self.old self.new
+            (Answers (desk_seen S.Store self.old.last.values) (desk_seen S.Store self.new.last.values) result (AreWaitingOn (desk_seen S.Store self.old.last.values) number)) }
+        ensures sure { IsKept S.Store self.old.last.values self.old.begun.values self.old.conn self.old.family → HasCleanDisk (state S.Store self.new.conn) →
+            IfErr result (λ fault. fault ≢ Foreign) }
+        ensures count { self.new.counts ≡ faults_after result self.old.counts }
+    {
+        self.begun = self.begun.and(&self.conn);
+        let answer = ask_waiting_on(self.alloc, &mut self.conn, number);
+        self.counts.note(answer)
+    }
+
+    // Reads the tree, where no call has read it yet.
+    fn load(&mut self) -> Result<(), StoreFault>
+        ensures answer { Asks (λ d. IsKept S.Store d.last.values d.begun.values d.conn d.family) (λ d. HasCleanDisk (state S.Store d.conn)) self.old self.new
+            (self.new.last.values ≡ self.old.last.values) }
+        ensures sure { IsKept S.Store self.old.last.values self.old.begun.values self.old.conn self.old.family → HasCleanDisk (state S.Store self.new.conn) →
+            IfErr result (λ fault. fault ≢ Foreign) }
+        ensures some { OnOk result (is_some self.new.family ≡ true) }
+        ensures last { self.new.last.values ≡ self.old.last.values }
+        ensures survives { Survives (state S.Store self.old.conn) (state S.Store self.new.conn) (λ _. ⊥) }
+        ensures counts { self.new.counts ≡ self.old.counts }
+    {
+        if self.family.is_some() {
+            return Ok(());
+        }
+        self.begun = self.begun.and(&self.conn);
+        let family = ask_family(self.alloc, &mut self.conn)?;
+        self.family = Some(family);
+        Ok(())
+    }
+
+    // Carries a change out over the tree that was read.
+    fn make(&mut self, change: &Change) -> Result<(), StoreFault>
+        requires loaded { is_some self.old.family ≡ true }
+        requires fits { IsKept S.Store self.old.last.values self.old.begun.values self.old.conn self.old.family → HasCleanDisk (state S.Store self.old.conn) →
+            FitsContent (content_seen S.Store self.old.last.values) change.now }
+        ensures answer { Holds (λ d. IsKept S.Store d.last.values d.begun.values d.conn d.family) (λ d. HasCleanDisk (state S.Store d.conn)) self.old self.new
+            (Applies (desk_seen S.Store self.old.last.values) (desk_seen S.Store self.new.last.values) result change.now) }
+        ensures sure { IsKept S.Store self.old.last.values self.old.begun.values self.old.conn self.old.family → HasCleanDisk (state S.Store self.new.conn) →
+            IfErr result (λ fault. fault ≢ Foreign) }
+        ensures crash { IsKept S.Store self.old.last.values self.old.begun.values self.old.conn self.old.family → HasCleanDisk (state S.Store self.old.conn) →
+            Survives (state S.Store self.old.conn) (state S.Store self.new.conn) (AreTablesOf (changed (content_seen S.Store self.old.last.values) change.now)) }
+        ensures counts { self.new.counts ≡ self.old.counts }
+    {
+        match &self.family {
+            Some(family) => change_sets(self.alloc, &mut self.conn, family, change)?,
+            None => return Err(StoreFault::Foreign),
+        }
         self.last = Seen::new().and(&self.conn);
         self.begun = Seen::new();
         Ok(())
+    }
+
+    // Reads the tree, where that is still to be done, and carries a change out over it.
+    fn load_and_make(&mut self, change: &Change) -> Result<(), StoreFault>
+        requires fits { IsKept S.Store self.old.last.values self.old.begun.values self.old.conn self.old.family → HasCleanDisk (state S.Store self.old.conn) →
+            FitsContent (content_seen S.Store self.old.last.values) change.now }
+        ensures answer { Holds (λ d. IsKept S.Store d.last.values d.begun.values d.conn d.family) (λ d. HasCleanDisk (state S.Store d.conn)) self.old self.new
+            (Applies (desk_seen S.Store self.old.last.values) (desk_seen S.Store self.new.last.values) result change.now) }
+        ensures sure { IsKept S.Store self.old.last.values self.old.begun.values self.old.conn self.old.family → HasCleanDisk (state S.Store self.new.conn) →
+            IfErr result (λ fault. fault ≢ Foreign) }
+        ensures crash { IsKept S.Store self.old.last.values self.old.begun.values self.old.conn self.old.family → HasCleanDisk (state S.Store self.old.conn) →
+            Survives (state S.Store self.old.conn) (state S.Store self.new.conn) (AreTablesOf (changed (content_seen S.Store self.old.last.values) change.now)) }
+        ensures counts { self.new.counts ≡ self.old.counts }
+    {
+        self.load()?;
+        self.make(change)
+    }
+
+    /// Carries a change out, in one step.
+    /// Of the change it asks that each image has a member, and, of kept tables over an honest disk,
+    /// that no bug is in two images, and that it covers whole sets and leaves a sound desk.
+    /// A crash at any moment of the call leaves what it would have left before, or the desk after
+    /// the change.
+    pub fn apply(&mut self, change: &Change) -> Result<(), StoreFault>
+        requires apart { IsKept S.Store self.old.last.values self.old.begun.values self.old.conn self.old.family → HasCleanDisk (state S.Store self.old.conn) →
+            AreApart change.now.images }
+        requires members { Each HasMember change.now.images }
+        requires fits { IsKept S.Store self.old.last.values self.old.begun.values self.old.conn self.old.family → HasCleanDisk (state S.Store self.old.conn) →
+            FitsDesk (desk_seen S.Store self.old.last.values) change.now }
+        ensures answer { Holds (λ d. IsKept S.Store d.last.values d.begun.values d.conn d.family) (λ d. HasCleanDisk (state S.Store d.conn)) self.old self.new
+            (Applies (desk_seen S.Store self.old.last.values) (desk_seen S.Store self.new.last.values) result change.now) }
+        ensures sure { IsKept S.Store self.old.last.values self.old.begun.values self.old.conn self.old.family → HasCleanDisk (state S.Store self.new.conn) →
+            IfErr result (λ fault. fault ≢ Foreign) }
+        ensures count { self.new.counts ≡ faults_after result self.old.counts }
+        ensures crash { IsKept S.Store self.old.last.values self.old.begun.values self.old.conn self.old.family → HasCleanDisk (state S.Store self.old.conn) →
+            Survives (state S.Store self.old.conn) (state S.Store self.new.conn) (AreTablesOf (changed (content_seen S.Store self.old.last.values) change.now)) }
+    {
+        let done = self.load_and_make(change);
+        self.counts.note(done)
+    }
+
+    /// How often the store has answered `Device`, `Full` or `Foreign` in all, up to `u64::MAX`.
+    pub fn faults(&self) -> u64
+        ensures { result ≡ total self.now.counts }
+    {
+        self.counts.total()
     }
 }

@@ -1,12 +1,12 @@
 //! A desk that is kept in tables.
 //!
-//! So far `TableDesk` keeps the blockers of sets alone: it answers which bugs a set waits on, and
-//! which sets wait on a bug, and puts blockers in the place of a set's.
-//! All else of a desk comes with its tables, and then `Records` of `desk_store` takes the place of
-//! `BlockerRecords`.
+//! So far `TableDesk` answers sets of bugs, the next number and who waits on a bug, and carries out
+//! changes.
+//! Branches and lists come next, and then it is a `Records` of `desk_store`.
 #![tactic(auto)]
 
 mod calls;
+mod counts;
 mod desk;
 
-pub use desk::{BlockerRecords, TableDesk};
+pub use desk::TableDesk;
