@@ -1,0 +1,3 @@
+pub mod KeptSteps
+pub mod KeyLemmas
+pub mod WaitingLemmas
