@@ -1,3 +1,0 @@
-pub mod KeptSteps
-pub mod KeyLemmas
-pub mod WaitingLemmas
