@@ -3,18 +3,41 @@ use Rattle.std.proofs.Common.{◌≡◌, ◌≢◌, ◌≤◌, ◌<◌, ◌^◌,
 use Rattle.std.specs.Prelude.{option_map}
 use Rattle.std.specs.Option.{option_and_then}
 use Rattle.line_words.specs.declared.named.TheConstants.{AFTER_LARGEST}
+use Rattle.ancestry.specs.Nodes.{Node}
 use Rattle.bug_record.specs.Sets.{has}
 use Rattle.bug_record.specs.Images.{numbers_of, bug_of, member_at}
 use Rattle.bug_record.specs.declared.bug.Bug.{Bug}
+use Rattle.bug_record.specs.declared.bug.Member.{Member}
+use Rattle.bug_record.specs.declared.bug.Shared.{Shared}
 use Rattle.bug_record.specs.declared.bug.SetImage.{SetImage}
 use Rattle.desk_places.proofs.KeyLemmas.{found-image, shown-some, image-of_key}
 use Rattle.desk_content.specs.Content.{Content}
-use Rattle.desk_content.specs.View.{image, desk_in}
+use Rattle.desk_content.specs.View.{image, desk_in, shared_of}
 use Rattle.desk_content.specs.Kept.{IsKeptContent}
+use Rattle.desk_content.specs.declared.edit.SetFields.{SetFields}
 use Rattle.desk_store.specs.Store.{IsImageOf}
+use Rattle.desk_reads.specs.Bugs.{image_with}
 
 small : (n next : ℕ) → n < next → next ≤ AFTER_LARGEST → n < 2 ^ 32
 small n next low limit = omega (arith, low, limit)
+
+-- the image of a set that has a row
+pub image_is : (c : Content) (k : ℕ) (f : SetFields) → c.fields k ≡ Some f → image c k ≡ image_with c k f
+image_is c k f e = ap (option_map (λ f. let i : SetImage = record { shared = shared_of c k f; members = c.members k } in i)) e
+
+-- and of the fields that are read one after another
+pub shared_is : (c : Content) (k : ℕ) (f : SetFields) (found fixed : List Node) (blockers : List ℕ) → found ≡ c.found k → fixed ≡ c.fixed k → blockers ≡ c.blockers k
+    → record (shared_of c k f) { found = found; fixed = fixed; blockers = blockers } ≡ shared_of c k f
+shared_is c k f found fixed blockers p q r =
+    ap (λ x. let s : Shared = record (shared_of c k f) { found = x; fixed = fixed; blockers = blockers } in s) p
+    ∙ ap (λ x. let s : Shared = record (shared_of c k f) { fixed = x; blockers = blockers } in s) q
+    ∙ ap (λ x. let s : Shared = record (shared_of c k f) { blockers = x } in s) r
+
+pub image_of_parts : (c : Content) (k : ℕ) (f : SetFields) (shared : Shared) (members : List Member) → shared ≡ shared_of c k f → members ≡ c.members k
+    → Some (record { shared = shared; members = members }) ≡ image_with c k f
+image_of_parts c k f shared members p q =
+    ap (λ x. let i : SetImage = record { shared = x; members = members } in Some i) p
+    ∙ ap (λ x. let i : SetImage = record { shared = shared_of c k f; members = x } in Some i) q
 
 module _ (c : Content) (kept : IsKeptContent c) where
   bug_small : (n : ℕ) (b : Bug) → (desk_in c).bug n ≡ Some b → n < 2 ^ 32

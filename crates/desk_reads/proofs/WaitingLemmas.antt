@@ -18,7 +18,7 @@ use Rattle.desk_content.specs.declared.edit.SetFields.{SetFields}
 use Rattle.desk_content.proofs.QuestionLemmas.{asked}
 use Rattle.set_rows.specs.Waiting.{AreKeysOf}
 use Rattle.desk_reads.specs.Bugs.{bugs_of}
-use Rattle.desk_reads.proofs.KeyLemmas.{no_bug, set_small}
+use Rattle.desk_reads.proofs.KeyLemmas.{no_bug, set_small, image_is}
 
 -- ---- plain lists
 
@@ -74,7 +74,7 @@ module _ (c : Content) (kept : IsKeptContent c) (b : ℕ) where
   set_of k f = record { shared = shared_of c k f; members = c.members k }
 
   is_set : (k : ℕ) (f : SetFields) → c.fields k ≡ Some f → image c k ≡ Some (set_of k f)
-  is_set k f e = ap (λ (o : Option SetFields). let i : Option SetImage = option_map_or (λ f. Some (set_of k f)) o None in i) e
+  is_set k f e = image_is c k f e
 
   passing : (k : ℕ) (f : SetFields) → c.fields k ≡ Some f → set_passes (waits b) c k ≡ has (c.blockers k) b
   passing k f e = ap (λ (o : Option SetFields). option_map_or (λ f. waits b (shared_of c k f)) o false) e
