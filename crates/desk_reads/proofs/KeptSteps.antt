@@ -1,13 +1,13 @@
 -- What questions inside a transaction come to together, where the tables may be kept.
 -- Nothing here speaks of a statement.
-use Rattle.std.proofs.Common.{◌≡◌, ◌≢◌, Result, Ok, Err, IfOk, IfErr, IsTrue, arith, refl, sym, subst, ◌∙◌}
+use Rattle.std.proofs.Common.{◌≡◌, ◌≢◌, Result, Ok, Err, IfOk, IfErr, arith, refl, sym, subst, ◌∙◌}
 use Rattle.std.specs.Prelude.{⊤}
 use Rattle.sqlite.specs.State.{State, HasCleanDisk}
 use Rattle.desk_text.specs.declared.outcome.StoreFault.{StoreFault}
 use Rattle.desk_text.specs.declared.outcome.StoreFault.TheVariants.{Foreign}
 use Rattle.desk_content.specs.Content.{Content}
 use Rattle.desk_content.specs.Kept.{IsKeptContent}
-use Rattle.desk_schema.specs.Steps.{IsInside, seen, Goes, Acts, Reads, Serves}
+use Rattle.desk_schema.specs.Steps.{seen, Goes, Acts, Reads, Serves}
 use Rattle.desk_schema.proofs.StepLemmas.{acts_none, acts_stop, acts_then, acts_weaker}
 use Rattle.desk_reads.specs.Kept.{ReadsKept}
 

@@ -1,11 +1,10 @@
 -- The numbers of bugs and the keys of sets in a content that a desk keeps, and the set of a bug.
-use Rattle.std.proofs.Common.{◌≡◌, ◌≢◌, ◌≤◌, ◌<◌, ◌^◌, ℕ, true, List, Option, Some, None, sym, refl, ap, subst, ◌∙◌, arith}
+use Rattle.std.proofs.Common.{◌≡◌, ◌≤◌, ◌<◌, ◌^◌, ℕ, List, Option, Some, None, sym, refl, ap, subst, ◌∙◌, arith}
 use Rattle.std.specs.Prelude.{option_map}
 use Rattle.std.specs.Option.{option_and_then}
 use Rattle.line_words.specs.declared.named.TheConstants.{AFTER_LARGEST}
 use Rattle.ancestry.specs.Nodes.{Node}
-use Rattle.bug_record.specs.Sets.{has}
-use Rattle.bug_record.specs.Images.{numbers_of, bug_of, member_at}
+use Rattle.bug_record.specs.Images.{bug_of, member_at}
 use Rattle.bug_record.specs.declared.bug.Bug.{Bug}
 use Rattle.bug_record.specs.declared.bug.Member.{Member}
 use Rattle.bug_record.specs.declared.bug.Shared.{Shared}

@@ -1,6 +1,5 @@
-use Rattle.std.proofs.Common.{◌≡◌, Ok, ap, ◌∙◌}
+use Rattle.std.proofs.Common.{◌≡◌}
 use Rattle.sqlite.specs.Held.{state}
-use Rattle.bug_record.specs.declared.bug.Shared.{Shared}
 use Rattle.desk_content.specs.View.{shared_of}
 use Rattle.desk_schema.proofs.ReadSteps.{known_first, known_then, known_answer}
 use Rattle.desk_reads.proofs.KeyLemmas.{shared_is}
