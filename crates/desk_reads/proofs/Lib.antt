@@ -1,0 +1,4 @@
+pub mod KeptSteps
+pub mod LoopLemmas
+pub mod KeyLemmas
+pub mod WaitingLemmas

@@ -1,0 +1,3 @@
+pub mod Kept
+-- definitions that only private functions cite
+pub mod Bugs

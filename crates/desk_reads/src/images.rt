@@ -1,0 +1,155 @@
+//! The images of sets.
+
+ghost use Rattle.std.specs.Prelude.{◌≡◌, ◌≢◌, IfOk, IfErr};
+ghost use Rattle.sqlite.specs.Held.{state};
+ghost use Rattle.desk_text.specs.declared.outcome.StoreFault.TheVariants.{Foreign};
+ghost use Rattle.desk_content.specs.View.{desk_in, image, shared_of};
+ghost use Rattle.desk_schema.specs.Steps.{Reads, Serves};
+ghost use Rattle.desk_store.specs.Store.{IsImageOf};
+ghost use Rattle.desk_reads.specs.Kept.{ReadsKept};
+ghost use Rattle.desk_reads.specs.Bugs.{image_with};
+
+use crate::keys::small_key;
+use bug_record::{Agreed, SetImage, Shared};
+use desk_content::SetFields;
+use desk_text::StoreFault;
+use set_rows::{read_blockers, read_fields, read_key, read_marks, read_members};
+use sqlite::{Alter, Transaction};
+use std::alloc::Global;
+
+// The shared fields of the set of the key, which has these in its own row.
+fn read_shared<S: Alter>(
+    alloc: Global,
+    tx: &mut Transaction<'_, S>,
+    key: u32,
+    fields: SetFields,
+) -> Result<Shared, StoreFault>
+    ensures same_reference { tx.new.conn.ghost_name ≡ tx.old.conn.ghost_name }
+    ensures reads { Reads (λ c shared. shared ≡ shared_of c key fields) (state S.Store tx.old.conn.now) (state S.Store tx.new.conn.now) result }
+    ensures serves { Serves (state S.Store tx.old.conn.now) (state S.Store tx.new.conn.now) result }
+{
+    let marks = read_marks(alloc, tx, key)?;
+    let blockers = read_blockers(alloc, tx, key)?;
+    Ok(Shared {
+        package: fields.package,
+        severity: fields.severity,
+        closed: fields.closed,
+        forwarded: fields.forwarded,
+        owner: fields.owner,
+        tags: fields.tags,
+        found: marks.found,
+        fixed: marks.fixed,
+        blockers,
+        archived: fields.archived,
+    })
+}
+
+// The fields, to be shared.
+fn agreed(alloc: Global, shared: Shared) -> Result<Agreed, StoreFault>
+    ensures value { IfOk result (λ agreed. agreed ≡ shared) }
+    ensures sure { IfErr result (λ fault. fault ≢ Foreign) }
+{
+    match Agreed::of(alloc, shared) {
+        Ok(agreed) => Ok(agreed),
+        Err(_) => Err(StoreFault::Memory),
+    }
+}
+
+// The same, to be shared.
+fn read_agreed<S: Alter>(
+    alloc: Global,
+    tx: &mut Transaction<'_, S>,
+    key: u32,
+    fields: SetFields,
+) -> Result<Agreed, StoreFault>
+    ensures same_reference { tx.new.conn.ghost_name ≡ tx.old.conn.ghost_name }
+    ensures reads { Reads (λ c shared. shared ≡ shared_of c key fields) (state S.Store tx.old.conn.now) (state S.Store tx.new.conn.now) result }
+    ensures serves { Serves (state S.Store tx.old.conn.now) (state S.Store tx.new.conn.now) result }
+{
+    let shared = read_shared(alloc, tx, key, fields)?;
+    agreed(alloc, shared)
+}
+
+// The image of the set of the key, which has these fields in its own row.
+fn read_rest<S: Alter>(
+    alloc: Global,
+    tx: &mut Transaction<'_, S>,
+    key: u32,
+    fields: SetFields,
+) -> Result<Option<SetImage>, StoreFault>
+    ensures same_reference { tx.new.conn.ghost_name ≡ tx.old.conn.ghost_name }
+    ensures reads { Reads (λ c found. found ≡ image_with c key fields) (state S.Store tx.old.conn.now) (state S.Store tx.new.conn.now) result }
+    ensures serves { Serves (state S.Store tx.old.conn.now) (state S.Store tx.new.conn.now) result }
+{
+    let shared = read_agreed(alloc, tx, key, fields)?;
+    let members = read_members(alloc, tx, key)?;
+    Ok(Some(SetImage { shared, members }))
+}
+
+/// The image of the set of the key, if there is such a set.
+/// `Memory` where there is none for it.
+pub fn read_image<S: Alter>(
+    alloc: Global,
+    tx: &mut Transaction<'_, S>,
+    key: u32,
+) -> Result<Option<SetImage>, StoreFault>
+    ensures same_reference { tx.new.conn.ghost_name ≡ tx.old.conn.ghost_name }
+    ensures reads { Reads (λ c found. found ≡ image c key) (state S.Store tx.old.conn.now) (state S.Store tx.new.conn.now) result }
+    ensures serves { Serves (state S.Store tx.old.conn.now) (state S.Store tx.new.conn.now) result }
+{
+    match read_fields(alloc, tx, key)? {
+        Some(fields) => read_rest(alloc, tx, key, fields),
+        None => Ok(None),
+    }
+}
+
+// The key of the set that the bug is in, if there is such a bug, as a statement takes it.
+fn read_small_key<S: Alter>(
+    tx: &mut Transaction<'_, S>,
+    number: u32,
+) -> Result<Option<u32>, StoreFault>
+    ensures same_reference { tx.new.conn.ghost_name ≡ tx.old.conn.ghost_name }
+    ensures reads { ReadsKept (λ c key. key ≡ c.key number) (state S.Store tx.old.conn.now) (state S.Store tx.new.conn.now) result }
+    ensures serves { Serves (state S.Store tx.old.conn.now) (state S.Store tx.new.conn.now) result }
+{
+    match read_key(tx, number)? {
+        Some(key) => match small_key(key) {
+            Ok(key) => Ok(Some(key)),
+            Err(fault) => Err(fault),
+        },
+        None => Ok(None),
+    }
+}
+
+// The image of the set that the bug is in, if there is such a bug.
+fn read_set<S: Alter>(
+    alloc: Global,
+    tx: &mut Transaction<'_, S>,
+    number: u32,
+) -> Result<Option<SetImage>, StoreFault>
+    ensures same_reference { tx.new.conn.ghost_name ≡ tx.old.conn.ghost_name }
+    ensures reads { ReadsKept (λ c found. IsImageOf (desk_in c) number found) (state S.Store tx.old.conn.now) (state S.Store tx.new.conn.now) result }
+    ensures serves { Serves (state S.Store tx.old.conn.now) (state S.Store tx.new.conn.now) result }
+{
+    match read_small_key(tx, number)? {
+        Some(key) => read_image(alloc, tx, key),
+        None => Ok(None),
+    }
+}
+
+/// The image of the set that the bug is in, if there is such a bug.
+/// No bug has a number that is no u32.
+/// `Memory` where there is none for the image.
+pub fn read_set_of<S: Alter>(
+    alloc: Global,
+    tx: &mut Transaction<'_, S>,
+    number: u64,
+) -> Result<Option<SetImage>, StoreFault>
+    ensures same_reference { tx.new.conn.ghost_name ≡ tx.old.conn.ghost_name }
+    ensures reads { ReadsKept (λ c found. IsImageOf (desk_in c) number found) (state S.Store tx.old.conn.now) (state S.Store tx.new.conn.now) result }
+{
+    match u32::try_from(number) {
+        Ok(number) => read_set(alloc, tx, number),
+        Err(_) => Ok(None),
+    }
+}
