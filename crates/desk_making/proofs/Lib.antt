@@ -1,0 +1,4 @@
+pub mod BuildLemmas
+pub mod TableTexts
+pub mod IndexTexts
+pub mod MetaRow

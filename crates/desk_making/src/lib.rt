@@ -1,6 +1,8 @@
 //! How the tables of a desk are made, and how they are recognised.
 #![tactic(auto)]
 
+mod making;
 mod names;
 
+pub use making::make_tables;
 pub use names::{is_blank, names_a_desk_table};

@@ -26,12 +26,11 @@ fn is_desk_name(name: &[u8]) -> bool
 pub fn names_a_desk_table(schema: &Schema) -> bool
     ensures names { result ≡ has_desk_table schema.now }
 {
-    for table in schema.tables.as_slice() {
-        if is_desk_name(table.name.as_slice()) {
-            return true;
-        }
-    }
-    false
+    schema
+        .tables
+        .as_slice()
+        .iter()
+        .any(|table| is_desk_name(table.name.as_slice()))
 }
 
 /// Whether the schema has no table, no index and no view.
