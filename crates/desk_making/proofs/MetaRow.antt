@@ -94,7 +94,7 @@ puts first old new count was limit h =
     let put = subst (λ row. Changes desk_schema old.now new.now META (put_row row (old.now.trees META))) (row_is (old.now.trees META) first) it.changes in
     let alone = subst (λ rows. Changes desk_schema old.now new.now META (put_row (meta_cells first) rows)) none.0 put in
     let m = remade old new META (meta_cells first ∷ []) alone (shows_new first old.now.trees none) (λ _. no_content first)
-        (same_content _ (new_trees first) (are_new first old.now.trees none) ∙ new_says first) in
+    (same_content _ (new_trees first) (are_new first old.now.trees none) ∙ new_says first) in
     record {
       inside = record { begun = h.1.mode; unlimited = limit ∙ was.unlimited; schema = λ _. m.schema; sound = λ _. m.sound; shown = λ _. m.shown };
       says = m.content;

@@ -64,7 +64,10 @@ fn make_indexes<S: Alter>(tx: &mut Transaction<'_, S>) -> Result<(), StoreFault>
     ensures same_reference { tx.new.conn.ghost_name ≡ tx.old.conn.ghost_name }
     ensures builds { Builds (IsBuilt all_tables) (IsBuilt desk_schema) (state S.Store tx.old.conn.now) (state S.Store tx.new.conn.now) result }
 {
-    make(tx, "CREATE INDEX sets_by_package ON sets (package, archived)")?;
+    make(
+        tx,
+        "CREATE INDEX sets_by_package ON sets (package, archived)",
+    )?;
     make(tx, "CREATE INDEX bugs_by_set ON bugs (set_key)")?;
     make(tx, "CREATE INDEX marks_by_node ON marks (source, version)")?;
     make(tx, "CREATE INDEX blocks_by_blocker ON blocks (blocker)")
