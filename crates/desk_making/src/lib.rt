@@ -3,6 +3,8 @@
 
 mod making;
 mod names;
+mod number;
 
 pub use making::make_tables;
 pub use names::{is_blank, names_a_desk_table};
+pub use number::{SchemaRead, read_schema};
