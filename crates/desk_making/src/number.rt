@@ -63,10 +63,7 @@ fn asked_rows<S: Alter>(tx: &mut Transaction<'_, S>) -> Result<Option<Vec<Row>>,
     ensures same_reference { tx.new.conn.ghost_name ≡ tx.old.conn.ghost_name }
     ensures reads { spec.ReadsRows (λ rows. rows.items) (state S.Store tx.old.conn.now) (state S.Store tx.new.conn.now) result }
 {
-    unless_foreign(told(tx.query_all(
-        "SELECT schema FROM meta WHERE id = 1",
-        &[],
-    )))
+    unless_foreign(told(tx.query_all("SELECT schema FROM meta WHERE id = 1", &[])))
 }
 
 /// What the database says of the number of its schema, whatever that schema is.
