@@ -19,7 +19,7 @@ use Rattle.sqlite.specs.Table.{Table}
 use Rattle.sqlite.specs.Schema.{Schema}
 use Rattle.sqlite.specs.Tree.{Trees}
 use Rattle.sqlite.specs.Command.{Command}
-use Rattle.sqlite.specs.Command.TheVariants.{Insert, Delete, Begin, Commit, Rollback, Release, RollbackTo, Update}
+use Rattle.sqlite.specs.Command.TheVariants.{Insert, Delete, CreateTable, CreateIndex, Begin, Commit, Rollback, Release, RollbackTo, Update}
 use Rattle.sqlite.specs.Source.TheVariants.{Values}
 use Rattle.sqlite.specs.Edit.{Edit, edit_of, IsRefused}
 use Rattle.sqlite_rules.specs.Action.{works, Writes, Leads}
@@ -57,6 +57,8 @@ abbrev pub IsRowWrite : Command → Type 0
 IsRowWrite (Insert at from) = Unit {0}
 IsRowWrite (Delete at q) = Unit {0}
 IsRowWrite (Update at q) = Unit {0}
+IsRowWrite CreateTable = Unit {0}
+IsRowWrite (CreateIndex at) = Unit {0}
 IsRowWrite _ = ⊥
 
 -- the text is one statement that takes these parameters
@@ -71,6 +73,8 @@ shows_none : (command : Command) → IsRowWrite command → (is_query command ||
 shows_none (Insert at from) w = refl
 shows_none (Delete at q) w = refl
 shows_none (Update at q) w = refl
+shows_none CreateTable w = refl
+shows_none (CreateIndex at) w = refl
 shows_none _ w = absurd w
 
 module _ (schema : Schema) (sql : List ℕ) (params : Row) (command : Command) (it : IsCallOf schema sql params command) (old new : State) (has : old.now.schema ≡ schema) where

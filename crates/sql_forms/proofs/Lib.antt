@@ -13,5 +13,6 @@ pub mod DeleteErrors
 pub mod QueryErrors
 pub mod ReadLemmas
 pub mod CreateLemmas
+pub mod CreateErrors
 pub mod UpdateLemmas
 pub mod UpdateErrors

@@ -1,0 +1,131 @@
+-- What one text that makes a table or an index comes to, and several of them.
+use Rattle.std.proofs.Common.{◌≡◌, ◌≢◌, inl, inr, ℕ, List, [], ◌∷◌, ◌++◌, Result, Ok, Err, IfOk, IfErr, IsTrue, refl, sym, ap, subst, ◌∙◌, arith}
+use Rattle.std.specs.List.{AllByRecursion}
+use Rattle.sqlite.specs.Change.{created, indexed, next_tree}
+use Rattle.sqlite.specs.Order.{Row}
+use Rattle.sqlite.specs.Schema.{Schema}
+use Rattle.sqlite.specs.Table.{Table}
+use Rattle.sqlite.specs.State.{State, HasCleanDisk, KeepsCommit, Survives, ExecutesInside, IsUnchanged}
+use Rattle.sqlite.specs.declared.error.Error.{Error}
+use Rattle.sqlite.proofs.InsideLemmas.{keeps_then}
+use Rattle.sqlite.proofs.StateLemmas.{survives_then}
+use Rattle.sqlite_schema.specs.declared.schema.Index.{Index}
+use Rattle.desk_text.specs.declared.outcome.StoreFault.{StoreFault}
+use Rattle.desk_text.specs.declared.outcome.StoreFault.TheVariants.{Foreign}
+use Rattle.sql_forms.specs.Faults.{fault_of, written}
+use Rattle.sql_forms.proofs.CreateErrors.{IsSureTable, IsSureIndex, table_free, index_free}
+use Rattle.sql_forms.proofs.CreateLemmas.{CreatesTable, CreatesIndex, creates, creates_index, still_empty}
+use Rattle.desk_making.specs.Making.{IsBuilt, Builds, HasRun}
+
+-- ---- one text
+
+-- what a text with these parameters makes
+pub record IsMaking (sql : List ℕ) (params : Row) (Before After : State → Type 0) : Type 1 where
+  pub begun : (s : State) → Before s → IsTrue s.in_transaction
+  pub makes : (old new : State) (count : ℕ) → Before old → new.step_limit ≡ old.step_limit → ExecutesInside 0 sql params old new (Ok count) → After new
+  pub free : (old new : State) (e : Error) → Before old → ExecutesInside 0 sql params old new (Err e) → fault_of e ≢ Foreign
+
+kept : (sql : List ℕ) (params : Row) (old new : State) (e : Error) → ExecutesInside 0 sql params old new (Err e) → KeepsCommit old new
+kept sql params old new e (inl (h, inl same)) = record { was_open = λ _. same.0.was_open; committed = λ _. same.0.committed_is }
+kept sql params old new e (inl (h, inr back)) = record { was_open = back.was_open; committed = λ o. (back.undone o).1 }
+kept sql params old new e (inr (h, why, same)) = record { was_open = λ _. same.0.was_open; committed = λ _. same.0.committed_is }
+
+pub builds_write : (sql : List ℕ) (params : Row) (Before After : State → Type 0) → IsMaking sql params Before After
+    → (old new : State) (r : Result ℕ Error) → Survives old new (λ _. ⊥) → (HasCleanDisk new → IsTrue old.in_transaction → ExecutesInside 0 sql params old new r) → Builds Before After old new (written r)
+builds_write sql params Before After it old new (Ok count) survives runs = record {
+  survives = survives;
+  keeps = λ clean before. let h = runs clean (it.begun old before) in record { was_open = λ _. h.1.was_open; committed = λ _. h.1.committed_is };
+  ok = λ clean before. let h = runs clean (it.begun old before) in (h.1.was_open, h.1.is_open, it.makes old new count before survives.limit h);
+  sure = λ clean before. tt;
+}
+builds_write sql params Before After it old new (Err e) survives runs = record {
+  survives = survives;
+  keeps = λ clean before. kept sql params old new e (runs clean (it.begun old before));
+  ok = λ clean before. tt;
+  sure = λ clean before. it.free old new e before (runs clean (it.begun old before));
+}
+
+pub builds_run : (sql : List ℕ) (Before After : State → Type 0) → IsMaking sql [] Before After → (old new : State) (r : Result (Unit {0}) StoreFault) → HasRun sql old new r → Builds Before After old new r
+builds_run sql Before After it old new r run =
+    subst (Builds Before After old new) (sym run.told) (builds_write sql [] Before After it old new run.answer run.survives run.runs)
+
+-- ---- several of them
+
+module _ (P Q R : State → Type 0) (old mid new : State) where
+  -- one after another
+  pub builds_then : (r : Result (Unit {0}) StoreFault) → Builds P Q old mid (Ok tt) → Builds Q R mid new r → Builds P R old new r
+  builds_then r one two = record {
+    survives = survives_then old mid new _ _ (λ _. ⊥) (λ _ db none. none) (λ _ db none. none) one.survives two.survives;
+    keeps = λ clean before. keeps_then old mid new (one.keeps (early clean) before) (two.keeps clean (went clean before));
+    ok = λ clean before. goes r (one.ok (early clean) before).0 (two.ok clean (went clean before));
+    sure = λ clean before. two.sure clean (went clean before);
+  }
+    where
+      early : HasCleanDisk new → HasCleanDisk mid
+      early clean = omega (arith, two.survives.clean, clean)
+
+      went : HasCleanDisk new → P old → Q mid
+      went clean before = (one.ok (early clean) before).2
+
+      goes : (r : Result (Unit {0}) StoreFault) → IsTrue old.is_open → IfOk r (λ _. IsTrue mid.is_open × IsTrue new.is_open × R new) → IfOk r (λ _. IsTrue old.is_open × IsTrue new.is_open × R new)
+      goes (Ok a) was h = (was, h.1, h.2)
+      goes (Err e) was h = tt
+
+-- the call failed, and with it all
+pub builds_stop : (P Q R : State → Type 0) (old new : State) (fault : StoreFault) → Builds P Q old new (Err fault) → Builds P R old new (Err fault)
+builds_stop P Q R old new fault h = record { survives = h.survives; keeps = h.keeps; ok = λ clean before. tt; sure = h.sure }
+
+-- ---- a table, an index
+
+all_push : {X : Type 0} (P : X → Type 0) (xs : List X) (x : X) → AllByRecursion P xs → P x → AllByRecursion P (xs ++ x ∷ [])
+all_push P [] x all one = (one, tt)
+all_push P (y ∷ xs) x all one = (all.0, all_push P xs x all.1 one)
+
+-- the text adds a table to the schema
+pub record AddsTable (schema : Schema) (sql : List ℕ) (table : Table) (later : Schema) : Type 0 where
+  pub creates : CreatesTable schema sql table
+  pub sure : IsSureTable schema sql table
+  pub later_is : created schema table ≡ later
+
+pub table_is : (schema : Schema) (sql : List ℕ) (table : Table) (later : Schema) → AddsTable schema sql table later → IsMaking sql [] (IsBuilt schema) (IsBuilt later)
+table_is schema sql table later it = record {
+  begun = λ s was. was.begun;
+  makes = λ old new count was limit h. subst (λ s. IsBuilt s new) it.later_is (made old new count was limit h);
+  free = λ old new e was. table_free schema sql table it.creates it.sure old new e was.schema_is;
+}
+  where
+    made : (old new : State) (count : ℕ) → IsBuilt schema old → new.step_limit ≡ old.step_limit → ExecutesInside 0 sql [] old new (Ok count) → IsBuilt (created schema table) new
+    made old new count was limit h =
+        let done = creates schema sql table it.creates old new count (was.schema_is h.1.was_open) h.0 in
+        record {
+          begun = h.1.mode;
+          unlimited = limit ∙ was.unlimited;
+          schema_is = λ _. done.schema_is;
+          sound = λ _. done.sound;
+          empty = λ _. all_push (λ t. new.now.trees t.tree ≡ []) schema.tables (record table { tree = next_tree schema })
+              (still_empty schema.tables old.now.trees new.now.trees (was.empty h.1.was_open) done.rows) done.empty;
+        }
+
+-- the text adds an index to the schema
+pub record AddsIndex (schema : Schema) (sql : List ℕ) (at : ℕ) (table : Table) (index : Index) (later : Schema) : Type 0 where
+  pub creates : CreatesIndex schema sql at table index
+  pub sure : IsSureIndex schema sql at table index
+  pub later_is : indexed schema table index ≡ later
+
+pub index_is : (schema : Schema) (sql : List ℕ) (at : ℕ) (table : Table) (index : Index) (later : Schema) → AddsIndex schema sql at table index later → IsMaking sql [] (IsBuilt schema) (IsBuilt later)
+index_is schema sql at table index later it = record {
+  begun = λ s was. was.begun;
+  makes = λ old new count was limit h. subst (λ s. IsBuilt s new) it.later_is (made old new count was limit h);
+  free = λ old new e was. index_free schema sql at table index it.creates it.sure old new e was.schema_is was.empty;
+}
+  where
+    made : (old new : State) (count : ℕ) → IsBuilt schema old → new.step_limit ≡ old.step_limit → ExecutesInside 0 sql [] old new (Ok count) → IsBuilt (indexed schema table index) new
+    made old new count was limit h =
+        let done = creates_index schema sql at table index it.creates old new count (was.schema_is h.1.was_open) h.0 in
+        record {
+          begun = h.1.mode;
+          unlimited = limit ∙ was.unlimited;
+          schema_is = λ _. done.schema_is;
+          sound = λ _. done.sound;
+          empty = λ _. still_empty schema.tables old.now.trees new.now.trees (was.empty h.1.was_open) done.rows;
+        }

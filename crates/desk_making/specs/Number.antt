@@ -1,0 +1,91 @@
+-- What is asked of a database to recognise a desk in it: the number of its schema.
+use Rattle.std.specs.Prelude.{◌≡◌, ◌≢◌, ◌<◌, ◌⊎◌, ℕ, List, [], ◌∷◌, codes, Option, Some, None, Result, Ok, Err, IfOk, IfErr}
+use Rattle.sqlite.specs.Command.TheVariants.{Select}
+use Rattle.sqlite.specs.Compile.{compiled}
+use Rattle.sqlite.specs.Effect.{Database, Answers, RefusesQuery}
+use Rattle.sqlite.specs.Order.{Row}
+use Rattle.sqlite.specs.Schema.{Schema}
+use Rattle.sqlite.specs.State.{State, HasCleanDisk, KeepsCommit, Survives, IsUnchanged}
+use Rattle.sqlite.specs.declared.error.Error.{Error}
+use Rattle.sqlite_resolve.specs.declared.compiled.Compiled.{Compiled}
+use Rattle.sqlite_resolve.specs.declared.error.CompileError.{CompileError}
+use Rattle.sqlite_schema.specs.declared.program.Program.{Program}
+use Rattle.desk_text.specs.declared.outcome.StoreFault.{StoreFault}
+use Rattle.desk_text.specs.declared.outcome.StoreFault.TheVariants.{Memory, Device, Full, Foreign}
+use Rattle.sql_forms.specs.Numbers.{number_row}
+use Rattle.desk_schema.specs.Steps.{IsInside}
+use Rattle.desk_making.specs.declared.number.SchemaRead.{SchemaRead}
+use Rattle.desk_making.specs.declared.number.SchemaRead.TheVariants.{Number, NoNumber}
+
+-- the text that asks for the number
+abbrev pub number_text : List ℕ
+number_text = codes "SELECT schema FROM meta WHERE id = 1"
+
+-- under the schema the text is this query
+pub record Asks (schema : Schema) (query : Program) : Type 0 where
+  pub found : Compiled
+  pub is : compiled schema number_text ≡ Ok found
+  pub names : List (List ℕ)
+  pub selects : found.command ≡ Select query names
+
+-- These rows are an answer to it over the database.
+-- It is the only one, but for the order of its rows, unless meta is a view that leaves a choice.
+abbrev pub IsAnswer : Database → List Row → Type 0
+IsAnswer db rows = (query : Program) × Asks db.schema query × Answers db query [] rows
+
+-- the text is refused under the schema, or over what the database holds
+abbrev pub IsRefused : Database → Type 0
+IsRefused db =
+    ((fault : CompileError) × (compiled db.schema number_text ≡ Err fault)) ⊎ ((query : Program) × Asks db.schema query × (e : Error) × RefusesQuery None db query [] e)
+
+-- these rows are the one row of a number from 1 on
+abbrev pub AreNumber : ℕ → List Row → Type 0
+AreNumber n rows = (0 < n) × (rows ≡ number_row n ∷ [])
+
+-- the database says that its schema has this number, from 1 on
+abbrev pub SaysSchema : Database → ℕ → Type 0
+SaysSchema db n = (rows : List Row) × IsAnswer db rows × AreNumber n rows
+
+-- the database refuses to say it, or answers something else
+abbrev pub SaysNone : Database → Type 0
+SaysNone db = IsRefused db ⊎ ((rows : List Row) × IsAnswer db rows × ((n : ℕ) → ¬ AreNumber n rows))
+
+abbrev pub Says : Database → SchemaRead → Type 0
+Says db (Number n) = SaysSchema db n
+Says db NoNumber = SaysNone db
+
+-- what rows say
+abbrev pub IsSaid : List Row → SchemaRead → Type 0
+IsSaid rows (Number n) = AreNumber n rows
+IsSaid rows NoNumber = (n : ℕ) → ¬ AreNumber n rows
+
+-- The schema's number is asked for: nothing is changed, and an answer is what the database says.
+-- It fails for memory, the disk or its size alone.
+pub record ReadsSchema (old new : State) (result : Result SchemaRead StoreFault) : Type 0 where
+  pub survives : Survives old new (λ _. ⊥)
+  pub keeps : HasCleanDisk new → KeepsCommit old new
+  pub ok : HasCleanDisk new → old.step_limit ≡ None → IfOk result (λ read. IsUnchanged old new × Says old.now read)
+  pub sure : IfErr result (λ fault. fault ≢ Foreign)
+  -- the tables of a desk say 1
+  pub desk : HasCleanDisk new → IsInside old → IfOk result (λ read. read ≡ Number 1)
+
+-- the rows of an answer, or none where the text is refused
+abbrev pub AreSaid : Database → Option (List Row) → Type 0
+AreSaid db (Some rows) = IsAnswer db rows
+AreSaid db None = IsRefused db
+
+-- a foreign fault is told as no answer
+abbrev pub unless_foreign : {A : Type 0} → Result A StoreFault → Result (Option A) StoreFault
+unless_foreign (Ok a) = Ok (Some a)
+unless_foreign (Err Foreign) = Ok None
+unless_foreign (Err Memory) = Err Memory
+unless_foreign (Err Device) = Err Device
+unless_foreign (Err Full) = Err Full
+
+-- the rows are asked for
+pub record ReadsRows {A : Type 0} (items : A → List Row) (old new : State) (result : Result (Option A) StoreFault) : Type 0 where
+  pub survives : Survives old new (λ _. ⊥)
+  pub keeps : HasCleanDisk new → KeepsCommit old new
+  pub some : HasCleanDisk new → IfOk result (λ o. (rows : A) → o ≡ Some rows → IsUnchanged old new × IsAnswer old.now (items rows))
+  pub none : HasCleanDisk new → old.step_limit ≡ None → IfOk result (λ o. o ≡ None → IsUnchanged old new × IsRefused old.now)
+  pub sure : IfErr result (λ fault. fault ≢ Foreign)

@@ -1,0 +1,10 @@
+//! How the tables of a desk are made, and how they are recognised.
+#![tactic(auto)]
+
+mod making;
+mod names;
+mod number;
+
+pub use making::make_tables;
+pub use names::{is_blank, names_a_desk_table};
+pub use number::{SchemaRead, read_schema};

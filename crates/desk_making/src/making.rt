@@ -1,0 +1,94 @@
+//! How the tables of a desk are made.
+
+ghost use Rattle.std.specs.Prelude.{◌≡◌};
+ghost use Rattle.sqlite.specs.Held.{state};
+ghost use Rattle.desk_schema.specs.Tables.{desk_schema};
+ghost use Rattle.desk_making.specs.Making.{IsBuilt, IsBlank, IsNew, Builds, HasRun, first_tables, all_tables};
+
+use desk_schema::written;
+use desk_text::StoreFault;
+use sqlite::{Alter, Transaction, params};
+
+// Makes what the text says.
+fn make<S: Alter>(tx: &mut Transaction<'_, S>, sql: &str) -> Result<(), StoreFault>
+    ensures same_reference { tx.new.conn.ghost_name ≡ tx.old.conn.ghost_name }
+    ensures runs { HasRun sql.now (state S.Store tx.old.conn.now) (state S.Store tx.new.conn.now) result }
+{
+    written(tx.execute(sql, &[]))
+}
+
+// Makes the first four tables.
+fn make_first<S: Alter>(tx: &mut Transaction<'_, S>) -> Result<(), StoreFault>
+    ensures same_reference { tx.new.conn.ghost_name ≡ tx.old.conn.ghost_name }
+    ensures builds { Builds IsBlank (IsBuilt first_tables) (state S.Store tx.old.conn.now) (state S.Store tx.new.conn.now) result }
+{
+    make(
+        tx,
+        "CREATE TABLE meta (id INTEGER PRIMARY KEY, schema INTEGER NOT NULL, next INTEGER NOT NULL) STRICT",
+    )?;
+    make(
+        tx,
+        "CREATE TABLE sets (set_key INTEGER PRIMARY KEY, package TEXT NOT NULL, severity INTEGER NOT NULL, closed INTEGER NOT NULL, forwarded TEXT, owner TEXT, tags INTEGER NOT NULL, archived INTEGER NOT NULL) STRICT",
+    )?;
+    make(
+        tx,
+        "CREATE TABLE bugs (number INTEGER PRIMARY KEY, set_key INTEGER NOT NULL, title TEXT NOT NULL, submitter TEXT NOT NULL) STRICT",
+    )?;
+    make(
+        tx,
+        "CREATE TABLE marks (set_key INTEGER NOT NULL, kind INTEGER NOT NULL, source TEXT NOT NULL, version TEXT NOT NULL, PRIMARY KEY (set_key, kind, source, version)) STRICT",
+    )
+}
+
+// Makes the other three tables.
+fn make_others<S: Alter>(tx: &mut Transaction<'_, S>) -> Result<(), StoreFault>
+    ensures same_reference { tx.new.conn.ghost_name ≡ tx.old.conn.ghost_name }
+    ensures builds { Builds (IsBuilt first_tables) (IsBuilt all_tables) (state S.Store tx.old.conn.now) (state S.Store tx.new.conn.now) result }
+{
+    make(
+        tx,
+        "CREATE TABLE blocks (set_key INTEGER NOT NULL, blocker INTEGER NOT NULL, PRIMARY KEY (set_key, blocker)) STRICT",
+    )?;
+    make(
+        tx,
+        "CREATE TABLE nodes (source TEXT NOT NULL, version TEXT NOT NULL, parent_source TEXT, parent_version TEXT, PRIMARY KEY (source, version)) STRICT",
+    )?;
+    make(
+        tx,
+        "CREATE TABLE nearest (set_key INTEGER NOT NULL, source TEXT NOT NULL, version TEXT NOT NULL, mark_source TEXT NOT NULL, mark_version TEXT NOT NULL, kind INTEGER NOT NULL, PRIMARY KEY (set_key, source, version)) STRICT",
+    )
+}
+
+// Makes the indexes.
+fn make_indexes<S: Alter>(tx: &mut Transaction<'_, S>) -> Result<(), StoreFault>
+    ensures same_reference { tx.new.conn.ghost_name ≡ tx.old.conn.ghost_name }
+    ensures builds { Builds (IsBuilt all_tables) (IsBuilt desk_schema) (state S.Store tx.old.conn.now) (state S.Store tx.new.conn.now) result }
+{
+    make(
+        tx,
+        "CREATE INDEX sets_by_package ON sets (package, archived)",
+    )?;
+    make(tx, "CREATE INDEX bugs_by_set ON bugs (set_key)")?;
+    make(tx, "CREATE INDEX marks_by_node ON marks (source, version)")?;
+    make(tx, "CREATE INDEX blocks_by_blocker ON blocks (blocker)")
+}
+
+// Puts the row of meta: its id, the number of the schema, and the first bug's number.
+fn put_meta<S: Alter>(tx: &mut Transaction<'_, S>, first: u32) -> Result<(), StoreFault>
+    ensures same_reference { tx.new.conn.ghost_name ≡ tx.old.conn.ghost_name }
+    ensures builds { Builds (IsBuilt desk_schema) (IsNew first) (state S.Store tx.old.conn.now) (state S.Store tx.new.conn.now) result }
+{
+    written(tx.execute("INSERT INTO meta VALUES (1, 1, ?1)", params![first]))
+}
+
+/// Makes the tables of a new desk in a database that has none, in a transaction.
+/// The desk has no bug, and gives `first` to the first.
+pub fn make_tables<S: Alter>(tx: &mut Transaction<'_, S>, first: u32) -> Result<(), StoreFault>
+    ensures same_reference { tx.new.conn.ghost_name ≡ tx.old.conn.ghost_name }
+    ensures builds { Builds IsBlank (IsNew first) (state S.Store tx.old.conn.now) (state S.Store tx.new.conn.now) result }
+{
+    make_first(tx)?;
+    make_others(tx)?;
+    make_indexes(tx)?;
+    put_meta(tx, first)
+}
