@@ -121,8 +121,9 @@ fn read_small_key<S: Alter>(
     }
 }
 
-// The image of the set that the bug is in, if there is such a bug.
-fn read_set<S: Alter>(
+/// The image of the set that the bug is in, if there is such a bug.
+/// `Memory` where there is none for the image.
+pub fn read_set_of<S: Alter>(
     alloc: Global,
     tx: &mut Transaction<'_, S>,
     number: u32,
@@ -134,22 +135,5 @@ fn read_set<S: Alter>(
     match read_small_key(tx, number)? {
         Some(key) => read_image(alloc, tx, key),
         None => Ok(None),
-    }
-}
-
-/// The image of the set that the bug is in, if there is such a bug.
-/// No bug has a number that is no u32.
-/// `Memory` where there is none for the image.
-pub fn read_set_of<S: Alter>(
-    alloc: Global,
-    tx: &mut Transaction<'_, S>,
-    number: u64,
-) -> Result<Option<SetImage>, StoreFault>
-    ensures same_reference { tx.new.conn.ghost_name ≡ tx.old.conn.ghost_name }
-    ensures reads { ReadsKept (λ c found. IsImageOf (desk_in c) number found) (state S.Store tx.old.conn.now) (state S.Store tx.new.conn.now) result }
-{
-    match u32::try_from(number) {
-        Ok(number) => read_set(alloc, tx, number),
-        Err(_) => Ok(None),
     }
 }

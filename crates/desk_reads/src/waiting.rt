@@ -103,8 +103,9 @@ fn read_bugs_of<S: Alter>(
     in_order(alloc, &numbers)
 }
 
-// The numbers of all bugs whose set waits on the bug, ascending.
-fn read_all_waiting<S: Alter>(
+/// The numbers of all bugs whose set waits on the bug, ascending.
+/// `Memory` where there is none for them.
+pub fn read_waiting_on<S: Alter>(
     alloc: Global,
     tx: &mut Transaction<'_, S>,
     number: u32,
@@ -115,21 +116,4 @@ fn read_all_waiting<S: Alter>(
 {
     let keys = waiting_keys(alloc, tx, number)?;
     read_bugs_of(alloc, tx, keys.as_slice())
-}
-
-/// The numbers of all bugs whose set waits on the bug, ascending.
-/// No bug waits on a number that is no u32.
-/// `Memory` where there is none for them.
-pub fn read_waiting_on<S: Alter>(
-    alloc: Global,
-    tx: &mut Transaction<'_, S>,
-    number: u64,
-) -> Result<Numbers, StoreFault>
-    ensures same_reference { tx.new.conn.ghost_name ≡ tx.old.conn.ghost_name }
-    ensures reads { ReadsKept (λ c numbers. AreWaitingOn (desk_in c) number numbers) (state S.Store tx.old.conn.now) (state S.Store tx.new.conn.now) result }
-{
-    match u32::try_from(number) {
-        Ok(number) => read_all_waiting(alloc, tx, number),
-        Err(_) => Ok(Sequence::new(alloc)),
-    }
 }

@@ -1,18 +1,22 @@
-use Rattle.std.proofs.Common.{◌≤◌, ◌^◌, ℕ, List, subst, ◌∙◌, arith}
+use Rattle.std.proofs.Common.{◌≡◌, [], ap, ◌∙◌}
 use Rattle.sqlite.specs.Held.{state}
+use Rattle.bug_record.specs.Sets.{with_items}
 use Rattle.desk_content.specs.View.{desk_in}
+use Rattle.set_rows.specs.Waiting.{AreKeysOf}
 use Rattle.desk_store.specs.Store.{AreWaitingOn}
-use Rattle.desk_reads.specs.Kept.{ReadsKept}
-use Rattle.desk_reads.proofs.KeptSteps.{kept_none}
-use Rattle.desk_reads.proofs.WaitingLemmas.{none_waits}
+use Rattle.desk_reads.specs.Bugs.{bugs_of}
+use Rattle.desk_reads.proofs.KeptSteps.{kept_any, kept_then}
+use Rattle.desk_reads.proofs.WaitingLemmas.{all_wait}
 use Rattle.desk_reads.proofs.waiting.read_waiting_on.Goals as goal
 
-pub returns-in-Ok-clause-reads : goal.returns-in-Ok-clause-reads
-returns-in-Ok-clause-reads g c =
-    subst (λ n. ReadsKept (λ k (numbers : List ℕ). AreWaitingOn (desk_in k) n numbers) (state g.S.Store c.args.tx.now.conn.now) (state g.S.Store c.read_all_waiting.new.tx.conn.now) c.read_all_waiting.result)
-    c.in-Ok.ensures.1 c.read_all_waiting.ensures.reads
-
-pub returns-in-Err-clause-reads : goal.returns-in-Err-clause-reads
-returns-in-Err-clause-reads g c =
-    let large : 2 ^ 32 ≤ c.args.number = omega (arith, c.in-Err.ensures) in
-    kept_none (state g.S.Store c.args.tx.now.conn.now) c.new.result (λ k numbers. AreWaitingOn (desk_in k) c.args.number numbers) (λ k kept. c.new.ensures ∙ none_waits k kept c.args.number large)
+pub returns-clause-reads : goal.returns-clause-reads
+returns-clause-reads g c =
+    let old = state g.S.Store c.args.tx.now.conn.now in
+    let mid = state g.S.Store c.waiting_keys.new.tx.conn.now in
+    let new = state g.S.Store c.read_bugs_of.new.tx.conn.now in
+    kept_then old mid new c.in_ok-keys.keys c.read_bugs_of.result (λ k keys. AreKeysOf c.args.number k keys.items) (λ k numbers. numbers ≡ with_items (λ n. n) [] (bugs_of k c.as_slice.result.now))
+    (λ k numbers. AreWaitingOn (desk_in k) c.args.number numbers)
+    (λ k numbers kept p q. q ∙ ap (λ keys. with_items (λ n. n) [] (bugs_of k keys)) c.as_slice.ensures.value ∙ all_wait k kept c.args.number c.in_ok-keys.keys.items p)
+    c.in_ok-keys.ensures.reads
+    (kept_any mid new c.read_bugs_of.result (λ k numbers. numbers ≡ with_items (λ n. n) [] (bugs_of k c.as_slice.result.now)) (λ k numbers. numbers ≡ with_items (λ n. n) [] (bugs_of k c.as_slice.result.now)) (λ k numbers kept p. p)
+    c.read_bugs_of.ensures.reads)

@@ -5,7 +5,7 @@ use Rattle.desk_content.specs.View.{image, desk_in}
 use Rattle.desk_store.specs.Store.{IsImageOf}
 use Rattle.desk_reads.proofs.KeptSteps.{kept_any, kept_then}
 use Rattle.desk_reads.proofs.KeyLemmas.{image_found}
-use Rattle.desk_reads.proofs.images.read_set.Goals as goal
+use Rattle.desk_reads.proofs.images.read_set_of.Goals as goal
 
 pub returns-in-Some-clause-reads : goal.returns-in-Some-clause-reads
 returns-in-Some-clause-reads g c =
