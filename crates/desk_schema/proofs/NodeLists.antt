@@ -1,4 +1,5 @@
--- What a row that is added or left out makes of the nodes that the rows say, and which links they say.
+-- What a row that is added or left out makes of the nodes that the rows say, and which links the
+-- rows have.
 -- Nothing here speaks of a statement.
 use Rattle.std.proofs.Common.{◌≡◌, Bool, true, false, not, cond, if◌then◌else◌, filter, map, List, [], ◌∷◌, ◌++◌, append-nil, Option, Some, None, is_some, Ordering, Less, Equal, Greater, refl, sym, ap, subst, ◌∙◌, true≢false}
 use Rattle.std.specs.BTreeMap.{insert_entry}

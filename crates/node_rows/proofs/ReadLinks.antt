@@ -77,7 +77,7 @@ valid_links : (xs : List NodeRow) → AllByRecursion IsNodeRow xs → AllByRecur
 valid_links [] h = tt
 valid_links (x ∷ xs) h = (record { node = h.0.node; parent = h.0.parent }, valid_links xs h.1)
 
--- every row passes no test
+-- where there is no test, each row passes
 all_pass : (rows : List Row) → filter (passes [] []) rows ≡ rows
 all_pass [] = refl
 all_pass (r ∷ rows) = ap (λ rs. r ∷ rs) (all_pass rows)

@@ -79,8 +79,8 @@ fn family_of(alloc: Global, rows: &[Row]) -> Result<Family, StoreFault>
 }
 
 /// The tree of the known nodes, where they are a forest.
-/// `Foreign` where they are none that could be put in one after another; `Memory` where there is
-/// none for it.
+/// `Foreign` where a node would get a second parent, or one in whose line it is; `Memory` where
+/// there is none for the tree.
 pub fn read_family<S: Alter>(
     alloc: Global,
     tx: &mut Transaction<'_, S>,

@@ -157,7 +157,8 @@ module _ (schema : Schema) (table : Table) (plain : IsPlainTable schema table) (
   changing_free BadReference h e = true≢false (sym (plain.refers true true) ∙ h)
   changing_free TooDeep h e = h
 
--- an UPDATE of one row to a good one, whose keys no other row has, is never refused for what the tables hold
+-- an UPDATE of one row to a good one, whose keys no other row has, is never refused for what the
+-- tables hold
 pub update_free : (schema : Schema) (sql : List ℕ) (at : ℕ) (table : Table) (tests terms : List Term) → UpdatesRows schema sql at table tests terms → IsPlainTable schema table
     → (params : Row) → IsCallOf schema sql params (Update at (updating table tests terms)) → accepts_program schema [] (query_of table.tree tests terms []) params ≡ true
     → (old new : State) (e : Error) → old.step_limit ≡ None → (IsTrue old.is_open → old.now.schema ≡ schema) → (IsTrue old.is_open → Keeps Unique schema old.now.trees)
