@@ -1,14 +1,14 @@
 -- What questions inside a transaction come to together, where the tables may be kept.
 -- Nothing here speaks of a statement.
-use Rattle.std.proofs.Common.{◌≡◌, ◌≢◌, Result, Ok, Err, IfOk, IfErr, arith, refl, sym, subst, ◌∙◌}
+use Rattle.std.proofs.Common.{◌≡◌, ◌≢◌, Result, Ok, Err, IfOk, IfErr, refl, sym, subst, ◌∙◌}
 use Rattle.std.specs.Prelude.{⊤}
-use Rattle.sqlite.specs.State.{State, HasCleanDisk}
+use Rattle.sqlite.specs.State.{State}
 use Rattle.desk_text.specs.declared.outcome.StoreFault.{StoreFault}
 use Rattle.desk_text.specs.declared.outcome.StoreFault.TheVariants.{Foreign}
 use Rattle.desk_content.specs.Content.{Content}
 use Rattle.desk_content.specs.Kept.{IsKeptContent}
-use Rattle.desk_schema.specs.Steps.{seen, Goes, Acts, Reads, Serves}
-use Rattle.desk_schema.proofs.StepLemmas.{acts_none, acts_stop, acts_then, acts_weaker}
+use Rattle.desk_schema.specs.Steps.{seen, Goes, Reads, Serves}
+use Rattle.desk_schema.proofs.StepLemmas.{acts_none, acts_then, acts_weaker}
 use Rattle.desk_reads.specs.Kept.{ReadsKept}
 
 -- ---- one question after another
@@ -37,10 +37,6 @@ kept_any old new r P Q is one =
 pub kept_none : {A : Type 0} (s : State) (a : A) (P : Content → A → Type 0) → ((c : Content) → IsKeptContent c → P c a) → ReadsKept P s s (Ok a)
 kept_none s a P all = acts_none s a IsKeptContent (λ c d a. (d ≡ c) × (IsKeptContent c → P c a)) (λ c. (refl, all c))
 
--- it failed
-pub kept_stop : {A B : Type 0} (old new : State) (fault : StoreFault) (P : Content → A → Type 0) (Q : Content → B → Type 0) → ReadsKept P old new (Err fault) → ReadsKept Q old new (Err fault)
-kept_stop old new fault P Q one = acts_stop old new fault IsKeptContent IsKeptContent _ _ (λ c kept. kept) one
-
 -- ---- pure work on what an open store answered
 
 pub kept_work : {A B : Type 0} (old new : State) (a : A) (r : Result B StoreFault) (P : Content → A → Type 0) (Q : Content → B → Type 0)
@@ -56,12 +52,3 @@ kept_work {A = A} {B = B} old new a r P Q work serves one = record {
         → IfOk r (λ b. Goes old new (λ c d. (d ≡ c) × (IsKeptContent c → Q c b)))
     goes (Ok b) g q = record { inside = g.inside; serves = g.serves; changed = (g.changed.0, q) }
     goes (Err e) g q = tt
-
--- ---- the first question found the store open
-
-pub serves_first : {A B : Type 0} (old mid new : State) (a : A) (r : Result B StoreFault) (F : Content → Type 0) (Q : Content → Content → B → Type 0)
-    → Serves old mid (Ok a) → Acts mid new r F Q → Serves old new r
-serves_first old mid new a (Ok b) F Q serves two clean inside =
-    let early : HasCleanDisk mid = omega (arith, two.survives.clean, clean) in
-    serves early inside
-serves_first old mid new a (Err e) F Q serves two clean inside = tt

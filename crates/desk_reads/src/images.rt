@@ -44,7 +44,7 @@ fn read_shared<S: Alter>(
     })
 }
 
-// The fields, to be shared.
+// The fields, to be shared by copies of an image.
 fn agreed(alloc: Global, shared: Shared) -> Result<Agreed, StoreFault>
     ensures value { IfOk result (λ agreed. agreed ≡ shared) }
     ensures sure { IfErr result (λ fault. fault ≢ Foreign) }
@@ -55,7 +55,7 @@ fn agreed(alloc: Global, shared: Shared) -> Result<Agreed, StoreFault>
     }
 }
 
-// The same, to be shared.
+// The shared fields of the set of the key, to be shared by copies of its image.
 fn read_agreed<S: Alter>(
     alloc: Global,
     tx: &mut Transaction<'_, S>,
