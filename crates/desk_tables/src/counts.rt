@@ -8,7 +8,7 @@ use std::marker::Model;
 
 /// How often a store has answered each kind of fault, up to `u64::MAX`; want of memory is not
 /// counted.
-#[derive(Clone, Copy, Drop)]
+#[derive(Drop)]
 pub(crate) struct Counts {
     device: u64,
     full: u64,
