@@ -8,3 +8,4 @@ pub mod DeskNumber
 pub mod SaidLemmas
 pub mod QuietLemmas
 pub mod PlainSelect
+pub mod OnlyAnswer

@@ -57,27 +57,34 @@ IsQuestion (Err e) = ⊥
 
 question : IsQuestion (first number_text)
 unfolding everything
-question = (_, refl, refl, refl, omega arith, record {
-  core = record {
-    src = _;
-    from = refl;
-    source = record { name = codes "meta"; origin_is = refl; inner_is = refl; unfiltered = refl; unshared = refl };
-    sh = _;
-    shows = refl;
-    shown = record { e = _; alias = None; text = codes "schema"; one = refl; table = None; name = codes "schema"; column = refl };
-    e = _;
-    filter = refl;
-    test = record { a = _; b = _; equals = refl; table = None; name = codes "id"; column = refl; text = codes "1"; integer = refl };
-    ungrouped = refl;
-    unkept = refl;
-    undistinct = refl;
-  };
-  alone = refl;
-  single = refl;
-  unordered = refl;
-  unlimited = refl;
-  unshifted = refl;
-})
+question = (
+  _,
+  refl,
+  refl,
+  refl,
+  omega arith,
+  record {
+    core = record {
+      src = _;
+      from = refl;
+      source = record { name = codes "meta"; origin_is = refl; inner_is = refl; unfiltered = refl; unshared = refl };
+      sh = _;
+      shows = refl;
+      shown = record { e = _; alias = None; text = codes "schema"; one = refl; table = None; name = codes "schema"; column = refl };
+      e = _;
+      filter = refl;
+      test = record { a = _; b = _; equals = refl; table = None; name = codes "id"; column = refl; text = codes "1"; integer = refl };
+      ungrouped = refl;
+      unkept = refl;
+      undistinct = refl;
+    };
+    alone = refl;
+    single = refl;
+    unordered = refl;
+    unlimited = refl;
+    unshifted = refl;
+  },
+)
 
 -- ---- what is compiled of it
 
