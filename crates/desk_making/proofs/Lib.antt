@@ -9,3 +9,4 @@ pub mod SaidLemmas
 pub mod QuietLemmas
 pub mod PlainSelect
 pub mod OnlyAnswer
+pub mod NameLemmas

@@ -1,5 +1,6 @@
--- What the text that asks for the number is under any schema: one query with no parameter, or refused.
-use Rattle.std.proofs.Common.{◌≡◌, ◌≤◌, ◌+◌, ℕ, List, [], codes, length, Bool, true, false, if◌then◌else◌, Option, None, Ok, Err, refl, sym, ap, subst, ◌∙◌, arith}
+-- What the text that asks for the number is under any schema.
+-- It is one query with no parameter, or refused.
+use Rattle.std.proofs.Common.{◌≡◌, ◌≤◌, ◌+◌, ℕ, List, [], codes, length, false, if◌then◌else◌, Option, None, Ok, Err, refl, sym, ap, subst, ◌∙◌, arith}
 use Rattle.sqlite.specs.Command.{Command}
 use Rattle.sqlite.specs.Command.TheVariants.{Select}
 use Rattle.sqlite.specs.Compile.{compiled, first, planned, meaning, returning, command, read, timed, small, with_command}
@@ -10,7 +11,6 @@ use Rattle.sqlite_ast.specs.declared.Statement.TheVariants as written
 use Rattle.sqlite_resolve.specs.Lowering.{Checked, and_then}
 use Rattle.sqlite_resolve.specs.Program.{query as queried, program}
 use Rattle.sqlite_resolve.specs.declared.compiled.Compiled.{Compiled}
-use Rattle.sqlite_resolve.specs.declared.error.CompileError.{CompileError}
 use Rattle.sqlite_resolve.specs.declared.error.CompileError.TheVariants.{OutOfMemory, Parse, NoSuchTable, NoSuchIndex, NoSuchColumn, NoSuchFunction, Ambiguous, Exists, Misuse, Mismatch, Unsupported, TooBig, NeedsView}
 use Rattle.sqlite_schema.specs.declared.command.Returning.{Returning}
 use Rattle.sqlite_schema.specs.declared.program.Program.{Program}

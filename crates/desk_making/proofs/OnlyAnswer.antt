@@ -1,5 +1,5 @@
 -- A database whose schema has no view says one thing of the number.
-use Rattle.std.proofs.Common.{◌≡◌, inl, inr, ℕ, pos, negsuc, List, [], ◌∷◌, true, false, None, Some, Ok, Err, map, refl, sym, ap, subst, ◌∙◌, true≢false}
+use Rattle.std.proofs.Common.{◌≡◌, inl, inr, ℕ, pos, negsuc, List, [], ◌∷◌, false, None, map, refl, sym, ap, subst, ◌∙◌, true≢false}
 use Rattle.std.specs.List.Sorted.{IsPermutation}
 use Rattle.std.proofs.lemmas.List.Sorted.{IsPermutation-map, IsPermutation-sym}
 use Rattle.sqlite.proofs.Callers.{one_permutation}
@@ -13,7 +13,7 @@ use Rattle.sqlite.specs.declared.types.Value.TheVariants.{Null, Int}
 use Rattle.sqlite_rules.proofs.ListLemmas.{any_has}
 use Rattle.sqlite_schema.specs.declared.program.Program.{Program}
 use Rattle.sql_forms.specs.Numbers.{number_row}
-use Rattle.desk_making.specs.Number.{Asks, IsAnswer, IsRefused, AreNumber, SaysSchema, SaysNone, Says}
+use Rattle.desk_making.specs.Number.{IsAnswer, IsRefused, AreNumber, SaysSchema, SaysNone, Says}
 use Rattle.desk_making.specs.declared.number.SchemaRead.{SchemaRead}
 use Rattle.desk_making.specs.declared.number.SchemaRead.TheVariants.{Number, NoNumber}
 use Rattle.desk_making.proofs.NumberText.{asks_plain, asks_one}

@@ -1,6 +1,6 @@
--- A SELECT of one column of one table, with one equation in WHERE, is one plain query under a schema with no view.
-use Rattle.std.proofs.Common.{◌≡◌, ℕ, ◌+◌, negsuc, pos, List, [], ◌∷◌, ◌++◌, Bool, true, false, if◌then◌else◌, nat_lt, length, map, Option, Some, None, Ok, Err, Result, refl, sym, ap, subst, ◌∙◌, suc, zero, not, ◌&&◌, ◌==◌, slice_get, is_some, option_map, unwrap_or}
-use Rattle.sqlite.specs.Command.{Command}
+-- What a SELECT of one column of one table, with one equation in WHERE, means.
+-- It is one plain query under a schema with no view.
+use Rattle.std.proofs.Common.{◌≡◌, ℕ, negsuc, pos, List, [], ◌∷◌, ◌++◌, true, false, map, Option, Some, None, Ok, Err, refl, sym, ap, subst, ◌∙◌, is_some, option_map, unwrap_or}
 use Rattle.sqlite.specs.Command.TheVariants.{Select as Asking}
 use Rattle.sqlite.specs.Compile.{read}
 use Rattle.sqlite.specs.Query.{end, inner}
@@ -15,19 +15,17 @@ use Rattle.sqlite_ast.specs.declared.Expr.TheOpen.{Expr-F, Shown-F}
 use Rattle.sqlite_ast.specs.declared.Origin.TheVariants as origin
 use Rattle.sqlite_ast.specs.declared.Select.{Select, out-Select}
 use Rattle.sqlite_ast.specs.declared.Shown as written
-use Rattle.sqlite_ast.specs.declared.Sort.{Sort}
 use Rattle.sqlite_ast.specs.declared.Source.{Source, out-Source}
 use Rattle.sqlite_draft.specs.Query.{query_of, grouping_of}
-use Rattle.sqlite_draft.specs.declared.join.Step.{Step}
 use Rattle.sqlite_draft.specs.declared.join.Step.TheVariants.{Inner}
 use Rattle.sqlite_draft.specs.declared.query.Draft.{Draft}
-use Rattle.sqlite_resolve.specs.Body.{table_at, table_in, bound, bounds, bounds_from, heading, is_column, shared, within, tests, shown, outputs, inner_join, join, joins, result, matching, body}
-use Rattle.sqlite_resolve.specs.Expr.{lower, lower_to}
-use Rattle.sqlite_resolve.specs.Lowering.{Checked, and_then, or_else, Lowering, ◌>>=◌, ◌<$>◌, pure, fail, lift, get, last, take_slot, fresh, max_budget}
+use Rattle.sqlite_resolve.specs.Body.{table_at, table_in, bound, bounds, heading, is_column, shared, within, tests, shown, outputs, inner_join, join, joins, result, matching, body}
+use Rattle.sqlite_resolve.specs.Expr.{lower}
+use Rattle.sqlite_resolve.specs.Lowering.{Checked, and_then, ◌>>=◌, pure, lift, last, take_slot, fresh, max_budget}
 use Rattle.sqlite_resolve.specs.Order.{keys, sorts}
 use Rattle.sqlite_resolve.specs.Program as building
 use Rattle.sqlite_resolve.specs.Scope.{Name, Context}
-use Rattle.sqlite_resolve.specs.Select.{outermost, inside, having, parts, ungrouped, assembled, named, paging, constant_or}
+use Rattle.sqlite_resolve.specs.Select.{outermost, having, parts, ungrouped, assembled, named, paging, constant_or}
 use Rattle.sqlite_resolve.specs.Terms.{number, conjuncts}
 use Rattle.sqlite_resolve.specs.declared.body.Body.{Body}
 use Rattle.sqlite_resolve.specs.declared.body.Joined.{Joined}
@@ -42,7 +40,7 @@ use Rattle.sqlite_resolve.specs.declared.scope.Output.{Output}
 use Rattle.sqlite_resolve.specs.declared.select.Clauses.{Clauses}
 use Rattle.sqlite_resolve.specs.declared.state.Carried.{Carried}
 use Rattle.sqlite_resolve.specs.declared.state.State.{State}
-use Rattle.desk_making.proofs.QuietLemmas.{IsQuiet, Quiet, Any, through, same_ok, choice, pure_quiet, lift_quiet, fail_quiet, get_quiet, last_quiet, slot_quiet, quiet_then, if_quiet, column_at_quiet, integer_quiet, equation_quiet}
+use Rattle.desk_making.proofs.QuietLemmas.{Quiet, Any, through, same_ok, choice, pure_quiet, lift_quiet, last_quiet, slot_quiet, quiet_then, column_at_quiet, integer_quiet, equation_quiet}
 
 -- ---- as it is written
 

@@ -1,13 +1,13 @@
 -- Reading an expression that holds no aggregate and needs no step leaves no aggregate and no step.
-use Rattle.std.proofs.Common.{◌≡◌, ℕ, ◌+◌, ◌-◌, List, [], ◌∷◌, Bool, true, false, if◌then◌else◌, nat_lt, Option, Some, None, Ok, Err, refl, sym, ap, subst, ◌∙◌, suc, not, ◌&&◌, ◌==◌, slice_get}
+use Rattle.std.proofs.Common.{◌≡◌, ℕ, ◌+◌, ◌-◌, List, [], Bool, true, false, if◌then◌else◌, nat_lt, Option, None, Ok, Err, refl, sym, subst, suc, not, ◌&&◌, ◌==◌, slice_get}
 use Rattle.std.specs.Prelude.{⊤}
 use Rattle.sqlite_ast.specs.declared.Expr.{Expr, out-Expr}
 use Rattle.sqlite_ast.specs.declared.Expr.TheOpen.{Expr-F}
 use Rattle.sqlite_ast.specs.declared.Binary.TheVariants.{Eq}
-use Rattle.sqlite_resolve.specs.Expr.{passes, node, opened, node_at, lower, lower_to, operation, both, combine, wanted_truth, tests_truth, tests_alias, operated}
+use Rattle.sqlite_resolve.specs.Expr.{passes, node, opened, node_at, lower_to, operation, both, combine, wanted_truth, tests_truth, tests_alias, operated}
 use Rattle.sqlite_resolve.specs.Literal.{integer}
-use Rattle.sqlite_resolve.specs.Lowering.{Checked, and_then, or_else, Lowering, ◌>>=◌, ◌>>◌, ◌<$>◌, pure, fail, lift, get, last, carry, begin, finish, spend, again, height, max_height, take_slot, max_slots, chosen, passed, written_or, nothing, either, pending}
-use Rattle.sqlite_resolve.specs.Scope.{Name, Context, find, shown_again, column_at, term_by, term_of, column}
+use Rattle.sqlite_resolve.specs.Lowering.{Checked, and_then, or_else, Lowering, ◌>>=◌, ◌>>◌, pure, fail, lift, get, last, carry, begin, finish, spend, again, height, max_height, take_slot, max_slots, chosen, passed, written_or, nothing, either, pending}
+use Rattle.sqlite_resolve.specs.Scope.{Name, Context, find, shown_again, column_at, term_of, column}
 use Rattle.sqlite_resolve.specs.declared.error.CompileError.{CompileError}
 use Rattle.sqlite_resolve.specs.declared.error.CompileError.TheVariants.{TooBig, NoSuchColumn}
 use Rattle.sqlite_resolve.specs.declared.scope.Found.{Found}

@@ -29,7 +29,7 @@ pub record Asks (schema : Schema) (query : Program) : Type 0 where
   pub selects : found.command ≡ Select query names
 
 -- These rows are an answer to it over the database.
--- It is the only one, but for the order of its rows, unless meta is a view, which may leave a choice.
+-- It is the only one, but for the order of its rows, unless a view leaves a choice.
 abbrev pub IsAnswer : Database → List Row → Type 0
 IsAnswer db rows = (query : Program) × Asks db.schema query × Answers db query [] rows
 
