@@ -71,11 +71,6 @@ pub record ReadsSchema (old new : State) (result : Result SchemaRead StoreFault)
   -- the tables of a desk say 1
   pub desk : HasCleanDisk new → IsInside old → IfOk result (λ read. read ≡ Number 1)
 
--- the rows of an answer, or none where the text is refused
-abbrev pub AreSaid : Database → Option (List Row) → Type 0
-AreSaid db (Some rows) = IsAnswer db rows
-AreSaid db None = IsRefused db
-
 -- a foreign fault is told as no answer
 abbrev pub unless_foreign : {A : Type 0} → Result A StoreFault → Result (Option A) StoreFault
 unless_foreign (Ok a) = Ok (Some a)
