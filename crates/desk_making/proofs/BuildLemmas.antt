@@ -1,11 +1,11 @@
 -- What one text that makes a table or an index comes to, and several of them.
-use Rattle.std.proofs.Common.{◌≡◌, ◌≢◌, inl, inr, ℕ, List, [], ◌∷◌, ◌++◌, Result, Ok, Err, IfOk, IfErr, IsTrue, refl, sym, ap, subst, ◌∙◌, arith}
+use Rattle.std.proofs.Common.{◌≡◌, ◌≢◌, inl, inr, ℕ, List, [], ◌∷◌, ◌++◌, true, None, Result, Ok, Err, IfOk, IsTrue, refl, sym, subst, ◌∙◌, arith}
 use Rattle.std.specs.List.{AllByRecursion}
 use Rattle.sqlite.specs.Change.{created, indexed, next_tree}
 use Rattle.sqlite.specs.Order.{Row}
 use Rattle.sqlite.specs.Schema.{Schema}
 use Rattle.sqlite.specs.Table.{Table}
-use Rattle.sqlite.specs.State.{State, HasCleanDisk, KeepsCommit, Survives, ExecutesInside, IsUnchanged}
+use Rattle.sqlite.specs.State.{State, IsLive, HasCleanDisk, KeepsCommit, Survives, ExecutesInside}
 use Rattle.sqlite.specs.declared.error.Error.{Error}
 use Rattle.sqlite.proofs.InsideLemmas.{keeps_then}
 use Rattle.sqlite.proofs.StateLemmas.{survives_then}
@@ -15,7 +15,10 @@ use Rattle.desk_text.specs.declared.outcome.StoreFault.TheVariants.{Foreign}
 use Rattle.sql_forms.specs.Faults.{fault_of, written}
 use Rattle.sql_forms.proofs.CreateErrors.{IsSureTable, IsSureIndex, table_free, index_free}
 use Rattle.sql_forms.proofs.CreateLemmas.{CreatesTable, CreatesIndex, creates, creates_index, still_empty}
-use Rattle.desk_making.specs.Making.{IsBuilt, Builds, HasRun}
+use Rattle.sqlite.specs.Held.{Held, state}
+use Rattle.sqlite.specs.Store.{Ghosts}
+use Rattle.desk_making.specs.Making.{IsBuilt, IsBlank, Builds, HasRun}
+use Rattle.desk_making.specs.Names.{no_tables}
 
 -- ---- one text
 
@@ -129,3 +132,9 @@ index_is schema sql at table index later it = record {
           sound = λ _. done.sound;
           empty = λ _. still_empty schema.tables old.now.trees new.now.trees (was.empty h.1.was_open) done.rows;
         }
+
+-- ---- how a transaction begins
+
+-- a transaction that begins over a database with no table, no index and no view
+pub blank_begun : {S : Type 0} (g : Ghosts S) (old : Held S) → (state g old).now.schema ≡ no_tables → IsLive (state g old) → old.step_limit ≡ None → IsBlank (state g (record old { in_transaction = true }))
+blank_begun g old blank live unlimited = record { begun = refl; unlimited = unlimited; schema_is = λ _. blank; sound = λ o. (live o).0; empty = λ _. tt }

@@ -1,10 +1,10 @@
 -- The tables of a desk say 1.
-use Rattle.std.proofs.Common.{◌≡◌, inl, inr, ℕ, pos, List, [], ◌∷◌, codes, true, false, None, Ok, Err, IsTrue, map, filter, refl, sym, ap, subst, subst₂, ◌∙◌, true≢false, arith}
+use Rattle.std.proofs.Common.{◌≡◌, inl, inr, ℕ, pos, List, [], ◌∷◌, codes, true, None, Ok, Err, IsTrue, map, filter, refl, sym, ap, subst, ◌∙◌, true≢false, arith}
 use Rattle.std.specs.List.Sorted.{IsPermutation}
 use Rattle.sqlite.proofs.Callers.{command_of, one_permutation}
 use Rattle.sqlite.specs.Command.TheVariants.{Select}
 use Rattle.sqlite.specs.Compile.{compiled}
-use Rattle.sqlite.specs.Effect.{Database, Answers, RefusesQuery}
+use Rattle.sqlite.specs.Effect.{Answers, RefusesQuery}
 use Rattle.sqlite.specs.Ops.{binary}
 use Rattle.sqlite.specs.Order.{Row, value_cmp}
 use Rattle.sqlite.specs.Program.{overlay}
@@ -25,7 +25,7 @@ use Rattle.sql_forms.proofs.QueryLemmas.{finds, found}
 use Rattle.desk_schema.specs.Tables.{META, desk_schema}
 use Rattle.desk_schema.specs.Rows.{meta_cells}
 use Rattle.desk_schema.specs.Steps.{IsInside}
-use Rattle.desk_making.specs.Number.{number_text, Asks, IsAnswer, IsRefused, Says, SaysSchema, SaysNone, AreNumber}
+use Rattle.desk_making.specs.Number.{number_text, Asks, IsAnswer, IsRefused, Says}
 use Rattle.desk_making.specs.declared.number.SchemaRead.{SchemaRead}
 use Rattle.desk_making.specs.declared.number.SchemaRead.TheVariants.{Number, NoNumber}
 

@@ -6,3 +6,7 @@ pub mod NumberText
 pub mod NumberAnswers
 pub mod DeskNumber
 pub mod SaidLemmas
+pub mod QuietLemmas
+pub mod PlainSelect
+pub mod OnlyAnswer
+pub mod NameLemmas

@@ -1,5 +1,5 @@
 -- What the row of meta makes of tables with no row.
-use Rattle.std.proofs.Common.{◌≡◌, ◌≢◌, ℕ, pos, List, [], ◌∷◌, codes, false, Ok, Err, IsTrue, refl, sym, ap, subst, ◌∙◌, arith}
+use Rattle.std.proofs.Common.{◌≡◌, ◌≢◌, ℕ, pos, List, [], ◌∷◌, codes, false, Ok, Err, IsTrue, refl, sym, subst, ◌∙◌, arith}
 use Rattle.std.specs.List.{AllByRecursion}
 use Rattle.sqlite.specs.Command.TheVariants.{Insert}
 use Rattle.sqlite.specs.Edit.{is_taken}
@@ -11,7 +11,6 @@ use Rattle.sqlite.specs.Term.{Term, lit, col}
 use Rattle.sqlite.specs.Tree.{Trees, put_row}
 use Rattle.sqlite.specs.declared.error.Error.{Error}
 use Rattle.sqlite.specs.declared.types.Value.TheVariants.{Null, Int}
-use Rattle.sqlite_rules.specs.Keys.{are_unique}
 use Rattle.sqlite_schema.specs.Rules.{Keeps}
 use Rattle.sqlite_schema.specs.declared.schema.Constraint.TheVariants.{Unique}
 use Rattle.sqlite_tied.specs.Compute.{everything}
@@ -24,7 +23,7 @@ use Rattle.sql_forms.proofs.ErrorLemmas.{IsCallOf}
 use Rattle.sql_forms.proofs.InsertLemmas.{InsertsRow, inserts}
 use Rattle.sql_forms.proofs.RefusalLemmas.{IsGoodRow, insert_free}
 use Rattle.desk_content.specs.Content.{no_content}
-use Rattle.desk_schema.specs.Tables.{META, SETS, BUGS, MARKS, BLOCKS, NODES, NEAREST, meta_table, desk_schema}
+use Rattle.desk_schema.specs.Tables.{META, meta_table, desk_schema}
 use Rattle.desk_schema.specs.Rows.{meta_cells, content_of, AreShown}
 use Rattle.desk_schema.proofs.CellLemmas.{cast_int, cast_null}
 use Rattle.desk_schema.proofs.ContentLemmas.{AreSame, same_content, remade}

@@ -1,23 +1,21 @@
 -- What the call that asks for the number answers, over any database.
-use Rattle.std.proofs.Common.{◌≡◌, ◌≢◌, ◌⊎◌, inl, inr, ℕ, List, [], append-nil, length, map, ◌++◌, true, false, Option, Some, None, Result, Ok, Err, IfOk, IfErr, refl, sym, ap, subst, subst₂, ◌∙◌, arith}
+use Rattle.std.proofs.Common.{◌≡◌, ◌⊎◌, inl, inr, ℕ, List, [], length, Option, Some, None, Result, Ok, Err, IfOk, IfErr, refl, sym, ap, subst, subst₂, ◌∙◌}
 use Rattle.sqlite.specs.Clock.{timed}
-use Rattle.sqlite.specs.Command.{Command}
 use Rattle.sqlite.specs.Command.TheVariants.{Select}
 use Rattle.sqlite.specs.Compile.{compiled}
 use Rattle.sqlite.specs.Effect.{Database, Reads, RefusesToRead, RefusesQuery, Answers}
 use Rattle.sqlite.specs.Listing.{understood, reads_listing, IsSourceOf}
 use Rattle.sqlite.specs.Order.{Row}
-use Rattle.sqlite.specs.State.{State, HasCleanDisk, KeepsCommit, Survives, Shown, ShowsRows, IsStatement, IsUnchanged, IsRolledBack, FailsToQuery, FailsToShow, IsTooLate, IsNotRun}
+use Rattle.sqlite.specs.State.{State, HasCleanDisk, KeepsCommit, Survives, Shown, ShowsRows, IsUnchanged, IsRolledBack, FailsToQuery, FailsToShow, IsTooLate, IsNotRun}
 use Rattle.sqlite.specs.declared.error.Error.{Error}
 use Rattle.sqlite_resolve.specs.declared.compiled.Compiled.{Compiled}
 use Rattle.sqlite_schema.specs.declared.command.Returning.{Returning}
-use Rattle.sqlite_schema.specs.declared.program.Program.{Program}
 use Rattle.desk_text.specs.declared.outcome.StoreFault.{StoreFault}
 use Rattle.desk_text.specs.declared.outcome.StoreFault.TheVariants.{Memory, Device, Full, Foreign}
 use Rattle.sql_forms.specs.Faults.{fault_of, told}
 use Rattle.sql_forms.proofs.ErrorLemmas.{IsStoreError}
 use Rattle.sql_forms.proofs.FailLemmas.{stored_free}
-use Rattle.desk_making.specs.Number.{number_text, Asks, IsAnswer, IsRefused, ReadsRows, unless_foreign}
+use Rattle.desk_making.specs.Number.{number_text, IsAnswer, IsRefused, ReadsRows, unless_foreign}
 use Rattle.desk_making.proofs.NumberText.{IsQuery, always_query, is_compiled, reads_tables}
 
 module _ (old new : State) where

@@ -1,5 +1,6 @@
--- What the text that asks for the number is under any schema: one query with no parameter, or refused.
-use Rattle.std.proofs.Common.{◌≡◌, ◌≤◌, ◌+◌, ℕ, List, [], length, Bool, true, false, if◌then◌else◌, Option, None, Ok, Err, refl, sym, ap, subst, ◌∙◌, arith}
+-- What the text that asks for the number is under any schema.
+-- It is one query with no parameter, or refused.
+use Rattle.std.proofs.Common.{◌≡◌, ◌≤◌, ◌+◌, ℕ, List, [], codes, length, false, if◌then◌else◌, Option, None, Ok, Err, refl, sym, ap, subst, ◌∙◌, arith}
 use Rattle.sqlite.specs.Command.{Command}
 use Rattle.sqlite.specs.Command.TheVariants.{Select}
 use Rattle.sqlite.specs.Compile.{compiled, first, planned, meaning, returning, command, read, timed, small, with_command}
@@ -10,13 +11,14 @@ use Rattle.sqlite_ast.specs.declared.Statement.TheVariants as written
 use Rattle.sqlite_resolve.specs.Lowering.{Checked, and_then}
 use Rattle.sqlite_resolve.specs.Program.{query as queried, program}
 use Rattle.sqlite_resolve.specs.declared.compiled.Compiled.{Compiled}
-use Rattle.sqlite_resolve.specs.declared.error.CompileError.{CompileError}
 use Rattle.sqlite_resolve.specs.declared.error.CompileError.TheVariants.{OutOfMemory, Parse, NoSuchTable, NoSuchIndex, NoSuchColumn, NoSuchFunction, Ambiguous, Exists, Misuse, Mismatch, Unsupported, TooBig, NeedsView}
 use Rattle.sqlite_schema.specs.declared.command.Returning.{Returning}
 use Rattle.sqlite_schema.specs.declared.program.Program.{Program}
 use Rattle.sqlite_syntax.specs.declared.statement.Parsed.{Parsed}
 use Rattle.sqlite_tied.specs.Compute.{everything}
 use Rattle.desk_making.specs.Number.{number_text, Asks}
+use Rattle.desk_making.proofs.PlainSelect.{IsPlainSelect, IsPlainQuery, plain_read}
+use Rattle.desk_making.proofs.QuietLemmas.{through, same_ok}
 
 -- ---- the listing of a schema has no such table
 
@@ -50,21 +52,41 @@ reads_tables schema c is = ap misses_table is
 -- ---- the text as it is parsed
 
 abbrev IsQuestion : Checked Parsed → Type 0
-IsQuestion (Ok p) = (s : written_select.Select) × (p.statement ≡ written.Select s) × (p.formats ≡ []) × (p.names ≡ []) × (length number_text ≤ p.tail)
+IsQuestion (Ok p) = (s : written_select.Select) × (p.statement ≡ written.Select s) × (p.formats ≡ []) × (p.names ≡ []) × (length number_text ≤ p.tail) × IsPlainSelect s
 IsQuestion (Err e) = ⊥
 
 question : IsQuestion (first number_text)
 unfolding everything
-question = (_, refl, refl, refl, omega arith)
+question = (
+  _,
+  refl,
+  refl,
+  refl,
+  omega arith,
+  record {
+    core = record {
+      src = _;
+      from = refl;
+      source = record { name = codes "meta"; origin_is = refl; inner_is = refl; unfiltered = refl; unshared = refl };
+      sh = _;
+      shows = refl;
+      shown = record { e = _; alias = None; text = codes "schema"; one = refl; table = None; name = codes "schema"; column = refl };
+      e = _;
+      filter = refl;
+      test = record { a = _; b = _; equals = refl; table = None; name = codes "id"; column = refl; text = codes "1"; integer = refl };
+      ungrouped = refl;
+      unkept = refl;
+      undistinct = refl;
+    };
+    alone = refl;
+    single = refl;
+    unordered = refl;
+    unlimited = refl;
+    unshifted = refl;
+  },
+)
 
 -- ---- what is compiled of it
-
-through : {A B : Type 0} (r : Checked A) (f : A → Checked B) (b : B) → and_then r f ≡ Ok b → (a : A) × (r ≡ Ok a) × (f a ≡ Ok b)
-through (Ok a) f b is = (a, refl, is)
-through (Err e) f b is = absurd (let no = is in cc)
-
-same_ok : {A : Type 0} {a b : A} → ◌≡◌ {A = Checked A} (Ok a) (Ok b) → a ≡ b
-same_ok e = cc
 
 -- one query, with no parameter
 pub record IsQuery (schema : Schema) (c : Compiled) : Type 0 where
@@ -75,6 +97,10 @@ pub record IsQuery (schema : Schema) (c : Compiled) : Type 0 where
   pub untimed : c.formats ≡ []
   pub unnamed : c.names ≡ []
   pub whole : length number_text ≤ c.tail
+  -- the text as it is written, and what is read of it
+  pub select : written_select.Select
+  pub plain : IsPlainSelect select
+  pub read_is : read schema select ≡ Ok (Select query asks.names)
 
 selects : (schema : Schema) (s : written_select.Select) (k : Command) → read schema s ≡ Ok k → (query : Program) × (names : List (List ℕ)) × (k ≡ Select query names)
 unfolding read
@@ -99,33 +125,34 @@ parts schema c is =
     record { parsed = one.0; is_first = one.1; plan = two.0; is_planned = two.1; is = same_ok two.2 }
 
 -- what a question plans
-record Plans (schema : Schema) (plan : List (List ℕ) × (Command × Option Returning)) : Type 0 where
+record Plans (schema : Schema) (s : written_select.Select) (plan : List (List ℕ) × (Command × Option Returning)) : Type 0 where
   pub query : Program
   pub names : List (List ℕ)
+  pub read_is : read schema s ≡ Ok (Select query names)
   pub is : plan ≡ ([], (Select query names, None))
 
 means : (schema : Schema) (s : written_select.Select) (base : ℕ) (found : Command × Option Returning)
     → and_then (returning schema base (written.Select s)) (λ shown. and_then (command schema [] base (written.Select s)) (λ c. Ok (c, shown))) ≡ Ok found
-    → (query : Program) × (names : List (List ℕ)) × (found ≡ (Select query names, None))
+    → (query : Program) × (names : List (List ℕ)) × (read schema s ≡ Ok (Select query names)) × (found ≡ (Select query names, None))
 unfolding returning command
 means schema s base found is =
     let k = through (read schema s) (λ c. Ok (c, None)) found is in
     let selected = selects schema s k.0 k.1 in
-    (selected.0, selected.1, sym (same_ok k.2) ∙ ap (λ c. (c, None)) selected.2)
+    (selected.0, selected.1, k.1 ∙ ap (λ c. Ok c) selected.2, sym (same_ok k.2) ∙ ap (λ c. (c, None)) selected.2)
 
 meant : (schema : Schema) (p : Parsed) (s : written_select.Select) (base : ℕ) (found : Command × Option Returning) → p.statement ≡ written.Select s → p.formats ≡ [] → meaning schema p base ≡ Ok found
-    → (query : Program) × (names : List (List ℕ)) × (found ≡ (Select query names, None))
+    → (query : Program) × (names : List (List ℕ)) × (read schema s ≡ Ok (Select query names)) × (found ≡ (Select query names, None))
 unfolding meaning
 meant schema p s base found selected untimed is = means schema s base found (rw (selected, untimed) at is)
 
-plans : (schema : Schema) (p : Parsed) (s : written_select.Select) (plan : List (List ℕ) × (Command × Option Returning)) → p.statement ≡ written.Select s → p.formats ≡ [] → planned schema p ≡ Ok plan → Plans schema plan
+plans : (schema : Schema) (p : Parsed) (s : written_select.Select) (plan : List (List ℕ) × (Command × Option Returning)) → p.statement ≡ written.Select s → p.formats ≡ [] → planned schema p ≡ Ok plan → Plans schema s plan
 unfolding planned timed
 plans schema p s plan selected untimed is =
     let formats = timed schema p.formats p.statement in
     let no_time : formats ≡ [] = ap (timed schema p.formats) selected ∙ untimed in
     let one = through (meaning schema p (small p.names + small formats)) (λ found. Ok (formats, found)) plan is in
     let m = meant schema p s (small p.names + small formats) one.0 selected untimed one.1 in
-    record { query = m.0; names = m.1; is = sym (same_ok one.2) ∙ ap (λ f. (f, one.0)) no_time ∙ ap (λ x. ([], x)) m.2 }
+    record { query = m.0; names = m.1; read_is = m.2; is = sym (same_ok one.2) ∙ ap (λ f. (f, one.0)) no_time ∙ ap (λ x. ([], x)) m.3 }
 
 pub always_query : (schema : Schema) (c : Compiled) → compiled schema number_text ≡ Ok c → IsQuery schema c
 always_query schema c is =
@@ -141,4 +168,21 @@ always_query schema c is =
       untimed = ap (λ (x : Compiled). x.formats) known;
       unnamed = ap (λ (x : Compiled). x.names) known ∙ q.3;
       whole = subst (λ (x : Compiled). length number_text ≤ x.tail) (sym known) q.4;
+      select = q.0;
+      plain = q.5;
+      read_is = plan.read_is;
     }
+
+same_query : {p q : Program} {ns ms : List (List ℕ)} → Select p ns ≡ Select q ms → p ≡ q
+same_query e = cc
+
+-- under a schema with no view it is one plain query of a table
+pub asks_plain : (schema : Schema) (query : Program) → schema.views ≡ [] → Asks schema query → IsPlainQuery query
+asks_plain schema query none a =
+    let q = always_query schema a.found a.is in
+    let same : q.query ≡ query = same_query (sym q.asks.selects ∙ ap (λ (x : Compiled). x.command) q.same ∙ a.selects) in
+    subst IsPlainQuery same (plain_read schema q.select q.query q.asks.names none q.plain q.read_is)
+
+-- it is one query
+pub asks_one : (schema : Schema) (p q : Program) → Asks schema p → Asks schema q → p ≡ q
+asks_one schema p q a b = same_query (sym a.selects ∙ ap (λ (x : Compiled). x.command) (same_ok (sym a.is ∙ b.is)) ∙ b.selects)

@@ -1,8 +1,8 @@
 -- What the rows of an answer say is what the database says.
-use Rattle.std.proofs.Common.{◌≡◌, ◌≢◌, inl, inr, ℕ, List, Option, Some, None, Result, Ok, Err, IfOk, IfErr, refl, sym, ap, subst, ◌∙◌}
+use Rattle.std.proofs.Common.{◌≡◌, ◌≢◌, inl, inr, List, [], Some, None, Result, Ok, Err, IfOk, IfErr, refl}
 use Rattle.sqlite.specs.Effect.{Database}
 use Rattle.sqlite.specs.Order.{Row}
-use Rattle.sqlite.specs.State.{State, HasCleanDisk, IsUnchanged}
+use Rattle.sqlite.specs.State.{State, IsUnchanged}
 use Rattle.desk_text.specs.declared.outcome.StoreFault.{StoreFault}
 use Rattle.desk_text.specs.declared.outcome.StoreFault.TheVariants.{Foreign}
 use Rattle.desk_schema.specs.Steps.{IsInside}
@@ -10,6 +10,7 @@ use Rattle.desk_making.specs.Number.{IsAnswer, IsSaid, Says, ReadsRows, ReadsSch
 use Rattle.desk_making.specs.declared.number.SchemaRead.{SchemaRead}
 use Rattle.desk_making.specs.declared.number.SchemaRead.TheVariants.{Number, NoNumber}
 use Rattle.desk_making.proofs.DeskNumber.{desk_says}
+use Rattle.desk_making.proofs.OnlyAnswer.{says_one}
 
 says : (db : Database) (rows : List Row) (read : SchemaRead) → IsAnswer db rows → IsSaid rows read → Says db read
 says db rows (Number n) answer said = (rows, answer, said)
@@ -21,6 +22,11 @@ module _ {A : Type 0} (items : A → List Row) (old new : State) where
   desk (Ok read) inside h = desk_says old inside h.0.0.was_open read h.1
   desk (Err e) inside h = tt
 
+  -- nothing else is said
+  only : (r : Result SchemaRead StoreFault) → old.now.schema.views ≡ [] → IfOk r (λ read. IsUnchanged old new × Says old.now read) → IfOk r (λ read. (other : SchemaRead) → Says old.now other → other ≡ read)
+  only (Ok read) none h = λ other said. says_one old.now none read other h.1 said
+  only (Err e) none h = tt
+
   abbrev Said : Result SchemaRead StoreFault → Type 0
   Said r = IfOk r (λ read. IsUnchanged old new × Says old.now read)
 
@@ -30,11 +36,12 @@ module _ {A : Type 0} (items : A → List Row) (old new : State) where
     keeps = one.keeps;
     ok = λ clean limit. let h = one.none clean limit refl in (h.0, inl h.1);
     sure = tt;
+    only = λ clean limit none. let h = one.none clean limit refl in only (Ok NoNumber) none (h.0, inl h.1);
     desk = λ clean inside. let h = one.none clean inside.unlimited refl in desk (Ok NoNumber) inside (h.0, inl h.1);
   }
 
   pub stopped : (fault : StoreFault) → ReadsRows items old new (Err fault) → ReadsSchema old new (Err fault)
-  stopped fault one = record { survives = one.survives; keeps = one.keeps; ok = λ clean limit. tt; sure = one.sure; desk = λ clean inside. tt }
+  stopped fault one = record { survives = one.survives; keeps = one.keeps; ok = λ clean limit. tt; sure = one.sure; only = λ clean limit none. tt; desk = λ clean inside. tt }
 
   pub from_rows : (rows : A) (r : Result SchemaRead StoreFault) → ReadsRows items old new (Ok (Some rows)) → IfOk r (IsSaid (items rows)) → IfErr r (λ fault. fault ≢ Foreign) → ReadsSchema old new r
   from_rows rows r one said sure = record {
@@ -42,6 +49,7 @@ module _ {A : Type 0} (items : A → List Row) (old new : State) where
     keeps = one.keeps;
     ok = λ clean limit. both r said (one.some clean rows refl);
     sure = sure;
+    only = λ clean limit none. only r none (both r said (one.some clean rows refl));
     desk = λ clean inside. desk r inside (both r said (one.some clean rows refl));
   }
     where

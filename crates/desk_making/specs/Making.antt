@@ -31,8 +31,8 @@ pub record IsNew (first : ℕ) (s : State) : Type 0 where
   pub says : seen s ≡ no_content first
 
 -- A call goes from old, of which Before holds, to new: nothing is committed.
--- Where it is done the store served, and serves, and After holds of new; and it fails for memory, the
--- disk or its size alone.
+-- Where it is done the store served, and serves, and After holds of new.
+-- It fails for memory, the disk or its size alone.
 pub record Builds (Before After : State → Type 0) (old new : State) (result : Result (Unit {0}) StoreFault) : Type 0 where
   pub survives : Survives old new (λ _. ⊥)
   pub keeps : HasCleanDisk new → Before old → KeepsCommit old new

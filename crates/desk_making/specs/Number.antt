@@ -29,7 +29,7 @@ pub record Asks (schema : Schema) (query : Program) : Type 0 where
   pub selects : found.command ≡ Select query names
 
 -- These rows are an answer to it over the database.
--- It is the only one, but for the order of its rows, unless meta is a view that leaves a choice.
+-- It is the only one, but for the order of its rows, unless a view leaves a choice.
 abbrev pub IsAnswer : Database → List Row → Type 0
 IsAnswer db rows = (query : Program) × Asks db.schema query × Answers db query [] rows
 
@@ -66,13 +66,10 @@ pub record ReadsSchema (old new : State) (result : Result SchemaRead StoreFault)
   pub keeps : HasCleanDisk new → KeepsCommit old new
   pub ok : HasCleanDisk new → old.step_limit ≡ None → IfOk result (λ read. IsUnchanged old new × Says old.now read)
   pub sure : IfErr result (λ fault. fault ≢ Foreign)
+  -- where the schema has no view the database says nothing else
+  pub only : HasCleanDisk new → old.step_limit ≡ None → old.now.schema.views ≡ [] → IfOk result (λ read. (other : SchemaRead) → Says old.now other → other ≡ read)
   -- the tables of a desk say 1
   pub desk : HasCleanDisk new → IsInside old → IfOk result (λ read. read ≡ Number 1)
-
--- the rows of an answer, or none where the text is refused
-abbrev pub AreSaid : Database → Option (List Row) → Type 0
-AreSaid db (Some rows) = IsAnswer db rows
-AreSaid db None = IsRefused db
 
 -- a foreign fault is told as no answer
 abbrev pub unless_foreign : {A : Type 0} → Result A StoreFault → Result (Option A) StoreFault

@@ -1,5 +1,5 @@
 -- When a CREATE TABLE and a CREATE INDEX are refused for memory, the disk or its size alone.
-use Rattle.std.proofs.Common.{◌≡◌, ◌≢◌, ◌≤◌, inl, inr, ℕ, ◌+◌, ◌^◌, List, [], ◌∷◌, length, codes, Bool, true, false, None, Some, Ok, Err, Result, IsTrue, IsUtf8, refl, sym, ap, subst, ◌∙◌, true≢false, slice_get}
+use Rattle.std.proofs.Common.{◌≡◌, ◌≢◌, ◌≤◌, inl, inr, ℕ, ◌+◌, ◌^◌, List, [], ◌∷◌, length, codes, Bool, true, false, None, Some, Ok, Err, Result, IsTrue, IsUtf8, refl, sym, ap, subst, ◌∙◌, true≢false}
 use Rattle.std.specs.List.{AllByRecursion}
 use Rattle.std.specs.Str.{is_utf8}
 use Rattle.std.proofs.Math.Dec.{leb}
@@ -20,8 +20,8 @@ use Rattle.sqlite_rules.specs.Lists.{Has}
 use Rattle.sqlite_schema.specs.Rules.{table_reals, index_reals, passes}
 use Rattle.sqlite_schema.specs.declared.schema.Constraint.TheVariants.{Unique}
 use Rattle.sqlite_schema.specs.declared.schema.Index.{Index}
-use Rattle.sqlite.specs.Effect.{Database, IsNoText, RefusesToAlter}
-use Rattle.sqlite.specs.Does.{Tally, Does, Defines, MakesIndex, MakesTable, MakesSequence, lacks_sequence, AtPlace}
+use Rattle.sqlite.specs.Effect.{Database}
+use Rattle.sqlite.specs.Does.{Does, Defines, MakesIndex, MakesTable, MakesSequence, lacks_sequence, AtPlace}
 use Rattle.sqlite.specs.declared.run.Mode.{Mode}
 use Rattle.sqlite.specs.Listing.{understood}
 use Rattle.sqlite.specs.Rows.{Then}
