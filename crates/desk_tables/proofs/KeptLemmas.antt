@@ -1,8 +1,8 @@
 -- What a question and a change leave of what is remembered.
-use Rattle.std.proofs.Common.{◌≡◌, ◌≢◌, List, [], ◌∷◌, ◌++◌, Option, None, Some, Result, Ok, Err, IfOk, IfErr, IfSome, arith, refl, sym, ap, subst, ◌∙◌}
+use Rattle.std.proofs.Common.{◌≡◌, ◌≢◌, List, [], ◌∷◌, ◌++◌, Option, None, Some, is_some, false, true≢false, Result, Ok, Err, IfOk, IfErr, IfSome, arith, refl, sym, ap, subst, ◌∙◌}
 use Rattle.std.specs.List.{AllByRecursion}
 use Rattle.sqlite.specs.Held.{Held, state}
-use Rattle.sqlite.specs.State.{HasCleanDisk, Survives}
+use Rattle.sqlite.specs.State.{State, HasCleanDisk, Survives}
 use Rattle.sqlite_trees.specs.declared.store.Store as store
 use Rattle.ancestry.specs.Trees.{Ancestry, IsForest}
 use Rattle.bug_record.specs.Desk.{Desk}
@@ -16,7 +16,8 @@ use Rattle.desk_content.specs.Kept.{IsKeptContent}
 use Rattle.desk_content.specs.View.{desk_in}
 use Rattle.desk_content.proofs.ChangeLemmas.{change_desk, change_kept}
 use Rattle.desk_content.proofs.ClosedLemmas.{put_nodes, no_nodes}
-use Rattle.desk_store.specs.Store.{Answers, Applies}
+use Rattle.desk_schema.specs.Steps.{seen}
+use Rattle.desk_store.specs.Store.{Answers}
 use Rattle.desk_tables.specs.Kept.{content_seen, desk_seen, IsKept}
 use Rattle.desk_tables.specs.Shown.{HasContent, AreTablesOf}
 use Rattle.desk_tables.specs.Transactions.{IsAsked, IsChanged}
@@ -45,19 +46,37 @@ module _ {S A : Type 0} (g : store.Ghosts S) (last begun more : List (Held S)) (
     now = asked.stays (content_seen g last) was.now;
     before = subst (AllByRecursion (λ h. HasContent (content_seen g last) (state g h))) (sym is) (all_push _ begun old was.before was.now);
     content = was.content;
-    family = same was;
+    tree = same was;
   }
 
   pub was_kept : (family family' : Option Ancestry) → (IsKept g last more new family' → IfSome family (λ t. t ≡ (content_seen g last).nodes)) → IsKept g last more new family' → IsKept g last begun old family
   was_kept family family' same now =
       let all = subst (AllByRecursion (λ h. HasContent (content_seen g last) (state g h))) is now.before in
-      record { now = all_last _ begun old all; before = all_front _ begun old all; content = now.content; family = same now }
+      record { now = all_last _ begun old all; before = all_front _ begun old all; content = now.content; tree = same now }
 
   pub answer : (family : Option Ancestry) → IsKept g last begun old family → HasCleanDisk (state g new) → IfOk r (P (content_seen g last))
   answer family was clean = asked.ok (content_seen g last) clean was.now
 
   pub never : (family : Option Ancestry) → Fits (content_seen g last) → IsKept g last begun old family → HasCleanDisk (state g new) → IfErr r (λ fault. fault ≢ Foreign)
   never family fits was clean = asked.sure (content_seen g last) clean was.now fits
+
+-- where the tree stays as it is
+pub record IsNoted {S A : Type 0} (g : store.Ghosts S) (last begun more : List (Held S)) (old new : Held S) (family : Option Ancestry) (r : Result A StoreFault) (Fits : Content → Type 0) (P : Content → A → Type 0) : Type 0 where
+  pub honest : HasCleanDisk (state g new) → HasCleanDisk (state g old)
+  pub kept : IsKept g last begun old family → HasCleanDisk (state g new) → IsKept g last more new family
+  pub was_kept : IsKept g last more new family → HasCleanDisk (state g new) → IsKept g last begun old family
+  pub answer : IsKept g last begun old family → HasCleanDisk (state g new) → IfOk r (P (content_seen g last))
+  pub never : Fits (content_seen g last) → IsKept g last begun old family → HasCleanDisk (state g new) → IfErr r (λ fault. fault ≢ Foreign)
+
+pub noted : {S A : Type 0} (g : store.Ghosts S) (last begun more : List (Held S)) (old new : Held S) (family : Option Ancestry) (r : Result A StoreFault) (Fits : Content → Type 0) (P : Content → A → Type 0)
+    → IsAsked (state g old) (state g new) r Fits P → more ≡ begun ++ old ∷ [] → IsNoted g last begun more old new family r Fits P
+noted g last begun more old new family r Fits P asked is = record {
+  honest = honest g last begun more old new r Fits P asked is;
+  kept = λ was clean. kept g last begun more old new r Fits P asked is family family (λ w. w.tree) was;
+  was_kept = λ now clean. was_kept g last begun more old new r Fits P asked is family family (λ w. w.tree) now;
+  answer = answer g last begun more old new r Fits P asked is family;
+  never = never g last begun more old new r Fits P asked is family;
+}
 
 -- what is answered, with the desk as it was
 pub answers : {A : Type 0} (d : Desk) (r : Result A StoreFault) (P Q : A → Type 0) → ((a : A) → P a → Q a) → IfOk r P → Answers d d r Q
@@ -78,7 +97,7 @@ FitsOver t change c = IsKeptContent c × FitsContent c change × (c.nodes ≡ t)
 
 module _ {S : Type 0} (g : store.Ghosts S) (last begun : List (Held S)) (old new : Held S) (t : Ancestry) (change : Change) where
   fits_here : IsKept g last begun old (Some t) → FitsContent (content_seen g last) change → FitsOver t change (content_seen g last)
-  fits_here was fits = (was.content, fits, sym was.family)
+  fits_here was fits = (was.content, fits, sym was.tree)
 
   -- it was made, and after it the connection was noted anew
   module _ (last' begun' : List (Held S)) (changes : IsChanged (state g old) (state g new) made (FitsOver t change) (λ c. changed c change)) (is : last' ≡ new ∷ []) (none : begun' ≡ []) where
@@ -93,7 +112,7 @@ module _ {S : Type 0} (g : store.Ghosts S) (last begun : List (Held S)) (old new
           now = subst (λ l. HasContent (content_seen g l) (state g new)) (sym is) (λ clean' open'. ((changes.ok c clean was.now (fits_here was fits)).1, refl));
           before = tt;
           content = subst IsKeptContent (sym now) (change_kept c change was.content fits);
-          family = was.family ∙ sym (put_nodes change.images (cleared_for c change) ∙ no_nodes c change.images c) ∙ sym (ap (λ (k : Content). k.nodes) now);
+          tree = was.tree ∙ sym (put_nodes change.images (cleared_for c change) ∙ no_nodes c change.images c) ∙ sym (ap (λ (k : Content). k.nodes) now);
         })
 
     pub taken_desk : IsKept g last begun old (Some t) → FitsContent (content_seen g last) change → HasCleanDisk (state g new) → desk_seen g last' ≡ put (desk_seen g last) change
@@ -101,12 +120,28 @@ module _ {S : Type 0} (g : store.Ghosts S) (last begun : List (Held S)) (old new
 
   -- it was not made
   pub stayed : (fault : StoreFault) → IsChanged (state g old) (state g new) (refused fault) (FitsOver t change) (λ c. changed c change) → IsKept g last begun old (Some t) → IsKept g last begun new (Some t)
-  stayed fault changes was = record { now = changes.err (content_seen g last) was.now; before = was.before; content = was.content; family = was.family }
+  stayed fault changes was = record { now = changes.err (content_seen g last) was.now; before = was.before; content = was.content; tree = was.tree }
 
-  pub crashed : (r : Result (Unit {0}) StoreFault) → IsChanged (state g old) (state g new) r (FitsOver t change) (λ c. changed c change) → IsKept g last begun old (Some t) → FitsContent (content_seen g last) change
-      → Survives (state g old) (state g new) (AreTablesOf (changed (content_seen g last) change))
-  crashed r changes was fits = changes.crash (content_seen g last) was.now (fits_here was fits)
+  pub crashed : (r : Result (Unit {0}) StoreFault) → IsChanged (state g old) (state g new) r (FitsOver t change) (λ c. changed c change)
+      → (HasCleanDisk (state g new) → IsKept g last begun old (Some t) × FitsContent (content_seen g last) change) → Survives (state g old) (state g new) (AreTablesOf (changed (content_seen g last) change))
+  crashed r changes both = changes.crash (content_seen g last) (λ clean. let b = both clean in (b.0.now, fits_here b.0 b.1))
 
   pub never_foreign : (fault : StoreFault) → IsChanged (state g old) (state g new) (refused fault) (FitsOver t change) (λ c. changed c change) → IsKept g last begun old (Some t) → FitsContent (content_seen g last) change
       → HasCleanDisk (state g new) → fault ≢ Foreign
   never_foreign fault changes was fits clean = changes.sure (content_seen g last) clean was.now (fits_here was fits)
+
+-- ---- a desk that begins
+
+-- the connection has just been seen
+pub begins_kept : {S : Type 0} (g : store.Ghosts S) (last begun : List (Held S)) (conn : Held S) → last ≡ conn ∷ [] → begun ≡ [] → HasContent (seen (state g conn)) (state g conn) → IsKeptContent (seen (state g conn))
+    → IsKept g last begun conn None
+begins_kept g last begun conn is none shows kept = subst (λ b. IsKept g last b conn None) (sym none) (subst (λ l. IsKept g l [] conn None) (sym is) (record { now = shows; before = tt; content = kept; tree = tt }))
+
+-- a limit of steps says nothing of the content
+pub unlimited_shows : (c : Content) (s s' : State) → s' ≡ record s { step_limit = None } → HasContent c s → HasContent c s'
+unlimited_shows c s s' is shows = subst (HasContent c) (sym is) (λ clean o. let h = shows clean o in (record { settled = h.0.settled; schema = h.0.schema; sound = h.0.sound; shown = h.0.shown }, h.1))
+
+-- of no tree nothing is asked
+pub no_tree : (family : Option Ancestry) (P : Ancestry → Type 0) → is_some family ≡ false → IfSome family P
+no_tree None P none = tt
+no_tree (Some t) P none = absurd (true≢false none)

@@ -12,7 +12,7 @@ use Rattle.sql_forms.proofs.FailLemmas.{commit_free}
 use Rattle.desk_content.specs.Content.{Content}
 use Rattle.desk_schema.specs.Rows.{content_of, AreShown}
 use Rattle.desk_schema.specs.Steps.{IsInside, seen, Goes, Acts, Serves}
-use Rattle.desk_schema.proofs.StepLemmas.{done, failed}
+use Rattle.desk_schema.proofs.StepLemmas.{done, failed, acts_none}
 use Rattle.desk_tables.specs.Shown.{IsDesk, HasContent, AreTablesOf}
 use Rattle.desk_tables.specs.Transactions.{IsAsked, IsChanged, Ends}
 
@@ -60,6 +60,15 @@ asked {A = A} old mid new r Fits P limit runs serves back survives = record {
     answered : (r : Result A StoreFault) (c : Content) → (IsTrue old.is_open → seen old ≡ c) → IfOk r (λ _. IsTrue old.is_open) → IfOk r (λ a. Goes (begun old) mid (λ c d. (d ≡ c) × P c a)) → IfOk r (P c)
     answered (Ok a) c same live g = subst (λ d. P d a) (same live) g.changed.1
     answered (Err e) c same live g = tt
+
+-- nothing was asked, since the answer is known
+pub asked_none : {A : Type 0} (s : State) (a : A) (Fits : Content → Type 0) (P : Content → A → Type 0) → ((c : Content) → P c a) → IsAsked s s (Ok a) Fits P
+asked_none s a Fits P all = record {
+  survives = (acts_none s a Fits (λ c d b. (d ≡ c) × P c b) (λ c. (refl, all c))).survives;
+  stays = λ c shows. shows;
+  ok = λ c clean shows. all c;
+  sure = λ c clean shows fits. tt;
+}
 
 -- ---- the end of a transaction
 
@@ -148,14 +157,15 @@ altered old mid new did r Fits after limit runs serves ends = record { honest = 
       | inr same ↦ subst (λ r. IfErr r (λ fault. fault ≢ Foreign)) same (runs.sure (late clean) (inside c clean shows) (λ o. subst Fits (sym (shows (early clean) o).1) fits))
     ]
 
-    crash : (c : Content) → HasContent c old → Fits c → Survives old new (AreTablesOf (after c))
-    crash c shows fits = survives_then old mid new _ _ (AreTablesOf (after c)) (λ _ db none. absurd none)
+    crash : (c : Content) → (HasCleanDisk new → HasContent c old × Fits c) → Survives old new (AreTablesOf (after c))
+    crash c both = survives_then old mid new _ _ (AreTablesOf (after c)) (λ _ db none. absurd none)
         (λ clean db p.
+        let shows = (both clean).0 in
         let g = went c clean shows p.0 in
         let o = g.serves (live c clean shows p.0) in
         subst (AreTablesOf (after c)) (sym p.1) (record {
           sound = subst (λ s. IsDatabase (record { schema = s; trees = mid.now.trees })) (g.inside.schema o) (g.inside.sound o);
           shown = g.inside.shown o;
-          content = content c clean shows fits p.0;
+          content = content c clean shows (both clean).1 p.0;
         }))
         (record { clean = one.clean; shield = one.shield; counts = one.counts; limit = one.limit; closes = one.closes; crash = one.crash }) ends.survives

@@ -28,4 +28,4 @@ module _ {S : Type 0} (g : store.Ghosts S) where
     pub now : HasContent (content_seen last) (state g conn)
     pub before : AllByRecursion (λ h. HasContent (content_seen last) (state g h)) begun
     pub content : IsKeptContent (content_seen last)
-    pub family : IfSome family (λ t. t ≡ (content_seen last).nodes)
+    pub tree : IfSome family (λ t. t ≡ (content_seen last).nodes)

@@ -22,7 +22,7 @@ pub record IsChanged (old new : State) (result : Result (Unit {0}) StoreFault) (
   pub ok : (c : Content) → HasCleanDisk new → HasContent c old → Fits c → IfOk result (λ _. IsTrue new.is_open × IsDesk new × (seen new ≡ after c))
   pub err : (c : Content) → HasContent c old → IfErr result (λ _. HasContent c new)
   pub sure : (c : Content) → HasCleanDisk new → HasContent c old → Fits c → IfErr result (λ fault. fault ≢ Foreign)
-  pub crash : (c : Content) → HasContent c old → Fits c → Survives old new (AreTablesOf (after c))
+  pub crash : (c : Content) → (HasCleanDisk new → HasContent c old × Fits c) → Survives old new (AreTablesOf (after c))
 
 -- How a transaction ends: with a commit where its steps were done, and else undone.
 pub record Ends (mid new : State) (done result : Result (Unit {0}) StoreFault) : Type 0 where

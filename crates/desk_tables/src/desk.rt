@@ -6,10 +6,12 @@ ghost use Rattle.sqlite.specs.State.{HasCleanDisk, Survives};
 ghost use Rattle.bug_record.specs.Sets.{Each};
 ghost use Rattle.bug_record.specs.Images.{AreApart, HasMember, FitsDesk};
 ghost use Rattle.desk_content.specs.Changes.{FitsContent, changed};
+ghost use Rattle.desk_content.specs.Kept.{IsKeptContent};
+ghost use Rattle.desk_schema.specs.Steps.{seen};
 ghost use Rattle.desk_store.specs.Store.{Holds, Asks, Answers, Applies, IsImageOf, IsNext, AreWaitingOn, faults_after, no_faults, total};
 ghost use Rattle.desk_text.specs.declared.outcome.StoreFault.TheVariants.{Foreign};
 ghost use Rattle.desk_tables.specs.Kept.{content_seen, desk_seen, IsKept};
-ghost use Rattle.desk_tables.specs.Shown.{AreTablesOf};
+ghost use Rattle.desk_tables.specs.Shown.{HasContent, AreTablesOf};
 
 use crate::calls::{ask_family, ask_next, ask_set_of, ask_waiting_on, change_sets};
 use crate::counts::Counts;
@@ -54,17 +56,19 @@ impl<S: Alter + Drop> Drop for TableDesk<S> {
 }
 
 impl<S: Alter> TableDesk<S> {
-    // The desk that a connection shows, outside a transaction and with no limit of steps.
-    // Nothing is read yet.
-    pub(crate) fn over(alloc: Global, conn: Connection<S>) -> TableDesk<S>
+    /// The desk that a connection shows, outside a transaction; nothing is read yet.
+    /// It is kept where the tables are a desk's and say what a desk keeps.
+    /// From now on no statement has a limit of steps.
+    pub fn over(alloc: Global, conn: Connection<S>) -> TableDesk<S>
         requires autocommit { conn.in_transaction ≡ false }
-        requires unlimited { conn.step_limit ≡ None }
-        ensures conn { result.conn ≡ conn }
-        ensures last { result.last.values ≡ conn ∷ [] }
-        ensures begun { result.begun.values ≡ [] }
-        ensures family { result.family ≡ None }
+        ensures content { content_seen S.Store result.last.values ≡ seen (state S.Store conn) }
+        ensures kept { HasContent (seen (state S.Store conn)) (state S.Store conn) → IsKeptContent (seen (state S.Store conn)) →
+            IsKept S.Store result.last.values result.begun.values result.conn result.family }
+        ensures honest { HasCleanDisk (state S.Store conn) → HasCleanDisk (state S.Store result.conn) }
         ensures counts { result.counts ≡ no_faults }
     {
+        let mut conn = conn;
+        conn.set_step_limit(None);
         let last = Seen::new().and(&conn);
         TableDesk {
             conn,
@@ -164,7 +168,7 @@ impl<S: Alter> TableDesk<S> {
             (Applies (desk_seen S.Store self.old.last.values) (desk_seen S.Store self.new.last.values) result change.now) }
         ensures sure { IsKept S.Store self.old.last.values self.old.begun.values self.old.conn self.old.family → HasCleanDisk (state S.Store self.new.conn) →
             IfErr result (λ fault. fault ≢ Foreign) }
-        ensures crash { IsKept S.Store self.old.last.values self.old.begun.values self.old.conn self.old.family → HasCleanDisk (state S.Store self.old.conn) →
+        ensures crash { (HasCleanDisk (state S.Store self.new.conn) → IsKept S.Store self.old.last.values self.old.begun.values self.old.conn self.old.family) →
             Survives (state S.Store self.old.conn) (state S.Store self.new.conn) (AreTablesOf (changed (content_seen S.Store self.old.last.values) change.now)) }
         ensures counts { self.new.counts ≡ self.old.counts }
     {
@@ -185,7 +189,7 @@ impl<S: Alter> TableDesk<S> {
             (Applies (desk_seen S.Store self.old.last.values) (desk_seen S.Store self.new.last.values) result change.now) }
         ensures sure { IsKept S.Store self.old.last.values self.old.begun.values self.old.conn self.old.family → HasCleanDisk (state S.Store self.new.conn) →
             IfErr result (λ fault. fault ≢ Foreign) }
-        ensures crash { IsKept S.Store self.old.last.values self.old.begun.values self.old.conn self.old.family → HasCleanDisk (state S.Store self.old.conn) →
+        ensures crash { IsKept S.Store self.old.last.values self.old.begun.values self.old.conn self.old.family →
             Survives (state S.Store self.old.conn) (state S.Store self.new.conn) (AreTablesOf (changed (content_seen S.Store self.old.last.values) change.now)) }
         ensures counts { self.new.counts ≡ self.old.counts }
     {
@@ -209,7 +213,7 @@ impl<S: Alter> TableDesk<S> {
         ensures sure { IsKept S.Store self.old.last.values self.old.begun.values self.old.conn self.old.family → HasCleanDisk (state S.Store self.new.conn) →
             IfErr result (λ fault. fault ≢ Foreign) }
         ensures count { self.new.counts ≡ faults_after result self.old.counts }
-        ensures crash { IsKept S.Store self.old.last.values self.old.begun.values self.old.conn self.old.family → HasCleanDisk (state S.Store self.old.conn) →
+        ensures crash { IsKept S.Store self.old.last.values self.old.begun.values self.old.conn self.old.family →
             Survives (state S.Store self.old.conn) (state S.Store self.new.conn) (AreTablesOf (changed (content_seen S.Store self.old.last.values) change.now)) }
     {
         let done = self.load_and_make(change);

@@ -1,4 +1,5 @@
 pub mod Waiting
+-- definitions that only private functions cite
 pub mod Members
 pub mod Marked
 pub mod Fields
