@@ -17,7 +17,8 @@ use Rattle.sql_forms.proofs.CreateErrors.{IsSureTable, IsSureIndex, table_free, 
 use Rattle.sql_forms.proofs.CreateLemmas.{CreatesTable, CreatesIndex, creates, creates_index, still_empty}
 use Rattle.sqlite.specs.Held.{Held, state}
 use Rattle.sqlite.specs.Store.{Ghosts}
-use Rattle.desk_making.specs.Making.{IsBuilt, IsBlank, Builds, HasRun}
+use Rattle.desk_making.specs.Making.{IsBuilt, IsBlank, Builds}
+use Rattle.desk_making.specs.Stages.{HasRun}
 use Rattle.desk_making.specs.Names.{no_tables}
 
 -- ---- one text

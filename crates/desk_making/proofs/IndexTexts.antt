@@ -8,7 +8,8 @@ use Rattle.sqlite_schema.specs.declared.schema.Index.{Index}
 use Rattle.sqlite_tied.specs.Compute.{everything}
 use Rattle.sqlite_trees.specs.Sound.{same_name, begins, is_free_name, fits_kind}
 use Rattle.desk_schema.specs.Tables.{sets_table, bugs_table, marks_table, blocks_table, marks_key, blocks_key, nodes_key, nearest_key, sets_by_package, bugs_by_set, marks_by_node, blocks_by_blocker, desk_schema}
-use Rattle.desk_making.specs.Making.{IsBuilt, all_tables}
+use Rattle.desk_making.specs.Making.{IsBuilt}
+use Rattle.desk_making.specs.Stages.{all_tables}
 use Rattle.desk_making.proofs.BuildLemmas.{IsMaking, AddsIndex, index_is}
 
 -- an index as a text defines it, before it has a place

@@ -15,7 +15,8 @@ use Rattle.desk_text.specs.declared.outcome.StoreFault.TheVariants.{Memory, Devi
 use Rattle.sql_forms.specs.Faults.{fault_of, told}
 use Rattle.sql_forms.proofs.ErrorLemmas.{IsStoreError}
 use Rattle.sql_forms.proofs.FailLemmas.{stored_free}
-use Rattle.desk_making.specs.Number.{number_text, IsAnswer, IsRefused, ReadsRows, unless_foreign}
+use Rattle.desk_making.specs.Number.{number_text, IsAnswer, IsRefused}
+use Rattle.desk_making.specs.Said.{ReadsRows, unless_foreign}
 use Rattle.desk_making.proofs.NumberText.{IsQuery, always_query, is_compiled, reads_tables}
 
 module _ (old new : State) where

@@ -6,7 +6,8 @@ use Rattle.sqlite.specs.State.{State, IsUnchanged}
 use Rattle.desk_text.specs.declared.outcome.StoreFault.{StoreFault}
 use Rattle.desk_text.specs.declared.outcome.StoreFault.TheVariants.{Foreign}
 use Rattle.desk_schema.specs.Steps.{IsInside}
-use Rattle.desk_making.specs.Number.{IsAnswer, IsSaid, Says, ReadsRows, ReadsSchema}
+use Rattle.desk_making.specs.Number.{IsAnswer, Says, ReadsSchema}
+use Rattle.desk_making.specs.Said.{IsSaid, ReadsRows}
 use Rattle.desk_making.specs.declared.number.SchemaRead.{SchemaRead}
 use Rattle.desk_making.specs.declared.number.SchemaRead.TheVariants.{Number, NoNumber}
 use Rattle.desk_making.proofs.DeskNumber.{desk_says}

@@ -8,7 +8,8 @@ use Rattle.sqlite_tied.specs.Compute.{everything}
 use Rattle.sqlite_trees.specs.Sound.{same_name, begins, is_free_name, fits_kind}
 use Rattle.desk_schema.specs.Tables.{meta_table, sets_table, bugs_table, marks_table, blocks_table, nodes_table, nearest_table, marks_key, blocks_key, nodes_key}
 use Rattle.desk_schema.proofs.SchemaLemmas.{unplaced}
-use Rattle.desk_making.specs.Making.{IsBuilt, first_tables, all_tables}
+use Rattle.desk_making.specs.Making.{IsBuilt}
+use Rattle.desk_making.specs.Stages.{first_tables, all_tables}
 use Rattle.desk_making.specs.Names.{no_tables}
 use Rattle.desk_making.proofs.BuildLemmas.{IsMaking, AddsTable, table_is}
 

@@ -11,7 +11,7 @@ use Rattle.sqlite_resolve.specs.declared.compiled.Compiled.{Compiled}
 use Rattle.sqlite_resolve.specs.declared.error.CompileError.{CompileError}
 use Rattle.sqlite_schema.specs.declared.program.Program.{Program}
 use Rattle.desk_text.specs.declared.outcome.StoreFault.{StoreFault}
-use Rattle.desk_text.specs.declared.outcome.StoreFault.TheVariants.{Memory, Device, Full, Foreign}
+use Rattle.desk_text.specs.declared.outcome.StoreFault.TheVariants.{Foreign}
 use Rattle.sql_forms.specs.Numbers.{number_row}
 use Rattle.desk_schema.specs.Steps.{IsInside}
 use Rattle.desk_making.specs.declared.number.SchemaRead.{SchemaRead}
@@ -54,11 +54,6 @@ abbrev pub Says : Database → SchemaRead → Type 0
 Says db (Number n) = SaysSchema db n
 Says db NoNumber = SaysNone db
 
--- what rows say
-abbrev pub IsSaid : List Row → SchemaRead → Type 0
-IsSaid rows (Number n) = AreNumber n rows
-IsSaid rows NoNumber = (n : ℕ) → ¬ AreNumber n rows
-
 -- The schema's number is asked for: nothing is changed, and an answer is what the database says.
 -- It fails for memory, the disk or its size alone.
 pub record ReadsSchema (old new : State) (result : Result SchemaRead StoreFault) : Type 0 where
@@ -70,19 +65,3 @@ pub record ReadsSchema (old new : State) (result : Result SchemaRead StoreFault)
   pub only : HasCleanDisk new → old.step_limit ≡ None → old.now.schema.views ≡ [] → IfOk result (λ read. (other : SchemaRead) → Says old.now other → other ≡ read)
   -- the tables of a desk say 1
   pub desk : HasCleanDisk new → IsInside old → IfOk result (λ read. read ≡ Number 1)
-
--- a foreign fault is told as no answer
-abbrev pub unless_foreign : {A : Type 0} → Result A StoreFault → Result (Option A) StoreFault
-unless_foreign (Ok a) = Ok (Some a)
-unless_foreign (Err Foreign) = Ok None
-unless_foreign (Err Memory) = Err Memory
-unless_foreign (Err Device) = Err Device
-unless_foreign (Err Full) = Err Full
-
--- the rows are asked for
-pub record ReadsRows {A : Type 0} (items : A → List Row) (old new : State) (result : Result (Option A) StoreFault) : Type 0 where
-  pub survives : Survives old new (λ _. ⊥)
-  pub keeps : HasCleanDisk new → KeepsCommit old new
-  pub some : HasCleanDisk new → IfOk result (λ o. (rows : A) → o ≡ Some rows → IsUnchanged old new × IsAnswer old.now (items rows))
-  pub none : HasCleanDisk new → old.step_limit ≡ None → IfOk result (λ o. o ≡ None → IsUnchanged old new × IsRefused old.now)
-  pub sure : IfErr result (λ fault. fault ≢ Foreign)

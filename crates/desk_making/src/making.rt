@@ -3,7 +3,8 @@
 ghost use Rattle.std.specs.Prelude.{◌≡◌};
 ghost use Rattle.sqlite.specs.Held.{state};
 ghost use Rattle.desk_schema.specs.Tables.{desk_schema};
-ghost use Rattle.desk_making.specs.Making.{IsBuilt, IsBlank, IsNew, Builds, HasRun, first_tables, all_tables};
+ghost use Rattle.desk_making.specs.Making.{IsBuilt, IsBlank, IsNew, Builds};
+ghost use Rattle.desk_making.specs.Stages.{HasRun, first_tables, all_tables};
 
 use desk_schema::written;
 use desk_text::StoreFault;

@@ -4,6 +4,7 @@ ghost use Rattle.std.specs.Prelude.{◌≡◌, ◌≢◌, [], ◌∷◌, length,
 ghost use Rattle.sqlite.specs.Held.{state};
 ghost use Rattle.desk_text.specs.declared.outcome.StoreFault.TheVariants.{Foreign};
 ghost use Rattle.desk_making.specs.Number as spec;
+ghost use Rattle.desk_making.specs.Said as said;
 
 use desk_schema::{fault_of, told};
 use desk_text::StoreFault;
@@ -20,7 +21,7 @@ pub enum SchemaRead {
 
 // What a row says, if it is the only one.
 fn number_of(row: &Row) -> Result<SchemaRead, StoreFault>
-    ensures said { IfOk result (λ read. spec.IsSaid (row.now ∷ []) read) }
+    ensures said { IfOk result (λ read. said.IsSaid (row.now ∷ []) read) }
     ensures sure { IfErr result (λ fault. fault ≢ Foreign) }
 {
     if row.column_count() != 1 {
@@ -38,7 +39,7 @@ fn number_of(row: &Row) -> Result<SchemaRead, StoreFault>
 
 // What rows say.
 fn number_in(rows: &[Row]) -> Result<SchemaRead, StoreFault>
-    ensures said { IfOk result (λ read. spec.IsSaid rows.now read) }
+    ensures said { IfOk result (λ read. said.IsSaid rows.now read) }
     ensures sure { IfErr result (λ fault. fault ≢ Foreign) }
 {
     match rows {
@@ -49,7 +50,7 @@ fn number_in(rows: &[Row]) -> Result<SchemaRead, StoreFault>
 
 // An answer, and none where a foreign fault is told.
 fn unless_foreign<T>(answer: Result<T, StoreFault>) -> Result<Option<T>, StoreFault>
-    ensures told { result ≡ spec.unless_foreign answer }
+    ensures told { result ≡ said.unless_foreign answer }
 {
     match answer {
         Ok(found) => Ok(Some(found)),
@@ -61,7 +62,7 @@ fn unless_foreign<T>(answer: Result<T, StoreFault>) -> Result<Option<T>, StoreFa
 // The rows that the database answers; none where it refuses the text.
 fn asked_rows<S: Alter>(tx: &mut Transaction<'_, S>) -> Result<Option<Vec<Row>>, StoreFault>
     ensures same_reference { tx.new.conn.ghost_name ≡ tx.old.conn.ghost_name }
-    ensures reads { spec.ReadsRows (λ rows. rows.items) (state S.Store tx.old.conn.now) (state S.Store tx.new.conn.now) result }
+    ensures reads { said.ReadsRows (λ rows. rows.items) (state S.Store tx.old.conn.now) (state S.Store tx.new.conn.now) result }
 {
     unless_foreign(told(tx.query_all("SELECT schema FROM meta WHERE id = 1", &[])))
 }

@@ -1,6 +1,7 @@
 use Rattle.std.proofs.Common.{◌≡◌, Ok, Err, rules}
 use Rattle.sqlite.specs.Held.{state}
-use Rattle.desk_making.specs.Making.{IsBuilt, IsBlank, first_tables}
+use Rattle.desk_making.specs.Making.{IsBuilt, IsBlank}
+use Rattle.desk_making.specs.Stages.{first_tables}
 use Rattle.desk_making.proofs.BuildLemmas.{builds_run, builds_then, builds_stop}
 use Rattle.desk_making.proofs.TableTexts.{with_meta, with_sets, with_bugs, meta_text, sets_text, bugs_text, marks_text, makes_meta, makes_sets, makes_bugs, makes_marks}
 use Rattle.desk_making.proofs.making.make_first.Goals as goal

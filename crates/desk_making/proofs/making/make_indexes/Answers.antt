@@ -1,7 +1,8 @@
 use Rattle.std.proofs.Common.{◌≡◌, Ok, Err, rules}
 use Rattle.sqlite.specs.Held.{state}
 use Rattle.desk_schema.specs.Tables.{desk_schema}
-use Rattle.desk_making.specs.Making.{IsBuilt, all_tables}
+use Rattle.desk_making.specs.Making.{IsBuilt}
+use Rattle.desk_making.specs.Stages.{all_tables}
 use Rattle.desk_making.proofs.BuildLemmas.{builds_run, builds_then, builds_stop}
 use Rattle.desk_making.proofs.IndexTexts.{with_package_index, with_set_index, with_node_index, sets_by_package_text, bugs_by_set_text, marks_by_node_text, blocks_by_blocker_text, makes_sets_by_package, makes_bugs_by_set, makes_marks_by_node, makes_blocks_by_blocker}
 use Rattle.desk_making.proofs.making.make_indexes.Goals as goal

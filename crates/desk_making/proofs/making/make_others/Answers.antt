@@ -1,6 +1,7 @@
 use Rattle.std.proofs.Common.{◌≡◌, Ok, Err, rules}
 use Rattle.sqlite.specs.Held.{state}
-use Rattle.desk_making.specs.Making.{IsBuilt, first_tables, all_tables}
+use Rattle.desk_making.specs.Making.{IsBuilt}
+use Rattle.desk_making.specs.Stages.{first_tables, all_tables}
 use Rattle.desk_making.proofs.BuildLemmas.{builds_run, builds_then, builds_stop}
 use Rattle.desk_making.proofs.TableTexts.{with_blocks, with_nodes, blocks_text, nodes_text, nearest_text, makes_blocks, makes_nodes, makes_nearest}
 use Rattle.desk_making.proofs.making.make_others.Goals as goal

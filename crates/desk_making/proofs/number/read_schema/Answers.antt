@@ -1,6 +1,6 @@
 use Rattle.std.proofs.Common.{Ok, subst}
 use Rattle.sqlite.specs.Held.{state}
-use Rattle.desk_making.specs.Number.{ReadsRows}
+use Rattle.desk_making.specs.Said.{ReadsRows}
 use Rattle.desk_making.proofs.SaidLemmas.{from_rows, no_rows}
 use Rattle.desk_making.proofs.number.read_schema.Goals as goal
 

@@ -1,0 +1,27 @@
+-- What the texts of creation do, one after another.
+use Rattle.std.specs.Prelude.{◌≡◌, ℕ, List, [], ◌∷◌, IsTrue, Result}
+use Rattle.sqlite.specs.Schema.{Schema}
+use Rattle.sqlite.specs.State.{State, HasCleanDisk, Survives, ExecutesInside}
+use Rattle.sqlite.specs.declared.error.Error.{Error}
+use Rattle.desk_text.specs.declared.outcome.StoreFault.{StoreFault}
+use Rattle.sql_forms.specs.Faults.{written}
+use Rattle.desk_schema.specs.Tables.{meta_table, sets_table, bugs_table, marks_table, blocks_table, nodes_table, nearest_table, marks_key, blocks_key, nodes_key, nearest_key}
+
+-- what one text, with no parameter, does in a transaction
+pub record HasRun (sql : List ℕ) (old new : State) (result : Result (Unit {0}) StoreFault) : Type 0 where
+  pub survives : Survives old new (λ _. ⊥)
+  pub answer : Result ℕ Error
+  pub told : result ≡ written answer
+  pub runs : HasCleanDisk new → IsTrue old.in_transaction → ExecutesInside 0 sql [] old new answer
+
+-- the schema with the first four tables
+abbrev pub first_tables : Schema
+first_tables = record { tables = meta_table ∷ sets_table ∷ bugs_table ∷ marks_table ∷ []; indexes = marks_key ∷ []; views = [] }
+
+-- the schema with all tables, and the indexes of their keys alone
+abbrev pub all_tables : Schema
+all_tables = record {
+  tables = meta_table ∷ sets_table ∷ bugs_table ∷ marks_table ∷ blocks_table ∷ nodes_table ∷ nearest_table ∷ [];
+  indexes = marks_key ∷ blocks_key ∷ nodes_key ∷ nearest_key ∷ [];
+  views = [];
+}
