@@ -132,10 +132,11 @@ module _ {S : Type 0} (g : store.Ghosts S) (last begun : List (Held S)) (old new
 
 -- ---- a desk that begins
 
--- the connection has just been seen
-pub begins_kept : {S : Type 0} (g : store.Ghosts S) (last begun : List (Held S)) (conn : Held S) → last ≡ conn ∷ [] → begun ≡ [] → HasContent (seen (state g conn)) (state g conn) → IsKeptContent (seen (state g conn))
-    → IsKept g last begun conn None
-begins_kept g last begun conn is none shows kept = subst (λ b. IsKept g last b conn None) (sym none) (subst (λ l. IsKept g l [] conn None) (sym is) (record { now = shows; before = tt; content = kept; tree = tt }))
+-- what was seen is what is remembered
+pub seen_kept : {S : Type 0} (g : store.Ghosts S) (last begun : List (Held S)) (was conn : Held S) (family : Option Ancestry) → last ≡ was ∷ [] → begun ≡ [] → family ≡ None → HasContent (seen (state g was)) (state g conn) → IsKeptContent (seen (state g was))
+    → IsKept g last begun conn family
+seen_kept g last begun was conn family is none no_family shows kept =
+    subst (IsKept g last begun conn) (sym no_family) (subst (λ b. IsKept g last b conn None) (sym none) (subst (λ l. IsKept g l [] conn None) (sym is) (record { now = shows; before = tt; content = kept; tree = tt })))
 
 -- a limit of steps says nothing of the content
 pub unlimited_shows : (c : Content) (s s' : State) → s' ≡ record s { step_limit = None } → HasContent c s → HasContent c s'

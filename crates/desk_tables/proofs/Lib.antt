@@ -1,2 +1,3 @@
 pub mod TransactionLemmas
 pub mod KeptLemmas
+pub mod OpeningLemmas

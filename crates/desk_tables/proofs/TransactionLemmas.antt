@@ -2,7 +2,7 @@
 use Rattle.std.proofs.Common.{◌≡◌, ◌≢◌, ◌⊎◌, inl, inr, [], Result, Ok, Err, IfOk, IfErr, IsTrue, IsOk, None, false, true, true≢false, arith, refl, sym, ap, subst, ◌∙◌}
 use Rattle.sqlite.specs.Effect.{Database, IsDatabase}
 use Rattle.sqlite.specs.Steps.{FailsToCommit}
-use Rattle.sqlite.specs.State.{State, Shows, KeepsCounts, HasCleanDisk, KeepsCommit, Survives, IsRolledBack}
+use Rattle.sqlite.specs.State.{State, Shows, KeepsCounts, HasCleanDisk, KeepsCommit, Survives, IsUnchanged, IsRolledBack}
 use Rattle.sqlite.specs.declared.error.Error.{Error}
 use Rattle.sqlite.proofs.StateLemmas.{survives_then, survives_weaker}
 use Rattle.desk_text.specs.declared.outcome.StoreFault.{StoreFault}
@@ -13,8 +13,11 @@ use Rattle.desk_content.specs.Content.{Content}
 use Rattle.desk_schema.specs.Rows.{content_of, AreShown}
 use Rattle.desk_schema.specs.Steps.{IsInside, seen, Goes, Acts, Serves}
 use Rattle.desk_schema.proofs.StepLemmas.{done, failed, acts_none}
+use Rattle.desk_making.specs.Number.{Says, ReadsSchema}
+use Rattle.desk_making.specs.declared.number.SchemaRead.{SchemaRead}
+use Rattle.desk_tables.specs.Opening.{IsLeft}
 use Rattle.desk_tables.specs.Shown.{IsDesk, HasContent, AreTablesOf}
-use Rattle.desk_tables.specs.Transactions.{IsAsked, IsChanged, Ends}
+use Rattle.desk_tables.specs.Transactions.{IsAsked, IsChanged, AsksSchema, Ends}
 
 -- ---- a question in a transaction that is rolled back
 
@@ -60,6 +63,40 @@ asked {A = A} old mid new r Fits P limit runs serves back survives = record {
     answered : (r : Result A StoreFault) (c : Content) → (IsTrue old.is_open → seen old ≡ c) → IfOk r (λ _. IsTrue old.is_open) → IfOk r (λ a. Goes (begun old) mid (λ c d. (d ≡ c) × P c a)) → IfOk r (P c)
     answered (Ok a) c same live g = subst (λ d. P d a) (same live) g.changed.1
     answered (Err e) c same live g = tt
+
+-- the number of the schema is asked for
+pub asks : (old mid new : State) (r : Result SchemaRead StoreFault) → old.step_limit ≡ None → ReadsSchema (begun old) mid r → new.in_transaction ≡ false → (HasCleanDisk new → IsRolledBack mid new) → Survives mid new (λ _. ⊥)
+    → AsksSchema old new r
+asks old mid new r limit reads idle back survives = record {
+  survives = survives_then old mid new _ _ (λ _. ⊥) (λ _ db none. none) (λ _ db none. none) (record { clean = one.clean; shield = one.shield; counts = one.counts; limit = one.limit; closes = one.closes; crash = one.crash }) survives;
+  left = record {
+    honest = early;
+    idle = idle;
+    was_open = λ clean o. (kept clean).was_open ((back clean).was_open o);
+    committed = λ clean o. ((back clean).undone o).1 ∙ (kept clean).committed ((back clean).was_open o);
+    now = λ clean o same. ((back clean).undone o).0 ∙ (kept clean).committed ((back clean).was_open o) ∙ sym same;
+    content = λ c shows clean o. undone old mid new c (shows (early clean)) (kept clean) (back clean) o;
+  };
+  ok = λ clean. said r (reads.ok (late clean) limit);
+  sure = reads.sure;
+  desk = λ c clean shows. reads.desk (late clean) (begins old c limit (early clean) shows);
+}
+  where
+    one : Survives (begun old) mid (λ _. ⊥)
+    one = reads.survives
+
+    late : HasCleanDisk new → HasCleanDisk mid
+    late clean = omega (arith, survives.clean, clean)
+
+    early : HasCleanDisk new → HasCleanDisk old
+    early clean = omega (arith, survives.clean, one.clean, clean)
+
+    kept : HasCleanDisk new → KeepsCommit (begun old) mid
+    kept clean = reads.keeps (late clean)
+
+    said : (r : Result SchemaRead StoreFault) → IfOk r (λ read. IsUnchanged (begun old) mid × Says old.now read) → IfOk r (λ read. IsTrue old.is_open × Says old.now read)
+    said (Ok read) h = (h.0.0.was_open, h.1)
+    said (Err e) h = tt
 
 -- nothing was asked, since the answer is known
 pub asked_none : {A : Type 0} (s : State) (a : A) (Fits : Content → Type 0) (P : Content → A → Type 0) → ((c : Content) → P c a) → IsAsked s s (Ok a) Fits P

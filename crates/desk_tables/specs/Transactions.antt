@@ -1,11 +1,18 @@
 -- What a transaction over a connection comes to, whole.
-use Rattle.std.specs.Prelude.{◌≡◌, ◌≢◌, ◌⊎◌, IsOk, Err, IfOk, IfErr, Result, IsTrue}
+use Rattle.std.specs.Prelude.{◌≡◌, ◌≢◌, ◌⊎◌, ◌↔◌, ℕ, false, true, IsOk, Err, IfOk, IfErr, Result, IsTrue}
 use Rattle.sqlite.specs.State.{State, HasCleanDisk, Survives, IsRolledBack}
 use Rattle.desk_text.specs.declared.outcome.StoreFault.{StoreFault}
 use Rattle.desk_text.specs.declared.outcome.StoreFault.TheVariants.{Foreign}
-use Rattle.desk_content.specs.Content.{Content}
+use Rattle.desk_content.specs.Content.{Content, no_content}
 use Rattle.desk_schema.specs.Steps.{seen}
+use Rattle.desk_making.specs.Names.{no_tables, has_desk_table}
+use Rattle.desk_making.specs.Number.{Says, SaysSchema}
+use Rattle.desk_making.specs.declared.number.SchemaRead.{SchemaRead}
+use Rattle.desk_making.specs.declared.number.SchemaRead.TheVariants.{Number}
+use Rattle.desk_tables.specs.Opening.{IsLeft, IsStoreFailure, IsReason}
 use Rattle.desk_tables.specs.Shown.{IsDesk, HasContent, AreTablesOf}
+use Rattle.desk_tables.specs.declared.open_fault.OpenFault.{OpenFault}
+use Rattle.desk_tables.specs.declared.open_fault.OpenFault.TheVariants.{Store, NotEmpty}
 
 -- A question: whatever it answers, the connection shows the same desk as before.
 -- An answer is right also where a fault has shut the connection since.
@@ -29,3 +36,36 @@ pub record Ends (mid new : State) (done result : Result (Unit {0}) StoreFault) :
   pub survives : Survives mid new (λ db. IsOk done × (db ≡ mid.now.trees))
   pub ok : HasCleanDisk new → IfOk result (λ _. IsOk done × IsTrue mid.is_open × IsTrue new.is_open × (new.now ≡ mid.now) × (new.committed ≡ mid.now))
   pub err : HasCleanDisk new → (IsOk done → IsTrue mid.in_transaction) → IfErr result (λ fault. IsRolledBack mid new × (fault ≢ Foreign ⊎ (done ≡ Err fault)))
+
+-- The tables of a new desk are made in a database with none, and committed, or nothing is left of them.
+-- A crash at any moment leaves what it would have left before, or the new tables.
+pub record IsMade (first : ℕ) (old new : State) (result : Result (Unit {0}) StoreFault) : Type 0 where
+  pub ok : HasCleanDisk new → IfOk result (λ _. IsTrue new.is_open × IsDesk new × (seen new ≡ no_content first))
+  pub err : IfErr result (λ _. IsLeft old new)
+  pub sure : HasCleanDisk new → IfErr result (λ fault. fault ≢ Foreign)
+  pub crash : Survives old new (AreTablesOf (no_content first))
+
+-- A desk is created, or there is a reason.
+pub record IsCreated (first : ℕ) (old new : State) (result : Result (Unit {0}) OpenFault) : Type 0 where
+  pub ok : HasCleanDisk new → IfOk result (λ _. IsTrue new.is_open × IsDesk new × (seen new ≡ no_content first))
+  pub err : IfErr result (λ _. IsLeft old new)
+  pub not_empty : (result ≡ Err NotEmpty) ↔ (has_desk_table old.now.schema ≡ true)
+  pub foreign : has_desk_table old.now.schema ≡ false → old.now.schema ≢ no_tables → result ≡ Err (Store Foreign)
+  pub sure : HasCleanDisk new → old.now.schema ≡ no_tables → IfErr result IsStoreFailure
+  pub crash : Survives old new (AreTablesOf (no_content first))
+
+-- The number of the schema is asked for: whatever is answered, the tables are left as they were.
+pub record AsksSchema (old new : State) (result : Result SchemaRead StoreFault) : Type 0 where
+  pub survives : Survives old new (λ _. ⊥)
+  pub left : IsLeft old new
+  pub ok : HasCleanDisk new → IfOk result (λ read. IsTrue old.is_open × Says old.now read)
+  pub sure : IfErr result (λ fault. fault ≢ Foreign)
+  pub desk : (c : Content) → HasCleanDisk new → HasContent c old → IfOk result (λ read. read ≡ Number 1)
+
+-- A desk is recognised, or there is a reason.
+pub record IsRecognised (old new : State) (result : Result (Unit {0}) OpenFault) : Type 0 where
+  pub survives : Survives old new (λ _. ⊥)
+  pub left : IsLeft old new
+  pub ok : HasCleanDisk new → IfOk result (λ _. IsTrue old.is_open × SaysSchema old.now 1)
+  pub why : IfErr result (IsReason old new)
+  pub desk : (c : Content) → HasCleanDisk new → HasContent c old → IfErr result IsStoreFailure

@@ -2,15 +2,18 @@
 
 ghost use Rattle.std.specs.Prelude.{◌≡◌, false, None, ⊤};
 ghost use Rattle.sqlite.specs.Held.{state};
+ghost use Rattle.sqlite.specs.State.{IsLive};
 ghost use Rattle.ancestry.specs.Trees.{IsForest};
 ghost use Rattle.desk_content.specs.Changes.{FitsContent, changed};
 ghost use Rattle.desk_content.specs.Kept.{IsKeptContent};
 ghost use Rattle.desk_content.specs.View.{desk_in};
 ghost use Rattle.desk_store.specs.Store.{IsImageOf, AreWaitingOn};
-ghost use Rattle.desk_tables.specs.Transactions.{IsAsked, IsChanged, Ends};
+ghost use Rattle.desk_making.specs.Names.{no_tables};
+ghost use Rattle.desk_tables.specs.Transactions.{IsAsked, IsChanged, IsMade, AsksSchema, Ends};
 
 use bug_record::{Change, Numbers, Sequence, SetImage};
 use desk_reads::{read_set_of, read_waiting_on};
+use desk_making::{SchemaRead, make_tables, read_schema};
 use desk_schema::fault_of;
 use desk_steps::put_change;
 use desk_text::StoreFault;
@@ -161,4 +164,33 @@ pub(crate) fn change_sets<S: Alter>(
     let mut tx = conn.transaction();
     let done = put_change(alloc, &mut tx, family, change);
     finish(tx, done)
+}
+
+// Makes the tables of a new desk, which gives `first` to its first bug, in a database with none.
+pub(crate) fn make_desk<S: Alter>(conn: &mut Connection<S>, first: u32) -> Result<(), StoreFault>
+    requires autocommit { conn.old.in_transaction ≡ false }
+    requires unlimited { conn.old.step_limit ≡ None }
+    requires blank { (state S.Store conn.old).now.schema ≡ no_tables }
+    requires live { IsLive (state S.Store conn.old) }
+    ensures autocommit { conn.new.in_transaction ≡ false }
+    ensures unlimited { conn.new.step_limit ≡ None }
+    ensures made { IsMade first (state S.Store conn.old) (state S.Store conn.new) result }
+{
+    let mut tx = conn.transaction();
+    let done = make_tables(&mut tx, first);
+    finish(tx, done)
+}
+
+// What the database says of the number of its schema, whatever that schema is.
+pub(crate) fn ask_schema<S: Alter>(conn: &mut Connection<S>) -> Result<SchemaRead, StoreFault>
+    requires autocommit { conn.old.in_transaction ≡ false }
+    requires unlimited { conn.old.step_limit ≡ None }
+    ensures autocommit { conn.new.in_transaction ≡ false }
+    ensures unlimited { conn.new.step_limit ≡ None }
+    ensures asked { AsksSchema (state S.Store conn.old) (state S.Store conn.new) result }
+{
+    let mut tx = conn.transaction();
+    let answer = read_schema(&mut tx);
+    tx.rollback();
+    answer
 }

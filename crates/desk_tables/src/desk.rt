@@ -70,6 +70,23 @@ impl<S: Alter> TableDesk<S> {
         let mut conn = conn;
         conn.set_step_limit(None);
         let last = Seen::new().and(&conn);
+        TableDesk::found(alloc, conn, last)
+    }
+
+    // The desk over a connection, with the content that was last seen.
+    pub(crate) fn found(
+        alloc: Global,
+        conn: Connection<S>,
+        last: Seen<Connection<S>>,
+    ) -> TableDesk<S>
+        requires autocommit { conn.in_transaction ≡ false }
+        requires unlimited { conn.step_limit ≡ None }
+        ensures conn { result.conn ≡ conn }
+        ensures last { result.last.values ≡ last.values }
+        ensures begun { result.begun.values ≡ [] }
+        ensures family { result.family ≡ None }
+        ensures counts { result.counts ≡ no_faults }
+    {
         TableDesk {
             conn,
             alloc,

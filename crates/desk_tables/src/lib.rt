@@ -8,5 +8,8 @@
 mod calls;
 mod counts;
 mod desk;
+mod open_fault;
+mod opening;
 
 pub use desk::TableDesk;
+pub use open_fault::OpenFault;

@@ -1,0 +1,12 @@
+use Rattle.std.proofs.Common.{◌≡◌, ◌≢◌, rules}
+use Rattle.sqlite.specs.Held.{state}
+use Rattle.desk_tables.proofs.OpeningLemmas.{newer, no_number}
+use Rattle.desk_tables.proofs.opening.recognise.Goals as goal
+
+pub returns-in-Ok-Number-clause-recognised : goal.returns-in-Ok-Number-clause-recognised
+returns-in-Ok-Number-clause-recognised g c =
+    newer (state g.S.Store c.args.conn.now) (state g.S.Store c.ask_schema.new.conn) c.in-Ok-Number.field-0 c.in-Ok-Number.ensures.asked c.in-Ok-Number.number c.in-Ok-Number.field-0-is c.in-Ok-Number.number-test.1
+
+pub returns-in-Ok-NoNumber-clause-recognised : goal.returns-in-Ok-NoNumber-clause-recognised
+returns-in-Ok-NoNumber-clause-recognised g c =
+    no_number (state g.S.Store c.args.conn.now) (state g.S.Store c.ask_schema.new.conn) c.in-Ok-NoNumber.field-0 c.in-Ok-NoNumber.ensures.asked c.in-Ok-NoNumber.field-0-is

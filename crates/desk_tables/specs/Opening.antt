@@ -1,0 +1,36 @@
+-- How a database is made a desk, or recognised as one.
+use Rattle.std.specs.Prelude.{◌≡◌, ◌≢◌, ◌<◌, ℕ, false, None, IsTrue}
+use Rattle.sqlite.specs.State.{State, HasCleanDisk}
+use Rattle.desk_text.specs.declared.outcome.StoreFault.{StoreFault}
+use Rattle.desk_text.specs.declared.outcome.StoreFault.TheVariants.{Foreign}
+use Rattle.desk_content.specs.Content.{Content}
+use Rattle.desk_making.specs.Number.{SaysSchema, SaysNone}
+use Rattle.desk_tables.specs.Shown.{HasContent}
+use Rattle.desk_tables.specs.declared.open_fault.OpenFault.{OpenFault}
+use Rattle.desk_tables.specs.declared.open_fault.OpenFault.TheVariants.{NotADesk, NewerSchema, Store, NotEmpty}
+
+-- the same connection, with no limit of steps for its statements
+abbrev pub unlimited : State → State
+unlimited s = record s { step_limit = None }
+
+-- The connection is outside a transaction, and the tables are left as they were: as far as it serves
+-- it served before, and shows what it showed and what was committed.
+pub record IsLeft (old new : State) : Type 0 where
+  pub honest : HasCleanDisk new → HasCleanDisk old
+  pub idle : new.in_transaction ≡ false
+  pub was_open : HasCleanDisk new → IsTrue new.is_open → IsTrue old.is_open
+  pub committed : HasCleanDisk new → IsTrue new.is_open → new.committed ≡ old.committed
+  -- outside a transaction a connection that serves shows what was committed
+  pub now : HasCleanDisk new → IsTrue new.is_open → old.now ≡ old.committed → new.now ≡ old.now
+  pub content : (c : Content) → HasContent c old → HasContent c new
+
+-- the store failed, for memory, the disk or its size
+abbrev pub IsStoreFailure : OpenFault → Type 0
+IsStoreFailure why = (fault : StoreFault) × (why ≡ Store fault) × (fault ≢ Foreign)
+
+-- what is so where the connection that was old and is new is refused to be a desk's for this
+abbrev pub IsReason : State → State → OpenFault → Type 0
+IsReason old new NotADesk = HasCleanDisk new → SaysNone old.now
+IsReason old new (NewerSchema n) = HasCleanDisk new → SaysSchema old.now n × (1 < n)
+IsReason old new (Store fault) = fault ≢ Foreign
+IsReason old new NotEmpty = ⊥

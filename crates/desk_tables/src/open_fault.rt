@@ -1,0 +1,17 @@
+//! Why no desk is created or opened.
+
+use desk_text::StoreFault;
+
+/// Why a connection is no desk's, in the order in which the causes are tested.
+#[derive(Clone, Copy, Debug, PartialEq, Eq, Drop)]
+pub enum OpenFault {
+    /// The database says no number of a desk's schema.
+    NotADesk,
+    /// The database says this number of a desk's schema, above 1: a later version made it.
+    NewerSchema(u64),
+    /// The store failed; where a desk is to be created, `Foreign` says that there are tables, but
+    /// none with the name of a desk's.
+    Store(StoreFault),
+    /// A desk is to be created, and a table has the name of one of the desk's.
+    NotEmpty,
+}

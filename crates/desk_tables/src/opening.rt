@@ -1,0 +1,139 @@
+//! How a desk is created in a database, and opened.
+
+ghost use Rattle.std.specs.Prelude.{◌≡◌, ◌≢◌, ◌↔◌, ◌≤◌, ◌∷◌, [], false, true, None, Err, IfOk, IfErr, IsErrAnd, IsTrue, MatchResult};
+ghost use Rattle.sqlite.specs.Held.{state};
+ghost use Rattle.sqlite.specs.State.{HasCleanDisk, Survives};
+ghost use Rattle.line_words.specs.declared.named.TheConstants.{LARGEST_NUMBER};
+ghost use Rattle.desk_content.specs.Content.{Content, no_content};
+ghost use Rattle.desk_content.specs.Kept.{IsKeptContent};
+ghost use Rattle.desk_making.specs.Names.{no_tables, has_desk_table};
+ghost use Rattle.desk_making.specs.Number.{SaysSchema};
+ghost use Rattle.desk_places.specs.Plain.{empty_desk};
+ghost use Rattle.desk_schema.specs.Steps.{seen};
+ghost use Rattle.desk_store.specs.Store.{no_faults};
+ghost use Rattle.desk_text.specs.declared.outcome.StoreFault.TheVariants.{Foreign};
+ghost use Rattle.desk_tables.specs.Kept.{content_seen, desk_seen, IsKept};
+ghost use Rattle.desk_tables.specs.Opening.{unlimited, IsLeft, IsStoreFailure, IsReason};
+ghost use Rattle.desk_tables.specs.Shown.{HasContent, AreTablesOf};
+ghost use Rattle.desk_tables.specs.Transactions.{IsCreated, IsRecognised};
+ghost use Rattle.desk_tables.specs.declared.open_fault.OpenFault.TheVariants as fault;
+
+use crate::calls::{ask_schema, make_desk};
+use crate::desk::TableDesk;
+use crate::open_fault::OpenFault;
+use desk_making::{SchemaRead, is_blank, names_a_desk_table};
+use desk_text::StoreFault;
+use seen_values::Seen;
+use sqlite::{Alter, Connection};
+use std::alloc::Global;
+
+// Makes the tables of a new desk, unless there are tables.
+fn create_tables<S: Alter>(conn: &mut Connection<S>, first: u32) -> Result<(), OpenFault>
+    requires autocommit { conn.old.in_transaction ≡ false }
+    requires unlimited { conn.old.step_limit ≡ None }
+    ensures autocommit { conn.new.in_transaction ≡ false }
+    ensures unlimited { conn.new.step_limit ≡ None }
+    ensures created { IsCreated first (state S.Store conn.old) (state S.Store conn.new) result }
+{
+    let schema = conn.schema();
+    if names_a_desk_table(schema) {
+        return Err(OpenFault::NotEmpty);
+    }
+    if !is_blank(schema) {
+        return Err(OpenFault::Store(StoreFault::Foreign));
+    }
+    match make_desk(conn, first) {
+        Ok(()) => Ok(()),
+        Err(fault) => Err(OpenFault::Store(fault)),
+    }
+}
+
+// Asks the database whether it is a desk's.
+fn recognise<S: Alter>(conn: &mut Connection<S>) -> Result<(), OpenFault>
+    requires autocommit { conn.old.in_transaction ≡ false }
+    requires unlimited { conn.old.step_limit ≡ None }
+    ensures autocommit { conn.new.in_transaction ≡ false }
+    ensures unlimited { conn.new.step_limit ≡ None }
+    ensures recognised { IsRecognised (state S.Store conn.old) (state S.Store conn.new) result }
+{
+    match ask_schema(conn) {
+        Ok(SchemaRead::Number(1)) => Ok(()),
+        Ok(SchemaRead::Number(number)) => Err(OpenFault::NewerSchema(number)),
+        Ok(SchemaRead::NoNumber) => Err(OpenFault::NotADesk),
+        Err(fault) => Err(OpenFault::Store(fault)),
+    }
+}
+
+impl<S: Alter> TableDesk<S> {
+    /// Creates a desk in a database with no tables; its first bug gets this number: 1 to
+    /// 999,999,999.
+    /// A refusal hands the connection back, and the tables are left as they were: `NotEmpty`
+    /// exactly where a table has the name of one of a desk's, `Store(Foreign)` where there are
+    /// other tables, indexes or views, and else what the store failed for.
+    /// From now on no statement has a limit of steps.
+    /// A crash at any moment of the call leaves what it would have left before, or the new desk.
+    pub fn create(
+        alloc: Global,
+        conn: Connection<S>,
+        first: u64,
+    ) -> Result<TableDesk<S>, (OpenFault, Connection<S>)>
+        requires autocommit { conn.in_transaction ≡ false }
+        requires some { 1 ≤ first }
+        requires few { first ≤ LARGEST_NUMBER }
+        ensures kept { IfOk result (λ d. HasCleanDisk (state S.Store d.conn) →
+            IsKept S.Store d.last.values d.begun.values d.conn d.family) }
+        ensures empty { IfOk result (λ d. HasCleanDisk (state S.Store d.conn) → desk_seen S.Store d.last.values ≡ empty_desk first) }
+        ensures counts { IfOk result (λ d. d.counts ≡ no_faults) }
+        ensures not_empty { IsErrAnd result (λ e. e.0 ≡ fault.NotEmpty) ↔ (has_desk_table (state S.Store conn).now.schema ≡ true) }
+        ensures foreign { has_desk_table (state S.Store conn).now.schema ≡ false → (state S.Store conn).now.schema ≢ no_tables →
+            IsErrAnd result (λ e. e.0 ≡ fault.Store Foreign) }
+        ensures blank { (state S.Store conn).now.schema ≡ no_tables → IfErr result (λ e. HasCleanDisk (state S.Store e.1) → IsStoreFailure e.0) }
+        ensures left { IfErr result (λ e. IsLeft (state S.Store conn) (state S.Store e.1)) }
+        ensures crash { MatchResult result
+            (λ d. Survives (unlimited (state S.Store conn)) (state S.Store d.conn) (AreTablesOf (no_content first)))
+            (λ e. Survives (unlimited (state S.Store conn)) (state S.Store e.1) (AreTablesOf (no_content first))) }
+    {
+        let mut conn = conn;
+        conn.set_step_limit(None);
+        match create_tables(&mut conn, first as u32) {
+            Ok(()) => {
+                let last = Seen::new().and(&conn);
+                Ok(TableDesk::found(alloc, conn, last))
+            }
+            Err(fault) => Err((fault, conn)),
+        }
+    }
+
+    /// Opens the desk that a database holds; no more is read than the number of its schema.
+    /// The tables are left as they were, and a refusal hands the connection back: `NotADesk` where
+    /// the database says no number of a desk's schema, `NewerSchema` where it says one above 1, and
+    /// else what the store failed for.
+    /// The desk is kept where the tables are a desk's and say what a desk keeps.
+    /// From now on no statement has a limit of steps.
+    pub fn open(
+        alloc: Global,
+        conn: Connection<S>,
+    ) -> Result<TableDesk<S>, (OpenFault, Connection<S>)>
+        requires autocommit { conn.in_transaction ≡ false }
+        ensures content { IfOk result (λ d. content_seen S.Store d.last.values ≡ seen (state S.Store conn)) }
+        ensures kept { IfOk result (λ d. HasContent (seen (state S.Store conn)) (state S.Store conn) → IsKeptContent (seen (state S.Store conn)) →
+            IsKept S.Store d.last.values d.begun.values d.conn d.family) }
+        ensures says { IfOk result (λ d. HasCleanDisk (state S.Store d.conn) →
+            IsTrue (state S.Store conn).is_open × SaysSchema (state S.Store conn).now 1) }
+        ensures counts { IfOk result (λ d. d.counts ≡ no_faults) }
+        ensures why { IfErr result (λ e. IsReason (state S.Store conn) (state S.Store e.1) e.0) }
+        ensures desk { (c : Content) → HasContent c (state S.Store conn) → IfErr result (λ e. HasCleanDisk (state S.Store e.1) → IsStoreFailure e.0) }
+        ensures left { MatchResult result (λ d. IsLeft (state S.Store conn) (state S.Store d.conn)) (λ e. IsLeft (state S.Store conn) (state S.Store e.1)) }
+        ensures survives { MatchResult result
+            (λ d. Survives (unlimited (state S.Store conn)) (state S.Store d.conn) (λ _. ⊥))
+            (λ e. Survives (unlimited (state S.Store conn)) (state S.Store e.1) (λ _. ⊥)) }
+    {
+        let mut conn = conn;
+        conn.set_step_limit(None);
+        let last = Seen::new().and(&conn);
+        match recognise(&mut conn) {
+            Ok(()) => Ok(TableDesk::found(alloc, conn, last)),
+            Err(fault) => Err((fault, conn)),
+        }
+    }
+}
