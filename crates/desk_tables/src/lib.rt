@@ -1,7 +1,7 @@
 //! A desk that is kept in tables.
 //!
-//! So far `TableDesk` answers sets of bugs, the next number and who waits on a bug, and carries out
-//! changes.
+//! So far `TableDesk` is created, opened and closed, answers sets of bugs, the next number and who
+//! waits on a bug, and carries out changes.
 //! Branches and lists come next, and then it is a `Records` of `desk_store`.
 #![tactic(auto)]
 
