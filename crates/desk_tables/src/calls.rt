@@ -12,8 +12,8 @@ ghost use Rattle.desk_making.specs.Names.{no_tables};
 ghost use Rattle.desk_tables.specs.Transactions.{IsAsked, IsChanged, IsMade, AsksSchema, Ends};
 
 use bug_record::{Change, Numbers, Sequence, SetImage};
-use desk_reads::{read_set_of, read_waiting_on};
 use desk_making::{SchemaRead, make_tables, read_schema};
+use desk_reads::{read_set_of, read_waiting_on};
 use desk_schema::fault_of;
 use desk_steps::put_change;
 use desk_text::StoreFault;
