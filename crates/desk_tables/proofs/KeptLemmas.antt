@@ -2,9 +2,9 @@
 use Rattle.std.proofs.Common.{◌≡◌, ◌≢◌, List, [], ◌∷◌, ◌++◌, Option, None, Some, is_some, false, true≢false, Result, Ok, Err, IfOk, IfErr, IfSome, arith, refl, sym, ap, subst, ◌∙◌}
 use Rattle.std.specs.List.{AllByRecursion}
 use Rattle.sqlite.specs.Held.{Held, state}
-use Rattle.sqlite.specs.State.{State, HasCleanDisk, Survives}
+use Rattle.sqlite.specs.State.{HasCleanDisk, Survives}
 use Rattle.sqlite_trees.specs.declared.store.Store as store
-use Rattle.ancestry.specs.Trees.{Ancestry, IsForest}
+use Rattle.ancestry.specs.Trees.{Ancestry}
 use Rattle.bug_record.specs.Desk.{Desk}
 use Rattle.bug_record.specs.Images.{put}
 use Rattle.bug_record.specs.declared.command.Change.{Change}
@@ -137,10 +137,6 @@ pub seen_kept : {S : Type 0} (g : store.Ghosts S) (last begun : List (Held S)) (
     → IsKept g last begun conn family
 seen_kept g last begun was conn family is none no_family shows kept =
     subst (IsKept g last begun conn) (sym no_family) (subst (λ b. IsKept g last b conn None) (sym none) (subst (λ l. IsKept g l [] conn None) (sym is) (record { now = shows; before = tt; content = kept; tree = tt })))
-
--- a limit of steps says nothing of the content
-pub unlimited_shows : (c : Content) (s s' : State) → s' ≡ record s { step_limit = None } → HasContent c s → HasContent c s'
-unlimited_shows c s s' is shows = subst (HasContent c) (sym is) (λ clean o. let h = shows clean o in (record { settled = h.0.settled; schema = h.0.schema; sound = h.0.sound; shown = h.0.shown }, h.1))
 
 -- of no tree nothing is asked
 pub no_tree : (family : Option Ancestry) (P : Ancestry → Type 0) → is_some family ≡ false → IfSome family P

@@ -1,12 +1,11 @@
 -- What is remembered of a desk that is created or opened, and why there is none.
-use Rattle.std.proofs.Common.{◌≡◌, ◌≢◌, ◌<◌, ◌≤◌, ℕ, List, [], ◌∷◌, Option, None, Ok, Err, IfErr, arith, refl, sym, ap, subst, ◌∙◌}
+use Rattle.std.proofs.Common.{◌≡◌, ◌≢◌, ◌<◌, ◌≤◌, ℕ, List, [], ◌∷◌, Option, None, Ok, Err, arith, refl, sym, ap, subst, ◌∙◌}
 use Rattle.sqlite.specs.Held.{Held, state}
-use Rattle.sqlite.specs.State.{State, HasCleanDisk}
+use Rattle.sqlite.specs.State.{State}
 use Rattle.sqlite_trees.specs.declared.store.Store as store
 use Rattle.ancestry.specs.Trees.{Ancestry}
 use Rattle.line_words.specs.declared.named.TheConstants.{LARGEST_NUMBER}
 use Rattle.desk_places.specs.Plain.{empty_desk}
-use Rattle.desk_text.specs.declared.outcome.StoreFault.{StoreFault}
 use Rattle.desk_content.specs.Content.{Content, no_content}
 use Rattle.desk_content.specs.Kept.{IsKeptContent}
 use Rattle.desk_content.specs.View.{desk_in}
@@ -21,7 +20,7 @@ use Rattle.desk_tables.specs.Shown.{IsDesk, HasContent}
 use Rattle.desk_tables.specs.Transactions.{AsksSchema, IsRecognised}
 use Rattle.desk_tables.specs.declared.open_fault.OpenFault.{OpenFault}
 use Rattle.desk_tables.specs.declared.open_fault.OpenFault.TheVariants.{NotADesk, NewerSchema, Store, NotEmpty}
-use Rattle.desk_tables.proofs.KeptLemmas.{seen_kept, unlimited_shows}
+use Rattle.desk_tables.proofs.KeptLemmas.{seen_kept}
 
 -- ---- a new desk
 
@@ -35,21 +34,41 @@ module _ {S : Type 0} (g : store.Ghosts S) (first : ℕ) (last : List (Held S)) 
 
 -- ---- the limit of steps
 
--- what is so after the limit was taken away is so of the connection before
-module _ (s s' new : State) (is : s' ≡ unlimited s) where
-  pub left_before : IsLeft s' new → IsLeft s new
-  left_before h =
-      let l = subst (λ x. IsLeft x new) is h in
-      record { honest = l.honest; idle = l.idle; was_open = l.was_open; committed = l.committed; now = l.now; content = λ c shows. l.content c (unlimited_shows c s (unlimited s) refl shows) }
+-- it says nothing of what is shown
+shows_without : (c : Content) (s : State) → HasContent c s → HasContent c (unlimited s)
+shows_without c s shows clean o = let h = shows clean o in (record { settled = h.0.settled; schema = h.0.schema; sound = h.0.sound; shown = h.0.shown }, h.1)
 
-  pub reason_before : (why : OpenFault) → IsReason s' new why → IsReason s new why
-  reason_before why h = same why (subst (λ x. IsReason x new why) is h)
-    where
-      same : (why : OpenFault) → IsReason (unlimited s) new why → IsReason s new why
-      same NotADesk h = h
-      same (NewerSchema n) h = h
-      same (Store fault) h = h
-      same NotEmpty h = h
+left_without : (s new : State) → IsLeft (unlimited s) new → IsLeft s new
+left_without s new h = record { honest = h.honest; idle = h.idle; was_open = h.was_open; committed = h.committed; now = h.now; content = λ c shows. h.content c (shows_without c s shows) }
+
+reason_without : (s new : State) (why : OpenFault) → IsReason (unlimited s) new why → IsReason s new why
+reason_without s new NotADesk h = h
+reason_without s new (NewerSchema n) h = h
+reason_without s new (Store fault) h = h
+reason_without s new NotEmpty h = h
+
+-- the limit of a connection was taken away
+module _ {S : Type 0} (g : store.Ghosts S) (was conn : Held S) (is : conn ≡ record was { step_limit = None }) where
+  same : state g conn ≡ unlimited (state g was)
+  same = ap (state g) is
+
+  says : seen (state g conn) ≡ seen (state g was)
+  says = ap seen same
+
+  pub still_shows : (c : Content) → HasContent c (state g was) → HasContent c (state g conn)
+  still_shows c shows = subst (HasContent c) (sym same) (shows_without c (state g was) shows)
+
+  pub still_seen : HasContent (seen (state g was)) (state g was) → HasContent (seen (state g conn)) (state g conn)
+  still_seen shows = still_shows (seen (state g conn)) (subst (λ c. HasContent c (state g was)) (sym says) shows)
+
+  pub still_kept : IsKeptContent (seen (state g was)) → IsKeptContent (seen (state g conn))
+  still_kept kept = subst IsKeptContent (sym says) kept
+
+  pub left_before : (new : State) → IsLeft (state g conn) new → IsLeft (state g was) new
+  left_before new h = left_without (state g was) new (subst (λ s. IsLeft s new) same h)
+
+  pub reason_before : (new : State) (why : OpenFault) → IsReason (state g conn) new why → IsReason (state g was) new why
+  reason_before new why h = reason_without (state g was) new why (subst (λ s. IsReason s new why) same h)
 
 -- ---- why a database is no desk's
 

@@ -15,7 +15,6 @@ use Rattle.desk_schema.specs.Steps.{IsInside, seen, Goes, Acts, Serves}
 use Rattle.desk_schema.proofs.StepLemmas.{done, failed, acts_none}
 use Rattle.desk_making.specs.Number.{Says, ReadsSchema}
 use Rattle.desk_making.specs.declared.number.SchemaRead.{SchemaRead}
-use Rattle.desk_tables.specs.Opening.{IsLeft}
 use Rattle.desk_tables.specs.Shown.{IsDesk, HasContent, AreTablesOf}
 use Rattle.desk_tables.specs.Transactions.{IsAsked, IsChanged, AsksSchema, Ends}
 

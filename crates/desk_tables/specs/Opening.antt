@@ -1,5 +1,5 @@
 -- How a database is made a desk, or recognised as one.
-use Rattle.std.specs.Prelude.{◌≡◌, ◌≢◌, ◌<◌, ℕ, false, None, IsTrue}
+use Rattle.std.specs.Prelude.{◌≡◌, ◌≢◌, ◌<◌, false, None, IsTrue}
 use Rattle.sqlite.specs.State.{State, HasCleanDisk}
 use Rattle.desk_text.specs.declared.outcome.StoreFault.{StoreFault}
 use Rattle.desk_text.specs.declared.outcome.StoreFault.TheVariants.{Foreign}
@@ -13,8 +13,8 @@ use Rattle.desk_tables.specs.declared.open_fault.OpenFault.TheVariants.{NotADesk
 abbrev pub unlimited : State → State
 unlimited s = record s { step_limit = None }
 
--- The connection is outside a transaction, and the tables are left as they were: as far as it serves
--- it served before, and shows what it showed and what was committed.
+-- The connection is outside a transaction, and the tables are left as they were.
+-- Where it serves it served before, and it shows what it showed.
 pub record IsLeft (old new : State) : Type 0 where
   pub honest : HasCleanDisk new → HasCleanDisk old
   pub idle : new.in_transaction ≡ false

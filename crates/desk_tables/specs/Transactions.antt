@@ -37,7 +37,7 @@ pub record Ends (mid new : State) (done result : Result (Unit {0}) StoreFault) :
   pub ok : HasCleanDisk new → IfOk result (λ _. IsOk done × IsTrue mid.is_open × IsTrue new.is_open × (new.now ≡ mid.now) × (new.committed ≡ mid.now))
   pub err : HasCleanDisk new → (IsOk done → IsTrue mid.in_transaction) → IfErr result (λ fault. IsRolledBack mid new × (fault ≢ Foreign ⊎ (done ≡ Err fault)))
 
--- The tables of a new desk are made in a database with none, and committed, or nothing is left of them.
+-- The tables of a new desk are made in a database with none, and committed, or there are none still.
 -- A crash at any moment leaves what it would have left before, or the new tables.
 pub record IsMade (first : ℕ) (old new : State) (result : Result (Unit {0}) StoreFault) : Type 0 where
   pub ok : HasCleanDisk new → IfOk result (λ _. IsTrue new.is_open × IsDesk new × (seen new ≡ no_content first))

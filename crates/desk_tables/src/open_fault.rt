@@ -2,7 +2,7 @@
 
 use desk_text::StoreFault;
 
-/// Why a connection is no desk's, in the order in which the causes are tested.
+/// Why no desk is created in a database, or opened.
 #[derive(Clone, Copy, Debug, PartialEq, Eq, Drop)]
 pub enum OpenFault {
     /// The database says no number of a desk's schema.

@@ -80,6 +80,7 @@ impl<S: Alter> TableDesk<S> {
         requires autocommit { conn.in_transaction ≡ false }
         requires some { 1 ≤ first }
         requires few { first ≤ LARGEST_NUMBER }
+        ensures serves { IfOk result (λ d. HasCleanDisk (state S.Store d.conn) → IsTrue (state S.Store d.conn).is_open) }
         ensures kept { IfOk result (λ d. HasCleanDisk (state S.Store d.conn) →
             IsKept S.Store d.last.values d.begun.values d.conn d.family) }
         ensures empty { IfOk result (λ d. HasCleanDisk (state S.Store d.conn) → desk_seen S.Store d.last.values ≡ empty_desk first) }

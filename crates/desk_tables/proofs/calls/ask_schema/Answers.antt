@@ -1,4 +1,4 @@
-use Rattle.std.proofs.Common.{◌≡◌, false, rules, subst}
+use Rattle.std.proofs.Common.{◌≡◌, rules, subst}
 use Rattle.sqlite.specs.Held.{state}
 use Rattle.desk_tables.specs.Transactions.{AsksSchema}
 use Rattle.desk_tables.proofs.TransactionLemmas.{asks}

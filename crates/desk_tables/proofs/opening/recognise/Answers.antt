@@ -1,4 +1,3 @@
-use Rattle.std.proofs.Common.{◌≡◌, ◌≢◌, rules}
 use Rattle.sqlite.specs.Held.{state}
 use Rattle.desk_tables.proofs.OpeningLemmas.{newer, no_number}
 use Rattle.desk_tables.proofs.opening.recognise.Goals as goal

@@ -1,4 +1,4 @@
-use Rattle.std.proofs.Common.{◌≡◌, [], ◌∷◌, None, sym, ap, subst, rules}
+use Rattle.std.proofs.Common.{◌≡◌, [], ◌∷◌, sym, subst, rules}
 use Rattle.sqlite.specs.Held.{state}
 use Rattle.sqlite.specs.State.{HasCleanDisk}
 use Rattle.desk_tables.specs.Kept.{IsKept}
@@ -22,4 +22,4 @@ returns-in-Ok-clause-empty g c clean =
 
 pub returns-in-Err-clause-left : goal.returns-in-Err-clause-left
 returns-in-Err-clause-left g c =
-    left_before (state g.S.Store c.args.conn) (state g.S.Store c.set_step_limit.new.self) (state g.S.Store c.create_tables.new.conn) (ap (state g.S.Store) c.set_step_limit.ensures) c.in-Err.ensures.created.err
+    left_before g.S.Store c.args.conn c.set_step_limit.new.self c.set_step_limit.ensures (state g.S.Store c.create_tables.new.conn) c.in-Err.ensures.created.err

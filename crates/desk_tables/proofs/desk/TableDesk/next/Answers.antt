@@ -1,7 +1,7 @@
 use Rattle.std.proofs.Common.{◌≡◌}
 use Rattle.std.specs.Prelude.{⊤}
 use Rattle.desk_store.specs.Store.{IsNext}
-use Rattle.desk_tables.specs.Kept.{content_seen, desk_seen}
+use Rattle.desk_tables.specs.Kept.{desk_seen}
 use Rattle.desk_tables.proofs.KeptLemmas.{noted, answers}
 use Rattle.desk_tables.proofs.desk.TableDesk.next.Goals as goal
 

@@ -1,8 +1,7 @@
-use Rattle.std.proofs.Common.{◌≡◌}
 use Rattle.desk_content.specs.Kept.{IsKeptContent}
 use Rattle.desk_content.specs.View.{desk_in}
 use Rattle.desk_store.specs.Store.{AreWaitingOn}
-use Rattle.desk_tables.specs.Kept.{content_seen, desk_seen}
+use Rattle.desk_tables.specs.Kept.{desk_seen}
 use Rattle.desk_tables.proofs.KeptLemmas.{noted, answers}
 use Rattle.desk_tables.proofs.desk.TableDesk.waiting_on.Goals as goal
 
