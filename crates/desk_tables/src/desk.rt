@@ -6,12 +6,10 @@ ghost use Rattle.sqlite.specs.State.{HasCleanDisk, Survives};
 ghost use Rattle.bug_record.specs.Sets.{Each};
 ghost use Rattle.bug_record.specs.Images.{AreApart, HasMember, FitsDesk};
 ghost use Rattle.desk_content.specs.Changes.{FitsContent, changed};
-ghost use Rattle.desk_content.specs.Kept.{IsKeptContent};
-ghost use Rattle.desk_schema.specs.Steps.{seen};
 ghost use Rattle.desk_store.specs.Store.{Holds, Asks, Answers, Applies, IsImageOf, IsNext, AreWaitingOn, faults_after, no_faults, total};
 ghost use Rattle.desk_text.specs.declared.outcome.StoreFault.TheVariants.{Foreign};
 ghost use Rattle.desk_tables.specs.Kept.{content_seen, desk_seen, IsKept};
-ghost use Rattle.desk_tables.specs.Shown.{HasContent, AreTablesOf};
+ghost use Rattle.desk_tables.specs.Shown.{AreTablesOf};
 
 use crate::calls::{ask_family, ask_next, ask_set_of, ask_waiting_on, change_sets};
 use crate::counts::Counts;
@@ -56,23 +54,6 @@ impl<S: Alter + Drop> Drop for TableDesk<S> {
 }
 
 impl<S: Alter> TableDesk<S> {
-    /// The desk that a connection shows, outside a transaction; nothing is read yet.
-    /// It is kept where the tables are a desk's and say what a desk keeps.
-    /// From now on no statement has a limit of steps.
-    pub fn over(alloc: Global, conn: Connection<S>) -> TableDesk<S>
-        requires autocommit { conn.in_transaction ≡ false }
-        ensures content { content_seen S.Store result.last.values ≡ seen (state S.Store conn) }
-        ensures kept { HasContent (seen (state S.Store conn)) (state S.Store conn) → IsKeptContent (seen (state S.Store conn)) →
-            IsKept S.Store result.last.values result.begun.values result.conn result.family }
-        ensures honest { HasCleanDisk (state S.Store conn) → HasCleanDisk (state S.Store result.conn) }
-        ensures counts { result.counts ≡ no_faults }
-    {
-        let mut conn = conn;
-        conn.set_step_limit(None);
-        let last = Seen::new().and(&conn);
-        TableDesk::found(alloc, conn, last)
-    }
-
     // The desk over a connection, with the content that was last seen.
     pub(crate) fn found(
         alloc: Global,
