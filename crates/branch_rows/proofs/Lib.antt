@@ -1,0 +1,4 @@
+pub mod NodeListLemmas
+pub mod GrownLemmas
+pub mod MissingLemmas
+pub mod FirstMarkLemmas

@@ -1,0 +1,18 @@
+-- The rows of nearest marks that are not there yet, as seen from some nodes.
+-- This project's own rule.
+use Rattle.std.specs.Prelude.{ℕ, ◌≡◌, ◌≤◌, List, None, is_some, if◌then◌else◌}
+use Rattle.line_words.specs.declared.named.TheConstants.{LARGEST_NUMBER}
+use Rattle.ancestry.specs.Nodes.{Node}
+use Rattle.ancestry.specs.Trees.{Ancestry, has_node}
+use Rattle.bug_record.specs.Sets.{Each}
+use Rattle.nearest_marks.specs.Nearest.{nearest_of}
+use Rattle.desk_content.specs.Content.{Content}
+use Rattle.desk_content.specs.Branches.{set_row_at, stand_once}
+use Rattle.desk_content.specs.declared.branches.SetNear.{SetNear}
+
+-- the rows are those of these nodes over the ancestry u that the content has not, each once
+pub record AreRowsOn (c : Content) (u : Ancestry) (nodes : List Node) (rows : List SetNear) : Type 0 where
+  pub once : stand_once rows
+  pub keys : Each (λ r. r.key ≤ LARGEST_NUMBER) rows
+  pub here : (k : ℕ) (v : Node) → set_row_at rows k v
+      ≡ (if has_node nodes v then (if is_some (c.near k v) then None else nearest_of u (c.found k) (c.fixed k) v) else None)
