@@ -1,11 +1,12 @@
 -- The rows of nearest marks that are not there yet, as seen from some nodes.
 -- This project's own rule.
-use Rattle.std.specs.Prelude.{ℕ, ◌≡◌, ◌≤◌, List, None, is_some, if◌then◌else◌}
+use Rattle.std.specs.Prelude.{ℕ, ◌≡◌, ◌≤◌, List, [], ◌∷◌, None, is_some, if◌then◌else◌}
 use Rattle.line_words.specs.declared.named.TheConstants.{LARGEST_NUMBER}
 use Rattle.ancestry.specs.Nodes.{Node}
 use Rattle.ancestry.specs.Trees.{Ancestry, has_node}
 use Rattle.bug_record.specs.Sets.{Each}
 use Rattle.nearest_marks.specs.Nearest.{nearest_of}
+use Rattle.nearest_marks.specs.declared.near.Near.{Near}
 use Rattle.desk_content.specs.Content.{Content}
 use Rattle.desk_content.specs.Branches.{set_row_at, stand_once}
 use Rattle.desk_content.specs.declared.branches.SetNear.{SetNear}
@@ -16,3 +17,12 @@ pub record AreRowsOn (c : Content) (u : Ancestry) (nodes : List Node) (rows : Li
   pub keys : Each (λ r. r.key ≤ LARGEST_NUMBER) rows
   pub here : (k : ℕ) (v : Node) → set_row_at rows k v
       ≡ (if has_node nodes v then (if is_some (c.near k v) then None else nearest_of u (c.found k) (c.fixed k) v) else None)
+
+-- the row of the set of k and a node
+abbrev pub set_near : ℕ → Node → Near → SetNear
+set_near k v near = record { key = k; row = record { node = v; near = near } }
+
+-- the rows of a node that the content has not, by the first mark of its line for each set
+abbrev pub new_rows : Content → Node → List (ℕ × Near) → List SetNear
+new_rows c v [] = []
+new_rows c v (m ∷ first) = if is_some (c.near m.0 v) then new_rows c v first else set_near m.0 v m.1 ∷ new_rows c v first

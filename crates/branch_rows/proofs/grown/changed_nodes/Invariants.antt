@@ -1,4 +1,4 @@
-use Rattle.std.proofs.Common.{◌≡◌, ◌++◌}
+use Rattle.std.proofs.Common.{◌≡◌}
 use Rattle.branch_rows.specs.Grown.{changed_of}
 use Rattle.branch_rows.proofs.grown.changed_nodes.Given as goal
 
