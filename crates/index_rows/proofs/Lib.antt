@@ -1,0 +1,6 @@
+pub mod AnyOrder
+pub mod AnswerRows
+pub mod ReadMarks
+pub mod ReadKeys
+pub mod NearKeys
+pub mod ReadNear
