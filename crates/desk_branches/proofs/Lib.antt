@@ -1,0 +1,3 @@
+pub mod MarkedLemmas
+pub mod RowSteps
+pub mod BranchSteps
