@@ -6,7 +6,8 @@ use Rattle.sqlite.specs.State.{HasCleanDisk, Survives}
 use Rattle.sqlite_trees.specs.declared.store.Store as store
 use Rattle.ancestry.specs.Trees.{Ancestry}
 use Rattle.bug_record.specs.Desk.{Desk}
-use Rattle.bug_record.specs.Images.{put}
+use Rattle.bug_record.specs.Images.{put, HasMember, IsSetOf}
+use Rattle.bug_record.specs.declared.bug.SetImage.{SetImage}
 use Rattle.bug_record.specs.declared.command.Change.{Change}
 use Rattle.desk_text.specs.declared.outcome.StoreFault.{StoreFault}
 use Rattle.desk_text.specs.declared.outcome.StoreFault.TheVariants.{Foreign}
@@ -17,6 +18,7 @@ use Rattle.desk_content.specs.View.{desk_in}
 use Rattle.desk_content.proofs.ChangeLemmas.{change_desk, change_kept}
 use Rattle.desk_content.proofs.ClosedLemmas.{put_nodes, no_nodes}
 use Rattle.desk_schema.specs.Steps.{seen}
+use Rattle.desk_lists.specs.Asked.{IsAskedFor}
 use Rattle.desk_store.specs.Store.{Answers}
 use Rattle.desk_tables.specs.Kept.{content_seen, desk_seen, IsKept}
 use Rattle.desk_tables.specs.Shown.{HasContent, AreTablesOf}
@@ -142,3 +144,11 @@ seen_kept g last begun was conn family is none no_family shows kept =
 pub no_tree : (family : Option Ancestry) (P : Ancestry → Type 0) → is_some family ≡ false → IfSome family P
 no_tree None P none = tt
 no_tree (Some t) P none = absurd (true≢false none)
+
+-- the tree that was read is the content's
+pub tree_seen : {S : Type 0} (g : store.Ghosts S) (last begun : List (Held S)) (conn : Held S) (family : Option Ancestry) (t : Ancestry) → family ≡ Some t → IsKept g last begun conn family → (content_seen g last).nodes ≡ t
+tree_seen g last begun conn family t is was = sym (subst (λ f. IfSome f (λ t. t ≡ (content_seen g last).nodes)) is was.tree)
+
+-- a set of the desk, in its tree
+pub is_asked : (t : Ancestry) (i : SetImage) (c : Content) → IsKeptContent c → HasMember i → IsSetOf (desk_in c) i → c.nodes ≡ t → IsAskedFor t i c
+is_asked t i c kept some set nodes = record { image = record { kept = kept; some = some; set = set }; nodes = nodes }

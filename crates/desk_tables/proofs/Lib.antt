@@ -1,3 +1,4 @@
 pub mod TransactionLemmas
 pub mod KeptLemmas
 pub mod OpeningLemmas
+pub mod BranchLemmas

@@ -1,8 +1,12 @@
 -- What a connection shows of a desk, between two calls.
-use Rattle.std.specs.Prelude.{◌≡◌, IsTrue}
+use Rattle.std.specs.Prelude.{◌≡◌, List, Ok, IsTrue}
 use Rattle.sqlite.specs.Effect.{IsDatabase}
 use Rattle.sqlite.specs.State.{State, HasCleanDisk}
 use Rattle.sqlite.specs.Tree.{Trees}
+use Rattle.ancestry.specs.Branches.{branched}
+use Rattle.ancestry.specs.Nodes.{Node}
+use Rattle.ancestry.specs.Trees.{Ancestry}
+use Rattle.desk_content.specs.Branches.{with_nodes}
 use Rattle.desk_content.specs.Content.{Content}
 use Rattle.desk_schema.specs.Tables.{desk_schema}
 use Rattle.desk_schema.specs.Rows.{content_of, AreShown}
@@ -24,3 +28,9 @@ pub record AreTablesOf (c : Content) (db : Trees) : Type 0 where
   pub sound : IsDatabase (record { schema = desk_schema; trees = db })
   pub shown : AreShown db
   pub content : content_of db ≡ c
+
+-- these trees, with the desk's schema, are a desk with this content over the ancestry after a branch
+pub record AreTablesAfter (c : Content) (nodes : List Node) (db : Trees) : Type 0 where
+  pub ancestry : Ancestry
+  pub taken : branched c.nodes nodes ≡ Ok ancestry
+  pub tables : AreTablesOf (with_nodes ancestry c) db

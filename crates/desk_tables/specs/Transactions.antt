@@ -1,16 +1,23 @@
 -- What a transaction over a connection comes to, whole.
-use Rattle.std.specs.Prelude.{◌≡◌, ◌≢◌, ◌⊎◌, ◌↔◌, ℕ, false, true, IsOk, Err, IfOk, IfErr, Result, IsTrue}
+use Rattle.std.specs.Prelude.{◌≡◌, ◌≢◌, ◌⊎◌, ◌↔◌, ℕ, false, true, List, IsOk, Ok, Err, IfOk, IfErr, Result, IsTrue}
 use Rattle.sqlite.specs.State.{State, HasCleanDisk, Survives, IsRolledBack}
 use Rattle.desk_text.specs.declared.outcome.StoreFault.{StoreFault}
 use Rattle.desk_text.specs.declared.outcome.StoreFault.TheVariants.{Foreign}
+use Rattle.ancestry.specs.Branches.{IsBranched}
+use Rattle.ancestry.specs.Nodes.{Node}
+use Rattle.ancestry.specs.Trees.{Ancestry}
+use Rattle.ancestry.specs.declared.fault.BranchFault.{BranchFault}
+use Rattle.desk_content.specs.Branches.{with_nodes}
 use Rattle.desk_content.specs.Content.{Content, no_content}
+use Rattle.desk_content.specs.Kept.{IsKeptContent}
 use Rattle.desk_schema.specs.Steps.{seen}
+use Rattle.desk_store.specs.Store.{IsRefusal}
 use Rattle.desk_making.specs.Names.{no_tables, has_desk_table}
 use Rattle.desk_making.specs.Number.{Says, SaysSchema}
 use Rattle.desk_making.specs.declared.number.SchemaRead.{SchemaRead}
 use Rattle.desk_making.specs.declared.number.SchemaRead.TheVariants.{Number}
 use Rattle.desk_tables.specs.Opening.{IsLeft, IsStoreFailure, IsReason}
-use Rattle.desk_tables.specs.Shown.{IsDesk, HasContent, AreTablesOf}
+use Rattle.desk_tables.specs.Shown.{IsDesk, HasContent, AreTablesOf, AreTablesAfter}
 use Rattle.desk_tables.specs.declared.open_fault.OpenFault.{OpenFault}
 use Rattle.desk_tables.specs.declared.open_fault.OpenFault.TheVariants.{Store, NotEmpty}
 
@@ -30,6 +37,22 @@ pub record IsChanged (old new : State) (result : Result (Unit {0}) StoreFault) (
   pub err : (c : Content) → HasContent c old → IfErr result (λ _. HasContent c new)
   pub sure : (c : Content) → HasCleanDisk new → HasContent c old → Fits c → IfErr result (λ fault. fault ≢ Foreign)
   pub crash : (c : Content) → (HasCleanDisk new → HasContent c old × Fits c) → Survives old new (AreTablesOf (after c))
+
+-- what a branch that was taken, or is refused, leaves of a connection that showed this content
+abbrev pub Follows : Ancestry → Content → State → Result (Unit {0}) BranchFault → Type 0
+Follows u c new (Ok done) = IsTrue new.is_open × IsDesk new × (seen new ≡ with_nodes u c)
+Follows u c new (Err refusal) = HasContent c new
+
+-- A branch over the ancestry t, which is u then: it is taken and committed, or refused, or there is a
+-- fault, and then the connection shows the same desk as before.
+-- A crash at any moment leaves what it would have left before, or the desk after the branch.
+pub record IsTaken (t u : Ancestry) (nodes : List Node) (old new : State) (result : Result (Result (Unit {0}) BranchFault) StoreFault) : Type 0 where
+  pub honest : HasCleanDisk new → HasCleanDisk old
+  pub answer : IfOk result (λ a. IsBranched t nodes a u × IsRefusal a)
+  pub ok : (c : Content) → HasCleanDisk new → HasContent c old → IsKeptContent c → c.nodes ≡ t → IfOk result (Follows u c new)
+  pub err : (c : Content) → HasContent c old → IfErr result (λ _. HasContent c new)
+  pub sure : (c : Content) → HasCleanDisk new → HasContent c old → IsKeptContent c → c.nodes ≡ t → IfErr result (λ fault. fault ≢ Foreign)
+  pub crash : (c : Content) → (HasCleanDisk new → HasContent c old × IsKeptContent c × (c.nodes ≡ t)) → Survives old new (AreTablesAfter c nodes)
 
 -- How a transaction ends: with a commit where its steps were done, and else undone.
 pub record Ends (mid new : State) (done result : Result (Unit {0}) StoreFault) : Type 0 where

@@ -7,16 +7,23 @@ ghost use Rattle.ancestry.specs.Trees.{IsForest};
 ghost use Rattle.desk_content.specs.Changes.{FitsContent, changed};
 ghost use Rattle.desk_content.specs.Kept.{IsKeptContent};
 ghost use Rattle.desk_content.specs.View.{desk_in};
-ghost use Rattle.desk_store.specs.Store.{IsImageOf, AreWaitingOn};
+ghost use Rattle.desk_store.specs.Store.{IsImageOf, AreWaitingOn, AreListed, IsOpenHead};
+ghost use Rattle.desk_lists.specs.Asked.{IsAskedFor};
+ghost use Rattle.branch_rows.specs.Grown.{IsGrown, unknown_of, roots_of, changed_of};
+ghost use Rattle.desk_content.specs.Branches.{with_nodes};
 ghost use Rattle.desk_making.specs.Names.{no_tables};
-ghost use Rattle.desk_tables.specs.Transactions.{IsAsked, IsChanged, IsMade, AsksSchema, Ends};
+ghost use Rattle.desk_tables.specs.Transactions.{IsAsked, IsChanged, IsTaken, IsMade, AsksSchema, Ends};
 
+use ancestry::{BranchFault, Node};
+use branch_rows::{OpenNodes, branches_grow, changed_nodes, open_nodes};
 use bug_record::{Change, Numbers, Sequence, SetImage};
 use desk_making::{SchemaRead, make_tables, read_schema};
+use desk_branches::put_branch;
+use desk_lists::{read_listed, read_open_head};
 use desk_reads::{read_set_of, read_waiting_on};
 use desk_schema::fault_of;
 use desk_steps::put_change;
-use desk_text::StoreFault;
+use desk_text::{ListRow, StoreFault};
 use nearest_marks::Family;
 use node_rows::{read_family, read_next};
 use sqlite::{Alter, Connection, Transaction};
@@ -112,6 +119,45 @@ pub(crate) fn ask_waiting_on<S: Alter>(
     }
 }
 
+// The bugs that are listed for a package at a node.
+pub(crate) fn ask_listed<S: Alter>(
+    alloc: Global,
+    conn: &mut Connection<S>,
+    package: &str,
+    node: &Node,
+) -> Result<Sequence<ListRow>, StoreFault>
+    requires autocommit { conn.old.in_transaction ≡ false }
+    requires unlimited { conn.old.step_limit ≡ None }
+    ensures autocommit { conn.new.in_transaction ≡ false }
+    ensures unlimited { conn.new.step_limit ≡ None }
+    ensures asked { IsAsked (state S.Store conn.old) (state S.Store conn.new) result IsKeptContent
+        (λ c rows. IsKeptContent c → AreListed (desk_in c) «package».now node.now rows) }
+{
+    let mut tx = conn.transaction();
+    let answer = read_listed(alloc, &mut tx, package, node);
+    tx.rollback();
+    answer
+}
+
+// The first head of the package of a set's bugs at which they are still found.
+pub(crate) fn ask_open_head<S: Alter>(
+    conn: &mut Connection<S>,
+    family: &Family,
+    image: &SetImage,
+) -> Result<Option<Node>, StoreFault>
+    requires autocommit { conn.old.in_transaction ≡ false }
+    requires unlimited { conn.old.step_limit ≡ None }
+    ensures autocommit { conn.new.in_transaction ≡ false }
+    ensures unlimited { conn.new.step_limit ≡ None }
+    ensures asked { IsAsked (state S.Store conn.old) (state S.Store conn.new) result (IsAskedFor family.now image.now)
+        (λ c head. IsAskedFor family.now image.now c → IsOpenHead (desk_in c) image.now head) }
+{
+    let mut tx = conn.transaction();
+    let answer = read_open_head(&mut tx, family, image);
+    tx.rollback();
+    answer
+}
+
 // The tree.
 pub(crate) fn ask_family<S: Alter>(
     alloc: Global,
@@ -164,6 +210,95 @@ pub(crate) fn change_sets<S: Alter>(
     let mut tx = conn.transaction();
     let done = put_change(alloc, &mut tx, family, change);
     finish(tx, done)
+}
+
+// The tables follow a branch that was taken, in which these nodes changed.
+fn put_changed<S: Alter>(
+    alloc: Global,
+    conn: &mut Connection<S>,
+    family: &Family,
+    changed: &[Node],
+) -> Result<(), StoreFault>
+    requires autocommit { conn.old.in_transaction ≡ false }
+    requires unlimited { conn.old.step_limit ≡ None }
+    ensures autocommit { conn.new.in_transaction ≡ false }
+    ensures unlimited { conn.new.step_limit ≡ None }
+    ensures changed { IsChanged (state S.Store conn.old) (state S.Store conn.new) result
+        (λ c. IsKeptContent c × IsGrown c.nodes family.now changed.now) (λ c. with_nodes family.now c) }
+{
+    let mut tx = conn.transaction();
+    let done = put_branch(alloc, &mut tx, family, changed);
+    finish(tx, done)
+}
+
+// The tables follow a branch that was taken, before which these nodes were open to change.
+fn put_open<S: Alter>(
+    alloc: Global,
+    conn: &mut Connection<S>,
+    family: &Family,
+    before: OpenNodes,
+) -> Result<(), StoreFault>
+    requires autocommit { conn.old.in_transaction ≡ false }
+    requires unlimited { conn.old.step_limit ≡ None }
+    ensures autocommit { conn.new.in_transaction ≡ false }
+    ensures unlimited { conn.new.step_limit ≡ None }
+    ensures changed { IsChanged (state S.Store conn.old) (state S.Store conn.new) result
+        (λ c. IsKeptContent c × IsGrown c.nodes family.now (changed_of family.now before.unknown.items before.roots.items))
+        (λ c. with_nodes family.now c) }
+{
+    match changed_nodes(family.tree(), before) {
+        Ok(changed) => put_changed(alloc, conn, family, changed.as_slice()),
+        Err(_) => Err(StoreFault::Memory),
+    }
+}
+
+// Takes a branch into the tree, before which these nodes are open to change, and into the tables.
+fn take_open<S: Alter>(
+    alloc: Global,
+    conn: &mut Connection<S>,
+    family: &mut Family,
+    nodes: &[Node],
+    before: OpenNodes,
+) -> Result<Result<(), BranchFault>, StoreFault>
+    requires autocommit { conn.old.in_transaction ≡ false }
+    requires unlimited { conn.old.step_limit ≡ None }
+    requires unknown { before.unknown.items ≡ unknown_of family.old nodes.now }
+    requires roots { before.roots.items ≡ roots_of family.old nodes.now }
+    requires forest { IsForest family.old }
+    ensures autocommit { conn.new.in_transaction ≡ false }
+    ensures unlimited { conn.new.step_limit ≡ None }
+    ensures taken { IsTaken family.old family.new nodes.now (state S.Store conn.old) (state S.Store conn.new) result }
+    ensures forest { IsForest family.new }
+{
+    branches_grow();
+    match family.take_branch(nodes) {
+        Ok(()) => match put_open(alloc, conn, family, before) {
+            Ok(()) => Ok(Ok(())),
+            Err(fault) => Err(fault),
+        },
+        Err(BranchFault::Memory) => Err(StoreFault::Memory),
+        Err(refusal) => Ok(Err(refusal)),
+    }
+}
+
+// Takes a branch into the tree and into the tables; after a fault the tree may be another one.
+pub(crate) fn take_nodes<S: Alter>(
+    alloc: Global,
+    conn: &mut Connection<S>,
+    family: &mut Family,
+    nodes: &[Node],
+) -> Result<Result<(), BranchFault>, StoreFault>
+    requires autocommit { conn.old.in_transaction ≡ false }
+    requires unlimited { conn.old.step_limit ≡ None }
+    ensures autocommit { conn.new.in_transaction ≡ false }
+    ensures unlimited { conn.new.step_limit ≡ None }
+    ensures taken { IsTaken family.old family.new nodes.now (state S.Store conn.old) (state S.Store conn.new) result }
+    ensures forest { IsForest family.new }
+{
+    match open_nodes(alloc, family.tree(), nodes) {
+        Ok(before) => take_open(alloc, conn, family, nodes, before),
+        Err(_) => Err(StoreFault::Memory),
+    }
 }
 
 // Makes the tables of a new desk, which gives `first` to its first bug, in a database with none.

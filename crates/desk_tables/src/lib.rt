@@ -1,8 +1,6 @@
 //! A desk that is kept in tables.
 //!
-//! So far `TableDesk` is created, opened and closed, answers sets of bugs, the next number and who
-//! waits on a bug, and carries out changes.
-//! Branches and lists come next, and then it is a `Records` of `desk_store`.
+//! `TableDesk` is created, opened and closed, and is a `Records` of `desk_store`.
 #![tactic(auto)]
 
 mod calls;
@@ -10,6 +8,7 @@ mod counts;
 mod desk;
 mod open_fault;
 mod opening;
+mod records;
 
 pub use desk::TableDesk;
 pub use open_fault::OpenFault;

@@ -3,7 +3,7 @@ use Rattle.desk_content.specs.View.{desk_in}
 use Rattle.desk_store.specs.Store.{IsImageOf}
 use Rattle.desk_tables.specs.Kept.{desk_seen}
 use Rattle.desk_tables.proofs.KeptLemmas.{noted, answers}
-use Rattle.desk_tables.proofs.desk.TableDesk.set_of.Goals as goal
+use Rattle.desk_tables.proofs.records.TableDeskRecords.set_of.Goals as goal
 
 pub returns-clause-answer : goal.returns-clause-answer
 returns-clause-answer g c =

@@ -3,7 +3,7 @@ use Rattle.std.specs.Prelude.{⊤}
 use Rattle.desk_store.specs.Store.{IsNext}
 use Rattle.desk_tables.specs.Kept.{desk_seen}
 use Rattle.desk_tables.proofs.KeptLemmas.{noted, answers}
-use Rattle.desk_tables.proofs.desk.TableDesk.next.Goals as goal
+use Rattle.desk_tables.proofs.records.TableDeskRecords.next.Goals as goal
 
 pub returns-clause-answer : goal.returns-clause-answer
 returns-clause-answer g c =

@@ -1,0 +1,170 @@
+-- What a branch comes to, and leaves of what is remembered.
+use Rattle.std.proofs.Common.{◌≡◌, ◌≢◌, List, [], ◌∷◌, Option, None, Some, Result, Ok, Err, IfOk, IfErr, arith, refl, sym, ap, subst, ◌∙◌}
+use Rattle.std.specs.Prelude.{⊤}
+use Rattle.sqlite.specs.Held.{Held, state}
+use Rattle.sqlite.specs.State.{State, HasCleanDisk, Survives}
+use Rattle.sqlite.proofs.StateLemmas.{survives_weaker}
+use Rattle.sqlite_trees.specs.declared.store.Store as store
+use Rattle.ancestry.specs.Branches.{branched, IsBranched}
+use Rattle.ancestry.specs.Nodes.{Node}
+use Rattle.ancestry.specs.Trees.{Ancestry, IsForest}
+use Rattle.ancestry.specs.declared.fault.BranchFault.{BranchFault}
+use Rattle.ancestry.specs.declared.fault.BranchFault.TheVariants.{EmptyBranch, Repeated, Conflict, TooLong, Memory}
+use Rattle.branch_rows.specs.Grown.{IsGrown}
+use Rattle.desk_text.specs.declared.outcome.StoreFault.{StoreFault}
+use Rattle.desk_text.specs.declared.outcome.StoreFault.TheVariants.{Foreign}
+use Rattle.desk_content.specs.Branches.{with_nodes}
+use Rattle.desk_content.specs.Content.{Content}
+use Rattle.desk_content.specs.Kept.{IsKeptContent}
+use Rattle.desk_content.specs.View.{desk_in}
+use Rattle.desk_content.proofs.QuestionLemmas.{branch_kept}
+use Rattle.desk_schema.specs.Steps.{seen}
+use Rattle.desk_schema.proofs.StepLemmas.{none, acts_none}
+use Rattle.desk_store.specs.Store.{Branches, IsRefusal}
+use Rattle.desk_tables.specs.Kept.{content_seen, desk_seen, IsKept}
+use Rattle.desk_tables.specs.Shown.{HasContent, AreTablesOf, AreTablesAfter}
+use Rattle.desk_tables.specs.Transactions.{IsChanged, IsTaken, Follows}
+
+abbrev pub Answer : Type 0
+Answer = Result (Result (Unit {0}) BranchFault) StoreFault
+
+-- ---- the tables follow
+
+abbrev pub GrowsTo : Ancestry → List Node → Content → Type 0
+GrowsTo u changed c = IsKeptContent c × IsGrown c.nodes u changed
+
+stays : (s : State) → Survives s s (λ _. ⊥)
+stays s = (acts_none s none (λ _. ⊤) (λ c d a. ⊤) (λ c. tt)).survives
+
+-- nothing was done
+pub changed_none : (s : State) (fault : StoreFault) (Fits : Content → Type 0) (after : Content → Content) → fault ≢ Foreign → IsChanged s s (Err fault) Fits after
+changed_none s fault Fits after other = record {
+  honest = λ clean. clean;
+  ok = λ c clean shows fits. tt;
+  err = λ c shows. shows;
+  sure = λ c clean shows fits. other;
+  crash = λ c both. survives_weaker s s _ _ (λ clean db none. absurd none) (stays s);
+}
+
+pub changed_same : (old new : State) (r : Result (Unit {0}) StoreFault) (u : Ancestry) (changed changed' : List Node) → changed ≡ changed'
+    → IsChanged old new r (GrowsTo u changed) (λ c. with_nodes u c) → IsChanged old new r (GrowsTo u changed') (λ c. with_nodes u c)
+changed_same old new r u changed changed' is h = subst (λ vs. IsChanged old new r (GrowsTo u vs) (λ c. with_nodes u c)) is h
+
+-- ---- a branch over the tree
+
+module _ (t u : Ancestry) (nodes changed : List Node) (old new : State) where
+  grows : (c : Content) → IsGrown t u changed → IsKeptContent c → c.nodes ≡ t → GrowsTo u changed c
+  grows c grown kept same = (kept, subst (λ n. IsGrown n u changed) (sym same) grown)
+
+  crashes : (r : Result (Unit {0}) StoreFault) → branched t nodes ≡ Ok u → IsGrown t u changed → IsChanged old new r (GrowsTo u changed) (λ c. with_nodes u c)
+      → (c : Content) → (HasCleanDisk new → HasContent c old × IsKeptContent c × (c.nodes ≡ t)) → Survives old new (AreTablesAfter c nodes)
+  crashes r is grown h c both =
+      survives_weaker old new _ _
+      (λ clean db p. record { ancestry = u; taken = subst (λ n. branched n nodes ≡ Ok u) (sym (both clean).2) is; tables = p })
+      (h.crash c (λ clean. let b = both clean in (b.0, grows c grown b.1 b.2)))
+
+  pub taken_ok : branched t nodes ≡ Ok u → IsGrown t u changed → IsChanged old new (Ok tt) (GrowsTo u changed) (λ c. with_nodes u c) → IsTaken t u nodes old new (Ok (Ok tt))
+  taken_ok is grown h = record {
+    honest = h.honest;
+    answer = (is, tt);
+    ok = λ c clean shows kept same. h.ok c clean shows (grows c grown kept same);
+    err = λ c shows. tt;
+    sure = λ c clean shows kept same. tt;
+    crash = crashes (Ok tt) is grown h;
+  }
+
+  pub taken_fault : (fault : StoreFault) → branched t nodes ≡ Ok u → IsGrown t u changed → IsChanged old new (Err fault) (GrowsTo u changed) (λ c. with_nodes u c) → IsTaken t u nodes old new (Err fault)
+  taken_fault fault is grown h = record {
+    honest = h.honest;
+    answer = tt;
+    ok = λ c clean shows kept same. tt;
+    err = λ c shows. h.err c shows;
+    sure = λ c clean shows kept same. h.sure c clean shows (grows c grown kept same);
+    crash = crashes (Err fault) is grown h;
+  }
+
+pub taken_none : (t u : Ancestry) (nodes : List Node) (s : State) (fault : StoreFault) → fault ≢ Foreign → IsTaken t u nodes s s (Err fault)
+taken_none t u nodes s fault other = record {
+  honest = λ clean. clean;
+  answer = tt;
+  ok = λ c clean shows kept same. tt;
+  err = λ c shows. shows;
+  sure = λ c clean shows kept same. other;
+  crash = λ c both. survives_weaker s s _ _ (λ clean db none. absurd none) (stays s);
+}
+
+pub taken_refused : (t u : Ancestry) (nodes : List Node) (s : State) (refusal : BranchFault) → IsBranched t nodes (Err refusal) u → IsRefusal (Err refusal) → IsTaken t u nodes s s (Ok (Err refusal))
+taken_refused t u nodes s refusal is other = record {
+  honest = λ clean. clean;
+  answer = (is, other);
+  ok = λ c clean shows kept same. shows;
+  err = λ c shows. tt;
+  sure = λ c clean shows kept same. tt;
+  crash = λ c both. survives_weaker s s _ _ (λ clean db none. absurd none) (stays s);
+}
+
+-- a refusal is why, and leaves the tree
+pub refusal_is : (t u : Ancestry) (nodes : List Node) (refusal : BranchFault) → IsBranched t nodes (Err refusal) u → IsRefusal (Err refusal) → (branched t nodes ≡ Err refusal) × (u ≡ t)
+refusal_is t u nodes EmptyBranch is other = is
+refusal_is t u nodes (Repeated place) is other = is
+refusal_is t u nodes (Conflict place) is other = is
+refusal_is t u nodes TooLong is other = is
+refusal_is t u nodes Memory is other = absurd other
+
+-- ---- what is remembered
+
+abbrev pub taken : Answer
+taken = Ok (Ok tt)
+
+abbrev pub refused : BranchFault → Answer
+refused refusal = Ok (Err refusal)
+
+abbrev pub faulty : StoreFault → Answer
+faulty fault = Err fault
+
+module _ {S : Type 0} (g : store.Ghosts S) (last begun : List (Held S)) (old new : Held S) (t u : Ancestry) (nodes : List Node) where
+  -- the tree is the content's
+  tree_is : IsKept g last begun old (Some t) → (content_seen g last).nodes ≡ t
+  tree_is was = sym was.tree
+
+  pub faulty_kept : (fault : StoreFault) → IsTaken t u nodes (state g old) (state g new) (faulty fault) → IsKept g last begun old (Some t) → IsKept g last begun new None
+  faulty_kept fault h was = record { now = h.err (content_seen g last) was.now; before = was.before; content = was.content; tree = tt }
+
+  pub never_foreign : (fault : StoreFault) → IsTaken t u nodes (state g old) (state g new) (faulty fault) → IsKept g last begun old (Some t) → HasCleanDisk (state g new) → fault ≢ Foreign
+  never_foreign fault h was clean = h.sure (content_seen g last) clean was.now was.content (tree_is was)
+
+  pub crashed : (r : Answer) → IsTaken t u nodes (state g old) (state g new) r → (HasCleanDisk (state g new) → IsKept g last begun old (Some t)) → Survives (state g old) (state g new) (AreTablesAfter (content_seen g last) nodes)
+  crashed r h was = h.crash (content_seen g last) (λ clean. let w = was clean in (w.now, w.content, tree_is w))
+
+  -- it was taken, and after it the connection was noted anew
+  module _ (last' begun' : List (Held S)) (h : IsTaken t u nodes (state g old) (state g new) taken) (forest : IsForest u) (is : last' ≡ new ∷ []) (none : begun' ≡ []) where
+    says : IsKept g last begun old (Some t) → HasCleanDisk (state g new) → content_seen g last' ≡ with_nodes u (content_seen g last)
+    says was clean = ap (content_seen g) is ∙ (h.ok (content_seen g last) clean was.now was.content (tree_is was)).2
+
+    pub taken_kept : IsKept g last begun old (Some t) → HasCleanDisk (state g new) → IsKept g last' begun' new (Some u)
+    taken_kept was clean =
+        let c = content_seen g last in
+        let now = says was clean in
+        subst (λ b. IsKept g last' b new (Some u)) (sym none) (record {
+          now = subst (λ l. HasContent (content_seen g l) (state g new)) (sym is) (λ clean' open'. ((h.ok c clean was.now was.content (tree_is was)).1, refl));
+          before = tt;
+          content = subst IsKeptContent (sym now) (branch_kept c u was.content forest);
+          tree = sym (ap (λ (k : Content). k.nodes) now);
+        })
+
+    pub taken_desk : IsKept g last begun old (Some t) → HasCleanDisk (state g new) → Branches (desk_seen g last) (desk_seen g last') taken nodes
+    taken_desk was clean =
+        subst (λ k. Branches (desk_seen g last) (desk_in k) taken nodes) (sym (says was clean))
+        (subst (λ n. branched n nodes ≡ Ok u) was.tree h.answer.0, refl)
+
+  -- it was refused
+  pub refused_kept : (refusal : BranchFault) → IsTaken t u nodes (state g old) (state g new) (refused refusal) → u ≡ t → IsKept g last begun old (Some t) → HasCleanDisk (state g new) → IsKept g last begun new (Some u)
+  refused_kept refusal h same was clean = record {
+    now = h.ok (content_seen g last) clean was.now was.content (tree_is was);
+    before = was.before;
+    content = was.content;
+    tree = same ∙ was.tree;
+  }
+
+  pub refused_desk : (refusal : BranchFault) → branched t nodes ≡ Err refusal → IsKept g last begun old (Some t) → Branches (desk_seen g last) (desk_seen g last) (refused refusal) nodes
+  refused_desk refusal is was = (subst (λ n. branched n nodes ≡ Err refusal) was.tree is, refl)

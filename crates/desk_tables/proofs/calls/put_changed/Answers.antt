@@ -1,0 +1,24 @@
+use Rattle.std.proofs.Common.{◌≡◌, rules, subst}
+use Rattle.sqlite.specs.Held.{state}
+use Rattle.desk_content.specs.Branches.{with_nodes}
+use Rattle.desk_content.specs.Content.{Content}
+use Rattle.desk_content.specs.Kept.{IsKeptContent}
+use Rattle.desk_schema.specs.Steps.{Acts}
+use Rattle.desk_schema.proofs.StepLemmas.{acts_weaker}
+use Rattle.branch_rows.specs.Grown.{IsGrown}
+use Rattle.desk_tables.specs.Transactions.{IsChanged}
+use Rattle.desk_tables.proofs.TransactionLemmas.{altered}
+use Rattle.desk_tables.proofs.calls.put_changed.Goals as goal
+
+pub returns-clause-changed : goal.returns-clause-changed
+returns-clause-changed g c =
+    let begun = c.transaction-tx.ensures.begun in
+    let u = c.args.family.now in
+    let same : c.finish.new.tx.0 ≡ c.conn-1.given.0 = search rules in
+    let Fits : Content → Type 0 = (λ k. IsKeptContent k × IsGrown k.nodes u c.args.changed.now) in
+    subst (λ h. IsChanged (state g.S.Store c.args.conn.now) (state g.S.Store h) c.finish.result Fits (λ k. with_nodes u k)) same
+    (altered (state g.S.Store c.args.conn.now) (state g.S.Store c.put_branch-done.new.tx.conn.now) (state g.S.Store c.finish.new.tx.0) c.put_branch-done.result c.finish.result Fits (λ k. with_nodes u k)
+    c.requires.unlimited
+    (acts_weaker _ _ c.put_branch-done.result Fits Fits (λ k d _. IsKeptContent k → IsGrown k.nodes u c.args.changed.now → d ≡ with_nodes u k) (λ k d _. Fits k → d ≡ with_nodes u k) (λ k f. f) (λ k d a p f. p f.0 f.1)
+    (rw begun at c.put_branch-done.ensures.acts))
+    (rw begun at c.put_branch-done.ensures.serves) c.finish.ensures.ends)
