@@ -13,7 +13,7 @@ use Rattle.desk_content.specs.declared.edit.Edit.{Edit}
 use Rattle.desk_schema.specs.Steps.{Acts, PlaysAll, Reads}
 use Rattle.desk_schema.proofs.StepLemmas.{acts_then}
 use Rattle.branch_rows.specs.Grown.{IsGrown}
-use Rattle.desk_branches.specs.Marked.{Makes}
+use Rattle.desk_branches.specs.Steps.{Makes}
 
 -- what holds of an answer that says more
 pub says : {A E : Type 0} (r : Result A E) (P Q : A → Type 0) → ((a : A) → P a → Q a) → IfOk r P → IfOk r Q

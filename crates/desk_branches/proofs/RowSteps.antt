@@ -23,7 +23,7 @@ use Rattle.desk_schema.specs.Steps.{Reads}
 use Rattle.desk_schema.proofs.StepLemmas.{acts_then}
 use Rattle.branch_rows.specs.Missing.{AreRowsOn, set_near, new_rows}
 use Rattle.branch_rows.proofs.RowLemmas.{rows_more}
-use Rattle.desk_branches.specs.Marked.{AddsRows}
+use Rattle.desk_branches.specs.Steps.{AddsRows}
 
 -- ---- the nodes
 

@@ -1,2 +1,3 @@
 -- definitions that only private functions cite
 pub mod Marked
+pub mod Steps

@@ -9,7 +9,7 @@ ghost use Rattle.desk_content.specs.Kept.{IsKeptContent};
 ghost use Rattle.desk_content.specs.Branches.{with_nodes, AreMissing};
 ghost use Rattle.branch_rows.specs.Grown.{IsGrown};
 ghost use Rattle.desk_schema.specs.Steps.{Acts, Reads, Serves};
-ghost use Rattle.desk_branches.specs.Marked.{Makes};
+ghost use Rattle.desk_branches.specs.Steps.{Makes};
 
 use crate::missing::read_missing;
 use ancestry::Node;

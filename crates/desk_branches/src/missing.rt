@@ -10,7 +10,7 @@ ghost use Rattle.desk_content.specs.Kept.{IsKeptContent};
 ghost use Rattle.branch_rows.specs.Grown.{IsGrown};
 ghost use Rattle.branch_rows.specs.Missing.{AreRowsOn};
 ghost use Rattle.desk_schema.specs.Steps.{Reads};
-ghost use Rattle.desk_branches.specs.Marked.{AddsRows};
+ghost use Rattle.desk_branches.specs.Steps.{AddsRows};
 
 use crate::first_marks::read_first_marks;
 use crate::new_rows::push_new_rows;

@@ -5,7 +5,7 @@ use Rattle.desk_content.specs.Kept.{IsKeptContent}
 use Rattle.desk_content.specs.Branches.{AreMissing}
 use Rattle.branch_rows.specs.Grown.{IsGrown}
 use Rattle.desk_schema.proofs.ReadSteps.{known_first, known_then, known_answer}
-use Rattle.desk_branches.specs.Marked.{Makes}
+use Rattle.desk_branches.specs.Steps.{Makes}
 use Rattle.desk_branches.proofs.BranchSteps.{says}
 use Rattle.desk_branches.proofs.branch.plan_branch.Goals as goal
 

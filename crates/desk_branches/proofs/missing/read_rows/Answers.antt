@@ -4,7 +4,7 @@ use Rattle.sqlite.specs.Held.{state}
 use Rattle.desk_content.specs.Kept.{IsKeptContent}
 use Rattle.branch_rows.specs.Missing.{AreRowsOn}
 use Rattle.desk_schema.proofs.ReadSteps.{known_then, known_weaker, known_answer}
-use Rattle.desk_branches.specs.Marked.{AddsRows}
+use Rattle.desk_branches.specs.Steps.{AddsRows}
 use Rattle.desk_branches.proofs.RowSteps.{one_node_more}
 use Rattle.desk_branches.proofs.missing.read_rows.Goals as goal
 
