@@ -1,0 +1,4 @@
+pub mod Asked
+-- definitions that only private functions cite
+pub mod Found
+pub mod Rows
