@@ -1,5 +1,5 @@
 -- What a branch comes to, and leaves of what is remembered.
-use Rattle.std.proofs.Common.{◌≡◌, ◌≢◌, List, [], ◌∷◌, Option, None, Some, Result, Ok, Err, IfOk, IfErr, arith, refl, sym, ap, subst, ◌∙◌}
+use Rattle.std.proofs.Common.{◌≡◌, ◌≢◌, List, [], ◌∷◌, None, Some, Result, Ok, Err, refl, sym, ap, subst, ◌∙◌}
 use Rattle.std.specs.Prelude.{⊤}
 use Rattle.sqlite.specs.Held.{Held, state}
 use Rattle.sqlite.specs.State.{State, HasCleanDisk, Survives}
@@ -18,12 +18,11 @@ use Rattle.desk_content.specs.Content.{Content}
 use Rattle.desk_content.specs.Kept.{IsKeptContent}
 use Rattle.desk_content.specs.View.{desk_in}
 use Rattle.desk_content.proofs.QuestionLemmas.{branch_kept}
-use Rattle.desk_schema.specs.Steps.{seen}
 use Rattle.desk_schema.proofs.StepLemmas.{none, acts_none}
 use Rattle.desk_store.specs.Store.{Branches, IsRefusal}
 use Rattle.desk_tables.specs.Kept.{content_seen, desk_seen, IsKept}
-use Rattle.desk_tables.specs.Shown.{HasContent, AreTablesOf, AreTablesAfter}
-use Rattle.desk_tables.specs.Transactions.{IsChanged, IsTaken, Follows}
+use Rattle.desk_tables.specs.Shown.{HasContent, AreTablesAfter}
+use Rattle.desk_tables.specs.Transactions.{IsChanged, IsTaken}
 
 abbrev pub Answer : Type 0
 Answer = Result (Result (Unit {0}) BranchFault) StoreFault

@@ -17,9 +17,9 @@ ghost use Rattle.desk_tables.specs.Transactions.{IsAsked, IsChanged, IsTaken, Is
 use ancestry::{BranchFault, Node};
 use branch_rows::{OpenNodes, branches_grow, changed_nodes, open_nodes};
 use bug_record::{Change, Numbers, Sequence, SetImage};
-use desk_making::{SchemaRead, make_tables, read_schema};
 use desk_branches::put_branch;
 use desk_lists::{read_listed, read_open_head};
+use desk_making::{SchemaRead, make_tables, read_schema};
 use desk_reads::{read_set_of, read_waiting_on};
 use desk_schema::fault_of;
 use desk_steps::put_change;

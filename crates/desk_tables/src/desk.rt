@@ -218,7 +218,10 @@ impl<S: Alter> TableDesk<S> {
     }
 
     // Reads the tree, where that is still to be done, and takes a branch.
-    pub(crate) fn load_and_take(&mut self, nodes: &[Node]) -> Result<Result<(), BranchFault>, StoreFault>
+    pub(crate) fn load_and_take(
+        &mut self,
+        nodes: &[Node],
+    ) -> Result<Result<(), BranchFault>, StoreFault>
         ensures answer { Holds (λ d. IsKept S.Store d.last.values d.begun.values d.conn d.family) (λ d. HasCleanDisk (state S.Store d.conn)) self.old self.new
             (Branches (desk_seen S.Store self.old.last.values) (desk_seen S.Store self.new.last.values) result nodes.now) }
         ensures refusal { IfOk result IsRefusal }

@@ -18,4 +18,4 @@ returns-clause-asked g c =
     (λ k head. Fits k → IsOpenHead (desk_in k) image head)) same
     (asked (state g.S.Store c.args.conn.now) (state g.S.Store c.read_open_head-answer.new.tx.conn.now) (state g.S.Store c.rollback.new.self.0) c.read_open_head-answer.result Fits
     (λ k head. Fits k → IsOpenHead (desk_in k) image head)
-    c.requires.unlimited (rw begun at c.read_open_head-answer.ensures.reads) (rw begun at c.read_open_head-answer.ensures.serves) c.rollback.ensures.undone c.rollback.ensures.survives)
+    c.requires.unlimited (rw begun at c.read_open_head-answer.ensures.acts) (rw begun at c.read_open_head-answer.ensures.serves) c.rollback.ensures.undone c.rollback.ensures.survives)

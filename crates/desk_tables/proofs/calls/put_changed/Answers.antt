@@ -3,7 +3,6 @@ use Rattle.sqlite.specs.Held.{state}
 use Rattle.desk_content.specs.Branches.{with_nodes}
 use Rattle.desk_content.specs.Content.{Content}
 use Rattle.desk_content.specs.Kept.{IsKeptContent}
-use Rattle.desk_schema.specs.Steps.{Acts}
 use Rattle.desk_schema.proofs.StepLemmas.{acts_weaker}
 use Rattle.branch_rows.specs.Grown.{IsGrown}
 use Rattle.desk_tables.specs.Transactions.{IsChanged}

@@ -1,4 +1,4 @@
-use Rattle.std.proofs.Common.{◌≡◌, sym, ◌∙◌}
+use Rattle.std.proofs.Common.{◌∙◌}
 use Rattle.sqlite.specs.Held.{state}
 use Rattle.branch_rows.specs.Grown.{changed_of}
 use Rattle.desk_tables.proofs.BranchLemmas.{changed_same}

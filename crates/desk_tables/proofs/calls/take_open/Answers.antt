@@ -1,6 +1,5 @@
-use Rattle.std.proofs.Common.{◌≡◌, sym, ap, subst}
 use Rattle.sqlite.specs.Held.{state}
-use Rattle.branch_rows.specs.Grown.{IsGrown, unknown_of, roots_of, changed_of}
+use Rattle.branch_rows.specs.Grown.{IsGrown, changed_of}
 use Rattle.desk_tables.proofs.BranchLemmas.{taken_ok, taken_fault}
 use Rattle.desk_tables.proofs.calls.take_open.Goals as goal
 
@@ -10,7 +9,7 @@ returns-in-Ok-put_open-clause-taken g c =
     let u = c.take_branch.new.self in
     let nodes = c.args.nodes.now in
     let grown : IsGrown t u (changed_of u c.args.before.unknown.items c.args.before.roots.items) =
-        rw c.requires.unknown (rw c.requires.roots (c.branches_grow.ensures t u nodes c.requires.forest c.in-Ok.ensures.forest c.in-Ok.ensures.extends c.in-Ok.ensures.known)) in
+    rw c.requires.unknown (rw c.requires.roots (c.branches_grow.ensures t u nodes c.requires.forest c.in-Ok.ensures.forest c.in-Ok.ensures.extends c.in-Ok.ensures.known)) in
     taken_ok t u nodes (changed_of u c.args.before.unknown.items c.args.before.roots.items) (state g.S.Store c.args.conn.now) (state g.S.Store c.put_open.new.conn) c.in-Ok.ensures.exact grown c.in-Ok-put_open.ensures.changed
 
 pub returns-in-Ok-clause-taken : goal.returns-in-Ok-clause-taken
@@ -19,5 +18,5 @@ returns-in-Ok-clause-taken g c =
     let u = c.take_branch.new.self in
     let nodes = c.args.nodes.now in
     let grown : IsGrown t u (changed_of u c.args.before.unknown.items c.args.before.roots.items) =
-        rw c.requires.unknown (rw c.requires.roots (c.branches_grow.ensures t u nodes c.requires.forest c.in-Ok.ensures.forest c.in-Ok.ensures.extends c.in-Ok.ensures.known)) in
+    rw c.requires.unknown (rw c.requires.roots (c.branches_grow.ensures t u nodes c.requires.forest c.in-Ok.ensures.forest c.in-Ok.ensures.extends c.in-Ok.ensures.known)) in
     taken_fault t u nodes (changed_of u c.args.before.unknown.items c.args.before.roots.items) (state g.S.Store c.args.conn.now) (state g.S.Store c.put_open.new.conn) c.in-Err-put_open.fault c.in-Ok.ensures.exact grown c.in-Err-put_open.ensures.changed

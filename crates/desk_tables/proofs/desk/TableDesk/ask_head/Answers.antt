@@ -1,4 +1,3 @@
-use Rattle.std.proofs.Common.{◌≡◌, Some, sym, subst}
 use Rattle.sqlite.specs.Held.{state}
 use Rattle.sqlite.specs.State.{HasCleanDisk}
 use Rattle.desk_lists.specs.Asked.{IsAskedFor}
@@ -13,10 +12,10 @@ returns-in-Some-clause-answer g c =
     let last = c.args.self.now.last.values in
     let image = c.args.image.now in
     let all = noted g.S.Store last c.args.self.now.begun.values c.and-self.result.values c.args.self.now.conn c.ask_open_head.new.conn c.args.self.now.family c.ask_open_head.result
-        (IsAskedFor c.in-Some.family image)
-        (λ k head. IsAskedFor c.in-Some.family image k → IsOpenHead (desk_in k) image head) c.ask_open_head.ensures.asked c.and-self.ensures in
+    (IsAskedFor c.in-Some.family image)
+    (λ k head. IsAskedFor c.in-Some.family image k → IsOpenHead (desk_in k) image head) c.ask_open_head.ensures.asked c.and-self.ensures in
     let asked_for = (λ (was : IsKept g.S.Store last c.args.self.now.begun.values c.args.self.now.conn c.args.self.now.family) (clean : HasCleanDisk (state g.S.Store c.args.self.now.conn)).
-        is_asked c.in-Some.family image (content_seen g.S.Store last) was.content c.requires.member (c.requires.set was clean) (tree_seen g.S.Store last c.args.self.now.begun.values c.args.self.now.conn c.args.self.now.family c.in-Some.family c.in-Some.is was)) in
+    is_asked c.in-Some.family image (content_seen g.S.Store last) was.content c.requires.member (c.requires.set was clean) (tree_seen g.S.Store last c.args.self.now.begun.values c.args.self.now.conn c.args.self.now.family c.in-Some.family c.in-Some.is was)) in
     record {
       holds = record {
         honest = all.honest;
@@ -32,8 +31,8 @@ returns-in-Some-clause-sure g c =
     let last = c.args.self.now.last.values in
     let image = c.args.image.now in
     let all = noted g.S.Store last c.args.self.now.begun.values c.and-self.result.values c.args.self.now.conn c.ask_open_head.new.conn c.args.self.now.family c.ask_open_head.result
-        (IsAskedFor c.in-Some.family image)
-        (λ k head. IsAskedFor c.in-Some.family image k → IsOpenHead (desk_in k) image head) c.ask_open_head.ensures.asked c.and-self.ensures in
+    (IsAskedFor c.in-Some.family image)
+    (λ k head. IsAskedFor c.in-Some.family image k → IsOpenHead (desk_in k) image head) c.ask_open_head.ensures.asked c.and-self.ensures in
     let asked_for = (λ (was : IsKept g.S.Store last c.args.self.now.begun.values c.args.self.now.conn c.args.self.now.family) (clean : HasCleanDisk (state g.S.Store c.args.self.now.conn)).
-        is_asked c.in-Some.family image (content_seen g.S.Store last) was.content c.requires.member (c.requires.set was clean) (tree_seen g.S.Store last c.args.self.now.begun.values c.args.self.now.conn c.args.self.now.family c.in-Some.family c.in-Some.is was)) in
+    is_asked c.in-Some.family image (content_seen g.S.Store last) was.content c.requires.member (c.requires.set was clean) (tree_seen g.S.Store last c.args.self.now.begun.values c.args.self.now.conn c.args.self.now.family c.in-Some.family c.in-Some.is was)) in
     λ was clean. all.never (asked_for was (all.honest clean)) was clean

@@ -1,4 +1,4 @@
-use Rattle.std.proofs.Common.{◌≡◌, [], ◌∷◌, Err, None, Some, refl, sym, subst, ◌∙◌, rules}
+use Rattle.std.proofs.Common.{◌≡◌, [], ◌∷◌, Err, refl, sym, subst, ◌∙◌, rules}
 use Rattle.desk_tables.specs.Kept.{IsKept}
 use Rattle.desk_tables.proofs.BranchLemmas.{faulty, taken, refused, faulty_kept, taken_kept, taken_desk, refused_kept, refused_desk, refusal_is, crashed}
 use Rattle.desk_tables.proofs.desk.TableDesk.take.Goals as goal
