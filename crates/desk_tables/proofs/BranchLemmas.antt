@@ -1,5 +1,5 @@
 -- What a branch comes to, and leaves of what is remembered.
-use Rattle.std.proofs.Common.{◌≡◌, ◌≢◌, List, [], ◌∷◌, None, Some, Result, Ok, Err, refl, sym, ap, subst, ◌∙◌}
+use Rattle.std.proofs.Common.{◌≡◌, ◌≢◌, List, [], ◌∷◌, None, Some, Result, Ok, Err, IsTrue, refl, sym, ap, subst, ◌∙◌}
 use Rattle.std.specs.Prelude.{⊤}
 use Rattle.sqlite.specs.Held.{Held, state}
 use Rattle.sqlite.specs.State.{State, HasCleanDisk, Survives}
@@ -59,7 +59,7 @@ module _ (t u : Ancestry) (nodes changed : List Node) (old new : State) where
       → (c : Content) → (HasCleanDisk new → HasContent c old × IsKeptContent c × (c.nodes ≡ t)) → Survives old new (AreTablesAfter c nodes)
   crashes r is grown h c both =
       survives_weaker old new _ _
-      (λ clean db p. record { ancestry = u; taken = subst (λ n. branched n nodes ≡ Ok u) (sym (both clean).2) is; tables = p })
+      (λ clean db p. record { ancestry = u; taken = subst (λ n. branched n nodes ≡ Ok u) (sym (both clean).2) is; forest = grown.forest; tables = p })
       (h.crash c (λ clean. let b = both clean in (b.0, grows c grown b.1 b.2)))
 
   pub taken_ok : branched t nodes ≡ Ok u → IsGrown t u changed → IsChanged old new (Ok tt) (GrowsTo u changed) (λ c. with_nodes u c) → IsTaken t u nodes old new (Ok (Ok tt))
@@ -150,6 +150,9 @@ module _ {S : Type 0} (g : store.Ghosts S) (last begun : List (Held S)) (old new
           content = subst IsKeptContent (sym now) (branch_kept c u was.content forest);
           tree = sym (ap (λ (k : Content). k.nodes) now);
         })
+
+    pub taken_serves : IsKept g last begun old (Some t) → HasCleanDisk (state g new) → IsTrue (state g new).is_open
+    taken_serves was clean = (h.ok (content_seen g last) clean was.now was.content (tree_is was)).0
 
     pub taken_desk : IsKept g last begun old (Some t) → HasCleanDisk (state g new) → Branches (desk_seen g last) (desk_seen g last') taken nodes
     taken_desk was clean =

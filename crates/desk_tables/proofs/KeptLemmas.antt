@@ -1,5 +1,5 @@
 -- What a question and a change leave of what is remembered.
-use Rattle.std.proofs.Common.{◌≡◌, ◌≢◌, List, [], ◌∷◌, ◌++◌, Option, None, Some, is_some, false, true≢false, Result, Ok, Err, IfOk, IfErr, IfSome, arith, refl, sym, ap, subst, ◌∙◌}
+use Rattle.std.proofs.Common.{◌≡◌, ◌≢◌, List, [], ◌∷◌, ◌++◌, Option, None, Some, is_some, false, true≢false, Result, Ok, Err, IfOk, IfErr, IfSome, IsTrue, arith, refl, sym, ap, subst, ◌∙◌}
 use Rattle.std.specs.List.{AllByRecursion}
 use Rattle.sqlite.specs.Held.{Held, state}
 use Rattle.sqlite.specs.State.{HasCleanDisk, Survives}
@@ -105,6 +105,9 @@ module _ {S : Type 0} (g : store.Ghosts S) (last begun : List (Held S)) (old new
   module _ (last' begun' : List (Held S)) (changes : IsChanged (state g old) (state g new) made (FitsOver t change) (λ c. changed c change)) (is : last' ≡ new ∷ []) (none : begun' ≡ []) where
     says : IsKept g last begun old (Some t) → FitsContent (content_seen g last) change → HasCleanDisk (state g new) → content_seen g last' ≡ changed (content_seen g last) change
     says was fits clean = ap (content_seen g) is ∙ (changes.ok (content_seen g last) clean was.now (fits_here was fits)).2
+
+    pub taken_serves : IsKept g last begun old (Some t) → FitsContent (content_seen g last) change → HasCleanDisk (state g new) → IsTrue (state g new).is_open
+    taken_serves was fits clean = (changes.ok (content_seen g last) clean was.now (fits_here was fits)).0
 
     pub taken_kept : IsKept g last begun old (Some t) → FitsContent (content_seen g last) change → HasCleanDisk (state g new) → IsKept g last' begun' new (Some t)
     taken_kept was fits clean =

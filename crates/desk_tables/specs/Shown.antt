@@ -5,7 +5,7 @@ use Rattle.sqlite.specs.State.{State, HasCleanDisk}
 use Rattle.sqlite.specs.Tree.{Trees}
 use Rattle.ancestry.specs.Branches.{branched}
 use Rattle.ancestry.specs.Nodes.{Node}
-use Rattle.ancestry.specs.Trees.{Ancestry}
+use Rattle.ancestry.specs.Trees.{Ancestry, IsForest}
 use Rattle.desk_content.specs.Branches.{with_nodes}
 use Rattle.desk_content.specs.Content.{Content}
 use Rattle.desk_schema.specs.Tables.{desk_schema}
@@ -33,4 +33,5 @@ pub record AreTablesOf (c : Content) (db : Trees) : Type 0 where
 pub record AreTablesAfter (c : Content) (nodes : List Node) (db : Trees) : Type 0 where
   pub ancestry : Ancestry
   pub taken : branched c.nodes nodes ≡ Ok ancestry
+  pub forest : IsForest ancestry
   pub tables : AreTablesOf (with_nodes ancestry c) db

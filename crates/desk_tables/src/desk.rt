@@ -1,6 +1,6 @@
 //! The desk over a connection.
 
-ghost use Rattle.std.specs.Prelude.{◌≡◌, ◌≢◌, ◌++◌, ◌∷◌, [], List, false, Err, None, IfOk, IfErr, OnOk, is_some, true, Result};
+ghost use Rattle.std.specs.Prelude.{◌≡◌, ◌≢◌, ◌++◌, ◌∷◌, [], List, false, Err, None, IfOk, IfErr, OnOk, IsTrue, is_some, true, Result};
 ghost use Rattle.sqlite.specs.Held.{state};
 ghost use Rattle.sqlite.specs.State.{HasCleanDisk, Survives};
 ghost use Rattle.bug_record.specs.Images.{HasMember, IsSetOf};
@@ -124,6 +124,8 @@ impl<S: Alter> TableDesk<S> {
             (Applies (desk_seen S.Store self.old.last.values) (desk_seen S.Store self.new.last.values) result change.now) }
         ensures sure { IsKept S.Store self.old.last.values self.old.begun.values self.old.conn self.old.family → HasCleanDisk (state S.Store self.new.conn) →
             IfErr result (λ fault. fault ≢ Foreign) }
+        ensures serves { IsKept S.Store self.old.last.values self.old.begun.values self.old.conn self.old.family → HasCleanDisk (state S.Store self.new.conn) →
+            OnOk result (IsTrue (state S.Store self.new.conn).is_open) }
         ensures crash { (HasCleanDisk (state S.Store self.new.conn) → IsKept S.Store self.old.last.values self.old.begun.values self.old.conn self.old.family) →
             Survives (state S.Store self.old.conn) (state S.Store self.new.conn) (AreTablesOf (changed (content_seen S.Store self.old.last.values) change.now)) }
         ensures counts { self.new.counts ≡ self.old.counts }
@@ -145,6 +147,8 @@ impl<S: Alter> TableDesk<S> {
             (Applies (desk_seen S.Store self.old.last.values) (desk_seen S.Store self.new.last.values) result change.now) }
         ensures sure { IsKept S.Store self.old.last.values self.old.begun.values self.old.conn self.old.family → HasCleanDisk (state S.Store self.new.conn) →
             IfErr result (λ fault. fault ≢ Foreign) }
+        ensures serves { IsKept S.Store self.old.last.values self.old.begun.values self.old.conn self.old.family → HasCleanDisk (state S.Store self.new.conn) →
+            OnOk result (IsTrue (state S.Store self.new.conn).is_open) }
         ensures crash { IsKept S.Store self.old.last.values self.old.begun.values self.old.conn self.old.family →
             Survives (state S.Store self.old.conn) (state S.Store self.new.conn) (AreTablesOf (changed (content_seen S.Store self.old.last.values) change.now)) }
         ensures counts { self.new.counts ≡ self.old.counts }
@@ -165,6 +169,7 @@ impl<S: Alter> TableDesk<S> {
         ensures sure { IsKept S.Store self.old.last.values self.old.begun.values self.old.conn self.old.family → HasCleanDisk (state S.Store self.new.conn) →
             IfErr result (λ fault. fault ≢ Foreign) }
         ensures last { self.new.last.values ≡ self.old.last.values }
+        ensures survives { Survives (state S.Store self.old.conn) (state S.Store self.new.conn) (λ _. ⊥) }
         ensures counts { self.new.counts ≡ self.old.counts }
     {
         self.begun = self.begun.and(&self.conn);
@@ -183,6 +188,7 @@ impl<S: Alter> TableDesk<S> {
             (Answers (desk_seen S.Store self.old.last.values) (desk_seen S.Store self.new.last.values) result (IsOpenHead (desk_seen S.Store self.old.last.values) image.now)) }
         ensures sure { IsKept S.Store self.old.last.values self.old.begun.values self.old.conn self.old.family → HasCleanDisk (state S.Store self.new.conn) →
             IfErr result (λ fault. fault ≢ Foreign) }
+        ensures survives { Survives (state S.Store self.old.conn) (state S.Store self.new.conn) (λ _. ⊥) }
         ensures counts { self.new.counts ≡ self.old.counts }
     {
         self.load()?;
@@ -198,6 +204,8 @@ impl<S: Alter> TableDesk<S> {
         ensures refusal { IfOk result IsRefusal }
         ensures sure { IsKept S.Store self.old.last.values self.old.begun.values self.old.conn self.old.family → HasCleanDisk (state S.Store self.new.conn) →
             IfErr result (λ fault. fault ≢ Foreign) }
+        ensures serves { IsKept S.Store self.old.last.values self.old.begun.values self.old.conn self.old.family → HasCleanDisk (state S.Store self.new.conn) →
+            IfOk result (λ taken. OnOk taken (IsTrue (state S.Store self.new.conn).is_open)) }
         ensures crash { (HasCleanDisk (state S.Store self.new.conn) → IsKept S.Store self.old.last.values self.old.begun.values self.old.conn self.old.family) →
             Survives (state S.Store self.old.conn) (state S.Store self.new.conn) (AreTablesAfter (content_seen S.Store self.old.last.values) nodes.now) }
         ensures counts { self.new.counts ≡ self.old.counts }
@@ -227,6 +235,8 @@ impl<S: Alter> TableDesk<S> {
         ensures refusal { IfOk result IsRefusal }
         ensures sure { IsKept S.Store self.old.last.values self.old.begun.values self.old.conn self.old.family → HasCleanDisk (state S.Store self.new.conn) →
             IfErr result (λ fault. fault ≢ Foreign) }
+        ensures serves { IsKept S.Store self.old.last.values self.old.begun.values self.old.conn self.old.family → HasCleanDisk (state S.Store self.new.conn) →
+            IfOk result (λ taken. OnOk taken (IsTrue (state S.Store self.new.conn).is_open)) }
         ensures crash { IsKept S.Store self.old.last.values self.old.begun.values self.old.conn self.old.family →
             Survives (state S.Store self.old.conn) (state S.Store self.new.conn) (AreTablesAfter (content_seen S.Store self.old.last.values) nodes.now) }
         ensures counts { self.new.counts ≡ self.old.counts }

@@ -1,6 +1,8 @@
 //! The desk over a connection as a store.
+//!
+//! A crash at any moment of a question leaves what it would have left before.
 
-ghost use Rattle.std.specs.Prelude.{◌≡◌, ◌≢◌, IfOk, IfErr, ⊤};
+ghost use Rattle.std.specs.Prelude.{◌≡◌, ◌≢◌, IfOk, IfErr, OnOk, IsTrue, ⊤};
 ghost use Rattle.sqlite.specs.Held.{state};
 ghost use Rattle.sqlite.specs.State.{HasCleanDisk, Survives};
 ghost use Rattle.bug_record.specs.Sets.{Each};
@@ -38,6 +40,7 @@ impl<S: Alter> Records for TableDesk<S> {
         ensures sure { IsKept S.Store self.old.last.values self.old.begun.values self.old.conn self.old.family → HasCleanDisk (state S.Store self.new.conn) →
             IfErr result (λ fault. fault ≢ Foreign) }
         ensures count { self.new.counts ≡ faults_after result self.old.counts }
+        ensures crash { Survives (state S.Store self.old.conn) (state S.Store self.new.conn) (λ _. ⊥) }
     {
         self.begun = self.begun.and(&self.conn);
         let answer = ask_set_of(self.alloc, &mut self.conn, number);
@@ -51,6 +54,7 @@ impl<S: Alter> Records for TableDesk<S> {
         ensures sure { IsKept S.Store self.old.last.values self.old.begun.values self.old.conn self.old.family → HasCleanDisk (state S.Store self.new.conn) →
             IfErr result (λ fault. fault ≢ Foreign) }
         ensures count { self.new.counts ≡ faults_after result self.old.counts }
+        ensures crash { Survives (state S.Store self.old.conn) (state S.Store self.new.conn) (λ _. ⊥) }
     {
         self.begun = self.begun.and(&self.conn);
         let answer = ask_next(&mut self.conn);
@@ -66,6 +70,7 @@ impl<S: Alter> Records for TableDesk<S> {
         ensures sure { IsKept S.Store self.old.last.values self.old.begun.values self.old.conn self.old.family → HasCleanDisk (state S.Store self.new.conn) →
             IfErr result (λ fault. fault ≢ Foreign) }
         ensures count { self.new.counts ≡ faults_after result self.old.counts }
+        ensures crash { Survives (state S.Store self.old.conn) (state S.Store self.new.conn) (λ _. ⊥) }
     {
         self.begun = self.begun.and(&self.conn);
         let answer = ask_waiting_on(self.alloc, &mut self.conn, number);
@@ -82,6 +87,7 @@ impl<S: Alter> Records for TableDesk<S> {
         ensures sure { IsKept S.Store self.old.last.values self.old.begun.values self.old.conn self.old.family → HasCleanDisk (state S.Store self.new.conn) →
             IfErr result (λ fault. fault ≢ Foreign) }
         ensures count { self.new.counts ≡ faults_after result self.old.counts }
+        ensures crash { Survives (state S.Store self.old.conn) (state S.Store self.new.conn) (λ _. ⊥) }
     {
         self.begun = self.begun.and(&self.conn);
         let answer = ask_listed(self.alloc, &mut self.conn, package, node);
@@ -100,6 +106,7 @@ impl<S: Alter> Records for TableDesk<S> {
         ensures sure { IsKept S.Store self.old.last.values self.old.begun.values self.old.conn self.old.family → HasCleanDisk (state S.Store self.new.conn) →
             IfErr result (λ fault. fault ≢ Foreign) }
         ensures count { self.new.counts ≡ faults_after result self.old.counts }
+        ensures crash { Survives (state S.Store self.old.conn) (state S.Store self.new.conn) (λ _. ⊥) }
     {
         let answer = self.load_and_ask_head(image);
         self.counts.note(answer)
@@ -108,6 +115,7 @@ impl<S: Alter> Records for TableDesk<S> {
     /// Carries a change out, in one step.
     /// Of the change it asks that each image has a member, and, of kept tables over an honest disk,
     /// that no bug is in two images, and that it covers whole sets and leaves a sound desk.
+    /// Once it has answered `Ok` the change is committed: a crash between two calls leaves it.
     /// A crash at any moment of the call leaves what it would have left before, or the desk after
     /// the change.
     fn apply(&mut self, change: &Change) -> Result<(), StoreFault>
@@ -121,6 +129,8 @@ impl<S: Alter> Records for TableDesk<S> {
         ensures sure { IsKept S.Store self.old.last.values self.old.begun.values self.old.conn self.old.family → HasCleanDisk (state S.Store self.new.conn) →
             IfErr result (λ fault. fault ≢ Foreign) }
         ensures count { self.new.counts ≡ faults_after result self.old.counts }
+        ensures serves { IsKept S.Store self.old.last.values self.old.begun.values self.old.conn self.old.family → HasCleanDisk (state S.Store self.new.conn) →
+            OnOk result (IsTrue (state S.Store self.new.conn).is_open) }
         ensures crash { IsKept S.Store self.old.last.values self.old.begun.values self.old.conn self.old.family →
             Survives (state S.Store self.old.conn) (state S.Store self.new.conn) (AreTablesOf (changed (content_seen S.Store self.old.last.values) change.now)) }
     {
@@ -131,6 +141,7 @@ impl<S: Alter> Records for TableDesk<S> {
     /// Takes a branch, a list of 1 to 200 nodes of which each is based on the next.
     /// The inner answer is why the branch is refused, never for being out of memory; then, and
     /// after a fault, all is as before.
+    /// Once it is taken the branch is committed: a crash between two calls leaves it.
     /// A crash at any moment of the call leaves what it would have left before, or the desk after
     /// the branch.
     fn branch(&mut self, nodes: &[Node]) -> Result<Result<(), BranchFault>, StoreFault>
@@ -140,6 +151,8 @@ impl<S: Alter> Records for TableDesk<S> {
         ensures sure { IsKept S.Store self.old.last.values self.old.begun.values self.old.conn self.old.family → HasCleanDisk (state S.Store self.new.conn) →
             IfErr result (λ fault. fault ≢ Foreign) }
         ensures count { self.new.counts ≡ faults_after result self.old.counts }
+        ensures serves { IsKept S.Store self.old.last.values self.old.begun.values self.old.conn self.old.family → HasCleanDisk (state S.Store self.new.conn) →
+            IfOk result (λ taken. OnOk taken (IsTrue (state S.Store self.new.conn).is_open)) }
         ensures crash { IsKept S.Store self.old.last.values self.old.begun.values self.old.conn self.old.family →
             Survives (state S.Store self.old.conn) (state S.Store self.new.conn) (AreTablesAfter (content_seen S.Store self.old.last.values) nodes.now) }
     {

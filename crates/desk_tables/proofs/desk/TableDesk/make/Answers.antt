@@ -1,6 +1,6 @@
 use Rattle.std.proofs.Common.{◌≡◌, [], ◌∷◌, Err, refl, sym, subst, rules}
 use Rattle.desk_tables.specs.Kept.{IsKept}
-use Rattle.desk_tables.proofs.KeptLemmas.{stayed, taken_kept, taken_desk, crashed, made, refused}
+use Rattle.desk_tables.proofs.KeptLemmas.{stayed, taken_kept, taken_desk, taken_serves, crashed, made, refused}
 use Rattle.desk_tables.proofs.desk.TableDesk.make.Goals as goal
 
 pub returns-in_err-change_sets-in-Some-clause-answer : goal.returns-in_err-change_sets-in-Some-clause-answer
@@ -44,3 +44,10 @@ returns-clause-crash g c = λ was.
     let changes = c.in_ok-change_sets-in-Some.ensures.changed in
     crashed g.S.Store c.args.self.now.last.values c.args.self.now.begun.values c.args.self.now.conn c.change_sets.new.conn c.in-Some.family c.args.change.now made changes
     (λ clean. (subst (λ f. IsKept g.S.Store c.args.self.now.last.values c.args.self.now.begun.values c.args.self.now.conn f) c.in-Some.is (was clean), c.requires.fits (was clean) (changes.honest clean)))
+
+pub returns-clause-serves : goal.returns-clause-serves
+returns-clause-serves g c = λ was clean.
+    let changes = c.in_ok-change_sets-in-Some.ensures.changed in
+    let is : c.and-self.result.values ≡ c.change_sets.new.conn ∷ [] = search rules in
+    taken_serves g.S.Store c.args.self.now.last.values c.args.self.now.begun.values c.args.self.now.conn c.change_sets.new.conn c.in-Some.family c.args.change.now c.and-self.result.values c.new-self.result.values changes is c.new-self.ensures
+    (subst (λ f. IsKept g.S.Store c.args.self.now.last.values c.args.self.now.begun.values c.args.self.now.conn f) c.in-Some.is was) (c.requires.fits was (changes.honest clean)) clean
