@@ -1,0 +1,10 @@
+//! Tests of desks in tables, over files in memory, that crash between two calls or right after one
+//! and are opened again; what they are asked of is proved, and here it runs.
+#![tactic(auto)]
+
+#[cfg(test)]
+mod crashes;
+#[cfg(test)]
+mod desks;
+#[cfg(test)]
+mod stops;

@@ -1,0 +1,93 @@
+-- What is opened over trees that hold a desk.
+use Rattle.std.proofs.Common.{◌≡◌, Option, None, Some, inl, inr, IfSome, IsTrue, refl, sym, ap, subst, ◌∙◌}
+use Rattle.sqlite.specs.Effect.{Database, IsDatabase}
+use Rattle.sqlite.specs.Held.{Held, state}
+use Rattle.sqlite.specs.State.{State, HasCleanDisk, Opens, IsLive, Survives}
+use Rattle.sqlite_catalog.proofs.ReadLemmas.{lists_once}
+use Rattle.sqlite_catalog.specs.Listing.{Lists}
+use Rattle.sqlite_trees.specs.Objects.{catalog_tree}
+use Rattle.sqlite_trees.specs.Tree.{Trees}
+use Rattle.sqlite_trees.specs.declared.store.Store as store
+use Rattle.desk_content.specs.Content.{Content}
+use Rattle.desk_content.specs.Kept.{IsKeptContent}
+use Rattle.desk_content.specs.View.{desk_in}
+use Rattle.desk_schema.specs.Tables.{desk_schema}
+use Rattle.desk_schema.specs.Rows.{content_of, AreShown}
+use Rattle.desk_schema.specs.Steps.{seen}
+use Rattle.desk_tables.specs.Kept.{content_seen, desk_seen}
+use Rattle.desk_tables.specs.Opening.{unlimited}
+use Rattle.desk_tables.specs.Shown.{IsDesk, HasContent, AreTablesOf}
+use Rattle.desk_tables.specs.declared.desk.TableDesk.{TableDesk}
+use Rattle.desk_crashes.specs.Settled.{HasHonestDisk, HasKeptTables, IsSettled, IsOpenedOver}
+
+-- a database that lists the desk's schema has it
+pub shows_held : (s : State) (trees : Trees) (c : Content) → Opens s → IsLive s → s.committed.trees ≡ trees → AreTablesOf c trees
+    → IsDesk s × (seen s ≡ c)
+shows_held s trees c opens live is tables =
+    let now : s.now.trees ≡ trees = ap (λ (d : Database). d.trees) opens.clean ∙ is in
+    let sound = (live opens.is_open).0 in
+    let listed : Lists (s.now.trees catalog_tree) desk_schema = subst (λ (t : Trees). Lists (t catalog_tree) desk_schema) (sym now) tables.sound.lists in (
+      record {
+        settled = opens.clean;
+        schema = lists_once (s.now.trees catalog_tree) s.now.schema desk_schema sound.lists listed;
+        sound = sound;
+        shown = subst AreShown (sym now) tables.shown;
+      },
+      ap content_of now ∙ tables.content,
+    )
+
+-- what was committed of a desk are its tables
+pub committed_tables : (s : State) (c : Content) → IsDesk s × (seen s ≡ c) → AreTablesOf c s.committed.trees
+committed_tables s c shown =
+    let same : s.now.trees ≡ s.committed.trees = ap (λ (d : Database). d.trees) shown.0.settled in
+    record {
+      sound = subst (λ (t : Trees). IsDatabase (record { schema = desk_schema; trees = t })) same
+          (subst (λ k. IsDatabase (record { schema = k; trees = s.now.trees })) shown.0.schema shown.0.sound);
+      shown = subst AreShown same shown.0.shown;
+      content = sym (ap content_of same) ∙ shown.1;
+    }
+
+-- While a store is open, a crash leaves its last commit.
+abbrev pub Settles : {S : Type 0} → store.Ghosts S → Type 0
+Settles {S} g = (s : S) (db : Trees) → IsTrue (g.view s).is_open → g.recovers s db → db ≡ (g.view s).committed
+
+module _ {S : Type 0} (g : store.Ghosts S) where
+  -- the desk that is opened over a connection is the one that its last commit left
+  pub opened_over : Settles g → (conn : Held S) (t : TableDesk S g) → Opens (state g conn) → IsLive (state g conn)
+      → content_seen g t.last.values ≡ seen (state g conn)
+      → (HasContent (seen (state g conn)) (state g conn) → IsKeptContent (seen (state g conn)) → HasKeptTables g t)
+      → Survives (unlimited (state g conn)) (state g t.conn) (λ _. ⊥)
+      → HasHonestDisk g t
+      → IsOpenedOver g (state g conn).committed.trees t
+  opened_over settles conn t opens live content kept survives honest c tables good =
+      let trees = (state g conn).committed.trees in
+      let shown = shows_held (state g conn) trees c opens live refl tables in
+      record {
+        kept = kept (λ clean served. (shown.0, refl)) (subst IsKeptContent (sym shown.1) good);
+        desk = ap desk_in (content ∙ shown.1);
+        trees = trees;
+        tables = subst (λ k. AreTablesOf k trees) (sym (content ∙ shown.1)) tables;
+        left = λ db may. elim (survives.crash honest db may) [ inl before ↦ settles conn.store db opens.is_open before | inr none ↦ absurd none ];
+      }
+
+  -- a desk that serves is settled
+  pub serving_settled : Settles g → (t : TableDesk S g) → HasKeptTables g t → HasHonestDisk g t → IsTrue (state g t.conn).is_open → IsSettled g (desk_seen g t.last.values) t
+  serving_settled settles t kept honest served = record {
+    kept = kept;
+    desk = refl;
+    trees = (state g t.conn).committed.trees;
+    tables = committed_tables (state g t.conn) (content_seen g t.last.values) (kept.now honest served);
+    left = λ db may. settles t.conn.store db served may;
+  }
+
+  -- what is opened over a connection is opened over the trees of its store
+  pub opened_store : (o : Option (TableDesk S g)) (conn : Held S) (trees : Trees) → (HasCleanDisk (state g conn) → Opens (state g conn) × IsLive (state g conn))
+      → (HasCleanDisk (state g conn) → (state g conn).now.trees ≡ trees)
+      → IfSome o (λ again. HasHonestDisk g again → HasCleanDisk (state g conn))
+      → IfSome o (λ again. HasHonestDisk g again → IsOpenedOver g (state g conn).committed.trees again)
+      → IfSome o (λ again. HasHonestDisk g again → IsOpenedOver g trees again)
+  opened_store None conn trees opens same clean opened = tt
+  opened_store (Some again) conn trees opens same clean opened = λ honest.
+      let here = clean honest in
+      let is : (state g conn).committed.trees ≡ trees = sym (ap (λ (d : Database). d.trees) (opens here).0.clean) ∙ same here in
+      subst (λ t. IsOpenedOver g t again) is (opened honest)
