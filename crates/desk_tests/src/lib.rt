@@ -1,7 +1,7 @@
-//! Tests of what data can't show: readers and writers in pieces and failing, stores that fail,
-//! which sets are written, calls that no program makes, requests that are cut at each byte,
-//! statuses that are told, and connections and a server on the loopback, both of whose ends are in
-//! one thread: clients connect and send before they are accepted.
+//! Tests of what data can't show of HTTP exchanges and servers: readers and writers in pieces and
+//! failing, stores that fail, requests that are cut at each byte, statuses that are told, and
+//! connections and a server on the loopback, both of whose ends are in one thread: clients connect
+//! and send before they are accepted.
 #![tactic(auto)]
 
 #[cfg(test)]
@@ -15,15 +15,7 @@ mod exchange_faults;
 #[cfg(test)]
 mod exchanges;
 #[cfg(test)]
-mod fails;
-#[cfg(test)]
-mod faults;
-#[cfg(test)]
-mod lines;
-#[cfg(test)]
 mod loopback;
-#[cfg(test)]
-mod messages;
 #[cfg(test)]
 mod paces;
 #[cfg(test)]
@@ -31,16 +23,6 @@ mod port;
 #[cfg(test)]
 mod reads;
 #[cfg(test)]
-mod scripts;
-#[cfg(test)]
 mod statuses;
-#[cfg(test)]
-mod stores;
-#[cfg(test)]
-mod streams;
-#[cfg(test)]
-mod texts;
-#[cfg(test)]
-mod waiting;
 #[cfg(test)]
 mod writes;

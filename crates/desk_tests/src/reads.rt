@@ -1,9 +1,9 @@
 //! Exchanges over a reader that fails.
 
 use crate::exchanges::{EXCHANGES, desk_after, is_after};
-use crate::streams::Feed;
 use desk_http::{ServeFault, Served, serve_one};
 use std::alloc::Global;
+use test_streams::Feed;
 
 // Whether an exchange ends as it has to where the read after so many fails: nothing is written and
 // nothing changes, or no read has failed and the exchange is whole.

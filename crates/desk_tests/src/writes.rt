@@ -1,9 +1,9 @@
 //! Exchanges over a writer that fails, or takes one byte at a time.
 
 use crate::exchanges::{EXCHANGES, desk_after, is_after};
-use crate::streams::{Failure, Sink};
 use desk_http::{ServeFault, Served, serve_one};
 use std::alloc::Global;
+use test_streams::{Failure, Sink};
 
 // Whether the bytes are the first ones of the answer, but not all.
 fn is_front(taken: &[u8], answer: &[u8]) -> bool {

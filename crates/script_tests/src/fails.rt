@@ -1,7 +1,7 @@
 //! A store that fails once, at any of its calls, in any way.
 
 ghost use Rattle.std.specs.Prelude.{◌≡◌, ◌⊎◌, ◌||◌, true, false, Err};
-ghost use Rattle.desk_tests.specs.Fails.{faults_with};
+ghost use Rattle.script_tests.specs.Fails.{faults_with};
 
 use ancestry::{BranchFault, Node};
 use bug_record::{Change, Numbers, Sequence, SetImage};

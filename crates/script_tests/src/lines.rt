@@ -1,11 +1,11 @@
 //! Lines in the pieces that readers give, bytes in the pieces that writers take, and their faults.
 
-use crate::streams::{Failure, Feed, Pieces, Sink};
 use desk_lines::{Piece, ScriptFault, Source, next_line, split_lines, write_out};
 use std::alloc::{AllocError, Global};
 use std::io::Read;
 use std::process::Abort;
 use std::test::Fail;
+use test_streams::{Failure, Feed, Pieces, Sink};
 
 fn shown(piece: &Piece) -> (&str, &str) {
     match piece {

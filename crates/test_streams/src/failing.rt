@@ -5,7 +5,7 @@ use std::io::{self, ErrorKind, Read, Write};
 /// Gives at most so many bytes a read.
 /// The read after so many is interrupted; later ones would go on, and are counted.
 #[derive(Drop)]
-pub(crate) struct Feed<'a> {
+pub struct Feed<'a> {
     left: &'a [u8],
     piece: usize,
     good_reads: usize,
@@ -47,25 +47,9 @@ impl Read for Feed<'_> {
     }
 }
 
-/// Gives these bytes at each read, and counts the reads.
-#[derive(Drop)]
-pub(crate) struct Pieces<'a> {
-    pub piece: &'a [u8],
-    pub reads: u64,
-}
-
-impl Read for Pieces<'_> {
-    fn read(&mut self, buf: &mut [u8]) -> io::Result<usize> {
-        self.reads = self.reads.saturating_add(1);
-        let len = self.piece.len().min(buf.len());
-        buf[..len].copy_from_slice(&self.piece[..len]);
-        Ok(len)
-    }
-}
-
 /// How a writer fails.
 #[derive(Clone, Copy)]
-pub(crate) enum Failure {
+pub enum Failure {
     /// It is interrupted.
     Interrupted,
     /// It takes no byte.
@@ -75,7 +59,7 @@ pub(crate) enum Failure {
 /// Takes at most so many bytes a write.
 /// The write after so many fails; later ones would go on, and are counted.
 #[derive(Drop)]
-pub(crate) struct Sink {
+pub struct Sink {
     pub taken: Vec<u8>,
     piece: usize,
     good_writes: usize,

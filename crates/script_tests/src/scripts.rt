@@ -1,19 +1,19 @@
 //! Scripts over readers and writers that fail.
 
-use crate::streams::{Failure, Feed, Sink};
 use desk_run::{ScriptEnd, ScriptFault, run_script};
 use desk_store::{PlainDesk, Records};
 use std::alloc::{AllocError, Global};
 use std::test::Fail;
+use test_streams::{Failure, Feed, Sink};
 
 // Three bugs that are merged, and of which one is taken out.
-const SCRIPT: &str =
+pub(crate) const SCRIPT: &str =
     "@from ann\n@report foo 1 normal a\n@report foo 1 normal b\n@report foo 1 normal c\n\
     merge 1 2 3\nunmerge 1\nseverity 2 minor\nunmerge 1\nretitle 2 z\n";
 
-const REPORTED: &str = "OK 1\nOK 2\nOK 3\n";
+pub(crate) const REPORTED: &str = "OK 1\nOK 2\nOK 3\n";
 
-const WRITTEN: &str =
+pub(crate) const WRITTEN: &str =
     "OK 1\nOK 2\nOK 3\n> merge 1 2 3\nOK 1 2 3\n> unmerge 1\nOK 1 2 3\n> severity 2 minor\nOK 2 3\n\
     > unmerge 1\nNO bug 1 is not merged\n> retitle 2 z\nOK 2\n";
 

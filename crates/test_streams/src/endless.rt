@@ -1,0 +1,51 @@
+//! Readers that never end.
+
+use std::io::{self, Read};
+
+/// Gives these bytes at each read, and counts the reads.
+#[derive(Drop)]
+pub struct Pieces<'a> {
+    pub piece: &'a [u8],
+    pub reads: u64,
+}
+
+impl Read for Pieces<'_> {
+    fn read(&mut self, buf: &mut [u8]) -> io::Result<usize> {
+        self.reads = self.reads.saturating_add(1);
+        let len = self.piece.len().min(buf.len());
+        buf[..len].copy_from_slice(&self.piece[..len]);
+        Ok(len)
+    }
+}
+
+/// Gives one of these bytes a read, round and round, and counts the reads.
+/// Of no bytes it gives none.
+#[derive(Drop)]
+pub struct Round<'a> {
+    all: &'a [u8],
+    left: &'a [u8],
+    pub reads: u64,
+}
+
+impl<'a> Round<'a> {
+    pub fn new(all: &'a [u8]) -> Round<'a> {
+        Round {
+            all,
+            left: all,
+            reads: 0,
+        }
+    }
+}
+
+impl Read for Round<'_> {
+    fn read(&mut self, buf: &mut [u8]) -> io::Result<usize> {
+        self.reads = self.reads.saturating_add(1);
+        if self.left.is_empty() {
+            self.left = self.all;
+        }
+        let len = self.left.len().min(buf.len()).min(1);
+        buf[..len].copy_from_slice(&self.left[..len]);
+        self.left = &self.left[len..];
+        Ok(len)
+    }
+}
