@@ -1,2 +1,3 @@
 pub mod WrittenLemmas
 pub mod ServerLemmas
+pub mod FileLemmas

@@ -1,17 +1,24 @@
 -- How the program ends: exit statuses, and what is said on the error output.
 -- This project's own rule.
-use Rattle.std.specs.Prelude.{ℕ, ◌<◌, ◌++◌, Bool, true, false, List, [], length, take, codes, decimal, Option, Result, Ok, Err}
+use Rattle.std.specs.Prelude.{ℕ, ◌<◌, ◌++◌, Bool, true, false, List, [], length, take, codes, decimal, Option, Result, Ok, Err, if◌then◌else◌}
 use Rattle.std.specs.Io.KnownBytes.{Appends}
 use Rattle.desk_text.specs.declared.outcome.StoreFault.{StoreFault}
 use Rattle.desk_text.specs.declared.outcome.StoreFault.TheVariants as stores
+use Rattle.desk_text.specs.declared.outcome.End.{End}
+use Rattle.desk_text.specs.declared.outcome.End.TheVariants as messages
+use Rattle.desk_store.specs.Message.{Entry}
 use Rattle.desk_lines.specs.declared.fault.ScriptFault.{ScriptFault}
 use Rattle.desk_lines.specs.declared.fault.ScriptFault.TheVariants as scripts
+use Rattle.desk_run.specs.Script.{refuses}
 use Rattle.desk_run.specs.declared.script.ScriptEnd.{ScriptEnd}
 use Rattle.desk_run.specs.declared.script.ScriptEnd.TheVariants as ends
 use Rattle.desk_server.specs.declared.port.ServerFault.{ServerFault}
 use Rattle.desk_server.specs.declared.port.ServerFault.TheVariants as servers
+use Rattle.desk_tables.specs.declared.open_fault.OpenFault.{OpenFault}
+use Rattle.desk_tables.specs.declared.open_fault.OpenFault.TheVariants as openings
 use Rattle.bts_jobs.specs.declared.ending.Cause.{Cause}
-use Rattle.bts_jobs.specs.declared.ending.Cause.TheVariants.{Memory, Input, Output, NotUtf8, LineTooLong, Store, ServedStore, Port, NoStores}
+use Rattle.bts_jobs.specs.declared.ending.Cause.TheVariants.{Memory, Input, Output, NotUtf8, LineTooLong, Store, ServedStore, Port}
+use Rattle.bts_jobs.specs.declared.ending.Cause.TheVariants.{NoFile, InUse, NotADesk, NewerSchema, NotEmpty, CannotOpen}
 use Rattle.bts_jobs.specs.declared.ending.JobEnd.{JobEnd}
 use Rattle.bts_jobs.specs.declared.ending.JobEnd.TheVariants.{Done, Refused, BadWords, Fault}
 
@@ -44,6 +51,19 @@ end_of_server port (Err servers.Bind) = Fault (Port port)
 end_of_server port (Err servers.Write) = Fault Output
 end_of_server port (Err servers.Store) = Fault ServedStore
 
+-- How the job of a message ends that came to these outcomes and this end: a refusal, or too many
+-- lines that could not be read, refuse it.
+abbrev pub end_of_message : List Entry → End → JobEnd
+end_of_message outcomes (messages.Store fault line) = Fault (Store fault)
+end_of_message outcomes last = if refuses outcomes last then Refused else Done
+
+-- why a database is not opened as a desk's, or made one
+abbrev pub cause_of_opening : OpenFault → Cause
+cause_of_opening openings.NotADesk = NotADesk
+cause_of_opening (openings.NewerSchema number) = NewerSchema number
+cause_of_opening (openings.Store fault) = Store fault
+cause_of_opening openings.NotEmpty = NotEmpty
+
 abbrev pub store_line : StoreFault → List ℕ
 store_line stores.Memory = codes "bts: the store failed: memory\n"
 store_line stores.Device = codes "bts: the store failed: device\n"
@@ -60,7 +80,13 @@ cause_line (LineTooLong line) = codes "bts: line " ++ (decimal line ++ codes ": 
 cause_line (Store fault) = store_line fault
 cause_line ServedStore = codes "bts: the store failed while it was served\n"
 cause_line (Port port) = codes "bts: port " ++ (decimal port ++ codes " can't be listened on\n")
-cause_line NoStores = codes "bts: no store can be opened yet\n"
+cause_line NoFile = codes "bts: the store's file is not there\n"
+cause_line InUse = codes "bts: the store's file is in use by another process\n"
+cause_line NotADesk = codes "bts: the store's file is no desk\n"
+cause_line (NewerSchema number) =
+    codes "bts: the store's file has the schema " ++ (decimal number ++ codes " of a later version\n")
+cause_line NotEmpty = codes "bts: the store's file holds a desk already\n"
+cause_line CannotOpen = codes "bts: the store's file can't be opened\n"
 
 -- what is said of an end: two lines of bad words and of a fault
 abbrev pub complaint_of : JobEnd → List ℕ

@@ -1,25 +1,35 @@
 -- What the jobs do.
 -- This project's own rule.
-use Rattle.std.specs.Prelude.{ℕ, ◌≡◌, List, Option, None, Result, Err}
+use Rattle.std.specs.Prelude.{ℕ, ◌≡◌, ◌⊎◌, ◌<◌, ◌≤◌, [], List, length, take, codes, Option, None, Some, Result, Err, OnOk}
 use Rattle.std.specs.Io.KnownBytes.{Appends}
+use Rattle.sqlite_disk.specs.declared.start.Start.{Ghosts}
+use Rattle.sqlite_wal.specs.Files.{image_at}
+use Rattle.line_words.specs.declared.named.TheConstants.{LARGEST_NUMBER}
 use Rattle.bug_record.specs.Desk.{Desk}
-use Rattle.desk_store.specs.Store.{no_faults}
+use Rattle.bug_record.specs.Texts.{IsText}
+use Rattle.desk_text.specs.declared.outcome.End.{End}
+use Rattle.desk_store.specs.Store.{Faults, Holds, no_faults}
+use Rattle.desk_store.specs.Message.{Entry, IsReceived, faults_after_end}
 use Rattle.desk_places.specs.Plain.{empty_desk}
-use Rattle.desk_lines.specs.Reading.{Known}
+use Rattle.desk_lines.specs.Reading.{Known, Left}
 use Rattle.desk_lines.specs.declared.fault.ScriptFault.{ScriptFault}
+use Rattle.desk_lines.specs.declared.fault.ScriptFault.TheVariants.{Read}
+use Rattle.desk_messages.specs.Transcripts.{IsLineOf, received_text}
 use Rattle.desk_run.specs.Script.{begin}
-use Rattle.desk_run.specs.Running.{Ends}
+use Rattle.desk_run.specs.Running.{Ends, IsCounted, IsReadInPart}
 use Rattle.desk_run.specs.declared.script.ScriptEnd.{ScriptEnd}
 use Rattle.desk_server.specs.Port.{Serves, place_line}
 use Rattle.desk_server.specs.declared.port.ServerFault.{ServerFault}
-use Rattle.desk_server.specs.declared.port.ServerFault.TheVariants.{Bind}
+use Rattle.desk_server.specs.declared.port.ServerFault.TheVariants.{Bind, Write}
 use Rattle.job_words.specs.declared.job.Job.{Job}
-use Rattle.job_words.specs.declared.job.Job.TheVariants.{Run, Serve}
-use Rattle.desk_server.specs.Serving.{State, IsInTurn}
-use Rattle.bts_jobs.specs.Endings.{end_of_script, end_of_server}
-use Rattle.bts_jobs.specs.declared.ending.Cause.TheVariants.{NoStores}
+use Rattle.job_words.specs.declared.job.Job.TheVariants.{Run, Init, Serve, Send}
+use Rattle.desk_server.specs.Serving.{State, IsInTurn, IsServing}
+use Rattle.bts_jobs.specs.Endings.{end_of_script, end_of_server, end_of_message}
+use Rattle.bts_jobs.specs.InFile.{FileDesk, desk_in_file, IsKeptInFile, HasHonestFile, faults_in_file, IsOpenedInFile, IsNewInFile, IsOpenCause, IsInitCause}
+use Rattle.bts_jobs.specs.declared.ending.Cause.{Cause}
+use Rattle.bts_jobs.specs.declared.ending.Cause.TheVariants.{Memory, Output}
 use Rattle.bts_jobs.specs.declared.ending.JobEnd.{JobEnd}
-use Rattle.bts_jobs.specs.declared.ending.JobEnd.TheVariants.{Fault}
+use Rattle.bts_jobs.specs.declared.ending.JobEnd.TheVariants.{Done, BadWords, Fault}
 
 -- The script of this input was run over an empty desk whose first number is 1, and ended so.
 -- A desk in memory counts no fault, since it fails only where there is no memory.
@@ -55,9 +65,100 @@ pub record IsServer (port count : ℕ) (c0 c1 : Option (List ℕ)) (end : JobEnd
 abbrev pub EndsAtOnce : JobEnd → Option (List ℕ) → Option (List ℕ) → JobEnd → Type 0
 EndsAtOnce wanted c0 c1 end = (end ≡ wanted) × (c1 ≡ c0)
 
--- What a job does, where these bytes are left to read, if they are known.
--- A job with a store is a fault, for there are no stores in files yet.
-abbrev pub IsJobDone : Job → Option (List ℕ) → Option (List ℕ) → Option (List ℕ) → JobEnd → Type 0
-IsJobDone (Run None) r0 c0 c1 end = Known r0 (λ input. IsRun input c0 c1 end)
-IsJobDone (Serve None port count) r0 c0 c1 end = IsServer port count c0 c1 end
-IsJobDone job r0 c0 c1 end = EndsAtOnce (Fault NoStores) c0 c1 end
+-- this text was written, or a front of it, not all, which is a fault
+abbrev pub GivesText : List ℕ → Option (List ℕ) → Option (List ℕ) → JobEnd → Type 0
+GivesText text c0 c1 end = ((end ≡ Done) × Appends c0 c1 text)
+    ⊎ ((end ≡ Fault Output) × ((n : ℕ) × (n < length text) × Appends c0 c1 (take n text)))
+
+-- A job over a store, whatever it is, which is old as the job begins and new as it ends.
+module _ {S : Type 0} (is_kept is_honest : S → Type 0) (desk : S → Desk) (faults : S → Faults) where
+  -- The script of what is left to read was run over the store's desk, and ended so.
+  pub record IsRunOver (r0 c0 c1 : Option (List ℕ)) (old new : S) (end : JobEnd) : Type 0 where
+    pub result : Result ScriptEnd ScriptFault
+    pub end_is : end ≡ end_of_script result
+    -- what its reader has left, if that is known
+    pub rest : Option (List ℕ)
+    pub ran : Holds is_kept is_honest old new (Known r0 (λ input. Ends input rest (record {
+      from = begin (desk old);
+      desk = desk new;
+      faults_before = faults old;
+      faults = faults new;
+      written_before = c0;
+      written = c1;
+    }) result))
+    pub read : OnOk result (Left r0 rest (λ input left. left ≡ []))
+    pub begun : result ≡ Err Read → Left r0 rest IsReadInPart
+    pub counts : IsCounted result (faults old) (faults new)
+
+  -- A server was run for the store's desk, and ended so.
+  pub record IsServerOver (port count : ℕ) (c0 c1 : Option (List ℕ)) (old new : S) (end : JobEnd) : Type 0 where
+    pub result : Result (Unit {0}) ServerFault
+    pub end_is : end ≡ end_of_server port result
+    pub served : Serves result (IsServing is_kept is_honest desk faults count old new result)
+    pub told : Serves result (Appends c0 c1 (place_line port))
+    pub bind : result ≡ Err Bind → (new ≡ old) × (c1 ≡ c0)
+    pub write : result ≡ Err Write → new ≡ old
+
+  -- A message was received, and came to these outcomes and this end.
+  pub record IsReceivedOver (from : List ℕ) (lines : List (List ℕ)) (outcomes : List Entry) (last : End) (old new : S) : Type 0 where
+    pub received : Holds is_kept is_honest old new (IsReceived from lines (desk old) outcomes last (desk new))
+    pub line : IsLineOf last lines
+    pub counts : faults new ≡ faults_after_end last (faults old)
+
+-- What is written for a message that came to this, and how its job ends: the transcript is written,
+-- whole; or a front of it, not all, or, where there is no memory for it, nothing, which are faults.
+abbrev pub TellsMessage : List (List ℕ) → List Entry → End → Option (List ℕ) → Option (List ℕ) → JobEnd → Type 0
+TellsMessage lines outcomes last c0 c1 end =
+    ((end ≡ end_of_message outcomes last) × Appends c0 c1 (received_text outcomes last lines))
+    ⊎ (((end ≡ Fault Output) × ((n : ℕ) × (n < length (received_text outcomes last lines))
+    × Appends c0 c1 (take n (received_text outcomes last lines))))
+    ⊎ EndsAtOnce (Fault Memory) c0 c1 end)
+
+-- A message was received by the store's desk and told, and the job ended so.
+pub record IsSentOver {S : Type 0} (is_kept is_honest : S → Type 0) (desk : S → Desk) (faults : S → Faults) (from : List ℕ)
+    (lines : List (List ℕ)) (c0 c1 : Option (List ℕ)) (old new : S) (end : JobEnd) : Type 0 where
+  pub outcomes : List Entry
+  pub last : End
+  pub received : IsReceivedOver is_kept is_honest desk faults from lines outcomes last old new
+  pub told : TellsMessage lines outcomes last c0 c1 end
+
+-- nothing was written, and the end is a fault with such a cause
+abbrev pub EndsFor : (Cause → Type 0) → Option (List ℕ) → Option (List ℕ) → JobEnd → Type 0
+EndsFor IsCause c0 c1 end = (cause : Cause) × IsCause cause × EndsAtOnce (Fault cause) c0 c1 end
+
+module _ {S : Type 0} (start : Ghosts S) where
+  -- A job over the desk in a file: it can't be opened, or it was, and this is so of it as it was
+  -- opened and as the job ends.
+  abbrev pub IsOverFile : Option (List ℕ) → Option (List ℕ) → JobEnd → (FileDesk start → FileDesk start → Type 0) → Type 0
+  IsOverFile c0 c1 end P = EndsFor IsOpenCause c0 c1 end
+      ⊎ ((old : FileDesk start) × (new : FileDesk start) × IsOpenedInFile (image_at start) old × P old new)
+
+  -- A desk was made in a file, and the line `OK` is written.
+  pub record IsMade (first : ℕ) (c0 c1 : Option (List ℕ)) (end : JobEnd) : Type 0 where
+    pub made : FileDesk start
+    pub is_new : IsNewInFile first made
+    pub told : GivesText (codes "OK\n") c0 c1 end
+
+  -- the number of the first bug is from 1 to 999,999,999
+  abbrev pub IsInit : ℕ → Option (List ℕ) → Option (List ℕ) → JobEnd → Type 0
+  IsInit first c0 c1 end =
+      (¬ ((1 ≤ first) × (first ≤ LARGEST_NUMBER)) × EndsAtOnce BadWords c0 c1 end)
+      ⊎ (EndsFor IsInitCause c0 c1 end ⊎ IsMade first c0 c1 end)
+
+  -- a sender is a text
+  abbrev pub IsSentToFile : List ℕ → List (List ℕ) → Option (List ℕ) → Option (List ℕ) → JobEnd → Type 0
+  IsSentToFile from lines c0 c1 end =
+      ((¬ IsText from) × EndsAtOnce BadWords c0 c1 end)
+      ⊎ (IsText from × IsOverFile c0 c1 end (λ old new.
+      IsSentOver IsKeptInFile HasHonestFile desk_in_file faults_in_file from lines c0 c1 old new end))
+
+  -- What a job does, where these bytes are left to read, if they are known.
+  abbrev pub IsJobDone : Job → Option (List ℕ) → Option (List ℕ) → Option (List ℕ) → JobEnd → Type 0
+  IsJobDone (Run None) r0 c0 c1 end = Known r0 (λ input. IsRun input c0 c1 end)
+  IsJobDone (Run (Some store)) r0 c0 c1 end = IsOverFile c0 c1 end (λ old new.
+      IsRunOver IsKeptInFile HasHonestFile desk_in_file faults_in_file r0 c0 c1 old new end)
+  IsJobDone (Init store first) r0 c0 c1 end = IsInit first c0 c1 end
+  IsJobDone (Serve None port count) r0 c0 c1 end = IsServer port count c0 c1 end
+  IsJobDone (Serve (Some store) port count) r0 c0 c1 end = IsOverFile c0 c1 end (λ old new.
+      IsServerOver IsKeptInFile HasHonestFile desk_in_file faults_in_file port count c0 c1 old new end)
+  IsJobDone (Send store from lines) r0 c0 c1 end = IsSentToFile from lines c0 c1 end

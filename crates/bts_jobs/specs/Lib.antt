@@ -1,3 +1,4 @@
 pub mod Endings
+pub mod InFile
 pub mod Jobs
 pub mod Program

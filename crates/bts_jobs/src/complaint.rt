@@ -74,7 +74,22 @@ fn write_cause<E: Write>(errors: &mut E, cause: Cause) -> bool
                 " can't be listened on\n",
             )
         }
-        Cause::NoStores => write_text(errors, "bts: no store can be opened yet\n"),
+        Cause::NoFile => write_text(errors, "bts: the store's file is not there\n"),
+        Cause::InUse => write_text(
+            errors,
+            "bts: the store's file is in use by another process\n",
+        ),
+        Cause::NotADesk => write_text(errors, "bts: the store's file is no desk\n"),
+        Cause::NewerSchema(number) => {
+            write_numbered(
+                errors,
+                "bts: the store's file has the schema ",
+                number,
+                " of a later version\n",
+            )
+        }
+        Cause::NotEmpty => write_text(errors, "bts: the store's file holds a desk already\n"),
+        Cause::CannotOpen => write_text(errors, "bts: the store's file can't be opened\n"),
     }
 }
 

@@ -20,14 +20,26 @@ pub enum Cause {
     NotUtf8(u64),
     /// The line of the input that has this number has more than 65,536 bytes.
     LineTooLong(u64),
-    /// The store failed at a line of a script.
+    /// The store failed: at a line of a script or a message, or as it was opened or made.
     Store(StoreFault),
     /// The store failed while it was served.
     ServedStore,
     /// This port of 127.0.0.1 could not be listened on.
     Port(u16),
-    /// The job has a store, and there are no stores in files yet.
-    NoStores,
+    /// The store's file is not there.
+    NoFile,
+    /// Another process, or another desk of this one, has the store's file open.
+    InUse,
+    /// The store's file is no desk.
+    NotADesk,
+    /// The store's file has this number of a desk's schema, above 1: a later version made it.
+    NewerSchema(u64),
+    /// A desk is to be made, and the store's file holds one, or a table with the name of one of a
+    /// desk's.
+    NotEmpty,
+    /// The store's file can't be opened: it is a folder, the rights are missing, or there is another
+    /// cause that the system tells.
+    CannotOpen,
 }
 
 /// How a job ended, or words that name none.

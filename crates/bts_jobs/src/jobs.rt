@@ -2,55 +2,95 @@
 
 ghost use Rattle.std.specs.Prelude.{◌≡◌};
 ghost use Rattle.bts_jobs.specs.Endings.{status_of};
+ghost use Rattle.bts_jobs.specs.InFile.{wary};
 ghost use Rattle.bts_jobs.specs.Jobs.{IsJobDone};
 
-use crate::ending::{Cause, JobEnd};
-use crate::script::run_script_job;
-use crate::server::serve_job;
+use crate::ending::JobEnd;
+use crate::making::make_desk;
+use crate::script::{run_script_in_file, run_script_job};
+use crate::sending::send_to_file;
+use crate::server::{serve_file, serve_job};
 use job_words::Job;
+use sqlite::{Start, Wary};
 use std::alloc::Global;
 use std::io::{Read, Write};
-use std::net::{Net, TcpListener, TcpStream};
-use std::time::Clock;
 
 /// Carries a job out over the input and the output that are handed in, and answers how it ended.
 ///
+/// `start` stands for what the store's files hold as they are opened, which no code can read: what is
+/// promised of a desk in a file is promised for whatever they hold.
+///
 /// `Run` and `Serve` without a store work on a desk in memory whose first bug gets the number 1.
-/// There are no stores in files yet: a job with a store reads nothing, writes nothing, and is a
+/// With a store they work on the desk in its file, which has to be there.
+/// `Init` makes the file of a new desk and writes the line `OK`; a number of the first bug outside
+/// 1 to 999,999,999 is bad words.
+/// `Send` takes its lines as one message and writes the transcript, as a script does; a sender that is
+/// no text of 1 to 200 bytes is bad words.
+/// Where a file can't be opened, or no desk can be made in it, nothing is written, and that is a
 /// fault.
-pub fn do_job<N, R: Read, W: Write>(
-    rt: &N,
+/// At the end the log beside the file is copied into it; a fault of that is not told, since all that
+/// was answered is in the log already.
+pub fn do_job_from<S: Start, R: Read, W: Write>(
+    rt: &HostRuntime,
     alloc: Global,
+    start: S,
     job: &Job,
     reader: &mut R,
     writer: &mut W,
 ) -> JobEnd
-where
-    N: Net<Listener = TcpListener, Stream = TcpStream> + Clock,
-    ensures { IsJobDone job.now (R.remaining reader.old) (W.contents writer.old) (W.contents writer.new) result }
+    ensures { IsJobDone S.Start job.now (R.remaining reader.old) (W.contents writer.old) (W.contents writer.new) result }
 {
     match job {
         Job::Run { store: None } => run_script_job(alloc, reader, writer),
+        Job::Run { store: Some(store) } => {
+            run_script_in_file(rt, start, store.as_str(), reader, writer)
+        }
         Job::Serve {
             store: None,
             port,
             count,
         } => serve_job(rt, alloc, *port, *count, writer),
-        _ => JobEnd::Fault(Cause::NoStores),
+        Job::Serve {
+            store: Some(store),
+            port,
+            count,
+        } => serve_file(rt, start, store.as_str(), *port, *count, writer),
+        Job::Init { store, first } => make_desk(rt, start, store.as_str(), *first, writer),
+        Job::Send { store, from, lines } => send_to_file(
+            rt,
+            start,
+            store.as_str(),
+            from.as_str(),
+            lines.as_slice(),
+            writer,
+        ),
     }
 }
 
+/// Carries a job out, as `do_job_from` does for any files.
+/// `Wary` supposes nothing of a write that a loss of power cuts short.
+/// What a contract says at `Wary` is about new files alone; `do_job_from` has the same clause for any.
+pub fn do_job<R: Read, W: Write>(
+    rt: &HostRuntime,
+    alloc: Global,
+    job: &Job,
+    reader: &mut R,
+    writer: &mut W,
+) -> JobEnd
+    ensures { IsJobDone wary job.now (R.remaining reader.old) (W.contents writer.old) (W.contents writer.new) result }
+{
+    do_job_from(rt, alloc, Wary, job, reader, writer)
+}
+
 /// Carries a job out, as `do_job` does, and answers the exit status.
-pub fn run_job<N, R: Read, W: Write>(
-    rt: &N,
+pub fn run_job<R: Read, W: Write>(
+    rt: &HostRuntime,
     alloc: Global,
     job: &Job,
     reader: &mut R,
     writer: &mut W,
 ) -> u8
-where
-    N: Net<Listener = TcpListener, Stream = TcpStream> + Clock,
-    ensures { (end : JobEnd) × IsJobDone job.now (R.remaining reader.old) (W.contents writer.old) (W.contents writer.new) end
+    ensures { (end : JobEnd) × IsJobDone wary job.now (R.remaining reader.old) (W.contents writer.old) (W.contents writer.new) end
         × (result ≡ status_of end) }
 {
     do_job(rt, alloc, job, reader, writer).status()

@@ -4,13 +4,18 @@
 
 mod complaint;
 mod ending;
+mod file_desk;
 mod jobs;
+mod making;
 mod program;
 mod script;
+mod sending;
 mod server;
 
 pub use ending::{Cause, Ending, JobEnd};
-pub use jobs::{do_job, run_job};
+pub use file_desk::{FileDesk, close_desk, create_desk, open_desk};
+pub use jobs::{do_job, do_job_from, run_job};
 pub use program::{run_args, run_program, run_words};
-pub use script::run_script_job;
-pub use server::serve_job;
+pub use script::{run_script_job, run_script_over};
+pub use sending::send_over;
+pub use server::{serve_job, serve_over};

@@ -3,44 +3,30 @@
 ghost use Rattle.std.specs.Prelude.{◌≡◌, ◌⊎◌, IfOk, IfErr, map, drop};
 ghost use Rattle.std.specs.String.{string_bytes};
 ghost use Rattle.bts_jobs.specs.Endings.{IsTold};
-ghost use Rattle.bts_jobs.specs.Program.{GivesHelp, IsDone, IsProcess};
+ghost use Rattle.bts_jobs.specs.Program.{IsDone, IsProcess};
+ghost use Rattle.bts_jobs.specs.InFile.{wary};
 
 use crate::ending::{Cause, Ending, JobEnd, end_with};
 use crate::jobs::do_job;
-use desk_lines::write_out;
+use crate::making::give_text;
 use job_words::{WordsError, read_words};
 use std::alloc::{AllocError, Global};
-use std::env::Env;
 use std::io::{ErrorKind, Read, Write};
-use std::net::{Net, TcpListener, TcpStream};
-use std::time::Clock;
-
-// Writes the help, and answers how that ended.
-fn write_help<W: Write>(writer: &mut W, text: &str) -> JobEnd
-    ensures { GivesHelp text.now (W.contents writer.old) (W.contents writer.new) result }
-{
-    match write_out(writer, text.as_bytes()) {
-        Ok(()) => JobEnd::Done,
-        Err(_) => JobEnd::Fault(Cause::Output),
-    }
-}
 
 // Does what words ask, and answers how that ended.
-fn do_words<N, R: Read, W: Write>(
-    rt: &N,
+fn do_words<R: Read, W: Write>(
+    rt: &HostRuntime,
     alloc: Global,
     words: &[&str],
     reader: &mut R,
     writer: &mut W,
 ) -> JobEnd
-where
-    N: Net<Listener = TcpListener, Stream = TcpStream> + Clock,
-    ensures { IsDone (map (λ s. s.now) words.entry.now) (R.remaining reader.old) (W.contents writer.old)
+    ensures { IsDone wary (map (λ s. s.now) words.entry.now) (R.remaining reader.old) (W.contents writer.old)
         (W.contents writer.new) result }
 {
     match read_words(alloc, words) {
         Ok(job) => do_job(rt, alloc, &job, reader, writer),
-        Err(WordsError::Help(text)) => write_help(writer, text.as_str()),
+        Err(WordsError::Help(text)) => give_text(writer, text.as_str()),
         Err(WordsError::Bad) => JobEnd::BadWords,
         Err(WordsError::Memory) => JobEnd::Fault(Cause::Memory),
     }
@@ -54,17 +40,15 @@ where
 /// Of bad words, and of words for which there is no memory, nothing is written.
 /// Then the complaint of the end, if it has one, is written to the error output: `bts: bad words` or
 /// `bts: fault`, and a second line that says what to do, or why.
-pub fn run_words<N, R: Read, W: Write, E: Write>(
-    rt: &N,
+pub fn run_words<R: Read, W: Write, E: Write>(
+    rt: &HostRuntime,
     alloc: Global,
     words: &[&str],
     reader: &mut R,
     writer: &mut W,
     errors: &mut E,
 ) -> Ending
-where
-    N: Net<Listener = TcpListener, Stream = TcpStream> + Clock,
-    ensures done { IsDone (map (λ s. s.now) words.entry.now) (R.remaining reader.old) (W.contents writer.old)
+    ensures done { IsDone wary (map (λ s. s.now) words.entry.now) (R.remaining reader.old) (W.contents writer.old)
         (W.contents writer.new) result.end }
     ensures told { IsTold result.end result.is_told (E.contents errors.old) (E.contents errors.new) }
 {
@@ -95,17 +79,15 @@ fn after_first(args: &[String]) -> &[String]
 /// Does what the arguments of a process ask, as `run_words` does; the first one, if there is one,
 /// is the program's own name, and no word.
 /// Where there is no memory for them, that is a fault.
-pub fn run_args<N, R: Read, W: Write, E: Write>(
-    rt: &N,
+pub fn run_args<R: Read, W: Write, E: Write>(
+    rt: &HostRuntime,
     alloc: Global,
     args: &[String],
     reader: &mut R,
     writer: &mut W,
     errors: &mut E,
 ) -> Ending
-where
-    N: Net<Listener = TcpListener, Stream = TcpStream> + Clock,
-    ensures done { IsDone (map string_bytes (drop 1 args.entry.now)) (R.remaining reader.old) (W.contents writer.old)
+    ensures done { IsDone wary (map string_bytes (drop 1 args.entry.now)) (R.remaining reader.old) (W.contents writer.old)
         (W.contents writer.new) result.end }
     ensures told { IsTold result.end result.is_told (E.contents errors.old) (E.contents errors.new) }
 {
@@ -117,7 +99,7 @@ where
 
 // The arguments of the process; the error is the end where they can't be read: bad words where one
 // is not UTF-8, or want of memory.
-fn read_args<N: Env + Alloc<A = Global>>(rt: &N, alloc: Global) -> Result<Vec<String>, JobEnd>
+fn read_args(rt: &HostRuntime, alloc: Global) -> Result<Vec<String>, JobEnd>
     ensures { IfErr result (λ end. (end ≡ JobEnd.BadWords) ⊎ (end ≡ JobEnd.Fault Cause.Memory)) }
 {
     let args = match std::env::args(rt) {
@@ -139,16 +121,14 @@ fn read_args<N: Env + Alloc<A = Global>>(rt: &N, alloc: Global) -> Result<Vec<St
 /// Does what the arguments of the process ask, as `run_args` does.
 /// Arguments that are no UTF-8 are bad words.
 /// What the process's arguments are is not told to a contract.
-pub fn run_program<N, R: Read, W: Write, E: Write>(
-    rt: &N,
+pub fn run_program<R: Read, W: Write, E: Write>(
+    rt: &HostRuntime,
     alloc: Global,
     reader: &mut R,
     writer: &mut W,
     errors: &mut E,
 ) -> Ending
-where
-    N: Net<Listener = TcpListener, Stream = TcpStream> + Clock + Env + Alloc<A = Global>,
-    ensures done { IsProcess (R.remaining reader.old) (W.contents writer.old) (W.contents writer.new) result.end }
+    ensures done { IsProcess wary (R.remaining reader.old) (W.contents writer.old) (W.contents writer.new) result.end }
     ensures told { IsTold result.end result.is_told (E.contents errors.old) (E.contents errors.new) }
 {
     match read_args(rt, alloc) {

@@ -1,17 +1,16 @@
 //! The job of a script.
 
-ghost use Rattle.std.specs.Prelude.{◌≡◌, ℕ, Option, Result};
-ghost use Rattle.bug_record.specs.Desk.{Desk};
+ghost use Rattle.std.specs.Prelude.{◌≡◌};
 ghost use Rattle.desk_lines.specs.Reading.{Known};
-ghost use Rattle.desk_run.specs.Script.{begin};
-ghost use Rattle.desk_run.specs.Running.{Ends};
-ghost use Rattle.desk_places.specs.Plain.{empty_desk};
 ghost use Rattle.bts_jobs.specs.Endings.{cause_of_script, end_of_script};
-ghost use Rattle.bts_jobs.specs.Jobs.{IsRun};
+ghost use Rattle.bts_jobs.specs.Jobs.{IsRun, IsRunOver, IsOverFile};
+ghost use Rattle.bts_jobs.specs.InFile.{desk_in_file, IsKeptInFile, HasHonestFile, faults_in_file};
 
 use crate::ending::{Cause, JobEnd};
+use crate::file_desk::{close_desk, open_desk};
 use desk_run::{ScriptEnd, ScriptFault, run_script};
-use desk_store::PlainDesk;
+use desk_store::{PlainDesk, Records};
+use sqlite::Start;
 use std::alloc::Global;
 use std::io::{Read, Write};
 use std::mem;
@@ -41,14 +40,49 @@ fn end_of(end: Result<ScriptEnd, ScriptFault>) -> JobEnd
     }
 }
 
+/// Runs a script over a desk, and answers how it ended.
+pub fn run_script_over<D: Records, R: Read, W: Write>(
+    alloc: Global,
+    desk: &mut D,
+    reader: &mut R,
+    writer: &mut W,
+) -> JobEnd
+    ensures { IsRunOver D.is_kept D.is_honest D.desk D.faults (R.remaining reader.old) (W.contents writer.old)
+        (W.contents writer.new) desk.old desk.new result }
+{
+    end_of(run_script(alloc, desk, reader, writer))
+}
+
 /// Runs a script over an empty desk in memory whose first bug gets the number 1, and answers how it
 /// ended.
 pub fn run_script_job<R: Read, W: Write>(alloc: Global, reader: &mut R, writer: &mut W) -> JobEnd
     ensures { Known (R.remaining reader.old) (λ input. IsRun input (W.contents writer.old) (W.contents writer.new) result) }
 {
     let mut desk = PlainDesk::new(alloc, 1);
-    let end = end_of(run_script(alloc, &mut desk, reader, writer));
+    let end = run_script_over(alloc, &mut desk, reader, writer);
     // The program ends with this call, and the system takes its memory back as a whole.
     mem::forget(desk);
     end
+}
+
+/// Runs a script over the desk in a file, and answers how it ended.
+pub(crate) fn run_script_in_file<S: Start, R: Read, W: Write>(
+    rt: &HostRuntime,
+    start: S,
+    path: &str,
+    reader: &mut R,
+    writer: &mut W,
+) -> JobEnd
+    ensures { IsOverFile S.Start (W.contents writer.old) (W.contents writer.new) result
+        (λ old new. IsRunOver IsKeptInFile HasHonestFile desk_in_file faults_in_file (R.remaining reader.old)
+        (W.contents writer.old) (W.contents writer.new) old new result) }
+{
+    match open_desk(rt, start, path) {
+        Ok(mut desk) => {
+            let end = run_script_over(rt.alloc(), &mut desk, reader, writer);
+            close_desk(desk);
+            end
+        }
+        Err(cause) => JobEnd::Fault(cause),
+    }
 }

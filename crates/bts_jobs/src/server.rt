@@ -2,16 +2,17 @@
 
 ghost use Rattle.std.specs.Prelude.{◌≡◌};
 ghost use Rattle.bts_jobs.specs.Endings.{end_of_server};
-ghost use Rattle.bts_jobs.specs.Jobs.{IsServer};
+ghost use Rattle.bts_jobs.specs.Jobs.{IsServer, IsServerOver, IsOverFile};
+ghost use Rattle.bts_jobs.specs.InFile.{desk_in_file, IsKeptInFile, HasHonestFile, faults_in_file};
 
 use crate::ending::{Cause, JobEnd};
+use crate::file_desk::{close_desk, open_desk};
 use desk_server::{ServerFault, serve_port};
-use desk_store::PlainDesk;
+use desk_store::{PlainDesk, Records};
+use sqlite::Start;
 use std::alloc::Global;
 use std::io::Write;
 use std::mem;
-use std::net::{Net, TcpListener, TcpStream};
-use std::time::Clock;
 
 // How the job of a server on a port ends.
 fn end_of(port: u16, end: Result<(), ServerFault>) -> JobEnd
@@ -25,24 +26,62 @@ fn end_of(port: u16, end: Result<(), ServerFault>) -> JobEnd
     }
 }
 
+/// Answers HTTP for a desk on a port of 127.0.0.1, ends after `count` connections, and answers how
+/// it ended: done, or a fault where the port can't be listened on, the line that tells it can't be
+/// written, or the store failed.
+pub fn serve_over<D: Records, W: Write>(
+    rt: &HostRuntime,
+    alloc: Global,
+    desk: &mut D,
+    port: u16,
+    count: u64,
+    writer: &mut W,
+) -> JobEnd
+    ensures { IsServerOver D.is_kept D.is_honest D.desk D.faults port count (W.contents writer.old) (W.contents writer.new)
+        desk.old desk.new result }
+{
+    end_of(port, serve_port(rt, alloc, desk, port, count, writer))
+}
+
 /// Answers HTTP on a port of 127.0.0.1 for an empty desk in memory whose first bug gets the number
 /// 1, ends after `count` connections, and answers how it ended: done, or a fault where the port
 /// can't be listened on or the line that tells it can't be written.
 /// A desk in memory has no fault of its own that ends a server.
-pub fn serve_job<N, W: Write>(
-    rt: &N,
+pub fn serve_job<W: Write>(
+    rt: &HostRuntime,
     alloc: Global,
     port: u16,
     count: u64,
     writer: &mut W,
 ) -> JobEnd
-where
-    N: Net<Listener = TcpListener, Stream = TcpStream> + Clock,
     ensures { IsServer port count (W.contents writer.old) (W.contents writer.new) result }
 {
     let mut desk = PlainDesk::new(alloc, 1);
-    let end = end_of(port, serve_port(rt, alloc, &mut desk, port, count, writer));
+    let end = serve_over(rt, alloc, &mut desk, port, count, writer);
     // The program ends with this call, and the system takes its memory back as a whole.
     mem::forget(desk);
     end
+}
+
+/// Answers HTTP for the desk in a file, as `serve_over` does.
+pub(crate) fn serve_file<S: Start, W: Write>(
+    rt: &HostRuntime,
+    start: S,
+    path: &str,
+    port: u16,
+    count: u64,
+    writer: &mut W,
+) -> JobEnd
+    ensures { IsOverFile S.Start (W.contents writer.old) (W.contents writer.new) result
+        (λ old new. IsServerOver IsKeptInFile HasHonestFile desk_in_file faults_in_file port count
+        (W.contents writer.old) (W.contents writer.new) old new result) }
+{
+    match open_desk(rt, start, path) {
+        Ok(mut desk) => {
+            let end = serve_over(rt, rt.alloc(), &mut desk, port, count, writer);
+            close_desk(desk);
+            end
+        }
+        Err(cause) => JobEnd::Fault(cause),
+    }
 }

@@ -33,3 +33,24 @@ returns-in-Port g c =
     subst (λ (cause : Cause). IsWritten (cause_line cause) told e0 e1) (sym c.in-Port.is)
     (subst (λ (n : ℕ). IsWritten (codes "bts: port " ++ (decimal n ++ codes " can't be listened on\n")) told e0 e1) same
     c.write_numbered-in-Port.ensures)
+
+pub returns-in-InUse : goal.returns-in-InUse
+returns-in-InUse g c =
+    subst (λ (cause : Cause). IsWritten (cause_line cause) c.write_text-in-InUse.result (g.E.Write.contents c.args.errors.now)
+    (g.E.Write.contents c.write_text-in-InUse.new.errors)) (sym c.in-InUse.is) c.write_text-in-InUse.ensures
+
+pub returns-in-NotADesk : goal.returns-in-NotADesk
+returns-in-NotADesk g c =
+    subst (λ (cause : Cause). IsWritten (cause_line cause) c.write_text-in-NotADesk.result (g.E.Write.contents c.args.errors.now)
+    (g.E.Write.contents c.write_text-in-NotADesk.new.errors)) (sym c.in-NotADesk.is) c.write_text-in-NotADesk.ensures
+
+pub returns-in-CannotOpen : goal.returns-in-CannotOpen
+returns-in-CannotOpen g c =
+    subst (λ (cause : Cause). IsWritten (cause_line cause) c.write_text-in-CannotOpen.result (g.E.Write.contents c.args.errors.now)
+    (g.E.Write.contents c.write_text-in-CannotOpen.new.errors)) (sym c.in-CannotOpen.is) c.write_text-in-CannotOpen.ensures
+
+pub returns-in-NewerSchema : goal.returns-in-NewerSchema
+returns-in-NewerSchema g c =
+    subst (λ (cause : Cause). IsWritten (cause_line cause) c.write_numbered-in-NewerSchema.result
+    (g.E.Write.contents c.args.errors.now) (g.E.Write.contents c.write_numbered-in-NewerSchema.new.errors))
+    (sym c.in-NewerSchema.is) c.write_numbered-in-NewerSchema.ensures

@@ -7,22 +7,25 @@ use Rattle.desk_run.specs.Running.{Ends}
 use Rattle.bts_jobs.proofs.script.run_script_job.Goals as goal
 
 pub returns : goal.returns
-returns g c = record {
-  known = λ input left.
-      record {
-        result = c.run_script.result;
-        desk = desk_of c.run_script.new.store.bugs c.run_script.new.store.tree c.run_script.new.store.next;
-        rest = g.R.Read.remaining c.run_script.new.reader;
-        ends = subst (λ (d : Desk). Ends input (g.R.Read.remaining c.run_script.new.reader)
-            (record {
-              from = begin d;
-              desk = desk_of c.run_script.new.store.bugs c.run_script.new.store.tree c.run_script.new.store.next;
-              faults_before = no_faults;
-              faults = no_faults;
-              written_before = g.W.Write.contents c.args.writer.now;
-              written = g.W.Write.contents c.run_script.new.writer;
-            }) c.run_script.result)
-            c.new-desk.ensures ((c.run_script.ensures.answer.fact tt tt).known input left);
-        end_is = c.end_of-end.ensures;
-      };
-}
+returns g c =
+    let over = c.run_script_over-end.ensures in
+    let new = c.run_script_over-end.new.desk in
+    record {
+      known = λ input left.
+          record {
+            result = over.result;
+            desk = desk_of new.bugs new.tree new.next;
+            rest = over.rest;
+            ends = subst (λ (d : Desk). Ends input over.rest
+                (record {
+                  from = begin d;
+                  desk = desk_of new.bugs new.tree new.next;
+                  faults_before = no_faults;
+                  faults = no_faults;
+                  written_before = g.W.Write.contents c.args.writer.now;
+                  written = g.W.Write.contents c.run_script_over-end.new.writer;
+                }) over.result)
+                c.new-desk.ensures ((over.ran.fact tt tt).known input left);
+            end_is = over.end_is;
+          };
+    }

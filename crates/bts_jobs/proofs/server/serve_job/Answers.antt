@@ -1,4 +1,4 @@
-use Rattle.std.proofs.Common.{ap, subst}
+use Rattle.std.proofs.Common.{subst}
 use Rattle.bug_record.specs.Desk.{Desk}
 use Rattle.desk_store.specs.Store.{no_faults}
 use Rattle.desk_places.specs.Plain.{desk_of}
@@ -9,16 +9,17 @@ use Rattle.bts_jobs.proofs.server.serve_job.Goals as goal
 
 pub returns : goal.returns
 returns g c =
-    let new = c.serve_port.new.store in
+    let over = c.serve_over-end.ensures in
+    let new = c.serve_over-end.new.desk in
     record {
-      result = c.serve_port.result;
-      end_is = c.end_of-end.ensures;
-      told = c.serve_port.ensures.told;
-      bind = λ e. ap g.W.Write.contents (c.serve_port.ensures.bind e).1;
+      result = over.result;
+      end_is = over.end_is;
+      told = over.told;
+      bind = λ e. (over.bind e).1;
       last = (desk_of new.bugs new.tree new.next, no_faults);
-      served = serves_weaker c.serve_port.result
+      served = serves_weaker over.result
           (λ s. subst (λ (d : Desk). IsInTurn c.args.count (d, no_faults) (desk_of new.bugs new.tree new.next, no_faults)
-          c.serve_port.result) c.new-desk.ensures
-          (in_turn _ _ _ _ c.args.count _ new c.serve_port.result s tt tt))
-          c.serve_port.ensures.serves;
+          over.result) c.new-desk.ensures
+          (in_turn _ _ _ _ c.args.count _ new over.result s tt tt))
+          over.served;
     }

@@ -1,0 +1,26 @@
+use Rattle.std.proofs.Common.{refl, sym, ap, subst, ◌∙◌}
+use Rattle.sqlite.specs.Files.{file_state}
+use Rattle.sqlite.specs.State.{HasCleanDisk}
+use Rattle.desk_content.specs.Kept.{IsKeptContent}
+use Rattle.desk_content.specs.View.{desk_in}
+use Rattle.bts_jobs.specs.InFile.{IsOpenCause}
+use Rattle.bts_jobs.proofs.FileLemmas.{shows_held, open_cause}
+use Rattle.bts_jobs.proofs.file_desk.open_over.Goals as goal
+
+pub returns-in-Ok-clause-opened : goal.returns-in-Ok-clause-opened
+returns-in-Ok-clause-opened g c = record {
+  uncounted = c.in-Ok.ensures.counts;
+  found = λ content held honest.
+      let clean : HasCleanDisk (file_state c.args.conn) = c.in-Ok.ensures.left.honest honest in
+      let opened = c.requires.opened clean in
+      let shown = shows_held (file_state c.args.conn) held.trees content opened.0 opened.1
+      ((c.requires.found clean).holds held.trees held.database) held.tables in (
+        c.in-Ok.ensures.kept (λ honest_then served. (shown.0, refl)) (subst IsKeptContent (sym shown.1) held.kept),
+        ap desk_in (c.in-Ok.ensures.content ∙ shown.1),
+      );
+}
+
+pub returns-clause-cause : goal.returns-clause-cause
+returns-clause-cause g c =
+    subst IsOpenCause (sym c.cause_of.ensures) (open_cause c.in-Err.fault (file_state c.args.conn)
+    (file_state c.in-Err.field-0-1) c.in-Err.ensures.why)

@@ -1,0 +1,112 @@
+-- A desk in a file, as a store.
+use Rattle.std.specs.Prelude.{ℕ, ◌≡◌, ◌≢◌, ⊤, false, []}
+use Rattle.sqlite_disk.specs.Events.{replay}
+use Rattle.sqlite_disk.specs.History.{MayLeave}
+use Rattle.sqlite_disk.specs.Modelled.{start_of}
+use Rattle.sqlite_disk.specs.declared.Disk as disk
+use Rattle.sqlite_disk.specs.declared.calls.Calls as calls
+use Rattle.sqlite_disk.specs.declared.modelled.Modelled.{Modelled}
+use Rattle.sqlite_disk.specs.declared.start.Start.{Ghosts}
+use Rattle.sqlite_disk.specs.declared.start.Wary.{Wary}
+use Rattle.sqlite_std_file.specs.declared.host.Host.{Host}
+use Rattle.sqlite.specs.State.{HasCleanDisk}
+use Rattle.sqlite.specs.Files.{file_state, over_files, HoldsDatabase}
+use Rattle.sqlite_store.specs.declared.store.FileStore.{FileStore}
+use Rattle.sqlite_trees.specs.Tree.{Trees}
+use Rattle.sqlite_wal.specs.Recovery.{Image}
+use Rattle.bug_record.specs.Desk.{Desk}
+use Rattle.desk_places.specs.Plain.{empty_desk}
+use Rattle.desk_text.specs.declared.outcome.StoreFault.TheVariants.{Foreign}
+use Rattle.desk_store.specs.Store.{Faults, no_faults}
+use Rattle.desk_content.specs.Content.{Content}
+use Rattle.desk_content.specs.Kept.{IsKeptContent}
+use Rattle.desk_content.specs.View.{desk_in}
+use Rattle.desk_tables.specs.Kept.{desk_seen, IsKept}
+use Rattle.desk_tables.specs.Shown.{AreTablesOf}
+use Rattle.desk_tables.specs.declared.desk.TableDesk.{TableDesk}
+use Rattle.bts_jobs.specs.declared.ending.Cause.{Cause}
+use Rattle.bts_jobs.specs.declared.ending.Cause.TheVariants.{Store, NoFile, InUse, NotADesk, NewerSchema, NotEmpty, CannotOpen}
+
+-- the two files hold a desk with this content, which is kept
+pub record HoldDesk (image : Image) (c : Content) : Type 0 where
+  pub trees : Trees
+  pub database : HoldsDatabase image trees
+  pub tables : AreTablesOf c trees
+  pub kept : IsKeptContent c
+
+-- the calls of a file of the system, as `sqlite_std_file` notes them
+abbrev pub host : calls.Ghosts Host
+host = record { history = λ f. f.log.events }
+
+module _ {S : Type 0} (start : Ghosts S) where
+  -- a file of the system as a disk, of which `start` says what it held, as `sqlite_disk` has it
+  abbrev pub file_disk : disk.Ghosts (Modelled Host S host start)
+  file_disk = record {
+    seen = λ f. (replay (start_of start f) (host.history f.calls)).seen;
+    may_leave = λ f. let m = replay (start_of start f) (host.history f.calls) in MayLeave start.is_mixing m.seen m.synced m.steps;
+    is_usable = λ f. (replay (start_of start f) (host.history f.calls)).is_usable;
+    is_clean = λ f. (replay (start_of start f) (host.history f.calls)).is_honest;
+    faults = λ f. (replay (start_of start f) (host.history f.calls)).faults;
+    tally_of = λ f. let m = replay (start_of start f) (host.history f.calls) in record { caught = m.caught; refused = m.refused };
+    key_of = λ f. (replay (start_of start f) (host.history f.calls)).key;
+    is_fair = λ f. (replay (start_of start f) (host.history f.calls)).is_fair;
+    is_frozen = λ _. false;
+    is_rotten = λ _ _ _. false;
+    is_mixing = λ _. start.is_mixing;
+  }
+
+  -- a desk over two such files
+  abbrev pub FileDesk : Type 0
+  FileDesk = TableDesk (FileStore (Modelled Host S host start) file_disk) over_files
+
+module _ {D : Type 0} {g : disk.Ghosts D} where
+  -- the content
+  abbrev pub desk_in_file : TableDesk (FileStore D g) over_files → Desk
+  desk_in_file d = desk_seen over_files d.last.values
+
+  -- the tables are kept
+  abbrev pub IsKeptInFile : TableDesk (FileStore D g) over_files → Type 0
+  IsKeptInFile d = IsKept over_files d.last.values d.begun.values d.conn d.family
+
+  -- so far the disk has returned what was written, and, at first, what the files held
+  abbrev pub HasHonestFile : TableDesk (FileStore D g) over_files → Type 0
+  HasHonestFile d = HasCleanDisk (file_state d.conn)
+
+  -- how often the store has failed
+  abbrev pub faults_in_file : TableDesk (FileStore D g) over_files → Faults
+  faults_in_file d = d.counts
+
+  -- A desk was opened: where the files held one, it is that desk.
+  pub record IsOpenedInFile (image : Image) (d : TableDesk (FileStore D g) over_files) : Type 0 where
+    pub uncounted : faults_in_file d ≡ no_faults
+    pub found : (c : Content) → HoldDesk image c → HasHonestFile d → IsKeptInFile d × (desk_in_file d ≡ desk_in c)
+
+  -- A desk was made, and is empty; its first bug gets this number.
+  pub record IsNewInFile (first : ℕ) (d : TableDesk (FileStore D g) over_files) : Type 0 where
+    pub kept : HasHonestFile d → IsKeptInFile d
+    pub empty : HasHonestFile d → desk_in_file d ≡ empty_desk first
+    pub uncounted : faults_in_file d ≡ no_faults
+
+-- why the desk in a file is not opened
+abbrev pub IsOpenCause : Cause → Type 0
+IsOpenCause NoFile = ⊤
+IsOpenCause InUse = ⊤
+IsOpenCause NotADesk = ⊤
+IsOpenCause (NewerSchema number) = ⊤
+IsOpenCause CannotOpen = ⊤
+IsOpenCause (Store fault) = fault ≢ Foreign
+IsOpenCause cause = ⊥
+
+-- why no desk is made in a file
+abbrev pub IsInitCause : Cause → Type 0
+IsInitCause InUse = ⊤
+IsInitCause NotADesk = ⊤
+IsInitCause (NewerSchema number) = ⊤
+IsInitCause NotEmpty = ⊤
+IsInitCause CannotOpen = ⊤
+IsInitCause (Store fault) = ⊤
+IsInitCause cause = ⊥
+
+-- what is supposed of the files as the program opens them: nothing is known of what they held
+abbrev pub wary : Ghosts Wary
+wary = record { log = []; db = []; is_mixing = false }

@@ -1,0 +1,44 @@
+//! The job that makes a desk.
+
+ghost use Rattle.bts_jobs.specs.Jobs.{GivesText, IsInit};
+
+use crate::ending::{Cause, JobEnd};
+use crate::file_desk::{close_desk, create_desk};
+use desk_lines::write_out;
+use line_words::LARGEST_NUMBER;
+use sqlite::Start;
+use std::io::Write;
+
+/// Writes a text, and answers how that ended.
+pub(crate) fn give_text<W: Write>(writer: &mut W, text: &str) -> JobEnd
+    ensures { GivesText text.now (W.contents writer.old) (W.contents writer.new) result }
+{
+    match write_out(writer, text.as_bytes()) {
+        Ok(()) => JobEnd::Done,
+        Err(_) => JobEnd::Fault(Cause::Output),
+    }
+}
+
+/// Makes a desk in a file that is not there or is empty, writes the line `OK`, and answers how that
+/// ended.
+pub(crate) fn make_desk<S: Start, W: Write>(
+    rt: &HostRuntime,
+    start: S,
+    path: &str,
+    first: u64,
+    writer: &mut W,
+) -> JobEnd
+    ensures { IsInit S.Start first (W.contents writer.old) (W.contents writer.new) result }
+{
+    if first < 1 || LARGEST_NUMBER < first {
+        return JobEnd::BadWords;
+    }
+    match create_desk(rt, start, path, first) {
+        Ok(desk) => {
+            let end = give_text(writer, "OK\n");
+            close_desk(desk);
+            end
+        }
+        Err(cause) => JobEnd::Fault(cause),
+    }
+}

@@ -1,0 +1,122 @@
+//! The job of a message.
+
+ghost use Rattle.std.specs.Prelude.{◌≡◌};
+ghost use Rattle.std.specs.List.{list_any};
+ghost use Rattle.bug_record.specs.Texts.{IsText};
+ghost use Rattle.desk_run.specs.Script.{is_refused, is_too_many, refuses};
+ghost use Rattle.bts_jobs.specs.Endings.{end_of_message};
+ghost use Rattle.bts_jobs.specs.Jobs.{IsSentOver, IsSentToFile, TellsMessage};
+
+use crate::ending::{Cause, JobEnd};
+use crate::file_desk::{close_desk, open_desk};
+use bug_record::is_text;
+use debver::Text;
+use desk_lines::write_out;
+use desk_messages::{Received, receive_lines, received_bytes};
+use desk_store::Records;
+use desk_text::{End, Outcome};
+use sqlite::Start;
+use std::alloc::Global;
+use std::io::Write;
+
+fn is_refused(outcome: &Outcome) -> bool
+    ensures { result ≡ is_refused outcome.now }
+{
+    match outcome {
+        Outcome::Refused(_) => true,
+        _ => false,
+    }
+}
+
+// Whether a line was refused.
+fn any_refused(outcomes: &[(Text, Outcome)]) -> bool
+    ensures { result ≡ list_any (λ entry. is_refused entry.1) outcomes.now }
+{
+    outcomes.iter().any(|entry| is_refused(&entry.1))
+}
+
+fn is_too_many(end: End) -> bool
+    ensures { result ≡ is_too_many end }
+{
+    match end {
+        End::TooManyUnreadable => true,
+        _ => false,
+    }
+}
+
+// Whether an answer `NO ..` or `Too many unreadable lines.` is among those of a message.
+fn refuses(received: &Received) -> bool
+    ensures { result ≡ refuses received.now.outcomes received.now.end }
+{
+    any_refused(received.outcomes.as_slice()) || is_too_many(received.end)
+}
+
+// How the job of a message ends that came to this.
+fn end_of(received: &Received) -> JobEnd
+    ensures { result ≡ end_of_message received.now.outcomes received.now.end }
+{
+    match received.end {
+        End::Store(fault, _) => JobEnd::Fault(Cause::Store(fault)),
+        _ => {
+            if refuses(received) {
+                JobEnd::Refused
+            } else {
+                JobEnd::Done
+            }
+        }
+    }
+}
+
+// Writes what came of a message, and answers how its job ends.
+fn tell<W: Write>(alloc: Global, received: &Received, lines: &[Text], writer: &mut W) -> JobEnd
+    ensures { TellsMessage lines.now received.now.outcomes received.now.end (W.contents writer.old) (W.contents writer.new)
+        result }
+{
+    let Ok(text) = received_bytes(alloc, received, lines) else {
+        return JobEnd::Fault(Cause::Memory);
+    };
+    match write_out(writer, text.as_slice()) {
+        Ok(()) => end_of(received),
+        Err(_) => JobEnd::Fault(Cause::Output),
+    }
+}
+
+/// Takes a message from this sender into a desk, writes its transcript, and answers how that ended.
+pub fn send_over<D: Records, W: Write>(
+    alloc: Global,
+    desk: &mut D,
+    from: &str,
+    lines: &[Text],
+    writer: &mut W,
+) -> JobEnd
+    requires { IsText from.now }
+    ensures { IsSentOver D.is_kept D.is_honest D.desk D.faults from.now lines.now (W.contents writer.old) (W.contents writer.new)
+        desk.old desk.new result }
+{
+    let received = receive_lines(alloc, desk, from, lines);
+    tell(alloc, &received, lines, writer)
+}
+
+/// Takes a message from this sender into the desk in a file, as `send_over` does.
+pub(crate) fn send_to_file<S: Start, W: Write>(
+    rt: &HostRuntime,
+    start: S,
+    path: &str,
+    from: &str,
+    lines: &[Text],
+    writer: &mut W,
+) -> JobEnd
+    ensures { IsSentToFile S.Start from.now lines.now (W.contents writer.old) (W.contents writer.new) result }
+{
+    if !is_text(from) {
+        return JobEnd::BadWords;
+    }
+    match open_desk(rt, start, path) {
+        Ok(mut desk) => {
+            let end = send_over(rt.alloc(), &mut desk, from, lines, writer);
+            close_desk(desk);
+            end
+        }
+        Err(cause) => JobEnd::Fault(cause),
+    }
+}
