@@ -1,0 +1,168 @@
+//! Calls on desks in tables, and statements of SQL between them.
+
+use crate::desk_calls::take_lines;
+use crate::desks::{Made, create, open};
+use crate::disks::{Disks, connected, files_of, limited, new_disks};
+use crate::example::Example;
+use control_text::number_word;
+use desk_tables::TableDesk;
+use sqlite::{Alter, Connection};
+use sqlite_disk::{Disk, Files};
+use sqlite_pager::Options;
+use std::alloc::Global;
+use std::io;
+
+// What is asked of a connection.
+#[derive(Clone, Copy)]
+enum Call {
+    Create(u64),
+    Open,
+    Other,
+}
+
+// What a line asks of a connection.
+fn call_of(line: &str) -> Call {
+    if line == "open" {
+        return Call::Open;
+    }
+    match line.strip_prefix("create ") {
+        Some(first) => Call::Create(number_word(first).unwrap_or(1)),
+        None => Call::Other,
+    }
+}
+
+// Takes the lines of a desk, and closes it.
+fn use_desk<S: Alter>(alloc: Global, desk: TableDesk<S>, example: &mut Example) -> Connection<S> {
+    let mut desk = desk;
+    example.is_desk = true;
+    take_lines(alloc, &mut desk, example);
+    desk.close()
+}
+
+// Tells what came of a line that makes a desk, and takes the lines of the desk.
+fn use_made<S: Alter>(alloc: Global, made: Made<S>, example: &mut Example) -> Connection<S> {
+    match made {
+        Ok(desk) => {
+            example.answer("ok");
+            use_desk(alloc, desk, example)
+        }
+        Err((fault, conn)) => {
+            example.answer_refusal(alloc, fault);
+            conn
+        }
+    }
+}
+
+// Runs a batch of SQL.
+fn run_sql<S: Alter>(conn: &mut Connection<S>, sql: &str) -> &'static str {
+    match conn.execute_batch(sql) {
+        Ok(()) => "ok",
+        Err(_) => "refused",
+    }
+}
+
+// Takes a line that makes no desk.
+fn take_other<S: Alter>(conn: &mut Connection<S>, example: &mut Example) {
+    match example.line().strip_prefix("sql ") {
+        Some(sql) => {
+            let answer = run_sql(conn, sql);
+            example.answer(answer);
+        }
+        None if example.line() == "close" => {
+            example.is_desk = false;
+            example.answer("ok");
+        }
+        None if example.begins_with("-- ") => example.pass(),
+        None => example.answer("no desk"),
+    }
+}
+
+// Takes a line of a connection, and the lines of the desk that it makes.
+fn take_line<S: Alter>(alloc: Global, conn: Connection<S>, example: &mut Example) -> Connection<S> {
+    match call_of(example.line()) {
+        Call::Create(first) => use_made(alloc, create(alloc, conn, first), example),
+        Call::Open => use_made(alloc, open(alloc, conn), example),
+        Call::Other => {
+            let mut conn = conn;
+            take_other(&mut conn, example);
+            conn
+        }
+    }
+}
+
+// Opens the desk, if there was one, and takes its lines.
+fn resume<S: Alter>(alloc: Global, conn: Connection<S>, example: &mut Example) -> Connection<S> {
+    if !example.is_desk {
+        return conn;
+    }
+    match open(alloc, conn) {
+        Ok(desk) => use_desk(alloc, desk, example),
+        Err((_, conn)) => {
+            example.is_desk = false;
+            conn
+        }
+    }
+}
+
+// Takes the lines of a connection, up to one that asks for other files.
+fn take_all<S: Alter>(alloc: Global, conn: Connection<S>, example: &mut Example) -> Connection<S> {
+    let mut conn = resume(alloc, conn, example);
+    for _ in 0..example.left() {
+        if example.is_at_end() {
+            return conn;
+        }
+        conn = take_line(alloc, conn, example);
+    }
+    conn
+}
+
+// Takes lines where there is no connection, up to one that asks for other files.
+fn take_none(example: &mut Example) {
+    for _ in 0..example.left() {
+        if example.is_at_end() {
+            return;
+        }
+        example.answer("no connection");
+    }
+}
+
+// Takes the lines of files, up to one that asks for other files, and hands the files back.
+fn take_over<D: Disk + Drop>(alloc: Global, files: Files<D>, example: &mut Example) -> Files<D> {
+    match connected(alloc, files, Options::new(1)) {
+        Ok(conn) => files_of(take_all(alloc, conn, example)),
+        Err(files) => {
+            take_none(example);
+            files
+        }
+    }
+}
+
+// Takes a line that asks for other files, and makes them of those before.
+fn other_files(alloc: Global, files: &Disks, example: &mut Example) -> io::Result<Disks> {
+    match example.line().strip_prefix("calls-left ") {
+        Some(word) => {
+            let calls = word.parse::<u64>().ok();
+            example.pass();
+            limited(alloc, files, calls)
+        }
+        None => {
+            example.is_desk = false;
+            example.pass();
+            Ok(new_disks(alloc))
+        }
+    }
+}
+
+/// Runs the examples of a file, and prints each line and after it what it is answered.
+pub(crate) fn run_file(rt: &HostRuntime, text: &str) -> io::Result<()> {
+    let alloc = rt.alloc();
+    let mut example = Example::new(alloc, text)?;
+    let mut files = new_disks(alloc);
+    for _ in 0..example.left() {
+        if example.left() > 0 {
+            files = other_files(alloc, &files, &mut example)?;
+            files = take_over(alloc, files, &mut example);
+        }
+    }
+    example.report.print(rt)
+}
