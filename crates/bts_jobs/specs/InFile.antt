@@ -1,5 +1,5 @@
 -- A desk in a file, as a store.
-use Rattle.std.specs.Prelude.{ℕ, ◌≡◌, ◌≢◌, ⊤, false, []}
+use Rattle.std.specs.Prelude.{ℕ, ◌≡◌, ◌⊎◌, ⊤, false, []}
 use Rattle.sqlite_disk.specs.Events.{replay}
 use Rattle.sqlite_disk.specs.History.{MayLeave}
 use Rattle.sqlite_disk.specs.Modelled.{start_of}
@@ -16,22 +16,21 @@ use Rattle.sqlite_trees.specs.Tree.{Trees}
 use Rattle.sqlite_wal.specs.Recovery.{Image}
 use Rattle.bug_record.specs.Desk.{Desk}
 use Rattle.desk_places.specs.Plain.{empty_desk}
-use Rattle.desk_text.specs.declared.outcome.StoreFault.TheVariants.{Foreign}
 use Rattle.desk_store.specs.Store.{Faults, no_faults}
 use Rattle.desk_content.specs.Content.{Content}
 use Rattle.desk_content.specs.Kept.{IsKeptContent}
 use Rattle.desk_content.specs.View.{desk_in}
 use Rattle.desk_tables.specs.Kept.{desk_seen, IsKept}
-use Rattle.desk_tables.specs.Shown.{AreTablesOf}
+use Rattle.desk_tables.specs.Shown.{AreTablesOf, AreFirstTablesOf}
 use Rattle.desk_tables.specs.declared.desk.TableDesk.{TableDesk}
 use Rattle.bts_jobs.specs.declared.ending.Cause.{Cause}
 use Rattle.bts_jobs.specs.declared.ending.Cause.TheVariants.{Store, NoFile, InUse, NotADesk, NewerSchema, NotEmpty, CannotOpen}
 
--- the two files hold a desk with this content, which is kept
+-- the two files hold a desk with this content, which is kept, under schema 2 or 1
 pub record HoldDesk (image : Image) (c : Content) : Type 0 where
   pub trees : Trees
   pub database : HoldsDatabase image trees
-  pub tables : AreTablesOf c trees
+  pub tables : AreTablesOf c trees ⊎ AreFirstTablesOf c trees
   pub kept : IsKeptContent c
 
 -- the calls of a file of the system, as `sqlite_std_file` notes them
@@ -94,7 +93,7 @@ IsOpenCause InUse = ⊤
 IsOpenCause NotADesk = ⊤
 IsOpenCause (NewerSchema number) = ⊤
 IsOpenCause CannotOpen = ⊤
-IsOpenCause (Store fault) = fault ≢ Foreign
+IsOpenCause (Store fault) = ⊤
 IsOpenCause cause = ⊥
 
 -- why no desk is made in a file

@@ -14,6 +14,7 @@ use Rattle.bug_record.specs.Bugs.{at_bug, unless, first_refusal, bugs_at, all_of
 use Rattle.bug_record.specs.Differences.{differing}
 use Rattle.bug_record.specs.Words.{bug_refusal, first_bug_refusal}
 use Rattle.bug_record.specs.Merges.{first_owner, joined_shared, joined_blockers, all_merged, with_merged, sets_joined}
+use Rattle.debver.specs.Names.{IsName}
 use Rattle.bug_record.specs.Images.{numbers_of, member_at, bug_of, bug_in, AreApart, AreSetsOf, image_with}
 use Rattle.bug_record.specs.Plans.{AllKnown}
 use Rattle.bug_record.specs.declared.bug.Bug.{Bug}
@@ -27,6 +28,7 @@ use Rattle.bug_record.specs.declared.command.Refusal.{Refusal}
 use Rattle.bug_record.specs.declared.command.Refusal.TheVariants.{NoBug}
 use Rattle.bug_record.proofs.SetLemmas.{IsAscending-number_set, same-ascending}
 use Rattle.bug_record.proofs.MarkLemmas.{set-node_set}
+use Rattle.bug_record.proofs.PackageLemmas.{names-set}
 use Rattle.bug_record.proofs.TagLemmas.{set-joined_tags}
 use Rattle.bug_record.proofs.MergeLemmas.{has-all_merged, has-joined_blockers, ascending-joined_blockers}
 use Rattle.bug_core.specs.Others.{has_any, those_meant, others}
@@ -203,6 +205,10 @@ good-nodes : (f : Bug → List Node) (bugs : List Bug) → Each (λ b. Each IsNo
 good-nodes f [] h = tt
 good-nodes f (b ∷ bugs) h = each-append IsNode (f b) (all_of f bugs) h.0 (good-nodes f bugs h.1)
 
+good-names : (bugs : List Bug) → Each (λ b. Each IsName b.shared.affects) bugs → Each IsName (all_of (λ b. b.shared.affects) bugs)
+good-names [] h = tt
+good-names (b ∷ bugs) h = each-append IsName b.shared.affects (all_of (λ b. b.shared.affects) bugs) h.0 (good-names bugs h.1)
+
 good-joined : (d : Desk) (ns : List ℕ) (f : Shared) → IsSound d → IsGoodShared f
     → IsGoodShared (joined_shared f (bugs_at d.bug ns))
 good-joined d ns f sound good = record {
@@ -210,6 +216,8 @@ good-joined d ns f sound good = record {
   forwarded = good.forwarded;
   owner = good-owner bugs (each-listed (λ b. IsGoodShared b.shared) d.bug ns (λ k b e. (sound.texts k b e).shared));
   tags = set-joined_tags bugs;
+  affects = names-set (all_of (λ b. b.shared.affects) bugs)
+      (good-names bugs (each-listed (λ b. Each IsName b.shared.affects) d.bug ns (λ k b e. (sound.texts k b e).shared.affects.valid)));
   found = set-node_set (all_of (λ b. b.shared.found) bugs)
       (good-nodes (λ b. b.shared.found) bugs
       (each-listed (λ b. Each IsNode b.shared.found) d.bug ns (λ k b e. (sound.texts k b e).shared.found.valid)));

@@ -191,6 +191,7 @@ tests-own (commands.Archive n) head merged f =
 tests-own (commands.Unarchive n) head merged f =
     elim f.archived as (λ t. IfGiven IsRefusalOfPlan (option_or (cond t None (Some (NotArchived n))) None))
     [ true ↦ tt | false ↦ tt ]
+tests-own (commands.Affects n step names) head merged f = tt
 tests-own (commands.Found n version) head merged f = tt
 tests-own (commands.NotFound n version) head merged f = tt
 tests-own (commands.Fixed n version) head merged f = tt

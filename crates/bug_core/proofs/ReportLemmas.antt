@@ -17,6 +17,7 @@ use Rattle.bug_record.specs.declared.bug.Member.{Member}
 use Rattle.bug_record.specs.declared.severity.Severity.{Severity}
 use Rattle.bug_core.specs.Reports.{image_of_report}
 use Rattle.bug_record.proofs.MarkLemmas.{set-none}
+use Rattle.bug_record.proofs.PackageLemmas.{names-none}
 use Rattle.bug_core.proofs.AddedLemmas.{is_new, new-parts, new-from, AreGoodNew, sound-added}
 
 -- the texts of a report
@@ -45,6 +46,7 @@ good-new d a p s t v good = record {
       forwarded = tt;
       owner = tt;
       tags = tt;
+      affects = names-none;
       found = one-node v good.node;
       fixed = set-none;
     };

@@ -1,15 +1,16 @@
 -- The fields of merged bugs, joined one image after another.
 use Rattle.std.proofs.Common.{◌≡◌, ℕ, Bool, true, false, ◌||◌, List, [], ◌∷◌, Some, sym, refl, ap, ◌∙◌}
 use Rattle.std.specs.Prelude.{not, filter}
-use Rattle.std.specs.BTreeSet.{insert_key}
+use Rattle.std.specs.Cmp.Lexicographic.{nat_list_cmp_total, nat_list_eq_equiv, texts_ties}
 use Rattle.std.specs.List.{list_any}
-use Rattle.std.specs.Ordering.{match_ordering}
 use Rattle.std.specs.List.Sorted.{IsStrictlySortedBy}
 use Rattle.std.proofs.lemmas.Bool.{eqb-true, eq-eqb}
 use Rattle.ancestry.specs.Nodes.{Node, node_cmp, same_node}
+use Rattle.ancestry.specs.NodeLaws.{same_node_equiv, node_cmp_total, node_ties}
 use Rattle.bug_record.specs.Sets.{has, IsAscending, number_set}
 use Rattle.bug_record.specs.Tags.{tag_place, same_tag, has_tag, with_tag, IsTagSet}
-use Rattle.bug_record.specs.Marks.{with_node, node_set}
+use Rattle.bug_record.specs.Marks.{node_set}
+use Rattle.bug_record.specs.PackageSets.{name_cmp, has_name, name_set}
 use Rattle.ancestry.specs.Trees.{has_node}
 use Rattle.bug_record.specs.Bugs.{bugs_at, all_of}
 use Rattle.bug_record.specs.Merges.{first_owner, all_merged, joined_tags, joined_shared}
@@ -20,13 +21,15 @@ use Rattle.bug_record.specs.declared.bug.Member.{Member}
 use Rattle.bug_record.specs.declared.bug.SetImage.{SetImage}
 use Rattle.bug_record.specs.declared.tag.Tag.{Tag}
 use Rattle.bug_record.proofs.TagLemmas.{has-with_tag, set-with_tag, has-joined_tags, set-joined_tags, same-tag_sets}
-use Rattle.bug_record.proofs.MarkLemmas.{has-with_node, sorted-with_node, sorted-node_set, same-sorted_nodes}
-use Rattle.bug_record.proofs.MergeLemmas.{has-all_of, has-joined_nodes}
+use Rattle.bug_record.proofs.OrderedSetLemmas.{in-each, sorted-each}
+use Rattle.bug_record.proofs.MarkLemmas.{sorted-node_set, same-sorted_nodes}
+use Rattle.bug_record.proofs.PackageLemmas.{sorted-name_set, same-sorted_names}
+use Rattle.bug_record.proofs.MergeLemmas.{has-all_of, has-joined_nodes, has-joined_names}
 use Rattle.bug_record.proofs.NumberLemmas.{has-with_items, IsAscending-with_items}
 use Rattle.bug_record.proofs.SetLemmas.{has-number_set, IsAscending-number_set, same-ascending}
 use Rattle.bug_core.specs.Others.{those_meant}
 use Rattle.bug_record.specs.Sets.{with_items}
-use Rattle.bug_core.specs.Joins.{with_nodes, without_marks_and_blockers, without_own, with_shared, with_all_shared}
+use Rattle.bug_core.specs.Joins.{with_nodes, with_names, without_gathered, without_own, with_shared, with_all_shared}
 use Rattle.bug_record.proofs.SetLemmas.{same_test}
 use Rattle.bug_core.proofs.ListedLemmas.{listed-from, meant-listed}
 
@@ -60,27 +63,25 @@ set-with_tags : (ts set : List Tag) → IsTagSet set → IsTagSet (with_items ta
 set-with_tags [] set h = h
 set-with_tags (u ∷ ts) set h = set-with_tags ts (with_tag set u) (set-with_tag set u h)
 
--- a node that is put into a set of std
-pub node-key : (set : List Node) (n : Node) → insert_key node_cmp set n ≡ with_node set n
-node-key [] n = refl
-node-key (m ∷ set) n = ap (λ z. match_ordering (node_cmp n m) (n ∷ m ∷ set) (m ∷ set) (m ∷ z)) (node-key set n)
-
--- nodes with those of a list
+-- nodes with those of a list, and names
 has-with_nodes : (ns set : List Node) (m : Node) → has_node (with_nodes set ns) m ≡ (has_node set m || has_node ns m)
-has-with_nodes [] set m = or_nothing (has_node set m)
-has-with_nodes (n ∷ ns) set m =
-    has-with_nodes ns (with_node set n) m ∙ ap (λ b. b || has_node ns m) (has-with_node set n m)
-    ∙ or_group (has_node set m) (same_node m n) (has_node ns m)
+has-with_nodes ns set m = in-each node_cmp_total same_node_equiv node_ties ns set m
 
 sorted-with_nodes : (ns set : List Node) → IsStrictlySortedBy node_cmp set → IsStrictlySortedBy node_cmp (with_nodes set ns)
-sorted-with_nodes [] set h = h
-sorted-with_nodes (n ∷ ns) set h = sorted-with_nodes ns (with_node set n) (sorted-with_node set n h)
+sorted-with_nodes ns set h = sorted-each node_cmp_total ns set h
+
+has-with_names : (ns set : List (List ℕ)) (m : List ℕ) → has_name (with_names set ns) m ≡ (has_name set m || has_name ns m)
+has-with_names ns set m = in-each nat_list_cmp_total nat_list_eq_equiv texts_ties ns set m
+
+sorted-with_names : (ns set : List (List ℕ)) → IsStrictlySortedBy name_cmp set → IsStrictlySortedBy name_cmp (with_names set ns)
+sorted-with_names ns set h = sorted-each nat_list_cmp_total ns set h
 
 -- the fields with those of images
 kept : (js : List SetImage) (f : Shared)
     → with_all_shared f js
     ≡ record f {
       tags = (with_all_shared f js).tags;
+      affects = (with_all_shared f js).affects;
       found = (with_all_shared f js).found;
       fixed = (with_all_shared f js).fixed;
       blockers = (with_all_shared f js).blockers;
@@ -99,6 +100,20 @@ has-all_tags (j ∷ js) f t =
 set-all_tags : (js : List SetImage) (f : Shared) → IsTagSet f.tags → IsTagSet (with_all_shared f js).tags
 set-all_tags [] f h = h
 set-all_tags (j ∷ js) f h = set-all_tags js (with_shared f j.shared) (set-with_tags j.shared.tags f.tags h)
+
+has-all_affects : (js : List SetImage) (f : Shared) (m : List ℕ)
+    → has_name (with_all_shared f js).affects m ≡ (has_name f.affects m || list_any (λ j. has_name j.shared.affects m) js)
+has-all_affects [] f m = or_nothing (has_name f.affects m)
+has-all_affects (j ∷ js) f m =
+    has-all_affects js (with_shared f j.shared) m
+    ∙ ap (λ b. b || list_any (λ j. has_name j.shared.affects m) js) (has-with_names j.shared.affects f.affects m)
+    ∙ or_group (has_name f.affects m) (has_name j.shared.affects m) (list_any (λ j. has_name j.shared.affects m) js)
+
+sorted-all_affects : (js : List SetImage) (f : Shared) → IsStrictlySortedBy name_cmp f.affects
+    → IsStrictlySortedBy name_cmp (with_all_shared f js).affects
+sorted-all_affects [] f h = h
+sorted-all_affects (j ∷ js) f h =
+    sorted-all_affects js (with_shared f j.shared) (sorted-with_names j.shared.affects f.affects h)
 
 has-all_found : (js : List SetImage) (f : Shared) (m : Node)
     → has_node (with_all_shared f js).found m ≡ (has_node f.found m || list_any (λ j. has_node j.shared.found m) js)
@@ -143,25 +158,30 @@ sorted-none : IsStrictlySortedBy node_cmp []
 unfolding IsStrictlySortedBy
 sorted-none = tt
 
+sorted-no_name : IsStrictlySortedBy name_cmp []
+unfolding IsStrictlySortedBy
+sorted-no_name = tt
+
 -- they are the joined fields of the listed bugs, among which is one of the first image; the members
 -- have the numbers that are merged with some of them
 pub joined-fields : (is : List SetImage) (ns : List ℕ) (n : ℕ) (i : SetImage) (x : Member) → AreApart is → has ns n ≡ true
     → bug_in is n ≡ Some (bug_of i x)
     → IsTagSet i.shared.tags → (ms : List Member) → numbers_of ms ≡ all_merged (bugs_at (bug_in is) ns)
-    → without_own ms (record (with_all_shared (without_marks_and_blockers i.shared) (those_meant ns is)) { owner = first_owner (bugs_at (bug_in is) ns) })
+    → without_own ms (record (with_all_shared (without_gathered i.shared) (those_meant ns is)) { owner = first_owner (bugs_at (bug_in is) ns) })
     ≡ joined_shared i.shared (bugs_at (bug_in is) ns)
 joined-fields is ns n i x a h e tags ms numbers =
     (λ j. without_own ms (record (kept js f j) { owner = first_owner bugs }))
     ∙ (λ j. record i.shared {
       owner = first_owner bugs;
       tags = same_tags j;
+      affects = same_affects j;
       found = same_found j;
       fixed = same_fixed j;
       blockers = filter (λ m. not (has (numbers j) m)) (same_blockers j);
     })
   where
     f : Shared
-    f = without_marks_and_blockers i.shared
+    f = without_gathered i.shared
 
     js : List SetImage
     js = those_meant ns is
@@ -179,6 +199,12 @@ joined-fields is ns n i x a h e tags ms numbers =
     same_tags : (with_all_shared f js).tags ≡ joined_tags bugs
     same_tags = same-tag_sets (with_all_shared f js).tags (joined_tags bugs) (set-all_tags js f tags) (set-joined_tags bugs)
         (λ t. has-all_tags js f t ∙ some (λ s. has_tag s.tags t) ∙ sym (has-joined_tags bugs t))
+
+    same_affects : (with_all_shared f js).affects ≡ name_set (all_of (λ b. b.shared.affects) bugs)
+    same_affects = same-sorted_names (with_all_shared f js).affects (name_set (all_of (λ b. b.shared.affects) bugs))
+        (sorted-all_affects js f sorted-no_name) (sorted-name_set (all_of (λ b. b.shared.affects) bugs))
+        (λ m. has-all_affects js f m ∙ meant-listed (λ s. has_name s.affects m) is ns a
+        ∙ sym (has-joined_names bugs m))
 
     same_found : (with_all_shared f js).found ≡ node_set (all_of (λ b. b.shared.found) bugs)
     same_found = same-sorted_nodes (with_all_shared f js).found (node_set (all_of (λ b. b.shared.found) bugs))

@@ -81,6 +81,7 @@ step-with d head sender (commands.NotForwarded n) h = refl
 step-with d head sender (commands.Owner n who) h = refl
 step-with d head sender (commands.NoOwner n) h = refl
 step-with d head sender (commands.Unarchive n) h = refl
+step-with d head sender (commands.Affects n step names) h = refl
 
 -- a command that changes no set
 pub planned-others : (head : Option Node) (sender : List ℕ) (command : Command ℕ) (is : List SetImage) (next : ℕ)
@@ -116,3 +117,4 @@ planned-others head sender (commands.Owner n who) is next result a b c e h = h
 planned-others head sender (commands.NoOwner n) is next result a b c e h = h
 planned-others head sender (commands.Archive n) is next result a b c e h = h
 planned-others head sender (commands.Unarchive n) is next result a b c e h = h
+planned-others head sender (commands.Affects n step names) is next result a b c e h = h

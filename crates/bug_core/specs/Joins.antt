@@ -1,10 +1,11 @@
 -- What joined sets have, one image after another.
 use Rattle.std.specs.Prelude.{ℕ, ◌≡◌, Bool, not, ◌==◌, List, [], ◌∷◌, filter, if◌then◌else◌}
 use Rattle.std.specs.Map.{values_of}
-use Rattle.ancestry.specs.Nodes.{Node}
+use Rattle.ancestry.specs.Nodes.{Node, node_cmp}
 use Rattle.bug_record.specs.Sets.{has, Each, IsAscending, with_items}
 use Rattle.bug_record.specs.Tags.{tag_place}
-use Rattle.bug_record.specs.Marks.{with_node}
+use Rattle.bug_record.specs.Ordered.{with_each}
+use Rattle.bug_record.specs.PackageSets.{name_cmp}
 use Rattle.bug_record.specs.Bugs.{bugs_at}
 use Rattle.bug_record.specs.Images.{numbers_of, bug_in}
 use Rattle.bug_record.specs.Merges.{first_owner}
@@ -13,10 +14,12 @@ use Rattle.bug_record.specs.declared.bug.Member.{Member}
 use Rattle.bug_record.specs.declared.bug.SetImage.{SetImage}
 use Rattle.bug_record.specs.declared.bug.Shared.{Shared}
 
--- a set with all nodes of a list
+-- a set with all nodes of a list, and one with all names
 abbrev pub with_nodes : List Node → List Node → List Node
-with_nodes set [] = set
-with_nodes set (n ∷ nodes) = with_nodes (with_node set n) nodes
+with_nodes set nodes = with_each node_cmp set nodes
+
+abbrev pub with_names : List (List ℕ) → List (List ℕ) → List (List ℕ)
+with_names set names = with_each name_cmp set names
 
 abbrev pub number_of : Member → ℕ
 number_of m = m.number
@@ -35,14 +38,15 @@ abbrev pub with_members : List Member → List SetImage → List Member
 with_members ms [] = ms
 with_members ms (i ∷ is) = with_members (with_items number_of ms i.members) is
 
--- the fields without marks and blockers
-abbrev pub without_marks_and_blockers : Shared → Shared
-without_marks_and_blockers f = record f { found = []; fixed = []; blockers = [] }
+-- the fields without affected packages, marks and blockers
+abbrev pub without_gathered : Shared → Shared
+without_gathered f = record f { affects = []; found = []; fixed = []; blockers = [] }
 
--- the fields with the tags, marks and blockers of another set
+-- the fields with the tags, affected packages, marks and blockers of another set
 abbrev pub with_shared : Shared → Shared → Shared
 with_shared f g = record f {
   tags = with_items tag_place f.tags g.tags;
+  affects = with_names f.affects g.affects;
   found = with_nodes f.found g.found;
   fixed = with_nodes f.fixed g.fixed;
   blockers = with_items (λ n. n) f.blockers g.blockers;
@@ -57,7 +61,7 @@ with_all_shared f (i ∷ is) = with_all_shared (with_shared f i.shared) is
 -- out, and the owner of the first bug that has one
 abbrev pub gathered_shared : Shared → List SetImage → List ℕ → Shared
 gathered_shared f images numbers =
-    record (with_all_shared (without_marks_and_blockers f) (those_meant numbers images)) { owner = first_owner (bugs_at (bug_in images) numbers) }
+    record (with_all_shared (without_gathered f) (those_meant numbers images)) { owner = first_owner (bugs_at (bug_in images) numbers) }
 
 -- the fields without the blockers that are among these members
 abbrev pub without_own : List Member → Shared → Shared

@@ -19,6 +19,7 @@ shared_of_report package_name severity found =
       forwarded = None;
       owner = None;
       tags = [];
+      affects = [];
       found =
           found;
       fixed = [];

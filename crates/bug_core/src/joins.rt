@@ -9,7 +9,7 @@ ghost use Rattle.bug_record.specs.Merges.{first_owner};
 ghost use Rattle.bug_record.specs.Sets.{has, with_item, with_items};
 ghost use Rattle.bug_record.specs.Tags.{tag_place};
 ghost use Rattle.bug_core.specs.Joins.{with_nodes, with_members, with_shared, with_all_shared, gathered_shared};
-ghost use Rattle.bug_core.specs.Joins.{number_of, without_marks_and_blockers, without_own, joined_image, AreByNumber};
+ghost use Rattle.bug_core.specs.Joins.{number_of, without_gathered, without_own, joined_image, AreByNumber};
 ghost use Rattle.bug_record.specs.Marks.{with_node};
 ghost use Rattle.bug_core.specs.Others.{those_meant};
 ghost use Rattle.bug_core.specs.Named.{named_numbers};
@@ -17,7 +17,7 @@ ghost use Rattle.bug_core.specs.Named.{named_numbers};
 use crate::images::{Named, has_any};
 use ancestry::Node;
 use bug_record::{
-    Agreed, Member, Members, Nodes, Sequence, SetImage, Shared, Tag, Tags, add_numbers,
+    Agreed, Member, Members, Sequence, SetImage, Shared, Tag, Tags, add_names, add_numbers,
 };
 use debver::Text;
 use set_images::{Index, member_numbers};
@@ -26,11 +26,12 @@ use std::collections::{BTreeMap, BTreeSet};
 use std::marker::Model;
 
 // Fields that are joined, which contracts see as such.
-// The marks and the blockers are kept apart from the others, so that one more is added in the
-// logarithm of their number.
+// The affected packages, the marks and the blockers are kept apart from the others, so that one
+// more is added in the logarithm of their number.
 #[derive(Drop)]
 struct Joined {
     shared: Shared,
+    affects: BTreeSet<Text>,
     found: BTreeSet<Node>,
     fixed: BTreeSet<Node>,
     blockers: BTreeSet<u64>,
@@ -41,7 +42,7 @@ impl Model for Joined {
 
     ghost Value = { Shared };
 
-    ghost view = { λ j. record j.shared { found = j.found.keys; fixed = j.fixed.keys; blockers = j.blockers.keys } };
+    ghost view = { λ j. record j.shared { affects = j.affects.keys; found = j.found.keys; fixed = j.fixed.keys; blockers = j.blockers.keys } };
 }
 
 // The owner of a bug, if it is there and has one.
@@ -90,17 +91,6 @@ fn add_nodes(set: &mut BTreeSet<Node>, nodes: &[Node]) -> Result<(), AllocError>
     Ok(())
 }
 
-// The nodes of a set, in order.
-fn in_order(alloc: Global, set: BTreeSet<Node>) -> Result<Nodes, AllocError>
-    ensures { IfOk result (λ nodes. nodes ≡ set.keys) }
-{
-    let mut nodes = Sequence::new(alloc);
-    for node in set {
-        nodes.push(node)?;
-    }
-    Ok(nodes)
-}
-
 // Adds a copy of the member, unless there is one of its number.
 fn add_member(map: &mut BTreeMap<u64, Member>, member: &Member) -> Result<(), AllocError>
     requires keyed { AreByNumber map.old.entries }
@@ -125,41 +115,45 @@ fn add_members(map: &mut BTreeMap<u64, Member>, members: &[Member]) -> Result<()
     Ok(())
 }
 
-// Puts the marks and blockers that were gathered into the fields.
+// Puts the affected packages, the marks and the blockers that were gathered into the fields.
 fn put_gathered(
     alloc: Global,
     shared: &mut Shared,
+    affects: BTreeSet<Text>,
     found: BTreeSet<Node>,
     fixed: BTreeSet<Node>,
     blockers: &BTreeSet<u64>,
 ) -> Result<(), AllocError>
     ensures { OnOk result
-        (shared.new ≡ record shared.old { found = found.keys; fixed = fixed.keys; blockers = blockers.now.keys }) }
+        (shared.new ≡ record shared.old { affects = affects.keys; found = found.keys; fixed = fixed.keys; blockers = blockers.now.keys }) }
 {
-    shared.found = in_order(alloc, found)?;
-    shared.fixed = in_order(alloc, fixed)?;
+    shared.affects = Sequence::of_set(alloc, affects)?;
+    shared.found = Sequence::of_set(alloc, found)?;
+    shared.fixed = Sequence::of_set(alloc, fixed)?;
     shared.blockers = Sequence::in_order(alloc, blockers)?;
     Ok(())
 }
 
 impl Joined {
-    // The fields of the first set, without marks and blockers.
+    // The fields of the first set, without affected packages, marks and blockers.
     fn new(alloc: Global, first: &Shared) -> Result<Joined, AllocError>
-        ensures { IfOk result (λ joined. joined ≡ without_marks_and_blockers first.now) }
+        ensures { IfOk result (λ joined. joined ≡ without_gathered first.now) }
     {
         Ok(Joined {
             shared: first.copy()?,
+            affects: BTreeSet::new(alloc),
             found: BTreeSet::new(alloc),
             fixed: BTreeSet::new(alloc),
             blockers: BTreeSet::new(alloc),
         })
     }
 
-    // Adds the tags, marks and blockers of another set.
+    // Adds the tags, affected packages, marks and blockers of another set.
     fn add_shared(&mut self, other: &Shared) -> Result<(), AllocError>
         ensures { OnOk result (self.new ≡ with_shared self.old other.now) }
     {
         add_tags(&mut self.shared.tags, other.tags.as_slice())?;
+        add_names(&mut self.affects, other.affects.as_slice())?;
         add_nodes(&mut self.found, other.found.as_slice())?;
         add_nodes(&mut self.fixed, other.fixed.as_slice())?;
         add_numbers(&mut self.blockers, other.blockers.as_slice())
@@ -170,7 +164,14 @@ impl Joined {
         ensures { IfOk result (λ shared. shared ≡ self) }
     {
         let mut shared = self.shared;
-        put_gathered(alloc, &mut shared, self.found, self.fixed, &self.blockers)?;
+        put_gathered(
+            alloc,
+            &mut shared,
+            self.affects,
+            self.found,
+            self.fixed,
+            &self.blockers,
+        )?;
         Ok(shared)
     }
 }
@@ -203,7 +204,7 @@ fn joined_members(alloc: Global, images: &[SetImage], named: Named) -> Result<Me
     Members::of(members)
 }
 
-// Adds the tags, marks and blockers of all sets of the bugs.
+// Adds the tags, affected packages, marks and blockers of all sets of the bugs.
 fn add_all_shared(joined: &mut Joined, images: &[SetImage], named: Named) -> Result<(), AllocError>
     ensures { OnOk result (joined.new ≡ with_all_shared joined.old (those_meant (named_numbers named.entry) images.now)) }
 {
@@ -223,7 +224,7 @@ fn joined_shared(
     named: Named,
 ) -> Result<Shared, AllocError>
     ensures { IfOk result
-        (λ f. f ≡ with_all_shared (without_marks_and_blockers first.now) (those_meant (named_numbers named.entry) images.now)) }
+        (λ f. f ≡ with_all_shared (without_gathered first.now) (those_meant (named_numbers named.entry) images.now)) }
 {
     let mut joined = Joined::new(alloc, first)?;
     add_all_shared(&mut joined, images, named)?;
@@ -287,9 +288,9 @@ fn gathered_shared(
     Agreed::of(alloc, shared)
 }
 
-/// The image of the set that the bugs' sets become: with the fields of the first one, the tags and
-/// marks of all, the blockers of all but for those that are in the set, and the owner of the first
-/// bug that has one.
+/// The image of the set that the bugs' sets become: with the fields of the first one, the tags,
+/// affected packages and marks of all, the blockers of all but for those that are in the set, and
+/// the owner of the first bug that has one.
 /// The index is that of the images, and the set is that of the numbers.
 pub(crate) fn joined_image(
     alloc: Global,

@@ -54,6 +54,7 @@ fn shared_of_report(
         forwarded: None,
         owner: None,
         tags: Sequence::new(alloc),
+        affects: Sequence::new(alloc),
         found,
         fixed: Sequence::new(alloc),
         blockers: Sequence::new(alloc),

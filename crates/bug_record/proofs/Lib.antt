@@ -2,6 +2,8 @@ pub mod MarkLemmas
 pub mod MergeLemmas
 pub mod NumberLemmas
 pub mod OrderedLemmas
+pub mod OrderedSetLemmas
+pub mod PackageLemmas
 pub mod PlaceLemmas
 pub mod SetLemmas
 pub mod SoundProp

@@ -3,11 +3,11 @@ use Rattle.std.proofs.Common.{◌≡◌, ◌≤◌, ◌+◌, ℕ, suc, true, fal
 use Rattle.std.specs.Prelude.{slice_get, insert, ◌==◌, nat_lt}
 use Rattle.std.proofs.lemmas.Bool.{false≢true}
 use Rattle.std.specs.Ordering.{is_eq, match_ordering}
+use Rattle.std.specs.declared.cmp.Ordering.{Ordering}
 use Rattle.std.specs.declared.cmp.Ordering.TheVariants.{Less, Equal, Greater}
-use Rattle.ancestry.specs.Nodes.{Node, node_cmp}
+use Rattle.std.specs.BTreeSet.{insert_key}
 use Rattle.bug_record.specs.Sets.{with_item}
-use Rattle.bug_record.specs.Marks.{with_node}
-use Rattle.bug_record.specs.Places.{place_for, is_at, place_of_node, is_this_node}
+use Rattle.bug_record.specs.Places.{place_for, is_at, place_in, is_this}
 
 -- the place for an item is within the list
 pub place_for-le : {T : Type 0} (key : T → ℕ) (ys : List T) (n : ℕ) → place_for key ys n ≤ length ys
@@ -50,44 +50,45 @@ with_item-new key (y ∷ ys) x h =
     add-comm-one : (k : ℕ) → 1 + k ≡ suc k
     add-comm-one k = omega arith
 
--- ---- the same of nodes, in node order
+-- ---- the same in a list in an order
 
-pub place_of_node-le : (nodes : List Node) (n : Node) → place_of_node nodes n ≤ length nodes
-place_of_node-le [] n = omega arith
-place_of_node-le (m ∷ nodes) n =
-    elim (node_cmp n m) as (λ o. match_ordering o 0 0 (1 + place_of_node nodes n) ≤ length (m ∷ nodes))
-    [ Less ↦ omega arith | Equal ↦ omega arith | Greater ↦ omega (arith, place_of_node-le nodes n) ]
+pub place_in-le : {T : Type 0} (cmp : T → T → Ordering) (ys : List T) (x : T) → place_in cmp ys x ≤ length ys
+place_in-le cmp [] x = omega arith
+place_in-le cmp (y ∷ ys) x =
+    elim (cmp x y) as (λ o. match_ordering o 0 0 (1 + place_in cmp ys x) ≤ length (y ∷ ys))
+    [ Less ↦ omega arith | Equal ↦ omega arith | Greater ↦ omega (arith, place_in-le cmp ys x) ]
 
 one_more : (k : ℕ) → 1 + k ≡ suc k
 one_more k = omega arith
 
--- where the node stands nothing is added
-pub with_node-same : (nodes : List Node) (n : Node) → is_this_node (slice_get nodes (place_of_node nodes n)) n ≡ true
-    → with_node nodes n ≡ nodes
-with_node-same [] n h = absurd (false≢true h)
-with_node-same (m ∷ nodes) n h =
-    elim (node_cmp n m) as (λ o. node_cmp n m ≡ o
-    → is_this_node (slice_get (m ∷ nodes) (match_ordering o 0 0 (1 + place_of_node nodes n))) n ≡ true
-    → match_ordering o (n ∷ m ∷ nodes) (m ∷ nodes) (m ∷ with_node nodes n) ≡ m ∷ nodes) [
+-- where the item stands nothing is added
+pub insert_key-same : {T : Type 0} (cmp : T → T → Ordering) (ys : List T) (x : T)
+    → is_this cmp (slice_get ys (place_in cmp ys x)) x ≡ true → insert_key cmp ys x ≡ ys
+insert_key-same cmp [] x h = absurd (false≢true h)
+insert_key-same cmp (y ∷ ys) x h =
+    elim (cmp x y) as (λ o. cmp x y ≡ o
+    → is_this cmp (slice_get (y ∷ ys) (match_ordering o 0 0 (1 + place_in cmp ys x))) x ≡ true
+    → match_ordering o (x ∷ y ∷ ys) (y ∷ ys) (y ∷ insert_key cmp ys x) ≡ y ∷ ys) [
       | Less ↦ λ e h. absurd (false≢true (sym (ap is_eq e) ∙ h))
       | Equal ↦ λ e h. refl
-      | Greater ↦ λ e h. ap (λ ns. m ∷ ns)
-          (with_node-same nodes n
-          (subst (λ p. is_this_node (slice_get (m ∷ nodes) p) n ≡ true) (one_more (place_of_node nodes n)) h))
+      | Greater ↦ λ e h. ap (λ zs. y ∷ zs)
+          (insert_key-same cmp ys x
+          (subst (λ p. is_this cmp (slice_get (y ∷ ys) p) x ≡ true) (one_more (place_in cmp ys x)) h))
     ] refl h
 
--- elsewhere the node goes there
-pub with_node-new : (nodes : List Node) (n : Node) → is_this_node (slice_get nodes (place_of_node nodes n)) n ≡ false
-    → insert nodes (place_of_node nodes n) n ≡ with_node nodes n
-with_node-new [] n h = refl
-with_node-new (m ∷ nodes) n h =
-    elim (node_cmp n m) as (λ o. node_cmp n m ≡ o
-    → is_this_node (slice_get (m ∷ nodes) (match_ordering o 0 0 (1 + place_of_node nodes n))) n ≡ false
-    → insert (m ∷ nodes) (match_ordering o 0 0 (1 + place_of_node nodes n)) n
-    ≡ match_ordering o (n ∷ m ∷ nodes) (m ∷ nodes) (m ∷ with_node nodes n)) [
+-- elsewhere the item goes there
+pub insert_key-new : {T : Type 0} (cmp : T → T → Ordering) (ys : List T) (x : T)
+    → is_this cmp (slice_get ys (place_in cmp ys x)) x ≡ false
+    → insert ys (place_in cmp ys x) x ≡ insert_key cmp ys x
+insert_key-new cmp [] x h = refl
+insert_key-new cmp (y ∷ ys) x h =
+    elim (cmp x y) as (λ o. cmp x y ≡ o
+    → is_this cmp (slice_get (y ∷ ys) (match_ordering o 0 0 (1 + place_in cmp ys x))) x ≡ false
+    → insert (y ∷ ys) (match_ordering o 0 0 (1 + place_in cmp ys x)) x
+    ≡ match_ordering o (x ∷ y ∷ ys) (y ∷ ys) (y ∷ insert_key cmp ys x)) [
       | Less ↦ λ e h. refl
       | Equal ↦ λ e h. absurd (false≢true (sym h ∙ ap is_eq e))
-      | Greater ↦ λ e h. subst (λ p. insert (m ∷ nodes) p n ≡ m ∷ with_node nodes n) (sym (one_more (place_of_node nodes n)))
-          (ap (λ ns. m ∷ ns) (with_node-new nodes n
-          (subst (λ p. is_this_node (slice_get (m ∷ nodes) p) n ≡ false) (one_more (place_of_node nodes n)) h)))
+      | Greater ↦ λ e h. subst (λ p. insert (y ∷ ys) p x ≡ y ∷ insert_key cmp ys x) (sym (one_more (place_in cmp ys x)))
+          (ap (λ zs. y ∷ zs) (insert_key-new cmp ys x
+          (subst (λ p. is_this cmp (slice_get (y ∷ ys) p) x ≡ false) (one_more (place_in cmp ys x)) h)))
     ] refl h

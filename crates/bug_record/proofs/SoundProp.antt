@@ -4,13 +4,13 @@ use Rattle.std.proofs.Props.{props}
 use Rattle.std.specs.Coded.{×_prop, Unit-prop, le_prop}
 use Rattle.std.specs.List.Sorted.{IsStrictlySortedBy-prop}
 use Rattle.ancestry.specs.Nodes.{Node, IsNode, node_cmp}
+use Rattle.debver.specs.Names.{IsName}
 use Rattle.ancestry.proofs.ForestProp.{IsNode-prop, IsForest-prop}
 use Rattle.bug_record.specs.Sets.{AllAbove, IsAscending, Each}
 use Rattle.bug_record.specs.Texts.{IsGoodText, IfGiven}
 use Rattle.bug_record.specs.Tags.{tag_place}
 use Rattle.bug_record.specs.Marks.{IsNodeSet}
-use Rattle.bug_record.specs.Tags.{tag_place}
-use Rattle.bug_record.specs.Texts.{IsGoodText, IfGiven}
+use Rattle.bug_record.specs.PackageSets.{name_cmp, IsNameSet}
 use Rattle.bug_record.specs.Desk.{Desk, IsSound, IsMergedWith, IsGoodShared, AreGoodBlockers}
 use Rattle.bug_record.specs.declared.bug.Shared.{Shared}
 use Rattle.bug_record.specs.declared.bug.Bug.{Bug}
@@ -34,6 +34,10 @@ Each-prop P h (x ∷ xs) = ×_prop (h x) (Each-prop P h xs)
 pub IsNodeSet-prop : (nodes : List Node) → IsProp (IsNodeSet nodes)
 IsNodeSet-prop nodes = hlevel (props, IsStrictlySortedBy-prop node_cmp nodes, Each-prop IsNode IsNode-prop nodes)
 
+IsNameSet-prop : (names : List (List ℕ)) → IsProp (IsNameSet names)
+IsNameSet-prop names =
+    hlevel (props, IsStrictlySortedBy-prop name_cmp names, Each-prop IsName (λ text. hlevel props) names)
+
 IfGiven-prop : {T : Type 0} (P : T → Type 0) → ((x : T) → IsProp (P x)) → (o : Option T) → IsProp (IfGiven P o)
 IfGiven-prop P h None = Unit-prop
 IfGiven-prop P h (Some x) = h x
@@ -48,6 +52,7 @@ IsGoodShared-prop f =
       IfGiven-prop IsGoodText IsGoodText-prop f.forwarded,
       IfGiven-prop IsGoodText IsGoodText-prop f.owner,
       IsAscending-prop (map tag_place f.tags),
+      IsNameSet-prop f.affects,
       IsNodeSet-prop f.found,
       IsNodeSet-prop f.fixed,
     )

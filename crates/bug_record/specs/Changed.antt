@@ -23,11 +23,14 @@ same_nodes ns ms = pointwise same_node ns ms
 abbrev pub same_tags : List Tag → List Tag → Bool
 same_tags ts us = pointwise same_tag ts us
 
+abbrev pub same_names : List (List ℕ) → List (List ℕ) → Bool
+same_names ns ms = pointwise bytes_eq ns ms
+
 abbrev pub same_shared : Shared → Shared → Bool
 same_shared s t =
     (bytes_eq s.package t.package && (rank s.severity == rank t.severity)) && same_state s t
     && (same_text s.forwarded t.forwarded && same_text s.owner t.owner && same_tags s.tags t.tags)
-    && (same_nodes s.found t.found && same_nodes s.fixed t.fixed)
+    && (same_names s.affects t.affects && (same_nodes s.found t.found && same_nodes s.fixed t.fixed))
     && (bytes_eq s.blockers t.blockers && same_flag s.archived t.archived)
 
 abbrev pub same_bugs : Bug → Bug → Bool

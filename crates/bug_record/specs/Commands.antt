@@ -5,6 +5,7 @@ use Rattle.std.specs.Str.{is_utf8}
 use Rattle.debver.specs.Names.{IsName}
 use Rattle.debver.specs.Cut.{IsVersion}
 use Rattle.ancestry.specs.Nodes.{Node, node}
+use Rattle.bug_record.specs.Sets.{Each}
 use Rattle.bug_record.specs.Texts.{IsText, IfGiven}
 use Rattle.bug_record.specs.declared.command.Command.{Command}
 use Rattle.bug_record.specs.declared.command.Command.TheVariants as commands
@@ -54,6 +55,7 @@ HasGoodParts (commands.Owner n who) = IsGoodPerson who
 HasGoodParts (commands.NoOwner n) = ⊤
 HasGoodParts (commands.Archive n) = ⊤
 HasGoodParts (commands.Unarchive n) = ⊤
+HasGoodParts (commands.Affects n step names) = Each IsName names
 
 abbrev pub IsUtf8Person : Who → Type 0
 IsUtf8Person Sender = ⊤
@@ -93,6 +95,7 @@ bug_named (commands.Owner n who) = n
 bug_named (commands.NoOwner n) = n
 bug_named (commands.Archive n) = n
 bug_named (commands.Unarchive n) = n
+bug_named (commands.Affects n step names) = n
 
 -- the bugs that it names besides
 abbrev pub other_bugs : {N : Type 0} → Command N → List N
@@ -136,3 +139,4 @@ command_over f (commands.Owner n who) = commands.Owner (f n) who
 command_over f (commands.NoOwner n) = commands.NoOwner (f n)
 command_over f (commands.Archive n) = commands.Archive (f n)
 command_over f (commands.Unarchive n) = commands.Unarchive (f n)
+command_over f (commands.Affects n step names) = commands.Affects (f n) step names

@@ -7,6 +7,7 @@ use Rattle.bug_record.specs.Sets.{has, IsAscending}
 use Rattle.bug_record.specs.Texts.{IsGoodText, IfGiven}
 use Rattle.bug_record.specs.Tags.{IsTagSet}
 use Rattle.bug_record.specs.Marks.{IsNodeSet}
+use Rattle.bug_record.specs.PackageSets.{IsNameSet}
 use Rattle.bug_record.specs.declared.bug.Bug.{Bug}
 use Rattle.bug_record.specs.declared.bug.Shared.{Shared}
 
@@ -22,12 +23,14 @@ abbrev pub IsMergedWith : Bug → Option Bug → Type 0
 IsMergedWith b None = ⊥
 IsMergedWith b (Some c) = (c.merged ≡ b.merged) × (c.shared ≡ b.shared)
 
--- the limits of shared fields: tags are a set, and marks are sets of nodes
+-- the limits of shared fields: tags are a set, affected packages are a set of names, and marks are
+-- sets of nodes
 pub record IsGoodShared (f : Shared) : Type 0 where
   pub package_name : IsName f.package
   pub forwarded : IfGiven IsGoodText f.forwarded
   pub owner : IfGiven IsGoodText f.owner
   pub tags : IsTagSet f.tags
+  pub affects : IsNameSet f.affects
   pub found : IsNodeSet f.found
   pub fixed : IsNodeSet f.fixed
 

@@ -4,7 +4,9 @@ pub mod Sets
 pub mod Texts
 pub mod Severities
 pub mod Tags
+pub mod Ordered
 pub mod Marks
+pub mod PackageSets
 pub mod Desk
 pub mod Commands
 pub mod Bugs

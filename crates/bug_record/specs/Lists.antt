@@ -1,6 +1,6 @@
--- The bugs of a package that are listed at a version.
+-- The bugs of a package, and those that affect it, that are listed at a version.
 -- This project's own rule.
-use Rattle.std.specs.Prelude.{ℕ, ◌==◌, ◌&&◌, Bool, not, List, flat_map}
+use Rattle.std.specs.Prelude.{ℕ, ◌==◌, ◌&&◌, ◌||◌, Bool, not, List, flat_map}
 use Rattle.std.specs.Str.{bytes_eq}
 use Rattle.ancestry.specs.Nodes.{Node}
 use Rattle.ancestry.specs.Trees.{Ancestry}
@@ -9,14 +9,19 @@ use Rattle.bug_record.specs.Severities.{all_severities, rank}
 use Rattle.bug_record.specs.Heads.{is_found}
 use Rattle.bug_record.specs.Desk.{Desk}
 use Rattle.bug_record.specs.Asked.{numbers_where}
+use Rattle.bug_record.specs.PackageSets.{has_name}
 use Rattle.bug_record.specs.declared.bug.Shared.{Shared}
 use Rattle.bug_record.specs.declared.severity.Severity.{Severity}
 
+-- whether a bug with these shared fields is one of a package or affects it
+abbrev pub concerns : Shared → List ℕ → Bool
+concerns f package_name = bytes_eq f.package package_name || has_name f.affects package_name
+
 -- whether a bug with these shared fields is listed for a package at a node: it is a bug of that
--- package, not archived, and found at the node
+-- package or affects it, is not archived, and is found at the node
 abbrev pub is_listed : Ancestry → List ℕ → Node → Shared → Bool
 is_listed tree package_name node f =
-    bytes_eq f.package package_name && not f.archived && is_found (status tree f.found f.fixed f.closed node)
+    concerns f package_name && not f.archived && is_found (status tree f.found f.fixed f.closed node)
 
 -- whether it is, and of this severity
 abbrev pub is_listed_as : Ancestry → List ℕ → Node → Severity → Shared → Bool

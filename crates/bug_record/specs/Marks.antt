@@ -1,11 +1,13 @@
 -- Sets of nodes, in node order, as a bug's marks are.
 -- This project's own rule.
-use Rattle.std.specs.Prelude.{Bool, not, List, [], ◌∷◌, filter}
+use Rattle.std.specs.Prelude.{Bool, not, List, filter}
+use Rattle.std.specs.BTreeSet.{insert_key}
 use Rattle.std.specs.List.Sorted.{IsStrictlySortedBy}
-use Rattle.std.specs.Ordering.{is_lt, match_ordering}
+use Rattle.std.specs.Ordering.{is_lt}
 use Rattle.std.specs.List.{list_any}
 use Rattle.debver.specs.Versions.{text_cmp}
 use Rattle.ancestry.specs.Nodes.{Node, IsNode, same_node, node_cmp}
+use Rattle.bug_record.specs.Ordered.{ordered_set}
 use Rattle.bug_record.specs.Sets.{Each}
 
 -- each node stands once, in node order, and is a package name and a version
@@ -15,13 +17,11 @@ pub record IsNodeSet (nodes : List Node) : Type 0 where
 
 -- the set with n
 abbrev pub with_node : List Node → Node → List Node
-with_node [] n = n ∷ []
-with_node (m ∷ nodes) n = match_ordering (node_cmp n m) (n ∷ m ∷ nodes) (m ∷ nodes) (m ∷ with_node nodes n)
+with_node nodes n = insert_key node_cmp nodes n
 
 -- the nodes of a list, each once, in node order
 abbrev pub node_set : List Node → List Node
-node_set [] = []
-node_set (n ∷ nodes) = with_node (node_set nodes) n
+node_set nodes = ordered_set node_cmp nodes
 
 -- the set without n
 abbrev pub without_node : List Node → Node → List Node

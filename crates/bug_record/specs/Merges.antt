@@ -6,6 +6,7 @@ use Rattle.std.specs.Option.{option_or}
 use Rattle.bug_record.specs.Sets.{has, number_set}
 use Rattle.bug_record.specs.Tags.{all_tags, has_tag}
 use Rattle.bug_record.specs.Marks.{node_set}
+use Rattle.bug_record.specs.PackageSets.{name_set}
 use Rattle.bug_record.specs.Desk.{Desk}
 use Rattle.bug_record.specs.Bugs.{each_bug, at_bug, unless, first_refusal, bugs_at, all_of}
 use Rattle.bug_record.specs.Differences.{differing}
@@ -34,12 +35,13 @@ abbrev pub joined_blockers : List Bug → List ℕ
 joined_blockers bugs = filter (λ n. not (has (all_merged bugs) n)) (number_set (all_of (λ b. b.shared.blockers) bugs))
 
 -- The shared fields of merged bugs: package, severity, state, forwarded and being archived are
--- those of the first, the owner is that of the first that has one, a tag or a mark is there where
--- some bug has it, and so is a blocker that is not one of the merged bugs.
+-- those of the first, the owner is that of the first that has one, a tag, an affected package or a
+-- mark is there where some bug has it, and so is a blocker that is not one of the merged bugs.
 abbrev pub joined_shared : Shared → List Bug → Shared
 joined_shared first bugs = record first {
   owner = first_owner bugs;
   tags = joined_tags bugs;
+  affects = name_set (all_of (λ b. b.shared.affects) bugs);
   found = node_set (all_of (λ b. b.shared.found) bugs);
   fixed = node_set (all_of (λ b. b.shared.fixed) bugs);
   blockers = joined_blockers bugs;

@@ -1,7 +1,7 @@
--- Places in an ascending list, for the functions that add to one.
+-- Places in an ascending list, and in one in an order, for the functions that add to one.
 use Rattle.std.specs.Prelude.{ℕ, ◌+◌, Bool, false, List, [], ◌∷◌, Option, Some, None, nat_lt, ◌==◌, if◌then◌else◌}
 use Rattle.std.specs.Ordering.{is_eq, match_ordering}
-use Rattle.ancestry.specs.Nodes.{Node, node_cmp}
+use Rattle.std.specs.declared.cmp.Ordering.{Ordering}
 
 -- the place of the first item whose number is not below n
 abbrev pub place_for : {T : Type 0} → (T → ℕ) → List T → ℕ → ℕ
@@ -13,11 +13,12 @@ abbrev pub is_at : {T : Type 0} → (T → ℕ) → Option T → ℕ → Bool
 is_at number None n = false
 is_at number (Some y) n = number y == n
 
--- the same of a node, in a list in node order
-abbrev pub place_of_node : List Node → Node → ℕ
-place_of_node [] n = 0
-place_of_node (m ∷ nodes) n = match_ordering (node_cmp n m) 0 0 (1 + place_of_node nodes n)
+-- the place of the first item that is not below x, in a list in an order
+abbrev pub place_in : {T : Type 0} → (T → T → Ordering) → List T → T → ℕ
+place_in cmp [] x = 0
+place_in cmp (y ∷ ys) x = match_ordering (cmp x y) 0 0 (1 + place_in cmp ys x)
 
-abbrev pub is_this_node : Option Node → Node → Bool
-is_this_node None n = false
-is_this_node (Some m) n = is_eq (node_cmp n m)
+-- whether there is an item, equal to x
+abbrev pub is_this : {T : Type 0} → (T → T → Ordering) → Option T → T → Bool
+is_this cmp None x = false
+is_this cmp (Some y) x = is_eq (cmp x y)

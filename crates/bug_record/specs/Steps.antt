@@ -10,6 +10,7 @@ use Rattle.std.specs.List.{find}
 use Rattle.bug_record.specs.Sets.{has, number_set}
 use Rattle.bug_record.specs.Marks.{with_node, without_node, is_below_some}
 use Rattle.bug_record.specs.Tags.{with_tag, without_tag}
+use Rattle.bug_record.specs.PackageSets.{has_name, name_set}
 use Rattle.bug_record.specs.Desk.{Desk}
 use Rattle.bug_record.specs.Commands.{node_meant, person, bug_named, command_over}
 use Rattle.bug_record.specs.Bugs.{each_bug, with_new_bugs, at_bug, unless, first_of}
@@ -24,6 +25,8 @@ use Rattle.bug_record.specs.declared.severity.Severity.{Severity}
 use Rattle.bug_record.specs.declared.command.Command.{Command}
 use Rattle.bug_record.specs.declared.command.Command.TheVariants as commands
 use Rattle.bug_record.specs.declared.command.VersionArg.{VersionArg}
+use Rattle.bug_record.specs.declared.command.AffectsStep.{AffectsStep}
+use Rattle.bug_record.specs.declared.command.AffectsStep.TheVariants as affecting
 use Rattle.bug_record.specs.declared.command.TagStep.{TagStep}
 use Rattle.bug_record.specs.declared.command.TagStep.TheVariants.{Add, Remove, Clear}
 use Rattle.bug_record.specs.declared.command.Refusal.{Refusal}
@@ -75,6 +78,12 @@ tags_after (Add tag ∷ steps) tags = tags_after steps (with_tag tags tag)
 tags_after (Remove tag ∷ steps) tags = tags_after steps (without_tag tags tag)
 tags_after (Clear ∷ steps) tags = tags_after steps []
 
+-- the packages that a bug affects after this step with these names
+abbrev pub affects_after : AffectsStep → List (List ℕ) → List (List ℕ) → List (List ℕ)
+affects_after affecting.Add names affects = name_set (affects ++ names)
+affects_after affecting.Remove names affects = filter (λ n. not (has_name names n)) affects
+affects_after affecting.Replace names affects = name_set names
+
 -- what a command of this sender makes of the shared fields of the bug that it names, and of those
 -- merged with it
 abbrev pub shared_after : List ℕ → Command ℕ → Shared → Shared
@@ -97,6 +106,7 @@ shared_after sender (commands.Block n ns) f = blocked_by ns f
 shared_after sender (commands.Unblock n ns) f = unblocked_by ns f
 shared_after sender (commands.Archive n) f = record f { archived = true }
 shared_after sender (commands.Unarchive n) f = record f { archived = false }
+shared_after sender (commands.Affects n step names) f = record f { affects = affects_after step names f.affects }
 shared_after sender command f = f
 
 -- the new title of the bug m, where a command gives one: of the bug that it names alone
@@ -181,6 +191,8 @@ new_bug number sender package_name severity title node = record {
     forwarded = None;
     owner = None;
     tags =
+        [];
+    affects =
         [];
     found = found_first node;
     fixed = [];

@@ -6,7 +6,7 @@ ghost use Rattle.bug_record.specs.Images.{numbers_of};
 
 use crate::agreed::Agreed;
 use crate::members::Members;
-use crate::sequence::{Nodes, Numbered, Numbers};
+use crate::sequence::{Names, Nodes, Numbered, Numbers};
 use crate::severity::Severity;
 use crate::tag::Tags;
 use debver::Text;
@@ -23,6 +23,8 @@ pub struct Shared {
     /// Who works on it.
     pub owner: Option<Text>,
     pub tags: Tags,
+    /// The packages under which it is listed too.
+    pub affects: Names,
     /// The nodes that are marked as having the bug.
     pub found: Nodes,
     /// The nodes that are marked as not having it.
@@ -88,12 +90,15 @@ impl Shared {
         ))
     }
 
-    // Copies of the tags, of the found and fixed nodes, and of the blockers.
-    fn copy_sets(&self) -> Result<(Tags, Nodes, Nodes, Numbers), AllocError>
-        ensures { IfOk result (λ r. r ≡ (self.now.tags, self.now.found, self.now.fixed, self.now.blockers)) }
+    // Copies of the tags, of the packages that it affects, of the found and fixed nodes, and of the
+    // blockers.
+    fn copy_sets(&self) -> Result<(Tags, Names, Nodes, Nodes, Numbers), AllocError>
+        ensures { IfOk result
+            (λ r. r ≡ (self.now.tags, self.now.affects, self.now.found, self.now.fixed, self.now.blockers)) }
     {
         Ok((
             self.tags.copy()?,
+            self.affects.copy()?,
             self.found.copy()?,
             self.fixed.copy()?,
             self.blockers.copy()?,
@@ -101,13 +106,13 @@ impl Shared {
     }
 
     /// Equal fields, which share their texts with these.
-    /// It answers out of memory where there is none for the lists of tags, nodes and blockers, or
-    /// where no more copies of a text can be counted.
+    /// It answers out of memory where there is none for the lists of tags, names, nodes and
+    /// blockers, or where no more copies of a text can be counted.
     pub fn copy(&self) -> Result<Shared, AllocError>
         ensures { IfOk result (λ r. r ≡ self.now) }
     {
         let (package, forwarded, owner) = self.copy_texts()?;
-        let (tags, found, fixed, blockers) = self.copy_sets()?;
+        let (tags, affects, found, fixed, blockers) = self.copy_sets()?;
         Ok(Shared {
             package,
             severity: self.severity,
@@ -115,6 +120,7 @@ impl Shared {
             forwarded,
             owner,
             tags,
+            affects,
             found,
             fixed,
             blockers,

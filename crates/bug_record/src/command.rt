@@ -40,6 +40,17 @@ pub enum TagStep {
     Clear,
 }
 
+/// What a command does with the packages that a bug affects.
+#[derive(Clone, Copy, Drop)]
+pub enum AffectsStep {
+    /// These are added.
+    Add,
+    /// These are taken out.
+    Remove,
+    /// These are all that it affects.
+    Replace,
+}
+
 /// A command of the BTS page 'control and manipulation', whose bugs are given as `N`.
 /// A change of a field on which merged bugs agree changes the bug and all bugs that are merged with
 /// it.
@@ -103,6 +114,9 @@ pub enum Command<N> {
     Archive(N),
     /// `unarchive n`: takes the bug out of the archive.
     Unarchive(N),
+    /// `affects n [+|-|=] package ..`: the bug is listed under these packages too, or under these
+    /// no more, or, besides its own, under these alone.
+    Affects(N, AffectsStep, Sequence<Text>),
 }
 
 // A text is UTF-8, as the `str` that it keeps.
@@ -150,7 +164,8 @@ impl Command<u64> {
             | Command::NotForwarded(_)
             | Command::NoOwner(_)
             | Command::Archive(_)
-            | Command::Unarchive(_) => {}
+            | Command::Unarchive(_)
+            | Command::Affects(_, _, _) => {}
         }
     }
 }

@@ -7,6 +7,7 @@ ghost use Rattle.std.specs.List.Sorted.{IsStrictlySortedBy};
 ghost use Rattle.ancestry.specs.Nodes.{Node, same_node, node_cmp};
 ghost use Rattle.bug_record.specs.Sets.{has, IsAscending};
 ghost use Rattle.bug_record.specs.Marks.{with_node, without_node};
+ghost use Rattle.bug_record.specs.PackageSets.{name_cmp, has_name};
 ghost use Rattle.ancestry.specs.Trees.{has_node};
 ghost use Rattle.bug_record.specs.Tags.{has_tag, IsTagSet};
 ghost use Rattle.bug_record.specs.Merges.{all_merged, joined_tags, joined_shared};
@@ -15,11 +16,13 @@ ghost use Rattle.bug_record.specs.declared.bug.Shared.{Shared};
 ghost use Rattle.bug_record.specs.declared.tag.Tag.{Tag};
 
 /// Merged bugs have together what some of them has: a bug is merged with them where it is merged
-/// with one of them, a tag or a mark is theirs where one of them has it, and so is a blocker that
-/// is merged with none of them.
+/// with one of them, a tag, an affected package or a mark is theirs where one of them has it, and
+/// so is a blocker that is merged with none of them.
 pub fn joined_by_membership()
     ensures merged { (bugs : List Bug) (m : ℕ) → has (all_merged bugs) m ≡ list_any (λ b. has b.merged m) bugs }
     ensures tags { (bugs : List Bug) (t : Tag) → has_tag (joined_tags bugs) t ≡ list_any (λ b. has_tag b.shared.tags t) bugs }
+    ensures affects { (first : Shared) (bugs : List Bug) (n : List ℕ) →
+        has_name (joined_shared first bugs).affects n ≡ list_any (λ b. has_name b.shared.affects n) bugs }
     ensures found { (first : Shared) (bugs : List Bug) (n : Node) →
         has_node (joined_shared first bugs).found n ≡ list_any (λ b. has_node b.shared.found n) bugs }
     ensures fixed { (first : Shared) (bugs : List Bug) (n : Node) →
@@ -29,11 +32,12 @@ pub fn joined_by_membership()
         ≡ (list_any (λ b. has b.shared.blockers n) bugs && not (list_any (λ b. has b.merged n) bugs)) }
 {}
 
-/// The bugs, the tags, the marks and the blockers of a joined set are sets: each item stands in its
-/// place, once.
+/// The bugs, the tags, the affected packages, the marks and the blockers of a joined set are sets:
+/// each item stands in its place, once.
 pub fn joined_are_sets()
     ensures merged { (bugs : List Bug) → IsAscending (all_merged bugs) }
     ensures tags { (bugs : List Bug) → IsTagSet (joined_tags bugs) }
+    ensures affects { (first : Shared) (bugs : List Bug) → IsStrictlySortedBy name_cmp (joined_shared first bugs).affects }
     ensures found { (first : Shared) (bugs : List Bug) → IsStrictlySortedBy node_cmp (joined_shared first bugs).found }
     ensures fixed { (first : Shared) (bugs : List Bug) → IsStrictlySortedBy node_cmp (joined_shared first bugs).fixed }
     ensures blockers { (first : Shared) (bugs : List Bug) → IsAscending (joined_shared first bugs).blockers }

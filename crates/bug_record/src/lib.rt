@@ -15,10 +15,15 @@ mod texts;
 
 pub use agreed::Agreed;
 pub use bug::{Bug, Member, SetImage, Shared};
-pub use command::{Change, Command, Field, PlanFault, Refusal, TagStep, VersionArg, Who};
+pub use command::{
+    AffectsStep, Change, Command, Field, PlanFault, Refusal, TagStep, VersionArg, Who,
+};
 pub use laws::{joined_are_sets, joined_by_membership, marks_by_membership};
 pub use members::Members;
-pub use sequence::{Nodes, Numbered, Numbers, Sequence, add_number, add_numbers, number_set};
+pub use sequence::{
+    Names, Nodes, Numbered, Numbers, Sequence, add_names, add_number, add_numbers, name_set,
+    number_set,
+};
 pub use severity::Severity;
 pub use tag::{Tag, Tags};
 pub use texts::is_text;

@@ -8,10 +8,13 @@ ghost use Rattle.bug_record.specs.Places.{place_for, is_at};
 use std::alloc::{AllocError, Global};
 use std::marker::Model;
 
+mod names;
 mod nodes;
 mod numbers;
+mod ordered;
 mod tags;
 
+pub use names::{Names, add_names, name_set};
 pub use nodes::Nodes;
 pub use numbers::{Numbers, add_number, add_numbers, number_set};
 

@@ -114,6 +114,7 @@ fn image_of(
         found,
         fixed,
         blockers,
+        affects: Sequence::new(alloc),
         archived: false,
     };
     Ok(SetImage {
@@ -122,7 +123,8 @@ fn image_of(
     })
 }
 
-// Adds an edit in a few words; of nearest marks nothing, since their order is none.
+// Adds an edit in a few words; of nearest marks nothing, since their order is none, and of the
+// packages that the set affects nothing, since the examples have none.
 fn add_edit(out: &mut String, edit: &Edit) -> Result<(), AllocError> {
     match edit {
         Edit::DropMember { number } => write!(out, " -bug {number}"),

@@ -13,7 +13,7 @@ all_command_words =
     ∷ command_words.Submitter ∷ command_words.Reassign ∷ command_words.Merge ∷ command_words.ForceMerge
     ∷ command_words.Unmerge ∷ command_words.Clone ∷ command_words.Block ∷ command_words.Unblock
     ∷ command_words.Forwarded ∷ command_words.NotForwarded ∷ command_words.Owner ∷ command_words.NoOwner
-    ∷ command_words.Archive ∷ command_words.Unarchive ∷ []
+    ∷ command_words.Archive ∷ command_words.Unarchive ∷ command_words.Affects ∷ []
 
 abbrev pub command_name : CommandWord → List ℕ
 command_name command_words.Found = codes "found"
@@ -40,6 +40,7 @@ command_name command_words.Owner = codes "owner"
 command_name command_words.NoOwner = codes "noowner"
 command_name command_words.Archive = codes "archive"
 command_name command_words.Unarchive = codes "unarchive"
+command_name command_words.Affects = codes "affects"
 
 -- the command that a word is, in any ASCII case
 abbrev pub command_word : List ℕ → Option CommandWord

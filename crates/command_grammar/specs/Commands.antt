@@ -9,6 +9,8 @@ use Rattle.bug_record.specs.declared.command.Command.{Command}
 use Rattle.bug_record.specs.declared.command.Command.TheVariants as commands
 use Rattle.bug_record.specs.declared.command.TagStep.{TagStep}
 use Rattle.bug_record.specs.declared.command.TagStep.TheVariants.{Add, Remove, Clear}
+use Rattle.bug_record.specs.declared.command.AffectsStep.{AffectsStep}
+use Rattle.bug_record.specs.declared.command.AffectsStep.TheVariants as affecting
 use Rattle.bug_record.specs.declared.command.VersionArg.{VersionArg}
 use Rattle.bug_record.specs.declared.command.Who.{Who}
 use Rattle.bug_record.specs.declared.command.Who.TheVariants.{Sender, Given}
@@ -22,8 +24,8 @@ use Rattle.command_grammar.specs.Versions.{version_of_word, package_of_word}
 use Rattle.command_grammar.specs.declared.command_word.CommandWord.{CommandWord}
 use Rattle.command_grammar.specs.declared.command_word.CommandWord.TheVariants as command_words
 use Rattle.line_words.specs.declared.named.Named.{Named}
-use Rattle.command_grammar.specs.declared.tags.Sign.{Sign}
-use Rattle.command_grammar.specs.declared.tags.Sign.TheVariants.{Plus, Minus, Equals}
+use Rattle.command_grammar.specs.declared.signs.Sign.{Sign}
+use Rattle.command_grammar.specs.declared.signs.Sign.TheVariants.{Plus, Minus, Equals}
 
 -- what is made of what was read, or its refusal
 abbrev pub and_read : {A B : Type 0} → Result A Refusal → (A → Result B Refusal) → Result B Refusal
@@ -158,11 +160,11 @@ abbrev pub bug_by_bugs : List ℕ → Result (Named × List Named) Refusal
 bug_by_bugs arguments =
     and_read (read_bug (first_word arguments)) (λ bug. and_read (by_bugs (after_word arguments)) (λ others. Ok (bug, others)))
 
--- The sign that a word begins with, and the tag that follows it: one `+`, `-` or `=`, or none.
+-- The sign that a word begins with, and what follows it: one `+`, `-` or `=`, or none.
 -- What signs say here is this project's own rule.
-abbrev pub sign_and_tag : List ℕ → Option Sign × List ℕ
-sign_and_tag [] = (None, [])
-sign_and_tag (c ∷ word) =
+abbrev pub sign_and_rest : List ℕ → Option Sign × List ℕ
+sign_and_rest [] = (None, [])
+sign_and_rest (c ∷ word) =
     if c == 43 then (Some Plus, word)
     else if c == 45 then (Some Minus, word)
     else if c == 61 then (Some Equals, word)
@@ -198,7 +200,7 @@ word_steps adds sign tag = and_read (tag_steps adds tag) (λ steps. Ok (sign_ste
 abbrev pub all_steps : Bool → List (List ℕ) → Result (List TagStep) Refusal
 all_steps adds [] = Ok []
 all_steps adds (word ∷ more) =
-    let signed = sign_and_tag word in
+    let signed = sign_and_rest word in
     let now = adds_after signed.0 adds in
     and_read (word_steps now signed.0 signed.1) (λ steps. and_read (all_steps now more) (λ others. Ok (steps ++ others)))
 
@@ -212,6 +214,38 @@ abbrev pub tags_command : List ℕ → Result (Command Named) Refusal
 tags_command arguments =
     and_read (read_bug (first_word arguments)) (λ bug. and_read (some_steps (words_with_commas (after_word arguments))) (λ steps.
     Ok (commands.Tags bug steps)))
+
+-- the words with what is left of the first one, unless that is nothing
+abbrev pub with_rest : List ℕ → List (List ℕ) → List (List ℕ)
+with_rest [] more = more
+with_rest (c ∷ word) more = (c ∷ word) ∷ more
+
+-- The sign that the first word is or begins with, and the words after the sign.
+-- It holds for all of them.
+abbrev pub sign_and_words : List (List ℕ) → Option Sign × List (List ℕ)
+sign_and_words [] = (None, [])
+sign_and_words (word ∷ more) = let signed = sign_and_rest word in (signed.0, with_rest signed.1 more)
+
+abbrev pub are_given : List (List ℕ) → Bool
+are_given [] = false
+are_given (word ∷ more) = true
+
+-- What is done with packages, which are given or not: without a sign they are added, and without a
+-- sign and a package the set is emptied; `+` and `-` ask for one.
+abbrev pub affects_step : Option Sign → Bool → Result AffectsStep Refusal
+affects_step (Some Equals) given = Ok affecting.Replace
+affects_step (Some Plus) given = if given then Ok affecting.Add else Err Malformed
+affects_step (Some Minus) given = if given then Ok affecting.Remove else Err Malformed
+affects_step None given = if given then Ok affecting.Add else Ok affecting.Replace
+
+-- `affects n [+|-|=] package ..`: after the bug's word commas are blanks too
+abbrev pub affects_command : List ℕ → Result (Command Named) Refusal
+affects_command arguments =
+    let signed = sign_and_words (words_with_commas (after_word arguments)) in
+    and_read (read_bug (first_word arguments)) (λ bug.
+    and_read (affects_step signed.0 (are_given signed.1)) (λ step.
+    and_read (each_word read_package signed.1) (λ names.
+    Ok (commands.Affects bug step names))))
 
 -- the command that its own word and the text after it give
 abbrev pub command_of : CommandWord → List ℕ → Result (Command Named) Refusal
@@ -247,3 +281,4 @@ command_of command_words.Owner arguments = and_read (bug_and_some_who arguments)
 command_of command_words.NoOwner arguments = and_read (bug_alone (words arguments)) (λ bug. Ok (commands.NoOwner bug))
 command_of command_words.Archive arguments = and_read (bug_alone (words arguments)) (λ bug. Ok (commands.Archive bug))
 command_of command_words.Unarchive arguments = and_read (bug_alone (words arguments)) (λ bug. Ok (commands.Unarchive bug))
+command_of command_words.Affects arguments = affects_command arguments

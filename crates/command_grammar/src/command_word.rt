@@ -33,10 +33,11 @@ pub enum CommandWord {
     NoOwner,
     Archive,
     Unarchive,
+    Affects,
 }
 
 // All words of commands.
-const ALL: [CommandWord; 24] = [
+const ALL: [CommandWord; 25] = [
     CommandWord::Found,
     CommandWord::NotFound,
     CommandWord::Fixed,
@@ -61,6 +62,7 @@ const ALL: [CommandWord; 24] = [
     CommandWord::NoOwner,
     CommandWord::Archive,
     CommandWord::Unarchive,
+    CommandWord::Affects,
 ];
 
 impl CommandWord {
@@ -100,6 +102,7 @@ impl CommandWord {
             CommandWord::NoOwner => "noowner",
             CommandWord::Archive => "archive",
             CommandWord::Unarchive => "unarchive",
+            CommandWord::Affects => "affects",
         }
     }
 }

@@ -4,6 +4,7 @@ ghost use Rattle.std.specs.Prelude.{◌≡◌};
 ghost use Rattle.command_grammar.specs.Commands.{command_of};
 ghost use Rattle.command_grammar.specs.Reads.{Reads};
 
+use crate::affects::read_affects;
 use crate::blocks::{read_block, read_unblock};
 use crate::clones::read_clone;
 use crate::command_word::CommandWord;
@@ -71,5 +72,6 @@ pub fn read_command(
         CommandWord::NoOwner => Ok(Command::NoOwner(bug_alone(arguments)?)),
         CommandWord::Archive => Ok(Command::Archive(bug_alone(arguments)?)),
         CommandWord::Unarchive => Ok(Command::Unarchive(bug_alone(arguments)?)),
+        CommandWord::Affects => read_affects(alloc, arguments),
     }
 }

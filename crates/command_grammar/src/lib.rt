@@ -2,6 +2,7 @@
 //! are refused, by the BTS page 'control and manipulation'.
 #![tactic(auto)]
 
+mod affects;
 mod blocks;
 mod bugs;
 mod clones;
@@ -13,9 +14,11 @@ mod merges;
 mod reassign;
 mod severity;
 mod shapes;
+mod signs;
 mod tags;
 mod texts;
 
 pub use command_word::CommandWord;
 pub use commands::read_command;
 pub use fault::LineFault;
+pub use signs::Sign;

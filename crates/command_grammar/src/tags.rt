@@ -2,43 +2,16 @@
 
 ghost use Rattle.std.specs.Prelude.{◌≡◌, true};
 ghost use Rattle.line_words.specs.Words.{words_with_commas};
-ghost use Rattle.command_grammar.specs.Commands.{sign_and_tag, adds_after, tag_step, word_steps, all_steps, tags_command};
+ghost use Rattle.command_grammar.specs.Commands.{adds_after, tag_step, word_steps, all_steps, tags_command};
 ghost use Rattle.command_grammar.specs.Reads.{Reads};
 ghost use Rattle.command_grammar.specs.Growing.{ReadsMore};
 
 use crate::fault::LineFault;
 use crate::shapes::{MALFORMED, read_bug};
+use crate::signs::{Sign, sign_and_rest};
 use bug_record::{Command, Refusal, Sequence, Tag, TagStep};
 use line_words::{Named, next_word, split_word_with_commas};
 use std::alloc::Global;
-
-/// A sign that a word begins with.
-#[derive(Clone, Copy, Debug, PartialEq, Eq, Drop)]
-pub(crate) enum Sign {
-    /// `+`: the tags after it are added.
-    Plus,
-    /// `-`: the tags after it are taken out.
-    Minus,
-    /// `=`: all tags are taken out, and those after it are added.
-    Equals,
-}
-
-// The sign that a word begins with, and the tag that follows it.
-fn sign_and_tag(word: &str) -> (Option<Sign>, &str)
-    ensures sign { result.0 ≡ (sign_and_tag word.now).0 }
-    ensures tag { result.1.now ≡ (sign_and_tag word.now).1 }
-{
-    if let Some(tag) = word.strip_prefix('+') {
-        return (Some(Sign::Plus), tag);
-    }
-    if let Some(tag) = word.strip_prefix('-') {
-        return (Some(Sign::Minus), tag);
-    }
-    if let Some(tag) = word.strip_prefix('=') {
-        return (Some(Sign::Equals), tag);
-    }
-    (None, word)
-}
 
 // Whether tags are added after a sign, or without one as before.
 fn adds_after(sign: Option<Sign>, adds: bool) -> bool
@@ -91,7 +64,7 @@ fn all_steps(alloc: Global, text: &str) -> Result<Sequence<TagStep>, LineFault>
     let mut adds = true;
     let mut rest = text;
     while let Some((word, more)) = split_word_with_commas(rest) {
-        let (sign, tag) = sign_and_tag(word);
+        let (sign, tag) = sign_and_rest(word);
         adds = adds_after(sign, adds);
         push_steps(&mut steps, adds, sign, tag)?;
         rest = more;

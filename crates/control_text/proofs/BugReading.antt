@@ -49,7 +49,7 @@ bug_alone-good (n ∷ m ∷ ws) = tt
 abbrev AreSome : {A : Type 0} → (A → Type 0) → List A → Type 0
 AreSome P xs = Each P xs × (0 < length xs)
 
-each_word-good : {A : Type 0} (read : List ℕ → Result A Refusal) (P : A → Type 0) → ((word : List ℕ) → IfOk (read word) P)
+pub each_word-good : {A : Type 0} (read : List ℕ → Result A Refusal) (P : A → Type 0) → ((word : List ℕ) → IfOk (read word) P)
     → (ws : List (List ℕ)) → IfOk (each_word read ws) (Each P)
 each_word-good read P each [] = tt
 each_word-good read P each (word ∷ ws) =
@@ -57,7 +57,7 @@ each_word-good read P each (word ∷ ws) =
     and_read-good (each_word read ws) (λ xs. Ok (x ∷ xs)) (Each P) (Each P) (each_word-good read P each ws)
     (λ xs fine. (good, fine)))
 
-some_words-good : {A : Type 0} (read : List ℕ → Result A Refusal) (P : A → Type 0) → ((word : List ℕ) → IfOk (read word) P)
+pub some_words-good : {A : Type 0} (read : List ℕ → Result A Refusal) (P : A → Type 0) → ((word : List ℕ) → IfOk (read word) P)
     → (word : List ℕ) (ws : List (List ℕ)) → IfOk (each_word read (word ∷ ws)) (AreSome P)
 some_words-good read P each word ws =
     and_read-good (read word) _ P (AreSome P) (each word) (λ x good.

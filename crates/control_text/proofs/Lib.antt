@@ -10,4 +10,5 @@ pub mod MergeSpelling
 pub mod CloneSpelling
 pub mod BlockSpelling
 pub mod StepSpelling
+pub mod AffectsSpelling
 pub mod SpellingLaw

@@ -1,12 +1,12 @@
 -- Words of printed ASCII characters: they hold no blank and no control character.
 use Rattle.std.proofs.Common.{◌≡◌, ℕ, ◌^◌, ◌≤◌, ◌<◌, ◌&&◌, ◌||◌, ◌==◌, nat_le, Bool, true, false, not, List, [], ◌∷◌, ◌++◌}
-use Rattle.std.proofs.Common.{length, Option, Some, None, refl, ap, ◌∙◌, inl, inr, arith}
+use Rattle.std.proofs.Common.{length, Option, Some, None, refl, sym, ap, ◌∙◌, inl, inr, arith}
 use Rattle.std.specs.List.{list_any, list_all}
 use Rattle.std.specs.Char.{is_ascii_digit, is_ascii_control}
 use Rattle.std.specs.Int.{is_in_range}
 use Rattle.std.specs.Fmt.{decimal}
 use Rattle.std.specs.Str.Parse.{digits_value}
-use Rattle.std.proofs.lemmas.Bool.{or_cases, and_parts, and_from, and_left, and_right, or_from, false_from_ne_true, leb-true}
+use Rattle.std.proofs.lemmas.Bool.{false≢true, or_cases, and_parts, and_from, and_left, and_right, or_from, false_from_ne_true, leb-true}
 use Rattle.std.proofs.lemmas.Bool.{le-leb, eqb-true, ne_eqb}
 use Rattle.std.proofs.lemmas.List.Folds.{list_all-append}
 use Rattle.std.proofs.lemmas.Fmt.{decimal_is_IsNumeral, length-decimal-le}
@@ -183,6 +183,20 @@ digit_whole c h =
     let p = and_parts (nat_le 48 c) (nat_le c 57) h in
     let low = leb-true 48 c p.0 in
     or_from (is_blank c) (c == 44) (no_blank c (omega arith)) (ne_eqb c 44 (λ e. omega arith))
+
+in_name-whole : (c : ℕ) → in_name c ≡ true → is_blank_or_comma c ≡ false
+in_name-whole c h =
+    let low = leb-true 33 c (and_parts (nat_le 33 c) (nat_le c 126) (name_byte c h)).0 in
+    or_from (is_blank c) (c == 44) (no_blank c (omega arith)) (ne_eqb c 44 (λ e. false≢true (ap in_name (sym e) ∙ h)))
+
+names-whole : (s : List ℕ) → list_all in_name s ≡ true → list_any is_blank_or_comma s ≡ false
+names-whole [] h = refl
+names-whole (c ∷ s) h =
+    let p = and_parts (in_name c) (list_all in_name s) h in
+    or_from (is_blank_or_comma c) (list_any is_blank_or_comma s) (in_name-whole c p.0) (names-whole s p.1)
+
+pub name-whole : (s : List ℕ) → IsName s → list_any is_blank_or_comma s ≡ false
+name-whole s h = names-whole s h.bytes
 
 digits-whole : (s : List ℕ) → list_all is_ascii_digit s ≡ true → list_any is_blank_or_comma s ≡ false
 digits-whole [] h = refl

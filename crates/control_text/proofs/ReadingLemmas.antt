@@ -1,5 +1,5 @@
 -- What a line gives is well formed.
-use Rattle.std.proofs.Common.{◌≡◌, ℕ, ◌≤◌, List, [], ◌∷◌, length, ◌&&◌, nat_lt, true, false, Option, Result, Some}
+use Rattle.std.proofs.Common.{◌≡◌, ◌<◌, ℕ, ◌≤◌, List, [], ◌∷◌, length, ◌&&◌, nat_lt, true, false, Option, Result, Some}
 use Rattle.std.proofs.Common.{None, Ok, Err, refl, cond, sym, ◌∙◌, subst, arith, codes}
 use Rattle.std.specs.Prelude.{IfOk, IfSome, is_none, ⊤}
 use Rattle.std.specs.Option.{ok_or}
@@ -13,6 +13,7 @@ use Rattle.debver.specs.Faults.{text_fault}
 use Rattle.ancestry.specs.Nodes.{node, is_slash, node_of}
 use Rattle.ancestry.proofs.ReadLemmas.{nodes_exactly}
 use Rattle.line_words.specs.Blanks.{is_blank, is_control}
+use Rattle.bug_record.specs.Sets.{Each}
 use Rattle.bug_record.specs.Texts.{IsText, IfGiven}
 use Rattle.bug_record.specs.Severities.{severity_of}
 use Rattle.bug_record.specs.Commands.{IsGoodVersion, IsGoodPerson}
@@ -33,12 +34,17 @@ use Rattle.command_grammar.specs.Versions.{bare_version, sourced_version, versio
 use Rattle.command_grammar.specs.Commands.{and_read, read_bug, read_version, bug_and_version, bug_and_optional_version}
 use Rattle.command_grammar.specs.Commands.{severity_command, read_package, reassign_command, limited_text, who_of_text, some_text}
 use Rattle.command_grammar.specs.Commands.{some_who, optional_who, bug_and_text, bug_and_some_text, bug_and_some_who, bug_alone}
-use Rattle.command_grammar.specs.Commands.{bug_and_names, bug_by_bugs}
+use Rattle.command_grammar.specs.Commands.{bug_and_names, bug_by_bugs, each_word, affects_step, are_given, sign_and_words}
+use Rattle.command_grammar.specs.Commands.{affects_command}
+use Rattle.command_grammar.specs.declared.signs.Sign.{Sign}
+use Rattle.command_grammar.specs.declared.signs.Sign.TheVariants.{Plus, Minus, Equals}
+use Rattle.bug_record.specs.declared.command.AffectsStep.{AffectsStep}
+use Rattle.bug_record.specs.declared.command.AffectsStep.TheVariants as affecting
 use Rattle.command_grammar.specs.Commands.{bug_and_others, some_steps, tags_command, reopen_command, command_of}
-use Rattle.control_text.specs.WellFormed.{IsPlain, IsAddress, IsWellFormed}
+use Rattle.control_text.specs.WellFormed.{IsPlain, IsAddress, HasPackages, IsWellFormed}
 use Rattle.control_text.proofs.TextLemmas.{none-drop, trimmed-text}
 use Rattle.control_text.proofs.BugReading.{ok_or-good, and_read-good, read_bug-good, bug_alone-good, bug_and_others-good}
-use Rattle.control_text.proofs.BugReading.{bug_and_names-good, bug_by_bugs-good}
+use Rattle.control_text.proofs.BugReading.{bug_and_names-good, bug_by_bugs-good, each_word-good, some_words-good}
 
 -- texts that give a node are a package name and a version
 both_good : (s v : List ℕ) → (is_none (name_fault s) && is_none (text_fault v)) ≡ true → IsName s × IsVersion v
@@ -203,15 +209,15 @@ address_who : (who : Who) → IsGoodGiven (λ text. ⊤) who → IsGoodAddress w
 address_who Sender h = (tt, tt)
 address_who (Given text) h = (h.0, h.1)
 
+if_ok : {A : Type 0} (r : Result A Refusal) (P Q : A → Type 0) → IfOk r P → ((x : A) → P x → Q x) → IfOk r Q
+if_ok (Ok x) P Q h each = each x h
+if_ok (Err refusal) P Q h each = tt
+
 some_who-good : (text : List ℕ) → IsTextWithin text → IfOk (some_who text) IsGoodAddress
 some_who-good [] good = tt
 some_who-good (c ∷ text) good =
     if_ok (who_of_text (c ∷ text)) (IsGoodGiven (λ t. ⊤)) IsGoodAddress
     (who_of_text-good (λ t. ⊤) (c ∷ text) tt (good (omega arith))) address_who
-  where
-    if_ok : (r : Result Who Refusal) (P Q : Who → Type 0) → IfOk r P → ((who : Who) → P who → Q who) → IfOk r Q
-    if_ok (Ok who) P Q h each = each who h
-    if_ok (Err refusal) P Q h each = tt
 
 bug_and_some_text-good : (arguments : List ℕ) → list_any is_control arguments ≡ false
     → IfOk (bug_and_some_text arguments) (λ both. IsGoodBug both.0 × IsText both.1)
@@ -242,6 +248,45 @@ tags_command-good arguments =
     (λ bug good.
     and_read-good steps (λ read. Ok (commands.Tags bug read)) (λ _. ⊤) IsWellFormed (any_steps steps)
     (λ read _. record { bugs = (good, tt); parts = tt; spellable = tt }))
+
+-- packages, of which one is given where they are added or taken out
+abbrev AreGoodFor : AffectsStep → List (List ℕ) → Type 0
+AreGoodFor step names = Each IsName names × HasPackages step names
+
+same_step : (sign : Option Sign) (ws : List (List ℕ)) → IfOk (affects_step sign (are_given ws)) (λ step.
+    IfOk (each_word read_package ws) (AreGoodFor step))
+same_step sign ws = steps sign ws (each_word-good read_package IsName read_package-good ws)
+  where
+    replaced : (ws : List (List ℕ)) → IfOk (each_word read_package ws) (Each IsName)
+        → IfOk (each_word read_package ws) (AreGoodFor affecting.Replace)
+    replaced ws h = if_ok (each_word read_package ws) (Each IsName) (AreGoodFor affecting.Replace) h (λ names good. (good, tt))
+
+    some : (w : List ℕ) (ws : List (List ℕ)) → IfOk (each_word read_package (w ∷ ws)) (λ names. Each IsName names × (0 < length names))
+    some w ws = some_words-good read_package IsName read_package-good w ws
+
+    steps : (sign : Option Sign) (ws : List (List ℕ)) → IfOk (each_word read_package ws) (Each IsName)
+        → IfOk (affects_step sign (are_given ws)) (λ step. IfOk (each_word read_package ws) (AreGoodFor step))
+    steps (Some Equals) ws h = replaced ws h
+    steps (Some Plus) [] h = tt
+    steps (Some Plus) (w ∷ ws) h = some w ws
+    steps (Some Minus) [] h = tt
+    steps (Some Minus) (w ∷ ws) h = some w ws
+    steps None [] h = replaced [] h
+    steps None (w ∷ ws) h = some w ws
+
+affects_command-good : (arguments : List ℕ) → IfOk (affects_command arguments) IsWellFormed
+affects_command-good arguments =
+    let signed = sign_and_words (words_with_commas (after_word arguments)) in
+    let of_step : Named → AffectsStep → Result (Command Named) Refusal =
+    λ bug step. and_read (each_word read_package signed.1) (λ names. Ok (commands.Affects bug step names)) in
+    let of_bug : Named → Result (Command Named) Refusal =
+    λ bug. and_read (affects_step signed.0 (are_given signed.1)) (of_step bug) in
+    and_read-good (read_bug (first_word arguments)) of_bug IsGoodBug IsWellFormed (read_bug-good (first_word arguments))
+    (λ bug good.
+    and_read-good (affects_step signed.0 (are_given signed.1)) (of_step bug) _ IsWellFormed (same_step signed.0 signed.1)
+    (λ step read.
+    and_read-good (each_word read_package signed.1) (λ names. Ok (commands.Affects bug step names)) (AreGoodFor step) IsWellFormed read
+    (λ names fine. record { bugs = (good, tt); parts = fine.0; spellable = fine.1 })))
 
 reopen_command-good : (arguments : List ℕ) → list_any is_control arguments ≡ false → IfOk (reopen_command arguments) IsWellFormed
 reopen_command-good arguments clean =
@@ -322,3 +367,4 @@ command_of-good command_words.Archive arguments clean =
 command_of-good command_words.Unarchive arguments clean =
     and_read-good (bug_alone (words arguments)) (λ bug. Ok (commands.Unarchive bug)) IsGoodBug IsWellFormed
     (bug_alone-good (words arguments)) (λ bug good. record { bugs = (good, tt); parts = tt; spellable = tt })
+command_of-good command_words.Affects arguments clean = affects_command-good arguments

@@ -1,5 +1,5 @@
 -- What refuses a line.
-use Rattle.std.proofs.Common.{ℕ, List, [], ◌∷◌, length, nat_lt, Bool, true, Option, Result, Some, None, Ok, Err, codes}
+use Rattle.std.proofs.Common.{ℕ, List, [], ◌∷◌, length, nat_lt, Bool, true, false, Option, Result, Some, None, Ok, Err, codes}
 use Rattle.std.specs.Prelude.{IfErr, if◌then◌else◌}
 use Rattle.std.specs.List.{list_any}
 use Rattle.std.specs.Str.{bytes_eq}
@@ -17,6 +17,9 @@ use Rattle.bug_record.specs.declared.command.Refusal.{Refusal}
 use Rattle.bug_record.specs.declared.command.Refusal.TheVariants.{Unknown, Malformed, TooLong, BadSeverity, BadTag, BadVersion}
 use Rattle.bug_record.specs.declared.command.Refusal.TheVariants.{BadPackage}
 use Rattle.bug_record.specs.declared.command.Who.TheVariants.{Sender, Given}
+use Rattle.bug_record.specs.declared.command.AffectsStep.{AffectsStep}
+use Rattle.command_grammar.specs.declared.signs.Sign.{Sign}
+use Rattle.command_grammar.specs.declared.signs.Sign.TheVariants.{Plus, Minus, Equals}
 use Rattle.command_grammar.specs.declared.command_word.CommandWord.{CommandWord}
 use Rattle.command_grammar.specs.declared.command_word.CommandWord.TheVariants as command_words
 use Rattle.command_grammar.specs.CommandWords.{command_word}
@@ -24,8 +27,8 @@ use Rattle.command_grammar.specs.Versions.{version_of_word, package_of_word}
 use Rattle.command_grammar.specs.Commands.{and_read, read_bug, read_version, read_package, bug_alone, bug_and_version}
 use Rattle.command_grammar.specs.Commands.{bug_and_optional_version, severity_command, reassign_command, limited_text}
 use Rattle.command_grammar.specs.Commands.{who_of_text, some_text, some_who, optional_who, bug_and_text, bug_and_some_text}
-use Rattle.command_grammar.specs.Commands.{some_bugs, read_name, some_names, bug_and_names, is_by, by_bugs, bug_by_bugs}
-use Rattle.command_grammar.specs.Commands.{bug_and_some_who, each_word, bug_and_others, sign_and_tag, adds_after, tag_step}
+use Rattle.command_grammar.specs.Commands.{affects_step, are_given, sign_and_words, affects_command, some_bugs, read_name, some_names, bug_and_names, is_by, by_bugs, bug_by_bugs}
+use Rattle.command_grammar.specs.Commands.{bug_and_some_who, each_word, bug_and_others, sign_and_rest, adds_after, tag_step}
 use Rattle.command_grammar.specs.Commands.{tag_steps, word_steps, all_steps, some_steps, tags_command, reopen_command, command_of}
 use Rattle.control_text.specs.declared.line.Line.{Line}
 use Rattle.control_text.specs.declared.line.Line.TheVariants.{Comment, Stop, Do}
@@ -190,9 +193,9 @@ tag_steps-of adds (c ∷ word) =
 all_steps-of : (adds : Bool) (ws : List (List ℕ)) → IsOfLine (all_steps adds ws)
 all_steps-of adds [] = tt
 all_steps-of adds (word ∷ ws) =
-    let now = adds_after (sign_and_tag word).0 adds in
-    and_read-of (word_steps now (sign_and_tag word).0 (sign_and_tag word).1) _
-    (and_read-of (tag_steps now (sign_and_tag word).1) _ (tag_steps-of now (sign_and_tag word).1) (λ steps. tt)) (λ steps.
+    let now = adds_after (sign_and_rest word).0 adds in
+    and_read-of (word_steps now (sign_and_rest word).0 (sign_and_rest word).1) _
+    (and_read-of (tag_steps now (sign_and_rest word).1) _ (tag_steps-of now (sign_and_rest word).1) (λ steps. tt)) (λ steps.
     and_read-of (all_steps now ws) _ (all_steps-of now ws) (λ others. tt))
 
 some_steps-of : (ws : List (List ℕ)) → IsOfLine (some_steps ws)
@@ -206,6 +209,27 @@ tags_command-of arguments =
     λ bug. and_read (some_steps tags) (λ read. Ok (commands.Tags bug read)) in
     and_read-of (read_bug (first_word arguments)) of_bug (read_bug-of (first_word arguments))
     (λ bug. and_read-of (some_steps tags) (λ read. Ok (commands.Tags bug read)) (some_steps-of tags) (λ read. tt))
+
+affects_step-of : (sign : Option Sign) (given : Bool) → IsOfLine (affects_step sign given)
+affects_step-of (Some Equals) given = tt
+affects_step-of (Some Plus) true = tt
+affects_step-of (Some Plus) false = tt
+affects_step-of (Some Minus) true = tt
+affects_step-of (Some Minus) false = tt
+affects_step-of None true = tt
+affects_step-of None false = tt
+
+affects_command-of : (arguments : List ℕ) → IsOfLine (affects_command arguments)
+affects_command-of arguments =
+    let signed = sign_and_words (words_with_commas (after_word arguments)) in
+    let of_step : Named → AffectsStep → Result (Command Named) Refusal =
+    λ bug step. and_read (each_word read_package signed.1) (λ names. Ok (commands.Affects bug step names)) in
+    let of_bug : Named → Result (Command Named) Refusal =
+    λ bug. and_read (affects_step signed.0 (are_given signed.1)) (of_step bug) in
+    and_read-of (read_bug (first_word arguments)) of_bug (read_bug-of (first_word arguments)) (λ bug.
+    and_read-of (affects_step signed.0 (are_given signed.1)) (of_step bug) (affects_step-of signed.0 (are_given signed.1)) (λ step.
+    and_read-of (each_word read_package signed.1) (λ names. Ok (commands.Affects bug step names))
+    (each_word-of read_package read_package-of signed.1) (λ names. tt)))
 
 command_of-of : (word : CommandWord) (arguments : List ℕ) → IsOfLine (command_of word arguments)
 command_of-of command_words.Found arguments =
@@ -249,6 +273,7 @@ command_of-of command_words.Archive arguments =
     and_read-of (bug_alone (words arguments)) _ (bug_alone-of (words arguments)) (λ bug. tt)
 command_of-of command_words.Unarchive arguments =
     and_read-of (bug_alone (words arguments)) _ (bug_alone-of (words arguments)) (λ bug. tt)
+command_of-of command_words.Affects arguments = affects_command-of arguments
 
 abbrev as_line : Command Named → Result Line Refusal
 as_line meant = Ok (Do meant)

@@ -26,7 +26,7 @@ use Rattle.command_grammar.specs.Commands.{bug_and_some_text, bug_and_some_who, 
 use Rattle.command_grammar.specs.Commands.{reopen_command, command_of}
 use Rattle.control_text.specs.Lines.{reading}
 use Rattle.control_text.specs.WellFormed.{IsPlain, IsAddress, IsWellFormed}
-use Rattle.control_text.specs.Spelling.{name_text, bug_text, version_text, who_text, step_words, word_if, spelling, spelled_words}
+use Rattle.control_text.specs.Spelling.{name_text, bug_text, version_text, who_text, step_words, word_if, spelling, spelled_words, affects_sign}
 use Rattle.control_text.specs.Spelling.{joined_by_blanks}
 use Rattle.control_text.specs.Spaces.{after_spaces}
 use Rattle.control_text.proofs.TextLemmas.{text_parts}
@@ -40,6 +40,7 @@ use Rattle.control_text.proofs.MergeSpelling.{bugs_plain, bugs-back}
 use Rattle.control_text.proofs.CloneSpelling.{clone_plain, clone-back}
 use Rattle.control_text.proofs.BlockSpelling.{blockers_plain, bug_by_bugs-back}
 use Rattle.control_text.proofs.StepSpelling.{steps_plain, tags-back}
+use Rattle.control_text.proofs.AffectsSpelling.{affects_plain, affects-back}
 use Rattle.control_text.proofs.SpellingLemmas.{bug-back, bug-plain, version-back, version_text-plain, package-back, severity-back}
 use Rattle.control_text.proofs.SpellingLemmas.{severity-plain}
 
@@ -209,6 +210,9 @@ archive_word = record { some = refl; whole = refl; clean = refl; hash = refl; st
 unarchive_word : IsCommandWord command_words.Unarchive (codes "unarchive")
 unarchive_word = record { some = refl; whole = refl; clean = refl; hash = refl; stop = refl; thank = refl; is = refl }
 
+affects_word : IsCommandWord command_words.Affects (codes "affects")
+affects_word = record { some = refl; whole = refl; clean = refl; hash = refl; stop = refl; thank = refl; is = refl }
+
 -- a bug and a version, or perhaps a version
 by_version : (command : CommandWord) (w : List ℕ) (make : Named → VersionArg → Command Named) (n : Named) (v : VersionArg)
     → IsCommandWord command w
@@ -365,6 +369,10 @@ spaced-read (commands.Archive n) good =
     by_bug command_words.Archive (codes "archive") commands.Archive n archive_word (λ s. refl) good.bugs.0
 spaced-read (commands.Unarchive n) good =
     by_bug command_words.Unarchive (codes "unarchive") commands.Unarchive n unarchive_word (λ s. refl) good.bugs.0
+spaced-read (commands.Affects n step names) good =
+    by_words command_words.Affects (codes "affects") (bug_text n ∷ affects_sign step ∷ names) (commands.Affects n step names)
+    affects_word (affects_plain n step names good.bugs.0 good.parts)
+    (affects-back n step names good.bugs.0 good.parts good.spellable)
 
 pub spelling-read : (c : Command Named) → IsWellFormed c → reading (spelling c) ≡ Ok (Do c)
 unfolding spelling

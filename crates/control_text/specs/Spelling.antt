@@ -11,6 +11,8 @@ use Rattle.bug_record.specs.declared.command.Command.{Command}
 use Rattle.bug_record.specs.declared.command.Command.TheVariants as commands
 use Rattle.bug_record.specs.declared.command.TagStep.{TagStep}
 use Rattle.bug_record.specs.declared.command.TagStep.TheVariants.{Add, Remove, Clear}
+use Rattle.bug_record.specs.declared.command.AffectsStep.{AffectsStep}
+use Rattle.bug_record.specs.declared.command.AffectsStep.TheVariants as affecting
 use Rattle.bug_record.specs.declared.command.VersionArg.{VersionArg}
 use Rattle.bug_record.specs.declared.command.Who.{Who}
 use Rattle.bug_record.specs.declared.command.Who.TheVariants.{Sender, Given}
@@ -44,6 +46,12 @@ step_text Clear = codes "="
 abbrev pub step_words : List TagStep → List (List ℕ)
 step_words [] = codes "+" ∷ []
 step_words (step ∷ more) = map step_text (step ∷ more)
+
+-- the sign of a step stands alone, before the packages
+abbrev pub affects_sign : AffectsStep → List ℕ
+affects_sign affecting.Add = codes "+"
+affects_sign affecting.Remove = codes "-"
+affects_sign affecting.Replace = codes "="
 
 -- the word of a value, if there is one
 abbrev pub word_if : {A : Type 0} → (A → List ℕ) → Option A → List (List ℕ)
@@ -80,6 +88,7 @@ spelled_words (commands.Owner bug who) = codes "owner" ∷ bug_text bug ∷ who_
 spelled_words (commands.NoOwner bug) = codes "noowner" ∷ bug_text bug ∷ []
 spelled_words (commands.Archive bug) = codes "archive" ∷ bug_text bug ∷ []
 spelled_words (commands.Unarchive bug) = codes "unarchive" ∷ bug_text bug ∷ []
+spelled_words (commands.Affects bug step names) = codes "affects" ∷ bug_text bug ∷ affects_sign step ∷ names
 
 unfoldable pub spelling : Command Named → List ℕ
 spelling command = joined_by_blanks (spelled_words command)

@@ -1,10 +1,12 @@
 -- Commands that can be written.
 -- This project's own rule.
-use Rattle.std.specs.Prelude.{◌≡◌, ◌<◌, length, Option, Some, None, codes, ⊤}
+use Rattle.std.specs.Prelude.{ℕ, ◌≡◌, ◌<◌, List, length, Option, Some, None, codes, ⊤}
 use Rattle.bug_record.specs.Sets.{Each}
 use Rattle.bug_record.specs.Commands.{bugs_named, HasGoodParts}
 use Rattle.bug_record.specs.declared.command.Command.{Command}
 use Rattle.bug_record.specs.declared.command.Command.TheVariants as commands
+use Rattle.bug_record.specs.declared.command.AffectsStep.{AffectsStep}
+use Rattle.bug_record.specs.declared.command.AffectsStep.TheVariants as affecting
 use Rattle.bug_record.specs.declared.command.Who.{Who}
 use Rattle.bug_record.specs.declared.command.Who.TheVariants.{Sender, Given}
 use Rattle.line_words.specs.Numbers.{IsGoodNumber}
@@ -24,8 +26,15 @@ IsPlain None = ⊤
 IsPlain (Some Sender) = ⊤
 IsPlain (Some (Given text)) = (¬ (text ≡ codes "!")) × (¬ (text ≡ codes "="))
 
+-- What adds packages or takes them out gives one.
+abbrev pub HasPackages : AffectsStep → List (List ℕ) → Type 0
+HasPackages affecting.Add names = 0 < length names
+HasPackages affecting.Remove names = 0 < length names
+HasPackages affecting.Replace names = ⊤
+
 -- No text that is given for somebody stands for somebody else, a merge, a `block` and an `unblock`
--- name a second bug, and `clone` gives a name and none beyond the limits.
+-- name a second bug, `clone` gives a name and none beyond the limits, and `affects` gives a package
+-- unless it replaces all.
 abbrev pub IsSpellable : Command Named → Type 0
 IsSpellable (commands.Reopen bug who) = IsPlain who
 IsSpellable (commands.Submitter bug who) = IsAddress who
@@ -50,6 +59,7 @@ IsSpellable (commands.NotForwarded bug) = ⊤
 IsSpellable (commands.NoOwner bug) = ⊤
 IsSpellable (commands.Archive bug) = ⊤
 IsSpellable (commands.Unarchive bug) = ⊤
+IsSpellable (commands.Affects bug step names) = HasPackages step names
 
 -- The bugs' numbers or names, and the versions, names and texts, are within their limits, and the
 -- command is spellable.

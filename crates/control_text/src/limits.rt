@@ -7,9 +7,9 @@ ghost use Rattle.bug_record.specs.Sets.{Each};
 ghost use Rattle.bug_record.specs.Texts.{IfGiven};
 ghost use Rattle.line_words.specs.Numbers.{IsGoodNumber};
 ghost use Rattle.line_words.specs.Bugs.{IsGoodBug};
-ghost use Rattle.control_text.specs.WellFormed.{IsPlain, IsAddress, IsWellFormed};
+ghost use Rattle.control_text.specs.WellFormed.{IsPlain, IsAddress, HasPackages, IsWellFormed};
 
-use bug_record::{Command, VersionArg, Who, is_text};
+use bug_record::{AffectsStep, Command, VersionArg, Who, is_text};
 use debver::{Text, check, check_name};
 use line_words::{LARGEST_NUMBER, Named};
 
@@ -98,11 +98,33 @@ fn is_good_optional_who(who: &Option<Who>) -> bool
     }
 }
 
+fn is_good_package(name: &Text) -> bool
+    ensures { Decides result (IsName name.now) }
+{
+    check_name(name.as_str()).is_ok()
+}
+
+fn are_packages(names: &[Text]) -> bool
+    ensures { Decides result (Each IsName names.now) }
+{
+    names.iter().all(|name| is_good_package(name))
+}
+
+// Package names, of which there is one where they are added or taken out.
+fn are_good_packages(step: AffectsStep, names: &[Text]) -> bool
+    ensures { Decides result (Each IsName names.now × HasPackages step names.now) }
+{
+    match step {
+        AffectsStep::Add | AffectsStep::Remove => are_packages(names) && !names.is_empty(),
+        AffectsStep::Replace => are_packages(names),
+    }
+}
+
 /// Whether a command can be written: its numbers and names are from 1 to 999,999,999, its versions,
 /// package names and texts are within their limits, no text that is given for a submitter or an
 /// owner is `!`, which stands for the sender, none that is given for `reopen` is `=`, which stands
-/// for nobody, a merge has a second bug, `block` and `unblock` name a blocker, and `clone` gives a
-/// name.
+/// for nobody, a merge has a second bug, `block` and `unblock` name a blocker, `clone` gives a
+/// name, and `affects` a package where it adds packages or takes them out.
 /// This project's own rule.
 /// It holds of all that `read_line` gives.
 pub fn well_formed(command: &Command<Named>) -> bool
@@ -136,5 +158,8 @@ pub fn well_formed(command: &Command<Named>) -> bool
         Command::NoOwner(bug) => is_good_bug(*bug),
         Command::Archive(bug) => is_good_bug(*bug),
         Command::Unarchive(bug) => is_good_bug(*bug),
+        Command::Affects(bug, step, names) => {
+            is_good_bug(*bug) && are_good_packages(*step, names.as_slice())
+        }
     }
 }

@@ -1,12 +1,13 @@
 //! The canonical spelling of commands.
 
 ghost use Rattle.std.specs.Prelude.{◌≡◌, ◌∷◌, [], ◌++◌, map, IfOk, OnOk, string_bytes, codes};
-ghost use Rattle.control_text.specs.Spelling.{name_text, bug_text, version_text, who_text, step_text, step_words, word_if};
+ghost use Rattle.control_text.specs.Spelling.{name_text, bug_text, version_text, who_text, step_text, step_words, word_if, affects_sign};
 ghost use Rattle.control_text.specs.Spaces.{after_spaces};
 ghost use Rattle.control_text.specs.Spelling.{joined_by_blanks, spelling};
 ghost use Rattle.control_text.specs.WellFormed.{IsWellFormed};
 
-use bug_record::{Command, TagStep, VersionArg, Who};
+use bug_record::{AffectsStep, Command, TagStep, VersionArg, Who};
+use debver::Text;
 use line_words::Named;
 use std::alloc::{AllocError, Global};
 
@@ -217,10 +218,44 @@ fn tags(alloc: Global, bug: Named, steps: &[TagStep]) -> Result<String, AllocErr
     Ok(line)
 }
 
+fn affects_sign(step: AffectsStep) -> &'static str
+    ensures { result.now ≡ affects_sign step }
+{
+    match step {
+        AffectsStep::Add => "+",
+        AffectsStep::Remove => "-",
+        AffectsStep::Replace => "=",
+    }
+}
+
+// Adds packages, each after a space.
+fn push_packages(line: &mut String, names: &[Text]) -> Result<(), AllocError>
+    ensures { OnOk result (string_bytes line.new ≡ string_bytes line.old ++ after_spaces names.now) }
+{
+    for name in names {
+        push_word(line, name.as_str())?;
+    }
+    Ok(())
+}
+
+// `affects`, its bug, a sign and the packages.
+fn affects(
+    alloc: Global,
+    bug: Named,
+    step: AffectsStep,
+    names: &[Text],
+) -> Result<String, AllocError>
+    ensures { IfOk result (λ s. string_bytes s ≡ joined_by_blanks (codes "affects" ∷ bug_text bug ∷ affects_sign step ∷ names.now)) }
+{
+    let mut line = with_text(alloc, "affects", bug, affects_sign(step))?;
+    push_packages(&mut line, names)?;
+    Ok(line)
+}
+
 /// The canonical spelling of a command, which is read back as it: its words in lower case with one
 /// space between them, numbers without `#` and leading zeros, a version with its source as
-/// `source/version`, each tag with its own sign, blockers after `by` without commas, and the sender
-/// as `!`.
+/// `source/version`, each tag with its own sign, the packages of `affects` after a sign, blockers
+/// after `by`, all without commas, and the sender as `!`.
 /// This project's own rule.
 /// The command has to be well formed (see `well_formed`).
 ///
@@ -258,5 +293,6 @@ pub fn write_command(alloc: Global, command: &Command<Named>) -> Result<String, 
         Command::NoOwner(bug) => with_bug(alloc, "noowner", *bug),
         Command::Archive(bug) => with_bug(alloc, "archive", *bug),
         Command::Unarchive(bug) => with_bug(alloc, "unarchive", *bug),
+        Command::Affects(bug, step, names) => affects(alloc, *bug, *step, names.as_slice()),
     }
 }

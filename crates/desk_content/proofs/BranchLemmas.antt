@@ -193,6 +193,7 @@ module _ (c : Content) (t : Ancestry) (changed : List Node) (rows : List SetNear
         found = λ k. refl;
         fixed = λ k. refl;
         blockers = λ k. refl;
+        affects = λ k. refl;
         nodes = linked_is c t changed changes old;
         near = λ k v. near_each-is rows c.near missing.once k v
             ∙ ap (λ (o : Option Near). option_or o (c.near k v)) (missing.rows_are k v)

@@ -23,8 +23,8 @@ use Rattle.desk_content.specs.Kept.{IsKeptContent}
 use Rattle.desk_content.specs.Images.{is_member}
 use Rattle.desk_content.specs.Changes.{keeps_marks, without_images, with_images, changed, FitsContent}
 use Rattle.desk_content.specs.declared.edit.SetFields.{SetFields}
-use Rattle.desk_content.proofs.ClosedLemmas.{in_some, loses_some, no_key, no_members, no_fields, no_blockers, no_found, no_fixed}
-use Rattle.desk_content.proofs.ClosedLemmas.{no_near, no_nodes, pick, put_key, put_nodes, put_members, put_fields, put_blockers, put_found}
+use Rattle.desk_content.proofs.ClosedLemmas.{in_some, loses_some, no_key, no_members, no_fields, no_blockers, no_affects, no_found, no_fixed}
+use Rattle.desk_content.proofs.ClosedLemmas.{no_near, no_nodes, pick, put_key, put_nodes, put_members, put_fields, put_blockers, put_affects, put_found}
 use Rattle.desk_content.proofs.ClosedLemmas.{put_fixed, put_near}
 
 -- ---- bugs that the images have
@@ -112,8 +112,8 @@ rest_none is (m ∷ ms) h =
 -- ---- the change
 
 -- the image of what stands at a key
-abbrev image_from : Option SetFields → List Node → List Node → List ℕ → List Member → Option SetImage
-image_from fields found fixed blockers ms = option_map (λ (f : SetFields). record {
+abbrev image_from : Option SetFields → List Node → List Node → List ℕ → List (List ℕ) → List Member → Option SetImage
+image_from fields found fixed blockers affects ms = option_map (λ (f : SetFields). record {
   shared = record {
     «package» = f.«package»;
     severity = f.severity;
@@ -121,6 +121,7 @@ image_from fields found fixed blockers ms = option_map (λ (f : SetFields). reco
     forwarded = f.forwarded;
     owner = f.owner;
     tags = f.tags;
+    affects = affects;
     found = found;
     fixed = fixed;
     blockers = blockers;
@@ -169,6 +170,11 @@ module _ (c : Content) (is : List SetImage) (kept : IsKeptContent c) (apart : Ar
         ∙ ap (λ x. pick k (λ (i : SetImage). i.shared.blockers) x (image_with is k)) (no_blockers c is c k)
         ∙ settle is k (λ (i : SetImage). i.shared.blockers) [] (c.blockers k)
 
+    affects_is : after.affects k ≡ settled k (λ i. i.shared.affects) [] (c.affects k) (image_with is k)
+    affects_is = put_affects is (without_images c is c) apart some k
+        ∙ ap (λ x. pick k (λ (i : SetImage). i.shared.affects) x (image_with is k)) (no_affects c is c k)
+        ∙ settle is k (λ (i : SetImage). i.shared.affects) [] (c.affects k)
+
     found_is : after.found k ≡ settled k (λ i. i.shared.found) [] (c.found k) (image_with is k)
     found_is = put_found is (without_images c is c) apart some k
         ∙ ap (λ x. pick k (λ (i : SetImage). i.shared.found) x (image_with is k)) (no_found c is c k)
@@ -199,7 +205,7 @@ module _ (c : Content) (is : List SetImage) (kept : IsKeptContent c) (apart : Ar
         here : (i : SetImage) × (image c k ≡ Some i) × (i.members ≡ c.members k)
         here = (
           _,
-          ap (λ (o : Option SetFields). image_from o (c.found k) (c.fixed k) (c.blockers k) (c.members k)) e,
+          ap (λ (o : Option SetFields). image_from o (c.found k) (c.fixed k) (c.blockers k) (c.affects k) (c.members k)) e,
           refl,
         )
 
@@ -215,40 +221,44 @@ module _ (c : Content) (is : List SetImage) (kept : IsKeptContent c) (apart : Ar
         cases None q = ap (rest is) (kept.no_members k q)
         cases (Some f) q = rest_none is (c.members k) (λ n h.
             let here : image c k ≡ Some _ =
-            ap (λ (o : Option SetFields). image_from o (c.found k) (c.fixed k) (c.blockers k) (c.members k)) q in
+            ap (λ (o : Option SetFields). image_from o (c.found k) (c.fixed k) (c.blockers k) (c.affects k) (c.members k)) q in
             together k k n _ here (kept.keyed.own k _ here) h (in_some-is is k ∙ ap is_some e))
 
     image_is : image after k ≡ set_after is (image c) k
     image_is =
-        ap (λ (o : Option SetFields). image_from o (after.found k) (after.fixed k) (after.blockers k) (after.members k)) fields_is
+        ap (λ (o : Option SetFields). image_from o (after.found k) (after.fixed k) (after.blockers k) (after.affects k) (after.members k)) fields_is
         ∙ ap (λ (x : List Node). image_from (settled k (λ i. Some (fields_of i.shared)) None (c.fields k) (image_with is k)) x (after.fixed k)
-        (after.blockers k) (after.members k)) found_is
+        (after.blockers k) (after.affects k) (after.members k)) found_is
         ∙ ap (λ (x : List Node). image_from (settled k (λ i. Some (fields_of i.shared)) None (c.fields k) (image_with is k))
-        (settled k (λ i. i.shared.found) [] (c.found k) (image_with is k)) x (after.blockers k) (after.members k)) fixed_is
+        (settled k (λ i. i.shared.found) [] (c.found k) (image_with is k)) x (after.blockers k) (after.affects k) (after.members k)) fixed_is
         ∙ ap (λ (x : List ℕ). image_from (settled k (λ i. Some (fields_of i.shared)) None (c.fields k) (image_with is k))
         (settled k (λ i. i.shared.found) [] (c.found k) (image_with is k)) (settled k (λ i. i.shared.fixed) [] (c.fixed k) (image_with is k))
-        x (after.members k)) blockers_is
+        x (after.affects k) (after.members k)) blockers_is
+        ∙ ap (λ (x : List (List ℕ)). image_from (settled k (λ i. Some (fields_of i.shared)) None (c.fields k) (image_with is k))
+        (settled k (λ i. i.shared.found) [] (c.found k) (image_with is k)) (settled k (λ i. i.shared.fixed) [] (c.fixed k) (image_with is k))
+        (settled k (λ i. i.shared.blockers) [] (c.blockers k) (image_with is k)) x (after.members k)) affects_is
         ∙ ap (λ (x : List Member). image_from (settled k (λ i. Some (fields_of i.shared)) None (c.fields k) (image_with is k))
         (settled k (λ i. i.shared.found) [] (c.found k) (image_with is k)) (settled k (λ i. i.shared.fixed) [] (c.fixed k) (image_with is k))
-        (settled k (λ i. i.shared.blockers) [] (c.blockers k) (image_with is k)) x) members_is
+        (settled k (λ i. i.shared.blockers) [] (c.blockers k) (image_with is k))
+        (settled k (λ i. i.shared.affects) [] (c.affects k) (image_with is k)) x) members_is
         ∙ cases (image_with is k) refl
       where
         cases : (o : Option SetImage) → image_with is k ≡ o
             → image_from (settled k (λ i. Some (fields_of i.shared)) None (c.fields k) o) (settled k (λ i. i.shared.found) [] (c.found k) o)
             (settled k (λ i. i.shared.fixed) [] (c.fixed k) o) (settled k (λ i. i.shared.blockers) [] (c.blockers k) o)
-            (pick k (λ i. i.members) (rest is (c.members k)) o)
+            (settled k (λ i. i.shared.affects) [] (c.affects k) o) (pick k (λ i. i.members) (rest is (c.members k)) o)
             ≡ image_at_key k (image c k) o
         cases None e = there (c.fields k) refl
           where
             there : (o : Option SetFields) → c.fields k ≡ o
-                → image_from o (c.found k) (c.fixed k) (c.blockers k) (rest is (c.members k))
-                ≡ image_from o (c.found k) (c.fixed k) (c.blockers k) (c.members k)
+                → image_from o (c.found k) (c.fixed k) (c.blockers k) (c.affects k) (rest is (c.members k))
+                ≡ image_from o (c.found k) (c.fixed k) (c.blockers k) (c.affects k) (c.members k)
             there None q = refl
             there (Some f) q =
-                ap (λ (x : List Member). image_from (Some f) (c.found k) (c.fixed k) (c.blockers k) x) (members_stay f q e)
+                ap (λ (x : List Member). image_from (Some f) (c.found k) (c.fixed k) (c.blockers k) (c.affects k) x) (members_stay f q e)
         cases (Some j) e = elim (key_of j == k) as (λ t.
             image_from (cond t (Some (fields_of j.shared)) None) (cond t j.shared.found []) (cond t j.shared.fixed [])
-            (cond t j.shared.blockers []) (cond t j.members (rest is (c.members k))) ≡ cond t (Some j) None)
+            (cond t j.shared.blockers []) (cond t j.shared.affects []) (cond t j.members (rest is (c.members k))) ≡ cond t (Some j) None)
             [ true ↦ refl | false ↦ refl ]
 
   keys_are : after.key ≡ key_after is c.key
@@ -331,6 +341,7 @@ module _ (c : Content) (is : List SetImage) (kept : IsKeptContent c) (apart : Ar
     no_found = λ k. empty k (λ x. x.found k) (λ i. i.shared.found) [] (found_is k) (kept.no_found k);
     no_fixed = λ k. empty k (λ x. x.fixed k) (λ i. i.shared.fixed) [] (fixed_is k) (kept.no_fixed k);
     no_blockers = λ k. empty k (λ x. x.blockers k) (λ i. i.shared.blockers) [] (blockers_is k) (kept.no_blockers k);
+    no_affects = λ k. empty k (λ x. x.affects k) (λ i. i.shared.affects) [] (affects_is k) (kept.no_affects k);
     near = near_right;
   }
 

@@ -27,6 +27,7 @@ without keeps key ms c = record c {
   found = λ k. cond (has (numbers_of ms) k && goes keeps key k) [] (c.found k);
   fixed = λ k. cond (has (numbers_of ms) k && goes keeps key k) [] (c.fixed k);
   blockers = λ k. cond (has (numbers_of ms) k) [] (c.blockers k);
+  affects = λ k. cond (has (numbers_of ms) k) [] (c.affects k);
   near = λ k. cond (has (numbers_of ms) k && goes keeps key k) (λ v. None) (c.near k);
 }
 
@@ -63,6 +64,7 @@ one keeps key n c = record c {
   found = at_mark keeps key n [] c.found;
   fixed = at_mark keeps key n [] c.fixed;
   blockers = put_at n [] c.blockers;
+  affects = put_at n [] c.affects;
   near = at_mark keeps key n (λ v. None) c.near;
 }
 
@@ -74,6 +76,7 @@ drops_one keeps key n c =
       members = λ k. filter (λ m. not (n == m.number)) (c.members k);
       fields = put_at n None c.fields;
       blockers = put_at n [] c.blockers;
+      affects = put_at n [] c.affects;
     } in
     edited_all (cond t [] (mark_drops false key n)) d
     ≡ record d {
@@ -92,6 +95,7 @@ later keeps key m ms c = same_content _ _ (record {
   found = λ k. mark_later keeps key m.number k (has (numbers_of ms) k) [] c.found;
   fixed = λ k. mark_later keeps key m.number k (has (numbers_of ms) k) [] c.fixed;
   blockers = λ k. first_or_later (m.number == k) (has (numbers_of ms) k) [] (c.blockers k);
+  affects = λ k. first_or_later (m.number == k) (has (numbers_of ms) k) [] (c.affects k);
   nodes = refl;
   near = λ k v. ap (λ (f : Node → _). f v) (mark_later keeps key m.number k (has (numbers_of ms) k) (λ v. None) c.near);
 })
@@ -105,6 +109,7 @@ dropped keeps key [] c = same_content _ _ (record {
   found = λ k. refl;
   fixed = λ k. refl;
   blockers = λ k. refl;
+  affects = λ k. refl;
   nodes = refl;
   near = λ k v. refl;
 })

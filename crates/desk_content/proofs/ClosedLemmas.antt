@@ -53,6 +53,12 @@ module _ (old : Content) where
   no_blockers (i ∷ is) c k =
       no_blockers is (without_image (keeps_marks old i) i c) k ∙ first_or_later (is_member i k) (in_some is k) [] (c.blockers k)
 
+  pub no_affects : (is : List SetImage) (c : Content) (k : ℕ)
+      → (without_images old is c).affects k ≡ cond (in_some is k) [] (c.affects k)
+  no_affects [] c k = refl
+  no_affects (i ∷ is) c k =
+      no_affects is (without_image (keeps_marks old i) i c) k ∙ first_or_later (is_member i k) (in_some is k) [] (c.affects k)
+
   pub no_found : (is : List SetImage) (c : Content) (k : ℕ)
       → (without_images old is c).found k ≡ cond (loses_some old is k) [] (c.found k)
   no_found [] c k = refl
@@ -148,6 +154,9 @@ module _ (is : List SetImage) (c : Content) (apart : AreApart is) (some : Each H
 
   pub put_blockers : (with_images is c).blockers k ≡ pick k (λ i. i.shared.blockers) (c.blockers k) (image_with is k)
   put_blockers = put_field (λ c. c.blockers) (λ c i. i.shared.blockers) (λ i c k. refl) (λ i c. refl) is c apart some k
+
+  pub put_affects : (with_images is c).affects k ≡ pick k (λ i. i.shared.affects) (c.affects k) (image_with is k)
+  put_affects = put_field (λ c. c.affects) (λ c i. i.shared.affects) (λ i c k. refl) (λ i c. refl) is c apart some k
 
   pub put_found : (with_images is c).found k ≡ pick k (λ i. i.shared.found) (c.found k) (image_with is k)
   put_found = put_field (λ c. c.found) (λ c i. i.shared.found) (λ i c k. refl) (λ i c. refl) is c apart some k

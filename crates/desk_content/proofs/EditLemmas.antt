@@ -15,6 +15,7 @@ pub record SaysSame (a b : Content) : Type 0 where
   pub found : (k : ℕ) → a.found k ≡ b.found k
   pub fixed : (k : ℕ) → a.fixed k ≡ b.fixed k
   pub blockers : (k : ℕ) → a.blockers k ≡ b.blockers k
+  pub affects : (k : ℕ) → a.affects k ≡ b.affects k
   pub nodes : a.nodes ≡ b.nodes
   pub near : (k : ℕ) (v : Node) → a.near k v ≡ b.near k v
 
@@ -27,6 +28,7 @@ same_content a b s = λ i. record {
   found = λ k. s.found k i;
   fixed = λ k. s.fixed k i;
   blockers = λ k. s.blockers k i;
+  affects = λ k. s.affects k i;
   nodes = s.nodes i;
   near = λ k v. s.near k v i;
 }

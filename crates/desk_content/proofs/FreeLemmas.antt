@@ -18,6 +18,10 @@ use Rattle.bug_record.specs.Sets.{has, IsAscending}
 use Rattle.bug_record.specs.Images.{numbers_of}
 use Rattle.bug_record.specs.declared.bug.Member.{Member}
 use Rattle.bug_record.specs.declared.bug.SetImage.{SetImage}
+use Rattle.std.specs.Cmp.Lexicographic.{bytes_decides, texts_ties}
+use Rattle.std.specs.Str.{bytes_eq}
+use Rattle.bug_record.specs.PackageSets.{name_cmp, has_name, with_name}
+use Rattle.bug_record.proofs.PackageLemmas.{same_name, has-with_name}
 use Rattle.bug_record.specs.Marks.{with_node}
 use Rattle.bug_record.proofs.MarkLemmas.{has-with_node}
 use Rattle.bug_record.proofs.SetLemmas.{has-above}
@@ -30,12 +34,12 @@ use Rattle.desk_content.specs.Edits.{put_at, placed, kept_fields, edited, edited
 use Rattle.desk_content.specs.Free.{AreFree, marks_of}
 use Rattle.desk_content.specs.declared.edit.Edit.{Edit}
 use Rattle.desk_content.specs.declared.edit.Edit.TheVariants.{PutMark, PutFields}
-use Rattle.desk_content.specs.EditLists.{mark_drops, drops_of, drops, member_puts, blocker_puts, mark_puts, near_puts, set_puts, all_mark_puts}
+use Rattle.desk_content.specs.EditLists.{mark_drops, drops_of, drops, member_puts, blocker_puts, affected_puts, mark_puts, near_puts, set_puts, all_mark_puts}
 use Rattle.desk_content.specs.Images.{IsGoodImage, IsCleared}
 use Rattle.desk_content.specs.View.{fields_of}
 use Rattle.desk_content.proofs.PlaceLemmas.{at_itself, put_each}
 use Rattle.desk_content.proofs.ClosedLemmas.{own_key}
-use Rattle.desk_content.proofs.PutLemmas.{put_keys, members_put, set_put, after_set, found_put, fixed_put}
+use Rattle.desk_content.proofs.PutLemmas.{put_keys, members_put, blockers_put, set_put, after_set, found_put, fixed_put}
 
 pub free-append : (xs ys : List Edit) (c : Content) → AreFree xs c → AreFree ys (edited_all xs c) → AreFree (xs ++ ys) c
 free-append [] ys c a b = b
@@ -44,7 +48,7 @@ free-append (e ∷ xs) ys c a b = (a.0, free-append xs ys (edited e c) a.1 b)
 -- ---- what goes
 
 drop_free : (keeps : Bool) (key n : ℕ) (c : Content) → n ≤ LARGEST_NUMBER → AreFree (drops_of keeps key n) c
-drop_free keeps key n c l = (l, (l, (l, marks (keeps && (key == n)) _)))
+drop_free keeps key n c l = (l, (l, (l, (l, marks (keeps && (key == n)) _))))
   where
     marks : (t : Bool) (d : Content) → AreFree (cond t [] (mark_drops false key n)) d
     marks true d = tt
@@ -112,6 +116,44 @@ blockers_free k (x ∷ bs) c l b a h = (
       ∙ h n (there (x == n) (has bs n) e)),
 )
 
+-- affected packages, of which none is there
+not_below : (n : List ℕ) (ns : List (List ℕ)) → AllByRecursion (λ m. name_cmp n m ≡ Less) ns → has_name ns n ≡ false
+not_below n [] h = refl
+not_below n (x ∷ ns) h =
+    elim (bytes_eq n x) as (λ t. bytes_eq n x ≡ t → (t || has_name ns n) ≡ false)
+    [ true ↦ λ e. absurd (false≢true (ap is_eq (sym h.0) ∙ sym (texts_ties n x) ∙ e)) | false ↦ λ e. not_below n ns h.1 ] refl
+
+first_not_below : (n : List ℕ) (ns : List (List ℕ)) → IsStrictlySortedBy name_cmp (n ∷ ns) → has_name ns n ≡ false
+unfolding IsStrictlySortedBy
+first_not_below n ns s = not_below n ns s.0
+
+name_apart : (n : List ℕ) (ns : List (List ℕ)) → IsStrictlySortedBy name_cmp (n ∷ ns) → (m : List ℕ) → has_name ns m ≡ true
+    → bytes_eq m n ≡ false
+name_apart n ns s m h = cases (bytes_eq m n) refl
+  where
+    cases : (t : Bool) → bytes_eq m n ≡ t → bytes_eq m n ≡ false
+    cases true e = absurd (false≢true (sym (first_not_below n ns s) ∙ subst (λ (z : List ℕ). has_name ns z ≡ true) (same_name m n e) h))
+    cases false e = e
+
+names_rest : (n : List ℕ) (ns : List (List ℕ)) → IsStrictlySortedBy name_cmp (n ∷ ns) → IsStrictlySortedBy name_cmp ns
+unfolding IsStrictlySortedBy
+names_rest n ns s = s.1
+
+none_of : (a b : Bool) → a ≡ false → b ≡ false → (a || b) ≡ false
+none_of true b e q = absurd (false≢true (sym e))
+none_of false b e q = q
+
+affected_free : (k : ℕ) (ns : List (List ℕ)) (c : Content) → k ≤ LARGEST_NUMBER → IsStrictlySortedBy name_cmp ns
+    → ((m : List ℕ) → has_name ns m ≡ true → has_name (c.affects k) m ≡ false) → AreFree (affected_puts k ns) c
+affected_free k [] c l s h = tt
+affected_free k (n ∷ ns) c l s h = (
+  (l, h n (ap (λ t. t || has_name ns n) ((bytes_decides n n).1 refl))),
+  affected_free k ns _ l (names_rest n ns s) (λ m e.
+      ap (λ (ys : List (List ℕ)). has_name ys m) (at_itself k (with_name (c.affects k) n) c.affects)
+      ∙ has-with_name (c.affects k) n m
+      ∙ none_of (has_name (c.affects k) m) (bytes_eq m n) (h m (there (bytes_eq m n) (has_name ns m) e)) (name_apart n ns s m e)),
+)
+
 -- a node that stands before all of a list is not in it
 not_later : (v : Node) (vs : List Node) → AllByRecursion (λ m. node_cmp v m ≡ Less) vs → has_node vs v ≡ false
 not_later v [] h = refl
@@ -144,16 +186,12 @@ module _ (k : ℕ) (kind : MarkKind) (l : k ≤ LARGEST_NUMBER) where
     marks_free vs (edited (PutMark k kind v) c) (sorted_rest v vs s) (λ w e.
         ap (λ (ys : List Node). has_node ys w) (marked kind)
         ∙ has-with_node (marks_of kind c k) v w
-        ∙ both (has_node (marks_of kind c k) w) (same_node w v) (h w (there (same_node w v) (has_node vs w) e)) (first_apart v vs s w e)),
+        ∙ none_of (has_node (marks_of kind c k) w) (same_node w v) (h w (there (same_node w v) (has_node vs w) e)) (first_apart v vs s w e)),
   )
     where
       marked : (kind : MarkKind) → marks_of kind (edited (PutMark k kind v) c) k ≡ with_node (marks_of kind c k) v
       marked Found = at_itself k (with_node (c.found k) v) c.found
       marked Fixed = at_itself k (with_node (c.fixed k) v) c.fixed
-
-      both : (a b : Bool) → a ≡ false → b ≡ false → (a || b) ≡ false
-      both true b e q = absurd (false≢true (sym e))
-      both false b e q = q
 
 near_free : (k : ℕ) (rows : List NearRow) (c : Content) → k ≤ LARGEST_NUMBER → once rows
     → ((v : Node) → row_at rows v ≢ None → c.near k v ≡ None) → AreFree (near_puts k rows) c
@@ -180,11 +218,16 @@ set_free i good same c clear =
       key = put_keys k i.members c.key;
       members = put_each (placed (λ (m : Member). m.number)) k i.members c.members;
     } in
+    let e : Content = record d { fields = put_at k (Some (kept_fields (fields_of i.shared))) d.fields } in
     free-append (member_puts k i.members) _ c (members_free k i.members c l good.numbers good.members clear.keys)
-    (subst (λ (x : Content). AreFree (PutFields k (fields_of i.shared) ∷ blocker_puts k i.shared.blockers) x) (sym (members_put k i.members c)) (
+    (subst (λ (x : Content). AreFree (PutFields k (fields_of i.shared)
+    ∷ (blocker_puts k i.shared.blockers ++ affected_puts k i.shared.affects)) x) (sym (members_put k i.members c)) (
       (l, clear.fields),
-      blockers_free k i.shared.blockers (record d { fields = put_at k (Some (kept_fields (fields_of i.shared))) d.fields }) l
-          good.blocker_numbers good.blockers (λ n e. ap (λ (bs : List ℕ). has bs n) clear.blockers),
+      free-append (blocker_puts k i.shared.blockers) (affected_puts k i.shared.affects) e
+          (blockers_free k i.shared.blockers e l good.blocker_numbers good.blockers
+          (λ n q. ap (λ (bs : List ℕ). has bs n) clear.blockers))
+          (subst (λ (x : Content). AreFree (affected_puts k i.shared.affects) x) (sym (blockers_put k i.shared.blockers e))
+          (affected_free k i.shared.affects _ l good.affects.ascending (λ m q. ap (λ (ns : List (List ℕ)). has_name ns m) clear.affects))),
     ))
 
 pub all_marks_free : (i : SetImage) (good : IsGoodImage i) (c : Content) → IsCleared false i c → (rows : List NearRow) → once rows

@@ -30,5 +30,6 @@ new_kept first low high = record {
   no_found = λ k e. refl;
   no_fixed = λ k e. refl;
   no_blockers = λ k e. refl;
+  no_affects = λ k e. refl;
   near = λ k v. refl;
 }

@@ -1,15 +1,21 @@
 -- Items that are put into a list one after another.
-use Rattle.std.proofs.Common.{◌≡◌, ◌<◌, ℕ, Bool, true, false, cond, ◌||◌, List, [], ◌∷◌, ◌++◌, map, sym, refl, ap, ◌∙◌, subst, arith}
+use Rattle.std.proofs.Common.{◌≡◌, ◌<◌, ℕ, true, false, cond, List, [], ◌∷◌, ◌++◌, map, sym, refl, ap, ◌∙◌, subst, arith}
 use Rattle.std.proofs.Common.{append_assoc, append-nil}
 use Rattle.std.specs.Prelude.{fold, nat_lt, ◌==◌}
 use Rattle.std.proofs.lemmas.Bool.{eqb-true, eq-eqb}
 use Rattle.std.proofs.lemmas.Bool.Decides.{nat_tests}
-use Rattle.std.specs.List.Sorted.{IsStrictlySortedBy}
-use Rattle.ancestry.specs.Nodes.{Node, same_node, node_cmp}
-use Rattle.ancestry.specs.Trees.{has_node}
+use Rattle.std.specs.BTreeSet.{insert_key}
+use Rattle.std.specs.Cmp.Lexicographic.{nat_list_cmp_total, nat_list_eq_equiv, texts_ties}
+use Rattle.std.specs.declared.cmp.Ordering.{Ordering}
+use Rattle.ancestry.specs.Nodes.{Node, node_cmp}
+use Rattle.ancestry.specs.NodeLaws.{same_node_equiv, node_cmp_total, node_ties}
 use Rattle.bug_record.specs.Sets.{AllAbove, IsAscending}
 use Rattle.bug_record.specs.Marks.{IsNodeSet, with_node}
-use Rattle.bug_record.proofs.MarkLemmas.{has-with_node, sorted-with_node, same-sorted_nodes}
+use Rattle.bug_record.specs.Ordered.{with_each}
+use Rattle.bug_record.specs.PackageSets.{name_cmp, IsNameSet, with_name}
+use Rattle.bug_record.proofs.OrderedSetLemmas.{sorted-each, in-each}
+use Rattle.bug_record.proofs.MarkLemmas.{set-none, same-sorted_nodes}
+use Rattle.bug_record.proofs.PackageLemmas.{names-none, same-sorted_names}
 use Rattle.desk_content.specs.Edits.{put_at, placed}
 
 -- ---- at one key
@@ -78,32 +84,22 @@ pub same_numbers : (ns : List ℕ) → map (λ n. n) ns ≡ ns
 same_numbers [] = refl
 same_numbers (n ∷ ns) = ap (λ ms. n ∷ ms) (same_numbers ns)
 
--- ---- nodes
+-- ---- items in an order, one after another
 
-sorted_fold : (xs ys : List Node) → IsStrictlySortedBy node_cmp xs → IsStrictlySortedBy node_cmp (fold with_node xs ys)
-sorted_fold xs [] h = h
-sorted_fold xs (y ∷ ys) h = sorted_fold (with_node xs y) ys (sorted-with_node xs y h)
+pub fold-each : {T : Type 0} (cmp : T → T → Ordering) (xs ys : List T) → fold (insert_key cmp) xs ys ≡ with_each cmp xs ys
+fold-each cmp xs [] = refl
+fold-each cmp xs (y ∷ ys) = fold-each cmp (insert_key cmp xs y) ys
 
-has_fold : (xs ys : List Node) (m : Node) → has_node (fold with_node xs ys) m ≡ (has_node xs m || has_node ys m)
-has_fold xs [] m = none (has_node xs m)
-  where
-    none : (a : Bool) → a ≡ (a || false)
-    none true = refl
-    none false = refl
-has_fold xs (y ∷ ys) m =
-    has_fold (with_node xs y) ys m
-    ∙ ap (λ t. t || has_node ys m) (has-with_node xs y m)
-    ∙ group (has_node xs m) (same_node m y) (has_node ys m)
-  where
-    group : (a b c : Bool) → ((a || b) || c) ≡ (a || (b || c))
-    group true b c = refl
-    group false b c = refl
-
-no_nodes_sorted : IsStrictlySortedBy node_cmp []
-unfolding IsStrictlySortedBy
-no_nodes_sorted = tt
+-- ---- nodes and names
 
 pub nodes_all : (nodes : List Node) → IsNodeSet nodes → fold with_node [] nodes ≡ nodes
 nodes_all nodes set =
-    same-sorted_nodes (fold with_node [] nodes) nodes (sorted_fold [] nodes no_nodes_sorted) set.ascending
-    (λ n. has_fold [] nodes n)
+    fold-each node_cmp [] nodes
+    ∙ same-sorted_nodes (with_each node_cmp [] nodes) nodes (sorted-each node_cmp_total nodes [] set-none.ascending) set.ascending
+    (λ n. in-each node_cmp_total same_node_equiv node_ties nodes [] n)
+
+pub names_all : (names : List (List ℕ)) → IsNameSet names → fold with_name [] names ≡ names
+names_all names set =
+    fold-each name_cmp [] names
+    ∙ same-sorted_names (with_each name_cmp [] names) names (sorted-each nat_list_cmp_total names [] names-none.ascending) set.ascending
+    (λ n. in-each nat_list_cmp_total nat_list_eq_equiv texts_ties names [] n)

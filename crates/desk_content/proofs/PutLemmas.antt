@@ -8,6 +8,7 @@ use Rattle.ancestry.specs.declared.statuses.MarkKind.TheVariants.{Found, Fixed}
 use Rattle.ancestry.proofs.NodeLemmas.{same_true}
 use Rattle.bug_record.specs.Sets.{has, IsAscending}
 use Rattle.bug_record.specs.Marks.{with_node}
+use Rattle.bug_record.specs.PackageSets.{with_name}
 use Rattle.bug_record.specs.Images.{numbers_of}
 use Rattle.bug_record.specs.declared.bug.Member.{Member}
 use Rattle.bug_record.specs.declared.bug.SetImage.{SetImage}
@@ -20,11 +21,11 @@ use Rattle.bug_record.specs.declared.tag.Tag.{Tag}
 use Rattle.desk_content.specs.declared.edit.SetFields.{SetFields}
 use Rattle.desk_content.specs.Edits.{put_at, placed, kept_fields, edited_all}
 use Rattle.desk_content.proofs.TagLemmas.{read_back}
-use Rattle.desk_content.specs.EditLists.{member_puts, blocker_puts, mark_puts, near_puts, set_puts, all_mark_puts}
+use Rattle.desk_content.specs.EditLists.{member_puts, blocker_puts, affected_puts, mark_puts, near_puts, set_puts, all_mark_puts}
 use Rattle.desk_content.specs.Images.{with_image, IsGoodImage, IsCleared}
 use Rattle.desk_content.specs.View.{fields_of}
 use Rattle.desk_content.proofs.EditLemmas.{same_content, edited_all-append, first_or_later}
-use Rattle.desk_content.proofs.PlaceLemmas.{at_same, put_each, put_all, placed_all, same_numbers, nodes_all}
+use Rattle.desk_content.proofs.PlaceLemmas.{at_same, put_each, put_all, placed_all, same_numbers, nodes_all, names_all}
 
 -- ---- each kind of edit
 
@@ -65,10 +66,15 @@ members_put k (m ∷ ms) c = members_put k ms (record c {
   members = put_at k (placed (λ (m : Member). m.number) (c.members k) m) c.members;
 })
 
-blockers_put : (k : ℕ) (bs : List ℕ) (c : Content) → edited_all (blocker_puts k bs) c
+pub blockers_put : (k : ℕ) (bs : List ℕ) (c : Content) → edited_all (blocker_puts k bs) c
     ≡ record c { blockers = put_each (placed (λ n. n)) k bs c.blockers }
 blockers_put k [] c = refl
 blockers_put k (b ∷ bs) c = blockers_put k bs (record c { blockers = put_at k (placed (λ n. n) (c.blockers k) b) c.blockers })
+
+affected_put : (k : ℕ) (names : List (List ℕ)) (c : Content) → edited_all (affected_puts k names) c
+    ≡ record c { affects = put_each with_name k names c.affects }
+affected_put k [] c = refl
+affected_put k (n ∷ names) c = affected_put k names (record c { affects = put_at k (with_name (c.affects k) n) c.affects })
 
 pub found_put : (k : ℕ) (vs : List Node) (c : Content) → edited_all (mark_puts k Found vs) c
     ≡ record c { found = put_each with_node k vs c.found }
@@ -94,6 +100,7 @@ after_set i c = record c {
   members = put_each (placed (λ (m : Member). m.number)) (key_of i) i.members c.members;
   fields = put_at (key_of i) (Some (kept_fields (fields_of i.shared))) c.fields;
   blockers = put_each (placed (λ n. n)) (key_of i) i.shared.blockers c.blockers;
+  affects = put_each with_name (key_of i) i.shared.affects c.affects;
 }
 
 pub set_put : (i : SetImage) (c : Content) → edited_all (set_puts i) c ≡ after_set i c
@@ -103,10 +110,14 @@ set_put i c =
       key = put_keys k i.members c.key;
       members = put_each (placed (λ (m : Member). m.number)) k i.members c.members;
     } in
+    let e : Content = record d { fields = put_at k (Some (kept_fields (fields_of i.shared))) d.fields } in
     edited_all-append (member_puts k i.members) _ c
-    ∙ ap (λ (x : Content). edited_all (blocker_puts k i.shared.blockers) (record x { fields = put_at k (Some (kept_fields (fields_of i.shared))) x.fields }))
+    ∙ ap (λ (x : Content). edited_all (blocker_puts k i.shared.blockers ++ affected_puts k i.shared.affects)
+    (record x { fields = put_at k (Some (kept_fields (fields_of i.shared))) x.fields }))
     (members_put k i.members c)
-    ∙ blockers_put k i.shared.blockers (record d { fields = put_at k (Some (kept_fields (fields_of i.shared))) d.fields })
+    ∙ edited_all-append (blocker_puts k i.shared.blockers) (affected_puts k i.shared.affects) e
+    ∙ ap (edited_all (affected_puts k i.shared.affects)) (blockers_put k i.shared.blockers e)
+    ∙ affected_put k i.shared.affects (record e { blockers = put_each (placed (λ n. n)) k i.shared.blockers e.blockers })
 
 abbrev after_marks : SetImage → List NearRow → Content → Content
 after_marks i rows c = record c {
@@ -136,6 +147,10 @@ module _ (i : SetImage) (good : IsGoodImage i) (c : Content) where
   waits_put none = put_all (placed (λ n. n)) (key_of i) i.shared.blockers c.blockers none
       (placed_all (λ n. n) i.shared.blockers (subst IsAscending (sym (same_numbers i.shared.blockers)) good.blockers))
 
+  affected_all : c.affects (key_of i) ≡ [] → (n : ℕ)
+      → put_each with_name (key_of i) i.shared.affects c.affects n ≡ put_at (key_of i) i.shared.affects c.affects n
+  affected_all none = put_all with_name (key_of i) i.shared.affects c.affects none (names_all i.shared.affects good.affects)
+
   -- its tags are a set already
   fields_put : (n : ℕ) → put_at (key_of i) (Some (kept_fields (fields_of i.shared))) c.fields n
       ≡ put_at (key_of i) (Some (fields_of i.shared)) c.fields n
@@ -152,6 +167,7 @@ module _ (i : SetImage) (good : IsGoodImage i) (c : Content) where
     found = λ k. at_same (key_of i) c.found k ∙ ap (λ (x : List Node). put_at (key_of i) x c.found k) clear.marks.found;
     fixed = λ k. at_same (key_of i) c.fixed k ∙ ap (λ (x : List Node). put_at (key_of i) x c.fixed k) clear.marks.fixed;
     blockers = waits_put clear.blockers;
+    affects = affected_all clear.affects;
     nodes = refl;
     near = λ k v.
         ap (λ (f : Node → Option Near). f v) (at_same (key_of i) c.near k)
@@ -174,6 +190,7 @@ module _ (i : SetImage) (good : IsGoodImage i) (c : Content) where
         found = put_all with_node (key_of i) i.shared.found c.found clear.marks.found (nodes_all i.shared.found good.found);
         fixed = put_all with_node (key_of i) i.shared.fixed c.fixed clear.marks.fixed (nodes_all i.shared.fixed good.fixed);
         blockers = waits_put clear.blockers;
+        affects = affected_all clear.affects;
         nodes = refl;
         near = λ k v. put_near-is (key_of i) rows c.near o k v ∙ elim (key_of i == k) as (λ t. (key_of i == k) ≡ t
             → cond t (option_or (row_at rows v) (c.near k v)) (c.near k v)

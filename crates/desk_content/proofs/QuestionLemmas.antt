@@ -45,6 +45,7 @@ branch_kept c t kept forest = record {
   no_found = kept.no_found;
   no_fixed = kept.no_fixed;
   no_blockers = kept.no_blockers;
+  no_affects = kept.no_affects;
   near = λ k v. refl;
 }
 

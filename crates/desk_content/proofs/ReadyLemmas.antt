@@ -23,8 +23,8 @@ use Rattle.desk_content.specs.View.{fields_of, desk_in}
 use Rattle.desk_content.specs.Kept.{IsKeptContent}
 use Rattle.desk_content.specs.Images.{is_member, loses_marks, IsGoodImage, IsCleared, MarksStand}
 use Rattle.desk_content.specs.Changes.{keeps_marks, with_images, cleared_for, FitsContent}
-use Rattle.desk_content.proofs.ClosedLemmas.{in_some, loses_some, no_key, no_members, no_fields, no_blockers, no_found, no_fixed}
-use Rattle.desk_content.proofs.ClosedLemmas.{no_near, no_nodes, pick, put_key, put_nodes, put_members, put_fields, put_blockers, put_found}
+use Rattle.desk_content.proofs.ClosedLemmas.{in_some, loses_some, no_key, no_members, no_fields, no_blockers, no_affects, no_found, no_fixed}
+use Rattle.desk_content.proofs.ClosedLemmas.{no_near, no_nodes, pick, put_key, put_nodes, put_members, put_fields, put_blockers, put_affects, put_found}
 use Rattle.desk_content.proofs.ClosedLemmas.{put_fixed, put_near, own_key, apart_none}
 use Rattle.desk_content.proofs.ChangeLemmas.{in_some-is, in_none, none_lost, members_go}
 
@@ -166,6 +166,7 @@ module _ (c : Content) (change : Change) (kept : IsKeptContent c) (fits : FitsCo
         members = sound.ascending (key_of i) (bug_of i x.0) x.1;
         blockers = blockers.ascending;
         tags = texts.tags;
+        affects = texts.affects;
         found = texts.found;
         fixed = texts.fixed;
       }
@@ -280,5 +281,10 @@ module _ (c : Content) (change : Change) (kept : IsKeptContent c) (fits : FitsCo
         ∙ ap (pick (key_of i) (λ (j : SetImage). j.shared.blockers) (cleared.blockers (key_of i))) (not_put (key_of i) own)
         ∙ no_blockers c change.images c (key_of i)
         ∙ ap (λ t. cond t [] (c.blockers (key_of i))) (in_change (key_of i) own);
+    affects =
+        put_affects xs cleared front front_some (key_of i)
+        ∙ ap (pick (key_of i) (λ (j : SetImage). j.shared.affects) (cleared.affects (key_of i))) (not_put (key_of i) own)
+        ∙ no_affects c change.images c (key_of i)
+        ∙ ap (λ t. cond t [] (c.affects (key_of i))) (in_change (key_of i) own);
     marks = marks_stand;
   }

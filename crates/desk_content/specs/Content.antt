@@ -22,6 +22,8 @@ pub record Content : Type 0 where
   pub fixed : ℕ → List Node
   -- of each key, the bugs on which its set waits, by number
   pub blockers : ℕ → List ℕ
+  -- of each key, the packages that its set affects, in the order of their bytes
+  pub affects : ℕ → List (List ℕ)
   -- the known nodes with their parents
   pub nodes : Ancestry
   -- of each key, the nearest mark of its set as seen from a node
@@ -37,6 +39,7 @@ no_content first = record {
   found = λ k. [];
   fixed = λ k. [];
   blockers = λ k. [];
+  affects = λ k. [];
   nodes = no_nodes;
   near = λ k v. None;
 }

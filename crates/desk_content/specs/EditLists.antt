@@ -9,7 +9,7 @@ use Rattle.desk_places.specs.Keys.{key_of}
 use Rattle.nearest_marks.specs.declared.near.NearRow.{NearRow}
 use Rattle.desk_content.specs.View.{fields_of}
 use Rattle.desk_content.specs.declared.edit.Edit.{Edit}
-use Rattle.desk_content.specs.declared.edit.Edit.TheVariants.{DropFields, PutFields, DropMember, PutMember, DropMarks, PutMark, DropBlockers, PutBlocker, DropNear, PutNear}
+use Rattle.desk_content.specs.declared.edit.Edit.TheVariants.{DropFields, PutFields, DropMember, PutMember, DropMarks, PutMark, DropBlockers, PutBlocker, DropAffects, PutAffects, DropNear, PutNear}
 
 -- the marks of a number go, but for those of a key that keeps them
 abbrev pub mark_drops : Bool → ℕ → ℕ → List Edit
@@ -17,7 +17,7 @@ mark_drops keeps key n = if keeps && (key == n) then [] else DropMarks n ∷ Dro
 
 -- what stands under a number goes, and its bug
 abbrev pub drops_of : Bool → ℕ → ℕ → List Edit
-drops_of keeps key n = DropMember n ∷ DropFields n ∷ DropBlockers n ∷ mark_drops keeps key n
+drops_of keeps key n = DropMember n ∷ DropFields n ∷ DropBlockers n ∷ DropAffects n ∷ mark_drops keeps key n
 
 abbrev pub drops : Bool → ℕ → List Member → List Edit
 drops keeps key ms = flat_map (λ m. drops_of keeps key m.number) ms
@@ -27,6 +27,9 @@ member_puts key ms = map (PutMember key) ms
 
 abbrev pub blocker_puts : ℕ → List ℕ → List Edit
 blocker_puts key bs = map (PutBlocker key) bs
+
+abbrev pub affected_puts : ℕ → List (List ℕ) → List Edit
+affected_puts key names = map (PutAffects key) names
 
 abbrev pub mark_puts : ℕ → MarkKind → List Node → List Edit
 mark_puts key kind nodes = map (PutMark key kind) nodes
@@ -40,4 +43,6 @@ all_mark_puts i rows =
 
 abbrev pub set_puts : SetImage → List Edit
 set_puts i =
-    member_puts (key_of i) i.members ++ (PutFields (key_of i) (fields_of i.shared) ∷ blocker_puts (key_of i) i.shared.blockers)
+    member_puts (key_of i) i.members
+    ++ (PutFields (key_of i) (fields_of i.shared)
+    ∷ (blocker_puts (key_of i) i.shared.blockers ++ affected_puts (key_of i) i.shared.affects))

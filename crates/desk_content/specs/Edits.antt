@@ -6,6 +6,7 @@ use Rattle.ancestry.specs.Nodes.{Node, same_node, node_cmp}
 use Rattle.ancestry.specs.declared.statuses.MarkKind.{MarkKind}
 use Rattle.ancestry.specs.declared.statuses.MarkKind.TheVariants.{Found, Fixed}
 use Rattle.bug_record.specs.Marks.{with_node}
+use Rattle.bug_record.specs.PackageSets.{with_name}
 use Rattle.bug_record.specs.declared.bug.Member.{Member}
 use Rattle.nearest_marks.specs.declared.near.Near.{Near}
 use Rattle.desk_content.specs.Content.{Content}
@@ -59,6 +60,12 @@ with_blocker k b c = record c { blockers = put_at k (placed (λ n. n) (c.blocker
 abbrev pub without_blockers : ℕ → Content → Content
 without_blockers k c = record c { blockers = put_at k [] c.blockers }
 
+abbrev pub with_affected : ℕ → List ℕ → Content → Content
+with_affected k n c = record c { affects = put_at k (with_name (c.affects k) n) c.affects }
+
+abbrev pub without_affected : ℕ → Content → Content
+without_affected k c = record c { affects = put_at k [] c.affects }
+
 abbrev pub with_near : ℕ → Node → Near → Content → Content
 with_near k v x c = record c { near = λ j w. if (k == j) && same_node v w then Some x else c.near j w }
 
@@ -81,6 +88,8 @@ edited (edits.DropMarks k) c = without_marks k c
 edited (edits.PutMark k kind v) c = with_mark k kind v c
 edited (edits.DropBlockers k) c = without_blockers k c
 edited (edits.PutBlocker k b) c = with_blocker k b c
+edited (edits.DropAffects k) c = without_affected k c
+edited (edits.PutAffects k n) c = with_affected k n c
 edited (edits.DropNear k) c = without_near k c
 edited (edits.PutNear k v x) c = with_near k v x c
 edited (edits.DropLink v) c = without_link v c

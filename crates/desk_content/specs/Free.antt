@@ -1,5 +1,5 @@
--- Edits that no row stands in the way of: the numbers are at most the largest one of a bug, and what
--- comes is not there.
+-- Edits that no row stands in the way of: the numbers are at most the largest one of a bug, and
+-- what comes is not there.
 -- This project's own rule.
 use Rattle.std.specs.Prelude.{ℕ, ◌≡◌, ◌≤◌, false, List, [], ◌∷◌, None, ⊤}
 use Rattle.ancestry.specs.Nodes.{Node}
@@ -7,6 +7,7 @@ use Rattle.ancestry.specs.Trees.{has_node, knows}
 use Rattle.ancestry.specs.declared.statuses.MarkKind.{MarkKind}
 use Rattle.ancestry.specs.declared.statuses.MarkKind.TheVariants.{Found, Fixed}
 use Rattle.bug_record.specs.Sets.{has}
+use Rattle.bug_record.specs.PackageSets.{has_name}
 use Rattle.line_words.specs.declared.named.TheConstants.{LARGEST_NUMBER}
 use Rattle.desk_content.specs.Content.{Content}
 use Rattle.desk_content.specs.Edits.{edited}
@@ -26,6 +27,8 @@ IsFree (edits.DropMarks k) c = k ≤ LARGEST_NUMBER
 IsFree (edits.PutMark k kind v) c = (k ≤ LARGEST_NUMBER) × (has_node (marks_of kind c k) v ≡ false)
 IsFree (edits.DropBlockers k) c = k ≤ LARGEST_NUMBER
 IsFree (edits.PutBlocker k b) c = (k ≤ LARGEST_NUMBER) × (b ≤ LARGEST_NUMBER) × (has (c.blockers k) b ≡ false)
+IsFree (edits.DropAffects k) c = k ≤ LARGEST_NUMBER
+IsFree (edits.PutAffects k n) c = (k ≤ LARGEST_NUMBER) × (has_name (c.affects k) n ≡ false)
 IsFree (edits.DropNear k) c = k ≤ LARGEST_NUMBER
 IsFree (edits.PutNear k v x) c = (k ≤ LARGEST_NUMBER) × (c.near k v ≡ None)
 IsFree (edits.DropLink v) c = ⊤

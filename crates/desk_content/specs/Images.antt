@@ -7,6 +7,7 @@ use Rattle.ancestry.specs.Nodes.{Node, same_node}
 use Rattle.line_words.specs.declared.named.TheConstants.{LARGEST_NUMBER}
 use Rattle.bug_record.specs.Sets.{has, IsAscending}
 use Rattle.bug_record.specs.Marks.{IsNodeSet}
+use Rattle.bug_record.specs.PackageSets.{IsNameSet}
 use Rattle.bug_record.specs.Tags.{IsTagSet}
 use Rattle.bug_record.specs.Images.{numbers_of}
 use Rattle.bug_record.specs.declared.bug.SetImage.{SetImage}
@@ -39,6 +40,7 @@ without_image same i c = record c {
   found = λ k. if loses_marks same i k then [] else c.found k;
   fixed = λ k. if loses_marks same i k then [] else c.fixed k;
   blockers = λ k. if is_member i k then [] else c.blockers k;
+  affects = λ k. if is_member i k then [] else c.affects k;
   near = λ k. if loses_marks same i k then (λ v. None) else c.near k;
 }
 
@@ -51,6 +53,7 @@ with_image i c = record c {
   found = put_at (key_of i) i.shared.found c.found;
   fixed = put_at (key_of i) i.shared.fixed c.fixed;
   blockers = put_at (key_of i) i.shared.blockers c.blockers;
+  affects = put_at (key_of i) i.shared.affects c.affects;
   near = put_at (key_of i) (nearest_of c.nodes i.shared.found i.shared.fixed) c.near;
 }
 
@@ -62,6 +65,7 @@ pub record IsGoodImage (i : SetImage) : Type 0 where
   pub members : IsAscending (numbers_of i.members)
   pub blockers : IsAscending i.shared.blockers
   pub tags : IsTagSet i.shared.tags
+  pub affects : IsNameSet i.shared.affects
   pub found : IsNodeSet i.shared.found
   pub fixed : IsNodeSet i.shared.fixed
 
@@ -87,4 +91,5 @@ pub record IsCleared (same : Bool) (i : SetImage) (c : Content) : Type 0 where
   pub members : c.members (key_of i) ≡ []
   pub fields : c.fields (key_of i) ≡ None
   pub blockers : c.blockers (key_of i) ≡ []
+  pub affects : c.affects (key_of i) ≡ []
   pub marks : MarksStand same i c

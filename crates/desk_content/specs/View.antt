@@ -1,5 +1,5 @@
--- The desk that a content shows: a bug is the join of its own row with the row, the marks and the
--- blockers of its set.
+-- The desk that a content shows: a bug is the join of its own row with the row, the affected
+-- packages, the marks and the blockers of its set.
 -- This project's own rule.
 use Rattle.std.specs.Prelude.{ℕ, Option, option_map}
 use Rattle.bug_record.specs.Desk.{Desk}
@@ -9,7 +9,7 @@ use Rattle.desk_places.specs.Keys.{keyed_desk}
 use Rattle.desk_content.specs.Content.{Content}
 use Rattle.desk_content.specs.declared.edit.SetFields.{SetFields}
 
--- the fields of a row of sets, without marks and blockers
+-- the fields of a row of sets, without affected packages, marks and blockers
 abbrev pub fields_of : Shared → SetFields
 fields_of s = record {
   «package» = s.«package»;
@@ -30,6 +30,7 @@ shared_of c k f = record {
   forwarded = f.forwarded;
   owner = f.owner;
   tags = f.tags;
+  affects = c.affects k;
   found = c.found k;
   fixed = c.fixed k;
   blockers = c.blockers k;

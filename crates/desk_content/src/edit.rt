@@ -6,7 +6,7 @@ use debver::Text;
 use nearest_marks::Near;
 
 /// The fields that a set of merged bugs has in its own row.
-/// Its marks, blockers and members stand in tables of their own.
+/// Its marks, blockers, affected packages and members stand in tables of their own.
 #[derive(Drop)]
 pub struct SetFields {
     pub package: Text,
@@ -60,6 +60,15 @@ pub enum Edit {
     PutBlocker {
         key: u64,
         blocker: u64,
+    },
+    /// The set of this key affects no package any more.
+    DropAffects {
+        key: u64,
+    },
+    /// The set of this key affects this package.
+    PutAffects {
+        key: u64,
+        package: Text,
     },
     /// The set of this key has no nearest marks any more.
     DropNear {

@@ -10,11 +10,12 @@ ghost use Rattle.desk_content.specs.Edits.{edited_all};
 ghost use Rattle.desk_content.specs.Free.{AreFree};
 ghost use Rattle.desk_content.specs.Images.{same_marks, without_image, with_image, IsCleared, IsGoodImage};
 ghost use Rattle.desk_content.specs.View.{fields_of};
-ghost use Rattle.desk_content.specs.EditLists.{drops_of, drops, mark_drops, member_puts, blocker_puts, mark_puts, near_puts, all_mark_puts, set_puts};
+ghost use Rattle.desk_content.specs.EditLists.{drops_of, drops, mark_drops, member_puts, blocker_puts, affected_puts, mark_puts, near_puts, all_mark_puts, set_puts};
 
 use crate::edit::{Edit, SetFields};
 use ancestry::{MarkKind, Node};
 use bug_record::{Member, Sequence, SetImage, Shared};
+use debver::Text;
 use nearest_marks::{Family, NearRow, nearest_rows};
 use std::alloc::{AllocError, Global};
 
@@ -24,7 +25,8 @@ use std::alloc::{AllocError, Global};
 pub struct RowEdits {
     /// What goes: all that stands under the numbers of the set's bugs.
     pub cleared: Sequence<Edit>,
-    /// What comes: the bugs, the fields, the blockers, and the marks where they are new.
+    /// What comes: the bugs, the fields, the blockers, the affected packages, and the marks where
+    /// they are new.
     pub put: Sequence<Edit>,
 }
 
@@ -57,6 +59,7 @@ fn drop_number(
     edits.push(Edit::DropMember { number })?;
     edits.push(Edit::DropFields { key: number })?;
     edits.push(Edit::DropBlockers { key: number })?;
+    edits.push(Edit::DropAffects { key: number })?;
     drop_marks(edits, keeps, key, number)
 }
 
@@ -97,6 +100,19 @@ fn put_blockers(edits: &mut Sequence<Edit>, key: u64, blockers: &[u64]) -> Resul
         edits.push(Edit::PutBlocker {
             key,
             blocker: *blocker,
+        })?;
+    }
+    Ok(())
+}
+
+// The affected packages come.
+fn put_affects(edits: &mut Sequence<Edit>, key: u64, names: &[Text]) -> Result<(), AllocError>
+    ensures { OnOk result (edits.new ≡ edits.old ++ affected_puts key names.now) }
+{
+    for name in names {
+        edits.push(Edit::PutAffects {
+            key,
+            package: name.copy()?,
         })?;
     }
     Ok(())
@@ -206,6 +222,7 @@ fn put_set(alloc: Global, key: u64, image: &SetImage) -> Result<Sequence<Edit>, 
     let fields = copy_fields(image.shared.fields())?;
     edits.push(Edit::PutFields { key, fields })?;
     put_blockers(&mut edits, key, image.shared.fields().blockers.as_slice())?;
+    put_affects(&mut edits, key, image.shared.fields().affects.as_slice())?;
     Ok(edits)
 }
 

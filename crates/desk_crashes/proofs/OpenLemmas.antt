@@ -3,9 +3,6 @@ use Rattle.std.proofs.Common.{◌≡◌, Option, None, Some, inl, inr, IfSome, I
 use Rattle.sqlite.specs.Effect.{Database, IsDatabase}
 use Rattle.sqlite.specs.Held.{Held, state}
 use Rattle.sqlite.specs.State.{State, HasCleanDisk, Opens, IsLive, Survives}
-use Rattle.sqlite_catalog.proofs.ReadLemmas.{lists_once}
-use Rattle.sqlite_catalog.specs.Listing.{Lists}
-use Rattle.sqlite_trees.specs.Objects.{catalog_tree}
 use Rattle.sqlite_trees.specs.Tree.{Trees}
 use Rattle.sqlite_trees.specs.declared.store.Store as store
 use Rattle.desk_content.specs.Content.{Content}
@@ -16,25 +13,10 @@ use Rattle.desk_schema.specs.Rows.{content_of, AreShown}
 use Rattle.desk_schema.specs.Steps.{seen}
 use Rattle.desk_tables.specs.Kept.{content_seen, desk_seen}
 use Rattle.desk_tables.specs.Opening.{unlimited}
-use Rattle.desk_tables.specs.Shown.{IsDesk, HasContent, AreTablesOf}
+use Rattle.desk_tables.specs.Shown.{IsDesk, HasContent, HoldsContent, AreTablesOf}
 use Rattle.desk_tables.specs.declared.desk.TableDesk.{TableDesk}
+use Rattle.desk_tables.proofs.HeldLemmas.{shows_held}
 use Rattle.desk_crashes.specs.Settled.{HasHonestDisk, HasKeptTables, IsSettled, IsOpenedOver}
-
--- a database that lists the desk's schema has it
-pub shows_held : (s : State) (trees : Trees) (c : Content) → Opens s → IsLive s → s.committed.trees ≡ trees → AreTablesOf c trees
-    → IsDesk s × (seen s ≡ c)
-shows_held s trees c opens live is tables =
-    let now : s.now.trees ≡ trees = ap (λ (d : Database). d.trees) opens.clean ∙ is in
-    let sound = (live opens.is_open).0 in
-    let listed : Lists (s.now.trees catalog_tree) desk_schema = subst (λ (t : Trees). Lists (t catalog_tree) desk_schema) (sym now) tables.sound.lists in (
-      record {
-        settled = opens.clean;
-        schema = lists_once (s.now.trees catalog_tree) s.now.schema desk_schema sound.lists listed;
-        sound = sound;
-        shown = subst AreShown (sym now) tables.shown;
-      },
-      ap content_of now ∙ tables.content,
-    )
 
 -- what was committed of a desk are its tables
 pub committed_tables : (s : State) (c : Content) → IsDesk s × (seen s ≡ c) → AreTablesOf c s.committed.trees
@@ -54,20 +36,21 @@ Settles {S} g = (s : S) (db : Trees) → IsTrue (g.view s).is_open → g.recover
 module _ {S : Type 0} (g : store.Ghosts S) where
   -- the desk that is opened over a connection is the one that its last commit left
   pub opened_over : Settles g → (conn : Held S) (t : TableDesk S g) → Opens (state g conn) → IsLive (state g conn)
-      → content_seen g t.last.values ≡ seen (state g conn)
-      → (HasContent (seen (state g conn)) (state g conn) → IsKeptContent (seen (state g conn)) → HasKeptTables g t)
-      → Survives (unlimited (state g conn)) (state g t.conn) (λ _. ⊥)
+      → ((c : Content) → HasHonestDisk g t → HoldsContent c (state g conn) → content_seen g t.last.values ≡ c)
+      → ((c : Content) → HasHonestDisk g t → HoldsContent c (state g conn) → IsKeptContent c → HasKeptTables g t)
+      → ((c : Content) → (HasHonestDisk g t → HasContent c (state g conn)) → Survives (unlimited (state g conn)) (state g t.conn) (λ _. ⊥))
       → HasHonestDisk g t
       → IsOpenedOver g (state g conn).committed.trees t
   opened_over settles conn t opens live content kept survives honest c tables good =
       let trees = (state g conn).committed.trees in
-      let shown = shows_held (state g conn) trees c opens live refl tables in
+      let shown : HasContent c (state g conn) = λ clean served. shows_held (state g conn) trees c opens live refl tables in
+      let same = content c honest (inl shown) in
       record {
-        kept = kept (λ clean served. (shown.0, refl)) (subst IsKeptContent (sym shown.1) good);
-        desk = ap desk_in (content ∙ shown.1);
+        kept = kept c honest (inl shown) good;
+        desk = ap desk_in same;
         trees = trees;
-        tables = subst (λ k. AreTablesOf k trees) (sym (content ∙ shown.1)) tables;
-        left = λ db may. elim (survives.crash honest db may) [ inl before ↦ settles conn.store db opens.is_open before | inr none ↦ absurd none ];
+        tables = subst (λ k. AreTablesOf k trees) (sym same) tables;
+        left = λ db may. elim ((survives c (λ clean. shown)).crash honest db may) [ inl before ↦ settles conn.store db opens.is_open before | inr none ↦ absurd none ];
       }
 
   -- a desk that serves is settled

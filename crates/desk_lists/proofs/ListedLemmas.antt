@@ -1,5 +1,5 @@
 -- The rows of all sets of a package that are found at a node, in a content that a desk keeps.
-use Rattle.std.proofs.Common.{◌≡◌, ◌⊎◌, inl, inr, ◌<◌, ◌^◌, ◌+◌, ℕ, Bool, true, false, not, ◌||◌, ◌&&◌, ◌==◌, List, [], ◌∷◌, length, drop, get_or, Option, Some, None, if◌then◌else◌, sym, refl, ap, subst, ◌∙◌}
+use Rattle.std.proofs.Common.{◌≡◌, ◌⊎◌, inl, inr, ◌<◌, ◌^◌, ◌+◌, ℕ, Bool, true, false, not, ◌||◌, ◌&&◌, ◌==◌, List, [], ◌∷◌, ◌++◌, length, drop, get_or, Option, Some, None, Result, Ok, Err, IfOk, if◌then◌else◌, sym, refl, ap, subst, ◌∙◌}
 use Rattle.std.specs.Prelude.{filter, flat_map, is_some, option_map}
 use Rattle.std.specs.BTreeMap.{BTreeMap, get}
 use Rattle.std.specs.List.{AllByRecursion}
@@ -19,7 +19,10 @@ use Rattle.ancestry.specs.Trees.{line}
 use Rattle.bug_record.specs.Asked.{numbers_where}
 use Rattle.bug_record.specs.Heads.{is_found}
 use Rattle.bug_record.specs.Images.{numbers_of, bug_of, member_at}
+use Rattle.bug_record.specs.PackageSets.{has_name}
 use Rattle.bug_record.specs.Sets.{has, Each}
+use Rattle.bug_record.proofs.SetLemmas.{has-append}
+use Rattle.desk_text.specs.declared.outcome.StoreFault.{StoreFault}
 use Rattle.bug_record.specs.Severities.{all_severities}
 use Rattle.bug_record.specs.declared.bug.Bug.{Bug}
 use Rattle.bug_record.specs.declared.bug.Member.{Member}
@@ -37,11 +40,14 @@ use Rattle.desk_content.specs.Questions.{set_passes, bug_passes}
 use Rattle.desk_content.specs.View.{image, desk_in, shared_of}
 use Rattle.desk_content.specs.declared.edit.SetFields.{SetFields}
 use Rattle.desk_content.proofs.QuestionLemmas.{asked}
+use Rattle.affect_rows.specs.Affecting.{AreKeysAffecting}
 use Rattle.index_rows.specs.Listed.{is_of, AreKeysFor}
 use Rattle.desk_store.specs.Store.{AreListed}
+use Rattle.desk_reads.specs.Listing.{listing}
 use Rattle.desk_reads.proofs.KeyLemmas.{image_is, set_small}
 use Rattle.desk_reads.proofs.LoopLemmas.{here}
-use Rattle.desk_lists.specs.Found.{is_found_at}
+use Rattle.desk_lists.specs.Found.{is_shown_at}
+use Rattle.desk_lists.specs.Keys.{AreKeysToList}
 use Rattle.desk_lists.specs.Rows.{row_at, row_in, row_for}
 use Rattle.desk_lists.proofs.FoundLemmas.{found_right}
 use Rattle.desk_lists.proofs.MapLemmas.{ascending, has_number}
@@ -65,20 +71,47 @@ or_or None b c = refl
 or_or (Some x) b c = refl
 
 -- one test within another
-tests : {A : Type 0} (a b : Bool) (o : Option A) → (if a then (if b then o else None) else None) ≡ (if a && b then o else None)
-tests true b o = refl
-tests false b o = refl
+tests : {A : Type 0} (of kept affects found : Bool) (o : Option A)
+    → (if (of && kept) || affects then (if kept && found then o else None) else None) ≡ (if (of || affects) && kept && found then o else None)
+tests true true affects found o = refl
+tests true false true found o = refl
+tests true false false found o = refl
+tests false kept true found o = refl
+tests false kept false found o = refl
 
 -- ---- the rows of one set
 
-pub row_of_image : (c : Content) (k : ℕ) (v : Node) (n : ℕ) (i : SetImage) (o : Option ListRow) → image c k ≡ Some i
-    → option_or (row_in c k v n) o ≡ (if is_found_at c k v i.shared then option_or (row_at i n) o else o)
+row_of_image : (c : Content) (k : ℕ) (v : Node) (n : ℕ) (i : SetImage) (o : Option ListRow) → image c k ≡ Some i
+    → option_or (row_in c k v n) o ≡ (if is_shown_at c k v i.shared then option_or (row_at i n) o else o)
 row_of_image c k v n i o is =
-    ap (λ (s : Option SetImage). option_or (option_and_then (λ j. if is_found_at c k v j.shared then row_at j n else None) s) o) is
-    ∙ elim (is_found_at c k v i.shared) as (λ b. option_or (if b then row_at i n else None) o ≡ (if b then option_or (row_at i n) o else o)) [ true ↦ refl | false ↦ refl ]
+    ap (λ (s : Option SetImage). option_or (option_and_then (λ j. if is_shown_at c k v j.shared then row_at j n else None) s) o) is
+    ∙ elim (is_shown_at c k v i.shared) as (λ b. option_or (if b then row_at i n else None) o ≡ (if b then option_or (row_at i n) o else o)) [ true ↦ refl | false ↦ refl ]
 
-pub row_of_none : (c : Content) (k : ℕ) (v : Node) (n : ℕ) (o : Option ListRow) → image c k ≡ None → option_or (row_in c k v n) o ≡ o
-row_of_none c k v n o none = ap (λ (s : Option SetImage). option_or (option_and_then (λ j. if is_found_at c k v j.shared then row_at j n else None) s) o) none
+row_of_none : (c : Content) (k : ℕ) (v : Node) (n : ℕ) (o : Option ListRow) → image c k ≡ None → option_or (row_in c k v n) o ≡ o
+row_of_none c k v n o none = ap (λ (s : Option SetImage). option_or (option_and_then (λ j. if is_shown_at c k v j.shared then row_at j n else None) s) o) none
+
+-- what a list asks of a set gives the rows of its image
+same_row : (j : SetImage) (n : ℕ) (o : Option Member) → option_map (row_of n) (option_map (bug_of j) o) ≡ option_map (row_of n) (option_map (bug_of (listing j)) o)
+same_row j n None = refl
+same_row j n (Some x) = refl
+
+pub row_of_listing : (c : Content) (k : ℕ) (v : Node) (n : ℕ) (i : SetImage) (o : Option ListRow) → option_map listing (image c k) ≡ Some i
+    → option_or (row_in c k v n) o ≡ (if is_shown_at c k v i.shared then option_or (row_at i n) o else o)
+row_of_listing c k v n i o is = cases (image c k) refl is
+  where
+    cases : (s : Option SetImage) → image c k ≡ s → option_map listing s ≡ Some i → option_or (row_in c k v n) o ≡ (if is_shown_at c k v i.shared then option_or (row_at i n) o else o)
+    cases None e none = absurd (none-some i none)
+    cases (Some j) e some =
+        row_of_image c k v n j o e
+        ∙ ap (λ (r : Option ListRow). if is_shown_at c k v j.shared then option_or r o else o) (same_row j n (member_at j.members n))
+        ∙ ap (λ (h : SetImage). if is_shown_at c k v h.shared then option_or (row_at h n) o else o) (same_Some _ _ some)
+
+pub row_of_no_listing : (c : Content) (k : ℕ) (v : Node) (n : ℕ) (o : Option ListRow) → option_map listing (image c k) ≡ None → option_or (row_in c k v n) o ≡ o
+row_of_no_listing c k v n o none = cases (image c k) refl none
+  where
+    cases : (s : Option SetImage) → image c k ≡ s → option_map listing s ≡ None → option_or (row_in c k v n) o ≡ o
+    cases None e h = row_of_none c k v n o e
+    cases (Some j) e h = absurd (none-some (listing j) (sym h))
 
 -- the rows of one more set, and those of the sets that are left
 pub set_came : (c : Content) (v : Node) (keys : List ℕ) (at k other n : ℕ) (old new to : Option ListRow) → at < length keys → k ≡ get_or keys at other
@@ -103,17 +136,25 @@ each_of : (P : ℕ → Type 0) (ks : List ℕ) → ((k : ℕ) → has ks k ≡ t
 each_of P [] all = tt
 each_of P (k ∷ ks) all = (all k (ap (λ t. t || has ks k) (itself k)), each_of P ks (λ j h. all j (either (k == j) (has ks j) h)))
 
+-- the keys of both questions
+pub keys_both : (p : List ℕ) (c : Content) (keys more all : List ℕ) → AreKeysFor p c keys → AreKeysAffecting p c more → all ≡ keys ++ more → AreKeysToList p c all
+keys_both p c keys more all a b is = λ k. ap (λ ks. has ks k) is ∙ has-append keys more k ∙ (λ i. a k i || b k i)
+
+pub keys_are : {A : Type 0} (items : A → List ℕ) (p : List ℕ) (c : Content) (keys : List ℕ) (r : Result A StoreFault) → AreKeysToList p c keys → IfOk r (λ a. items a ≡ keys) → IfOk r (λ a. AreKeysToList p c (items a))
+keys_are items p c keys (Ok a) says is = λ k. ap (λ ks. has ks k) is ∙ says k
+keys_are items p c keys (Err e) says is = tt
+
 module _ (c : Content) (kept : IsKeptContent c) (p : List ℕ) where
-  -- a key of the package has a row
-  keyed_row : (keys : List ℕ) → AreKeysFor p c keys → (k : ℕ) → has keys k ≡ true → (f : SetFields) × (c.fields k ≡ Some f)
+  -- a key to list has a row
+  keyed_row : (keys : List ℕ) → AreKeysToList p c keys → (k : ℕ) → has keys k ≡ true → (f : SetFields) × (c.fields k ≡ Some f)
   keyed_row keys are k h = cases (c.fields k) refl
     where
       cases : (o : Option SetFields) → c.fields k ≡ o → (f : SetFields) × (c.fields k ≡ Some f)
-      cases None e = absurd (false≢true (sym (ap (is_of p) e) ∙ sym (are k) ∙ h))
+      cases None e = absurd (false≢true (sym ((λ i. is_of p (e i) || has_name (kept.no_affects k e i) p)) ∙ sym (are k) ∙ h))
       cases (Some f) e = (f, e)
 
   -- each key is a u32
-  pub keys_small : (keys : List ℕ) → AreKeysFor p c keys → Each (λ k. k < 2 ^ 32) keys
+  pub keys_small : (keys : List ℕ) → AreKeysToList p c keys → Each (λ k. k < 2 ^ 32) keys
   keys_small keys are = each_of (λ k. k < 2 ^ 32) keys (λ k h.
       let f = keyed_row keys are k h in
       set_small c kept k (record { shared = shared_of c k f.0; members = c.members k }) (image_is c k f.0 f.1))
@@ -135,9 +176,9 @@ module _ (c : Content) (kept : IsKeptContent c) (p : List ℕ) (v : Node) where
       within i e None m false = refl
       within i e (Some x) m b = absurd (other (kept.keyed.known n k i e (has-member_some i.members n x m)))
 
-      cases : (o : Option SetImage) → image c k ≡ o → option_and_then (λ i. if is_found_at c k v i.shared then row_at i n else None) o ≡ None
+      cases : (o : Option SetImage) → image c k ≡ o → option_and_then (λ i. if is_shown_at c k v i.shared then row_at i n else None) o ≡ None
       cases None e = refl
-      cases (Some i) e = within i e (member_at i.members n) refl (is_found_at c k v i.shared)
+      cases (Some i) e = within i e (member_at i.members n) refl (is_shown_at c k v i.shared)
 
   no_rows : (ks : List ℕ) (n : ℕ) → c.key n ≡ None → row_for c v ks n ≡ None
   no_rows [] n none = refl
@@ -159,7 +200,7 @@ module _ (c : Content) (kept : IsKeptContent c) (p : List ℕ) (v : Node) where
           (λ i. option_or (h i) (no_row j n (λ o. true≢false (sym (eq-eqb j k (same_Some _ _ (sym o ∙ e))) ∙ is)) i))
           ∙ none_or (if has ks k then row_in c k v n else None)
 
-  module _ (keys : List ℕ) (are : AreKeysFor p c keys) where
+  module _ (keys : List ℕ) (are : AreKeysToList p c keys) where
     -- a bug is not listed and has no row, or is listed and has its row
     abbrev IsSaid : ℕ → Type 0
     IsSaid n =
@@ -176,18 +217,18 @@ module _ (c : Content) (kept : IsKeptContent c) (p : List ℕ) (v : Node) where
             ap (λ (o : Option ℕ). option_map_or (set_passes test c) o false) e
             ∙ ap (λ (o : Option SetFields). option_map_or (λ g. test (shared_of c k g)) o false) is
 
-        here : row_in c k v n ≡ (if is_found_at c k v (shared_of c k f) then Some (row_of n (bug_of (set_of k f) x)) else None)
+        here : row_in c k v n ≡ (if is_shown_at c k v (shared_of c k f) then Some (row_of n (bug_of (set_of k f) x)) else None)
         here =
-            ap (λ (o : Option SetImage). option_and_then (λ i. if is_found_at c k v i.shared then row_at i n else None) o) (image_is c k f is)
-            ∙ ap (λ (o : Option Member). if is_found_at c k v (shared_of c k f) then option_map (row_of n) (option_map (bug_of (set_of k f)) o) else None) m
+            ap (λ (o : Option SetImage). option_and_then (λ i. if is_shown_at c k v i.shared then row_at i n else None) o) (image_is c k f is)
+            ∙ ap (λ (o : Option Member). if is_shown_at c k v (shared_of c k f) then option_map (row_of n) (option_map (bug_of (set_of k f)) o) else None) m
 
         said : row_for c v keys n ≡ (if test (shared_of c k f) then Some (row_of n (bug_of (set_of k f) x)) else None)
         said =
             one_row keys n k e
-            ∙ (λ i. if (are k ∙ ap (is_of p) is) i then here i else None)
-            ∙ ap (λ t. if bytes_eq f.«package» p && not f.archived then (if t then Some (row_of n (bug_of (set_of k f) x)) else None) else None)
+            ∙ (λ i. if (are k ∙ ap (λ (o : Option SetFields). is_of p o || has_name (c.affects k) p) is) i then here i else None)
+            ∙ ap (λ t. if (bytes_eq f.«package» p && not f.archived) || has_name (c.affects k) p then (if not f.archived && t then Some (row_of n (bug_of (set_of k f) x)) else None) else None)
             (found_right c k v (shared_of c k f) kept refl refl)
-            ∙ tests (bytes_eq f.«package» p && not f.archived) (is_found (status_on (line c.nodes v) (c.found k) (c.fixed k) f.closed)) (Some (row_of n (bug_of (set_of k f) x)))
+            ∙ tests (bytes_eq f.«package» p) (not f.archived) (has_name (c.affects k) p) (is_found (status_on (line c.nodes v) (c.found k) (c.fixed k) f.closed)) (Some (row_of n (bug_of (set_of k f) x)))
 
         cases : (b : Bool) → test (shared_of c k f) ≡ b → IsSaid n
         cases true t = inr (bug_of (set_of k f) x, shows, passing ∙ t, said ∙ ap (λ b. if b then Some (row_of n (bug_of (set_of k f) x)) else None) t)

@@ -1,5 +1,5 @@
 -- Whether the bugs of a set are found at a node, by the set's own marks and the nearest one.
-use Rattle.std.specs.Prelude.{◌==◌, ℕ, Bool, length, Option, option_map}
+use Rattle.std.specs.Prelude.{◌==◌, ◌&&◌, not, ℕ, Bool, length, Option, option_map}
 use Rattle.ancestry.specs.Nodes.{Node}
 use Rattle.ancestry.specs.Statuses.{status_from}
 use Rattle.ancestry.specs.declared.statuses.MarkKind.{MarkKind}
@@ -17,3 +17,7 @@ is_found_by f nearest v =
 -- whether those of the set of the key are, as the row of its nearest mark says
 abbrev pub is_found_at : Content → ℕ → Node → Shared → Bool
 is_found_at c k v f = is_found_by f (option_map (λ near. near.kind) (c.near k v)) v
+
+-- and are not archived
+abbrev pub is_shown_at : Content → ℕ → Node → Shared → Bool
+is_shown_at c k v f = not f.archived && is_found_at c k v f

@@ -2,3 +2,4 @@ pub mod Asked
 -- definitions that only private functions cite
 pub mod Found
 pub mod Rows
+pub mod Keys

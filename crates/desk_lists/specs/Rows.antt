@@ -8,15 +8,15 @@ use Rattle.desk_text.specs.Lists.{row_of}
 use Rattle.desk_text.specs.declared.lists.ListRow.{ListRow}
 use Rattle.desk_content.specs.Content.{Content}
 use Rattle.desk_content.specs.View.{image}
-use Rattle.desk_lists.specs.Found.{is_found_at}
+use Rattle.desk_lists.specs.Found.{is_shown_at}
 
 -- the row of the bug n, if it is one of the image's
 abbrev pub row_at : SetImage → ℕ → Option ListRow
 row_at i n = option_map (row_of n) (option_map (bug_of i) (member_at i.members n))
 
--- the same, if it is one of the key's set and is found at a node
+-- the same, if it is one of the key's set, is not archived and is found at a node
 abbrev pub row_in : Content → ℕ → Node → ℕ → Option ListRow
-row_in c k v n = option_and_then (λ i. if is_found_at c k v i.shared then row_at i n else None) (image c k)
+row_in c k v n = option_and_then (λ i. if is_shown_at c k v i.shared then row_at i n else None) (image c k)
 
 -- as the last of the keys' sets that has the bug says it
 abbrev pub row_for : Content → Node → List ℕ → ℕ → Option ListRow

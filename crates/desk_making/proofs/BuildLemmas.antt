@@ -5,16 +5,19 @@ use Rattle.sqlite.specs.Change.{created, indexed, next_tree}
 use Rattle.sqlite.specs.Order.{Row}
 use Rattle.sqlite.specs.Schema.{Schema}
 use Rattle.sqlite.specs.Table.{Table}
+use Rattle.sqlite.specs.Tree.{Trees}
 use Rattle.sqlite.specs.State.{State, IsLive, HasCleanDisk, KeepsCommit, Survives, ExecutesInside}
 use Rattle.sqlite.specs.declared.error.Error.{Error}
 use Rattle.sqlite.proofs.InsideLemmas.{keeps_then}
 use Rattle.sqlite.proofs.StateLemmas.{survives_then}
+use Rattle.sqlite_schema.specs.Rules.{Keeps}
+use Rattle.sqlite_schema.specs.declared.schema.Constraint.TheVariants.{Unique}
 use Rattle.sqlite_schema.specs.declared.schema.Index.{Index}
 use Rattle.desk_text.specs.declared.outcome.StoreFault.{StoreFault}
 use Rattle.desk_text.specs.declared.outcome.StoreFault.TheVariants.{Foreign}
 use Rattle.sql_forms.specs.Faults.{fault_of, written}
 use Rattle.sql_forms.proofs.CreateErrors.{IsSureTable, IsSureIndex, table_free, index_free}
-use Rattle.sql_forms.proofs.CreateLemmas.{CreatesTable, CreatesIndex, creates, creates_index, still_empty}
+use Rattle.sql_forms.proofs.CreateLemmas.{CreatesTable, CreatesIndex, creates, creates_index, still_rows}
 use Rattle.sqlite.specs.Held.{Held, state}
 use Rattle.sqlite.specs.Store.{Ghosts}
 use Rattle.desk_making.specs.Making.{IsBuilt, IsBlank, Builds}
@@ -38,13 +41,15 @@ pub builds_write : (sql : List ℕ) (params : Row) (Before After : State → Typ
     → (old new : State) (r : Result ℕ Error) → Survives old new (λ _. ⊥) → (HasCleanDisk new → IsTrue old.in_transaction → ExecutesInside 0 sql params old new r) → Builds Before After old new (written r)
 builds_write sql params Before After it old new (Ok count) survives runs = record {
   survives = survives;
-  keeps = λ clean before. let h = runs clean (it.begun old before) in record { was_open = λ _. h.1.was_open; committed = λ _. h.1.committed_is };
+  keeps = λ clean inside. let h = runs clean inside in record { was_open = λ _. h.1.was_open; committed = λ _. h.1.committed_is };
+  goes_on = λ clean inside. (runs clean inside).1.mode;
   ok = λ clean before. let h = runs clean (it.begun old before) in (h.1.was_open, h.1.is_open, it.makes old new count before survives.limit h);
   sure = λ clean before. tt;
 }
 builds_write sql params Before After it old new (Err e) survives runs = record {
   survives = survives;
-  keeps = λ clean before. kept sql params old new e (runs clean (it.begun old before));
+  keeps = λ clean inside. kept sql params old new e (runs clean inside);
+  goes_on = λ clean inside. tt;
   ok = λ clean before. tt;
   sure = λ clean before. it.free old new e before (runs clean (it.begun old before));
 }
@@ -60,7 +65,8 @@ module _ (P Q R : State → Type 0) (old mid new : State) where
   pub builds_then : (r : Result (Unit {0}) StoreFault) → Builds P Q old mid (Ok tt) → Builds Q R mid new r → Builds P R old new r
   builds_then r one two = record {
     survives = survives_then old mid new _ _ (λ _. ⊥) (λ _ db none. none) (λ _ db none. none) one.survives two.survives;
-    keeps = λ clean before. keeps_then old mid new (one.keeps (early clean) before) (two.keeps clean (went clean before));
+    keeps = λ clean inside. keeps_then old mid new (one.keeps (early clean) inside) (two.keeps clean (one.goes_on (early clean) inside));
+    goes_on = λ clean inside. two.goes_on clean (one.goes_on (early clean) inside);
     ok = λ clean before. goes r (one.ok (early clean) before).0 (two.ok clean (went clean before));
     sure = λ clean before. two.sure clean (went clean before);
   }
@@ -77,7 +83,22 @@ module _ (P Q R : State → Type 0) (old mid new : State) where
 
 -- the call failed, and with it all
 pub builds_stop : (P Q R : State → Type 0) (old new : State) (fault : StoreFault) → Builds P Q old new (Err fault) → Builds P R old new (Err fault)
-builds_stop P Q R old new fault h = record { survives = h.survives; keeps = h.keeps; ok = λ clean before. tt; sure = h.sure }
+builds_stop P Q R old new fault h = record { survives = h.survives; keeps = h.keeps; goes_on = λ clean inside. tt; ok = λ clean before. tt; sure = h.sure }
+
+-- what held before is what another says, and so is what holds after
+pub builds_as : (P Q P' Q' : State → Type 0) (old new : State) (r : Result (Unit {0}) StoreFault) → (P' old → P old) → (P' old → IsTrue old.is_open → Q new → Q' new)
+    → Builds P Q old new r → Builds P' Q' old new r
+builds_as P Q P' Q' old new r before after h = record {
+  survives = h.survives;
+  keeps = h.keeps;
+  goes_on = h.goes_on;
+  ok = λ clean was. goes r was (h.ok clean (before was));
+  sure = λ clean was. h.sure clean (before was);
+}
+  where
+    goes : (r : Result (Unit {0}) StoreFault) → P' old → IfOk r (λ _. IsTrue old.is_open × IsTrue new.is_open × Q new) → IfOk r (λ _. IsTrue old.is_open × IsTrue new.is_open × Q' new)
+    goes (Ok a) was g = (g.0, g.1, after was g.0 g.2)
+    goes (Err e) was g = tt
 
 -- ---- a table, an index
 
@@ -91,14 +112,16 @@ pub record AddsTable (schema : Schema) (sql : List ℕ) (table : Table) (later :
   pub sure : IsSureTable schema sql table
   pub later_is : created schema table ≡ later
 
-pub table_is : (schema : Schema) (sql : List ℕ) (table : Table) (later : Schema) → AddsTable schema sql table later → IsMaking sql [] (IsBuilt schema) (IsBuilt later)
-table_is schema sql table later it = record {
+-- the new table has no row
+pub table_is : (rows : Trees) (schema : Schema) (sql : List ℕ) (table : Table) (later : Schema) → rows (next_tree schema) ≡ [] → AddsTable schema sql table later
+    → IsMaking sql [] (IsBuilt rows schema) (IsBuilt rows later)
+table_is rows schema sql table later none it = record {
   begun = λ s was. was.begun;
-  makes = λ old new count was limit h. subst (λ s. IsBuilt s new) it.later_is (made old new count was limit h);
+  makes = λ old new count was limit h. subst (λ s. IsBuilt rows s new) it.later_is (made old new count was limit h);
   free = λ old new e was. table_free schema sql table it.creates it.sure old new e was.schema_is;
 }
   where
-    made : (old new : State) (count : ℕ) → IsBuilt schema old → new.step_limit ≡ old.step_limit → ExecutesInside 0 sql [] old new (Ok count) → IsBuilt (created schema table) new
+    made : (old new : State) (count : ℕ) → IsBuilt rows schema old → new.step_limit ≡ old.step_limit → ExecutesInside 0 sql [] old new (Ok count) → IsBuilt rows (created schema table) new
     made old new count was limit h =
         let done = creates schema sql table it.creates old new count (was.schema_is h.1.was_open) h.0 in
         record {
@@ -106,8 +129,8 @@ table_is schema sql table later it = record {
           unlimited = limit ∙ was.unlimited;
           schema_is = λ _. done.schema_is;
           sound = λ _. done.sound;
-          empty = λ _. all_push (λ t. new.now.trees t.tree ≡ []) schema.tables (record table { tree = next_tree schema })
-              (still_empty schema.tables old.now.trees new.now.trees (was.empty h.1.was_open) done.rows) done.empty;
+          rows_are = λ _. all_push (λ t. new.now.trees t.tree ≡ rows t.tree) schema.tables (record table { tree = next_tree schema })
+              (still_rows schema.tables rows old.now.trees new.now.trees (was.rows_are h.1.was_open) done.rows) (done.empty ∙ sym none);
         }
 
 -- the text adds an index to the schema
@@ -116,14 +139,19 @@ pub record AddsIndex (schema : Schema) (sql : List ℕ) (at : ℕ) (table : Tabl
   pub sure : IsSureIndex schema sql at table index
   pub later_is : indexed schema table index ≡ later
 
-pub index_is : (schema : Schema) (sql : List ℕ) (at : ℕ) (table : Table) (index : Index) (later : Schema) → AddsIndex schema sql at table index later → IsMaking sql [] (IsBuilt schema) (IsBuilt later)
-index_is schema sql at table index later it = record {
+-- what a sound database under a schema keeps
+pub unique_in : (rows : Trees) (schema : Schema) (s : State) → IsBuilt rows schema s → IsTrue s.is_open → Keeps Unique schema s.now.trees
+unique_in rows schema s was live = subst (λ k. Keeps Unique k s.now.trees) (was.schema_is live) ((was.sound live).obeys.rules Unique)
+
+pub index_is : (rows : Trees) (schema : Schema) (sql : List ℕ) (at : ℕ) (table : Table) (index : Index) (later : Schema) → AddsIndex schema sql at table index later
+    → IsMaking sql [] (IsBuilt rows schema) (IsBuilt rows later)
+index_is rows schema sql at table index later it = record {
   begun = λ s was. was.begun;
-  makes = λ old new count was limit h. subst (λ s. IsBuilt s new) it.later_is (made old new count was limit h);
-  free = λ old new e was. index_free schema sql at table index it.creates it.sure old new e was.schema_is was.empty;
+  makes = λ old new count was limit h. subst (λ s. IsBuilt rows s new) it.later_is (made old new count was limit h);
+  free = λ old new e was. index_free schema sql at table index it.creates it.sure old new e was.schema_is (unique_in rows schema old was);
 }
   where
-    made : (old new : State) (count : ℕ) → IsBuilt schema old → new.step_limit ≡ old.step_limit → ExecutesInside 0 sql [] old new (Ok count) → IsBuilt (indexed schema table index) new
+    made : (old new : State) (count : ℕ) → IsBuilt rows schema old → new.step_limit ≡ old.step_limit → ExecutesInside 0 sql [] old new (Ok count) → IsBuilt rows (indexed schema table index) new
     made old new count was limit h =
         let done = creates_index schema sql at table index it.creates old new count (was.schema_is h.1.was_open) h.0 in
         record {
@@ -131,11 +159,11 @@ index_is schema sql at table index later it = record {
           unlimited = limit ∙ was.unlimited;
           schema_is = λ _. done.schema_is;
           sound = λ _. done.sound;
-          empty = λ _. still_empty schema.tables old.now.trees new.now.trees (was.empty h.1.was_open) done.rows;
+          rows_are = λ _. still_rows schema.tables rows old.now.trees new.now.trees (was.rows_are h.1.was_open) done.rows;
         }
 
 -- ---- how a transaction begins
 
 -- a transaction that begins over a database with no table, no index and no view
 pub blank_begun : {S : Type 0} (g : Ghosts S) (old : Held S) → (state g old).now.schema ≡ no_tables → IsLive (state g old) → old.step_limit ≡ None → IsBlank (state g (record old { in_transaction = true }))
-blank_begun g old blank live unlimited = record { begun = refl; unlimited = unlimited; schema_is = λ _. blank; sound = λ o. (live o).0; empty = λ _. tt }
+blank_begun g old blank live unlimited = record { begun = refl; unlimited = unlimited; schema_is = λ _. blank; sound = λ o. (live o).0; rows_are = λ _. tt }

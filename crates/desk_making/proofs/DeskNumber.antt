@@ -1,5 +1,5 @@
--- The tables of a desk say 1.
-use Rattle.std.proofs.Common.{◌≡◌, inl, inr, ℕ, pos, List, [], ◌∷◌, codes, true, None, Ok, Err, IsTrue, map, filter, refl, sym, ap, subst, ◌∙◌, true≢false, arith}
+-- The tables of a desk say 2, and those of a desk under schema 1 say 1.
+use Rattle.std.proofs.Common.{◌≡◌, ◌<◌, inl, inr, ℕ, pos, List, [], ◌∷◌, codes, true, None, Ok, Err, IsTrue, map, filter, refl, sym, ap, subst, ◌∙◌, true≢false, arith}
 use Rattle.std.specs.List.Sorted.{IsPermutation}
 use Rattle.sqlite.proofs.Callers.{command_of, one_permutation}
 use Rattle.sqlite.specs.Command.TheVariants.{Select}
@@ -8,6 +8,7 @@ use Rattle.sqlite.specs.Effect.{Answers, RefusesQuery}
 use Rattle.sqlite.specs.Ops.{binary}
 use Rattle.sqlite.specs.Order.{Row, value_cmp}
 use Rattle.sqlite.specs.Program.{overlay}
+use Rattle.sqlite.specs.Schema.{Schema}
 use Rattle.sqlite.specs.State.{State}
 use Rattle.sqlite.specs.Term.{Term, lit, col, op2, eval_all}
 use Rattle.sqlite.specs.declared.error.Error.{Error}
@@ -22,12 +23,17 @@ use Rattle.sqlite_value.specs.declared.keys.Collation.TheVariants.{Binary}
 use Rattle.sql_forms.specs.Forms.{query_of, passes}
 use Rattle.sql_forms.specs.Numbers.{number_row}
 use Rattle.sql_forms.proofs.QueryLemmas.{finds, found}
-use Rattle.desk_schema.specs.Tables.{META, desk_schema}
+use Rattle.desk_content.specs.Content.{Content}
+use Rattle.desk_schema.specs.Tables.{META, first_schema, desk_schema}
 use Rattle.desk_schema.specs.Rows.{meta_cells}
 use Rattle.desk_schema.specs.Steps.{IsInside}
+use Rattle.desk_making.specs.Making.{IsFirst, first_meta_cells}
 use Rattle.desk_making.specs.Number.{number_text, Asks, IsAnswer, IsRefused, Says}
 use Rattle.desk_making.specs.declared.number.SchemaRead.{SchemaRead}
 use Rattle.desk_making.specs.declared.number.SchemaRead.TheVariants.{Number, NoNumber}
+
+same_number : {m n : ℕ} → number_row m ∷ [] ≡ number_row n ∷ [] → m ≡ n
+same_number e = cc
 
 abbrev tests : List Term
 tests = op2 (Compare Eq Binary) (col 1 0) (lit (Int (pos 1))) ∷ []
@@ -35,46 +41,101 @@ tests = op2 (Compare Eq Binary) (col 1 0) (lit (Int (pos 1))) ∷ []
 abbrev the_query : Program
 the_query = record { lets = []; body = query_of META tests (col 1 2 ∷ []) [] }
 
--- what the text is under the schema of a desk
-compiles : command_of (compiled desk_schema number_text) ≡ Select the_query (codes "schema" ∷ [])
+-- what the text is under a schema
+abbrev Compiles : Schema → Type 0
+Compiles schema = command_of (compiled schema number_text) ≡ Select the_query (codes "schema" ∷ [])
+
+compiles : Compiles desk_schema
 unfolding everything
 compiles = refl
 
-typed : accepts_program desk_schema [] the_query.body [] ≡ true
+first_compiles : Compiles first_schema
+unfolding everything
+first_compiles = refl
+
+abbrev Types : Schema → Type 0
+Types schema = accepts_program schema [] the_query.body [] ≡ true
+
+typed : Types desk_schema
 unfolding everything
 typed = refl
+
+first_typed : Types first_schema
+unfolding everything
+first_typed = refl
 
 hit : (next : ℕ) → passes tests [] (meta_cells next) ≡ true
 unfolding binary value_cmp lib.Ieee.is_nan lib.Ieee.lt
 hit next = refl
 
+first_hit : (next : ℕ) → passes tests [] (first_meta_cells next) ≡ true
+unfolding binary value_cmp lib.Ieee.is_nan lib.Ieee.lt
+first_hit next = refl
+
 same_query : {p q : Program} {ns ms : List (List ℕ)} → Select p ns ≡ Select q ms → p ≡ q
 same_query e = cc
 
-module _ (s : State) (inside : IsInside s) (live : IsTrue s.is_open) where
-  asked : (p : Program) → Asks s.now.schema p → p ≡ the_query
-  asked p a = same_query (sym a.selects ∙ ap command_of (sym (subst (λ schema. compiled schema number_text ≡ Ok a.found) (inside.schema live) a.is)) ∙ compiles)
+-- a database under this schema, whose one row of meta has this number
+pub record HasNumber (schema : Schema) (n : ℕ) (s : State) : Type 0 where
+  pub compiles : Compiles schema
+  pub typed : Types schema
+  pub under : s.now.schema ≡ schema
+  pub row : Row
+  pub meta : s.now.trees META ≡ row ∷ []
+  pub hit : passes tests [] row ≡ true
+  pub number : eval_all (col 1 2 ∷ []) ([] ∷ row ∷ []) ≡ number_row n
+  pub some : 0 < n
 
-  says_one : (rows : List Row) → IsAnswer s.now rows → rows ≡ number_row 1 ∷ []
+module _ (schema : Schema) (n : ℕ) (s : State) (it : HasNumber schema n s) where
+  asked : (p : Program) → Asks s.now.schema p → p ≡ the_query
+  asked p a = same_query (sym a.selects ∙ ap command_of (sym (subst (λ k. compiled k number_text ≡ Ok a.found) it.under a.is)) ∙ it.compiles)
+
+  says_one : (rows : List Row) → IsAnswer s.now rows → rows ≡ number_row n ∷ []
   says_one rows (p, a, answer) =
-      let next = (inside.shown live).meta.0 in
-      let row = (inside.shown live).meta.1 in
-      let it = subst (λ q. Answers s.now q [] rows) (asked p a) answer in
-      let permuted = found META tests (col 1 2 ∷ []) [] s.now.trees [] rows (finds META tests (col 1 2 ∷ []) [] s.now.trees [] rows it.answer) in
-      let one = subst (λ xs. IsPermutation (map (λ r. eval_all (col 1 2 ∷ []) ([] ∷ r ∷ [])) (filter (passes tests []) xs)) rows) row permuted in
-      one_permutation (number_row 1) rows (rw (hit next) at one)
+      let answers = subst (λ q. Answers s.now q [] rows) (asked p a) answer in
+      let permuted = found META tests (col 1 2 ∷ []) [] s.now.trees [] rows (finds META tests (col 1 2 ∷ []) [] s.now.trees [] rows answers.answer) in
+      let one = subst (λ xs. IsPermutation (map (λ r. eval_all (col 1 2 ∷ []) ([] ∷ r ∷ [])) (filter (passes tests []) xs)) rows) it.meta permuted in
+      let alone : IsPermutation (eval_all (col 1 2 ∷ []) ([] ∷ it.row ∷ []) ∷ []) rows = rw it.hit at one in
+      one_permutation (number_row n) rows (subst (λ x. IsPermutation (x ∷ []) rows) it.number alone)
 
   reads : (e : Error) → RefusesQuery None s.now the_query [] e → ⊥
-  reads e (inl (why, refused)) = true≢false (sym typed ∙ sym (ap (λ schema. accepts_program schema [] the_query.body []) (inside.schema live)) ∙ refused)
+  reads e (inl (why, refused)) = true≢false (sym it.typed ∙ sym (ap (λ k. accepts_program k [] the_query.body []) it.under) ∙ refused)
   reads e (inr (inl (why, inl sums))) = sums
   reads e (inr (inl (why, inr folds))) = (any_has (λ _. ⊥) (overlay s.now.trees [] META) folds).2
   reads e (inr (inr (why, some))) = absurd (let no = some in cc)
 
   never_refused : IsRefused s.now → ⊥
-  never_refused (inl (fault, is)) = absurd (let no = sym compiles ∙ ap command_of (subst (λ schema. compiled schema number_text ≡ Err fault) (inside.schema live) is) in cc)
+  never_refused (inl (fault, is)) = absurd (let no = sym it.compiles ∙ ap command_of (subst (λ k. compiled k number_text ≡ Err fault) it.under is) in cc)
   never_refused (inr (p, a, e, refused)) = reads e (subst (λ q. RefusesQuery None s.now q [] e) (asked p a) refused)
 
-  pub desk_says : (read : SchemaRead) → Says s.now read → read ≡ Number 1
-  desk_says (Number n) (rows, answer, said) = let same = sym said.1 ∙ says_one rows answer in let e : n ≡ 1 = cc in ap Number e
-  desk_says NoNumber (inl refused) = absurd (never_refused refused)
-  desk_says NoNumber (inr (rows, answer, other)) = absurd (other 1 (omega arith, says_one rows answer))
+  says_number : (read : SchemaRead) → Says s.now read → read ≡ Number n
+  says_number (Number m) (rows, answer, said) = let same = sym said.1 ∙ says_one rows answer in let e : m ≡ n = same_number same in ap Number e
+  says_number NoNumber (inl refused) = absurd (never_refused refused)
+  says_number NoNumber (inr (rows, answer, other)) = absurd (other n (it.some, says_one rows answer))
+
+pub desk_says : (s : State) → IsInside s → IsTrue s.is_open → (read : SchemaRead) → Says s.now read → read ≡ Number 2
+desk_says s inside live =
+    let meta = (inside.shown live).meta in
+    says_number desk_schema 2 s (record {
+      compiles = compiles;
+      typed = typed;
+      under = inside.schema live;
+      row = meta_cells meta.0;
+      meta = meta.1;
+      hit = hit meta.0;
+      number = refl;
+      some = omega arith;
+    })
+
+pub first_says : (c : Content) (s : State) → IsFirst c s → IsTrue s.is_open → (read : SchemaRead) → Says s.now read → read ≡ Number 1
+first_says c s first live =
+    says_number first_schema 1 s (record {
+      compiles = first_compiles;
+      typed = first_typed;
+      under = first.schema live;
+      row = first_meta_cells c.next;
+      meta = (first.shown live).meta;
+      hit = first_hit c.next;
+      number = refl;
+      some = omega arith;
+    })

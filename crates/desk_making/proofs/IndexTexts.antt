@@ -7,9 +7,9 @@ use Rattle.sqlite.specs.Schema.{Schema}
 use Rattle.sqlite_schema.specs.declared.schema.Index.{Index}
 use Rattle.sqlite_tied.specs.Compute.{everything}
 use Rattle.sqlite_trees.specs.Sound.{same_name, begins, is_free_name, fits_kind}
-use Rattle.desk_schema.specs.Tables.{sets_table, bugs_table, marks_table, blocks_table, marks_key, blocks_key, nodes_key, nearest_key, sets_by_package, bugs_by_set, marks_by_node, blocks_by_blocker, desk_schema}
-use Rattle.desk_making.specs.Making.{IsBuilt}
-use Rattle.desk_making.specs.Stages.{all_tables}
+use Rattle.desk_schema.specs.Tables.{sets_table, bugs_table, marks_table, blocks_table, marks_key, blocks_key, nodes_key, nearest_key, sets_by_package, bugs_by_set, marks_by_node, blocks_by_blocker, first_schema}
+use Rattle.desk_making.specs.Making.{IsBuilt, no_rows}
+use Rattle.desk_making.specs.Stages.{all_first_tables}
 use Rattle.desk_making.proofs.BuildLemmas.{IsMaking, AddsIndex, index_is}
 
 -- an index as a text defines it, before it has a place
@@ -19,20 +19,20 @@ unplaced index = record index { tree = 0 }
 -- ---- the schema as it grows
 
 abbrev pub with_package_index : Schema
-with_package_index = record all_tables { indexes = marks_key ∷ blocks_key ∷ nodes_key ∷ nearest_key ∷ sets_by_package ∷ [] }
+with_package_index = record all_first_tables { indexes = marks_key ∷ blocks_key ∷ nodes_key ∷ nearest_key ∷ sets_by_package ∷ [] }
 
 abbrev pub with_set_index : Schema
-with_set_index = record all_tables { indexes = marks_key ∷ blocks_key ∷ nodes_key ∷ nearest_key ∷ sets_by_package ∷ bugs_by_set ∷ [] }
+with_set_index = record all_first_tables { indexes = marks_key ∷ blocks_key ∷ nodes_key ∷ nearest_key ∷ sets_by_package ∷ bugs_by_set ∷ [] }
 
 abbrev pub with_node_index : Schema
-with_node_index = record all_tables { indexes = marks_key ∷ blocks_key ∷ nodes_key ∷ nearest_key ∷ sets_by_package ∷ bugs_by_set ∷ marks_by_node ∷ [] }
+with_node_index = record all_first_tables { indexes = marks_key ∷ blocks_key ∷ nodes_key ∷ nearest_key ∷ sets_by_package ∷ bugs_by_set ∷ marks_by_node ∷ [] }
 
 -- ---- the texts
 
 abbrev pub sets_by_package_text : List ℕ
 sets_by_package_text = codes "CREATE INDEX sets_by_package ON sets (package, archived)"
 
-adds_sets_by_package : AddsIndex all_tables sets_by_package_text 1 sets_table (unplaced sets_by_package) with_package_index
+adds_sets_by_package : AddsIndex all_first_tables sets_by_package_text 1 sets_table (unplaced sets_by_package) with_package_index
 unfolding understood everything same_name begins is_free_name fits_kind is_utf8 chars value_cmp lib.Utf8.encode lib.Ieee.is_nan lib.Ieee.lt
 adds_sets_by_package = record {
   creates = record { command = refl; plain = (refl, refl); text = refl; found = refl; defined = refl };
@@ -47,12 +47,13 @@ adds_sets_by_package = record {
     small = refl;
     key_small = refl;
     fits = refl;
+    repeats = refl;
   };
   later_is = refl;
 }
 
-pub makes_sets_by_package : IsMaking sets_by_package_text [] (IsBuilt all_tables) (IsBuilt with_package_index)
-makes_sets_by_package = index_is all_tables sets_by_package_text 1 sets_table (unplaced sets_by_package) with_package_index adds_sets_by_package
+pub makes_sets_by_package : IsMaking sets_by_package_text [] (IsBuilt no_rows all_first_tables) (IsBuilt no_rows with_package_index)
+makes_sets_by_package = index_is no_rows all_first_tables sets_by_package_text 1 sets_table (unplaced sets_by_package) with_package_index adds_sets_by_package
 
 abbrev pub bugs_by_set_text : List ℕ
 bugs_by_set_text = codes "CREATE INDEX bugs_by_set ON bugs (set_key)"
@@ -72,12 +73,13 @@ adds_bugs_by_set = record {
     small = refl;
     key_small = refl;
     fits = refl;
+    repeats = refl;
   };
   later_is = refl;
 }
 
-pub makes_bugs_by_set : IsMaking bugs_by_set_text [] (IsBuilt with_package_index) (IsBuilt with_set_index)
-makes_bugs_by_set = index_is with_package_index bugs_by_set_text 2 bugs_table (unplaced bugs_by_set) with_set_index adds_bugs_by_set
+pub makes_bugs_by_set : IsMaking bugs_by_set_text [] (IsBuilt no_rows with_package_index) (IsBuilt no_rows with_set_index)
+makes_bugs_by_set = index_is no_rows with_package_index bugs_by_set_text 2 bugs_table (unplaced bugs_by_set) with_set_index adds_bugs_by_set
 
 abbrev pub marks_by_node_text : List ℕ
 marks_by_node_text = codes "CREATE INDEX marks_by_node ON marks (source, version)"
@@ -97,17 +99,18 @@ adds_marks_by_node = record {
     small = refl;
     key_small = refl;
     fits = refl;
+    repeats = refl;
   };
   later_is = refl;
 }
 
-pub makes_marks_by_node : IsMaking marks_by_node_text [] (IsBuilt with_set_index) (IsBuilt with_node_index)
-makes_marks_by_node = index_is with_set_index marks_by_node_text 3 marks_table (unplaced marks_by_node) with_node_index adds_marks_by_node
+pub makes_marks_by_node : IsMaking marks_by_node_text [] (IsBuilt no_rows with_set_index) (IsBuilt no_rows with_node_index)
+makes_marks_by_node = index_is no_rows with_set_index marks_by_node_text 3 marks_table (unplaced marks_by_node) with_node_index adds_marks_by_node
 
 abbrev pub blocks_by_blocker_text : List ℕ
 blocks_by_blocker_text = codes "CREATE INDEX blocks_by_blocker ON blocks (blocker)"
 
-adds_blocks_by_blocker : AddsIndex with_node_index blocks_by_blocker_text 4 blocks_table (unplaced blocks_by_blocker) desk_schema
+adds_blocks_by_blocker : AddsIndex with_node_index blocks_by_blocker_text 4 blocks_table (unplaced blocks_by_blocker) first_schema
 unfolding understood everything same_name begins is_free_name fits_kind is_utf8 chars value_cmp lib.Utf8.encode lib.Ieee.is_nan lib.Ieee.lt
 adds_blocks_by_blocker = record {
   creates = record { command = refl; plain = (refl, refl); text = refl; found = refl; defined = refl };
@@ -122,9 +125,10 @@ adds_blocks_by_blocker = record {
     small = refl;
     key_small = refl;
     fits = refl;
+    repeats = refl;
   };
   later_is = refl;
 }
 
-pub makes_blocks_by_blocker : IsMaking blocks_by_blocker_text [] (IsBuilt with_node_index) (IsBuilt desk_schema)
-makes_blocks_by_blocker = index_is with_node_index blocks_by_blocker_text 4 blocks_table (unplaced blocks_by_blocker) desk_schema adds_blocks_by_blocker
+pub makes_blocks_by_blocker : IsMaking blocks_by_blocker_text [] (IsBuilt no_rows with_node_index) (IsBuilt no_rows first_schema)
+makes_blocks_by_blocker = index_is no_rows with_node_index blocks_by_blocker_text 4 blocks_table (unplaced blocks_by_blocker) first_schema adds_blocks_by_blocker

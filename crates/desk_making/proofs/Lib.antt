@@ -1,7 +1,10 @@
 pub mod BuildLemmas
 pub mod TableTexts
 pub mod IndexTexts
+pub mod AffectTexts
 pub mod MetaRow
+pub mod NumberRow
+pub mod CarriedLemmas
 pub mod NumberText
 pub mod NumberAnswers
 pub mod DeskNumber

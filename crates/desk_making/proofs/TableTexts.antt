@@ -8,8 +8,8 @@ use Rattle.sqlite_tied.specs.Compute.{everything}
 use Rattle.sqlite_trees.specs.Sound.{same_name, begins, is_free_name, fits_kind}
 use Rattle.desk_schema.specs.Tables.{meta_table, sets_table, bugs_table, marks_table, blocks_table, nodes_table, nearest_table, marks_key, blocks_key, nodes_key}
 use Rattle.desk_schema.proofs.SchemaLemmas.{unplaced}
-use Rattle.desk_making.specs.Making.{IsBuilt}
-use Rattle.desk_making.specs.Stages.{first_tables, all_tables}
+use Rattle.desk_making.specs.Making.{IsBuilt, no_rows}
+use Rattle.desk_making.specs.Stages.{first_tables, all_first_tables}
 use Rattle.desk_making.specs.Names.{no_tables}
 use Rattle.desk_making.proofs.BuildLemmas.{IsMaking, AddsTable, table_is}
 
@@ -55,8 +55,8 @@ adds_meta = record {
   later_is = refl;
 }
 
-pub makes_meta : IsMaking meta_text [] (IsBuilt no_tables) (IsBuilt with_meta)
-makes_meta = table_is no_tables meta_text (unplaced meta_table) with_meta adds_meta
+pub makes_meta : IsMaking meta_text [] (IsBuilt no_rows no_tables) (IsBuilt no_rows with_meta)
+makes_meta = table_is no_rows no_tables meta_text (unplaced meta_table) with_meta refl adds_meta
 
 abbrev pub sets_text : List ℕ
 sets_text = codes "CREATE TABLE sets (set_key INTEGER PRIMARY KEY, package TEXT NOT NULL, severity INTEGER NOT NULL, closed INTEGER NOT NULL, forwarded TEXT, owner TEXT, tags INTEGER NOT NULL, archived INTEGER NOT NULL) STRICT"
@@ -81,8 +81,8 @@ adds_sets = record {
   later_is = refl;
 }
 
-pub makes_sets : IsMaking sets_text [] (IsBuilt with_meta) (IsBuilt with_sets)
-makes_sets = table_is with_meta sets_text (unplaced sets_table) with_sets adds_sets
+pub makes_sets : IsMaking sets_text [] (IsBuilt no_rows with_meta) (IsBuilt no_rows with_sets)
+makes_sets = table_is no_rows with_meta sets_text (unplaced sets_table) with_sets refl adds_sets
 
 abbrev pub bugs_text : List ℕ
 bugs_text = codes "CREATE TABLE bugs (number INTEGER PRIMARY KEY, set_key INTEGER NOT NULL, title TEXT NOT NULL, submitter TEXT NOT NULL) STRICT"
@@ -107,8 +107,8 @@ adds_bugs = record {
   later_is = refl;
 }
 
-pub makes_bugs : IsMaking bugs_text [] (IsBuilt with_sets) (IsBuilt with_bugs)
-makes_bugs = table_is with_sets bugs_text (unplaced bugs_table) with_bugs adds_bugs
+pub makes_bugs : IsMaking bugs_text [] (IsBuilt no_rows with_sets) (IsBuilt no_rows with_bugs)
+makes_bugs = table_is no_rows with_sets bugs_text (unplaced bugs_table) with_bugs refl adds_bugs
 
 abbrev pub marks_text : List ℕ
 marks_text = codes "CREATE TABLE marks (set_key INTEGER NOT NULL, kind INTEGER NOT NULL, source TEXT NOT NULL, version TEXT NOT NULL, PRIMARY KEY (set_key, kind, source, version)) STRICT"
@@ -133,8 +133,8 @@ adds_marks = record {
   later_is = refl;
 }
 
-pub makes_marks : IsMaking marks_text [] (IsBuilt with_bugs) (IsBuilt first_tables)
-makes_marks = table_is with_bugs marks_text (unplaced marks_table) first_tables adds_marks
+pub makes_marks : IsMaking marks_text [] (IsBuilt no_rows with_bugs) (IsBuilt no_rows first_tables)
+makes_marks = table_is no_rows with_bugs marks_text (unplaced marks_table) first_tables refl adds_marks
 
 abbrev pub blocks_text : List ℕ
 blocks_text = codes "CREATE TABLE blocks (set_key INTEGER NOT NULL, blocker INTEGER NOT NULL, PRIMARY KEY (set_key, blocker)) STRICT"
@@ -159,8 +159,8 @@ adds_blocks = record {
   later_is = refl;
 }
 
-pub makes_blocks : IsMaking blocks_text [] (IsBuilt first_tables) (IsBuilt with_blocks)
-makes_blocks = table_is first_tables blocks_text (unplaced blocks_table) with_blocks adds_blocks
+pub makes_blocks : IsMaking blocks_text [] (IsBuilt no_rows first_tables) (IsBuilt no_rows with_blocks)
+makes_blocks = table_is no_rows first_tables blocks_text (unplaced blocks_table) with_blocks refl adds_blocks
 
 abbrev pub nodes_text : List ℕ
 nodes_text = codes "CREATE TABLE nodes (source TEXT NOT NULL, version TEXT NOT NULL, parent_source TEXT, parent_version TEXT, PRIMARY KEY (source, version)) STRICT"
@@ -185,13 +185,13 @@ adds_nodes = record {
   later_is = refl;
 }
 
-pub makes_nodes : IsMaking nodes_text [] (IsBuilt with_blocks) (IsBuilt with_nodes)
-makes_nodes = table_is with_blocks nodes_text (unplaced nodes_table) with_nodes adds_nodes
+pub makes_nodes : IsMaking nodes_text [] (IsBuilt no_rows with_blocks) (IsBuilt no_rows with_nodes)
+makes_nodes = table_is no_rows with_blocks nodes_text (unplaced nodes_table) with_nodes refl adds_nodes
 
 abbrev pub nearest_text : List ℕ
 nearest_text = codes "CREATE TABLE nearest (set_key INTEGER NOT NULL, source TEXT NOT NULL, version TEXT NOT NULL, mark_source TEXT NOT NULL, mark_version TEXT NOT NULL, kind INTEGER NOT NULL, PRIMARY KEY (set_key, source, version)) STRICT"
 
-adds_nearest : AddsTable with_nodes nearest_text (unplaced nearest_table) all_tables
+adds_nearest : AddsTable with_nodes nearest_text (unplaced nearest_table) all_first_tables
 unfolding understood everything same_name begins is_free_name fits_kind is_utf8 chars value_cmp lib.Utf8.encode lib.Ieee.is_nan lib.Ieee.lt
 adds_nearest = record {
   creates = record { command = refl; plain = (refl, refl); text = refl; defined = refl; uncounted = refl };
@@ -211,5 +211,5 @@ adds_nearest = record {
   later_is = refl;
 }
 
-pub makes_nearest : IsMaking nearest_text [] (IsBuilt with_nodes) (IsBuilt all_tables)
-makes_nearest = table_is with_nodes nearest_text (unplaced nearest_table) all_tables adds_nearest
+pub makes_nearest : IsMaking nearest_text [] (IsBuilt no_rows with_nodes) (IsBuilt no_rows all_first_tables)
+makes_nearest = table_is no_rows with_nodes nearest_text (unplaced nearest_table) all_first_tables refl adds_nearest

@@ -1,11 +1,14 @@
 -- What the texts of creation do, one after another.
-use Rattle.std.specs.Prelude.{◌≡◌, ℕ, List, [], ◌∷◌, IsTrue, Result}
+use Rattle.std.specs.Prelude.{◌≡◌, ℕ, List, [], ◌∷◌, IsTrue, None, Result}
+use Rattle.sqlite.specs.Effect.{IsDatabase}
 use Rattle.sqlite.specs.Schema.{Schema}
 use Rattle.sqlite.specs.State.{State, HasCleanDisk, Survives, ExecutesInside}
 use Rattle.sqlite.specs.declared.error.Error.{Error}
 use Rattle.desk_text.specs.declared.outcome.StoreFault.{StoreFault}
 use Rattle.sql_forms.specs.Faults.{written}
-use Rattle.desk_schema.specs.Tables.{meta_table, sets_table, bugs_table, marks_table, blocks_table, nodes_table, nearest_table, marks_key, blocks_key, nodes_key, nearest_key}
+use Rattle.desk_content.specs.Content.{Content}
+use Rattle.desk_schema.specs.Tables.{AFFECTS, desk_schema, meta_table, sets_table, bugs_table, marks_table, blocks_table, nodes_table, nearest_table, marks_key, blocks_key, nodes_key, nearest_key}
+use Rattle.desk_making.specs.Making.{AreFirst}
 
 -- what one text, with no parameter, does in a transaction
 pub record HasRun (sql : List ℕ) (old new : State) (result : Result (Unit {0}) StoreFault) : Type 0 where
@@ -18,10 +21,20 @@ pub record HasRun (sql : List ℕ) (old new : State) (result : Result (Unit {0})
 abbrev pub first_tables : Schema
 first_tables = record { tables = meta_table ∷ sets_table ∷ bugs_table ∷ marks_table ∷ []; indexes = marks_key ∷ []; views = [] }
 
--- the schema with all tables, and the indexes of their keys alone
-abbrev pub all_tables : Schema
-all_tables = record {
+-- the schema with the tables of schema 1, and the indexes of their keys alone
+abbrev pub all_first_tables : Schema
+all_first_tables = record {
   tables = meta_table ∷ sets_table ∷ bugs_table ∷ marks_table ∷ blocks_table ∷ nodes_table ∷ nearest_table ∷ [];
   indexes = marks_key ∷ blocks_key ∷ nodes_key ∷ nearest_key ∷ [];
   views = [];
 }
+
+-- a transaction over the tables of schema 1, which say this, and the table that schema 2 adds, with
+-- no row, before the number is set, if the store still serves
+pub record IsExtended (c : Content) (s : State) : Type 0 where
+  pub begun : IsTrue s.in_transaction
+  pub unlimited : s.step_limit ≡ None
+  pub schema : IsTrue s.is_open → s.now.schema ≡ desk_schema
+  pub sound : IsTrue s.is_open → IsDatabase s.now
+  pub first : IsTrue s.is_open → AreFirst c s.now.trees
+  pub empty : IsTrue s.is_open → s.now.trees AFFECTS ≡ []

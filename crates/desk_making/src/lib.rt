@@ -1,10 +1,10 @@
-//! How the tables of a desk are made, and how they are recognised.
+//! How the tables of a desk are made, carried over from an earlier schema, and recognised.
 #![tactic(auto)]
 
 mod making;
 mod names;
 mod number;
 
-pub use making::make_tables;
+pub use making::{carry_over, make_tables};
 pub use names::{is_blank, names_a_desk_table};
 pub use number::{SchemaRead, read_schema};

@@ -1,10 +1,12 @@
 //! How the tables of a desk are made.
 
-ghost use Rattle.std.specs.Prelude.{◌≡◌};
+ghost use Rattle.std.specs.Prelude.{◌≡◌, []};
 ghost use Rattle.sqlite.specs.Held.{state};
-ghost use Rattle.desk_schema.specs.Tables.{desk_schema};
-ghost use Rattle.desk_making.specs.Making.{IsBuilt, IsBlank, IsNew, Builds};
-ghost use Rattle.desk_making.specs.Stages.{HasRun, first_tables, all_tables};
+ghost use Rattle.sqlite.specs.Tree.{Trees};
+ghost use Rattle.desk_content.specs.Content.{Content, no_content};
+ghost use Rattle.desk_schema.specs.Tables.{AFFECTS, first_schema, desk_schema};
+ghost use Rattle.desk_making.specs.Making.{IsBuilt, no_rows, IsBlank, IsDeskOf, IsFirst, Builds};
+ghost use Rattle.desk_making.specs.Stages.{HasRun, first_tables, all_first_tables, IsExtended};
 
 use desk_schema::written;
 use desk_text::StoreFault;
@@ -21,7 +23,7 @@ fn make<S: Alter>(tx: &mut Transaction<'_, S>, sql: &str) -> Result<(), StoreFau
 // Makes the first four tables.
 fn make_first<S: Alter>(tx: &mut Transaction<'_, S>) -> Result<(), StoreFault>
     ensures same_reference { tx.new.conn.ghost_name ≡ tx.old.conn.ghost_name }
-    ensures builds { Builds IsBlank (IsBuilt first_tables) (state S.Store tx.old.conn.now) (state S.Store tx.new.conn.now) result }
+    ensures builds { Builds IsBlank (IsBuilt no_rows first_tables) (state S.Store tx.old.conn.now) (state S.Store tx.new.conn.now) result }
 {
     make(
         tx,
@@ -41,10 +43,10 @@ fn make_first<S: Alter>(tx: &mut Transaction<'_, S>) -> Result<(), StoreFault>
     )
 }
 
-// Makes the other three tables.
+// Makes the other three tables of schema 1.
 fn make_others<S: Alter>(tx: &mut Transaction<'_, S>) -> Result<(), StoreFault>
     ensures same_reference { tx.new.conn.ghost_name ≡ tx.old.conn.ghost_name }
-    ensures builds { Builds (IsBuilt first_tables) (IsBuilt all_tables) (state S.Store tx.old.conn.now) (state S.Store tx.new.conn.now) result }
+    ensures builds { Builds (IsBuilt no_rows first_tables) (IsBuilt no_rows all_first_tables) (state S.Store tx.old.conn.now) (state S.Store tx.new.conn.now) result }
 {
     make(
         tx,
@@ -60,10 +62,10 @@ fn make_others<S: Alter>(tx: &mut Transaction<'_, S>) -> Result<(), StoreFault>
     )
 }
 
-// Makes the indexes.
+// Makes the indexes of schema 1.
 fn make_indexes<S: Alter>(tx: &mut Transaction<'_, S>) -> Result<(), StoreFault>
     ensures same_reference { tx.new.conn.ghost_name ≡ tx.old.conn.ghost_name }
-    ensures builds { Builds (IsBuilt all_tables) (IsBuilt desk_schema) (state S.Store tx.old.conn.now) (state S.Store tx.new.conn.now) result }
+    ensures builds { Builds (IsBuilt no_rows all_first_tables) (IsBuilt no_rows first_schema) (state S.Store tx.old.conn.now) (state S.Store tx.new.conn.now) result }
 {
     make(
         tx,
@@ -74,22 +76,64 @@ fn make_indexes<S: Alter>(tx: &mut Transaction<'_, S>) -> Result<(), StoreFault>
     make(tx, "CREATE INDEX blocks_by_blocker ON blocks (blocker)")
 }
 
+// Makes the tables and indexes of schema 1.
+fn make_first_schema<S: Alter>(tx: &mut Transaction<'_, S>) -> Result<(), StoreFault>
+    ensures same_reference { tx.new.conn.ghost_name ≡ tx.old.conn.ghost_name }
+    ensures builds { Builds IsBlank (IsBuilt no_rows first_schema) (state S.Store tx.old.conn.now) (state S.Store tx.new.conn.now) result }
+{
+    make_first(tx)?;
+    make_others(tx)?;
+    make_indexes(tx)
+}
+
+// Makes the table and the index that schema 2 adds; the rows of the other tables stay.
+fn make_affects<S: Alter>(tx: &mut Transaction<'_, S>) -> Result<(), StoreFault>
+    ensures same_reference { tx.new.conn.ghost_name ≡ tx.old.conn.ghost_name }
+    ensures builds { (rows : Trees) → rows AFFECTS ≡ [] →
+        Builds (IsBuilt rows first_schema) (IsBuilt rows desk_schema) (state S.Store tx.old.conn.now) (state S.Store tx.new.conn.now) result }
+{
+    make(
+        tx,
+        "CREATE TABLE affects (set_key INTEGER NOT NULL, package TEXT NOT NULL, PRIMARY KEY (set_key, package)) STRICT",
+    )?;
+    make(tx, "CREATE INDEX affects_by_package ON affects (package)")
+}
+
 // Puts the row of meta: its id, the number of the schema, and the first bug's number.
 fn put_meta<S: Alter>(tx: &mut Transaction<'_, S>, first: u32) -> Result<(), StoreFault>
     ensures same_reference { tx.new.conn.ghost_name ≡ tx.old.conn.ghost_name }
-    ensures builds { Builds (IsBuilt desk_schema) (IsNew first) (state S.Store tx.old.conn.now) (state S.Store tx.new.conn.now) result }
+    ensures builds { Builds (IsBuilt no_rows desk_schema) (IsDeskOf (no_content first)) (state S.Store tx.old.conn.now) (state S.Store tx.new.conn.now) result }
 {
-    written(tx.execute("INSERT INTO meta VALUES (1, 1, ?1)", params![first]))
+    written(tx.execute("INSERT INTO meta VALUES (1, 2, ?1)", params![first]))
 }
 
 /// Makes the tables of a new desk in a database that has none, in a transaction.
 /// The desk has no bug, and gives `first` to the first.
 pub fn make_tables<S: Alter>(tx: &mut Transaction<'_, S>, first: u32) -> Result<(), StoreFault>
     ensures same_reference { tx.new.conn.ghost_name ≡ tx.old.conn.ghost_name }
-    ensures builds { Builds IsBlank (IsNew first) (state S.Store tx.old.conn.now) (state S.Store tx.new.conn.now) result }
+    ensures builds { Builds IsBlank (IsDeskOf (no_content first)) (state S.Store tx.old.conn.now) (state S.Store tx.new.conn.now) result }
 {
-    make_first(tx)?;
-    make_others(tx)?;
-    make_indexes(tx)?;
+    make_first_schema(tx)?;
+    make_affects(tx)?;
     put_meta(tx, first)
+}
+
+// Sets the number of the schema to 2.
+fn set_number<S: Alter>(tx: &mut Transaction<'_, S>) -> Result<(), StoreFault>
+    ensures same_reference { tx.new.conn.ghost_name ≡ tx.old.conn.ghost_name }
+    ensures sets { (c : Content) →
+        Builds (IsExtended c) (IsDeskOf c) (state S.Store tx.old.conn.now) (state S.Store tx.new.conn.now) result }
+{
+    make(tx, "UPDATE meta SET schema = 2 WHERE id = 1")
+}
+
+/// Carries the tables of schema 1 over to schema 2, in a transaction.
+/// The desk stays the same; no bug of it affects another package.
+pub fn carry_over<S: Alter>(tx: &mut Transaction<'_, S>) -> Result<(), StoreFault>
+    ensures same_reference { tx.new.conn.ghost_name ≡ tx.old.conn.ghost_name }
+    ensures carries { (c : Content) →
+        Builds (IsFirst c) (IsDeskOf c) (state S.Store tx.old.conn.now) (state S.Store tx.new.conn.now) result }
+{
+    make_affects(tx)?;
+    set_number(tx)
 }

@@ -91,3 +91,4 @@ head-other d (commands.NotForwarded n) head h = tt
 head-other d (commands.Owner n who) head h = tt
 head-other d (commands.NoOwner n) head h = tt
 head-other d (commands.Unarchive n) head h = tt
+head-other d (commands.Affects n step names) head h = tt

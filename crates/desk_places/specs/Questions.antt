@@ -1,10 +1,10 @@
 -- What is asked of bugs, as a test of their shared fields.
 use Rattle.std.specs.Prelude.{ℕ, ◌==◌, ◌&&◌, Bool, not, List, [], if◌then◌else◌}
-use Rattle.std.specs.Str.{bytes_eq}
 use Rattle.ancestry.specs.Nodes.{Node}
 use Rattle.ancestry.specs.Statuses.{status_on}
 use Rattle.bug_record.specs.Heads.{is_found}
 use Rattle.bug_record.specs.Images.{numbers_of}
+use Rattle.bug_record.specs.Lists.{concerns}
 use Rattle.bug_record.specs.Severities.{rank}
 use Rattle.bug_record.specs.Sets.{has}
 use Rattle.bug_record.specs.declared.bug.Shared.{Shared}
@@ -18,7 +18,7 @@ use Rattle.desk_places.specs.declared.questions.Question.TheVariants.{WaitsOn, I
 -- whether a bug with these shared fields is listed for a package, at the node of this line
 abbrev pub is_listed_on : List Node → List ℕ → Shared → Bool
 is_listed_on line package_name f =
-    bytes_eq f.package package_name && not f.archived && is_found (status_on line f.found f.fixed f.closed)
+    concerns f package_name && not f.archived && is_found (status_on line f.found f.fixed f.closed)
 
 -- the test of shared fields
 abbrev pub test_of : Question → Shared → Bool

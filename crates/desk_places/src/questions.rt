@@ -1,14 +1,17 @@
 //! What is asked of all bugs of a desk in memory: those whose shared fields pass a test.
 
 ghost use Rattle.std.specs.Prelude.{◌≡◌, ℕ, IfOk, OnOk};
+ghost use Rattle.std.specs.Str.{bytes_eq};
 ghost use Rattle.ancestry.specs.Statuses.{status_on};
 ghost use Rattle.ancestry.specs.Trees.{Ancestry};
 ghost use Rattle.bug_record.specs.Asked.{numbers_where};
 ghost use Rattle.bug_record.specs.Desk.{IsSound};
 ghost use Rattle.bug_record.specs.Heads.{is_found};
 ghost use Rattle.bug_record.specs.Images.{numbers_of};
+ghost use Rattle.bug_record.specs.PackageSets.{has_name};
 ghost use Rattle.bug_record.specs.Sets.{has, with_items};
 ghost use Rattle.desk_places.specs.Plain.{desk_of};
+ghost use Rattle.bug_record.specs.Lists.{concerns};
 ghost use Rattle.desk_places.specs.Questions.{is_listed_on, test_of, passing_there};
 
 use crate::bug_sets::BugSets;
@@ -16,6 +19,7 @@ use crate::heads::is_there;
 use crate::places::Place;
 use ancestry::IndexedLine;
 use bug_record::{Member, Numbers, Sequence, Shared, add_number};
+use debver::Text;
 use std::alloc::{AllocError, Global};
 use std::collections::BTreeSet;
 
@@ -24,7 +28,8 @@ use std::collections::BTreeSet;
 pub(crate) enum Question<'a> {
     /// Whether it waits on the bug of this number.
     WaitsOn(u64),
-    /// Whether it is a bug of this package, not archived, and found at the node of this line.
+    /// Whether it is a bug of this package or affects it, is not archived, and is found at the node
+    /// of this line.
     IsListed(&'a str, &'a IndexedLine),
 }
 
@@ -36,11 +41,32 @@ fn is_found_on(shared: &Shared, line: &IndexedLine) -> bool
     is_there(line.status(found, fixed, shared.closed))
 }
 
+// Whether a package has this name.
+fn is_named(package: &str, name: &Text) -> bool
+    ensures { result ≡ bytes_eq «package».now name.now }
+{
+    package == name.as_str()
+}
+
+// Whether this package is among those.
+fn is_among(package: &str, names: &[Text]) -> bool
+    ensures { result ≡ has_name names.now «package».now }
+{
+    names.iter().any(|name| is_named(package, name))
+}
+
+// Whether a bug with these fields is one of this package or affects it.
+fn concerns(shared: &Shared, package: &str) -> bool
+    ensures { result ≡ concerns shared.now «package».now }
+{
+    shared.package.as_str() == package || is_among(package, shared.affects.as_slice())
+}
+
 // Whether a bug with these fields is listed for this package, at the node of this line.
 fn is_listed(shared: &Shared, package: &str, line: &IndexedLine) -> bool
     ensures { result ≡ is_listed_on line.now «package».now shared.now }
 {
-    shared.package.as_str() == package && !shared.archived && is_found_on(shared, line)
+    concerns(shared, package) && !shared.archived && is_found_on(shared, line)
 }
 
 // Whether these fields name the bug of this number as a blocker.

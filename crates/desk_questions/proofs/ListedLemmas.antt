@@ -3,7 +3,7 @@ use Rattle.std.proofs.Common.{◌≡◌, inl, inr, ◌⊎◌, ℕ, ◌<◌, Bool
 use Rattle.std.proofs.Common.{IsTrue, IsFalse, length, arith}
 use Rattle.std.specs.Prelude.{◌==◌, ◌&&◌, ◌||◌, if◌then◌else◌, not, flat_map, nat_lt, option_map}
 use Rattle.std.specs.Str.{bytes_eq}
-use Rattle.std.proofs.lemmas.Bool.{eqb-true, false≢true, or_parts, or_from, or_cases, and_parts, and_from}
+use Rattle.std.proofs.lemmas.Bool.{eqb-true, false≢true, or_parts, or_right, or_from, or_cases, and_parts, and_from}
 use Rattle.std.proofs.lemmas.Bool.Decides.{nat_tests}
 use Rattle.std.proofs.lemmas.Slice.Eq.{bytes_eq-Decides}
 use Rattle.ancestry.specs.Nodes.{Node}
@@ -17,7 +17,8 @@ use Rattle.bug_record.specs.Heads.{is_found}
 use Rattle.bug_record.specs.Desk.{Desk}
 use Rattle.bug_record.specs.Asked.{passes, numbers_where}
 use Rattle.bug_record.specs.Changed.{numbers_below}
-use Rattle.bug_record.specs.Lists.{is_listed, is_listed_as, listed}
+use Rattle.bug_record.specs.PackageSets.{has_name}
+use Rattle.bug_record.specs.Lists.{concerns, is_listed, is_listed_as, listed}
 use Rattle.bug_record.specs.Severities.{all_severities, rank}
 use Rattle.bug_record.specs.declared.bug.Bug.{Bug}
 use Rattle.bug_record.specs.declared.bug.Shared.{Shared}
@@ -149,19 +150,28 @@ not_true false e = refl
 
 listed_is_in : (tree : Ancestry) (name : List ℕ) (v : Node) (f : Shared) → IsTrue (is_listed tree name v f) → IsIn tree name v f
 listed_is_in tree name v f h =
-    let p = and_parts (bytes_eq f.«package» name && not f.archived) _ h in
-    let q = and_parts (bytes_eq f.«package» name) (not f.archived) p.0 in
+    let p = and_parts (concerns f name && not f.archived) _ h in
+    let q = and_parts (concerns f name) (not f.archived) p.0 in
     let r = found_at tree f v p.1 in record {
-      of_package = (bytes_eq-Decides f.«package» name).0 q.0;
+      of_package = belongs (or_cases (bytes_eq f.«package» name) (has_name f.affects name) q.0);
       not_archived = not_true f.archived q.1;
       not_done = r.0;
       marks = r.1;
     }
+  where
+    belongs : IsTrue (bytes_eq f.«package» name) ⊎ IsTrue (has_name f.affects name)
+        → (f.«package» ≡ name) ⊎ IsTrue (has_name f.affects name)
+    belongs (inl e) = inl ((bytes_eq-Decides f.«package» name).0 e)
+    belongs (inr e) = inr e
 
 in_is_listed : (tree : Ancestry) (name : List ℕ) (v : Node) (f : Shared) → IsIn tree name v f → IsTrue (is_listed tree name v f)
 in_is_listed tree name v f h =
-    and_from _ _ (and_from _ _ ((bytes_eq-Decides f.«package» name).1 h.of_package) (ap not h.not_archived))
+    and_from _ _ (and_from _ _ (concerned h.of_package) (ap not h.not_archived))
     (is_found_at tree f v h.not_done h.marks)
+  where
+    concerned : (f.«package» ≡ name) ⊎ IsTrue (has_name f.affects name) → IsTrue (concerns f name)
+    concerned (inl e) = ap (λ (b : Bool). b || has_name f.affects name) ((bytes_eq-Decides f.«package» name).1 e)
+    concerned (inr e) = or_right (bytes_eq f.«package» name) (has_name f.affects name) e
 
 -- a number of one of several lists
 of_some : (g : Severity → List ℕ) (ss : List Severity) (n : ℕ) → IsTrue (has (flat_map g ss) n)

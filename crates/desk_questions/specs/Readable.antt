@@ -3,6 +3,7 @@
 use Rattle.std.specs.Prelude.{◌≡◌, ◌⊎◌, ℕ, List, [], ◌∷◌, ◌++◌, IsTrue, IsFalse}
 use Rattle.ancestry.specs.Nodes.{Node}
 use Rattle.ancestry.specs.Trees.{Ancestry, has_node, line}
+use Rattle.bug_record.specs.PackageSets.{has_name}
 use Rattle.bug_record.specs.Sets.{Each}
 use Rattle.bug_record.specs.declared.bug.Shared.{Shared}
 
@@ -24,11 +25,11 @@ abbrev pub IsFoundUnmarked : List Node → Shared → Type 0
 IsFoundUnmarked versions f = Each (IsUnmarked f) versions × (f.found ≡ [])
 
 -- A bug with these shared fields belongs in the list of a package at a version: it is a bug of the
--- package, not archived, and not closed with nothing marked fixed; and on the line of the version,
--- which begins with it and goes up to its oldest ancestor, the first marked version is marked
--- found, or no version is marked and none at all is marked found.
+-- package or affects it, is not archived, and is not closed with nothing marked fixed; and on the
+-- line of the version, which begins with it and goes up to its oldest ancestor, the first marked
+-- version is marked found, or no version is marked and none at all is marked found.
 pub record IsIn (tree : Ancestry) (package_name : List ℕ) (version : Node) (f : Shared) : Type 0 where
-  pub of_package : f.«package» ≡ package_name
+  pub of_package : (f.«package» ≡ package_name) ⊎ IsTrue (has_name f.affects package_name)
   pub not_archived : IsFalse f.archived
   pub not_done : ¬ (IsTrue f.closed × (f.fixed ≡ []))
   pub marks : IsFoundFirst (line tree version) f ⊎ IsFoundUnmarked (line tree version) f

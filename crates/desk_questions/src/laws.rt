@@ -11,8 +11,8 @@ ghost use Rattle.desk_questions.specs.Readable.{IsIn};
 
 /// A bug, of a number below the next one, as each bug of a sound desk has it, is in the list of a
 /// package at a version exactly where it belongs there.
-/// That is said by its package, whether it is archived or closed, its two sets of marks and the
-/// line of the version, without its status.
+/// That is said by its package and those that it affects, whether it is archived or closed, its two
+/// sets of marks and the line of the version, without its status.
 pub fn a_list_has_the_bugs_found_there()
     ensures only { (d : Desk) (name : List ℕ) (version : Node) (n : ℕ) → IsTrue (has (listed d name version) n)
         → (b : Bug) × (d.bug n ≡ Some b) × IsIn d.tree name version b.shared }

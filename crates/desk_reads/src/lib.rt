@@ -5,5 +5,5 @@ mod images;
 mod keys;
 mod waiting;
 
-pub use images::{read_image, read_set_of};
+pub use images::{read_image, read_listing, read_set_of};
 pub use waiting::read_waiting_on;

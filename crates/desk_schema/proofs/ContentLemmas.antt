@@ -10,13 +10,14 @@ use Rattle.sql_forms.specs.Forms.{Changes}
 use Rattle.sql_forms.specs.TypedRows.{AreRows}
 use Rattle.sql_forms.proofs.ChangeLemmas.{is_index, stays}
 use Rattle.desk_content.specs.Content.{Content}
-use Rattle.desk_schema.specs.Tables.{META, SETS, BUGS, MARKS, BLOCKS, NODES, NEAREST, desk_schema}
+use Rattle.desk_schema.specs.Tables.{META, SETS, BUGS, MARKS, BLOCKS, NODES, NEAREST, AFFECTS, desk_schema}
 use Rattle.desk_schema.specs.SetRows.{set_cells, set_in, IsSetRow, fields_in}
 use Rattle.desk_schema.specs.BugRows.{bug_cells, bug_in, IsBugRow, key_in, members_in}
 use Rattle.desk_schema.specs.MarkRows.{mark_cells, mark_in, IsMarkRow, marks_in}
 use Rattle.desk_schema.specs.BlockRows.{block_cells, block_in, IsBlockRow, blockers_in}
 use Rattle.desk_schema.specs.NodeRows.{node_cells, node_in, IsNodeRow, nodes_in}
 use Rattle.desk_schema.specs.NearestRows.{nearest_cells, nearest_in, IsNearestRow, near_in}
+use Rattle.desk_schema.specs.AffectRows.{affect_cells, affect_in, IsAffectRow, affects_in}
 use Rattle.desk_schema.specs.Rows.{next_in, content_of, AreShown}
 use Rattle.desk_schema.specs.Steps.{seen}
 use Rattle.desk_schema.proofs.StatementLemmas.{Makes}
@@ -30,6 +31,7 @@ pub record AreSame (db' db : Trees) : Type 0 where
   pub blocks : db' BLOCKS ≡ db BLOCKS
   pub nodes : db' NODES ≡ db NODES
   pub nearest : db' NEAREST ≡ db NEAREST
+  pub affects : db' AFFECTS ≡ db AFFECTS
 
 pub same_content : (db' db : Trees) → AreSame db' db → content_of db' ≡ content_of db
 same_content db' db same = λ i. record {
@@ -40,6 +42,7 @@ same_content db' db same = λ i. record {
   found = marks_in Found (map mark_in (same.marks i));
   fixed = marks_in Fixed (map mark_in (same.marks i));
   blockers = blockers_in (map block_in (same.blocks i));
+  affects = affects_in (map affect_in (same.affects i));
   nodes = nodes_in (map node_in (same.nodes i));
   near = near_in (map nearest_in (same.nearest i));
 }
@@ -53,6 +56,7 @@ same_shown db' db same shown = record {
   blocks = subst (AreRows block_cells IsBlockRow) (sym same.blocks) shown.blocks;
   nodes = subst (AreRows node_cells IsNodeRow) (sym same.nodes) shown.nodes;
   nearest = subst (AreRows nearest_cells IsNearestRow) (sym same.nearest) shown.nearest;
+  affects = subst (AreRows affect_cells IsAffectRow) (sym same.affects) shown.affects;
 }
 
 -- one table has other rows
@@ -73,6 +77,7 @@ module _ (old new : State) (tree : ℕ) (rows : List Row) (it : Changes desk_sch
     blocks = placed_at BLOCKS refl;
     nodes = placed_at NODES refl;
     nearest = placed_at NEAREST refl;
+    affects = placed_at AFFECTS refl;
   }
 
   pub remade : AreShown (with_tree old.now.trees tree rows) → (after : Content → Content) → content_of (with_tree old.now.trees tree rows) ≡ after (seen old) → Makes old new after

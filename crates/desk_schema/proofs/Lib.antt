@@ -19,3 +19,5 @@ pub mod SetLemmas
 pub mod MetaLemmas
 pub mod NodeLists
 pub mod NodeLemmas
+pub mod AffectLists
+pub mod AffectLemmas

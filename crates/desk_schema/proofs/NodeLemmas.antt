@@ -36,5 +36,5 @@ pub nodes_remade : (old new : State) (rows : List Row) → Changes desk_schema o
 nodes_remade old new rows it shown are f same =
     let says = ap nodes_in (nodes_say rows are) ∙ same ∙ ap f (sym (nodes_are old shown)) in
     remade old new NODES rows it
-    (record { meta = shown.meta; sets = shown.sets; bugs = shown.bugs; marks = shown.marks; blocks = shown.blocks; nodes = are; nearest = shown.nearest }) _
+    (record { meta = shown.meta; sets = shown.sets; bugs = shown.bugs; marks = shown.marks; blocks = shown.blocks; nodes = are; nearest = shown.nearest; affects = shown.affects }) _
     (ap (λ t. let c : Content = record (seen old) { nodes = t } in c) says)

@@ -14,7 +14,7 @@ use Rattle.sqlite_tied.specs.Compute.{everything}
 use Rattle.sqlite_trees.specs.Tree.{IsAscending}
 use Rattle.sql_forms.proofs.ErrorLemmas.{HasNoReferences}
 use Rattle.sql_forms.proofs.RefusalLemmas.{IsPlainTable}
-use Rattle.desk_schema.specs.Tables.{meta_table, sets_table, bugs_table, marks_table, blocks_table, nodes_table, nearest_table, sets_by_package, bugs_by_set, marks_by_node, blocks_by_blocker, desk_schema}
+use Rattle.desk_schema.specs.Tables.{meta_table, sets_table, bugs_table, marks_table, blocks_table, nodes_table, nearest_table, affects_table, sets_by_package, bugs_by_set, marks_by_node, blocks_by_blocker, affects_by_package, first_schema, desk_schema}
 use Rattle.desk_schema.specs.Steps.{IsInside}
 
 -- ---- the texts of creation
@@ -51,6 +51,10 @@ pub nearest_is : table_defined_by (codes "CREATE TABLE nearest (set_key INTEGER 
 unfolding everything
 nearest_is = refl
 
+pub affects_is : table_defined_by (codes "CREATE TABLE affects (set_key INTEGER NOT NULL, package TEXT NOT NULL, PRIMARY KEY (set_key, package)) STRICT") ≡ Ok (unplaced affects_table)
+unfolding everything
+affects_is = refl
+
 pub sets_by_package_is : index_defined_by sets_table (codes "CREATE INDEX sets_by_package ON sets (package, archived)") ≡ Ok (record sets_by_package { tree = 0 })
 unfolding everything
 sets_by_package_is = refl
@@ -66,6 +70,10 @@ marks_by_node_is = refl
 pub blocks_by_blocker_is : index_defined_by blocks_table (codes "CREATE INDEX blocks_by_blocker ON blocks (blocker)") ≡ Ok (record blocks_by_blocker { tree = 0 })
 unfolding everything
 blocks_by_blocker_is = refl
+
+pub affects_by_package_is : index_defined_by affects_table (codes "CREATE INDEX affects_by_package ON affects (package)") ≡ Ok (record affects_by_package { tree = 0 })
+unfolding everything
+affects_by_package_is = refl
 
 -- ---- the schema as it grows
 
@@ -105,8 +113,19 @@ with_node_index = indexed with_set_index marks_table (record marks_by_node { tre
 abbrev pub with_indexes : Schema
 with_indexes = indexed with_node_index blocks_table (record blocks_by_blocker { tree = 0 })
 
--- the tables and the indexes, made in this order, are the schema
-pub all_is : with_indexes ≡ desk_schema
+-- the tables and the indexes of schema 1, made in this order
+pub first_is : with_indexes ≡ first_schema
+unfolding everything
+first_is = refl
+
+abbrev pub with_affects : Schema
+with_affects = created first_schema (unplaced affects_table)
+
+abbrev pub with_affects_index : Schema
+with_affects_index = indexed with_affects affects_table (record affects_by_package { tree = 0 })
+
+-- with what schema 2 adds they are the schema
+pub all_is : with_affects_index ≡ desk_schema
 unfolding everything
 all_is = refl
 
@@ -117,7 +136,7 @@ every [] = tt
 every (r ∷ rows) = (refl, every rows)
 
 no_references : HasNoReferences desk_schema
-no_references = record { refers = λ db. (every _, (every _, (every _, (every _, (every _, (every _, (every _, tt))))))) }
+no_references = record { refers = λ db. (every _, (every _, (every _, (every _, (every _, (every _, (every _, (every _, tt)))))))) }
 
 abbrev is_apart : ℕ → List Table → Bool
 is_apart tree [] = true
@@ -168,6 +187,9 @@ nodes_plain = record { apart = all_apart desk_schema.tables refl; listed = inr (
 
 pub nearest_plain : IsPlainTable desk_schema nearest_table
 nearest_plain = record { apart = all_apart desk_schema.tables refl; listed = inr (inr (inr (inr (inr (inr (inl refl)))))); refers = four (references_fit desk_schema nearest_table) refl refl refl refl; none = no_references }
+
+pub affects_plain : IsPlainTable desk_schema affects_table
+affects_plain = record { apart = all_apart desk_schema.tables refl; listed = inr (inr (inr (inr (inr (inr (inr (inl refl))))))); refers = four (references_fit desk_schema affects_table) refl refl refl refl; none = no_references }
 
 -- keys are unique in the tables of a transaction
 pub unique_at : (s : State) → IsInside s → IsTrue s.is_open → Keeps Unique desk_schema s.now.trees

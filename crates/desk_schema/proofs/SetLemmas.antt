@@ -63,5 +63,5 @@ pub sets_remade : (old new : State) (rows : List Row) → Changes desk_schema ol
 sets_remade old new rows it shown are f same =
     let says = ap fields_in (sets_say rows are) ∙ same ∙ ap f (sym (fields_are old shown)) in
     remade old new SETS rows it
-    (record { meta = shown.meta; sets = are; bugs = shown.bugs; marks = shown.marks; blocks = shown.blocks; nodes = shown.nodes; nearest = shown.nearest }) _
+    (record { meta = shown.meta; sets = are; bugs = shown.bugs; marks = shown.marks; blocks = shown.blocks; nodes = shown.nodes; nearest = shown.nearest; affects = shown.affects }) _
     (ap (λ g. let c : Content = record (seen old) { fields = g } in c) says)

@@ -6,5 +6,6 @@ pub mod MarkRows
 pub mod BlockRows
 pub mod NodeRows
 pub mod NearestRows
+pub mod AffectRows
 pub mod Rows
 pub mod Steps

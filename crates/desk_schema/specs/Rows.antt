@@ -8,17 +8,18 @@ use Rattle.ancestry.specs.declared.statuses.MarkKind.TheVariants.{Found, Fixed}
 use Rattle.sql_forms.specs.Numbers.{number_in}
 use Rattle.sql_forms.specs.TypedRows.{AreRows}
 use Rattle.desk_content.specs.Content.{Content}
-use Rattle.desk_schema.specs.Tables.{META, SETS, BUGS, MARKS, BLOCKS, NODES, NEAREST}
+use Rattle.desk_schema.specs.Tables.{META, SETS, BUGS, MARKS, BLOCKS, NODES, NEAREST, AFFECTS}
 use Rattle.desk_schema.specs.SetRows.{set_cells, set_in, IsSetRow, fields_in}
 use Rattle.desk_schema.specs.BugRows.{bug_cells, bug_in, IsBugRow, key_in, members_in}
 use Rattle.desk_schema.specs.MarkRows.{mark_cells, mark_in, IsMarkRow, marks_in}
 use Rattle.desk_schema.specs.BlockRows.{block_cells, block_in, IsBlockRow, blockers_in}
 use Rattle.desk_schema.specs.NodeRows.{node_cells, node_in, IsNodeRow, nodes_in}
 use Rattle.desk_schema.specs.NearestRows.{nearest_cells, nearest_in, IsNearestRow, near_in}
+use Rattle.desk_schema.specs.AffectRows.{affect_cells, affect_in, IsAffectRow, affects_in}
 
 -- meta has one row, with the schema's number and the next bug's
 abbrev pub meta_cells : ℕ → Row
-meta_cells next = Int (pos 1) ∷ Null ∷ Int (pos 1) ∷ Int (pos next) ∷ []
+meta_cells next = Int (pos 1) ∷ Null ∷ Int (pos 2) ∷ Int (pos next) ∷ []
 
 abbrev pub next_in : List Row → ℕ
 next_in [] = 0
@@ -34,6 +35,7 @@ content_of db = record {
   found = marks_in Found (map mark_in (db MARKS));
   fixed = marks_in Fixed (map mark_in (db MARKS));
   blockers = blockers_in (map block_in (db BLOCKS));
+  affects = affects_in (map affect_in (db AFFECTS));
   nodes = nodes_in (map node_in (db NODES));
   near = near_in (map nearest_in (db NEAREST));
 }
@@ -47,3 +49,4 @@ pub record AreShown (db : Trees) : Type 0 where
   pub blocks : AreRows block_cells IsBlockRow (db BLOCKS)
   pub nodes : AreRows node_cells IsNodeRow (db NODES)
   pub nearest : AreRows nearest_cells IsNearestRow (db NEAREST)
+  pub affects : AreRows affect_cells IsAffectRow (db AFFECTS)

@@ -1,4 +1,5 @@
--- The tables of a desk, of schema 1, in the order in which they are made.
+-- The tables of a desk, in the order in which they are made: those of schema 1, and then those that
+-- schema 2 adds.
 -- This project's own rule.
 use Rattle.std.specs.Prelude.{ℕ, true, false, Bool, [], ◌∷◌, Some, None, codes, List}
 use Rattle.sqlite.specs.Collation.TheVariants.{Binary}
@@ -70,6 +71,9 @@ NODES = 7
 abbrev pub NEAREST : ℕ
 NEAREST = 9
 
+abbrev pub AFFECTS : ℕ
+AFFECTS = 15
+
 -- CREATE TABLE meta (id INTEGER PRIMARY KEY, schema INTEGER NOT NULL, next INTEGER NOT NULL) STRICT
 abbrev pub meta_table : Table
 meta_table = numbered_table (codes "meta") META (codes "id") (number_column (codes "schema") ∷ number_column (codes "next") ∷ [])
@@ -112,6 +116,10 @@ nearest_table =
     (number_column (codes "set_key") ∷ text_column (codes "source") ∷ text_column (codes "version") ∷ text_column (codes "mark_source")
     ∷ text_column (codes "mark_version") ∷ number_column (codes "kind") ∷ [])
 
+-- CREATE TABLE affects (set_key INTEGER NOT NULL, package TEXT NOT NULL, PRIMARY KEY (set_key, package)) STRICT
+abbrev pub affects_table : Table
+affects_table = keyed_table (codes "affects") AFFECTS (1 ∷ 2 ∷ []) (number_column (codes "set_key") ∷ text_column (codes "package") ∷ [])
+
 -- the indexes of the keys
 abbrev pub marks_key : Index
 marks_key = index_of (codes "sqlite_autoindex_marks_1") 4 MARKS (1 ∷ 2 ∷ 3 ∷ 4 ∷ []) true
@@ -141,9 +149,27 @@ marks_by_node = index_of (codes "marks_by_node") 13 MARKS (3 ∷ 4 ∷ []) false
 abbrev pub blocks_by_blocker : Index
 blocks_by_blocker = index_of (codes "blocks_by_blocker") 14 BLOCKS (2 ∷ []) false
 
-abbrev pub desk_schema : Schema
-desk_schema = record {
+abbrev pub affects_key : Index
+affects_key = index_of (codes "sqlite_autoindex_affects_1") 16 AFFECTS (1 ∷ 2 ∷ []) true
+
+-- CREATE INDEX affects_by_package ON affects (package)
+abbrev pub affects_by_package : Index
+affects_by_package = index_of (codes "affects_by_package") 17 AFFECTS (2 ∷ []) false
+
+-- schema 1
+abbrev pub first_schema : Schema
+first_schema = record {
   tables = meta_table ∷ sets_table ∷ bugs_table ∷ marks_table ∷ blocks_table ∷ nodes_table ∷ nearest_table ∷ [];
   indexes = marks_key ∷ blocks_key ∷ nodes_key ∷ nearest_key ∷ sets_by_package ∷ bugs_by_set ∷ marks_by_node ∷ blocks_by_blocker ∷ [];
+  views = [];
+}
+
+-- schema 2
+abbrev pub desk_schema : Schema
+desk_schema = record {
+  tables = meta_table ∷ sets_table ∷ bugs_table ∷ marks_table ∷ blocks_table ∷ nodes_table ∷ nearest_table ∷ affects_table ∷ [];
+  indexes =
+      marks_key ∷ blocks_key ∷ nodes_key ∷ nearest_key ∷ sets_by_package ∷ bugs_by_set ∷ marks_by_node ∷ blocks_by_blocker
+      ∷ affects_key ∷ affects_by_package ∷ [];
   views = [];
 }

@@ -2,10 +2,11 @@
 
 ghost use Rattle.std.specs.Prelude.{◌≡◌};
 ghost use Rattle.sqlite.specs.Held.{state};
-ghost use Rattle.desk_content.specs.declared.edit.Edit.TheVariants.{DropFields, DropMember, DropMarks, DropBlockers, DropNear};
+ghost use Rattle.desk_content.specs.declared.edit.Edit.TheVariants.{DropFields, DropMember, DropMarks, DropBlockers, DropAffects, DropNear};
 ghost use Rattle.desk_schema.specs.Steps.{Plays};
 
 use crate::parameters::parameter;
+use affect_rows::clear_affected;
 use desk_text::StoreFault;
 use node_rows::clear_near;
 use set_rows::{clear_blockers, clear_bug, clear_fields, clear_marks};
@@ -51,6 +52,18 @@ pub(crate) fn drop_blockers<S: Alter>(
 {
     let key = parameter(key)?;
     clear_blockers(tx, key)
+}
+
+// The set of the key affects no package any more.
+pub(crate) fn drop_affects<S: Alter>(
+    tx: &mut Transaction<'_, S>,
+    key: u64,
+) -> Result<(), StoreFault>
+    ensures same_reference { tx.new.conn.ghost_name ≡ tx.old.conn.ghost_name }
+    ensures plays { Plays (DropAffects key) (state S.Store tx.old.conn.now) (state S.Store tx.new.conn.now) result }
+{
+    let key = parameter(key)?;
+    clear_affected(tx, key)
 }
 
 // The set of the key has no nearest marks any more.

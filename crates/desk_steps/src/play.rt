@@ -4,8 +4,8 @@ ghost use Rattle.std.specs.Prelude.{◌≡◌};
 ghost use Rattle.sqlite.specs.Held.{state};
 ghost use Rattle.desk_schema.specs.Steps.{Plays, PlaysAll};
 
-use crate::drops::{drop_blockers, drop_fields, drop_marks, drop_member, drop_near};
-use crate::puts::{put_blocker, put_fields, put_mark, put_member, put_near};
+use crate::drops::{drop_affects, drop_blockers, drop_fields, drop_marks, drop_member, drop_near};
+use crate::puts::{put_affects, put_blocker, put_fields, put_mark, put_member, put_near};
 use desk_content::Edit;
 use desk_text::StoreFault;
 use node_rows::{add_node, clear_node};
@@ -25,6 +25,8 @@ fn play<S: Alter>(tx: &mut Transaction<'_, S>, edit: &Edit) -> Result<(), StoreF
         Edit::PutMark { key, kind, node } => put_mark(tx, *key, *kind, node),
         Edit::DropBlockers { key } => drop_blockers(tx, *key),
         Edit::PutBlocker { key, blocker } => put_blocker(tx, *key, *blocker),
+        Edit::DropAffects { key } => drop_affects(tx, *key),
+        Edit::PutAffects { key, package } => put_affects(tx, *key, package.as_str()),
         Edit::DropNear { key } => drop_near(tx, *key),
         Edit::PutNear { key, node, near } => put_near(tx, *key, node, near),
         Edit::DropLink { node } => clear_node(tx, node),

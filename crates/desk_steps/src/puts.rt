@@ -2,10 +2,11 @@
 
 ghost use Rattle.std.specs.Prelude.{◌≡◌};
 ghost use Rattle.sqlite.specs.Held.{state};
-ghost use Rattle.desk_content.specs.declared.edit.Edit.TheVariants.{PutFields, PutMember, PutMark, PutBlocker, PutNear};
+ghost use Rattle.desk_content.specs.declared.edit.Edit.TheVariants.{PutFields, PutMember, PutMark, PutBlocker, PutAffects, PutNear};
 ghost use Rattle.desk_schema.specs.Steps.{Plays};
 
 use crate::parameters::parameter;
+use affect_rows::add_affected;
 use ancestry::{MarkKind, Node};
 use bug_record::Member;
 use desk_content::SetFields;
@@ -74,6 +75,19 @@ pub(crate) fn put_blocker<S: Alter>(
     let key = parameter(key)?;
     let blocker = parameter(blocker)?;
     add_blocker(tx, key, blocker)
+}
+
+// The set of the key affects one more package.
+pub(crate) fn put_affects<S: Alter>(
+    tx: &mut Transaction<'_, S>,
+    key: u64,
+    package: &str,
+) -> Result<(), StoreFault>
+    ensures same_reference { tx.new.conn.ghost_name ≡ tx.old.conn.ghost_name }
+    ensures plays { Plays (PutAffects key «package».now) (state S.Store tx.old.conn.now) (state S.Store tx.new.conn.now) result }
+{
+    let key = parameter(key)?;
+    add_affected(tx, key, package)
 }
 
 // The nearest mark of the set of the key, as seen from a node.

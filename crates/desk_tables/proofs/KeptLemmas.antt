@@ -137,11 +137,21 @@ module _ {S : Type 0} (g : store.Ghosts S) (last begun : List (Held S)) (old new
 
 -- ---- a desk that begins
 
+-- what is remembered is kept
+pub found_kept : {S : Type 0} (g : store.Ghosts S) (last begun : List (Held S)) (conn : Held S) (family : Option Ancestry) (c : Content) → content_seen g last ≡ c → begun ≡ [] → family ≡ None → HasContent c (state g conn) → IsKeptContent c
+    → IsKept g last begun conn family
+found_kept g last begun conn family c same none no_family shows kept =
+    subst (IsKept g last begun conn) (sym no_family) (subst (λ b. IsKept g last b conn None) (sym none) (record {
+      now = subst (λ k. HasContent k (state g conn)) (sym same) shows;
+      before = tt;
+      content = subst IsKeptContent (sym same) kept;
+      tree = tt;
+    }))
+
 -- what was seen is what is remembered
 pub seen_kept : {S : Type 0} (g : store.Ghosts S) (last begun : List (Held S)) (was conn : Held S) (family : Option Ancestry) → last ≡ was ∷ [] → begun ≡ [] → family ≡ None → HasContent (seen (state g was)) (state g conn) → IsKeptContent (seen (state g was))
     → IsKept g last begun conn family
-seen_kept g last begun was conn family is none no_family shows kept =
-    subst (IsKept g last begun conn) (sym no_family) (subst (λ b. IsKept g last b conn None) (sym none) (subst (λ l. IsKept g l [] conn None) (sym is) (record { now = shows; before = tt; content = kept; tree = tt })))
+seen_kept g last begun was conn family is none no_family shows kept = found_kept g last begun conn family (seen (state g was)) (ap (content_seen g) is) none no_family shows kept
 
 -- of no tree nothing is asked
 pub no_tree : (family : Option Ancestry) (P : Ancestry → Type 0) → is_some family ≡ false → IfSome family P

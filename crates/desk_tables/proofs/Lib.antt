@@ -2,3 +2,4 @@ pub mod TransactionLemmas
 pub mod KeptLemmas
 pub mod OpeningLemmas
 pub mod BranchLemmas
+pub mod HeldLemmas

@@ -1,7 +1,10 @@
 -- What is remembered of a desk that is created or opened, and why there is none.
-use Rattle.std.proofs.Common.{◌≡◌, ◌≢◌, ◌<◌, ◌≤◌, ℕ, List, [], ◌∷◌, Option, None, Ok, Err, arith, refl, sym, ap, subst, ◌∙◌}
+use Rattle.std.proofs.Common.{◌≡◌, ◌≢◌, false, ◌<◌, ◌≤◌, ℕ, List, [], ◌∷◌, Option, None, Result, Ok, Err, inl, inr, ◌⊎◌, IsTrue, arith, refl, sym, ap, subst, ◌∙◌}
 use Rattle.sqlite.specs.Held.{Held, state}
-use Rattle.sqlite.specs.State.{State}
+use Rattle.sqlite.specs.Effect.{Database, IsDatabase}
+use Rattle.sqlite.specs.State.{State, HasCleanDisk, Survives}
+use Rattle.sqlite.specs.Tree.{Trees}
+use Rattle.sqlite.proofs.StateLemmas.{survives_then, survives_weaker}
 use Rattle.sqlite_trees.specs.declared.store.Store as store
 use Rattle.ancestry.specs.Trees.{Ancestry}
 use Rattle.line_words.specs.declared.named.TheConstants.{LARGEST_NUMBER}
@@ -10,14 +13,18 @@ use Rattle.desk_content.specs.Content.{Content, no_content}
 use Rattle.desk_content.specs.Kept.{IsKeptContent}
 use Rattle.desk_content.specs.View.{desk_in}
 use Rattle.desk_content.proofs.NewLemmas.{new_kept}
+use Rattle.desk_text.specs.declared.outcome.StoreFault.{StoreFault}
 use Rattle.desk_schema.specs.Steps.{seen}
+use Rattle.desk_making.specs.Making.{AreFirst}
 use Rattle.desk_making.specs.declared.number.SchemaRead.{SchemaRead}
 use Rattle.desk_making.specs.declared.number.SchemaRead.TheVariants.{Number, NoNumber}
 use Rattle.desk_making.specs.Number.{SaysSchema, Says}
 use Rattle.desk_tables.specs.Kept.{desk_seen, IsKept}
-use Rattle.desk_tables.specs.Opening.{unlimited, IsLeft, IsReason}
-use Rattle.desk_tables.specs.Shown.{IsDesk, HasContent}
-use Rattle.desk_tables.specs.Transactions.{AsksSchema, IsRecognised}
+use Rattle.desk_tables.specs.Opening.{unlimited, IsLeft, IsStoreFailure, IsReason}
+use Rattle.desk_tables.specs.Shown.{IsDesk, HasContent, HasFirstContent, HoldsContent, AreTablesOf}
+use Rattle.desk_tables.specs.Transactions.{AsksSchema, IsRecognised, IsCarried}
+use Rattle.desk_tables.specs.declared.opening.Schema.{Schema}
+use Rattle.desk_tables.specs.declared.opening.Schema.TheVariants.{First, Current}
 use Rattle.desk_tables.specs.declared.open_fault.OpenFault.{OpenFault}
 use Rattle.desk_tables.specs.declared.open_fault.OpenFault.TheVariants.{NotADesk, NewerSchema, Store, NotEmpty}
 use Rattle.desk_tables.proofs.KeptLemmas.{seen_kept}
@@ -47,22 +54,23 @@ reason_without s new (NewerSchema n) h = h
 reason_without s new (Store fault) h = h
 reason_without s new NotEmpty h = h
 
+first_without : (c : Content) (s : State) → HasFirstContent c s → HasFirstContent c (unlimited s)
+first_without c s shows clean o = let h = shows clean o in record { settled = h.settled; schema = h.schema; sound = h.sound; shown = h.shown }
+
 -- the limit of a connection was taken away
 module _ {S : Type 0} (g : store.Ghosts S) (was conn : Held S) (is : conn ≡ record was { step_limit = None }) where
   same : state g conn ≡ unlimited (state g was)
   same = ap (state g) is
 
-  says : seen (state g conn) ≡ seen (state g was)
-  says = ap seen same
-
   pub still_shows : (c : Content) → HasContent c (state g was) → HasContent c (state g conn)
   still_shows c shows = subst (HasContent c) (sym same) (shows_without c (state g was) shows)
 
-  pub still_seen : HasContent (seen (state g was)) (state g was) → HasContent (seen (state g conn)) (state g conn)
-  still_seen shows = still_shows (seen (state g conn)) (subst (λ c. HasContent c (state g was)) (sym says) shows)
+  pub first_still : (c : Content) → HasFirstContent c (state g was) → HasFirstContent c (state g conn)
+  first_still c shows = subst (HasFirstContent c) (sym same) (first_without c (state g was) shows)
 
-  pub still_kept : IsKeptContent (seen (state g was)) → IsKeptContent (seen (state g conn))
-  still_kept kept = subst IsKeptContent (sym says) kept
+  pub still_holds : (c : Content) → HoldsContent c (state g was) → HoldsContent c (state g conn)
+  still_holds c (inl shows) = inl (still_shows c shows)
+  still_holds c (inr shows) = inr (first_still c shows)
 
   pub left_before : (new : State) → IsLeft (state g conn) new → IsLeft (state g was) new
   left_before new h = left_without (state g was) new (subst (λ s. IsLeft s new) same h)
@@ -70,26 +78,192 @@ module _ {S : Type 0} (g : store.Ghosts S) (was conn : Held S) (is : conn ≡ re
   pub reason_before : (new : State) (why : OpenFault) → IsReason (state g conn) new why → IsReason (state g was) new why
   reason_before new why h = reason_without (state g was) new why (subst (λ s. IsReason s new why) same h)
 
--- ---- why a database is no desk's
+  pub says_before : IsTrue (state g conn).is_open × (SaysSchema (state g conn).now 2 ⊎ SaysSchema (state g conn).now 1) → IsTrue (state g was).is_open × (SaysSchema (state g was).now 2 ⊎ SaysSchema (state g was).now 1)
+  says_before h = subst (λ (s : State). IsTrue s.is_open × (SaysSchema s.now 2 ⊎ SaysSchema s.now 1)) same h
+
+  pub says_not : ¬ (SaysSchema (state g was).now 1) → ¬ (SaysSchema (state g conn).now 1)
+  says_not other h = other (subst (λ (s : State). SaysSchema s.now 1) same h)
+
+  pub survives_before : (new : State) (P : Trees → Type 0) → Survives (state g conn) new P → Survives (unlimited (state g was)) new P
+  survives_before new P h = subst (λ s. Survives s new P) same h
+
+-- ---- whether a database is a desk's
+
+-- what was left shows no other desk under schema 1
+pub first_left : (c : Content) (old new : State) → IsLeft old new → HasFirstContent c old → HasFirstContent c new
+first_left c old new left shows clean o =
+    let was = shows (left.honest clean) (left.was_open clean o) in
+    let now : new.now ≡ old.now = left.now clean o was.settled in
+    record {
+      settled = now ∙ was.settled ∙ sym (left.committed clean o);
+      schema = ap (λ (d : Database). d.schema) now ∙ was.schema;
+      sound = subst IsDatabase (sym now) was.sound;
+      shown = subst (λ (d : Database). AreFirst c d.trees) (sym now) was.shown;
+    }
+
+-- what was left twice was left
+pub left_then : (a b c : State) → IsLeft a b → IsLeft b c → IsLeft a c
+left_then a b c one two = record {
+  honest = λ clean. one.honest (two.honest clean);
+  idle = two.idle;
+  was_open = λ clean o. one.was_open (two.honest clean) (two.was_open clean o);
+  committed = λ clean o. two.committed clean o ∙ one.committed (two.honest clean) (two.was_open clean o);
+  now = λ clean o same.
+      let early = two.honest clean in
+      let live = two.was_open clean o in
+      let here = one.now early live same in
+      two.now clean o (here ∙ same ∙ sym (one.committed early live)) ∙ here;
+  content = λ k shows. two.content k (one.content k shows);
+}
+
+one_two : ◌≡◌ {A = SchemaRead} (Number 1) (Number 2) → ⊥
+one_two e = cc
 
 module _ (old new : State) (read : SchemaRead) (asked : AsksSchema old new (Ok read)) where
-  pub newer : (n : ℕ) → read ≡ Number n → n ≢ 1 → IsRecognised old new (Err (NewerSchema n))
-  newer n is other = record {
+  pub current : read ≡ Number 2 → IsRecognised old new (Ok Current)
+  current is = record {
+    survives = asked.survives;
+    left = asked.left;
+    ok = λ clean. let h = asked.ok clean in (h.0, subst (Says old.now) is h.1);
+    current = λ c clean shows. refl;
+    first = λ c clean shows. absurd (one_two (sym (asked.first c clean shows) ∙ is));
+    why = tt;
+    desk = λ c clean holds. tt;
+  }
+
+  pub first : read ≡ Number 1 → IsRecognised old new (Ok First)
+  first is = record {
+    survives = asked.survives;
+    left = asked.left;
+    ok = λ clean. let h = asked.ok clean in (h.0, subst (Says old.now) is h.1);
+    current = λ c clean shows. absurd (one_two (sym is ∙ asked.desk c clean shows));
+    first = λ c clean shows. refl;
+    why = tt;
+    desk = λ c clean holds. tt;
+  }
+
+  no_desk : (c : Content) → HasCleanDisk new → HoldsContent c old → (read ≡ Number 1 → ⊥) → (read ≡ Number 2 → ⊥) → ⊥
+  no_desk c clean (inl shows) one two = two (asked.desk c clean shows)
+  no_desk c clean (inr shows) one two = one (asked.first c clean shows)
+
+  pub newer : (n : ℕ) → read ≡ Number n → n ≢ 1 → n ≢ 2 → IsRecognised old new (Err (NewerSchema n))
+  newer n is one two = record {
     survives = asked.survives;
     left = asked.left;
     ok = λ clean. tt;
+    current = λ c clean shows. tt;
+    first = λ c clean shows. tt;
     why = λ clean. let says : SaysSchema old.now n = subst (Says old.now) is (asked.ok clean).1 in (says, above says.2.0);
-    desk = λ c clean shows. absurd (let same = sym is ∙ asked.desk c clean shows in other cc);
+    desk = λ c clean holds. absurd (no_desk c clean holds (λ e. one (same_number (sym is ∙ e))) (λ e. two (same_number (sym is ∙ e))));
   }
     where
-      above : 0 < n → 1 < n
-      above low = omega (arith, low, other)
+      above : 0 < n → 2 < n
+      above low = omega (arith, low, one, two)
+
+      same_number : {m k : ℕ} → Number m ≡ Number k → m ≡ k
+      same_number e = cc
 
   pub no_number : read ≡ NoNumber → IsRecognised old new (Err NotADesk)
   no_number is = record {
     survives = asked.survives;
     left = asked.left;
     ok = λ clean. tt;
+    current = λ c clean shows. tt;
+    first = λ c clean shows. tt;
     why = λ clean. subst (Says old.now) is (asked.ok clean).1;
-    desk = λ c clean shows. absurd (let same = sym is ∙ asked.desk c clean shows in cc);
+    desk = λ c clean holds. absurd (no_desk c clean holds (λ e. other 1 (sym is ∙ e)) (λ e. other 2 (sym is ∙ e)));
   }
+    where
+      other : (k : ℕ) → NoNumber ≡ Number k → ⊥
+      other k e = cc
+
+pub unasked : (old new : State) (fault : StoreFault) → AsksSchema old new (Err fault) → IsRecognised old new (Err (Store fault))
+unasked old new fault asked = record {
+  survives = asked.survives;
+  left = asked.left;
+  ok = λ clean. tt;
+  current = λ c clean shows. tt;
+  first = λ c clean shows. tt;
+  why = λ clean is. absurd (asked.sure is);
+  desk = λ c clean holds. (fault, refl, asked.sure);
+}
+
+-- ---- a desk that is found
+
+first_current : ◌≡◌ {A = Schema} First Current → ⊥
+first_current e = cc
+
+module _ (old new : State) (found : IsRecognised old new (Ok Current)) where
+  shown : (c : Content) → HasCleanDisk new → HoldsContent c old → HasContent c old
+  shown c clean (inl shows) = shows
+  shown c clean (inr first) = absurd (first_current (sym (found.first c clean first)))
+
+  pub current_content : (c : Content) → HasCleanDisk new → HoldsContent c old → seen old ≡ c
+  current_content c clean holds = (shown c clean holds (found.left.honest clean) (found.ok clean).0).1
+
+  pub current_shows : (c : Content) → HasCleanDisk new → HoldsContent c old → HasContent c new
+  current_shows c clean holds = found.left.content c (shown c clean holds)
+
+  pub current_says : HasCleanDisk new → IsTrue old.is_open × (SaysSchema old.now 2 ⊎ SaysSchema old.now 1)
+  current_says clean = let h = found.ok clean in (h.0, inl h.1)
+
+  pub current_crash : (c : Content) → Survives old new (AreTablesOf c)
+  current_crash c = survives_weaker old new _ _ (λ clean db none. absurd none) found.survives
+
+module _ (old mid new : State) (found : IsRecognised old mid (Ok First)) where
+  first_shown : (c : Content) → HasCleanDisk mid → HoldsContent c old → HasFirstContent c old
+  first_shown c clean (inr shows) = shows
+  first_shown c clean (inl shows) = absurd (first_current (found.current c clean shows))
+
+  module _ (r : Result (Unit {0}) StoreFault) (carried : IsCarried mid new r) where
+    pub carried_survives : (c : Content) → (HasCleanDisk new → HasContent c old) → Survives old new (λ _. ⊥)
+    carried_survives c shows =
+        let all = carried.crash c (λ clean. absurd (first_current (found.current c (carried.honest clean) (shows clean)))) in
+        survives_then old mid new _ _ (λ _. ⊥) (λ _ db none. none) (λ clean db p. absurd (first_current (found.current c (carried.honest clean) (shows clean)))) found.survives all
+
+    pub carried_crash : (c : Content) → (HasCleanDisk new → HasFirstContent c old) → Survives old new (AreTablesOf c)
+    carried_crash c shows =
+        survives_then old mid new _ _ (AreTablesOf c) (λ _ db none. absurd none) (λ clean db p. p) found.survives (carried.crash c (λ clean. first_left c old mid found.left (shows clean)))
+
+    -- a database that doesn't say schema 1 is not carried over
+    pub carried_other : (HasCleanDisk new → ¬ (SaysSchema old.now 1)) → new.in_transaction ≡ false → IsLeft old new × Survives old new (λ _. ⊥)
+    carried_other other idle = (
+      record {
+        honest = λ clean. found.left.honest (carried.honest clean);
+        idle = idle;
+        was_open = λ clean o. absurd (never clean);
+        committed = λ clean o. absurd (never clean);
+        now = λ clean o same. absurd (never clean);
+        content = λ c shows clean o. absurd (never clean);
+      },
+      survives_then old mid new _ _ (λ _. ⊥) (λ _ db none. none) (λ clean db p. absurd (never clean)) found.survives (carried.crash (no_content 0) (λ clean. absurd (never clean))),
+    )
+      where
+        never : HasCleanDisk new → ⊥
+        never clean = other clean (found.ok (carried.honest clean)).1
+
+  module _ (carried : IsCarried mid new (Ok tt)) where
+    done_all : (c : Content) → HasCleanDisk new → HoldsContent c old → IsTrue new.is_open × IsDesk new × (seen new ≡ c)
+    done_all c clean holds = carried.ok c clean (first_left c old mid found.left (first_shown c (carried.honest clean) holds))
+
+    pub carried_content : (c : Content) → HasCleanDisk new → HoldsContent c old → seen new ≡ c
+    carried_content c clean holds = (done_all c clean holds).2
+
+    pub carried_shows : (c : Content) → HasCleanDisk new → HoldsContent c old → HasContent c new
+    carried_shows c clean holds = λ _ o. let h = done_all c clean holds in (h.1, h.2)
+
+    pub carried_says : HasCleanDisk new → IsTrue old.is_open × (SaysSchema old.now 2 ⊎ SaysSchema old.now 1)
+    carried_says clean = let h = found.ok (carried.honest clean) in (h.0, inr h.1)
+
+    pub carried_stays : (c : Content) → HasCleanDisk new → HasContent c old → IsLeft old new
+    carried_stays c clean shows = absurd (first_current (found.current c (carried.honest clean) shows))
+
+  module _ (fault : StoreFault) (carried : IsCarried mid new (Err fault)) where
+    pub uncarried_left : IsLeft old new
+    uncarried_left = left_then old mid new found.left carried.err
+
+    pub uncarried_why : IsReason old new (Store fault)
+    uncarried_why clean is = (found.ok (carried.honest clean)).1
+
+    pub uncarried_desk : (c : Content) → HasCleanDisk new → HoldsContent c old → IsStoreFailure (Store fault)
+    uncarried_desk c clean holds = (fault, refl, carried.sure c clean (first_left c old mid found.left (first_shown c (carried.honest clean) holds)))

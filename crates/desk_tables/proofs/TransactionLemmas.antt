@@ -9,14 +9,16 @@ use Rattle.desk_text.specs.declared.outcome.StoreFault.{StoreFault}
 use Rattle.desk_text.specs.declared.outcome.StoreFault.TheVariants.{Foreign}
 use Rattle.sql_forms.specs.Faults.{fault_of}
 use Rattle.sql_forms.proofs.FailLemmas.{commit_free}
-use Rattle.desk_content.specs.Content.{Content}
+use Rattle.desk_content.specs.Content.{Content, no_content}
 use Rattle.desk_schema.specs.Rows.{content_of, AreShown}
 use Rattle.desk_schema.specs.Steps.{IsInside, seen, Goes, Acts, Serves}
 use Rattle.desk_schema.proofs.StepLemmas.{done, failed, acts_none}
+use Rattle.desk_making.specs.Making.{IsDeskOf, IsFirst, Builds}
 use Rattle.desk_making.specs.Number.{Says, ReadsSchema}
 use Rattle.desk_making.specs.declared.number.SchemaRead.{SchemaRead}
-use Rattle.desk_tables.specs.Shown.{IsDesk, HasContent, AreTablesOf}
-use Rattle.desk_tables.specs.Transactions.{IsAsked, IsChanged, AsksSchema, Ends}
+use Rattle.desk_tables.specs.Opening.{IsLeft}
+use Rattle.desk_tables.specs.Shown.{IsDesk, HasContent, HasFirstContent, AreTablesOf}
+use Rattle.desk_tables.specs.Transactions.{IsAsked, IsChanged, IsCarried, AsksSchema, Ends}
 
 -- ---- a question in a transaction that is rolled back
 
@@ -25,6 +27,9 @@ begun s = record s { in_transaction = true }
 
 begins : (s : State) (c : Content) → s.step_limit ≡ None → HasCleanDisk s → HasContent c s → IsInside (begun s)
 begins s c limit clean shows = record { begun = refl; unlimited = limit; schema = λ o. (shows clean o).0.schema; sound = λ o. (shows clean o).0.sound; shown = λ o. (shows clean o).0.shown }
+
+begins_first : (s : State) (c : Content) → s.step_limit ≡ None → HasCleanDisk s → HasFirstContent c s → IsFirst c (begun s)
+begins_first s c limit clean shows = record { begun = refl; unlimited = limit; schema = λ o. (shows clean o).schema; sound = λ o. (shows clean o).sound; shown = λ o. (shows clean o).shown }
 
 -- what was begun is undone
 undone : (old mid new : State) (c : Content) → (IsTrue old.is_open → IsDesk old × (seen old ≡ c)) → KeepsCommit (begun old) mid → IsRolledBack mid new → IsTrue new.is_open → IsDesk new × (seen new ≡ c)
@@ -79,6 +84,7 @@ asks old mid new r limit reads idle back survives = record {
   ok = λ clean. said r (reads.ok (late clean) limit);
   sure = reads.sure;
   desk = λ c clean shows. reads.desk (late clean) (begins old c limit (early clean) shows);
+  first = λ c clean shows. reads.first c (late clean) (begins_first old c limit (early clean) shows);
 }
   where
     one : Survives (begun old) mid (λ _. ⊥)
@@ -205,3 +211,76 @@ altered old mid new did r Fits after limit runs serves ends = record { honest = 
           content = content c clean shows (both clean).1 p.0;
         }))
         (record { clean = one.clean; shield = one.shield; counts = one.counts; limit = one.limit; closes = one.closes; crash = one.crash }) ends.survives
+
+-- ---- the tables of schema 1 are carried over
+
+module _ (old mid new : State) (did : Result (Unit {0}) StoreFault) (limit : old.step_limit ≡ None) (builds : (c : Content) → Builds (IsFirst c) (IsDeskOf c) (begun old) mid did) where
+  steps : Survives (begun old) mid (λ _. ⊥)
+  steps = (builds (no_content 0)).survives
+
+  pub carried : (r : Result (Unit {0}) StoreFault) → Ends mid new did r → new.in_transaction ≡ false → IsCarried old new r
+  carried r ends idle = record { honest = early; ok = oks r ends.ok; err = errs r ends.err; sure = sures r ends.err; crash = crash }
+    where
+      late : HasCleanDisk new → HasCleanDisk mid
+      late clean = omega (arith, ends.survives.clean, clean)
+
+      early : HasCleanDisk new → HasCleanDisk old
+      early clean = omega (arith, ends.survives.clean, steps.clean, clean)
+
+      kept : HasCleanDisk new → KeepsCommit (begun old) mid
+      kept clean = (builds (no_content 0)).keeps (late clean) refl
+
+      inside : HasCleanDisk new → IsOk did → IsTrue mid.in_transaction
+      inside clean o = it_went did o ((builds (no_content 0)).goes_on (late clean) refl)
+
+      went : (c : Content) → HasCleanDisk new → HasFirstContent c old → IsOk did → IsTrue old.is_open × IsTrue mid.is_open × IsDeskOf c mid
+      went c clean shows o = it_went did o ((builds c).ok (late clean) (begins_first old c limit (early clean) shows))
+
+      oks : (r : Result (Unit {0}) StoreFault) → (HasCleanDisk new → IfOk r (λ _. IsOk did × IsTrue mid.is_open × IsTrue new.is_open × (new.now ≡ mid.now) × (new.committed ≡ mid.now)))
+          → (c : Content) → HasCleanDisk new → HasFirstContent c old → IfOk r (λ _. IsTrue new.is_open × IsDesk new × (seen new ≡ c))
+      oks (Err e) ended c clean shows = tt
+      oks (Ok u) ended c clean shows =
+          let h = ended clean in
+          let g = (went c clean shows h.0).2 in (
+            h.2,
+            record {
+              settled = h.3 ∙ sym h.4;
+              schema = ap (λ (d : Database). d.schema) h.3 ∙ g.inside.schema h.1;
+              sound = subst IsDatabase (sym h.3) (g.inside.sound h.1);
+              shown = subst (λ (d : Database). AreShown d.trees) (sym h.3) (g.inside.shown h.1);
+            },
+            ap (λ (d : Database). content_of d.trees) h.3 ∙ g.says,
+          )
+
+      errs : (r : Result (Unit {0}) StoreFault) → (HasCleanDisk new → (IsOk did → IsTrue mid.in_transaction) → IfErr r (λ fault. IsRolledBack mid new × (fault ≢ Foreign ⊎ (did ≡ failed fault))))
+          → IfErr r (λ _. IsLeft old new)
+      errs (Ok u) ended = tt
+      errs (Err e) ended =
+          let back : HasCleanDisk new → IsRolledBack mid new = λ clean. (ended clean (inside clean)).0 in
+          record {
+            honest = early;
+            idle = idle;
+            was_open = λ clean o. (kept clean).was_open ((back clean).was_open o);
+            committed = λ clean o. ((back clean).undone o).1 ∙ (kept clean).committed ((back clean).was_open o);
+            now = λ clean o same. ((back clean).undone o).0 ∙ (kept clean).committed ((back clean).was_open o) ∙ sym same;
+            content = λ c shows clean o. undone old mid new c (shows (early clean)) (kept clean) (back clean) o;
+          }
+
+      sures : (r : Result (Unit {0}) StoreFault) → (HasCleanDisk new → (IsOk did → IsTrue mid.in_transaction) → IfErr r (λ fault. IsRolledBack mid new × (fault ≢ Foreign ⊎ (did ≡ failed fault))))
+          → (c : Content) → HasCleanDisk new → HasFirstContent c old → IfErr r (λ fault. fault ≢ Foreign)
+      sures (Ok u) ended c clean shows = tt
+      sures (Err e) ended c clean shows = elim ((ended clean (inside clean)).1) [
+        | inl sure ↦ sure
+        | inr same ↦ subst (λ r. IfErr r (λ fault. fault ≢ Foreign)) same ((builds c).sure (late clean) (begins_first old c limit (early clean) shows))
+      ]
+
+      crash : (c : Content) → (HasCleanDisk new → HasFirstContent c old) → Survives old new (AreTablesOf c)
+      crash c shows = survives_then old mid new _ _ (AreTablesOf c) (λ _ db none. absurd none)
+          (λ clean db p.
+          let g = went c clean (shows clean) p.0 in
+          subst (AreTablesOf c) (sym p.1) (record {
+            sound = subst (λ s. IsDatabase (record { schema = s; trees = mid.now.trees })) (g.2.inside.schema g.1) (g.2.inside.sound g.1);
+            shown = g.2.inside.shown g.1;
+            content = g.2.says;
+          }))
+          (record { clean = steps.clean; shield = steps.shield; counts = steps.counts; limit = steps.limit; closes = steps.closes; crash = steps.crash }) ends.survives

@@ -31,6 +31,7 @@ IsStoreFailure why = (fault : StoreFault) × (why ≡ Store fault) × (fault ≢
 -- what is so where the connection that was old and is new is refused to be a desk's for this
 abbrev pub IsReason : State → State → OpenFault → Type 0
 IsReason old new NotADesk = HasCleanDisk new → SaysNone old.now
-IsReason old new (NewerSchema n) = HasCleanDisk new → SaysSchema old.now n × (1 < n)
-IsReason old new (Store fault) = fault ≢ Foreign
+IsReason old new (NewerSchema n) = HasCleanDisk new → SaysSchema old.now n × (2 < n)
+-- tables that say 1 and are no desk's may refuse to be carried over
+IsReason old new (Store fault) = HasCleanDisk new → fault ≡ Foreign → SaysSchema old.now 1
 IsReason old new NotEmpty = ⊥

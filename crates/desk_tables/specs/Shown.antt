@@ -1,5 +1,5 @@
 -- What a connection shows of a desk, between two calls.
-use Rattle.std.specs.Prelude.{◌≡◌, List, Ok, IsTrue}
+use Rattle.std.specs.Prelude.{◌≡◌, ◌⊎◌, List, Ok, IsTrue}
 use Rattle.sqlite.specs.Effect.{IsDatabase}
 use Rattle.sqlite.specs.State.{State, HasCleanDisk}
 use Rattle.sqlite.specs.Tree.{Trees}
@@ -8,7 +8,8 @@ use Rattle.ancestry.specs.Nodes.{Node}
 use Rattle.ancestry.specs.Trees.{Ancestry, IsForest}
 use Rattle.desk_content.specs.Branches.{with_nodes}
 use Rattle.desk_content.specs.Content.{Content}
-use Rattle.desk_schema.specs.Tables.{desk_schema}
+use Rattle.desk_making.specs.Making.{AreFirst}
+use Rattle.desk_schema.specs.Tables.{first_schema, desk_schema}
 use Rattle.desk_schema.specs.Rows.{content_of, AreShown}
 use Rattle.desk_schema.specs.Steps.{seen}
 
@@ -23,13 +24,35 @@ pub record IsDesk (s : State) : Type 0 where
 abbrev pub HasContent : Content → State → Type 0
 HasContent c s = HasCleanDisk s → IsTrue s.is_open → IsDesk s × (seen s ≡ c)
 
+-- the tables of a desk under schema 1, as the last commit left them, with this content
+pub record IsFirstDesk (c : Content) (s : State) : Type 0 where
+  pub settled : s.now ≡ s.committed
+  pub schema : s.now.schema ≡ first_schema
+  pub sound : IsDatabase s.now
+  pub shown : AreFirst c s.now.trees
+
+-- as far as the disk is honest and the connection serves, it shows a desk under schema 1 with this
+-- content
+abbrev pub HasFirstContent : Content → State → Type 0
+HasFirstContent c s = HasCleanDisk s → IsTrue s.is_open → IsFirstDesk c s
+
+-- it shows a desk with this content, under schema 2 or 1
+abbrev pub HoldsContent : Content → State → Type 0
+HoldsContent c s = HasContent c s ⊎ HasFirstContent c s
+
 -- these trees, with the desk's schema, are a desk with this content
 pub record AreTablesOf (c : Content) (db : Trees) : Type 0 where
   pub sound : IsDatabase (record { schema = desk_schema; trees = db })
   pub shown : AreShown db
   pub content : content_of db ≡ c
 
--- these trees, with the desk's schema, are a desk with this content over the ancestry after a branch
+-- these trees, with schema 1, are a desk with this content
+pub record AreFirstTablesOf (c : Content) (db : Trees) : Type 0 where
+  pub sound : IsDatabase (record { schema = first_schema; trees = db })
+  pub first : AreFirst c db
+
+-- these trees, with the desk's schema, are a desk with this content over the ancestry after a
+-- branch
 pub record AreTablesAfter (c : Content) (nodes : List Node) (db : Trees) : Type 0 where
   pub ancestry : Ancestry
   pub taken : branched c.nodes nodes ≡ Ok ancestry

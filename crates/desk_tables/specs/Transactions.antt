@@ -17,7 +17,9 @@ use Rattle.desk_making.specs.Number.{Says, SaysSchema}
 use Rattle.desk_making.specs.declared.number.SchemaRead.{SchemaRead}
 use Rattle.desk_making.specs.declared.number.SchemaRead.TheVariants.{Number}
 use Rattle.desk_tables.specs.Opening.{IsLeft, IsStoreFailure, IsReason}
-use Rattle.desk_tables.specs.Shown.{IsDesk, HasContent, AreTablesOf, AreTablesAfter}
+use Rattle.desk_tables.specs.Shown.{IsDesk, HasContent, HasFirstContent, HoldsContent, AreTablesOf, AreTablesAfter}
+use Rattle.desk_tables.specs.declared.opening.Schema.{Schema}
+use Rattle.desk_tables.specs.declared.opening.Schema.TheVariants.{First, Current}
 use Rattle.desk_tables.specs.declared.open_fault.OpenFault.{OpenFault}
 use Rattle.desk_tables.specs.declared.open_fault.OpenFault.TheVariants.{Store, NotEmpty}
 
@@ -43,8 +45,8 @@ abbrev pub Follows : Ancestry → Content → State → Result (Unit {0}) Branch
 Follows u c new (Ok done) = IsTrue new.is_open × IsDesk new × (seen new ≡ with_nodes u c)
 Follows u c new (Err refusal) = HasContent c new
 
--- A branch over the ancestry t, which is u then: it is taken and committed, or refused, or there is a
--- fault, and then the connection shows the same desk as before.
+-- A branch over the ancestry t, which is u then: it is taken and committed, or refused, or there is
+-- a fault, and then the connection shows the same desk as before.
 -- A crash at any moment leaves what it would have left before, or the desk after the branch.
 pub record IsTaken (t u : Ancestry) (nodes : List Node) (old new : State) (result : Result (Result (Unit {0}) BranchFault) StoreFault) : Type 0 where
   pub honest : HasCleanDisk new → HasCleanDisk old
@@ -60,7 +62,8 @@ pub record Ends (mid new : State) (done result : Result (Unit {0}) StoreFault) :
   pub ok : HasCleanDisk new → IfOk result (λ _. IsOk done × IsTrue mid.is_open × IsTrue new.is_open × (new.now ≡ mid.now) × (new.committed ≡ mid.now))
   pub err : HasCleanDisk new → (IsOk done → IsTrue mid.in_transaction) → IfErr result (λ fault. IsRolledBack mid new × (fault ≢ Foreign ⊎ (done ≡ Err fault)))
 
--- The tables of a new desk are made in a database with none, and committed, or there are none still.
+-- The tables of a new desk are made in a database with none, and committed, or there are none
+-- still.
 -- A crash at any moment leaves what it would have left before, or the new tables.
 pub record IsMade (first : ℕ) (old new : State) (result : Result (Unit {0}) StoreFault) : Type 0 where
   pub ok : HasCleanDisk new → IfOk result (λ _. IsTrue new.is_open × IsDesk new × (seen new ≡ no_content first))
@@ -77,18 +80,34 @@ pub record IsCreated (first : ℕ) (old new : State) (result : Result (Unit {0})
   pub sure : HasCleanDisk new → old.now.schema ≡ no_tables → IfErr result IsStoreFailure
   pub crash : Survives old new (AreTablesOf (no_content first))
 
+-- The tables of schema 1 are carried over in one transaction, or are left as they were.
+-- A crash at any moment leaves what it would have left before, or the same desk under schema 2.
+pub record IsCarried (old new : State) (result : Result (Unit {0}) StoreFault) : Type 0 where
+  pub honest : HasCleanDisk new → HasCleanDisk old
+  pub ok : (c : Content) → HasCleanDisk new → HasFirstContent c old → IfOk result (λ _. IsTrue new.is_open × IsDesk new × (seen new ≡ c))
+  pub err : IfErr result (λ _. IsLeft old new)
+  pub sure : (c : Content) → HasCleanDisk new → HasFirstContent c old → IfErr result (λ fault. fault ≢ Foreign)
+  pub crash : (c : Content) → (HasCleanDisk new → HasFirstContent c old) → Survives old new (AreTablesOf c)
+
 -- The number of the schema is asked for: whatever is answered, the tables are left as they were.
 pub record AsksSchema (old new : State) (result : Result SchemaRead StoreFault) : Type 0 where
   pub survives : Survives old new (λ _. ⊥)
   pub left : IsLeft old new
   pub ok : HasCleanDisk new → IfOk result (λ read. IsTrue old.is_open × Says old.now read)
   pub sure : IfErr result (λ fault. fault ≢ Foreign)
-  pub desk : (c : Content) → HasCleanDisk new → HasContent c old → IfOk result (λ read. read ≡ Number 1)
+  pub desk : (c : Content) → HasCleanDisk new → HasContent c old → IfOk result (λ read. read ≡ Number 2)
+  pub first : (c : Content) → HasCleanDisk new → HasFirstContent c old → IfOk result (λ read. read ≡ Number 1)
 
--- A desk is recognised, or there is a reason.
-pub record IsRecognised (old new : State) (result : Result (Unit {0}) OpenFault) : Type 0 where
+abbrev pub number_of : Schema → ℕ
+number_of First = 1
+number_of Current = 2
+
+-- A desk is recognised, under schema 1 or 2, or there is a reason.
+pub record IsRecognised (old new : State) (result : Result Schema OpenFault) : Type 0 where
   pub survives : Survives old new (λ _. ⊥)
   pub left : IsLeft old new
-  pub ok : HasCleanDisk new → IfOk result (λ _. IsTrue old.is_open × SaysSchema old.now 1)
+  pub ok : HasCleanDisk new → IfOk result (λ schema. IsTrue old.is_open × SaysSchema old.now (number_of schema))
+  pub current : (c : Content) → HasCleanDisk new → HasContent c old → IfOk result (λ schema. schema ≡ Current)
+  pub first : (c : Content) → HasCleanDisk new → HasFirstContent c old → IfOk result (λ schema. schema ≡ First)
   pub why : IfErr result (IsReason old new)
-  pub desk : (c : Content) → HasCleanDisk new → HasContent c old → IfErr result IsStoreFailure
+  pub desk : (c : Content) → HasCleanDisk new → HoldsContent c old → IfErr result IsStoreFailure

@@ -12,14 +12,14 @@ ghost use Rattle.desk_lists.specs.Asked.{IsAskedFor};
 ghost use Rattle.branch_rows.specs.Grown.{IsGrown, unknown_of, roots_of, changed_of};
 ghost use Rattle.desk_content.specs.Branches.{with_nodes};
 ghost use Rattle.desk_making.specs.Names.{no_tables};
-ghost use Rattle.desk_tables.specs.Transactions.{IsAsked, IsChanged, IsTaken, IsMade, AsksSchema, Ends};
+ghost use Rattle.desk_tables.specs.Transactions.{IsAsked, IsChanged, IsTaken, IsMade, IsCarried, AsksSchema, Ends};
 
 use ancestry::{BranchFault, Node};
 use branch_rows::{OpenNodes, branches_grow, changed_nodes, open_nodes};
 use bug_record::{Change, Numbers, Sequence, SetImage};
 use desk_branches::put_branch;
 use desk_lists::{read_listed, read_open_head};
-use desk_making::{SchemaRead, make_tables, read_schema};
+use desk_making::{SchemaRead, carry_over, make_tables, read_schema};
 use desk_reads::{read_set_of, read_waiting_on};
 use desk_schema::fault_of;
 use desk_steps::put_change;
@@ -48,7 +48,8 @@ fn ask_small_set_of<S: Alter>(
     answer
 }
 
-// The image of the set that the bug is in, if there is such a bug; none has a number that is no u32.
+// The image of the set that the bug is in, if there is such a bug; none has a number that is no
+// u32.
 pub(crate) fn ask_set_of<S: Alter>(
     alloc: Global,
     conn: &mut Connection<S>,
@@ -328,4 +329,17 @@ pub(crate) fn ask_schema<S: Alter>(conn: &mut Connection<S>) -> Result<SchemaRea
     let answer = read_schema(&mut tx);
     tx.rollback();
     answer
+}
+
+// Carries the tables of schema 1 over.
+pub(crate) fn carry_desk<S: Alter>(conn: &mut Connection<S>) -> Result<(), StoreFault>
+    requires autocommit { conn.old.in_transaction ≡ false }
+    requires unlimited { conn.old.step_limit ≡ None }
+    ensures autocommit { conn.new.in_transaction ≡ false }
+    ensures unlimited { conn.new.step_limit ≡ None }
+    ensures carried { IsCarried (state S.Store conn.old) (state S.Store conn.new) result }
+{
+    let mut tx = conn.transaction();
+    let done = carry_over(&mut tx);
+    finish(tx, done)
 }

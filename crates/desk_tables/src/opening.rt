@@ -1,6 +1,6 @@
 //! How a desk is created in a database, and opened.
 
-ghost use Rattle.std.specs.Prelude.{◌≡◌, ◌≢◌, ◌↔◌, ◌≤◌, ◌∷◌, [], false, true, None, Err, IfOk, IfErr, IsErrAnd, IsTrue, MatchResult};
+ghost use Rattle.std.specs.Prelude.{◌≡◌, ◌≢◌, ◌↔◌, ◌⊎◌, ◌≤◌, ◌∷◌, [], false, true, None, Err, IfOk, IfErr, IsErrAnd, IsTrue, MatchResult};
 ghost use Rattle.sqlite.specs.Held.{state};
 ghost use Rattle.sqlite.specs.State.{HasCleanDisk, Survives};
 ghost use Rattle.line_words.specs.declared.named.TheConstants.{LARGEST_NUMBER};
@@ -9,16 +9,15 @@ ghost use Rattle.desk_content.specs.Kept.{IsKeptContent};
 ghost use Rattle.desk_making.specs.Names.{no_tables, has_desk_table};
 ghost use Rattle.desk_making.specs.Number.{SaysSchema};
 ghost use Rattle.desk_places.specs.Plain.{empty_desk};
-ghost use Rattle.desk_schema.specs.Steps.{seen};
 ghost use Rattle.desk_store.specs.Store.{no_faults};
 ghost use Rattle.desk_text.specs.declared.outcome.StoreFault.TheVariants.{Foreign};
 ghost use Rattle.desk_tables.specs.Kept.{content_seen, desk_seen, IsKept};
 ghost use Rattle.desk_tables.specs.Opening.{unlimited, IsLeft, IsStoreFailure, IsReason};
-ghost use Rattle.desk_tables.specs.Shown.{HasContent, AreTablesOf};
+ghost use Rattle.desk_tables.specs.Shown.{HasContent, HasFirstContent, HoldsContent, AreTablesOf};
 ghost use Rattle.desk_tables.specs.Transactions.{IsCreated, IsRecognised};
 ghost use Rattle.desk_tables.specs.declared.open_fault.OpenFault.TheVariants as fault;
 
-use crate::calls::{ask_schema, make_desk};
+use crate::calls::{ask_schema, carry_desk, make_desk};
 use crate::desk::TableDesk;
 use crate::open_fault::OpenFault;
 use desk_making::{SchemaRead, is_blank, names_a_desk_table};
@@ -48,8 +47,15 @@ fn create_tables<S: Alter>(conn: &mut Connection<S>, first: u32) -> Result<(), O
     }
 }
 
-// Asks the database whether it is a desk's.
-fn recognise<S: Alter>(conn: &mut Connection<S>) -> Result<(), OpenFault>
+// Which schema the tables of a desk have.
+#[derive(Clone, Copy, Debug, PartialEq, Eq, Drop)]
+pub(crate) enum Schema {
+    First,
+    Current,
+}
+
+// Asks the database whether it is a desk's, and under which schema.
+fn recognise<S: Alter>(conn: &mut Connection<S>) -> Result<Schema, OpenFault>
     requires autocommit { conn.old.in_transaction ≡ false }
     requires unlimited { conn.old.step_limit ≡ None }
     ensures autocommit { conn.new.in_transaction ≡ false }
@@ -57,10 +63,48 @@ fn recognise<S: Alter>(conn: &mut Connection<S>) -> Result<(), OpenFault>
     ensures recognised { IsRecognised (state S.Store conn.old) (state S.Store conn.new) result }
 {
     match ask_schema(conn) {
-        Ok(SchemaRead::Number(1)) => Ok(()),
+        Ok(SchemaRead::Number(2)) => Ok(Schema::Current),
+        Ok(SchemaRead::Number(1)) => Ok(Schema::First),
         Ok(SchemaRead::Number(number)) => Err(OpenFault::NewerSchema(number)),
         Ok(SchemaRead::NoNumber) => Err(OpenFault::NotADesk),
         Err(fault) => Err(OpenFault::Store(fault)),
+    }
+}
+
+// Recognises a desk, and carries it over where it is kept under schema 1.
+// The answer remembers the connection that showed its content under schema 2.
+fn find_desk<S: Alter>(conn: &mut Connection<S>) -> Result<Seen<Connection<S>>, OpenFault>
+    requires autocommit { conn.old.in_transaction ≡ false }
+    requires unlimited { conn.old.step_limit ≡ None }
+    ensures autocommit { conn.new.in_transaction ≡ false }
+    ensures unlimited { conn.new.step_limit ≡ None }
+    ensures honest { IfOk result (λ last. HasCleanDisk (state S.Store conn.new) → HasCleanDisk (state S.Store conn.old)) }
+    ensures content { IfOk result (λ last. (c : Content) → HasCleanDisk (state S.Store conn.new) → HoldsContent c (state S.Store conn.old) →
+        content_seen S.Store last.values ≡ c) }
+    ensures shows { IfOk result (λ last. (c : Content) → HasCleanDisk (state S.Store conn.new) → HoldsContent c (state S.Store conn.old) →
+        HasContent c (state S.Store conn.new)) }
+    ensures says { IfOk result (λ last. HasCleanDisk (state S.Store conn.new) → IsTrue (state S.Store conn.old).is_open ×
+        (SaysSchema (state S.Store conn.old).now 2 ⊎ SaysSchema (state S.Store conn.old).now 1)) }
+    ensures why { IfErr result (IsReason (state S.Store conn.old) (state S.Store conn.new)) }
+    ensures desk { (c : Content) → HasCleanDisk (state S.Store conn.new) → HoldsContent c (state S.Store conn.old) → IfErr result IsStoreFailure }
+    ensures stays { IfOk result (λ last. (c : Content) → HasCleanDisk (state S.Store conn.new) → HasContent c (state S.Store conn.old) →
+        IsLeft (state S.Store conn.old) (state S.Store conn.new)) }
+    ensures err { IfErr result (λ _. IsLeft (state S.Store conn.old) (state S.Store conn.new)) }
+    ensures left { (c : Content) → (HasCleanDisk (state S.Store conn.new) → HasContent c (state S.Store conn.old)) →
+        Survives (state S.Store conn.old) (state S.Store conn.new) (λ _. ⊥) }
+    ensures other { (HasCleanDisk (state S.Store conn.new) → ¬ (SaysSchema (state S.Store conn.old).now 1)) →
+        IsLeft (state S.Store conn.old) (state S.Store conn.new) × Survives (state S.Store conn.old) (state S.Store conn.new) (λ _. ⊥) }
+    ensures crash { (c : Content) → (HasCleanDisk (state S.Store conn.new) → HasFirstContent c (state S.Store conn.old)) →
+        Survives (state S.Store conn.old) (state S.Store conn.new) (AreTablesOf c) }
+{
+    let last = Seen::new().and(conn);
+    match recognise(conn) {
+        Ok(Schema::Current) => Ok(last),
+        Ok(Schema::First) => match carry_desk(conn) {
+            Ok(()) => Ok(Seen::new().and(conn)),
+            Err(fault) => Err(OpenFault::Store(fault)),
+        },
+        Err(fault) => Err(fault),
     }
 }
 
@@ -106,34 +150,49 @@ impl<S: Alter> TableDesk<S> {
     }
 
     /// Opens the desk that a database holds; no more is read than the number of its schema.
-    /// The tables are left as they were, and a refusal hands the connection back: `NotADesk` where
-    /// the database says no number of a desk's schema, `NewerSchema` where it says one above 1, and
-    /// else what the store failed for.
+    /// Tables kept under schema 1 are carried over to schema 2, in one transaction; the desk stays
+    /// the same, and no bug of it affects another package.
+    /// The tables of a database that doesn't say schema 1 are left as they were.
+    /// A refusal leaves the tables, and hands the connection back: `NotADesk` where the database
+    /// says no number of a desk's schema, `NewerSchema` where it says one above 2, and else what
+    /// the store failed for; `Store(Foreign)` where the tables say 1 and are no desk's.
     /// The desk is kept where the tables are a desk's and say what a desk keeps.
     /// From now on no statement has a limit of steps.
+    /// A crash at any moment of the call leaves what it would have left before, or, where the
+    /// tables are carried over, the same desk under schema 2.
     pub fn open(
         alloc: Global,
         conn: Connection<S>,
     ) -> Result<TableDesk<S>, (OpenFault, Connection<S>)>
         requires autocommit { conn.in_transaction ≡ false }
-        ensures content { IfOk result (λ d. content_seen S.Store d.last.values ≡ seen (state S.Store conn)) }
-        ensures kept { IfOk result (λ d. HasContent (seen (state S.Store conn)) (state S.Store conn) → IsKeptContent (seen (state S.Store conn)) →
+        ensures honest { IfOk result (λ d. HasCleanDisk (state S.Store d.conn) → HasCleanDisk (state S.Store conn)) }
+        ensures content { IfOk result (λ d. (c : Content) → HasCleanDisk (state S.Store d.conn) → HoldsContent c (state S.Store conn) →
+            content_seen S.Store d.last.values ≡ c) }
+        ensures kept { IfOk result (λ d. (c : Content) → HasCleanDisk (state S.Store d.conn) → HoldsContent c (state S.Store conn) → IsKeptContent c →
             IsKept S.Store d.last.values d.begun.values d.conn d.family) }
-        ensures says { IfOk result (λ d. HasCleanDisk (state S.Store d.conn) →
-            IsTrue (state S.Store conn).is_open × SaysSchema (state S.Store conn).now 1) }
+        ensures says { IfOk result (λ d. HasCleanDisk (state S.Store d.conn) → IsTrue (state S.Store conn).is_open ×
+            (SaysSchema (state S.Store conn).now 2 ⊎ SaysSchema (state S.Store conn).now 1)) }
         ensures counts { IfOk result (λ d. d.counts ≡ no_faults) }
         ensures why { IfErr result (λ e. IsReason (state S.Store conn) (state S.Store e.1) e.0) }
-        ensures desk { (c : Content) → HasContent c (state S.Store conn) → IfErr result (λ e. HasCleanDisk (state S.Store e.1) → IsStoreFailure e.0) }
-        ensures left { MatchResult result (λ d. IsLeft (state S.Store conn) (state S.Store d.conn)) (λ e. IsLeft (state S.Store conn) (state S.Store e.1)) }
-        ensures survives { MatchResult result
-            (λ d. Survives (unlimited (state S.Store conn)) (state S.Store d.conn) (λ _. ⊥))
-            (λ e. Survives (unlimited (state S.Store conn)) (state S.Store e.1) (λ _. ⊥)) }
+        ensures desk { (c : Content) → HoldsContent c (state S.Store conn) → IfErr result (λ e. HasCleanDisk (state S.Store e.1) → IsStoreFailure e.0) }
+        ensures left { MatchResult result
+            (λ d. (c : Content) → HasCleanDisk (state S.Store d.conn) → HasContent c (state S.Store conn) → IsLeft (state S.Store conn) (state S.Store d.conn))
+            (λ e. IsLeft (state S.Store conn) (state S.Store e.1)) }
+        ensures other { MatchResult result
+            (λ d. (HasCleanDisk (state S.Store d.conn) → ¬ (SaysSchema (state S.Store conn).now 1)) →
+            IsLeft (state S.Store conn) (state S.Store d.conn) × Survives (unlimited (state S.Store conn)) (state S.Store d.conn) (λ _. ⊥))
+            (λ e. (HasCleanDisk (state S.Store e.1) → ¬ (SaysSchema (state S.Store conn).now 1)) → Survives (unlimited (state S.Store conn)) (state S.Store e.1) (λ _. ⊥)) }
+        ensures survives { (c : Content) → MatchResult result
+            (λ d. (HasCleanDisk (state S.Store d.conn) → HasContent c (state S.Store conn)) → Survives (unlimited (state S.Store conn)) (state S.Store d.conn) (λ _. ⊥))
+            (λ e. (HasCleanDisk (state S.Store e.1) → HasContent c (state S.Store conn)) → Survives (unlimited (state S.Store conn)) (state S.Store e.1) (λ _. ⊥)) }
+        ensures crash { (c : Content) → MatchResult result
+            (λ d. (HasCleanDisk (state S.Store d.conn) → HasFirstContent c (state S.Store conn)) → Survives (unlimited (state S.Store conn)) (state S.Store d.conn) (AreTablesOf c))
+            (λ e. (HasCleanDisk (state S.Store e.1) → HasFirstContent c (state S.Store conn)) → Survives (unlimited (state S.Store conn)) (state S.Store e.1) (AreTablesOf c)) }
     {
         let mut conn = conn;
         conn.set_step_limit(None);
-        let last = Seen::new().and(&conn);
-        match recognise(&mut conn) {
-            Ok(()) => Ok(TableDesk::found(alloc, conn, last)),
+        match find_desk(&mut conn) {
+            Ok(last) => Ok(TableDesk::found(alloc, conn, last)),
             Err(fault) => Err((fault, conn)),
         }
     }

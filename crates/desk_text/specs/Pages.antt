@@ -44,10 +44,11 @@ people_lines b =
     page_line (codes "Submitter: ") b.submitter ++ page_line (codes "Owner: ") (text_or_dash b.shared.owner)
     ++ page_line (codes "Forwarded: ") (text_or_dash b.shared.forwarded)
 
--- its tags and marks
+-- its tags, the packages that it affects, and its marks
 abbrev pub mark_lines : Shared → List ℕ
 mark_lines f =
-    page_line (codes "Tags:") (names_or_dash tag_name f.tags) ++ page_line (codes "Found:") (names_or_dash node_text f.found)
+    page_line (codes "Tags:") (names_or_dash tag_name f.tags) ++ page_line (codes "Affects:") (names_or_dash (λ name. name) f.affects)
+    ++ page_line (codes "Found:") (names_or_dash node_text f.found)
     ++ page_line (codes "Fixed:") (names_or_dash node_text f.fixed)
 
 -- the bugs on which it waits, those that wait on it, and those that are merged with it

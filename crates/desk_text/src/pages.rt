@@ -105,6 +105,30 @@ fn append_tags(out: &mut Vec<u8>, tags: &[Tag]) -> Result<(), AllocError>
     append_text(out, "\n")
 }
 
+// Appends each name after a space.
+fn append_each_name(out: &mut Vec<u8>, names: &[Text]) -> Result<(), AllocError>
+    ensures { OnOk result (out.new.items ≡ out.old.items ++ flat_map (λ name. 32 ∷ name) names.now) }
+{
+    for name in names {
+        append_text(out, " ")?;
+        append_text(out, name.as_str())?;
+    }
+    Ok(())
+}
+
+// Appends the line of the packages that a bug affects.
+#[tactic(auto, unfolding(crate::specs::Pages::page_line))]
+fn append_affects(out: &mut Vec<u8>, names: &[Text]) -> Result<(), AllocError>
+    ensures { OnOk result (out.new.items ≡ out.old.items ++ page_line (codes "Affects:") (names_or_dash (λ name. name) names.now)) }
+{
+    if names.is_empty() {
+        return append_line(out, "Affects:", " -");
+    }
+    append_text(out, "Affects:")?;
+    append_each_name(out, names)?;
+    append_text(out, "\n")
+}
+
 // Appends each node after a space.
 fn append_each_node(out: &mut Vec<u8>, nodes: &[Node]) -> Result<(), AllocError>
     ensures { OnOk result (out.new.items ≡ out.old.items ++ flat_map (λ node. 32 ∷ node_text node) nodes.now) }
@@ -129,11 +153,12 @@ fn append_nodes(out: &mut Vec<u8>, label: &str, nodes: &[Node]) -> Result<(), Al
     append_text(out, "\n")
 }
 
-// Appends the tags and marks of a bug.
+// Appends the tags of a bug, the packages that it affects, and its marks.
 fn append_marks(out: &mut Vec<u8>, shared: &Shared) -> Result<(), AllocError>
     ensures { OnOk result (out.new.items ≡ out.old.items ++ mark_lines shared.now) }
 {
     append_tags(out, shared.tags.as_slice())?;
+    append_affects(out, shared.affects.as_slice())?;
     append_nodes(out, "Found:", shared.found.as_slice())?;
     append_nodes(out, "Fixed:", shared.fixed.as_slice())
 }
@@ -212,7 +237,7 @@ fn page_of(alloc: Global, page: &BugPage, member: &Member) -> Result<Vec<u8>, Al
     Ok(text)
 }
 
-/// Appends the page of a bug, which is a member of the page's image: fifteen lines that tell its
+/// Appends the page of a bug, which is a member of the page's image: sixteen lines that tell its
 /// whole record, the bugs on which it waits, those that wait on it, and those merged with it.
 /// What is not there is told as `-`.
 /// Where the bug is no member, it appends nothing.

@@ -32,6 +32,7 @@ bug-over f (commands.Owner n who) = refl
 bug-over f (commands.NoOwner n) = refl
 bug-over f (commands.Archive n) = refl
 bug-over f (commands.Unarchive n) = refl
+bug-over f (commands.Affects n step names) = refl
 
 -- whether that bug may be archived
 pub may-over : {N M : Type 0} (f : N → M) (command : Command N) → first_may_be_archived (command_over f command) ≡ first_may_be_archived command
@@ -58,6 +59,7 @@ may-over f (commands.Owner n who) = refl
 may-over f (commands.NoOwner n) = refl
 may-over f (commands.Archive n) = refl
 may-over f (commands.Unarchive n) = refl
+may-over f (commands.Affects n step names) = refl
 
 -- whether those that it names besides may be
 pub others-may-over : {N M : Type 0} (f : N → M) (command : Command N) → others_may_be_archived (command_over f command) ≡ others_may_be_archived command
@@ -84,6 +86,7 @@ others-may-over f (commands.Owner n who) = refl
 others-may-over f (commands.NoOwner n) = refl
 others-may-over f (commands.Archive n) = refl
 others-may-over f (commands.Unarchive n) = refl
+others-may-over f (commands.Affects n step names) = refl
 
 -- the bugs that it names besides
 pub others-over : {N M : Type 0} (f : N → M) (command : Command N) → other_bugs (command_over f command) ≡ map f (other_bugs command)
@@ -110,6 +113,7 @@ others-over f (commands.Owner n who) = refl
 others-over f (commands.NoOwner n) = refl
 others-over f (commands.Archive n) = refl
 others-over f (commands.Unarchive n) = refl
+others-over f (commands.Affects n step names) = refl
 
 -- the names that it gives
 pub names-over : {N M : Type 0} (f : N → M) (command : Command N) → names_in (command_over f command) ≡ names_in command
@@ -136,6 +140,7 @@ names-over f (commands.Owner n who) = refl
 names-over f (commands.NoOwner n) = refl
 names-over f (commands.Archive n) = refl
 names-over f (commands.Unarchive n) = refl
+names-over f (commands.Affects n step names) = refl
 
 -- the parts of a command that is meant are those of the command
 pub parts-over : {N M : Type 0} (f : N → M) (command : Command N) → HasGoodParts command → HasGoodParts (command_over f command)
@@ -162,6 +167,7 @@ parts-over f (commands.Owner n who) h = h
 parts-over f (commands.NoOwner n) h = h
 parts-over f (commands.Archive n) h = h
 parts-over f (commands.Unarchive n) h = h
+parts-over f (commands.Affects n step names) h = h
 
 map-agree : {N M K : Type 0} (f : N → M) (g : M → K) (h : N → K) (ns : List N) → Each (λ n. g (f n) ≡ h n) ns
     → map g (map f ns) ≡ map h ns
@@ -194,3 +200,4 @@ over-agree f g h (commands.Owner n who) e = λ i. commands.Owner (e.0 i) who
 over-agree f g h (commands.NoOwner n) e = λ i. commands.NoOwner (e.0 i)
 over-agree f g h (commands.Archive n) e = λ i. commands.Archive (e.0 i)
 over-agree f g h (commands.Unarchive n) e = λ i. commands.Unarchive (e.0 i)
+over-agree f g h (commands.Affects n step names) e = λ i. commands.Affects (e.0 i) step names

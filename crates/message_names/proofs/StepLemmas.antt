@@ -111,6 +111,7 @@ tests-stay (commands.Archive n) head merged f =
     ]
 tests-stay (commands.Unarchive n) head merged f =
     elim f.archived as (λ t. AsIs (option_or (if t then None else Some (NotArchived n)) None)) [ true ↦ tt | false ↦ refl ]
+tests-stay (commands.Affects n step names) head merged f = tt
 tests-stay (commands.Found n version) head merged f = tt
 tests-stay (commands.NotFound n version) head merged f = tt
 tests-stay (commands.Fixed n version) head merged f = tt
@@ -165,6 +166,7 @@ stays names d sender (commands.Owner n who) b e = records-stay d sender (command
 stays names d sender (commands.NoOwner n) b e = records-stay d sender (commands.NoOwner n) b e
 stays names d sender (commands.Archive n) b e = records-stay d sender (commands.Archive n) b e
 stays names d sender (commands.Unarchive n) b e = records-stay d sender (commands.Unarchive n) b e
+stays names d sender (commands.Affects n step packages) b e = records-stay d sender (commands.Affects n step packages) b e
 
 -- the first bug is there where none is refused
 first-there : (may_be : Bool) (o : Option Bug) (n : ℕ) (p : Option Refusal) → option_or (bug_refusal may_be o n) p ≡ None

@@ -88,6 +88,9 @@ fn numbered(
         Command::NoOwner(bug) => Command::NoOwner(number_told(known, bug)),
         Command::Archive(bug) => Command::Archive(number_told(known, bug)),
         Command::Unarchive(bug) => Command::Unarchive(number_told(known, bug)),
+        Command::Affects(bug, step, names) => {
+            Command::Affects(number_told(known, bug), step, names)
+        }
     })
 }
 

@@ -130,3 +130,4 @@ good-blockers_after d sender (commands.Owner n who) head merged f h words tests 
 good-blockers_after d sender (commands.NoOwner n) head merged f h words tests = h
 good-blockers_after d sender (commands.Archive n) head merged f h words tests = h
 good-blockers_after d sender (commands.Unarchive n) head merged f h words tests = h
+good-blockers_after d sender (commands.Affects n step names) head merged f h words tests = h

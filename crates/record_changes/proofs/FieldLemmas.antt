@@ -4,24 +4,28 @@ use Rattle.std.specs.Prelude.{◌++◌, not, filter, unwrap_or}
 use Rattle.std.specs.Str.{bytes_eq}
 use Rattle.debver.specs.Names.{IsName}
 use Rattle.ancestry.specs.Nodes.{Node, IsNode}
-use Rattle.bug_record.specs.Sets.{has, number_set}
+use Rattle.bug_record.specs.Sets.{has, Each, number_set}
 use Rattle.bug_record.specs.Texts.{IsGoodText, IfGiven}
 use Rattle.bug_record.specs.Marks.{IsNodeSet, with_node, without_node}
 use Rattle.bug_record.specs.Tags.{IsTagSet, with_tag, without_tag}
+use Rattle.bug_record.specs.PackageSets.{has_name, IsNameSet}
 use Rattle.bug_record.specs.Desk.{IsGoodShared}
 use Rattle.bug_record.specs.Commands.{node_meant, person, IsGoodVersion, IsGoodPerson, HasGoodParts, IsUtf8Person, HasUtf8Texts}
 use Rattle.bug_record.specs.Steps.{marked_found, marked_fixed, found_at, opened, closed, moved_to, reassigned, tags_after}
-use Rattle.bug_record.specs.Steps.{shared_after, new_title, new_submitter}
+use Rattle.bug_record.specs.Steps.{shared_after, new_title, new_submitter, affects_after}
 use Rattle.bug_record.specs.declared.bug.Shared.{Shared}
 use Rattle.bug_record.specs.declared.command.Command.{Command}
 use Rattle.bug_record.specs.declared.command.Command.TheVariants as commands
 use Rattle.bug_record.specs.declared.command.TagStep.{TagStep}
 use Rattle.bug_record.specs.declared.command.TagStep.TheVariants.{Add, Remove, Clear}
 use Rattle.bug_record.specs.declared.command.VersionArg.{VersionArg}
+use Rattle.bug_record.specs.declared.command.AffectsStep.{AffectsStep}
+use Rattle.bug_record.specs.declared.command.AffectsStep.TheVariants as affecting
 use Rattle.bug_record.specs.declared.command.Who.{Who}
 use Rattle.bug_record.specs.declared.command.Who.TheVariants.{Sender, Given}
 use Rattle.bug_record.specs.declared.tag.Tag.{Tag}
 use Rattle.bug_record.proofs.MarkLemmas.{set-none, set-with, set-without}
+use Rattle.bug_record.proofs.PackageLemmas.{names-set, names-filter}
 use Rattle.bug_record.proofs.TagLemmas.{set-none_tags, set-with_tag, set-without_tag}
 
 -- the node that a version means for a package name
@@ -40,7 +44,7 @@ with_marks state found fixed f = record f { closed = state; found = found; fixed
 good-marks : (state : Bool) (found fixed : List Node) (f : Shared) → IsNodeSet found → IsNodeSet fixed → IsGoodShared f
     → IsGoodShared (with_marks state found fixed f)
 good-marks state found fixed f a b h =
-    record { package_name = h.package_name; forwarded = h.forwarded; owner = h.owner; tags = h.tags; found = a; fixed = b }
+    record { package_name = h.package_name; forwarded = h.forwarded; owner = h.owner; tags = h.tags; affects = h.affects; found = a; fixed = b }
 
 good-marked_found : (n : Node) (f : Shared) → IsNode n → IsGoodShared f → IsGoodShared (marked_found n f)
 good-marked_found n f v h =
@@ -75,6 +79,7 @@ good-moved_to package_name f name h =
             forwarded = h.forwarded;
             owner = h.owner;
             tags = h.tags;
+            affects = h.affects;
             found = set-none;
             fixed =
                 set-none;
@@ -95,11 +100,22 @@ set-tags_after (Add t ∷ steps) tags h = set-tags_after steps (with_tag tags t)
 set-tags_after (Remove t ∷ steps) tags h = set-tags_after steps (without_tag tags t) (set-without_tag tags t h)
 set-tags_after (Clear ∷ steps) tags h = set-tags_after steps [] set-none_tags
 
+-- affected packages stay a set of names
+each-both : (xs ys : List (List ℕ)) → Each IsName xs → Each IsName ys → Each IsName (xs ++ ys)
+each-both [] ys a b = b
+each-both (x ∷ xs) ys a b = (a.0, each-both xs ys a.1 b)
+
+set-affects_after : (step : AffectsStep) (names affects : List (List ℕ)) → Each IsName names → IsNameSet affects
+    → IsNameSet (affects_after step names affects)
+set-affects_after affecting.Add names affects good h = names-set (affects ++ names) (each-both affects names h.valid good)
+set-affects_after affecting.Remove names affects good h = names-filter (λ n. not (has_name names n)) affects h
+set-affects_after affecting.Replace names affects good h = names-set names good
+
 -- fields forwarded to somebody, or to nobody
 good-forwarded : (text : Option (List ℕ)) (f : Shared) → IfGiven IsGoodText text → IsGoodShared f
     → IsGoodShared (record f { forwarded = text })
 good-forwarded text f good h =
-    record { package_name = h.package_name; forwarded = good; owner = h.owner; tags = h.tags; found = h.found; fixed = h.fixed }
+    record { package_name = h.package_name; forwarded = good; owner = h.owner; tags = h.tags; affects = h.affects; found = h.found; fixed = h.fixed }
 
 -- fields of another owner, or of none
 good-owner : (who : Option (List ℕ)) (f : Shared) → IfGiven IsGoodText who → IsGoodShared f
@@ -110,6 +126,7 @@ good-owner who f good h =
       forwarded = h.forwarded;
       owner = good;
       tags = h.tags;
+      affects = h.affects;
       found = h.found;
       fixed =
           h.fixed;
@@ -123,6 +140,7 @@ good-archived archived f h =
       forwarded = h.forwarded;
       owner = h.owner;
       tags = h.tags;
+      affects = h.affects;
       found = h.found;
       fixed =
           h.fixed;
@@ -136,6 +154,7 @@ good-blockers blockers f h =
       forwarded = h.forwarded;
       owner = h.owner;
       tags = h.tags;
+      affects = h.affects;
       found = h.found;
       fixed =
           h.fixed;
@@ -170,6 +189,7 @@ good-shared_after sender (commands.Severity n severity) text good utf8 f h =
       forwarded = h.forwarded;
       owner = h.owner;
       tags = h.tags;
+      affects = h.affects;
       found = h.found;
       fixed =
           h.fixed;
@@ -181,6 +201,7 @@ good-shared_after sender (commands.Tags n steps) text good utf8 f h =
       owner = h.owner;
       tags =
           set-tags_after steps f.tags h.tags;
+      affects = h.affects;
       found = h.found;
       fixed = h.fixed;
     }
@@ -201,6 +222,16 @@ good-shared_after sender (commands.Owner n who) text good utf8 f h =
 good-shared_after sender (commands.NoOwner n) text good utf8 f h = good-owner None f tt h
 good-shared_after sender (commands.Archive n) text good utf8 f h = good-archived true f h
 good-shared_after sender (commands.Unarchive n) text good utf8 f h = good-archived false f h
+good-shared_after sender (commands.Affects n step names) text good utf8 f h =
+    record {
+      package_name = h.package_name;
+      forwarded = h.forwarded;
+      owner = h.owner;
+      tags = h.tags;
+      affects = set-affects_after step names f.affects good h.affects;
+      found = h.found;
+      fixed = h.fixed;
+    }
 
 pub good-new_title : (command : Command ℕ) → HasGoodParts command → HasUtf8Texts command → (m : ℕ)
     → IfGiven IsGoodText (new_title command m)
@@ -228,6 +259,7 @@ good-new_title (commands.Owner n who) good utf8 m = tt
 good-new_title (commands.NoOwner n) good utf8 m = tt
 good-new_title (commands.Archive n) good utf8 m = tt
 good-new_title (commands.Unarchive n) good utf8 m = tt
+good-new_title (commands.Affects n step names) good utf8 m = tt
 
 pub good-new_submitter : (sender : List ℕ) (command : Command ℕ) → IsGoodText sender → HasGoodParts command → HasUtf8Texts command
     → (f : Shared) (m : ℕ) → IfGiven IsGoodText (new_submitter sender command f m)
@@ -259,3 +291,4 @@ good-new_submitter sender (commands.Owner n who) h good utf8 f m = tt
 good-new_submitter sender (commands.NoOwner n) h good utf8 f m = tt
 good-new_submitter sender (commands.Archive n) h good utf8 f m = tt
 good-new_submitter sender (commands.Unarchive n) h good utf8 f m = tt
+good-new_submitter sender (commands.Affects n step names) h good utf8 f m = tt

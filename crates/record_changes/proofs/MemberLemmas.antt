@@ -37,6 +37,7 @@ unchanged sender (commands.Owner n who) f h m = refl
 unchanged sender (commands.NoOwner n) f h m = refl
 unchanged sender (commands.Archive n) f h m = refl
 unchanged sender (commands.Unarchive n) f h m = refl
+unchanged sender (commands.Affects n step names) f h m = refl
 
 pub members-unchanged : (sender : List ℕ) (command : Command ℕ) (f : Shared) → changes_members command f ≡ false
     → (ms : List Member) → ms ≡ map (member_after sender command f) ms

@@ -8,6 +8,7 @@ ghost use Rattle.bug_record.specs.Steps.{marked_fixed, opened, moved_to, reassig
 ghost use Rattle.record_changes.specs.Fields.{IsVersionFault};
 ghost use Rattle.record_changes.specs.Parts.{found_in, closed_in};
 
+use crate::affects::affect;
 use crate::tags::take_steps;
 use crate::versions::{mark_fixed, mark_found, mark_found_at, node_meant};
 use bug_record::{Command, PlanFault, Severity, Shared, VersionArg, Who};
@@ -229,6 +230,7 @@ fn change(
         Command::Unblock(_, numbers) => remove_blockers(shared, numbers.as_slice())?,
         Command::Archive(_) => set_archived(shared, true),
         Command::Unarchive(_) => set_archived(shared, false),
+        Command::Affects(_, step, names) => affect(&mut shared.affects, *step, names.as_slice())?,
         Command::Retitle(_, _)
         | Command::Submitter(_, _)
         | Command::Merge(_, _)

@@ -3,6 +3,7 @@
 //! The values and definitions are those of `bug_record`.
 #![tactic(auto)]
 
+mod affects;
 mod fields;
 mod members;
 mod tags;

@@ -17,7 +17,7 @@ use Rattle.bug_record.specs.Images.{bug_in, put}
 use Rattle.std.specs.Option.{option_or}
 use Rattle.bug_record.specs.Tags.{same_tag}
 use Rattle.bug_record.specs.Differences.{same_flag, same_text, same_state}
-use Rattle.bug_record.specs.Changed.{AreChanged, same_nodes, same_tags, same_shared, same_bugs, same_at, numbers_below}
+use Rattle.bug_record.specs.Changed.{AreChanged, same_nodes, same_names, same_tags, same_shared, same_bugs, same_at, numbers_below}
 use Rattle.bug_record.specs.Changed.{changed_numbers, Replaces}
 use Rattle.bug_record.specs.declared.bug.Bug.{Bug}
 use Rattle.bug_record.specs.declared.bug.Shared.{Shared}
@@ -74,6 +74,9 @@ nodes_decide ns ms =
     slice_eq-Decides (λ a b. (same_true a b, λ e. subst (λ (z : Node). same_node a z ≡ true) e (same_itself a))) ns ms
     (same_nodes ns ms) refl
 
+names_decide : (ns ms : List (List ℕ)) → Decides (same_names ns ms) (ns ≡ ms)
+names_decide ns ms = slice_eq-Decides bytes_eq-Decides ns ms (same_names ns ms) refl
+
 tags_decide : (ts us : List Tag) → Decides (same_tags ts us) (ts ≡ us)
 tags_decide ts us = slice_eq-Decides
     (λ a b. (same_tag-true a b, λ e. subst (λ (z : Tag). same_tag a z ≡ true) e (same_tag-itself a))) ts us (same_tags ts us) refl
@@ -96,7 +99,7 @@ abbrev one_person : Shared → Shared → Bool
 one_person s t = same_text s.forwarded t.forwarded && same_text s.owner t.owner
 
 abbrev one_history : Shared → Shared → Bool
-one_history s t = same_nodes s.found t.found && same_nodes s.fixed t.fixed
+one_history s t = same_names s.affects t.affects && (same_nodes s.found t.found && same_nodes s.fixed t.fixed)
 
 abbrev one_place : Shared → Shared → Bool
 one_place s t = bytes_eq s.blockers t.blockers && same_flag s.archived t.archived
@@ -112,7 +115,8 @@ same_shared-true s t e =
     let a = and_parts (bytes_eq s.«package» t.«package») (eqb (rank s.severity) (rank t.severity)) r.0 in
     let b = and_parts (one_person s t) (same_tags s.tags t.tags) q.1 in
     let c = and_parts (same_text s.forwarded t.forwarded) (same_text s.owner t.owner) b.0 in
-    let w = and_parts (same_nodes s.found t.found) (same_nodes s.fixed t.fixed) p.1 in
+    let v = and_parts (same_names s.affects t.affects) (same_nodes s.found t.found && same_nodes s.fixed t.fixed) p.1 in
+    let w = and_parts (same_nodes s.found t.found) (same_nodes s.fixed t.fixed) v.1 in
     let u = and_parts (bytes_eq s.blockers t.blockers) (same_flag s.archived t.archived) l.1 in
     λ j. record {
       «package» = bytes s.«package» t.«package» a.0 j;
@@ -121,6 +125,7 @@ same_shared-true s t e =
       forwarded = same_text-true s.forwarded t.forwarded c.0 j;
       owner = same_text-true s.owner t.owner c.1 j;
       tags = (tags_decide s.tags t.tags).0 b.1 j;
+      affects = (names_decide s.affects t.affects).0 v.0 j;
       found = (nodes_decide s.found t.found).0 w.0 j;
       fixed = (nodes_decide s.fixed t.fixed).0 w.1 j;
       blockers = bytes s.blockers t.blockers u.0 j;
@@ -141,8 +146,10 @@ same_shared-refl s =
     (and_from (same_text s.forwarded s.forwarded) (same_text s.owner s.owner) (same_text-refl s.forwarded)
     (same_text-refl s.owner))
     ((tags_decide s.tags s.tags).1 refl)))
+    (and_from (same_names s.affects s.affects) (same_nodes s.found s.found && same_nodes s.fixed s.fixed)
+    ((names_decide s.affects s.affects).1 refl)
     (and_from (same_nodes s.found s.found) (same_nodes s.fixed s.fixed) ((nodes_decide s.found s.found).1 refl)
-    ((nodes_decide s.fixed s.fixed).1 refl)))
+    ((nodes_decide s.fixed s.fixed).1 refl))))
     (and_from (bytes_eq s.blockers s.blockers) (same_flag s.archived s.archived) (bytes_refl s.blockers)
     (closed_same s.archived))
 

@@ -3,7 +3,7 @@
 ghost use Rattle.std.specs.Prelude.{◌≡◌};
 ghost use Rattle.std.specs.Str.{bytes_eq};
 ghost use Rattle.bug_record.specs.Images.{numbers_of};
-ghost use Rattle.bug_record.specs.Changed.{same_nodes, same_tags, same_shared};
+ghost use Rattle.bug_record.specs.Changed.{same_nodes, same_names, same_tags, same_shared};
 ghost use Rattle.bug_record.specs.Differences.{same_text, same_state};
 ghost use Rattle.set_images.specs.Changes.{same_texts, same_set};
 
@@ -13,6 +13,12 @@ use debver::Text;
 
 fn same_nodes(a: &[Node], b: &[Node]) -> bool
     ensures { result ≡ same_nodes a.now b.now }
+{
+    a == b
+}
+
+fn same_names(a: &[Text], b: &[Text]) -> bool
+    ensures { result ≡ same_names a.now b.now }
 {
     a == b
 }
@@ -58,6 +64,7 @@ pub(crate) fn same_shared(a: &Shared, b: &Shared) -> bool
         && same_text(&a.forwarded, &b.forwarded)
         && same_text(&a.owner, &b.owner)
         && same_tags(a.tags.as_slice(), b.tags.as_slice())
+        && same_names(a.affects.as_slice(), b.affects.as_slice())
         && same_nodes(a.found.as_slice(), b.found.as_slice())
         && same_nodes(a.fixed.as_slice(), b.fixed.as_slice())
         && a.blockers == b.blockers

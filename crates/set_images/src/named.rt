@@ -33,7 +33,8 @@ pub fn bug_named(command: &Command<u64>) -> u64
         | Command::Owner(number, _)
         | Command::NoOwner(number)
         | Command::Archive(number)
-        | Command::Unarchive(number) => *number,
+        | Command::Unarchive(number)
+        | Command::Affects(number, _, _) => *number,
     }
 }
 

@@ -1,23 +1,26 @@
 -- When a CREATE TABLE and a CREATE INDEX are refused for memory, the disk or its size alone.
-use Rattle.std.proofs.Common.{◌≡◌, ◌≢◌, ◌≤◌, inl, inr, ℕ, ◌+◌, ◌^◌, List, [], ◌∷◌, length, codes, Bool, true, false, None, Some, Ok, Err, Result, IsTrue, IsUtf8, refl, sym, ap, subst, ◌∙◌, true≢false}
-use Rattle.std.specs.List.{AllByRecursion}
+use Rattle.std.proofs.Common.{◌≡◌, ◌≢◌, ◌≤◌, inl, inr, ℕ, ◌+◌, ◌^◌, List, [], ◌∷◌, length, codes, Bool, true, false, None, Some, Ok, Err, Result, IsTrue, IsUtf8, refl, sym, ap, subst, ◌∙◌, true≢false, not, ◌&&◌, ◌==◌}
+use Rattle.std.specs.List.{AllByRecursion, list_all}
 use Rattle.std.specs.Str.{is_utf8}
 use Rattle.std.proofs.Math.Dec.{leb}
-use Rattle.std.proofs.lemmas.Bool.{le-leb}
+use Rattle.std.proofs.lemmas.Bool.{le-leb, and_from}
+use Rattle.std.proofs.lemmas.List.Folds.{list_all-append}
 use Rattle.std.proofs.lemmas.Str.{IsUtf8-from_is_utf8}
+use Rattle.sqlite.specs.Order.{Row}
 use Rattle.sqlite.specs.Table.{Table}
 use Rattle.sqlite.specs.Schema.{Schema}
 use Rattle.sqlite.specs.Tree.{Trees}
 use Rattle.sqlite.specs.Command.TheVariants.{CreateTable, CreateIndex}
-use Rattle.sqlite.specs.Change.{created, next_tree, is_used, is_reserved, automatics, indexed}
+use Rattle.sqlite.specs.Change.{created, next_tree, is_used, is_reserved, automatics}
 use Rattle.sqlite.specs.declared.error.Error.{Error}
 use Rattle.sqlite.specs.declared.types.Value.TheVariants.{Text}
+use Rattle.sqlite_catalog.specs.Change.{with_index}
 use Rattle.sqlite_catalog.specs.Calls.{RefusesTable, RefusesIndex}
 use Rattle.sqlite_catalog.specs.Listing.{is_fit, is_formed}
 use Rattle.sqlite_catalog.specs.declared.error.Refusal.{Refusal}
 use Rattle.sqlite_catalog.specs.declared.error.Refusal.TheVariants.{Invalid, NameTaken, BadName, TooBig, BadKey, BadText, Violates}
 use Rattle.sqlite_rules.specs.Lists.{Has}
-use Rattle.sqlite_schema.specs.Rules.{table_reals, index_reals, passes}
+use Rattle.sqlite_schema.specs.Rules.{table_reals, index_reals, passes, guards, clashes, Keeps}
 use Rattle.sqlite_schema.specs.declared.schema.Constraint.TheVariants.{Unique}
 use Rattle.sqlite_schema.specs.declared.schema.Index.{Index}
 use Rattle.sqlite.specs.Effect.{Database}
@@ -120,41 +123,52 @@ pub record IsSureIndex (schema : Schema) (sql : List ℕ) (at : ℕ) (table : Ta
   pub small : leb (2 ^ 64) (table_reals table) ≡ false
   pub key_small : leb (2 ^ 64) (index_reals (table_reals table) index.columns) ≡ false
   pub fits : is_fit (Text (codes "index")) (Text index.name) (Text table.name) (Text sql) ≡ true
+  pub repeats : index.is_unique ≡ false
 
--- no row breaks a rule where no table has one
-none_breaks : (indexes : Schema) (tables : List Table) (db : Trees) → AllByRecursion (λ t. db t.tree ≡ []) tables
-    → AllByRecursion (λ t. AllByRecursion (λ row. passes Unique indexes db t row ≡ true) (db t.tree)) tables
-none_breaks indexes [] db empty = tt
-none_breaks indexes (t ∷ tables) db empty = (subst (AllByRecursion (λ row. passes Unique indexes db t row ≡ true)) (sym empty.0) tt, none_breaks indexes tables db empty.1)
+-- no row breaks a rule of an index whose keys may come twice
+still_passes : (schema : Schema) (index : Index) (db : Trees) → index.is_unique ≡ false → (t : Table) (row : Row)
+    → passes Unique schema db t row ≡ true → passes Unique (with_index schema index) db t row ≡ true
+still_passes schema index db repeats t row was =
+    list_all-append (λ (i : Index). not (guards i t && clashes i.order i.columns (db t.tree) row)) schema.indexes (index ∷ [])
+    ∙ and_from _ _ was (subst (λ b. (not ((b && (index.table == t.tree)) && clashes index.order index.columns (db t.tree) row) && true) ≡ true) (sym repeats) refl)
+
+all_still : {X : Type 0} (P Q : X → Type 0) → ((x : X) → P x → Q x) → (xs : List X) → AllByRecursion P xs → AllByRecursion Q xs
+all_still P Q each [] all = tt
+all_still P Q each (x ∷ xs) all = (each x all.0, all_still P Q each xs all.1)
+
+still_keeps : (schema : Schema) (index : Index) (db : Trees) → index.is_unique ≡ false → Keeps Unique schema db → Keeps Unique (with_index schema index) db
+still_keeps schema index db repeats kept =
+    all_still _ _ (λ t. all_still _ _ (λ row. still_passes schema index db repeats t row) (db t.tree)) schema.tables kept
 
 module _ (schema : Schema) (sql : List ℕ) (at : ℕ) (table : Table) (index : Index) (it : CreatesIndex schema sql at table index) (sure : IsSureIndex schema sql at table index) where
-  unrefused_index : (db : Trees) (why : Refusal) → AllByRecursion (λ t. db t.tree ≡ []) schema.tables → RefusesIndex schema db table sql why → ⊥
-  unrefused_index db (Invalid e) empty h = not_ok (sym it.defined ∙ h)
-  unrefused_index db NameTaken empty (i, is, used) = true≢false (sym used ∙ subst (λ x. is_used schema x.name ≡ false) (same_value (sym it.defined ∙ is)) sure.free)
-  unrefused_index db BadName empty (i, is, inl (inl no_text)) = no_text (subst (λ x. IsUtf8 x.name) (same_value (sym it.defined ∙ is)) (IsUtf8-from_is_utf8 index.name sure.named))
-  unrefused_index db BadName empty (i, is, inl (inr reserved)) = true≢false (sym reserved.0 ∙ subst (λ x. is_reserved x.name ≡ false) (same_value (sym it.defined ∙ is)) sure.unreserved)
-  unrefused_index db BadName empty (i, is, inr no_text) = no_text (IsUtf8-from_is_utf8 table.name sure.table_named)
-  unrefused_index db TooBig empty (i, is, inl many) = low _ _ sure.few many
-  unrefused_index db TooBig empty (i, is, inr (inl big)) = low _ _ sure.small big
-  unrefused_index db TooBig empty (i, is, inr (inr big)) = low _ _ (subst (λ x. leb (2 ^ 64) (index_reals (table_reals table) x.columns) ≡ false) (same_value (sym it.defined ∙ is)) sure.key_small) big
-  unrefused_index db BadKey empty h = h
-  unrefused_index db BadText empty (i, is, unfit) =
+  unrefused_index : (db : Trees) (why : Refusal) → Keeps Unique schema db → RefusesIndex schema db table sql why → ⊥
+  unrefused_index db (Invalid e) kept h = not_ok (sym it.defined ∙ h)
+  unrefused_index db NameTaken kept (i, is, used) = true≢false (sym used ∙ subst (λ x. is_used schema x.name ≡ false) (same_value (sym it.defined ∙ is)) sure.free)
+  unrefused_index db BadName kept (i, is, inl (inl no_text)) = no_text (subst (λ x. IsUtf8 x.name) (same_value (sym it.defined ∙ is)) (IsUtf8-from_is_utf8 index.name sure.named))
+  unrefused_index db BadName kept (i, is, inl (inr reserved)) = true≢false (sym reserved.0 ∙ subst (λ x. is_reserved x.name ≡ false) (same_value (sym it.defined ∙ is)) sure.unreserved)
+  unrefused_index db BadName kept (i, is, inr no_text) = no_text (IsUtf8-from_is_utf8 table.name sure.table_named)
+  unrefused_index db TooBig kept (i, is, inl many) = low _ _ sure.few many
+  unrefused_index db TooBig kept (i, is, inr (inl big)) = low _ _ sure.small big
+  unrefused_index db TooBig kept (i, is, inr (inr big)) = low _ _ (subst (λ x. leb (2 ^ 64) (index_reals (table_reals table) x.columns) ≡ false) (same_value (sym it.defined ∙ is)) sure.key_small) big
+  unrefused_index db BadKey kept h = h
+  unrefused_index db BadText kept (i, is, unfit) =
       true≢false (sym (subst (λ x. is_fit (Text (codes "index")) (Text x.name) (Text table.name) (Text sql) ≡ true) (same_value (sym it.defined ∙ is)) sure.fits) ∙ unfit)
-  unrefused_index db (Violates rule) empty (i, is, unique, broken) = broken (none_breaks (indexed schema table i) schema.tables db empty)
+  unrefused_index db (Violates rule) kept (i, is, unique, broken) =
+      broken (still_keeps schema (record i { tree = next_tree schema; table = table.tree }) db (subst (λ (x : Index). x.is_unique ≡ false) (same_value (sym it.defined ∙ is)) sure.repeats) kept)
 
-  undefined_index : (mode : Mode) (db : Trees) (e : Error) → AllByRecursion (λ t. db t.tree ≡ []) schema.tables
+  undefined_index : (mode : Mode) (db : Trees) (e : Error) → Keeps Unique schema db
       → Defines mode (MakesIndex sql (record { schema = schema; trees = db }) table) (Err (Some e)) → ⊥
-  undefined_index mode db e empty (inr (last, made, is)) = not_ok (sym is)
-  undefined_index mode db e empty (inl (stop, made, is)) = unmade_index (subst (λ s. MakesIndex sql (record { schema = schema; trees = db }) table (Err s)) (same_stop is) made)
+  undefined_index mode db e kept (inr (last, made, is)) = not_ok (sym is)
+  undefined_index mode db e kept (inl (stop, made, is)) = unmade_index (subst (λ s. MakesIndex sql (record { schema = schema; trees = db }) table (Err s)) (same_stop is) made)
     where
       unmade_index : MakesIndex sql (record { schema = schema; trees = db }) table (Err (Some e)) → ⊥
       unmade_index (inl no_text) = no_text.0 (IsUtf8-from_is_utf8 sql sure.utf8)
-      unmade_index (inr refused) = unrefused_index db refused.0 empty refused.1
+      unmade_index (inr refused) = unrefused_index db refused.0 kept refused.1
 
-  index_errors : (old new : State) (e : Error) → old.now.schema ≡ schema → AllByRecursion (λ t. old.now.trees t.tree ≡ []) schema.tables → ExecutesInside 0 sql [] old new (Err e) → IsStoreError e
-  index_errors old new e has empty h = elim (fails_as schema sql [] (CreateIndex at) sure.call old new has e h) [
+  index_errors : (old new : State) (e : Error) → old.now.schema ≡ schema → Keeps Unique schema old.now.trees → ExecutesInside 0 sql [] old new (Err e) → IsStoreError e
+  index_errors old new e has kept h = elim (fails_as schema sql [] (CreateIndex at) sure.call old new has e h) [
     | inl store ↦ store
-    | inr does ↦ absurd (undefined_index (mode_of old) old.now.trees e empty (on does))
+    | inr does ↦ absurd (undefined_index (mode_of old) old.now.trees e kept (on does))
   ]
     where
       text : List ℕ
@@ -166,6 +180,6 @@ module _ (schema : Schema) (sql : List ℕ) (at : ℕ) (table : Table) (index : 
           let found = subst (λ t. AtPlace (λ table. Defines (mode_of old) (MakesIndex text (record { schema = schema; trees = old.now.trees }) table)) t (Err (Some e))) it.found here in
           subst (λ t. Defines (mode_of old) (MakesIndex t (record { schema = schema; trees = old.now.trees }) table) (Err (Some e))) it.text found
 
-  pub index_free : (old new : State) (e : Error) → (IsTrue old.is_open → old.now.schema ≡ schema) → (IsTrue old.is_open → AllByRecursion (λ t. old.now.trees t.tree ≡ []) schema.tables)
+  pub index_free : (old new : State) (e : Error) → (IsTrue old.is_open → old.now.schema ≡ schema) → (IsTrue old.is_open → Keeps Unique schema old.now.trees)
       → ExecutesInside 0 sql [] old new (Err e) → fault_of e ≢ Foreign
-  index_free old new e has empty = not_foreign old new sql [] e (λ live h. stored_free e (index_errors old new e (has live) (empty live) h))
+  index_free old new e has kept = not_foreign old new sql [] e (λ live h. stored_free e (index_errors old new e (has live) (kept live) h))

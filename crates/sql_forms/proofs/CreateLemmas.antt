@@ -102,8 +102,7 @@ creates_index schema sql at table index it old new count has h =
     it.found does in
     made_index schema sql at table index it text it.text old.now.trees w.tally new.now (mode_of old) w.sound on
 
--- a table that was empty is empty still
-pub still_empty : (tables : List Table) (old new : Trees) → AllByRecursion (λ t. old t.tree ≡ []) tables → KeepsRows tables old new
-    → AllByRecursion (λ t. new t.tree ≡ []) tables
-still_empty [] old new empty kept = tt
-still_empty (t ∷ tables) old new empty kept = (kept.0 ∙ empty.0, still_empty tables old new empty.1 kept.1)
+-- rows that stayed twice stayed
+pub still_rows : (tables : List Table) (first old new : Trees) → KeepsRows tables first old → KeepsRows tables old new → KeepsRows tables first new
+still_rows [] first old new was kept = tt
+still_rows (t ∷ tables) first old new was kept = (kept.0 ∙ was.0, still_rows tables first old new was.1 kept.1)

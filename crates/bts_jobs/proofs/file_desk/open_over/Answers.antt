@@ -1,22 +1,23 @@
-use Rattle.std.proofs.Common.{refl, sym, ap, subst, ◌∙◌}
+use Rattle.std.proofs.Common.{sym, ap, subst}
 use Rattle.sqlite.specs.Files.{file_state}
 use Rattle.sqlite.specs.State.{HasCleanDisk}
-use Rattle.desk_content.specs.Kept.{IsKeptContent}
 use Rattle.desk_content.specs.View.{desk_in}
+use Rattle.desk_tables.specs.Shown.{HoldsContent}
 use Rattle.bts_jobs.specs.InFile.{IsOpenCause}
-use Rattle.bts_jobs.proofs.FileLemmas.{shows_held, open_cause}
+use Rattle.desk_tables.proofs.HeldLemmas.{holds_tables}
+use Rattle.bts_jobs.proofs.FileLemmas.{open_cause}
 use Rattle.bts_jobs.proofs.file_desk.open_over.Goals as goal
 
 pub returns-in-Ok-clause-opened : goal.returns-in-Ok-clause-opened
 returns-in-Ok-clause-opened g c = record {
   uncounted = c.in-Ok.ensures.counts;
   found = λ content held honest.
-      let clean : HasCleanDisk (file_state c.args.conn) = c.in-Ok.ensures.left.honest honest in
+      let clean : HasCleanDisk (file_state c.args.conn) = c.in-Ok.ensures.honest honest in
       let opened = c.requires.opened clean in
-      let shown = shows_held (file_state c.args.conn) held.trees content opened.0 opened.1
+      let holds : HoldsContent content (file_state c.args.conn) = holds_tables (file_state c.args.conn) held.trees content opened.0 opened.1
       ((c.requires.found clean).holds held.trees held.database) held.tables in (
-        c.in-Ok.ensures.kept (λ honest_then served. (shown.0, refl)) (subst IsKeptContent (sym shown.1) held.kept),
-        ap desk_in (c.in-Ok.ensures.content ∙ shown.1),
+        c.in-Ok.ensures.kept content honest holds held.kept,
+        ap desk_in (c.in-Ok.ensures.content content honest holds),
       );
 }
 

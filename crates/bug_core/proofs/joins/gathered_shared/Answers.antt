@@ -4,7 +4,7 @@ use Rattle.bug_record.specs.Images.{bug_in}
 use Rattle.bug_record.specs.Merges.{first_owner}
 use Rattle.bug_record.specs.declared.bug.SetImage.{SetImage}
 use Rattle.bug_record.specs.declared.bug.Shared.{Shared}
-use Rattle.bug_core.specs.Joins.{without_marks_and_blockers, with_all_shared, without_own}
+use Rattle.bug_core.specs.Joins.{without_gathered, with_all_shared, without_own}
 use Rattle.bug_core.specs.Named.{named_numbers}
 use Rattle.bug_core.specs.Others.{those_meant}
 use Rattle.bug_core.proofs.NamedLemmas.{those-same}
@@ -13,9 +13,9 @@ use Rattle.bug_core.proofs.joins.gathered_shared.Goals as goal
 pub returns : goal.returns
 returns c =
     let fields : c.in_ok-shared.shared
-    ≡ with_all_shared (without_marks_and_blockers c.args.first.now) (those_meant c.args.numbers.now c.args.images.now)
+    ≡ with_all_shared (without_gathered c.args.first.now) (those_meant c.args.numbers.now c.args.images.now)
     = c.in_ok-shared.ensures
-    ∙ (λ j. with_all_shared (without_marks_and_blockers c.args.first.now)
+    ∙ (λ j. with_all_shared (without_gathered c.args.first.now)
     (those-same (named_numbers c.args.named) c.args.numbers.now c.requires.named c.args.images.now j)) in
     let owner : first_owner (bugs_at (bug_in c.args.index.now) c.args.numbers.now)
     ≡ first_owner (bugs_at (bug_in c.args.images.now) c.args.numbers.now)

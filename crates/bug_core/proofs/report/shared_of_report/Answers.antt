@@ -9,8 +9,9 @@ returns c = λ j. record {
   forwarded = None;
   owner = None;
   tags = c.new.ensures j;
+  affects = c.new-2.ensures j;
   found = c.args.found;
-  fixed = c.new-2.ensures j;
-  blockers = c.new-3.ensures j;
+  fixed = c.new-3.ensures j;
+  blockers = c.new-4.ensures j;
   archived = false;
 }

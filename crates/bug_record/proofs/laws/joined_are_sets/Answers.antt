@@ -2,6 +2,7 @@ use Rattle.bug_record.specs.Bugs.{all_of}
 use Rattle.bug_record.proofs.SetLemmas.{IsAscending-number_set}
 use Rattle.bug_record.proofs.MergeLemmas.{ascending-joined_blockers}
 use Rattle.bug_record.proofs.MarkLemmas.{sorted-node_set}
+use Rattle.bug_record.proofs.PackageLemmas.{sorted-name_set}
 use Rattle.bug_record.proofs.TagLemmas.{set-joined_tags}
 use Rattle.bug_record.proofs.laws.joined_are_sets.Goals as goal
 
@@ -10,6 +11,9 @@ returns-clause-merged c = λ bugs. IsAscending-number_set (all_of (λ b. b.merge
 
 pub returns-clause-tags : goal.returns-clause-tags
 returns-clause-tags c = set-joined_tags
+
+pub returns-clause-affects : goal.returns-clause-affects
+returns-clause-affects c = λ first bugs. sorted-name_set (all_of (λ b. b.shared.affects) bugs)
 
 pub returns-clause-found : goal.returns-clause-found
 returns-clause-found c = λ first bugs. sorted-node_set (all_of (λ b. b.shared.found) bugs)

@@ -5,7 +5,7 @@ use Rattle.command_grammar.proofs.tags.all_steps.Goals as goal
 pub loop-word-preserved : goal.loop-word-preserved
 loop-word-preserved c = (
   search rules,
-  steps-preserved _ _ _ _ _ _ _ _ _ _ c.in-Some.ensures.cut c.sign_and_tag-sign.ensures.sign c.sign_and_tag-sign.ensures.tag
+  steps-preserved _ _ _ _ _ _ _ _ _ _ c.in-Some.ensures.cut c.sign_and_rest-sign.ensures.sign c.sign_and_rest-sign.ensures.rest
       c.adds_after-adds.ensures c.in_ok-push_steps.ensures c.loop-word.invariant.1,
 )
 

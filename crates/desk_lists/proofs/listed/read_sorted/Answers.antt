@@ -9,7 +9,7 @@ use Rattle.desk_places.specs.Questions.{is_row_of}
 use Rattle.desk_content.specs.Kept.{IsKeptContent}
 use Rattle.desk_content.specs.View.{desk_in}
 use Rattle.desk_schema.proofs.StepLemmas.{reads_work}
-use Rattle.index_rows.specs.Listed.{AreKeysFor}
+use Rattle.desk_lists.specs.Keys.{AreKeysToList}
 use Rattle.desk_store.specs.Store.{AreListed}
 use Rattle.desk_reads.proofs.KeptSteps.{kept_any}
 use Rattle.desk_lists.specs.Rows.{row_for}
@@ -21,13 +21,13 @@ pub returns-clause-reads : goal.returns-clause-reads
 returns-clause-reads g c =
     let old = state g.S.Store c.args.tx.now.conn.now in
     let new = state g.S.Store c.read_rows.new.tx.conn.now in
-    kept_any old new c.sorted.result (λ k rows. IsKeptContent k → (p : List ℕ) → AreKeysFor p k c.args.keys.now → AreListed (desk_in k) p c.args.node.now rows)
-    (λ k rows. (p : List ℕ) → AreKeysFor p k c.args.keys.now → AreListed (desk_in k) p c.args.node.now rows) (λ k rows kept says. says kept)
+    kept_any old new c.sorted.result (λ k rows. IsKeptContent k → (p : List ℕ) → AreKeysToList p k c.args.keys.now → AreListed (desk_in k) p c.args.node.now rows)
+    (λ k rows. (p : List ℕ) → AreKeysToList p k c.args.keys.now → AreListed (desk_in k) p c.args.node.now rows) (λ k rows kept says. says kept)
     (reads_work old new c.in_ok-rows.rows c.sorted.result (λ _. ⊤) (λ k rows. (n : ℕ) → get nat_cmp rows n ≡ row_for k c.args.node.now c.args.keys.now n)
-    (λ k rows. IsKeptContent k → (p : List ℕ) → AreKeysFor p k c.args.keys.now → AreListed (desk_in k) p c.args.node.now rows)
+    (λ k rows. IsKeptContent k → (p : List ℕ) → AreKeysToList p k c.args.keys.now → AreListed (desk_in k) p c.args.node.now rows)
     (λ k has. (
       if_same c.sorted.result (λ rows. rows ≡ flat_map (λ severity. filter (is_row_of severity) (values_of c.in_ok-rows.rows.entries)) all_severities)
-          (λ rows. IsKeptContent k → (p : List ℕ) → AreKeysFor p k c.args.keys.now → AreListed (desk_in k) p c.args.node.now rows)
+          (λ rows. IsKeptContent k → (p : List ℕ) → AreKeysToList p k c.args.keys.now → AreListed (desk_in k) p c.args.node.now rows)
           (λ rows is kept p are. are_listed k kept p c.args.node.now c.args.keys.now are c.in_ok-rows.rows c.sorted.ensures.ordered has rows is) c.sorted.ensures.value,
       c.sorted.ensures.sure,
     )) c.in_ok-rows.ensures.reads)

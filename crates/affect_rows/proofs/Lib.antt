@@ -1,0 +1,4 @@
+pub mod AddAffected
+pub mod ClearAffected
+pub mod ReadAffected
+pub mod ReadAffecting

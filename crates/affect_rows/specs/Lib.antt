@@ -1,0 +1,3 @@
+pub mod Affecting
+-- definitions that only private functions cite
+pub mod Names

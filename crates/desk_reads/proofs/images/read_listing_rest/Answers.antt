@@ -1,0 +1,19 @@
+use Rattle.std.proofs.Common.{◌≡◌, ◌∙◌}
+use Rattle.std.specs.Prelude.{option_map}
+use Rattle.sqlite.specs.Held.{state}
+use Rattle.desk_content.specs.View.{shared_of}
+use Rattle.desk_schema.proofs.ReadSteps.{known_first, known_then, known_answer}
+use Rattle.desk_reads.specs.Bugs.{image_with}
+use Rattle.desk_reads.specs.Listing.{unlinked, listing}
+use Rattle.desk_reads.proofs.KeyLemmas.{listing_of_parts}
+use Rattle.desk_reads.proofs.images.read_listing_rest.Goals as goal
+
+pub returns-clause-reads : goal.returns-clause-reads
+returns-clause-reads g c =
+    let old = state g.S.Store c.args.tx.now.conn.now in
+    let mid = state g.S.Store c.read_marked.new.tx.conn.now in
+    let new = state g.S.Store c.read_members.new.tx.conn.now in
+    known_answer old new _ (λ k. (c.in_ok-marked.marked ≡ unlinked (shared_of k c.args.key c.args.fields)) × (c.in_ok-members.members ≡ k.members c.args.key))
+    (λ k found. found ≡ option_map listing (image_with k c.args.key c.args.fields)) (λ k p. (listing_of_parts k c.args.key c.args.fields _ _ (c.in_ok-shared.ensures.value ∙ p.0) p.1, tt))
+    (known_then old mid new c.in_ok-members.members (λ k. c.in_ok-marked.marked ≡ unlinked (shared_of k c.args.key c.args.fields)) (λ k members. members ≡ k.members c.args.key)
+    (known_first old mid c.in_ok-marked.marked (λ k marked. marked ≡ unlinked (shared_of k c.args.key c.args.fields)) c.in_ok-marked.ensures.reads) c.in_ok-members.ensures.reads)
