@@ -1,9 +1,7 @@
 //! The job of a message.
 
 ghost use Rattle.std.specs.Prelude.{◌≡◌};
-ghost use Rattle.std.specs.List.{list_any};
 ghost use Rattle.bug_record.specs.Texts.{IsText};
-ghost use Rattle.desk_run.specs.Script.{is_refused, is_too_many, refuses};
 ghost use Rattle.bts_jobs.specs.Endings.{end_of_message};
 ghost use Rattle.bts_jobs.specs.Jobs.{IsSentOver, IsSentToFile, TellsMessage};
 
@@ -13,43 +11,12 @@ use bug_record::is_text;
 use debver::Text;
 use desk_lines::write_out;
 use desk_messages::{Received, receive_lines, received_bytes};
+use desk_run::refuses;
 use desk_store::Records;
-use desk_text::{End, Outcome};
+use desk_text::End;
 use sqlite::Start;
 use std::alloc::Global;
 use std::io::Write;
-
-fn is_refused(outcome: &Outcome) -> bool
-    ensures { result ≡ is_refused outcome.now }
-{
-    match outcome {
-        Outcome::Refused(_) => true,
-        _ => false,
-    }
-}
-
-// Whether a line was refused.
-fn any_refused(outcomes: &[(Text, Outcome)]) -> bool
-    ensures { result ≡ list_any (λ entry. is_refused entry.1) outcomes.now }
-{
-    outcomes.iter().any(|entry| is_refused(&entry.1))
-}
-
-fn is_too_many(end: End) -> bool
-    ensures { result ≡ is_too_many end }
-{
-    match end {
-        End::TooManyUnreadable => true,
-        _ => false,
-    }
-}
-
-// Whether an answer `NO ..` or `Too many unreadable lines.` is among those of a message.
-fn refuses(received: &Received) -> bool
-    ensures { result ≡ refuses received.now.outcomes received.now.end }
-{
-    any_refused(received.outcomes.as_slice()) || is_too_many(received.end)
-}
 
 // How the job of a message ends that came to this.
 fn end_of(received: &Received) -> JobEnd

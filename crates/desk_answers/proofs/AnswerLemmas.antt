@@ -22,7 +22,8 @@ use Rattle.desk_answers.specs.Answers.{answer_to, answered_branch, answered_ques
 use Rattle.desk_text.specs.Answers.{nodes_refusal}
 use Rattle.desk_answers.specs.Faults.{AsksStore, IsFixed, IsAnswer}
 use Rattle.desk_answers.specs.Shown.{shown}
-use Rattle.desk_answers.specs.Steps.{Fails, Gives, GivesOrFails, AnswersQuestion}
+use Rattle.desk_answers.specs.Cases.{GivesOrFails, AnswersQuestion}
+use Rattle.desk_answers.specs.Steps.{Fails, Gives}
 use Rattle.desk_answers.specs.declared.reply.Reply.{Reply}
 
 -- an answer and a desk, each equal to another

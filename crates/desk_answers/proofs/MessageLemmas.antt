@@ -13,7 +13,7 @@ use Rattle.desk_answers.specs.Requests.{PostControl}
 use Rattle.desk_answers.specs.Answers.{answered_message, message_json}
 use Rattle.desk_answers.specs.Faults.{IsAnswer}
 use Rattle.desk_answers.specs.Shown.{shown}
-use Rattle.desk_answers.specs.Steps.{GivesOrFails, AnswersEnd}
+use Rattle.desk_answers.specs.Cases.{GivesOrFails, AnswersEnd}
 use Rattle.desk_answers.specs.declared.reply.Reply.{Reply}
 use Rattle.desk_answers.proofs.AnswerLemmas.{given}
 

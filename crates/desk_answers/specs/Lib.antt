@@ -4,3 +4,5 @@ pub mod Answers
 pub mod Faults
 pub mod Shown
 pub mod Steps
+-- definitions that only private functions cite
+pub mod Cases

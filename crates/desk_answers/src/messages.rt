@@ -8,7 +8,7 @@ ghost use Rattle.desk_answers.specs.Answers.{end_word, message_json};
 ghost use Rattle.desk_answers.specs.Requests.{PostControl};
 ghost use Rattle.desk_answers.specs.Faults.{IsAnswer, IsTold, counted_with};
 ghost use Rattle.desk_answers.specs.Shown.{shown, message_asked};
-ghost use Rattle.desk_answers.specs.Steps.{GivesOrFails, TellsFault, AnswersEnd};
+ghost use Rattle.desk_answers.specs.Cases.{GivesOrFails, TellsFault, AnswersEnd};
 
 use crate::reply::{Body, Reply, json_reply, store_fault};
 use crate::request::MessageRequest;

@@ -5,7 +5,7 @@ ghost use Rattle.desk_store.specs.Store.{Holds};
 ghost use Rattle.desk_answers.specs.Requests.{GetBug, GetList};
 ghost use Rattle.desk_answers.specs.Faults.{IsAnswer, IsTold, counted_with};
 ghost use Rattle.desk_answers.specs.Shown.{shown};
-ghost use Rattle.desk_answers.specs.Steps.{AnswersQuestion};
+ghost use Rattle.desk_answers.specs.Cases.{AnswersQuestion};
 
 use crate::reply::{Reply, not_found, page_reply, store_fault};
 use crate::request::ListRequest;

@@ -4,7 +4,7 @@ ghost use Rattle.desk_text.specs.Answers.{nodes_refusal};
 ghost use Rattle.desk_answers.specs.Answers.{refused_answer};
 ghost use Rattle.desk_answers.specs.Faults.{IsTold};
 ghost use Rattle.desk_answers.specs.Shown.{shown};
-ghost use Rattle.desk_answers.specs.Steps.{GivesOrFails};
+ghost use Rattle.desk_answers.specs.Cases.{GivesOrFails};
 
 use crate::reply::{Reply, json_reply, store_fault};
 use ancestry::BranchFault;

@@ -6,7 +6,7 @@ ghost use Rattle.desk_store.specs.Store.{Holds};
 ghost use Rattle.desk_answers.specs.Requests.{PostBug};
 ghost use Rattle.desk_answers.specs.Faults.{IsAnswer, IsTold, counted_with};
 ghost use Rattle.desk_answers.specs.Shown.{shown, report_asked};
-ghost use Rattle.desk_answers.specs.Steps.{RefusesReport};
+ghost use Rattle.desk_answers.specs.Cases.{RefusesReport};
 
 use crate::refusals::refuse;
 use crate::reply::{Reply, json_reply, store_fault};

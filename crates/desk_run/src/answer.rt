@@ -35,7 +35,7 @@ fn is_too_many(end: End) -> bool
 }
 
 /// Whether an answer `NO ..` or `Too many unreadable lines.` is among those of a message.
-pub(crate) fn refuses(received: &Received) -> bool
+pub fn refuses(received: &Received) -> bool
     ensures { result ≡ refuses received.now.outcomes received.now.end }
 {
     any_refused(received.outcomes.as_slice()) || is_too_many(received.end)

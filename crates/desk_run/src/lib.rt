@@ -8,6 +8,7 @@ mod carrying;
 mod directive;
 mod script;
 
+pub use answer::refuses;
 pub use desk_lines::ScriptFault;
 pub use desk_messages::{Received, ReportFault, receive, received_text, report};
 pub use desk_store::{FailAt, PlainDesk, Records};
