@@ -5,22 +5,19 @@ Most lines name bugs, packages and versions of small pools, so that they meet ea
 
 import random
 
+from compare_choices import WordMaker
 from compare_words import (
     BAD_BUGS,
     BAD_PACKAGES,
-    BAD_SEVERITIES,
-    BAD_TAGS,
     BAD_VERSIONS,
     COMMANDS,
     COMMENTS,
-    CONTROL,
     DIRECTIVES,
     FOLLOWS,
     LINE_LIMIT,
-    LONGEST_PACKAGE,
+    LISTS,
     MARKS,
     NO_STOPS,
-    PACKAGES,
     SENDERS,
     SETS,
     SHORT_KINDS,
@@ -29,166 +26,22 @@ from compare_words import (
     STRANGE,
     TEXTS,
     UNKNOWN,
-    VERSION_ROWS,
     WRONG_BYTES,
 )
-from reading_desk import new_desk, report
-from reading_lines import SEVERITIES, TAGS, Refused, lower_case
+from reading_desk import report
+from reading_lines import Refused, lower_case
+from reading_records import new_desk
 
 
-class ScriptMaker:
+class ScriptMaker(WordMaker):
     """Makes one random script."""
 
     def __init__(self, seed, kind="mixed"):
-        self.chance = random.Random(seed)
-        self.kind = kind
-        self.bugs = 0
-        self.names = []
+        super().__init__(seed, kind)
         self.past = {}
-        self.packages = self.sample(PACKAGES, 1, 2 if kind == "versions" else 3)
-        if self.odds(0.02):
-            self.packages.append(LONGEST_PACKAGE)
-        rows = self.sample(VERSION_ROWS, 2, 7)
-        self.versions = [version for row in rows for version in self.sample(row, 1, 3)]
-        self.severities = self.sample(SEVERITIES, 1, 3)
-        self.commands = {"versions": MARKS, "merges": SETS}.get(kind, COMMANDS)
+        special = {"versions": MARKS, "merges": SETS, "affects": LISTS}
+        self.commands = special.get(kind, COMMANDS)
         self.line_end = self.pick(("\n",) * 8 + ("\r\n",))
-        self.oddity = self.pick((0.0, 0.03, 0.03, 0.15))
-
-    # Choices.
-
-    def odds(self, probability):
-        """Whether something of this probability happens."""
-        return self.chance.random() < probability
-
-    def pick(self, choices):
-        """One of some choices."""
-        return self.chance.choice(choices)
-
-    def pick_weighted(self, weights):
-        """One of the keys, as often as its weight says."""
-        return self.chance.choices(tuple(weights), tuple(weights.values()))[0]
-
-    def sample(self, choices, least, most):
-        """Some different choices, in a random order."""
-        count = min(self.chance.randint(least, most), len(choices))
-        return self.chance.sample(choices, count)
-
-    def any_case(self, word):
-        """A word, sometimes in another case."""
-        if not self.odds(2 * self.oddity):
-            return word
-        return self.pick((word.upper(), word.title(), word.swapcase(), word.lower()))
-
-    # Words.
-
-    def number(self):
-        """A bug word that is a number, mostly of a bug."""
-        last = max(self.bugs, 1)
-        number = self.chance.randint(1, last)
-        if self.odds(0.02):
-            number = self.pick((last + 1, last + 2, 7, 999_999_999, self.chance.randint(1, 200)))
-        word = str(number)
-        if self.odds(self.oddity):
-            word = word.zfill(self.chance.randint(1, 9))
-        return "#" + word if self.odds(self.oddity) else word
-
-    def name(self):
-        """A new or a known name."""
-        if self.names and self.odds(0.3):
-            return self.pick(self.names)
-        name = self.pick((1, 2, 3, 4, 5, 6, 7, 8, 12, 999_999_999))
-        word = str(name)
-        if self.odds(self.oddity):
-            word = word.zfill(self.chance.randint(1, 9))
-        return self.pick(("-", "-", "-", "-", "#-")) + word
-
-    def bug(self):
-        """A bug word."""
-        if self.odds(0.002):
-            return self.pick(BAD_BUGS)
-        if self.names and self.odds(0.3):
-            return self.pick(self.names)
-        return self.name() if self.odds(0.015) else self.number()
-
-    def version(self):
-        """A bare version."""
-        if self.odds(0.015):
-            return self.pick(BAD_VERSIONS)
-        if self.odds(0.03):
-            letters = "".join(self.chance.choices("0123456789~~+-.:aZ", k=self.pick((1, 2, 3, 5))))
-            return letters if self.odds(0.3) else "1" + letters
-        return self.pick(self.versions)
-
-    def package(self):
-        """A package name."""
-        return self.pick(BAD_PACKAGES) if self.odds(0.02) else self.pick(self.packages)
-
-    def node(self):
-        """A source and a version."""
-        usual = self.odds(0.6 if self.kind == "versions" else 0.8)
-        package = self.packages[0] if usual else self.package()
-        return f"{package}/{self.version()}"
-
-    def version_word(self):
-        """A version, bare or with a source."""
-        return self.node() if self.odds(0.2) else self.version()
-
-    def severity(self):
-        """A severity, mostly of few."""
-        if self.odds(0.03):
-            return self.pick(BAD_SEVERITIES)
-        severity = self.pick(SEVERITIES if self.odds(0.2) else self.severities)
-        return self.any_case(severity)
-
-    def text(self):
-        """A text, sometimes at its limit of 200 bytes."""
-        if self.odds(0.04):
-            length = self.pick((199, 200, 200, 201, 201, 202, 400))
-            character = self.pick(("x", "é", "€", "𝕏"))
-            text = character * (length // len(character.encode()))
-            return text + "y" * (length - len(text.encode()))
-        if self.odds(0.004):
-            return "a" + self.pick(CONTROL) + self.pick(("", "b"))
-        return self.pick(TEXTS if self.odds(0.5) else TEXTS[:3])
-
-    def who(self):
-        """A text, or the sender."""
-        return "!" if self.odds(0.3) else self.pick(SENDERS) if self.odds(0.5) else self.text()
-
-    def comma(self, words):
-        """Words of a list, sometimes with commas."""
-        if not self.odds(0.3):
-            return words
-        between = self.pick((",", ", ", " ,", " , ", ",,", ", ,"))
-        text = between.join(words)
-        if self.odds(0.2):
-            text = self.pick((",", ", ")) + text
-        if self.odds(0.2):
-            text += self.pick((",", " ,", ",,"))
-        return text.split(" ")
-
-    def tag_words(self):
-        """Words of `tags`."""
-        words = []
-        for _ in range(self.pick((1, 1, 2, 2, 3, 4, 6))):
-            tag = self.any_case(self.pick(TAGS))
-            if self.odds(0.02):
-                tag = self.pick(BAD_TAGS)
-            sign = self.pick(("", "", "", "+", "-", "-", "="))
-            words += [sign, tag] if sign and self.odds(0.3) else [sign + tag]
-        if self.odds(0.05):
-            words += [self.pick(("+", "-", "=", ","))]
-        if self.odds(0.04):
-            words = [self.pick(("=", "+", "-", ",", "= =", "-+="))]
-        return self.comma([word for word in words if word])
-
-    def several_bugs(self, least):
-        """Some bug words."""
-        count = least + self.pick((0, 0, 0, 0, 1, 1, 2, 4))
-        if self.kind == "hundred" and self.odds(0.1):
-            count += self.chance.randint(1, 20)
-        return [self.bug() for _ in range(count)]
 
     # Commands.
 
@@ -215,6 +68,8 @@ class ScriptMaker:
             return earlier[:1] + self.pick(([], ["="], [self.who()], [self.who()]))
         if word == "found":
             return earlier[:1] + [self.version_word()]
+        if word == "affects":
+            return earlier if self.odds(0.2) else earlier[:1] + self.affected_words()
         return earlier[:1]
 
     def new_words(self, word):
@@ -231,6 +86,8 @@ class ScriptMaker:
             return [bug, self.severity()]
         if word in ("tags", "tag"):
             return [bug] + self.tag_words()
+        if word == "affects":
+            return [bug + ("," if self.odds(0.005) else "")] + self.affected_words()
         if word in ("retitle", "forwarded"):
             return [bug, self.text()]
         if word in ("submitter", "owner"):
@@ -307,7 +164,7 @@ class ScriptMaker:
         words += [] if self.odds(0.02) else [self.text()]
         if self.is_good_report(words[1:]):
             self.bugs += 1
-            self.past.setdefault("@report", []).append([str(self.bugs), version])
+            self.past.setdefault("@report", []).append([str(self.bugs), version, words[1]])
         return self.directive(words)
 
     def is_good_report(self, words):
@@ -338,9 +195,17 @@ class ScriptMaker:
         return self.directive(["@branch"] + [self.node() for _ in range(count)])
 
     def list_line(self):
-        """A question for a list."""
+        """A question for a list, sometimes of an affected package at a version of another one."""
+        if self.odds(0.7 if self.kind == "affects" else 0.3):
+            return self.directive(["@list", self.pick(self.affected), self.reported_node()])
         package = self.packages[0] if self.odds(0.6) else self.package()
         return self.directive(["@list", package, self.version_word()])
+
+    def reported_node(self):
+        """A source and a version, those of a report where there is one with a version."""
+        nodes = [f"{source}/{version}" for _, version, source in self.past.get("@report", [])]
+        nodes = [node for node in nodes if not node.endswith("/-")]
+        return self.pick(nodes) if nodes else self.node()
 
     def show_line(self):
         """A question for a page."""
@@ -380,6 +245,7 @@ class ScriptMaker:
                 ("#", "x"), ("retitle 1 ", "x"), ("", " "), ("merge 1", " 1"), ("tags 1", " patch"),
                 ("@branch", " foo/1"), ("@from ", "x"), ("@report foo 1 normal ", "é"), ("y", "y"),
                 ("clone 1", " -1"), ("block 1 by ", "2,"), ("thanks", " "), ("@show 1", " "),
+                ("affects 1", " foo"), ("affects 1 -", "bar,"),
             )
         )
         text = start + rest * ((length - len(start)) // len(rest.encode()))

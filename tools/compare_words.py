@@ -1,6 +1,6 @@
 """The words, texts and lines of which random scripts are made, and how often each is chosen."""
 
-SHORT_KINDS = ("mixed", "versions", "merges", "malformed", "bytes")
+SHORT_KINDS = ("mixed", "versions", "merges", "affects", "malformed", "bytes")
 KINDS = SHORT_KINDS + ("hundred", "long")
 
 PACKAGES = ("foo", "bar", "g++", "0ad", "libfoo-1.0", "aa")
@@ -9,6 +9,9 @@ BAD_PACKAGES = (
     "foo/1", ".a", "fo\u00a0o", "é",
 )
 LONGEST_PACKAGE = "p" * 100
+# What may precede a package, mostly wrongly.
+PREFIXES = ("SRC:", "Src:", "src:src:", "src:+", "src:,", "src", ":", "src :")
+SIGNS = ("+", "-", "=")
 
 # Each row holds versions that are equal in the order.
 VERSION_ROWS = (
@@ -75,7 +78,7 @@ NO_STOPS = (
     "thank y0u", "quit\x0c",
 )
 UNKNOWN = (
-    "a", "affects 1 foo", "user ann", "usertags 1 x", "limit", "summary 1 x", "outlook 1 x",
+    "a", "affect 1 foo", "user ann", "usertags 1 x", "limit", "summary 1 x", "outlook 1 x",
     "noack", "debug 1", "package foo", "severity\u00a01 grave", "sever1ty 1 grave", "help", "tags,",
     "\u017feverity 1 grave", "bloc\u212a 1 by 2", "\x0b", "\r", "\x00", "1 severity grave",
     " @from ann", "\t@list foo 1", "\ufeff@from x", "> severity 1 grave", "close:1", "!", "it",
@@ -106,17 +109,21 @@ COMMANDS = {
     "found": 8, "notfound": 4, "fixed": 7, "notfixed": 4, "close": 9, "reopen": 4, "severity": 4,
     "tags": 4, "tag": 2, "retitle": 3, "submitter": 3, "reassign": 4, "merge": 9, "forcemerge": 5,
     "unmerge": 5, "clone": 6, "block": 7, "unblock": 4, "forwarded": 2, "notforwarded": 2,
-    "owner": 4, "noowner": 2, "archive": 6, "unarchive": 5,
+    "owner": 4, "noowner": 2, "archive": 6, "unarchive": 5, "affects": 8,
 }
 MARKS = {
     "found": 14, "notfound": 7, "fixed": 12, "notfixed": 7, "close": 12, "reopen": 4, "archive": 6,
-    "unarchive": 5, "reassign": 4, "merge": 3, "unmerge": 1, "clone": 1,
+    "unarchive": 5, "reassign": 4, "merge": 3, "unmerge": 1, "clone": 1, "affects": 4,
 }
 SETS = {
     "merge": 14, "forcemerge": 10, "unmerge": 10, "clone": 8, "block": 10, "unblock": 5, "owner": 4,
     "severity": 3, "close": 4, "reopen": 4, "retitle": 2, "submitter": 2, "found": 2, "fixed": 2,
     "reassign": 1, "tags": 2, "archive": 1, "unarchive": 1, "noowner": 1, "forwarded": 1,
-    "notforwarded": 1,
+    "notforwarded": 1, "affects": 6,
+}
+LISTS = {
+    "affects": 30, "found": 8, "fixed": 6, "close": 8, "archive": 7, "unarchive": 6,
+    "reassign": 4, "merge": 5, "forcemerge": 3, "unmerge": 3, "clone": 4, "severity": 2,
 }
 # What a command follows so that it changes something.
 FOLLOWS = {
@@ -124,6 +131,7 @@ FOLLOWS = {
     "unblock": ("block",), "unmerge": ("merge", "forcemerge"), "reopen": ("close",),
     "archive": ("close", "close", "fixed"), "unarchive": ("archive",), "noowner": ("owner",),
     "notforwarded": ("forwarded",), "found": ("close", "fixed", "close", "found"),
+    "affects": ("affects", "affects", "close", "archive", ""),
 }
 # How often each sort of line is chosen, by kind.
 SORTS = {
@@ -135,6 +143,7 @@ SORTS = {
         "command": 80, "report": 8, "branch": 30, "list": 40, "show": 8, "from": 1, "broken": 1,
     },
     "merges": {"command": 150, "report": 5, "show": 20, "list": 5, "from": 6, "broken": 1},
+    "affects": {"command": 120, "report": 8, "branch": 10, "list": 40, "show": 8, "from": 1},
     "malformed": {
         "command": 20, "report": 4, "from": 6, "branch": 3, "list": 2, "show": 2, "broken": 40,
         "bad directive": 8, "comment": 4, "stop": 3,

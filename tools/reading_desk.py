@@ -1,127 +1,13 @@
-"""The desk on whole bug records, and what one command makes of it.
+"""What one command makes of the desk on whole bug records.
 
-Each bug has a record of its own with all its fields, merged or not.
 A command that changes a shared field changes the record of every bug of the set.
 """
 
-import typing
-
 from reading_lines import KEEP, SENDER, SEVERITIES, Refused, is_text
-from reading_versions import (
-    Ancestry,
-    compare_versions,
-    is_package_name,
-    is_version,
-    node_for,
-    node_text,
-    status,
-)
+from reading_records import Record, add_record, change_record, change_set, join, status_at
+from reading_versions import compare_versions, is_package_name, is_version, node_for, node_text
 
 LAST_NUMBER = 999_999_999
-
-
-class Record(typing.NamedTuple):
-    """All fields of one bug; those after the submitter are shared within its set."""
-
-    title: str
-    submitter: str
-    package: str
-    severity: str
-    closed: bool = False
-    forwarded: typing.Optional[str] = None
-    owner: typing.Optional[str] = None
-    tags: frozenset = frozenset()
-    found: frozenset = frozenset()
-    fixed: frozenset = frozenset()
-    blockers: frozenset = frozenset()
-    archived: bool = False
-
-
-class Desk(typing.NamedTuple):
-    """Records and sets by bug number, the ancestry, and the next number."""
-
-    records: dict
-    sets: dict
-    ancestry: Ancestry
-    next: int
-
-
-def new_desk(first=1):
-    """The desk without a bug."""
-    return Desk({}, {}, Ancestry(), first)
-
-
-# Changes of a desk, each of which leaves the desk handed in as it is.
-
-
-def change_record(desk, number, **fields):
-    """The desk with some fields of one record changed."""
-    record = desk.records[number]._replace(**fields)
-    return desk._replace(records={**desk.records, number: record})
-
-
-def change_set(desk, number, **fields):
-    """The desk with some fields changed in every record of the set of a bug."""
-    for member in desk.sets[number]:
-        desk = change_record(desk, member, **fields)
-    return desk
-
-
-def join(desk, numbers):
-    """The desk with the sets of these bugs as one set."""
-    joined = frozenset().union(*(desk.sets[number] for number in numbers))
-    return desk._replace(sets={**desk.sets, **{member: joined for member in joined}})
-
-
-def add_record(desk, record):
-    """The desk with one more bug, unmerged, under the next number."""
-    number = desk.next
-    return Desk(
-        {**desk.records, number: record},
-        {**desk.sets, number: frozenset([number])},
-        desk.ancestry,
-        number + 1,
-    )
-
-
-def changed_numbers(before, after):
-    """The ascending numbers whose record or set differs between two desks."""
-    return sorted(
-        number
-        for number in after.records
-        if before.records.get(number) != after.records[number]
-        or before.sets.get(number) != after.sets[number]
-    )
-
-
-# Questions to a desk.
-
-
-def status_at(desk, number, node):
-    """The status of a bug at a node."""
-    record = desk.records[number]
-    return status(desk.ancestry, record.found, record.fixed, record.closed, node)
-
-
-def listed(desk, package, node):
-    """The numbers of the bugs of a package that are found at a node, the gravest first."""
-    numbers = [
-        number
-        for number, record in desk.records.items()
-        if record.package == package
-        and not record.archived
-        and status_at(desk, number, node) == "Found"
-    ]
-    return sorted(
-        numbers, key=lambda number: (SEVERITIES.index(desk.records[number].severity), number)
-    )
-
-
-def waiting_on(desk, number):
-    """The ascending numbers of the bugs that have a bug among their blockers."""
-    return sorted(
-        waiting for waiting, record in desk.records.items() if number in record.blockers
-    )
 
 
 # The commands.
@@ -199,6 +85,19 @@ def do_tags(desk, sender, numbers, given):
     return change_set(desk, numbers[0], tags=frozenset(tags))
 
 
+def do_affects(desk, sender, numbers, given):
+    """Adds packages that are affected, takes them away, or puts them in the place of all."""
+    sign, packages = given
+    affected = desk.records[numbers[0]].affected
+    if sign == "+":
+        affected = affected | set(packages)
+    elif sign == "-":
+        affected = affected - set(packages)
+    else:
+        affected = frozenset(packages)
+    return change_set(desk, numbers[0], affected=affected)
+
+
 def do_retitle(desk, sender, numbers, given):
     """Changes the title of one bug alone."""
     return change_record(desk, numbers[0], title=given_text(given, sender))
@@ -254,6 +153,7 @@ def merged(desk, numbers):
         found=frozenset().union(*(record.found for record in listed_records)),
         fixed=frozenset().union(*(record.fixed for record in listed_records)),
         blockers=frozenset().union(*(record.blockers for record in listed_records)) - new_set,
+        affected=frozenset().union(*(record.affected for record in listed_records)),
     )
 
 
@@ -348,6 +248,7 @@ ACTIONS = {
     "reopen": do_reopen,
     "severity": do_severity,
     "tags": do_tags,
+    "affects": do_affects,
     "retitle": do_retitle,
     "submitter": do_submitter,
     "reassign": do_reassign,

@@ -49,7 +49,8 @@ class Command(typing.NamedTuple):
     A bug word is its number, or a negative number where it is a name.
     The names are those that `clone` gives.
     What else the line gives is in `given`, which depends on the word:
-    a severity, a list of tag steps, a version word or None, a package and a version word or None.
+    a severity, a list of tag steps, a sign and a list of packages, a version word or None,
+    a package and a version word or None.
     For a text it is a pair of KEEP, SENDER or `text`, and the text itself.
     """
 
@@ -170,6 +171,17 @@ def read_tag_steps(words):
     return steps
 
 
+def read_affected(words):
+    """The sign of `affects` and the packages for which it holds; no word at all is `=` alone."""
+    if not words:
+        return "=", []
+    sign, first = (words[0][0], words[0][1:]) if words[0][0] in "+-=" else ("+", words[0])
+    packages = [first] + words[1:] if first else words[1:]
+    if sign != "=" and not packages:
+        raise Malformed
+    return sign, [read_package(package) for package in packages]
+
+
 # The shapes of the commands.
 # Each takes the words after the command word, and the line without its outer blanks.
 
@@ -215,6 +227,13 @@ def shape_tags(words, line):
     if not rest:
         raise Malformed
     return [bug], [], read_tag_steps(rest)
+
+
+def shape_affects(words, line):
+    """A bug, and perhaps a sign and packages, between which commas are blanks."""
+    count_words(words, 1, len(line))
+    bug, rest = read_bug(words[0]), cut_words(" ".join(words[1:]).replace(",", " "))
+    return [bug], [], read_affected(rest)
 
 
 def shape_text(words, line):
@@ -274,6 +293,7 @@ SHAPES = {
     "severity": shape_severity,
     "tags": shape_tags,
     "tag": shape_tags,
+    "affects": shape_affects,
     "retitle": shape_text,
     "submitter": shape_who,
     "reassign": shape_reassign,

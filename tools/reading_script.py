@@ -3,7 +3,7 @@
 The script, the directives and all texts are this project's own rules.
 """
 
-from reading_desk import changed_numbers, listed, new_desk, report, state_of, step, waiting_on
+from reading_desk import report, state_of, step
 from reading_lines import (
     NOTHING,
     STOP,
@@ -17,6 +17,7 @@ from reading_lines import (
     read_version,
     text_from,
 )
+from reading_records import changed_numbers, listed, new_desk, waiting_on
 from reading_versions import (
     BranchRefused,
     in_node_order,
@@ -56,7 +57,7 @@ def entries_text(entries):
 
 
 def list_text(desk, package, node):
-    """The list of the bugs of a package that are found at a node."""
+    """The list of the bugs of a package, or that affect it, that are found at a node."""
     numbers = listed(desk, package, node)
     lines = [f"Bugs in {package} at {node_text(node)}: {len(numbers)}"]
     for number in numbers:
@@ -79,6 +80,7 @@ def page_text(desk, number):
         ("Owner", "-" if record.owner is None else record.owner),
         ("Forwarded", "-" if record.forwarded is None else record.forwarded),
         ("Tags", entries_text(sorted(record.tags))),
+        ("Affects", entries_text(sorted(record.affected))),
         ("Found", entries_text(map(node_text, in_node_order(record.found)))),
         ("Fixed", entries_text(map(node_text, in_node_order(record.fixed)))),
         ("Blocked by", entries_text(sorted(record.blockers))),
