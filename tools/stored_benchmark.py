@@ -126,7 +126,7 @@ def write_severity(connection, number, severity):
     ).fetchone()
     kept = {
         table: connection.execute(f"SELECT * FROM {table} WHERE set_key = ?", (key,)).fetchall()
-        for table in ("sets", "bugs", "marks", "blocks")
+        for table in ("sets", "bugs", "marks", "blocks", "affects")
     }
     kept["sets"] = [(*row[:2], severity, *row[3:]) for row in kept["sets"]]
     for table, rows in kept.items():
