@@ -72,6 +72,7 @@ fn take_call<R: Records>(alloc: Global, desk: &mut R, example: &mut Example) {
         "faults" => example.answer_number(alloc, desk.faults()),
         _ if example.begins_with("-- ") => example.pass(),
         _ if example.begins_with("sql ") => example.answer("no connection"),
+        _ if example.begins_with("ask ") => example.answer("no connection"),
         _ => example.answer("not asked"),
     }
 }

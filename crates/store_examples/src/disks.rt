@@ -5,7 +5,7 @@ use sqlite_disk::{Disk, Files, Fuse, Memory};
 use sqlite_pager::Options;
 use sqlite_store::FileStore;
 use std::alloc::Global;
-use std::io;
+use std::{fs, io};
 
 /// The two files of a database, each in memory, and each with so many calls left.
 pub(crate) type Disks = Files<Fuse<Memory>>;
@@ -24,6 +24,14 @@ pub(crate) fn file_of(alloc: Global, bytes: &[u8], calls: u64) -> io::Result<Fus
     file.write_at(0, bytes)?;
     file.sync()?;
     Ok(Fuse::new(file, calls))
+}
+
+/// A file of data, with an empty log beside it.
+pub(crate) fn disks_in(rt: &HostRuntime, name: &str) -> io::Result<Disks> {
+    let alloc = rt.alloc();
+    let log = file_of(alloc, &[], u64::MAX)?;
+    let db = file_of(alloc, &fs::read(rt, name)?, u64::MAX)?;
+    Ok(Files { log, db })
 }
 
 /// Files with the bytes of these, which pass so many calls on: the log, and the other.

@@ -55,7 +55,10 @@ impl Example {
 
     /// Whether no line is left that is taken with the same files.
     pub fn is_at_end(&self) -> bool {
-        self.left() == 0 || self.begins_with("== ") || self.begins_with("calls-left ")
+        self.left() == 0
+            || self.begins_with("== ")
+            || self.begins_with("file ")
+            || self.begins_with("calls-left ")
     }
 
     // Takes the next line, and tells it.

@@ -1,24 +1,37 @@
 //! What a desk in memory tells of each front of a script.
 
-use crate::words::run_into;
+use crate::words::{answer_to, run_into};
 use desk_run::PlainDesk;
 use std::alloc::{AllocError, Global};
 
-/// What is asked of a desk at the end; the report tells the next number.
-pub(crate) const QUESTIONS: &str = "@show 1\n@show 2\n@show 3\n@show 4
-@list foo 3\n@list foo 4\n@list foo 5\n@list foo 6\n@list foo 9
-@report foo - normal the last one
-";
+/// What is asked of a desk after the questions: it tells the next number.
+const REPORT: &str = "@report foo - normal the last one\n";
 
 /// What ends the output where the disk fails.
-const DEVICE: &str = "Store fault: device.\n";
+pub(crate) const DEVICE: &str = "Store fault: device.\n";
 
-/// A script, and, of each of its fronts, from no line to all lines, what it writes and how a new
-/// desk answers the questions after it.
+/// What ends the output where the store has no memory.
+pub(crate) const MEMORY: &str = "Store fault: memory.\n";
+
+/// The fewest and the most lines that a desk may have carried out.
+#[derive(Clone, Copy)]
+pub(crate) struct Reach {
+    pub fewest: usize,
+    pub most: usize,
+}
+
+/// A script, and, of each of its fronts, from no line to all lines, what it writes and how the desk
+/// answers the questions after it.
 #[derive(Drop)]
 pub(crate) struct Fronts {
+    // What was run on the desk before.
+    before: String,
     /// The whole script.
     pub script: String,
+    /// The questions.
+    pub questions: String,
+    // Of each line, whether it is a directive.
+    directives: Vec<bool>,
     written: Vec<Vec<u8>>,
     shown: Vec<Vec<u8>>,
 }
@@ -33,11 +46,50 @@ fn is_echo(rest: &str) -> bool {
     rest.is_empty() || (rest.starts_with("> ") && rest.lines().count() == 1)
 }
 
+// Whether all questions but the report are answered so where all are answered like this; up to one
+// at which the disk fails.
+fn is_front(all: &str, answers: &str) -> bool {
+    match answers.strip_suffix(DEVICE) {
+        Some(answered) => all.starts_with(answered),
+        None => match all.strip_prefix(answers) {
+            Some(rest) => rest.lines().count() == 1,
+            None => false,
+        },
+    }
+}
+
+// Adds a line to a text.
+fn add_line(text: &mut String, line: &str) -> Result<(), AllocError> {
+    text.push_str(line)?;
+    text.push('\n')
+}
+
+impl Reach {
+    /// So many lines.
+    pub fn exactly(lines: usize) -> Reach {
+        Reach {
+            fewest: lines,
+            most: lines,
+        }
+    }
+
+    /// So many lines, or one more.
+    pub fn around(lines: usize) -> Reach {
+        Reach {
+            fewest: lines,
+            most: lines.saturating_add(1),
+        }
+    }
+}
+
 impl Fronts {
-    /// A script of no line yet.
+    /// A script of no line yet, on a new desk, and no question.
     pub fn new(alloc: Global) -> Result<Fronts, AllocError> {
         let mut fronts = Fronts {
+            before: String::new(alloc),
             script: String::new(alloc),
+            questions: String::new(alloc),
+            directives: Vec::new(alloc),
             written: Vec::new(alloc),
             shown: Vec::new(alloc),
         };
@@ -48,20 +100,65 @@ impl Fronts {
     // Notes what the script writes, as far as it goes, and how the questions are answered then.
     fn note(&mut self, alloc: Global) -> Result<(), AllocError> {
         let mut desk = PlainDesk::new(alloc, 1);
-        let mut written = Vec::new(alloc);
-        let _ = run_into(alloc, &mut desk, self.script.as_str(), &mut written);
+        drop(answer_to(alloc, &mut desk, self.before.as_str()));
+        let written = answer_to(alloc, &mut desk, self.script.as_str());
         let mut shown = Vec::new(alloc);
-        let _ = run_into(alloc, &mut desk, QUESTIONS, &mut shown);
+        let _ = run_into(alloc, &mut desk, self.questions.as_str(), &mut shown);
+        let _ = run_into(alloc, &mut desk, REPORT, &mut shown);
         self.written.push(written)?;
         self.shown.push(shown)?;
         Ok(())
     }
 
-    /// Adds a line.
-    pub fn add(&mut self, alloc: Global, line: &str) -> Result<(), AllocError> {
-        self.script.push_str(line)?;
-        self.script.push('\n')?;
+    // Begins with no line of the script.
+    fn begin(&mut self, alloc: Global) -> Result<(), AllocError> {
+        self.script.clear();
+        self.directives.clear();
+        self.written.clear();
+        self.shown.clear();
         self.note(alloc)
+    }
+
+    /// Begins the script on a desk on which this one was run before.
+    pub fn begin_after(&mut self, alloc: Global, before: &str) -> Result<(), AllocError> {
+        self.before.clear();
+        self.before.push_str(before)?;
+        self.begin(alloc)
+    }
+
+    // Adds a question, and begins the script.
+    fn ask(&mut self, alloc: Global, question: &str) -> Result<(), AllocError> {
+        add_line(&mut self.questions, question)?;
+        self.begin(alloc)
+    }
+
+    // Adds a line of the script.
+    fn add(&mut self, alloc: Global, line: &str) -> Result<(), AllocError> {
+        add_line(&mut self.script, line)?;
+        self.directives.push(line.starts_with("@"))?;
+        self.note(alloc)
+    }
+
+    /// Takes a line of data that is one of the script, or a question; whether it was.
+    pub fn take(&mut self, alloc: Global, line: &str) -> Result<bool, AllocError> {
+        if let Some(part) = line.strip_prefix("| ") {
+            self.add(alloc, part)?;
+            return Ok(true);
+        }
+        match line.strip_prefix("? ") {
+            Some(question) => {
+                self.ask(alloc, question)?;
+                Ok(true)
+            }
+            None => Ok(false),
+        }
+    }
+
+    /// The questions, and the report after them.
+    pub fn all_questions(&self, alloc: Global) -> Result<String, AllocError> {
+        let mut text = String::from_str(alloc, self.questions.as_str())?;
+        text.push_str(REPORT)?;
+        Ok(text)
     }
 
     /// How many lines there are.
@@ -82,43 +179,88 @@ impl Fronts {
         self.written(self.lines()) == Some(text_in(text))
     }
 
-    // Whether this is what is written where the disk fails after so many lines.
-    fn fails_after(&self, lines: usize, text: &str) -> bool {
+    // Whether this is what is written where the store fails so after so many lines.
+    fn fails_after(&self, lines: usize, text: &str, fault: &str) -> bool {
         let Some(written) = self.written(lines) else {
             return false;
         };
-        match text
-            .strip_prefix(written)
-            .unwrap_or("")
-            .strip_suffix(DEVICE)
-        {
+        match text.strip_prefix(written).unwrap_or("").strip_suffix(fault) {
             Some(rest) => is_echo(rest),
             None => false,
         }
     }
 
-    /// After how many lines the disk failed, at the most, where this was written.
-    pub fn answered(&self, text: &[u8]) -> Option<usize> {
-        let mut answered = None;
+    /// Where the desk may be where the store failed so and this was written: after the lines that
+    /// were answered, as many as they may be, or after one more.
+    pub fn failed(&self, text: &[u8], fault: &str) -> Option<Reach> {
+        let mut reach = None;
         for lines in 0..self.written.len() {
-            if self.fails_after(lines, text_in(text)) {
-                answered = Some(lines);
+            if self.fails_after(lines, text_in(text), fault) {
+                reach = Some(Reach::around(lines));
             }
         }
-        answered
+        reach
     }
 
-    // Whether the questions are answered so after so many lines.
-    fn shows_after(&self, lines: usize, answers: &[u8]) -> bool {
+    // Whether the line that follows so many is a directive.
+    fn is_directive(&self, lines: usize) -> bool {
+        matches!(self.directives.get(lines), Some(true))
+    }
+
+    // The number of lines with which the part after so many ends: a directive, or a message.
+    fn part_end(&self, lines: usize) -> usize {
+        for end in lines.saturating_add(1)..self.lines() {
+            if self.is_directive(end.saturating_sub(1)) || self.is_directive(end) {
+                return end;
+            }
+        }
+        self.lines()
+    }
+
+    /// Where the desk may be where memory ran out and this was written: after the lines that were
+    /// answered, or after some of the part that follows, which has no answer then.
+    pub fn ran_out(&self, text: &[u8]) -> Option<Reach> {
+        let mut reach: Option<Reach> = None;
+        for lines in 0..self.written.len() {
+            if self.written(lines) == Some(text_in(text)) {
+                let fewest = match reach {
+                    Some(earlier) => earlier.fewest,
+                    None => lines,
+                };
+                let most = self.part_end(lines);
+                reach = Some(Reach { fewest, most });
+            }
+        }
+        reach
+    }
+
+    // How all questions are answered after so many lines.
+    fn shown(&self, lines: usize) -> &str {
         match self.shown.get(lines) {
-            Some(shown) => shown.as_slice() == answers,
-            None => false,
+            Some(shown) => text_in(shown.as_slice()),
+            None => "",
         }
     }
 
-    /// Whether the questions are answered so after so many lines, or after one more.
-    pub fn shows(&self, lines: usize, answers: &[u8]) -> bool {
-        self.shows_after(lines, answers) || self.shows_after(lines.saturating_add(1), answers)
+    /// Whether all questions are answered so somewhere in this reach.
+    pub fn shows(&self, reach: Reach, answers: &[u8]) -> bool {
+        for lines in reach.fewest..reach.most.saturating_add(1) {
+            if !answers.is_empty() && self.shown(lines) == text_in(answers) {
+                return true;
+            }
+        }
+        false
+    }
+
+    /// Whether the questions, but for the report, are answered so somewhere in this reach, up to one
+    /// at which the disk fails.
+    pub fn shows_front(&self, reach: Reach, answers: &[u8]) -> bool {
+        for lines in reach.fewest..reach.most.saturating_add(1) {
+            if is_front(self.shown(lines), text_in(answers)) {
+                return true;
+            }
+        }
+        false
     }
 
     /// Whether the line that follows so many is accepted, so that the store writes.

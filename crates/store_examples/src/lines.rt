@@ -36,9 +36,22 @@ const TAGS: [&str; 9] = [
     "l10n",
 ];
 
+const AFFECTED: [&str; 10] = [
+    "bar",
+    "+bar",
+    "libfoo1, foo",
+    "+ src:bar nobody",
+    "-bar",
+    "- foo libfoo1",
+    "=",
+    "= libfoo1",
+    ",",
+    "-",
+];
+
 const STOPS: [&str; 3] = ["thanks", "quit", "--"];
 
-const COMMANDS: [&str; 40] = [
+const COMMANDS: [&str; 43] = [
     "found",
     "found",
     "found",
@@ -79,6 +92,9 @@ const COMMANDS: [&str; 40] = [
     "archive",
     "archive",
     "unarchive",
+    "affects",
+    "affects",
+    "affects",
 ];
 
 const WRONG: [&str; 28] = [
@@ -222,6 +238,7 @@ impl Maker {
             "reopen" => self.add_one_of(&["", "", "=", "ben", "!"]),
             "severity" => self.add_one_of(&SEVERITIES),
             "tags" | "tag" => self.add_one_of(&TAGS),
+            "affects" => self.add_one_of(&AFFECTED),
             "retitle" | "forwarded" => self.add_one_of(&TITLES),
             "submitter" | "owner" => self.add_one_of(&NAMES),
             "merge" | "forcemerge" => self.add_bugs(3),

@@ -2,15 +2,21 @@
 //! them.
 #![tactic(auto)]
 
+mod bases;
 mod desk_calls;
 mod desks;
 mod disks;
 mod example;
 mod fronts;
+mod held;
 mod lines;
+mod look;
+mod memory;
+mod outcomes;
 mod questions;
 mod random;
 mod report;
+mod schema;
 mod stops;
 mod tables;
 mod told;
@@ -29,6 +35,7 @@ fn run_file(rt: &HostRuntime, name: &str) -> io::Result<()> {
     match folder {
         "tables" => tables::run_file(rt, text.as_str()),
         "stops" => stops::run_file(rt, text.as_str()),
+        "memory" => memory::run_file(rt, text.as_str()),
         "random" => random::run_file(rt, text.as_str()),
         _ => println!(rt; "-- no folder of examples"),
     }

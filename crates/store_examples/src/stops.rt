@@ -1,14 +1,15 @@
 //! A script over a desk in tables whose disk stops at each of its calls in turn.
 
-use crate::desks::create;
-use crate::disks::{Disks, connected, copy_of, file_of, files_of, new_disks};
-use crate::fronts::{Fronts, QUESTIONS};
-use crate::trial::Trial;
-use sqlite::{Alter, Connection};
-use sqlite_disk::{Crash, Disk, Files, Fuse, Memory};
+use crate::bases::{new_desk, schema_in};
+use crate::disks::{Disks, copy_of, disks_in};
+use crate::fronts::Fronts;
+use crate::outcomes::{Found, Judge};
+use crate::schema::Schema;
+use crate::trial::{Trial, Work};
+use sqlite_disk::{Disk, Fuse, Memory};
 use sqlite_pager::Options;
-use std::alloc::{AllocError, Global};
-use std::io;
+use std::alloc::Global;
+use std::{fs, io};
 
 /// Little memory and a short log, so that pages spill and are copied into the database file.
 const TIGHT: Options = Options {
@@ -38,22 +39,6 @@ enum Stop {
     Wrong,
 }
 
-// What a file holds as it is, and once the machine has stopped.
-#[derive(Drop)]
-struct Left {
-    written: Vec<u8>,
-    synced: Vec<u8>,
-}
-
-// What a file holds.
-fn left_of(alloc: Global, file: Fuse<Memory>) -> Result<Left, AllocError> {
-    let mut file = file;
-    let written = Vec::from_slice(alloc, file.inner().bytes())?;
-    file.crash();
-    let synced = Vec::from_slice(alloc, file.inner().bytes())?;
-    Ok(Left { written, synced })
-}
-
 // What a line asks for, if it names a file.
 fn setting_of(line: &str) -> Option<Setting> {
     let (file, rest) = line.split_once(' ').unwrap_or((line, ""));
@@ -74,90 +59,52 @@ fn setting_of(line: &str) -> Option<Setting> {
     }
 }
 
-// Creates a desk, and closes it.
-fn create_on<S: Alter>(alloc: Global, conn: Connection<S>) -> Connection<S> {
-    match create(alloc, conn, 1) {
-        Ok(desk) => desk.close(),
-        Err((_, conn)) => conn,
-    }
-}
-
-// Creates a desk in files, and hands them back.
-fn create_over<D: Disk + Drop>(alloc: Global, files: Files<D>) -> Files<D> {
-    match connected(alloc, files, Options::new(1)) {
-        Ok(conn) => files_of(create_on(alloc, conn)),
-        Err(files) => files,
-    }
-}
-
-// Whether the desk in files with these bytes shows so many lines, or one more.
-fn shows(
-    alloc: Global,
-    log: &[u8],
-    db: &[u8],
-    options: Options,
-    fronts: &Fronts,
-    lines: usize,
-) -> io::Result<bool> {
-    let files = Files {
-        log: file_of(alloc, log, u64::MAX)?,
-        db: file_of(alloc, db, u64::MAX)?,
-    };
-    let mut trial = Trial::new(alloc);
-    drop(trial.run_over(alloc, files, options, QUESTIONS));
-    Ok(fronts.shows(lines, &trial.text))
-}
-
-// Whether the desk shows so many lines, or one more, whichever of the files loses what was not
-// synced.
-fn all_show(
-    alloc: Global,
-    files: Disks,
-    options: Options,
-    fronts: &Fronts,
-    lines: usize,
-) -> io::Result<bool> {
-    let Files { log, db } = files;
-    let log = left_of(alloc, log)?;
-    let db = left_of(alloc, db)?;
-    let is_kept = shows(alloc, &log.written, &db.written, options, fronts, lines)?;
-    let is_back = shows(alloc, &log.synced, &db.synced, options, fronts, lines)?;
-    let is_log_kept = shows(alloc, &log.written, &db.synced, options, fronts, lines)?;
-    let is_log_back = shows(alloc, &log.synced, &db.written, options, fronts, lines)?;
-    Ok(is_kept && is_back && is_log_kept && is_log_back)
-}
-
 // Whether a file passes a further call on.
 fn passes_on(file: &mut Fuse<Memory>) -> bool {
     file.may_be_used() && file.len().is_ok()
+}
+
+// The files of a base, of which one stops after so many calls.
+fn stopping(alloc: Global, base: &Disks, is_log: bool, calls: u64) -> io::Result<Disks> {
+    if is_log {
+        copy_of(alloc, base, calls, u64::MAX)
+    } else {
+        copy_of(alloc, base, u64::MAX, calls)
+    }
+}
+
+// Whether the file that stops passes a further call on.
+fn goes_on(files: &mut Disks, is_log: bool) -> bool {
+    if is_log {
+        passes_on(&mut files.log)
+    } else {
+        passes_on(&mut files.db)
+    }
 }
 
 // Runs the script over files of which one stops after so many calls.
 fn stop_after(
     alloc: Global,
     base: &Disks,
-    setting: Setting,
-    fronts: &Fronts,
+    is_log: bool,
+    judge: &mut Judge<'_>,
     calls: u64,
 ) -> io::Result<Stop> {
-    let files = if setting.is_log {
-        copy_of(alloc, base, calls, u64::MAX)?
-    } else {
-        copy_of(alloc, base, u64::MAX, calls)?
+    let work = Work {
+        script: judge.fronts.script.as_str(),
+        questions: "",
     };
+    let files = stopping(alloc, base, is_log, calls)?;
     let mut trial = Trial::new(alloc);
-    let mut files = trial.run_over(alloc, files, setting.options, fronts.script.as_str());
-    let goes_on = if setting.is_log {
-        passes_on(&mut files.log)
-    } else {
-        passes_on(&mut files.db)
-    };
-    if trial.is_whole(fronts) && goes_on {
-        return Ok(Stop::Never);
-    }
-    match trial.answered(fronts) {
-        Some(lines) if all_show(alloc, files, setting.options, fronts, lines)? => {
-            Ok(Stop::After(lines))
+    let mut files = trial.run_over(alloc, files, judge.options, work);
+    let is_whole = trial.is_whole(judge.fronts) && goes_on(&mut files, is_log);
+    match trial.reached(judge.fronts) {
+        Some(reach) if !trial.is_short() && judge.is_always_shown(alloc, files, reach)? => {
+            if is_whole {
+                Ok(Stop::Never)
+            } else {
+                Ok(Stop::After(reach.fewest))
+            }
         }
         _ => Ok(Stop::Wrong),
     }
@@ -173,9 +120,19 @@ fn are_all_met(fronts: &Fronts, met: &[usize]) -> bool {
     true
 }
 
+// Whether stops leave the desk under the schemas that they may: where it began under schema 1 under
+// that one, and, where the log stops, under schema 2 too.
+fn are_found(began: Schema, is_log: bool, found: Found) -> bool {
+    match began {
+        Schema::First => found.first && (found.second || !is_log),
+        Schema::Second => found.second && !found.first,
+        Schema::Other => false,
+    }
+}
+
 // Tells of a sweep in which each stop left what it has to leave.
-fn end_text(setting: Setting, fronts: &Fronts, met: &[usize]) -> &'static str {
-    if met.is_empty() || (setting.is_log && !are_all_met(fronts, met)) {
+fn end_text(fronts: &Fronts, is_log: bool, met: &[usize]) -> &'static str {
+    if met.is_empty() || (is_log && !are_all_met(fronts, met)) {
         "some line had no stop"
     } else {
         "each stop leaves the desk before or after one line"
@@ -184,12 +141,16 @@ fn end_text(setting: Setting, fronts: &Fronts, met: &[usize]) -> &'static str {
 
 // Has a file stop after each number of calls in turn, and tells what comes of it.
 fn sweep(alloc: Global, base: &Disks, setting: Setting, fronts: &Fronts) -> io::Result<String> {
+    let began = schema_in(alloc, base)?;
+    let mut judge = Judge::new(fronts, setting.options);
     let mut met = Vec::new(alloc);
     for calls in 0..MOST_CALLS {
-        match stop_after(alloc, base, setting, fronts, calls)? {
-            Stop::Never => {
-                return Ok(String::from_str(alloc, end_text(setting, fronts, &met))?);
+        let found = judge.found;
+        match stop_after(alloc, base, setting.is_log, &mut judge, calls)? {
+            Stop::Never if are_found(began, setting.is_log, found) => {
+                return Ok(String::from_str(alloc, end_text(fronts, setting.is_log, &met))?);
             }
+            Stop::Never => return Ok(String::from_str(alloc, "some schema had no stop")?),
             Stop::After(lines) => met.push(lines)?,
             Stop::Wrong => return Ok(format!(in alloc; "wrong after {calls} calls")?),
         }
@@ -197,12 +158,21 @@ fn sweep(alloc: Global, base: &Disks, setting: Setting, fronts: &Fronts) -> io::
     Ok(String::from_str(alloc, "no end")?)
 }
 
-// Takes a line: one of the script, or one that asks for a sweep.
-fn take_line(rt: &HostRuntime, base: &Disks, fronts: &mut Fronts, line: &str) -> io::Result<()> {
-    if let Some(part) = line.strip_prefix("| ") {
-        fronts.add(rt.alloc(), part)?;
-        return println!(rt; "{line}");
-    }
+// Takes a line that names the file with which each run begins, and the script that it was left by.
+fn take_file(
+    rt: &HostRuntime,
+    base: &mut Disks,
+    fronts: &mut Fronts,
+    names: &str,
+) -> io::Result<()> {
+    let (file, script) = names.split_once(" script ").unwrap_or((names, ""));
+    fronts.begin_after(rt.alloc(), fs::read_to_string(rt, script)?.as_str())?;
+    *base = disks_in(rt, file)?;
+    Ok(())
+}
+
+// Takes a line that asks for a sweep, or has no meaning.
+fn take_other(rt: &HostRuntime, base: &Disks, fronts: &Fronts, line: &str) -> io::Result<()> {
     match setting_of(line) {
         Some(setting) => {
             let end = sweep(rt.alloc(), base, setting, fronts)?;
@@ -212,13 +182,30 @@ fn take_line(rt: &HostRuntime, base: &Disks, fronts: &mut Fronts, line: &str) ->
     }
 }
 
-/// Takes the lines of a file, first those of a script, and then those that say which file stops:
-/// `log` or `database`, with `tight` after it for little memory.
+// Takes a line.
+fn take_line(
+    rt: &HostRuntime,
+    base: &mut Disks,
+    fronts: &mut Fronts,
+    line: &str,
+) -> io::Result<()> {
+    if fronts.take(rt.alloc(), line)? {
+        return println!(rt; "{line}");
+    }
+    if let Some(names) = line.strip_prefix("file ") {
+        take_file(rt, base, fronts, names)?;
+    }
+    take_other(rt, base, fronts, line)
+}
+
+/// Takes the lines of a file: first, where the runs begin with a file of data, that file and the
+/// script that it was left by, then the questions, then the script, and then those that say which
+/// file stops: `log` or `database`, with `tight` after it for little memory.
 pub(crate) fn run_file(rt: &HostRuntime, text: &str) -> io::Result<()> {
-    let base = create_over(rt.alloc(), new_disks(rt.alloc()));
+    let mut base = new_desk(rt.alloc());
     let mut fronts = Fronts::new(rt.alloc())?;
     for line in text.lines() {
-        take_line(rt, &base, &mut fronts, line)?;
+        take_line(rt, &mut base, &mut fronts, line)?;
     }
     Ok(())
 }

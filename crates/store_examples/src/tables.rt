@@ -2,8 +2,9 @@
 
 use crate::desk_calls::take_lines;
 use crate::desks::{Made, create, open};
-use crate::disks::{Disks, connected, files_of, limited, new_disks};
+use crate::disks::{Disks, connected, disks_in, files_of, limited, new_disks};
 use crate::example::Example;
+use crate::schema::number_asked;
 use control_text::number_word;
 use desk_tables::TableDesk;
 use sqlite::{Alter, Connection};
@@ -61,13 +62,22 @@ fn run_sql<S: Alter>(conn: &mut Connection<S>, sql: &str) -> &'static str {
     }
 }
 
+// Takes a line that asks for a number.
+fn take_question<S: Alter>(alloc: Global, conn: &mut Connection<S>, example: &mut Example) {
+    match number_asked(conn, example.line().strip_prefix("ask ").unwrap_or("")) {
+        Some(number) => example.answer_number(alloc, number),
+        None => example.answer("none"),
+    }
+}
+
 // Takes a line that makes no desk.
-fn take_other<S: Alter>(conn: &mut Connection<S>, example: &mut Example) {
+fn take_other<S: Alter>(alloc: Global, conn: &mut Connection<S>, example: &mut Example) {
     match example.line().strip_prefix("sql ") {
         Some(sql) => {
             let answer = run_sql(conn, sql);
             example.answer(answer);
         }
+        None if example.begins_with("ask ") => take_question(alloc, conn, example),
         None if example.line() == "close" => {
             example.is_desk = false;
             example.answer("ok");
@@ -84,7 +94,7 @@ fn take_line<S: Alter>(alloc: Global, conn: Connection<S>, example: &mut Example
         Call::Open => use_made(alloc, open(alloc, conn), example),
         Call::Other => {
             let mut conn = conn;
-            take_other(&mut conn, example);
+            take_other(alloc, &mut conn, example);
             conn
         }
     }
@@ -137,19 +147,26 @@ fn take_over<D: Disk + Drop>(alloc: Global, files: Files<D>, example: &mut Examp
     }
 }
 
-// Takes a line that asks for other files, and makes them of those before.
-fn other_files(alloc: Global, files: &Disks, example: &mut Example) -> io::Result<Disks> {
+// The files of a line that begins a new database, or that names a file of data.
+fn begun_files(rt: &HostRuntime, example: &mut Example) -> io::Result<Disks> {
+    let files = match example.line().strip_prefix("file ") {
+        Some(name) => disks_in(rt, name),
+        None => Ok(new_disks(rt.alloc())),
+    };
+    example.is_desk = false;
+    example.pass();
+    files
+}
+
+// Takes a line that asks for other files, and makes them, where it limits calls of those before.
+fn other_files(rt: &HostRuntime, files: &Disks, example: &mut Example) -> io::Result<Disks> {
     match example.line().strip_prefix("calls-left ") {
         Some(word) => {
             let calls = word.parse::<u64>().ok();
             example.pass();
-            limited(alloc, files, calls)
+            limited(rt.alloc(), files, calls)
         }
-        None => {
-            example.is_desk = false;
-            example.pass();
-            Ok(new_disks(alloc))
-        }
+        None => begun_files(rt, example),
     }
 }
 
@@ -160,7 +177,7 @@ pub(crate) fn run_file(rt: &HostRuntime, text: &str) -> io::Result<()> {
     let mut files = new_disks(alloc);
     for _ in 0..example.left() {
         if example.left() > 0 {
-            files = other_files(alloc, &files, &mut example)?;
+            files = other_files(rt, &files, &mut example)?;
             files = take_over(alloc, files, &mut example);
         }
     }

@@ -2,23 +2,36 @@
 
 use crate::desks::open;
 use crate::disks::{connected, files_of};
-use crate::fronts::Fronts;
+use crate::fronts::{DEVICE, Fronts, MEMORY, Reach};
+use crate::held::Held;
 use crate::words::run_into;
 use desk_run::{Records, ScriptEnd, ScriptFault};
 use desk_text::StoreFault;
 use sqlite::{Alter, Connection};
 use sqlite_disk::{Disk, Files};
 use sqlite_pager::Options;
-use std::alloc::Global;
+use std::alloc::{AllocError, Global};
 
 /// What a script wrote, how it ended, and how often the store failed.
 #[derive(Drop)]
 pub(crate) struct Trial {
     pub text: Vec<u8>,
-    /// Nothing where no desk could be opened.
+    /// What the questions were answered after the script.
+    pub shown: Vec<u8>,
+    /// The memory that the script does not have.
+    pub held: Held,
+    // Nothing where no desk could be opened.
     end: Option<Result<ScriptEnd, ScriptFault>>,
     faults: u64,
     counts_well: bool,
+}
+
+/// What is done on a desk.
+#[derive(Clone, Copy)]
+pub(crate) struct Work<'a> {
+    pub script: &'a str,
+    /// What the desk is asked after it.
+    pub questions: &'a str,
 }
 
 // Whether a question that fails is counted, and another is not.
@@ -29,21 +42,49 @@ fn counts_next<R: Records>(desk: &mut R) -> bool {
 }
 
 impl Trial {
-    /// No script yet.
+    /// No script yet, and no memory that is held.
     pub fn new(alloc: Global) -> Trial {
         Trial {
             text: Vec::new(alloc),
+            shown: Vec::new(alloc),
+            held: Held::nothing(alloc),
             end: None,
             faults: 0,
             counts_well: true,
         }
     }
 
-    // Runs a script on a desk, and asks for the next number three times.
-    fn run<R: Records>(&mut self, alloc: Global, desk: &mut R, script: &str) {
-        self.end = Some(run_into(alloc, desk, script, &mut self.text));
+    /// No script yet, with room for what it writes, and for the lists of the memory that is held.
+    pub fn with_room(alloc: Global, room: usize) -> Result<Trial, AllocError> {
+        let mut trial = Trial::new(alloc);
+        trial.text.reserve(room)?;
+        trial.held = Held::new(alloc)?;
+        Ok(trial)
+    }
+
+    /// Begins anew.
+    pub fn begin(&mut self) {
+        self.text.clear();
+        self.shown.clear();
+        self.end = None;
+    }
+
+    // Asks a desk the questions; whether a fault of the disk is counted.
+    fn ask<R: Records>(&mut self, alloc: Global, desk: &mut R, questions: &str) -> bool {
+        let faults = desk.faults();
+        let _ = run_into(alloc, desk, questions, &mut self.shown);
+        let is_device = self.shown.ends_with(DEVICE.as_bytes());
+        desk.faults() == faults.saturating_add(u64::from(is_device))
+    }
+
+    /// Runs a script on a desk with the memory that is left, and then, with all of it, asks for the
+    /// next number three times, and the questions.
+    pub fn run<R: Records>(&mut self, alloc: Global, desk: &mut R, work: Work<'_>) {
+        self.end = Some(run_into(alloc, desk, work.script, &mut self.text));
+        self.held.give_back();
         self.faults = desk.faults();
         self.counts_well = counts_next(desk) && counts_next(desk) && counts_next(desk);
+        self.counts_well = self.ask(alloc, desk, work.questions) && self.counts_well;
     }
 
     // Opens the desk, runs a script on it, and closes it.
@@ -51,12 +92,12 @@ impl Trial {
         &mut self,
         alloc: Global,
         conn: Connection<S>,
-        script: &str,
+        work: Work<'_>,
     ) -> Connection<S> {
         match open(alloc, conn) {
             Ok(desk) => {
                 let mut desk = desk;
-                self.run(alloc, &mut desk, script);
+                self.run(alloc, &mut desk, work);
                 desk.close()
             }
             Err((_, conn)) => conn,
@@ -69,10 +110,10 @@ impl Trial {
         alloc: Global,
         files: Files<D>,
         options: Options,
-        script: &str,
+        work: Work<'_>,
     ) -> Files<D> {
         match connected(alloc, files, options) {
-            Ok(conn) => files_of(self.run_on(alloc, conn, script)),
+            Ok(conn) => files_of(self.run_on(alloc, conn, work)),
             Err(files) => files,
         }
     }
@@ -85,15 +126,40 @@ impl Trial {
             && fronts.is_whole(&self.text)
     }
 
-    /// How many lines were answered before the disk failed, all of them where it failed later;
-    /// nothing where what is told is not what has to be.
-    pub fn answered(&self, fronts: &Fronts) -> Option<usize> {
-        match self.end {
-            None => Some(0),
-            Some(Ok(_)) if self.is_whole(fronts) => Some(fronts.lines()),
-            Some(Err(ScriptFault::Store(StoreFault::Device)))
-                if self.faults == 1 && self.counts_well => { fronts.answered(&self.text) }
+    // Where the desk may be after a fault; nothing where it is not told as it has to be.
+    fn reached_by(&self, fronts: &Fronts, fault: ScriptFault) -> Option<Reach> {
+        match fault {
+            ScriptFault::Store(StoreFault::Device) if self.faults == 1 => {
+                fronts.failed(&self.text, DEVICE)
+            }
+            ScriptFault::Store(StoreFault::Memory) if self.faults == 0 => {
+                fronts.failed(&self.text, MEMORY)
+            }
+            ScriptFault::Memory if self.faults == 0 => fronts.ran_out(&self.text),
             _ => None,
         }
+    }
+
+    /// Where the desk may be; nothing where what is told is not what has to be.
+    pub fn reached(&self, fronts: &Fronts) -> Option<Reach> {
+        match self.end {
+            None => Some(Reach::exactly(0)),
+            Some(Ok(_)) if self.is_whole(fronts) => Some(Reach::exactly(fronts.lines())),
+            Some(Err(fault)) if self.counts_well => self.reached_by(fronts, fault),
+            _ => None,
+        }
+    }
+
+    /// Whether a desk was opened.
+    pub fn is_opened(&self) -> bool {
+        self.end.is_some()
+    }
+
+    /// Whether the script ended because there was no memory.
+    pub fn is_short(&self) -> bool {
+        matches!(
+            self.end,
+            Some(Err(ScriptFault::Memory | ScriptFault::Store(StoreFault::Memory)))
+        )
     }
 }

@@ -1,0 +1,193 @@
+//! A script over a desk that is short of memory, with a little more of it in each run.
+
+use crate::bases::new_desk;
+use crate::disks::{Disks, copy_of};
+use crate::fronts::{Fronts, Reach};
+use crate::outcomes::{Judge, left_of};
+use crate::trial::{Trial, Work};
+use control_text::number_word;
+use desk_run::PlainDesk;
+use sqlite_pager::Options;
+use std::alloc::Global;
+use std::io;
+
+/// More runs than any sweep has.
+const MOST_RUNS: usize = 100_000;
+
+/// Room for what a script writes.
+const TEXT_ROOM: usize = 65_536;
+
+// What desk is short of memory, and how large the blocks are of which each run has one more.
+#[derive(Clone, Copy)]
+struct Setting {
+    is_in_tables: bool,
+    size: usize,
+}
+
+// What comes of a run.
+#[derive(Clone, Copy, PartialEq, Eq)]
+enum Run {
+    Whole,
+    // Memory ran out after so many lines.
+    Short(usize),
+    Wrong,
+}
+
+// What a line asks for, if it names a desk.
+fn setting_of(line: &str) -> Option<Setting> {
+    let (desk, size) = line.split_once(" by ").unwrap_or((line, ""));
+    let size = number_word(size).unwrap_or(0) as usize;
+    match desk {
+        "in memory" => Some(Setting {
+            is_in_tables: false,
+            size,
+        }),
+        "in tables" => Some(Setting {
+            is_in_tables: true,
+            size,
+        }),
+        _ => None,
+    }
+}
+
+// What came of a run after which the desk may be there.
+fn run_of(trial: &Trial, fronts: &Fronts, reach: Reach) -> Run {
+    if trial.is_whole(fronts) {
+        Run::Whole
+    } else {
+        Run::Short(reach.fewest)
+    }
+}
+
+// Runs the script over a desk in memory, which is asked all questions.
+fn run_in_memory(alloc: Global, fronts: &Fronts, trial: &mut Trial, questions: &str) -> Run {
+    let work = Work {
+        script: fronts.script.as_str(),
+        questions,
+    };
+    let mut desk = PlainDesk::new(alloc, 1);
+    trial.run(alloc, &mut desk, work);
+    match trial.reached(fronts) {
+        Some(reach) if fronts.shows(reach, &trial.shown) => run_of(trial, fronts, reach),
+        _ => Run::Wrong,
+    }
+}
+
+// Whether the files have the desk in this reach.
+fn are_shown(alloc: Global, files: Disks, fronts: &Fronts, reach: Reach) -> io::Result<bool> {
+    let log = left_of(alloc, files.log)?;
+    let db = left_of(alloc, files.db)?;
+    Judge::new(fronts, Options::new(1)).is_shown(alloc, &log.written, &db.written, reach)
+}
+
+// Whether the questions were answered in this reach, where a desk was opened.
+fn is_asked_well(trial: &Trial, fronts: &Fronts, reach: Reach) -> bool {
+    !trial.is_opened() || fronts.shows_front(reach, &trial.shown)
+}
+
+// Runs the script over a desk in tables.
+fn run_in_tables(
+    alloc: Global,
+    files: Disks,
+    fronts: &Fronts,
+    trial: &mut Trial,
+) -> io::Result<Run> {
+    let work = Work {
+        script: fronts.script.as_str(),
+        questions: fronts.questions.as_str(),
+    };
+    let files = trial.run_over(alloc, files, Options::new(1), work);
+    trial.held.give_back();
+    match trial.reached(fronts) {
+        Some(reach)
+            if is_asked_well(trial, fronts, reach) && are_shown(alloc, files, fronts, reach)? => {
+            Ok(run_of(trial, fronts, reach))
+        }
+        _ => Ok(Run::Wrong),
+    }
+}
+
+// Begins a run with so many blocks of memory, or with all of it where there is no number; whether
+// there were as many.
+fn begin(alloc: Global, size: usize, trial: &mut Trial, blocks: Option<usize>) -> bool {
+    trial.begin();
+    match blocks {
+        Some(blocks) => trial.held.leave(alloc, blocks, size),
+        None => true,
+    }
+}
+
+// Runs the script with so many blocks of memory, or with all of it.
+fn run_with(
+    alloc: Global,
+    base: &Disks,
+    setting: Setting,
+    fronts: &Fronts,
+    trial: &mut Trial,
+    blocks: Option<usize>,
+) -> io::Result<Run> {
+    if setting.is_in_tables {
+        let files = copy_of(alloc, base, u64::MAX, u64::MAX)?;
+        if begin(alloc, setting.size, trial, blocks) {
+            return run_in_tables(alloc, files, fronts, trial);
+        }
+        return Ok(Run::Wrong);
+    }
+    let questions = fronts.all_questions(alloc)?;
+    if begin(alloc, setting.size, trial, blocks) {
+        return Ok(run_in_memory(alloc, fronts, trial, questions.as_str()));
+    }
+    Ok(Run::Wrong)
+}
+
+// Tells of a sweep whose last run was whole.
+fn end_text(is_short: bool) -> &'static str {
+    if is_short {
+        "short of memory: some runs ended so, and each left the desk after some of its lines"
+    } else {
+        "no run was short of memory once a line was answered"
+    }
+}
+
+// Runs the script with no block of memory, then with one, and so on, and tells what comes of it.
+fn sweep(alloc: Global, base: &Disks, setting: Setting, fronts: &Fronts) -> io::Result<String> {
+    let mut trial = Trial::with_room(alloc, TEXT_ROOM)?;
+    let whole = run_with(alloc, base, setting, fronts, &mut trial, None)?;
+    if whole != Run::Whole || !trial.held.hold_all(alloc)? {
+        return Ok(String::from_str(alloc, "wrong with all memory")?);
+    }
+    let mut is_short = false;
+    for blocks in 0..MOST_RUNS {
+        match run_with(alloc, base, setting, fronts, &mut trial, Some(blocks))? {
+            Run::Whole => return Ok(String::from_str(alloc, end_text(is_short))?),
+            Run::Short(lines) => is_short = is_short || lines > 0,
+            Run::Wrong => return Ok(format!(in alloc; "wrong with {blocks} blocks")?),
+        }
+    }
+    Ok(String::from_str(alloc, "no end")?)
+}
+
+// Takes a line.
+fn take_line(rt: &HostRuntime, base: &Disks, fronts: &mut Fronts, line: &str) -> io::Result<()> {
+    if fronts.take(rt.alloc(), line)? {
+        return println!(rt; "{line}");
+    }
+    match setting_of(line) {
+        Some(setting) => {
+            let end = sweep(rt.alloc(), base, setting, fronts)?;
+            println!(rt; "{line} -> {end}")
+        }
+        None => println!(rt; "{line}"),
+    }
+}
+
+/// Takes the lines of a file: first the questions, then the script, and then those that say which
+/// desk is short of memory, and by blocks of how many bytes: `in memory by N`, `in tables by N`.
+pub(crate) fn run_file(rt: &HostRuntime, text: &str) -> io::Result<()> {
+    let base = new_desk(rt.alloc());
+    let mut fronts = Fronts::new(rt.alloc())?;
+    for line in text.lines() {
+        take_line(rt, &base, &mut fronts, line)?;
+    }
+    Ok(())
+}

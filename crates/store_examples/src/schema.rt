@@ -1,0 +1,33 @@
+//! The schema of a database, as SQL tells it.
+
+use sqlite::{Alter, Connection};
+
+/// Under which schema the tables of a desk are.
+#[derive(Clone, Copy, PartialEq, Eq, Drop)]
+pub(crate) enum Schema {
+    /// Schema 1, with no table of the packages that are affected.
+    First,
+    /// Schema 2, with that table.
+    Second,
+    Other,
+}
+
+/// The number that the first row has in its first column; nothing where there is none, or where the
+/// question is refused.
+pub(crate) fn number_asked<S: Alter>(conn: &mut Connection<S>, sql: &str) -> Option<u64> {
+    match conn.query_row(sql, &[]) {
+        Ok(row) => row.get::<u64>(0).ok(),
+        Err(_) => None,
+    }
+}
+
+/// Under which schema the tables are.
+pub(crate) fn schema_of<S: Alter>(conn: &mut Connection<S>) -> Schema {
+    let number = number_asked(conn, "SELECT schema FROM meta");
+    let affected = number_asked(conn, "SELECT count(*) FROM affects");
+    match (number, affected) {
+        (Some(1), None) => Schema::First,
+        (Some(2), Some(_)) => Schema::Second,
+        _ => Schema::Other,
+    }
+}
