@@ -36,9 +36,9 @@ returns-in-Ok-clause-other g c other =
     let new = state g.S.Store c.find_desk.new.conn in
     let both = c.in-Ok.ensures.other (λ clean. says_not g.S.Store c.args.conn c.set_step_limit.new.self c.set_step_limit.ensures (other (subst (λ h. HasCleanDisk (state g.S.Store h)) (sym c.found.ensures.conn) clean))) in (
       subst (λ h. IsLeft (state g.S.Store c.args.conn) (state g.S.Store h)) (sym c.found.ensures.conn)
-      (left_before g.S.Store c.args.conn c.set_step_limit.new.self c.set_step_limit.ensures new both.0),
+          (left_before g.S.Store c.args.conn c.set_step_limit.new.self c.set_step_limit.ensures new both.0),
       subst (λ h. Survives (unlimited (state g.S.Store c.args.conn)) (state g.S.Store h) (λ _. ⊥)) (sym c.found.ensures.conn)
-      (survives_before g.S.Store c.args.conn c.set_step_limit.new.self c.set_step_limit.ensures new (λ _. ⊥) both.1),
+          (survives_before g.S.Store c.args.conn c.set_step_limit.new.self c.set_step_limit.ensures new (λ _. ⊥) both.1),
     )
 
 pub returns-in-Ok-clause-survives : goal.returns-in-Ok-clause-survives
