@@ -155,7 +155,7 @@ impl<S: Alter> TableDesk<S> {
     /// The tables of a database that doesn't say schema 1 are left as they were.
     /// A refusal leaves the tables, and hands the connection back: `NotADesk` where the database
     /// says no number of a desk's schema, `NewerSchema` where it says one above 2, and else what
-    /// the store failed for; `Store(Foreign)` where the tables say 1 and are no desk's.
+    /// the store failed for, which may be `Foreign` where the tables say 1 and are no desk's.
     /// The desk is kept where the tables are a desk's and say what a desk keeps.
     /// From now on no statement has a limit of steps.
     /// A crash at any moment of the call leaves what it would have left before, or, where the
