@@ -1,3 +1,4 @@
 pub mod WrittenLemmas
 pub mod ServerLemmas
 pub mod FileLemmas
+pub mod TextLemmas

@@ -6,7 +6,7 @@ use Rattle.desk_text.specs.declared.outcome.StoreFault.{StoreFault}
 use Rattle.desk_text.specs.declared.outcome.StoreFault.TheVariants as stores
 use Rattle.desk_text.specs.declared.outcome.End.{End}
 use Rattle.desk_text.specs.declared.outcome.End.TheVariants as messages
-use Rattle.desk_store.specs.Message.{Entry}
+use Rattle.message_machine.specs.Message.{Entry}
 use Rattle.desk_lines.specs.declared.fault.ScriptFault.{ScriptFault}
 use Rattle.desk_lines.specs.declared.fault.ScriptFault.TheVariants as scripts
 use Rattle.desk_run.specs.Script.{refuses}

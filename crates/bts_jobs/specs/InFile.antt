@@ -1,5 +1,5 @@
 -- A desk in a file, as a store.
-use Rattle.std.specs.Prelude.{ℕ, ◌≡◌, ◌⊎◌, ⊤, false, []}
+use Rattle.std.specs.Prelude.{ℕ, ◌≡◌, ⊤, false, []}
 use Rattle.sqlite_disk.specs.Events.{replay}
 use Rattle.sqlite_disk.specs.History.{MayLeave}
 use Rattle.sqlite_disk.specs.Modelled.{start_of}
@@ -19,18 +19,19 @@ use Rattle.desk_places.specs.Plain.{empty_desk}
 use Rattle.desk_store.specs.Store.{Faults, no_faults}
 use Rattle.desk_content.specs.Content.{Content}
 use Rattle.desk_content.specs.Kept.{IsKeptContent}
-use Rattle.desk_content.specs.View.{desk_in}
-use Rattle.desk_tables.specs.Kept.{desk_seen, IsKept}
-use Rattle.desk_tables.specs.Shown.{AreTablesOf, AreFirstTablesOf}
+use Rattle.desk_content.specs.View.{desk_in, keeping_in}
+use Rattle.message_machine.specs.Kept.{Keeping, none_kept}
+use Rattle.desk_tables.specs.Kept.{desk_seen, keeping_seen, IsKept}
+use Rattle.desk_tables.specs.Shown.{HoldTables}
 use Rattle.desk_tables.specs.declared.desk.TableDesk.{TableDesk}
 use Rattle.bts_jobs.specs.declared.ending.Cause.{Cause}
 use Rattle.bts_jobs.specs.declared.ending.Cause.TheVariants.{Store, NoFile, InUse, NotADesk, NewerSchema, NotEmpty, CannotOpen}
 
--- the two files hold a desk with this content, which is kept, under schema 2 or 1
+-- the two files hold a desk with this content, which is kept, under schema 3, 2 or 1
 pub record HoldDesk (image : Image) (c : Content) : Type 0 where
   pub trees : Trees
   pub database : HoldsDatabase image trees
-  pub tables : AreTablesOf c trees ⊎ AreFirstTablesOf c trees
+  pub tables : HoldTables c trees
   pub kept : IsKeptContent c
 
 -- the calls of a file of the system, as `sqlite_std_file` notes them
@@ -63,6 +64,10 @@ module _ {D : Type 0} {g : disk.Ghosts D} where
   abbrev pub desk_in_file : TableDesk (FileStore D g) over_files → Desk
   desk_in_file d = desk_seen over_files d.last.values
 
+  -- what is kept of messages that have an id
+  abbrev pub keeping_in_file : TableDesk (FileStore D g) over_files → Keeping
+  keeping_in_file d = keeping_seen over_files d.last.values
+
   -- the tables are kept
   abbrev pub IsKeptInFile : TableDesk (FileStore D g) over_files → Type 0
   IsKeptInFile d = IsKept over_files d.last.values d.begun.values d.conn d.family
@@ -78,12 +83,14 @@ module _ {D : Type 0} {g : disk.Ghosts D} where
   -- A desk was opened: where the files held one, it is that desk.
   pub record IsOpenedInFile (image : Image) (d : TableDesk (FileStore D g) over_files) : Type 0 where
     pub uncounted : faults_in_file d ≡ no_faults
-    pub found : (c : Content) → HoldDesk image c → HasHonestFile d → IsKeptInFile d × (desk_in_file d ≡ desk_in c)
+    pub found : (c : Content) → HoldDesk image c → HasHonestFile d
+        → IsKeptInFile d × (desk_in_file d ≡ desk_in c) × (keeping_in_file d ≡ keeping_in c)
 
   -- A desk was made, and is empty; its first bug gets this number.
   pub record IsNewInFile (first : ℕ) (d : TableDesk (FileStore D g) over_files) : Type 0 where
     pub kept : HasHonestFile d → IsKeptInFile d
     pub empty : HasHonestFile d → desk_in_file d ≡ empty_desk first
+    pub none_kept : HasHonestFile d → keeping_in_file d ≡ none_kept
     pub uncounted : faults_in_file d ≡ no_faults
 
 -- why the desk in a file is not opened

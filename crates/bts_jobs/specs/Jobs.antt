@@ -1,6 +1,6 @@
 -- What the jobs do.
 -- This project's own rule.
-use Rattle.std.specs.Prelude.{ℕ, ◌≡◌, ◌⊎◌, ◌<◌, ◌≤◌, [], List, length, take, codes, Option, None, Some, Result, Err, OnOk}
+use Rattle.std.specs.Prelude.{ℕ, ◌≡◌, ◌⊎◌, ◌<◌, ◌≤◌, ◌++◌, [], ◌∷◌, List, length, take, codes, Option, None, Some, Result, Ok, Err, OnOk}
 use Rattle.std.specs.Io.KnownBytes.{Appends}
 use Rattle.sqlite_disk.specs.declared.start.Start.{Ghosts}
 use Rattle.sqlite_wal.specs.Files.{image_at}
@@ -8,8 +8,8 @@ use Rattle.line_words.specs.declared.named.TheConstants.{LARGEST_NUMBER}
 use Rattle.bug_record.specs.Desk.{Desk}
 use Rattle.bug_record.specs.Texts.{IsText}
 use Rattle.desk_text.specs.declared.outcome.End.{End}
-use Rattle.desk_store.specs.Store.{Faults, Holds, no_faults}
-use Rattle.desk_store.specs.Message.{Entry, IsReceived, faults_after_end}
+use Rattle.desk_store.specs.Store.{Faults, Holds, no_faults, faults_after_end}
+use Rattle.message_machine.specs.Message.{Entry, IsReceived}
 use Rattle.desk_places.specs.Plain.{empty_desk}
 use Rattle.desk_lines.specs.Reading.{Known, Left}
 use Rattle.desk_lines.specs.declared.fault.ScriptFault.{ScriptFault}
@@ -24,12 +24,20 @@ use Rattle.desk_server.specs.declared.port.ServerFault.TheVariants.{Bind, Write}
 use Rattle.job_words.specs.declared.job.Job.{Job}
 use Rattle.job_words.specs.declared.job.Job.TheVariants.{Run, Init, Serve, Send}
 use Rattle.desk_server.specs.Serving.{State, IsInTurn, IsServing}
+use Rattle.desk_answers.specs.Stored.{stored}
+use Rattle.message_machine.specs.Kept.{Keeping, none_kept}
 use Rattle.bts_jobs.specs.Endings.{end_of_script, end_of_server, end_of_message}
-use Rattle.bts_jobs.specs.InFile.{FileDesk, desk_in_file, IsKeptInFile, HasHonestFile, faults_in_file, IsOpenedInFile, IsNewInFile, IsOpenCause, IsInitCause}
+use Rattle.desk_lines.specs.Lines.{lines_of}
+use Rattle.message_machine.specs.Ids.{IsId}
+use Rattle.desk_messages.specs.declared.message.Received.{Received}
+use Rattle.desk_repeats.specs.Once.{IsOnce, faults_after_once}
+use Rattle.desk_repeats.specs.declared.once.OnceFault.{OnceFault}
+use Rattle.desk_repeats.specs.declared.once.OnceFault.TheVariants.{BadId, Reused, Store as StoreFailed}
+use Rattle.bts_jobs.specs.InFile.{FileDesk, desk_in_file, keeping_in_file, IsKeptInFile, HasHonestFile, faults_in_file, IsOpenedInFile, IsNewInFile, IsOpenCause, IsInitCause}
 use Rattle.bts_jobs.specs.declared.ending.Cause.{Cause}
-use Rattle.bts_jobs.specs.declared.ending.Cause.TheVariants.{Memory, Output}
+use Rattle.bts_jobs.specs.declared.ending.Cause.TheVariants.{Memory, Output, Store}
 use Rattle.bts_jobs.specs.declared.ending.JobEnd.{JobEnd}
-use Rattle.bts_jobs.specs.declared.ending.JobEnd.TheVariants.{Done, BadWords, Fault}
+use Rattle.bts_jobs.specs.declared.ending.JobEnd.TheVariants.{Done, Refused, BadWords, Fault}
 
 -- The script of this input was run over an empty desk whose first number is 1, and ended so.
 -- A desk in memory counts no fault, since it fails only where there is no memory.
@@ -50,28 +58,29 @@ pub record IsRun (input : List ℕ) (c0 c1 : Option (List ℕ)) (end : JobEnd) :
 
 -- A server was run on this port, for so many connections, and ended so.
 -- Where it came to serve, the line that tells its port was written and nothing else, the desk was
--- empty and its first number 1, and its connections were served one after another; a port that
--- can't be listened on leaves nothing written.
+-- empty and its first number 1, nothing was kept of messages, and its connections were served one
+-- after another; a port that can't be listened on leaves nothing written.
 pub record IsServer (port count : ℕ) (c0 c1 : Option (List ℕ)) (end : JobEnd) : Type 0 where
   pub result : Result (Unit {0}) ServerFault
   pub end_is : end ≡ end_of_server port result
   pub told : Serves result (Appends c0 c1 (place_line port))
   pub bind : result ≡ Err Bind → c1 ≡ c0
-  -- the desk at the end, and the faults of its store
+  -- what the store holds at the end, and its faults
   pub last : State
-  pub served : Serves result (IsInTurn count (empty_desk 1, no_faults) last result)
+  pub served : Serves result (IsInTurn count (record { desk = empty_desk 1; kept = none_kept }, no_faults) last result)
 
 -- nothing was written, and this is the end
 abbrev pub EndsAtOnce : JobEnd → Option (List ℕ) → Option (List ℕ) → JobEnd → Type 0
 EndsAtOnce wanted c0 c1 end = (end ≡ wanted) × (c1 ≡ c0)
 
--- this text was written, or a front of it, not all, which is a fault
-abbrev pub GivesText : List ℕ → Option (List ℕ) → Option (List ℕ) → JobEnd → Type 0
-GivesText text c0 c1 end = ((end ≡ Done) × Appends c0 c1 text)
+-- this text was written, and the end is the one that was wanted; or a front of it was written, not
+-- all, which is a fault
+abbrev pub GivesText : JobEnd → List ℕ → Option (List ℕ) → Option (List ℕ) → JobEnd → Type 0
+GivesText wanted text c0 c1 end = ((end ≡ wanted) × Appends c0 c1 text)
     ⊎ ((end ≡ Fault Output) × ((n : ℕ) × (n < length text) × Appends c0 c1 (take n text)))
 
 -- A job over a store, whatever it is, which is old as the job begins and new as it ends.
-module _ {S : Type 0} (is_kept is_honest : S → Type 0) (desk : S → Desk) (faults : S → Faults) where
+module _ {S : Type 0} (is_kept is_honest : S → Type 0) (desk : S → Desk) (keeping : S → Keeping) (faults : S → Faults) where
   -- The script of what is left to read was run over the store's desk, and ended so.
   pub record IsRunOver (r0 c0 c1 : Option (List ℕ)) (old new : S) (end : JobEnd) : Type 0 where
     pub result : Result ScriptEnd ScriptFault
@@ -86,6 +95,7 @@ module _ {S : Type 0} (is_kept is_honest : S → Type 0) (desk : S → Desk) (fa
       written_before = c0;
       written = c1;
     }) result))
+    pub stays : Holds is_kept is_honest old new (keeping new ≡ keeping old)
     pub read : OnOk result (Left r0 rest (λ input left. left ≡ []))
     pub begun : result ≡ Err Read → Left r0 rest IsReadInPart
     pub counts : IsCounted result (faults old) (faults new)
@@ -94,7 +104,7 @@ module _ {S : Type 0} (is_kept is_honest : S → Type 0) (desk : S → Desk) (fa
   pub record IsServerOver (port count : ℕ) (c0 c1 : Option (List ℕ)) (old new : S) (end : JobEnd) : Type 0 where
     pub result : Result (Unit {0}) ServerFault
     pub end_is : end ≡ end_of_server port result
-    pub served : Serves result (IsServing is_kept is_honest desk faults count old new result)
+    pub served : Serves result (IsServing is_kept is_honest (stored desk keeping) faults count old new result)
     pub told : Serves result (Appends c0 c1 (place_line port))
     pub bind : result ≡ Err Bind → (new ≡ old) × (c1 ≡ c0)
     pub write : result ≡ Err Write → new ≡ old
@@ -102,6 +112,8 @@ module _ {S : Type 0} (is_kept is_honest : S → Type 0) (desk : S → Desk) (fa
   -- A message was received, and came to these outcomes and this end.
   pub record IsReceivedOver (from : List ℕ) (lines : List (List ℕ)) (outcomes : List Entry) (last : End) (old new : S) : Type 0 where
     pub received : Holds is_kept is_honest old new (IsReceived from lines (desk old) outcomes last (desk new))
+    -- what is kept of messages with an id stays
+    pub stays : Holds is_kept is_honest old new (keeping new ≡ keeping old)
     pub line : IsLineOf last lines
     pub counts : faults new ≡ faults_after_end last (faults old)
 
@@ -115,12 +127,37 @@ TellsMessage lines outcomes last c0 c1 end =
     ⊎ EndsAtOnce (Fault Memory) c0 c1 end)
 
 -- A message was received by the store's desk and told, and the job ended so.
-pub record IsSentOver {S : Type 0} (is_kept is_honest : S → Type 0) (desk : S → Desk) (faults : S → Faults) (from : List ℕ)
-    (lines : List (List ℕ)) (c0 c1 : Option (List ℕ)) (old new : S) (end : JobEnd) : Type 0 where
+pub record IsSentOver {S : Type 0} (is_kept is_honest : S → Type 0) (desk : S → Desk) (keeping : S → Keeping)
+    (faults : S → Faults) (from : List ℕ) (lines : List (List ℕ)) (c0 c1 : Option (List ℕ)) (old new : S) (end : JobEnd) : Type 0 where
   pub outcomes : List Entry
   pub last : End
-  pub received : IsReceivedOver is_kept is_honest desk faults from lines outcomes last old new
+  pub received : IsReceivedOver is_kept is_honest desk keeping faults from lines outcomes last old new
   pub told : TellsMessage lines outcomes last c0 c1 end
+
+-- these lines, each with a line feed before it
+abbrev pub with_feeds : List (List ℕ) → List ℕ
+with_feeds [] = []
+with_feeds (line ∷ lines) = 10 ∷ line ++ with_feeds lines
+
+-- the text of a message of these lines: one after another, with a line feed between two of them
+abbrev pub message_text : List (List ℕ) → List ℕ
+message_text [] = []
+message_text (line ∷ lines) = line ++ with_feeds lines
+
+-- what is written for a message with an id that came to this, and how its job ends
+abbrev pub TellsOnce : List ℕ → Result Received OnceFault → Option (List ℕ) → Option (List ℕ) → JobEnd → Type 0
+TellsOnce message (Ok received) c0 c1 end = TellsMessage (lines_of message) received.outcomes received.end c0 c1 end
+TellsOnce message (Err BadId) c0 c1 end = EndsAtOnce BadWords c0 c1 end
+TellsOnce message (Err Reused) c0 c1 end = GivesText Refused (codes "NO id in use\n") c0 c1 end
+TellsOnce message (Err (StoreFailed fault)) c0 c1 end = EndsAtOnce (Fault (Store fault)) c0 c1 end
+
+-- A message with this id was sent to the store's desk, and the job ended so.
+pub record IsSentOnceOver {S : Type 0} (is_kept is_honest : S → Type 0) (desk : S → Desk) (keeping : S → Keeping)
+    (faults : S → Faults) (id from message : List ℕ) (c0 c1 : Option (List ℕ)) (old new : S) (end : JobEnd) : Type 0 where
+  pub result : Result Received OnceFault
+  pub once : Holds is_kept is_honest old new (IsOnce id from message (desk old) (keeping old) result (desk new) (keeping new))
+  pub counts : faults new ≡ faults_after_once result (faults old)
+  pub told : TellsOnce message result c0 c1 end
 
 -- nothing was written, and the end is a fault with such a cause
 abbrev pub EndsFor : (Cause → Type 0) → Option (List ℕ) → Option (List ℕ) → JobEnd → Type 0
@@ -137,7 +174,7 @@ module _ {S : Type 0} (start : Ghosts S) where
   pub record IsMade (first : ℕ) (c0 c1 : Option (List ℕ)) (end : JobEnd) : Type 0 where
     pub made : FileDesk start
     pub is_new : IsNewInFile first made
-    pub told : GivesText (codes "OK\n") c0 c1 end
+    pub told : GivesText Done (codes "OK\n") c0 c1 end
 
   -- the number of the first bug is from 1 to 999,999,999
   abbrev pub IsInit : ℕ → Option (List ℕ) → Option (List ℕ) → JobEnd → Type 0
@@ -150,15 +187,24 @@ module _ {S : Type 0} (start : Ghosts S) where
   IsSentToFile from lines c0 c1 end =
       ((¬ IsText from) × EndsAtOnce BadWords c0 c1 end)
       ⊎ (IsText from × IsOverFile c0 c1 end (λ old new.
-      IsSentOver IsKeptInFile HasHonestFile desk_in_file faults_in_file from lines c0 c1 old new end))
+      IsSentOver IsKeptInFile HasHonestFile desk_in_file keeping_in_file faults_in_file from lines c0 c1 old new end))
+
+  -- an id is one, and a sender is a text
+  abbrev pub IsSentOnceToFile : List ℕ → List ℕ → List (List ℕ) → Option (List ℕ) → Option (List ℕ) → JobEnd → Type 0
+  IsSentOnceToFile id from lines c0 c1 end =
+      ((¬ (IsText from × IsId id)) × EndsAtOnce BadWords c0 c1 end)
+      ⊎ ((IsText from × IsId id) × (EndsAtOnce (Fault Memory) c0 c1 end ⊎ IsOverFile c0 c1 end (λ old new.
+      IsSentOnceOver IsKeptInFile HasHonestFile desk_in_file keeping_in_file faults_in_file id from (message_text lines)
+      c0 c1 old new end)))
 
   -- What a job does, where these bytes are left to read, if they are known.
   abbrev pub IsJobDone : Job → Option (List ℕ) → Option (List ℕ) → Option (List ℕ) → JobEnd → Type 0
   IsJobDone (Run None) r0 c0 c1 end = Known r0 (λ input. IsRun input c0 c1 end)
   IsJobDone (Run (Some store)) r0 c0 c1 end = IsOverFile c0 c1 end (λ old new.
-      IsRunOver IsKeptInFile HasHonestFile desk_in_file faults_in_file r0 c0 c1 old new end)
+      IsRunOver IsKeptInFile HasHonestFile desk_in_file keeping_in_file faults_in_file r0 c0 c1 old new end)
   IsJobDone (Init store first) r0 c0 c1 end = IsInit first c0 c1 end
   IsJobDone (Serve None port count) r0 c0 c1 end = IsServer port count c0 c1 end
   IsJobDone (Serve (Some store) port count) r0 c0 c1 end = IsOverFile c0 c1 end (λ old new.
-      IsServerOver IsKeptInFile HasHonestFile desk_in_file faults_in_file port count c0 c1 old new end)
-  IsJobDone (Send store from lines) r0 c0 c1 end = IsSentToFile from lines c0 c1 end
+      IsServerOver IsKeptInFile HasHonestFile desk_in_file keeping_in_file faults_in_file port count c0 c1 old new end)
+  IsJobDone (Send store from None lines) r0 c0 c1 end = IsSentToFile from lines c0 c1 end
+  IsJobDone (Send store from (Some id) lines) r0 c0 c1 end = IsSentOnceToFile id from lines c0 c1 end

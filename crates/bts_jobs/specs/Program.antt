@@ -10,7 +10,7 @@ use Rattle.job_words.specs.declared.job.WordsError.TheVariants.{Help, Bad, Memor
 use Rattle.bts_jobs.specs.Jobs.{IsJobDone, EndsAtOnce, GivesText}
 use Rattle.bts_jobs.specs.declared.ending.Cause.TheVariants as causes
 use Rattle.bts_jobs.specs.declared.ending.JobEnd.{JobEnd}
-use Rattle.bts_jobs.specs.declared.ending.JobEnd.TheVariants.{BadWords, Fault}
+use Rattle.bts_jobs.specs.declared.ending.JobEnd.TheVariants.{Done, BadWords, Fault}
 
 -- the words may be read so
 abbrev pub AreReadAs : List Text → Result Job WordsError → Type 0
@@ -22,7 +22,7 @@ module _ {S : Type 0} (start : Ghosts S) where
   -- of memory end at once.
   abbrev pub Does : Result Job WordsError → Option (List ℕ) → Option (List ℕ) → Option (List ℕ) → JobEnd → Type 0
   Does (Ok job) r0 c0 c1 end = IsJobDone start job r0 c0 c1 end
-  Does (Err (Help text)) r0 c0 c1 end = GivesText text c0 c1 end
+  Does (Err (Help text)) r0 c0 c1 end = GivesText Done text c0 c1 end
   Does (Err Bad) r0 c0 c1 end = EndsAtOnce BadWords c0 c1 end
   Does (Err Memory) r0 c0 c1 end = EndsAtOnce (Fault causes.Memory) c0 c1 end
 

@@ -7,6 +7,7 @@ ghost use Rattle.bts_jobs.specs.Jobs.{IsJobDone};
 
 use crate::ending::JobEnd;
 use crate::making::make_desk;
+use crate::repeats::send_once_to_file;
 use crate::script::{run_script_in_file, run_script_job};
 use crate::sending::send_to_file;
 use crate::server::{serve_file, serve_job};
@@ -26,6 +27,8 @@ use std::io::{Read, Write};
 /// 1 to 999,999,999 is bad words.
 /// `Send` takes its lines as one message and writes the transcript, as a script does; a sender that is
 /// no text of 1 to 200 bytes is bad words.
+/// With an id, lines that were taken before are not taken again, and `NO id in use` is written where
+/// the id is known with another sender or text; an id that is none is bad words.
 /// Where a file can't be opened, or no desk can be made in it, nothing is written, and that is a
 /// fault.
 /// At the end the log beside the file is copied into it; a fault of that is not told, since all that
@@ -56,10 +59,29 @@ pub fn do_job_from<S: Start, R: Read, W: Write>(
             count,
         } => serve_file(rt, start, store.as_str(), *port, *count, writer),
         Job::Init { store, first } => make_desk(rt, start, store.as_str(), *first, writer),
-        Job::Send { store, from, lines } => send_to_file(
+        Job::Send {
+            store,
+            from,
+            id: None,
+            lines,
+        } => send_to_file(
             rt,
             start,
             store.as_str(),
+            from.as_str(),
+            lines.as_slice(),
+            writer,
+        ),
+        Job::Send {
+            store,
+            from,
+            id: Some(id),
+            lines,
+        } => send_once_to_file(
+            rt,
+            start,
+            store.as_str(),
+            id.as_str(),
             from.as_str(),
             lines.as_slice(),
             writer,

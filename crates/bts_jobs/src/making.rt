@@ -9,12 +9,12 @@ use line_words::LARGEST_NUMBER;
 use sqlite::Start;
 use std::io::Write;
 
-/// Writes a text, and answers how that ended.
-pub(crate) fn give_text<W: Write>(writer: &mut W, text: &str) -> JobEnd
-    ensures { GivesText text.now (W.contents writer.old) (W.contents writer.new) result }
+/// Writes a text, and answers this end, or that it could not be written.
+pub(crate) fn give_text<W: Write>(writer: &mut W, text: &str, end: JobEnd) -> JobEnd
+    ensures { GivesText end text.now (W.contents writer.old) (W.contents writer.new) result }
 {
     match write_out(writer, text.as_bytes()) {
-        Ok(()) => JobEnd::Done,
+        Ok(()) => end,
         Err(_) => JobEnd::Fault(Cause::Output),
     }
 }
@@ -35,7 +35,7 @@ pub(crate) fn make_desk<S: Start, W: Write>(
     }
     match create_desk(rt, start, path, first) {
         Ok(desk) => {
-            let end = give_text(writer, "OK\n");
+            let end = give_text(writer, "OK\n", JobEnd::Done);
             close_desk(desk);
             end
         }

@@ -26,7 +26,7 @@ fn do_words<R: Read, W: Write>(
 {
     match read_words(alloc, words) {
         Ok(job) => do_job(rt, alloc, &job, reader, writer),
-        Err(WordsError::Help(text)) => give_text(writer, text.as_str()),
+        Err(WordsError::Help(text)) => give_text(writer, text.as_str(), JobEnd::Done),
         Err(WordsError::Bad) => JobEnd::BadWords,
         Err(WordsError::Memory) => JobEnd::Fault(Cause::Memory),
     }

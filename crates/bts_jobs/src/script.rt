@@ -4,7 +4,7 @@ ghost use Rattle.std.specs.Prelude.{◌≡◌};
 ghost use Rattle.desk_lines.specs.Reading.{Known};
 ghost use Rattle.bts_jobs.specs.Endings.{cause_of_script, end_of_script};
 ghost use Rattle.bts_jobs.specs.Jobs.{IsRun, IsRunOver, IsOverFile};
-ghost use Rattle.bts_jobs.specs.InFile.{desk_in_file, IsKeptInFile, HasHonestFile, faults_in_file};
+ghost use Rattle.bts_jobs.specs.InFile.{desk_in_file, keeping_in_file, IsKeptInFile, HasHonestFile, faults_in_file};
 
 use crate::ending::{Cause, JobEnd};
 use crate::file_desk::{close_desk, open_desk};
@@ -47,7 +47,7 @@ pub fn run_script_over<D: Records, R: Read, W: Write>(
     reader: &mut R,
     writer: &mut W,
 ) -> JobEnd
-    ensures { IsRunOver D.is_kept D.is_honest D.desk D.faults (R.remaining reader.old) (W.contents writer.old)
+    ensures { IsRunOver D.is_kept D.is_honest D.desk D.keeping D.faults (R.remaining reader.old) (W.contents writer.old)
         (W.contents writer.new) desk.old desk.new result }
 {
     end_of(run_script(alloc, desk, reader, writer))
@@ -74,7 +74,7 @@ pub(crate) fn run_script_in_file<S: Start, R: Read, W: Write>(
     writer: &mut W,
 ) -> JobEnd
     ensures { IsOverFile S.Start (W.contents writer.old) (W.contents writer.new) result
-        (λ old new. IsRunOver IsKeptInFile HasHonestFile desk_in_file faults_in_file (R.remaining reader.old)
+        (λ old new. IsRunOver IsKeptInFile HasHonestFile desk_in_file keeping_in_file faults_in_file (R.remaining reader.old)
         (W.contents writer.old) (W.contents writer.new) old new result) }
 {
     match open_desk(rt, start, path) {

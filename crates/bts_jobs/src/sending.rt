@@ -34,8 +34,13 @@ fn end_of(received: &Received) -> JobEnd
     }
 }
 
-// Writes what came of a message, and answers how its job ends.
-fn tell<W: Write>(alloc: Global, received: &Received, lines: &[Text], writer: &mut W) -> JobEnd
+/// Writes what came of a message, and answers how its job ends.
+pub(crate) fn tell<W: Write>(
+    alloc: Global,
+    received: &Received,
+    lines: &[Text],
+    writer: &mut W,
+) -> JobEnd
     ensures { TellsMessage lines.now received.now.outcomes received.now.end (W.contents writer.old) (W.contents writer.new)
         result }
 {
@@ -57,7 +62,7 @@ pub fn send_over<D: Records, W: Write>(
     writer: &mut W,
 ) -> JobEnd
     requires { IsText from.now }
-    ensures { IsSentOver D.is_kept D.is_honest D.desk D.faults from.now lines.now (W.contents writer.old) (W.contents writer.new)
+    ensures { IsSentOver D.is_kept D.is_honest D.desk D.keeping D.faults from.now lines.now (W.contents writer.old) (W.contents writer.new)
         desk.old desk.new result }
 {
     let received = receive_lines(alloc, desk, from, lines);

@@ -3,7 +3,7 @@
 ghost use Rattle.std.specs.Prelude.{◌≡◌};
 ghost use Rattle.bts_jobs.specs.Endings.{end_of_server};
 ghost use Rattle.bts_jobs.specs.Jobs.{IsServer, IsServerOver, IsOverFile};
-ghost use Rattle.bts_jobs.specs.InFile.{desk_in_file, IsKeptInFile, HasHonestFile, faults_in_file};
+ghost use Rattle.bts_jobs.specs.InFile.{desk_in_file, keeping_in_file, IsKeptInFile, HasHonestFile, faults_in_file};
 
 use crate::ending::{Cause, JobEnd};
 use crate::file_desk::{close_desk, open_desk};
@@ -37,7 +37,7 @@ pub fn serve_over<D: Records, W: Write>(
     count: u64,
     writer: &mut W,
 ) -> JobEnd
-    ensures { IsServerOver D.is_kept D.is_honest D.desk D.faults port count (W.contents writer.old) (W.contents writer.new)
+    ensures { IsServerOver D.is_kept D.is_honest D.desk D.keeping D.faults port count (W.contents writer.old) (W.contents writer.new)
         desk.old desk.new result }
 {
     end_of(port, serve_port(rt, alloc, desk, port, count, writer))
@@ -73,7 +73,7 @@ pub(crate) fn serve_file<S: Start, W: Write>(
     writer: &mut W,
 ) -> JobEnd
     ensures { IsOverFile S.Start (W.contents writer.old) (W.contents writer.new) result
-        (λ old new. IsServerOver IsKeptInFile HasHonestFile desk_in_file faults_in_file port count
+        (λ old new. IsServerOver IsKeptInFile HasHonestFile desk_in_file keeping_in_file faults_in_file port count
         (W.contents writer.old) (W.contents writer.new) old new result) }
 {
     match open_desk(rt, start, path) {

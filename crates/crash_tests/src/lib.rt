@@ -7,4 +7,6 @@ mod crashes;
 #[cfg(test)]
 mod desks;
 #[cfg(test)]
+mod keeps;
+#[cfg(test)]
 mod stops;

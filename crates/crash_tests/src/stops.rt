@@ -1,6 +1,7 @@
 //! Desks that are stopped within a call, crash, and are opened again.
 
 use crate::desks::{FusedDesk, new_desk, writes};
+use crate::keeps::keep_stopped;
 use ancestry::{Node, NodeFault};
 use bug_core::report_change;
 use bug_record::Severity;
@@ -15,11 +16,22 @@ use std::alloc::Global;
 // More calls of the log than a desk with one bug takes.
 const CALLS_OF_A_DESK: u64 = 4_096;
 
-// More calls of the log than a branch or a report takes.
+// More calls of the log than a branch, a report or an outcome takes.
 const CALLS_OF_ONE_CALL: u64 = 256;
 
+// A call after which the desk crashes.
+#[derive(Clone, Copy)]
+enum Call<'a> {
+    // A branch of these nodes.
+    Branch(&'a [Node]),
+    // The report of a second bug.
+    Report,
+    // An outcome that is kept of a message.
+    Keep,
+}
+
 /// What comes of a call after so many calls of a file, and a crash.
-enum Outcome {
+pub(crate) enum Came {
     /// There was no desk yet.
     NoDesk,
     /// The call failed, and what is opened is the desk before or after it.
@@ -30,20 +42,20 @@ enum Outcome {
     Wrong,
 }
 
-// What comes of a call that was answered or not, by whether the desk that is opened is the one after
-// it, or the one before it.
-fn outcome_of(answered: bool, is_after: bool, is_before: bool) -> Outcome {
+/// What comes of a call that was answered or not, by whether the desk that is opened is the one after
+/// it, or the one before it.
+pub(crate) fn outcome_of(answered: bool, is_after: bool, is_before: bool) -> Came {
     if answered && is_after {
-        Outcome::Done
+        Came::Done
     } else if !answered && (is_after || is_before) {
-        Outcome::Failed
+        Came::Failed
     } else {
-        Outcome::Wrong
+        Came::Wrong
     }
 }
 
-// A desk with one bug, the log of whose files passes so many calls on.
-fn desk_with_bug(alloc: Global, calls: u64) -> Option<FusedDesk> {
+/// A desk with one bug, the log of whose files passes so many calls on.
+pub(crate) fn desk_with_bug(alloc: Global, calls: u64) -> Option<FusedDesk> {
     let mut desk = new_desk(alloc, calls)?;
     if writes(alloc, &mut desk, "@report foo 1 normal a\n", "OK 1\n") {
         Some(desk)
@@ -65,13 +77,13 @@ fn branch(alloc: Global) -> Result<Vec<Node>, NodeFault> {
 }
 
 // What comes of a branch of these nodes, where the log passes so many calls on.
-fn branch_stopped(alloc: Global, nodes: &[Node], calls: u64) -> Outcome {
+fn branch_stopped(alloc: Global, nodes: &[Node], calls: u64) -> Came {
     let Some(desk) = desk_with_bug(alloc, calls) else {
-        return Outcome::NoDesk;
+        return Came::NoDesk;
     };
     let (done, again) = branch_and_crash(alloc, desk, nodes);
     let Some(mut again) = again else {
-        return Outcome::Wrong;
+        return Came::Wrong;
     };
     let there = "Bugs in foo at foo/2: 1\n        1  normal     open  a\n";
     let is_after = writes(alloc, &mut again, "@list foo 2\n", there);
@@ -107,15 +119,15 @@ fn report_and_crash<S: Alter + Reopen + Drop>(
 }
 
 // What comes of the report of a second bug, where the log passes so many calls on.
-fn report_stopped(alloc: Global, calls: u64) -> Outcome {
+fn report_stopped(alloc: Global, calls: u64) -> Came {
     let Some(desk) = desk_with_bug(alloc, calls) else {
-        return Outcome::NoDesk;
+        return Came::NoDesk;
     };
     let Some((answered, again)) = report_and_crash(alloc, desk) else {
-        return Outcome::NoDesk;
+        return Came::NoDesk;
     };
     let Some(mut again) = again else {
-        return Outcome::Wrong;
+        return Came::Wrong;
     };
     let there = "> severity 2 normal\nOK, no change.\n";
     let absent = "> severity 2 normal\nNO no such bug 2\n";
@@ -146,22 +158,23 @@ fn fewest_calls(alloc: Global) -> u64 {
     high
 }
 
-// Whether some run fails, and then one is done, and none before ends wrongly: runs of a branch of
-// these nodes, or of a report where there are none, each with one call of the log more.
-fn fails_until_done(alloc: Global, nodes: Option<&[Node]>) -> bool {
+// Whether some run of a call fails, and then one is done, and none before ends wrongly, each with one
+// call of the log more.
+fn fails_until_done(alloc: Global, call: Call<'_>) -> bool {
     let fewest = fewest_calls(alloc);
     let mut has_failed = false;
     for more in 0..CALLS_OF_ONE_CALL {
         let calls = fewest.saturating_add(more);
-        let came = match nodes {
-            Some(nodes) => branch_stopped(alloc, nodes, calls),
-            None => report_stopped(alloc, calls),
+        let came = match call {
+            Call::Branch(nodes) => branch_stopped(alloc, nodes, calls),
+            Call::Report => report_stopped(alloc, calls),
+            Call::Keep => keep_stopped(alloc, calls),
         };
         match came {
-            Outcome::NoDesk => {}
-            Outcome::Failed => has_failed = true,
-            Outcome::Done => return has_failed,
-            Outcome::Wrong => return false,
+            Came::NoDesk => {}
+            Came::Failed => has_failed = true,
+            Came::Done => return has_failed,
+            Came::Wrong => return false,
         }
     }
     false
@@ -171,12 +184,17 @@ fn fails_until_done(alloc: Global, nodes: Option<&[Node]>) -> bool {
 fn a_branch_is_there_as_a_whole_or_not_at_all(rt: HostRuntime) {
     let alloc = rt.alloc();
     match branch(alloc) {
-        Ok(nodes) => assert!(rt; fails_until_done(alloc, Some(nodes.as_slice()))),
+        Ok(nodes) => assert!(rt; fails_until_done(alloc, Call::Branch(nodes.as_slice()))),
         Err(_) => assert!(rt; false),
     }
 }
 
 #[test]
 fn a_report_is_there_as_a_whole_or_not_at_all(rt: HostRuntime) {
-    assert!(rt; fails_until_done(rt.alloc(), None));
+    assert!(rt; fails_until_done(rt.alloc(), Call::Report));
+}
+
+#[test]
+fn an_outcome_is_kept_as_a_whole_or_not_at_all(rt: HostRuntime) {
+    assert!(rt; fails_until_done(rt.alloc(), Call::Keep));
 }

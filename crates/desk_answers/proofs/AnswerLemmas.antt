@@ -26,8 +26,8 @@ use Rattle.desk_answers.specs.Cases.{GivesOrFails, AnswersQuestion}
 use Rattle.desk_answers.specs.Steps.{Fails, Gives}
 use Rattle.desk_answers.specs.declared.reply.Reply.{Reply}
 
--- an answer and a desk, each equal to another
-pair : {a b : Answer} {d e : Desk} → a ≡ b → d ≡ e → ◌≡◌ {A = Answer × Desk} (a, d) (b, e)
+-- an answer and what is left, each equal to another
+pub pair : {D : Type 0} {a b : Answer} {d e : D} → a ≡ b → d ≡ e → ◌≡◌ {A = Answer × D} (a, d) (b, e)
 pair p q = λ i. (p i, q i)
 
 -- this answer and this desk, where no fault was met

@@ -1,4 +1,6 @@
 pub mod AnswerLemmas
+pub mod AskedLemmas
 pub mod MessageLemmas
 pub mod NodesLemmas
+pub mod RepeatLemmas
 pub mod WrittenLemmas

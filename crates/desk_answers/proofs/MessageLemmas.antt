@@ -7,7 +7,7 @@ use Rattle.desk_text.specs.declared.outcome.End.{End}
 use Rattle.desk_text.specs.declared.outcome.End.TheVariants as ends
 use Rattle.desk_lines.specs.Lines.{lines_of}
 use Rattle.desk_json.specs.Members.{Control}
-use Rattle.desk_store.specs.Message.{Entry, Machine, Comes, IsReceived, at_start, after_lines}
+use Rattle.message_machine.specs.Message.{Entry, Machine, Comes, IsReceived, at_start, after_lines}
 use Rattle.desk_answers.specs.Answer.{json_answer}
 use Rattle.desk_answers.specs.Requests.{PostControl}
 use Rattle.desk_answers.specs.Answers.{answered_message, message_json}

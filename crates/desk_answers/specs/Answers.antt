@@ -9,7 +9,7 @@ use Rattle.desk_text.specs.declared.outcome.End.{End}
 use Rattle.desk_text.specs.declared.outcome.End.TheVariants as ends
 use Rattle.desk_text.specs.declared.outcome.ReportFault.{ReportFault}
 use Rattle.desk_lines.specs.Lines.{lines_of}
-use Rattle.desk_store.specs.Message.{Entry, Machine, at_start, after_lines, end_of}
+use Rattle.message_machine.specs.Message.{Entry, Machine, at_start, after_lines, end_of}
 use Rattle.desk_questions.specs.Questions.{Told, page_told, list_told}
 use Rattle.desk_messages.specs.Reports.{report_of}
 use Rattle.desk_messages.specs.Transcripts.{received_text}

@@ -6,7 +6,7 @@ use Rattle.desk_text.specs.declared.outcome.ReportFault.{ReportFault}
 use Rattle.desk_text.specs.declared.outcome.ReportFault.TheVariants as reports
 use Rattle.desk_text.specs.declared.outcome.StoreFault.{StoreFault}
 use Rattle.desk_text.specs.declared.outcome.StoreFault.TheVariants.{Memory}
-use Rattle.desk_store.specs.Message.{Entry}
+use Rattle.message_machine.specs.Message.{Entry}
 use Rattle.desk_questions.specs.declared.told.Told.{Told}
 use Rattle.desk_questions.specs.declared.told.QuestionFault.{QuestionFault}
 use Rattle.desk_questions.specs.declared.told.QuestionFault.TheVariants as questions

@@ -9,7 +9,7 @@ use Rattle.desk_text.specs.declared.outcome.End.TheVariants as ends
 use Rattle.desk_lines.specs.Lines.{lines_of}
 use Rattle.desk_json.specs.Members.{Control}
 use Rattle.desk_store.specs.Store.{Faults, counted}
-use Rattle.desk_store.specs.Message.{Entry, IsReceived, at_start, after_lines}
+use Rattle.message_machine.specs.Message.{Entry, IsReceived, at_start, after_lines}
 use Rattle.desk_questions.specs.Questions.{AsksForList}
 use Rattle.desk_run.specs.Branches.{nodes_of}
 use Rattle.desk_answers.specs.Answer.{Answer, json_answer, store_fault}

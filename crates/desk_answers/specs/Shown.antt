@@ -2,7 +2,7 @@
 use Rattle.std.specs.Prelude.{ℕ, List, map, option_map, string_bytes}
 use Rattle.desk_json.specs.Members.{Report, Control}
 use Rattle.desk_answers.specs.Answer.{Answer, json, plain}
-use Rattle.desk_answers.specs.Requests.{Request, PostBug, PostControl, PostBranch, GetBug, GetList}
+use Rattle.desk_answers.specs.Requests.{Asked, Always, Once, PostBug, PostControl, PostBranch, GetBug, GetList}
 use Rattle.desk_answers.specs.declared.reply.Body.{Body}
 use Rattle.desk_answers.specs.declared.reply.Body.TheVariants.{Fixed, Json, Page}
 use Rattle.desk_answers.specs.declared.reply.Reply.{Reply}
@@ -41,9 +41,10 @@ report_asked r = record {
 abbrev pub message_asked : MessageRequest → Control
 message_asked m = record { from = string_bytes m.from; message = string_bytes m.message }
 
-abbrev pub asked : RequestMade → Request
-asked (requests.Report r) = PostBug (report_asked r)
-asked (requests.Message m) = PostControl (message_asked m)
-asked (requests.Branch words) = PostBranch (map string_bytes words.items)
-asked (requests.Page n) = GetBug n
-asked (requests.ListOf l) = GetList (string_bytes l.«package») (string_bytes l.version)
+abbrev pub asked : RequestMade → Asked
+asked (requests.Report r) = Always (PostBug (report_asked r))
+asked (requests.Message m) = Always (PostControl (message_asked m))
+asked (requests.Once o) = Once (string_bytes o.id) (message_asked o.message)
+asked (requests.Branch words) = Always (PostBranch (map string_bytes words.items))
+asked (requests.Page n) = Always (GetBug n)
+asked (requests.ListOf l) = Always (GetList (string_bytes l.«package») (string_bytes l.version))

@@ -2,12 +2,15 @@
 
 ghost use Rattle.std.specs.Prelude.{◌≡◌};
 ghost use Rattle.desk_store.specs.Store.{Holds};
-ghost use Rattle.desk_answers.specs.Requests.{HasGoodSender};
-ghost use Rattle.desk_answers.specs.Faults.{IsAnswer, IsTold, counted_with};
+ghost use Rattle.desk_answers.specs.Requests.{IsGoodAsked};
+ghost use Rattle.desk_answers.specs.Faults.{IsTold, counted_with};
+ghost use Rattle.desk_answers.specs.Repeats.{IsAskedAnswer};
+ghost use Rattle.desk_answers.specs.Stored.{stored};
 ghost use Rattle.desk_answers.specs.Shown.{shown, asked};
 
 use crate::branches::answer_branch;
 use crate::messages::answer_message;
+use crate::once::answer_once;
 use crate::questions::{answer_list, answer_page};
 use crate::reply::Reply;
 use crate::reports::answer_report;
@@ -20,6 +23,8 @@ use std::alloc::Global;
 /// A report is answered 201 with the number of the new bug, a message 200 with its end and its
 /// transcript, a branch 200, a page or a list 200 with its text; a report or a branch that is
 /// refused 400 with the reason, and a page or a list that is not there 404.
+/// A message with an id is answered with the outcomes of all its lines, and those that were kept
+/// before are not taken again; one whose id is known with another sender or text is refused 409.
 ///
 /// Where the store fails, or there is no memory, the answer is 500, and the reply's `fault` says
 /// which.
@@ -29,15 +34,16 @@ use std::alloc::Global;
 /// The room for the answer to a report is made before the report.
 /// This is this project's own rule.
 pub fn answer_request<S: Records>(alloc: Global, store: &mut S, request: &Request) -> Reply
-    requires { HasGoodSender (asked request.now) }
-    ensures answer { Holds S.is_kept S.is_honest store.old store.new (IsAnswer (asked request.now)
-        (S.desk store.old) result.fault (shown result) (S.desk store.new)) }
+    requires { IsGoodAsked (asked request.now) }
+    ensures answer { Holds S.is_kept S.is_honest store.old store.new (IsAskedAnswer (asked request.now)
+        (stored S.desk S.keeping store.old) result.fault (shown result) (stored S.desk S.keeping store.new)) }
     ensures count { S.faults store.new ≡ counted_with result.fault (S.faults store.old) }
     ensures told { IsTold result.fault (shown result) }
 {
     match request {
         Request::Report(report) => answer_report(alloc, store, report),
         Request::Message(message) => answer_message(alloc, store, message),
+        Request::Once(once) => answer_once(alloc, store, once),
         Request::Branch(words) => answer_branch(alloc, store, words.as_slice()),
         Request::Page(number) => answer_page(alloc, store, *number),
         Request::ListOf(list) => answer_list(alloc, store, list),

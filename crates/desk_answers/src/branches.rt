@@ -56,6 +56,7 @@ fn answer_nodes<S: Records>(alloc: Global, store: &mut S, words: &[String], node
     requires { nodes_of (map string_bytes words.now) ≡ Some nodes.now }
     ensures answer { Holds S.is_kept S.is_honest store.old store.new (IsAnswer (PostBranch (map string_bytes words.now))
         (S.desk store.old) result.fault (shown result) (S.desk store.new)) }
+    ensures stays { Holds S.is_kept S.is_honest store.old store.new (S.keeping store.new ≡ S.keeping store.old) }
     ensures count { S.faults store.new ≡ counted_with result.fault (S.faults store.old) }
     ensures told { IsTold result.fault (shown result) }
 {
@@ -70,6 +71,7 @@ fn answer_nodes<S: Records>(alloc: Global, store: &mut S, words: &[String], node
 pub(crate) fn answer_branch<S: Records>(alloc: Global, store: &mut S, words: &[String]) -> Reply
     ensures answer { Holds S.is_kept S.is_honest store.old store.new (IsAnswer (PostBranch (map string_bytes words.now))
         (S.desk store.old) result.fault (shown result) (S.desk store.new)) }
+    ensures stays { Holds S.is_kept S.is_honest store.old store.new (S.keeping store.new ≡ S.keeping store.old) }
     ensures count { S.faults store.new ≡ counted_with result.fault (S.faults store.old) }
     ensures told { IsTold result.fault (shown result) }
 {

@@ -4,6 +4,7 @@
 mod answering;
 mod branches;
 mod messages;
+mod once;
 mod questions;
 mod refusals;
 mod reply;
@@ -13,5 +14,5 @@ mod writing;
 
 pub use answering::answer_request;
 pub use reply::{Body, Reply, not_found, store_fault};
-pub use request::{ListRequest, MessageRequest, ReportRequest, Request};
+pub use request::{ListRequest, MessageRequest, OnceRequest, ReportRequest, Request};
 pub use writing::{write_reply, write_three};

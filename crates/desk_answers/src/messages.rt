@@ -76,8 +76,8 @@ fn tell_fault(alloc: Global, received: &Received, lines: &[Text], fault: StoreFa
     }
 }
 
-// The answer to a message that was received.
-fn tell(alloc: Global, received: &Received, lines: &[Text]) -> Reply
+/// The answer to a message that was received.
+pub(crate) fn tell(alloc: Global, received: &Received, lines: &[Text]) -> Reply
     ensures is { AnswersEnd received.now.outcomes received.now.end lines.now result }
     ensures told { IsTold result.fault (shown result) }
 {
@@ -96,6 +96,7 @@ pub(crate) fn answer_message<S: Records>(
     requires { IsText (string_bytes request.now.from) }
     ensures answer { Holds S.is_kept S.is_honest store.old store.new (IsAnswer (PostControl (message_asked request.now))
         (S.desk store.old) result.fault (shown result) (S.desk store.new)) }
+    ensures stays { Holds S.is_kept S.is_honest store.old store.new (S.keeping store.new ≡ S.keeping store.old) }
     ensures count { S.faults store.new ≡ counted_with result.fault (S.faults store.old) }
     ensures told { IsTold result.fault (shown result) }
 {

@@ -36,6 +36,7 @@ fn answer_question(told: Result<Told, QuestionFault>) -> Reply
 pub(crate) fn answer_page<S: Records>(alloc: Global, store: &mut S, number: u64) -> Reply
     ensures answer { Holds S.is_kept S.is_honest store.old store.new (IsAnswer (GetBug number)
         (S.desk store.old) result.fault (shown result) (S.desk store.new)) }
+    ensures stays { Holds S.is_kept S.is_honest store.old store.new (S.keeping store.new ≡ S.keeping store.old) }
     ensures count { S.faults store.new ≡ counted_with result.fault (S.faults store.old) }
     ensures told { IsTold result.fault (shown result) }
 {
@@ -47,6 +48,7 @@ pub(crate) fn answer_list<S: Records>(alloc: Global, store: &mut S, list: &ListR
     ensures answer { Holds S.is_kept S.is_honest store.old store.new
         (IsAnswer (GetList (string_bytes list.now.«package») (string_bytes list.now.version))
         (S.desk store.old) result.fault (shown result) (S.desk store.new)) }
+    ensures stays { Holds S.is_kept S.is_honest store.old store.new (S.keeping store.new ≡ S.keeping store.old) }
     ensures count { S.faults store.new ≡ counted_with result.fault (S.faults store.old) }
     ensures told { IsTold result.fault (shown result) }
 {

@@ -49,6 +49,7 @@ pub(crate) fn answer_report<S: Records>(
     requires { IsText (string_bytes request.now.from) }
     ensures answer { Holds S.is_kept S.is_honest store.old store.new (IsAnswer (PostBug (report_asked request.now))
         (S.desk store.old) result.fault (shown result) (S.desk store.new)) }
+    ensures stays { Holds S.is_kept S.is_honest store.old store.new (S.keeping store.new ≡ S.keeping store.old) }
     ensures count { S.faults store.new ≡ counted_with result.fault (S.faults store.old) }
     ensures told { IsTold result.fault (shown result) }
 {

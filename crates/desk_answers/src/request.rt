@@ -7,6 +7,8 @@ pub enum Request {
     Report(ReportRequest),
     /// A control message.
     Message(MessageRequest),
+    /// A control message that has an id, and acts once.
+    Once(OnceRequest),
     /// A branch, by the words of its nodes.
     Branch(Vec<String>),
     /// The page of the bug of this number.
@@ -30,6 +32,14 @@ pub struct ReportRequest {
 pub struct MessageRequest {
     pub from: String,
     pub message: String,
+}
+
+/// A control message with its id.
+#[derive(Drop)]
+pub struct OnceRequest {
+    /// 1 to 100 visible ASCII characters.
+    pub id: String,
+    pub message: MessageRequest,
 }
 
 /// The words of a list.

@@ -198,6 +198,9 @@ module _ (c : Content) (t : Ancestry) (changed : List Node) (rows : List SetNear
         near = λ k v. near_each-is rows c.near missing.once k v
             ∙ ap (λ (o : Option Near). option_or o (c.near k v)) (missing.rows_are k v)
             ∙ cases k v (c.near k v) refl;
+        messages = λ id. refl;
+        outcomes = λ id. refl;
+        outcome_numbers = λ id place. refl;
       })
     where
       alone : (o : Option Near) → option_or o None ≡ o

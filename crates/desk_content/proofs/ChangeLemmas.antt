@@ -26,6 +26,7 @@ use Rattle.desk_content.specs.declared.edit.SetFields.{SetFields}
 use Rattle.desk_content.proofs.ClosedLemmas.{in_some, loses_some, no_key, no_members, no_fields, no_blockers, no_affects, no_found, no_fixed}
 use Rattle.desk_content.proofs.ClosedLemmas.{no_near, no_nodes, pick, put_key, put_nodes, put_members, put_fields, put_blockers, put_affects, put_found}
 use Rattle.desk_content.proofs.ClosedLemmas.{put_fixed, put_near}
+use Rattle.desk_content.proofs.KeepLemmas.{images_say, says_kept, kept_of}
 
 -- ---- bugs that the images have
 
@@ -334,7 +335,7 @@ module _ (c : Content) (is : List SetImage) (kept : IsKeptContent c) (apart : Ar
           [ true ↦ refl | false ↦ no_near_marks c.nodes v ]
 
   pub kept_is : (next : ℕ) → IsSound (desk_in (record after { next = next })) → IsKeptContent (record after { next = next })
-  kept_is next sound = record {
+  kept_is next sound = let told = says_kept (record after { next = next }) c (images_say c is next) (kept_of c kept) in record {
     keyed = keyed_is;
     sound = sound;
     no_members = no_members_left;
@@ -343,6 +344,10 @@ module _ (c : Content) (is : List SetImage) (kept : IsKeptContent c) (apart : Ar
     no_blockers = λ k. empty k (λ x. x.blockers k) (λ i. i.shared.blockers) [] (blockers_is k) (kept.no_blockers k);
     no_affects = λ k. empty k (λ x. x.affects k) (λ i. i.shared.affects) [] (affects_is k) (kept.no_affects k);
     near = near_right;
+    no_outcomes = told.no_outcomes;
+    places = told.places;
+    no_numbers = told.no_numbers;
+    good = told.good;
   }
 
 pub change_desk : (c : Content) (change : Change) → IsKeptContent c → FitsContent c change

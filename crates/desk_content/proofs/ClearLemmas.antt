@@ -98,6 +98,9 @@ later keeps key m ms c = same_content _ _ (record {
   affects = λ k. first_or_later (m.number == k) (has (numbers_of ms) k) [] (c.affects k);
   nodes = refl;
   near = λ k v. ap (λ (f : Node → _). f v) (mark_later keeps key m.number k (has (numbers_of ms) k) (λ v. None) c.near);
+  messages = λ id. refl;
+  outcomes = λ id. refl;
+  outcome_numbers = λ id place. refl;
 })
 
 dropped : (keeps : Bool) (key : ℕ) (ms : List Member) (c : Content) → edited_all (drops keeps key ms) c ≡ without keeps key ms c
@@ -112,6 +115,9 @@ dropped keeps key [] c = same_content _ _ (record {
   affects = λ k. refl;
   nodes = refl;
   near = λ k v. refl;
+  messages = λ id. refl;
+  outcomes = λ id. refl;
+  outcome_numbers = λ id place. refl;
 })
 dropped keeps key (m ∷ ms) c =
     edited_all-append (drops_of keeps key m.number) (drops keeps key ms) c

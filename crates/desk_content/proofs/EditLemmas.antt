@@ -18,6 +18,9 @@ pub record SaysSame (a b : Content) : Type 0 where
   pub affects : (k : ℕ) → a.affects k ≡ b.affects k
   pub nodes : a.nodes ≡ b.nodes
   pub near : (k : ℕ) (v : Node) → a.near k v ≡ b.near k v
+  pub messages : (id : List ℕ) → a.messages id ≡ b.messages id
+  pub outcomes : (id : List ℕ) → a.outcomes id ≡ b.outcomes id
+  pub outcome_numbers : (id : List ℕ) (place : ℕ) → a.outcome_numbers id place ≡ b.outcome_numbers id place
 
 pub same_content : (a b : Content) → SaysSame a b → a ≡ b
 same_content a b s = λ i. record {
@@ -31,6 +34,9 @@ same_content a b s = λ i. record {
   affects = λ k. s.affects k i;
   nodes = s.nodes i;
   near = λ k v. s.near k v i;
+  messages = λ id. s.messages id i;
+  outcomes = λ id. s.outcomes id i;
+  outcome_numbers = λ id place. s.outcome_numbers id place i;
 }
 
 pub edited_all-append : (xs ys : List Edit) (c : Content) → edited_all (xs ++ ys) c ≡ edited_all ys (edited_all xs c)

@@ -68,13 +68,13 @@ drops_free keeps key (m ∷ ms) c h =
 
 -- ---- what comes
 
-apart : (a b : ℕ) → a < b → (a == b) ≡ false
+pub apart : (a b : ℕ) → a < b → (a == b) ≡ false
 apart a b l = grind (arith, nat_tests)
 
-here : (xs : List ℕ) (n : ℕ) → has (n ∷ xs) n ≡ true
+pub here : (xs : List ℕ) (n : ℕ) → has (n ∷ xs) n ≡ true
 here xs n = ap (λ t. t || has xs n) (eq-eqb n n refl)
 
-there : (a b : Bool) → b ≡ true → (a || b) ≡ true
+pub there : (a b : Bool) → b ≡ true → (a || b) ≡ true
 there true b e = refl
 there false b e = e
 
@@ -89,7 +89,7 @@ members_free k (m ∷ ms) c l b a h = (
       ∙ h n (there (m.number == n) (has (numbers_of ms) n) e)),
 )
 
-has-placed : (xs : List ℕ) (x n : ℕ) → has (placed (λ z. z) xs x) n ≡ ((x == n) || has xs n)
+pub has-placed : (xs : List ℕ) (x n : ℕ) → has (placed (λ z. z) xs x) n ≡ ((x == n) || has xs n)
 has-placed [] x n = refl
 has-placed (y ∷ ys) x n =
     elim (nat_lt x y) as (λ t. has (cond t (x ∷ y ∷ ys) (y ∷ placed (λ z. z) ys x)) n ≡ ((x == n) || ((y == n) || has ys n))) [

@@ -11,3 +11,7 @@ pub mod TagLemmas
 pub mod BranchLemmas
 pub mod QuestionLemmas
 pub mod NewLemmas
+pub mod KeepLemmas
+pub mod KeepEditLemmas
+pub mod OutcomeLemmas
+pub mod AfterLemmas

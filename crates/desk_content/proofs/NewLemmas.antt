@@ -3,11 +3,16 @@ use Rattle.std.proofs.Common.{◌≡◌, ◌<◌, ◌≤◌, ℕ, Bool, true, fa
 use Rattle.std.proofs.lemmas.Option.{none-some}
 use Rattle.line_words.specs.declared.named.TheConstants.{AFTER_LARGEST, LARGEST_NUMBER}
 use Rattle.ancestry.proofs.ForestProp.{no_nodes-forest}
+use Rattle.bug_record.specs.Changed.{numbers_below}
 use Rattle.desk_content.specs.Content.{no_content}
 use Rattle.desk_content.specs.Kept.{IsKeptContent}
 
 after : (first : ℕ) → first ≤ LARGEST_NUMBER → first ≤ AFTER_LARGEST
 after first h = omega (arith, h)
+
+no_numbers_below : ◌≡◌ {A = List ℕ} [] (numbers_below 0)
+unfolding numbers_below
+no_numbers_below = refl
 
 pub new_kept : (first : ℕ) → 0 < first → first ≤ LARGEST_NUMBER → IsKeptContent (no_content first)
 new_kept first low high = record {
@@ -32,4 +37,8 @@ new_kept first low high = record {
   no_blockers = λ k e. refl;
   no_affects = λ k e. refl;
   near = λ k v. refl;
+  no_outcomes = λ id e. refl;
+  places = λ id. no_numbers_below;
+  no_numbers = λ id place e. refl;
+  good = λ id k e. absurd (none-some k e);
 }

@@ -172,6 +172,9 @@ module _ (i : SetImage) (good : IsGoodImage i) (c : Content) where
     near = λ k v.
         ap (λ (f : Node → Option Near). f v) (at_same (key_of i) c.near k)
         ∙ ap (λ (f : Node → Option Near). put_at (key_of i) f c.near k v) (λ j. λ w. clear.marks.near w j);
+    messages = λ id. refl;
+    outcomes = λ id. refl;
+    outcome_numbers = λ id place. refl;
   })
 
   -- with new marks
@@ -200,6 +203,9 @@ module _ (i : SetImage) (good : IsGoodImage i) (c : Content) where
                   ∙ alone (row_at rows v) ∙ are v
               | false ↦ λ q. refl
             ] refl;
+        messages = λ id. refl;
+        outcomes = λ id. refl;
+        outcome_numbers = λ id place. refl;
       })
     where
       alone : (o : Option Near) → option_or o None ≡ o

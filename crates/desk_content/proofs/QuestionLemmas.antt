@@ -47,6 +47,10 @@ branch_kept c t kept forest = record {
   no_blockers = kept.no_blockers;
   no_affects = kept.no_affects;
   near = λ k v. refl;
+  no_outcomes = kept.no_outcomes;
+  places = kept.places;
+  no_numbers = kept.no_numbers;
+  good = kept.good;
 }
 
 module _ (c : Content) (test : Shared → Bool) (kept : IsKeptContent c) where

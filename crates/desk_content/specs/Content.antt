@@ -6,6 +6,8 @@ use Rattle.ancestry.specs.Trees.{Ancestry, no_nodes}
 use Rattle.bug_record.specs.declared.bug.Member.{Member}
 use Rattle.nearest_marks.specs.declared.near.Near.{Near}
 use Rattle.desk_content.specs.declared.edit.SetFields.{SetFields}
+use Rattle.desk_content.specs.declared.edit.SentMessage.{SentMessage}
+use Rattle.desk_content.specs.declared.edit.ToldOutcome.{ToldOutcome}
 
 -- A set of merged bugs has a key, which is the number of one of its bugs.
 pub record Content : Type 0 where
@@ -28,8 +30,15 @@ pub record Content : Type 0 where
   pub nodes : Ancestry
   -- of each key, the nearest mark of its set as seen from a node
   pub near : ℕ → Node → Option Near
+  -- of each id, the sender and the text of its message, if it is known
+  pub messages : List ℕ → Option SentMessage
+  -- of each id, what came of the first lines of its message, by place; an accepted line's numbers
+  -- stand by themselves
+  pub outcomes : List ℕ → List ToldOutcome
+  -- of each id and place, the numbers of an accepted line, ascending
+  pub outcome_numbers : List ℕ → ℕ → List ℕ
 
--- no bug, no node
+-- no bug, no node, no message
 abbrev pub no_content : ℕ → Content
 no_content first = record {
   next = first;
@@ -42,4 +51,7 @@ no_content first = record {
   affects = λ k. [];
   nodes = no_nodes;
   near = λ k v. None;
+  messages = λ id. None;
+  outcomes = λ id. [];
+  outcome_numbers = λ id place. [];
 }

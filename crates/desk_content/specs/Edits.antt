@@ -1,7 +1,8 @@
 -- What one edit makes of a content.
 -- This project's own rule.
-use Rattle.std.specs.Prelude.{ℕ, ◌==◌, ◌&&◌, nat_lt, not, List, [], ◌∷◌, filter, Some, None, if◌then◌else◌, Option}
+use Rattle.std.specs.Prelude.{ℕ, ◌==◌, ◌&&◌, nat_lt, not, List, [], ◌∷◌, filter, map, Some, None, if◌then◌else◌, Option}
 use Rattle.std.specs.BTreeMap.{insert_entry}
+use Rattle.std.specs.Str.{bytes_eq}
 use Rattle.ancestry.specs.Nodes.{Node, same_node, node_cmp}
 use Rattle.ancestry.specs.declared.statuses.MarkKind.{MarkKind}
 use Rattle.ancestry.specs.declared.statuses.MarkKind.TheVariants.{Found, Fixed}
@@ -10,19 +11,30 @@ use Rattle.bug_record.specs.PackageSets.{with_name}
 use Rattle.bug_record.specs.declared.bug.Member.{Member}
 use Rattle.nearest_marks.specs.declared.near.Near.{Near}
 use Rattle.desk_content.specs.Content.{Content}
+use Rattle.desk_text.specs.declared.outcome.Outcome.{Outcome}
 use Rattle.desk_content.specs.Encodings.{tags_number, tags_in}
+use Rattle.desk_content.specs.Outcomes.{bare}
 use Rattle.desk_content.specs.declared.edit.Edit.{Edit}
 use Rattle.desk_content.specs.declared.edit.Edit.TheVariants as edits
 use Rattle.desk_content.specs.declared.edit.SetFields.{SetFields}
+use Rattle.desk_content.specs.declared.edit.ToldOutcome.{ToldOutcome}
 
 -- the function with another value at k
 abbrev pub put_at : {A : Type 0} → ℕ → A → (ℕ → A) → ℕ → A
 put_at k x f n = if k == n then x else f n
 
+-- the function with another value at an id
+abbrev pub put_of : {A : Type 0} → List ℕ → A → (List ℕ → A) → List ℕ → A
+put_of id x f other = if bytes_eq id other then x else f other
+
 -- a list by number with one more item, behind those of its number
 abbrev pub placed : {T : Type 0} → (T → ℕ) → List T → T → List T
 placed number [] x = x ∷ []
 placed number (y ∷ ys) x = if nat_lt (number x) (number y) then x ∷ y ∷ ys else y ∷ placed number ys x
+
+-- the places of outcomes
+abbrev pub places_of : List ToldOutcome → List ℕ
+places_of ts = map (λ (t : ToldOutcome). t.place) ts
 
 -- the fields as a row keeps them: its tags as a set
 abbrev pub kept_fields : SetFields → SetFields
@@ -78,6 +90,20 @@ with_link v p c = record c { nodes = insert_entry node_cmp c.nodes v p }
 abbrev pub without_link : Node → Content → Content
 without_link v c = record c { nodes = filter (λ e. not (same_node v e.0)) c.nodes }
 
+abbrev pub with_message : List ℕ → List ℕ → List ℕ → Content → Content
+with_message id sender message c = record c { messages = put_of id (Some (record { from = sender; message = message })) c.messages }
+
+-- an outcome comes, without the numbers of an accepted line
+abbrev pub with_outcome : List ℕ → ℕ → Outcome → Content → Content
+with_outcome id place outcome c = record c {
+  outcomes = put_of id (placed (λ (t : ToldOutcome). t.place) (c.outcomes id) (record { place = place; outcome = bare outcome })) c.outcomes;
+}
+
+abbrev pub with_outcome_number : List ℕ → ℕ → ℕ → Content → Content
+with_outcome_number id place n c = record c {
+  outcome_numbers = put_of id (put_at place (placed (λ k. k) (c.outcome_numbers id place) n) (c.outcome_numbers id)) c.outcome_numbers;
+}
+
 -- what the edit makes of the content
 abbrev pub edited : Edit → Content → Content
 edited (edits.DropFields k) c = without_fields k c
@@ -94,6 +120,9 @@ edited (edits.DropNear k) c = without_near k c
 edited (edits.PutNear k v x) c = with_near k v x c
 edited (edits.DropLink v) c = without_link v c
 edited (edits.PutLink v p) c = with_link v p c
+edited (edits.PutMessage id sender message) c = with_message id sender message c
+edited (edits.PutOutcome id place outcome) c = with_outcome id place outcome c
+edited (edits.PutOutcomeNumber id place n) c = with_outcome_number id place n c
 
 -- one edit after another
 abbrev pub edited_all : List Edit → Content → Content

@@ -10,7 +10,7 @@ use Rattle.bug_record.specs.Sets.{has}
 use Rattle.bug_record.specs.PackageSets.{has_name}
 use Rattle.line_words.specs.declared.named.TheConstants.{LARGEST_NUMBER}
 use Rattle.desk_content.specs.Content.{Content}
-use Rattle.desk_content.specs.Edits.{edited}
+use Rattle.desk_content.specs.Edits.{edited, places_of}
 use Rattle.desk_content.specs.declared.edit.Edit.{Edit}
 use Rattle.desk_content.specs.declared.edit.Edit.TheVariants as edits
 
@@ -33,6 +33,9 @@ IsFree (edits.DropNear k) c = k ≤ LARGEST_NUMBER
 IsFree (edits.PutNear k v x) c = (k ≤ LARGEST_NUMBER) × (c.near k v ≡ None)
 IsFree (edits.DropLink v) c = ⊤
 IsFree (edits.PutLink v p) c = knows c.nodes v ≡ false
+IsFree (edits.PutMessage id sender message) c = c.messages id ≡ None
+IsFree (edits.PutOutcome id place outcome) c = has (places_of (c.outcomes id)) place ≡ false
+IsFree (edits.PutOutcomeNumber id place n) c = (n ≤ LARGEST_NUMBER) × (has (c.outcome_numbers id place) n ≡ false)
 
 -- each edit is free when its turn comes
 abbrev pub AreFree : List Edit → Content → Type 0

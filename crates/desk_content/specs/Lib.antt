@@ -1,13 +1,16 @@
 pub mod Content
 pub mod View
 pub mod Encodings
+pub mod Outcomes
 pub mod Kept
 pub mod Edits
 pub mod Free
 pub mod Images
 pub mod Changes
 pub mod Branches
+pub mod Keeping
 pub mod Questions
 -- definitions that only private functions cite
 pub mod EditLists
 pub mod BranchLists
+pub mod KeepLists

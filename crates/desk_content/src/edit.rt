@@ -3,6 +3,7 @@
 use ancestry::{MarkKind, Node};
 use bug_record::{Member, Severity, Tags};
 use debver::Text;
+use desk_text::Outcome;
 use nearest_marks::Near;
 
 /// The fields that a set of merged bugs has in its own row.
@@ -20,8 +21,25 @@ pub struct SetFields {
     pub archived: bool,
 }
 
+/// The sender and the text of a message that has an id.
+/// Its outcomes stand in tables of their own.
+#[derive(Drop)]
+pub struct SentMessage {
+    pub from: Text,
+    pub message: Text,
+}
+
+/// What came of a line of a message: its place among the outcomes of the message, from 0, and the
+/// outcome.
+/// The numbers of an accepted line stand in a table of their own.
+#[derive(Drop)]
+pub struct ToldOutcome {
+    pub place: u64,
+    pub outcome: Outcome,
+}
+
 /// One edit of the tables: what goes, or what comes.
-/// A set is named by its key, which is the number of one of its bugs.
+/// A set is named by its key, which is the number of one of its bugs, and a message by its id.
 #[derive(Drop)]
 pub enum Edit {
     /// The set of this key is no set any more.
@@ -88,5 +106,24 @@ pub enum Edit {
     PutLink {
         node: Node,
         parent: Option<Node>,
+    },
+    /// The message of this id is known, with its sender and its text.
+    PutMessage {
+        id: Text,
+        from: Text,
+        message: Text,
+    },
+    /// An outcome is kept of the message of this id, at this place, without the numbers of an
+    /// accepted line.
+    PutOutcome {
+        id: Text,
+        place: u64,
+        outcome: Outcome,
+    },
+    /// The accepted line at this place of the message of this id has one more number.
+    PutOutcomeNumber {
+        id: Text,
+        place: u64,
+        number: u64,
     },
 }

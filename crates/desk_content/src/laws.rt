@@ -19,7 +19,11 @@ ghost use Rattle.bug_record.specs.declared.command.Change.{Change};
 ghost use Rattle.line_words.specs.declared.named.TheConstants.{LARGEST_NUMBER};
 ghost use Rattle.desk_places.specs.Plain.{empty_desk};
 ghost use Rattle.desk_content.specs.Content.{Content, no_content};
-ghost use Rattle.desk_content.specs.View.{desk_in};
+ghost use Rattle.desk_content.specs.View.{desk_in, keeping_in};
+ghost use Rattle.desk_content.specs.Keeping.{with_kept};
+ghost use Rattle.desk_content.specs.Outcomes.{bare, outcome_kind, outcome_number, outcome_field, outcome_node, outcome_in};
+ghost use Rattle.desk_text.specs.declared.outcome.Outcome.{Outcome};
+ghost use Rattle.message_machine.specs.Kept.{none_kept, kept_also, AreGoodKept};
 ghost use Rattle.desk_content.specs.Kept.{IsKeptContent};
 ghost use Rattle.desk_content.specs.Branches.{with_nodes};
 ghost use Rattle.desk_content.specs.Questions.{bug_passes, kind_of};
@@ -34,6 +38,7 @@ pub fn changes_are_put()
         desk_in (changed c change) ≡ put (desk_in c) change }
     ensures kept { (c : Content) (change : Change) → IsKeptContent c → FitsContent c change →
         IsKeptContent (changed c change) }
+    ensures keeping { (c : Content) (change : Change) → keeping_in (changed c change) ≡ keeping_in c }
 {}
 
 /// The rows of all images of a change are cleared; when then the turn of an image comes to be put,
@@ -48,19 +53,34 @@ pub fn images_are_ready()
         (with_images xs (cleared_for c change)).nodes ≡ c.nodes }
 {}
 
-/// Each severity, flag and kind of marks is read back from its number, and each set of tags from
-/// its own.
+/// Where an outcome is kept of the message of an id, the content shows it behind the others of the
+/// id, and the desk as it was; it is one that a desk keeps again, where what is shown of messages is
+/// right.
+pub fn outcomes_are_kept()
+    ensures desk { (c : Content) (id sender message : List ℕ) (outcome : Outcome) →
+        desk_in (with_kept id sender message outcome c) ≡ desk_in c }
+    ensures keeping { (c : Content) (id sender message : List ℕ) (outcome : Outcome) → IsKeptContent c →
+        keeping_in (with_kept id sender message outcome c) ≡ kept_also id sender message outcome (keeping_in c) }
+    ensures kept { (c : Content) (id sender message : List ℕ) (outcome : Outcome) → IsKeptContent c →
+        AreGoodKept (kept_also id sender message outcome (keeping_in c)) → IsKeptContent (with_kept id sender message outcome c) }
+{}
+
+/// Each severity, flag and kind of marks is read back from its number, each set of tags from its
+/// own, and each outcome, without the numbers of an accepted line, from those that stand for it.
 pub fn numbers_are_read_back()
     ensures severity { (severity : Severity) → severity_in (rank severity) ≡ Some severity }
     ensures flags { (is_set : Bool) → flag_in (flag is_set) ≡ Some is_set }
     ensures kinds { (kind : MarkKind) → kind_in (kind_number kind) ≡ Some kind }
     ensures tags { (tags : List Tag) → IsTagSet tags → tags_in (tags_number tags) ≡ tags }
+    ensures outcomes { (outcome : Outcome) →
+        outcome_in (outcome_kind outcome) (outcome_number outcome) (outcome_field outcome) (outcome_node outcome) ≡ Some (bare outcome) }
 {}
 
 /// A content over another ancestry, with the nearest marks there, shows the desk over that ancestry,
 /// and is one that a desk keeps.
 pub fn branches_are_put()
     ensures desk { (c : Content) (t : Ancestry) → desk_in (with_nodes t c) ≡ record (desk_in c) { tree = t } }
+    ensures keeping { (c : Content) (t : Ancestry) → keeping_in (with_nodes t c) ≡ keeping_in c }
     ensures kept { (c : Content) (t : Ancestry) → IsKeptContent c → IsForest t → IsKeptContent (with_nodes t c) }
 {}
 
@@ -79,8 +99,9 @@ pub fn kinds_are_nearest()
 {}
 
 /// The content of a new desk, whose next number is one that a bug may have, shows the desk with no
-/// bug and no node, and is one that a desk keeps.
+/// bug and no node, and no message, and is one that a desk keeps.
 pub fn new_contents_are_kept()
     ensures desk { (first : ℕ) → desk_in (no_content first) ≡ empty_desk first }
+    ensures keeping { (first : ℕ) → keeping_in (no_content first) ≡ none_kept }
     ensures kept { (first : ℕ) → 0 < first → first ≤ LARGEST_NUMBER → IsKeptContent (no_content first) }
 {}

@@ -11,7 +11,7 @@ use Rattle.sqlite_store.specs.declared.store.FileStore.{FileStore}
 use Rattle.sqlite_trees.specs.Props.{Trees-set}
 use Rattle.sqlite_trees.specs.Tree.{Trees}
 use Rattle.sqlite_wal.specs.Reads.{AreClean}
-use Rattle.desk_tables.specs.Kept.{content_seen, desk_seen}
+use Rattle.desk_tables.specs.Kept.{content_seen, desk_seen, keeping_seen}
 use Rattle.desk_tables.specs.Shown.{AreTablesOf}
 use Rattle.desk_tables.specs.declared.desk.TableDesk.{TableDesk}
 use Rattle.desk_crashes.specs.Settled.{HasHonestDisk, HasKeptTables, IsSettled, IsOpenedOver}
@@ -25,7 +25,7 @@ module _ {D : Type 0} {g : Ghosts D} where
 
   pub closed_again : (old again : TableDesk (FileStore D g) over_files) (files : Files D) (db : Trees) → IsCopied old.conn files
       → ((held : Trees) → HoldsDatabase (image_of g files) held → db ≡ held) → IsOpenedOver over_files db again
-      → HasKeptTables over_files old → IsSettled over_files (desk_seen over_files old.last.values) again
+      → HasKeptTables over_files old → IsSettled over_files (desk_seen over_files old.last.values) (keeping_seen over_files old.last.values) again
   closed_again old again files db copied reads opened kept =
       let c = content_seen over_files old.last.values in
       let tables = committed_tables (file_state old.conn) c (kept.now copied.was_clean copied.was_open) in
@@ -50,7 +50,7 @@ module _ {D : Type 0} {g : Ghosts D} where
       → (AreClean g files.log files.db → IsCopied conn files)
       → IfSome o (λ again. HasHonestDisk over_files again → AreClean g files.log files.db)
       → IfSome o (λ again. HasHonestDisk over_files again → (db : Trees) × IsOpenedOver over_files db again × ((held : Trees) → HoldsDatabase (image_of g files) held → db ≡ held))
-      → IfSome o (λ again. HasHonestDisk over_files again → HasKeptTables over_files old → IsSettled over_files (desk_seen over_files old.last.values) again)
+      → IfSome o (λ again. HasHonestDisk over_files again → HasKeptTables over_files old → IsSettled over_files (desk_seen over_files old.last.values) (keeping_seen over_files old.last.values) again)
   closed_then None old conn files is copied honest opened = tt
   closed_then (Some again) old conn files is copied honest opened = λ h kept.
       let l = opened h in

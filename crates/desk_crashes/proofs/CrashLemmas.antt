@@ -1,5 +1,5 @@
 -- What is opened after a crash.
-use Rattle.std.proofs.Common.{◌≡◌, ◌⊎◌, inl, inr, List, Option, None, Some, Result, Ok, Err, IfSome, IfOk, OnOk, IsOk, IsTrue, sym, ap, subst, ◌∙◌}
+use Rattle.std.proofs.Common.{◌≡◌, ◌⊎◌, inl, inr, ℕ, List, Option, None, Some, Result, Ok, Err, IfSome, IfOk, OnOk, IsOk, IsTrue, sym, ap, subst, ◌∙◌}
 use Rattle.std.proofs.lemmas.Bool.{false≢true}
 use Rattle.sqlite.specs.Held.{state}
 use Rattle.sqlite.specs.State.{Survives}
@@ -11,29 +11,43 @@ use Rattle.ancestry.specs.Nodes.{Node}
 use Rattle.ancestry.specs.declared.fault.BranchFault.{BranchFault}
 use Rattle.bug_record.specs.Desk.{Desk}
 use Rattle.bug_record.specs.Images.{put}
+use Rattle.bug_record.specs.Texts.{IsText, IfGiven}
 use Rattle.bug_record.specs.declared.command.Change.{Change}
+use Rattle.desk_text.specs.declared.outcome.Outcome.{Outcome}
+use Rattle.message_machine.specs.Kept.{Keeping, kept_also}
 use Rattle.desk_content.specs.Branches.{with_nodes}
 use Rattle.desk_content.specs.Changes.{FitsContent, changed}
 use Rattle.desk_content.specs.Content.{Content}
+use Rattle.desk_content.specs.Keeping.{kept_after}
+use Rattle.desk_content.specs.View.{desk_in, keeping_in}
+use Rattle.desk_content.proofs.AfterLemmas.{after_keeping, after_kept}
 use Rattle.desk_content.proofs.ChangeLemmas.{change_desk, change_kept}
+use Rattle.desk_content.proofs.KeepLemmas.{change_keeping}
 use Rattle.desk_content.proofs.QuestionLemmas.{branch_kept}
 use Rattle.desk_text.specs.declared.outcome.StoreFault.{StoreFault}
-use Rattle.desk_store.specs.Store.{Holds, Applies, Branches}
-use Rattle.desk_tables.specs.Kept.{content_seen, desk_seen}
+use Rattle.desk_store.specs.Store.{Holds, Applies, Branches, Keeps, MayBeKept, with_change}
+use Rattle.desk_store.proofs.HoldsLemmas.{holds_none}
+use Rattle.desk_store.proofs.KeepLemmas.{kept_also-good}
+use Rattle.desk_tables.specs.Kept.{content_seen, desk_seen, keeping_seen, MayKeep}
 use Rattle.desk_tables.specs.Shown.{AreTablesOf, AreTablesAfter}
 use Rattle.desk_tables.specs.declared.desk.TableDesk.{TableDesk}
+use Rattle.desk_tables.proofs.KeepLemmas.{changed_desk}
 use Rattle.desk_crashes.specs.Settled.{HasHonestDisk, HasKeptTables, IsSettled, IsOpenedOver, HasTakenBranch}
 use Rattle.desk_crashes.proofs.OpenLemmas.{Settles, serving_settled}
 
 module _ {S : Type 0} (g : store.Ghosts S) where
+  -- a desk that is settled, over another word for what it shows
+  settled_as : (t : TableDesk S g) (d e : Desk) (k l : Keeping) → d ≡ e → k ≡ l → IsSettled g d k t → IsSettled g e l t
+  settled_as t d e k l same alike it = subst (λ (x : Desk). IsSettled g x l t) same (subst (λ (x : Keeping). IsSettled g d x t) alike it)
+
   -- the crash left what the old desk's could have left
-  pub settled_again : (d : Desk) (db : Trees) (old again : TableDesk S g) → IsOpenedOver g db again → (state g old.conn).may_leave db → IsSettled g d old → IsSettled g d again
-  settled_again d db old again opened may was =
+  pub settled_again : (d : Desk) (k : Keeping) (db : Trees) (old again : TableDesk S g) → IsOpenedOver g db again → (state g old.conn).may_leave db → IsSettled g d k old → IsSettled g d k again
+  settled_again d k db old again opened may was =
       let c = content_seen g old.last.values in
       let tables : AreTablesOf c db = subst (AreTablesOf c) (sym (was.left db may)) was.tables in
-      subst (λ (k : Desk). IsSettled g k again) was.desk (opened c tables was.kept.content)
+      settled_as again (desk_in c) d (keeping_in c) k was.desk was.keeping (opened c tables was.kept.content)
 
-  module _ (d : Desk) (db : Trees) (old new again : TableDesk S g) (opened : IsOpenedOver g db again) (was : IsSettled g d old) (clean : HasHonestDisk g new) (may : (state g new.conn).may_leave db) where
+  module _ (d : Desk) (k : Keeping) (db : Trees) (old new again : TableDesk S g) (opened : IsOpenedOver g db again) (was : IsSettled g d k old) (clean : HasHonestDisk g new) (may : (state g new.conn).may_leave db) where
     abbrev c : Content
     c = content_seen g old.last.values
 
@@ -41,45 +55,82 @@ module _ {S : Type 0} (g : store.Ghosts S) where
 
     -- it left that, or the whole change
     pub either_after_change : (change : Change) → Survives (state g old.conn) (state g new.conn) (AreTablesOf (changed c change)) → FitsContent c change
-        → IsSettled g d again ⊎ IsSettled g (put d change) again
+        → IsSettled g d k again ⊎ IsSettled g (put d change) k again
     either_after_change change survives fits = elim (survives.crash clean db may) [
-      | inl before ↦ inl (settled_again d db old again opened before was)
-      | inr made ↦ inr (subst (λ (k : Desk). IsSettled g k again) (change_desk c change was.kept.content fits ∙ ap (λ (k : Desk). put k change) was.desk)
+      | inl before ↦ inl (settled_again d k db old again opened before was)
+      | inr made ↦ inr (settled_as again (desk_in (changed c change)) (put d change) (keeping_in (changed c change)) k
+          (change_desk c change was.kept.content fits ∙ ap (λ (x : Desk). put x change) was.desk)
+          (change_keeping c change ∙ was.keeping)
           (opened (changed c change) made (change_kept c change was.kept.content fits)))
     ]
 
-    taken : (nodes : List Node) → AreTablesAfter c nodes db → HasTakenBranch g d nodes again
+    taken : (nodes : List Node) → AreTablesAfter c nodes db → HasTakenBranch g d k nodes again
     taken nodes made = record {
       ancestry = made.ancestry;
-      taken = subst (λ (k : Desk). branched k.tree nodes ≡ Ok made.ancestry) was.desk made.taken;
-      settled = subst (λ (k : Desk). IsSettled g (record k { tree = made.ancestry }) again) was.desk
+      taken = subst (λ (x : Desk). branched x.tree nodes ≡ Ok made.ancestry) was.desk made.taken;
+      settled = settled_as again (desk_in (with_nodes made.ancestry c)) (record d { tree = made.ancestry }) (keeping_in (with_nodes made.ancestry c)) k
+          (ap (λ (x : Desk). let y : Desk = record x { tree = made.ancestry } in y) was.desk) was.keeping
           (opened (with_nodes made.ancestry c) made.tables (branch_kept c made.ancestry was.kept.content made.forest));
     }
 
     -- it left that, or the whole branch
-    pub either_after_branch : (nodes : List Node) → Survives (state g old.conn) (state g new.conn) (AreTablesAfter c nodes) → IsSettled g d again ⊎ HasTakenBranch g d nodes again
+    pub either_after_branch : (nodes : List Node) → Survives (state g old.conn) (state g new.conn) (AreTablesAfter c nodes) → IsSettled g d k again ⊎ HasTakenBranch g d k nodes again
     either_after_branch nodes survives = elim (survives.crash clean db may) [
-      | inl before ↦ inl (settled_again d db old again opened before was)
+      | inl before ↦ inl (settled_again d k db old again opened before was)
       | inr made ↦ inr (taken nodes made)
     ]
+
+    -- it left that, or the outcome with its change
+    pub either_after_keep : (id sender message : List ℕ) (outcome : Outcome) (change : Option Change)
+        → Survives (state g old.conn) (state g new.conn) (AreTablesOf (kept_after id sender message outcome change c)) → IfGiven (FitsContent c) change → IsText sender
+        → MayKeep g old.last.values id sender message outcome change
+        → IsSettled g d k again ⊎ IsSettled g (with_change change d) (kept_also id sender message outcome k) again
+    either_after_keep id sender message outcome change survives fits text may_keep = elim (survives.crash clean db may) [
+      | inl before ↦ inl (settled_again d k db old again opened before was)
+      | inr made ↦ (
+          let good = kept_also-good id sender message (keeping_in c) (desk_in c) outcome (with_change change (desk_in c)) may_keep.next was.kept.content.sound text may_keep.good was.kept.content.good in
+          inr (settled_as again (desk_in (kept_after id sender message outcome change c)) (with_change change d)
+          (keeping_in (kept_after id sender message outcome change c)) (kept_also id sender message outcome k)
+          (changed_desk change c was.kept.content fits ∙ ap (with_change change) was.desk)
+          (after_keeping c was.kept.content change fits id sender message outcome ∙ ap (kept_also id sender message outcome) was.keeping)
+          (opened (kept_after id sender message outcome change c) made (after_kept c was.kept.content change fits id sender message outcome good))))
+    ]
+
+    -- what may be kept here may be kept over what was seen
+    pub may_here : (id sender message : List ℕ) (outcome : Outcome) (change : Option Change) → MayBeKept id sender message k d outcome change
+        → MayKeep g old.last.values id sender message outcome change
+    may_here id sender message outcome change it =
+        subst (λ (x : Desk). MayBeKept id sender message (keeping_seen g old.last.values) x outcome change) (sym was.desk)
+        (subst (λ (x : Keeping). MayBeKept id sender message x d outcome change) (sym was.keeping) it)
 
     -- ---- a call that was answered, and left a connection that serves
 
     module _ (settles : Settles g) (kept : HasKeptTables g new) (served : IsTrue (state g new.conn).is_open) where
-      new_again : IsSettled g (desk_seen g new.last.values) again
-      new_again = settled_again (desk_seen g new.last.values) db new again opened may (serving_settled g settles new kept clean served)
+      new_again : IsSettled g (desk_seen g new.last.values) (keeping_seen g new.last.values) again
+      new_again = settled_again (desk_seen g new.last.values) (keeping_seen g new.last.values) db new again opened may (serving_settled g settles new kept clean served)
 
-      pub after_change : (change : Change) → desk_seen g new.last.values ≡ put (desk_seen g old.last.values) change → IsSettled g (put d change) again
-      after_change change is = subst (λ (k : Desk). IsSettled g k again) (is ∙ ap (λ (k : Desk). put k change) was.desk) new_again
+      pub after_change : (change : Change) → desk_seen g new.last.values ≡ put (desk_seen g old.last.values) change → keeping_seen g new.last.values ≡ keeping_seen g old.last.values
+          → IsSettled g (put d change) k again
+      after_change change is stays =
+          settled_as again (desk_seen g new.last.values) (put d change) (keeping_seen g new.last.values) k (is ∙ ap (λ (x : Desk). put x change) was.desk) (stays ∙ was.keeping) new_again
 
       pub after_branch : (nodes : List Node) → branched (desk_seen g old.last.values).tree nodes ≡ Ok (desk_seen g new.last.values).tree
-          → desk_seen g new.last.values ≡ record (desk_seen g old.last.values) { tree = (desk_seen g new.last.values).tree } → HasTakenBranch g d nodes again
-      after_branch nodes is same = record {
+          → desk_seen g new.last.values ≡ record (desk_seen g old.last.values) { tree = (desk_seen g new.last.values).tree }
+          → keeping_seen g new.last.values ≡ keeping_seen g old.last.values → HasTakenBranch g d k nodes again
+      after_branch nodes is same stays = record {
         ancestry = (desk_seen g new.last.values).tree;
-        taken = subst (λ (k : Desk). branched k.tree nodes ≡ Ok (desk_seen g new.last.values).tree) was.desk is;
-        settled = subst (λ (k : Desk). IsSettled g (record k { tree = (desk_seen g new.last.values).tree }) again) was.desk
-            (subst (λ (k : Desk). IsSettled g k again) same new_again);
+        taken = subst (λ (x : Desk). branched x.tree nodes ≡ Ok (desk_seen g new.last.values).tree) was.desk is;
+        settled = settled_as again (desk_seen g new.last.values) (record d { tree = (desk_seen g new.last.values).tree }) (keeping_seen g new.last.values) k
+            (same ∙ ap (λ (x : Desk). let y : Desk = record x { tree = (desk_seen g new.last.values).tree } in y) was.desk) (stays ∙ was.keeping) new_again;
       }
+
+      pub after_keep : (id sender message : List ℕ) (outcome : Outcome) (change : Option Change)
+          → desk_seen g new.last.values ≡ with_change change (desk_seen g old.last.values)
+          → keeping_seen g new.last.values ≡ kept_also id sender message outcome (keeping_seen g old.last.values)
+          → IsSettled g (with_change change d) (kept_also id sender message outcome k) again
+      after_keep id sender message outcome change is also =
+          settled_as again (desk_seen g new.last.values) (with_change change d) (keeping_seen g new.last.values) (kept_also id sender message outcome k)
+          (is ∙ ap (with_change change) was.desk) (also ∙ ap (kept_also id sender message outcome) was.keeping) new_again
 
   -- ---- what is opened, if it is
 
@@ -96,9 +147,9 @@ module _ {S : Type 0} (g : store.Ghosts S) where
       ((g.view came).committed, found (honest h), subst (λ t. IsOpenedOver g t again) same (opened h))
 
   pub settled_then : (o : Option (TableDesk S g)) (old : TableDesk S g) → IsLeft old o
-      → IfSome o (λ again. HasHonestDisk g again → (d : Desk) → IsSettled g d old → IsSettled g d again)
+      → IfSome o (λ again. HasHonestDisk g again → (d : Desk) (k : Keeping) → IsSettled g d k old → IsSettled g d k again)
   settled_then None old left = tt
-  settled_then (Some again) old left = λ h d was. let l = left h in settled_again d l.0 old again l.2 l.1 was
+  settled_then (Some again) old left = λ h d k was. let l = left h in settled_again d k l.0 old again l.2 l.1 was
 
   module _ (old new : TableDesk S g) (o : Option (TableDesk S g)) (left : IsLeft new o) (honest : IfSome o (λ again. HasHonestDisk g again → HasHonestDisk g new)) where
     abbrev before : Content
@@ -106,61 +157,108 @@ module _ {S : Type 0} (g : store.Ghosts S) where
 
     pub either_change : (change : Change) → (HasKeptTables g old → Survives (state g old.conn) (state g new.conn) (AreTablesOf (changed before change)))
         → (HasHonestDisk g new → HasHonestDisk g old) → (HasKeptTables g old → HasHonestDisk g old → FitsContent before change)
-        → IfSome o (λ again. HasHonestDisk g again → (d : Desk) → IsSettled g d old → IsSettled g d again ⊎ IsSettled g (put d change) again)
+        → IfSome o (λ again. HasHonestDisk g again → (d : Desk) (k : Keeping) → IsSettled g d k old → IsSettled g d k again ⊎ IsSettled g (put d change) k again)
     either_change change crash was_honest fits = on o left honest
       where
         on : (o : Option (TableDesk S g)) → IsLeft new o → IfSome o (λ again. HasHonestDisk g again → HasHonestDisk g new)
-            → IfSome o (λ again. HasHonestDisk g again → (d : Desk) → IsSettled g d old → IsSettled g d again ⊎ IsSettled g (put d change) again)
+            → IfSome o (λ again. HasHonestDisk g again → (d : Desk) (k : Keeping) → IsSettled g d k old → IsSettled g d k again ⊎ IsSettled g (put d change) k again)
         on None left honest = tt
-        on (Some again) left honest = λ h d was.
+        on (Some again) left honest = λ h d k was.
             let l = left h in
             let clean = honest h in
-            either_after_change d l.0 old new again l.2 was clean l.1 change (crash was.kept) (fits was.kept (was_honest clean))
+            either_after_change d k l.0 old new again l.2 was clean l.1 change (crash was.kept) (fits was.kept (was_honest clean))
 
     pub either_branch : (nodes : List Node) → (HasKeptTables g old → Survives (state g old.conn) (state g new.conn) (AreTablesAfter before nodes))
-        → IfSome o (λ again. HasHonestDisk g again → (d : Desk) → IsSettled g d old → IsSettled g d again ⊎ HasTakenBranch g d nodes again)
+        → IfSome o (λ again. HasHonestDisk g again → (d : Desk) (k : Keeping) → IsSettled g d k old → IsSettled g d k again ⊎ HasTakenBranch g d k nodes again)
     either_branch nodes crash = on o left honest
       where
         on : (o : Option (TableDesk S g)) → IsLeft new o → IfSome o (λ again. HasHonestDisk g again → HasHonestDisk g new)
-            → IfSome o (λ again. HasHonestDisk g again → (d : Desk) → IsSettled g d old → IsSettled g d again ⊎ HasTakenBranch g d nodes again)
+            → IfSome o (λ again. HasHonestDisk g again → (d : Desk) (k : Keeping) → IsSettled g d k old → IsSettled g d k again ⊎ HasTakenBranch g d k nodes again)
         on None left honest = tt
-        on (Some again) left honest = λ h d was.
+        on (Some again) left honest = λ h d k was.
             let l = left h in
-            either_after_branch d l.0 old new again l.2 was (honest h) l.1 nodes (crash was.kept)
+            either_after_branch d k l.0 old new again l.2 was (honest h) l.1 nodes (crash was.kept)
+
+    pub either_keep : (id sender message : List ℕ) (outcome : Outcome) (change : Option Change)
+        → (MayKeep g old.last.values id sender message outcome change → HasKeptTables g old → Survives (state g old.conn) (state g new.conn) (AreTablesOf (kept_after id sender message outcome change before)))
+        → (HasHonestDisk g new → HasHonestDisk g old) → (HasKeptTables g old → HasHonestDisk g old → IfGiven (FitsContent before) change) → IsText sender
+        → IfSome o (λ again. HasHonestDisk g again → (d : Desk) (k : Keeping) → IsSettled g d k old → MayBeKept id sender message k d outcome change
+        → IsSettled g d k again ⊎ IsSettled g (with_change change d) (kept_also id sender message outcome k) again)
+    either_keep id sender message outcome change crash was_honest fits text = on o left honest
+      where
+        on : (o : Option (TableDesk S g)) → IsLeft new o → IfSome o (λ again. HasHonestDisk g again → HasHonestDisk g new)
+            → IfSome o (λ again. HasHonestDisk g again → (d : Desk) (k : Keeping) → IsSettled g d k old → MayBeKept id sender message k d outcome change
+            → IsSettled g d k again ⊎ IsSettled g (with_change change d) (kept_also id sender message outcome k) again)
+        on None left honest = tt
+        on (Some again) left honest = λ h d k was it.
+            let l = left h in
+            let clean = honest h in
+            let may = may_here d k l.0 old new again l.2 was clean l.1 id sender message outcome change it in
+            either_after_keep d k l.0 old new again l.2 was clean l.1 id sender message outcome change (crash may was.kept) (fits was.kept (was_honest clean)) text may
 
     module _ (settles : Settles g) where
       pub done_change : (change : Change) (r : Result (Unit {0}) StoreFault)
           → Holds (HasKeptTables g) (HasHonestDisk g) old new (Applies (desk_seen g old.last.values) (desk_seen g new.last.values) r change)
+          → Holds (HasKeptTables g) (HasHonestDisk g) old new (keeping_seen g new.last.values ≡ keeping_seen g old.last.values)
           → (HasKeptTables g old → HasHonestDisk g new → OnOk r (IsTrue (state g new.conn).is_open))
-          → IfSome o (λ again. HasHonestDisk g again → IsOk r → (d : Desk) → IsSettled g d old → IsSettled g (put d change) again)
-      done_change change r answer serves = on o r left honest answer serves
+          → IfSome o (λ again. HasHonestDisk g again → IsOk r → (d : Desk) (k : Keeping) → IsSettled g d k old → IsSettled g (put d change) k again)
+      done_change change r answer stays serves = on o r left honest answer stays serves
         where
           on : (o : Option (TableDesk S g)) (r : Result (Unit {0}) StoreFault) → IsLeft new o → IfSome o (λ again. HasHonestDisk g again → HasHonestDisk g new)
               → Holds (HasKeptTables g) (HasHonestDisk g) old new (Applies (desk_seen g old.last.values) (desk_seen g new.last.values) r change)
+              → Holds (HasKeptTables g) (HasHonestDisk g) old new (keeping_seen g new.last.values ≡ keeping_seen g old.last.values)
               → (HasKeptTables g old → HasHonestDisk g new → OnOk r (IsTrue (state g new.conn).is_open))
-              → IfSome o (λ again. HasHonestDisk g again → IsOk r → (d : Desk) → IsSettled g d old → IsSettled g (put d change) again)
-          on None r left honest answer serves = tt
-          on (Some again) (Err fault) left honest answer serves = λ h ok. absurd (false≢true ok)
-          on (Some again) (Ok x) left honest answer serves = λ h ok d was.
+              → IfSome o (λ again. HasHonestDisk g again → IsOk r → (d : Desk) (k : Keeping) → IsSettled g d k old → IsSettled g (put d change) k again)
+          on None r left honest answer stays serves = tt
+          on (Some again) (Err fault) left honest answer stays serves = λ h ok. absurd (false≢true ok)
+          on (Some again) (Ok x) left honest answer stays serves = λ h ok d k was.
               let l = left h in
               let clean = honest h in
-              after_change d l.0 old new again l.2 was clean l.1 settles (answer.kept was.kept clean) (serves was.kept clean) change (answer.fact was.kept clean)
+              after_change d k l.0 old new again l.2 was clean l.1 settles (answer.kept was.kept clean) (serves was.kept clean) change (answer.fact was.kept clean) (stays.fact was.kept clean)
 
       pub done_branch : (nodes : List Node) (r : Result (Result (Unit {0}) BranchFault) StoreFault)
           → Holds (HasKeptTables g) (HasHonestDisk g) old new (Branches (desk_seen g old.last.values) (desk_seen g new.last.values) r nodes)
+          → Holds (HasKeptTables g) (HasHonestDisk g) old new (keeping_seen g new.last.values ≡ keeping_seen g old.last.values)
           → (HasKeptTables g old → HasHonestDisk g new → IfOk r (λ taken. OnOk taken (IsTrue (state g new.conn).is_open)))
-          → IfSome o (λ again. HasHonestDisk g again → IfOk r (λ taken. IsOk taken → (d : Desk) → IsSettled g d old → HasTakenBranch g d nodes again))
-      done_branch nodes r answer serves = on o r left honest answer serves
+          → IfSome o (λ again. HasHonestDisk g again → IfOk r (λ taken. IsOk taken → (d : Desk) (k : Keeping) → IsSettled g d k old → HasTakenBranch g d k nodes again))
+      done_branch nodes r answer stays serves = on o r left honest answer stays serves
         where
           on : (o : Option (TableDesk S g)) (r : Result (Result (Unit {0}) BranchFault) StoreFault) → IsLeft new o → IfSome o (λ again. HasHonestDisk g again → HasHonestDisk g new)
               → Holds (HasKeptTables g) (HasHonestDisk g) old new (Branches (desk_seen g old.last.values) (desk_seen g new.last.values) r nodes)
+              → Holds (HasKeptTables g) (HasHonestDisk g) old new (keeping_seen g new.last.values ≡ keeping_seen g old.last.values)
               → (HasKeptTables g old → HasHonestDisk g new → IfOk r (λ taken. OnOk taken (IsTrue (state g new.conn).is_open)))
-              → IfSome o (λ again. HasHonestDisk g again → IfOk r (λ taken. IsOk taken → (d : Desk) → IsSettled g d old → HasTakenBranch g d nodes again))
-          on None r left honest answer serves = tt
-          on (Some again) (Err fault) left honest answer serves = λ h. tt
-          on (Some again) (Ok (Err refusal)) left honest answer serves = λ h ok. absurd (false≢true ok)
-          on (Some again) (Ok (Ok x)) left honest answer serves = λ h ok d was.
+              → IfSome o (λ again. HasHonestDisk g again → IfOk r (λ taken. IsOk taken → (d : Desk) (k : Keeping) → IsSettled g d k old → HasTakenBranch g d k nodes again))
+          on None r left honest answer stays serves = tt
+          on (Some again) (Err fault) left honest answer stays serves = λ h. tt
+          on (Some again) (Ok (Err refusal)) left honest answer stays serves = λ h ok. absurd (false≢true ok)
+          on (Some again) (Ok (Ok x)) left honest answer stays serves = λ h ok d k was.
               let l = left h in
               let clean = honest h in
               let fact = answer.fact was.kept clean in
-              after_branch d l.0 old new again l.2 was clean l.1 settles (answer.kept was.kept clean) (serves was.kept clean) nodes fact.0 fact.1
+              after_branch d k l.0 old new again l.2 was clean l.1 settles (answer.kept was.kept clean) (serves was.kept clean) nodes fact.0 fact.1 (stays.fact was.kept clean)
+
+      pub done_keep : (id sender message : List ℕ) (outcome : Outcome) (change : Option Change) (r : Result (Unit {0}) StoreFault)
+          → ((earlier : TableDesk S g) → Holds (HasKeptTables g) (HasHonestDisk g) earlier old (MayKeep g old.last.values id sender message outcome change)
+          → Holds (HasKeptTables g) (HasHonestDisk g) earlier new
+          (Keeps id sender message outcome change (desk_seen g old.last.values) (keeping_seen g old.last.values) r (desk_seen g new.last.values) (keeping_seen g new.last.values)))
+          → (MayKeep g old.last.values id sender message outcome change → HasKeptTables g old → HasHonestDisk g new → OnOk r (IsTrue (state g new.conn).is_open))
+          → IfSome o (λ again. HasHonestDisk g again → IsOk r → (d : Desk) (k : Keeping) → IsSettled g d k old → MayBeKept id sender message k d outcome change
+          → IsSettled g (with_change change d) (kept_also id sender message outcome k) again)
+      done_keep id sender message outcome change r answer serves = on o r left honest answer serves
+        where
+          on : (o : Option (TableDesk S g)) (r : Result (Unit {0}) StoreFault) → IsLeft new o → IfSome o (λ again. HasHonestDisk g again → HasHonestDisk g new)
+              → ((earlier : TableDesk S g) → Holds (HasKeptTables g) (HasHonestDisk g) earlier old (MayKeep g old.last.values id sender message outcome change)
+              → Holds (HasKeptTables g) (HasHonestDisk g) earlier new
+              (Keeps id sender message outcome change (desk_seen g old.last.values) (keeping_seen g old.last.values) r (desk_seen g new.last.values) (keeping_seen g new.last.values)))
+              → (MayKeep g old.last.values id sender message outcome change → HasKeptTables g old → HasHonestDisk g new → OnOk r (IsTrue (state g new.conn).is_open))
+              → IfSome o (λ again. HasHonestDisk g again → IsOk r → (d : Desk) (k : Keeping) → IsSettled g d k old → MayBeKept id sender message k d outcome change
+              → IsSettled g (with_change change d) (kept_also id sender message outcome k) again)
+          on None r left honest answer serves = tt
+          on (Some again) (Err fault) left honest answer serves = λ h ok. absurd (false≢true ok)
+          on (Some again) (Ok x) left honest answer serves = λ h ok d k was it.
+              let l = left h in
+              let clean = honest h in
+              let may = may_here d k l.0 old new again l.2 was clean l.1 id sender message outcome change it in
+              let done = answer old (holds_none (HasKeptTables g) (HasHonestDisk g) old may) in
+              let fact = done.fact was.kept clean in
+              after_keep d k l.0 old new again l.2 was clean l.1 settles (done.kept was.kept clean) (serves may was.kept clean) id sender message outcome change fact.0 fact.1

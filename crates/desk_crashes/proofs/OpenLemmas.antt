@@ -7,11 +7,11 @@ use Rattle.sqlite_trees.specs.Tree.{Trees}
 use Rattle.sqlite_trees.specs.declared.store.Store as store
 use Rattle.desk_content.specs.Content.{Content}
 use Rattle.desk_content.specs.Kept.{IsKeptContent}
-use Rattle.desk_content.specs.View.{desk_in}
+use Rattle.desk_content.specs.View.{desk_in, keeping_in}
 use Rattle.desk_schema.specs.Tables.{desk_schema}
 use Rattle.desk_schema.specs.Rows.{content_of, AreShown}
 use Rattle.desk_schema.specs.Steps.{seen}
-use Rattle.desk_tables.specs.Kept.{content_seen, desk_seen}
+use Rattle.desk_tables.specs.Kept.{content_seen, desk_seen, keeping_seen}
 use Rattle.desk_tables.specs.Opening.{unlimited}
 use Rattle.desk_tables.specs.Shown.{IsDesk, HasContent, HoldsContent, AreTablesOf}
 use Rattle.desk_tables.specs.declared.desk.TableDesk.{TableDesk}
@@ -48,16 +48,18 @@ module _ {S : Type 0} (g : store.Ghosts S) where
       record {
         kept = kept c honest (inl shown) good;
         desk = ap desk_in same;
+        keeping = ap keeping_in same;
         trees = trees;
         tables = subst (λ k. AreTablesOf k trees) (sym same) tables;
         left = λ db may. elim ((survives c (λ clean. shown)).crash honest db may) [ inl before ↦ settles conn.store db opens.is_open before | inr none ↦ absurd none ];
       }
 
   -- a desk that serves is settled
-  pub serving_settled : Settles g → (t : TableDesk S g) → HasKeptTables g t → HasHonestDisk g t → IsTrue (state g t.conn).is_open → IsSettled g (desk_seen g t.last.values) t
+  pub serving_settled : Settles g → (t : TableDesk S g) → HasKeptTables g t → HasHonestDisk g t → IsTrue (state g t.conn).is_open → IsSettled g (desk_seen g t.last.values) (keeping_seen g t.last.values) t
   serving_settled settles t kept honest served = record {
     kept = kept;
     desk = refl;
+    keeping = refl;
     trees = (state g t.conn).committed.trees;
     tables = committed_tables (state g t.conn) (content_seen g t.last.values) (kept.now honest served);
     left = λ db may. settles t.conn.store db served may;

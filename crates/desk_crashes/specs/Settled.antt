@@ -10,9 +10,10 @@ use Rattle.ancestry.specs.Trees.{Ancestry}
 use Rattle.bug_record.specs.Desk.{Desk}
 use Rattle.desk_content.specs.Content.{Content}
 use Rattle.desk_content.specs.Kept.{IsKeptContent}
-use Rattle.desk_content.specs.View.{desk_in}
-use Rattle.desk_tables.specs.Kept.{content_seen, desk_seen, IsKept}
+use Rattle.desk_content.specs.View.{desk_in, keeping_in}
+use Rattle.desk_tables.specs.Kept.{content_seen, desk_seen, keeping_seen, IsKept}
 use Rattle.desk_tables.specs.Shown.{AreTablesOf}
+use Rattle.message_machine.specs.Kept.{Keeping}
 use Rattle.desk_tables.specs.declared.desk.TableDesk.{TableDesk}
 
 module _ {S : Type 0} (g : store.Ghosts S) where
@@ -24,11 +25,12 @@ module _ {S : Type 0} (g : store.Ghosts S) where
   abbrev pub HasKeptTables : TableDesk S g → Type 0
   HasKeptTables t = IsKept g t.last.values t.begun.values t.conn t.family
 
-  -- The tables are kept and show this desk, and a crash at this moment leaves these tables and no
-  -- others.
-  pub record IsSettled (d : Desk) (t : TableDesk S g) : Type 0 where
+  -- The tables are kept, and show this desk and what is kept of messages, and a crash at this moment
+  -- leaves these tables and no others.
+  pub record IsSettled (d : Desk) (k : Keeping) (t : TableDesk S g) : Type 0 where
     pub kept : HasKeptTables t
     pub desk : desk_seen g t.last.values ≡ d
+    pub keeping : keeping_seen g t.last.values ≡ k
     pub trees : Trees
     pub tables : AreTablesOf (content_seen g t.last.values) trees
     pub left : (db : Trees) → (state g t.conn).may_leave db → db ≡ trees
@@ -36,10 +38,10 @@ module _ {S : Type 0} (g : store.Ghosts S) where
   -- A desk was opened over these trees: where they are the tables of a kept desk, it is that desk, and
   -- settled.
   abbrev pub IsOpenedOver : Trees → TableDesk S g → Type 0
-  IsOpenedOver db t = (c : Content) → AreTablesOf c db → IsKeptContent c → IsSettled (desk_in c) t
+  IsOpenedOver db t = (c : Content) → AreTablesOf c db → IsKeptContent c → IsSettled (desk_in c) (keeping_in c) t
 
   -- it is settled, with the ancestry after a branch of this desk, and else all that this desk has
-  pub record HasTakenBranch (d : Desk) (nodes : List Node) (t : TableDesk S g) : Type 0 where
+  pub record HasTakenBranch (d : Desk) (k : Keeping) (nodes : List Node) (t : TableDesk S g) : Type 0 where
     pub ancestry : Ancestry
     pub taken : branched d.tree nodes ≡ Ok ancestry
-    pub settled : IsSettled (record d { tree = ancestry }) t
+    pub settled : IsSettled (record d { tree = ancestry }) k t

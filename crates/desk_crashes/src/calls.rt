@@ -1,12 +1,17 @@
 //! A crash between two calls, and one right after a call.
 
 ghost use Rattle.std.specs.Prelude.{◌⊎◌, IfOk, IfSome, IsOk};
+ghost use Rattle.std.specs.Option.{option_copied};
 ghost use Rattle.sqlite.specs.Held.{state};
 ghost use Rattle.sqlite_trees.specs.Tree.{Trees};
 ghost use Rattle.bug_record.specs.Desk.{Desk};
 ghost use Rattle.bug_record.specs.Sets.{Each};
 ghost use Rattle.bug_record.specs.Images.{AreApart, HasMember, FitsDesk, put};
-ghost use Rattle.desk_tables.specs.Kept.{desk_seen};
+ghost use Rattle.bug_record.specs.Texts.{IsText, IfGiven};
+ghost use Rattle.message_machine.specs.Ids.{IsId};
+ghost use Rattle.message_machine.specs.Kept.{Keeping, kept_also};
+ghost use Rattle.desk_store.specs.Store.{Since, MayBeKept, with_change};
+ghost use Rattle.desk_tables.specs.Kept.{desk_seen, MayKeep};
 ghost use Rattle.desk_crashes.specs.Settled.{HasHonestDisk, HasKeptTables, IsSettled, IsOpenedOver, HasTakenBranch};
 
 use crate::opening::open_store;
@@ -14,14 +19,14 @@ use ancestry::{BranchFault, Node};
 use bug_record::Change;
 use desk_store::Records;
 use desk_tables::TableDesk;
-use desk_text::StoreFault;
+use desk_text::{Outcome, StoreFault};
 use sqlite::Alter;
 use sqlite_trees::store::Reopen;
 use std::alloc::Global;
 
 /// Crashes at this moment, between two calls, and opens what is left.
-/// Where the desk was settled, what is opened is the same desk, and settled: nothing that was
-/// answered is lost.
+/// Where the desk was settled, what is opened is the same desk, with what is kept of messages,
+/// and settled: nothing that was answered is lost.
 /// `None` where it is not opened: for want of memory, or by a fault of the store.
 pub fn crash_and_open<S: Alter + Reopen + Drop>(
     alloc: Global,
@@ -31,7 +36,7 @@ pub fn crash_and_open<S: Alter + Reopen + Drop>(
     ensures left { IfSome result (λ again. HasHonestDisk S.Store again →
         (db : Trees) × (state S.Store desk.conn).may_leave db × IsOpenedOver S.Store db again) }
     ensures settled { IfSome result (λ again. HasHonestDisk S.Store again →
-        (d : Desk) → IsSettled S.Store d desk → IsSettled S.Store d again) }
+        (d : Desk) (k : Keeping) → IsSettled S.Store d k desk → IsSettled S.Store d k again) }
 {
     let mut store = desk.close().into_store();
     match store.crash_and_reopen() {
@@ -56,10 +61,10 @@ pub fn apply_and_crash<S: Alter + Reopen + Drop>(
     requires members { Each HasMember change.now.images }
     requires fits { HasKeptTables S.Store desk → HasHonestDisk S.Store desk →
         FitsDesk (desk_seen S.Store desk.last.values) change.now }
-    ensures either { IfSome result.1 (λ again. HasHonestDisk S.Store again → (d : Desk) → IsSettled S.Store d desk →
-        IsSettled S.Store d again ⊎ IsSettled S.Store (put d change.now) again) }
-    ensures done { IfSome result.1 (λ again. HasHonestDisk S.Store again → IsOk result.0 → (d : Desk) → IsSettled S.Store d desk →
-        IsSettled S.Store (put d change.now) again) }
+    ensures either { IfSome result.1 (λ again. HasHonestDisk S.Store again → (d : Desk) (k : Keeping) → IsSettled S.Store d k desk →
+        IsSettled S.Store d k again ⊎ IsSettled S.Store (put d change.now) k again) }
+    ensures done { IfSome result.1 (λ again. HasHonestDisk S.Store again → IsOk result.0 → (d : Desk) (k : Keeping) → IsSettled S.Store d k desk →
+        IsSettled S.Store (put d change.now) k again) }
 {
     let mut desk = desk;
     let done = desk.apply(change);
@@ -81,13 +86,50 @@ pub fn branch_and_crash<S: Alter + Reopen + Drop>(
     Result<Result<(), BranchFault>, StoreFault>,
     Option<TableDesk<S>>,
 )
-    ensures either { IfSome result.1 (λ again. HasHonestDisk S.Store again → (d : Desk) → IsSettled S.Store d desk →
-        IsSettled S.Store d again ⊎ HasTakenBranch S.Store d nodes.now again) }
-    ensures done { IfSome result.1 (λ again. HasHonestDisk S.Store again → IfOk result.0 (λ taken. IsOk taken → (d : Desk) → IsSettled S.Store d desk →
-        HasTakenBranch S.Store d nodes.now again)) }
+    ensures either { IfSome result.1 (λ again. HasHonestDisk S.Store again → (d : Desk) (k : Keeping) → IsSettled S.Store d k desk →
+        IsSettled S.Store d k again ⊎ HasTakenBranch S.Store d k nodes.now again) }
+    ensures done { IfSome result.1 (λ again. HasHonestDisk S.Store again → IfOk result.0 (λ taken. IsOk taken → (d : Desk) (k : Keeping) → IsSettled S.Store d k desk →
+        HasTakenBranch S.Store d k nodes.now again)) }
 {
     let mut desk = desk;
     let taken = desk.branch(nodes);
     let again = crash_and_open(alloc, desk);
     (taken, again)
+}
+
+/// Keeps an outcome of a line of a message that has an id, with the line's change, if there is one,
+/// and crashes right after the call, whatever it answered; then it opens what is left.
+/// Where the desk was settled, and the outcome and the change may be kept there, what is opened has
+/// neither of them or both, and is settled; where the call was answered as done, it has both.
+/// It asks what `Records::keep` asks.
+/// The second answer is `None` where nothing is opened: for want of memory, or by a fault of the
+/// store.
+pub fn keep_and_crash<S: Alter + Reopen + Drop>(
+    alloc: Global,
+    desk: TableDesk<S>,
+    id: &str,
+    from: &str,
+    message: &str,
+    outcome: &Outcome,
+    change: Option<&Change>,
+) -> (Result<(), StoreFault>, Option<TableDesk<S>>)
+    requires id { IsId id.now }
+    requires sender { IsText from.now }
+    requires members { IfGiven (λ (c : Change). Each HasMember c.images) (option_copied change) }
+    requires apart { HasKeptTables S.Store desk → HasHonestDisk S.Store desk → IfGiven (λ (c : Change). AreApart c.images) (option_copied change) }
+    requires fits { HasKeptTables S.Store desk → HasHonestDisk S.Store desk →
+        IfGiven (FitsDesk (desk_seen S.Store desk.last.values)) (option_copied change) }
+    requires next { Since (HasKeptTables S.Store) (HasHonestDisk S.Store) desk
+        (MayKeep S.Store desk.last.values id.now from.now message.now outcome.now (option_copied change)) }
+    ensures either { IfSome result.1 (λ again. HasHonestDisk S.Store again → (d : Desk) (k : Keeping) → IsSettled S.Store d k desk →
+        MayBeKept id.now from.now message.now k d outcome.now (option_copied change.entry) →
+        IsSettled S.Store d k again ⊎ IsSettled S.Store (with_change (option_copied change.entry) d) (kept_also id.now from.now message.now outcome.now k) again) }
+    ensures done { IfSome result.1 (λ again. HasHonestDisk S.Store again → IsOk result.0 → (d : Desk) (k : Keeping) → IsSettled S.Store d k desk →
+        MayBeKept id.now from.now message.now k d outcome.now (option_copied change.entry) →
+        IsSettled S.Store (with_change (option_copied change.entry) d) (kept_also id.now from.now message.now outcome.now k) again) }
+{
+    let mut desk = desk;
+    let kept = desk.keep(id, from, message, outcome, change);
+    let again = crash_and_open(alloc, desk);
+    (kept, again)
 }

@@ -4,7 +4,7 @@ ghost use Rattle.std.specs.Prelude.{◌≡◌, IfSome, IsTrue};
 ghost use Rattle.sqlite.specs.Files.{over_files, image_of, HoldsDatabase};
 ghost use Rattle.sqlite_trees.specs.Tree.{Trees};
 ghost use Rattle.sqlite_wal.specs.Reads.{AreClean};
-ghost use Rattle.desk_tables.specs.Kept.{desk_seen};
+ghost use Rattle.desk_tables.specs.Kept.{desk_seen, keeping_seen};
 ghost use Rattle.desk_crashes.specs.Settled.{HasHonestDisk, HasKeptTables, IsSettled, IsOpenedOver};
 
 use crate::opening::open_connection;
@@ -39,7 +39,7 @@ pub fn close_and_open<D: Disk + Drop>(
     options: Options,
 ) -> Option<TableDesk<FileStore<D>>>
     ensures same { IfSome result (λ again. HasHonestDisk over_files again → HasKeptTables over_files desk →
-        IsSettled over_files (desk_seen over_files desk.last.values) again) }
+        IsSettled over_files (desk_seen over_files desk.last.values) (keeping_seen over_files desk.last.values) again) }
 {
     match desk.close().close_files() {
         Ok(files) => open_files(alloc, files, options),

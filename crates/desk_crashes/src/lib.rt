@@ -12,6 +12,6 @@ mod files;
 mod laws;
 mod opening;
 
-pub use calls::{apply_and_crash, branch_and_crash, crash_and_open};
+pub use calls::{apply_and_crash, branch_and_crash, crash_and_open, keep_and_crash};
 pub use files::close_and_open;
 pub use laws::serving_desks_are_settled;

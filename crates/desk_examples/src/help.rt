@@ -3,9 +3,10 @@
 use std::io;
 
 /// What the help has to name.
-const NAMES: [&str; 11] = [
+const NAMES: [&str; 12] = [
     "--store <FILE>",
     "--from <TEXT>",
+    "--id <TEXT>",
     "--port <N>",
     "--count <N>",
     "--first <N>",

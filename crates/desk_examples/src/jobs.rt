@@ -16,6 +16,14 @@ fn store_part(alloc: Global, store: &Option<Text>) -> Result<String, AllocError>
     }
 }
 
+// What is told of an id that may be left out.
+fn id_part(alloc: Global, id: &Option<Text>) -> Result<String, AllocError> {
+    match id {
+        Some(id) => format!(in alloc; " id [{}]", id.as_str()),
+        None => Ok(String::new(alloc)),
+    }
+}
+
 // Prints the lines of a message.
 fn print_lines(rt: &HostRuntime, lines: &Sequence<Text>) -> io::Result<()> {
     for line in lines.as_slice() {
@@ -38,11 +46,18 @@ fn print_job(rt: &HostRuntime, job: &Job) -> io::Result<()> {
             let store = store_part(rt.alloc(), store)?;
             println!(rt; "-> serve port {port} count {count}{}", store.as_str())
         }
-        Job::Send { store, from, lines } => {
+        Job::Send {
+            store,
+            from,
+            id,
+            lines,
+        } => {
+            let id = id_part(rt.alloc(), id)?;
             println!(rt;
-                "-> send store [{}] from [{}]",
+                "-> send store [{}] from [{}]{}",
                 store.as_str(),
-                from.as_str()
+                from.as_str(),
+                id.as_str()
             )?;
             print_lines(rt, lines)
         }

@@ -6,7 +6,6 @@ use Rattle.httparse.specs.Grammar.{RequestHead}
 use Rattle.httparse.specs.Spans.{IsRequestAt}
 use Rattle.httparse.specs.declared.spans.HeaderSpan.{HeaderSpan}
 use Rattle.httparse.specs.declared.spans.RequestSpans.{RequestSpans}
-use Rattle.bug_record.specs.Desk.{Desk}
 use Rattle.desk_text.specs.declared.outcome.StoreFault.{StoreFault}
 use Rattle.desk_text.specs.declared.outcome.StoreFault.TheVariants.{Memory}
 use Rattle.request_reading.specs.Head.{BeginsWithHead, HasNoHead}
@@ -14,8 +13,9 @@ use Rattle.request_reading.specs.Found.{HadBytes, IsWrong, IsComplete}
 use Rattle.request_reading.proofs.HeadLemmas.{begins-more}
 use Rattle.request_reading.proofs.HadLemmas.{had_any, had_then, had_before}
 use Rattle.desk_answers.specs.Answer.{Answer, answer_bytes}
-use Rattle.desk_answers.specs.Requests.{Request, PostBug, PostControl, PostBranch, GetBug, GetList}
-use Rattle.desk_answers.specs.Faults.{IsAnswer}
+use Rattle.desk_answers.specs.Requests.{Asked, Always, Once, PostBug, PostControl, PostBranch, GetBug, GetList}
+use Rattle.desk_answers.specs.Stored.{Stored}
+use Rattle.desk_answers.specs.Repeats.{IsAskedAnswer}
 use Rattle.desk_answers.specs.Shown.{shown}
 use Rattle.desk_answers.specs.Steps.{Fails, Gives}
 use Rattle.desk_answers.specs.declared.reply.Reply.{Reply}
@@ -30,22 +30,23 @@ use Rattle.desk_http.specs.declared.serve.ServeFault.{ServeFault}
 use Rattle.desk_http.specs.declared.serve.ServeFault.TheVariants.{Read, Write}
 
 -- want of memory before anything was carried out
-memory_answers : (request : Request) (d : Desk) (reply : Reply) → Fails Memory reply
-    → IsAnswer request d (Some Memory) (shown reply) d
-memory_answers (PostBug report) d reply f = wants_memory (PostBug report) d d reply refl f
-memory_answers (PostControl c) d reply f = inr (f.0, (0, refl))
-memory_answers (PostBranch words) d reply f = wants_memory (PostBranch words) d d reply refl f
-memory_answers (GetBug n) d reply f = wants_memory (GetBug n) d d reply refl f
-memory_answers (GetList name version) d reply f = wants_memory (GetList name version) d d reply refl f
+memory_answers : (request : Asked) (d : Stored) (reply : Reply) → Fails Memory reply
+    → IsAskedAnswer request d (Some Memory) (shown reply) d
+memory_answers (Always (PostBug report)) d reply f = (wants_memory (PostBug report) d.desk d.desk reply refl f, refl)
+memory_answers (Always (PostControl c)) d reply f = (inr (f.0, (0, refl)), refl)
+memory_answers (Once id c) d reply f = inr (f.0, inl refl)
+memory_answers (Always (PostBranch words)) d reply f = (wants_memory (PostBranch words) d.desk d.desk reply refl f, refl)
+memory_answers (Always (GetBug n)) d reply f = (wants_memory (GetBug n) d.desk d.desk reply refl f, refl)
+memory_answers (Always (GetList name version)) d reply f = (wants_memory (GetList name version) d.desk d.desk reply refl f, refl)
 
-memory_replies : (made : Result Request Answer) (d : Desk) (reply : Reply) → Fails Memory reply
+memory_replies : (made : Result Asked Answer) (d : Stored) (reply : Reply) → Fails Memory reply
     → IsReplyTo made d (Some Memory) (shown reply) d
 memory_replies (Ok request) d reply f = memory_answers request d reply f
 memory_replies (Err refusal) d reply f = (refl, f.0, refl)
 
 -- the answer to an input that begins with a head, out of that to what the head asks
 pub complete_right : (old new : Option (List ℕ)) (buf : List ℕ) (headers : List HeaderSpan) (spans : RequestSpans) (filled : ℕ)
-    → IsComplete old new buf headers spans filled → (d e : Desk) (fault : Option StoreFault) (answer : Answer)
+    → IsComplete old new buf headers spans filled → (d e : Stored) (fault : Option StoreFault) (answer : Answer)
     → ((head : RequestHead) → IsRequestAt (take filled buf) headers spans head
     → HadBytes new (λ more. IsReplyTo (asked_of head (drop spans.len (take filled buf) ++ more)) d fault answer e))
     → HadBytes old (λ bytes. Answers bytes d fault answer e)
@@ -61,24 +62,24 @@ complete_right old new buf headers spans filled c d e fault answer gives =
 
 -- what a request asks that was read, answered
 pub asked_right : (new : Option (List ℕ)) (buf : List ℕ) (headers : List HeaderSpan) (spans : RequestSpans)
-    (made : Result Request Answer) (d e : Desk) (fault : Option StoreFault) (answer : Answer)
+    (made : Result Asked Answer) (d e : Stored) (fault : Option StoreFault) (answer : Answer)
     → ((head : RequestHead) → IsRequestAt buf headers spans head
     → HadBytes new (λ more. made ≡ asked_of head (drop spans.len buf ++ more)))
     → IsReplyTo made d fault answer e → (head : RequestHead) → IsRequestAt buf headers spans head
     → HadBytes new (λ more. IsReplyTo (asked_of head (drop spans.len buf ++ more)) d fault answer e)
 asked_right new buf headers spans made d e fault answer asks h head at =
     had_then new (λ more. made ≡ asked_of head (drop spans.len buf ++ more)) _
-    (λ more is. subst (λ (r : Result Request Answer). IsReplyTo r d fault answer e) is h) (asks head at)
+    (λ more is. subst (λ (r : Result Asked Answer). IsReplyTo r d fault answer e) is h) (asks head at)
 
 -- want of memory where a request was read
-pub memory_right : (new : Option (List ℕ)) (buf : List ℕ) (spans : RequestSpans) (d : Desk) (reply : Reply) → Fails Memory reply
+pub memory_right : (new : Option (List ℕ)) (buf : List ℕ) (spans : RequestSpans) (d : Stored) (reply : Reply) → Fails Memory reply
     → (head : RequestHead) → HadBytes new (λ more. IsReplyTo (asked_of head (drop spans.len buf ++ more)) d reply.fault (shown reply) d)
 memory_right new buf spans d reply f head = had_any new _ (λ more.
     subst (λ (o : Option StoreFault). IsReplyTo (asked_of head (drop spans.len buf ++ more)) d o (shown reply) d) (sym f.1)
     (memory_replies (asked_of head (drop spans.len buf ++ more)) d reply f))
 
 -- an input with a wrong head
-pub wrong_right : (old : Option (List ℕ)) (d : Desk) (reply : Reply) → HadBytes old IsWrong → Gives bad_request reply
+pub wrong_right : (old : Option (List ℕ)) (d : Stored) (reply : Reply) → HadBytes old IsWrong → Gives bad_request reply
     → HadBytes old (λ bytes. Answers bytes d reply.fault (shown reply) d)
 wrong_right old d reply w g = had_then old IsWrong _
     (λ bytes wrong. inr (record { not_empty = wrong.0; none = wrong.1; no_fault = g.1; is = g.0; same = refl })) w
@@ -115,7 +116,7 @@ wrong_unwritten None same given w = tt
 wrong_unwritten (Some x) same given w = λ some none. ((w some none).0, tt)
 
 -- the input of what is right
-right_by : (known : Option (List ℕ)) (old new : Desk) (n0 n1 : Faults) (fault : Option StoreFault) (answer : Answer)
+right_by : (known : Option (List ℕ)) (old new : Stored) (n0 n1 : Faults) (fault : Option StoreFault) (answer : Answer)
     → (r : IsRight known old new n0 n1 fault answer) → IsRight (Some r.answers.bytes) old new n0 n1 fault answer
 right_by known old new n0 n1 fault answer r = record {
   answers = record { bytes = r.answers.bytes; are = refl; holds = r.answers.holds };
@@ -123,7 +124,7 @@ right_by known old new n0 n1 fault answer r = record {
 }
 
 -- the input of what was served
-pub served_by : (known : Option (List ℕ)) (old new : Desk) (n0 n1 : Faults) (c0 c1 : Option (List ℕ)) (result : Result Served ServeFault)
+pub served_by : (known : Option (List ℕ)) (old new : Stored) (n0 n1 : Faults) (c0 c1 : Option (List ℕ)) (result : Result Served ServeFault)
     → IsServed known old new n0 n1 c0 c1 result → HadBytes known (λ input. IsServed (Some input) old new n0 n1 c0 c1 result)
 served_by known old new n0 n1 c0 c1 (Ok (Answered status)) h = record {
   bytes = h.2.answers.bytes;

@@ -9,7 +9,7 @@ use Rattle.desk_routes.specs.declared.router.Route.{Route}
 use Rattle.request_reading.specs.Found.{HadBytes}
 use Rattle.request_reading.proofs.HadLemmas.{had_any}
 use Rattle.desk_answers.specs.Answer.{Answer, not_found}
-use Rattle.desk_answers.specs.Requests.{Request}
+use Rattle.desk_answers.specs.Requests.{Asked}
 use Rattle.desk_answers.specs.declared.request.Request.{Request as RequestMade}
 use Rattle.desk_http.specs.Requests.{route_of, asked_at, asked_on, asked_by, not_allowed}
 use Rattle.desk_http.specs.Shown.{asks}
@@ -40,7 +40,7 @@ route_found path text (Err fault) same h e = tt
 
 -- what is asked without a body doesn't depend on the bytes after the head
 pub any_rest : {E F : Type 0} (told : Result (Result RequestMade Refusal) E) (made : Result (Result RequestMade Refusal) F)
-    (known : Option (List ℕ)) (answer : List ℕ → Result Request Answer) (found : Result Request Answer)
+    (known : Option (List ℕ)) (answer : List ℕ → Result Asked Answer) (found : Result Asked Answer)
     → IfOk told (λ value. made ≡ Ok value) → IfOk made (λ asked. asks asked ≡ found)
     → ((more : List ℕ) → found ≡ answer more) → IfOk told (λ asked. HadBytes known (λ more. asks asked ≡ answer more))
 any_rest (Err fault) made known answer found is holds same = tt

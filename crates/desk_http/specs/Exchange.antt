@@ -3,63 +3,65 @@
 use Rattle.std.specs.Prelude.{ℕ, ◌≡◌, ◌≢◌, ◌⊎◌, List, [], Option, Some, None, Result, Ok, Err, IfSome, ⊤}
 use Rattle.std.specs.Io.KnownBytes.{Appends}
 use Rattle.httparse.specs.Grammar.{RequestHead}
-use Rattle.bug_record.specs.Desk.{Desk}
 use Rattle.desk_text.specs.declared.outcome.StoreFault.{StoreFault}
 use Rattle.desk_text.specs.declared.outcome.StoreFault.TheVariants.{Memory}
 use Rattle.request_reading.specs.Head.{BeginsWithHead, HasNoHead}
 use Rattle.request_reading.specs.Found.{HadBytes}
 use Rattle.desk_store.specs.Store.{Faults}
 use Rattle.desk_answers.specs.Answer.{Answer, answer_bytes, store_fault}
-use Rattle.desk_answers.specs.Requests.{Request}
-use Rattle.desk_answers.specs.Faults.{IsAnswer, IsTold, counted_with}
+use Rattle.desk_answers.specs.Requests.{Asked}
+use Rattle.desk_answers.specs.Faults.{IsTold, counted_with}
+use Rattle.desk_answers.specs.Repeats.{IsAskedAnswer}
+use Rattle.desk_answers.specs.Stored.{Stored}
 use Rattle.desk_http.specs.Requests.{asked_of, bad_request}
 use Rattle.desk_http.specs.declared.serve.Served.{Served}
 use Rattle.desk_http.specs.declared.serve.Served.TheVariants.{Answered, Closed}
 use Rattle.desk_http.specs.declared.serve.ServeFault.{ServeFault}
 use Rattle.desk_http.specs.declared.serve.ServeFault.TheVariants.{Read, Write}
 
--- What is answered to what was asked, where this fault was met or none, and the desk after it: a
--- request that is refused changes nothing, and only want of memory can come before its refusal.
-abbrev pub IsReplyTo : Result Request Answer → Desk → Option StoreFault → Answer → Desk → Type 0
-IsReplyTo (Ok request) old fault answer new = IsAnswer request old fault answer new
+-- What is answered to what was asked, where this fault was met or none, and what the store holds
+-- after it: a request that is refused changes nothing, and only want of memory can come before its
+-- refusal.
+abbrev pub IsReplyTo : Result Asked Answer → Stored → Option StoreFault → Answer → Stored → Type 0
+IsReplyTo (Ok request) old fault answer new = IsAskedAnswer request old fault answer new
 IsReplyTo (Err refusal) old None answer new = (answer ≡ refusal) × (new ≡ old)
 IsReplyTo (Err refusal) old (Some fault) answer new =
     (fault ≡ Memory) × (answer ≡ store_fault) × (new ≡ old)
 
 -- the input begins with a head, and what it asks is answered
-pub record AnswersHead (input : List ℕ) (old : Desk) (fault : Option StoreFault) (answer : Answer)
-    (new : Desk) : Type 0 where
+pub record AnswersHead (input : List ℕ) (old : Stored) (fault : Option StoreFault) (answer : Answer)
+    (new : Stored) : Type 0 where
   pub head : RequestHead
   pub rest : List ℕ
   pub begins : BeginsWithHead input head rest
   pub gives : IsReplyTo (asked_of head rest) old fault answer new
 
 -- the input is not empty and begins with no head within the limits
-pub record RefusesHead (input : List ℕ) (old : Desk) (fault : Option StoreFault) (answer : Answer)
-    (new : Desk) : Type 0 where
+pub record RefusesHead (input : List ℕ) (old : Stored) (fault : Option StoreFault) (answer : Answer)
+    (new : Stored) : Type 0 where
   pub not_empty : input ≢ []
   pub none : HasNoHead input
   pub no_fault : fault ≡ None
   pub is : answer ≡ bad_request
   pub same : new ≡ old
 
--- what an input is answered, where this fault was met or none, and the desk after it
-abbrev pub Answers : List ℕ → Desk → Option StoreFault → Answer → Desk → Type 0
+-- what an input is answered, where this fault was met or none, and what the store holds after it
+abbrev pub Answers : List ℕ → Stored → Option StoreFault → Answer → Stored → Type 0
 Answers input old fault answer new =
     AnswersHead input old fault answer new ⊎ RefusesHead input old fault answer new
 
 -- The input has this answer, and the fault that was met is counted.
 -- The input is that of the reader, where its bytes are known, and else some bytes.
-pub record IsRight (input : Option (List ℕ)) (old new : Desk) (before after : Faults)
+pub record IsRight (input : Option (List ℕ)) (old new : Stored) (before after : Faults)
     (fault : Option StoreFault) (answer : Answer) : Type 0 where
   pub answers : HadBytes input (λ bytes. Answers bytes old fault answer new)
   pub counts : after ≡ counted_with fault before
 
 -- What serving one connection leaves and has written: at `Answered` the bytes of the input's
--- answer, whose status it names; at `Closed` and `Read` nothing, and no change; at `Write` the desk
--- is the one after the answer that was to be written.
+-- answer, whose status it names; at `Closed` and `Read` nothing, and no change; at `Write` the store
+-- holds what it holds after the answer that was to be written.
 -- Over a reader whose bytes no contract knows, as a socket, this is so of some input.
-abbrev pub IsServed : Option (List ℕ) → Desk → Desk → Faults → Faults → Option (List ℕ)
+abbrev pub IsServed : Option (List ℕ) → Stored → Stored → Faults → Faults → Option (List ℕ)
     → Option (List ℕ) → Result Served ServeFault → Type 0
 IsServed input old new n0 n1 c0 c1 (Ok (Answered status)) =
     (fault : Option StoreFault) × (answer : Answer) × IsRight input old new n0 n1 fault answer

@@ -3,7 +3,7 @@
 -- First comes the route, 404, then its method, 405; of a POST then the body, 501, 411, 400, 413 and
 -- 400, and what it holds, 400; of a GET the parts of its path, 404.
 -- This order, the limits and the texts are this project's own rule.
-use Rattle.std.specs.Prelude.{ℕ, Bool, true, List, Option, Some, None, Result, Ok, Err, codes, map}
+use Rattle.std.specs.Prelude.{ℕ, ◌&&◌, Bool, true, List, Option, Some, None, Result, Ok, Err, codes, map}
 use Rattle.std.specs.Prelude.{option_map, option_and_then, if◌then◌else◌}
 use Rattle.std.specs.Str.{is_utf8, bytes_eq}
 use Rattle.httparse.specs.Grammar.{RequestHead}
@@ -12,7 +12,7 @@ use Rattle.serde_json.specs.Data.{Data}
 use Rattle.bug_record.specs.Texts.{is_text}
 use Rattle.control_text.specs.Numbers.{number_of_word}
 use Rattle.desk_json.specs.Body.{json_of}
-use Rattle.desk_json.specs.Members.{report_members, control_members, branch_member}
+use Rattle.desk_json.specs.Members.{Control as ControlMembers, report_members, control_members, id_member, branch_member}
 use Rattle.desk_routes.specs.Routes.{method, route_at}
 use Rattle.desk_routes.specs.Parts.{path_of, bug_part, package_part, version_part, decoded_text}
 use Rattle.desk_routes.specs.declared.router.Route.{Route}
@@ -22,7 +22,8 @@ use Rattle.request_reading.specs.Body.{body_of}
 use Rattle.request_reading.specs.declared.refusal.BodyRefusal.{BodyRefusal}
 use Rattle.request_reading.specs.declared.refusal.BodyRefusal.TheVariants as bodies
 use Rattle.desk_answers.specs.Answer.{Answer, json_answer, json, not_found}
-use Rattle.desk_answers.specs.Requests.{Request, PostBug, PostControl, PostBranch, GetBug, GetList}
+use Rattle.desk_answers.specs.Requests.{Request, Asked, Always, Once, PostBug, PostControl, PostBranch, GetBug, GetList}
+use Rattle.message_machine.specs.Ids.{is_id}
 
 -- the answers to what is no request
 abbrev pub bad_request : Answer
@@ -60,45 +61,56 @@ has_good_sender (PostBranch words) = true
 has_good_sender (GetBug n) = true
 has_good_sender (GetList name version) = true
 
--- the request that a value's members make, where they are there and the sender is good
-abbrev pub posted : Option Request → Result Request Answer
+-- so it is of what was asked
+abbrev pub is_good_asked : Asked → Bool
+is_good_asked (Always request) = has_good_sender request
+is_good_asked (Once id control) = is_id id && is_text control.from
+
+-- the request that a value's members make, where they are there, the sender is good, and an id is one
+abbrev pub posted : Option Asked → Result Asked Answer
 posted None = Err bad_request
-posted (Some request) = if has_good_sender request then Ok request else Err bad_request
+posted (Some request) = if is_good_asked request then Ok request else Err bad_request
+
+-- a control message, with its id if it has one
+abbrev pub control_asked : Option ControlMembers → Option (Option (List ℕ)) → Option Asked
+control_asked (Some control) (Some None) = Some (Always (PostControl control))
+control_asked (Some control) (Some (Some id)) = Some (Once id control)
+control_asked _ _ = None
 
 -- what the members of a value ask, by the route; a route of GET has no body
-abbrev pub members_of : Route → Data → Option Request
-members_of Bugs value = option_map PostBug (report_members value)
-members_of Control value = option_map PostControl (control_members value)
-members_of Branches value = option_map PostBranch (branch_member value)
+abbrev pub members_of : Route → Data → Option Asked
+members_of Bugs value = option_map (λ report. Always (PostBug report)) (report_members value)
+members_of Control value = control_asked (control_members value) (id_member value)
+members_of Branches value = option_map (λ words. Always (PostBranch words)) (branch_member value)
 members_of Bug value = None
 members_of ListRoute value = None
 
 -- what a body asks
-unfoldable pub asked_by_body : Route → List ℕ → Result Request Answer
+unfoldable pub asked_by_body : Route → List ℕ → Result Asked Answer
 asked_by_body route body = posted (option_and_then (members_of route) (json_of body))
 
-abbrev pub asked_with : Route → Result (List ℕ) BodyRefusal → Result Request Answer
+abbrev pub asked_with : Route → Result (List ℕ) BodyRefusal → Result Asked Answer
 asked_with route (Ok body) = asked_by_body route body
 asked_with route (Err refusal) = Err (body_refused refusal)
 
-abbrev pub page_asked : Option ℕ → Result Request Answer
+abbrev pub page_asked : Option ℕ → Result Asked Answer
 page_asked None = Err not_found
-page_asked (Some n) = Ok (GetBug n)
+page_asked (Some n) = Ok (Always (GetBug n))
 
 -- the page of the bug whose number word this part of a path is, decoded
-unfoldable pub page_by : List ℕ → Result Request Answer
+unfoldable pub page_by : List ℕ → Result Asked Answer
 page_by part = page_asked (option_and_then number_of_word (decoded_text part))
 
-abbrev pub list_asked : Option (List ℕ) → Option (List ℕ) → Result Request Answer
-list_asked (Some name) (Some version) = Ok (GetList name version)
+abbrev pub list_asked : Option (List ℕ) → Option (List ℕ) → Result Asked Answer
+list_asked (Some name) (Some version) = Ok (Always (GetList name version))
 list_asked _ _ = Err not_found
 
 -- the list that these parts of a path ask for, each decoded
-unfoldable pub list_by : List ℕ → List ℕ → Result Request Answer
+unfoldable pub list_by : List ℕ → List ℕ → Result Asked Answer
 list_by name version = list_asked (decoded_text name) (decoded_text version)
 
 -- what is asked at a route by its own method; only a POST has a body
-abbrev pub asked_at : Route → List ℕ → List (List ℕ × List ℕ) → List ℕ → Result Request Answer
+abbrev pub asked_at : Route → List ℕ → List (List ℕ × List ℕ) → List ℕ → Result Asked Answer
 asked_at Bug path headers rest = page_by (bug_part path)
 asked_at ListRoute path headers rest = list_by (package_part path) (version_part path)
 asked_at Bugs path headers rest = asked_with Bugs (body_of headers rest)
@@ -107,7 +119,7 @@ asked_at Branches path headers rest = asked_with Branches (body_of headers rest)
 
 -- what is asked of the route, if there is one, by this method
 abbrev pub asked_on : Option Route → List ℕ → List ℕ → List (List ℕ × List ℕ) → List ℕ
-    → Result Request Answer
+    → Result Asked Answer
 asked_on None method_asked path headers rest = Err not_found
 asked_on (Some route) method_asked path headers rest =
     if bytes_eq method_asked (method route) then asked_at route path headers rest
@@ -118,10 +130,10 @@ unfoldable pub route_of : List ℕ → Option Route
 route_of path = if is_utf8 path then route_at path else None
 
 -- what is asked of a target by this method, with these headers and the bytes after the head
-abbrev pub asked_by : List ℕ → List ℕ → List (List ℕ × List ℕ) → List ℕ → Result Request Answer
+abbrev pub asked_by : List ℕ → List ℕ → List (List ℕ × List ℕ) → List ℕ → Result Asked Answer
 asked_by method_asked target headers rest =
     asked_on (route_of (path_of target)) method_asked (path_of target) headers rest
 
 -- what a head asks, with the bytes after it; or the answer that refuses it
-abbrev pub asked_of : RequestHead → List ℕ → Result Request Answer
+abbrev pub asked_of : RequestHead → List ℕ → Result Asked Answer
 asked_of head rest = asked_by head.method head.target (map name_and_value head.fields) rest

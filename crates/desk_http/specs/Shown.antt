@@ -1,7 +1,7 @@
 -- The answer that a refusal stands for, and what was asked.
 use Rattle.std.specs.Prelude.{Result, Ok, Err}
 use Rattle.desk_answers.specs.Answer.{Answer, not_found}
-use Rattle.desk_answers.specs.Requests.{Request}
+use Rattle.desk_answers.specs.Requests.{Asked}
 use Rattle.desk_answers.specs.Shown.{asked}
 use Rattle.desk_answers.specs.declared.request.Request.{Request as RequestMade}
 use Rattle.desk_http.specs.Requests.{bad_request, not_allowed, body_refused}
@@ -15,6 +15,6 @@ refused (NotAllowed route) = not_allowed route
 refused (BodyRefused refusal) = body_refused refusal
 
 -- what was asked, or the answer that refuses it
-abbrev pub asks : Result RequestMade Refusal → Result Request Answer
+abbrev pub asks : Result RequestMade Refusal → Result Asked Answer
 asks (Ok request) = Ok (asked request)
 asks (Err refusal) = Err (refused refusal)

@@ -1,17 +1,17 @@
 -- What reading and carrying out a request leaves, before its answer is written.
 use Rattle.std.specs.Prelude.{ℕ, ◌≡◌, List, [], Option, Some, None, Result, Ok, Err, IfSome}
-use Rattle.bug_record.specs.Desk.{Desk}
 use Rattle.desk_store.specs.Store.{Faults}
 use Rattle.desk_answers.specs.Answer.{Answer}
 use Rattle.desk_answers.specs.Faults.{IsTold, counted_with}
 use Rattle.desk_answers.specs.Shown.{shown}
 use Rattle.desk_answers.specs.Steps.{Gives}
+use Rattle.desk_answers.specs.Stored.{Stored}
 use Rattle.desk_answers.specs.declared.reply.Reply.{Reply}
 use Rattle.desk_http.specs.Exchange.{IsRight}
 use Rattle.desk_http.specs.declared.serve.ServeFault.{ServeFault}
 
 -- the input's answer, or none where it is empty
-abbrev pub IsExchanged : Option (List ℕ) → Desk → Desk → Faults → Faults → Result (Option Reply) ServeFault → Type 0
+abbrev pub IsExchanged : Option (List ℕ) → Stored → Stored → Faults → Faults → Result (Option Reply) ServeFault → Type 0
 IsExchanged input old new n0 n1 (Ok (Some reply)) = IsRight input old new n0 n1 reply.fault (shown reply)
 IsExchanged input old new n0 n1 (Ok None) = IfSome input (λ bytes. bytes ≡ []) × (new ≡ old)
 IsExchanged input old new n0 n1 (Err fault) = new ≡ old

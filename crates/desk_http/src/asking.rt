@@ -3,7 +3,7 @@
 ghost use Rattle.std.specs.Prelude.{◌≡◌, ◌≤◌, ◌++◌, Ok, length, map, drop, IfOk, IfErr, All};
 ghost use Rattle.httparse.specs.Grammar.{RequestHead};
 ghost use Rattle.httparse.specs.Spans.{IsHeaderWithin, header_bytes, IsRequestWithin, IsRequestAt};
-ghost use Rattle.desk_answers.specs.Requests.{HasGoodSender};
+ghost use Rattle.desk_answers.specs.Requests.{IsGoodAsked};
 ghost use Rattle.desk_answers.specs.Shown.{asked};
 ghost use Rattle.request_reading.specs.Body.{body_of, size_told, TakesBody};
 ghost use Rattle.request_reading.specs.Found.{HadBytes};
@@ -46,7 +46,7 @@ fn ask_with_body<R: Read>(
     requires started { start ≤ length buf.now }
     ensures asks { IfOk result (λ asked. HadBytes (R.remaining reader.old) (λ more. asks asked
         ≡ asked_with route (body_of (map (header_bytes buf.now) headers.now) (drop start buf.now ++ more)))) }
-    ensures sender { IfOk result (λ made. IfOk made (λ request. HasGoodSender (asked request))) }
+    ensures sender { IfOk result (λ made. IfOk made (λ request. IsGoodAsked (asked request))) }
     ensures taken { TakesBody (size_told (body_length (map (header_bytes buf.now) headers.now)))
         (drop start buf.now) (R.remaining reader.old) (R.remaining reader.new) }
 {
@@ -70,7 +70,7 @@ fn ask_at<R: Read>(
     requires started { start ≤ length buf.now }
     ensures asks { IfOk result (λ asked. HadBytes (R.remaining reader.old) (λ more. asks asked
         ≡ asked_at route path.now (map (header_bytes buf.now) headers.now) (drop start buf.now ++ more))) }
-    ensures sender { IfOk result (λ made. IfOk made (λ request. HasGoodSender (asked request))) }
+    ensures sender { IfOk result (λ made. IfOk made (λ request. IsGoodAsked (asked request))) }
     ensures taken { TakesBody (size_at route (map (header_bytes buf.now) headers.now))
         (drop start buf.now) (R.remaining reader.old) (R.remaining reader.new) }
 {
@@ -97,7 +97,7 @@ fn ask_target<R: Read>(
     requires started { start ≤ length buf.now }
     ensures asks { IfOk result (λ asked. HadBytes (R.remaining reader.old) (λ more. asks asked
         ≡ asked_by method_asked.now target.now (map (header_bytes buf.now) headers.now) (drop start buf.now ++ more))) }
-    ensures sender { IfOk result (λ made. IfOk made (λ request. HasGoodSender (asked request))) }
+    ensures sender { IfOk result (λ made. IfOk made (λ request. IsGoodAsked (asked request))) }
     ensures taken { TakesBody (size_by method_asked.now target.now (map (header_bytes buf.now) headers.now))
         (drop start buf.now) (R.remaining reader.old) (R.remaining reader.new) }
 {
@@ -128,7 +128,7 @@ pub(crate) fn ask<R: Read>(
     requires { IsRequestWithin buf.now headers.now spans }
     ensures asks { IfOk result (λ asked. (head : RequestHead) → IsRequestAt buf.now headers.now spans head
         → HadBytes (R.remaining reader.old) (λ more. asks asked ≡ asked_of head (drop spans.len buf.now ++ more))) }
-    ensures sender { IfOk result (λ made. IfOk made (λ request. HasGoodSender (asked request))) }
+    ensures sender { IfOk result (λ made. IfOk made (λ request. IsGoodAsked (asked request))) }
     ensures taken { (head : RequestHead) → IsRequestAt buf.now headers.now spans head
         → TakesBody (size_of head) (drop spans.len buf.now) (R.remaining reader.old) (R.remaining reader.new) }
 {

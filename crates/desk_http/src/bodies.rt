@@ -4,18 +4,20 @@ ghost use Rattle.std.specs.Prelude.{◌≡◌, IfOk, map, option_map, string_byt
 ghost use Rattle.serde_json.specs.View.{view};
 ghost use Rattle.bug_record.specs.Texts.{IsText};
 ghost use Rattle.desk_json.specs.Shown.{report_shown, control_shown, texts_shown};
-ghost use Rattle.desk_answers.specs.Requests.{HasGoodSender};
+ghost use Rattle.desk_answers.specs.Requests.{IsGoodAsked};
 ghost use Rattle.desk_answers.specs.Shown.{asked, report_asked, message_asked};
-ghost use Rattle.desk_http.specs.Requests.{has_good_sender, posted, members_of, asked_by_body};
+ghost use Rattle.desk_json.specs.Members.{control_members, id_member};
+ghost use Rattle.desk_http.specs.Requests.{is_good_asked, control_asked, posted, members_of, asked_by_body};
 ghost use Rattle.desk_http.specs.Shown.{asks};
 
 use crate::refusal::Refusal;
 use bug_core::is_text;
-use desk_answers::{MessageRequest, ReportRequest, Request};
+use desk_answers::{MessageRequest, OnceRequest, ReportRequest, Request};
 use desk_json::{
-    ControlMembers, ReportMembers, branch_member, control_members, parse, report_members,
+    ControlMembers, ReportMembers, branch_member, control_members, id_member, parse, report_members,
 };
 use desk_routes::Route;
+use message_machine::is_id;
 use serde_json::Value;
 use std::alloc::{AllocError, Global};
 
@@ -63,6 +65,27 @@ fn keep_words(alloc: Global, words: &[&str]) -> Result<Vec<String>, AllocError>
     Ok(kept)
 }
 
+// The control message of a value's members, with its id if it has one.
+fn control_of(alloc: Global, value: &Value) -> Result<Option<Request>, AllocError>
+    ensures { IfOk result (λ request. option_map asked request
+        ≡ control_asked (control_members (view value.now)) (id_member (view value.now))) }
+{
+    let Some(members) = control_members(value) else {
+        return Ok(None);
+    };
+    let Some(id) = id_member(value) else {
+        return Ok(None);
+    };
+    let message = keep_message(alloc, members)?;
+    match id {
+        Some(id) => {
+            let id = String::from_str(alloc, id)?;
+            Ok(Some(Request::Once(OnceRequest { id, message })))
+        }
+        None => Ok(Some(Request::Message(message))),
+    }
+}
+
 // What the members of a value ask at a route; at one without a body, nothing.
 fn request_of(alloc: Global, route: Route, value: &Value) -> Result<Option<Request>, AllocError>
     ensures { IfOk result (λ request. option_map asked request ≡ members_of route (view value.now)) }
@@ -72,10 +95,7 @@ fn request_of(alloc: Global, route: Route, value: &Value) -> Result<Option<Reque
             Some(members) => Ok(Some(Request::Report(keep_report(alloc, members)?))),
             None => Ok(None),
         },
-        Route::Control => match control_members(value) {
-            Some(members) => Ok(Some(Request::Message(keep_message(alloc, members)?))),
-            None => Ok(None),
-        },
+        Route::Control => control_of(alloc, value),
         Route::Branches => match branch_member(alloc, value)? {
             Some(words) => Ok(Some(Request::Branch(keep_words(alloc, words.as_slice())?))),
             None => Ok(None),
@@ -84,27 +104,28 @@ fn request_of(alloc: Global, route: Route, value: &Value) -> Result<Option<Reque
     }
 }
 
-// Whether the sender, if there is one, is a text of 1 to 200 bytes.
-fn has_good_sender(request: &Request) -> bool
-    ensures { result ≡ has_good_sender (asked request.now) }
+// Whether the sender, if there is one, is a text of 1 to 200 bytes, and an id is one.
+fn is_good_asked(request: &Request) -> bool
+    ensures { result ≡ is_good_asked (asked request.now) }
 {
     match request {
         Request::Report(report) => is_text(report.from.as_str()),
         Request::Message(message) => is_text(message.from.as_str()),
+        Request::Once(once) => is_id(once.id.as_str()) && is_text(once.message.from.as_str()),
         Request::Branch(_) => true,
         Request::Page(_) => true,
         Request::ListOf(_) => true,
     }
 }
 
-// The request, where there is one and its sender is good.
+// The request, where there is one, its sender is good, and an id is one.
 fn posted(request: Option<Request>) -> Result<Request, Refusal>
     ensures asks { asks result ≡ posted (option_map asked request) }
-    ensures sender { IfOk result (λ request. HasGoodSender (asked request)) }
+    ensures sender { IfOk result (λ request. IsGoodAsked (asked request)) }
 {
     match request {
         Some(request) => {
-            if has_good_sender(&request) {
+            if is_good_asked(&request) {
                 Ok(request)
             } else {
                 Err(Refusal::BadRequest)
@@ -126,7 +147,7 @@ pub(crate) fn ask_body(
     body: &[u8],
 ) -> Result<Result<Request, Refusal>, AllocError>
     ensures asks { IfOk result (λ asked. asks asked ≡ asked_by_body route body.now) }
-    ensures sender { IfOk result (λ made. IfOk made (λ request. HasGoodSender (asked request))) }
+    ensures sender { IfOk result (λ made. IfOk made (λ request. IsGoodAsked (asked request))) }
 {
     let Some(value) = parse(alloc, body)? else {
         return Ok(Err(Refusal::BadRequest));

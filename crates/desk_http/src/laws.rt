@@ -5,7 +5,7 @@ ghost use Rattle.std.specs.Prelude.{◌≡◌, ◌≤◌, ◌+◌, ◌⊎◌, �
 ghost use Rattle.httparse.specs.Grammar.{RequestHead};
 ghost use Rattle.request_reading.specs.Head.{BeginsWithHead, HasNoHead};
 ghost use Rattle.request_reading.specs.Found.{HadBytes};
-ghost use Rattle.bug_record.specs.Desk.{Desk};
+ghost use Rattle.desk_answers.specs.Stored.{Stored};
 ghost use Rattle.desk_store.specs.Store.{Faults};
 ghost use Rattle.desk_http.specs.Requests.{asked_of};
 ghost use Rattle.desk_http.specs.Exchange.{IsServed};
@@ -23,7 +23,7 @@ pub fn an_input_has_one_request()
 /// What serving one connection leaves and has written is that of some input, whatever the reader:
 /// of its own, where its bytes are known.
 pub fn what_was_served_has_an_input()
-    ensures { (known : Option (List ℕ)) (old new : Desk) (n0 n1 : Faults) (c0 c1 : Option (List ℕ))
+    ensures { (known : Option (List ℕ)) (old new : Stored) (n0 n1 : Faults) (c0 c1 : Option (List ℕ))
         (result : Result Served ServeFault) → IsServed known old new n0 n1 c0 c1 result
         → HadBytes known (λ input. IsServed (Some input) old new n0 n1 c0 c1 result) }
 {}

@@ -1,7 +1,7 @@
 //! What the path of a request asks.
 
 ghost use Rattle.std.specs.Prelude.{◌≡◌, IfOk, option_map, string_bytes};
-ghost use Rattle.desk_answers.specs.Requests.{HasGoodSender};
+ghost use Rattle.desk_answers.specs.Requests.{IsGoodAsked};
 ghost use Rattle.desk_answers.specs.Shown.{asked};
 ghost use Rattle.desk_http.specs.Requests.{page_by, list_by, route_of};
 ghost use Rattle.desk_http.specs.Shown.{asks};
@@ -21,7 +21,7 @@ use std::str;
 #[tactic(auto, unfolding(crate::specs::Requests::page_by))]
 pub(crate) fn ask_page(alloc: Global, part: &[u8]) -> Result<Result<Request, Refusal>, AllocError>
     ensures asks { IfOk result (λ asked. asks asked ≡ page_by part.now) }
-    ensures sender { IfOk result (λ made. IfOk made (λ request. HasGoodSender (asked request))) }
+    ensures sender { IfOk result (λ made. IfOk made (λ request. IsGoodAsked (asked request))) }
 {
     let Some(word) = decoded_text(alloc, part)? else {
         return Ok(Err(Refusal::NotFound));
@@ -43,7 +43,7 @@ pub(crate) fn ask_list(
     parts: ListParts<'_>,
 ) -> Result<Result<Request, Refusal>, AllocError>
     ensures asks { IfOk result (λ asked. asks asked ≡ list_by parts.entry.«package».now parts.entry.version.now) }
-    ensures sender { IfOk result (λ made. IfOk made (λ request. HasGoodSender (asked request))) }
+    ensures sender { IfOk result (λ made. IfOk made (λ request. IsGoodAsked (asked request))) }
 {
     let Some(package) = decoded_text(alloc, parts.package)? else {
         return Ok(Err(Refusal::NotFound));

@@ -6,8 +6,9 @@ ghost use Rattle.request_reading.specs.Head.{HasNoHead};
 ghost use Rattle.desk_store.specs.Store.{Holds};
 ghost use Rattle.desk_answers.specs.Answer.{answer_bytes};
 ghost use Rattle.desk_answers.specs.Faults.{IsTold, counted_with};
-ghost use Rattle.desk_answers.specs.Requests.{HasGoodSender};
+ghost use Rattle.desk_answers.specs.Requests.{IsGoodAsked};
 ghost use Rattle.desk_answers.specs.Shown.{asked, shown};
+ghost use Rattle.desk_answers.specs.Stored.{stored};
 ghost use Rattle.desk_http.specs.Requests.{bad_request};
 ghost use Rattle.desk_http.specs.Exchange.{IsReplyTo, IsServed, IsCounted, TellsFault};
 ghost use Rattle.desk_http.specs.Steps.{IsExchanged, IsExchangeCounted, IsGiven};
@@ -46,9 +47,9 @@ pub enum ServeFault {
 
 // Carries out what was asked, and answers it.
 fn carry_out<S: Records>(alloc: Global, store: &mut S, made: Result<Request, Refusal>) -> Reply
-    requires { IfOk made (λ request. HasGoodSender (asked request)) }
+    requires { IfOk made (λ request. IsGoodAsked (asked request)) }
     ensures answer { Holds S.is_kept S.is_honest store.old store.new (IsReplyTo (asks made)
-        (S.desk store.old) result.fault (shown result) (S.desk store.new)) }
+        (stored S.desk S.keeping store.old) result.fault (shown result) (stored S.desk S.keeping store.new)) }
     ensures count { S.faults store.new ≡ counted_with result.fault (S.faults store.old) }
     ensures told { IsTold result.fault (shown result) }
 {
@@ -71,7 +72,7 @@ pub fn exchange<S: Records, R: Read>(
     reader: &mut R,
 ) -> Result<Option<Reply>, ServeFault>
     ensures answer { Holds S.is_kept S.is_honest store.old store.new (IsExchanged (R.remaining reader.old)
-        (S.desk store.old) (S.desk store.new) (S.faults store.old) (S.faults store.new) result) }
+        (stored S.desk S.keeping store.old) (stored S.desk S.keeping store.new) (S.faults store.old) (S.faults store.new) result) }
     ensures count { IsExchangeCounted result (S.faults store.old) (S.faults store.new) }
     ensures closed { IfOk result (λ reply. reply ≡ None → (store.new ≡ store.old)
         × IfSome (R.remaining reader.old) (λ input. input ≡ [])) }
@@ -127,7 +128,7 @@ pub fn serve_one<S: Records, R: Read, W: Write>(
     writer: &mut W,
 ) -> Result<Served, ServeFault>
     ensures answer { Holds S.is_kept S.is_honest store.old store.new (IsServed (R.remaining reader.old)
-        (S.desk store.old) (S.desk store.new) (S.faults store.old) (S.faults store.new)
+        (stored S.desk S.keeping store.old) (stored S.desk S.keeping store.new) (S.faults store.old) (S.faults store.new)
         (W.contents writer.old) (W.contents writer.new) result) }
     ensures count { IsCounted result (S.faults store.old) (S.faults store.new) }
     ensures told { TellsFault result (S.faults store.old) (S.faults store.new) (W.contents writer.old) (W.contents writer.new) }

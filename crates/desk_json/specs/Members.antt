@@ -18,15 +18,15 @@ pub record Report : Type 0 where
   pub title : List ℕ
   pub version : Option (List ℕ)
 
--- the version that a member gives: the text of a string, none where it is null or absent
-abbrev pub version_of : Option Data → Option (Option (List ℕ))
-version_of None = Some None
-version_of (Some null) = Some None
-version_of (Some (string text)) = Some (Some text)
-version_of (Some (boolean b)) = None
-version_of (Some (number n)) = None
-version_of (Some (array values)) = None
-version_of (Some (object named)) = None
+-- what a member gives that need not be there: the text of a string, none where it is null or absent
+abbrev pub optional_text : Option Data → Option (Option (List ℕ))
+optional_text None = Some None
+optional_text (Some null) = Some None
+optional_text (Some (string text)) = Some (Some text)
+optional_text (Some (boolean b)) = None
+optional_text (Some (number n)) = None
+optional_text (Some (array values)) = None
+optional_text (Some (object named)) = None
 
 -- a report, where all its parts are there
 abbrev pub report_of : Option (List ℕ) → Option (List ℕ) → Option (List ℕ) → Option (List ℕ)
@@ -46,7 +46,7 @@ abbrev pub report_members : Data → Option Report
 report_members body =
     report_of (string_member (codes "from") body) (string_member (codes "package") body)
     (string_member (codes "severity") body) (string_member (codes "title") body)
-    (version_of (get (codes "version") body))
+    (optional_text (get (codes "version") body))
 
 -- what a control message has
 pub record Control : Type 0 where
@@ -61,6 +61,10 @@ control_of _ _ = None
 abbrev pub control_members : Data → Option Control
 control_members body =
     control_of (string_member (codes "from") body) (string_member (codes "message") body)
+
+-- the id of a control message, if it has one
+abbrev pub id_member : Data → Option (Option (List ℕ))
+id_member body = optional_text (get (codes "id") body)
 
 -- a text before others, where all are there
 abbrev pub before : Option (List ℕ) → Option (List (List ℕ)) → Option (List (List ℕ))

@@ -7,4 +7,6 @@ mod members;
 
 pub use answers::{bug_json, control_json, error_json, ok_json};
 pub use body::parse;
-pub use members::{ControlMembers, ReportMembers, branch_member, control_members, report_members};
+pub use members::{
+    ControlMembers, ReportMembers, branch_member, control_members, id_member, report_members,
+};

@@ -3,8 +3,8 @@
 ghost use Rattle.std.specs.Prelude.{◌≡◌, IfOk, map, option_map};
 ghost use Rattle.serde_json.specs.Find.{get};
 ghost use Rattle.serde_json.specs.View.{view, items_view};
-ghost use Rattle.desk_json.specs.Members.{string_member, version_of, strings_of};
-ghost use Rattle.desk_json.specs.Members.{report_members, control_members, branch_member};
+ghost use Rattle.desk_json.specs.Members.{string_member, optional_text, strings_of};
+ghost use Rattle.desk_json.specs.Members.{report_members, control_members, id_member, branch_member};
 ghost use Rattle.desk_json.specs.Shown.{report_shown, control_shown, texts_shown};
 
 use serde_json::Value;
@@ -35,10 +35,10 @@ fn string_member<'v>(value: &'v Value, name: &str) -> Option<&'v str>
     value.get(name).and_then(Value::as_str)
 }
 
-// The version that a report has: a string, or none where the member is null or absent.
-fn version_member<'v>(value: &'v Value, name: &str) -> Option<Option<&'v str>>
+// A member that need not be there: a string, or none where it is null or absent.
+fn optional_member<'v>(value: &'v Value, name: &str) -> Option<Option<&'v str>>
     ensures { option_map (option_map (λ s. s.now)) result
-        ≡ version_of (get name.now (view value.now)) }
+        ≡ optional_text (get name.now (view value.now)) }
 {
     let Some(member) = value.get(name) else {
         return Some(None);
@@ -63,7 +63,7 @@ pub fn report_members(value: &Value) -> Option<ReportMembers<'_>>
         package: string_member(value, "package")?,
         severity: string_member(value, "severity")?,
         title: string_member(value, "title")?,
-        version: version_member(value, "version")?,
+        version: optional_member(value, "version")?,
     })
 }
 
@@ -78,6 +78,15 @@ pub fn control_members(value: &Value) -> Option<ControlMembers<'_>>
         from: string_member(value, "from")?,
         message: string_member(value, "message")?,
     })
+}
+
+/// The member `id` of a control message: a string, or none where it is null or absent.
+/// None at all where the member is of another kind; what the string holds is not looked at.
+/// This is this project's own rule.
+pub fn id_member(value: &Value) -> Option<Option<&str>>
+    ensures { option_map (option_map (λ s. s.now)) result ≡ id_member (view value.now) }
+{
+    optional_member(value, "id")
 }
 
 // The strings that the items of an array are.

@@ -9,7 +9,7 @@ use Rattle.sqlite.specs.Tree.{Trees}
 use Rattle.sqlite_schema.specs.declared.schema.Index.{Index}
 use Rattle.sqlite_tied.specs.Compute.{everything}
 use Rattle.sqlite_trees.specs.Sound.{same_name, begins, is_free_name, fits_kind}
-use Rattle.desk_schema.specs.Tables.{AFFECTS, meta_table, sets_table, bugs_table, marks_table, blocks_table, nodes_table, nearest_table, affects_table, marks_key, blocks_key, nodes_key, nearest_key, sets_by_package, bugs_by_set, marks_by_node, blocks_by_blocker, affects_key, affects_by_package, first_schema, desk_schema}
+use Rattle.desk_schema.specs.Tables.{AFFECTS, meta_table, sets_table, bugs_table, marks_table, blocks_table, nodes_table, nearest_table, affects_table, marks_key, blocks_key, nodes_key, nearest_key, sets_by_package, bugs_by_set, marks_by_node, blocks_by_blocker, affects_key, affects_by_package, first_schema, second_schema}
 use Rattle.desk_schema.proofs.SchemaLemmas.{unplaced}
 use Rattle.desk_making.specs.Making.{IsBuilt}
 use Rattle.desk_making.proofs.BuildLemmas.{IsMaking, AddsTable, AddsIndex, table_is, index_is}
@@ -54,7 +54,7 @@ affects_by_package_text = codes "CREATE INDEX affects_by_package ON affects (pac
 abbrev unplaced_index : Index → Index
 unplaced_index index = record index { tree = 0 }
 
-adds_affects_by_package : AddsIndex with_affects affects_by_package_text 7 affects_table (unplaced_index affects_by_package) desk_schema
+adds_affects_by_package : AddsIndex with_affects affects_by_package_text 7 affects_table (unplaced_index affects_by_package) second_schema
 unfolding understood everything same_name begins is_free_name fits_kind is_utf8 chars value_cmp lib.Utf8.encode lib.Ieee.is_nan lib.Ieee.lt
 adds_affects_by_package = record {
   creates = record { command = refl; plain = (refl, refl); text = refl; found = refl; defined = refl };
@@ -74,5 +74,5 @@ adds_affects_by_package = record {
   later_is = refl;
 }
 
-pub makes_affects_by_package : (rows : Trees) → IsMaking affects_by_package_text [] (IsBuilt rows with_affects) (IsBuilt rows desk_schema)
-makes_affects_by_package rows = index_is rows with_affects affects_by_package_text 7 affects_table (unplaced_index affects_by_package) desk_schema adds_affects_by_package
+pub makes_affects_by_package : (rows : Trees) → IsMaking affects_by_package_text [] (IsBuilt rows with_affects) (IsBuilt rows second_schema)
+makes_affects_by_package rows = index_is rows with_affects affects_by_package_text 7 affects_table (unplaced_index affects_by_package) second_schema adds_affects_by_package

@@ -1,4 +1,4 @@
--- The tables of a desk say 2, and those of a desk under schema 1 say 1.
+-- The tables of a desk say 3, and those of a desk under an earlier schema that schema's number.
 use Rattle.std.proofs.Common.{◌≡◌, ◌<◌, inl, inr, ℕ, pos, List, [], ◌∷◌, codes, true, None, Ok, Err, IsTrue, map, filter, refl, sym, ap, subst, ◌∙◌, true≢false, arith}
 use Rattle.std.specs.List.Sorted.{IsPermutation}
 use Rattle.sqlite.proofs.Callers.{command_of, one_permutation}
@@ -24,10 +24,12 @@ use Rattle.sql_forms.specs.Forms.{query_of, passes}
 use Rattle.sql_forms.specs.Numbers.{number_row}
 use Rattle.sql_forms.proofs.QueryLemmas.{finds, found}
 use Rattle.desk_content.specs.Content.{Content}
-use Rattle.desk_schema.specs.Tables.{META, first_schema, desk_schema}
+use Rattle.desk_schema.specs.Tables.{META, desk_schema}
 use Rattle.desk_schema.specs.Rows.{meta_cells}
 use Rattle.desk_schema.specs.Steps.{IsInside}
-use Rattle.desk_making.specs.Making.{IsFirst, first_meta_cells}
+use Rattle.desk_making.specs.Making.{IsEarlier, number_of, schema_of, earlier_meta_cells}
+use Rattle.desk_making.specs.declared.making.Earlier.{Earlier}
+use Rattle.desk_making.specs.declared.making.Earlier.TheVariants.{First, Second}
 use Rattle.desk_making.specs.Number.{number_text, Asks, IsAnswer, IsRefused, Says}
 use Rattle.desk_making.specs.declared.number.SchemaRead.{SchemaRead}
 use Rattle.desk_making.specs.declared.number.SchemaRead.TheVariants.{Number, NoNumber}
@@ -49,9 +51,10 @@ compiles : Compiles desk_schema
 unfolding everything
 compiles = refl
 
-first_compiles : Compiles first_schema
+earlier_compiles : (from : Earlier) → Compiles (schema_of from)
 unfolding everything
-first_compiles = refl
+earlier_compiles First = refl
+earlier_compiles Second = refl
 
 abbrev Types : Schema → Type 0
 Types schema = accepts_program schema [] the_query.body [] ≡ true
@@ -60,17 +63,18 @@ typed : Types desk_schema
 unfolding everything
 typed = refl
 
-first_typed : Types first_schema
+earlier_typed : (from : Earlier) → Types (schema_of from)
 unfolding everything
-first_typed = refl
+earlier_typed First = refl
+earlier_typed Second = refl
 
 hit : (next : ℕ) → passes tests [] (meta_cells next) ≡ true
 unfolding binary value_cmp lib.Ieee.is_nan lib.Ieee.lt
 hit next = refl
 
-first_hit : (next : ℕ) → passes tests [] (first_meta_cells next) ≡ true
+earlier_hit : (from : Earlier) (next : ℕ) → passes tests [] (earlier_meta_cells from next) ≡ true
 unfolding binary value_cmp lib.Ieee.is_nan lib.Ieee.lt
-first_hit next = refl
+earlier_hit from next = refl
 
 same_query : {p q : Program} {ns ms : List (List ℕ)} → Select p ns ≡ Select q ms → p ≡ q
 same_query e = cc
@@ -113,10 +117,10 @@ module _ (schema : Schema) (n : ℕ) (s : State) (it : HasNumber schema n s) whe
   says_number NoNumber (inl refused) = absurd (never_refused refused)
   says_number NoNumber (inr (rows, answer, other)) = absurd (other n (it.some, says_one rows answer))
 
-pub desk_says : (s : State) → IsInside s → IsTrue s.is_open → (read : SchemaRead) → Says s.now read → read ≡ Number 2
+pub desk_says : (s : State) → IsInside s → IsTrue s.is_open → (read : SchemaRead) → Says s.now read → read ≡ Number 3
 desk_says s inside live =
     let meta = (inside.shown live).meta in
-    says_number desk_schema 2 s (record {
+    says_number desk_schema 3 s (record {
       compiles = compiles;
       typed = typed;
       under = inside.schema live;
@@ -127,15 +131,19 @@ desk_says s inside live =
       some = omega arith;
     })
 
-pub first_says : (c : Content) (s : State) → IsFirst c s → IsTrue s.is_open → (read : SchemaRead) → Says s.now read → read ≡ Number 1
-first_says c s first live =
-    says_number first_schema 1 s (record {
-      compiles = first_compiles;
-      typed = first_typed;
-      under = first.schema live;
-      row = first_meta_cells c.next;
-      meta = (first.shown live).meta;
-      hit = first_hit c.next;
+some_number : (from : Earlier) → 0 < number_of from
+some_number First = omega arith
+some_number Second = omega arith
+
+pub earlier_says : (from : Earlier) (c : Content) (s : State) → IsEarlier from c s → IsTrue s.is_open → (read : SchemaRead) → Says s.now read → read ≡ Number (number_of from)
+earlier_says from c s earlier live =
+    says_number (schema_of from) (number_of from) s (record {
+      compiles = earlier_compiles from;
+      typed = earlier_typed from;
+      under = earlier.schema live;
+      row = earlier_meta_cells from c.next;
+      meta = (earlier.shown live).meta;
+      hit = earlier_hit from c.next;
       number = refl;
-      some = omega arith;
+      some = some_number from;
     })

@@ -2,6 +2,7 @@ pub mod BuildLemmas
 pub mod TableTexts
 pub mod IndexTexts
 pub mod AffectTexts
+pub mod MessageTexts
 pub mod MetaRow
 pub mod NumberRow
 pub mod CarriedLemmas

@@ -30,10 +30,10 @@ use Rattle.desk_making.specs.Making.{IsBuilt, IsDeskOf, no_rows}
 use Rattle.desk_making.proofs.BuildLemmas.{IsMaking, unique_in}
 
 abbrev pub put_text : List ℕ
-put_text = codes "INSERT INTO meta VALUES (1, 2, ?1)"
+put_text = codes "INSERT INTO meta VALUES (1, 3, ?1)"
 
 abbrev terms : List Term
-terms = lit (Int (pos 1)) ∷ lit Null ∷ lit (Int (pos 2)) ∷ col 0 0 ∷ []
+terms = lit (Int (pos 1)) ∷ lit Null ∷ lit (Int (pos 3)) ∷ col 0 0 ∷ []
 
 puts_row : InsertsRow desk_schema put_text 0 meta_table terms
 unfolding understood everything
@@ -47,7 +47,7 @@ unfolding understood everything
 put_call first = record { command_is = refl; writes = tt; plain = (refl, refl); whole = omega arith; given = refl }
 
 row_is : (rows : List Row) (first : ℕ) → inserted meta_table rows terms (params_of first) ≡ meta_cells first
-row_is rows first = rw (cast_null, cast_int (pos 1), cast_int (pos 2), cast_int (pos first)) refl
+row_is rows first = rw (cast_null, cast_int (pos 1), cast_int (pos 3), cast_int (pos first)) refl
 
 -- ---- tables with no row but that of meta
 
@@ -71,6 +71,9 @@ module _ (first : ℕ) (db : Trees) (none : AllByRecursion (λ t. db t.tree ≡ 
     nodes = none.1.1.1.1.1.0;
     nearest = none.1.1.1.1.1.1.0;
     affects = none.1.1.1.1.1.1.1.0;
+    messages = none.1.1.1.1.1.1.1.1.0;
+    outcomes = none.1.1.1.1.1.1.1.1.1.0;
+    outcome_numbers = none.1.1.1.1.1.1.1.1.1.1.0;
   }
 
   shows_new : AreShown (with_tree db META (meta_cells first ∷ []))
@@ -83,6 +86,9 @@ module _ (first : ℕ) (db : Trees) (none : AllByRecursion (λ t. db t.tree ≡ 
     nodes = none_shown _ _ _ none.1.1.1.1.1.0;
     nearest = none_shown _ _ _ none.1.1.1.1.1.1.0;
     affects = none_shown _ _ _ none.1.1.1.1.1.1.1.0;
+    messages = none_shown _ _ _ none.1.1.1.1.1.1.1.1.0;
+    outcomes = none_shown _ _ _ none.1.1.1.1.1.1.1.1.1.0;
+    outcome_numbers = none_shown _ _ _ none.1.1.1.1.1.1.1.1.1.1.0;
   }
 
 puts : (first : ℕ) (old new : State) (count : ℕ) → IsBuilt no_rows desk_schema old → new.step_limit ≡ old.step_limit → ExecutesInside 0 put_text (params_of first) old new (Ok count) → IsDeskOf (no_content first) new

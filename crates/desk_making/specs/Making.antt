@@ -1,4 +1,4 @@
--- How the tables of a new desk are made, and how those of schema 1 are carried over.
+-- How the tables of a new desk are made, and how those of an earlier schema are carried over.
 use Rattle.std.specs.Prelude.{◌≡◌, ◌≢◌, ℕ, List, [], ◌∷◌, pos, IsTrue, IfOk, IfErr, None, Result}
 use Rattle.sqlite.specs.Effect.{IsDatabase}
 use Rattle.sqlite.specs.Order.{Row}
@@ -13,8 +13,10 @@ use Rattle.desk_text.specs.declared.outcome.StoreFault.TheVariants.{Foreign}
 use Rattle.desk_content.specs.Content.{Content}
 use Rattle.desk_schema.specs.Rows.{meta_cells, content_of, AreShown}
 use Rattle.desk_schema.specs.Steps.{IsInside, seen}
-use Rattle.desk_schema.specs.Tables.{META, AFFECTS, first_schema}
+use Rattle.desk_schema.specs.Tables.{META, AFFECTS, MESSAGES, OUTCOMES, OUTCOME_NUMBERS, first_schema, second_schema}
 use Rattle.desk_making.specs.Names.{no_tables}
+use Rattle.desk_making.specs.declared.making.Earlier.{Earlier}
+use Rattle.desk_making.specs.declared.making.Earlier.TheVariants.{First, Second}
 
 -- a transaction over this schema, of which each table has these rows, if the store still serves
 pub record IsBuilt (rows : Trees) (schema : Schema) (s : State) : Type 0 where
@@ -36,29 +38,57 @@ pub record IsDeskOf (c : Content) (s : State) : Type 0 where
   pub inside : IsInside s
   pub says : seen s ≡ c
 
--- ---- schema 1
+-- ---- earlier schemas
 
--- under schema 1 the row of meta has the number 1
-abbrev pub first_meta_cells : ℕ → Row
-first_meta_cells next = Int (pos 1) ∷ Null ∷ Int (pos 1) ∷ Int (pos next) ∷ []
+abbrev pub number_of : Earlier → ℕ
+number_of First = 1
+number_of Second = 2
 
--- the tables of a desk under schema 1, carried over: the number is 2, and no bug affects a package
-abbrev pub carried : ℕ → Trees → Trees
-carried next db = with_tree (with_tree db META (meta_cells next ∷ [])) AFFECTS []
+abbrev pub schema_of : Earlier → Schema
+schema_of First = first_schema
+schema_of Second = second_schema
 
--- under schema 1 these trees are the tables of a desk, and say this
-pub record AreFirst (c : Content) (db : Trees) : Type 0 where
-  pub meta : db META ≡ first_meta_cells c.next ∷ []
-  pub shown : AreShown (carried c.next db)
-  pub says : content_of (carried c.next db) ≡ c
+-- under an earlier schema the row of meta has that schema's number
+abbrev pub earlier_meta_cells : Earlier → ℕ → Row
+earlier_meta_cells from next = Int (pos 1) ∷ Null ∷ Int (pos (number_of from)) ∷ Int (pos next) ∷ []
 
--- a transaction over the tables of a desk under schema 1, if the store still serves
-pub record IsFirst (c : Content) (s : State) : Type 0 where
+-- the tables that schema 3 adds have no row
+pub record HasNoMessages (db : Trees) : Type 0 where
+  pub messages : db MESSAGES ≡ []
+  pub outcomes : db OUTCOMES ≡ []
+  pub outcome_numbers : db OUTCOME_NUMBERS ≡ []
+
+-- the tables that come after an earlier schema have no row
+abbrev pub HasNoLater : Earlier → Trees → Type 0
+HasNoLater First db = (db AFFECTS ≡ []) × HasNoMessages db
+HasNoLater Second db = HasNoMessages db
+
+abbrev pub without_messages : Trees → Trees
+without_messages db = with_tree (with_tree (with_tree db MESSAGES []) OUTCOMES []) OUTCOME_NUMBERS []
+
+-- these trees, with no row in the tables that come after an earlier schema
+abbrev pub without_later : Earlier → Trees → Trees
+without_later First db = without_messages (with_tree db AFFECTS [])
+without_later Second db = without_messages db
+
+-- the tables of a desk under an earlier schema, carried over: the number is 3, no message is known,
+-- and under schema 1 no bug affects a package
+abbrev pub carried : Earlier → ℕ → Trees → Trees
+carried from next db = without_later from (with_tree db META (meta_cells next ∷ []))
+
+-- under an earlier schema these trees are the tables of a desk, and say this
+pub record AreEarlier (from : Earlier) (c : Content) (db : Trees) : Type 0 where
+  pub meta : db META ≡ earlier_meta_cells from c.next ∷ []
+  pub shown : AreShown (carried from c.next db)
+  pub says : content_of (carried from c.next db) ≡ c
+
+-- a transaction over the tables of a desk under an earlier schema, if the store still serves
+pub record IsEarlier (from : Earlier) (c : Content) (s : State) : Type 0 where
   pub begun : IsTrue s.in_transaction
   pub unlimited : s.step_limit ≡ None
-  pub schema : IsTrue s.is_open → s.now.schema ≡ first_schema
+  pub schema : IsTrue s.is_open → s.now.schema ≡ schema_of from
   pub sound : IsTrue s.is_open → IsDatabase s.now
-  pub shown : IsTrue s.is_open → AreFirst c s.now.trees
+  pub shown : IsTrue s.is_open → AreEarlier from c s.now.trees
 
 -- ---- what a call does
 

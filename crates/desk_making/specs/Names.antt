@@ -9,7 +9,9 @@ abbrev pub no_tables : Schema
 no_tables = record { tables = []; indexes = []; views = [] }
 
 abbrev pub desk_names : List (List ℕ)
-desk_names = codes "meta" ∷ codes "sets" ∷ codes "bugs" ∷ codes "marks" ∷ codes "blocks" ∷ codes "nodes" ∷ codes "nearest" ∷ codes "affects" ∷ []
+desk_names =
+    codes "meta" ∷ codes "sets" ∷ codes "bugs" ∷ codes "marks" ∷ codes "blocks" ∷ codes "nodes" ∷ codes "nearest" ∷ codes "affects"
+    ∷ codes "messages" ∷ codes "outcomes" ∷ codes "outcome_numbers" ∷ []
 
 -- whether a table has the name of one of the desk's, as SQLite compares names: the case of ASCII
 -- letters is ignored

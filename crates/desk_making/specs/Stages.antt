@@ -7,8 +7,9 @@ use Rattle.sqlite.specs.declared.error.Error.{Error}
 use Rattle.desk_text.specs.declared.outcome.StoreFault.{StoreFault}
 use Rattle.sql_forms.specs.Faults.{written}
 use Rattle.desk_content.specs.Content.{Content}
-use Rattle.desk_schema.specs.Tables.{AFFECTS, desk_schema, meta_table, sets_table, bugs_table, marks_table, blocks_table, nodes_table, nearest_table, marks_key, blocks_key, nodes_key, nearest_key}
-use Rattle.desk_making.specs.Making.{AreFirst}
+use Rattle.desk_schema.specs.Tables.{desk_schema, meta_table, sets_table, bugs_table, marks_table, blocks_table, nodes_table, nearest_table, marks_key, blocks_key, nodes_key, nearest_key}
+use Rattle.desk_making.specs.Making.{AreEarlier, HasNoLater}
+use Rattle.desk_making.specs.declared.making.Earlier.{Earlier}
 
 -- what one text, with no parameter, does in a transaction
 pub record HasRun (sql : List ℕ) (old new : State) (result : Result (Unit {0}) StoreFault) : Type 0 where
@@ -29,12 +30,12 @@ all_first_tables = record {
   views = [];
 }
 
--- a transaction over the tables of schema 1, which say this, and the table that schema 2 adds, with
--- no row, before the number is set, if the store still serves
-pub record IsExtended (c : Content) (s : State) : Type 0 where
+-- a transaction over the tables of an earlier schema, which say this, and the tables that come after
+-- it, with no row, before the number is set, if the store still serves
+pub record IsExtended (from : Earlier) (c : Content) (s : State) : Type 0 where
   pub begun : IsTrue s.in_transaction
   pub unlimited : s.step_limit ≡ None
   pub schema : IsTrue s.is_open → s.now.schema ≡ desk_schema
   pub sound : IsTrue s.is_open → IsDatabase s.now
-  pub first : IsTrue s.is_open → AreFirst c s.now.trees
-  pub empty : IsTrue s.is_open → s.now.trees AFFECTS ≡ []
+  pub earlier : IsTrue s.is_open → AreEarlier from c s.now.trees
+  pub empty : IsTrue s.is_open → HasNoLater from s.now.trees

@@ -5,6 +5,6 @@ mod making;
 mod names;
 mod number;
 
-pub use making::{carry_over, make_tables};
+pub use making::{Earlier, carry_over, make_tables};
 pub use names::{is_blank, names_a_desk_table};
 pub use number::{SchemaRead, read_schema};

@@ -4,8 +4,10 @@ ghost use Rattle.std.specs.Prelude.{◌≡◌, []};
 ghost use Rattle.sqlite.specs.Held.{state};
 ghost use Rattle.sqlite.specs.Tree.{Trees};
 ghost use Rattle.desk_content.specs.Content.{Content, no_content};
-ghost use Rattle.desk_schema.specs.Tables.{AFFECTS, first_schema, desk_schema};
-ghost use Rattle.desk_making.specs.Making.{IsBuilt, no_rows, IsBlank, IsDeskOf, IsFirst, Builds};
+ghost use Rattle.desk_schema.specs.Tables.{AFFECTS, first_schema, second_schema, desk_schema};
+ghost use Rattle.desk_making.specs.Making.{IsBuilt, no_rows, IsBlank, IsDeskOf, IsEarlier, Builds, HasNoMessages, schema_of, HasNoLater};
+ghost use Rattle.desk_making.specs.declared.making.Earlier.{Earlier as EarlierSchema};
+ghost use Rattle.desk_making.specs.declared.making.Earlier.TheVariants.{First};
 ghost use Rattle.desk_making.specs.Stages.{HasRun, first_tables, all_first_tables, IsExtended};
 
 use desk_schema::written;
@@ -90,7 +92,7 @@ fn make_first_schema<S: Alter>(tx: &mut Transaction<'_, S>) -> Result<(), StoreF
 fn make_affects<S: Alter>(tx: &mut Transaction<'_, S>) -> Result<(), StoreFault>
     ensures same_reference { tx.new.conn.ghost_name ≡ tx.old.conn.ghost_name }
     ensures builds { (rows : Trees) → rows AFFECTS ≡ [] →
-        Builds (IsBuilt rows first_schema) (IsBuilt rows desk_schema) (state S.Store tx.old.conn.now) (state S.Store tx.new.conn.now) result }
+        Builds (IsBuilt rows first_schema) (IsBuilt rows second_schema) (state S.Store tx.old.conn.now) (state S.Store tx.new.conn.now) result }
 {
     make(
         tx,
@@ -99,12 +101,42 @@ fn make_affects<S: Alter>(tx: &mut Transaction<'_, S>) -> Result<(), StoreFault>
     make(tx, "CREATE INDEX affects_by_package ON affects (package)")
 }
 
+// Makes the tables that schema 3 adds; the rows of the other tables stay.
+fn make_messages<S: Alter>(tx: &mut Transaction<'_, S>) -> Result<(), StoreFault>
+    ensures same_reference { tx.new.conn.ghost_name ≡ tx.old.conn.ghost_name }
+    ensures builds { (rows : Trees) → HasNoMessages rows →
+        Builds (IsBuilt rows second_schema) (IsBuilt rows desk_schema) (state S.Store tx.old.conn.now) (state S.Store tx.new.conn.now) result }
+{
+    make(
+        tx,
+        "CREATE TABLE messages (id TEXT NOT NULL PRIMARY KEY, sender TEXT NOT NULL, message BLOB NOT NULL) STRICT",
+    )?;
+    make(
+        tx,
+        "CREATE TABLE outcomes (id TEXT NOT NULL, place INTEGER NOT NULL, kind INTEGER NOT NULL, number INTEGER, field INTEGER, source TEXT, version TEXT, PRIMARY KEY (id, place)) STRICT",
+    )?;
+    make(
+        tx,
+        "CREATE TABLE outcome_numbers (id TEXT NOT NULL, place INTEGER NOT NULL, number INTEGER NOT NULL, PRIMARY KEY (id, place, number)) STRICT",
+    )
+}
+
+// Makes what comes after schema 1; the rows of its own tables stay.
+fn make_later<S: Alter>(tx: &mut Transaction<'_, S>) -> Result<(), StoreFault>
+    ensures same_reference { tx.new.conn.ghost_name ≡ tx.old.conn.ghost_name }
+    ensures builds { (rows : Trees) → HasNoLater First rows →
+        Builds (IsBuilt rows first_schema) (IsBuilt rows desk_schema) (state S.Store tx.old.conn.now) (state S.Store tx.new.conn.now) result }
+{
+    make_affects(tx)?;
+    make_messages(tx)
+}
+
 // Puts the row of meta: its id, the number of the schema, and the first bug's number.
 fn put_meta<S: Alter>(tx: &mut Transaction<'_, S>, first: u32) -> Result<(), StoreFault>
     ensures same_reference { tx.new.conn.ghost_name ≡ tx.old.conn.ghost_name }
     ensures builds { Builds (IsBuilt no_rows desk_schema) (IsDeskOf (no_content first)) (state S.Store tx.old.conn.now) (state S.Store tx.new.conn.now) result }
 {
-    written(tx.execute("INSERT INTO meta VALUES (1, 2, ?1)", params![first]))
+    written(tx.execute("INSERT INTO meta VALUES (1, 3, ?1)", params![first]))
 }
 
 /// Makes the tables of a new desk in a database that has none, in a transaction.
@@ -114,26 +146,48 @@ pub fn make_tables<S: Alter>(tx: &mut Transaction<'_, S>, first: u32) -> Result<
     ensures builds { Builds IsBlank (IsDeskOf (no_content first)) (state S.Store tx.old.conn.now) (state S.Store tx.new.conn.now) result }
 {
     make_first_schema(tx)?;
-    make_affects(tx)?;
+    make_later(tx)?;
     put_meta(tx, first)
 }
 
-// Sets the number of the schema to 2.
-fn set_number<S: Alter>(tx: &mut Transaction<'_, S>) -> Result<(), StoreFault>
-    ensures same_reference { tx.new.conn.ghost_name ≡ tx.old.conn.ghost_name }
-    ensures sets { (c : Content) →
-        Builds (IsExtended c) (IsDeskOf c) (state S.Store tx.old.conn.now) (state S.Store tx.new.conn.now) result }
-{
-    make(tx, "UPDATE meta SET schema = 2 WHERE id = 1")
+/// A schema from before the desk's own.
+#[derive(Clone, Copy, Debug, PartialEq, Eq, Drop)]
+pub enum Earlier {
+    /// Schema 1.
+    First,
+    /// Schema 2, which has affected packages.
+    Second,
 }
 
-/// Carries the tables of schema 1 over to schema 2, in a transaction.
-/// The desk stays the same; no bug of it affects another package.
-pub fn carry_over<S: Alter>(tx: &mut Transaction<'_, S>) -> Result<(), StoreFault>
+// Makes the tables that an earlier schema doesn't have; the rows of its own stay.
+fn extend<S: Alter>(tx: &mut Transaction<'_, S>, from: Earlier) -> Result<(), StoreFault>
+    ensures same_reference { tx.new.conn.ghost_name ≡ tx.old.conn.ghost_name }
+    ensures builds { (rows : Trees) → HasNoLater from rows →
+        Builds (IsBuilt rows (schema_of from)) (IsBuilt rows desk_schema) (state S.Store tx.old.conn.now) (state S.Store tx.new.conn.now) result }
+{
+    match from {
+        Earlier::First => make_later(tx),
+        Earlier::Second => make_messages(tx),
+    }
+}
+
+// Sets the number of the schema to 3.
+fn set_number<S: Alter>(tx: &mut Transaction<'_, S>) -> Result<(), StoreFault>
+    ensures same_reference { tx.new.conn.ghost_name ≡ tx.old.conn.ghost_name }
+    ensures sets { (from : EarlierSchema) (c : Content) →
+        Builds (IsExtended from c) (IsDeskOf c) (state S.Store tx.old.conn.now) (state S.Store tx.new.conn.now) result }
+{
+    make(tx, "UPDATE meta SET schema = 3 WHERE id = 1")
+}
+
+/// Carries the tables of an earlier schema over to schema 3, in a transaction.
+/// The desk stays the same: no message that has an id is known, and under schema 1 no bug affects
+/// another package.
+pub fn carry_over<S: Alter>(tx: &mut Transaction<'_, S>, from: Earlier) -> Result<(), StoreFault>
     ensures same_reference { tx.new.conn.ghost_name ≡ tx.old.conn.ghost_name }
     ensures carries { (c : Content) →
-        Builds (IsFirst c) (IsDeskOf c) (state S.Store tx.old.conn.now) (state S.Store tx.new.conn.now) result }
+        Builds (IsEarlier from c) (IsDeskOf c) (state S.Store tx.old.conn.now) (state S.Store tx.new.conn.now) result }
 {
-    make_affects(tx)?;
+    extend(tx, from)?;
     set_number(tx)
 }

@@ -20,9 +20,12 @@ fn is_desk_name(name: &[u8]) -> bool
         || same_name(name, b"nodes")
         || same_name(name, b"nearest")
         || same_name(name, b"affects")
+        || same_name(name, b"messages")
+        || same_name(name, b"outcomes")
+        || same_name(name, b"outcome_numbers")
 }
 
-/// Whether a table of the schema has the name of one of the desk's eight tables, where the case of
+/// Whether a table of the schema has the name of one of the desk's eleven tables, where the case of
 /// ASCII letters is ignored, as it is in SQL.
 pub fn names_a_desk_table(schema: &Schema) -> bool
     ensures names { result ≡ has_desk_table schema.now }

@@ -1,8 +1,9 @@
 -- A command that is carried out in parts is the machine's step.
-use Rattle.std.proofs.Common.{◌≡◌, ◌≤◌, ℕ, true, List, [], ◌∷◌, Option, Result, Ok, Err, sym, ap, ◌∙◌, subst, arith}
+use Rattle.std.proofs.Common.{◌≡◌, ◌≤◌, ℕ, true, List, [], ◌∷◌, Option, Some, None, Result, Ok, Err, sym, ap, ◌∙◌, subst, arith}
 use Rattle.std.specs.Prelude.{◌==◌, length, IfOk}
 use Rattle.std.proofs.lemmas.Bool.{eqb-true}
-use Rattle.bug_record.specs.Sets.{has}
+use Rattle.bug_record.specs.Sets.{has, Each}
+use Rattle.bug_record.specs.Texts.{IfGiven}
 use Rattle.bug_record.specs.Desk.{Desk, IsSound}
 use Rattle.bug_record.specs.Steps.{step}
 use Rattle.bug_record.specs.Words.{Names}
@@ -13,38 +14,36 @@ use Rattle.bug_record.specs.Changed.{changed_numbers, AreChanged, Replaces}
 use Rattle.set_images.proofs.ChangedLemmas.{changed-on_desk}
 use Rattle.bug_record.specs.declared.bug.SetImage.{SetImage}
 use Rattle.bug_record.specs.declared.command.Change.{Change}
-use Rattle.bug_record.specs.Commands.{bugs_named}
+use Rattle.bug_record.specs.Commands.{bugs_named, names_in}
+use Rattle.line_words.specs.Bugs.{IsGoodBug}
+use Rattle.line_words.specs.Numbers.{IsGoodNumber}
 use Rattle.bug_record.specs.declared.command.Command.{Command}
 use Rattle.bug_record.specs.declared.command.Refusal.{Refusal}
 use Rattle.line_words.specs.declared.named.Named.{Named}
-use Rattle.desk_text.specs.declared.outcome.Outcome.{Outcome}
 use Rattle.desk_text.specs.declared.outcome.Outcome.TheVariants.{Changed, Refused}
-use Rattle.desk_store.specs.Message.{outcome_of, does}
+use Rattle.message_machine.specs.Message.{outcome_of, does}
 use Rattle.message_names.specs.Telling.{refusal_meant, result_meant, step_among}
 use Rattle.desk_text.specs.declared.outcome.StoreFault.{StoreFault}
-use Rattle.desk_messages.specs.Commands.{MayBeMade, CarriesOut, DoesTold, Does}
+use Rattle.desk_store.specs.Store.{Answers, with_change}
+use Rattle.desk_messages.specs.Commands.{HaveNumbers, MayBeMade, Fits, Makes, DecidesTold, Decides}
+use Rattle.desk_messages.specs.declared.command.Decision.{Decision}
+use Rattle.desk_messages.proofs.RefusalLemmas.{does-good}
 use Rattle.desk_messages.specs.Images.{ShowBugs}
 use Rattle.desk_messages.specs.Questions.{IsAnswered}
 
 -- after the two questions
-pub shown : (d d1 d2 : Desk) (images sets : List SetImage) (next : ℕ) (ns : List ℕ) → sets ≡ images → ShowBugs d ns images
-    × (d1 ≡ d) → (next ≡ d1.next) × (d2 ≡ d1) → IsSound d2 → IsShownBy d2 sets next ns
-shown d d1 d2 images sets next ns f p q sound =
-    let same : d ≡ d2 = sym (q.1 ∙ p.1) in
-    let s : ShowBugs d2 ns images = subst (λ (z : Desk). ShowBugs z ns images) same p.0 in
-    let t : ShowBugs d2 ns sets = subst (ShowBugs d2 ns) (sym f) s in
-    record { sound = sound; next_is = sym (q.0 ∙ ap (λ (z : Desk). z.next) (sym q.1)); sets = t.sets; known = t.known }
+pub shown : (d d1 : Desk) (images sets : List SetImage) (next : ℕ) (ns : List ℕ) → sets ≡ images → ShowBugs d ns images → d1 ≡ d
+    → next ≡ d1.next → IsSound d → IsShownBy d sets next ns
+shown d d1 images sets next ns f s p q sound =
+    let t : ShowBugs d ns sets = subst (ShowBugs d ns) (sym f) s in
+    record { sound = sound; next_is = sym (q ∙ ap (λ (z : Desk). z.next) p); sets = t.sets; known = t.known }
 
 -- with the open head that the first one answers
-pub shown_with : (d d1 d2 : Desk) (command : Command ℕ) (answers : List SetImage × Option Node) (sets : List SetImage)
+pub shown_with : (d d1 : Desk) (command : Command ℕ) (answers : List SetImage × Option Node) (sets : List SetImage)
     (head : Option Node) (next : ℕ) → sets ≡ answers.0 → head ≡ answers.1 → IsAnswered d command answers × (d1 ≡ d)
-    → (next ≡ d1.next) × (d2 ≡ d1) → IsSound d2
-    → IsShownBy d2 sets next (bugs_named command) × IsOpenHeadFor d2 command head
-shown_with d d1 d2 command answers sets head next f g p q sound = (
-  shown d d1 d2 answers.0 sets next (bugs_named command) f (p.0.0, p.1) q sound,
-  subst (IsOpenHeadFor d2 command) (sym g)
-      (subst (λ (z : Desk). IsOpenHeadFor z command answers.1) (sym (q.1 ∙ p.1)) p.0.1),
-)
+    → next ≡ d1.next → IsSound d → IsShownBy d sets next (bugs_named command) × IsOpenHeadFor d command head
+shown_with d d1 command answers sets head next f g p q sound =
+    (shown d d1 answers.0 sets next (bugs_named command) f p.0.0 p.1 q sound, subst (IsOpenHeadFor d command) (sym g) p.0.1)
 
 -- what is planned may be carried out
 pub planned : (d : Desk) (images : List SetImage) (next : ℕ) (ns : List ℕ) (change : Change) → IsShownBy d images next ns
@@ -63,38 +62,52 @@ planned d images next ns change sh fits covers brings later = record {
   };
 }
 
--- a command that was told, on the same desk
-on_same : (sender : List ℕ) (names : Names) (d d1 d2 : Desk) (command : Command ℕ) (result : Result Desk Refusal) → d1 ≡ d
-    → d2 ≡ d1 → step_among names d2 sender command ≡ result
-    → outcome_of d (result_meant (step_among names d sender command)) ≡ outcome_of d2 (result_meant result)
-on_same sender names d d1 d2 command result p q s =
-    ap (λ (z : Desk). outcome_of z (result_meant (step_among names z sender command))) (sym (q ∙ p))
-    ∙ ap (λ (r : Result Desk Refusal). outcome_of d2 (result_meant r)) s
+-- what is decided of a planned change is decided of its command
+pub decides_planned : (sender : List ℕ) (names : Names) (d : Desk) (command : Command ℕ) (change : Change) (decision : Decision)
+    → step_among names d sender command ≡ Ok (put d change) → Makes d change decision
+    → DecidesTold sender names d command decision
+decides_planned sender names d command change decision s m = record {
+  step = ap (λ (r : Result Desk Refusal). outcome_of d (result_meant r)) s ∙ (λ i. (sym m.outcome i, sym m.desk i));
+  fits = m.fits;
+}
 
--- a planned change that is carried out
-pub does_planned : (sender : List ℕ) (names : Names) (d d1 d2 new : Desk) (command : Command ℕ) (change : Change)
-    (result : Result Outcome StoreFault) → d1 ≡ d → d2 ≡ d1
-    → step_among names d2 sender command ≡ Ok (put d2 change) → CarriesOut d2 change result new
-    → DoesTold sender names d command result new
-does_planned sender names d d1 d2 new command change (Ok outcome) p q s c =
-    on_same sender names d d1 d2 command (Ok (put d2 change)) p q s ∙ (λ i. (sym c.0 i, sym c.1 i))
-does_planned sender names d d1 d2 new command change (Err fault) p q s c = c ∙ (q ∙ p)
+-- what makes no change
+pub no_change : (d : Desk) (change : Option Change) → change ≡ None → Fits d change
+no_change d change e = subst (Fits d) (sym e) (record { apart = tt; fits = tt })
 
 -- a refused command
-pub does_refused : (sender : List ℕ) (names : Names) (d d1 d2 : Desk) (command : Command ℕ) (refusal said : Refusal) → d1 ≡ d
-    → d2 ≡ d1 → step_among names d2 sender command ≡ Err refusal → said ≡ refusal_meant refusal
-    → outcome_of d (result_meant (step_among names d sender command)) ≡ (Refused said, d2)
-does_refused sender names d d1 d2 command refusal said p q s c =
-    on_same sender names d d1 d2 command (Err refusal) p q s ∙ (λ i. (Refused (sym c i), d2))
+pub decides_refused : (sender : List ℕ) (names : Names) (d : Desk) (command : Command ℕ) (refusal said : Refusal)
+    (decision : Decision) → step_among names d sender command ≡ Err refusal → said ≡ refusal_meant refusal
+    → decision.outcome ≡ Refused said → decision.change ≡ None → DecidesTold sender names d command decision
+decides_refused sender names d command refusal said decision s meant o c = record {
+  step = ap (λ (r : Result Desk Refusal). outcome_of d (result_meant r)) s
+      ∙ (λ i. (sym (o ∙ ap Refused meant) i, with_change (sym c i) d));
+  fits = no_change d decision.change c;
+}
+
+-- its change may still be made
+pub fits_now : (sender : List ℕ) (names : Names) (d new : Desk) (command : Command ℕ) (result : Result Decision StoreFault)
+    → Answers d new result (DecidesTold sender names d command) → IfOk result (λ decision. Fits new decision.change)
+fits_now sender names d new command (Ok decision) h = subst (λ (z : Desk). Fits z decision.change) (sym h.1) h.0.fits
+fits_now sender names d new command (Err fault) h = tt
 
 -- a command that was told is the line's
-pub does_told : (sender : List ℕ) (names : Names) (d new : Desk) (command : Command Named) (told : Command ℕ)
-    (result : Result Outcome StoreFault)
+pub decides_told : (sender : List ℕ) (names : Names) (d : Desk) (command : Command Named) (told : Command ℕ) (decision : Decision)
+    → IsSound d → Each IsGoodBug (bugs_named command) → Each IsGoodNumber (names_in command) → HaveNumbers names
     → result_meant (step_among names d sender told) ≡ step names d sender command
-    → DoesTold sender names d told result new → Does sender names d command result new
+    → DecidesTold sender names d told decision → Decides sender names d command decision
 unfolding does
-does_told sender names d new command told (Ok outcome) meant h = ap (outcome_of d) (sym meant) ∙ h
-does_told sender names d new command told (Err fault) meant h = h
+decides_told sender names d command told decision sound bugs ks have meant h =
+    let s : does sender names d command ≡ (decision.outcome, with_change decision.change d) = ap (outcome_of d) (sym meant) ∙ h.step in
+    record {
+      step = s;
+      good = does-good sender names d (with_change decision.change d) command decision.outcome s sound
+          (sound_after d decision.change sound h.fits.fits) bugs ks have;
+    }
+  where
+    sound_after : (d : Desk) (change : Option Change) → IsSound d → IfGiven (FitsDesk d) change → IsSound (with_change change d)
+    sound_after d None sound h = sound
+    sound_after d (Some change) sound h = h.sound
 
 -- the numbers of a planned change are those at which the desks differ
 pub told : {d : Desk} (images sets : List SetImage) {next : ℕ} {change : Change} {numbers : List ℕ} → sets ≡ change.images

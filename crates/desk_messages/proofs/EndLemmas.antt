@@ -6,7 +6,7 @@ use Rattle.std.proofs.lemmas.List.Sums.{sum_by-append}
 use Rattle.std.proofs.lemmas.Bool.Decides.{nat_tests}
 use Rattle.desk_text.specs.declared.outcome.StoreFault.{StoreFault}
 use Rattle.desk_text.specs.declared.outcome.End.TheVariants.{All, Stopped, TooManyUnreadable, Store}
-use Rattle.desk_store.specs.Message.{Entry, is_stop, is_unreadable, unreadable_count, end_of}
+use Rattle.message_machine.specs.Message.{Entry, is_stop, is_unreadable, unreadable_count, end_of}
 
 any-push : (p : Entry → Bool) (es : List Entry) (e : Entry) → list_any p (es ++ e ∷ []) ≡ (list_any p es || p e)
 any-push p [] e = elim (p e) as (λ t. (t || false) ≡ t) [ true ↦ refl | false ↦ refl ]
@@ -15,7 +15,7 @@ any-push p (x ∷ es) e =
     [ true ↦ refl | false ↦ any-push p es e ]
 
 -- the tests of a message that goes on
-abbrev stops : List Entry → Bool
+abbrev pub stops : List Entry → Bool
 stops es = list_any (λ (e : Entry). is_stop e.1) es
 
 end_at : (a b : Bool) → (if a then Stopped else if b then TooManyUnreadable else All) ≡ All → (a ≡ false) × (b ≡ false)
@@ -23,7 +23,7 @@ end_at true b h = absurd (cc)
 end_at false true h = absurd (cc)
 end_at false false h = (refl, refl)
 
-open_tests : (es : List Entry) → end_of es ≡ All → (stops es ≡ false) × (nat_le 5 (unreadable_count es) ≡ false)
+pub open_tests : (es : List Entry) → end_of es ≡ All → (stops es ≡ false) × (nat_le 5 (unreadable_count es) ≡ false)
 unfolding end_of
 open_tests es h = end_at (stops es) (nat_le 5 (unreadable_count es)) h
 
@@ -31,7 +31,7 @@ open_tests es h = end_at (stops es) (nat_le 5 (unreadable_count es)) h
 pub few : (es : List Entry) → end_of es ≡ All → unreadable_count es < 5
 few es h = let t = (open_tests es h).1 in grind (arith, nat_tests)
 
-end_is : (a b : Bool) (es : List Entry) → stops es ≡ a → nat_le 5 (unreadable_count es) ≡ b
+pub end_is : (a b : Bool) (es : List Entry) → stops es ≡ a → nat_le 5 (unreadable_count es) ≡ b
     → end_of es ≡ (if a then Stopped else if b then TooManyUnreadable else All)
 unfolding end_of
 end_is a b es p q = ap (λ (t : Bool). if t then Stopped else if nat_le 5 (unreadable_count es) then TooManyUnreadable else All) p

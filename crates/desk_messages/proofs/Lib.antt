@@ -1,8 +1,10 @@
+pub mod RefusalLemmas
 pub mod GivenLemmas
 pub mod WrittenLemmas
 pub mod CommandLemmas
 pub mod GatherLemmas
 pub mod QuestionLemmas
 pub mod EndLemmas
+pub mod DecidingLemmas
 pub mod MachineLemmas
 pub mod ReportLemmas

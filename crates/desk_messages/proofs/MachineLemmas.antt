@@ -1,33 +1,33 @@
 -- The machine over lists of lines.
 use Rattle.std.proofs.Common.{◌≡◌, ℕ, ◌<◌, ◌+◌, List, [], ◌∷◌, ◌++◌, length, get_or, take, drop, sym, ◌∙◌, ap, subst, refl, true}
-use Rattle.std.proofs.Common.{false, Ok}
+use Rattle.std.proofs.Common.{false}
 use Rattle.std.proofs.lemmas.List.{take_more, take-append-drop}
 use Rattle.bug_record.specs.Desk.{Desk}
 use Rattle.bug_record.specs.Words.{Names}
-use Rattle.bug_record.specs.declared.command.Command.{Command}
 use Rattle.control_text.specs.Lines.{reading}
-use Rattle.line_words.specs.declared.named.Named.{Named}
-use Rattle.control_text.specs.declared.line.Line.TheVariants.{Do}
-use Rattle.desk_text.specs.declared.outcome.Outcome.{Outcome}
 use Rattle.desk_text.specs.declared.outcome.End.{End}
 use Rattle.desk_text.specs.declared.outcome.End.TheVariants as ends
-use Rattle.desk_store.specs.Store.{Faults}
-use Rattle.desk_store.specs.Message.{Entry, Machine, machine, after_lines, at_start, takes, takes_at, end_of, does, with_outcome, known_names}
-use Rattle.desk_store.specs.Message.{Comes, IsReceived, faults_after_end}
-use Rattle.desk_messages.specs.Taking.{goes_on}
+use Rattle.desk_store.specs.Store.{Faults, faults_after_end, with_change}
+use Rattle.message_machine.specs.Message.{Entry, Machine, machine, after_lines, at_start, takes, takes_at, end_of}
+use Rattle.message_machine.specs.Message.{Comes, IsReceived}
+use Rattle.desk_messages.specs.Commands.{HaveNumbers}
+use Rattle.desk_messages.specs.Taking.{goes_on, IsDecision}
+use Rattle.desk_messages.specs.declared.command.Decision.{Decision}
 use Rattle.desk_messages.specs.Transcripts.{IsLineOf}
 use Rattle.desk_messages.proofs.EndLemmas.{never_store, at_start_open}
 
--- a command carried out
-pub took_command : (sender line text : List ℕ) (names : Names) (d new : Desk) (before room after : List Entry)
-    (command : Command Named) (outcome : Outcome) → names ≡ known_names before → does sender names d command ≡ (outcome, new)
-    → room ≡ before → text ≡ line → after ≡ room ++ (text, outcome) ∷ []
-    → takes sender (machine d before) line (Ok (Do command)) ≡ machine new after
-took_command sender line text names d new before room after command outcome known s same is pushed =
-    ap (λ (ks : Names). with_outcome (machine d before) line (does sender ks d command)) (sym known)
-    ∙ (ap (with_outcome (machine d before) line) s
-    ∙ ap (machine new) (ap (λ (x : List ℕ). before ++ (x, outcome) ∷ []) (sym is)
-    ∙ (ap (λ (w : List Entry). w ++ (text, outcome) ∷ []) (sym same) ∙ sym pushed)))
+-- a decision carried out
+pub took_decision : (sender line text : List ℕ) (d d1 new : Desk) (before room after : List Entry) (named later : Names)
+    (decision : Decision) → IsDecision sender d before line decision × HaveNumbers named → d1 ≡ d
+    → new ≡ with_change decision.change d1 → room ≡ before → text ≡ line → after ≡ room ++ (text, decision.outcome) ∷ []
+    → later ≡ named
+    → (takes sender (machine d before) line (reading line) ≡ machine new after) × HaveNumbers later
+took_decision sender line text d d1 new before room after named later decision h same made r t pushed names = (
+  h.0.takes_line
+      ∙ (λ i. machine (sym (made ∙ ap (with_change decision.change) same) i)
+      (sym (pushed ∙ (λ j. r j ++ (t j, decision.outcome) ∷ [])) i)),
+  subst HaveNumbers (sym names) h.1,
+)
 
 pub after_append : (sender : List ℕ) (m : Machine) (xs ys : List (List ℕ))
     → after_lines sender m (xs ++ ys) ≡ after_lines sender (after_lines sender m xs) ys

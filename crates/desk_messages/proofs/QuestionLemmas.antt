@@ -1,5 +1,6 @@
 -- The open head of a bug by the image of its set.
 use Rattle.std.proofs.Common.{◌≡◌, ℕ, true, false, cond, List, [], ◌∷◌, Option, Some, None, Result, Ok, Err, sym, refl, ap, ◌∙◌, subst}
+use Rattle.std.specs.Prelude.{IfOk}
 use Rattle.std.proofs.lemmas.Bool.{false≢true}
 use Rattle.std.proofs.lemmas.Option.{none-some, same_Some}
 use Rattle.ancestry.specs.Nodes.{Node}
@@ -16,7 +17,7 @@ use Rattle.set_images.proofs.ImageLemmas.{image_with-shows, image_with-none, ima
 use Rattle.bug_record.specs.Commands.{bugs_named}
 use Rattle.desk_text.specs.declared.outcome.StoreFault.{StoreFault}
 use Rattle.desk_store.specs.Store.{Asks, Answers, IsOpenHead}
-use Rattle.desk_store.proofs.HoldsLemmas.{holds_where}
+use Rattle.desk_store.proofs.HoldsLemmas.{holds_where, asks_then}
 use Rattle.desk_messages.specs.Images.{ShowBugs}
 
 -- the image that has a bug is one of those that are sets of the desk
@@ -64,6 +65,22 @@ answers-none d command n is e s w =
 pub asks_where : {S : Type 0} {k h : S → Type 0} {a b : S} {P Q : Type 0} → Asks k h a b P → (k a → h a → P → Q)
     → Asks k h a b Q
 asks_where x f = record { holds = holds_where x.holds (λ u w p. f u (x.holds.honest w) p); was_kept = x.was_kept }
+
+-- two questions
+pub asks_both : {S : Type 0} {k h : S → Type 0} {a b c : S} {P Q : Type 0} → Asks k h a b P → Asks k h b c Q → Asks k h a c (P × Q)
+asks_both x y = asks_then x y (λ p q. (p, q))
+
+-- where more is known of what is answered
+pub answers_weaker : {T : Type 0} (old new : Desk) {P Q R : T → Type 0} (result : Result T StoreFault) → Answers old new result P
+    → IfOk result Q → ((answer : T) → P answer → Q answer → R answer) → Answers old new result R
+answers_weaker old new (Ok answer) p q f = (f answer p.0 q, p.1)
+answers_weaker old new (Err fault) p q f = p
+
+-- where the content stays
+pub answers_where : {T : Type 0} (old new : Desk) {Q R : T → Type 0} (result : Result T StoreFault) → new ≡ old → IfOk result Q
+    → ((answer : T) → Q answer → R answer) → Answers old new result R
+answers_where old new (Ok answer) e q f = (f answer q, e)
+answers_where old new (Err fault) e q f = e
 
 -- no other command needs one
 pub head-other : (d : Desk) (command : Command ℕ) (head : Option Node) → ((n : ℕ) → command ≡ commands.Archive n → ⊥)

@@ -4,7 +4,7 @@ use Rattle.std.specs.Prelude.{ℕ, ◌-◌, ◌<◌, ◌≤◌, List, [], ◌∷
 use Rattle.desk_text.specs.declared.outcome.End.{End}
 use Rattle.desk_text.specs.declared.outcome.End.TheVariants.{All, Stopped, TooManyUnreadable, Store}
 use Rattle.desk_text.specs.Texts.{outcome_text, end_text}
-use Rattle.desk_store.specs.Message.{Entry}
+use Rattle.message_machine.specs.Message.{Entry}
 
 -- the two lines of each outcome
 abbrev pub transcript : List Entry → List ℕ

@@ -1,17 +1,18 @@
-//! One command of a message, carried out on a store.
+//! What one command of a message comes to, decided by questions to a store.
 
-ghost use Rattle.std.specs.Prelude.{◌≡◌, ◌≤◌, ◌++◌, ℕ, List, length, Ok, None, IfOk, OnOk, OnErr};
+ghost use Rattle.std.specs.Prelude.{◌≡◌, ◌≤◌, ◌++◌, ℕ, List, length, Ok, None, IfOk, OnOk, OnErr, Result};
 ghost use Rattle.bug_record.specs.Sets.{Each};
-ghost use Rattle.bug_record.specs.Texts.{IsText};
+ghost use Rattle.bug_record.specs.Texts.{IsText, IfGiven};
+ghost use Rattle.bug_record.specs.Desk.{Desk};
 ghost use Rattle.bug_record.specs.Images.{AreApart, HasMember};
 ghost use Rattle.bug_record.specs.Clones.{name_refusal};
 ghost use Rattle.bug_record.specs.Commands.{HasGoodParts, bugs_named, names_in};
 ghost use Rattle.bug_record.specs.Words.{Names};
 ghost use Rattle.line_words.specs.Bugs.{IsGoodBug};
-ghost use Rattle.desk_store.specs.Store.{Holds, faults_after};
-ghost use Rattle.message_names.specs.Known.{AreOfBugs};
-ghost use Rattle.desk_messages.specs.Commands.{MayBeMade, CarriesOut, DoesTold, Does};
-ghost use Rattle.desk_store.specs.Message.{names_of};
+ghost use Rattle.line_words.specs.Numbers.{IsGoodNumber};
+ghost use Rattle.desk_store.specs.Store.{Asks, Answers, faults_after};
+ghost use Rattle.desk_messages.specs.Commands.{HaveNumbers, MayBeMade, Fits, Makes, DecidesTold, Decides};
+ghost use Rattle.message_machine.specs.Message.{names_of};
 
 use crate::questions::ask;
 use crate::writing::written;
@@ -23,51 +24,71 @@ use desk_text::{Outcome, StoreFault};
 use message_names::{KnownNames, command_told, names_in, refusal_meant, with_names};
 use std::alloc::{AllocError, Global};
 
-// Has the store carry a planned change out: of several images, those with a changed bug.
-// A change of nothing isn't handed to it.
-fn make_change<S: Records>(
+/// What a line comes to that has an outcome: the outcome, and the change that the line makes, if it
+/// makes one.
+#[derive(Drop)]
+pub struct Decision {
+    pub outcome: Outcome,
+    pub change: Option<Change>,
+}
+
+/// An outcome without a change.
+pub(crate) fn without_change(outcome: Outcome) -> Decision
+    ensures outcome { result.outcome ≡ outcome }
+    ensures change { result.change ≡ None }
+{
+    Decision {
+        outcome,
+        change: None,
+    }
+}
+
+// What is made of a planned change: of several images, those with a changed bug are written.
+// A change of nothing isn't made.
+fn decide_change(
     alloc: Global,
-    store: &mut S,
     images: &[SetImage],
     next: u64,
     change: Change,
-) -> Result<Outcome, StoreFault>
-    requires apart { S.is_kept store.old → S.is_honest store.old → AreApart change.images }
-    requires members { Each HasMember change.images }
-    requires planned { S.is_kept store.old → S.is_honest store.old → MayBeMade (S.desk store.old) images.now next change }
-    ensures answer { Holds S.is_kept S.is_honest store.old store.new
-        (CarriesOut (S.desk store.old) change result (S.desk store.new)) }
-    ensures count { S.faults store.new ≡ faults_after result (S.faults store.old) }
+) -> Result<Decision, StoreFault>
+    requires { Each HasMember change.images }
+    ensures made { IfOk result (λ decision. (d : Desk) → AreApart change.images → MayBeMade d images.now next change
+        → Makes d change decision) }
+    ensures members { IfOk result (λ decision. IfGiven (λ c. Each HasMember c.images) decision.change) }
+    ensures memory { OnErr result (result ≡ Result.Err StoreFault.Memory) }
 {
     let Ok(numbers) = changed(alloc, images, change.images.as_slice()) else {
         return Err(StoreFault::Memory);
     };
     if numbers.as_slice().is_empty() && change.next == next {
-        return Ok(Outcome::Changed(numbers));
+        return Ok(without_change(Outcome::Changed(numbers)));
     }
-    let Ok(change) = written(alloc, change, numbers.as_slice()) else {
-        return Err(StoreFault::Memory);
-    };
-    match store.apply(&change) {
-        Ok(()) => Ok(Outcome::Changed(numbers)),
-        Err(fault) => Err(fault),
+    match written(alloc, change, numbers.as_slice()) {
+        Ok(change) => Ok(Decision {
+            outcome: Outcome::Changed(numbers),
+            change: Some(change),
+        }),
+        Err(_) => Err(StoreFault::Memory),
     }
 }
 
-// Carries one command out that was told; `taken` is the refusal of the names that it gives.
-fn take_told<S: Records>(
+// Decides one command that was told; `taken` is the refusal of the names that it gives.
+fn decide_told<S: Records>(
     alloc: Global,
     store: &mut S,
     from: &str,
     taken: Option<Refusal>,
     command: &Command<u64>,
-) -> Result<Outcome, StoreFault>
+) -> Result<Decision, StoreFault>
     requires sender { IsText from.now }
     requires parts { HasGoodParts command.now }
-    ensures answer { Holds S.is_kept S.is_honest store.old store.new
-        ((names : Names) → taken ≡ name_refusal names (names_in command.now)
-        → DoesTold from.now names (S.desk store.old) command.now result (S.desk store.new)) }
-    ensures free { (numbers : List ℕ) → result ≡ Ok (Outcome.Changed numbers) → taken ≡ None }
+    ensures answer { Asks S.is_kept S.is_honest store.old store.new
+        (Answers (S.desk store.old) (S.desk store.new) result
+        (λ decision. (names : Names) → taken ≡ name_refusal names (names_in command.now)
+        → DecidesTold from.now names (S.desk store.old) command.now decision)) }
+    ensures free { IfOk result (λ decision. (numbers : List ℕ) → decision.outcome ≡ Outcome.Changed numbers → taken ≡ None) }
+    ensures members { IfOk result (λ decision. IfGiven (λ c. Each HasMember c.images) decision.change) }
+    ensures stays { S.keeping store.new ≡ S.keeping store.old }
     ensures count { S.faults store.new ≡ faults_after result (S.faults store.old) }
 {
     let (images, open_head) = match ask(alloc, store, command) {
@@ -81,8 +102,10 @@ fn take_told<S: Records>(
     let sets = images.as_slice();
     let planned = plan(alloc, command, from, sets, next, open_head.as_ref());
     match with_names(taken, planned) {
-        Ok(change) => make_change(alloc, store, sets, next, change),
-        Err(PlanFault::Refused(refusal)) => Ok(Outcome::Refused(refusal_meant(refusal))),
+        Ok(change) => decide_change(alloc, sets, next, change),
+        Err(PlanFault::Refused(refusal)) => {
+            Ok(without_change(Outcome::Refused(refusal_meant(refusal))))
+        }
         Err(PlanFault::Memory) => Err(StoreFault::Memory),
     }
 }
@@ -117,57 +140,64 @@ fn note_names(known: &mut KnownNames, names: &[u32], outcome: &Outcome)
     }
 }
 
-// Carries one command out that was told where these names are known, and notes those that it
-// gives.
-fn take_known<S: Records>(
+// Decides one command that was told where these names are known, and notes those that it gives.
+fn decide_known<S: Records>(
     alloc: Global,
     store: &mut S,
     from: &str,
     known: &mut KnownNames,
     command: &Command<u64>,
-) -> Result<Outcome, StoreFault>
+) -> Result<Decision, StoreFault>
     requires sender { IsText from.now }
     requires parts { HasGoodParts command.now }
-    ensures answer { Holds S.is_kept S.is_honest store.old store.new
-        (DoesTold from.now known.old.names (S.desk store.old) command.now result (S.desk store.new)) }
-    ensures named { IfOk result (λ outcome. known.new.names ≡ known.old.names ++ names_of (names_in command.now) outcome) }
-    ensures same { OnErr result (known.new.names ≡ known.old.names) }
+    ensures answer { Asks S.is_kept S.is_honest store.old store.new
+        (Answers (S.desk store.old) (S.desk store.new) result
+        (DecidesTold from.now known.old.names (S.desk store.old) command.now)) }
+    ensures named { IfOk result
+        (λ decision. known.new.names ≡ known.old.names ++ names_of (names_in command.now) decision.outcome) }
+    ensures members { IfOk result (λ decision. IfGiven (λ c. Each HasMember c.images) decision.change) }
+    ensures stays { S.keeping store.new ≡ S.keeping store.old }
     ensures count { S.faults store.new ≡ faults_after result (S.faults store.old) }
 {
     let names = names_in(command);
     let Ok(taken) = name_refusal(alloc, known, names) else {
         return Err(StoreFault::Memory);
     };
-    match take_told(alloc, store, from, taken, command) {
-        Ok(outcome) => {
-            note_names(known, names, &outcome);
-            Ok(outcome)
+    match decide_told(alloc, store, from, taken, command) {
+        Ok(decision) => {
+            note_names(known, names, &decision.outcome);
+            Ok(decision)
         }
         Err(fault) => Err(fault),
     }
 }
 
-/// Carries one command out: its outcome, or a fault at which nothing is changed.
+/// What one command comes to, which changes nothing yet.
 /// The names that are known are then those that an accepted `clone` gives too.
-pub(crate) fn take_command<S: Records>(
+pub(crate) fn decide_command<S: Records>(
     alloc: Global,
     store: &mut S,
     from: &str,
     known: &mut KnownNames,
     command: Command<Named>,
-) -> Result<Outcome, StoreFault>
+) -> Result<Decision, StoreFault>
     requires sender { IsText from.now }
     requires bugs { Each IsGoodBug (bugs_named command) }
+    requires names { Each IsGoodNumber (names_in command) }
     requires parts { HasGoodParts command }
-    ensures answer { Holds S.is_kept S.is_honest store.old store.new (AreOfBugs known.old.names
-        → Does from.now known.old.names (S.desk store.old) command result (S.desk store.new)
-        × AreOfBugs known.new.names) }
-    ensures named { IfOk result (λ outcome. known.new.names ≡ known.old.names ++ names_of (names_in command) outcome) }
-    ensures same { OnErr result (known.new.names ≡ known.old.names) }
+    ensures answer { Asks S.is_kept S.is_honest store.old store.new
+        (Answers (S.desk store.old) (S.desk store.new) result (λ decision. HaveNumbers known.old.names
+        → Decides from.now known.old.names (S.desk store.old) command decision × HaveNumbers known.new.names)) }
+    ensures fits { S.is_kept store.new → S.is_honest store.new
+        → IfOk result (λ decision. Fits (S.desk store.new) decision.change) }
+    ensures named { IfOk result
+        (λ decision. known.new.names ≡ known.old.names ++ names_of (names_in command) decision.outcome) }
+    ensures members { IfOk result (λ decision. IfGiven (λ c. Each HasMember c.images) decision.change) }
+    ensures stays { S.keeping store.new ≡ S.keeping store.old }
     ensures count { S.faults store.new ≡ faults_after result (S.faults store.old) }
 {
     match command_told(alloc, known, command) {
-        Ok(command) => take_known(alloc, store, from, known, &command),
+        Ok(command) => decide_known(alloc, store, from, known, &command),
         Err(_) => Err(StoreFault::Memory),
     }
 }

@@ -75,6 +75,7 @@ fn gather<S: Records>(
         (λ _. Gather (S.desk store.old) (number ∷ []) images.old images.new)) }
     ensures apart { OnOk result (AreApart images.new) }
     ensures bugs { OnOk result (Lists (contains nat_cmp bugs.new) images.new) }
+    ensures stays { S.keeping store.new ≡ S.keeping store.old }
     ensures count { S.faults store.new ≡ faults_after result (S.faults store.old) }
 {
     if bugs.contains(&number) {
@@ -108,6 +109,7 @@ fn gather_all<S: Records>(
         (Answers (S.desk store.old) (S.desk store.new) result
         (λ _. Gather (S.desk store.old) numbers.now images.old images.new)) }
     ensures apart { OnOk result (AreApart images.new) }
+    ensures stays { S.keeping store.new ≡ S.keeping store.old }
     ensures count { S.faults store.new ≡ faults_after result (S.faults store.old) }
 {
     for number in numbers {
@@ -136,6 +138,7 @@ fn first_image<S: Records>(
     ensures answer { Asks S.is_kept S.is_honest store.old store.new
         (Answers (S.desk store.old) (S.desk store.new) result (Gather (S.desk store.old) (number ∷ []) [])) }
     ensures apart { IfOk result AreApart }
+    ensures stays { S.keeping store.new ≡ S.keeping store.old }
     ensures count { S.faults store.new ≡ faults_after result (S.faults store.old) }
 {
     let found = store.set_of(number);
@@ -158,6 +161,7 @@ pub(crate) fn images_of<S: Records>(
     ensures answer { Asks S.is_kept S.is_honest store.old store.new
         (Answers (S.desk store.old) (S.desk store.new) result (ShowBugs (S.desk store.old) (bugs_named command.now))) }
     ensures apart { IfOk result AreApart }
+    ensures stays { S.keeping store.new ≡ S.keeping store.old }
     ensures count { S.faults store.new ≡ faults_after result (S.faults store.old) }
 {
     let mut images = match first_image(alloc, store, bug_named(command)) {

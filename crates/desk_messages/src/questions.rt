@@ -26,6 +26,7 @@ fn open_head_for<S: Records>(
         → ShowBugs (S.desk store.old) (bugs_named command.now) images.now }
     ensures answer { Asks S.is_kept S.is_honest store.old store.new
         (Answers (S.desk store.old) (S.desk store.new) result (IsOpenHeadFor (S.desk store.old) command.now)) }
+    ensures stays { S.keeping store.new ≡ S.keeping store.old }
     ensures count { S.faults store.new ≡ faults_after result (S.faults store.old) }
 {
     let Command::Archive(number) = command else {
@@ -46,6 +47,7 @@ pub(crate) fn ask<S: Records>(
     ensures answer { Asks S.is_kept S.is_honest store.old store.new
         (Answers (S.desk store.old) (S.desk store.new) result (IsAnswered (S.desk store.old) command.now)) }
     ensures apart { IfOk result (λ answers. AreApart answers.0) }
+    ensures stays { S.keeping store.new ≡ S.keeping store.old }
     ensures count { S.faults store.new ≡ faults_after result (S.faults store.old) }
 {
     let images = match images_of(alloc, store, command) {

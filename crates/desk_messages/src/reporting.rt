@@ -110,6 +110,7 @@ pub fn report<S: Records>(
     ensures answer { Holds S.is_kept S.is_honest store.old store.new
         (IsReported from.now «package».now (option_copied version.entry) severity.now title.now (S.desk store.old) result
         (S.desk store.new)) }
+    ensures stays { Holds S.is_kept S.is_honest store.old store.new (S.keeping store.new ≡ S.keeping store.old) }
     ensures first { OnOk (report_severity «package».now (option_copied version.entry) severity.now title.now)
         (AsksForNext S.next_gives store.old result) }
     ensures count { S.faults store.new ≡ faults_after_report result (S.faults store.old) }

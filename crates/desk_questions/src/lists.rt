@@ -35,6 +35,7 @@ fn list_at<S: Records>(
 ) -> Result<Told, QuestionFault>
     ensures answer { Holds S.is_kept S.is_honest store.old store.new
         (IsTold (list_at (S.desk store.old) «package».now (Some node.now)) ⊤ (S.desk store.old) result (S.desk store.new)) }
+    ensures stays { S.keeping store.new ≡ S.keeping store.old }
     ensures count { S.faults store.new ≡ faults_after_question result (S.faults store.old) }
 {
     let rows = match store.listed(package, node) {
@@ -69,6 +70,7 @@ pub fn list_of<S: Records>(
     ensures answer { Holds S.is_kept S.is_honest store.old store.new
         (IsTold (list_told (S.desk store.old) «package».now version.now) (AsksForList «package».now version.now)
         (S.desk store.old) result (S.desk store.new)) }
+    ensures stays { S.keeping store.new ≡ S.keeping store.old }
     ensures count { S.faults store.new ≡ faults_after_question result (S.faults store.old) }
 {
     match check_name(package) {

@@ -38,6 +38,7 @@ fn page_at<S: Records>(
 ) -> Result<Told, QuestionFault>
     ensures answer { Holds S.is_kept S.is_honest store.old store.new (IsImageOf (S.desk store.old) number (Some image)
         → IsTold (page_told (S.desk store.old) number) ⊤ (S.desk store.old) result (S.desk store.new)) }
+    ensures stays { S.keeping store.new ≡ S.keeping store.old }
     ensures count { S.faults store.new ≡ faults_after_question result (S.faults store.old) }
 {
     let waiting = match store.waiting_on(number) {
@@ -65,6 +66,7 @@ fn page_at<S: Records>(
 pub fn page_of<S: Records>(alloc: Global, store: &mut S, number: u64) -> Result<Told, QuestionFault>
     ensures answer { Holds S.is_kept S.is_honest store.old store.new
         (IsTold (page_told (S.desk store.old) number) ⊤ (S.desk store.old) result (S.desk store.new)) }
+    ensures stays { S.keeping store.new ≡ S.keeping store.old }
     ensures count { S.faults store.new ≡ faults_after_question result (S.faults store.old) }
 {
     match store.set_of(number) {

@@ -10,8 +10,8 @@ use Rattle.desk_text.specs.declared.outcome.StoreFault.{StoreFault}
 use Rattle.desk_text.specs.declared.outcome.StoreFault.TheVariants as faults
 use Rattle.desk_text.specs.declared.outcome.End.{End}
 use Rattle.desk_text.specs.declared.outcome.End.TheVariants as ends
-use Rattle.desk_store.specs.Store.{Faults, counted}
-use Rattle.desk_store.specs.Message.{Entry, Machine, machine, after_lines, at_start, IsReceived, Comes, faults_after_end}
+use Rattle.desk_store.specs.Store.{Faults, counted, faults_after_end}
+use Rattle.message_machine.specs.Message.{Entry, Machine, machine, after_lines, at_start, IsReceived, Comes}
 use Rattle.desk_messages.specs.Transcripts.{received_text}
 use Rattle.desk_messages.specs.Reports.{report_of, IsReported, faults_after_report}
 use Rattle.desk_run.specs.Script.{Part, Message, DirectiveLine, Directive, Report, Standing, standing, part_text, part_after}

@@ -1,5 +1,6 @@
 pub use Rattle.desk_messages.specs.Transcripts
 pub use Rattle.desk_messages.specs.Reports
+pub use Rattle.desk_repeats.specs.Once
 pub mod Branches
 pub mod Script
 pub mod Running

@@ -10,7 +10,7 @@ use Rattle.desk_text.specs.Texts.{fault_text}
 use Rattle.desk_text.specs.declared.outcome.StoreFault.{StoreFault}
 use Rattle.desk_text.specs.declared.outcome.End.TheVariants as ends
 use Rattle.desk_store.specs.Store.{Faults, counted}
-use Rattle.desk_store.specs.Message.{Entry, IsReceived}
+use Rattle.message_machine.specs.Message.{Entry, IsReceived}
 use Rattle.desk_lines.specs.Lines.{raw_lines, without_return}
 use Rattle.desk_lines.specs.Reading.{IsGoodLine, IsBegun}
 use Rattle.desk_messages.specs.Transcripts.{received_text}

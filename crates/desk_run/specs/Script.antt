@@ -13,7 +13,7 @@ use Rattle.desk_text.specs.declared.outcome.Outcome.{Outcome}
 use Rattle.desk_text.specs.declared.outcome.Outcome.TheVariants as outcomes
 use Rattle.desk_text.specs.declared.outcome.End.{End}
 use Rattle.desk_text.specs.declared.outcome.End.TheVariants as ends
-use Rattle.desk_store.specs.Message.{Entry, Machine, after_lines, at_start, end_of}
+use Rattle.message_machine.specs.Message.{Entry, Machine, after_lines, at_start, end_of}
 use Rattle.desk_lines.specs.Lines.{lines_of}
 use Rattle.desk_messages.specs.Transcripts.{received_text}
 use Rattle.ancestry.specs.Trees.{Ancestry}

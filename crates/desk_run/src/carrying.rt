@@ -60,6 +60,7 @@ pub(crate) fn finish_message<S: Records, W: Write>(
           written_before = W.contents writer.old;
           written = W.contents writer.new;
         }) result) }
+    ensures stays { Holds S.is_kept S.is_honest store.old store.new (S.keeping store.new ≡ S.keeping store.old) }
     ensures own { IfErr result IsOfPart }
     ensures count { IsCounted result (S.faults store.old) (S.faults store.new) }
     ensures cleared { OnOk result (run.new.gathered.items ≡ []) }
@@ -119,6 +120,7 @@ fn carry_report<S: Records, W: Write>(
           written_before = W.contents writer.old;
           written = W.contents writer.new;
         }) result) }
+    ensures stays { Holds S.is_kept S.is_honest store.old store.new (S.keeping store.new ≡ S.keeping store.old) }
     ensures own { IfErr result IsOfPart }
     ensures count { IsCounted result (S.faults store.old) (S.faults store.new) }
     ensures gathered { run.new.gathered.items ≡ run.old.gathered.items }
@@ -170,6 +172,7 @@ fn carry_nodes<S: Records, W: Write>(
           written_before = W.contents writer.old;
           written = W.contents writer.new;
         }) result) }
+    ensures stays { Holds S.is_kept S.is_honest store.old store.new (S.keeping store.new ≡ S.keeping store.old) }
     ensures own { IfErr result IsOfPart }
     ensures count { IsCounted result (S.faults store.old) (S.faults store.new) }
     ensures gathered { run.new.gathered.items ≡ run.old.gathered.items }
@@ -247,6 +250,7 @@ pub(crate) fn carry_out<S: Records, W: Write>(
           written_before = W.contents writer.old;
           written = W.contents writer.new;
         }) result) }
+    ensures stays { Holds S.is_kept S.is_honest store.old store.new (S.keeping store.new ≡ S.keeping store.old) }
     ensures own { IfErr result IsOfPart }
     ensures count { IsCounted result (S.faults store.old) (S.faults store.new) }
     ensures gathered { run.new.gathered.items ≡ run.old.gathered.items }

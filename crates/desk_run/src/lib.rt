@@ -11,5 +11,7 @@ mod script;
 pub use answer::refuses;
 pub use desk_lines::ScriptFault;
 pub use desk_messages::{Received, ReportFault, receive, received_text, report};
+pub use desk_repeats::{OnceFault, receive_once};
 pub use desk_store::{FailAt, PlainDesk, Records};
+pub use desk_text::End;
 pub use script::{ScriptEnd, run_script};

@@ -49,6 +49,7 @@ fn take_line<S: Records, W: Write>(
           written_before = W.contents writer.old;
           written = W.contents writer.new;
         }) fault (λ after. after ≢ []))) }
+    ensures stays { Holds S.is_kept S.is_honest store.old store.new (S.keeping store.new ≡ S.keeping store.old) }
     ensures own { IfErr result IsOfPart }
     ensures count { IsCounted result (S.faults store.old) (S.faults store.new) }
 {
@@ -84,6 +85,7 @@ fn finish_script<S: Records, W: Write>(
       written_before = W.contents writer.old;
       written = W.contents writer.new;
     }) result) }
+    ensures stays { Holds S.is_kept S.is_honest store.old store.new (S.keeping store.new ≡ S.keeping store.old) }
     ensures own { IfErr result IsOfPart }
     ensures count { IsCounted result (S.faults store.old) (S.faults store.new) }
 {
@@ -114,6 +116,7 @@ fn finish_script<S: Records, W: Write>(
 /// after `Write` a front of the output, and not all of what was to be written for the part at hand.
 /// `NotUtf8` and `LineTooLong` name the first line of either kind; one that is both is too long.
 /// At `Read` good lines were taken from the reader, and at most 65,536 bytes of the next one.
+/// What is kept of messages that have an id stays.
 pub fn run_script<S: Records, R: Read, W: Write>(
     alloc: Global,
     store: &mut S,
@@ -129,6 +132,7 @@ pub fn run_script<S: Records, R: Read, W: Write>(
           written_before = W.contents writer.old;
           written = W.contents writer.new;
         }) result)) }
+    ensures stays { Holds S.is_kept S.is_honest store.old store.new (S.keeping store.new ≡ S.keeping store.old) }
     ensures read { OnOk result (Left (R.remaining reader.old) (R.remaining reader.new) (λ input rest. rest ≡ [])) }
     ensures begun { result ≡ Result.Err ScriptFault.Read → Left (R.remaining reader.old) (R.remaining reader.new) IsReadInPart }
     ensures count { IsCounted result (S.faults store.old) (S.faults store.new) }

@@ -24,5 +24,5 @@ pub affects_remade : (old new : State) (rows : List Row) → Changes desk_schema
 affects_remade old new rows it shown are f same =
     let says = ap affects_in (affects_say rows are) ∙ same ∙ ap f (sym (affects_are old shown)) in
     remade old new AFFECTS rows it
-    (record { meta = shown.meta; sets = shown.sets; bugs = shown.bugs; marks = shown.marks; blocks = shown.blocks; nodes = shown.nodes; nearest = shown.nearest; affects = are }) _
+    (record { meta = shown.meta; sets = shown.sets; bugs = shown.bugs; marks = shown.marks; blocks = shown.blocks; nodes = shown.nodes; nearest = shown.nearest; affects = are; messages = shown.messages; outcomes = shown.outcomes; outcome_numbers = shown.outcome_numbers }) _
     (ap (λ g. let c : Content = record (seen old) { affects = g } in c) says)

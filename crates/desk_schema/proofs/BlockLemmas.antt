@@ -24,5 +24,5 @@ pub blocks_remade : (old new : State) (rows : List Row) → Changes desk_schema 
 blocks_remade old new rows it shown are f same =
     let says = ap blockers_in (blocks_say rows are) ∙ same ∙ ap f (sym (blockers_are old shown)) in
     remade old new BLOCKS rows it
-    (record { meta = shown.meta; sets = shown.sets; bugs = shown.bugs; marks = shown.marks; blocks = are; nodes = shown.nodes; nearest = shown.nearest; affects = shown.affects }) _
+    (record { meta = shown.meta; sets = shown.sets; bugs = shown.bugs; marks = shown.marks; blocks = are; nodes = shown.nodes; nearest = shown.nearest; affects = shown.affects; messages = shown.messages; outcomes = shown.outcomes; outcome_numbers = shown.outcome_numbers }) _
     (ap (λ g. let c : Content = record (seen old) { blockers = g } in c) says)

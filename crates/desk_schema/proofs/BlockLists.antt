@@ -8,11 +8,11 @@ use Rattle.sql_forms.specs.Numbers.{with_number, with_numbers}
 use Rattle.desk_schema.specs.BlockRows.{BlockRow, of_key, blockers_in}
 
 -- a number comes into its place
-placed_is : (xs : List ℕ) (x : ℕ) → with_number xs x ≡ placed (λ n. n) xs x
+pub placed_is : (xs : List ℕ) (x : ℕ) → with_number xs x ≡ placed (λ n. n) xs x
 placed_is [] x = refl
 placed_is (y ∷ xs) x = ap (λ ys. if nat_lt x y then x ∷ y ∷ xs else y ∷ ys) (placed_is xs x)
 
-with_last : (ys xs : List ℕ) (x : ℕ) → with_numbers ys (xs ++ x ∷ []) ≡ with_number (with_numbers ys xs) x
+pub with_last : (ys xs : List ℕ) (x : ℕ) → with_numbers ys (xs ++ x ∷ []) ≡ with_number (with_numbers ys xs) x
 with_last ys [] x = refl
 with_last ys (y ∷ xs) x = with_last (with_number ys y) xs x
 
@@ -61,17 +61,17 @@ none_left k xs = same_at _ _ (λ n. ap (with_numbers []) (dropped k n xs) ∙ go
 
 -- ---- which numbers are there
 
-or_swap : (a b c : Bool) → (a || (b || c)) ≡ (b || (a || c))
+pub or_swap : (a b c : Bool) → (a || (b || c)) ≡ (b || (a || c))
 or_swap true true c = refl
 or_swap true false c = refl
 or_swap false true c = refl
 or_swap false false c = refl
 
-or_assoc : (a b c : Bool) → (a || (b || c)) ≡ ((a || b) || c)
+pub or_assoc : (a b c : Bool) → (a || (b || c)) ≡ ((a || b) || c)
 or_assoc true b c = refl
 or_assoc false b c = refl
 
-or_false : (b : Bool) → (b || false) ≡ b
+pub or_false : (b : Bool) → (b || false) ≡ b
 or_false true = refl
 or_false false = refl
 
@@ -81,7 +81,7 @@ in_list x (z ∷ ys) y =
     elim (nat_lt y z) as (λ b. has (if b then y ∷ z ∷ ys else z ∷ with_number ys y) x ≡ (eqb y x || (eqb z x || has ys x)))
     [ true ↦ refl | false ↦ ap (λ b. eqb z x || b) (in_list x ys y) ∙ or_swap (eqb z x) (eqb y x) (has ys x) ]
 
-in_lists : (x : ℕ) (ys zs : List ℕ) → has (with_numbers ys zs) x ≡ (has zs x || has ys x)
+pub in_lists : (x : ℕ) (ys zs : List ℕ) → has (with_numbers ys zs) x ≡ (has zs x || has ys x)
 in_lists x ys [] = refl
 in_lists x ys (z ∷ zs) = in_lists x (with_number ys z) zs ∙ ap (λ b. has zs x || b) (in_list x ys z) ∙ or_swap (has zs x) (eqb z x) (has ys x) ∙ or_assoc (eqb z x) (has zs x) (has ys x)
 

@@ -38,5 +38,5 @@ bugs_remade old new rows it shown are f g keys members =
     let keyed = ap key_in (bugs_say rows are) ∙ keys ∙ ap f (sym (keys_are old shown)) in
     let joined = ap members_in (bugs_say rows are) ∙ members ∙ ap g (sym (members_are old shown)) in
     remade old new BUGS rows it
-    (record { meta = shown.meta; sets = shown.sets; bugs = are; marks = shown.marks; blocks = shown.blocks; nodes = shown.nodes; nearest = shown.nearest; affects = shown.affects }) _
+    (record { meta = shown.meta; sets = shown.sets; bugs = are; marks = shown.marks; blocks = shown.blocks; nodes = shown.nodes; nearest = shown.nearest; affects = shown.affects; messages = shown.messages; outcomes = shown.outcomes; outcome_numbers = shown.outcome_numbers }) _
     (λ i. let c : Content = record (seen old) { key = keyed i; members = joined i } in c)

@@ -1,5 +1,6 @@
 -- What other rows of one table make of all that the tables say.
 use Rattle.std.proofs.Common.{◌≡◌, ℕ, Bool, true, false, eqb, if◌then◌else◌, map, List, [], ◌∷◌, refl, sym, ap, subst, ◌∙◌}
+use Rattle.std.specs.List.{AllByRecursion}
 use Rattle.std.proofs.lemmas.Bool.{eqb-true}
 use Rattle.sqlite.specs.Order.{Row}
 use Rattle.sqlite.specs.State.{State}
@@ -10,7 +11,7 @@ use Rattle.sql_forms.specs.Forms.{Changes}
 use Rattle.sql_forms.specs.TypedRows.{AreRows}
 use Rattle.sql_forms.proofs.ChangeLemmas.{is_index, stays}
 use Rattle.desk_content.specs.Content.{Content}
-use Rattle.desk_schema.specs.Tables.{META, SETS, BUGS, MARKS, BLOCKS, NODES, NEAREST, AFFECTS, desk_schema}
+use Rattle.desk_schema.specs.Tables.{META, SETS, BUGS, MARKS, BLOCKS, NODES, NEAREST, AFFECTS, MESSAGES, OUTCOMES, OUTCOME_NUMBERS, desk_schema}
 use Rattle.desk_schema.specs.SetRows.{set_cells, set_in, IsSetRow, fields_in}
 use Rattle.desk_schema.specs.BugRows.{bug_cells, bug_in, IsBugRow, key_in, members_in}
 use Rattle.desk_schema.specs.MarkRows.{mark_cells, mark_in, IsMarkRow, marks_in}
@@ -18,6 +19,9 @@ use Rattle.desk_schema.specs.BlockRows.{block_cells, block_in, IsBlockRow, block
 use Rattle.desk_schema.specs.NodeRows.{node_cells, node_in, IsNodeRow, nodes_in}
 use Rattle.desk_schema.specs.NearestRows.{nearest_cells, nearest_in, IsNearestRow, near_in}
 use Rattle.desk_schema.specs.AffectRows.{affect_cells, affect_in, IsAffectRow, affects_in}
+use Rattle.desk_schema.specs.MessageRows.{message_cells, message_in, IsMessageRow, messages_in}
+use Rattle.desk_schema.specs.OutcomeRows.{outcome_cells, outcome_row_in, IsOutcomeRow, outcomes_in}
+use Rattle.desk_schema.specs.NumberRows.{number_cells, number_row_in, IsNumberRow, outcome_numbers_in}
 use Rattle.desk_schema.specs.Rows.{next_in, content_of, AreShown}
 use Rattle.desk_schema.specs.Steps.{seen}
 use Rattle.desk_schema.proofs.StatementLemmas.{Makes}
@@ -32,6 +36,9 @@ pub record AreSame (db' db : Trees) : Type 0 where
   pub nodes : db' NODES ≡ db NODES
   pub nearest : db' NEAREST ≡ db NEAREST
   pub affects : db' AFFECTS ≡ db AFFECTS
+  pub messages : db' MESSAGES ≡ db MESSAGES
+  pub outcomes : db' OUTCOMES ≡ db OUTCOMES
+  pub outcome_numbers : db' OUTCOME_NUMBERS ≡ db OUTCOME_NUMBERS
 
 pub same_content : (db' db : Trees) → AreSame db' db → content_of db' ≡ content_of db
 same_content db' db same = λ i. record {
@@ -45,6 +52,9 @@ same_content db' db same = λ i. record {
   affects = affects_in (map affect_in (same.affects i));
   nodes = nodes_in (map node_in (same.nodes i));
   near = near_in (map nearest_in (same.nearest i));
+  messages = messages_in (map message_in (same.messages i));
+  outcomes = outcomes_in (map outcome_row_in (same.outcomes i));
+  outcome_numbers = outcome_numbers_in (map number_row_in (same.outcome_numbers i));
 }
 
 pub same_shown : (db' db : Trees) → AreSame db' db → AreShown db → AreShown db'
@@ -57,6 +67,9 @@ same_shown db' db same shown = record {
   nodes = subst (AreRows node_cells IsNodeRow) (sym same.nodes) shown.nodes;
   nearest = subst (AreRows nearest_cells IsNearestRow) (sym same.nearest) shown.nearest;
   affects = subst (AreRows affect_cells IsAffectRow) (sym same.affects) shown.affects;
+  messages = subst (AreRows message_cells IsMessageRow) (sym same.messages) shown.messages;
+  outcomes = subst (AreRows outcome_cells IsOutcomeRow) (sym same.outcomes) shown.outcomes;
+  outcome_numbers = subst (AreRows number_cells IsNumberRow) (sym same.outcome_numbers) shown.outcome_numbers;
 }
 
 -- one table has other rows
@@ -78,6 +91,9 @@ module _ (old new : State) (tree : ℕ) (rows : List Row) (it : Changes desk_sch
     nodes = placed_at NODES refl;
     nearest = placed_at NEAREST refl;
     affects = placed_at AFFECTS refl;
+    messages = placed_at MESSAGES refl;
+    outcomes = placed_at OUTCOMES refl;
+    outcome_numbers = placed_at OUTCOME_NUMBERS refl;
   }
 
   pub remade : AreShown (with_tree old.now.trees tree rows) → (after : Content → Content) → content_of (with_tree old.now.trees tree rows) ≡ after (seen old) → Makes old new after
@@ -92,3 +108,10 @@ module _ (old new : State) (tree : ℕ) (rows : List Row) (it : Changes desk_sch
 pub read_back : {T : Type 0} (cells : T → Row) (back : Row → T) → ((x : T) → back (cells x) ≡ x) → (xs : List T) → map back (map cells xs) ≡ xs
 read_back cells back same [] = refl
 read_back cells back same (x ∷ xs) = ap (λ y. y ∷ map back (map cells xs)) (same x) ∙ ap (λ ys. x ∷ ys) (read_back cells back same xs)
+
+-- those that are good
+pub good_back : {T : Type 0} (cells : T → Row) (back : Row → T) (IsGood : T → Type 0) → ((x : T) → IsGood x → back (cells x) ≡ x)
+    → (xs : List T) → AllByRecursion IsGood xs → map back (map cells xs) ≡ xs
+good_back cells back IsGood same [] good = refl
+good_back cells back IsGood same (x ∷ xs) good =
+    ap (λ y. y ∷ map back (map cells xs)) (same x good.0) ∙ ap (λ ys. x ∷ ys) (good_back cells back IsGood same xs good.1)

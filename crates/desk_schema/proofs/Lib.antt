@@ -21,3 +21,9 @@ pub mod NodeLists
 pub mod NodeLemmas
 pub mod AffectLists
 pub mod AffectLemmas
+pub mod MessageLists
+pub mod MessageLemmas
+pub mod OutcomeLists
+pub mod OutcomeLemmas
+pub mod NumberLists
+pub mod NumberLemmas

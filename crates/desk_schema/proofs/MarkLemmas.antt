@@ -39,5 +39,5 @@ marks_remade old new rows it shown are f g same same' =
     let says = ap (marks_in Found) (marks_say rows are) ∙ same ∙ ap f (sym (found_are old shown)) in
     let says' = ap (marks_in Fixed) (marks_say rows are) ∙ same' ∙ ap g (sym (fixed_are old shown)) in
     remade old new MARKS rows it
-    (record { meta = shown.meta; sets = shown.sets; bugs = shown.bugs; marks = are; blocks = shown.blocks; nodes = shown.nodes; nearest = shown.nearest; affects = shown.affects }) _
+    (record { meta = shown.meta; sets = shown.sets; bugs = shown.bugs; marks = are; blocks = shown.blocks; nodes = shown.nodes; nearest = shown.nearest; affects = shown.affects; messages = shown.messages; outcomes = shown.outcomes; outcome_numbers = shown.outcome_numbers }) _
     (λ i. record (seen old) { found = says i; fixed = says' i })

@@ -32,5 +32,5 @@ pub nearest_remade : (old new : State) (rows : List Row) → Changes desk_schema
 nearest_remade old new rows it shown are f same =
     let says = ap near_in (nearest_say rows are) ∙ same ∙ ap f (sym (near_are old shown)) in
     remade old new NEAREST rows it
-    (record { meta = shown.meta; sets = shown.sets; bugs = shown.bugs; marks = shown.marks; blocks = shown.blocks; nodes = shown.nodes; nearest = are; affects = shown.affects }) _
+    (record { meta = shown.meta; sets = shown.sets; bugs = shown.bugs; marks = shown.marks; blocks = shown.blocks; nodes = shown.nodes; nearest = are; affects = shown.affects; messages = shown.messages; outcomes = shown.outcomes; outcome_numbers = shown.outcome_numbers }) _
     (ap (λ g. let c : Content = record (seen old) { near = g } in c) says)

@@ -17,7 +17,7 @@ use Rattle.desk_schema.specs.Steps.{seen}
 use Rattle.desk_schema.proofs.ContentLemmas.{remade, read_back}
 use Rattle.desk_schema.proofs.StatementLemmas.{Makes}
 
-parent_back : (p : Option Node) → node_between (maybe_text (or_null (λ (q : Node). Text q.source) p)) (maybe_text (or_null (λ (q : Node). Text q.version) p)) ≡ p
+pub parent_back : (p : Option Node) → node_between (maybe_text (or_null (λ (q : Node). Text q.source) p)) (maybe_text (or_null (λ (q : Node). Text q.version) p)) ≡ p
 parent_back None = refl
 parent_back (Some p) = refl
 
@@ -36,5 +36,5 @@ pub nodes_remade : (old new : State) (rows : List Row) → Changes desk_schema o
 nodes_remade old new rows it shown are f same =
     let says = ap nodes_in (nodes_say rows are) ∙ same ∙ ap f (sym (nodes_are old shown)) in
     remade old new NODES rows it
-    (record { meta = shown.meta; sets = shown.sets; bugs = shown.bugs; marks = shown.marks; blocks = shown.blocks; nodes = are; nearest = shown.nearest; affects = shown.affects }) _
+    (record { meta = shown.meta; sets = shown.sets; bugs = shown.bugs; marks = shown.marks; blocks = shown.blocks; nodes = are; nearest = shown.nearest; affects = shown.affects; messages = shown.messages; outcomes = shown.outcomes; outcome_numbers = shown.outcome_numbers }) _
     (ap (λ t. let c : Content = record (seen old) { nodes = t } in c) says)

@@ -14,7 +14,7 @@ use Rattle.sqlite_tied.specs.Compute.{everything}
 use Rattle.sqlite_trees.specs.Tree.{IsAscending}
 use Rattle.sql_forms.proofs.ErrorLemmas.{HasNoReferences}
 use Rattle.sql_forms.proofs.RefusalLemmas.{IsPlainTable}
-use Rattle.desk_schema.specs.Tables.{meta_table, sets_table, bugs_table, marks_table, blocks_table, nodes_table, nearest_table, affects_table, sets_by_package, bugs_by_set, marks_by_node, blocks_by_blocker, affects_by_package, first_schema, desk_schema}
+use Rattle.desk_schema.specs.Tables.{meta_table, sets_table, bugs_table, marks_table, blocks_table, nodes_table, nearest_table, affects_table, messages_table, outcomes_table, outcome_numbers_table, sets_by_package, bugs_by_set, marks_by_node, blocks_by_blocker, affects_by_package, first_schema, second_schema, desk_schema}
 use Rattle.desk_schema.specs.Steps.{IsInside}
 
 -- ---- the texts of creation
@@ -54,6 +54,18 @@ nearest_is = refl
 pub affects_is : table_defined_by (codes "CREATE TABLE affects (set_key INTEGER NOT NULL, package TEXT NOT NULL, PRIMARY KEY (set_key, package)) STRICT") ≡ Ok (unplaced affects_table)
 unfolding everything
 affects_is = refl
+
+pub messages_is : table_defined_by (codes "CREATE TABLE messages (id TEXT NOT NULL PRIMARY KEY, sender TEXT NOT NULL, message BLOB NOT NULL) STRICT") ≡ Ok (unplaced messages_table)
+unfolding everything
+messages_is = refl
+
+pub outcomes_is : table_defined_by (codes "CREATE TABLE outcomes (id TEXT NOT NULL, place INTEGER NOT NULL, kind INTEGER NOT NULL, number INTEGER, field INTEGER, source TEXT, version TEXT, PRIMARY KEY (id, place)) STRICT") ≡ Ok (unplaced outcomes_table)
+unfolding everything
+outcomes_is = refl
+
+pub outcome_numbers_is : table_defined_by (codes "CREATE TABLE outcome_numbers (id TEXT NOT NULL, place INTEGER NOT NULL, number INTEGER NOT NULL, PRIMARY KEY (id, place, number)) STRICT") ≡ Ok (unplaced outcome_numbers_table)
+unfolding everything
+outcome_numbers_is = refl
 
 pub sets_by_package_is : index_defined_by sets_table (codes "CREATE INDEX sets_by_package ON sets (package, archived)") ≡ Ok (record sets_by_package { tree = 0 })
 unfolding everything
@@ -124,8 +136,22 @@ with_affects = created first_schema (unplaced affects_table)
 abbrev pub with_affects_index : Schema
 with_affects_index = indexed with_affects affects_table (record affects_by_package { tree = 0 })
 
--- with what schema 2 adds they are the schema
-pub all_is : with_affects_index ≡ desk_schema
+-- with what schema 2 adds
+pub second_is : with_affects_index ≡ second_schema
+unfolding everything
+second_is = refl
+
+abbrev pub with_messages : Schema
+with_messages = created second_schema (unplaced messages_table)
+
+abbrev pub with_outcomes : Schema
+with_outcomes = created with_messages (unplaced outcomes_table)
+
+abbrev pub with_outcome_numbers : Schema
+with_outcome_numbers = created with_outcomes (unplaced outcome_numbers_table)
+
+-- with what schema 3 adds they are the schema
+pub all_is : with_outcome_numbers ≡ desk_schema
 unfolding everything
 all_is = refl
 
@@ -136,7 +162,7 @@ every [] = tt
 every (r ∷ rows) = (refl, every rows)
 
 no_references : HasNoReferences desk_schema
-no_references = record { refers = λ db. (every _, (every _, (every _, (every _, (every _, (every _, (every _, (every _, tt)))))))) }
+no_references = record { refers = λ db. (every _, (every _, (every _, (every _, (every _, (every _, (every _, (every _, (every _, (every _, (every _, tt))))))))))) }
 
 abbrev is_apart : ℕ → List Table → Bool
 is_apart tree [] = true
@@ -190,6 +216,15 @@ nearest_plain = record { apart = all_apart desk_schema.tables refl; listed = inr
 
 pub affects_plain : IsPlainTable desk_schema affects_table
 affects_plain = record { apart = all_apart desk_schema.tables refl; listed = inr (inr (inr (inr (inr (inr (inr (inl refl))))))); refers = four (references_fit desk_schema affects_table) refl refl refl refl; none = no_references }
+
+pub messages_plain : IsPlainTable desk_schema messages_table
+messages_plain = record { apart = all_apart desk_schema.tables refl; listed = inr (inr (inr (inr (inr (inr (inr (inr (inl refl)))))))); refers = four (references_fit desk_schema messages_table) refl refl refl refl; none = no_references }
+
+pub outcomes_plain : IsPlainTable desk_schema outcomes_table
+outcomes_plain = record { apart = all_apart desk_schema.tables refl; listed = inr (inr (inr (inr (inr (inr (inr (inr (inr (inl refl))))))))); refers = four (references_fit desk_schema outcomes_table) refl refl refl refl; none = no_references }
+
+pub outcome_numbers_plain : IsPlainTable desk_schema outcome_numbers_table
+outcome_numbers_plain = record { apart = all_apart desk_schema.tables refl; listed = inr (inr (inr (inr (inr (inr (inr (inr (inr (inr (inl refl)))))))))); refers = four (references_fit desk_schema outcome_numbers_table) refl refl refl refl; none = no_references }
 
 -- keys are unique in the tables of a transaction
 pub unique_at : (s : State) → IsInside s → IsTrue s.is_open → Keeps Unique desk_schema s.now.trees

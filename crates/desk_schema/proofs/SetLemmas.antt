@@ -35,7 +35,7 @@ flag_back : (b : Bool) → flag_in (flag b) ≡ Some b
 flag_back true = refl
 flag_back false = refl
 
-text_back : (t : Option (List ℕ)) → maybe_text (or_null Text t) ≡ t
+pub text_back : (t : Option (List ℕ)) → maybe_text (or_null Text t) ≡ t
 text_back None = refl
 text_back (Some t) = refl
 
@@ -63,5 +63,5 @@ pub sets_remade : (old new : State) (rows : List Row) → Changes desk_schema ol
 sets_remade old new rows it shown are f same =
     let says = ap fields_in (sets_say rows are) ∙ same ∙ ap f (sym (fields_are old shown)) in
     remade old new SETS rows it
-    (record { meta = shown.meta; sets = are; bugs = shown.bugs; marks = shown.marks; blocks = shown.blocks; nodes = shown.nodes; nearest = shown.nearest; affects = shown.affects }) _
+    (record { meta = shown.meta; sets = are; bugs = shown.bugs; marks = shown.marks; blocks = shown.blocks; nodes = shown.nodes; nearest = shown.nearest; affects = shown.affects; messages = shown.messages; outcomes = shown.outcomes; outcome_numbers = shown.outcome_numbers }) _
     (ap (λ g. let c : Content = record (seen old) { fields = g } in c) says)

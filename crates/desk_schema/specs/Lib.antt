@@ -7,5 +7,8 @@ pub mod BlockRows
 pub mod NodeRows
 pub mod NearestRows
 pub mod AffectRows
+pub mod MessageRows
+pub mod OutcomeRows
+pub mod NumberRows
 pub mod Rows
 pub mod Steps

@@ -8,7 +8,7 @@ use Rattle.ancestry.specs.declared.statuses.MarkKind.TheVariants.{Found, Fixed}
 use Rattle.sql_forms.specs.Numbers.{number_in}
 use Rattle.sql_forms.specs.TypedRows.{AreRows}
 use Rattle.desk_content.specs.Content.{Content}
-use Rattle.desk_schema.specs.Tables.{META, SETS, BUGS, MARKS, BLOCKS, NODES, NEAREST, AFFECTS}
+use Rattle.desk_schema.specs.Tables.{META, SETS, BUGS, MARKS, BLOCKS, NODES, NEAREST, AFFECTS, MESSAGES, OUTCOMES, OUTCOME_NUMBERS}
 use Rattle.desk_schema.specs.SetRows.{set_cells, set_in, IsSetRow, fields_in}
 use Rattle.desk_schema.specs.BugRows.{bug_cells, bug_in, IsBugRow, key_in, members_in}
 use Rattle.desk_schema.specs.MarkRows.{mark_cells, mark_in, IsMarkRow, marks_in}
@@ -16,10 +16,13 @@ use Rattle.desk_schema.specs.BlockRows.{block_cells, block_in, IsBlockRow, block
 use Rattle.desk_schema.specs.NodeRows.{node_cells, node_in, IsNodeRow, nodes_in}
 use Rattle.desk_schema.specs.NearestRows.{nearest_cells, nearest_in, IsNearestRow, near_in}
 use Rattle.desk_schema.specs.AffectRows.{affect_cells, affect_in, IsAffectRow, affects_in}
+use Rattle.desk_schema.specs.MessageRows.{message_cells, message_in, IsMessageRow, messages_in}
+use Rattle.desk_schema.specs.OutcomeRows.{outcome_cells, outcome_row_in, IsOutcomeRow, outcomes_in}
+use Rattle.desk_schema.specs.NumberRows.{number_cells, number_row_in, IsNumberRow, outcome_numbers_in}
 
 -- meta has one row, with the schema's number and the next bug's
 abbrev pub meta_cells : ℕ → Row
-meta_cells next = Int (pos 1) ∷ Null ∷ Int (pos 2) ∷ Int (pos next) ∷ []
+meta_cells next = Int (pos 1) ∷ Null ∷ Int (pos 3) ∷ Int (pos next) ∷ []
 
 abbrev pub next_in : List Row → ℕ
 next_in [] = 0
@@ -38,6 +41,9 @@ content_of db = record {
   affects = affects_in (map affect_in (db AFFECTS));
   nodes = nodes_in (map node_in (db NODES));
   near = near_in (map nearest_in (db NEAREST));
+  messages = messages_in (map message_in (db MESSAGES));
+  outcomes = outcomes_in (map outcome_row_in (db OUTCOMES));
+  outcome_numbers = outcome_numbers_in (map number_row_in (db OUTCOME_NUMBERS));
 }
 
 -- each row is the cells of something
@@ -50,3 +56,6 @@ pub record AreShown (db : Trees) : Type 0 where
   pub nodes : AreRows node_cells IsNodeRow (db NODES)
   pub nearest : AreRows nearest_cells IsNearestRow (db NEAREST)
   pub affects : AreRows affect_cells IsAffectRow (db AFFECTS)
+  pub messages : AreRows message_cells IsMessageRow (db MESSAGES)
+  pub outcomes : AreRows outcome_cells IsOutcomeRow (db OUTCOMES)
+  pub outcome_numbers : AreRows number_cells IsNumberRow (db OUTCOME_NUMBERS)

@@ -1,10 +1,10 @@
--- The tables of a desk, in the order in which they are made: those of schema 1, and then those that
--- schema 2 adds.
+-- The tables of a desk, in the order in which they are made: those of schema 1, then those that
+-- schema 2 adds, and then those that schema 3 adds.
 -- This project's own rule.
 use Rattle.std.specs.Prelude.{ℕ, true, false, Bool, [], ◌∷◌, Some, None, codes, List}
 use Rattle.sqlite.specs.Collation.TheVariants.{Binary}
 use Rattle.sqlite.specs.Kind.{Kind}
-use Rattle.sqlite.specs.Kind.TheVariants.{Integer, Text}
+use Rattle.sqlite.specs.Kind.TheVariants.{Integer, Text, Blob}
 use Rattle.sqlite.specs.Schema.{Schema}
 use Rattle.sqlite.specs.Table.{Table}
 use Rattle.sqlite.specs.declared.types.Value.TheVariants.{Null}
@@ -74,6 +74,15 @@ NEAREST = 9
 abbrev pub AFFECTS : ℕ
 AFFECTS = 15
 
+abbrev pub MESSAGES : ℕ
+MESSAGES = 18
+
+abbrev pub OUTCOMES : ℕ
+OUTCOMES = 20
+
+abbrev pub OUTCOME_NUMBERS : ℕ
+OUTCOME_NUMBERS = 22
+
 -- CREATE TABLE meta (id INTEGER PRIMARY KEY, schema INTEGER NOT NULL, next INTEGER NOT NULL) STRICT
 abbrev pub meta_table : Table
 meta_table = numbered_table (codes "meta") META (codes "id") (number_column (codes "schema") ∷ number_column (codes "next") ∷ [])
@@ -120,6 +129,27 @@ nearest_table =
 abbrev pub affects_table : Table
 affects_table = keyed_table (codes "affects") AFFECTS (1 ∷ 2 ∷ []) (number_column (codes "set_key") ∷ text_column (codes "package") ∷ [])
 
+-- CREATE TABLE messages (id TEXT NOT NULL PRIMARY KEY, sender TEXT NOT NULL, message BLOB NOT NULL) STRICT
+abbrev pub messages_table : Table
+messages_table =
+    keyed_table (codes "messages") MESSAGES (1 ∷ [])
+    (text_column (codes "id") ∷ text_column (codes "sender") ∷ column_of (codes "message") Blob true ∷ [])
+
+-- CREATE TABLE outcomes (id TEXT NOT NULL, place INTEGER NOT NULL, kind INTEGER NOT NULL, number INTEGER, field INTEGER,
+-- source TEXT, version TEXT, PRIMARY KEY (id, place)) STRICT
+abbrev pub outcomes_table : Table
+outcomes_table =
+    keyed_table (codes "outcomes") OUTCOMES (1 ∷ 2 ∷ [])
+    (text_column (codes "id") ∷ number_column (codes "place") ∷ number_column (codes "kind") ∷ column_of (codes "number") Integer false
+    ∷ column_of (codes "field") Integer false ∷ column_of (codes "source") Text false ∷ column_of (codes "version") Text false ∷ [])
+
+-- CREATE TABLE outcome_numbers (id TEXT NOT NULL, place INTEGER NOT NULL, number INTEGER NOT NULL,
+-- PRIMARY KEY (id, place, number)) STRICT
+abbrev pub outcome_numbers_table : Table
+outcome_numbers_table =
+    keyed_table (codes "outcome_numbers") OUTCOME_NUMBERS (1 ∷ 2 ∷ 3 ∷ [])
+    (text_column (codes "id") ∷ number_column (codes "place") ∷ number_column (codes "number") ∷ [])
+
 -- the indexes of the keys
 abbrev pub marks_key : Index
 marks_key = index_of (codes "sqlite_autoindex_marks_1") 4 MARKS (1 ∷ 2 ∷ 3 ∷ 4 ∷ []) true
@@ -156,6 +186,15 @@ affects_key = index_of (codes "sqlite_autoindex_affects_1") 16 AFFECTS (1 ∷ 2 
 abbrev pub affects_by_package : Index
 affects_by_package = index_of (codes "affects_by_package") 17 AFFECTS (2 ∷ []) false
 
+abbrev pub messages_key : Index
+messages_key = index_of (codes "sqlite_autoindex_messages_1") 19 MESSAGES (1 ∷ []) true
+
+abbrev pub outcomes_key : Index
+outcomes_key = index_of (codes "sqlite_autoindex_outcomes_1") 21 OUTCOMES (1 ∷ 2 ∷ []) true
+
+abbrev pub outcome_numbers_key : Index
+outcome_numbers_key = index_of (codes "sqlite_autoindex_outcome_numbers_1") 23 OUTCOME_NUMBERS (1 ∷ 2 ∷ 3 ∷ []) true
+
 -- schema 1
 abbrev pub first_schema : Schema
 first_schema = record {
@@ -165,11 +204,23 @@ first_schema = record {
 }
 
 -- schema 2
-abbrev pub desk_schema : Schema
-desk_schema = record {
+abbrev pub second_schema : Schema
+second_schema = record {
   tables = meta_table ∷ sets_table ∷ bugs_table ∷ marks_table ∷ blocks_table ∷ nodes_table ∷ nearest_table ∷ affects_table ∷ [];
   indexes =
       marks_key ∷ blocks_key ∷ nodes_key ∷ nearest_key ∷ sets_by_package ∷ bugs_by_set ∷ marks_by_node ∷ blocks_by_blocker
       ∷ affects_key ∷ affects_by_package ∷ [];
+  views = [];
+}
+
+-- schema 3
+abbrev pub desk_schema : Schema
+desk_schema = record {
+  tables =
+      meta_table ∷ sets_table ∷ bugs_table ∷ marks_table ∷ blocks_table ∷ nodes_table ∷ nearest_table ∷ affects_table
+      ∷ messages_table ∷ outcomes_table ∷ outcome_numbers_table ∷ [];
+  indexes =
+      marks_key ∷ blocks_key ∷ nodes_key ∷ nearest_key ∷ sets_by_package ∷ bugs_by_set ∷ marks_by_node ∷ blocks_by_blocker
+      ∷ affects_key ∷ affects_by_package ∷ messages_key ∷ outcomes_key ∷ outcome_numbers_key ∷ [];
   views = [];
 }

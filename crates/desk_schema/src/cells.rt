@@ -4,7 +4,7 @@ ghost use Rattle.std.specs.Prelude.{◌≡◌, ◌≢◌, ◌<◌, ◌+◌, ℕ,
 ghost use Rattle.std.specs.Str.{IsUtf8};
 ghost use Rattle.sqlite.specs.Order.{column};
 ghost use Rattle.sqlite.specs.Values.{or_null};
-ghost use Rattle.sqlite.specs.declared.types.Value.TheVariants.{Int, Text as TextCell};
+ghost use Rattle.sqlite.specs.declared.types.Value.TheVariants.{Int, Text as TextCell, Blob};
 ghost use Rattle.ancestry.specs.Nodes.{Node as SeenNode, IsNode};
 ghost use Rattle.bug_record.specs.Texts.{IfGiven};
 ghost use Rattle.desk_text.specs.declared.outcome.StoreFault.TheVariants.{Foreign};
@@ -22,6 +22,18 @@ pub fn number_at(row: &Row, at: usize) -> Result<u64, StoreFault>
     ensures sure { (n : ℕ) → at < length row.now → column row.now at ≡ Int (pos n) → IfErr result (λ fault. fault ≢ Foreign) }
 {
     match row.get::<u64>(at) {
+        Ok(number) => Ok(number),
+        Err(error) => Err(fault_of(&error)),
+    }
+}
+
+/// The number in a cell, counted from 0, if it has one; one below 0 can't be read.
+pub fn maybe_number_at(row: &Row, at: usize) -> Result<Option<u64>, StoreFault>
+    ensures value { (n : Option ℕ) → column row.now at ≡ or_null (λ k. Int (pos k)) n → IfOk result (λ v. v ≡ n) }
+    ensures sure { (n : Option ℕ) → at < length row.now → column row.now at ≡ or_null (λ k. Int (pos k)) n →
+        IfErr result (λ fault. fault ≢ Foreign) }
+{
+    match row.get::<Option<u64>>(at) {
         Ok(number) => Ok(number),
         Err(error) => Err(fault_of(&error)),
     }
@@ -61,6 +73,28 @@ pub fn maybe_text_at(alloc: Global, row: &Row, at: usize) -> Result<Option<Text>
             Err(fault) => Err(fault),
         },
         Ok(None) => Ok(None),
+        Err(error) => Err(fault_of(&error)),
+    }
+}
+
+// The text of these bytes; where they are no UTF-8 they are no desk's.
+fn text_of(alloc: Global, bytes: &[u8]) -> Result<Text, StoreFault>
+    ensures value { IfOk result (λ t. t ≡ bytes.now) }
+    ensures sure { IsUtf8 bytes.now → IfErr result (λ fault. fault ≢ Foreign) }
+{
+    match std::str::from_utf8(bytes) {
+        Ok(text) => kept(alloc, text),
+        Err(_) => Err(StoreFault::Foreign),
+    }
+}
+
+/// The text whose bytes are in a cell, counted from 0; bytes that are no UTF-8 can't be read.
+pub fn bytes_text_at(alloc: Global, row: &Row, at: usize) -> Result<Text, StoreFault>
+    ensures value { (t : List ℕ) → column row.now at ≡ Blob t → IfOk result (λ v. v ≡ t) }
+    ensures sure { (t : List ℕ) → at < length row.now → column row.now at ≡ Blob t → IsUtf8 t → IfErr result (λ fault. fault ≢ Foreign) }
+{
+    match row.get::<Vec<u8>>(at) {
+        Ok(bytes) => text_of(alloc, bytes.as_slice()),
         Err(error) => Err(fault_of(&error)),
     }
 }

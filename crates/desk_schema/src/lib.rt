@@ -5,6 +5,6 @@ mod cells;
 mod faults;
 mod numbers;
 
-pub use cells::{maybe_text_at, node_at, number_at, text_at};
+pub use cells::{bytes_text_at, maybe_number_at, maybe_text_at, node_at, number_at, text_at};
 pub use faults::{fault_of, told, written};
 pub use numbers::{number_in, numbers_of};

@@ -1,6 +1,6 @@
 -- Connections, one after another, and one of them.
 use Rattle.std.proofs.Common.{◌≡◌, ℕ, List, [], ◌∷◌, ◌++◌, Option, Some, None, Result, Ok, Err, IfOk, OnErr, refl, sym, subst}
-use Rattle.bug_record.specs.Desk.{Desk}
+use Rattle.desk_answers.specs.Stored.{Stored}
 use Rattle.desk_store.specs.Store.{Faults}
 use Rattle.desk_answers.specs.Faults.{counted_with}
 use Rattle.desk_answers.specs.Shown.{shown}
@@ -21,7 +21,7 @@ one_more Does (first ∷ rest) last a b c turns does =
     (turns.0, turns.1, one_more Does rest last turns.0 b c turns.2 does)
 
 -- what a server leaves of a store that is kept and honest
-pub in_turn : {S : Type 0} (k h : S → Type 0) (desk : S → Desk) (faults : S → Faults) (count : ℕ) (old new : S)
+pub in_turn : {S : Type 0} (k h : S → Type 0) (desk : S → Stored) (faults : S → Faults) (count : ℕ) (old new : S)
     (result : Result (Unit {0}) ServerFault) → IsServing k h desk faults count old new result → k old → h new
     → IsInTurn count (desk old, faults old) (desk new, faults new) result
 in_turn k h desk faults count old new result s kept honest =
@@ -32,7 +32,7 @@ is_write : (fault : ServeFault) (r : Result Served ServeFault) → r ≡ Err fau
 is_write fault r is write = cc
 
 -- an answer that was written, or not
-pub sent_right : (input : Option (List ℕ)) (old new : Desk) (n0 n1 : Faults) (reply : Reply) (r : Result Served ServeFault)
+pub sent_right : (input : Option (List ℕ)) (old new : Stored) (n0 n1 : Faults) (reply : Reply) (r : Result Served ServeFault)
     → IfOk r (λ served. served ≡ Answered reply.status) → OnErr r (r ≡ Err Write)
     → IsRight input old new n0 n1 reply.fault (shown reply) → IsServed input old new n0 n1 None None r
 sent_right input old new n0 n1 reply (Ok served) status write right =

@@ -1,7 +1,7 @@
--- What a server leaves of a desk: its connections, one after another.
+-- What a server leaves of a store: its connections, one after another.
 -- This project's own rule.
 use Rattle.std.specs.Prelude.{ℕ, ◌≡◌, ◌<◌, ◌≤◌, List, [], ◌∷◌, ◌++◌, length, Option, Some, None, Result, Ok, Err}
-use Rattle.bug_record.specs.Desk.{Desk}
+use Rattle.desk_answers.specs.Stored.{Stored}
 use Rattle.desk_store.specs.Store.{Faults, Holds, total}
 use Rattle.desk_http.specs.Exchange.{IsServed, IsCounted}
 use Rattle.desk_http.specs.declared.serve.Served.{Served}
@@ -13,14 +13,15 @@ use Rattle.desk_server.specs.declared.port.ServerFault.TheVariants.{Bind, Write,
 abbrev pub Connection : Type 0
 Connection = Option (Result Served ServeFault)
 
--- a desk, and the faults of its store
+-- what a store holds, and its faults
 abbrev pub State : Type 0
-State = Desk × Faults
+State = Stored × Faults
 
 -- What a connection leaves.
--- Which bytes a socket gives and takes is not known: where there was an answer to write, the desk
--- is the one after the answer to some input, and the status that is named is that answer's.
--- Else the desk stays; a fault that was met is counted.
+-- Which bytes a socket gives and takes is not known: where there was an answer to write, the
+-- store holds what it holds after the answer to some input, and the status that is named is that
+-- answer's.
+-- Else all stays; a fault that was met is counted.
 abbrev pub Leaves : Connection → State → State → Type 0
 Leaves None old new = new ≡ old
 Leaves (Some result) old new = IsServed None old.0 new.0 old.1 new.1 None None result
@@ -57,16 +58,16 @@ EndsServer count course n0 n1 (Err Write) = ⊥
 
 -- What a server of so many connections leaves of its store: these connections came one after
 -- another, each was served as an exchange is, and the server ends as they say.
-pub record IsServing {S : Type 0} (is_kept is_honest : S → Type 0) (desk : S → Desk) (faults : S → Faults)
+pub record IsServing {S : Type 0} (is_kept is_honest : S → Type 0) (held : S → Stored) (faults : S → Faults)
     (count : ℕ) (old new : S) (result : Result (Unit {0}) ServerFault) : Type 0 where
   pub course : List Connection
   pub ends : EndsServer count course (faults old) (faults new) result
   pub counts : InTurn Counts course (faults old) (faults new)
   pub leaves : Holds is_kept is_honest old new
-      (InTurn Leaves course (desk old, faults old) (desk new, faults new))
+      (InTurn Leaves course (held old, faults old) (held new, faults new))
 
 -- The same without the store, where it is kept and honest: these connections came one after another
--- and left this of its desk and its faults, and the server ends as they say.
+-- and left this of what it held and of its faults, and the server ends as they say.
 pub record IsInTurn (count : ℕ) (old new : State) (result : Result (Unit {0}) ServerFault) : Type 0 where
   pub course : List Connection
   pub ends : EndsServer count course old.1 new.1 result

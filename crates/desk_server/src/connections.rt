@@ -1,6 +1,7 @@
 //! Connections, one after another.
 
 ghost use Rattle.desk_store.specs.Store.{Holds};
+ghost use Rattle.desk_answers.specs.Stored.{stored};
 ghost use Rattle.desk_server.specs.Serving.{Leaves, Counts, IsServing};
 
 use crate::exchange::serve_within;
@@ -19,7 +20,7 @@ fn serve_next<C: Clock, S: Records>(
     listener: &TcpListener,
 ) -> Option<Result<Served, ServeFault>>
     ensures answer { Holds S.is_kept S.is_honest store.old store.new
-        (Leaves result (S.desk store.old, S.faults store.old) (S.desk store.new, S.faults store.new)) }
+        (Leaves result (stored S.desk S.keeping store.old, S.faults store.old) (stored S.desk S.keeping store.new, S.faults store.new)) }
     ensures count { Counts result (S.faults store.old) (S.faults store.new) }
 {
     match listener.accept() {
@@ -51,7 +52,7 @@ pub fn serve_connections<C: Clock, S: Records>(
     listener: &TcpListener,
     count: u64,
 ) -> Result<(), ServerFault>
-    ensures { IsServing S.is_kept S.is_honest S.desk S.faults count store.old store.new result }
+    ensures { IsServing S.is_kept S.is_honest (stored S.desk S.keeping) S.faults count store.old store.new result }
 {
     let before = store.faults();
     for done in 0..count {

@@ -6,6 +6,7 @@ ghost use Rattle.desk_store.specs.Store.{Holds};
 ghost use Rattle.desk_answers.specs.Answer.{answer_bytes};
 ghost use Rattle.desk_answers.specs.Shown.{shown};
 ghost use Rattle.desk_http.specs.Exchange.{IsServed, IsCounted};
+ghost use Rattle.desk_answers.specs.Stored.{stored};
 ghost use Rattle.desk_server.specs.Held.{given};
 
 use crate::deadline::Deadline;
@@ -138,7 +139,7 @@ where
     R: Read + Limits + Drop,
     W: Write + Limits + Drop,
     ensures answer { Holds S.is_kept S.is_honest store.old store.new (IsServed (R.remaining reader)
-        (S.desk store.old) (S.desk store.new) (S.faults store.old) (S.faults store.new) None None result) }
+        (stored S.desk S.keeping store.old) (stored S.desk S.keeping store.new) (S.faults store.old) (S.faults store.new) None None result) }
     ensures count { IsCounted result (S.faults store.old) (S.faults store.new) }
 {
     let Ok(deadline) = Deadline::after(&clock, REQUEST) else {

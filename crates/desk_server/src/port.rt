@@ -2,6 +2,7 @@
 
 ghost use Rattle.std.specs.Prelude.{◌≡◌, Err, OnOk, OnErr};
 ghost use Rattle.std.specs.Io.KnownBytes.{Appends};
+ghost use Rattle.desk_answers.specs.Stored.{stored};
 ghost use Rattle.desk_server.specs.Port.{Serves, place_line};
 ghost use Rattle.desk_server.specs.Serving.{IsServing};
 
@@ -62,7 +63,7 @@ pub fn serve_port<N, S: Records, W: Write>(
 ) -> Result<(), ServerFault>
 where
     N: Net<Listener = TcpListener, Stream = TcpStream> + Clock,
-    ensures serves { Serves result (IsServing S.is_kept S.is_honest S.desk S.faults count store.old store.new result) }
+    ensures serves { Serves result (IsServing S.is_kept S.is_honest (stored S.desk S.keeping) S.faults count store.old store.new result) }
     ensures told { Serves result (Appends (W.contents writer.old) (W.contents writer.new) (place_line port)) }
     ensures bind { result ≡ Err ServerFault.Bind → (store.new ≡ store.old) × (writer.new ≡ writer.old) }
     ensures write { result ≡ Err ServerFault.Write → store.new ≡ store.old }

@@ -8,4 +8,5 @@ mod play;
 mod puts;
 
 pub use change::put_change;
+pub use parameters::parameter;
 pub use play::play_all;

@@ -5,9 +5,13 @@ ghost use Rattle.sqlite.specs.Held.{state};
 ghost use Rattle.desk_schema.specs.Steps.{Plays, PlaysAll};
 
 use crate::drops::{drop_affects, drop_blockers, drop_fields, drop_marks, drop_member, drop_near};
-use crate::puts::{put_affects, put_blocker, put_fields, put_mark, put_member, put_near};
+use crate::puts::{
+    put_affects, put_blocker, put_fields, put_mark, put_member, put_near, put_outcome,
+    put_outcome_number,
+};
 use desk_content::Edit;
 use desk_text::StoreFault;
+use kept_rows::add_message;
 use node_rows::{add_node, clear_node};
 use sqlite::{Alter, Transaction};
 
@@ -31,6 +35,13 @@ fn play<S: Alter>(tx: &mut Transaction<'_, S>, edit: &Edit) -> Result<(), StoreF
         Edit::PutNear { key, node, near } => put_near(tx, *key, node, near),
         Edit::DropLink { node } => clear_node(tx, node),
         Edit::PutLink { node, parent } => add_node(tx, node, parent),
+        Edit::PutMessage { id, from, message } => {
+            add_message(tx, id.as_str(), from.as_str(), message.as_str())
+        }
+        Edit::PutOutcome { id, place, outcome } => put_outcome(tx, id.as_str(), *place, outcome),
+        Edit::PutOutcomeNumber { id, place, number } => {
+            put_outcome_number(tx, id.as_str(), *place, *number)
+        }
     }
 }
 

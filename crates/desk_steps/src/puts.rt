@@ -1,8 +1,8 @@
-//! Edits that put something under a number.
+//! Edits that put something under a number, or at a place.
 
 ghost use Rattle.std.specs.Prelude.{◌≡◌};
 ghost use Rattle.sqlite.specs.Held.{state};
-ghost use Rattle.desk_content.specs.declared.edit.Edit.TheVariants.{PutFields, PutMember, PutMark, PutBlocker, PutAffects, PutNear};
+ghost use Rattle.desk_content.specs.declared.edit.Edit.TheVariants.{PutFields, PutMember, PutMark, PutBlocker, PutAffects, PutNear, PutOutcome, PutOutcomeNumber};
 ghost use Rattle.desk_schema.specs.Steps.{Plays};
 
 use crate::parameters::parameter;
@@ -10,7 +10,8 @@ use affect_rows::add_affected;
 use ancestry::{MarkKind, Node};
 use bug_record::Member;
 use desk_content::SetFields;
-use desk_text::StoreFault;
+use desk_text::{Outcome, StoreFault};
+use kept_rows::{add_outcome, add_outcome_number};
 use nearest_marks::Near;
 use node_rows::add_near;
 use set_rows::{add_blocker, add_bug, add_fields, add_mark};
@@ -102,4 +103,33 @@ pub(crate) fn put_near<S: Alter>(
 {
     let key = parameter(key)?;
     add_near(tx, key, node, near)
+}
+
+// The outcome is kept at this place of the message of the id.
+pub(crate) fn put_outcome<S: Alter>(
+    tx: &mut Transaction<'_, S>,
+    id: &str,
+    place: u64,
+    outcome: &Outcome,
+) -> Result<(), StoreFault>
+    ensures same_reference { tx.new.conn.ghost_name ≡ tx.old.conn.ghost_name }
+    ensures plays { Plays (PutOutcome id.now place outcome.now) (state S.Store tx.old.conn.now) (state S.Store tx.new.conn.now) result }
+{
+    let place = parameter(place)?;
+    add_outcome(tx, id, place, outcome)
+}
+
+// The accepted line at this place of the message of the id has one more number.
+pub(crate) fn put_outcome_number<S: Alter>(
+    tx: &mut Transaction<'_, S>,
+    id: &str,
+    place: u64,
+    number: u64,
+) -> Result<(), StoreFault>
+    ensures same_reference { tx.new.conn.ghost_name ≡ tx.old.conn.ghost_name }
+    ensures plays { Plays (PutOutcomeNumber id.now place number) (state S.Store tx.old.conn.now) (state S.Store tx.new.conn.now) result }
+{
+    let place = parameter(place)?;
+    let number = parameter(number)?;
+    add_outcome_number(tx, id, place, number)
 }

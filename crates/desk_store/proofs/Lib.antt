@@ -1,3 +1,5 @@
 pub mod PlainLemmas
 pub mod HoldsLemmas
 pub mod NameLemmas
+pub mod KeepLemmas
+pub mod KeptMessageLemmas

@@ -16,12 +16,12 @@ use Rattle.bug_record.specs.declared.command.Refusal.{Refusal}
 use Rattle.set_images.proofs.NewBugLemmas.{changed-new}
 
 -- a desk that comes of a test, which refused nothing
-passed : (o : Option Refusal) (r : Result Desk Refusal) (new : Desk) → unless o r ≡ Ok new → r ≡ Ok new
+pub passed : (o : Option Refusal) (r : Result Desk Refusal) (new : Desk) → unless o r ≡ Ok new → r ≡ Ok new
 passed None r new e = e
 passed (Some refusal) r new e = absurd (false≢true (ap is_ok e))
 
 -- the numbers of the copies, where there are some
-copies : (d : Desk) (refusals : Bug → Option Refusal) (many n : ℕ) (o : Option Bug) (new : Desk) → IsSound d
+pub copies : (d : Desk) (refusals : Bug → Option Refusal) (many n : ℕ) (o : Option Bug) (new : Desk) → IsSound d
     → at_bug o n (λ b. unless (refusals b) (Ok (with_new_bugs d (clone_of b) many))) ≡ Ok new
     → changed_numbers d new ≡ map (λ k. d.next + k) (numbers_below many)
 copies d refusals many n None new sound e = absurd (false≢true (ap is_ok e))

@@ -1,3 +1,3 @@
 pub mod Store
 pub mod FailAt
-pub mod Message
+pub mod KeptMessages

@@ -16,6 +16,10 @@ use Rattle.bug_record.specs.declared.bug.SetImage.{SetImage}
 use Rattle.bug_record.specs.declared.command.Change.{Change}
 use Rattle.desk_text.specs.declared.outcome.StoreFault.{StoreFault}
 use Rattle.desk_text.specs.declared.outcome.StoreFault.TheVariants.{Memory, Device, Full, Foreign}
+use Rattle.desk_text.specs.declared.outcome.Outcome.{Outcome}
+use Rattle.desk_text.specs.declared.outcome.End.{End}
+use Rattle.desk_text.specs.declared.outcome.End.TheVariants as ends
+use Rattle.message_machine.specs.Kept.{Keeping, IsGoodOutcome, IsNextOutcome, kept_also}
 
 -- A call goes from old to new: honesty isn't won, and where the tables were kept as it began and
 -- the disk was honest up to its end, they are kept again, and P holds.
@@ -28,6 +32,11 @@ pub record Holds {S : Type 0} (is_kept is_honest : S → Type 0) (old new : S) (
 pub record Asks {S : Type 0} (is_kept is_honest : S → Type 0) (old new : S) (P : Type 0) : Type 0 where
   pub holds : Holds is_kept is_honest old new P
   pub was_kept : is_kept new → is_honest new → is_kept old
+
+-- What holds now, where the tables were kept at an earlier moment and the disk was honest since.
+pub record Since {S : Type 0} (is_kept is_honest : S → Type 0) (now : S) (P : Type 0) : Type 0 where
+  pub earlier : S
+  pub holds : Holds is_kept is_honest earlier now P
 
 -- the content stays, and an answer is one of which P holds
 abbrev pub Answers : {T : Type 0} → Desk → Desk → Result T StoreFault → (T → Type 0) → Type 0
@@ -58,6 +67,26 @@ AreListed d package_name node rows = rows ≡ rows_of d.bug (listed d package_na
 abbrev pub Applies : {T : Type 0} → Desk → Desk → Result T StoreFault → Change → Type 0
 Applies old new (Ok done) change = new ≡ put old change
 Applies old new (Err fault) change = new ≡ old
+
+-- the desk after a change, if there is one
+abbrev pub with_change : Option Change → Desk → Desk
+with_change None d = d
+with_change (Some change) d = put d change
+
+-- The outcome may be kept of the message's id: it is good, and it and the change are what comes of
+-- the message's first line that has an outcome and has none kept.
+pub record MayBeKept (id sender message : List ℕ) (kept : Keeping) (d : Desk) (outcome : Outcome) (change : Option Change) : Type 0
+  where
+    pub good : IsGoodOutcome outcome
+    pub next : IsNextOutcome id sender message kept d outcome (with_change change d)
+
+-- the outcome is kept behind those of the message's id, and the change is made, if there is one; or
+-- neither is
+abbrev pub Keeps : List ℕ → List ℕ → List ℕ → Outcome → Option Change → Desk → Keeping → Result (Unit {0}) StoreFault → Desk
+    → Keeping → Type 0
+Keeps id sender message outcome change old kept (Ok done) new now =
+    (new ≡ with_change change old) × (now ≡ kept_also id sender message outcome kept)
+Keeps id sender message outcome change old kept (Err fault) new now = (new ≡ old) × (now ≡ kept)
 
 -- the ancestry after a branch, or the refusal of one; bugs and the next number stay
 abbrev pub Branches : Desk → Desk → Result (Result (Unit {0}) BranchFault) StoreFault → List Node → Type 0
@@ -100,3 +129,10 @@ faults_after (Err fault) faults = counted fault faults
 -- the faults of all kinds together, up to the largest u64
 abbrev pub total : Faults → ℕ
 total faults = min (faults.device + faults.full + faults.foreign) (2 ^ 64 - 1)
+
+-- the counts after a message
+abbrev pub faults_after_end : End → Faults → Faults
+faults_after_end ends.All faults = faults
+faults_after_end ends.Stopped faults = faults
+faults_after_end ends.TooManyUnreadable faults = faults
+faults_after_end (ends.Store fault k) faults = counted fault faults

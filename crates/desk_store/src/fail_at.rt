@@ -1,32 +1,36 @@
 //! A store that fails once, for tests.
 
 ghost use Rattle.std.specs.Prelude.{◌≡◌, ◌≢◌, ◌-◌, ◌||◌, ◌==◌, true, false, Err, IfOk};
+ghost use Rattle.std.specs.Option.{option_copied};
 ghost use Rattle.bug_record.specs.Sets.{Each};
 ghost use Rattle.bug_record.specs.Images.{AreApart, HasMember, IsSetOf, FitsDesk};
 ghost use Rattle.desk_store.specs.Store.{Holds, Asks, Answers, IsImageOf, IsNext, IsOpenHead, AreWaitingOn, AreListed};
-ghost use Rattle.desk_store.specs.Store.{Applies, Branches, IsRefusal};
+ghost use Rattle.bug_record.specs.Texts.{IsText, IfGiven};
+ghost use Rattle.message_machine.specs.Ids.{IsId};
+ghost use Rattle.desk_store.specs.Store.{Applies, Branches, IsRefusal, Since, MayBeKept, Keeps};
 ghost use Rattle.desk_store.specs.Store.{faults_after};
 ghost use Rattle.desk_store.specs.FailAt.{faults_with};
 
 use crate::records::Records;
 use ancestry::{BranchFault, Node};
 use bug_record::{Change, Numbers, Sequence, SetImage};
-use desk_text::{ListRow, StoreFault};
+use desk_text::{ListRow, Outcome, StoreFault};
+use message_machine::Kept;
 
 /// A store round another.
-/// One call of `apply` or `branch` answers `Device`, changes nothing and is counted; every other
+/// One call of `apply`, `branch` or `keep` answers `Device`, changes nothing and is counted; every other
 /// call is the other store's.
 #[derive(Drop)]
 pub struct FailAt<S> {
     inner: S,
-    // Which call of `apply` or `branch` is to fail, counted from 1; 0: none, or none any more.
+    // Which call of `apply`, `branch` or `keep` is to fail, counted from 1; 0: none, or none any more.
     left: u64,
     has_failed: bool,
     ghost once: { has_failed ≡ true → left ≡ 0 },
 }
 
 impl<S: Records> FailAt<S> {
-    /// The k-th call of `apply` or `branch` is to fail, counted from 1; none where k is 0.
+    /// The k-th call of `apply`, `branch` or `keep` is to fail, counted from 1; none where k is 0.
     pub fn new(inner: S, k: u64) -> FailAt<S>
         ensures inner { result.inner ≡ inner }
         ensures left { result.left ≡ k }
@@ -56,6 +60,8 @@ impl<S: Records> FailAt<S> {
 impl<S: Records> Records for FailAt<S> {
     ghost desk = { λ s. S.desk s.inner };
 
+    ghost keeping = { λ s. S.keeping s.inner };
+
     ghost is_kept = { λ s. S.is_kept s.inner };
 
     ghost is_honest = { λ s. S.is_honest s.inner };
@@ -67,6 +73,7 @@ impl<S: Records> Records for FailAt<S> {
     fn set_of(&mut self, number: u64) -> Result<Option<SetImage>, StoreFault>
         ensures answer { Asks S.is_kept S.is_honest self.old.inner self.new.inner
             (Answers (S.desk self.old.inner) (S.desk self.new.inner) result (IsImageOf (S.desk self.old.inner) number)) }
+        ensures stays { S.keeping self.new.inner ≡ S.keeping self.old.inner }
         ensures count { S.faults self.new.inner ≡ faults_after result (S.faults self.old.inner) }
         ensures left { self.new.left ≡ self.old.left }
         ensures has_failed { self.new.has_failed ≡ self.old.has_failed }
@@ -78,6 +85,7 @@ impl<S: Records> Records for FailAt<S> {
         ensures answer { Asks S.is_kept S.is_honest self.old.inner self.new.inner
             (Answers (S.desk self.old.inner) (S.desk self.new.inner) result (IsNext (S.desk self.old.inner))) }
         ensures gives { S.next_gives self.old.inner self.new.inner result }
+        ensures stays { S.keeping self.new.inner ≡ S.keeping self.old.inner }
         ensures count { S.faults self.new.inner ≡ faults_after result (S.faults self.old.inner) }
         ensures left { self.new.left ≡ self.old.left }
         ensures has_failed { self.new.has_failed ≡ self.old.has_failed }
@@ -90,6 +98,7 @@ impl<S: Records> Records for FailAt<S> {
         requires set { S.is_kept self.old.inner → S.is_honest self.old.inner → IsSetOf (S.desk self.old.inner) image.now }
         ensures answer { Asks S.is_kept S.is_honest self.old.inner self.new.inner
             (Answers (S.desk self.old.inner) (S.desk self.new.inner) result (IsOpenHead (S.desk self.old.inner) image.now)) }
+        ensures stays { S.keeping self.new.inner ≡ S.keeping self.old.inner }
         ensures count { S.faults self.new.inner ≡ faults_after result (S.faults self.old.inner) }
         ensures left { self.new.left ≡ self.old.left }
         ensures has_failed { self.new.has_failed ≡ self.old.has_failed }
@@ -100,6 +109,7 @@ impl<S: Records> Records for FailAt<S> {
     fn waiting_on(&mut self, number: u64) -> Result<Numbers, StoreFault>
         ensures answer { Asks S.is_kept S.is_honest self.old.inner self.new.inner
             (Answers (S.desk self.old.inner) (S.desk self.new.inner) result (AreWaitingOn (S.desk self.old.inner) number)) }
+        ensures stays { S.keeping self.new.inner ≡ S.keeping self.old.inner }
         ensures count { S.faults self.new.inner ≡ faults_after result (S.faults self.old.inner) }
         ensures left { self.new.left ≡ self.old.left }
         ensures has_failed { self.new.has_failed ≡ self.old.has_failed }
@@ -111,6 +121,7 @@ impl<S: Records> Records for FailAt<S> {
         ensures answer { Asks S.is_kept S.is_honest self.old.inner self.new.inner
             (Answers (S.desk self.old.inner) (S.desk self.new.inner) result
             (AreListed (S.desk self.old.inner) «package».now node.now)) }
+        ensures stays { S.keeping self.new.inner ≡ S.keeping self.old.inner }
         ensures count { S.faults self.new.inner ≡ faults_after result (S.faults self.old.inner) }
         ensures left { self.new.left ≡ self.old.left }
         ensures has_failed { self.new.has_failed ≡ self.old.has_failed }
@@ -124,6 +135,8 @@ impl<S: Records> Records for FailAt<S> {
         requires fits { S.is_kept self.old.inner → S.is_honest self.old.inner → FitsDesk (S.desk self.old.inner) change.now }
         ensures answer { Holds S.is_kept S.is_honest self.old.inner self.new.inner
             (Applies (S.desk self.old.inner) (S.desk self.new.inner) result change.now) }
+        ensures stays { Holds S.is_kept S.is_honest self.old.inner self.new.inner
+            (S.keeping self.new.inner ≡ S.keeping self.old.inner) }
         ensures count { faults_with self.new.has_failed (S.faults self.new.inner)
             ≡ faults_after result (faults_with self.old.has_failed (S.faults self.old.inner)) }
         ensures countdown { self.new.left ≡ self.old.left - 1 }
@@ -142,6 +155,8 @@ impl<S: Records> Records for FailAt<S> {
         ensures answer { Holds S.is_kept S.is_honest self.old.inner self.new.inner
             (Branches (S.desk self.old.inner) (S.desk self.new.inner) result nodes.now) }
         ensures refusal { IfOk result IsRefusal }
+        ensures stays { Holds S.is_kept S.is_honest self.old.inner self.new.inner
+            (S.keeping self.new.inner ≡ S.keeping self.old.inner) }
         ensures count { faults_with self.new.has_failed (S.faults self.new.inner)
             ≡ faults_after result (faults_with self.old.has_failed (S.faults self.old.inner)) }
         ensures countdown { self.new.left ≡ self.old.left - 1 }
@@ -157,6 +172,57 @@ impl<S: Records> Records for FailAt<S> {
         }
     }
 
+    fn kept(&mut self, id: &str) -> Result<Option<Kept>, StoreFault>
+        ensures answer { Asks S.is_kept S.is_honest self.old.inner self.new.inner
+            (Answers (S.desk self.old.inner) (S.desk self.new.inner) result
+            (λ kept. kept ≡ S.keeping self.old.inner id.now)) }
+        ensures stays { S.keeping self.new.inner ≡ S.keeping self.old.inner }
+        ensures count { S.faults self.new.inner ≡ faults_after result (S.faults self.old.inner) }
+        ensures left { self.new.left ≡ self.old.left }
+        ensures has_failed { self.new.has_failed ≡ self.old.has_failed }
+    {
+        self.inner.kept(id)
+    }
+
+    fn keep(
+        &mut self,
+        id: &str,
+        from: &str,
+        message: &str,
+        outcome: &Outcome,
+        change: Option<&Change>,
+    ) -> Result<(), StoreFault>
+        requires id { IsId id.now }
+        requires sender { IsText from.now }
+        requires members { IfGiven (λ (c : Change). Each HasMember c.images) (option_copied change) }
+        requires apart { S.is_kept self.old.inner → S.is_honest self.old.inner
+            → IfGiven (λ (c : Change). AreApart c.images) (option_copied change) }
+        requires fits { S.is_kept self.old.inner → S.is_honest self.old.inner
+            → IfGiven (FitsDesk (S.desk self.old.inner)) (option_copied change) }
+        requires next { Since S.is_kept S.is_honest self.old.inner
+            (MayBeKept id.now from.now message.now (S.keeping self.old.inner) (S.desk self.old.inner) outcome.now
+            (option_copied change)) }
+        ensures answer { (earlier : S) → Holds S.is_kept S.is_honest earlier self.old.inner
+            (MayBeKept id.now from.now message.now (S.keeping self.old.inner) (S.desk self.old.inner) outcome.now
+            (option_copied change.entry))
+            → Holds S.is_kept S.is_honest earlier self.new.inner
+            (Keeps id.now from.now message.now outcome.now (option_copied change.entry) (S.desk self.old.inner)
+            (S.keeping self.old.inner) result (S.desk self.new.inner) (S.keeping self.new.inner)) }
+        ensures honest { S.is_honest self.new.inner → S.is_honest self.old.inner }
+        ensures count { faults_with self.new.has_failed (S.faults self.new.inner)
+            ≡ faults_after result (faults_with self.old.has_failed (S.faults self.old.inner)) }
+        ensures countdown { self.new.left ≡ self.old.left - 1 }
+        ensures has_failed { self.new.has_failed ≡ (self.old.has_failed || (self.old.left == 1)) }
+        ensures due { self.old.left ≡ 1 → result ≡ Err StoreFault.Device }
+        ensures unchanged { self.old.left ≡ 1 → self.new.inner ≡ self.old.inner }
+        ensures passed_on { self.old.left ≢ 1 → S.faults self.new.inner ≡ faults_after result (S.faults self.old.inner) }
+    {
+        match self.is_due() {
+            true => Err(StoreFault::Device),
+            false => self.inner.keep(id, from, message, outcome, change),
+        }
+    }
+
     fn faults(&self) -> u64 {
         let faults = self.inner.faults();
         if self.has_failed {
@@ -167,4 +233,6 @@ impl<S: Records> Records for FailAt<S> {
     }
 
     ghost sound = { λ s kept. S.sound s.inner kept };
+
+    ghost good = { λ s kept. S.good s.inner kept };
 }

@@ -1,27 +1,34 @@
 //! What a store of a desk does, whatever keeps the desk.
 
 ghost use Rattle.std.specs.Prelude.{◌≡◌, ℕ, Option, Result, IfOk};
+ghost use Rattle.std.specs.Option.{option_copied};
 ghost use Rattle.bug_record.specs.Sets.{Each};
 ghost use Rattle.bug_record.specs.Desk.{Desk, IsSound};
 ghost use Rattle.bug_record.specs.Images.{AreApart, HasMember, IsSetOf, FitsDesk};
 ghost use Rattle.desk_store.specs.Store.{Holds, Asks, Answers, IsImageOf, IsNext, IsOpenHead, AreWaitingOn, AreListed};
-ghost use Rattle.desk_store.specs.Store.{Applies, Branches, IsRefusal};
+ghost use Rattle.desk_store.specs.Store.{Applies, Branches, IsRefusal, Since, MayBeKept, Keeps};
 ghost use Rattle.desk_text.specs.declared.outcome.StoreFault.{StoreFault};
-ghost use Rattle.desk_store.specs.Store.{Faults};
-ghost use Rattle.desk_store.specs.Store.{faults_after, total};
+ghost use Rattle.desk_store.specs.Store.{Faults, faults_after, total};
+ghost use Rattle.bug_record.specs.Texts.{IsText, IfGiven};
+ghost use Rattle.message_machine.specs.Ids.{IsId};
+ghost use Rattle.message_machine.specs.Kept.{Keeping, AreGoodKept};
 
 use ancestry::{BranchFault, Node};
 use bug_record::{Change, Numbers, Sequence, SetImage};
-use desk_text::{ListRow, StoreFault};
+use desk_text::{ListRow, Outcome, StoreFault};
+use message_machine::Kept;
 
-/// A store of a desk, in memory or in tables.
+/// A store of a desk, in memory or in tables, and of what is kept of messages that have an id.
 ///
 /// What it says of its content holds where its tables are kept as a call begins and the disk was
 /// honest up to its end, and then they are kept again.
 /// After a fault the content is as before.
 pub trait Records {
-    /// The content.
+    /// The desk.
     ghost desk: { Self → Desk };
+
+    /// What is kept of messages that have an id.
+    ghost keeping: { Self → Keeping };
 
     /// The content is kept as it has to be.
     /// Always so of a desk in memory.
@@ -42,6 +49,7 @@ pub trait Records {
     fn set_of(&mut self, number: u64) -> Result<Option<SetImage>, StoreFault>
         ensures answer { Asks is_kept is_honest self.old self.new
             (Answers (desk self.old) (desk self.new) result (IsImageOf (desk self.old) number)) }
+        ensures stays { keeping self.new ≡ keeping self.old }
         ensures count { faults self.new ≡ faults_after result (faults self.old) };
 
     /// The number of the next bug: 1,000,000,000 where no number is left.
@@ -49,6 +57,7 @@ pub trait Records {
         ensures answer { Asks is_kept is_honest self.old self.new
             (Answers (desk self.old) (desk self.new) result (IsNext (desk self.old))) }
         ensures gives { next_gives self.old self.new result }
+        ensures stays { keeping self.new ≡ keeping self.old }
         ensures count { faults self.new ≡ faults_after result (faults self.old) };
 
     /// The first head of the package of a set's bugs, in node order, at which they are still found;
@@ -59,6 +68,7 @@ pub trait Records {
         requires set { is_kept self.old → is_honest self.old → IsSetOf (desk self.old) image.now }
         ensures answer { Asks is_kept is_honest self.old self.new
             (Answers (desk self.old) (desk self.new) result (IsOpenHead (desk self.old) image.now)) }
+        ensures stays { keeping self.new ≡ keeping self.old }
         ensures count { faults self.new ≡ faults_after result (faults self.old) };
 
     /// The numbers of all bugs that wait on the bug of this number, ascending: those that have it
@@ -69,6 +79,7 @@ pub trait Records {
     fn waiting_on(&mut self, number: u64) -> Result<Numbers, StoreFault>
         ensures answer { Asks is_kept is_honest self.old self.new
             (Answers (desk self.old) (desk self.new) result (AreWaitingOn (desk self.old) number)) }
+        ensures stays { keeping self.new ≡ keeping self.old }
         ensures count { faults self.new ≡ faults_after result (faults self.old) };
 
     /// The bugs of a package that are not archived and are found at a node, by severity, from
@@ -79,6 +90,7 @@ pub trait Records {
     fn listed(&mut self, package: &str, node: &Node) -> Result<Sequence<ListRow>, StoreFault>
         ensures answer { Asks is_kept is_honest self.old self.new
             (Answers (desk self.old) (desk self.new) result (AreListed (desk self.old) «package».now node.now)) }
+        ensures stays { keeping self.new ≡ keeping self.old }
         ensures count { faults self.new ≡ faults_after result (faults self.old) };
 
     /// Carries a change out, in one step.
@@ -89,6 +101,7 @@ pub trait Records {
         requires members { Each HasMember change.now.images }
         requires fits { is_kept self.old → is_honest self.old → FitsDesk (desk self.old) change.now }
         ensures answer { Holds is_kept is_honest self.old self.new (Applies (desk self.old) (desk self.new) result change.now) }
+        ensures stays { Holds is_kept is_honest self.old self.new (keeping self.new ≡ keeping self.old) }
         ensures count { faults self.new ≡ faults_after result (faults self.old) };
 
     /// Takes a branch, a list of 1 to 200 nodes of which each is based on the next.
@@ -98,6 +111,45 @@ pub trait Records {
     fn branch(&mut self, nodes: &[Node]) -> Result<Result<(), BranchFault>, StoreFault>
         ensures answer { Holds is_kept is_honest self.old self.new (Branches (desk self.old) (desk self.new) result nodes.now) }
         ensures refusal { IfOk result IsRefusal }
+        ensures stays { Holds is_kept is_honest self.old self.new (keeping self.new ≡ keeping self.old) }
+        ensures count { faults self.new ≡ faults_after result (faults self.old) };
+
+    /// What is kept of the message of this id; `None` where the id is not known.
+    fn kept(&mut self, id: &str) -> Result<Option<Kept>, StoreFault>
+        ensures answer { Asks is_kept is_honest self.old self.new
+            (Answers (desk self.old) (desk self.new) result (λ kept. kept ≡ keeping self.old id.now)) }
+        ensures stays { keeping self.new ≡ keeping self.old }
+        ensures count { faults self.new ≡ faults_after result (faults self.old) };
+
+    /// In one step, keeps an outcome of a line of the message of this id, behind those that are kept
+    /// of it, and carries the line's change out, if there is one.
+    /// Of kept tables over an honest disk it asks what `apply` asks of a change.
+    /// Where the tables were kept at some earlier moment, as when the message began, and the disk was
+    /// honest since, it asks that the outcome is good, and that it and the change are what comes of
+    /// the message's first line that has an outcome and has none kept; and what it says then holds
+    /// since that moment.
+    fn keep(
+        &mut self,
+        id: &str,
+        from: &str,
+        message: &str,
+        outcome: &Outcome,
+        change: Option<&Change>,
+    ) -> Result<(), StoreFault>
+        requires id { IsId id.now }
+        requires sender { IsText from.now }
+        requires members { IfGiven (λ (c : Change). Each HasMember c.images) (option_copied change) }
+        requires apart { is_kept self.old → is_honest self.old
+            → IfGiven (λ (c : Change). AreApart c.images) (option_copied change) }
+        requires fits { is_kept self.old → is_honest self.old → IfGiven (FitsDesk (desk self.old)) (option_copied change) }
+        requires next { Since is_kept is_honest self.old
+            (MayBeKept id.now from.now message.now (keeping self.old) (desk self.old) outcome.now (option_copied change)) }
+        ensures answer { (earlier : Self) → Holds is_kept is_honest earlier self.old
+            (MayBeKept id.now from.now message.now (keeping self.old) (desk self.old) outcome.now (option_copied change.entry))
+            → Holds is_kept is_honest earlier self.new
+            (Keeps id.now from.now message.now outcome.now (option_copied change.entry) (desk self.old) (keeping self.old) result
+            (desk self.new) (keeping self.new)) }
+        ensures honest { is_honest self.new → is_honest self.old }
         ensures count { faults self.new ≡ faults_after result (faults self.old) };
 
     /// How often the store has answered `Device`, `Full` or `Foreign` in all, up to `u64::MAX`.
@@ -106,4 +158,7 @@ pub trait Records {
 
     /// A desk that is kept is sound.
     ghost sound: { (s : Self) → is_kept s → IsSound (desk s) };
+
+    /// What is kept of a message is right.
+    ghost good: { (s : Self) → is_kept s → AreGoodKept (keeping s) };
 }

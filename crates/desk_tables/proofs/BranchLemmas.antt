@@ -16,11 +16,11 @@ use Rattle.desk_text.specs.declared.outcome.StoreFault.TheVariants.{Foreign}
 use Rattle.desk_content.specs.Branches.{with_nodes}
 use Rattle.desk_content.specs.Content.{Content}
 use Rattle.desk_content.specs.Kept.{IsKeptContent}
-use Rattle.desk_content.specs.View.{desk_in}
+use Rattle.desk_content.specs.View.{desk_in, keeping_in}
 use Rattle.desk_content.proofs.QuestionLemmas.{branch_kept}
 use Rattle.desk_schema.proofs.StepLemmas.{none, acts_none}
 use Rattle.desk_store.specs.Store.{Branches, IsRefusal}
-use Rattle.desk_tables.specs.Kept.{content_seen, desk_seen, IsKept}
+use Rattle.desk_tables.specs.Kept.{content_seen, desk_seen, keeping_seen, IsKept}
 use Rattle.desk_tables.specs.Shown.{HasContent, AreTablesAfter}
 use Rattle.desk_tables.specs.Transactions.{IsChanged, IsTaken}
 
@@ -158,6 +158,9 @@ module _ {S : Type 0} (g : store.Ghosts S) (last begun : List (Held S)) (old new
     taken_desk was clean =
         subst (λ k. Branches (desk_seen g last) (desk_in k) taken nodes) (sym (says was clean))
         (subst (λ n. branched n nodes ≡ Ok u) was.tree h.answer.0, refl)
+
+    pub taken_keeping : IsKept g last begun old (Some t) → HasCleanDisk (state g new) → keeping_seen g last' ≡ keeping_seen g last
+    taken_keeping was clean = ap keeping_in (says was clean)
 
   -- it was refused
   pub refused_kept : (refusal : BranchFault) → IsTaken t u nodes (state g old) (state g new) (refused refusal) → u ≡ t → IsKept g last begun old (Some t) → HasCleanDisk (state g new) → IsKept g last begun new (Some u)

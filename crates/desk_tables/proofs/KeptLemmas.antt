@@ -14,13 +14,14 @@ use Rattle.desk_text.specs.declared.outcome.StoreFault.TheVariants.{Foreign}
 use Rattle.desk_content.specs.Changes.{FitsContent, changed, cleared_for}
 use Rattle.desk_content.specs.Content.{Content}
 use Rattle.desk_content.specs.Kept.{IsKeptContent}
-use Rattle.desk_content.specs.View.{desk_in}
+use Rattle.desk_content.specs.View.{desk_in, keeping_in}
 use Rattle.desk_content.proofs.ChangeLemmas.{change_desk, change_kept}
 use Rattle.desk_content.proofs.ClosedLemmas.{put_nodes, no_nodes}
+use Rattle.desk_content.proofs.KeepLemmas.{change_keeping}
 use Rattle.desk_schema.specs.Steps.{seen}
 use Rattle.desk_lists.specs.Asked.{IsAskedFor}
 use Rattle.desk_store.specs.Store.{Answers}
-use Rattle.desk_tables.specs.Kept.{content_seen, desk_seen, IsKept}
+use Rattle.desk_tables.specs.Kept.{content_seen, desk_seen, keeping_seen, IsKept}
 use Rattle.desk_tables.specs.Shown.{HasContent, AreTablesOf}
 use Rattle.desk_tables.specs.Transactions.{IsAsked, IsChanged}
 
@@ -122,6 +123,9 @@ module _ {S : Type 0} (g : store.Ghosts S) (last begun : List (Held S)) (old new
 
     pub taken_desk : IsKept g last begun old (Some t) → FitsContent (content_seen g last) change → HasCleanDisk (state g new) → desk_seen g last' ≡ put (desk_seen g last) change
     taken_desk was fits clean = ap desk_in (says was fits clean) ∙ change_desk (content_seen g last) change was.content fits
+
+    pub taken_keeping : IsKept g last begun old (Some t) → FitsContent (content_seen g last) change → HasCleanDisk (state g new) → keeping_seen g last' ≡ keeping_seen g last
+    taken_keeping was fits clean = ap keeping_in (says was fits clean) ∙ change_keeping (content_seen g last) change
 
   -- it was not made
   pub stayed : (fault : StoreFault) → IsChanged (state g old) (state g new) (refused fault) (FitsOver t change) (λ c. changed c change) → IsKept g last begun old (Some t) → IsKept g last begun new (Some t)

@@ -3,3 +3,4 @@ pub mod KeptLemmas
 pub mod OpeningLemmas
 pub mod BranchLemmas
 pub mod HeldLemmas
+pub mod KeepLemmas

@@ -1,5 +1,5 @@
 -- What a transaction comes to: a question that is rolled back, and a change that is committed.
-use Rattle.std.proofs.Common.{◌≡◌, ◌≢◌, ◌⊎◌, inl, inr, [], Result, Ok, Err, IfOk, IfErr, IsTrue, IsOk, None, false, true, true≢false, arith, refl, sym, ap, subst, ◌∙◌}
+use Rattle.std.proofs.Common.{◌≡◌, ◌≢◌, ℕ, ◌⊎◌, inl, inr, [], Result, Ok, Err, IfOk, IfErr, IsTrue, IsOk, None, false, true, true≢false, arith, refl, sym, ap, subst, ◌∙◌}
 use Rattle.sqlite.specs.Effect.{Database, IsDatabase}
 use Rattle.sqlite.specs.Steps.{FailsToCommit}
 use Rattle.sqlite.specs.State.{State, Shows, KeepsCounts, HasCleanDisk, KeepsCommit, Survives, IsUnchanged, IsRolledBack}
@@ -13,12 +13,13 @@ use Rattle.desk_content.specs.Content.{Content, no_content}
 use Rattle.desk_schema.specs.Rows.{content_of, AreShown}
 use Rattle.desk_schema.specs.Steps.{IsInside, seen, Goes, Acts, Serves}
 use Rattle.desk_schema.proofs.StepLemmas.{done, failed, acts_none}
-use Rattle.desk_making.specs.Making.{IsDeskOf, IsFirst, Builds}
+use Rattle.desk_making.specs.Making.{IsBlank, IsDeskOf, IsEarlier, Builds}
 use Rattle.desk_making.specs.Number.{Says, ReadsSchema}
+use Rattle.desk_making.specs.declared.making.Earlier.{Earlier}
 use Rattle.desk_making.specs.declared.number.SchemaRead.{SchemaRead}
 use Rattle.desk_tables.specs.Opening.{IsLeft}
-use Rattle.desk_tables.specs.Shown.{IsDesk, HasContent, HasFirstContent, AreTablesOf}
-use Rattle.desk_tables.specs.Transactions.{IsAsked, IsChanged, IsCarried, AsksSchema, Ends}
+use Rattle.desk_tables.specs.Shown.{IsDesk, HasContent, HasEarlierContent, AreTablesOf}
+use Rattle.desk_tables.specs.Transactions.{IsAsked, IsChanged, IsMade, IsCarried, AsksSchema, Ends}
 
 -- ---- a question in a transaction that is rolled back
 
@@ -28,8 +29,8 @@ begun s = record s { in_transaction = true }
 begins : (s : State) (c : Content) → s.step_limit ≡ None → HasCleanDisk s → HasContent c s → IsInside (begun s)
 begins s c limit clean shows = record { begun = refl; unlimited = limit; schema = λ o. (shows clean o).0.schema; sound = λ o. (shows clean o).0.sound; shown = λ o. (shows clean o).0.shown }
 
-begins_first : (s : State) (c : Content) → s.step_limit ≡ None → HasCleanDisk s → HasFirstContent c s → IsFirst c (begun s)
-begins_first s c limit clean shows = record { begun = refl; unlimited = limit; schema = λ o. (shows clean o).schema; sound = λ o. (shows clean o).sound; shown = λ o. (shows clean o).shown }
+begins_earlier : (from : Earlier) (s : State) (c : Content) → s.step_limit ≡ None → HasCleanDisk s → HasEarlierContent from c s → IsEarlier from c (begun s)
+begins_earlier from s c limit clean shows = record { begun = refl; unlimited = limit; schema = λ o. (shows clean o).schema; sound = λ o. (shows clean o).sound; shown = λ o. (shows clean o).shown }
 
 -- what was begun is undone
 undone : (old mid new : State) (c : Content) → (IsTrue old.is_open → IsDesk old × (seen old ≡ c)) → KeepsCommit (begun old) mid → IsRolledBack mid new → IsTrue new.is_open → IsDesk new × (seen new ≡ c)
@@ -45,6 +46,18 @@ undone old mid new c shows kept back o =
       },
       ap (λ (d : Database). content_of d.trees) now ∙ was.1,
     )
+
+-- and so what was committed is left
+left_undone : (old mid new : State) → (HasCleanDisk new → HasCleanDisk old) → (HasCleanDisk new → KeepsCommit (begun old) mid) → (HasCleanDisk new → IsRolledBack mid new)
+    → new.in_transaction ≡ false → IsLeft old new
+left_undone old mid new early kept back idle = record {
+  honest = early;
+  idle = idle;
+  was_open = λ clean o. (kept clean).was_open ((back clean).was_open o);
+  committed = λ clean o. ((back clean).undone o).1 ∙ (kept clean).committed ((back clean).was_open o);
+  now = λ clean o same. ((back clean).undone o).0 ∙ (kept clean).committed ((back clean).was_open o) ∙ sym same;
+  content = λ c shows clean o. undone old mid new c (shows (early clean)) (kept clean) (back clean) o;
+}
 
 pub asked : {A : Type 0} (old mid new : State) (r : Result A StoreFault) (Fits : Content → Type 0) (P : Content → A → Type 0) → old.step_limit ≡ None
     → Acts (begun old) mid r Fits (λ c d a. (d ≡ c) × P c a) → Serves (begun old) mid r → (HasCleanDisk new → IsRolledBack mid new) → Survives mid new (λ _. ⊥) → IsAsked old new r Fits P
@@ -73,18 +86,11 @@ pub asks : (old mid new : State) (r : Result SchemaRead StoreFault) → old.step
     → AsksSchema old new r
 asks old mid new r limit reads idle back survives = record {
   survives = survives_then old mid new _ _ (λ _. ⊥) (λ _ db none. none) (λ _ db none. none) (record { clean = one.clean; shield = one.shield; counts = one.counts; limit = one.limit; closes = one.closes; crash = one.crash }) survives;
-  left = record {
-    honest = early;
-    idle = idle;
-    was_open = λ clean o. (kept clean).was_open ((back clean).was_open o);
-    committed = λ clean o. ((back clean).undone o).1 ∙ (kept clean).committed ((back clean).was_open o);
-    now = λ clean o same. ((back clean).undone o).0 ∙ (kept clean).committed ((back clean).was_open o) ∙ sym same;
-    content = λ c shows clean o. undone old mid new c (shows (early clean)) (kept clean) (back clean) o;
-  };
+  left = left_undone old mid new early kept back idle;
   ok = λ clean. said r (reads.ok (late clean) limit);
   sure = reads.sure;
   desk = λ c clean shows. reads.desk (late clean) (begins old c limit (early clean) shows);
-  first = λ c clean shows. reads.first c (late clean) (begins_first old c limit (early clean) shows);
+  earlier = λ from c clean shows. reads.earlier from c (late clean) (begins_earlier from old c limit (early clean) shows);
 }
   where
     one : Survives (begun old) mid (λ _. ⊥)
@@ -212,13 +218,75 @@ altered old mid new did r Fits after limit runs serves ends = record { honest = 
         }))
         (record { clean = one.clean; shield = one.shield; counts = one.counts; limit = one.limit; closes = one.closes; crash = one.crash }) ends.survives
 
--- ---- the tables of schema 1 are carried over
+-- ---- the tables of a new desk are made
 
-module _ (old mid new : State) (did : Result (Unit {0}) StoreFault) (limit : old.step_limit ≡ None) (builds : (c : Content) → Builds (IsFirst c) (IsDeskOf c) (begun old) mid did) where
+module _ (first : ℕ) (old mid new : State) (did : Result (Unit {0}) StoreFault) (blank : IsBlank (begun old))
+    (builds : Builds IsBlank (IsDeskOf (no_content first)) (begun old) mid did) where
+  pub made : (r : Result (Unit {0}) StoreFault) → Ends mid new did r → new.in_transaction ≡ false → IsMade first old new r
+  made r ends idle = record { ok = oks r ends.ok; err = errs r ends.err; sure = sures r ends.err; crash = crash }
+    where
+      late : HasCleanDisk new → HasCleanDisk mid
+      late clean = omega (arith, ends.survives.clean, clean)
+
+      early : HasCleanDisk new → HasCleanDisk old
+      early clean = omega (arith, ends.survives.clean, builds.survives.clean, clean)
+
+      inside : HasCleanDisk new → IsOk did → IsTrue mid.in_transaction
+      inside clean o = it_went did o (builds.goes_on (late clean) refl)
+
+      went : HasCleanDisk new → IsOk did → IsTrue old.is_open × IsTrue mid.is_open × IsDeskOf (no_content first) mid
+      went clean o = it_went did o (builds.ok (late clean) blank)
+
+      oks : (r : Result (Unit {0}) StoreFault) → (HasCleanDisk new → IfOk r (λ _. IsOk did × IsTrue mid.is_open × IsTrue new.is_open × (new.now ≡ mid.now) × (new.committed ≡ mid.now)))
+          → HasCleanDisk new → IfOk r (λ _. IsTrue new.is_open × IsDesk new × (seen new ≡ no_content first))
+      oks (Err e) ended clean = tt
+      oks (Ok u) ended clean =
+          let h = ended clean in
+          let g = (went clean h.0).2 in (
+            h.2,
+            record {
+              settled = h.3 ∙ sym h.4;
+              schema = ap (λ (d : Database). d.schema) h.3 ∙ g.inside.schema h.1;
+              sound = subst IsDatabase (sym h.3) (g.inside.sound h.1);
+              shown = subst (λ (d : Database). AreShown d.trees) (sym h.3) (g.inside.shown h.1);
+            },
+            ap (λ (d : Database). content_of d.trees) h.3 ∙ g.says,
+          )
+
+      errs : (r : Result (Unit {0}) StoreFault) → (HasCleanDisk new → (IsOk did → IsTrue mid.in_transaction) → IfErr r (λ fault. IsRolledBack mid new × (fault ≢ Foreign ⊎ (did ≡ failed fault))))
+          → IfErr r (λ _. IsLeft old new)
+      errs (Ok u) ended = tt
+      errs (Err e) ended = left_undone old mid new early (λ clean. builds.keeps (late clean) refl) (λ clean. (ended clean (inside clean)).0) idle
+
+      sures : (r : Result (Unit {0}) StoreFault) → (HasCleanDisk new → (IsOk did → IsTrue mid.in_transaction) → IfErr r (λ fault. IsRolledBack mid new × (fault ≢ Foreign ⊎ (did ≡ failed fault))))
+          → HasCleanDisk new → IfErr r (λ fault. fault ≢ Foreign)
+      sures (Ok u) ended clean = tt
+      sures (Err e) ended clean = elim ((ended clean (inside clean)).1) [
+        | inl sure ↦ sure
+        | inr same ↦ subst (λ r. IfErr r (λ fault. fault ≢ Foreign)) same (builds.sure (late clean) blank)
+      ]
+
+      crash : Survives old new (AreTablesOf (no_content first))
+      crash =
+          let steps = builds.survives in
+          survives_then old mid new _ _ (AreTablesOf (no_content first)) (λ _ db none. absurd none)
+          (λ clean db p.
+          let g = went clean p.0 in
+          subst (AreTablesOf (no_content first)) (sym p.1) (record {
+            sound = subst (λ s. IsDatabase (record { schema = s; trees = mid.now.trees })) (g.2.inside.schema g.1) (g.2.inside.sound g.1);
+            shown = g.2.inside.shown g.1;
+            content = g.2.says;
+          }))
+          (record { clean = steps.clean; shield = steps.shield; counts = steps.counts; limit = steps.limit; closes = steps.closes; crash = steps.crash }) ends.survives
+
+-- ---- the tables of an earlier schema are carried over
+
+module _ (from : Earlier) (old mid new : State) (did : Result (Unit {0}) StoreFault) (limit : old.step_limit ≡ None)
+    (builds : (c : Content) → Builds (IsEarlier from c) (IsDeskOf c) (begun old) mid did) where
   steps : Survives (begun old) mid (λ _. ⊥)
   steps = (builds (no_content 0)).survives
 
-  pub carried : (r : Result (Unit {0}) StoreFault) → Ends mid new did r → new.in_transaction ≡ false → IsCarried old new r
+  pub carried : (r : Result (Unit {0}) StoreFault) → Ends mid new did r → new.in_transaction ≡ false → IsCarried from old new r
   carried r ends idle = record { honest = early; ok = oks r ends.ok; err = errs r ends.err; sure = sures r ends.err; crash = crash }
     where
       late : HasCleanDisk new → HasCleanDisk mid
@@ -233,11 +301,11 @@ module _ (old mid new : State) (did : Result (Unit {0}) StoreFault) (limit : old
       inside : HasCleanDisk new → IsOk did → IsTrue mid.in_transaction
       inside clean o = it_went did o ((builds (no_content 0)).goes_on (late clean) refl)
 
-      went : (c : Content) → HasCleanDisk new → HasFirstContent c old → IsOk did → IsTrue old.is_open × IsTrue mid.is_open × IsDeskOf c mid
-      went c clean shows o = it_went did o ((builds c).ok (late clean) (begins_first old c limit (early clean) shows))
+      went : (c : Content) → HasCleanDisk new → HasEarlierContent from c old → IsOk did → IsTrue old.is_open × IsTrue mid.is_open × IsDeskOf c mid
+      went c clean shows o = it_went did o ((builds c).ok (late clean) (begins_earlier from old c limit (early clean) shows))
 
       oks : (r : Result (Unit {0}) StoreFault) → (HasCleanDisk new → IfOk r (λ _. IsOk did × IsTrue mid.is_open × IsTrue new.is_open × (new.now ≡ mid.now) × (new.committed ≡ mid.now)))
-          → (c : Content) → HasCleanDisk new → HasFirstContent c old → IfOk r (λ _. IsTrue new.is_open × IsDesk new × (seen new ≡ c))
+          → (c : Content) → HasCleanDisk new → HasEarlierContent from c old → IfOk r (λ _. IsTrue new.is_open × IsDesk new × (seen new ≡ c))
       oks (Err e) ended c clean shows = tt
       oks (Ok u) ended c clean shows =
           let h = ended clean in
@@ -255,26 +323,17 @@ module _ (old mid new : State) (did : Result (Unit {0}) StoreFault) (limit : old
       errs : (r : Result (Unit {0}) StoreFault) → (HasCleanDisk new → (IsOk did → IsTrue mid.in_transaction) → IfErr r (λ fault. IsRolledBack mid new × (fault ≢ Foreign ⊎ (did ≡ failed fault))))
           → IfErr r (λ _. IsLeft old new)
       errs (Ok u) ended = tt
-      errs (Err e) ended =
-          let back : HasCleanDisk new → IsRolledBack mid new = λ clean. (ended clean (inside clean)).0 in
-          record {
-            honest = early;
-            idle = idle;
-            was_open = λ clean o. (kept clean).was_open ((back clean).was_open o);
-            committed = λ clean o. ((back clean).undone o).1 ∙ (kept clean).committed ((back clean).was_open o);
-            now = λ clean o same. ((back clean).undone o).0 ∙ (kept clean).committed ((back clean).was_open o) ∙ sym same;
-            content = λ c shows clean o. undone old mid new c (shows (early clean)) (kept clean) (back clean) o;
-          }
+      errs (Err e) ended = left_undone old mid new early kept (λ clean. (ended clean (inside clean)).0) idle
 
       sures : (r : Result (Unit {0}) StoreFault) → (HasCleanDisk new → (IsOk did → IsTrue mid.in_transaction) → IfErr r (λ fault. IsRolledBack mid new × (fault ≢ Foreign ⊎ (did ≡ failed fault))))
-          → (c : Content) → HasCleanDisk new → HasFirstContent c old → IfErr r (λ fault. fault ≢ Foreign)
+          → (c : Content) → HasCleanDisk new → HasEarlierContent from c old → IfErr r (λ fault. fault ≢ Foreign)
       sures (Ok u) ended c clean shows = tt
       sures (Err e) ended c clean shows = elim ((ended clean (inside clean)).1) [
         | inl sure ↦ sure
-        | inr same ↦ subst (λ r. IfErr r (λ fault. fault ≢ Foreign)) same ((builds c).sure (late clean) (begins_first old c limit (early clean) shows))
+        | inr same ↦ subst (λ r. IfErr r (λ fault. fault ≢ Foreign)) same ((builds c).sure (late clean) (begins_earlier from old c limit (early clean) shows))
       ]
 
-      crash : (c : Content) → (HasCleanDisk new → HasFirstContent c old) → Survives old new (AreTablesOf c)
+      crash : (c : Content) → (HasCleanDisk new → HasEarlierContent from c old) → Survives old new (AreTablesOf c)
       crash c shows = survives_then old mid new _ _ (AreTablesOf c) (λ _ db none. absurd none)
           (λ clean db p.
           let g = went c clean (shows clean) p.0 in

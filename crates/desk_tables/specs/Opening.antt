@@ -1,10 +1,13 @@
 -- How a database is made a desk, or recognised as one.
-use Rattle.std.specs.Prelude.{◌≡◌, ◌≢◌, ◌<◌, false, None, IsTrue}
+use Rattle.std.specs.Prelude.{◌≡◌, ◌≢◌, ◌<◌, ◌⊎◌, false, None, IsTrue}
+use Rattle.sqlite.specs.Effect.{Database}
 use Rattle.sqlite.specs.State.{State, HasCleanDisk}
 use Rattle.desk_text.specs.declared.outcome.StoreFault.{StoreFault}
 use Rattle.desk_text.specs.declared.outcome.StoreFault.TheVariants.{Foreign}
 use Rattle.desk_content.specs.Content.{Content}
+use Rattle.desk_making.specs.Making.{number_of}
 use Rattle.desk_making.specs.Number.{SaysSchema, SaysNone}
+use Rattle.desk_making.specs.declared.making.Earlier.{Earlier}
 use Rattle.desk_tables.specs.Shown.{HasContent}
 use Rattle.desk_tables.specs.declared.open_fault.OpenFault.{OpenFault}
 use Rattle.desk_tables.specs.declared.open_fault.OpenFault.TheVariants.{NotADesk, NewerSchema, Store, NotEmpty}
@@ -28,10 +31,18 @@ pub record IsLeft (old new : State) : Type 0 where
 abbrev pub IsStoreFailure : OpenFault → Type 0
 IsStoreFailure why = (fault : StoreFault) × (why ≡ Store fault) × (fault ≢ Foreign)
 
+-- the database says the number of an earlier schema
+abbrev pub SaysEarlier : Database → Type 0
+SaysEarlier db = (from : Earlier) × SaysSchema db (number_of from)
+
+-- the database says the number of a schema of a desk, 3, 2 or 1
+abbrev pub SaysDesk : Database → Type 0
+SaysDesk db = SaysSchema db 3 ⊎ SaysEarlier db
+
 -- what is so where the connection that was old and is new is refused to be a desk's for this
 abbrev pub IsReason : State → State → OpenFault → Type 0
 IsReason old new NotADesk = HasCleanDisk new → SaysNone old.now
-IsReason old new (NewerSchema n) = HasCleanDisk new → SaysSchema old.now n × (2 < n)
--- tables that say 1 and are no desk's may refuse to be carried over
-IsReason old new (Store fault) = HasCleanDisk new → fault ≡ Foreign → SaysSchema old.now 1
+IsReason old new (NewerSchema n) = HasCleanDisk new → SaysSchema old.now n × (3 < n)
+-- tables that say 1 or 2 and are no desk's may refuse to be carried over
+IsReason old new (Store fault) = HasCleanDisk new → fault ≡ Foreign → SaysEarlier old.now
 IsReason old new NotEmpty = ⊥

@@ -8,8 +8,9 @@ use Rattle.ancestry.specs.Nodes.{Node}
 use Rattle.ancestry.specs.Trees.{Ancestry, IsForest}
 use Rattle.desk_content.specs.Branches.{with_nodes}
 use Rattle.desk_content.specs.Content.{Content}
-use Rattle.desk_making.specs.Making.{AreFirst}
-use Rattle.desk_schema.specs.Tables.{first_schema, desk_schema}
+use Rattle.desk_making.specs.Making.{AreEarlier, schema_of}
+use Rattle.desk_making.specs.declared.making.Earlier.{Earlier}
+use Rattle.desk_schema.specs.Tables.{desk_schema}
 use Rattle.desk_schema.specs.Rows.{content_of, AreShown}
 use Rattle.desk_schema.specs.Steps.{seen}
 
@@ -24,21 +25,21 @@ pub record IsDesk (s : State) : Type 0 where
 abbrev pub HasContent : Content → State → Type 0
 HasContent c s = HasCleanDisk s → IsTrue s.is_open → IsDesk s × (seen s ≡ c)
 
--- the tables of a desk under schema 1, as the last commit left them, with this content
-pub record IsFirstDesk (c : Content) (s : State) : Type 0 where
+-- the tables of a desk under an earlier schema, as the last commit left them, with this content
+pub record IsEarlierDesk (from : Earlier) (c : Content) (s : State) : Type 0 where
   pub settled : s.now ≡ s.committed
-  pub schema : s.now.schema ≡ first_schema
+  pub schema : s.now.schema ≡ schema_of from
   pub sound : IsDatabase s.now
-  pub shown : AreFirst c s.now.trees
+  pub shown : AreEarlier from c s.now.trees
 
--- as far as the disk is honest and the connection serves, it shows a desk under schema 1 with this
--- content
-abbrev pub HasFirstContent : Content → State → Type 0
-HasFirstContent c s = HasCleanDisk s → IsTrue s.is_open → IsFirstDesk c s
+-- as far as the disk is honest and the connection serves, it shows a desk under an earlier schema
+-- with this content
+abbrev pub HasEarlierContent : Earlier → Content → State → Type 0
+HasEarlierContent from c s = HasCleanDisk s → IsTrue s.is_open → IsEarlierDesk from c s
 
--- it shows a desk with this content, under schema 2 or 1
+-- it shows a desk with this content, under schema 3, 2 or 1
 abbrev pub HoldsContent : Content → State → Type 0
-HoldsContent c s = HasContent c s ⊎ HasFirstContent c s
+HoldsContent c s = HasContent c s ⊎ ((from : Earlier) × HasEarlierContent from c s)
 
 -- these trees, with the desk's schema, are a desk with this content
 pub record AreTablesOf (c : Content) (db : Trees) : Type 0 where
@@ -46,10 +47,14 @@ pub record AreTablesOf (c : Content) (db : Trees) : Type 0 where
   pub shown : AreShown db
   pub content : content_of db ≡ c
 
--- these trees, with schema 1, are a desk with this content
-pub record AreFirstTablesOf (c : Content) (db : Trees) : Type 0 where
-  pub sound : IsDatabase (record { schema = first_schema; trees = db })
-  pub first : AreFirst c db
+-- these trees, with an earlier schema, are a desk with this content
+pub record AreEarlierTablesOf (from : Earlier) (c : Content) (db : Trees) : Type 0 where
+  pub sound : IsDatabase (record { schema = schema_of from; trees = db })
+  pub earlier : AreEarlier from c db
+
+-- they are a desk with this content under schema 3, 2 or 1
+abbrev pub HoldTables : Content → Trees → Type 0
+HoldTables c db = AreTablesOf c db ⊎ ((from : Earlier) × AreEarlierTablesOf from c db)
 
 -- these trees, with the desk's schema, are a desk with this content over the ancestry after a
 -- branch

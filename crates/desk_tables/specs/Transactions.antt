@@ -12,14 +12,16 @@ use Rattle.desk_content.specs.Content.{Content, no_content}
 use Rattle.desk_content.specs.Kept.{IsKeptContent}
 use Rattle.desk_schema.specs.Steps.{seen}
 use Rattle.desk_store.specs.Store.{IsRefusal}
+use Rattle.desk_making.specs.Making.{number_of}
 use Rattle.desk_making.specs.Names.{no_tables, has_desk_table}
 use Rattle.desk_making.specs.Number.{Says, SaysSchema}
+use Rattle.desk_making.specs.declared.making.Earlier.{Earlier}
 use Rattle.desk_making.specs.declared.number.SchemaRead.{SchemaRead}
 use Rattle.desk_making.specs.declared.number.SchemaRead.TheVariants.{Number}
 use Rattle.desk_tables.specs.Opening.{IsLeft, IsStoreFailure, IsReason}
-use Rattle.desk_tables.specs.Shown.{IsDesk, HasContent, HasFirstContent, HoldsContent, AreTablesOf, AreTablesAfter}
+use Rattle.desk_tables.specs.Shown.{IsDesk, HasContent, HasEarlierContent, HoldsContent, AreTablesOf, AreTablesAfter}
 use Rattle.desk_tables.specs.declared.opening.Schema.{Schema}
-use Rattle.desk_tables.specs.declared.opening.Schema.TheVariants.{First, Current}
+use Rattle.desk_tables.specs.declared.opening.Schema.TheVariants.{Before, Current}
 use Rattle.desk_tables.specs.declared.open_fault.OpenFault.{OpenFault}
 use Rattle.desk_tables.specs.declared.open_fault.OpenFault.TheVariants.{Store, NotEmpty}
 
@@ -80,14 +82,14 @@ pub record IsCreated (first : ℕ) (old new : State) (result : Result (Unit {0})
   pub sure : HasCleanDisk new → old.now.schema ≡ no_tables → IfErr result IsStoreFailure
   pub crash : Survives old new (AreTablesOf (no_content first))
 
--- The tables of schema 1 are carried over in one transaction, or are left as they were.
--- A crash at any moment leaves what it would have left before, or the same desk under schema 2.
-pub record IsCarried (old new : State) (result : Result (Unit {0}) StoreFault) : Type 0 where
+-- The tables of an earlier schema are carried over in one transaction, or are left as they were.
+-- A crash at any moment leaves what it would have left before, or the same desk under schema 3.
+pub record IsCarried (from : Earlier) (old new : State) (result : Result (Unit {0}) StoreFault) : Type 0 where
   pub honest : HasCleanDisk new → HasCleanDisk old
-  pub ok : (c : Content) → HasCleanDisk new → HasFirstContent c old → IfOk result (λ _. IsTrue new.is_open × IsDesk new × (seen new ≡ c))
+  pub ok : (c : Content) → HasCleanDisk new → HasEarlierContent from c old → IfOk result (λ _. IsTrue new.is_open × IsDesk new × (seen new ≡ c))
   pub err : IfErr result (λ _. IsLeft old new)
-  pub sure : (c : Content) → HasCleanDisk new → HasFirstContent c old → IfErr result (λ fault. fault ≢ Foreign)
-  pub crash : (c : Content) → (HasCleanDisk new → HasFirstContent c old) → Survives old new (AreTablesOf c)
+  pub sure : (c : Content) → HasCleanDisk new → HasEarlierContent from c old → IfErr result (λ fault. fault ≢ Foreign)
+  pub crash : (c : Content) → (HasCleanDisk new → HasEarlierContent from c old) → Survives old new (AreTablesOf c)
 
 -- The number of the schema is asked for: whatever is answered, the tables are left as they were.
 pub record AsksSchema (old new : State) (result : Result SchemaRead StoreFault) : Type 0 where
@@ -95,19 +97,19 @@ pub record AsksSchema (old new : State) (result : Result SchemaRead StoreFault) 
   pub left : IsLeft old new
   pub ok : HasCleanDisk new → IfOk result (λ read. IsTrue old.is_open × Says old.now read)
   pub sure : IfErr result (λ fault. fault ≢ Foreign)
-  pub desk : (c : Content) → HasCleanDisk new → HasContent c old → IfOk result (λ read. read ≡ Number 2)
-  pub first : (c : Content) → HasCleanDisk new → HasFirstContent c old → IfOk result (λ read. read ≡ Number 1)
+  pub desk : (c : Content) → HasCleanDisk new → HasContent c old → IfOk result (λ read. read ≡ Number 3)
+  pub earlier : (from : Earlier) (c : Content) → HasCleanDisk new → HasEarlierContent from c old → IfOk result (λ read. read ≡ Number (number_of from))
 
-abbrev pub number_of : Schema → ℕ
-number_of First = 1
-number_of Current = 2
+abbrev pub number_in : Schema → ℕ
+number_in (Before from) = number_of from
+number_in Current = 3
 
--- A desk is recognised, under schema 1 or 2, or there is a reason.
+-- A desk is recognised, under schema 3 or an earlier one, or there is a reason.
 pub record IsRecognised (old new : State) (result : Result Schema OpenFault) : Type 0 where
   pub survives : Survives old new (λ _. ⊥)
   pub left : IsLeft old new
-  pub ok : HasCleanDisk new → IfOk result (λ schema. IsTrue old.is_open × SaysSchema old.now (number_of schema))
+  pub ok : HasCleanDisk new → IfOk result (λ schema. IsTrue old.is_open × SaysSchema old.now (number_in schema))
   pub current : (c : Content) → HasCleanDisk new → HasContent c old → IfOk result (λ schema. schema ≡ Current)
-  pub first : (c : Content) → HasCleanDisk new → HasFirstContent c old → IfOk result (λ schema. schema ≡ First)
+  pub earlier : (from : Earlier) (c : Content) → HasCleanDisk new → HasEarlierContent from c old → IfOk result (λ schema. schema ≡ Before from)
   pub why : IfErr result (IsReason old new)
   pub desk : (c : Content) → HasCleanDisk new → HoldsContent c old → IfErr result IsStoreFailure

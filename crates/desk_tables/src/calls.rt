@@ -1,12 +1,14 @@
 //! Transactions over a connection, one for each call.
 
 ghost use Rattle.std.specs.Prelude.{◌≡◌, false, None, ⊤};
+ghost use Rattle.std.specs.Option.{option_copied};
 ghost use Rattle.sqlite.specs.Held.{state};
 ghost use Rattle.sqlite.specs.State.{IsLive};
 ghost use Rattle.ancestry.specs.Trees.{IsForest};
 ghost use Rattle.desk_content.specs.Changes.{FitsContent, changed};
+ghost use Rattle.desk_content.specs.Keeping.{MayBePut, kept_after};
 ghost use Rattle.desk_content.specs.Kept.{IsKeptContent};
-ghost use Rattle.desk_content.specs.View.{desk_in};
+ghost use Rattle.desk_content.specs.View.{desk_in, keeping_in};
 ghost use Rattle.desk_store.specs.Store.{IsImageOf, AreWaitingOn, AreListed, IsOpenHead};
 ghost use Rattle.desk_lists.specs.Asked.{IsAskedFor};
 ghost use Rattle.branch_rows.specs.Grown.{IsGrown, unknown_of, roots_of, changed_of};
@@ -18,12 +20,14 @@ use ancestry::{BranchFault, Node};
 use branch_rows::{OpenNodes, branches_grow, changed_nodes, open_nodes};
 use bug_record::{Change, Numbers, Sequence, SetImage};
 use desk_branches::put_branch;
+use desk_keeping::{put_kept, read_kept};
 use desk_lists::{read_listed, read_open_head};
-use desk_making::{SchemaRead, carry_over, make_tables, read_schema};
+use desk_making::{Earlier, SchemaRead, carry_over, make_tables, read_schema};
 use desk_reads::{read_set_of, read_waiting_on};
 use desk_schema::fault_of;
 use desk_steps::put_change;
-use desk_text::{ListRow, StoreFault};
+use desk_text::{ListRow, Outcome, StoreFault};
+use message_machine::Kept;
 use nearest_marks::Family;
 use node_rows::{read_family, read_next};
 use sqlite::{Alter, Connection, Transaction};
@@ -194,6 +198,48 @@ fn finish<S: Alter>(tx: Transaction<'_, S>, done: Result<(), StoreFault>) -> Res
     }
 }
 
+// What is kept of the message of an id, if it is known.
+pub(crate) fn ask_kept<S: Alter>(
+    alloc: Global,
+    conn: &mut Connection<S>,
+    id: &str,
+) -> Result<Option<Kept>, StoreFault>
+    requires autocommit { conn.old.in_transaction ≡ false }
+    requires unlimited { conn.old.step_limit ≡ None }
+    ensures autocommit { conn.new.in_transaction ≡ false }
+    ensures unlimited { conn.new.step_limit ≡ None }
+    ensures asked { IsAsked (state S.Store conn.old) (state S.Store conn.new) result (λ _. ⊤) (λ c kept. kept ≡ keeping_in c id.now) }
+{
+    let mut tx = conn.transaction();
+    let answer = read_kept(alloc, &mut tx, id);
+    tx.rollback();
+    answer
+}
+
+// Keeps an outcome, and carries its change out, if there is one.
+pub(crate) fn keep_line<S: Alter>(
+    alloc: Global,
+    conn: &mut Connection<S>,
+    family: &Family,
+    id: &str,
+    from: &str,
+    message: &str,
+    outcome: &Outcome,
+    change: Option<&Change>,
+) -> Result<(), StoreFault>
+    requires autocommit { conn.old.in_transaction ≡ false }
+    requires unlimited { conn.old.step_limit ≡ None }
+    ensures autocommit { conn.new.in_transaction ≡ false }
+    ensures unlimited { conn.new.step_limit ≡ None }
+    ensures changed { IsChanged (state S.Store conn.old) (state S.Store conn.new) result
+        (λ c. IsKeptContent c × MayBePut id.now from.now message.now outcome.now (option_copied change.entry) c × (c.nodes ≡ family.now))
+        (λ c. kept_after id.now from.now message.now outcome.now (option_copied change.entry) c) }
+{
+    let mut tx = conn.transaction();
+    let done = put_kept(alloc, &mut tx, family, id, from, message, outcome, change);
+    finish(tx, done)
+}
+
 // Carries a change out.
 pub(crate) fn change_sets<S: Alter>(
     alloc: Global,
@@ -331,15 +377,18 @@ pub(crate) fn ask_schema<S: Alter>(conn: &mut Connection<S>) -> Result<SchemaRea
     answer
 }
 
-// Carries the tables of schema 1 over.
-pub(crate) fn carry_desk<S: Alter>(conn: &mut Connection<S>) -> Result<(), StoreFault>
+// Carries the tables of an earlier schema over.
+pub(crate) fn carry_desk<S: Alter>(
+    conn: &mut Connection<S>,
+    from: Earlier,
+) -> Result<(), StoreFault>
     requires autocommit { conn.old.in_transaction ≡ false }
     requires unlimited { conn.old.step_limit ≡ None }
     ensures autocommit { conn.new.in_transaction ≡ false }
     ensures unlimited { conn.new.step_limit ≡ None }
-    ensures carried { IsCarried (state S.Store conn.old) (state S.Store conn.new) result }
+    ensures carried { IsCarried from (state S.Store conn.old) (state S.Store conn.new) result }
 {
     let mut tx = conn.transaction();
-    let done = carry_over(&mut tx);
+    let done = carry_over(&mut tx, from);
     finish(tx, done)
 }

@@ -3,18 +3,21 @@
 ghost use Rattle.std.specs.Prelude.{◌≡◌, ◌≢◌, ◌++◌, ◌∷◌, [], List, false, Err, None, IfOk, IfErr, OnOk, IsTrue, is_some, true, Result};
 ghost use Rattle.sqlite.specs.Held.{state};
 ghost use Rattle.sqlite.specs.State.{HasCleanDisk, Survives};
+ghost use Rattle.std.specs.Option.{option_copied};
 ghost use Rattle.bug_record.specs.Images.{HasMember, IsSetOf};
+ghost use Rattle.bug_record.specs.Texts.{IsText, IfGiven};
 ghost use Rattle.desk_content.specs.Changes.{FitsContent, changed};
-ghost use Rattle.desk_store.specs.Store.{Holds, Asks, Answers, Applies, Branches, IsRefusal, IsOpenHead, no_faults};
+ghost use Rattle.desk_content.specs.Keeping.{kept_after};
+ghost use Rattle.desk_store.specs.Store.{Holds, Asks, Answers, Applies, Branches, Keeps, IsRefusal, IsOpenHead, no_faults};
 ghost use Rattle.desk_text.specs.declared.outcome.StoreFault.TheVariants.{Foreign};
-ghost use Rattle.desk_tables.specs.Kept.{content_seen, desk_seen, IsKept};
+ghost use Rattle.desk_tables.specs.Kept.{content_seen, desk_seen, keeping_seen, MayKeep, IsKept};
 ghost use Rattle.desk_tables.specs.Shown.{AreTablesOf, AreTablesAfter};
 
-use crate::calls::{ask_family, ask_open_head, change_sets, take_nodes};
+use crate::calls::{ask_family, ask_open_head, change_sets, keep_line, take_nodes};
 use crate::counts::Counts;
 use ancestry::{BranchFault, Node};
 use bug_record::{Change, SetImage};
-use desk_text::StoreFault;
+use desk_text::{Outcome, StoreFault};
 use nearest_marks::Family;
 use seen_values::Seen;
 use sqlite::{Alter, Connection};
@@ -122,6 +125,8 @@ impl<S: Alter> TableDesk<S> {
             FitsContent (content_seen S.Store self.old.last.values) change.now }
         ensures answer { Holds (λ d. IsKept S.Store d.last.values d.begun.values d.conn d.family) (λ d. HasCleanDisk (state S.Store d.conn)) self.old self.new
             (Applies (desk_seen S.Store self.old.last.values) (desk_seen S.Store self.new.last.values) result change.now) }
+        ensures stays { IsKept S.Store self.old.last.values self.old.begun.values self.old.conn self.old.family → HasCleanDisk (state S.Store self.new.conn) →
+            keeping_seen S.Store self.new.last.values ≡ keeping_seen S.Store self.old.last.values }
         ensures sure { IsKept S.Store self.old.last.values self.old.begun.values self.old.conn self.old.family → HasCleanDisk (state S.Store self.new.conn) →
             IfErr result (λ fault. fault ≢ Foreign) }
         ensures serves { IsKept S.Store self.old.last.values self.old.begun.values self.old.conn self.old.family → HasCleanDisk (state S.Store self.new.conn) →
@@ -145,6 +150,8 @@ impl<S: Alter> TableDesk<S> {
             FitsContent (content_seen S.Store self.old.last.values) change.now }
         ensures answer { Holds (λ d. IsKept S.Store d.last.values d.begun.values d.conn d.family) (λ d. HasCleanDisk (state S.Store d.conn)) self.old self.new
             (Applies (desk_seen S.Store self.old.last.values) (desk_seen S.Store self.new.last.values) result change.now) }
+        ensures stays { IsKept S.Store self.old.last.values self.old.begun.values self.old.conn self.old.family → HasCleanDisk (state S.Store self.new.conn) →
+            keeping_seen S.Store self.new.last.values ≡ keeping_seen S.Store self.old.last.values }
         ensures sure { IsKept S.Store self.old.last.values self.old.begun.values self.old.conn self.old.family → HasCleanDisk (state S.Store self.new.conn) →
             IfErr result (λ fault. fault ≢ Foreign) }
         ensures serves { IsKept S.Store self.old.last.values self.old.begun.values self.old.conn self.old.family → HasCleanDisk (state S.Store self.new.conn) →
@@ -155,6 +162,83 @@ impl<S: Alter> TableDesk<S> {
     {
         self.load()?;
         self.make(change)
+    }
+
+    // Keeps an outcome, and carries its change out over the tree that was read, if there is one.
+    fn keep_outcome(
+        &mut self,
+        id: &str,
+        from: &str,
+        message: &str,
+        outcome: &Outcome,
+        change: Option<&Change>,
+    ) -> Result<(), StoreFault>
+        requires loaded { is_some self.old.family ≡ true }
+        requires sender { IsText from.now }
+        requires fits { IsKept S.Store self.old.last.values self.old.begun.values self.old.conn self.old.family → HasCleanDisk (state S.Store self.old.conn) →
+            IfGiven (FitsContent (content_seen S.Store self.old.last.values)) (option_copied change) }
+        ensures honest { HasCleanDisk (state S.Store self.new.conn) → HasCleanDisk (state S.Store self.old.conn) }
+        ensures answer { MayKeep S.Store self.old.last.values id.now from.now message.now outcome.now (option_copied change.entry) →
+            Holds (λ d. IsKept S.Store d.last.values d.begun.values d.conn d.family) (λ d. HasCleanDisk (state S.Store d.conn)) self.old self.new
+            (Keeps id.now from.now message.now outcome.now (option_copied change.entry) (desk_seen S.Store self.old.last.values) (keeping_seen S.Store self.old.last.values)
+            result (desk_seen S.Store self.new.last.values) (keeping_seen S.Store self.new.last.values)) }
+        ensures sure { MayKeep S.Store self.old.last.values id.now from.now message.now outcome.now (option_copied change.entry) →
+            IsKept S.Store self.old.last.values self.old.begun.values self.old.conn self.old.family → HasCleanDisk (state S.Store self.new.conn) → IfErr result (λ fault. fault ≢ Foreign) }
+        ensures serves { MayKeep S.Store self.old.last.values id.now from.now message.now outcome.now (option_copied change.entry) →
+            IsKept S.Store self.old.last.values self.old.begun.values self.old.conn self.old.family → HasCleanDisk (state S.Store self.new.conn) → OnOk result (IsTrue (state S.Store self.new.conn).is_open) }
+        ensures crash { MayKeep S.Store self.old.last.values id.now from.now message.now outcome.now (option_copied change.entry) →
+            (HasCleanDisk (state S.Store self.new.conn) → IsKept S.Store self.old.last.values self.old.begun.values self.old.conn self.old.family) →
+            Survives (state S.Store self.old.conn) (state S.Store self.new.conn)
+            (AreTablesOf (kept_after id.now from.now message.now outcome.now (option_copied change.entry) (content_seen S.Store self.old.last.values))) }
+        ensures counts { self.new.counts ≡ self.old.counts }
+    {
+        match &self.family {
+            Some(family) => keep_line(
+                self.alloc,
+                &mut self.conn,
+                family,
+                id,
+                from,
+                message,
+                outcome,
+                change,
+            )?,
+            None => return Err(StoreFault::Foreign),
+        }
+        self.last = Seen::new().and(&self.conn);
+        self.begun = Seen::new();
+        Ok(())
+    }
+
+    // Reads the tree, where that is still to be done, and keeps an outcome.
+    pub(crate) fn load_and_keep(
+        &mut self,
+        id: &str,
+        from: &str,
+        message: &str,
+        outcome: &Outcome,
+        change: Option<&Change>,
+    ) -> Result<(), StoreFault>
+        requires sender { IsText from.now }
+        requires fits { IsKept S.Store self.old.last.values self.old.begun.values self.old.conn self.old.family → HasCleanDisk (state S.Store self.old.conn) →
+            IfGiven (FitsContent (content_seen S.Store self.old.last.values)) (option_copied change) }
+        ensures honest { HasCleanDisk (state S.Store self.new.conn) → HasCleanDisk (state S.Store self.old.conn) }
+        ensures answer { MayKeep S.Store self.old.last.values id.now from.now message.now outcome.now (option_copied change.entry) →
+            Holds (λ d. IsKept S.Store d.last.values d.begun.values d.conn d.family) (λ d. HasCleanDisk (state S.Store d.conn)) self.old self.new
+            (Keeps id.now from.now message.now outcome.now (option_copied change.entry) (desk_seen S.Store self.old.last.values) (keeping_seen S.Store self.old.last.values)
+            result (desk_seen S.Store self.new.last.values) (keeping_seen S.Store self.new.last.values)) }
+        ensures sure { MayKeep S.Store self.old.last.values id.now from.now message.now outcome.now (option_copied change.entry) →
+            IsKept S.Store self.old.last.values self.old.begun.values self.old.conn self.old.family → HasCleanDisk (state S.Store self.new.conn) → IfErr result (λ fault. fault ≢ Foreign) }
+        ensures serves { MayKeep S.Store self.old.last.values id.now from.now message.now outcome.now (option_copied change.entry) →
+            IsKept S.Store self.old.last.values self.old.begun.values self.old.conn self.old.family → HasCleanDisk (state S.Store self.new.conn) → OnOk result (IsTrue (state S.Store self.new.conn).is_open) }
+        ensures crash { MayKeep S.Store self.old.last.values id.now from.now message.now outcome.now (option_copied change.entry) →
+            IsKept S.Store self.old.last.values self.old.begun.values self.old.conn self.old.family →
+            Survives (state S.Store self.old.conn) (state S.Store self.new.conn)
+            (AreTablesOf (kept_after id.now from.now message.now outcome.now (option_copied change.entry) (content_seen S.Store self.old.last.values))) }
+        ensures counts { self.new.counts ≡ self.old.counts }
+    {
+        self.load()?;
+        self.keep_outcome(id, from, message, outcome, change)
     }
 
     // The first head of the package of a set's bugs at which they are still found, in the tree that
@@ -188,6 +272,7 @@ impl<S: Alter> TableDesk<S> {
             (Answers (desk_seen S.Store self.old.last.values) (desk_seen S.Store self.new.last.values) result (IsOpenHead (desk_seen S.Store self.old.last.values) image.now)) }
         ensures sure { IsKept S.Store self.old.last.values self.old.begun.values self.old.conn self.old.family → HasCleanDisk (state S.Store self.new.conn) →
             IfErr result (λ fault. fault ≢ Foreign) }
+        ensures last { self.new.last.values ≡ self.old.last.values }
         ensures survives { Survives (state S.Store self.old.conn) (state S.Store self.new.conn) (λ _. ⊥) }
         ensures counts { self.new.counts ≡ self.old.counts }
     {
@@ -201,6 +286,8 @@ impl<S: Alter> TableDesk<S> {
         requires loaded { is_some self.old.family ≡ true }
         ensures answer { Holds (λ d. IsKept S.Store d.last.values d.begun.values d.conn d.family) (λ d. HasCleanDisk (state S.Store d.conn)) self.old self.new
             (Branches (desk_seen S.Store self.old.last.values) (desk_seen S.Store self.new.last.values) result nodes.now) }
+        ensures stays { IsKept S.Store self.old.last.values self.old.begun.values self.old.conn self.old.family → HasCleanDisk (state S.Store self.new.conn) →
+            keeping_seen S.Store self.new.last.values ≡ keeping_seen S.Store self.old.last.values }
         ensures refusal { IfOk result IsRefusal }
         ensures sure { IsKept S.Store self.old.last.values self.old.begun.values self.old.conn self.old.family → HasCleanDisk (state S.Store self.new.conn) →
             IfErr result (λ fault. fault ≢ Foreign) }
@@ -232,6 +319,8 @@ impl<S: Alter> TableDesk<S> {
     ) -> Result<Result<(), BranchFault>, StoreFault>
         ensures answer { Holds (λ d. IsKept S.Store d.last.values d.begun.values d.conn d.family) (λ d. HasCleanDisk (state S.Store d.conn)) self.old self.new
             (Branches (desk_seen S.Store self.old.last.values) (desk_seen S.Store self.new.last.values) result nodes.now) }
+        ensures stays { IsKept S.Store self.old.last.values self.old.begun.values self.old.conn self.old.family → HasCleanDisk (state S.Store self.new.conn) →
+            keeping_seen S.Store self.new.last.values ≡ keeping_seen S.Store self.old.last.values }
         ensures refusal { IfOk result IsRefusal }
         ensures sure { IsKept S.Store self.old.last.values self.old.begun.values self.old.conn self.old.family → HasCleanDisk (state S.Store self.new.conn) →
             IfErr result (λ fault. fault ≢ Foreign) }

@@ -1,26 +1,27 @@
 //! How a desk is created in a database, and opened.
 
-ghost use Rattle.std.specs.Prelude.{◌≡◌, ◌≢◌, ◌↔◌, ◌⊎◌, ◌≤◌, ◌∷◌, [], false, true, None, Err, IfOk, IfErr, IsErrAnd, IsTrue, MatchResult};
+ghost use Rattle.std.specs.Prelude.{◌≡◌, ◌≢◌, ◌↔◌, ◌≤◌, ◌∷◌, [], false, true, None, Err, IfOk, IfErr, IsErrAnd, IsTrue, MatchResult};
 ghost use Rattle.sqlite.specs.Held.{state};
 ghost use Rattle.sqlite.specs.State.{HasCleanDisk, Survives};
 ghost use Rattle.line_words.specs.declared.named.TheConstants.{LARGEST_NUMBER};
 ghost use Rattle.desk_content.specs.Content.{Content, no_content};
 ghost use Rattle.desk_content.specs.Kept.{IsKeptContent};
 ghost use Rattle.desk_making.specs.Names.{no_tables, has_desk_table};
-ghost use Rattle.desk_making.specs.Number.{SaysSchema};
+ghost use Rattle.desk_making.specs.declared.making.Earlier.{Earlier as EarlierSchema};
 ghost use Rattle.desk_places.specs.Plain.{empty_desk};
 ghost use Rattle.desk_store.specs.Store.{no_faults};
 ghost use Rattle.desk_text.specs.declared.outcome.StoreFault.TheVariants.{Foreign};
-ghost use Rattle.desk_tables.specs.Kept.{content_seen, desk_seen, IsKept};
-ghost use Rattle.desk_tables.specs.Opening.{unlimited, IsLeft, IsStoreFailure, IsReason};
-ghost use Rattle.desk_tables.specs.Shown.{HasContent, HasFirstContent, HoldsContent, AreTablesOf};
+ghost use Rattle.desk_tables.specs.Kept.{content_seen, desk_seen, keeping_seen, IsKept};
+ghost use Rattle.message_machine.specs.Kept.{none_kept};
+ghost use Rattle.desk_tables.specs.Opening.{unlimited, IsLeft, IsStoreFailure, IsReason, SaysEarlier, SaysDesk};
+ghost use Rattle.desk_tables.specs.Shown.{HasContent, HasEarlierContent, HoldsContent, AreTablesOf};
 ghost use Rattle.desk_tables.specs.Transactions.{IsCreated, IsRecognised};
 ghost use Rattle.desk_tables.specs.declared.open_fault.OpenFault.TheVariants as fault;
 
 use crate::calls::{ask_schema, carry_desk, make_desk};
 use crate::desk::TableDesk;
 use crate::open_fault::OpenFault;
-use desk_making::{SchemaRead, is_blank, names_a_desk_table};
+use desk_making::{Earlier, SchemaRead, is_blank, names_a_desk_table};
 use desk_text::StoreFault;
 use seen_values::Seen;
 use sqlite::{Alter, Connection};
@@ -50,7 +51,7 @@ fn create_tables<S: Alter>(conn: &mut Connection<S>, first: u32) -> Result<(), O
 // Which schema the tables of a desk have.
 #[derive(Clone, Copy, Debug, PartialEq, Eq, Drop)]
 pub(crate) enum Schema {
-    First,
+    Before(Earlier),
     Current,
 }
 
@@ -63,16 +64,17 @@ fn recognise<S: Alter>(conn: &mut Connection<S>) -> Result<Schema, OpenFault>
     ensures recognised { IsRecognised (state S.Store conn.old) (state S.Store conn.new) result }
 {
     match ask_schema(conn) {
-        Ok(SchemaRead::Number(2)) => Ok(Schema::Current),
-        Ok(SchemaRead::Number(1)) => Ok(Schema::First),
+        Ok(SchemaRead::Number(3)) => Ok(Schema::Current),
+        Ok(SchemaRead::Number(2)) => Ok(Schema::Before(Earlier::Second)),
+        Ok(SchemaRead::Number(1)) => Ok(Schema::Before(Earlier::First)),
         Ok(SchemaRead::Number(number)) => Err(OpenFault::NewerSchema(number)),
         Ok(SchemaRead::NoNumber) => Err(OpenFault::NotADesk),
         Err(fault) => Err(OpenFault::Store(fault)),
     }
 }
 
-// Recognises a desk, and carries it over where it is kept under schema 1.
-// The answer remembers the connection that showed its content under schema 2.
+// Recognises a desk, and carries it over where it is kept under an earlier schema.
+// The answer remembers the connection that showed its content under schema 3.
 fn find_desk<S: Alter>(conn: &mut Connection<S>) -> Result<Seen<Connection<S>>, OpenFault>
     requires autocommit { conn.old.in_transaction ≡ false }
     requires unlimited { conn.old.step_limit ≡ None }
@@ -83,8 +85,7 @@ fn find_desk<S: Alter>(conn: &mut Connection<S>) -> Result<Seen<Connection<S>>, 
         content_seen S.Store last.values ≡ c) }
     ensures shows { IfOk result (λ last. (c : Content) → HasCleanDisk (state S.Store conn.new) → HoldsContent c (state S.Store conn.old) →
         HasContent c (state S.Store conn.new)) }
-    ensures says { IfOk result (λ last. HasCleanDisk (state S.Store conn.new) → IsTrue (state S.Store conn.old).is_open ×
-        (SaysSchema (state S.Store conn.old).now 2 ⊎ SaysSchema (state S.Store conn.old).now 1)) }
+    ensures says { IfOk result (λ last. HasCleanDisk (state S.Store conn.new) → IsTrue (state S.Store conn.old).is_open × SaysDesk (state S.Store conn.old).now) }
     ensures why { IfErr result (IsReason (state S.Store conn.old) (state S.Store conn.new)) }
     ensures desk { (c : Content) → HasCleanDisk (state S.Store conn.new) → HoldsContent c (state S.Store conn.old) → IfErr result IsStoreFailure }
     ensures stays { IfOk result (λ last. (c : Content) → HasCleanDisk (state S.Store conn.new) → HasContent c (state S.Store conn.old) →
@@ -92,15 +93,15 @@ fn find_desk<S: Alter>(conn: &mut Connection<S>) -> Result<Seen<Connection<S>>, 
     ensures err { IfErr result (λ _. IsLeft (state S.Store conn.old) (state S.Store conn.new)) }
     ensures left { (c : Content) → (HasCleanDisk (state S.Store conn.new) → HasContent c (state S.Store conn.old)) →
         Survives (state S.Store conn.old) (state S.Store conn.new) (λ _. ⊥) }
-    ensures other { (HasCleanDisk (state S.Store conn.new) → ¬ (SaysSchema (state S.Store conn.old).now 1)) →
+    ensures other { (HasCleanDisk (state S.Store conn.new) → ¬ (SaysEarlier (state S.Store conn.old).now)) →
         IsLeft (state S.Store conn.old) (state S.Store conn.new) × Survives (state S.Store conn.old) (state S.Store conn.new) (λ _. ⊥) }
-    ensures crash { (c : Content) → (HasCleanDisk (state S.Store conn.new) → HasFirstContent c (state S.Store conn.old)) →
+    ensures crash { (from : EarlierSchema) (c : Content) → (HasCleanDisk (state S.Store conn.new) → HasEarlierContent from c (state S.Store conn.old)) →
         Survives (state S.Store conn.old) (state S.Store conn.new) (AreTablesOf c) }
 {
     let last = Seen::new().and(conn);
     match recognise(conn) {
         Ok(Schema::Current) => Ok(last),
-        Ok(Schema::First) => match carry_desk(conn) {
+        Ok(Schema::Before(from)) => match carry_desk(conn, from) {
             Ok(()) => Ok(Seen::new().and(conn)),
             Err(fault) => Err(OpenFault::Store(fault)),
         },
@@ -128,6 +129,7 @@ impl<S: Alter> TableDesk<S> {
         ensures kept { IfOk result (λ d. HasCleanDisk (state S.Store d.conn) →
             IsKept S.Store d.last.values d.begun.values d.conn d.family) }
         ensures empty { IfOk result (λ d. HasCleanDisk (state S.Store d.conn) → desk_seen S.Store d.last.values ≡ empty_desk first) }
+        ensures none_kept { IfOk result (λ d. HasCleanDisk (state S.Store d.conn) → keeping_seen S.Store d.last.values ≡ none_kept) }
         ensures counts { IfOk result (λ d. d.counts ≡ no_faults) }
         ensures not_empty { IsErrAnd result (λ e. e.0 ≡ fault.NotEmpty) ↔ (has_desk_table (state S.Store conn).now.schema ≡ true) }
         ensures foreign { has_desk_table (state S.Store conn).now.schema ≡ false → (state S.Store conn).now.schema ≢ no_tables →
@@ -150,16 +152,17 @@ impl<S: Alter> TableDesk<S> {
     }
 
     /// Opens the desk that a database holds; no more is read than the number of its schema.
-    /// Tables kept under schema 1 are carried over to schema 2, in one transaction; the desk stays
-    /// the same, and no bug of it affects another package.
-    /// The tables of a database that doesn't say schema 1 are left as they were.
+    /// Tables kept under schema 1 or 2 are carried over to schema 3, in one transaction; the desk
+    /// stays the same: no message that has an id is known, and under schema 1 no bug affects
+    /// another package.
+    /// The tables of a database that says neither 1 nor 2 are left as they were.
     /// A refusal leaves the tables, and hands the connection back: `NotADesk` where the database
-    /// says no number of a desk's schema, `NewerSchema` where it says one above 2, and else what
-    /// the store failed for, which may be `Foreign` where the tables say 1 and are no desk's.
+    /// says no number of a desk's schema, `NewerSchema` where it says one above 3, and else what
+    /// the store failed for, which may be `Foreign` where the tables say 1 or 2 and are no desk's.
     /// The desk is kept where the tables are a desk's and say what a desk keeps.
     /// From now on no statement has a limit of steps.
     /// A crash at any moment of the call leaves what it would have left before, or, where the
-    /// tables are carried over, the same desk under schema 2.
+    /// tables are carried over, the same desk under schema 3.
     pub fn open(
         alloc: Global,
         conn: Connection<S>,
@@ -170,8 +173,7 @@ impl<S: Alter> TableDesk<S> {
             content_seen S.Store d.last.values ≡ c) }
         ensures kept { IfOk result (λ d. (c : Content) → HasCleanDisk (state S.Store d.conn) → HoldsContent c (state S.Store conn) → IsKeptContent c →
             IsKept S.Store d.last.values d.begun.values d.conn d.family) }
-        ensures says { IfOk result (λ d. HasCleanDisk (state S.Store d.conn) → IsTrue (state S.Store conn).is_open ×
-            (SaysSchema (state S.Store conn).now 2 ⊎ SaysSchema (state S.Store conn).now 1)) }
+        ensures says { IfOk result (λ d. HasCleanDisk (state S.Store d.conn) → IsTrue (state S.Store conn).is_open × SaysDesk (state S.Store conn).now) }
         ensures counts { IfOk result (λ d. d.counts ≡ no_faults) }
         ensures why { IfErr result (λ e. IsReason (state S.Store conn) (state S.Store e.1) e.0) }
         ensures desk { (c : Content) → HoldsContent c (state S.Store conn) → IfErr result (λ e. HasCleanDisk (state S.Store e.1) → IsStoreFailure e.0) }
@@ -179,15 +181,15 @@ impl<S: Alter> TableDesk<S> {
             (λ d. (c : Content) → HasCleanDisk (state S.Store d.conn) → HasContent c (state S.Store conn) → IsLeft (state S.Store conn) (state S.Store d.conn))
             (λ e. IsLeft (state S.Store conn) (state S.Store e.1)) }
         ensures other { MatchResult result
-            (λ d. (HasCleanDisk (state S.Store d.conn) → ¬ (SaysSchema (state S.Store conn).now 1)) →
+            (λ d. (HasCleanDisk (state S.Store d.conn) → ¬ (SaysEarlier (state S.Store conn).now)) →
             IsLeft (state S.Store conn) (state S.Store d.conn) × Survives (unlimited (state S.Store conn)) (state S.Store d.conn) (λ _. ⊥))
-            (λ e. (HasCleanDisk (state S.Store e.1) → ¬ (SaysSchema (state S.Store conn).now 1)) → Survives (unlimited (state S.Store conn)) (state S.Store e.1) (λ _. ⊥)) }
+            (λ e. (HasCleanDisk (state S.Store e.1) → ¬ (SaysEarlier (state S.Store conn).now)) → Survives (unlimited (state S.Store conn)) (state S.Store e.1) (λ _. ⊥)) }
         ensures survives { (c : Content) → MatchResult result
             (λ d. (HasCleanDisk (state S.Store d.conn) → HasContent c (state S.Store conn)) → Survives (unlimited (state S.Store conn)) (state S.Store d.conn) (λ _. ⊥))
             (λ e. (HasCleanDisk (state S.Store e.1) → HasContent c (state S.Store conn)) → Survives (unlimited (state S.Store conn)) (state S.Store e.1) (λ _. ⊥)) }
-        ensures crash { (c : Content) → MatchResult result
-            (λ d. (HasCleanDisk (state S.Store d.conn) → HasFirstContent c (state S.Store conn)) → Survives (unlimited (state S.Store conn)) (state S.Store d.conn) (AreTablesOf c))
-            (λ e. (HasCleanDisk (state S.Store e.1) → HasFirstContent c (state S.Store conn)) → Survives (unlimited (state S.Store conn)) (state S.Store e.1) (AreTablesOf c)) }
+        ensures crash { (from : EarlierSchema) (c : Content) → MatchResult result
+            (λ d. (HasCleanDisk (state S.Store d.conn) → HasEarlierContent from c (state S.Store conn)) → Survives (unlimited (state S.Store conn)) (state S.Store d.conn) (AreTablesOf c))
+            (λ e. (HasCleanDisk (state S.Store e.1) → HasEarlierContent from c (state S.Store conn)) → Survives (unlimited (state S.Store conn)) (state S.Store e.1) (AreTablesOf c)) }
     {
         let mut conn = conn;
         conn.set_step_limit(None);

@@ -5,24 +5,32 @@
 ghost use Rattle.std.specs.Prelude.{◌≡◌, ◌≢◌, IfOk, IfErr, OnOk, IsTrue, ⊤};
 ghost use Rattle.sqlite.specs.Held.{state};
 ghost use Rattle.sqlite.specs.State.{HasCleanDisk, Survives};
+ghost use Rattle.std.specs.Option.{option_copied};
 ghost use Rattle.bug_record.specs.Sets.{Each};
+ghost use Rattle.bug_record.specs.Texts.{IsText, IfGiven};
 ghost use Rattle.bug_record.specs.Images.{AreApart, HasMember, IsSetOf, FitsDesk};
 ghost use Rattle.desk_content.specs.Changes.{changed};
-ghost use Rattle.desk_store.specs.Store.{Holds, Asks, Answers, Applies, Branches, IsRefusal, IsImageOf, IsNext, IsOpenHead, AreWaitingOn, AreListed, faults_after, total};
+ghost use Rattle.desk_content.specs.Keeping.{kept_after};
+ghost use Rattle.desk_store.specs.Store.{Holds, Asks, Answers, Applies, Branches, IsRefusal, IsImageOf, IsNext, IsOpenHead, AreWaitingOn, AreListed, Since, MayBeKept, Keeps, faults_after, total};
 ghost use Rattle.desk_text.specs.declared.outcome.StoreFault.TheVariants.{Foreign};
-ghost use Rattle.desk_tables.specs.Kept.{content_seen, desk_seen, IsKept};
+ghost use Rattle.desk_tables.specs.declared.desk.TableDesk.{TableDesk as SeenDesk};
+ghost use Rattle.desk_tables.specs.Kept.{content_seen, desk_seen, keeping_seen, MayKeep, IsKept};
+ghost use Rattle.message_machine.specs.Ids.{IsId};
 ghost use Rattle.desk_tables.specs.Shown.{AreTablesOf, AreTablesAfter};
 
-use crate::calls::{ask_listed, ask_next, ask_set_of, ask_waiting_on};
+use crate::calls::{ask_kept, ask_listed, ask_next, ask_set_of, ask_waiting_on};
 use crate::desk::TableDesk;
 use ancestry::{BranchFault, Node};
 use bug_record::{Change, Numbers, Sequence, SetImage};
 use desk_store::Records;
-use desk_text::{ListRow, StoreFault};
+use desk_text::{ListRow, Outcome, StoreFault};
+use message_machine::Kept;
 use sqlite::Alter;
 
 impl<S: Alter> Records for TableDesk<S> {
     ghost desk = { λ d. desk_seen S.Store d.last.values };
+
+    ghost keeping = { λ d. keeping_seen S.Store d.last.values };
 
     ghost is_kept = { λ d. IsKept S.Store d.last.values d.begun.values d.conn d.family };
 
@@ -39,6 +47,7 @@ impl<S: Alter> Records for TableDesk<S> {
             (Answers (desk_seen S.Store self.old.last.values) (desk_seen S.Store self.new.last.values) result (IsImageOf (desk_seen S.Store self.old.last.values) number)) }
         ensures sure { IsKept S.Store self.old.last.values self.old.begun.values self.old.conn self.old.family → HasCleanDisk (state S.Store self.new.conn) →
             IfErr result (λ fault. fault ≢ Foreign) }
+        ensures stays { keeping_seen S.Store self.new.last.values ≡ keeping_seen S.Store self.old.last.values }
         ensures count { self.new.counts ≡ faults_after result self.old.counts }
         ensures crash { Survives (state S.Store self.old.conn) (state S.Store self.new.conn) (λ _. ⊥) }
     {
@@ -53,6 +62,7 @@ impl<S: Alter> Records for TableDesk<S> {
             (Answers (desk_seen S.Store self.old.last.values) (desk_seen S.Store self.new.last.values) result (IsNext (desk_seen S.Store self.old.last.values))) }
         ensures sure { IsKept S.Store self.old.last.values self.old.begun.values self.old.conn self.old.family → HasCleanDisk (state S.Store self.new.conn) →
             IfErr result (λ fault. fault ≢ Foreign) }
+        ensures stays { keeping_seen S.Store self.new.last.values ≡ keeping_seen S.Store self.old.last.values }
         ensures count { self.new.counts ≡ faults_after result self.old.counts }
         ensures crash { Survives (state S.Store self.old.conn) (state S.Store self.new.conn) (λ _. ⊥) }
     {
@@ -69,6 +79,7 @@ impl<S: Alter> Records for TableDesk<S> {
             (Answers (desk_seen S.Store self.old.last.values) (desk_seen S.Store self.new.last.values) result (AreWaitingOn (desk_seen S.Store self.old.last.values) number)) }
         ensures sure { IsKept S.Store self.old.last.values self.old.begun.values self.old.conn self.old.family → HasCleanDisk (state S.Store self.new.conn) →
             IfErr result (λ fault. fault ≢ Foreign) }
+        ensures stays { keeping_seen S.Store self.new.last.values ≡ keeping_seen S.Store self.old.last.values }
         ensures count { self.new.counts ≡ faults_after result self.old.counts }
         ensures crash { Survives (state S.Store self.old.conn) (state S.Store self.new.conn) (λ _. ⊥) }
     {
@@ -86,6 +97,7 @@ impl<S: Alter> Records for TableDesk<S> {
             (Answers (desk_seen S.Store self.old.last.values) (desk_seen S.Store self.new.last.values) result (AreListed (desk_seen S.Store self.old.last.values) «package».now node.now)) }
         ensures sure { IsKept S.Store self.old.last.values self.old.begun.values self.old.conn self.old.family → HasCleanDisk (state S.Store self.new.conn) →
             IfErr result (λ fault. fault ≢ Foreign) }
+        ensures stays { keeping_seen S.Store self.new.last.values ≡ keeping_seen S.Store self.old.last.values }
         ensures count { self.new.counts ≡ faults_after result self.old.counts }
         ensures crash { Survives (state S.Store self.old.conn) (state S.Store self.new.conn) (λ _. ⊥) }
     {
@@ -105,6 +117,7 @@ impl<S: Alter> Records for TableDesk<S> {
             (Answers (desk_seen S.Store self.old.last.values) (desk_seen S.Store self.new.last.values) result (IsOpenHead (desk_seen S.Store self.old.last.values) image.now)) }
         ensures sure { IsKept S.Store self.old.last.values self.old.begun.values self.old.conn self.old.family → HasCleanDisk (state S.Store self.new.conn) →
             IfErr result (λ fault. fault ≢ Foreign) }
+        ensures stays { keeping_seen S.Store self.new.last.values ≡ keeping_seen S.Store self.old.last.values }
         ensures count { self.new.counts ≡ faults_after result self.old.counts }
         ensures crash { Survives (state S.Store self.old.conn) (state S.Store self.new.conn) (λ _. ⊥) }
     {
@@ -128,6 +141,8 @@ impl<S: Alter> Records for TableDesk<S> {
             (Applies (desk_seen S.Store self.old.last.values) (desk_seen S.Store self.new.last.values) result change.now) }
         ensures sure { IsKept S.Store self.old.last.values self.old.begun.values self.old.conn self.old.family → HasCleanDisk (state S.Store self.new.conn) →
             IfErr result (λ fault. fault ≢ Foreign) }
+        ensures stays { Holds (λ d. IsKept S.Store d.last.values d.begun.values d.conn d.family) (λ d. HasCleanDisk (state S.Store d.conn)) self.old self.new
+            (keeping_seen S.Store self.new.last.values ≡ keeping_seen S.Store self.old.last.values) }
         ensures count { self.new.counts ≡ faults_after result self.old.counts }
         ensures serves { IsKept S.Store self.old.last.values self.old.begun.values self.old.conn self.old.family → HasCleanDisk (state S.Store self.new.conn) →
             OnOk result (IsTrue (state S.Store self.new.conn).is_open) }
@@ -150,6 +165,8 @@ impl<S: Alter> Records for TableDesk<S> {
         ensures refusal { IfOk result IsRefusal }
         ensures sure { IsKept S.Store self.old.last.values self.old.begun.values self.old.conn self.old.family → HasCleanDisk (state S.Store self.new.conn) →
             IfErr result (λ fault. fault ≢ Foreign) }
+        ensures stays { Holds (λ d. IsKept S.Store d.last.values d.begun.values d.conn d.family) (λ d. HasCleanDisk (state S.Store d.conn)) self.old self.new
+            (keeping_seen S.Store self.new.last.values ≡ keeping_seen S.Store self.old.last.values) }
         ensures count { self.new.counts ≡ faults_after result self.old.counts }
         ensures serves { IsKept S.Store self.old.last.values self.old.begun.values self.old.conn self.old.family → HasCleanDisk (state S.Store self.new.conn) →
             IfOk result (λ taken. OnOk taken (IsTrue (state S.Store self.new.conn).is_open)) }
@@ -157,6 +174,63 @@ impl<S: Alter> Records for TableDesk<S> {
             Survives (state S.Store self.old.conn) (state S.Store self.new.conn) (AreTablesAfter (content_seen S.Store self.old.last.values) nodes.now) }
     {
         let done = self.load_and_take(nodes);
+        self.counts.note(done)
+    }
+
+    /// What is kept of the message of this id; `None` where the id is not known.
+    /// Its errors are the store's faults, and `Memory` where there is none for it.
+    fn kept(&mut self, id: &str) -> Result<Option<Kept>, StoreFault>
+        ensures answer { Asks (λ d. IsKept S.Store d.last.values d.begun.values d.conn d.family) (λ d. HasCleanDisk (state S.Store d.conn)) self.old self.new
+            (Answers (desk_seen S.Store self.old.last.values) (desk_seen S.Store self.new.last.values) result (λ kept. kept ≡ keeping_seen S.Store self.old.last.values id.now)) }
+        ensures sure { IsKept S.Store self.old.last.values self.old.begun.values self.old.conn self.old.family → HasCleanDisk (state S.Store self.new.conn) →
+            IfErr result (λ fault. fault ≢ Foreign) }
+        ensures stays { keeping_seen S.Store self.new.last.values ≡ keeping_seen S.Store self.old.last.values }
+        ensures count { self.new.counts ≡ faults_after result self.old.counts }
+        ensures crash { Survives (state S.Store self.old.conn) (state S.Store self.new.conn) (λ _. ⊥) }
+    {
+        self.begun = self.begun.and(&self.conn);
+        let answer = ask_kept(self.alloc, &mut self.conn, id);
+        self.counts.note(answer)
+    }
+
+    /// In one step, keeps an outcome of a line of the message of this id, behind those that are kept
+    /// of it, and carries the line's change out, if there is one.
+    /// Once it has answered `Ok` both are committed, in one transaction: a crash between two calls
+    /// leaves them.
+    /// A crash at any moment of the call leaves what it would have left before, or both.
+    fn keep(
+        &mut self,
+        id: &str,
+        from: &str,
+        message: &str,
+        outcome: &Outcome,
+        change: Option<&Change>,
+    ) -> Result<(), StoreFault>
+        requires id { IsId id.now }
+        requires sender { IsText from.now }
+        requires members { IfGiven (λ (c : Change). Each HasMember c.images) (option_copied change) }
+        requires apart { IsKept S.Store self.old.last.values self.old.begun.values self.old.conn self.old.family → HasCleanDisk (state S.Store self.old.conn) →
+            IfGiven (λ (c : Change). AreApart c.images) (option_copied change) }
+        requires fits { IsKept S.Store self.old.last.values self.old.begun.values self.old.conn self.old.family → HasCleanDisk (state S.Store self.old.conn) →
+            IfGiven (FitsDesk (desk_seen S.Store self.old.last.values)) (option_copied change) }
+        requires next { Since (λ d. IsKept S.Store d.last.values d.begun.values d.conn d.family) (λ d. HasCleanDisk (state S.Store d.conn)) self.old
+            (MayBeKept id.now from.now message.now (keeping_seen S.Store self.old.last.values) (desk_seen S.Store self.old.last.values) outcome.now (option_copied change)) }
+        ensures answer { (earlier : SeenDesk S S.Store) → Holds (λ d. IsKept S.Store d.last.values d.begun.values d.conn d.family) (λ d. HasCleanDisk (state S.Store d.conn)) earlier self.old
+            (MayBeKept id.now from.now message.now (keeping_seen S.Store self.old.last.values) (desk_seen S.Store self.old.last.values) outcome.now (option_copied change.entry)) →
+            Holds (λ d. IsKept S.Store d.last.values d.begun.values d.conn d.family) (λ d. HasCleanDisk (state S.Store d.conn)) earlier self.new
+            (Keeps id.now from.now message.now outcome.now (option_copied change.entry) (desk_seen S.Store self.old.last.values) (keeping_seen S.Store self.old.last.values)
+            result (desk_seen S.Store self.new.last.values) (keeping_seen S.Store self.new.last.values)) }
+        ensures honest { HasCleanDisk (state S.Store self.new.conn) → HasCleanDisk (state S.Store self.old.conn) }
+        ensures sure { MayKeep S.Store self.old.last.values id.now from.now message.now outcome.now (option_copied change.entry) → IsKept S.Store self.old.last.values self.old.begun.values self.old.conn self.old.family → HasCleanDisk (state S.Store self.new.conn) →
+            IfErr result (λ fault. fault ≢ Foreign) }
+        ensures count { self.new.counts ≡ faults_after result self.old.counts }
+        ensures serves { MayKeep S.Store self.old.last.values id.now from.now message.now outcome.now (option_copied change.entry) → IsKept S.Store self.old.last.values self.old.begun.values self.old.conn self.old.family → HasCleanDisk (state S.Store self.new.conn) →
+            OnOk result (IsTrue (state S.Store self.new.conn).is_open) }
+        ensures crash { MayKeep S.Store self.old.last.values id.now from.now message.now outcome.now (option_copied change.entry) → IsKept S.Store self.old.last.values self.old.begun.values self.old.conn self.old.family →
+            Survives (state S.Store self.old.conn) (state S.Store self.new.conn)
+            (AreTablesOf (kept_after id.now from.now message.now outcome.now (option_copied change.entry) (content_seen S.Store self.old.last.values))) }
+    {
+        let done = self.load_and_keep(id, from, message, outcome, change);
         self.counts.note(done)
     }
 
@@ -168,4 +242,6 @@ impl<S: Alter> Records for TableDesk<S> {
     }
 
     ghost sound = { λ d kept. kept.content.sound };
+
+    ghost good = { λ d kept. kept.content.good };
 }

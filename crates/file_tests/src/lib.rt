@@ -8,6 +8,8 @@ mod jobs;
 #[cfg(test)]
 mod refusals;
 #[cfg(test)]
+mod repeats;
+#[cfg(test)]
 mod running;
 #[cfg(test)]
 mod serving;

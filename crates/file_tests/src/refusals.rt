@@ -67,9 +67,9 @@ fn carries_out(rt: &HostRuntime, path: &str, sql: &str) -> bool {
 fn a_later_schema_is_told_with_its_number(rt: HostRuntime) -> Result<(), Fail> {
     fresh(&rt, "later")?;
     assert!(rt; gives(&rt, &["--store=later/d", "init"], "", 0, "OK\n"));
-    assert!(rt; carries_out(&rt, "later/d", "UPDATE meta SET schema = 3"));
+    assert!(rt; carries_out(&rt, "later/d", "UPDATE meta SET schema = 4"));
     let before = fs::read(&rt, "later/d")?;
-    let cause = "bts: the store's file has the schema 3 of a later version\n";
+    let cause = "bts: the store's file has the schema 4 of a later version\n";
     assert!(rt; fails(&rt, &["--store=later/d"], cause));
     assert!(rt; holds(&rt, "later/d", &before));
     Ok(fs::remove_dir_all(&rt, "later")?)

@@ -1,5 +1,4 @@
 pub mod AnyOrder
-pub mod AnswerRows
 pub mod ReadMarks
 pub mod ReadKeys
 pub mod NearKeys

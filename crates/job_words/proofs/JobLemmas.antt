@@ -3,11 +3,12 @@ use Rattle.std.proofs.Common.{◌≡◌, ℕ, ◌&&◌, List, [], ◌∷◌, Boo
 use Rattle.std.specs.Prelude.{if◌then◌else◌, is_none}
 use Rattle.std.specs.Str.{bytes_eq}
 use Rattle.std.proofs.lemmas.Bool.{cases_Bool, cond-true, cond-false}
-use Rattle.bug_record.specs.Texts.{is_text, IsText}
+use Rattle.bug_record.specs.Texts.{is_text, IsText, IfGiven}
+use Rattle.message_machine.specs.Ids.{is_id, IsId}
 use Rattle.job_words.specs.Cut.{Text}
 use Rattle.job_words.specs.Options.{Given}
 use Rattle.job_words.specs.Numbers.{IsWithin}
-use Rattle.job_words.specs.Jobs.{run_job, first_in, init_with, init_job, port_in, count_in, serve_with, serve_job, sender_in, lines_in, send_with, send_job}
+use Rattle.job_words.specs.Jobs.{run_job, first_in, init_with, init_job, port_in, count_in, serve_with, serve_job, sender_in, id_in, lines_in, send_with, send_job}
 use Rattle.job_words.specs.Jobs.{job_of_word, job_of, IsGoodJob}
 use Rattle.job_words.specs.declared.job.Job.{Job}
 use Rattle.job_words.specs.declared.job.Job.TheVariants.{Run, Init, Serve, Send}
@@ -24,7 +25,7 @@ none-good job h = absurd (cc)
 
 run-good : (g : Given) (job : Job) → run_job g ≡ Some job → IsGoodJob job
 run-good g job h =
-    either-good (is_none g.from && is_none g.port && is_none g.count && is_none g.first) (Some (Run g.store)) None job h
+    either-good (is_none g.from && is_none g.id && is_none g.port && is_none g.count && is_none g.first) (Some (Run g.store)) None job h
     (λ e. let is : Run g.store ≡ job = cc in subst IsGoodJob is tt) (none-good job)
 
 init_with-good : (store : Option Text) (first : Option ℕ) (job : Job) → ((n : ℕ) → first ≡ Some n → IsWithin 1 999999999 n)
@@ -35,7 +36,7 @@ init_with-good (Some store) (Some first) job good h = let is : Init store first 
 
 init-good : (g : Given) (job : Job) → init_job g ≡ Some job → IsGoodJob job
 init-good g job h =
-    either-good (is_none g.from && is_none g.port && is_none g.count) (init_with g.store (first_in g.first)) None job h
+    either-good (is_none g.from && is_none g.id && is_none g.port && is_none g.count) (init_with g.store (first_in g.first)) None job h
     (init_with-good g.store (first_in g.first) job
     (λ n e. number_or-within 1 1 999999999 n g.first (record { low = omega arith; high = omega arith }) e)) (none-good job)
 
@@ -52,7 +53,7 @@ serve_with-good store (Some port) (Some count) job ports counts h =
 
 serve-good : (g : Given) (job : Job) → serve_job g ≡ Some job → IsGoodJob job
 serve-good g job h =
-    either-good (is_none g.from && is_none g.first) (serve_with g.store (port_in g.port) (count_in g.count)) None job h
+    either-good (is_none g.from && is_none g.id && is_none g.first) (serve_with g.store (port_in g.port) (count_in g.count)) None job h
     (serve_with-good g.store (port_in g.port) (count_in g.count) job (port_in-within g.port)
     (λ n e. number_or-within 1000000 1 1000000 n g.count (record { low = omega arith; high = omega arith }) e)) (none-good job)
 
@@ -67,18 +68,33 @@ sender_in-text (Some text) s h =
       | inr other ↦ let none : None ≡ Some s = sym (cond-false (is_text text) (Some text) None other) ∙ h in absurd (cc)
     ]
 
-send_with-good : (store from : Option Text) (message : Option (List Text)) (job : Job) → ((s : Text) → from ≡ Some s → IsText s)
-    → send_with store from message ≡ Some job → IsGoodJob job
-send_with-good None from message job good h = absurd (cc)
-send_with-good (Some store) None message job good h = absurd (cc)
-send_with-good (Some store) (Some from) None job good h = absurd (cc)
-send_with-good (Some store) (Some from) (Some message) job good h =
-    let is : Send store from message ≡ job = cc in subst IsGoodJob is (good from refl)
+id_in-id : (value : Option Text) (id : Option Text) → id_in value ≡ Some id → IfGiven IsId id
+id_in-id None id h = let is : None ≡ id = cc in subst (IfGiven IsId) is tt
+id_in-id (Some text) id h =
+    elim (cases_Bool (is_id text)) [
+      | inl good ↦
+          let some : Some (Some text) ≡ Some id = sym (cond-true (is_id text) (Some (Some text)) None good) ∙ h in
+          let is : Some text ≡ id = cc in
+          subst (IfGiven IsId) is good
+      | inr other ↦ let none : None ≡ Some id = sym (cond-false (is_id text) (Some (Some text)) None other) ∙ h in absurd (cc)
+    ]
+
+send_with-good : (store from : Option Text) (id : Option (Option Text)) (message : Option (List Text)) (job : Job)
+    → ((s : Text) → from ≡ Some s → IsText s) → ((o : Option Text) → id ≡ Some o → IfGiven IsId o)
+    → send_with store from id message ≡ Some job → IsGoodJob job
+send_with-good None from id message job good ids h = absurd (cc)
+send_with-good (Some store) None id message job good ids h = absurd (cc)
+send_with-good (Some store) (Some from) None message job good ids h = absurd (cc)
+send_with-good (Some store) (Some from) (Some id) None job good ids h = absurd (cc)
+send_with-good (Some store) (Some from) (Some id) (Some message) job good ids h =
+    let is : Send store from id message ≡ job = cc in subst IsGoodJob is (good from refl, ids id refl)
 
 send-good : (g : Given) (words : List Text) (job : Job) → send_job g words ≡ Some job → IsGoodJob job
 send-good g words job h =
-    either-good (is_none g.port && is_none g.count && is_none g.first) (send_with g.store (sender_in g.from) (lines_in words)) None job h
-    (send_with-good g.store (sender_in g.from) (lines_in words) job (sender_in-text g.from)) (none-good job)
+    either-good (is_none g.port && is_none g.count && is_none g.first)
+    (send_with g.store (sender_in g.from) (id_in g.id) (lines_in words)) None job h
+    (send_with-good g.store (sender_in g.from) (id_in g.id) (lines_in words) job (sender_in-text g.from) (id_in-id g.id))
+    (none-good job)
 
 word-good : (g : Given) (word : Text) (job : Job) → job_of_word g word ≡ Some job → IsGoodJob job
 word-good g word job h =

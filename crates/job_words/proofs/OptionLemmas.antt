@@ -40,10 +40,10 @@ told-of_kinds e kinds Bad h (inl none) = absurd (false≢true (sym h.1 ∙ ap is
 told-of_kinds e kinds Bad h (inr among) = passes (λ k. not (is_help k)) (kind_of e) kinds (ap not h.0) among
 
 pub same_given : (v : Values) (words : List Text) → option_copied v.store ≡ value_in words (codes "store")
-    → option_copied v.from ≡ value_in words (codes "from") → option_copied v.port ≡ value_in words (codes "port")
+    → option_copied v.from ≡ value_in words (codes "from") → option_copied v.id ≡ value_in words (codes "id") → option_copied v.port ≡ value_in words (codes "port")
     → option_copied v.count ≡ value_in words (codes "count") → option_copied v.first ≡ value_in words (codes "first")
     → given_of v ≡ given_in words
-same_given v words store from port count first = rw (store, from, port, count, first) refl
+same_given v words store from id port count first = rw (store, from, id, port, count, first) refl
 
 -- what is told of options is why words with these options are no job
 pub told-of_words : (words : List Text) (told : WordsError) → has_lone_dash (option_words words) ≡ false

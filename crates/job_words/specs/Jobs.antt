@@ -3,7 +3,8 @@
 use Rattle.std.specs.Prelude.{◌≡◌, ◌⊎◌, ⊤, ℕ, ◌&&◌, if◌then◌else◌, false, IsTrue, codes}
 use Rattle.std.specs.Prelude.{List, [], ◌∷◌, Option, Some, None, is_none}
 use Rattle.std.specs.Str.{bytes_eq}
-use Rattle.bug_record.specs.Texts.{is_text, IsText}
+use Rattle.bug_record.specs.Texts.{is_text, IsText, IfGiven}
+use Rattle.message_machine.specs.Ids.{is_id, IsId}
 use Rattle.bts_words.specs.Lines.{first_fault, lines}
 use Rattle.line_words.specs.declared.named.TheConstants.{LARGEST_NUMBER}
 use Rattle.job_words.specs.Cut.{Text, option_words, command_words, has_lone_dash}
@@ -17,7 +18,7 @@ use Rattle.job_words.specs.declared.job.WordsError.TheVariants.{Help, Bad, Memor
 -- `run` has the option `--store`.
 abbrev pub run_job : Given → Option Job
 run_job g =
-    if is_none g.from && is_none g.port && is_none g.count && is_none g.first
+    if is_none g.from && is_none g.id && is_none g.port && is_none g.count && is_none g.first
     then Some (Run g.store) else None
 
 -- the number of the first bug, from 1 to 999,999,999, or 1
@@ -31,7 +32,7 @@ init_with _ _ = None
 -- `init` has `--store`, which is required, and `--first`.
 abbrev pub init_job : Given → Option Job
 init_job g =
-    if is_none g.from && is_none g.port && is_none g.count
+    if is_none g.from && is_none g.id && is_none g.port && is_none g.count
     then init_with g.store (first_in g.first) else None
 
 -- a port, from 1 to 65,535
@@ -50,7 +51,7 @@ serve_with store _ _ = None
 -- `serve` has `--port`, which is required, `--store` and `--count`.
 abbrev pub serve_job : Given → Option Job
 serve_job g =
-    if is_none g.from && is_none g.first
+    if is_none g.from && is_none g.id && is_none g.first
     then serve_with g.store (port_in g.port) (count_in g.count) else None
 
 -- a sender, which is a text of 1 to 200 bytes
@@ -58,19 +59,24 @@ abbrev pub sender_in : Option Text → Option Text
 sender_in None = None
 sender_in (Some text) = if is_text text then Some text else None
 
+-- an id, which may be left out
+abbrev pub id_in : Option Text → Option (Option Text)
+id_in None = Some None
+id_in (Some text) = if is_id text then Some (Some text) else None
+
 -- the lines of a message, if the words are lines (bts(1))
 abbrev pub lines_in : List Text → Option (List Text)
 lines_in words = if is_none (first_fault words) then Some (lines words) else None
 
-abbrev pub send_with : Option Text → Option Text → Option (List Text) → Option Job
-send_with (Some store) (Some from) (Some message) = Some (Send store from message)
-send_with _ _ _ = None
+abbrev pub send_with : Option Text → Option Text → Option (Option Text) → Option (List Text) → Option Job
+send_with (Some store) (Some from) (Some id) (Some message) = Some (Send store from id message)
+send_with _ _ _ _ = None
 
--- A message has `--store` and `--from`, which are required.
+-- A message has `--store` and `--from`, which are required, and `--id`.
 abbrev pub send_job : Given → List Text → Option Job
 send_job g words =
     if is_none g.port && is_none g.count && is_none g.first
-    then send_with g.store (sender_in g.from) (lines_in words) else None
+    then send_with g.store (sender_in g.from) (id_in g.id) (lines_in words) else None
 
 -- the job of a command of one word: `run`, `init` and `serve` are lower case
 abbrev pub job_of_word : Given → Text → Option Job
@@ -95,12 +101,12 @@ abbrev pub IsJobOf : List Text → Job → Type 0
 IsJobOf words job = (has_lone_dash (option_words words) ≡ false)
     × (refusals (option_words words) ≡ []) × (named words ≡ Some job)
 
--- The numbers of a job are in their ranges, and its sender is a text.
+-- The numbers of a job are in their ranges, its sender is a text, and its id is one.
 abbrev pub IsGoodJob : Job → Type 0
 IsGoodJob (Run store) = ⊤
 IsGoodJob (Init store first) = IsWithin 1 LARGEST_NUMBER first
 IsGoodJob (Serve store port count) = IsWithin 1 65535 port × IsWithin 1 1000000 count
-IsGoodJob (Send store from message) = IsText from
+IsGoodJob (Send store from id message) = IsText from × IfGiven IsId id
 
 -- `clap` is asked for help, and no option is a lone `-`.
 abbrev pub IsAskedForHelp : List Text → Type 0

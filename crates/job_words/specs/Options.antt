@@ -24,7 +24,7 @@ without_name a = record a { top = record a.top { no_binary_name = true } }
 -- the program's options; `--help` and `-h` come with every command
 unfoldable pub options : App
 options = with_options (without_name (new_app (codes "bts")))
-    (codes "store" ∷ codes "from" ∷ codes "port" ∷ codes "count" ∷ codes "first" ∷ [])
+    (codes "store" ∷ codes "from" ∷ codes "id" ∷ codes "port" ∷ codes "count" ∷ codes "first" ∷ [])
 
 -- why `clap` refuses the words of options; empty where it takes them
 unfoldable pub refusals : List Text → Kinds
@@ -51,6 +51,7 @@ value_in words name = first_of name (matches_of options words)
 pub record Given : Type 0 where
   pub store : Option Text
   pub from : Option Text
+  pub id : Option Text
   pub port : Option Text
   pub count : Option Text
   pub first : Option Text
@@ -59,6 +60,7 @@ abbrev pub given_in : List Text → Given
 given_in words = record {
   store = value_in words (codes "store");
   from = value_in words (codes "from");
+  id = value_in words (codes "id");
   port = value_in words (codes "port");
   count = value_in words (codes "count");
   first = value_in words (codes "first");

@@ -15,6 +15,7 @@ abbrev pub given_of : Values → Given
 given_of v = record {
   store = option_copied v.store;
   from = option_copied v.from;
+  id = option_copied v.id;
   port = option_copied v.port;
   count = option_copied v.count;
   first = option_copied v.first;

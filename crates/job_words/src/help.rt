@@ -12,7 +12,7 @@ Commands:
   none, or run   Carries out the script on standard input (--store)
   init           Makes the file of a new desk (--store, --first)
   serve          Answers HTTP on 127.0.0.1 (--port, --store, --count)
-  other words    Sends them as one message, as bts(1) does (--store, --from)
+  other words    Sends them as one message, as bts(1) does (--store, --from, --id)
 
 Options stand before the command, and a value follows `=`: --store=desk, not --store desk.
 `init` needs --store, `serve` needs --port, and other words need --store and --from.
@@ -25,6 +25,10 @@ pub(crate) const STORE: &str = "The file of the desk; `run` and `serve` need non
 
 /// What `--from` gives.
 pub(crate) const FROM: &str = "The sender of the message, a text of 1 to 200 bytes";
+
+/// What `--id` gives.
+pub(crate) const ID: &str =
+    "An id of the message, 1 to 100 visible characters: sent again, each line acts once";
 
 /// What `--port` gives.
 pub(crate) const PORT: &str = "The port, 1 to 65535";

@@ -27,9 +27,12 @@ pub enum Job {
         count: u64,
     },
     /// Sends the lines as one message from this sender, a text of 1 to 200 bytes.
+    /// With an id, of 1 to 100 visible ASCII characters, lines that were taken before are not taken
+    /// again.
     Send {
         store: Text,
         from: Text,
+        id: Option<Text>,
         lines: Lines,
     },
 }

@@ -4,7 +4,7 @@ ghost use Rattle.std.specs.Prelude.{◌≡◌, IfOk, map};
 ghost use Rattle.std.specs.Option.{option_copied};
 ghost use Rattle.job_words.specs.Told.{given_of};
 ghost use Rattle.job_words.specs.Jobs.{run_job, init_job, serve_job, send_job, job_of_word, job_of};
-ghost use Rattle.job_words.specs.Jobs.{first_in, port_in, count_in, sender_in};
+ghost use Rattle.job_words.specs.Jobs.{first_in, port_in, count_in, sender_in, id_in};
 
 use crate::job::Job;
 use crate::message::message_lines;
@@ -13,6 +13,7 @@ use crate::options::Values;
 use bug_record::is_text;
 use debver::Text;
 use line_words::LARGEST_NUMBER;
+use message_machine::is_id;
 use std::alloc::{AllocError, Global};
 
 /// The highest port.
@@ -36,6 +37,7 @@ fn run_job(alloc: Global, values: &Values) -> Result<Option<Job>, AllocError>
     ensures { IfOk result (λ job. job ≡ run_job (given_of values.now)) }
 {
     if values.from.is_some()
+        || values.id.is_some()
         || values.port.is_some()
         || values.count.is_some()
         || values.first.is_some()
@@ -57,7 +59,11 @@ fn first_in(text: Option<&str>) -> Option<u64>
 fn init_job(alloc: Global, values: &Values) -> Result<Option<Job>, AllocError>
     ensures { IfOk result (λ job. job ≡ init_job (given_of values.now)) }
 {
-    if values.from.is_some() || values.port.is_some() || values.count.is_some() {
+    if values.from.is_some()
+        || values.id.is_some()
+        || values.port.is_some()
+        || values.count.is_some()
+    {
         return Ok(None);
     }
     let Some(file) = values.store else {
@@ -89,7 +95,7 @@ fn count_in(text: Option<&str>) -> Option<u64>
 fn serve_job(alloc: Global, values: &Values) -> Result<Option<Job>, AllocError>
     ensures { IfOk result (λ job. job ≡ serve_job (given_of values.now)) }
 {
-    if values.from.is_some() || values.first.is_some() {
+    if values.from.is_some() || values.id.is_some() || values.first.is_some() {
         return Ok(None);
     }
     let Some(port) = port_in(values.port) else {
@@ -112,7 +118,23 @@ fn sender_in<'a>(text: Option<&'a str>) -> Option<&'a str>
     }
 }
 
-// The job of a message, with the options `--store` and `--from`.
+// The id that a value is, kept, where there is one; `None` where the value is no id.
+fn id_in(alloc: Global, text: Option<&str>) -> Result<Option<Option<Text>>, AllocError>
+    ensures { IfOk result (λ id. id ≡ id_in (option_copied text.entry)) }
+{
+    match text {
+        Some(text) => {
+            if is_id(text) {
+                Ok(Some(Some(Text::of(alloc, text)?)))
+            } else {
+                Ok(None)
+            }
+        }
+        None => Ok(Some(None)),
+    }
+}
+
+// The job of a message, with the options `--store`, `--from` and `--id`.
 fn send_job(alloc: Global, values: &Values, words: &[&str]) -> Result<Option<Job>, AllocError>
     ensures { IfOk result (λ job.
         job ≡ send_job (given_of values.now) (map (λ s. s.now) words.now)) }
@@ -126,12 +148,20 @@ fn send_job(alloc: Global, values: &Values, words: &[&str]) -> Result<Option<Job
     let Some(sender) = sender_in(values.from) else {
         return Ok(None);
     };
+    let Some(id) = id_in(alloc, values.id)? else {
+        return Ok(None);
+    };
     let Some(lines) = message_lines(alloc, words)? else {
         return Ok(None);
     };
     let store = Text::of(alloc, file)?;
     let from = Text::of(alloc, sender)?;
-    Ok(Some(Job::Send { store, from, lines }))
+    Ok(Some(Job::Send {
+        store,
+        from,
+        id,
+        lines,
+    }))
 }
 
 // The job of a command of one word.

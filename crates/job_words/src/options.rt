@@ -18,6 +18,7 @@ use std::alloc::{AllocError, Global};
 pub(crate) struct Values<'a> {
     pub store: Option<&'a str>,
     pub from: Option<&'a str>,
+    pub id: Option<&'a str>,
     pub port: Option<&'a str>,
     pub count: Option<&'a str>,
     pub first: Option<&'a str>,
@@ -61,6 +62,7 @@ fn option_command<'a>(alloc: Global) -> Result<Command<'a>, AllocError>
     let command = no_options(alloc);
     let command = with_option(alloc, command, "store", "FILE", help::STORE)?;
     let command = with_option(alloc, command, "from", "TEXT", help::FROM)?;
+    let command = with_option(alloc, command, "id", "TEXT", help::ID)?;
     let command = with_option(alloc, command, "port", "N", help::PORT)?;
     let command = with_option(alloc, command, "count", "N", help::COUNT)?;
     with_option(alloc, command, "first", "N", help::FIRST)
@@ -119,6 +121,7 @@ pub(crate) fn read_values<'a>(alloc: Global, words: &'a [&'a str]) -> Result<Val
     Ok(Values {
         store: matches.get_str("store"),
         from: matches.get_str("from"),
+        id: matches.get_str("id"),
         port: matches.get_str("port"),
         count: matches.get_str("count"),
         first: matches.get_str("first"),

@@ -64,10 +64,10 @@ abbrev cells_of : ℕ → ℕ → Row
 cells_of n next = eval_all terms (params_of next ∷ meta_cells n ∷ [])
 
 row_is : (n next : ℕ) → changed_row meta_table (cells_of n next) ≡ meta_cells next
-row_is n next = rw (cast_null, cast_int (pos 1), cast_int (pos 2), cast_int (pos next)) refl
+row_is n next = rw (cast_null, cast_int (pos 1), cast_int (pos 3), cast_int (pos next)) refl
 
 rows_are : (db : Trees) (n next : ℕ) → db META ≡ meta_cells n ∷ [] → edited db (update_edit db meta_table (cells_of n next)) ≡ meta_cells next ∷ []
-rows_are db n next is = rw (is, same_number 1 1, cast_null, cast_int (pos 1), cast_int (pos 2), cast_int (pos next)) refl
+rows_are db n next is = rw (is, same_number 1 1, cast_null, cast_int (pos 1), cast_int (pos 3), cast_int (pos next)) refl
 
 writes : (next : ℕ) (old new : State) (count : ℕ) → IsInside old → ExecutesInside 0 write_text (params_of next) old new (Ok count) → Makes old new (λ c. record c { next = next })
 writes next old new count inside h =

@@ -6,12 +6,13 @@ ghost use Rattle.script_tests.specs.Fails.{faults_with};
 use ancestry::{BranchFault, Node};
 use bug_record::{Change, Numbers, Sequence, SetImage};
 use desk_store::Records;
-use desk_text::{ListRow, StoreFault};
+use desk_text::{ListRow, Outcome, StoreFault};
+use message_machine::Kept;
 
 /// A store round another.
-/// One call of `set_of`, `next`, `open_head`, `waiting_on`, `listed`, `apply` or `branch` answers
-/// this fault, and changes nothing; every other call is the other store's.
-/// Its calls are counted, and the images of the changes that it is given.
+/// One call of `set_of`, `next`, `open_head`, `waiting_on`, `listed`, `kept`, `apply`, `branch` or
+/// `keep` answers this fault, and changes nothing; every other call is the other store's.
+/// Its calls are counted, and the images of the changes that `apply` is given.
 #[derive(Drop)]
 pub(crate) struct Fails<S> {
     inner: S,
@@ -41,7 +42,7 @@ impl<S: Records> Fails<S> {
         self.calls
     }
 
-    /// How many images the changes had that it was to apply.
+    /// How many images the changes had that `apply` was given.
     pub fn images(&self) -> usize {
         self.images
     }
@@ -62,6 +63,8 @@ impl<S: Records> Fails<S> {
 
 impl<S: Records> Records for Fails<S> {
     ghost desk = { λ s. S.desk s.inner };
+
+    ghost keeping = { λ s. S.keeping s.inner };
 
     ghost is_kept = { λ s. S.is_kept s.inner };
 
@@ -121,6 +124,27 @@ impl<S: Records> Records for Fails<S> {
         self.inner.branch(nodes)
     }
 
+    fn kept(&mut self, id: &str) -> Result<Option<Kept>, StoreFault> {
+        if self.is_due() {
+            return Err(self.fault);
+        }
+        self.inner.kept(id)
+    }
+
+    fn keep(
+        &mut self,
+        id: &str,
+        from: &str,
+        message: &str,
+        outcome: &Outcome,
+        change: Option<&Change>,
+    ) -> Result<(), StoreFault> {
+        if self.is_due() {
+            return Err(self.fault);
+        }
+        self.inner.keep(id, from, message, outcome, change)
+    }
+
     fn faults(&self) -> u64 {
         let faults = self.inner.faults();
         if !self.has_failed {
@@ -135,4 +159,6 @@ impl<S: Records> Records for Fails<S> {
     }
 
     ghost sound = { λ s kept. S.sound s.inner kept };
+
+    ghost good = { λ s kept. S.good s.inner kept };
 }

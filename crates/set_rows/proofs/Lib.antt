@@ -6,7 +6,6 @@ pub mod AddBug
 pub mod ClearBug
 pub mod ReadKey
 pub mod ReadMembers
-pub mod MemberRows
 pub mod AddMark
 pub mod ClearMarks
 pub mod ReadMarks

@@ -5,6 +5,7 @@ pub mod OrderLemmas
 pub mod RowLemmas
 pub mod ChangeLemmas
 pub mod AnswerLemmas
+pub mod RowsInOrder
 pub mod RefusalLemmas
 pub mod ErrorLemmas
 pub mod FailLemmas

@@ -2,9 +2,10 @@
 
 use crate::example::Example;
 use crate::questions::{are_answered_well, ask_all};
-use crate::words::{call_all, run_into};
+use crate::words::call_all;
 use desk_run::{Records, ScriptEnd, ScriptFault};
 use std::alloc::{AllocError, Global};
+use test_desks::run_into;
 
 // Takes a line of a script, and adds it to the script, without its sign.
 fn take_part(example: &mut Example, script: &mut String) -> Result<(), AllocError> {

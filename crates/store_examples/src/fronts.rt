@@ -1,8 +1,8 @@
 //! What a desk in memory tells of each front of a script.
 
-use crate::words::{answer_to, run_into};
 use desk_run::PlainDesk;
 use std::alloc::{AllocError, Global};
+use test_desks::{answer_to, run_into};
 
 /// What is asked of a desk after the questions: it tells the next number.
 const REPORT: &str = "@report foo - normal the last one\n";

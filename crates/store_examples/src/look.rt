@@ -1,13 +1,12 @@
 //! What the desk in files shows, whatever has become of them.
 
-use crate::desks::open;
-use crate::disks::{connected, files_of};
 use crate::schema::{Schema, schema_of};
-use crate::words::run_into;
 use sqlite::{Alter, Connection};
 use sqlite_disk::{Disk, Files};
 use sqlite_pager::Options;
 use std::alloc::Global;
+use std::io;
+use test_desks::{Disks, connected, copy_of, files_of, open, run_into};
 
 /// What the files of a desk show.
 #[derive(Drop)]
@@ -74,4 +73,12 @@ impl Look {
             Err(files) => files,
         }
     }
+}
+
+/// Under which schema the desk in files is.
+pub(crate) fn schema_in(alloc: Global, files: &Disks) -> io::Result<Schema> {
+    let files = copy_of(alloc, files, u64::MAX, u64::MAX)?;
+    let mut look = Look::new(alloc);
+    drop(look.look_over(alloc, files, Options::new(1), ""));
+    Ok(look.found)
 }

@@ -2,10 +2,7 @@
 //! them.
 #![tactic(auto)]
 
-mod bases;
 mod desk_calls;
-mod desks;
-mod disks;
 mod example;
 mod fronts;
 mod held;

@@ -1,15 +1,14 @@
 //! A script over a desk that is short of memory, with a little more of it in each run.
 
-use crate::bases::new_desk;
-use crate::disks::{Disks, copy_of};
 use crate::fronts::{Fronts, Reach};
-use crate::outcomes::{Judge, left_of};
+use crate::outcomes::Judge;
 use crate::trial::{Trial, Work};
 use control_text::number_word;
 use desk_run::PlainDesk;
 use sqlite_pager::Options;
 use std::alloc::Global;
 use std::io;
+use test_desks::{Disks, copy_of, left_of, new_desk};
 
 /// More runs than any sweep has.
 const MOST_RUNS: usize = 100_000;

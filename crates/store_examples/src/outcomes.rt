@@ -1,26 +1,20 @@
 //! What files hold once their use has ended at some call, and what the desks in them show.
 
-use crate::disks::{Disks, file_of};
 use crate::fronts::{Fronts, Reach};
 use crate::look::Look;
 use crate::schema::Schema;
-use sqlite_disk::{Crash, Files, Fuse, Memory};
+use sqlite_disk::Files;
 use sqlite_pager::Options;
-use std::alloc::{AllocError, Global};
+use std::alloc::Global;
 use std::io;
-
-/// What a file holds as it is, and once the machine has stopped.
-#[derive(Drop)]
-pub(crate) struct Left {
-    pub written: Vec<u8>,
-    pub synced: Vec<u8>,
-}
+use test_desks::{Disks, file_of, left_of};
 
 /// The schemas under which desks were found.
 #[derive(Clone, Copy)]
 pub(crate) struct Found {
     pub first: bool,
     pub second: bool,
+    pub third: bool,
 }
 
 /// What the desks in files are compared with, and what was found of them.
@@ -29,15 +23,6 @@ pub(crate) struct Judge<'a> {
     pub fronts: &'a Fronts,
     pub options: Options,
     pub found: Found,
-}
-
-/// What a file holds.
-pub(crate) fn left_of(alloc: Global, file: Fuse<Memory>) -> Result<Left, AllocError> {
-    let mut file = file;
-    let written = Vec::from_slice(alloc, file.inner().bytes())?;
-    file.crash();
-    let synced = Vec::from_slice(alloc, file.inner().bytes())?;
-    Ok(Left { written, synced })
 }
 
 impl<'a> Judge<'a> {
@@ -49,6 +34,7 @@ impl<'a> Judge<'a> {
             found: Found {
                 first: false,
                 second: false,
+                third: false,
             },
         }
     }
@@ -58,6 +44,7 @@ impl<'a> Judge<'a> {
         match found {
             Schema::First => self.found.first = true,
             Schema::Second => self.found.second = true,
+            Schema::Third => self.found.third = true,
             Schema::Other => {}
         }
         found != Schema::Other
@@ -75,8 +62,8 @@ impl<'a> Judge<'a> {
         Ok(look)
     }
 
-    /// Whether the files with these bytes have a desk in this reach, under either schema, and under
-    /// schema 2 once it was opened.
+    /// Whether the files with these bytes have a desk in this reach, under one of the schemas, and
+    /// under schema 3 once it was opened.
     pub fn is_shown(
         &mut self,
         alloc: Global,
@@ -86,7 +73,7 @@ impl<'a> Judge<'a> {
     ) -> io::Result<bool> {
         let look = self.look(alloc, log, db)?;
         let is_found = self.note(look.found);
-        Ok(is_found && look.left == Schema::Second && self.fronts.shows(reach, &look.text))
+        Ok(is_found && look.left == Schema::Third && self.fronts.shows(reach, &look.text))
     }
 
     /// Whether there is such a desk, whichever of the files loses what was not synced.

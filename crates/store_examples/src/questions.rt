@@ -1,8 +1,8 @@
 //! Questions that are asked of a desk before its disk fails, and again after that.
 
-use crate::words::answer_to;
 use desk_run::Records;
 use std::alloc::{AllocError, Global};
+use test_desks::answer_to;
 
 /// What is asked.
 const QUESTIONS: [&str; 5] = [

@@ -1,8 +1,6 @@
 //! Random scripts, each over a desk in memory, a desk in tables, and a desk in tables that is closed
 //! and opened before each directive.
 
-use crate::desks::{Made, create, open};
-use crate::disks::{connected, files_of, limited, new_disks};
 use crate::lines::Maker;
 use crate::told::{Task, Told};
 use control_text::number_word;
@@ -12,6 +10,7 @@ use sqlite_disk::{Disk, Files};
 use sqlite_pager::Options;
 use std::alloc::{AllocError, Global};
 use std::io;
+use test_desks::{Made, connected, create, files_of, limited, new_disks, open};
 
 // What is done over files.
 #[derive(Clone, Copy)]

@@ -7,8 +7,10 @@ use sqlite::{Alter, Connection};
 pub(crate) enum Schema {
     /// Schema 1, with no table of the packages that are affected.
     First,
-    /// Schema 2, with that table.
+    /// Schema 2, with that table, and with none of messages.
     Second,
+    /// Schema 3, with those of messages.
+    Third,
     Other,
 }
 
@@ -25,9 +27,13 @@ pub(crate) fn number_asked<S: Alter>(conn: &mut Connection<S>, sql: &str) -> Opt
 pub(crate) fn schema_of<S: Alter>(conn: &mut Connection<S>) -> Schema {
     let number = number_asked(conn, "SELECT schema FROM meta");
     let affected = number_asked(conn, "SELECT count(*) FROM affects");
-    match (number, affected) {
-        (Some(1), None) => Schema::First,
-        (Some(2), Some(_)) => Schema::Second,
+    let messages = number_asked(conn, "SELECT count(*) FROM messages");
+    let outcomes = number_asked(conn, "SELECT count(*) FROM outcomes");
+    let numbers = number_asked(conn, "SELECT count(*) FROM outcome_numbers");
+    match (number, affected, messages, outcomes, numbers) {
+        (Some(1), None, None, None, None) => Schema::First,
+        (Some(2), Some(_), None, None, None) => Schema::Second,
+        (Some(3), Some(_), Some(_), Some(_), Some(_)) => Schema::Third,
         _ => Schema::Other,
     }
 }

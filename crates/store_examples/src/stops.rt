@@ -1,33 +1,16 @@
 //! A script over a desk in tables whose disk stops at each of its calls in turn.
 
-use crate::bases::{new_desk, schema_in};
-use crate::disks::{Disks, copy_of, disks_in};
 use crate::fronts::Fronts;
+use crate::look::schema_in;
 use crate::outcomes::{Found, Judge};
 use crate::schema::Schema;
 use crate::trial::{Trial, Work};
-use sqlite_disk::{Disk, Fuse, Memory};
-use sqlite_pager::Options;
 use std::alloc::Global;
 use std::{fs, io};
-
-/// Little memory and a short log, so that pages spill and are copied into the database file.
-const TIGHT: Options = Options {
-    cache_pages: 4,
-    spill_pages: 4,
-    checkpoint_frames: 8,
-    seed: 1,
-};
+use test_desks::{Disks, Setting, disks_in, goes_on, new_desk, setting_of, stopping};
 
 /// More calls than any run makes.
 const MOST_CALLS: u64 = 100_000;
-
-// Which file stops, and how the files are used.
-#[derive(Clone, Copy)]
-struct Setting {
-    is_log: bool,
-    options: Options,
-}
 
 // What comes of a run whose file stops after so many calls.
 #[derive(Clone, Copy)]
@@ -37,49 +20,6 @@ enum Stop {
     // So many lines were answered.
     After(usize),
     Wrong,
-}
-
-// What a line asks for, if it names a file.
-fn setting_of(line: &str) -> Option<Setting> {
-    let (file, rest) = line.split_once(' ').unwrap_or((line, ""));
-    let options = match rest {
-        "tight" => TIGHT,
-        _ => Options::new(1),
-    };
-    match file {
-        "log" => Some(Setting {
-            is_log: true,
-            options,
-        }),
-        "database" => Some(Setting {
-            is_log: false,
-            options,
-        }),
-        _ => None,
-    }
-}
-
-// Whether a file passes a further call on.
-fn passes_on(file: &mut Fuse<Memory>) -> bool {
-    file.may_be_used() && file.len().is_ok()
-}
-
-// The files of a base, of which one stops after so many calls.
-fn stopping(alloc: Global, base: &Disks, is_log: bool, calls: u64) -> io::Result<Disks> {
-    if is_log {
-        copy_of(alloc, base, calls, u64::MAX)
-    } else {
-        copy_of(alloc, base, u64::MAX, calls)
-    }
-}
-
-// Whether the file that stops passes a further call on.
-fn goes_on(files: &mut Disks, is_log: bool) -> bool {
-    if is_log {
-        passes_on(&mut files.log)
-    } else {
-        passes_on(&mut files.db)
-    }
 }
 
 // Runs the script over files of which one stops after so many calls.
@@ -120,12 +60,13 @@ fn are_all_met(fronts: &Fronts, met: &[usize]) -> bool {
     true
 }
 
-// Whether stops leave the desk under the schemas that they may: where it began under schema 1 under
-// that one, and, where the log stops, under schema 2 too.
+// Whether stops leave the desk under the schemas that they may: under that under which it began, and,
+// where that is an earlier one and the log stops, under schema 3 too.
 fn are_found(began: Schema, is_log: bool, found: Found) -> bool {
     match began {
-        Schema::First => found.first && (found.second || !is_log),
-        Schema::Second => found.second && !found.first,
+        Schema::First => found.first && !found.second && (found.third || !is_log),
+        Schema::Second => found.second && !found.first && (found.third || !is_log),
+        Schema::Third => found.third && !found.first && !found.second,
         Schema::Other => false,
     }
 }

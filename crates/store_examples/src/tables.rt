@@ -1,8 +1,6 @@
 //! Calls on desks in tables, and statements of SQL between them.
 
 use crate::desk_calls::take_lines;
-use crate::desks::{Made, create, open};
-use crate::disks::{Disks, connected, disks_in, files_of, limited, new_disks};
 use crate::example::Example;
 use crate::schema::number_asked;
 use control_text::number_word;
@@ -12,6 +10,7 @@ use sqlite_disk::{Disk, Files};
 use sqlite_pager::Options;
 use std::alloc::Global;
 use std::io;
+use test_desks::{Disks, Made, connected, create, disks_in, files_of, limited, new_disks, open};
 
 // What is asked of a connection.
 #[derive(Clone, Copy)]

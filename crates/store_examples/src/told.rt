@@ -1,9 +1,9 @@
 //! What a desk tells of a script.
 
 use crate::report::Report;
-use crate::words::run_into;
 use desk_run::{Records, ScriptEnd, ScriptFault};
 use std::alloc::{AllocError, Global};
+use test_desks::run_into;
 
 /// What is asked of each desk at the end.
 const QUESTIONS: &str = "@show 1\n@show 2\n@show 3\n@show 4\n@show 5\n@show 6\n@show 7\n@show 8

@@ -1,16 +1,14 @@
 //! A script over the desk in files, whatever becomes of them, and what it leaves.
 
-use crate::desks::open;
-use crate::disks::{connected, files_of};
 use crate::fronts::{DEVICE, Fronts, MEMORY, Reach};
 use crate::held::Held;
-use crate::words::run_into;
 use desk_run::{Records, ScriptEnd, ScriptFault};
 use desk_text::StoreFault;
 use sqlite::{Alter, Connection};
 use sqlite_disk::{Disk, Files};
 use sqlite_pager::Options;
 use std::alloc::{AllocError, Global};
+use test_desks::{connected, files_of, open, run_into};
 
 /// What a script wrote, how it ended, and how often the store failed.
 #[derive(Drop)]

@@ -1,9 +1,10 @@
-//! Scripts on a store, as words for the calls that they make.
+//! Scripts that make each call of a store.
 
-use desk_run::{Records, ScriptEnd, ScriptFault, run_script};
+use desk_run::Records;
 use std::alloc::Global;
+use test_desks::answer_to;
 
-/// Scripts that make each call of a store.
+/// The scripts.
 const CALLS: [&str; 11] = [
     "@show 1",
     "@show 2",
@@ -17,24 +18,6 @@ const CALLS: [&str; 11] = [
     "@branch foo/1",
     "@branch foo/9 foo/8 foo/3",
 ];
-
-/// Runs a script, and adds what it writes to a text.
-pub(crate) fn run_into<S: Records>(
-    alloc: Global,
-    store: &mut S,
-    script: &str,
-    text: &mut Vec<u8>,
-) -> Result<ScriptEnd, ScriptFault> {
-    let mut reader = script.as_bytes();
-    run_script(alloc, store, &mut reader, text)
-}
-
-/// What a script writes.
-pub(crate) fn answer_to<S: Records>(alloc: Global, store: &mut S, script: &str) -> Vec<u8> {
-    let mut answer = Vec::new(alloc);
-    let _ = run_into(alloc, store, script, &mut answer);
-    answer
-}
 
 /// Makes each call, and tells that they returned.
 pub(crate) fn call_all<S: Records>(alloc: Global, store: &mut S) -> &'static str {

@@ -1,7 +1,7 @@
 use Rattle.std.proofs.Common.{sym, ap, subst}
 use Rattle.sqlite.specs.Files.{file_state}
 use Rattle.sqlite.specs.State.{HasCleanDisk}
-use Rattle.desk_content.specs.View.{desk_in}
+use Rattle.desk_content.specs.View.{desk_in, keeping_in}
 use Rattle.desk_tables.specs.Shown.{HoldsContent}
 use Rattle.bts_jobs.specs.InFile.{IsOpenCause}
 use Rattle.desk_tables.proofs.HeldLemmas.{holds_tables}
@@ -18,6 +18,7 @@ returns-in-Ok-clause-opened g c = record {
       ((c.requires.found clean).holds held.trees held.database) held.tables in (
         c.in-Ok.ensures.kept content honest holds held.kept,
         ap desk_in (c.in-Ok.ensures.content content honest holds),
+        ap keeping_in (c.in-Ok.ensures.content content honest holds),
       );
 }
 

@@ -25,7 +25,7 @@ returns g c =
                   written_before = g.W.Write.contents c.args.writer.now;
                   written = g.W.Write.contents c.run_script_over-end.new.writer;
                 }) over.result)
-                c.new-desk.ensures ((over.ran.fact tt tt).known input left);
+                c.new-desk.ensures.desk ((over.ran.fact tt tt).known input left);
             end_is = over.end_is;
           };
     }

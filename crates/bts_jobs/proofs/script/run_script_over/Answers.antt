@@ -6,6 +6,7 @@ returns g c = record {
   end_is = c.end_of.ensures;
   rest = g.R.Read.remaining c.run_script.new.reader;
   ran = c.run_script.ensures.answer;
+  stays = c.run_script.ensures.stays;
   read = c.run_script.ensures.read;
   begun = c.run_script.ensures.begun;
   counts = c.run_script.ensures.count;

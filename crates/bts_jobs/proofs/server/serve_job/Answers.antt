@@ -1,5 +1,7 @@
 use Rattle.std.proofs.Common.{subst}
-use Rattle.bug_record.specs.Desk.{Desk}
+use Rattle.desk_answers.proofs.RepeatLemmas.{stored_same}
+use Rattle.desk_answers.specs.Stored.{Stored}
+use Rattle.desk_store.specs.KeptMessages.{keeping_of}
 use Rattle.desk_store.specs.Store.{no_faults}
 use Rattle.desk_places.specs.Plain.{desk_of}
 use Rattle.desk_server.specs.Serving.{IsInTurn}
@@ -11,15 +13,16 @@ pub returns : goal.returns
 returns g c =
     let over = c.serve_over-end.ensures in
     let new = c.serve_over-end.new.desk in
+    let last : Stored = record { desk = desk_of new.bugs new.tree new.next; kept = keeping_of new.messages } in
     record {
       result = over.result;
       end_is = over.end_is;
       told = over.told;
       bind = λ e. (over.bind e).1;
-      last = (desk_of new.bugs new.tree new.next, no_faults);
+      last = (last, no_faults);
       served = serves_weaker over.result
-          (λ s. subst (λ (d : Desk). IsInTurn c.args.count (d, no_faults) (desk_of new.bugs new.tree new.next, no_faults)
-          over.result) c.new-desk.ensures
+          (λ s. subst (λ (d : Stored). IsInTurn c.args.count (d, no_faults) (last, no_faults) over.result)
+          (stored_same c.new-desk.ensures.desk c.new-desk.ensures.kept)
           (in_turn _ _ _ _ c.args.count _ new over.result s tt tt))
           over.served;
     }

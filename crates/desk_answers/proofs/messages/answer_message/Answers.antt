@@ -1,6 +1,6 @@
 use Rattle.std.proofs.Common.{◌≡◌, ◌∙◌, List, ℕ, subst, string_bytes}
 use Rattle.desk_lines.specs.Lines.{lines_of}
-use Rattle.desk_store.specs.Message.{IsReceived}
+use Rattle.message_machine.specs.Message.{IsReceived}
 use Rattle.desk_store.proofs.HoldsLemmas.{holds_weaker}
 use Rattle.desk_answers.specs.Requests.{PostControl}
 use Rattle.desk_answers.specs.Faults.{IsAnswer}

@@ -7,3 +7,6 @@ returns-clause-desk c = λ first. refl
 
 pub returns-clause-kept : goal.returns-clause-kept
 returns-clause-kept c = new_kept
+
+pub returns-clause-keeping : goal.returns-clause-keeping
+returns-clause-keeping c = λ first. refl

@@ -1,5 +1,9 @@
 use Rattle.desk_content.proofs.TagLemmas.{read_back}
+use Rattle.desk_content.proofs.OutcomeLemmas.{outcome_back}
 use Rattle.desk_content.proofs.laws.numbers_are_read_back.Goals as goal
 
 pub returns-clause-tags : goal.returns-clause-tags
 returns-clause-tags c = read_back
+
+pub returns-clause-outcomes : goal.returns-clause-outcomes
+returns-clause-outcomes c = outcome_back

@@ -10,4 +10,4 @@ returns-clause-either g c =
 pub returns-clause-done : goal.returns-clause-done
 returns-clause-done g c =
     done_change g.S.Store c.args.desk c.apply-done.new.self c.crash_and_open-again.result c.crash_and_open-again.ensures.left c.crash_and_open-again.ensures.honest g.met.S.Store.settled
-    c.args.change.now c.apply-done.result c.apply-done.ensures.answer c.apply-done.ensures.serves
+    c.args.change.now c.apply-done.result c.apply-done.ensures.answer c.apply-done.ensures.stays c.apply-done.ensures.serves

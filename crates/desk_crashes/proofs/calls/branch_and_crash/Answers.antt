@@ -9,4 +9,4 @@ returns-clause-either g c =
 pub returns-clause-done : goal.returns-clause-done
 returns-clause-done g c =
     done_branch g.S.Store c.args.desk c.branch-taken.new.self c.crash_and_open-again.result c.crash_and_open-again.ensures.left c.crash_and_open-again.ensures.honest g.met.S.Store.settled
-    c.args.nodes.now c.branch-taken.result c.branch-taken.ensures.answer c.branch-taken.ensures.serves
+    c.args.nodes.now c.branch-taken.result c.branch-taken.ensures.answer c.branch-taken.ensures.stays c.branch-taken.ensures.serves

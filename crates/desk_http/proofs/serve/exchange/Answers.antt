@@ -6,6 +6,7 @@ use Rattle.request_reading.specs.declared.head.Head.{Head}
 use Rattle.desk_store.proofs.HoldsLemmas.{holds_none, holds_weaker}
 use Rattle.desk_answers.specs.Faults.{counted_with}
 use Rattle.desk_answers.specs.Shown.{shown}
+use Rattle.desk_answers.specs.Stored.{stored}
 use Rattle.desk_http.specs.Exchange.{IsRight}
 use Rattle.desk_http.specs.Shown.{asks}
 use Rattle.desk_http.proofs.ExchangeLemmas.{complete_right, asked_right, memory_right, not_wrong}
@@ -16,7 +17,7 @@ pub returns-in-Err-Memory-clause-answer : goal.returns-in-Err-Memory-clause-answ
 returns-in-Err-Memory-clause-answer g c =
     let before = g.R.Read.remaining c.args.reader.now in
     let after = g.R.Read.remaining c.read_head.new.reader in
-    let desk = g.S.Records.desk c.args.store.now in
+    let desk = stored g.S.Records.desk g.S.Records.keeping c.args.store.now in
     let faults = g.S.Records.faults c.args.store.now in
     let buf = c.read_head.new.buf in
     let headers = c.read_head.new.headers in
@@ -37,7 +38,7 @@ pub returns-in-Ok-ask-clause-answer : goal.returns-in-Ok-ask-clause-answer
 returns-in-Ok-ask-clause-answer g c =
     let before = g.R.Read.remaining c.args.reader.now in
     let after = g.R.Read.remaining c.read_head.new.reader in
-    let desk = g.S.Records.desk in
+    let desk = stored g.S.Records.desk g.S.Records.keeping in
     let buf = c.read_head.new.buf in
     let headers = c.read_head.new.headers in
     let spans = c.in-Complete.spans in

@@ -1,6 +1,6 @@
 use Rattle.std.proofs.Common.{◌≡◌, Ok, Err, rules}
 use Rattle.sqlite.specs.Held.{state}
-use Rattle.desk_schema.specs.Tables.{first_schema, desk_schema}
+use Rattle.desk_schema.specs.Tables.{first_schema, second_schema}
 use Rattle.desk_making.specs.Making.{IsBuilt}
 use Rattle.desk_making.proofs.BuildLemmas.{builds_run, builds_then, builds_stop}
 use Rattle.desk_making.proofs.AffectTexts.{with_affects, affects_text, affects_by_package_text, makes_affects, makes_affects_by_package}
@@ -12,7 +12,7 @@ returns-in_err-make-clause-builds g c = λ rows none.
     let is : c.from_residual.result ≡ Err fault = search rules in
     let old = state g.S.Store c.args.tx.now.conn.now in
     let mid = state g.S.Store c.make.new.tx.conn.now in
-    rw is (builds_stop (IsBuilt rows first_schema) (IsBuilt rows with_affects) (IsBuilt rows desk_schema) old mid fault
+    rw is (builds_stop (IsBuilt rows first_schema) (IsBuilt rows with_affects) (IsBuilt rows second_schema) old mid fault
     (builds_run affects_text (IsBuilt rows first_schema) (IsBuilt rows with_affects) (makes_affects rows none) old mid (Err fault) c.in_err-make.ensures.runs))
 
 pub returns-clause-builds : goal.returns-clause-builds
@@ -21,5 +21,5 @@ returns-clause-builds g c = λ rows none.
     let mid = state g.S.Store c.make.new.tx.conn.now in
     let new = state g.S.Store c.make-2.new.tx.conn.now in
     let one = builds_run affects_text (IsBuilt rows first_schema) (IsBuilt rows with_affects) (makes_affects rows none) old mid (Ok tt) c.in_ok-make.ensures.runs in
-    builds_then (IsBuilt rows first_schema) (IsBuilt rows with_affects) (IsBuilt rows desk_schema) old mid new c.make-2.result one
-    (builds_run affects_by_package_text (IsBuilt rows with_affects) (IsBuilt rows desk_schema) (makes_affects_by_package rows) mid new c.make-2.result c.make-2.ensures.runs)
+    builds_then (IsBuilt rows first_schema) (IsBuilt rows with_affects) (IsBuilt rows second_schema) old mid new c.make-2.result one
+    (builds_run affects_by_package_text (IsBuilt rows with_affects) (IsBuilt rows second_schema) (makes_affects_by_package rows) mid new c.make-2.result c.make-2.ensures.runs)

@@ -7,6 +7,7 @@ pub loop-number-preserved : goal.loop-number-preserved
 loop-number-preserved g c = record {
   apart = c.in-Ok.ensures.apart;
   bugs = c.in-Ok.ensures.bugs;
+  stays = c.in-Ok.ensures.stays ∙ c.loop-number.invariant.stays;
   faults = c.in-Ok.ensures.count ∙ c.loop-number.invariant.faults;
   gathered = asks_then c.loop-number.invariant.gathered c.in-Ok.ensures.answer
       (λ p q. (

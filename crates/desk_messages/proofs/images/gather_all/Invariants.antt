@@ -10,6 +10,7 @@ abbrev pub invariant-loop-number : goal.invariant-loop-number
 invariant-loop-number g l = record {
   apart : AreApart l.images;
   bugs : Lists (contains nat_cmp l.bugs) l.images;
+  stays : g.S.Records.keeping l.store ≡ g.S.Records.keeping l.fn.store;
   faults : g.S.Records.faults l.store ≡ g.S.Records.faults l.fn.store;
   gathered : Asks g.S.Records.is_kept g.S.Records.is_honest l.fn.store l.store
       (Gather (g.S.Records.desk l.fn.store) (take l.number-index l.numbers) l.fn.images l.images

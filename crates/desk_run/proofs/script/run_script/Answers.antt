@@ -35,6 +35,7 @@ loop-number-init g c = record {
   ran = holds_none _ _ _
       (let r = runs_none (begin (g.S.Records.desk c.args.store.now)) (g.W.Write.contents c.args.writer.now) in
       (ap (λ (x : List ℕ). standing (g.S.Records.desk c.args.store.now) x false) c.in-Ok.ensures ∙ r.0, r.1));
+  stays = holds_none _ _ _ refl;
 }
 
 pub returns-in-Err-clause-answer : goal.returns-in-Err-clause-answer
@@ -122,6 +123,7 @@ loop-number-preserved g c =
           (λ xs ys zs r p. read_more i.texts xs (c.loop-number.source.unread ++ ys) (c.next_line.new.source.unread ++ zs)
           c.in-Ok-Line.line r p);
       ran = holds_then i.ran more.2 (λ p q. runs_then i.before more.0 _ _ _ _ _ _ p q);
+      stays = holds_then i.stays c.in-Ok-take_line.ensures.stays (λ p q. q ∙ p);
     }
 
 pub returns-clause-answer : goal.returns-clause-answer

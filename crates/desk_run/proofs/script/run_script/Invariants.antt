@@ -22,4 +22,6 @@ invariant-loop-number g l =
       ran : Holds g.S.Records.is_kept g.S.Records.is_honest l.fn.store l.store
           (Runs before (begin (desk l.fn.store)) (standing (desk l.store) l.run.sender l.run.refused)
           (g.W.Write.contents l.fn.writer) (g.W.Write.contents l.writer));
+      stays : Holds g.S.Records.is_kept g.S.Records.is_honest l.fn.store l.store
+          (g.S.Records.keeping l.store ≡ g.S.Records.keeping l.fn.store);
     }

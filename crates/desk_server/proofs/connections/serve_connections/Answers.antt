@@ -1,6 +1,7 @@
 use Rattle.std.proofs.Common.{[], ◌∷◌, ◌++◌, refl}
 use Rattle.desk_store.specs.Store.{total}
 use Rattle.desk_store.proofs.HoldsLemmas.{holds_none, holds_then}
+use Rattle.desk_answers.specs.Stored.{stored}
 use Rattle.desk_server.specs.Serving.{InTurn, Leaves, Counts}
 use Rattle.desk_server.proofs.CountLemmas.{connection_grows, stays_same, has_risen, one_longer, within_count, all_served}
 use Rattle.desk_server.proofs.ServingLemmas.{one_more}
@@ -8,7 +9,7 @@ use Rattle.desk_server.proofs.connections.serve_connections.Goals as goal
 
 pub loop-done-init : goal.loop-done-init
 loop-done-init g c =
-    let desk = g.S.Records.desk in
+    let desk = stored g.S.Records.desk g.S.Records.keeping in
     let faults = g.S.Records.faults in
     let start = c.args.store.now in
     record {
@@ -22,7 +23,7 @@ loop-done-init g c =
 
 pub loop-done-preserved : goal.loop-done-preserved
 loop-done-preserved g c =
-    let desk = g.S.Records.desk in
+    let desk = stored g.S.Records.desk g.S.Records.keeping in
     let faults = g.S.Records.faults in
     let i = c.loop-done.invariant in
     let start = c.args.store.now in
@@ -42,7 +43,7 @@ loop-done-preserved g c =
 
 pub returns-then-before-faults : goal.returns-then-before-faults
 returns-then-before-faults g c =
-    let desk = g.S.Records.desk in
+    let desk = stored g.S.Records.desk g.S.Records.keeping in
     let faults = g.S.Records.faults in
     let i = c.loop-done.invariant in
     let start = c.args.store.now in

@@ -1,11 +1,12 @@
 use Rattle.std.proofs.Common.{◌≡◌, List, length}
 use Rattle.desk_store.specs.Store.{Holds, total}
+use Rattle.desk_answers.specs.Stored.{stored}
 use Rattle.desk_server.specs.Serving.{Connection, Leaves, Counts, InTurn}
 use Rattle.desk_server.proofs.connections.serve_connections.Given as goal
 
 abbrev pub invariant-loop-done : goal.invariant-loop-done
 invariant-loop-done g l =
-    let desk = g.S.Records.desk in
+    let desk = stored g.S.Records.desk g.S.Records.keeping in
     let faults = g.S.Records.faults in
     record {
       course : List Connection;

@@ -2,7 +2,7 @@ use Rattle.std.proofs.Common.{◌≡◌, Err, get_or, ◌++◌, [], ◌∷◌, s
 use Rattle.ancestry.specs.declared.statuses.MarkKind.TheVariants.{Found}
 use Rattle.index_rows.specs.MarkAnswers.{mark_row}
 use Rattle.index_rows.specs.declared.marks.SetMark.{SetMark}
-use Rattle.index_rows.proofs.AnswerRows.{row_at, take_more}
+use Rattle.sql_forms.proofs.RowsInOrder.{row_at, take_more}
 use Rattle.index_rows.proofs.marks.marks_in.Goals as goal
 
 abbrev none : SetMark

@@ -14,6 +14,7 @@ returns-clause-values c =
     same_given _ words
     (c.get_str.ensures ∙ first_value-rows found (codes "store") ∙ ap (first_of (codes "store")) rows)
     (c.get_str-2.ensures ∙ first_value-rows found (codes "from") ∙ ap (first_of (codes "from")) rows)
-    (c.get_str-3.ensures ∙ first_value-rows found (codes "port") ∙ ap (first_of (codes "port")) rows)
-    (c.get_str-4.ensures ∙ first_value-rows found (codes "count") ∙ ap (first_of (codes "count")) rows)
-    (c.get_str-5.ensures ∙ first_value-rows found (codes "first") ∙ ap (first_of (codes "first")) rows)
+    (c.get_str-3.ensures ∙ first_value-rows found (codes "id") ∙ ap (first_of (codes "id")) rows)
+    (c.get_str-4.ensures ∙ first_value-rows found (codes "port") ∙ ap (first_of (codes "port")) rows)
+    (c.get_str-5.ensures ∙ first_value-rows found (codes "count") ∙ ap (first_of (codes "count")) rows)
+    (c.get_str-6.ensures ∙ first_value-rows found (codes "first") ∙ ap (first_of (codes "first")) rows)

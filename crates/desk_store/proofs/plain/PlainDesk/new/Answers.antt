@@ -3,6 +3,8 @@ use Rattle.ancestry.specs.Trees.{Ancestry}
 use Rattle.bug_record.specs.Desk.{IsSound}
 use Rattle.desk_places.specs.Keys.{no_bugs, keyed_desk}
 use Rattle.desk_places.specs.Plain.{desk_of, empty_desk}
+use Rattle.message_machine.specs.Kept.{AreGoodKept}
+use Rattle.desk_store.proofs.KeepLemmas.{none-good}
 use Rattle.desk_store.proofs.PlainLemmas.{desk_of-keyed}
 use Rattle.desk_store.proofs.plain.PlainDesk.new.Goals as goal
 
@@ -12,9 +14,9 @@ invariant_of-result c =
     desk_of-keyed c.new.result no_bugs c.new-2.result c.args.first c.new.ensures
     ∙ ap (λ (tree : Ancestry). keyed_desk no_bugs.key no_bugs.set tree c.args.first) c.new-2.ensures in
     let sound : IsSound (empty_desk c.args.first) = search rules in
-    record { sound = subst IsSound (sym is) sound }
+    record { sound = subst IsSound (sym is) sound; good = subst AreGoodKept (sym c.new-3.ensures) none-good }
 
-pub returns : goal.returns
-returns c =
+pub returns-clause-desk : goal.returns-clause-desk
+returns-clause-desk c =
     desk_of-keyed c.new.result no_bugs c.new-2.result c.args.first c.new.ensures
     ∙ ap (λ (tree : Ancestry). keyed_desk no_bugs.key no_bugs.set tree c.args.first) c.new-2.ensures

@@ -1,6 +1,6 @@
 use Rattle.std.proofs.Common.{◌≡◌, [], ◌∷◌, Err, refl, sym, subst, rules}
 use Rattle.desk_tables.specs.Kept.{IsKept}
-use Rattle.desk_tables.proofs.KeptLemmas.{stayed, taken_kept, taken_desk, taken_serves, crashed, made, refused}
+use Rattle.desk_tables.proofs.KeptLemmas.{stayed, taken_kept, taken_desk, taken_keeping, taken_serves, crashed, made, refused}
 use Rattle.desk_tables.proofs.desk.TableDesk.make.Goals as goal
 
 pub returns-in_err-change_sets-in-Some-clause-answer : goal.returns-in_err-change_sets-in-Some-clause-answer
@@ -50,4 +50,11 @@ returns-clause-serves g c = λ was clean.
     let changes = c.in_ok-change_sets-in-Some.ensures.changed in
     let is : c.and-self.result.values ≡ c.change_sets.new.conn ∷ [] = search rules in
     taken_serves g.S.Store c.args.self.now.last.values c.args.self.now.begun.values c.args.self.now.conn c.change_sets.new.conn c.in-Some.family c.args.change.now c.and-self.result.values c.new-self.result.values changes is c.new-self.ensures
+    (subst (λ f. IsKept g.S.Store c.args.self.now.last.values c.args.self.now.begun.values c.args.self.now.conn f) c.in-Some.is was) (c.requires.fits was (changes.honest clean)) clean
+
+pub returns-clause-stays : goal.returns-clause-stays
+returns-clause-stays g c = λ was clean.
+    let changes = c.in_ok-change_sets-in-Some.ensures.changed in
+    let is : c.and-self.result.values ≡ c.change_sets.new.conn ∷ [] = search rules in
+    taken_keeping g.S.Store c.args.self.now.last.values c.args.self.now.begun.values c.args.self.now.conn c.change_sets.new.conn c.in-Some.family c.args.change.now c.and-self.result.values c.new-self.result.values changes is c.new-self.ensures
     (subst (λ f. IsKept g.S.Store c.args.self.now.last.values c.args.self.now.begun.values c.args.self.now.conn f) c.in-Some.is was) (c.requires.fits was (changes.honest clean)) clean

@@ -5,7 +5,7 @@ use Rattle.desk_tables.specs.Kept.{content_seen}
 use Rattle.desk_tables.specs.Opening.{unlimited, IsLeft}
 use Rattle.desk_tables.specs.Shown.{HasContent, AreTablesOf}
 use Rattle.desk_tables.proofs.KeptLemmas.{found_kept}
-use Rattle.desk_tables.proofs.OpeningLemmas.{still_shows, first_still, still_holds, left_before, reason_before, says_before, says_not, survives_before}
+use Rattle.desk_tables.proofs.OpeningLemmas.{still_shows, earlier_still, still_holds, left_before, reason_before, says_before, says_not, survives_before}
 use Rattle.desk_tables.proofs.desk.TableDesk.open.Goals as goal
 
 pub returns-in-Ok-clause-content : goal.returns-in-Ok-clause-content
@@ -48,10 +48,10 @@ returns-in-Ok-clause-survives g c k shows =
     (c.in-Ok.ensures.left k (λ clean. still_shows g.S.Store c.args.conn c.set_step_limit.new.self c.set_step_limit.ensures k (shows (subst (λ h. HasCleanDisk (state g.S.Store h)) (sym c.found.ensures.conn) clean)))))
 
 pub returns-in-Ok-clause-crash : goal.returns-in-Ok-clause-crash
-returns-in-Ok-clause-crash g c k shows =
+returns-in-Ok-clause-crash g c from k shows =
     subst (λ h. Survives (unlimited (state g.S.Store c.args.conn)) (state g.S.Store h) (AreTablesOf k)) (sym c.found.ensures.conn)
     (survives_before g.S.Store c.args.conn c.set_step_limit.new.self c.set_step_limit.ensures (state g.S.Store c.find_desk.new.conn) (AreTablesOf k)
-    (c.in-Ok.ensures.crash k (λ clean. first_still g.S.Store c.args.conn c.set_step_limit.new.self c.set_step_limit.ensures k (shows (subst (λ h. HasCleanDisk (state g.S.Store h)) (sym c.found.ensures.conn) clean)))))
+    (c.in-Ok.ensures.crash from k (λ clean. earlier_still g.S.Store c.args.conn c.set_step_limit.new.self c.set_step_limit.ensures from k (shows (subst (λ h. HasCleanDisk (state g.S.Store h)) (sym c.found.ensures.conn) clean)))))
 
 pub returns-in-Err-clause-why : goal.returns-in-Err-clause-why
 returns-in-Err-clause-why g c =
@@ -76,6 +76,6 @@ returns-in-Err-clause-survives g c k shows =
     (c.in-Err.ensures.left k (λ clean. still_shows g.S.Store c.args.conn c.set_step_limit.new.self c.set_step_limit.ensures k (shows clean)))
 
 pub returns-in-Err-clause-crash : goal.returns-in-Err-clause-crash
-returns-in-Err-clause-crash g c k shows =
+returns-in-Err-clause-crash g c from k shows =
     survives_before g.S.Store c.args.conn c.set_step_limit.new.self c.set_step_limit.ensures (state g.S.Store c.find_desk.new.conn) (AreTablesOf k)
-    (c.in-Err.ensures.crash k (λ clean. first_still g.S.Store c.args.conn c.set_step_limit.new.self c.set_step_limit.ensures k (shows clean)))
+    (c.in-Err.ensures.crash from k (λ clean. earlier_still g.S.Store c.args.conn c.set_step_limit.new.self c.set_step_limit.ensures from k (shows clean)))

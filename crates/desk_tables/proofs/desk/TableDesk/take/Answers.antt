@@ -1,6 +1,6 @@
 use Rattle.std.proofs.Common.{◌≡◌, [], ◌∷◌, Err, refl, sym, subst, ◌∙◌, rules}
 use Rattle.desk_tables.specs.Kept.{IsKept}
-use Rattle.desk_tables.proofs.BranchLemmas.{faulty, taken, refused, faulty_kept, taken_kept, taken_desk, taken_serves, refused_kept, refused_desk, refusal_is, crashed}
+use Rattle.desk_tables.proofs.BranchLemmas.{faulty, taken, refused, faulty_kept, taken_kept, taken_desk, taken_keeping, taken_serves, refused_kept, refused_desk, refusal_is, crashed}
 use Rattle.desk_tables.proofs.desk.TableDesk.take.Goals as goal
 
 pub returns-in_err-taken-clause-answer : goal.returns-in_err-taken-clause-answer
@@ -76,4 +76,14 @@ returns-in-Ok-clause-serves g c = λ was clean.
     let begun = c.args.self.now.begun.values in
     let is : c.and-self.result.values ≡ c.take_nodes.new.conn ∷ [] = search rules in
     taken_serves g.S.Store last begun c.args.self.now.conn c.take_nodes.new.conn c.in-Some.family c.take_nodes.new.family c.args.nodes.now c.and-self.result.values c.new-self.result.values did c.take_nodes.ensures.forest is c.new-self.ensures
+    (subst (λ f. IsKept g.S.Store last begun c.args.self.now.conn f) family was) clean
+
+pub returns-in-Ok-clause-stays : goal.returns-in-Ok-clause-stays
+returns-in-Ok-clause-stays g c = λ was clean.
+    let family = sym c.take.ensures.value ∙ c.in-Some.is in
+    let did = (rw c.in-Ok.is at c.in_ok-taken.ensures.taken) in
+    let last = c.args.self.now.last.values in
+    let begun = c.args.self.now.begun.values in
+    let is : c.and-self.result.values ≡ c.take_nodes.new.conn ∷ [] = search rules in
+    taken_keeping g.S.Store last begun c.args.self.now.conn c.take_nodes.new.conn c.in-Some.family c.take_nodes.new.family c.args.nodes.now c.and-self.result.values c.new-self.result.values did c.take_nodes.ensures.forest is c.new-self.ensures
     (subst (λ f. IsKept g.S.Store last begun c.args.self.now.conn f) family was) clean

@@ -1,0 +1,63 @@
+//! Control messages that have an id.
+
+ghost use Rattle.std.specs.Prelude.{◌≡◌, string_bytes};
+ghost use Rattle.bug_record.specs.Texts.{IsText};
+ghost use Rattle.message_machine.specs.Ids.{IsId};
+ghost use Rattle.desk_store.specs.Store.{Holds};
+ghost use Rattle.desk_answers.specs.Faults.{IsTold, counted_with};
+ghost use Rattle.desk_answers.specs.Repeats.{id_in_use, IsOnceAnswer};
+ghost use Rattle.desk_answers.specs.Shown.{shown, message_asked};
+ghost use Rattle.desk_answers.specs.Steps.{Gives};
+ghost use Rattle.desk_answers.specs.Stored.{stored};
+
+use crate::messages::tell;
+use crate::reply::{Body, Reply, store_fault};
+use crate::request::OnceRequest;
+use desk_lines::split_lines;
+use desk_repeats::{OnceFault, receive_once};
+use desk_store::Records;
+use desk_text::StoreFault;
+use http::StatusCode;
+use std::alloc::Global;
+
+// The id stands for another message already.
+fn id_in_use() -> Reply
+    ensures is { Gives id_in_use result }
+    ensures told { IsTold result.fault (shown result) }
+{
+    Reply {
+        status: StatusCode::CONFLICT,
+        allow: None,
+        body: Body::Fixed("{\"error\":\"id in use\"}"),
+        fault: None,
+    }
+}
+
+/// Takes a control message that has an id: lines that were taken before are not taken again.
+pub(crate) fn answer_once<S: Records>(alloc: Global, store: &mut S, request: &OnceRequest) -> Reply
+    requires id { IsId (string_bytes request.now.id) }
+    requires sender { IsText (string_bytes request.now.message.from) }
+    ensures answer { Holds S.is_kept S.is_honest store.old store.new
+        (IsOnceAnswer (string_bytes request.now.id) (message_asked request.now.message)
+        (stored S.desk S.keeping store.old) result.fault (shown result) (stored S.desk S.keeping store.new)) }
+    ensures count { S.faults store.new ≡ counted_with result.fault (S.faults store.old) }
+    ensures told { IsTold result.fault (shown result) }
+{
+    let message = &request.message;
+    let Ok(lines) = split_lines(alloc, message.message.as_str()) else {
+        return store_fault(StoreFault::Memory);
+    };
+    let received = receive_once(
+        alloc,
+        store,
+        request.id.as_str(),
+        message.from.as_str(),
+        message.message.as_str(),
+    );
+    match received {
+        Ok(received) => tell(alloc, &received, lines.as_slice()),
+        Err(OnceFault::BadId) => unreachable!("the id is one"),
+        Err(OnceFault::Reused) => id_in_use(),
+        Err(OnceFault::Store(fault)) => store_fault(fault),
+    }
+}

@@ -1,0 +1,3 @@
+pub mod LineSteps
+pub mod OutcomeSteps
+pub mod ReadSteps

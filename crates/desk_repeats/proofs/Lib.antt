@@ -1,0 +1,5 @@
+pub mod ToldLemmas
+pub mod RecallLemmas
+pub mod KeepLemmas
+pub mod GoingLemmas
+pub mod OnceLemmas

@@ -1,0 +1,109 @@
+//! Messages that act once per line.
+
+ghost use Rattle.std.specs.Prelude.{◌≡◌, false, true, IsTrue, IfOk, Result};
+ghost use Rattle.std.specs.Str.{bytes_eq};
+ghost use Rattle.bug_record.specs.Texts.{IsText};
+ghost use Rattle.desk_lines.specs.Lines.{lines_of};
+ghost use Rattle.desk_store.specs.Store.{Holds};
+ghost use Rattle.message_machine.specs.Ids.{is_id};
+ghost use Rattle.message_machine.specs.Kept.{IsOfMessage, outcomes_kept};
+ghost use Rattle.desk_messages.specs.Transcripts.{IsLineOf};
+ghost use Rattle.desk_repeats.specs.Once.{IsOnce, faults_after_once};
+
+use crate::going_on::go_on;
+use crate::recalling::{RecallFault, recall};
+use desk_lines::split_lines;
+use desk_messages::{Received, goes_on};
+use desk_store::Records;
+use desk_text::{Outcome, StoreFault};
+use message_machine::{Kept, is_id};
+use std::alloc::Global;
+
+/// Why a message that has an id is not taken.
+#[derive(Clone, Copy, Debug, PartialEq, Eq, Drop)]
+pub enum OnceFault {
+    /// The id is none.
+    BadId,
+    /// The id is known with another sender or another text.
+    Reused,
+    /// The store failed, or there was no memory, before the first line that has no kept outcome.
+    Store(StoreFault),
+}
+
+// Whether what is kept of an id, if it is known, is of this sender and this text.
+fn is_of_message(kept: &Option<Kept>, from: &str, message: &str) -> bool
+    ensures yes { result ≡ true → IsOfMessage from.now message.now kept.now }
+    ensures no { result ≡ false → IsOfMessage from.now message.now kept.now → ⊥ }
+{
+    match kept {
+        Some(kept) => kept.from.as_str() == from && kept.message.as_str() == message,
+        None => true,
+    }
+}
+
+// The outcomes that are kept of an id, if it is known.
+fn outcomes_kept(kept: &Option<Kept>) -> &[Outcome]
+    ensures { result.now ≡ outcomes_kept kept.now }
+{
+    match kept {
+        Some(kept) => kept.outcomes.as_slice(),
+        None => &[],
+    }
+}
+
+/// Takes a message that has an id from this sender, as `receive` does, but each of its lines that has
+/// an outcome acts once: the outcomes that are kept of the message are answered again, and it goes on
+/// at the first line that has an outcome and has none kept.
+/// Where the kept ones end the message, no line is taken.
+/// Each line's outcome is kept and its change is carried out in one step.
+/// An id becomes known with its first kept outcome.
+/// A fault of the store at line k is told as the end, as `receive` does.
+///
+/// # Errors
+///
+/// `BadId` where the id is none, `Reused` where it is known with another sender or text, and `Store`
+/// for a fault, or a want of memory, before the first line that has no kept outcome is begun, in this
+/// order, except that a fault as what is kept is read comes before `Reused`.
+/// Then nothing has changed.
+pub fn receive_once<S: Records>(
+    alloc: Global,
+    store: &mut S,
+    id: &str,
+    from: &str,
+    message: &str,
+) -> Result<Received, OnceFault>
+    requires { IsText from.now }
+    ensures answer { Holds S.is_kept S.is_honest store.old store.new
+        (IsOnce id.now from.now message.now (S.desk store.old) (S.keeping store.old) result (S.desk store.new)
+        (S.keeping store.new)) }
+    ensures bad { is_id id.now ≡ false → result ≡ Result.Err OnceFault.BadId }
+    ensures good { result ≡ Result.Err OnceFault.BadId → is_id id.now ≡ false }
+    ensures same { result ≡ Result.Err OnceFault.BadId → store.new ≡ store.old }
+    ensures line { IfOk result (λ r. IsLineOf r.end (lines_of message.now)) }
+    ensures count { S.faults store.new ≡ faults_after_once result (S.faults store.old) }
+{
+    if !is_id(id) {
+        return Err(OnceFault::BadId);
+    }
+    let kept = match store.kept(id) {
+        Ok(kept) => kept,
+        Err(fault) => return Err(OnceFault::Store(fault)),
+    };
+    if !is_of_message(&kept, from, message) {
+        return Err(OnceFault::Reused);
+    }
+    let Ok(lines) = split_lines(alloc, message) else {
+        return Err(OnceFault::Store(StoreFault::Memory));
+    };
+    let lines = lines.as_slice();
+    match recall(alloc, lines, outcomes_kept(&kept)) {
+        Ok(recalled) => {
+            if !goes_on(recalled.end) {
+                return Ok(recalled.progress.received(recalled.end));
+            }
+            Ok(go_on(alloc, store, id, from, message, lines, recalled))
+        }
+        Err(RecallFault::Mismatch) => Err(OnceFault::Reused),
+        Err(RecallFault::Memory) => Err(OnceFault::Store(StoreFault::Memory)),
+    }
+}

@@ -1,0 +1,41 @@
+-- The rows of messages: one for each message that has an id.
+-- This project's own rule.
+use Rattle.std.specs.Prelude.{ℕ, ℤ, List, [], ◌∷◌, Option, Some, None, if◌then◌else◌}
+use Rattle.std.specs.Str.{bytes_eq, IsUtf8}
+use Rattle.sqlite.specs.Edit.{id_in}
+use Rattle.sqlite.specs.Order.{Row, column}
+use Rattle.sqlite.specs.declared.types.Value.TheVariants.{Int, Text, Blob}
+use Rattle.desk_content.specs.declared.edit.SentMessage.{SentMessage}
+use Rattle.desk_schema.specs.Cells.{text_in, bytes_in}
+
+pub record MessageRow : Type 0 where
+  pub id : ℤ
+  pub message_id : List ℕ
+  pub sender : List ℕ
+  pub message : List ℕ
+
+abbrev pub message_cells : MessageRow → Row
+message_cells x = Int x.id ∷ Text x.message_id ∷ Text x.sender ∷ Blob x.message ∷ []
+
+abbrev pub message_in : Row → MessageRow
+message_in r = record {
+  id = id_in (column r 0);
+  message_id = text_in (column r 1);
+  sender = text_in (column r 2);
+  message = bytes_in (column r 3);
+}
+
+-- its texts are UTF-8
+pub record IsMessageRow (x : MessageRow) : Type 0 where
+  pub message_id : IsUtf8 x.message_id
+  pub sender : IsUtf8 x.sender
+  pub message : IsUtf8 x.message
+
+-- the message of an id, if it has a row: the last row counts
+abbrev pub messages_in : List MessageRow → List ℕ → Option SentMessage
+messages_in [] id = None
+messages_in (x ∷ xs) id = later (messages_in xs id)
+  where
+    later : Option SentMessage → Option SentMessage
+    later (Some message) = Some message
+    later None = if bytes_eq x.message_id id then Some (record { from = x.sender; message = x.message }) else None

@@ -1,0 +1,2 @@
+-- definitions that only private functions cite
+pub mod Rows

@@ -1,0 +1,3 @@
+pub mod Message
+pub mod Ids
+pub mod Kept

@@ -1,0 +1,9 @@
+//! A message, as a machine that takes its lines one at a time (`specs/Message.antt`), and what is
+//! kept of messages that have an id.
+#![tactic(auto)]
+
+mod ids;
+mod kept;
+
+pub use ids::is_id;
+pub use kept::{Kept, copy_outcome};

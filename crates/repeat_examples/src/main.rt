@@ -1,0 +1,32 @@
+//! Runs the examples of messages that have an id, which lie in its folders of data, and prints what
+//! comes of them.
+#![tactic(auto)]
+
+mod attempt;
+mod plan;
+mod sending;
+mod sends;
+mod stops;
+
+use std::{fs, io};
+
+/// The name of the file that lists the files with examples.
+const FILES: &str = "files";
+
+// Runs the examples of a file, whose kind its folder tells.
+fn run_file(rt: &HostRuntime, name: &str) -> io::Result<()> {
+    let (folder, _) = name.split_once('/').unwrap_or(("", name));
+    let text = fs::read_to_string(rt, name)?;
+    match folder {
+        "sends" => sends::run_file(rt, text.as_str()),
+        "stops" => stops::run_file(rt, text.as_str()),
+        _ => println!(rt; "-- no folder of examples"),
+    }
+}
+
+fn main(rt: HostRuntime) -> io::Result<()> {
+    for name in fs::read_to_string(&rt, FILES)?.lines() {
+        run_file(&rt, name)?;
+    }
+    Ok(())
+}

@@ -1,0 +1,4 @@
+mod ZipLemmas
+mod CallLemmas
+mod GrownLemmas
+mod SentLemmas

@@ -1,0 +1,3 @@
+pub mod Calls
+-- definitions that only private lemmas cite
+pub mod Grown

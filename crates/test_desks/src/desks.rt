@@ -1,0 +1,56 @@
+//! How a desk is made over a connection, or found there.
+
+use crate::disks::{Disks, connected, files_of, new_disks};
+use desk_tables::{OpenFault, TableDesk};
+use line_words::LARGEST_NUMBER;
+use sqlite::{Alter, Connection};
+use sqlite_disk::{Disk, Files};
+use sqlite_pager::Options;
+use std::alloc::Global;
+
+/// A desk, or the connection with what kept it from being one: nothing where it was not asked, in a
+/// transaction that is open.
+pub type Made<S> = Result<TableDesk<S>, (Option<OpenFault>, Connection<S>)>;
+
+/// Creates a desk, whose first bug gets the number that is nearest to this one.
+pub fn create<S: Alter>(alloc: Global, conn: Connection<S>, first: u64) -> Made<S> {
+    if !conn.is_autocommit() {
+        return Err((None, conn));
+    }
+    match TableDesk::create(alloc, conn, first.clamp(1, LARGEST_NUMBER)) {
+        Ok(desk) => Ok(desk),
+        Err((fault, conn)) => Err((Some(fault), conn)),
+    }
+}
+
+/// Opens the desk.
+pub fn open<S: Alter>(alloc: Global, conn: Connection<S>) -> Made<S> {
+    if !conn.is_autocommit() {
+        return Err((None, conn));
+    }
+    match TableDesk::open(alloc, conn) {
+        Ok(desk) => Ok(desk),
+        Err((fault, conn)) => Err((Some(fault), conn)),
+    }
+}
+
+// Creates a desk, and closes it.
+fn create_on<S: Alter>(alloc: Global, conn: Connection<S>) -> Connection<S> {
+    match create(alloc, conn, 1) {
+        Ok(desk) => desk.close(),
+        Err((_, conn)) => conn,
+    }
+}
+
+// Creates a desk in files, and hands them back.
+fn create_over<D: Disk + Drop>(alloc: Global, files: Files<D>) -> Files<D> {
+    match connected(alloc, files, Options::new(1)) {
+        Ok(conn) => files_of(create_on(alloc, conn)),
+        Err(files) => files,
+    }
+}
+
+/// Files with a new desk.
+pub fn new_desk(alloc: Global) -> Disks {
+    create_over(alloc, new_disks(alloc))
+}
