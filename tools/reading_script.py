@@ -3,6 +3,8 @@
 The script, the directives and all texts are this project's own rules.
 """
 
+import typing
+
 from reading_desk import report, state_of, step
 from reading_lines import (
     NOTHING,
@@ -30,6 +32,8 @@ from reading_versions import (
 LINE_LIMIT = 65_536
 UNREADABLE_LIMIT = 5
 FIRST_SENDER = "nobody"
+STOPPED = "Stopped."
+TOO_MANY = "Too many unreadable lines."
 
 ACCEPTED, REFUSED, FAULT = 0, 1, 3
 FAULT_TEXT = "bts: fault\n"
@@ -93,26 +97,41 @@ def page_text(desk, number):
 # Messages.
 
 
+class Outcome(typing.NamedTuple):
+    """What came of one line: its answer, the names after it, and whether nobody could read it."""
+
+    answer: str
+    names: dict
+    is_unreadable: bool = False
+
+
+def carry_out(desk, names, sender, line):
+    """The desk after a line, and its outcome, which is None for a blank line and a comment."""
+    try:
+        command = read_line(line)
+        if command == NOTHING:
+            return desk, None
+        if command == STOP:
+            return desk, Outcome(STOPPED, names)
+        after, new_names = step(desk, names, sender, command)
+        return after, Outcome(numbers_text(changed_numbers(desk, after)), new_names)
+    except Refused as refusal:
+        return desk, Outcome(f"NO {refusal}", names, isinstance(refusal, Unreadable))
+
+
 def receive(desk, sender, lines):
     """The desk after a message, and the message's transcript."""
     names, unreadable, transcript = {}, 0, []
     for line in lines:
-        try:
-            command = read_line(line)
-            if command == NOTHING:
-                continue
-            if command == STOP:
-                transcript += [f"> {line}", "Stopped."]
-                break
-            after, names = step(desk, names, sender, command)
-            outcome = numbers_text(changed_numbers(desk, after))
-            desk = after
-        except Refused as refusal:
-            outcome = f"NO {refusal}"
-            unreadable += isinstance(refusal, Unreadable)
-        transcript += [f"> {line}", outcome]
+        desk, outcome = carry_out(desk, names, sender, line)
+        if outcome is None:
+            continue
+        names, unreadable = outcome.names, unreadable + outcome.is_unreadable
+        transcript += [f"> {line}", outcome.answer]
+        if outcome.answer == STOPPED:
+            break
         if unreadable == UNREADABLE_LIMIT:
-            transcript.append("Too many unreadable lines.")
+            transcript.append(TOO_MANY)
             break
     return desk, "".join(f"{line}\n" for line in transcript)
 
