@@ -285,7 +285,8 @@ impl Tree {
     /// From the left each node gets the next one as its parent, unless that is a proper ancestor of
     /// it already.
     /// All nodes of the branch are known afterwards, and no node loses a proper ancestor.
-    /// A node that had a parent keeps it, and of a node that is not of the branch the same is known.
+    /// A node that had a parent keeps it, and of a node that is not of the branch the same is
+    /// known.
     /// Errors, in this order: `EmptyBranch`; `TooLong`; `Repeated`, with the first place whose node
     /// stands earlier; `Conflict`, with the place of a node that has another parent or is in the
     /// line of the next one; and `Memory`, which no branch gets in place of one of the first three.

@@ -37,8 +37,8 @@ pub enum Cause {
     /// A desk is to be made, and the store's file holds one, or a table with the name of one of a
     /// desk's.
     NotEmpty,
-    /// The store's file can't be opened: it is a folder, the rights are missing, or there is another
-    /// cause that the system tells.
+    /// The store's file can't be opened: it is a folder, the rights are missing, or there is
+    /// another cause that the system tells.
     CannotOpen,
 }
 

@@ -18,21 +18,21 @@ use std::io::{Read, Write};
 
 /// Carries a job out over the input and the output that are handed in, and answers how it ended.
 ///
-/// `start` stands for what the store's files hold as they are opened, which no code can read: what is
-/// promised of a desk in a file is promised for whatever they hold.
+/// `start` stands for what the store's files hold as they are opened, which no code can read: what
+/// is promised of a desk in a file is promised for whatever they hold.
 ///
 /// `Run` and `Serve` without a store work on a desk in memory whose first bug gets the number 1.
 /// With a store they work on the desk in its file, which has to be there.
 /// `Init` makes the file of a new desk and writes the line `OK`; a number of the first bug outside
 /// 1 to 999,999,999 is bad words.
-/// `Send` takes its lines as one message and writes the transcript, as a script does; a sender that is
-/// no text of 1 to 200 bytes is bad words.
-/// With an id, lines that were taken before are not taken again, and `NO id in use` is written where
-/// the id is known with another sender or text; an id that is none is bad words.
+/// `Send` takes its lines as one message and writes the transcript, as a script does; a sender that
+/// is no text of 1 to 200 bytes is bad words.
+/// With an id, lines that were taken before are not taken again, and `NO id in use` is written
+/// where the id is known with another sender or text; an id that is none is bad words.
 /// Where a file can't be opened, or no desk can be made in it, nothing is written, and that is a
 /// fault.
-/// At the end the log beside the file is copied into it; a fault of that is not told, since all that
-/// was answered is in the log already.
+/// At the end the log beside the file is copied into it; a fault of that is not told, since all
+/// that was answered is in the log already.
 pub fn do_job_from<S: Start, R: Read, W: Write>(
     rt: &HostRuntime,
     alloc: Global,
@@ -91,7 +91,8 @@ pub fn do_job_from<S: Start, R: Read, W: Write>(
 
 /// Carries a job out, as `do_job_from` does for any files.
 /// `Wary` supposes nothing of a write that a loss of power cuts short.
-/// What a contract says at `Wary` is about new files alone; `do_job_from` has the same clause for any.
+/// What a contract says at `Wary` is about new files alone; `do_job_from` has the same clause for
+/// any.
 pub fn do_job<R: Read, W: Write>(
     rt: &HostRuntime,
     alloc: Global,

@@ -38,8 +38,8 @@ fn do_words<R: Read, W: Write>(
 /// The words are read by `job_words::read_words`, and the job is carried out by `do_job`.
 /// `--help` writes clap's text, which is a fault where it can't be written.
 /// Of bad words, and of words for which there is no memory, nothing is written.
-/// Then the complaint of the end, if it has one, is written to the error output: `bts: bad words` or
-/// `bts: fault`, and a second line that says what to do, or why.
+/// Then the complaint of the end, if it has one, is written to the error output: `bts: bad words`
+/// or `bts: fault`, and a second line that says what to do, or why.
 pub fn run_words<R: Read, W: Write, E: Write>(
     rt: &HostRuntime,
     alloc: Global,

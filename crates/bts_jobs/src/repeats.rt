@@ -56,8 +56,8 @@ fn tell_once<W: Write>(alloc: Global, received: &Received, message: &str, writer
     }
 }
 
-/// Takes a message from this sender into a desk, under this id: lines that were taken before are not
-/// taken again.
+/// Takes a message from this sender into a desk, under this id: lines that were taken before are
+/// not taken again.
 /// Writes its transcript, or that the id is in use, and answers how that ended.
 pub fn send_once_over<D: Records, W: Write>(
     alloc: Global,

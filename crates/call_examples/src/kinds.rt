@@ -52,8 +52,8 @@ pub(crate) enum Kind {
     Nearest,
     /// `affected`: the nodes whose line has one of these.
     Affected,
-    /// `edits`: `NUMBERS, found NODES, fixed NODES, waits NUMBERS, had NODES, had fixed NODES`: what
-    /// is cleared and what is put for the set of these bugs.
+    /// `edits`: `NUMBERS, found NODES, fixed NODES, waits NUMBERS, had NODES, had fixed NODES`:
+    /// what is cleared and what is put for the set of these bugs.
     Edits,
 }
 

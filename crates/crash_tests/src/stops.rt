@@ -42,8 +42,8 @@ pub(crate) enum Came {
     Wrong,
 }
 
-/// What comes of a call that was answered or not, by whether the desk that is opened is the one after
-/// it, or the one before it.
+/// What comes of a call that was answered or not, by whether the desk that is opened is the one
+/// after it, or the one before it.
 pub(crate) fn outcome_of(answered: bool, is_after: bool, is_before: bool) -> Came {
     if answered && is_after {
         Came::Done
@@ -96,8 +96,8 @@ fn branch_stopped(alloc: Global, nodes: &[Node], calls: u64) -> Came {
     outcome_of(matches!(done, Ok(Ok(()))), is_after, is_before)
 }
 
-// The report of a second bug, and a crash right after it: whether it was answered, and the desk that
-// is opened; `None` where it is not reported.
+// The report of a second bug, and a crash right after it: whether it was answered, and the desk
+// that is opened; `None` where it is not reported.
 #[tactic(auto, unfolding(bug_record::specs::Texts::is_text))]
 fn report_and_crash<S: Alter + Reopen + Drop>(
     alloc: Global,
@@ -158,8 +158,8 @@ fn fewest_calls(alloc: Global) -> u64 {
     high
 }
 
-// Whether some run of a call fails, and then one is done, and none before ends wrongly, each with one
-// call of the log more.
+// Whether some run of a call fails, and then one is done, and none before ends wrongly, each with
+// one call of the log more.
 fn fails_until_done(alloc: Global, call: Call<'_>) -> bool {
     let fewest = fewest_calls(alloc);
     let mut has_failed = false;

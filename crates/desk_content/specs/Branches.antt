@@ -1,5 +1,5 @@
--- What a branch makes of a content: the nodes that become known or get a parent are put anew, and the
--- nearest marks that are seen for the first time are added.
+-- What a branch makes of a content: the nodes that become known or get a parent are put anew, and
+-- the nearest marks that are seen for the first time are added.
 -- This project's own rule.
 use Rattle.std.specs.Prelude.{ℕ, ◌≡◌, ◌≤◌, ◌==◌, ◌&&◌, true, false, List, [], ◌∷◌, Option, Some, None, is_some, if◌then◌else◌, ⊤}
 use Rattle.line_words.specs.declared.named.TheConstants.{LARGEST_NUMBER}

@@ -30,7 +30,8 @@ cleared_for c change = without_images c change.images c
 abbrev pub changed : Content → Change → Content
 changed c change = record (with_images change.images (cleared_for c change)) { next = change.next }
 
--- the change may be made: each image has a bug, no bug is in two, and it fits the desk that is shown
+-- the change may be made: each image has a bug, no bug is in two, and it fits the desk that is
+-- shown
 pub record FitsContent (c : Content) (change : Change) : Type 0 where
   pub members : Each HasMember change.images
   pub apart : AreApart change.images

@@ -54,8 +54,8 @@ pub fn images_are_ready()
 {}
 
 /// Where an outcome is kept of the message of an id, the content shows it behind the others of the
-/// id, and the desk as it was; it is one that a desk keeps again, where what is shown of messages is
-/// right.
+/// id, and the desk as it was; it is one that a desk keeps again, where what is shown of messages
+/// is right.
 pub fn outcomes_are_kept()
     ensures desk { (c : Content) (id sender message : List ℕ) (outcome : Outcome) →
         desk_in (with_kept id sender message outcome c) ≡ desk_in c }
@@ -76,8 +76,8 @@ pub fn numbers_are_read_back()
         outcome_in (outcome_kind outcome) (outcome_number outcome) (outcome_field outcome) (outcome_node outcome) ≡ Some (bare outcome) }
 {}
 
-/// A content over another ancestry, with the nearest marks there, shows the desk over that ancestry,
-/// and is one that a desk keeps.
+/// A content over another ancestry, with the nearest marks there, shows the desk over that
+/// ancestry, and is one that a desk keeps.
 pub fn branches_are_put()
     ensures desk { (c : Content) (t : Ancestry) → desk_in (with_nodes t c) ≡ record (desk_in c) { tree = t } }
     ensures keeping { (c : Content) (t : Ancestry) → keeping_in (with_nodes t c) ≡ keeping_in c }

@@ -25,8 +25,8 @@ module _ {S : Type 0} (g : store.Ghosts S) where
   abbrev pub HasKeptTables : TableDesk S g → Type 0
   HasKeptTables t = IsKept g t.last.values t.begun.values t.conn t.family
 
-  -- The tables are kept, and show this desk and what is kept of messages, and a crash at this moment
-  -- leaves these tables and no others.
+  -- The tables are kept, and show this desk and what is kept of messages, and a crash at this
+  -- moment leaves these tables and no others.
   pub record IsSettled (d : Desk) (k : Keeping) (t : TableDesk S g) : Type 0 where
     pub kept : HasKeptTables t
     pub desk : desk_seen g t.last.values ≡ d
@@ -35,8 +35,8 @@ module _ {S : Type 0} (g : store.Ghosts S) where
     pub tables : AreTablesOf (content_seen g t.last.values) trees
     pub left : (db : Trees) → (state g t.conn).may_leave db → db ≡ trees
 
-  -- A desk was opened over these trees: where they are the tables of a kept desk, it is that desk, and
-  -- settled.
+  -- A desk was opened over these trees: where they are the tables of a kept desk, it is that desk,
+  -- and settled.
   abbrev pub IsOpenedOver : Trees → TableDesk S g → Type 0
   IsOpenedOver db t = (c : Content) → AreTablesOf c db → IsKeptContent c → IsSettled (desk_in c) (keeping_in c) t
 

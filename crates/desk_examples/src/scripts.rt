@@ -1,4 +1,5 @@
-//! Scripts, each run on a new desk in memory and on one in tables: what each wrote, and how it ended.
+//! Scripts, each run on a new desk in memory and on one in tables: what each wrote, and how it
+//! ended.
 
 use crate::header::{Header, read_header};
 use crate::streams::Output;

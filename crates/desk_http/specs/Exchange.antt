@@ -58,8 +58,8 @@ pub record IsRight (input : Option (List ℕ)) (old new : Stored) (before after 
   pub counts : after ≡ counted_with fault before
 
 -- What serving one connection leaves and has written: at `Answered` the bytes of the input's
--- answer, whose status it names; at `Closed` and `Read` nothing, and no change; at `Write` the store
--- holds what it holds after the answer that was to be written.
+-- answer, whose status it names; at `Closed` and `Read` nothing, and no change; at `Write` the
+-- store holds what it holds after the answer that was to be written.
 -- Over a reader whose bytes no contract knows, as a socket, this is so of some input.
 abbrev pub IsServed : Option (List ℕ) → Stored → Stored → Faults → Faults → Option (List ℕ)
     → Option (List ℕ) → Result Served ServeFault → Type 0

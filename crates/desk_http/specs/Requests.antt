@@ -66,7 +66,8 @@ abbrev pub is_good_asked : Asked → Bool
 is_good_asked (Always request) = has_good_sender request
 is_good_asked (Once id control) = is_id id && is_text control.from
 
--- the request that a value's members make, where they are there, the sender is good, and an id is one
+-- the request that a value's members make, where they are there, the sender is good, and an id is
+-- one
 abbrev pub posted : Option Asked → Result Asked Answer
 posted None = Err bad_request
 posted (Some request) = if is_good_asked request then Ok request else Err bad_request

@@ -30,8 +30,8 @@ all_first_tables = record {
   views = [];
 }
 
--- a transaction over the tables of an earlier schema, which say this, and the tables that come after
--- it, with no row, before the number is set, if the store still serves
+-- a transaction over the tables of an earlier schema, which say this, and the tables that come
+-- after it, with no row, before the number is set, if the store still serves
 pub record IsExtended (from : Earlier) (c : Content) (s : State) : Type 0 where
   pub begun : IsTrue s.in_transaction
   pub unlimited : s.step_limit ≡ None

@@ -88,8 +88,8 @@ fn decide_command_line<S: Records>(
     }
 }
 
-/// Decides one line of a message from this sender: the line with what it comes to, which is what the
-/// machine does, and changes nothing yet; `None` for a blank line and a comment, which have no
+/// Decides one line of a message from this sender: the line with what it comes to, which is what
+/// the machine does, and changes nothing yet; `None` for a blank line and a comment, which have no
 /// outcome.
 /// Room is made for the outcome, and the names are known that the line gives, so that `settle` may
 /// add it.

@@ -11,8 +11,8 @@ use desk_text::{End, Outcome, StoreFault};
 use message_names::KnownNames;
 use std::alloc::Global;
 
-/// What has come of a message so far, each outcome with its line, how many of its lines could not be
-/// read, and the names that it has given.
+/// What has come of a message so far, each outcome with its line, how many of its lines could not
+/// be read, and the names that it has given.
 #[derive(Drop)]
 pub struct Progress {
     pub outcomes: Vec<(Text, Outcome)>,

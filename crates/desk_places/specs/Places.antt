@@ -1,5 +1,5 @@
--- The bugs of a desk in memory, as a map from each number to what stands in its place, and the places
--- that images give to bugs.
+-- The bugs of a desk in memory, as a map from each number to what stands in its place, and the
+-- places that images give to bugs.
 use Rattle.std.specs.Prelude.{ℕ, Option, Some, None, option_map}
 use Rattle.std.specs.Option.{option_and_then}
 use Rattle.std.specs.Prelude.{nat_eq}

@@ -1,5 +1,5 @@
--- What a message that has an id comes to: each of its lines is carried out once, whatever call takes
--- it.
+-- What a message that has an id comes to: each of its lines is carried out once, whatever call
+-- takes it.
 -- This project's own rule.
 use Rattle.std.specs.Prelude.{ℕ, ◌≡◌, false, List, Result, Ok, Err}
 use Rattle.bug_record.specs.Desk.{Desk}

@@ -67,7 +67,8 @@ fn take_line<S: Records>(
     }
 }
 
-/// Takes the lines of a message that have no kept outcome, where the recalled outcomes don't end it.
+/// Takes the lines of a message that have no kept outcome, where the recalled outcomes don't end
+/// it.
 pub(crate) fn go_on<S: Records>(
     alloc: Global,
     store: &mut S,

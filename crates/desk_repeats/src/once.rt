@@ -51,9 +51,9 @@ fn outcomes_kept(kept: &Option<Kept>) -> &[Outcome]
     }
 }
 
-/// Takes a message that has an id from this sender, as `receive` does, but each of its lines that has
-/// an outcome acts once: the outcomes that are kept of the message are answered again, and it goes on
-/// at the first line that has an outcome and has none kept.
+/// Takes a message that has an id from this sender, as `receive` does, but each of its lines that
+/// has an outcome acts once: the outcomes that are kept of the message are answered again, and it
+/// goes on at the first line that has an outcome and has none kept.
 /// Where the kept ones end the message, no line is taken.
 /// Each line's outcome is kept and its change is carried out in one step.
 /// An id becomes known with its first kept outcome.
@@ -61,9 +61,9 @@ fn outcomes_kept(kept: &Option<Kept>) -> &[Outcome]
 ///
 /// # Errors
 ///
-/// `BadId` where the id is none, `Reused` where it is known with another sender or text, and `Store`
-/// for a fault, or a want of memory, before the first line that has no kept outcome is begun, in this
-/// order, except that a fault as what is kept is read comes before `Reused`.
+/// `BadId` where the id is none, `Reused` where it is known with another sender or text, and
+/// `Store` for a fault, or a want of memory, before the first line that has no kept outcome is
+/// begun, in this order, except that a fault as what is kept is read comes before `Reused`.
 /// Then nothing has changed.
 pub fn receive_once<S: Records>(
     alloc: Global,

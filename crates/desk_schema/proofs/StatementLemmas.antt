@@ -127,19 +127,24 @@ pub serves_query : {A : Type 0} (items : A → List Row) (sql : List ℕ) (param
 serves_query items sql params old new (Ok rows) ok clean inside = shown_open old new sql params (items rows) (ok clean)
 serves_query items sql params old new (Err e) ok clean inside = tt
 
--- a query over one table reads what P says, where P holds of the rows that it finds
-pub reads_plain : (sql : List ℕ) (params : Row) (tree : ℕ) (tests shown : List Term) (order : List (Term × Key)) (names : List (List ℕ)) → IsQueryOf desk_schema sql params tree tests shown order names
-    → (P : Content → List Row → Type 0) → ((s : State) (rows : List Row) → AreShown s.now.trees → Finds tree tests shown order s.now.trees params rows → P (seen s) rows) → IsRead sql params P
-reads_plain sql params tree tests shown order names it P says = record {
+-- a query over one table reads what P says, where P holds of the rows that it finds in sound tables
+pub reads_inside : (sql : List ℕ) (params : Row) (tree : ℕ) (tests shown : List Term) (order : List (Term × Key)) (names : List (List ℕ)) → IsQueryOf desk_schema sql params tree tests shown order names
+    → (P : Content → List Row → Type 0) → ((s : State) (rows : List Row) → IsInside s → IsTrue s.is_open → Finds tree tests shown order s.now.trees params rows → P (seen s) rows) → IsRead sql params P
+reads_inside sql params tree tests shown order names it P says = record {
   shows = λ old new rows inside h.
       let live = shown_open old new sql params rows h in
       let has = inside.schema live in
       let read = reads_as sql params old new desk_schema has _ it.command_is it.plain it.unlisted rows h in (
         shown_same old new sql params rows (subst (λ schema. IsPlain (understood schema sql)) (sym has) it.plain) h,
-        says old rows (inside.shown live) (finds tree tests shown order old.now.trees params rows read.answer),
+        says old rows inside live (finds tree tests shown order old.now.trees params rows read.answer),
       );
   free = λ old new e inside h. elim (query_fault_or_same old new sql params e h) [
     | inl store ↦ stored_free e store
     | inr same ↦ query_free desk_schema sql params tree tests shown order names it old new (inside.schema same.0.was_open) inside.unlimited e h
   ];
 }
+
+-- a query over one table reads what P says, where P holds of the rows that it finds in tables that are shown
+pub reads_plain : (sql : List ℕ) (params : Row) (tree : ℕ) (tests shown : List Term) (order : List (Term × Key)) (names : List (List ℕ)) → IsQueryOf desk_schema sql params tree tests shown order names
+    → (P : Content → List Row → Type 0) → ((s : State) (rows : List Row) → AreShown s.now.trees → Finds tree tests shown order s.now.trees params rows → P (seen s) rows) → IsRead sql params P
+reads_plain sql params tree tests shown order names it P says = reads_inside sql params tree tests shown order names it P (λ s rows inside live. says s rows (inside.shown live))

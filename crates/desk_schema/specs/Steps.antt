@@ -29,8 +29,8 @@ pub record Goes (old new : State) (Q : Content → Content → Type 0) : Type 0 
   pub serves : IsTrue old.is_open → IsTrue new.is_open
   pub changed : Q (seen old) (seen new)
 
--- A call goes from old to new inside a transaction: nothing is committed; an answer is one of which P
--- holds, with what the tables said before and say now; and where Free holds of what they said, it
+-- A call goes from old to new inside a transaction: nothing is committed; an answer is one of which
+-- P holds, with what the tables said before and say now; and where Free holds of what they said, it
 -- fails for memory, the disk or its size alone.
 pub record Acts {A : Type 0} (old new : State) (result : Result A StoreFault) (Free : Content → Type 0) (P : Content → Content → A → Type 0) : Type 0 where
   pub survives : Survives old new (λ _. ⊥)

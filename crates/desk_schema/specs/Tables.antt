@@ -87,56 +87,62 @@ OUTCOME_NUMBERS = 22
 abbrev pub meta_table : Table
 meta_table = numbered_table (codes "meta") META (codes "id") (number_column (codes "schema") ∷ number_column (codes "next") ∷ [])
 
--- CREATE TABLE sets (set_key INTEGER PRIMARY KEY, package TEXT NOT NULL, severity INTEGER NOT NULL, closed INTEGER NOT NULL,
--- forwarded TEXT, owner TEXT, tags INTEGER NOT NULL, archived INTEGER NOT NULL) STRICT
+-- CREATE TABLE sets (set_key INTEGER PRIMARY KEY, package TEXT NOT NULL,
+-- severity INTEGER NOT NULL, closed INTEGER NOT NULL, forwarded TEXT, owner TEXT,
+-- tags INTEGER NOT NULL, archived INTEGER NOT NULL) STRICT
 abbrev pub sets_table : Table
 sets_table =
     numbered_table (codes "sets") SETS (codes "set_key")
     (text_column (codes "package") ∷ number_column (codes "severity") ∷ number_column (codes "closed") ∷ column_of (codes "forwarded") Text false
     ∷ column_of (codes "owner") Text false ∷ number_column (codes "tags") ∷ number_column (codes "archived") ∷ [])
 
--- CREATE TABLE bugs (number INTEGER PRIMARY KEY, set_key INTEGER NOT NULL, title TEXT NOT NULL, submitter TEXT NOT NULL) STRICT
+-- CREATE TABLE bugs (number INTEGER PRIMARY KEY, set_key INTEGER NOT NULL, title TEXT NOT NULL,
+-- submitter TEXT NOT NULL) STRICT
 abbrev pub bugs_table : Table
 bugs_table = numbered_table (codes "bugs") BUGS (codes "number") (number_column (codes "set_key") ∷ text_column (codes "title") ∷ text_column (codes "submitter") ∷ [])
 
--- CREATE TABLE marks (set_key INTEGER NOT NULL, kind INTEGER NOT NULL, source TEXT NOT NULL, version TEXT NOT NULL,
--- PRIMARY KEY (set_key, kind, source, version)) STRICT
+-- CREATE TABLE marks (set_key INTEGER NOT NULL, kind INTEGER NOT NULL, source TEXT NOT NULL,
+-- version TEXT NOT NULL, PRIMARY KEY (set_key, kind, source, version)) STRICT
 abbrev pub marks_table : Table
 marks_table =
     keyed_table (codes "marks") MARKS (1 ∷ 2 ∷ 3 ∷ 4 ∷ [])
     (number_column (codes "set_key") ∷ number_column (codes "kind") ∷ text_column (codes "source") ∷ text_column (codes "version") ∷ [])
 
--- CREATE TABLE blocks (set_key INTEGER NOT NULL, blocker INTEGER NOT NULL, PRIMARY KEY (set_key, blocker)) STRICT
+-- CREATE TABLE blocks (set_key INTEGER NOT NULL, blocker INTEGER NOT NULL,
+-- PRIMARY KEY (set_key, blocker)) STRICT
 abbrev pub blocks_table : Table
 blocks_table = keyed_table (codes "blocks") BLOCKS (1 ∷ 2 ∷ []) (number_column (codes "set_key") ∷ number_column (codes "blocker") ∷ [])
 
--- CREATE TABLE nodes (source TEXT NOT NULL, version TEXT NOT NULL, parent_source TEXT, parent_version TEXT,
--- PRIMARY KEY (source, version)) STRICT
+-- CREATE TABLE nodes (source TEXT NOT NULL, version TEXT NOT NULL, parent_source TEXT,
+-- parent_version TEXT, PRIMARY KEY (source, version)) STRICT
 abbrev pub nodes_table : Table
 nodes_table =
     keyed_table (codes "nodes") NODES (1 ∷ 2 ∷ [])
     (text_column (codes "source") ∷ text_column (codes "version") ∷ column_of (codes "parent_source") Text false ∷ column_of (codes "parent_version") Text false ∷ [])
 
--- CREATE TABLE nearest (set_key INTEGER NOT NULL, source TEXT NOT NULL, version TEXT NOT NULL, mark_source TEXT NOT NULL,
--- mark_version TEXT NOT NULL, kind INTEGER NOT NULL, PRIMARY KEY (set_key, source, version)) STRICT
+-- CREATE TABLE nearest (set_key INTEGER NOT NULL, source TEXT NOT NULL, version TEXT NOT NULL,
+-- mark_source TEXT NOT NULL, mark_version TEXT NOT NULL, kind INTEGER NOT NULL,
+-- PRIMARY KEY (set_key, source, version)) STRICT
 abbrev pub nearest_table : Table
 nearest_table =
     keyed_table (codes "nearest") NEAREST (1 ∷ 2 ∷ 3 ∷ [])
     (number_column (codes "set_key") ∷ text_column (codes "source") ∷ text_column (codes "version") ∷ text_column (codes "mark_source")
     ∷ text_column (codes "mark_version") ∷ number_column (codes "kind") ∷ [])
 
--- CREATE TABLE affects (set_key INTEGER NOT NULL, package TEXT NOT NULL, PRIMARY KEY (set_key, package)) STRICT
+-- CREATE TABLE affects (set_key INTEGER NOT NULL, package TEXT NOT NULL,
+-- PRIMARY KEY (set_key, package)) STRICT
 abbrev pub affects_table : Table
 affects_table = keyed_table (codes "affects") AFFECTS (1 ∷ 2 ∷ []) (number_column (codes "set_key") ∷ text_column (codes "package") ∷ [])
 
--- CREATE TABLE messages (id TEXT NOT NULL PRIMARY KEY, sender TEXT NOT NULL, message BLOB NOT NULL) STRICT
+-- CREATE TABLE messages (id TEXT NOT NULL PRIMARY KEY, sender TEXT NOT NULL,
+-- message BLOB NOT NULL) STRICT
 abbrev pub messages_table : Table
 messages_table =
     keyed_table (codes "messages") MESSAGES (1 ∷ [])
     (text_column (codes "id") ∷ text_column (codes "sender") ∷ column_of (codes "message") Blob true ∷ [])
 
--- CREATE TABLE outcomes (id TEXT NOT NULL, place INTEGER NOT NULL, kind INTEGER NOT NULL, number INTEGER, field INTEGER,
--- source TEXT, version TEXT, PRIMARY KEY (id, place)) STRICT
+-- CREATE TABLE outcomes (id TEXT NOT NULL, place INTEGER NOT NULL, kind INTEGER NOT NULL,
+-- number INTEGER, field INTEGER, source TEXT, version TEXT, PRIMARY KEY (id, place)) STRICT
 abbrev pub outcomes_table : Table
 outcomes_table =
     keyed_table (codes "outcomes") OUTCOMES (1 ∷ 2 ∷ [])

@@ -5,8 +5,8 @@ ghost use Rattle.desk_text.specs.declared.outcome.StoreFault.TheVariants.{Full};
 
 use desk_text::StoreFault;
 
-/// A number as a statement takes it: there is no room for a larger one in the tables, and no bug has
-/// one.
+/// A number as a statement takes it: there is no room for a larger one in the tables, and no bug
+/// has one.
 pub fn parameter(number: u64) -> Result<u32, StoreFault>
     ensures same { IfOk result (λ n. n ≡ number) }
     ensures large { IfErr result (λ fault. (fault ≡ Full) × (2 ^ 32 ≤ number)) }

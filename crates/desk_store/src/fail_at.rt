@@ -18,12 +18,13 @@ use desk_text::{ListRow, Outcome, StoreFault};
 use message_machine::Kept;
 
 /// A store round another.
-/// One call of `apply`, `branch` or `keep` answers `Device`, changes nothing and is counted; every other
-/// call is the other store's.
+/// One call of `apply`, `branch` or `keep` answers `Device`, changes nothing and is counted; every
+/// other call is the other store's.
 #[derive(Drop)]
 pub struct FailAt<S> {
     inner: S,
-    // Which call of `apply`, `branch` or `keep` is to fail, counted from 1; 0: none, or none any more.
+    // Which call of `apply`, `branch` or `keep` is to fail, counted from 1; 0: none, or none any
+    // more.
     left: u64,
     has_failed: bool,
     ghost once: { has_failed ≡ true → left ≡ 0 },

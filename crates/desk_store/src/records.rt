@@ -121,13 +121,13 @@ pub trait Records {
         ensures stays { keeping self.new ≡ keeping self.old }
         ensures count { faults self.new ≡ faults_after result (faults self.old) };
 
-    /// In one step, keeps an outcome of a line of the message of this id, behind those that are kept
-    /// of it, and carries the line's change out, if there is one.
+    /// In one step, keeps an outcome of a line of the message of this id, behind those that are
+    /// kept of it, and carries the line's change out, if there is one.
     /// Of kept tables over an honest disk it asks what `apply` asks of a change.
-    /// Where the tables were kept at some earlier moment, as when the message began, and the disk was
-    /// honest since, it asks that the outcome is good, and that it and the change are what comes of
-    /// the message's first line that has an outcome and has none kept; and what it says then holds
-    /// since that moment.
+    /// Where the tables were kept at some earlier moment, as when the message began, and the disk
+    /// was honest since, it asks that the outcome is good, and that it and the change are what
+    /// comes of the message's first line that has an outcome and has none kept; and what it says
+    /// then holds since that moment.
     fn keep(
         &mut self,
         id: &str,

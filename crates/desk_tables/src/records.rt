@@ -193,8 +193,8 @@ impl<S: Alter> Records for TableDesk<S> {
         self.counts.note(answer)
     }
 
-    /// In one step, keeps an outcome of a line of the message of this id, behind those that are kept
-    /// of it, and carries the line's change out, if there is one.
+    /// In one step, keeps an outcome of a line of the message of this id, behind those that are
+    /// kept of it, and carries the line's change out, if there is one.
     /// Once it has answered `Ok` both are committed, in one transaction: a crash between two calls
     /// leaves them.
     /// A crash at any moment of the call leaves what it would have left before, or both.

@@ -1,34 +1,28 @@
 -- What the query of a nearest mark's kind answers.
-use Rattle.std.proofs.Common.{◌≡◌, inl, inr, ℕ, pos, true, ◌==◌, ◌&&◌, List, [], ◌∷◌, codes, map, filter, Option, Some, None, option_map, IsTrue, refl, sym, ap, subst, ◌∙◌, arith}
+use Rattle.std.proofs.Common.{◌≡◌, ℕ, pos, true, ◌==◌, ◌&&◌, List, [], ◌∷◌, codes, map, filter, Option, Some, None, option_map, refl, sym, ap, subst, ◌∙◌, arith}
 use Rattle.std.specs.List.Sorted.{IsPermutation}
 use Rattle.std.specs.Option.{option_map_or}
 use Rattle.std.specs.Str.{bytes_eq}
 use Rattle.std.proofs.lemmas.List.Sorted.{length_permutation}
 use Rattle.sqlite.specs.Listing.{understood}
 use Rattle.sqlite.specs.Order.{Row}
-use Rattle.sqlite.specs.State.{State}
 use Rattle.sqlite.specs.Term.{Term, col, holds, eval_all}
 use Rattle.sqlite.specs.declared.types.Value.TheVariants.{Int, Text}
-use Rattle.sqlite.proofs.Callers.{IsPlain, reads_as, one_permutation}
+use Rattle.sqlite.proofs.Callers.{one_permutation}
 use Rattle.sqlite_tied.specs.Compute.{everything}
-use Rattle.sqlite_value.specs.declared.keys.Key.{Key}
 use Rattle.ancestry.specs.Nodes.{Node}
 use Rattle.ancestry.specs.declared.statuses.MarkKind.{MarkKind}
 use Rattle.nearest_marks.specs.declared.near.Near.{Near}
 use Rattle.sql_forms.specs.Forms.{passes, equals, equals_at}
-use Rattle.sql_forms.proofs.FailLemmas.{stored_free, query_fault_or_same}
-use Rattle.sql_forms.proofs.QueryErrors.{IsQueryOf, query_free}
-use Rattle.sql_forms.proofs.QueryLemmas.{Finds, finds, found, map_map}
-use Rattle.sql_forms.proofs.ReadLemmas.{shown_open, shown_same}
+use Rattle.sql_forms.proofs.QueryErrors.{IsQueryOf}
+use Rattle.sql_forms.proofs.QueryLemmas.{found, map_map}
 use Rattle.sql_forms.proofs.RowLemmas.{kept_rows, holds_text, hits, same_number, and_true}
-use Rattle.desk_content.specs.Content.{Content}
 use Rattle.desk_schema.specs.NearestRows.{NearestRow, nearest_cells, near_in}
-use Rattle.desk_schema.specs.Steps.{IsInside, seen}
 use Rattle.desk_schema.specs.Tables.{NEAREST, desk_schema}
 use Rattle.desk_schema.proofs.CellLemmas.{same_text}
 use Rattle.desk_schema.proofs.NearestLemmas.{near_are}
 use Rattle.desk_schema.proofs.NearestLists.{is_of}
-use Rattle.desk_schema.proofs.StatementLemmas.{IsRead}
+use Rattle.desk_schema.proofs.StatementLemmas.{IsRead, reads_inside}
 use Rattle.index_rows.specs.KindAnswers.{kind_row, kind_rows}
 use Rattle.index_rows.proofs.NearKeys.{rows_apart, one_row}
 
@@ -52,23 +46,6 @@ hit_row k v x =
     let source = holds_text 2 1 (params_of k v) (nearest_cells x) v.source refl ∙ same_text x.node.source v.source in
     let version = holds_text 3 2 (params_of k v) (nearest_cells x) v.version refl ∙ same_text x.node.version v.version in
     (λ i. number i && (source i && (version i && true))) ∙ ap (λ b. (x.key == k) && (bytes_eq x.node.source v.source && b)) (and_true _)
-
--- a query over one table reads what P says, where P holds of the rows that it finds in sound tables
-reads_inside : (sql : List ℕ) (params : Row) (tree : ℕ) (tests shown : List Term) (order : List (Term × Key)) (names : List (List ℕ)) → IsQueryOf desk_schema sql params tree tests shown order names
-    → (P : Content → List Row → Type 0) → ((s : State) (rows : List Row) → IsInside s → IsTrue s.is_open → Finds tree tests shown order s.now.trees params rows → P (seen s) rows) → IsRead sql params P
-reads_inside sql params tree tests shown order names it P says = record {
-  shows = λ old new rows inside h.
-      let live = shown_open old new sql params rows h in
-      let has = inside.schema live in
-      let read = reads_as sql params old new desk_schema has _ it.command_is it.plain it.unlisted rows h in (
-        shown_same old new sql params rows (subst (λ schema. IsPlain (understood schema sql)) (sym has) it.plain) h,
-        says old rows inside live (finds tree tests shown order old.now.trees params rows read.answer),
-      );
-  free = λ old new e inside h. elim (query_fault_or_same old new sql params e h) [
-    | inl store ↦ stored_free e store
-    | inr same ↦ query_free desk_schema sql params tree tests shown order names it old new (inside.schema same.0.was_open) inside.unlimited e h
-  ];
-}
 
 none : {X : Type 0} (ys : List X) → IsPermutation [] ys → ys ≡ []
 none [] same = refl

@@ -2,7 +2,6 @@ pub mod AddMessage
 pub mod AddOutcome
 pub mod AddNumber
 pub mod KeyLemmas
-pub mod InsideReads
 pub mod OutcomeOrder
 pub mod ReadMessage
 pub mod ReadOutcomes

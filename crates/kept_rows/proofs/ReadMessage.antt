@@ -31,10 +31,9 @@ use Rattle.desk_schema.proofs.CellLemmas.{same_text}
 use Rattle.desk_schema.proofs.MessageLemmas.{messages_are}
 use Rattle.desk_schema.proofs.MessageLists.{sent}
 use Rattle.desk_schema.proofs.SchemaLemmas.{unique_at}
-use Rattle.desk_schema.proofs.StatementLemmas.{IsRead}
+use Rattle.desk_schema.proofs.StatementLemmas.{IsRead, reads_inside}
 use Rattle.kept_rows.specs.Rows.{message_row, HasUtf8, AreMessageRows}
 use Rattle.kept_rows.proofs.AddMessage.{places, same_id, alike}
-use Rattle.kept_rows.proofs.InsideReads.{reads_inside}
 use Rattle.kept_rows.proofs.KeyLemmas.{HasNoClash, AreApart, not_on, apart_in}
 
 abbrev pub read_text : List ℕ

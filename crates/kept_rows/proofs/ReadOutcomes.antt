@@ -38,10 +38,9 @@ use Rattle.desk_schema.proofs.CellLemmas.{same_text}
 use Rattle.desk_schema.proofs.OutcomeLemmas.{outcomes_are}
 use Rattle.desk_schema.proofs.OutcomeLists.{told}
 use Rattle.desk_schema.proofs.SchemaLemmas.{unique_at}
-use Rattle.desk_schema.proofs.StatementLemmas.{IsRead}
+use Rattle.desk_schema.proofs.StatementLemmas.{IsRead, reads_inside}
 use Rattle.kept_rows.specs.Rows.{outcome_row, AreOutcomeRows}
 use Rattle.kept_rows.proofs.AddOutcome.{places, same_place, alike}
-use Rattle.kept_rows.proofs.InsideReads.{reads_inside}
 use Rattle.kept_rows.proofs.KeyLemmas.{HasNoClash, not_on, apart_in}
 use Rattle.kept_rows.proofs.OutcomeOrder.{Rises, all_in, all_rise, told_apart, outcomes_good}
 

@@ -1,5 +1,5 @@
-//! The statements on the tables of messages that have an id and of their outcomes, each with what it
-//! makes of all that the tables say.
+//! The statements on the tables of messages that have an id and of their outcomes, each with what
+//! it makes of all that the tables say.
 #![tactic(auto)]
 
 mod messages;

@@ -1,5 +1,5 @@
--- What is kept of messages that have an id, beside the desk: of each id that is known its sender, its
--- text, and the outcomes of its first lines that have one.
+-- What is kept of messages that have an id, beside the desk: of each id that is known its sender,
+-- its text, and the outcomes of its first lines that have one.
 -- This project's own rule.
 use Rattle.std.specs.Prelude.{ℕ, ◌≡◌, ◌≢◌, ◌<◌, ◌≤◌, ◌-◌, Bool, true, false, List, [], ◌∷◌, ◌++◌, length, map, filter}
 use Rattle.std.specs.Prelude.{take, drop, zip, slice_get, Option, Some, None, Result, Ok, Err, if◌then◌else◌, ⊤}
@@ -79,7 +79,8 @@ IsGoodOutcome (Changed numbers) = IsAscending numbers × Each IsGoodNumber numbe
 IsGoodOutcome (Refused refusal) = IsGoodRefusal refusal
 IsGoodOutcome Stopped = ⊤
 
--- the names that a line which reads so gives where this is its outcome: those of an accepted `clone`
+-- the names that a line which reads so gives where this is its outcome: those of an accepted
+-- `clone`
 abbrev pub names_by : Result Line Refusal → Outcome → List ℕ
 names_by (Ok (Do command)) (Changed numbers) = names_in command
 names_by read outcome = []

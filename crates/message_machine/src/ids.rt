@@ -10,8 +10,8 @@ fn are_visible(bytes: &[u8]) -> bool
     bytes.iter().all(|byte| (33..=126).contains(byte))
 }
 
-/// Whether this is an id of a message: 1 to 100 visible ASCII characters, whose codes are from 33 to
-/// 126.
+/// Whether this is an id of a message: 1 to 100 visible ASCII characters, whose codes are from 33
+/// to 126.
 /// It takes no memory.
 /// This project's own rule.
 #[tactic(auto, unfolding(crate::specs::Ids::is_id))]

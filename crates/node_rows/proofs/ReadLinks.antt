@@ -1,32 +1,25 @@
 -- What the query of all nodes answers.
-use Rattle.std.proofs.Common.{◌≡◌, inl, inr, ℕ, List, [], ◌∷◌, codes, map, filter, Option, Some, None, IsTrue, refl, sym, ap, subst, ◌∙◌, arith}
+use Rattle.std.proofs.Common.{◌≡◌, ℕ, List, [], ◌∷◌, codes, map, filter, Option, Some, None, refl, sym, ap, subst, ◌∙◌, arith}
 use Rattle.std.specs.List.{AllByRecursion}
 use Rattle.std.specs.List.Sorted.{IsPermutation}
 use Rattle.std.proofs.lemmas.List.Elements.{All-from_recursion, recursion_from_All}
 use Rattle.std.proofs.lemmas.List.Sorted.{All-permutation, IsPermutation-trans}
 use Rattle.sqlite.specs.Listing.{understood}
 use Rattle.sqlite.specs.Order.{Row, column}
-use Rattle.sqlite.specs.State.{State}
 use Rattle.sqlite.specs.Term.{Term, col, eval_all}
 use Rattle.sqlite.specs.Values.{or_null}
 use Rattle.sqlite.specs.declared.types.Value.TheVariants.{Text}
-use Rattle.sqlite.proofs.Callers.{IsPlain, reads_as}
 use Rattle.sqlite_tied.specs.Compute.{everything}
-use Rattle.sqlite_value.specs.declared.keys.Key.{Key}
 use Rattle.ancestry.specs.Nodes.{Node, node}
 use Rattle.sql_forms.specs.Forms.{passes}
-use Rattle.sql_forms.proofs.FailLemmas.{stored_free, query_fault_or_same}
-use Rattle.sql_forms.proofs.QueryErrors.{IsQueryOf, query_free}
-use Rattle.sql_forms.proofs.QueryLemmas.{Finds, finds, found, map_map}
-use Rattle.sql_forms.proofs.ReadLemmas.{shown_open, shown_same}
-use Rattle.desk_content.specs.Content.{Content}
+use Rattle.sql_forms.proofs.QueryErrors.{IsQueryOf}
+use Rattle.sql_forms.proofs.QueryLemmas.{found, map_map}
 use Rattle.desk_schema.specs.Cells.{maybe_text, text_in}
 use Rattle.desk_schema.specs.NodeRows.{NodeRow, node_cells, node_between, IsNodeRow}
-use Rattle.desk_schema.specs.Steps.{IsInside, seen}
 use Rattle.desk_schema.specs.Tables.{NODES, desk_schema}
 use Rattle.desk_schema.proofs.NodeLemmas.{nodes_are}
 use Rattle.desk_schema.proofs.NodeLists.{link_of, links_are}
-use Rattle.desk_schema.proofs.StatementLemmas.{IsRead}
+use Rattle.desk_schema.proofs.StatementLemmas.{IsRead, reads_inside}
 use Rattle.node_rows.specs.Links.{link_row, IsLink, AreLinksOf}
 use Rattle.node_rows.proofs.AnyOrder.{in_any}
 use Rattle.node_rows.proofs.NodeKeys.{rows_apart}
@@ -43,23 +36,6 @@ names = codes "source" ∷ codes "version" ∷ codes "parent_source" ∷ codes "
 read_is : IsQueryOf desk_schema read_text [] NODES [] shown_terms [] names
 unfolding understood everything
 read_is = record { command_is = refl; plain = (refl, refl); whole = omega arith; given = refl; unlisted = refl; typed = refl }
-
--- a query over one table reads what P says, where P holds of the rows that it finds in sound tables
-pub reads_inside : (sql : List ℕ) (params : Row) (tree : ℕ) (tests shown : List Term) (order : List (Term × Key)) (names : List (List ℕ)) → IsQueryOf desk_schema sql params tree tests shown order names
-    → (P : Content → List Row → Type 0) → ((s : State) (rows : List Row) → IsInside s → IsTrue s.is_open → Finds tree tests shown order s.now.trees params rows → P (seen s) rows) → IsRead sql params P
-reads_inside sql params tree tests shown order names it P says = record {
-  shows = λ old new rows inside h.
-      let live = shown_open old new sql params rows h in
-      let has = inside.schema live in
-      let read = reads_as sql params old new desk_schema has _ it.command_is it.plain it.unlisted rows h in (
-        shown_same old new sql params rows (subst (λ schema. IsPlain (understood schema sql)) (sym has) it.plain) h,
-        says old rows inside live (finds tree tests shown order old.now.trees params rows read.answer),
-      );
-  free = λ old new e inside h. elim (query_fault_or_same old new sql params e h) [
-    | inl store ↦ stored_free e store
-    | inr same ↦ query_free desk_schema sql params tree tests shown order names it old new (inside.schema same.0.was_open) inside.unlimited e h
-  ];
-}
 
 -- ---- links are read back from their rows
 

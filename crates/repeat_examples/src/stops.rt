@@ -68,8 +68,8 @@ impl<'a> Sweep<'a> {
             && attempt.shown.as_slice() == self.goal.shown.as_slice()
     }
 
-    // Sends the message again and again over files that a stop left, with twice the calls before the
-    // next stop each time; whether it comes to its end as if there were no stop.
+    // Sends the message again and again over files that a stop left, with twice the calls before
+    // the next stop each time; whether it comes to its end as if there were no stop.
     fn comes_to_its_end(&self, alloc: Global, left: Disks, calls: u64) -> io::Result<bool> {
         let mut files = left;
         let mut calls = calls;
@@ -180,8 +180,8 @@ fn take_line(rt: &HostRuntime, plan: &mut Plan, line: &str) -> io::Result<()> {
 }
 
 /// Takes the lines of a file: those that are run before the message, what is sent, what the desk is
-/// asked after it, and then those that say which file stops: `log` or `database`, with `tight` after
-/// it for little memory.
+/// asked after it, and then those that say which file stops: `log` or `database`, with `tight`
+/// after it for little memory.
 pub(crate) fn run_file(rt: &HostRuntime, text: &str) -> io::Result<()> {
     let mut plan = Plan::new(rt.alloc())?;
     for line in text.lines() {

@@ -15,15 +15,15 @@ abbrev pub State : Type 0
 State = Desk × Keeping
 
 pub data Call : Type 0 where
-  -- another message, a report, a branch, a question, a fault, a crash and the opening after it: what
-  -- is kept of messages stays
+  -- another message, a report, a branch, a question, a fault, a crash and the opening after it:
+  -- what is kept of messages stays
   Other : Call
   -- a message of this id, sender and text was sent, and these of its lines were taken, with these
   -- outcomes, before it came to its end, or a fault or a crash stopped it
   Sent : List ℕ → List ℕ → List ℕ → List Entry → Call
 
--- These lines of a message were taken: they are the first ones that had an outcome and none kept, and
--- the machine took them from the desk and the outcomes that were kept; now theirs are kept too.
+-- These lines of a message were taken: they are the first ones that had an outcome and none kept,
+-- and the machine took them from the desk and the outcomes that were kept; now theirs are kept too.
 pub record Took (id sender message : List ℕ) (taken : List Entry) (old new : State) : Type 0 where
   pub same : IsOfMessage sender message (old.1 id)
   pub next :
@@ -64,9 +64,10 @@ abbrev pub IsSameMessage : Option Kept → Option Kept → Type 0
 IsSameMessage None now = Unit {0}
 IsSameMessage (Some k) now = (l : Kept) × (now ≡ Some l) × (l.from ≡ k.from) × (l.message ≡ k.message)
 
--- A message of this id, sender and text was sent, and was answered with these outcomes and this end:
--- those that were kept, and those of the lines that were taken now; they are those of the first lines
--- that have an outcome, in order, and at `All` of each of them.
+-- A message of this id, sender and text was sent, and was answered with these outcomes and this
+-- end:
+-- those that were kept, and those of the lines that were taken now; they are those of the first
+-- lines that have an outcome, in order, and at `All` of each of them.
 pub record IsSent (id sender message : List ℕ) (outcomes : List Entry) (end : End) (old new : State) : Type 0 where
   pub taken : List Entry
   pub took : Does (Sent id sender message taken) old new

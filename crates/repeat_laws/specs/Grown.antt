@@ -3,8 +3,8 @@ use Rattle.std.specs.Prelude.{ℕ, ◌≡◌, List, ◌++◌, length, map, take}
 use Rattle.desk_text.specs.declared.outcome.End.TheVariants as ends
 use Rattle.message_machine.specs.Message.{Entry, Machine, after_lines, end_of}
 
--- From one machine to another in these lines: of some of the first ones an outcome is added, and these
--- lead to the same machine; of all of them, where the message is not at its end.
+-- From one machine to another in these lines: of some of the first ones an outcome is added, and
+-- these lead to the same machine; of all of them, where the message is not at its end.
 pub record Grown (sender : List ℕ) (m : Machine) (lines : List (List ℕ)) (last : Machine) : Type 0 where
   pub taken : List Entry
   pub outcomes : last.outcomes ≡ m.outcomes ++ taken

@@ -13,8 +13,8 @@ ghost use Rattle.repeat_laws.specs.Calls.{State, Call, Does, Other, InTurn, take
 /// them: the lines that calls took of the message of an id are, in the order in which they were
 /// taken, those that have a kept outcome at the end and had none at the beginning, each once, with
 /// the outcome that is kept of it.
-/// So no line acts twice, none acts before the one above it, and what is kept of an id never becomes
-/// the message of another sender or another text.
+/// So no line acts twice, none acts before the one above it, and what is kept of an id never
+/// becomes the message of another sender or another text.
 pub fn each_line_acts_once()
     ensures once { (id : List ℕ) (calls : List Call) (old new : State) → InTurn calls old new
         → told_of (new.1 id) ≡ told_of (old.1 id) ++ taken_in id calls }
@@ -22,8 +22,8 @@ pub fn each_line_acts_once()
         → IsSameMessage (old.1 id) (new.1 id) }
 {}
 
-/// What `receive_once` answers makes it a call of such a list, where what is kept is right, as it is
-/// of every store whose tables are kept.
+/// What `receive_once` answers makes it a call of such a list, where what is kept is right, as it
+/// is of every store whose tables are kept.
 /// Where it answers outcomes, they are those that were kept and those of the lines that it took: of
 /// the first lines that have an outcome, in order, and at the end `All` of each of them.
 /// Where it answers a fault, nothing has changed.

@@ -1,5 +1,6 @@
-//! Images of sets of merged bugs: the one that has a bug, where each bug stands, which bugs two lists
-//! of images show otherwise, and why a command is refused for a bug of them before it is planned.
+//! Images of sets of merged bugs: the one that has a bug, where each bug stands, which bugs two
+//! lists of images show otherwise, and why a command is refused for a bug of them before it is
+//! planned.
 //! The values and definitions are those of `bug_record`.
 #![tactic(auto)]
 

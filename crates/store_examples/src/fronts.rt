@@ -252,8 +252,8 @@ impl Fronts {
         false
     }
 
-    /// Whether the questions, but for the report, are answered so somewhere in this reach, up to one
-    /// at which the disk fails.
+    /// Whether the questions, but for the report, are answered so somewhere in this reach, up to
+    /// one at which the disk fails.
     pub fn shows_front(&self, reach: Reach, answers: &[u8]) -> bool {
         for lines in reach.fewest..reach.most.saturating_add(1) {
             if is_front(self.shown(lines), text_in(answers)) {

@@ -1,5 +1,5 @@
-//! Random scripts, each over a desk in memory, a desk in tables, and a desk in tables that is closed
-//! and opened before each directive.
+//! Random scripts, each over a desk in memory, a desk in tables, and a desk in tables that is
+//! closed and opened before each directive.
 
 use crate::lines::Maker;
 use crate::told::{Task, Told};

@@ -60,8 +60,8 @@ fn are_all_met(fronts: &Fronts, met: &[usize]) -> bool {
     true
 }
 
-// Whether stops leave the desk under the schemas that they may: under that under which it began, and,
-// where that is an earlier one and the log stops, under schema 3 too.
+// Whether stops leave the desk under the schemas that they may: under that under which it began,
+// and, where that is an earlier one and the log stops, under schema 3 too.
 fn are_found(began: Schema, is_log: bool, found: Found) -> bool {
     match began {
         Schema::First => found.first && !found.second && (found.third || !is_log),

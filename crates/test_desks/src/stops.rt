@@ -21,8 +21,8 @@ pub struct Setting {
     pub options: Options,
 }
 
-/// What a line asks for: `log` or `database`, with `tight` after it for little memory; nothing where
-/// it is another line.
+/// What a line asks for: `log` or `database`, with `tight` after it for little memory; nothing
+/// where it is another line.
 pub fn setting_of(line: &str) -> Option<Setting> {
     let (file, rest) = line.split_once(' ').unwrap_or((line, ""));
     let options = match rest {
