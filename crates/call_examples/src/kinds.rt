@@ -58,6 +58,35 @@ pub(crate) enum Kind {
 }
 
 impl Kind {
+    // The kind of this word, where such calls are about the tree.
+    fn read_of_tree(word: &str) -> Option<Kind> {
+        match word {
+            "tree" => Some(Kind::Tree),
+            "branch" => Some(Kind::Branch),
+            "knows" => Some(Kind::Knows),
+            "line" => Some(Kind::Line),
+            "heads" => Some(Kind::Heads),
+            "status" => Some(Kind::Status),
+            "nearest" => Some(Kind::Nearest),
+            "affected" => Some(Kind::Affected),
+            "edits" => Some(Kind::Edits),
+            _ => None,
+        }
+    }
+
+    // The kind of this word, where such calls are about texts, numbers and lines of messages.
+    fn read_of_message(word: &str) -> Option<Kind> {
+        match word {
+            "text" => Some(Kind::Text),
+            "number" => Some(Kind::Number),
+            "read" => Some(Kind::Read),
+            "tags" => Some(Kind::Tags),
+            "tagnumber" => Some(Kind::TagNumber),
+            "severity" => Some(Kind::Severity),
+            _ => Kind::read_of_tree(word),
+        }
+    }
+
     /// The kind of this word.
     pub fn read(word: &str) -> Option<Kind> {
         match word {
@@ -67,22 +96,7 @@ impl Kind {
             "node" => Some(Kind::Node),
             "at" => Some(Kind::At),
             "nodes" => Some(Kind::Nodes),
-            "tree" => Some(Kind::Tree),
-            "branch" => Some(Kind::Branch),
-            "knows" => Some(Kind::Knows),
-            "line" => Some(Kind::Line),
-            "heads" => Some(Kind::Heads),
-            "status" => Some(Kind::Status),
-            "text" => Some(Kind::Text),
-            "number" => Some(Kind::Number),
-            "read" => Some(Kind::Read),
-            "tags" => Some(Kind::Tags),
-            "tagnumber" => Some(Kind::TagNumber),
-            "severity" => Some(Kind::Severity),
-            "nearest" => Some(Kind::Nearest),
-            "affected" => Some(Kind::Affected),
-            "edits" => Some(Kind::Edits),
-            _ => None,
+            _ => Kind::read_of_message(word),
         }
     }
 }

@@ -1,12 +1,14 @@
 //! Prints calls and what they answer: each line of its tables is a call.
 #![tactic(auto)]
 
+mod edits;
 mod kinds;
 mod messages;
 mod numbers;
 mod rows;
 mod trees;
 mod versions;
+mod words;
 
 use ancestry::Node;
 use kinds::{Kind, NodeKind};
@@ -55,7 +57,7 @@ fn add_row_answer(
     match kind {
         Kind::Nearest => rows::add_nearest(alloc, out, family, text),
         Kind::Affected => rows::add_affected(alloc, out, family, text),
-        Kind::Edits => rows::add_edits(alloc, out, family, text),
+        Kind::Edits => edits::add_edits(alloc, out, family, text),
         _ => add_plain_answer(alloc, out, kind, text),
     }
 }
@@ -101,13 +103,18 @@ fn add_call(
     }
 }
 
+// Prints a line of a table, and what is told of it.
+fn print_told(rt: &HostRuntime, line: &str, told: &str) -> io::Result<()> {
+    println!(rt; "{line} -> {told}")
+}
+
 // Prints a line of a table, and what its call answers.
 fn print_call(rt: &HostRuntime, family: &mut Family, line: &str) -> io::Result<()> {
     let mut answer = String::new(rt.alloc());
     if add_call(rt.alloc(), &mut answer, family, line)? {
-        println!(rt; "{line} -> {answer}")
+        print_told(rt, line, answer.as_str())
     } else {
-        println!(rt; "{line} -> bad line of a table")
+        print_told(rt, line, "bad line of a table")
     }
 }
 

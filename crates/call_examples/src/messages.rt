@@ -1,9 +1,9 @@
 //! Texts, number words, and lines of messages.
 
-ghost use Rattle.control_text.specs.WellFormed.{IsWellFormedLine};
+ghost use Rattle.control_text.specs.WellFormed.{IsWellFormed, IsWellFormedLine};
 
-use bug_record::{Refusal, is_text};
-use control_text::{Line, LineFault, number_word, read_line, write_command};
+use bug_record::{Command, is_text};
+use control_text::{Line, LineFault, Named, number_word, read_line, write_command};
 use desk_text::{Outcome, outcome_text};
 use std::alloc::{AllocError, Global};
 
@@ -26,11 +26,27 @@ fn add_answer(out: &mut String, transcript: &[u8]) -> Result<(), AllocError> {
     out.push_str(text.trim_start_matches("> \n").trim_end())
 }
 
-// Adds the answer to a refused line, as transcripts have it.
-fn add_refusal(alloc: Global, out: &mut String, refusal: Refusal) -> Result<(), AllocError> {
+// Adds the answer of an outcome, as transcripts have it.
+fn add_outcome(alloc: Global, out: &mut String, outcome: &Outcome) -> Result<(), AllocError> {
     let mut told = Vec::new(alloc);
-    outcome_text(alloc, &mut told, "", &Outcome::Refused(refusal))?;
+    outcome_text(alloc, &mut told, "", outcome)?;
     add_answer(out, &told)
+}
+
+// Adds the answer to a line that is not read, unless there was no memory.
+fn add_fault(alloc: Global, out: &mut String, fault: LineFault) -> Result<(), AllocError> {
+    match fault {
+        LineFault::Refused(refusal) => add_outcome(alloc, out, &Outcome::Refused(refusal)),
+        LineFault::Memory => Err(AllocError),
+    }
+}
+
+// Adds the canonical spelling of a command.
+fn add_command(alloc: Global, out: &mut String, command: &Command<Named>) -> Result<(), AllocError>
+    requires { IsWellFormed command.now }
+{
+    let spelling = write_command(alloc, command)?;
+    out.push_str(spelling.as_str())
 }
 
 // Adds the canonical spelling of a line, or what the line is.
@@ -41,7 +57,7 @@ fn add_spelling(alloc: Global, out: &mut String, line: &Line) -> Result<(), Allo
         Line::Blank => out.push_str("blank"),
         Line::Comment => out.push_str("comment"),
         Line::Stop => out.push_str("stop"),
-        Line::Do(command) => out.push_str(write_command(alloc, command)?.as_str()),
+        Line::Do(command) => add_command(alloc, out, command),
     }
 }
 
@@ -50,7 +66,6 @@ fn add_spelling(alloc: Global, out: &mut String, line: &Line) -> Result<(), Allo
 pub(crate) fn add_line(alloc: Global, out: &mut String, text: &str) -> Result<(), AllocError> {
     match read_line(alloc, text) {
         Ok(line) => add_spelling(alloc, out, &line),
-        Err(LineFault::Refused(refusal)) => add_refusal(alloc, out, refusal),
-        Err(LineFault::Memory) => Err(AllocError),
+        Err(fault) => add_fault(alloc, out, fault),
     }
 }

@@ -18,12 +18,20 @@ fn add_names(out: &mut String, tags: &[Tag]) -> Result<(), AllocError> {
     Ok(())
 }
 
+// Puts the tag of a word into a set; answers whether the word is a tag.
+fn read_tag(tags: &mut Tags, word: &str) -> Result<bool, AllocError> {
+    let Some(tag) = Tag::read(word) else {
+        return Ok(false);
+    };
+    tags.add(tag)?;
+    Ok(true)
+}
+
 // Puts the tags of these words into a set; answers whether each word is a tag.
 fn read_tags(tags: &mut Tags, text: &str) -> Result<bool, AllocError> {
     for word in text.split_ascii_whitespace() {
-        match Tag::read(word) {
-            Some(tag) => tags.add(tag)?,
-            None => return Ok(false),
+        if !read_tag(tags, word)? {
+            return Ok(false);
         }
     }
     Ok(true)

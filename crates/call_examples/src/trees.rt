@@ -1,6 +1,7 @@
 //! Nodes, branches, and the status of a bug at a node.
 
 use crate::kinds::NodeKind;
+use crate::words::{StatusWords, status_words};
 use ancestry::{BranchFault, Node, NodeFault, Tree, status};
 use bug_record::{Nodes, Sequence};
 use nearest_marks::Family;
@@ -15,10 +16,15 @@ pub(crate) fn given(node: Result<Node, NodeFault>) -> Result<Option<Node>, Alloc
     }
 }
 
+// Adds the source and the version of a node.
+fn add_parts(out: &mut String, node: &Node) -> Result<(), AllocError> {
+    write!(out, "source {}, version {}", node.source(), node.version())
+}
+
 /// Adds the source and the version of a node, where there is one.
 pub(crate) fn add_node(out: &mut String, node: Result<Node, NodeFault>) -> Result<(), AllocError> {
     match given(node)? {
-        Some(node) => write!(out, "source {}, version {}", node.source(), node.version()),
+        Some(node) => add_parts(out, &node),
         None => out.push_str("BadNode"),
     }
 }
@@ -51,24 +57,29 @@ pub(crate) fn read_nodes(
     Ok(true)
 }
 
+// Adds the node that stands at a place of a list, after a blank where it is not the first.
+fn add_listed(out: &mut String, place: usize, node: &Node) -> Result<(), AllocError> {
+    if place > 0 {
+        out.push(' ')?;
+    }
+    write!(out, "{node}")
+}
+
 // Adds nodes as they are written; `-` where there is none.
 fn add_nodes(out: &mut String, nodes: &[Node]) -> Result<(), AllocError> {
     if nodes.is_empty() {
         return out.push('-');
     }
     for (place, node) in nodes.iter().enumerate() {
-        if place > 0 {
-            out.push(' ')?;
-        }
-        write!(out, "{node}")?;
+        add_listed(out, place, node)?;
     }
     Ok(())
 }
 
-// Puts the nodes into their order, each once.
-pub(crate) fn sort(sorted: &mut Nodes, nodes: Vec<Node>) -> Result<(), AllocError> {
+// Puts copies of the nodes into their order, each once.
+pub(crate) fn sort(sorted: &mut Nodes, nodes: &[Node]) -> Result<(), AllocError> {
     for node in nodes {
-        sorted.add_node(node)?;
+        sorted.add_node(node.copy()?)?;
     }
     Ok(())
 }
@@ -77,7 +88,7 @@ pub(crate) fn sort(sorted: &mut Nodes, nodes: Vec<Node>) -> Result<(), AllocErro
 pub(crate) fn add_sorted(
     alloc: Global,
     out: &mut String,
-    nodes: Vec<Node>,
+    nodes: &[Node],
 ) -> Result<(), AllocError> {
     let mut sorted = Sequence::new(alloc);
     sort(&mut sorted, nodes)?;
@@ -94,7 +105,7 @@ pub(crate) fn add_node_list(
     let mut nodes = Vec::new(alloc);
     let are_nodes = read_nodes(alloc, &mut nodes, text)?;
     if are_nodes {
-        add_sorted(alloc, out, nodes)?;
+        add_sorted(alloc, out, &nodes)?;
     }
     Ok(are_nodes)
 }
@@ -155,27 +166,6 @@ pub(crate) fn add_heads(out: &mut String, tree: &Tree, text: &str) -> Result<(),
     add_nodes(out, &tree.heads(text)?)
 }
 
-// The parts of `NODE STATE, found NODES, fixed NODES`.
-#[derive(Clone, Copy)]
-struct StatusParts<'a> {
-    node: &'a str,
-    state: &'a str,
-    found: &'a str,
-    fixed: &'a str,
-}
-
-fn status_parts(text: &str) -> Option<StatusParts<'_>> {
-    let (first, marks) = text.split_once(", found")?;
-    let (node, state) = first.split_once(' ')?;
-    let (found, fixed) = marks.split_once(", fixed")?;
-    Some(StatusParts {
-        node,
-        state,
-        found,
-        fixed,
-    })
-}
-
 // Whether a state is that of a closed bug; `None` where it is no state.
 fn is_closed(state: &str) -> Option<bool> {
     match state {
@@ -185,21 +175,56 @@ fn is_closed(state: &str) -> Option<bool> {
     }
 }
 
+// The nodes where a bug is found, and those where it is fixed.
+#[derive(Drop)]
+struct MarkLists {
+    found: Vec<Node>,
+    fixed: Vec<Node>,
+}
+
+// Puts the nodes of a status into lists; answers whether each word is a node.
+fn read_marks(
+    alloc: Global,
+    marks: &mut MarkLists,
+    words: StatusWords<'_>,
+) -> Result<bool, AllocError> {
+    Ok(
+        read_nodes(alloc, &mut marks.found, words.found)?
+            && read_nodes(alloc, &mut marks.fixed, words.fixed)?,
+    )
+}
+
+// Adds the status, at a node, of a bug in a state with these marks.
+fn add_status_of(
+    out: &mut String,
+    tree: &Tree,
+    marks: &MarkLists,
+    closed: bool,
+    node: &Node,
+) -> Result<(), AllocError> {
+    write!(
+        out,
+        "{:?}",
+        status(tree, &marks.found, &marks.fixed, closed, node)
+    )
+}
+
 // Adds the status, at a node, of a bug that is found and fixed at the nodes that are written so.
 fn add_marked(
     alloc: Global,
     out: &mut String,
     tree: &Tree,
-    parts: StatusParts<'_>,
+    words: StatusWords<'_>,
     closed: bool,
     node: &Node,
 ) -> Result<bool, AllocError> {
-    let mut found = Vec::new(alloc);
-    let mut fixed = Vec::new(alloc);
-    let are_nodes = read_nodes(alloc, &mut found, parts.found)?
-        && read_nodes(alloc, &mut fixed, parts.fixed)?;
+    let mut marks = MarkLists {
+        found: Vec::new(alloc),
+        fixed: Vec::new(alloc),
+    };
+    let are_nodes = read_marks(alloc, &mut marks, words)?;
     if are_nodes {
-        write!(out, "{:?}", status(tree, &found, &fixed, closed, node))?;
+        add_status_of(out, tree, &marks, closed, node)?;
     }
     Ok(are_nodes)
 }
@@ -212,14 +237,14 @@ pub(crate) fn add_status(
     tree: &Tree,
     text: &str,
 ) -> Result<bool, AllocError> {
-    let Some(parts) = status_parts(text) else {
+    let Some(words) = status_words(text) else {
         return Ok(false);
     };
-    let Some(closed) = is_closed(parts.state) else {
+    let Some(closed) = is_closed(words.state) else {
         return Ok(false);
     };
-    match given(Node::read(alloc, parts.node))? {
-        Some(node) => add_marked(alloc, out, tree, parts, closed, &node),
+    match given(Node::read(alloc, words.node))? {
+        Some(node) => add_marked(alloc, out, tree, words, closed, &node),
         None => Ok(false),
     }
 }

@@ -14,15 +14,27 @@ pub(crate) fn add_parts(out: &mut String, text: &str) -> Result<(), AllocError> 
     }
 }
 
-fn add_parts_of(out: &mut String, parts: &Parts<'_>) -> Result<(), AllocError> {
-    if let Some(epoch) = parts.epoch() {
-        write!(out, "epoch {epoch}, ")?;
+// Adds the epoch, where there is one.
+fn add_epoch(out: &mut String, parts: &Parts<'_>) -> Result<(), AllocError> {
+    match parts.epoch() {
+        Some(epoch) => write!(out, "epoch {epoch}, "),
+        None => Ok(()),
     }
-    write!(out, "upstream {}", parts.upstream())?;
+}
+
+// Adds the revision, where there is one.
+fn add_revision(out: &mut String, parts: &Parts<'_>) -> Result<(), AllocError> {
     match parts.revision() {
         Some(revision) => write!(out, ", revision {revision}"),
         None => Ok(()),
     }
+}
+
+// Adds the parts of a version.
+fn add_parts_of(out: &mut String, parts: &Parts<'_>) -> Result<(), AllocError> {
+    add_epoch(out, parts)?;
+    write!(out, "upstream {}", parts.upstream())?;
+    add_revision(out, parts)
 }
 
 /// Adds `good`, or the fault of a text that is no package name.
@@ -33,12 +45,17 @@ pub(crate) fn add_name(out: &mut String, text: &str) -> Result<(), AllocError> {
     }
 }
 
+// Whether a version comes before another one in total order.
+fn is_before(first: &Parts<'_>, second: &Parts<'_>) -> bool {
+    total(first, second) == Ordering::Less
+}
+
 // Where a version belongs among versions in total order.
 fn place_for(sorted: &[Parts<'_>], parts: &Parts<'_>) -> usize
     ensures { result ≤ length sorted.now }
 {
     for (place, other) in sorted.iter().enumerate() {
-        if total(parts, other) == Ordering::Less {
+        if is_before(parts, other) {
             return place;
         }
     }

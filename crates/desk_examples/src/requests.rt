@@ -3,24 +3,45 @@
 use control_text::number_word;
 use std::alloc::{AllocError, Global};
 
+// Adds a text so many times.
+fn add_times(bytes: &mut Vec<u8>, times: u64, text: &[u8]) -> Result<(), AllocError> {
+    for _ in 0..times {
+        bytes.extend_from_slice(text)?;
+    }
+    Ok(())
+}
+
+// The byte of two hexadecimal digits.
+fn hex_byte(sign: &str) -> Option<u8> {
+    if sign.len() == 2 {
+        u8::from_str_radix(sign, 16).ok()
+    } else {
+        None
+    }
+}
+
+// Adds the byte of two hexadecimal digits; answers whether it is one.
+fn add_hex(bytes: &mut Vec<u8>, sign: &str) -> Result<bool, AllocError> {
+    match hex_byte(sign) {
+        Some(byte) => {
+            bytes.push(byte)?;
+            Ok(true)
+        }
+        None => Ok(sign.is_empty()),
+    }
+}
+
 // Adds what stands between `<` and `>`: nothing; `N*TEXT`, which is the text N times; or two
 // hexadecimal digits, which are one byte.
 // Answers whether it is one of them.
 fn add_sign(bytes: &mut Vec<u8>, sign: &str) -> Result<bool, AllocError> {
-    if sign.is_empty() {
-        return Ok(true);
+    match sign.split_once('*') {
+        Some((number, text)) => {
+            add_times(bytes, number_word(number).unwrap_or(0), text.as_bytes())?;
+            Ok(true)
+        }
+        None => add_hex(bytes, sign),
     }
-    let Some((number, text)) = sign.split_once('*') else {
-        let Ok(byte) = u8::from_str_radix(sign, 16) else {
-            return Ok(false);
-        };
-        bytes.push(byte)?;
-        return Ok(sign.len() == 2);
-    };
-    for _ in 0..number_word(number).unwrap_or(0) {
-        bytes.extend_from_slice(text.as_bytes())?;
-    }
-    Ok(true)
 }
 
 /// Adds the bytes of a text with its signs.

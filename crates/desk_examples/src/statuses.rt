@@ -1,16 +1,16 @@
 //! Command lines, run on an input: what each wrote, and how it ended.
 
+use crate::files;
 use crate::help::print_help;
+use crate::ports::{FREE, TAKEN, free_port, words_of};
 use crate::requests::add_text;
-use crate::streams::{Input, Output};
-use bts_jobs::{Ending, run_program, run_words};
+use crate::streams::{Caller, Input, Output};
+use bts_jobs::{Ending, close_desk, open_desk, run_program, run_words};
 use control_text::number_word;
-use std::alloc::Global;
+use sqlite::Wary;
+use std::alloc::{AllocError, Global};
 use std::io;
 use std::net::TcpListener;
-
-/// The word of a command line that stands for a port which is taken.
-const TAKEN: &str = "--port=TAKEN";
 
 // What a command line is run on.
 #[derive(Drop)]
@@ -19,6 +19,8 @@ struct Run {
     is_input_bad: bool,
     output_room: usize,
     errors_room: usize,
+    // The file with the desk that is open meanwhile; empty where there is none.
+    open: String,
 }
 
 impl Run {
@@ -28,6 +30,7 @@ impl Run {
             is_input_bad: false,
             output_room: usize::MAX,
             errors_room: usize::MAX,
+            open: String::new(alloc),
         }
     }
 }
@@ -85,34 +88,64 @@ fn run_on(rt: &HostRuntime, words: &[&str], run: &Run, port: Option<&str>) -> io
 }
 
 // Runs words that name a port which is taken meanwhile.
-fn run_on_taken_port(rt: &HostRuntime, words: &mut Vec<&str>, run: &Run) -> io::Result<()> {
+fn run_on_taken_port(rt: &HostRuntime, call: &str, run: &Run) -> io::Result<()> {
     let alloc = rt.alloc();
     let listener = TcpListener::bind(rt, "127.0.0.1:0")?;
     let port = listener.local_addr()?.port();
     let number = format!(in alloc; "{port}")?;
     let option = format!(in alloc; "--port={port}")?;
-    let mut taken = Vec::new(alloc);
-    for word in words.iter() {
-        taken.push(if *word == TAKEN {
-            option.as_str()
-        } else {
-            *word
-        })?;
+    let words = words_of(alloc, call, option.as_str())?;
+    run_on(rt, &words, run, Some(number.as_str()))
+}
+
+// Runs words that name this port; the input is sent to it as a request.
+fn run_and_call(rt: &HostRuntime, words: &[&str], run: &Run, port: u16) -> io::Result<()> {
+    let alloc = rt.alloc();
+    let mut reader = Input {
+        left: run.input.as_slice(),
+        fails: run.is_input_bad,
+    };
+    let mut caller = Caller::new(rt, port, run.input.as_slice());
+    let mut errors = Output::new(alloc, run.errors_room);
+    let ending = run_words(rt, alloc, words, &mut reader, &mut caller, &mut errors);
+    print_ending(rt, ending, &errors.bytes, None)
+}
+
+// Runs words that name a port on which nobody listens.
+fn run_on_free_port(rt: &HostRuntime, call: &str, run: &Run) -> io::Result<()> {
+    let alloc = rt.alloc();
+    let port = free_port(rt)?;
+    let option = format!(in alloc; "--port={port}")?;
+    let words = words_of(alloc, call, option.as_str())?;
+    run_and_call(rt, &words, run, port)
+}
+
+// Runs words while the desk in a file is open.
+fn run_beside(rt: &HostRuntime, words: &[&str], run: &Run) -> io::Result<()> {
+    match open_desk(rt, Wary, run.open.as_str()) {
+        Ok(desk) => {
+            let told = run_on(rt, words, run, None);
+            close_desk(desk);
+            told
+        }
+        Err(_) => println!(rt; "-- no desk"),
     }
-    run_on(rt, &taken, run, Some(number.as_str()))
 }
 
 // Runs the command line of a call, and prints what came of it.
 fn run_call(rt: &HostRuntime, call: &str, run: &Run) -> io::Result<()> {
-    let mut words = Vec::new(rt.alloc());
-    for word in call.split('|').skip(1) {
-        words.push(word)?;
-    }
     println!(rt; "{call}")?;
     if call.contains(TAKEN) {
-        run_on_taken_port(rt, &mut words, run)
-    } else {
+        return run_on_taken_port(rt, call, run);
+    }
+    if call.contains(FREE) {
+        return run_on_free_port(rt, call, run);
+    }
+    let words = words_of(rt.alloc(), call, "")?;
+    if run.open.is_empty() {
         run_on(rt, &words, run, None)
+    } else {
+        run_beside(rt, &words, run)
     }
 }
 
@@ -122,7 +155,7 @@ fn is_call(line: &str) -> bool {
 }
 
 // Takes a line that says what the next command line is run on.
-fn take_setting(run: &mut Run, setting: &str) {
+fn take_setting(run: &mut Run, setting: &str) -> Result<(), AllocError> {
     if setting == "no input" {
         run.is_input_bad = true;
     }
@@ -131,6 +164,21 @@ fn take_setting(run: &mut Run, setting: &str) {
     }
     if let Some(room) = setting.strip_prefix("errors: ") {
         run.errors_room = number_word(room).unwrap_or(0) as usize;
+    }
+    if let Some(name) = setting.strip_prefix("open ") {
+        run.open.push_str(name)?;
+    }
+    Ok(())
+}
+
+// Takes a line that does something with files, or says what the next command line is run on.
+fn take_note(rt: &HostRuntime, seen: &mut Vec<u8>, run: &mut Run, note: &str) -> io::Result<()> {
+    match files::answer(rt, seen, note)? {
+        Some(answer) => println!(rt; "-- {note} -> {answer}"),
+        None => {
+            take_setting(run, note)?;
+            println!(rt; "-- {note}")
+        }
     }
 }
 
@@ -152,25 +200,27 @@ fn run_pending(rt: &HostRuntime, call: Option<&str>, run: &mut Run) -> io::Resul
 
 /// Runs the command lines of a table.
 /// A line that begins with `bts` is one: the program's name and the words after it, with a bar
-/// between them; `--port=TAKEN` names a port that is taken.
+/// between them; `--port=TAKEN` names a port that is taken, and `--port=FREE` one that is free.
 /// The lines after it, up to the next of another kind, are its standard input, with the signs of
-/// requests.
-/// Before it may stand `-- no input`, where its input can't be read, and `-- output: N` and
-/// `-- errors: N`, where these have room for N bytes.
+/// requests, or the request that is sent to the free port.
+/// Before it may stand `-- no input`, where its input can't be read, `-- output: N` and
+/// `-- errors: N`, where these have room for N bytes, and `-- open NAME`, where the desk in that
+/// file is open meanwhile.
+/// Other lines that begin with `-- ` do something with files.
 /// A line that begins with `==` is a heading.
 pub(crate) fn run_file(rt: &HostRuntime, table: &str) -> io::Result<()> {
     let mut call = None;
     let mut run = Run::new(rt.alloc());
+    let mut seen = Vec::new(rt.alloc());
     for line in table.lines() {
         if line.starts_with("==") {
             run_pending(rt, call, &mut run)?;
             call = None;
             println!(rt; "{line}")?;
-        } else if let Some(setting) = line.strip_prefix("-- ") {
+        } else if let Some(note) = line.strip_prefix("-- ") {
             run_pending(rt, call, &mut run)?;
             call = None;
-            println!(rt; "{line}")?;
-            take_setting(&mut run, setting);
+            take_note(rt, &mut seen, &mut run, note)?;
         } else if is_call(line) {
             run_pending(rt, call, &mut run)?;
             call = Some(line);

@@ -2,6 +2,7 @@
 
 use std::alloc::Global;
 use std::io::{self, ErrorKind, Read, Write};
+use std::net::{Ipv4Addr, Shutdown, TcpStream};
 
 /// Gives its bytes, or fails at each read.
 #[derive(Drop)]
@@ -47,6 +48,42 @@ impl Write for Output {
     }
 
     fn flush(&mut self) -> io::Result<()> {
+        Ok(())
+    }
+}
+
+/// Sends a request to a port where it is flushed, as a server does once it listens; what is written
+/// to it is left out.
+#[derive(Drop)]
+pub(crate) struct Caller<'a, 'b> {
+    rt: &'a HostRuntime,
+    port: u16,
+    request: &'b [u8],
+    // Stays open until the server has ended.
+    client: Option<TcpStream>,
+}
+
+impl<'a, 'b> Caller<'a, 'b> {
+    pub fn new(rt: &'a HostRuntime, port: u16, request: &'b [u8]) -> Caller<'a, 'b> {
+        Caller {
+            rt,
+            port,
+            request,
+            client: None,
+        }
+    }
+}
+
+impl Write for Caller<'_, '_> {
+    fn write(&mut self, buf: &[u8]) -> io::Result<usize> {
+        Ok(buf.len())
+    }
+
+    fn flush(&mut self) -> io::Result<()> {
+        let mut client = TcpStream::connect(self.rt, (Ipv4Addr::LOCALHOST, self.port))?;
+        client.write_all(self.request)?;
+        client.shutdown(Shutdown::Write)?;
+        self.client = Some(client);
         Ok(())
     }
 }

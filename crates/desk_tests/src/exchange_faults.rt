@@ -19,12 +19,14 @@ fn failing(alloc: Global, bugs: u32, at: u64) -> FailAt<PlainDesk> {
     FailAt::new(desk, at)
 }
 
-// Whether a request is answered so, and told as 500.
-fn is_told_as_500<S: Records>(alloc: Global, store: &mut S, request: &str, answer: &str) -> bool {
+// Whether a request is answered so and told as 500, and the store has failed once then.
+fn fails_at(alloc: Global, store: &mut FailAt<PlainDesk>, request: &str, answer: &str) -> bool {
     let mut reader = request.as_bytes();
     let mut written = Vec::new(alloc);
     let told = serve_one(alloc, store, &mut reader, &mut written);
-    status_told(&told) == Some(500) && written.as_slice() == answer.as_bytes()
+    status_told(&told) == Some(500)
+        && written.as_slice() == answer.as_bytes()
+        && store.faults() == 1
 }
 
 #[test]
@@ -37,8 +39,7 @@ fn a_message_is_cut_at_the_line_where_the_store_fails(rt: HostRuntime) {
         Content-Length: 99\r\nContent-Type: application/json\r\n\r\n\
         {\"end\":\"store\",\"transcript\":\
         \"> severity 1 grave\\nOK 1\\n> severity 2 grave\\nStore fault: device.\\n\"}";
-    assert!(rt; is_told_as_500(alloc, &mut store, request, answer));
-    assert!(rt; store.faults() == 1);
+    assert!(rt; fails_at(alloc, &mut store, request, answer));
     let request = "POST /control HTTP/1.1\r\nContent-Length: 81\r\n\r\n\
         {\"from\":\"ann\",\
         \"message\":\"severity 1 grave\\nseverity 2 normal\\nseverity 3 normal\"}";
@@ -49,12 +50,17 @@ fn a_message_is_cut_at_the_line_where_the_store_fails(rt: HostRuntime) {
     assert!(rt; answers(alloc, &mut store, request, answer));
 }
 
+// Whether the next bug of a store is its first one.
+fn has_no_bug(store: &mut FailAt<PlainDesk>) -> bool {
+    store.next() == Ok(1)
+}
+
 #[test]
 fn a_report_at_which_the_store_fails_adds_no_bug(rt: HostRuntime) {
     let alloc = rt.alloc();
     let mut store = failing(alloc, 0, 1);
-    assert!(rt; is_told_as_500(alloc, &mut store, REPORT, STORE_FAULT));
-    assert!(rt; store.faults() == 1 && store.next() == Ok(1));
+    assert!(rt; fails_at(alloc, &mut store, REPORT, STORE_FAULT));
+    assert!(rt; has_no_bug(&mut store));
     assert!(rt; answers(alloc, &mut store, "GET /bugs/1 HTTP/1.1\r\n\r\n", NOT_FOUND));
     assert!(rt; answers(alloc, &mut store, REPORT, FIRST_BUG));
 }
@@ -65,8 +71,7 @@ fn a_branch_at_which_the_store_fails_is_not_taken(rt: HostRuntime) {
     let mut store = failing(alloc, 0, 1);
     let request = "POST /branches HTTP/1.1\r\nContent-Length: 28\r\n\r\n\
         {\"branch\":[\"foo/3\",\"foo/2\"]}";
-    assert!(rt; is_told_as_500(alloc, &mut store, request, STORE_FAULT));
-    assert!(rt; store.faults() == 1);
+    assert!(rt; fails_at(alloc, &mut store, request, STORE_FAULT));
     // the failed branch left foo/3 without a parent: it can have another one
     let request = "POST /branches HTTP/1.1\r\nContent-Length: 28\r\n\r\n\
         {\"branch\":[\"foo/3\",\"foo/1\"]}";

@@ -108,18 +108,24 @@ fn shown(alloc: Global, desk: &mut PlainDesk) -> Vec<u8> {
     written
 }
 
+// Whether two desks show the same.
+fn show_the_same(alloc: Global, desk: &mut PlainDesk, other: &mut PlainDesk) -> bool {
+    let first = shown(alloc, desk);
+    let second = shown(alloc, other);
+    first.as_slice() == second.as_slice()
+}
+
 /// Whether a desk shows what it shows after so many of the exchanges.
 pub(crate) fn is_after(alloc: Global, desk: &mut PlainDesk, count: usize) -> bool {
     let mut other = desk_after(alloc, count);
-    desk.next() == other.next()
-        && shown(alloc, desk).as_slice() == shown(alloc, &mut other).as_slice()
+    desk.next() == other.next() && show_the_same(alloc, desk, &mut other)
 }
 
 #[test]
 fn the_exchanges_have_their_answers(rt: HostRuntime) {
     let alloc = rt.alloc();
     let mut desk = PlainDesk::new(alloc, 1);
-    for (request, answer) in EXCHANGES {
+    for (request, answer) in EXCHANGES.iter() {
         assert!(rt; answers(alloc, &mut desk, request, answer), "{request}");
     }
 }

@@ -4,7 +4,7 @@ use crate::exchanges::REPORT;
 use desk_http::{ServeFault, Served};
 use desk_server::{Limits, serve_within};
 use desk_store::{PlainDesk, Records};
-use std::alloc::Global;
+use std::alloc::{AllocError, Global};
 use std::cell::Cell;
 use std::io::{self, ErrorKind, Read, Write};
 use std::test::Fail;
@@ -72,6 +72,24 @@ impl Client {
     fn comes(&self, pace: Pace, done: usize, limit: u64) -> bool {
         self.waits(if done == 0 { pace.first } else { pace.pause }, limit)
     }
+
+    // What the client sends after so many bytes: how many more, and at which pace.
+    fn sends(&self, done: usize) -> (usize, Pace) {
+        let length = self.request.len();
+        if done < length {
+            return (length.saturating_sub(done), self.paces.sends);
+        }
+        let all = length.saturating_add(self.paces.more);
+        (all.saturating_sub(done), self.paces.sends_more)
+    }
+
+    // Puts what is left of the request after so many bytes into a buffer, as far as it fits.
+    fn put(&self, done: usize, buf: &mut [u8]) {
+        let left = self.request.as_bytes().get(done..).unwrap_or(&[]);
+        for (place, byte) in buf.iter_mut().zip(left) {
+            *place = *byte;
+        }
+    }
 }
 
 impl Clock for Client {
@@ -103,28 +121,15 @@ impl Limits for &Client {
 impl Read for &Client {
     fn read(&mut self, buf: &mut [u8]) -> io::Result<usize> {
         let done = self.read.get();
-        let left = self.request.as_bytes().get(done..).unwrap_or(&[]);
-        let count = if left.is_empty() {
-            let sent = self.request.len().saturating_add(self.paces.more);
-            sent.saturating_sub(done)
-        } else {
-            left.len()
-        };
+        let (count, pace) = self.sends(done);
         if count == 0 {
             return Ok(0);
         }
-        let pace = if left.is_empty() {
-            self.paces.sends_more
-        } else {
-            self.paces.sends
-        };
         if !self.comes(pace, done, self.read_limit.get()) {
             return Err(io::Error::from(ErrorKind::WouldBlock));
         }
         let len = count.min(buf.len()).min(pace.piece);
-        for (place, byte) in buf.iter_mut().zip(left) {
-            *place = *byte;
-        }
+        self.put(done, buf);
         self.read.set(done.saturating_add(len));
         Ok(len)
     }
@@ -212,15 +217,18 @@ fn a_client_may_be_silent_for_a_second(rt: HostRuntime) -> Result<(), Fail> {
     Ok(())
 }
 
-#[test]
-fn a_request_has_ten_seconds(rt: HostRuntime) -> Result<(), Fail> {
-    let alloc = rt.alloc();
-    // It stops in its body, after 60 bytes of 105.
-    let stops = |pause: u64| Pace {
+// A request that stops in its body, after 60 bytes of 105.
+fn stops(pause: u64) -> Pace {
+    Pace {
         first: 500,
         pause,
         piece: 60,
-    };
+    }
+}
+
+#[test]
+fn a_request_has_ten_seconds(rt: HostRuntime) -> Result<(), Fail> {
+    let alloc = rt.alloc();
     assert!(rt; report_at(alloc, stops(9_500), AT_ONCE)? == (Outcome::Answered, 10_000, 1));
     assert!(rt; report_at(alloc, stops(9_501), AT_ONCE)? == (Outcome::ReadFault, 10_000, 0));
     // Of 104 pauses the head, of 43 bytes, has 42.
@@ -241,37 +249,44 @@ fn a_short_answer_has_five_seconds(rt: HostRuntime) -> Result<(), Fail> {
     Ok(())
 }
 
-// A message of so many lines.
-fn long_message(alloc: Global, lines: usize) -> Result<String, Fail> {
-    let mut body = String::from_str(alloc, "{\"from\":\"ann\",\"message\":\"")?;
+// Adds the body of a message of so many lines.
+fn add_body(body: &mut String, lines: usize) -> Result<(), AllocError> {
+    body.push_str("{\"from\":\"ann\",\"message\":\"")?;
     for _ in 0..lines {
         body.push_str("severity 1 grave\\n")?;
     }
-    body.push_str("\"}")?;
+    body.push_str("\"}")
+}
+
+// A message of so many lines.
+fn long_message(alloc: Global, lines: usize) -> Result<String, Fail> {
+    let mut body = String::new(alloc);
+    add_body(&mut body, lines)?;
     let len = body.len();
     Ok(format!(in alloc; "POST /control HTTP/1.1\r\nContent-Length: {len}\r\n\r\n{body}")?)
 }
 
+// What comes of a long message whose answer is first taken after so long, and how many bytes of it
+// are taken.
+fn long_answer(alloc: Global, first: u64) -> Result<((Outcome, u64, u64), usize), Fail> {
+    let paces = Paces {
+        sends: AT_ONCE,
+        takes: late(first),
+        more: 0,
+        sends_more: AT_ONCE,
+    };
+    let client = Client::new(long_message(alloc, 600)?, paces);
+    let end = ends(alloc, &client);
+    Ok((end, client.written.get()))
+}
+
 #[test]
 fn an_answer_has_a_second_more_for_each_10_000_bytes(rt: HostRuntime) -> Result<(), Fail> {
-    let alloc = rt.alloc();
-    for (first, end) in [
-        (6_999, (Outcome::Answered, 6_999, 0)),
-        (7_001, (Outcome::WriteFault, 7_000, 0)),
-    ] {
-        let paces = Paces {
-            sends: AT_ONCE,
-            takes: late(first),
-            more: 0,
-            sends_more: AT_ONCE,
-        };
-        let client = Client::new(long_message(alloc, 600)?, paces);
-        assert!(rt; ends(alloc, &client) == end);
-        if end.0 == Outcome::Answered {
-            let written = client.written.get();
-            assert!(rt; 20_200 < written && written < 30_000, "{written}");
-        }
-    }
+    let (end, written) = long_answer(rt.alloc(), 6_999)?;
+    assert!(rt; end == (Outcome::Answered, 6_999, 0));
+    assert!(rt; 20_200 < written && written < 30_000, "{written}");
+    let (end, _) = long_answer(rt.alloc(), 7_001)?;
+    assert!(rt; end == (Outcome::WriteFault, 7_000, 0));
     Ok(())
 }
 
@@ -292,26 +307,30 @@ fn drained(alloc: Global, more: usize, sends_more: Pace) -> Result<(usize, u64),
     ))
 }
 
+// How many bytes a client sends after its request, in which pieces and after which pauses, and then
+// how many of them are read, and how long that takes.
+const DRAINS: [(usize, usize, u64, (usize, u64)); 8] = [
+    (100_000, usize::MAX, 0, (100_000, 0)),
+    (16_777_216, usize::MAX, 0, (16_777_216, 0)),
+    (16_777_217, usize::MAX, 0, (16_777_216, 0)),
+    (100, 10, 1_000, (40, 4_000)),
+    (100, 10, 900, (40, 4_000)),
+    (100, 10, 1_001, (0, 1_000)),
+    (100, 10, 400, (100, 4_000)),
+    // The pieces may be small.
+    (3_000, 1, 0, (3_000, 0)),
+];
+
 #[test]
 fn what_a_connection_leaves_unread_is_drained(rt: HostRuntime) -> Result<(), Fail> {
-    let alloc = rt.alloc();
-    assert!(rt; drained(alloc, 100_000, AT_ONCE)? == (100_000, 0));
-    assert!(rt; drained(alloc, 16_777_216, AT_ONCE)? == (16_777_216, 0));
-    assert!(rt; drained(alloc, 16_777_217, AT_ONCE)? == (16_777_216, 0));
-    let tens = |pause: u64| Pace {
-        first: 0,
-        pause,
-        piece: 10,
-    };
-    assert!(rt; drained(alloc, 100, tens(1_000))? == (40, 4_000));
-    assert!(rt; drained(alloc, 100, tens(900))? == (40, 4_000));
-    assert!(rt; drained(alloc, 100, tens(1_001))? == (0, 1_000));
-    assert!(rt; drained(alloc, 100, tens(400))? == (100, 4_000));
-    // The pieces may be small.
-    let ones = Pace {
-        piece: 1,
-        ..AT_ONCE
-    };
-    assert!(rt; drained(alloc, 3_000, ones)? == (3_000, 0));
+    for (more, piece, pause, read) in DRAINS.iter() {
+        let sends_more = Pace {
+            first: 0,
+            pause: *pause,
+            piece: *piece,
+        };
+        let told = drained(rt.alloc(), *more, sends_more)?;
+        assert!(rt; told == *read, "{more} {piece} {pause}");
+    }
     Ok(())
 }

@@ -2,8 +2,34 @@
 
 use crate::exchanges::{EXCHANGES, desk_after, is_after};
 use desk_http::{ServeFault, Served, serve_one};
+use desk_store::PlainDesk;
 use std::alloc::Global;
 use test_streams::Feed;
+
+// Whether an exchange is told as it has to be, where so many reads followed the one that failed.
+fn is_told_well(told: &Result<Served, ServeFault>, later: Option<u64>) -> bool {
+    match later {
+        Some(later) => later == 0 && matches!(told, Err(ServeFault::Read)),
+        None => matches!(told, Ok(Served::Answered(_))),
+    }
+}
+
+// Whether nothing is written and nothing has changed where a read has failed, and the exchange is
+// whole otherwise.
+fn is_done_well(
+    alloc: Global,
+    desk: &mut PlainDesk,
+    place: usize,
+    has_failed: bool,
+    written: &[u8],
+    answer: &str,
+) -> bool {
+    if has_failed {
+        written.is_empty() && is_after(alloc, desk, place)
+    } else {
+        written == answer.as_bytes() && is_after(alloc, desk, place.saturating_add(1))
+    }
+}
 
 // Whether an exchange ends as it has to where the read after so many fails: nothing is written and
 // nothing changes, or no read has failed and the exchange is whole.
@@ -20,14 +46,10 @@ fn meets_failure(
     let mut reader = Feed::new(request.as_bytes(), piece, good_reads);
     let mut written = Vec::new(alloc);
     let told = serve_one(alloc, &mut desk, &mut reader, &mut written);
-    match (told, reader.later()) {
-        (Err(ServeFault::Read), Some(0)) => {
-            (written.is_empty() && is_after(alloc, &mut desk, place)).then_some(true)
-        }
-        (Ok(Served::Answered(_)), None) => (written.as_slice() == answer.as_bytes()
-            && is_after(alloc, &mut desk, place.saturating_add(1))).then_some(false),
-        _ => None,
-    }
+    let has_failed = reader.later().is_some();
+    let is_good = is_told_well(&told, reader.later())
+        && is_done_well(alloc, &mut desk, place, has_failed, &written, answer);
+    is_good.then_some(has_failed)
 }
 
 // How many reads are good before the first run that meets no failure; `None` where a run does not
@@ -67,7 +89,7 @@ fn is_answered_by_its_head(alloc: Global, request: &str) -> bool {
 
 #[test]
 fn a_body_that_no_step_asks_for_is_not_waited_for(rt: HostRuntime) {
-    for request in WITHOUT_BODIES {
+    for request in WITHOUT_BODIES.iter() {
         assert!(rt; is_answered_by_its_head(rt.alloc(), request), "{request}");
     }
 }

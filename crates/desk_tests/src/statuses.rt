@@ -51,9 +51,9 @@ fn status_of(alloc: Global, request: &str, line: &str) -> Option<u16> {
 
 #[test]
 fn the_status_that_is_told_is_the_one_written(rt: HostRuntime) {
-    for (request, status, line) in STATUSES {
+    for (request, status, line) in STATUSES.iter() {
         assert!(rt;
-            status_of(rt.alloc(), request, line) == Some(status),
+            status_of(rt.alloc(), request, line) == Some(*status),
             "{line}"
         );
     }

@@ -10,6 +10,17 @@ fn is_front(taken: &[u8], answer: &[u8]) -> bool {
     taken.len() < answer.len() && answer.starts_with(taken)
 }
 
+// Whether an exchange is told as it has to be, and this writer has what it has to have.
+fn is_told_well(told: &Result<Served, ServeFault>, writer: &Sink, answer: &[u8]) -> bool {
+    let taken = writer.taken.as_slice();
+    match writer.later() {
+        Some(later) => {
+            later == 0 && matches!(told, Err(ServeFault::Write)) && is_front(taken, answer)
+        }
+        None => matches!(told, Ok(Served::Answered(_))) && taken == answer,
+    }
+}
+
 // Whether an exchange ends as it has to with this writer: as a fault of the writer with a front of
 // the answer written and no write after it, or whole where no write has failed.
 // The request is carried out before its answer is written.
@@ -24,15 +35,9 @@ fn meets_failure(
     let mut desk = desk_after(alloc, place);
     let mut reader = request.as_bytes();
     let told = serve_one(alloc, &mut desk, &mut reader, writer);
-    if !is_after(alloc, &mut desk, place.saturating_add(1)) {
-        return None;
-    }
-    let taken = writer.taken.as_slice();
-    match (told, writer.later()) {
-        (Err(ServeFault::Write), Some(0)) => is_front(taken, answer.as_bytes()).then_some(true),
-        (Ok(Served::Answered(_)), None) => (taken == answer.as_bytes()).then_some(false),
-        _ => None,
-    }
+    let is_good = is_after(alloc, &mut desk, place.saturating_add(1))
+        && is_told_well(&told, writer, answer.as_bytes());
+    is_good.then_some(writer.later().is_some())
 }
 
 // How many writes are good before the first run that meets no failure; `None` where a run does not

@@ -4,10 +4,8 @@ use crate::sending::{Ended, Sending};
 use desk_run::{End, OnceFault, Records};
 use desk_text::StoreFault;
 use sqlite::{Alter, Connection};
-use sqlite_disk::{Disk, Files};
-use sqlite_pager::Options;
 use std::alloc::Global;
-use test_desks::{connected, files_of, open, run_into};
+use test_desks::{ConnectionTask, DeskTask, on_made, open, run_into};
 
 /// What came of a message that was sent.
 #[derive(Drop)]
@@ -20,6 +18,30 @@ pub(crate) struct Attempt {
     ended: Ended,
 }
 
+/// A message that is sent to a desk, and what the desk is asked after it.
+#[derive(Clone, Copy)]
+pub(crate) struct Sent<'a> {
+    pub sending: &'a Sending,
+    pub questions: &'a str,
+}
+
+impl DeskTask<Attempt> for Sent<'_> {
+    fn run_on<R: Records>(&self, alloc: Global, desk: &mut R, attempt: &mut Attempt) {
+        attempt.send(alloc, desk, *self);
+    }
+}
+
+impl ConnectionTask<Attempt> for Sent<'_> {
+    fn run_over<S: Alter>(
+        &self,
+        alloc: Global,
+        conn: Connection<S>,
+        attempt: &mut Attempt,
+    ) -> Connection<S> {
+        on_made(alloc, open(alloc, conn), self, attempt)
+    }
+}
+
 impl Attempt {
     /// No message yet.
     pub fn new(alloc: Global) -> Attempt {
@@ -30,49 +52,13 @@ impl Attempt {
         }
     }
 
-    /// Sends the message to a desk, and asks the desk the questions.
-    pub fn send<R: Records>(
-        &mut self,
-        alloc: Global,
-        desk: &mut R,
-        sending: &Sending,
-        questions: &str,
-    ) {
-        self.ended = sending.send(alloc, desk, &mut self.text).unwrap_or(None);
-        let _ = run_into(alloc, desk, questions, &mut self.shown);
-    }
-
-    // Opens the desk, sends it the message, and closes it.
-    fn send_on<S: Alter>(
-        &mut self,
-        alloc: Global,
-        conn: Connection<S>,
-        sending: &Sending,
-        questions: &str,
-    ) -> Connection<S> {
-        match open(alloc, conn) {
-            Ok(desk) => {
-                let mut desk = desk;
-                self.send(alloc, &mut desk, sending, questions);
-                desk.close()
-            }
-            Err((_, conn)) => conn,
-        }
-    }
-
-    /// Opens the desk in files, sends it the message, and hands the files back.
-    pub fn send_over<D: Disk + Drop>(
-        &mut self,
-        alloc: Global,
-        files: Files<D>,
-        options: Options,
-        sending: &Sending,
-        questions: &str,
-    ) -> Files<D> {
-        match connected(alloc, files, options) {
-            Ok(conn) => files_of(self.send_on(alloc, conn, sending, questions)),
-            Err(files) => files,
-        }
+    // Sends a message to a desk, and asks the desk the questions.
+    fn send<R: Records>(&mut self, alloc: Global, desk: &mut R, sent: Sent<'_>) {
+        self.ended = sent
+            .sending
+            .send(alloc, desk, &mut self.text)
+            .unwrap_or(None);
+        let _ = run_into(alloc, desk, sent.questions, &mut self.shown);
     }
 
     /// Whether the message came to its end.

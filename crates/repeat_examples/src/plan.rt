@@ -1,13 +1,14 @@
 //! What is sent while a disk stops, and what has to come of it.
 
-use crate::attempt::Attempt;
+use crate::attempt::{Attempt, Sent};
 use crate::sending::Sending;
-use desk_run::PlainDesk;
+use desk_run::Records;
 use sqlite::{Alter, Connection};
-use sqlite_disk::{Disk, Files};
 use sqlite_pager::Options;
 use std::alloc::{AllocError, Global};
-use test_desks::{Disks, connected, files_of, new_desk, open, run_into};
+use test_desks::{
+    ConnectionTask, DeskTask, Disks, answer_to, in_memory, new_desk, on_made, open, over_files,
+};
 
 /// A message, what is run on the desk before it, and what the desk is asked after it.
 #[derive(Drop)]
@@ -25,32 +26,43 @@ fn add_line(text: &mut String, line: &str) -> Result<(), AllocError> {
     text.push('\n')
 }
 
-// Runs a script on the desk of a connection.
-fn run_on<S: Alter>(alloc: Global, conn: Connection<S>, script: &str) -> Connection<S> {
-    match open(alloc, conn) {
-        Ok(desk) => {
-            let mut desk = desk;
-            let _ = run_into(alloc, &mut desk, script, &mut Vec::new(alloc));
-            desk.close()
-        }
-        Err((_, conn)) => conn,
+// A script that is run before the message.
+#[derive(Clone, Copy)]
+struct Before<'a> {
+    script: &'a str,
+}
+
+impl DeskTask<()> for Before<'_> {
+    fn run_on<R: Records>(&self, alloc: Global, desk: &mut R, _told: &mut ()) {
+        drop(answer_to(alloc, desk, self.script));
     }
 }
 
-// Runs a script on the desk in files.
-fn run_over<D: Disk + Drop>(alloc: Global, files: Files<D>, script: &str) -> Files<D> {
-    match connected(alloc, files, Options::new(1)) {
-        Ok(conn) => files_of(run_on(alloc, conn, script)),
-        Err(files) => files,
+impl ConnectionTask<()> for Before<'_> {
+    fn run_over<S: Alter>(
+        &self,
+        alloc: Global,
+        conn: Connection<S>,
+        told: &mut (),
+    ) -> Connection<S> {
+        on_made(alloc, open(alloc, conn), self, told)
+    }
+}
+
+impl DeskTask<Attempt> for Plan {
+    fn run_on<R: Records>(&self, alloc: Global, desk: &mut R, goal: &mut Attempt) {
+        drop(answer_to(alloc, desk, self.before.as_str()));
+        self.sent().run_on(alloc, desk, goal);
     }
 }
 
 impl Plan {
     /// Nothing to send yet, and nothing to ask.
     pub fn new(alloc: Global) -> Result<Plan, AllocError> {
+        let sending = Sending::new(alloc)?;
         Ok(Plan {
             before: String::new(alloc),
-            sending: Sending::new(alloc)?,
+            sending,
             questions: String::new(alloc),
         })
     }
@@ -71,17 +83,26 @@ impl Plan {
         }
     }
 
+    /// The message, and the questions after it.
+    pub fn sent(&self) -> Sent<'_> {
+        Sent {
+            sending: &self.sending,
+            questions: self.questions.as_str(),
+        }
+    }
+
     /// The files of a new desk on which the script before the message was run.
     pub fn base(&self, alloc: Global) -> Disks {
-        run_over(alloc, new_desk(alloc), self.before.as_str())
+        let before = Before {
+            script: self.before.as_str(),
+        };
+        over_files(alloc, new_desk(alloc), Options::new(1), &before, &mut ())
     }
 
     /// What comes of the message on a desk in memory, which meets no stop.
     pub fn goal(&self, alloc: Global) -> Attempt {
-        let mut desk = PlainDesk::new(alloc, 1);
-        let _ = run_into(alloc, &mut desk, self.before.as_str(), &mut Vec::new(alloc));
         let mut goal = Attempt::new(alloc);
-        goal.send(alloc, &mut desk, &self.sending, self.questions.as_str());
+        in_memory(alloc, self, &mut goal);
         goal
     }
 }

@@ -52,9 +52,10 @@ fn fault_text(alloc: Global, fault: OnceFault) -> Result<String, AllocError> {
 impl Sending {
     /// A message without an id, and without lines.
     pub fn new(alloc: Global) -> Result<Sending, AllocError> {
+        let from = String::from_str(alloc, "ann")?;
         Ok(Sending {
             id: String::new(alloc),
-            from: String::from_str(alloc, "ann")?,
+            from,
             message: String::new(alloc),
             lines: 0,
         })

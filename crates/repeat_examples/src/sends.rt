@@ -2,13 +2,10 @@
 
 use crate::sending::Sending;
 use control_text::number_word;
-use desk_run::{FailAt, PlainDesk, Records};
-use desk_tables::TableDesk;
-use sqlite::{Alter, Connection};
-use sqlite_pager::Options;
+use desk_run::Records;
 use std::alloc::{AllocError, Global};
 use std::io;
-use test_desks::{connected, new_desk, open, run_into};
+use test_desks::{DeskTask, in_memory_failing, in_tables_failing, run_into};
 
 // Tells the next number.
 fn next_text<S: Records>(alloc: Global, desk: &mut S) -> Result<String, AllocError> {
@@ -45,64 +42,84 @@ fn take_line<S: Records>(
     }
 }
 
-// What the lines of an example come to on a desk.
+// Takes the lines of an example, and adds them and their answers to a text.
+fn take_lines<S: Records>(
+    alloc: Global,
+    desk: &mut S,
+    sending: &mut Sending,
+    example: &str,
+    text: &mut Vec<u8>,
+) -> Result<(), AllocError> {
+    for line in example.lines() {
+        take_line(alloc, desk, sending, line, text)?;
+    }
+    Ok(())
+}
+
+// Adds to a text what the lines of an example come to on a desk.
 fn run_lines<S: Records>(
     alloc: Global,
     desk: &mut S,
     example: &str,
-) -> Result<Vec<u8>, AllocError> {
+    text: &mut Vec<u8>,
+) -> Result<(), AllocError> {
     let mut sending = Sending::new(alloc)?;
-    let mut text = Vec::new(alloc);
-    for line in example.lines() {
-        take_line(alloc, desk, &mut sending, line, &mut text)?;
+    take_lines(alloc, desk, &mut sending, example, text)
+}
+
+// The lines of an example, which are taken on a desk.
+#[derive(Clone, Copy)]
+struct Lines<'a> {
+    example: &'a str,
+}
+
+// What the lines of an example come to, and whether there was memory for all of it.
+#[derive(Drop)]
+struct Answers {
+    text: Vec<u8>,
+    is_whole: bool,
+}
+
+impl DeskTask<Answers> for Lines<'_> {
+    fn run_on<R: Records>(&self, alloc: Global, desk: &mut R, answers: &mut Answers) {
+        let told = run_lines(alloc, desk, self.example, &mut answers.text);
+        answers.is_whole = told.is_ok();
     }
-    Ok(text)
+}
+
+impl Answers {
+    // Nothing yet.
+    fn new(alloc: Global) -> Answers {
+        Answers {
+            text: Vec::new(alloc),
+            is_whole: true,
+        }
+    }
+
+    // Whether there was memory for all.
+    fn whole(&self) -> Result<(), AllocError> {
+        if self.is_whole {
+            Ok(())
+        } else {
+            Err(AllocError)
+        }
+    }
+}
+
+// The call that a line `fails K` names; nothing of another line.
+fn call_of(line: &str) -> Option<u64> {
+    let word = line.strip_prefix("fails ")?;
+    Some(number_word(word).unwrap_or(0))
 }
 
 // Which call that changes or keeps something fails, of an example: that of its line `fails K`.
 fn fails(example: &str) -> u64 {
     for line in example.lines() {
-        if let Some(word) = line.strip_prefix("fails ") {
-            return number_word(word).unwrap_or(0);
+        if let Some(call) = call_of(line) {
+            return call;
         }
     }
     0
-}
-
-// Runs an example on a desk in memory.
-fn run_in_memory(alloc: Global, example: &str) -> Result<Vec<u8>, AllocError> {
-    let mut desk = FailAt::new(PlainDesk::new(alloc, 1), fails(example));
-    run_lines(alloc, &mut desk, example)
-}
-
-// Runs an example on a desk in tables.
-fn run_on<S: Alter + Drop>(
-    alloc: Global,
-    desk: TableDesk<S>,
-    example: &str,
-) -> Result<Vec<u8>, AllocError> {
-    let mut desk = FailAt::new(desk, fails(example));
-    run_lines(alloc, &mut desk, example)
-}
-
-// Runs an example on the desk of a connection; nothing where it can't be opened.
-fn run_at<S: Alter + Drop>(
-    alloc: Global,
-    conn: Connection<S>,
-    example: &str,
-) -> Result<Vec<u8>, AllocError> {
-    match open(alloc, conn) {
-        Ok(desk) => run_on(alloc, desk, example),
-        Err(_) => Ok(Vec::new(alloc)),
-    }
-}
-
-// Runs an example on a new desk in tables; nothing where there is none.
-fn run_in_tables(alloc: Global, example: &str) -> Result<Vec<u8>, AllocError> {
-    match connected(alloc, new_desk(alloc), Options::new(1)) {
-        Ok(conn) => run_at(alloc, conn, example),
-        Err(_) => Ok(Vec::new(alloc)),
-    }
 }
 
 // Prints bytes that are UTF-8.
@@ -113,30 +130,52 @@ fn print_text(rt: &HostRuntime, bytes: &[u8]) -> io::Result<()> {
     }
 }
 
-// Runs an example on both desks, and prints what comes of it on the one in memory, and whether the
-// one in tables answers alike.
-fn run_example(rt: &HostRuntime, example: &str) -> io::Result<()> {
-    let alloc = rt.alloc();
-    let in_memory = run_in_memory(alloc, example)?;
-    let in_tables = run_in_tables(alloc, example)?;
-    print_text(rt, &in_memory)?;
-    if in_memory.as_slice() == in_tables.as_slice() {
+// Prints what comes of an example on a desk in memory, and whether a desk in tables answers alike.
+fn print_both(rt: &HostRuntime, in_memory: &Answers, in_tables: &Answers) -> io::Result<()> {
+    in_memory.whole()?;
+    in_tables.whole()?;
+    print_text(rt, &in_memory.text)?;
+    if in_memory.text == in_tables.text {
         return println!(rt; "-- in tables: alike");
     }
     println!(rt; "-- in tables:")?;
-    print_text(rt, &in_tables)
+    print_text(rt, &in_tables.text)
+}
+
+// Runs an example on both desks, and prints what comes of it.
+fn run_example(rt: &HostRuntime, example: &str) -> io::Result<()> {
+    let alloc = rt.alloc();
+    let lines = Lines { example };
+    let call = fails(example);
+    let mut in_memory = Answers::new(alloc);
+    let mut in_tables = Answers::new(alloc);
+    in_memory_failing(alloc, call, &lines, &mut in_memory);
+    in_tables_failing(alloc, call, &lines, &mut in_tables);
+    print_both(rt, &in_memory, &in_tables)
+}
+
+// Adds a line to an example; where it begins another, the one before is run.
+fn add_line(rt: &HostRuntime, example: &mut String, line: &str) -> io::Result<()> {
+    if line.starts_with("== ") && !example.is_empty() {
+        run_example(rt, example.as_str())?;
+        example.clear();
+    }
+    example.push_str(line)?;
+    example.push('\n')?;
+    Ok(())
+}
+
+// Runs the examples of a file but the last, which is left.
+fn run_all(rt: &HostRuntime, example: &mut String, text: &str) -> io::Result<()> {
+    for line in text.lines() {
+        add_line(rt, example, line)?;
+    }
+    Ok(())
 }
 
 /// Runs the examples of a file, each on new desks; each begins with a line `==` and its name.
 pub(crate) fn run_file(rt: &HostRuntime, text: &str) -> io::Result<()> {
     let mut example = String::new(rt.alloc());
-    for line in text.lines() {
-        if line.starts_with("== ") && !example.is_empty() {
-            run_example(rt, example.as_str())?;
-            example.clear();
-        }
-        example.push_str(line)?;
-        example.push('\n')?;
-    }
+    run_all(rt, &mut example, text)?;
     run_example(rt, example.as_str())
 }

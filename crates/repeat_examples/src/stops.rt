@@ -1,11 +1,12 @@
 //! A message that is sent again after each stop of the disk, until it comes to its end.
 
-use crate::attempt::Attempt;
+use crate::attempt::{Attempt, Sent};
 use crate::plan::Plan;
-use sqlite_disk::Files;
 use std::alloc::Global;
-use std::io;
-use test_desks::{Disks, Left, Setting, file_of, goes_on, left_of, setting_of, stopping};
+use std::{fmt, io};
+use test_desks::{
+    BothLeft, Disks, Setting, both_left, files_with, goes_on, over_files, setting_of, stopping,
+};
 
 /// More calls than any run makes.
 const MOST_CALLS: u64 = 100_000;
@@ -31,32 +32,44 @@ enum Stop {
     Wrong,
 }
 
-// Files with these bytes, of which none stops.
-fn files_with(alloc: Global, log: &[u8], db: &[u8]) -> io::Result<Disks> {
-    Ok(Files {
-        log: file_of(alloc, log, u64::MAX)?,
-        db: file_of(alloc, db, u64::MAX)?,
-    })
+// What comes of a sweep.
+#[derive(Clone, Copy)]
+enum Swept {
+    // After each stop the message comes to its end.
+    Well,
+    NoStopAtLine,
+    // Something is wrong after so many calls.
+    Wrong { calls: u64 },
+    NoEnd,
+}
+
+impl fmt::Display for Swept {
+    fn fmt<W: fmt::Write>(&self, f: &mut fmt::Formatter<W>) -> fmt::Result {
+        match *self {
+            Swept::Well => {
+                f.write_str("after each stop the message comes to its end, as if there were none")
+            }
+            Swept::NoStopAtLine => f.write_str("some line had no stop"),
+            Swept::Wrong { calls } => write!(f, "wrong after {calls} calls"),
+            Swept::NoEnd => f.write_str("no end"),
+        }
+    }
 }
 
 // What the machine finds in files once it has stopped.
 fn after_crash(alloc: Global, files: Disks) -> io::Result<Disks> {
-    let Files { log, db } = files;
-    let log = left_of(alloc, log)?;
-    let db = left_of(alloc, db)?;
-    files_with(alloc, &log.synced, &db.synced)
+    let left = both_left(alloc, files)?;
+    files_with(alloc, &left.log.synced, &left.db.synced)
 }
 
 impl<'a> Sweep<'a> {
-    // Sends the message over files.
+    // Sends the message over files, and asks the questions.
     fn send(&self, alloc: Global, files: Disks, attempt: &mut Attempt, questions: &str) -> Disks {
-        attempt.send_over(
-            alloc,
-            files,
-            self.setting.options,
-            &self.plan.sending,
+        let sent = Sent {
+            sending: &self.plan.sending,
             questions,
-        )
+        };
+        over_files(alloc, files, self.setting.options, &sent, attempt)
     }
 
     // Whether the message, sent once more, is answered as one that met no stop, and the desk shows
@@ -64,69 +77,106 @@ impl<'a> Sweep<'a> {
     fn is_goal(&self, alloc: Global, files: Disks) -> bool {
         let mut attempt = Attempt::new(alloc);
         drop(self.send(alloc, files, &mut attempt, self.plan.questions.as_str()));
-        attempt.text.as_slice() == self.goal.text.as_slice()
-            && attempt.shown.as_slice() == self.goal.shown.as_slice()
+        attempt.text == self.goal.text && attempt.shown == self.goal.shown
+    }
+
+    // Sends the message over files, of which one stops after so many calls, and leaves what the
+    // machine finds in them then.
+    fn send_again(
+        &self,
+        alloc: Global,
+        files: &mut Disks,
+        calls: u64,
+        attempt: &mut Attempt,
+    ) -> io::Result<()> {
+        let stopping = stopping(alloc, files, self.setting.is_log, calls)?;
+        let stopped = self.send(alloc, stopping, attempt, "");
+        *files = after_crash(alloc, stopped)?;
+        Ok(())
+    }
+
+    // Does so, and says whether the message came to its end as if there were no stop; nothing
+    // where it did not come to its end.
+    fn try_again(&self, alloc: Global, files: &mut Disks, calls: u64) -> io::Result<Option<bool>> {
+        let mut attempt = Attempt::new(alloc);
+        self.send_again(alloc, files, calls, &mut attempt)?;
+        if attempt.is_done() {
+            Ok(Some(attempt.text == self.goal.text))
+        } else {
+            Ok(None)
+        }
     }
 
     // Sends the message again and again over files that a stop left, with twice the calls before
     // the next stop each time; whether it comes to its end as if there were no stop.
-    fn comes_to_its_end(&self, alloc: Global, left: Disks, calls: u64) -> io::Result<bool> {
-        let mut files = left;
+    fn try_on(&self, alloc: Global, files: &mut Disks, calls: u64) -> io::Result<bool> {
         let mut calls = calls;
         for _ in 0..MOST_TRIES {
             calls = calls.saturating_mul(2).max(1);
-            let stopping = stopping(alloc, &files, self.setting.is_log, calls)?;
-            let mut attempt = Attempt::new(alloc);
-            files = after_crash(alloc, self.send(alloc, stopping, &mut attempt, ""))?;
-            if attempt.is_done() {
-                return Ok(
-                    attempt.text.as_slice() == self.goal.text.as_slice()
-                        && self.is_goal(alloc, files),
-                );
+            if let Some(is_like) = self.try_again(alloc, files, calls)? {
+                return Ok(is_like);
             }
         }
         Ok(false)
+    }
+
+    // Whether the message, sent again and again over files with these bytes, comes to its end as if
+    // there were no stop, and the desk shows that.
+    fn comes_to_its_end(
+        &self,
+        alloc: Global,
+        log: &[u8],
+        db: &[u8],
+        calls: u64,
+    ) -> io::Result<bool> {
+        let mut files = files_with(alloc, log, db)?;
+        let is_like = self.try_on(alloc, &mut files, calls)?;
+        Ok(is_like && self.is_goal(alloc, files))
     }
 
     // Whether it does so whichever of the files loses what was not synced.
     fn always_comes_to_its_end(
         &self,
         alloc: Global,
-        log: &Left,
-        db: &Left,
+        left: &BothLeft,
         calls: u64,
     ) -> io::Result<bool> {
-        let kept = files_with(alloc, &log.written, &db.written)?;
-        let back = files_with(alloc, &log.synced, &db.synced)?;
-        let log_kept = files_with(alloc, &log.written, &db.synced)?;
-        let log_back = files_with(alloc, &log.synced, &db.written)?;
+        let BothLeft { log, db } = left;
         Ok(
-            self.comes_to_its_end(alloc, kept, calls)?
-                && self.comes_to_its_end(alloc, back, calls)?
-                && self.comes_to_its_end(alloc, log_kept, calls)?
-                && self.comes_to_its_end(alloc, log_back, calls)?,
+            self.comes_to_its_end(alloc, &log.written, &db.written, calls)?
+                && self.comes_to_its_end(alloc, &log.synced, &db.synced, calls)?
+                && self.comes_to_its_end(alloc, &log.written, &db.synced, calls)?
+                && self.comes_to_its_end(alloc, &log.synced, &db.written, calls)?,
         )
+    }
+
+    // What came of a message whose files were left so, and that was whole or not.
+    fn judged(
+        &self,
+        alloc: Global,
+        place: Option<u64>,
+        left: &BothLeft,
+        calls: u64,
+        is_whole: bool,
+    ) -> io::Result<Stop> {
+        match place {
+            Some(_) if is_whole => Ok(Stop::Never),
+            Some(line) if self.always_comes_to_its_end(alloc, left, calls)? => Ok(Stop::At(line)),
+            _ => Ok(Stop::Wrong),
+        }
     }
 
     // Sends the message over files of which one stops after so many calls, and then again until it
     // comes to its end.
     fn stop_after(&self, alloc: Global, base: &Disks, calls: u64) -> io::Result<Stop> {
         let is_log = self.setting.is_log;
-        let mut attempt = Attempt::new(alloc);
         let files = stopping(alloc, base, is_log, calls)?;
+        let mut attempt = Attempt::new(alloc);
         let mut files = self.send(alloc, files, &mut attempt, "");
         let is_whole = attempt.is_done() && goes_on(&mut files, is_log);
         let place = attempt.stopped_at(&self.plan.sending);
-        let Files { log, db } = files;
-        let log = left_of(alloc, log)?;
-        let db = left_of(alloc, db)?;
-        match place {
-            Some(_) if is_whole => Ok(Stop::Never),
-            Some(line) if self.always_comes_to_its_end(alloc, &log, &db, calls)? => {
-                Ok(Stop::At(line))
-            }
-            _ => Ok(Stop::Wrong),
-        }
+        let left = both_left(alloc, files)?;
+        self.judged(alloc, place, &left, calls, is_whole)
     }
 }
 
@@ -143,21 +193,30 @@ fn are_all_met(sweep: &Sweep<'_>, met: &[u64]) -> bool {
     true
 }
 
-// Has a file stop after each number of calls in turn, and tells what comes of it.
-fn run_sweep(alloc: Global, base: &Disks, sweep: &Sweep<'_>) -> io::Result<String> {
-    let mut met = Vec::new(alloc);
+// Has a file stop after each number of calls in turn, and notes the lines at which stops were told.
+fn stops(alloc: Global, base: &Disks, sweep: &Sweep<'_>, met: &mut Vec<u64>) -> io::Result<Swept> {
     for calls in 0..MOST_CALLS {
         match sweep.stop_after(alloc, base, calls)? {
-            Stop::Never if are_all_met(sweep, &met) => {
-                let text = "after each stop the message comes to its end, as if there were none";
-                return Ok(String::from_str(alloc, text)?);
-            }
-            Stop::Never => return Ok(String::from_str(alloc, "some line had no stop")?),
+            Stop::Never if are_all_met(sweep, met) => return Ok(Swept::Well),
+            Stop::Never => return Ok(Swept::NoStopAtLine),
             Stop::At(line) => met.push(line)?,
-            Stop::Wrong => return Ok(format!(in alloc; "wrong after {calls} calls")?),
+            Stop::Wrong => return Ok(Swept::Wrong { calls }),
         }
     }
-    Ok(String::from_str(alloc, "no end")?)
+    Ok(Swept::NoEnd)
+}
+
+// Has a file stop after each number of calls in turn.
+fn run_sweep(alloc: Global, plan: &Plan, setting: Setting) -> io::Result<Swept> {
+    let goal = plan.goal(alloc);
+    let base = plan.base(alloc);
+    let mut met = Vec::new(alloc);
+    let sweep = Sweep {
+        plan,
+        setting,
+        goal: &goal,
+    };
+    stops(alloc, &base, &sweep, &mut met)
 }
 
 // Takes a line, and prints it with what comes of it.
@@ -165,18 +224,21 @@ fn take_line(rt: &HostRuntime, plan: &mut Plan, line: &str) -> io::Result<()> {
     if plan.take(line)? {
         return println!(rt; "{line}");
     }
-    let Some(setting) = setting_of(line) else {
-        return println!(rt; "{line}");
-    };
-    let alloc = rt.alloc();
-    let goal = plan.goal(alloc);
-    let sweep = Sweep {
-        plan,
-        setting,
-        goal: &goal,
-    };
-    let end = run_sweep(alloc, &plan.base(alloc), &sweep)?;
-    println!(rt; "{line} -> {end}")
+    match setting_of(line) {
+        Some(setting) => {
+            let end = run_sweep(rt.alloc(), plan, setting)?;
+            println!(rt; "{line} -> {end}")
+        }
+        None => println!(rt; "{line}"),
+    }
+}
+
+// Takes the lines of a file.
+fn take_lines(rt: &HostRuntime, plan: &mut Plan, text: &str) -> io::Result<()> {
+    for line in text.lines() {
+        take_line(rt, plan, line)?;
+    }
+    Ok(())
 }
 
 /// Takes the lines of a file: those that are run before the message, what is sent, what the desk is
@@ -184,8 +246,5 @@ fn take_line(rt: &HostRuntime, plan: &mut Plan, line: &str) -> io::Result<()> {
 /// after it for little memory.
 pub(crate) fn run_file(rt: &HostRuntime, text: &str) -> io::Result<()> {
     let mut plan = Plan::new(rt.alloc())?;
-    for line in text.lines() {
-        take_line(rt, &mut plan, line)?;
-    }
-    Ok(())
+    take_lines(rt, &mut plan, text)
 }

@@ -6,6 +6,7 @@ use desk_run::{ScriptEnd, ScriptFault, run_script};
 use desk_store::PlainDesk;
 use desk_text::StoreFault;
 use std::alloc::Global;
+use std::process::Abort;
 
 // Two reports, a merge, two commands for both bugs, and a branch: sixteen calls of the store.
 const SCRIPT: &str =
@@ -96,61 +97,62 @@ fn ends_so(
         && store.calls() == at
 }
 
+// Sees that a script ends as this fault where it is the answer to one of these calls, each with
+// what is written before.
+fn assert_ends(
+    rt: &impl Abort,
+    alloc: Global,
+    script: &str,
+    fault: StoreFault,
+    line: &str,
+    calls: &[(u64, &str)],
+) {
+    for (at, before) in calls {
+        assert!(rt;
+            ends_so(alloc, script, *at, fault, before, line),
+            "{at} {line}"
+        );
+    }
+}
+
+// The same of each fault.
+fn assert_all_end(rt: &impl Abort, alloc: Global, script: &str, calls: &[(u64, &str)]) {
+    for (fault, line) in FAULTS.iter() {
+        assert_ends(rt, alloc, script, *fault, line, calls);
+    }
+}
+
 #[test]
 fn a_fault_of_the_store_ends_the_script_as_that_fault(rt: HostRuntime) {
-    let alloc = rt.alloc();
-    for (fault, line) in FAULTS {
-        for (at, before) in BEFORE {
-            assert!(rt;
-                ends_so(alloc, SCRIPT, at, fault, before, line),
-                "{at} {line}"
-            );
-        }
-    }
+    assert_all_end(&rt, rt.alloc(), SCRIPT, BEFORE.as_slice());
 }
 
 #[test]
 fn a_fault_of_the_store_at_a_clone_ends_the_script_as_that_fault(rt: HostRuntime) {
-    let alloc = rt.alloc();
-    for (fault, line) in FAULTS {
-        for (at, before) in BEFORE_IN_CLONES {
-            assert!(rt;
-                ends_so(alloc, CLONES, at, fault, before, line),
-                "{at} {line}"
-            );
-        }
-    }
+    assert_all_end(&rt, rt.alloc(), CLONES, BEFORE_IN_CLONES.as_slice());
 }
 
 #[test]
 fn a_fault_of_the_store_at_a_question_ends_the_script_as_that_fault(rt: HostRuntime) {
-    let alloc = rt.alloc();
-    for (fault, line) in FAULTS {
-        for (at, before) in BEFORE_IN_QUESTIONS {
-            assert!(rt;
-                ends_so(alloc, QUESTIONS, at, fault, before, line),
-                "{at} {line}"
-            );
-        }
-    }
+    assert_all_end(&rt, rt.alloc(), QUESTIONS, BEFORE_IN_QUESTIONS.as_slice());
+}
+
+// How many calls of the store a script makes that is accepted and writes this, where the call of
+// this number would fail; `None` where it ends otherwise.
+fn calls_made(alloc: Global, script: &str, at: u64, written: &str) -> Option<u64> {
+    let mut store = Fails::new(PlainDesk::new(alloc, 1), at, StoreFault::Device);
+    let end = Ok(ScriptEnd::Accepted);
+    writes(alloc, &mut store, script.as_bytes(), end, written).then_some(store.calls())
 }
 
 #[test]
 fn a_script_whose_store_does_not_fail_makes_sixteen_calls(rt: HostRuntime) {
-    let alloc = rt.alloc();
-    let mut store = Fails::new(PlainDesk::new(alloc, 1), 17, StoreFault::Device);
-    let end = Ok(ScriptEnd::Accepted);
     let written = "OK 1\nOK 2\n> merge 1 2\nOK 1 2\n> close 1\nOK 1 2\n> archive 1\nOK 1 2\nOK\n";
-    assert!(rt; writes(alloc, &mut store, SCRIPT.as_bytes(), end, written));
-    assert!(rt; store.calls() == 16);
+    assert!(rt; calls_made(rt.alloc(), SCRIPT, 17, written) == Some(16));
 }
 
 #[test]
 fn a_script_of_clones_whose_store_does_not_fail_makes_eight_calls(rt: HostRuntime) {
-    let alloc = rt.alloc();
-    let mut store = Fails::new(PlainDesk::new(alloc, 1), 9, StoreFault::Device);
-    let end = Ok(ScriptEnd::Accepted);
     let written = "OK 1\n> clone 1 -1 -2\nOK 2 3\n> retitle -2 b\nOK 3\n";
-    assert!(rt; writes(alloc, &mut store, CLONES.as_bytes(), end, written));
-    assert!(rt; store.calls() == 8);
+    assert!(rt; calls_made(rt.alloc(), CLONES, 9, written) == Some(8));
 }

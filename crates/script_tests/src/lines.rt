@@ -15,6 +15,18 @@ fn shown(piece: &Piece) -> (&str, &str) {
     }
 }
 
+// Whether a reader's next line, which has this number, is this piece.
+fn gives<R: Read>(
+    alloc: Global,
+    source: &mut Source,
+    reader: &mut R,
+    number: u64,
+    want: (&str, &str),
+) -> Result<bool, ScriptFault> {
+    let given = next_line(alloc, source, reader, number)?;
+    Ok(shown(&given) == want)
+}
+
 fn assert_pieces<R: Read>(
     rt: &impl Abort,
     alloc: Global,
@@ -23,8 +35,8 @@ fn assert_pieces<R: Read>(
 ) -> Result<(), ScriptFault> {
     let mut source = Source::new();
     for piece in want {
-        let given = next_line(alloc, &mut source, reader, 7)?;
-        assert!(rt; shown(&given) == *piece, "{} {}", piece.0, piece.1);
+        let is_given = gives(alloc, &mut source, reader, 7, *piece)?;
+        assert!(rt; is_given, "{} {}", piece.0, piece.1);
     }
     Ok(())
 }
@@ -95,11 +107,9 @@ fn a_read_that_fails_is_the_fault(rt: HostRuntime) -> Result<(), Fail> {
     let alloc = rt.alloc();
     let mut source = Source::new();
     let mut reader = Feed::new(b"a\nbc\n", 1, 3);
-    let first = next_line(alloc, &mut source, &mut reader, 1)?;
-    assert!(rt; shown(&first) == ("line", "a"));
-    let second = next_line(alloc, &mut source, &mut reader, 2);
-    assert!(rt; second.err() == Some(ScriptFault::Read));
-    assert!(rt; reader.later() == Some(0));
+    assert!(rt; gives(alloc, &mut source, &mut reader, 1, ("line", "a"))?);
+    let fault = next_line(alloc, &mut source, &mut reader, 2).err();
+    assert!(rt; fault == Some(ScriptFault::Read) && reader.later() == Some(0));
     Ok(())
 }
 
@@ -131,15 +141,11 @@ fn a_reader_is_asked_for_16_777_216_reads_and_no_more(rt: HostRuntime) -> Result
 // Whether the text is split into these lines.
 fn splits(alloc: Global, text: &str, lines: &[&str]) -> Result<bool, AllocError> {
     let found = split_lines(alloc, text)?;
-    if found.len() != lines.len() {
-        return Ok(false);
+    let mut are_equal = found.len() == lines.len();
+    for (line, wanted) in found.iter().zip(lines) {
+        are_equal = are_equal && line.as_str() == *wanted;
     }
-    for (line, wanted) in found.as_slice().iter().zip(lines) {
-        if line.as_str() != *wanted {
-            return Ok(false);
-        }
-    }
-    Ok(true)
+    Ok(are_equal)
 }
 
 #[test]
@@ -152,27 +158,47 @@ fn a_text_is_split_at_line_feeds(rt: HostRuntime) -> Result<(), Fail> {
     Ok(())
 }
 
-#[test]
-fn all_bytes_are_written_in_any_pieces(rt: HostRuntime) -> Result<(), Fail> {
-    let alloc = rt.alloc();
+// Whether a writer that takes all bytes at once gets those of two calls.
+fn gets_both(alloc: Global) -> Result<bool, ScriptFault> {
     let mut whole = Vec::new(alloc);
     write_out(&mut whole, b"ab")?;
     write_out(&mut whole, b"c")?;
-    assert!(rt; whole.as_slice() == b"abc".as_slice());
+    Ok(whole.as_slice() == b"abc".as_slice())
+}
+
+// Whether a writer that takes one byte at a time gets all.
+fn gets_each(alloc: Global) -> Result<bool, ScriptFault> {
     let mut narrow = Sink::new(Vec::new(alloc), 1, 3, Failure::Full);
     write_out(&mut narrow, b"abc")?;
-    assert!(rt; narrow.taken.as_slice() == b"abc".as_slice());
+    Ok(narrow.taken.as_slice() == b"abc".as_slice())
+}
+
+#[test]
+fn all_bytes_are_written_in_any_pieces(rt: HostRuntime) -> Result<(), Fail> {
+    assert!(rt; gets_both(rt.alloc())?);
+    assert!(rt; gets_each(rt.alloc())?);
     Ok(())
+}
+
+// Whether these bytes are the fault Write, and no write follows the one that fails.
+fn fails_at_once(writer: &mut Sink, bytes: &[u8]) -> bool {
+    write_out(writer, bytes) == Err(ScriptFault::Write) && writer.later() == Some(0)
+}
+
+// Whether a writer that takes no third byte has the first two.
+fn keeps_the_first_two(alloc: Global) -> bool {
+    let mut narrow = Sink::new(Vec::new(alloc), 1, 2, Failure::Full);
+    fails_at_once(&mut narrow, b"abc") && narrow.taken.as_slice() == b"ab".as_slice()
+}
+
+// Whether a writer that fails at once takes no bytes, and not one.
+fn takes_nothing(alloc: Global) -> bool {
+    let mut broken = Sink::new(Vec::new(alloc), usize::MAX, 0, Failure::Interrupted);
+    write_out(&mut broken, b"") == Ok(()) && fails_at_once(&mut broken, b"a")
 }
 
 #[test]
 fn a_write_that_fails_or_takes_no_byte_is_the_fault(rt: HostRuntime) {
-    let mut narrow = Sink::new(Vec::new(rt.alloc()), 1, 2, Failure::Full);
-    assert!(rt; write_out(&mut narrow, b"abc") == Err(ScriptFault::Write));
-    assert!(rt; narrow.taken.as_slice() == b"ab".as_slice());
-    assert!(rt; narrow.later() == Some(0));
-    let mut broken = Sink::new(Vec::new(rt.alloc()), usize::MAX, 0, Failure::Interrupted);
-    assert!(rt; write_out(&mut broken, b"") == Ok(()));
-    assert!(rt; write_out(&mut broken, b"a") == Err(ScriptFault::Write));
-    assert!(rt; broken.later() == Some(0));
+    assert!(rt; keeps_the_first_two(rt.alloc()));
+    assert!(rt; takes_nothing(rt.alloc()));
 }

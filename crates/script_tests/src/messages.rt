@@ -1,8 +1,8 @@
 //! Messages and their transcripts, as calls.
 
-use crate::stores::{REPORTS, written};
+use crate::stores::failing;
 use desk_run::{Received, receive, received_text};
-use desk_store::{FailAt, PlainDesk, Records};
+use desk_store::{PlainDesk, Records};
 use desk_text::{End, StoreFault};
 use std::alloc::{AllocError, Global};
 use std::test::Fail;
@@ -31,11 +31,33 @@ fn came_to(
     )
 }
 
+// What comes of a message to a new desk.
+fn new_desk_takes(alloc: Global, message: &str) -> Received {
+    let mut desk = PlainDesk::new(alloc, 1);
+    take_message(alloc, &mut desk, message)
+}
+
+// Whether a message to a new desk comes to so many outcomes, this end, and this transcript.
+fn comes_to(
+    alloc: Global,
+    message: &str,
+    outcomes: usize,
+    end: End,
+    transcript: &str,
+) -> Result<bool, AllocError> {
+    let received = new_desk_takes(alloc, message);
+    came_to(alloc, &received, message, outcomes, end, transcript)
+}
+
+// Whether a message to a new desk comes to so many outcomes and this end.
+fn ends_so(alloc: Global, message: &str, outcomes: usize, end: End) -> bool {
+    let received = new_desk_takes(alloc, message);
+    received.outcomes.as_slice().len() == outcomes && received.end == end
+}
+
 #[test]
 fn an_empty_message_has_no_outcomes(rt: HostRuntime) -> Result<(), Fail> {
-    let alloc = rt.alloc();
-    let received = take_message(alloc, &mut PlainDesk::new(alloc, 1), "");
-    assert!(rt; came_to(alloc, &received, "", 0, End::All, "before\n")?);
+    assert!(rt; comes_to(rt.alloc(), "", 0, End::All, "before\n")?);
     Ok(())
 }
 
@@ -43,21 +65,10 @@ fn an_empty_message_has_no_outcomes(rt: HostRuntime) -> Result<(), Fail> {
 fn the_lines_of_a_message_have_outcomes_up_to_its_end(rt: HostRuntime) -> Result<(), Fail> {
     let alloc = rt.alloc();
     let message = "close 1\r\n# x\nquit\r\nclose 1";
-    let received = take_message(alloc, &mut PlainDesk::new(alloc, 1), message);
     let transcript = "before\n> close 1\nNO no such bug 1\n> quit\nStopped.\n";
-    assert!(rt; came_to(alloc, &received, message, 2, End::Stopped, transcript)?);
-    let message = "a\nb\nc\nd\ne\nf\n";
-    let received = take_message(alloc, &mut PlainDesk::new(alloc, 1), message);
-    assert!(rt; received.outcomes.as_slice().len() == 5);
-    assert!(rt; received.end == End::TooManyUnreadable);
+    assert!(rt; comes_to(alloc, message, 2, End::Stopped, transcript)?);
+    assert!(rt; ends_so(alloc, "a\nb\nc\nd\ne\nf\n", 5, End::TooManyUnreadable));
     Ok(())
-}
-
-// A store of three bugs that fails at its second change.
-fn failing(alloc: Global) -> FailAt<PlainDesk> {
-    let mut desk = PlainDesk::new(alloc, 1);
-    written(alloc, &mut desk, REPORTS);
-    FailAt::new(desk, 2)
 }
 
 // What comes of three commands where the store fails at the second one.

@@ -7,6 +7,22 @@ use desk_store::PlainDesk;
 use std::alloc::Global;
 use test_streams::{Failure, Feed, Round, Sink};
 
+// Whether a call has failed, where a script has this end and so many calls followed the one that
+// failed: then it ends at once as this fault, with a front of the answers, and otherwise whole.
+// `None` where it does not end so.
+fn has_failed(
+    end: Result<ScriptEnd, ScriptFault>,
+    fault: ScriptFault,
+    later: Option<u64>,
+    is_front: bool,
+    is_whole: bool,
+) -> Option<bool> {
+    match later {
+        Some(later) => (later == 0 && end == Err(fault) && is_front).then_some(true),
+        None => (end == Ok(ScriptEnd::Refused) && is_whole).then_some(false),
+    }
+}
+
 // Whether a script ends as it has to where the read after so many fails: at once, with a front of
 // the answers before its message, or whole where no read has failed.
 // `None` where it does not end so, otherwise whether a read has failed.
@@ -15,16 +31,9 @@ fn meets_failed_read(alloc: Global, piece: usize, good_reads: usize) -> Option<b
     let mut reader = Feed::new(SCRIPT.as_bytes(), piece, good_reads);
     let mut writer = Vec::new(alloc);
     let end = run_script(alloc, &mut desk, &mut reader, &mut writer);
-    match (end, reader.later()) {
-        (Err(ScriptFault::Read), Some(0)) => REPORTED
-            .as_bytes()
-            .starts_with(writer.as_slice())
-            .then_some(true),
-        (Ok(ScriptEnd::Refused), None) => {
-            (writer.as_slice() == WRITTEN.as_bytes()).then_some(false)
-        }
-        _ => None,
-    }
+    let is_front = REPORTED.as_bytes().starts_with(writer.as_slice());
+    let is_whole = writer.as_slice() == WRITTEN.as_bytes();
+    has_failed(end, ScriptFault::Read, reader.later(), is_front, is_whole)
 }
 
 // How many reads are good before the first run that meets no failure; `None` where a run does not
@@ -51,13 +60,9 @@ fn meets_failed_write(
     let mut reader = SCRIPT.as_bytes();
     let mut writer = Sink::new(Vec::new(alloc), piece, good_writes, failure);
     let end = run_script(alloc, &mut desk, &mut reader, &mut writer);
-    let taken = writer.taken.as_slice();
-    match (end, writer.later()) {
-        (Err(ScriptFault::Write), Some(0)) => (taken.len() < WRITTEN.len()
-            && WRITTEN.as_bytes().starts_with(taken)).then_some(true),
-        (Ok(ScriptEnd::Refused), None) => (taken == WRITTEN.as_bytes()).then_some(false),
-        _ => None,
-    }
+    let is_whole = writer.taken.as_slice() == WRITTEN.as_bytes();
+    let is_front = !is_whole && WRITTEN.as_bytes().starts_with(writer.taken.as_slice());
+    has_failed(end, ScriptFault::Write, writer.later(), is_front, is_whole)
 }
 
 // How many writes are good before the first run that meets no failure; `None` where a run does not

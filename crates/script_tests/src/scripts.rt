@@ -53,6 +53,14 @@ fn writes_a_front(alloc: Global, bytes: usize) -> bool {
     }
 }
 
+// Whether the script writes what it writes before its message, where the read of its end fails.
+fn writes_reported(alloc: Global, desk: &mut PlainDesk) -> bool {
+    match written_until(alloc, desk, SCRIPT.len()) {
+        Some(written) => written.as_slice() == REPORTED.as_bytes(),
+        None => false,
+    }
+}
+
 #[test]
 fn a_read_that_fails_leaves_the_message_that_is_gathered(rt: HostRuntime) {
     let alloc = rt.alloc();
@@ -60,13 +68,16 @@ fn a_read_that_fails_leaves_the_message_that_is_gathered(rt: HostRuntime) {
         assert!(rt; writes_a_front(alloc, bytes), "{bytes}");
     }
     let mut desk = PlainDesk::new(alloc, 1);
-    match written_until(alloc, &mut desk, SCRIPT.len()) {
-        Some(written) => assert!(rt; written.as_slice() == REPORTED.as_bytes()),
-        None => assert!(rt; false),
-    }
+    assert!(rt; writes_reported(alloc, &mut desk));
     let written = "> severity 2 normal\nOK, no change.\n> unmerge 2\nNO bug 2 is not merged\n";
     let script = b"severity 2 normal\nunmerge 2\n";
     assert!(rt; writes(alloc, &mut desk, script, Ok(ScriptEnd::Refused), written));
+}
+
+// Whether a writer has taken so many bytes, and these are a front of the answers.
+fn has_front(writer: &Sink, length: usize) -> bool {
+    let taken = writer.taken.as_slice();
+    taken.len() == length && WRITTEN.as_bytes().starts_with(taken)
 }
 
 // Whether the script ends so, a writer that takes so many bytes has taken all of them, and there
@@ -81,10 +92,7 @@ fn fills(
     let mut reader = SCRIPT.as_bytes();
     let mut writer = Sink::new(Vec::new(alloc), 1, room, Failure::Full);
     let ended = run_script(alloc, &mut desk, &mut reader, &mut writer);
-    ended == end
-        && writer.later() == later
-        && writer.taken.len() == room
-        && WRITTEN.as_bytes().starts_with(writer.taken.as_slice())
+    ended == end && writer.later() == later && has_front(&writer, room)
 }
 
 #[test]
@@ -108,17 +116,28 @@ fn with_many(alloc: Global, length: usize, byte: u8, then: &[u8]) -> Result<Vec<
     Ok(script)
 }
 
+// Whether such a script has this end and writes this.
+fn many_write(
+    alloc: Global,
+    desk: &mut PlainDesk,
+    many: (usize, u8, &[u8]),
+    end: Result<ScriptEnd, ScriptFault>,
+    written: &str,
+) -> Result<bool, AllocError> {
+    let (length, byte, then) = many;
+    let script = with_many(alloc, length, byte, then)?;
+    Ok(writes(alloc, desk, &script, end, written))
+}
+
 #[test]
 fn a_line_that_is_too_long_ends_the_script(rt: HostRuntime) -> Result<(), Fail> {
     let alloc = rt.alloc();
     let mut desk = PlainDesk::new(alloc, 1);
-    let script = with_many(alloc, 65_536, b'#', b"")?;
     let end = Ok(ScriptEnd::Accepted);
     let written = "OK 1\n> close 1\nOK 1\n";
-    assert!(rt; writes(alloc, &mut desk, &script, end, written));
-    let script = with_many(alloc, 65_537, b'#', b"")?;
+    assert!(rt; many_write(alloc, &mut desk, (65_536, b'#', b""), end, written)?);
     let end = Err(ScriptFault::LineTooLong(3));
-    assert!(rt; writes(alloc, &mut desk, &script, end, "OK 2\n"));
+    assert!(rt; many_write(alloc, &mut desk, (65_537, b'#', b""), end, "OK 2\n")?);
     Ok(())
 }
 
@@ -126,12 +145,18 @@ fn a_line_that_is_too_long_ends_the_script(rt: HostRuntime) -> Result<(), Fail> 
 fn a_script_of_70_000_lines_is_run_to_its_end(rt: HostRuntime) -> Result<(), Fail> {
     let alloc = rt.alloc();
     let mut desk = PlainDesk::new(alloc, 1);
-    let script = with_many(alloc, 69_997, b'\n', b"close 1\n")?;
     let end = Ok(ScriptEnd::Accepted);
     let written = "OK 1\n> close 1\nOK 1\n> close 1\nOK, no change.\n";
-    assert!(rt; writes(alloc, &mut desk, &script, end, written));
-    let script = with_many(alloc, 69_997, b'\n', b"\xff\n")?;
+    assert!(rt;
+        many_write(
+            alloc,
+            &mut desk,
+            (69_997, b'\n', b"close 1\n"),
+            end,
+            written
+        )?
+    );
     let end = Err(ScriptFault::NotUtf8(70_000));
-    assert!(rt; writes(alloc, &mut desk, &script, end, "OK 2\n"));
+    assert!(rt; many_write(alloc, &mut desk, (69_997, b'\n', b"\xff\n"), end, "OK 2\n")?);
     Ok(())
 }

@@ -18,6 +18,24 @@ pub(crate) fn written<S: Records>(alloc: Global, store: &mut S, script: &str) ->
     writer
 }
 
+/// A store of three bugs that fails at its second change.
+pub(crate) fn failing(alloc: Global) -> FailAt<PlainDesk> {
+    let mut desk = PlainDesk::new(alloc, 1);
+    written(alloc, &mut desk, REPORTS);
+    FailAt::new(desk, 2)
+}
+
+// Whether the store fails in a script, which writes this.
+fn has_failed(alloc: Global, store: &mut FailAt<PlainDesk>, script: &str, answers: &str) -> bool {
+    let end = Err(ScriptFault::Store(StoreFault::Device));
+    writes(alloc, store, script.as_bytes(), end, answers) && store.faults() == 1
+}
+
+// Whether a script after that writes this, and the store does not fail again.
+fn goes_on(alloc: Global, store: &mut FailAt<PlainDesk>, script: &str, answers: &str) -> bool {
+    written(alloc, store, script).as_slice() == answers.as_bytes() && store.faults() == 1
+}
+
 // Whether a script at whose second change the store fails, after the reports, writes this, and
 // another one after it that.
 fn fails_so(
@@ -27,14 +45,9 @@ fn fails_so(
     next_script: &str,
     next_answers: &str,
 ) -> bool {
-    let mut desk = PlainDesk::new(alloc, 1);
-    written(alloc, &mut desk, REPORTS);
-    let mut store = FailAt::new(desk, 2);
-    let end = Err(ScriptFault::Store(StoreFault::Device));
-    writes(alloc, &mut store, script.as_bytes(), end, answers)
-        && store.faults() == 1
-        && written(alloc, &mut store, next_script).as_slice() == next_answers.as_bytes()
-        && store.faults() == 1
+    let mut store = failing(alloc);
+    has_failed(alloc, &mut store, script, answers)
+        && goes_on(alloc, &mut store, next_script, next_answers)
 }
 
 #[test]
@@ -95,19 +108,16 @@ fn a_line_that_changes_nothing_writes_nothing(rt: HostRuntime) {
     assert!(rt; fails_so(rt.alloc(), script, answers, next, next_answers));
 }
 
-#[test]
-fn no_change_fails_where_none_is_to(rt: HostRuntime) {
-    let alloc = rt.alloc();
+// How many faults a store has had that fails at no change, after the reports; `None` where these
+// have not their answers.
+fn faults_of_none(alloc: Global) -> Option<u64> {
     let mut store = FailAt::new(PlainDesk::new(alloc, 1), 0);
     let end = Ok(ScriptEnd::Accepted);
-    assert!(rt;
-        writes(
-            alloc,
-            &mut store,
-            REPORTS.as_bytes(),
-            end,
-            "OK 1\nOK 2\nOK 3\n"
-        )
-    );
-    assert!(rt; store.faults() == 0);
+    let answers = "OK 1\nOK 2\nOK 3\n";
+    writes(alloc, &mut store, REPORTS.as_bytes(), end, answers).then_some(store.faults())
+}
+
+#[test]
+fn no_change_fails_where_none_is_to(rt: HostRuntime) {
+    assert!(rt; faults_of_none(rt.alloc()) == Some(0));
 }

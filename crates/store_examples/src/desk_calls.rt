@@ -16,15 +16,14 @@ fn take_part(example: &mut Example, script: &mut String) -> Result<(), AllocErro
 }
 
 // Takes the lines of a script.
-fn take_script(alloc: Global, example: &mut Example) -> Result<String, AllocError> {
-    let mut script = String::new(alloc);
+fn take_script(example: &mut Example, script: &mut String) -> Result<(), AllocError> {
     for _ in 0..example.left() {
         if !example.begins_with("| ") {
-            return Ok(script);
+            return Ok(());
         }
-        take_part(example, &mut script)?;
+        take_part(example, script)?;
     }
-    Ok(script)
+    Ok(())
 }
 
 // What is told of how a script ended.
@@ -36,13 +35,17 @@ fn end_text(alloc: Global, end: Result<ScriptEnd, ScriptFault>) -> Result<String
     }
 }
 
+// Runs a script, and tells what it writes and how it ends.
+fn run_taken<R: Records>(alloc: Global, desk: &mut R, script: &str, example: &mut Example) {
+    let end = run_into(alloc, desk, script, &mut example.report.text);
+    example.report.add_made(end_text(alloc, end));
+}
+
 // Takes the lines of a script, runs it, and tells what it writes and how it ends.
 fn run_lines<R: Records>(alloc: Global, desk: &mut R, example: &mut Example) {
-    match take_script(alloc, example) {
-        Ok(script) => {
-            let end = run_into(alloc, desk, script.as_str(), &mut example.report.text);
-            example.report.add_made(end_text(alloc, end));
-        }
+    let mut script = String::new(alloc);
+    match take_script(example, &mut script) {
+        Ok(()) => run_taken(alloc, desk, script.as_str(), example),
         Err(error) => example.report.note(Err(error)),
     }
 }

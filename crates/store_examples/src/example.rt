@@ -1,10 +1,10 @@
 //! A file of examples while it is run.
 
 use crate::questions::Answers;
-use crate::report::Report;
 use desk_tables::OpenFault;
 use desk_text::StoreFault;
 use std::alloc::{AllocError, Global};
+use store_trials::Report;
 
 /// The lines of a file, what is told of them, and what is to be known of one line at a later one.
 #[derive(Drop)]
@@ -20,19 +20,30 @@ pub(crate) struct Example {
 }
 
 impl Example {
-    /// The lines of a text, of which none is taken.
-    pub fn new(alloc: Global, text: &str) -> Result<Example, AllocError> {
-        let mut lines = Vec::new(alloc);
-        for line in text.lines() {
-            lines.push(String::from_str(alloc, line)?)?;
-        }
-        Ok(Example {
-            lines,
+    // No line.
+    fn empty(alloc: Global) -> Example {
+        Example {
+            lines: Vec::new(alloc),
             taken: 0,
             report: Report::new(alloc),
             answers: Vec::new(alloc),
             is_desk: false,
-        })
+        }
+    }
+
+    // Adds the lines of a text.
+    fn add_lines(&mut self, alloc: Global, text: &str) -> Result<(), AllocError> {
+        for line in text.lines() {
+            self.lines.push(String::from_str(alloc, line)?)?;
+        }
+        Ok(())
+    }
+
+    /// The lines of a text, of which none is taken.
+    pub fn new(alloc: Global, text: &str) -> Result<Example, AllocError> {
+        let mut example = Example::empty(alloc);
+        example.add_lines(alloc, text)?;
+        Ok(example)
     }
 
     /// How many lines are left.

@@ -4,20 +4,11 @@
 
 mod desk_calls;
 mod example;
-mod fronts;
-mod held;
-mod lines;
-mod look;
 mod memory;
-mod outcomes;
 mod questions;
 mod random;
-mod report;
-mod schema;
 mod stops;
 mod tables;
-mod told;
-mod trial;
 mod words;
 
 use std::{fs, io};

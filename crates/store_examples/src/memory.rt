@@ -1,14 +1,11 @@
 //! A script over a desk that is short of memory, with a little more of it in each run.
 
-use crate::fronts::{Fronts, Reach};
-use crate::outcomes::Judge;
-use crate::trial::{Trial, Work};
 use control_text::number_word;
-use desk_run::PlainDesk;
 use sqlite_pager::Options;
 use std::alloc::Global;
-use std::io;
-use test_desks::{Disks, copy_of, left_of, new_desk};
+use std::{fmt, io};
+use store_trials::{Fronts, Judge, Reach, Trial, Work};
+use test_desks::{BothLeft, Disks, both_left, copy_of, new_desk};
 
 /// More runs than any sweep has.
 const MOST_RUNS: usize = 100_000;
@@ -30,6 +27,38 @@ enum Run {
     // Memory ran out after so many lines.
     Short(usize),
     Wrong,
+}
+
+// What comes of a sweep.
+#[derive(Clone, Copy)]
+enum Swept {
+    // Something is wrong with all memory.
+    NotReady,
+    // Its last run was whole, and some were short of memory once a line was answered, or none.
+    Whole { is_short: bool },
+    // Something is wrong with so many blocks.
+    Wrong { blocks: usize },
+    NoEnd,
+}
+
+// Tells of a sweep whose last run was whole.
+fn whole_text(is_short: bool) -> &'static str {
+    if is_short {
+        "short of memory: some runs ended so, and each left the desk after some of its lines"
+    } else {
+        "no run was short of memory once a line was answered"
+    }
+}
+
+impl fmt::Display for Swept {
+    fn fmt<W: fmt::Write>(&self, f: &mut fmt::Formatter<W>) -> fmt::Result {
+        match *self {
+            Swept::NotReady => f.write_str("wrong with all memory"),
+            Swept::Whole { is_short } => f.write_str(whole_text(is_short)),
+            Swept::Wrong { blocks } => write!(f, "wrong with {blocks} blocks"),
+            Swept::NoEnd => f.write_str("no end"),
+        }
+    }
 }
 
 // What a line asks for, if it names a desk.
@@ -64,24 +93,33 @@ fn run_in_memory(alloc: Global, fronts: &Fronts, trial: &mut Trial, questions: &
         script: fronts.script.as_str(),
         questions,
     };
-    let mut desk = PlainDesk::new(alloc, 1);
-    trial.run(alloc, &mut desk, work);
+    trial.run_in_memory(alloc, work);
     match trial.reached(fronts) {
         Some(reach) if fronts.shows(reach, &trial.shown) => run_of(trial, fronts, reach),
         _ => Run::Wrong,
     }
 }
 
-// Whether the files have the desk in this reach.
-fn are_shown(alloc: Global, files: Disks, fronts: &Fronts, reach: Reach) -> io::Result<bool> {
-    let log = left_of(alloc, files.log)?;
-    let db = left_of(alloc, files.db)?;
+// Whether what is left of the files has the desk in this reach.
+fn are_shown(alloc: Global, left: &BothLeft, fronts: &Fronts, reach: Reach) -> io::Result<bool> {
+    let BothLeft { log, db } = left;
     Judge::new(fronts, Options::new(1)).is_shown(alloc, &log.written, &db.written, reach)
 }
 
 // Whether the questions were answered in this reach, where a desk was opened.
 fn is_asked_well(trial: &Trial, fronts: &Fronts, reach: Reach) -> bool {
     !trial.is_opened() || fronts.shows_front(reach, &trial.shown)
+}
+
+// What came of a run over a desk in tables, of whose files this is left.
+fn judged(alloc: Global, left: &BothLeft, fronts: &Fronts, trial: &Trial) -> io::Result<Run> {
+    match trial.reached(fronts) {
+        Some(reach)
+            if is_asked_well(trial, fronts, reach) && are_shown(alloc, left, fronts, reach)? => {
+            Ok(run_of(trial, fronts, reach))
+        }
+        _ => Ok(Run::Wrong),
+    }
 }
 
 // Runs the script over a desk in tables.
@@ -97,13 +135,8 @@ fn run_in_tables(
     };
     let files = trial.run_over(alloc, files, Options::new(1), work);
     trial.held.give_back();
-    match trial.reached(fronts) {
-        Some(reach)
-            if is_asked_well(trial, fronts, reach) && are_shown(alloc, files, fronts, reach)? => {
-            Ok(run_of(trial, fronts, reach))
-        }
-        _ => Ok(Run::Wrong),
-    }
+    let left = both_left(alloc, files)?;
+    judged(alloc, &left, fronts, trial)
 }
 
 // Begins a run with so many blocks of memory, or with all of it where there is no number; whether
@@ -116,6 +149,39 @@ fn begin(alloc: Global, size: usize, trial: &mut Trial, blocks: Option<usize>) -
     }
 }
 
+// Runs the script over a desk in memory with so many blocks of memory, or with all of it.
+fn run_short_in_memory(
+    alloc: Global,
+    size: usize,
+    fronts: &Fronts,
+    trial: &mut Trial,
+    blocks: Option<usize>,
+) -> io::Result<Run> {
+    let questions = fronts.all_questions(alloc)?;
+    if begin(alloc, size, trial, blocks) {
+        Ok(run_in_memory(alloc, fronts, trial, questions.as_str()))
+    } else {
+        Ok(Run::Wrong)
+    }
+}
+
+// Runs the script over a desk in tables with so many blocks of memory, or with all of it.
+fn run_short_in_tables(
+    alloc: Global,
+    base: &Disks,
+    size: usize,
+    fronts: &Fronts,
+    trial: &mut Trial,
+    blocks: Option<usize>,
+) -> io::Result<Run> {
+    let files = copy_of(alloc, base, u64::MAX, u64::MAX)?;
+    if begin(alloc, size, trial, blocks) {
+        run_in_tables(alloc, files, fronts, trial)
+    } else {
+        Ok(Run::Wrong)
+    }
+}
+
 // Runs the script with so many blocks of memory, or with all of it.
 fn run_with(
     alloc: Global,
@@ -125,45 +191,53 @@ fn run_with(
     trial: &mut Trial,
     blocks: Option<usize>,
 ) -> io::Result<Run> {
+    let size = setting.size;
     if setting.is_in_tables {
-        let files = copy_of(alloc, base, u64::MAX, u64::MAX)?;
-        if begin(alloc, setting.size, trial, blocks) {
-            return run_in_tables(alloc, files, fronts, trial);
-        }
-        return Ok(Run::Wrong);
-    }
-    let questions = fronts.all_questions(alloc)?;
-    if begin(alloc, setting.size, trial, blocks) {
-        return Ok(run_in_memory(alloc, fronts, trial, questions.as_str()));
-    }
-    Ok(Run::Wrong)
-}
-
-// Tells of a sweep whose last run was whole.
-fn end_text(is_short: bool) -> &'static str {
-    if is_short {
-        "short of memory: some runs ended so, and each left the desk after some of its lines"
+        run_short_in_tables(alloc, base, size, fronts, trial, blocks)
     } else {
-        "no run was short of memory once a line was answered"
+        run_short_in_memory(alloc, size, fronts, trial, blocks)
     }
 }
 
-// Runs the script with no block of memory, then with one, and so on, and tells what comes of it.
-fn sweep(alloc: Global, base: &Disks, setting: Setting, fronts: &Fronts) -> io::Result<String> {
-    let mut trial = Trial::with_room(alloc, TEXT_ROOM)?;
-    let whole = run_with(alloc, base, setting, fronts, &mut trial, None)?;
-    if whole != Run::Whole || !trial.held.hold_all(alloc)? {
-        return Ok(String::from_str(alloc, "wrong with all memory")?);
-    }
+// Whether the run with all memory is whole, and all memory can be held back after it.
+fn is_ready(
+    alloc: Global,
+    base: &Disks,
+    setting: Setting,
+    fronts: &Fronts,
+    trial: &mut Trial,
+) -> io::Result<bool> {
+    let whole = run_with(alloc, base, setting, fronts, trial, None)?;
+    Ok(whole == Run::Whole && trial.held.hold_all(alloc)?)
+}
+
+// Runs the script with no block of memory, then with one, and so on.
+fn runs(
+    alloc: Global,
+    base: &Disks,
+    setting: Setting,
+    fronts: &Fronts,
+    trial: &mut Trial,
+) -> io::Result<Swept> {
     let mut is_short = false;
     for blocks in 0..MOST_RUNS {
-        match run_with(alloc, base, setting, fronts, &mut trial, Some(blocks))? {
-            Run::Whole => return Ok(String::from_str(alloc, end_text(is_short))?),
+        match run_with(alloc, base, setting, fronts, trial, Some(blocks))? {
+            Run::Whole => return Ok(Swept::Whole { is_short }),
             Run::Short(lines) => is_short = is_short || lines > 0,
-            Run::Wrong => return Ok(format!(in alloc; "wrong with {blocks} blocks")?),
+            Run::Wrong => return Ok(Swept::Wrong { blocks }),
         }
     }
-    Ok(String::from_str(alloc, "no end")?)
+    Ok(Swept::NoEnd)
+}
+
+// Runs the script with all memory, and then with more and more of it.
+fn sweep(alloc: Global, base: &Disks, setting: Setting, fronts: &Fronts) -> io::Result<Swept> {
+    let mut trial = Trial::with_room(alloc, TEXT_ROOM)?;
+    if is_ready(alloc, base, setting, fronts, &mut trial)? {
+        runs(alloc, base, setting, fronts, &mut trial)
+    } else {
+        Ok(Swept::NotReady)
+    }
 }
 
 // Takes a line.
@@ -180,13 +254,18 @@ fn take_line(rt: &HostRuntime, base: &Disks, fronts: &mut Fronts, line: &str) ->
     }
 }
 
+// Takes the lines of a file.
+fn take_lines(rt: &HostRuntime, base: &Disks, fronts: &mut Fronts, text: &str) -> io::Result<()> {
+    for line in text.lines() {
+        take_line(rt, base, fronts, line)?;
+    }
+    Ok(())
+}
+
 /// Takes the lines of a file: first the questions, then the script, and then those that say which
 /// desk is short of memory, and by blocks of how many bytes: `in memory by N`, `in tables by N`.
 pub(crate) fn run_file(rt: &HostRuntime, text: &str) -> io::Result<()> {
-    let base = new_desk(rt.alloc());
     let mut fronts = Fronts::new(rt.alloc())?;
-    for line in text.lines() {
-        take_line(rt, &base, &mut fronts, line)?;
-    }
-    Ok(())
+    let base = new_desk(rt.alloc());
+    take_lines(rt, &base, &mut fronts, text)
 }

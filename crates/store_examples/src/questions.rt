@@ -32,6 +32,15 @@ pub(crate) fn ask_all<S: Records>(
     Ok(())
 }
 
+// Whether an answer is as it was, or a fault of the device; by how many faults are counted more.
+fn is_well(answer: &[u8], before: &[u8], more: u64) -> bool {
+    if answer == DEVICE.as_bytes() {
+        more == 1
+    } else {
+        more == 0 && answer == before
+    }
+}
+
 // Whether a question is answered as it was, or by a fault of the device that is counted.
 fn is_answered_well<S: Records>(
     alloc: Global,
@@ -42,11 +51,7 @@ fn is_answered_well<S: Records>(
     let faults = store.faults();
     let answer = answer_to(alloc, store, question);
     let more = store.faults().saturating_sub(faults);
-    if answer.as_slice() == DEVICE.as_bytes() {
-        more == 1
-    } else {
-        more == 0 && answer.as_slice() == before
-    }
+    is_well(&answer, before, more)
 }
 
 /// Whether all questions are answered so.

@@ -1,16 +1,16 @@
 //! Random scripts, each over a desk in memory, a desk in tables, and a desk in tables that is
 //! closed and opened before each directive.
 
-use crate::lines::Maker;
-use crate::told::{Task, Told};
 use control_text::number_word;
-use desk_run::PlainDesk;
+use random_scripts::Maker;
 use sqlite::{Alter, Connection};
-use sqlite_disk::{Disk, Files};
 use sqlite_pager::Options;
 use std::alloc::{AllocError, Global};
 use std::io;
-use test_desks::{Made, connected, create, files_of, limited, new_disks, open};
+use store_trials::{Task, Told};
+use test_desks::{
+    ConnectionTask, Disks, create, in_memory, limited, new_disks, on_made, open, over_files,
+};
 
 // What is done over files.
 #[derive(Clone, Copy)]
@@ -31,23 +31,6 @@ struct Answers {
     in_parts: Told,
 }
 
-// Has a desk that was made do a task, and closes it.
-fn use_made<S: Alter>(
-    alloc: Global,
-    made: Made<S>,
-    task: Task<'_>,
-    told: &mut Told,
-) -> Connection<S> {
-    match made {
-        Ok(desk) => {
-            let mut desk = desk;
-            told.run_task(alloc, &mut desk, task);
-            desk.close()
-        }
-        Err((_, conn)) => conn,
-    }
-}
-
 // Runs a script part by part over a new desk.
 fn run_parts<S: Alter>(
     alloc: Global,
@@ -55,79 +38,62 @@ fn run_parts<S: Alter>(
     script: &str,
     told: &mut Told,
 ) -> Connection<S> {
-    let mut conn = use_made(alloc, create(alloc, conn, 1), Task::Nothing, told);
+    told.begin_parts();
+    let mut conn = on_made(alloc, create(alloc, conn, 1), &Task::Nothing, told);
     for part in script.split("\n@").skip(1) {
-        conn = use_made(alloc, open(alloc, conn), Task::Part(part), told);
+        conn = on_made(alloc, open(alloc, conn), &Task::Part(part), told);
     }
     told.end_parts();
     conn
 }
 
-// Does something on a connection.
-fn work_on<S: Alter>(
-    alloc: Global,
-    conn: Connection<S>,
-    work: Work<'_>,
-    told: &mut Told,
-) -> Connection<S> {
-    match work {
-        Work::Whole(script) => {
-            use_made(alloc, create(alloc, conn, 1), Task::Script(script), told)
+impl ConnectionTask<Told> for Work<'_> {
+    fn run_over<S: Alter>(
+        &self,
+        alloc: Global,
+        conn: Connection<S>,
+        told: &mut Told,
+    ) -> Connection<S> {
+        match *self {
+            Work::Whole(script) => {
+                on_made(alloc, create(alloc, conn, 1), &Task::Script(script), told)
+            }
+            Work::Parts(script) => run_parts(alloc, conn, script, told),
+            Work::Questions => on_made(alloc, open(alloc, conn), &Task::Questions, told),
         }
-        Work::Parts(script) => run_parts(alloc, conn, script, told),
-        Work::Questions => use_made(alloc, open(alloc, conn), Task::Questions, told),
     }
 }
 
 // Does something over files, and hands them back.
-fn work_over<D: Disk + Drop>(
-    alloc: Global,
-    files: Files<D>,
-    work: Work<'_>,
-    told: &mut Told,
-) -> Files<D> {
-    match connected(alloc, files, Options::new(1)) {
-        Ok(conn) => files_of(work_on(alloc, conn, work, told)),
-        Err(files) => files,
-    }
+fn work_over(alloc: Global, files: Disks, work: Work<'_>, told: &mut Told) -> Disks {
+    over_files(alloc, files, Options::new(1), &work, told)
 }
 
-// What a desk in memory tells of a script.
-fn told_in_memory(alloc: Global, script: &str) -> Result<Told, AllocError> {
-    let mut told = Told::new(alloc)?;
-    let mut desk = PlainDesk::new(alloc, 1);
-    told.run_task(alloc, &mut desk, Task::Script(script));
-    Ok(told)
-}
-
-// What a desk in tables tells of a script.
-fn told_in_tables(alloc: Global, script: &str) -> Result<Told, AllocError> {
-    let mut told = Told::new(alloc)?;
-    drop(work_over(alloc, new_disks(alloc), Work::Whole(script), &mut told));
-    Ok(told)
-}
-
-// What a desk in tables tells of a script part by part, and of the questions once its files are
+// Runs a script part by part over a desk in tables, and asks the questions once its files are
 // opened anew.
-fn told_in_parts(alloc: Global, script: &str) -> io::Result<Told> {
-    let mut told = Told::new(alloc)?;
-    let files = work_over(alloc, new_disks(alloc), Work::Parts(script), &mut told);
+fn tell_in_parts(alloc: Global, script: &str, told: &mut Told) -> io::Result<()> {
+    let files = work_over(alloc, new_disks(alloc), Work::Parts(script), told);
     let files = limited(alloc, &files, None)?;
-    drop(work_over(alloc, files, Work::Questions, &mut told));
-    Ok(told)
+    drop(work_over(alloc, files, Work::Questions, told));
+    Ok(())
 }
 
 impl Answers {
-    // What each desk tells of a script.
-    fn to(alloc: Global, script: &str) -> io::Result<Answers> {
-        let in_memory = told_in_memory(alloc, script)?;
-        let in_tables = told_in_tables(alloc, script)?;
-        let in_parts = told_in_parts(alloc, script)?;
-        Ok(Answers {
-            in_memory,
-            in_tables,
-            in_parts,
-        })
+    // Nothing yet.
+    fn new(alloc: Global) -> Answers {
+        Answers {
+            in_memory: Told::new(alloc),
+            in_tables: Told::new(alloc),
+            in_parts: Told::new(alloc),
+        }
+    }
+
+    // Runs a script over each desk.
+    fn tell(&mut self, alloc: Global, script: &str) -> io::Result<()> {
+        let whole = Work::Whole(script);
+        in_memory(alloc, &Task::Script(script), &mut self.in_memory);
+        drop(work_over(alloc, new_disks(alloc), whole, &mut self.in_tables));
+        tell_in_parts(alloc, script, &mut self.in_parts)
     }
 
     // Whether all desks told the same; an error where there was no memory for it.
@@ -138,8 +104,9 @@ impl Answers {
         Ok(self.in_tables.is_like(&self.in_memory) && self.in_parts.is_like(&self.in_memory))
     }
 
-    // Prints what each desk told.
-    fn print(&self, rt: &HostRuntime) -> io::Result<()> {
+    // Prints a script, and what each desk told of it.
+    fn print(&self, rt: &HostRuntime, script: &str) -> io::Result<()> {
+        println!(rt; "{script}")?;
         println!(rt; "-- in memory:")?;
         self.in_memory.report.print(rt)?;
         println!(rt; "-- in tables:")?;
@@ -149,15 +116,21 @@ impl Answers {
     }
 }
 
-// Runs a script over each desk, and says whether all told the same; else it prints what they told.
-fn run_script(rt: &HostRuntime, script: &str) -> io::Result<bool> {
-    let answers = Answers::to(rt.alloc(), script)?;
+// Fills in what each desk tells of a script, and says whether all told the same; else it prints
+// that.
+fn compare(rt: &HostRuntime, script: &str, answers: &mut Answers) -> io::Result<bool> {
+    answers.tell(rt.alloc(), script)?;
     if answers.are_alike()? {
         return Ok(true);
     }
-    println!(rt; "{script}")?;
-    answers.print(rt)?;
+    answers.print(rt, script)?;
     Ok(false)
+}
+
+// Runs a script over each desk, and says whether all told the same; else it prints what they told.
+fn run_script(rt: &HostRuntime, script: &str) -> io::Result<bool> {
+    let mut answers = Answers::new(rt.alloc());
+    compare(rt, script, &mut answers)
 }
 
 // Runs so many scripts of so many lines, up to the first that is not alike.
@@ -182,14 +155,20 @@ fn number_after(line: &str, word: &str) -> u64 {
     }
 }
 
+// Makes the scripts of a line.
+fn run_line(rt: &HostRuntime, line: &str) -> io::Result<()> {
+    let scripts = number_after(line, "scripts ");
+    let lines = number_after(line, "lines ");
+    let mut maker = Maker::new(rt.alloc(), number_after(line, "seed "));
+    run_scripts(rt, &mut maker, scripts, lines)
+}
+
 /// Makes the scripts of each line of a file, `seed S scripts N lines L`, and prints whether all
 /// desks answer alike, or the first script where they do not.
 pub(crate) fn run_file(rt: &HostRuntime, text: &str) -> io::Result<()> {
     for line in text.lines() {
         println!(rt; "{line}")?;
-        let mut maker = Maker::new(rt.alloc(), number_after(line, "seed "));
-        let scripts = number_after(line, "scripts ");
-        run_scripts(rt, &mut maker, scripts, number_after(line, "lines "))?;
+        run_line(rt, line)?;
     }
     Ok(())
 }

@@ -1,13 +1,11 @@
 //! A script over a desk in tables whose disk stops at each of its calls in turn.
 
-use crate::fronts::Fronts;
-use crate::look::schema_in;
-use crate::outcomes::{Found, Judge};
-use crate::schema::Schema;
-use crate::trial::{Trial, Work};
 use std::alloc::Global;
-use std::{fs, io};
-use test_desks::{Disks, Setting, disks_in, goes_on, new_desk, setting_of, stopping};
+use std::{fmt, fs, io};
+use store_trials::{Found, Fronts, Judge, Schema, Trial, Work, schema_in};
+use test_desks::{
+    BothLeft, Disks, Setting, both_left, disks_in, goes_on, new_desk, setting_of, stopping,
+};
 
 /// More calls than any run makes.
 const MOST_CALLS: u64 = 100_000;
@@ -20,6 +18,50 @@ enum Stop {
     // So many lines were answered.
     After(usize),
     Wrong,
+}
+
+// What comes of a sweep.
+#[derive(Clone, Copy)]
+enum Swept {
+    // Each stop left what it has to leave.
+    Well,
+    NoStopAtLine,
+    NoStopUnderSchema,
+    // Something is wrong after so many calls.
+    Wrong { calls: u64 },
+    NoEnd,
+}
+
+impl fmt::Display for Swept {
+    fn fmt<W: fmt::Write>(&self, f: &mut fmt::Formatter<W>) -> fmt::Result {
+        match *self {
+            Swept::Well => f.write_str("each stop leaves the desk before or after one line"),
+            Swept::NoStopAtLine => f.write_str("some line had no stop"),
+            Swept::NoStopUnderSchema => f.write_str("some schema had no stop"),
+            Swept::Wrong { calls } => write!(f, "wrong after {calls} calls"),
+            Swept::NoEnd => f.write_str("no end"),
+        }
+    }
+}
+
+// What came of a run that left this of its files, and that was whole or not.
+fn judged(
+    alloc: Global,
+    trial: &Trial,
+    left: &BothLeft,
+    judge: &mut Judge<'_>,
+    is_whole: bool,
+) -> io::Result<Stop> {
+    match trial.reached(judge.fronts) {
+        Some(reach) if !trial.is_short() && judge.is_always_shown(alloc, left, reach)? => {
+            if is_whole {
+                Ok(Stop::Never)
+            } else {
+                Ok(Stop::After(reach.fewest))
+            }
+        }
+        _ => Ok(Stop::Wrong),
+    }
 }
 
 // Runs the script over files of which one stops after so many calls.
@@ -38,16 +80,8 @@ fn stop_after(
     let mut trial = Trial::new(alloc);
     let mut files = trial.run_over(alloc, files, judge.options, work);
     let is_whole = trial.is_whole(judge.fronts) && goes_on(&mut files, is_log);
-    match trial.reached(judge.fronts) {
-        Some(reach) if !trial.is_short() && judge.is_always_shown(alloc, files, reach)? => {
-            if is_whole {
-                Ok(Stop::Never)
-            } else {
-                Ok(Stop::After(reach.fewest))
-            }
-        }
-        _ => Ok(Stop::Wrong),
-    }
+    let left = both_left(alloc, files)?;
+    judged(alloc, &trial, &left, judge, is_whole)
 }
 
 // Whether the disk stopped after so many lines, where the next line writes.
@@ -71,32 +105,50 @@ fn are_found(began: Schema, is_log: bool, found: Found) -> bool {
     }
 }
 
-// Tells of a sweep in which each stop left what it has to leave.
-fn end_text(fronts: &Fronts, is_log: bool, met: &[usize]) -> &'static str {
+// What comes of a sweep in which each stop left what it has to leave, under the schemas that it
+// may.
+fn swept_well(fronts: &Fronts, is_log: bool, met: &[usize]) -> Swept {
     if met.is_empty() || (is_log && !are_all_met(fronts, met)) {
-        "some line had no stop"
+        Swept::NoStopAtLine
     } else {
-        "each stop leaves the desk before or after one line"
+        Swept::Well
     }
 }
 
-// Has a file stop after each number of calls in turn, and tells what comes of it.
-fn sweep(alloc: Global, base: &Disks, setting: Setting, fronts: &Fronts) -> io::Result<String> {
+// Has a file stop after each number of calls in turn, and notes after how many lines it did.
+fn stops(
+    alloc: Global,
+    base: &Disks,
+    setting: Setting,
+    judge: &mut Judge<'_>,
+    met: &mut Vec<usize>,
+) -> io::Result<Swept> {
     let began = schema_in(alloc, base)?;
-    let mut judge = Judge::new(fronts, setting.options);
-    let mut met = Vec::new(alloc);
     for calls in 0..MOST_CALLS {
         let found = judge.found;
-        match stop_after(alloc, base, setting.is_log, &mut judge, calls)? {
+        match stop_after(alloc, base, setting.is_log, judge, calls)? {
             Stop::Never if are_found(began, setting.is_log, found) => {
-                return Ok(String::from_str(alloc, end_text(fronts, setting.is_log, &met))?);
+                return Ok(swept_well(judge.fronts, setting.is_log, met));
             }
-            Stop::Never => return Ok(String::from_str(alloc, "some schema had no stop")?),
+            Stop::Never => return Ok(Swept::NoStopUnderSchema),
             Stop::After(lines) => met.push(lines)?,
-            Stop::Wrong => return Ok(format!(in alloc; "wrong after {calls} calls")?),
+            Stop::Wrong => return Ok(Swept::Wrong { calls }),
         }
     }
-    Ok(String::from_str(alloc, "no end")?)
+    Ok(Swept::NoEnd)
+}
+
+// Has a file stop after each number of calls in turn.
+fn sweep(alloc: Global, base: &Disks, setting: Setting, fronts: &Fronts) -> io::Result<Swept> {
+    let mut judge = Judge::new(fronts, setting.options);
+    let mut met = Vec::new(alloc);
+    stops(alloc, base, setting, &mut judge, &mut met)
+}
+
+// Runs the script that the file was left by before the other.
+fn take_script(rt: &HostRuntime, fronts: &mut Fronts, name: &str) -> io::Result<()> {
+    let script = fs::read_to_string(rt, name)?;
+    Ok(fronts.begin_after(rt.alloc(), script.as_str())?)
 }
 
 // Takes a line that names the file with which each run begins, and the script that it was left by.
@@ -107,7 +159,7 @@ fn take_file(
     names: &str,
 ) -> io::Result<()> {
     let (file, script) = names.split_once(" script ").unwrap_or((names, ""));
-    fronts.begin_after(rt.alloc(), fs::read_to_string(rt, script)?.as_str())?;
+    take_script(rt, fronts, script)?;
     *base = disks_in(rt, file)?;
     Ok(())
 }
@@ -139,14 +191,24 @@ fn take_line(
     take_other(rt, base, fronts, line)
 }
 
+// Takes the lines of a file.
+fn take_lines(
+    rt: &HostRuntime,
+    base: &mut Disks,
+    fronts: &mut Fronts,
+    text: &str,
+) -> io::Result<()> {
+    for line in text.lines() {
+        take_line(rt, base, fronts, line)?;
+    }
+    Ok(())
+}
+
 /// Takes the lines of a file: first, where the runs begin with a file of data, that file and the
 /// script that it was left by, then the questions, then the script, and then those that say which
 /// file stops: `log` or `database`, with `tight` after it for little memory.
 pub(crate) fn run_file(rt: &HostRuntime, text: &str) -> io::Result<()> {
-    let mut base = new_desk(rt.alloc());
     let mut fronts = Fronts::new(rt.alloc())?;
-    for line in text.lines() {
-        take_line(rt, &mut base, &mut fronts, line)?;
-    }
-    Ok(())
+    let mut base = new_desk(rt.alloc());
+    take_lines(rt, &mut base, &mut fronts, text)
 }

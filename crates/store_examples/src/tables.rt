@@ -2,15 +2,16 @@
 
 use crate::desk_calls::take_lines;
 use crate::example::Example;
-use crate::schema::number_asked;
 use control_text::number_word;
 use desk_tables::TableDesk;
 use sqlite::{Alter, Connection};
-use sqlite_disk::{Disk, Files};
 use sqlite_pager::Options;
 use std::alloc::Global;
 use std::io;
-use test_desks::{Disks, Made, connected, create, disks_in, files_of, limited, new_disks, open};
+use store_trials::number_asked;
+use test_desks::{
+    ConnectionTask, Disks, Made, create, disks_in, limited, new_disks, open, over_files,
+};
 
 // What is asked of a connection.
 #[derive(Clone, Copy)]
@@ -125,7 +126,7 @@ fn take_all<S: Alter>(alloc: Global, conn: Connection<S>, example: &mut Example)
     conn
 }
 
-// Takes lines where there is no connection, up to one that asks for other files.
+// Takes the lines that are left where there is no connection, up to one that asks for other files.
 fn take_none(example: &mut Example) {
     for _ in 0..example.left() {
         if example.is_at_end() {
@@ -135,50 +136,67 @@ fn take_none(example: &mut Example) {
     }
 }
 
-// Takes the lines of files, up to one that asks for other files, and hands the files back.
-fn take_over<D: Disk + Drop>(alloc: Global, files: Files<D>, example: &mut Example) -> Files<D> {
-    match connected(alloc, files, Options::new(1)) {
-        Ok(conn) => files_of(take_all(alloc, conn, example)),
-        Err(files) => {
-            take_none(example);
-            files
-        }
+// Takes the lines of a connection, up to one that asks for other files.
+struct Lines;
+
+impl ConnectionTask<Example> for Lines {
+    fn run_over<S: Alter>(
+        &self,
+        alloc: Global,
+        conn: Connection<S>,
+        example: &mut Example,
+    ) -> Connection<S> {
+        take_all(alloc, conn, example)
     }
 }
 
-// The files of a line that begins a new database, or that names a file of data.
-fn begun_files(rt: &HostRuntime, example: &mut Example) -> io::Result<Disks> {
-    let files = match example.line().strip_prefix("file ") {
+// The files of a line that names a file of data, or that begins a new database.
+fn begun_files(rt: &HostRuntime, line: &str) -> io::Result<Disks> {
+    match line.strip_prefix("file ") {
         Some(name) => disks_in(rt, name),
         None => Ok(new_disks(rt.alloc())),
-    };
-    example.is_desk = false;
-    example.pass();
-    files
+    }
 }
 
-// Takes a line that asks for other files, and makes them, where it limits calls of those before.
-fn other_files(rt: &HostRuntime, files: &Disks, example: &mut Example) -> io::Result<Disks> {
-    match example.line().strip_prefix("calls-left ") {
-        Some(word) => {
-            let calls = word.parse::<u64>().ok();
-            example.pass();
-            limited(rt.alloc(), files, calls)
-        }
-        None => begun_files(rt, example),
+// The files that a line asks for: those before, with fewer calls, or others.
+fn other_files(rt: &HostRuntime, files: &Disks, line: &str) -> io::Result<Disks> {
+    match line.strip_prefix("calls-left ") {
+        Some(word) => limited(rt.alloc(), files, word.parse::<u64>().ok()),
+        None => begun_files(rt, line),
     }
+}
+
+// Takes a line that asks for other files, which have a desk only if it limits calls of those before.
+fn pass_files(example: &mut Example) {
+    if !example.begins_with("calls-left ") {
+        example.is_desk = false;
+    }
+    example.pass();
+}
+
+// Takes a line that asks for other files, and the lines of those files.
+fn take_files(rt: &HostRuntime, files: &mut Disks, example: &mut Example) -> io::Result<()> {
+    let begun = other_files(rt, files, example.line())?;
+    pass_files(example);
+    *files = over_files(rt.alloc(), begun, Options::new(1), &Lines, example);
+    take_none(example);
+    Ok(())
+}
+
+// Takes all lines.
+fn take_file(rt: &HostRuntime, example: &mut Example) -> io::Result<()> {
+    let mut files = new_disks(rt.alloc());
+    for _ in 0..example.left() {
+        if example.left() > 0 {
+            take_files(rt, &mut files, example)?;
+        }
+    }
+    Ok(())
 }
 
 /// Runs the examples of a file, and prints each line and after it what it is answered.
 pub(crate) fn run_file(rt: &HostRuntime, text: &str) -> io::Result<()> {
-    let alloc = rt.alloc();
-    let mut example = Example::new(alloc, text)?;
-    let mut files = new_disks(alloc);
-    for _ in 0..example.left() {
-        if example.left() > 0 {
-            files = other_files(rt, &files, &mut example)?;
-            files = take_over(alloc, files, &mut example);
-        }
-    }
+    let mut example = Example::new(rt.alloc(), text)?;
+    take_file(rt, &mut example)?;
     example.report.print(rt)
 }

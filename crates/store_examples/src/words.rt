@@ -21,7 +21,7 @@ const CALLS: [&str; 11] = [
 
 /// Makes each call, and tells that they returned.
 pub(crate) fn call_all<S: Records>(alloc: Global, store: &mut S) -> &'static str {
-    for call in CALLS {
+    for call in &CALLS {
         drop(answer_to(alloc, store, call));
     }
     "each call returned"

@@ -1,16 +1,19 @@
 //! How a desk is made over a connection, or found there.
 
-use crate::disks::{Disks, connected, files_of, new_disks};
+use crate::disks::{Disks, new_disks};
+use crate::tasks::{ConnectionTask, over_files};
 use desk_tables::{OpenFault, TableDesk};
 use line_words::LARGEST_NUMBER;
 use sqlite::{Alter, Connection};
-use sqlite_disk::{Disk, Files};
 use sqlite_pager::Options;
 use std::alloc::Global;
 
 /// A desk, or the connection with what kept it from being one: nothing where it was not asked, in a
 /// transaction that is open.
 pub type Made<S> = Result<TableDesk<S>, (Option<OpenFault>, Connection<S>)>;
+
+// Creates a desk, and closes it.
+struct Creation;
 
 /// Creates a desk, whose first bug gets the number that is nearest to this one.
 pub fn create<S: Alter>(alloc: Global, conn: Connection<S>, first: u64) -> Made<S> {
@@ -34,23 +37,21 @@ pub fn open<S: Alter>(alloc: Global, conn: Connection<S>) -> Made<S> {
     }
 }
 
-// Creates a desk, and closes it.
-fn create_on<S: Alter>(alloc: Global, conn: Connection<S>) -> Connection<S> {
-    match create(alloc, conn, 1) {
-        Ok(desk) => desk.close(),
-        Err((_, conn)) => conn,
-    }
-}
-
-// Creates a desk in files, and hands them back.
-fn create_over<D: Disk + Drop>(alloc: Global, files: Files<D>) -> Files<D> {
-    match connected(alloc, files, Options::new(1)) {
-        Ok(conn) => files_of(create_on(alloc, conn)),
-        Err(files) => files,
+impl ConnectionTask<()> for Creation {
+    fn run_over<S: Alter>(
+        &self,
+        alloc: Global,
+        conn: Connection<S>,
+        _told: &mut (),
+    ) -> Connection<S> {
+        match create(alloc, conn, 1) {
+            Ok(desk) => desk.close(),
+            Err((_, conn)) => conn,
+        }
     }
 }
 
 /// Files with a new desk.
 pub fn new_desk(alloc: Global) -> Disks {
-    create_over(alloc, new_disks(alloc))
+    over_files(alloc, new_disks(alloc), Options::new(1), &Creation, &mut ())
 }

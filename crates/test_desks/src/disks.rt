@@ -26,12 +26,17 @@ pub fn file_of(alloc: Global, bytes: &[u8], calls: u64) -> io::Result<Fuse<Memor
     Ok(Fuse::new(file, calls))
 }
 
+/// Files with these bytes, which pass all calls on.
+pub fn files_with(alloc: Global, log: &[u8], db: &[u8]) -> io::Result<Disks> {
+    let log = file_of(alloc, log, u64::MAX)?;
+    let db = file_of(alloc, db, u64::MAX)?;
+    Ok(Files { log, db })
+}
+
 /// A file of data, with an empty log beside it.
 pub fn disks_in(rt: &HostRuntime, name: &str) -> io::Result<Disks> {
-    let alloc = rt.alloc();
-    let log = file_of(alloc, &[], u64::MAX)?;
-    let db = file_of(alloc, &fs::read(rt, name)?, u64::MAX)?;
-    Ok(Files { log, db })
+    let bytes = fs::read(rt, name)?;
+    files_with(rt.alloc(), &[], &bytes)
 }
 
 /// Files with the bytes of these, which pass so many calls on: the log, and the other.
@@ -53,50 +58,5 @@ pub fn connected<D: Disk + Drop>(
     match Connection::open_files(alloc, files, options) {
         Ok(conn) => Ok(conn),
         Err((_, left)) => Err(left.into_files()),
-    }
-}
-
-/// The files of a connection.
-pub fn files_of<D: Disk + Drop>(conn: Connection<FileStore<D>>) -> Files<D> {
-    conn.into_store().close()
-}
-
-// Whether files can be opened.
-fn can_be_opened<D: Disk + Drop>(alloc: Global, files: Files<D>) -> bool {
-    match connected(alloc, files, Options::new(1)) {
-        Ok(conn) => {
-            drop(files_of(conn));
-            true
-        }
-        Err(files) => {
-            drop(files);
-            false
-        }
-    }
-}
-
-// The fewest calls of the log with which files can be opened.
-fn fewest_calls(alloc: Global, disks: &Disks) -> io::Result<u64> {
-    let (mut low, mut high) = (0u64, 512u64);
-    for _ in 0..10 {
-        let middle = low.midpoint(high);
-        if can_be_opened(alloc, copy_of(alloc, disks, middle, u64::MAX)?) {
-            high = middle;
-        } else {
-            low = middle.saturating_add(1);
-        }
-    }
-    Ok(high)
-}
-
-/// Files with the bytes of these, of which the log passes so many calls on once they are opened, or
-/// all of them.
-pub fn limited(alloc: Global, disks: &Disks, calls: Option<u64>) -> io::Result<Disks> {
-    match calls {
-        Some(calls) => {
-            let opening = fewest_calls(alloc, disks)?;
-            copy_of(alloc, disks, opening.saturating_add(calls), u64::MAX)
-        }
-        None => copy_of(alloc, disks, u64::MAX, u64::MAX),
     }
 }

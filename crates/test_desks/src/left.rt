@@ -1,5 +1,6 @@
-//! What a file holds once its use has ended at some call.
+//! What files hold once their use has ended at some call.
 
+use crate::disks::Disks;
 use sqlite_disk::{Crash, Fuse, Memory};
 use std::alloc::{AllocError, Global};
 
@@ -10,11 +11,30 @@ pub struct Left {
     pub synced: Vec<u8>,
 }
 
-/// What a file holds.
-pub fn left_of(alloc: Global, file: Fuse<Memory>) -> Result<Left, AllocError> {
-    let mut file = file;
+/// What the two files of a database hold.
+#[derive(Drop)]
+pub struct BothLeft {
+    pub log: Left,
+    pub db: Left,
+}
+
+// What a file holds, for which the machine stops.
+fn left_of(alloc: Global, file: &mut Fuse<Memory>) -> Result<Left, AllocError> {
     let written = Vec::from_slice(alloc, file.inner().bytes())?;
     file.crash();
     let synced = Vec::from_slice(alloc, file.inner().bytes())?;
     Ok(Left { written, synced })
+}
+
+// What the two files hold, for which the machine stops.
+fn left_by(alloc: Global, files: &mut Disks) -> Result<BothLeft, AllocError> {
+    let log = left_of(alloc, &mut files.log)?;
+    let db = left_of(alloc, &mut files.db)?;
+    Ok(BothLeft { log, db })
+}
+
+/// What the two files of a database hold.
+pub fn both_left(alloc: Global, files: Disks) -> Result<BothLeft, AllocError> {
+    let mut files = files;
+    left_by(alloc, &mut files)
 }

@@ -3,7 +3,7 @@
 use crate::report::Report;
 use desk_run::{Records, ScriptEnd, ScriptFault};
 use std::alloc::{AllocError, Global};
-use test_desks::run_into;
+use test_desks::{DeskTask, run_into};
 
 /// What is asked of each desk at the end.
 const QUESTIONS: &str = "@show 1\n@show 2\n@show 3\n@show 4\n@show 5\n@show 6\n@show 7\n@show 8
@@ -14,7 +14,7 @@ const QUESTIONS: &str = "@show 1\n@show 2\n@show 3\n@show 4\n@show 5\n@show 6\n@
 
 /// What a desk is given to do.
 #[derive(Clone, Copy)]
-pub(crate) enum Task<'a> {
+pub enum Task<'a> {
     Nothing,
     /// A script, and then the questions.
     Script(&'a str),
@@ -25,7 +25,7 @@ pub(crate) enum Task<'a> {
 
 /// What a desk told of a script, and how the script goes where it runs part by part.
 #[derive(Drop)]
-pub(crate) struct Told {
+pub struct Told {
     pub report: Report,
     // Who sends the messages of the next part.
     sender: String,
@@ -48,15 +48,26 @@ fn script_of(alloc: Global, sender: &str, part: &str) -> Result<String, AllocErr
     format!(in alloc; "@from {sender}\n@{part}\n")
 }
 
+impl DeskTask<Told> for Task<'_> {
+    fn run_on<R: Records>(&self, alloc: Global, desk: &mut R, told: &mut Told) {
+        told.run_task(alloc, desk, *self);
+    }
+}
+
 impl Told {
     /// Nothing yet.
-    pub fn new(alloc: Global) -> Result<Told, AllocError> {
-        Ok(Told {
+    pub fn new(alloc: Global) -> Told {
+        Told {
             report: Report::new(alloc),
-            sender: String::from_str(alloc, "nobody")?,
+            sender: String::new(alloc),
             is_refused: false,
             fault: None,
-        })
+        }
+    }
+
+    /// Begins with a script that runs part by part, which nobody sends yet.
+    pub fn begin_parts(&mut self) {
+        self.name("nobody");
     }
 
     // Runs a script, and tells what it writes and how it ends.
@@ -96,8 +107,8 @@ impl Told {
         }
     }
 
-    /// Has a desk do a task, and tells of it.
-    pub fn run_task<R: Records>(&mut self, alloc: Global, desk: &mut R, task: Task<'_>) {
+    // Has a desk do a task, and tells of it.
+    fn run_task<R: Records>(&mut self, alloc: Global, desk: &mut R, task: Task<'_>) {
         match task {
             Task::Nothing => {}
             Task::Script(script) => {

@@ -16,7 +16,7 @@ type Blocks = Vec<Vec<u8>>;
 
 /// Memory that is held back.
 #[derive(Drop)]
-pub(crate) struct Held {
+pub struct Held {
     // All but the room for the runs.
     all: Blocks,
     // What is held of that room during a run.
@@ -35,16 +35,19 @@ fn next_size(size: usize) -> usize {
     }
 }
 
+// Takes a block of this size; whether there was one, and the list had room for it.
+fn take_block(alloc: Global, size: usize, blocks: &mut Blocks) -> bool {
+    match Vec::with_capacity(alloc, size) {
+        Ok(block) => blocks.push(block).is_ok(),
+        Err(_) => false,
+    }
+}
+
 // Takes blocks of this size up to so many in the list; whether there were as many.
 fn take(alloc: Global, size: usize, most: usize, blocks: &mut Blocks) -> bool {
     for _ in blocks.len()..most {
-        match Vec::with_capacity(alloc, size) {
-            Ok(block) => {
-                if blocks.push(block).is_err() {
-                    return false;
-                }
-            }
-            Err(_) => return false,
+        if !take_block(alloc, size, blocks) {
+            return false;
         }
     }
     true
@@ -72,13 +75,11 @@ impl Held {
         }
     }
 
-    /// Nothing yet, with lists that have room for all.
-    pub fn new(alloc: Global) -> Result<Held, AllocError> {
-        let mut held = Held::nothing(alloc);
-        held.all.reserve(MOST_BLOCKS)?;
-        held.rest.reserve(MOST_BLOCKS)?;
-        held.left.reserve(MOST_BLOCKS)?;
-        Ok(held)
+    /// Makes room for all in the lists.
+    pub fn make_room(&mut self) -> Result<(), AllocError> {
+        self.all.reserve(MOST_BLOCKS)?;
+        self.rest.reserve(MOST_BLOCKS)?;
+        self.left.reserve(MOST_BLOCKS)
     }
 
     /// Holds all memory but the room for the runs; whether the list was long enough.

@@ -1,21 +1,21 @@
 //! What a desk in memory tells of each front of a script.
 
-use desk_run::PlainDesk;
+use desk_run::Records;
 use std::alloc::{AllocError, Global};
-use test_desks::{answer_to, run_into};
+use test_desks::{DeskTask, answer_to, in_memory, run_into};
 
 /// What is asked of a desk after the questions: it tells the next number.
 const REPORT: &str = "@report foo - normal the last one\n";
 
 /// What ends the output where the disk fails.
-pub(crate) const DEVICE: &str = "Store fault: device.\n";
+pub const DEVICE: &str = "Store fault: device.\n";
 
 /// What ends the output where the store has no memory.
-pub(crate) const MEMORY: &str = "Store fault: memory.\n";
+pub const MEMORY: &str = "Store fault: memory.\n";
 
 /// The fewest and the most lines that a desk may have carried out.
 #[derive(Clone, Copy)]
-pub(crate) struct Reach {
+pub struct Reach {
     pub fewest: usize,
     pub most: usize,
 }
@@ -23,7 +23,7 @@ pub(crate) struct Reach {
 /// A script, and, of each of its fronts, from no line to all lines, what it writes and how the desk
 /// answers the questions after it.
 #[derive(Drop)]
-pub(crate) struct Fronts {
+pub struct Fronts {
     // What was run on the desk before.
     before: String,
     /// The whole script.
@@ -32,8 +32,14 @@ pub(crate) struct Fronts {
     pub questions: String,
     // Of each line, whether it is a directive.
     directives: Vec<bool>,
-    written: Vec<Vec<u8>>,
-    shown: Vec<Vec<u8>>,
+    fronts: Vec<Front>,
+}
+
+// What a front of a script writes, and how the questions are answered after it.
+#[derive(Drop)]
+struct Front {
+    written: Vec<u8>,
+    shown: Vec<u8>,
 }
 
 // A text that is UTF-8; an empty one where it is not.
@@ -82,6 +88,15 @@ impl Reach {
     }
 }
 
+impl DeskTask<Front> for Fronts {
+    fn run_on<R: Records>(&self, alloc: Global, desk: &mut R, front: &mut Front) {
+        drop(answer_to(alloc, desk, self.before.as_str()));
+        let _ = run_into(alloc, desk, self.script.as_str(), &mut front.written);
+        let _ = run_into(alloc, desk, self.questions.as_str(), &mut front.shown);
+        let _ = run_into(alloc, desk, REPORT, &mut front.shown);
+    }
+}
+
 impl Fronts {
     /// A script of no line yet, on a new desk, and no question.
     pub fn new(alloc: Global) -> Result<Fronts, AllocError> {
@@ -90,8 +105,7 @@ impl Fronts {
             script: String::new(alloc),
             questions: String::new(alloc),
             directives: Vec::new(alloc),
-            written: Vec::new(alloc),
-            shown: Vec::new(alloc),
+            fronts: Vec::new(alloc),
         };
         fronts.note(alloc)?;
         Ok(fronts)
@@ -99,14 +113,12 @@ impl Fronts {
 
     // Notes what the script writes, as far as it goes, and how the questions are answered then.
     fn note(&mut self, alloc: Global) -> Result<(), AllocError> {
-        let mut desk = PlainDesk::new(alloc, 1);
-        drop(answer_to(alloc, &mut desk, self.before.as_str()));
-        let written = answer_to(alloc, &mut desk, self.script.as_str());
-        let mut shown = Vec::new(alloc);
-        let _ = run_into(alloc, &mut desk, self.questions.as_str(), &mut shown);
-        let _ = run_into(alloc, &mut desk, REPORT, &mut shown);
-        self.written.push(written)?;
-        self.shown.push(shown)?;
+        let mut front = Front {
+            written: Vec::new(alloc),
+            shown: Vec::new(alloc),
+        };
+        in_memory(alloc, self, &mut front);
+        self.fronts.push(front)?;
         Ok(())
     }
 
@@ -114,8 +126,7 @@ impl Fronts {
     fn begin(&mut self, alloc: Global) -> Result<(), AllocError> {
         self.script.clear();
         self.directives.clear();
-        self.written.clear();
-        self.shown.clear();
+        self.fronts.clear();
         self.note(alloc)
     }
 
@@ -163,13 +174,13 @@ impl Fronts {
 
     /// How many lines there are.
     pub fn lines(&self) -> usize {
-        self.written.len().saturating_sub(1)
+        self.fronts.len().saturating_sub(1)
     }
 
     // What so many lines write; nothing where there are fewer.
     fn written(&self, lines: usize) -> Option<&str> {
-        match self.written.get(lines) {
-            Some(written) => Some(text_in(written.as_slice())),
+        match self.fronts.get(lines) {
+            Some(front) => Some(text_in(&front.written)),
             None => None,
         }
     }
@@ -194,7 +205,7 @@ impl Fronts {
     /// were answered, as many as they may be, or after one more.
     pub fn failed(&self, text: &[u8], fault: &str) -> Option<Reach> {
         let mut reach = None;
-        for lines in 0..self.written.len() {
+        for lines in 0..self.fronts.len() {
             if self.fails_after(lines, text_in(text), fault) {
                 reach = Some(Reach::around(lines));
             }
@@ -221,7 +232,7 @@ impl Fronts {
     /// answered, or after some of the part that follows, which has no answer then.
     pub fn ran_out(&self, text: &[u8]) -> Option<Reach> {
         let mut reach: Option<Reach> = None;
-        for lines in 0..self.written.len() {
+        for lines in 0..self.fronts.len() {
             if self.written(lines) == Some(text_in(text)) {
                 let fewest = match reach {
                     Some(earlier) => earlier.fewest,
@@ -236,8 +247,8 @@ impl Fronts {
 
     // How all questions are answered after so many lines.
     fn shown(&self, lines: usize) -> &str {
-        match self.shown.get(lines) {
-            Some(shown) => text_in(shown.as_slice()),
+        match self.fronts.get(lines) {
+            Some(front) => text_in(&front.shown),
             None => "",
         }
     }

@@ -5,7 +5,7 @@ use std::io;
 
 /// What is told, and whether there was memory for all of it.
 #[derive(Drop)]
-pub(crate) struct Report {
+pub struct Report {
     pub text: Vec<u8>,
     is_whole: bool,
 }

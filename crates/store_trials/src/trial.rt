@@ -8,11 +8,11 @@ use sqlite::{Alter, Connection};
 use sqlite_disk::{Disk, Files};
 use sqlite_pager::Options;
 use std::alloc::{AllocError, Global};
-use test_desks::{connected, files_of, open, run_into};
+use test_desks::{ConnectionTask, DeskTask, in_memory, on_made, open, over_files, run_into};
 
 /// What a script wrote, how it ended, and how often the store failed.
 #[derive(Drop)]
-pub(crate) struct Trial {
+pub struct Trial {
     pub text: Vec<u8>,
     /// What the questions were answered after the script.
     pub shown: Vec<u8>,
@@ -26,10 +26,27 @@ pub(crate) struct Trial {
 
 /// What is done on a desk.
 #[derive(Clone, Copy)]
-pub(crate) struct Work<'a> {
+pub struct Work<'a> {
     pub script: &'a str,
     /// What the desk is asked after it.
     pub questions: &'a str,
+}
+
+impl DeskTask<Trial> for Work<'_> {
+    fn run_on<R: Records>(&self, alloc: Global, desk: &mut R, trial: &mut Trial) {
+        trial.run(alloc, desk, *self);
+    }
+}
+
+impl ConnectionTask<Trial> for Work<'_> {
+    fn run_over<S: Alter>(
+        &self,
+        alloc: Global,
+        conn: Connection<S>,
+        trial: &mut Trial,
+    ) -> Connection<S> {
+        on_made(alloc, open(alloc, conn), self, trial)
+    }
 }
 
 // Whether a question that fails is counted, and another is not.
@@ -52,11 +69,16 @@ impl Trial {
         }
     }
 
+    // Makes room for what the script writes, and for the lists of the memory that is held.
+    fn make_room(&mut self, room: usize) -> Result<(), AllocError> {
+        self.text.reserve(room)?;
+        self.held.make_room()
+    }
+
     /// No script yet, with room for what it writes, and for the lists of the memory that is held.
     pub fn with_room(alloc: Global, room: usize) -> Result<Trial, AllocError> {
         let mut trial = Trial::new(alloc);
-        trial.text.reserve(room)?;
-        trial.held = Held::new(alloc)?;
+        trial.make_room(room)?;
         Ok(trial)
     }
 
@@ -75,9 +97,9 @@ impl Trial {
         desk.faults() == faults.saturating_add(u64::from(is_device))
     }
 
-    /// Runs a script on a desk with the memory that is left, and then, with all of it, asks for the
-    /// next number three times, and the questions.
-    pub fn run<R: Records>(&mut self, alloc: Global, desk: &mut R, work: Work<'_>) {
+    // Runs a script on a desk with the memory that is left, and then, with all of it, asks for the
+    // next number three times, and the questions.
+    fn run<R: Records>(&mut self, alloc: Global, desk: &mut R, work: Work<'_>) {
         self.end = Some(run_into(alloc, desk, work.script, &mut self.text));
         self.held.give_back();
         self.faults = desk.faults();
@@ -85,21 +107,9 @@ impl Trial {
         self.counts_well = self.ask(alloc, desk, work.questions) && self.counts_well;
     }
 
-    // Opens the desk, runs a script on it, and closes it.
-    fn run_on<S: Alter>(
-        &mut self,
-        alloc: Global,
-        conn: Connection<S>,
-        work: Work<'_>,
-    ) -> Connection<S> {
-        match open(alloc, conn) {
-            Ok(desk) => {
-                let mut desk = desk;
-                self.run(alloc, &mut desk, work);
-                desk.close()
-            }
-            Err((_, conn)) => conn,
-        }
+    /// Runs a script on a new desk in memory.
+    pub fn run_in_memory(&mut self, alloc: Global, work: Work<'_>) {
+        in_memory(alloc, &work, self);
     }
 
     /// Opens the desk in files, runs a script on it, and hands the files back.
@@ -110,10 +120,7 @@ impl Trial {
         options: Options,
         work: Work<'_>,
     ) -> Files<D> {
-        match connected(alloc, files, options) {
-            Ok(conn) => files_of(self.run_on(alloc, conn, work)),
-            Err(files) => files,
-        }
+        over_files(alloc, files, options, &work, self)
     }
 
     /// Whether the whole script ran.

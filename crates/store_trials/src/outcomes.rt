@@ -3,15 +3,14 @@
 use crate::fronts::{Fronts, Reach};
 use crate::look::Look;
 use crate::schema::Schema;
-use sqlite_disk::Files;
 use sqlite_pager::Options;
 use std::alloc::Global;
 use std::io;
-use test_desks::{Disks, file_of, left_of};
+use test_desks::BothLeft;
 
 /// The schemas under which desks were found.
 #[derive(Clone, Copy)]
-pub(crate) struct Found {
+pub struct Found {
     pub first: bool,
     pub second: bool,
     pub third: bool,
@@ -19,7 +18,7 @@ pub(crate) struct Found {
 
 /// What the desks in files are compared with, and what was found of them.
 #[derive(Clone, Copy)]
-pub(crate) struct Judge<'a> {
+pub struct Judge<'a> {
     pub fronts: &'a Fronts,
     pub options: Options,
     pub found: Found,
@@ -50,16 +49,17 @@ impl<'a> Judge<'a> {
         found != Schema::Other
     }
 
-    // What the files with these bytes show.
-    fn look(&self, alloc: Global, log: &[u8], db: &[u8]) -> io::Result<Look> {
+    // Whether a look saw a desk in this reach, under one of the schemas, and under schema 3 once it
+    // was opened.
+    fn is_well(&mut self, look: &Look, reach: Reach) -> bool {
+        let is_found = self.note(look.found);
+        is_found && look.left == Schema::Third && self.fronts.shows(reach, &look.text)
+    }
+
+    // Looks at the files with these bytes.
+    fn look(&self, alloc: Global, log: &[u8], db: &[u8], look: &mut Look) -> io::Result<()> {
         let questions = self.fronts.all_questions(alloc)?;
-        let files = Files {
-            log: file_of(alloc, log, u64::MAX)?,
-            db: file_of(alloc, db, u64::MAX)?,
-        };
-        let mut look = Look::new(alloc);
-        drop(look.look_over(alloc, files, self.options, questions.as_str()));
-        Ok(look)
+        look.look_at(alloc, log, db, self.options, questions.as_str())
     }
 
     /// Whether the files with these bytes have a desk in this reach, under one of the schemas, and
@@ -71,21 +71,19 @@ impl<'a> Judge<'a> {
         db: &[u8],
         reach: Reach,
     ) -> io::Result<bool> {
-        let look = self.look(alloc, log, db)?;
-        let is_found = self.note(look.found);
-        Ok(is_found && look.left == Schema::Third && self.fronts.shows(reach, &look.text))
+        let mut look = Look::new(alloc);
+        self.look(alloc, log, db, &mut look)?;
+        Ok(self.is_well(&look, reach))
     }
 
     /// Whether there is such a desk, whichever of the files loses what was not synced.
     pub fn is_always_shown(
         &mut self,
         alloc: Global,
-        files: Disks,
+        left: &BothLeft,
         reach: Reach,
     ) -> io::Result<bool> {
-        let Files { log, db } = files;
-        let log = left_of(alloc, log)?;
-        let db = left_of(alloc, db)?;
+        let BothLeft { log, db } = left;
         let is_kept = self.is_shown(alloc, &log.written, &db.written, reach)?;
         let is_back = self.is_shown(alloc, &log.synced, &db.synced, reach)?;
         let is_log_kept = self.is_shown(alloc, &log.written, &db.synced, reach)?;

@@ -130,7 +130,7 @@ const WRONG: [&str; 28] = [
 
 /// Makes random scripts, one after another.
 #[derive(Drop)]
-pub(crate) struct Maker {
+pub struct Maker {
     random: Pcg32,
     // How many bugs there may be, and how many names the message has given.
     bugs: u32,

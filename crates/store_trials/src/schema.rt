@@ -4,7 +4,7 @@ use sqlite::{Alter, Connection};
 
 /// Under which schema the tables of a desk are.
 #[derive(Clone, Copy, PartialEq, Eq, Drop)]
-pub(crate) enum Schema {
+pub enum Schema {
     /// Schema 1, with no table of the packages that are affected.
     First,
     /// Schema 2, with that table, and with none of messages.
@@ -16,7 +16,7 @@ pub(crate) enum Schema {
 
 /// The number that the first row has in its first column; nothing where there is none, or where the
 /// question is refused.
-pub(crate) fn number_asked<S: Alter>(conn: &mut Connection<S>, sql: &str) -> Option<u64> {
+pub fn number_asked<S: Alter>(conn: &mut Connection<S>, sql: &str) -> Option<u64> {
     match conn.query_row(sql, &[]) {
         Ok(row) => row.get::<u64>(0).ok(),
         Err(_) => None,
@@ -24,7 +24,7 @@ pub(crate) fn number_asked<S: Alter>(conn: &mut Connection<S>, sql: &str) -> Opt
 }
 
 /// Under which schema the tables are.
-pub(crate) fn schema_of<S: Alter>(conn: &mut Connection<S>) -> Schema {
+pub fn schema_of<S: Alter>(conn: &mut Connection<S>) -> Schema {
     let number = number_asked(conn, "SELECT schema FROM meta");
     let affected = number_asked(conn, "SELECT count(*) FROM affects");
     let messages = number_asked(conn, "SELECT count(*) FROM messages");

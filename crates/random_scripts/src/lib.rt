@@ -1,0 +1,6 @@
+//! Random scripts for tests.
+#![tactic(auto)]
+
+mod lines;
+
+pub use lines::Maker;

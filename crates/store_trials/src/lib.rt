@@ -1,0 +1,21 @@
+//! Scripts over desks: what each desk tells of them, and, where its disk stops or its memory is
+//! short, what the desk may be then.
+#![tactic(auto)]
+
+mod fronts;
+mod held;
+mod look;
+mod outcomes;
+mod report;
+mod schema;
+mod told;
+mod trial;
+
+pub use fronts::{Fronts, Reach};
+pub use held::Held;
+pub use look::{Look, schema_in};
+pub use outcomes::{Found, Judge};
+pub use report::Report;
+pub use schema::{Schema, number_asked};
+pub use told::{Task, Told};
+pub use trial::{Trial, Work};
