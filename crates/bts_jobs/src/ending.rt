@@ -32,7 +32,7 @@ pub enum Cause {
     InUse,
     /// The store's file is no desk.
     NotADesk,
-    /// The store's file has this number of a desk's schema, above 2: a later version made it.
+    /// The store's file has this number of a desk's schema, above 3: a later version made it.
     NewerSchema(u64),
     /// A desk is to be made, and the store's file holds one, or a table with the name of one of a
     /// desk's.

@@ -166,7 +166,7 @@ pub fn create_desk<S: Start>(
 /// `CannotOpen` where the system does not open it, as a folder, or without the rights;
 /// `NotADesk` where it is empty, no database, a damaged one, or one of something else;
 /// `NewerSchema` where a later version made it; `Store` of the fault where the store failed, and
-/// never `Store(Foreign)`.
+/// `Store(Foreign)` where its tables say schema 1 or 2 and are no desk's.
 pub fn open_desk<S: Start>(rt: &HostRuntime, start: S, path: &str) -> Result<FileDesk<S>, Cause>
     ensures cause { IfErr result IsOpenCause }
     ensures opened { IfOk result (IsOpenedInFile (image_at S.Start)) }

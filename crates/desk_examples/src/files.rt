@@ -75,8 +75,8 @@ fn run_and_drop(rt: &HostRuntime, rest: &str) -> io::Result<Option<&'static str>
 /// `folder NAME` makes a folder, and `remove folder NAME` removes one that is empty;
 /// `write NAME: TEXT` makes a file, whose text has the signs of requests;
 /// `look at NAME` keeps what a file holds, and `as seen NAME` compares it with what it holds then;
-/// `sql NAME: TEXT` carries SQL out, and `drop NAME: TEXT` runs a script over a desk that is dropped
-/// then.
+/// `sql NAME: TEXT` carries SQL out, and `drop NAME: TEXT` runs a script over a desk that is
+/// dropped then.
 pub(crate) fn answer(
     rt: &HostRuntime,
     seen: &mut Vec<u8>,

@@ -109,7 +109,8 @@ pub fn exchange<S: Records, R: Read>(
 /// 411, 413, 501 and a wrong length), nor once the head is wrong; and none of a body takes a byte
 /// after it.
 /// `POST /bugs`, `/control` and `/branches`, `GET /bugs/{n}` and `/list/{package}/{version}` are
-/// answered 200, 201, or 400 or 404 where they are refused; what is no such request is answered 400
+/// answered 200, 201, or 400 or 404 where they are refused, and a message 409 whose id stands for
+/// another; what is no such request is answered 400
 /// for its head, 404, 405, 501, 411, 400 or 413 for its length, or 400 for its body, in this order.
 /// A head that is wrong is answered 400, whatever the store, and takes no memory.
 /// Where the store fails, or there is no memory, the answer is 500, and nothing has changed, except

@@ -69,8 +69,9 @@ fn by_severity(alloc: Global, rows: &[ListRow]) -> Result<Sequence<ListRow>, All
 }
 
 impl BugSets {
-    /// The bugs of a package that are not archived and are found at a node, by severity, from
-    /// critical to wishlist, and then by number; each bug of a set stands by itself.
+    /// The bugs of a package, and those that affect it, that are not archived and are found at a
+    /// node, by severity, from critical to wishlist, and then by number; each bug of a set stands
+    /// by itself.
     /// The node's line is taken once, and each set is looked at once: each of its marks is looked
     /// up in the line.
     /// The only error is that there is no memory for the rows.

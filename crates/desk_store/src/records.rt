@@ -82,8 +82,9 @@ pub trait Records {
         ensures stays { keeping self.new ≡ keeping self.old }
         ensures count { faults self.new ≡ faults_after result (faults self.old) };
 
-    /// The bugs of a package that are not archived and are found at a node, by severity, from
-    /// critical to wishlist, and then by number; each bug of a set stands by itself.
+    /// The bugs of a package, and those that affect it, that are not archived and are found at a
+    /// node, by severity, from critical to wishlist, and then by number; each bug of a set stands
+    /// by itself.
     /// The node's source may be another package.
     /// This is this project's own rule.
     /// Its errors are the store's faults, and `Memory` where there is none for the rows.

@@ -88,8 +88,9 @@ impl<S: Alter> Records for TableDesk<S> {
         self.counts.note(answer)
     }
 
-    /// The bugs of a package that are not archived and are found at a node, by severity, from
-    /// critical to wishlist, and then by number; each bug of a set stands by itself.
+    /// The bugs of a package, and those that affect it, that are not archived and are found at a
+    /// node, by severity, from critical to wishlist, and then by number; each bug of a set stands
+    /// by itself.
     /// It looks at the marks of each such set and one row of nearest marks, and reads no tree.
     /// Its errors are the store's faults, and `Memory` where there is none for the rows.
     fn listed(&mut self, package: &str, node: &Node) -> Result<Sequence<ListRow>, StoreFault>

@@ -80,8 +80,8 @@ fn what_is_left_unread_is_drained_so_that_no_answer_is_lost(rt: HostRuntime) -> 
     Ok(())
 }
 
-// Whether a server whose store fails at its first change ends as that fault, and one after it serves
-// the next connection.
+// Whether a server whose store fails at its first change ends as that fault, and one after it
+// serves the next connection.
 fn fails_and_goes_on(rt: &HostRuntime, listener: &TcpListener) -> bool {
     let alloc = rt.alloc();
     let mut store = FailAt::new(PlainDesk::new(alloc, 1), 1);

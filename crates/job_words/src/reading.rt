@@ -13,17 +13,18 @@ use std::alloc::Global;
 /// them.
 ///
 /// The leading words that begin with `-` are options, which `clap` reads: `--store=FILE`,
-/// `--from=TEXT`, `--port=N`, `--count=N`, `--first=N`, and `--help` or `-h`.
+/// `--from=TEXT`, `--id=TEXT`, `--port=N`, `--count=N`, `--first=N`, and `--help` or `-h`.
 /// The other words are the command.
 /// `run`, `init` and `serve` are meant where it is that one word, in lower case; no word means
 /// `run`, and any other words are the lines of a message, in the manner of bts(1).
 ///
 /// `run` has the option `--store`; `init` has `--store`, which is required, and `--first`, which is
 /// 1 where it is not given; `serve` has `--port`, which is required, `--store` and `--count`, which
-/// is 1,000,000 where it is not given; a message has `--store` and `--from`, both required.
+/// is 1,000,000 where it is not given; a message has `--store` and `--from`, both required, and
+/// `--id`.
 /// Numbers are ASCII digits: 1 to 65,535 for a port, 1 to 1,000,000 for a count, 1 to 999,999,999
 /// for a first bug.
-/// A sender is a text of 1 to 200 bytes.
+/// A sender is a text of 1 to 200 bytes, and an id 1 to 100 visible ASCII characters.
 ///
 /// # Errors
 ///

@@ -166,7 +166,8 @@ fn other_files(rt: &HostRuntime, files: &Disks, line: &str) -> io::Result<Disks>
     }
 }
 
-// Takes a line that asks for other files, which have a desk only if it limits calls of those before.
+// Takes a line that asks for other files, which have a desk only if it limits the calls of those
+// before.
 fn pass_files(example: &mut Example) {
     if !example.begins_with("calls-left ") {
         example.is_desk = false;
