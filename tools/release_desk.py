@@ -152,7 +152,7 @@ def asked(program, store, script, read):
     except Unexpected as error:
         for _ in itertools.islice(lines, MOST_DRAINED):
             pass
-        raise Fault(f"{program}: it answered {str(error)[:100]!r}: it is no desk") from error
+        raise Fault(f"{program}: it answered {str(error)[:100]!r}, as no desk does") from error
     finally:
         lines.close()
 
@@ -239,7 +239,7 @@ class PortDesk:
 
     def no_desk(self, answer):
         """The fault of an answer that no desk gives."""
-        return Fault(f"port {self.port}: no desk is served there: answered {str(answer)[:100]!r}")
+        return Fault(f"port {self.port}: it answered {str(answer)[:100]!r}, as no desk does")
 
     def get(self, path):
         """The status of an answer, and the lines of its body."""
@@ -247,7 +247,9 @@ class PortDesk:
         try:
             connection.request("GET", path)
             response = connection.getresponse()
-            body = response.read(LARGEST_ANSWER)
+            if response.length is None or response.length > LARGEST_ANSWER:
+                raise Unexpected("a body of no length")
+            body = response.read()
         except http.client.HTTPException as error:
             raise Unexpected(repr(error)) from error
         except TimeoutError as error:
@@ -285,7 +287,7 @@ class PortDesk:
 
     def lists(self, questions):
         """For each source and version the bugs of its list, and why it is refused."""
-        refusal = [], "the desk refuses it with 404"
+        refusal = [], "the server answers 404: a bad name or version"
         for question in questions:
             source, version = (urllib.parse.quote(word, safe="") for word in question)
             path = f"/list/{source}/{source}/{version}"

@@ -9,7 +9,6 @@ import gzip
 import io
 import itertools
 import lzma
-import sys
 import unicodedata
 import zlib
 from typing import NamedTuple
@@ -166,11 +165,11 @@ def entries(path):
             yield from read(path, itertools.chain([(number, line)], lines))
 
 
-def candidates(path, packages, tell):
+def candidates(path, packages, refuse):
     """The versions of each source of an index, with their lines, as {source: {version: line}}.
 
     Where packages are named, only those count.
-    Words that are too long for a question are told and left out.
+    Words that are too long for a question are handed on, and left out.
     """
     found, count, is_empty = {}, 0, True
     for entry in entries(path):
@@ -178,7 +177,7 @@ def candidates(path, packages, tell):
         if packages and entry.source not in packages:
             continue
         if max(len(entry.source.encode()), len(entry.version.encode())) > LONGEST_WORD:
-            tell(left_out(path, entry, f"a word of more than {LONGEST_WORD} bytes"))
+            refuse(entry, f"a word of more than {LONGEST_WORD} bytes")
             continue
         versions = found.setdefault(entry.source, {})
         count += entry.version not in versions
@@ -192,12 +191,6 @@ def candidates(path, packages, tell):
     return found
 
 
-def left_out(path, entry, reason):
-    """What is told of an entry that is left out."""
-    words = shown(f"{entry.source} {entry.version}"[:100])
-    return f"{path}:{entry.line}: {words} is left out: {reason}"
-
-
 def shown(text):
     """A text on one line, without what would steer a terminal."""
     if text.isprintable():
@@ -206,8 +199,3 @@ def shown(text):
         letter if letter.isprintable() or letter == "\t" or unicodedata.category(letter) == "Zs"
         else letter.encode("unicode_escape").decode()
         for letter in text)
-
-
-def tell(text):
-    """Tells something on standard error."""
-    print(f"release: {text}", file=sys.stderr)

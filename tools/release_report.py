@@ -8,7 +8,7 @@ import collections
 import dataclasses
 
 from release_desk import SEVERITIES
-from release_index import Entry, left_out
+from release_index import Entry, shown
 
 CRITICAL = "serious"
 MOST_SHOWN = 10
@@ -23,6 +23,7 @@ def at_least(severity):
 class Suite:
     """A suite: its packages and their versions, with the lines of its index, and their bugs.
 
+    `refused` has the entries that the desk refuses, each with its words.
     `numbers` has the numbers of all bugs by severity, and `critical` how many release-critical bugs
     each package has; `listed` has the bugs of the severities that are listed, by package.
     """
@@ -31,6 +32,7 @@ class Suite:
     path: str
     versions: dict
     lines: dict
+    refused: list
     numbers: dict = dataclasses.field(
         default_factory=lambda: {severity: set() for severity in SEVERITIES})
     critical: collections.Counter = dataclasses.field(default_factory=collections.Counter)
@@ -46,6 +48,17 @@ class Suite:
         kept = [bug for bug in bugs if bug.severity in listed]
         if kept:
             self.listed[package] = kept
+
+    def leave_out(self, package, reason):
+        """Leaves out a package that the desk refuses."""
+        entry = Entry(package, self.versions.pop(package), self.lines[package])
+        self.refused.append((entry, reason))
+
+    def told_refusals(self):
+        """What is told of the entries that are left out, in their order."""
+        for entry, reason in sorted(self.refused, key=lambda refused: refused[0].line):
+            words = shown(f"{entry.source} {entry.version}"[:100])
+            yield f"{self.path}:{entry.line}: {words} is left out: {reason}"
 
     def count(self, severities=SEVERITIES):
         """How many bugs of these severities are in the suite."""
@@ -70,7 +83,7 @@ def questions_of(suites):
     return having
 
 
-def gather(desk, suites, listed, tell, progress):
+def gather(desk, suites, listed, progress):
     """Asks the desk for the lists of all packages, and puts the answers to their suites."""
     having = questions_of(suites)
     questions = sorted(having)
@@ -79,15 +92,8 @@ def gather(desk, suites, listed, tell, progress):
             if refusal is None:
                 suite.take(question[0], bugs, listed)
             else:
-                refuse(suite, question, refusal, tell)
+                suite.leave_out(question[0], refusal)
         progress(len(questions), "lists")
-
-
-def refuse(suite, question, refusal, tell):
-    """Leaves a package out of a suite."""
-    package, version = question
-    del suite.versions[package]
-    tell(left_out(suite.path, Entry(package, version, suite.lines[package]), refusal))
 
 
 def listed_numbers(suites):

@@ -164,6 +164,7 @@ def suite_value(suite):
         ],
         "versions": {package: suite.versions[package] for package in suite.listed_packages()},
         "listed": bugs_value(suite.listed),
+        "refused": [{**entry._asdict(), "reason": reason} for entry, reason in suite.refused],
     }
 
 
