@@ -37,10 +37,10 @@ table { border-collapse: collapse; margin: 0.5rem 0 }
 caption { text-align: left; font-weight: bold; padding: 0.2rem 0 }
 th, td { padding: 0.15rem 0.6rem; text-align: left; vertical-align: top }
 thead th { border-bottom: 1px solid #bbb }
-tbody th { background: #eef1f5; font-weight: bold }
+td.package { background: #eef1f5; font-weight: bold }
 td.count, th.count { text-align: right; font-variant-numeric: tabular-nums; white-space: nowrap }
-tr.sum td, tr.sum th { border-top: 1px solid #bbb; font-weight: bold; background: none }
-td.text, th, pre, h1, h2, summary, nav li { overflow-wrap: anywhere }
+tr.sum td { border-top: 1px solid #bbb; font-weight: bold }
+td.text, td.package, th, pre, h1, h2, summary, nav li { overflow-wrap: anywhere }
 table.bugs { width: 100%; table-layout: fixed }
 table.bugs th.number { width: 6rem } table.bugs th.severity { width: 6rem }
 table.bugs th.state { width: 3.5rem }
@@ -83,8 +83,8 @@ def figures(suite, most):
     for name in SEVERITIES:
         count = suite.count([name])
         yield f'<tr><td>{name}<td class="count">{count:,}<td>{bar(count, most, name)}'
-    yield sum_row("release-critical", [suite.count(at_least(CRITICAL))])
-    yield sum_row("all", [suite.count()])
+    yield sum_row("release-critical", [suite.count(at_least(CRITICAL))]) + "<td>"
+    yield sum_row("all", [suite.count()]) + "<td>"
     yield "</tbody></table>"
 
 
@@ -123,8 +123,8 @@ def suite_part(place, suite, severity):
 
 def most_table(suite):
     """The packages with the most release-critical bugs."""
-    yield "<table><caption>Packages with the most release-critical bugs</caption>"
-    yield '<thead><tr><th>Package<th>Version<th class="count">Bugs</thead><tbody>'
+    yield "<h3>Packages with the most release-critical bugs</h3>"
+    yield '<table><thead><tr><th>Package<th>Version<th class="count">Bugs</thead><tbody>'
     for package, count in suite.most():
         yield f'<tr><td class="text">{text(package)}<td class="text">'
         yield f'{text(suite.versions[package])}<td class="count">{count:,}'
@@ -139,7 +139,7 @@ def bug_table(bugs, heading):
     yield '<table class="bugs"><thead><tr><th class="number count">Bug<th class="severity">Severity'
     yield '<th class="state">State<th>Title</thead>'
     for package in sorted(bugs):
-        yield f'<tbody><tr><th colspan="4">{heading(package)}'
+        yield f'<tbody><tr><td class="package" colspan="4">{heading(package)}'
         yield from map(bug_row, bugs[package])
         yield "</tbody>"
     yield "</table>"

@@ -49,7 +49,7 @@ def random_day(chance):
     for _ in range(60):
         severity = chance.choice(release_desk.SEVERITIES)
         yield f"@report {chance.choice(PACKAGES)} {chance.choice('1234-')} {severity} x"
-    for _ in range(60):
+    for _ in range(120):
         number, version = chance.randint(1, 60), chance.choice("1234")
         yield chance.choice((
             f"close {number} {version}", f"fixed {number} {version}", f"found {number} {version}",
@@ -177,7 +177,7 @@ class OverFile(unittest.TestCase):
 
     def test_random(self):
         """Over random desks the counts are those of `@list`, counted from its text."""
-        chance = random.Random(8)
+        chance, repeated = random.Random(8), 0
         for name in ("one", "two", "three"):
             store = make_desk(self.folder, "\n".join(random_day(chance)), name)
             suite = [f"{package} {chance.choice('1234')}" for package in PACKAGES]
@@ -188,13 +188,14 @@ class OverFile(unittest.TestCase):
             listed, _ = run([desks.program(), f"--store={store}", "run"], asked)
             words = [line.split() for line in listed.split("\n") if line.startswith(" ")]
             severities = {row[0]: row[1] for row in words}
-            self.assertGreater(len(words), len(severities))
+            repeated += len(words) - len(severities)
             self.assertEqual(told["bugs"], len(severities))
             self.assertEqual(told["severities"], {
                 severity: list(severities.values()).count(severity)
                 for severity in release_desk.SEVERITIES})
             numbers = [str(bug["number"]) for bugs in told["listed"].values() for bug in bugs]
             self.assertEqual(sorted(numbers), sorted(row[0] for row in words))
+        self.assertGreater(repeated, 0)
 
 
 class OverPort(unittest.TestCase):
