@@ -23,13 +23,14 @@ from release_text import (
     versions_told,
 )
 
-BAR_WIDTH, BAR_HEIGHT = 220, 12
+BAR_WIDTH, BAR_HEIGHT = 130, 12
 # A longer table of versions is folded up.
 MOST_ROWS = 100
 CONTROL = re.compile("[\x00-\x08\x0b-\x1f\x7f-\x9f]")
 STYLE = """
 body { margin: 1.5rem auto; max-width: 76rem; padding: 0 1rem; line-height: 1.4;
-  font-family: "DejaVu Sans", Verdana, sans-serif; font-size: 0.95rem; color: #222; background: #fff }
+  font-family: "DejaVu Sans", Verdana, sans-serif; font-size: 0.95rem;
+  color: #222; background: #fff }
 h1 { font-size: 1.6rem } h2 { margin-top: 2.5rem; border-bottom: 1px solid #bbb }
 h3 { margin-bottom: 0.4rem }
 a { color: #0645ad }
@@ -44,7 +45,7 @@ td.text, td.package, th, pre, h1, h2, summary, nav li { overflow-wrap: anywhere 
 table.bugs { width: 100%; table-layout: fixed }
 table.bugs th.number { width: 6rem } table.bugs th.severity { width: 6rem }
 table.bugs th.state { width: 3.5rem }
-.figures { display: flex; flex-wrap: wrap; gap: 0.5rem 3rem; align-items: start }
+.figures { display: flex; flex-wrap: wrap; gap: 0.5rem 2rem; align-items: start }
 pre { white-space: pre-wrap; background: #f6f6f6; padding: 0.6rem; margin: 0.3rem 0 }
 svg { display: block; margin-top: 0.3rem }
 .critical { fill: #8b0000 } .grave { fill: #c62828 } .serious { fill: #ef6c3a }

@@ -75,7 +75,8 @@ class CheckDesk(unittest.TestCase):
             self.assertEqual(run([TOOLS / "check_desk", store])[0], f"{store}: in order\n")
             with sqlite3.connect(store) as connection:
                 (count,) = connection.execute("SELECT count(*) FROM nearest").fetchone()
-                connection.execute("DELETE FROM nearest WHERE rowid = (SELECT min(rowid) FROM nearest)")
+                first = "(SELECT min(rowid) FROM nearest)"
+                connection.execute(f"DELETE FROM nearest WHERE rowid = {first}")
             connection.close()
             self.assertGreater(count, 1)
             output, _ = run([TOOLS / "check_desk", store], status=1)
@@ -125,7 +126,8 @@ class CheckOptions(unittest.TestCase):
         told, _ = run([desks.program(), "--help"])
         with folder() as place:
             program = pathlib.Path(place, "program")
-            program.write_text(f"#!/bin/sh\ncat <<'END'\n{told.replace('--store', '--stow')}\nEND\n")
+            wrong = told.replace("--store", "--stow")
+            program.write_text(f"#!/bin/sh\ncat <<'END'\n{wrong}\nEND\n")
             program.chmod(0o755)
             output, _ = run([TOOLS / "check_options", program], status=1)
             self.assertIn("store", output)

@@ -2,6 +2,7 @@
 
 import gzip
 import lzma
+import os
 import unittest
 import unittest.mock
 
@@ -109,13 +110,15 @@ class Index(unittest.TestCase):
     def test_faults(self):
         """Each index that is cut or none is told with its line."""
         cut = ":4: a paragraph without its package or version: it may be cut"
+        no_end = ":5: it is cut: its last line has no end"
+        second = ":3: a second field package in its paragraph"
         for content, told in (
             ("", ": there is no package in it"),
             ("\n# nothing\n", ": there is no package in it"),
-            ("Package: aa\nVersion: 1\n\nPackage: bb\nVersi", ":5: it is cut: its last line has no end"),
+            ("Package: aa\nVersion: 1\n\nPackage: bb\nVersi", no_end),
             ("Package: aa\nVersion: 1\n\nPackage: bb\n", cut),
             ("Package: aa\nVersion: 1\n\nVersion: 2\n\n", cut),
-            ("Package: aa\nVersion: 1\nPackage: bb\n", ":3: a second field package in its paragraph"),
+            ("Package: aa\nVersion: 1\nPackage: bb\n", second),
             ("Package: aa\nVersion\n", ":2: no field of a paragraph"),
             ("aa 1\nbb\n", ":2: neither a source and a version, nor a field"),
             ("aa 1\nbb 1 2\n", ":2: neither a source and a version, nor a field"),
@@ -131,12 +134,15 @@ class Index(unittest.TestCase):
             packed = pack(SOURCES.encode())
             for length in range(1, len(packed)):
                 told = self.fault(packed[:length])
-                self.assertRegex(told, "^: it (is cut: its packed data has no end|can't be unpacked)")
+                self.assertRegex(told, "^: it (is cut: its packed data|can't be unpacked)")
 
     def test_paths(self):
         """A folder, and a path where nothing is."""
         with desks.folder() as folder:
-            for path, told in ((folder, "Is a directory"), (f"{folder}/x", "No such file or directory")):
+            missing = os.path.join(folder, "x")
+            for path, told in (
+                (folder, "Is a directory"), (missing, "No such file or directory"),
+            ):
                 with self.assertRaises(Fault) as raised:
                     candidates(path, (), None)
                 self.assertEqual(str(raised.exception), f"{path}: it can't be read: {told}")

@@ -35,8 +35,9 @@ zed 7, not in stable
 """
 # Versions of a source, and the one that dpkg has as the highest.
 ORDERS = (
-    (("1.0", "1.0~rc1", "0.9"), "1.0"), (("1:0.1", "9"), "1:0.1"), (("1.0-1", "1.0-1+b1"), "1.0-1+b1"),
-    (("10", "9", "8"), "10"), (("1.0+b", "1.0-9"), "1.0+b"), (("2.0_1", "1", "x/3"), "1"),
+    (("1.0", "1.0~rc1", "0.9"), "1.0"), (("1:0.1", "9"), "1:0.1"),
+    (("1.0-1", "1.0-1+b1"), "1.0-1+b1"), (("10", "9", "8"), "10"), (("1.0+b", "1.0-9"), "1.0+b"),
+    (("2.0_1", "1", "x/3"), "1"),
 )
 
 PACKAGES = ("bar", "foo", "g++", "zed")
@@ -54,6 +55,14 @@ def random_day(chance):
         yield chance.choice((
             f"close {number} {version}", f"fixed {number} {version}", f"found {number} {version}",
             f"affects {number} {chance.choice(PACKAGES)}"))
+
+
+def manual_blocks():
+    """The indented blocks of the manual's chapter, each without its margin."""
+    manual = (desks.TOOLS.parent / "docs/MANUAL.md").read_text(encoding="utf-8")
+    chapter = manual.partition("\n## A release at a glance\n")[2].partition("\n## ")[0]
+    blocks = re.findall("(?:(?:    .*)?\n)+", chapter)
+    return [re.sub("(?m)^    ", "", block).strip("\n") for block in blocks if block.strip()]
 
 
 class OverFile(unittest.TestCase):
@@ -77,6 +86,20 @@ class OverFile(unittest.TestCase):
         self.assertIn(STABLE_BUGS, output)
         self.assertIn(COMPARED, output)
         self.assertEqual(errors, "")
+
+    def test_manual(self):
+        """The example of the manual."""
+        day, one, two = manual_blocks()[:3]
+        store = make_desk(self.folder, day)
+        stable, testing = re.findall(r"\$ echo (.*) > \w+", one)
+        suites = [f"stable={written(self.folder, 'stable', stable)}",
+                  f"testing={written(self.folder, 'testing', testing)}"]
+        output, _ = release(f"--store={store}", suites[0])
+        told = one[one.index("\nstable: ") + 1 :]
+        self.assertEqual(output, f"{told}\n")
+        output, _ = release(f"--store={store}", *suites, "--compare", "stable", "testing")
+        compared = two[two.index("\nstable and testing compared") + 1 :]
+        self.assertTrue(output.endswith(f"\n{compared}\n"))
 
     def test_fail_on(self):
         """The status goes by the first suite, and by bugs of a severity or graver ones."""
@@ -142,7 +165,8 @@ class OverFile(unittest.TestCase):
         none = written(self.folder, "none", "This is\nNo index\n")
         page = written(self.folder, "page", "old")
         for words, told in (
-            ((store, f"s={cut}"), "cut:4: it is cut"), ((store, f"s={self.folder}"), "Is a directory"),
+            ((store, f"s={cut}"), "cut:4: it is cut"),
+            ((store, f"s={self.folder}"), "Is a directory"),
             ((f"--store={self.folder}/x", stable), "the store's file is not there"),
             ((f"--store={cut}", stable), "the store's file is no desk"),
             ((store, f"s={none}"), "none: the desk takes no package of it"),
