@@ -126,13 +126,13 @@ class OverFile(unittest.TestCase):
     def test_refused(self):
         """What the desk refuses is told with its line, and the others are reported."""
         store, _, _ = self.day()
-        index = written(self.folder, "index", "foo 1.0-2\nFoo 1\nbar 1_\nzed a/7\nx 1\nqq é\n")
+        index = written(self.folder, "index", "foo 1.0-2\nFoo 1\nbar 1_\nzed foo/7\nx 1\nqq é\n")
         output, errors = release(store, f"s={index}")
         self.assertIn("s: 1 package, 2 bugs\n", output)
         self.assertEqual(errors, "".join(
             f"release: {index}:{line}: {words} is left out: NO bad {what}\n"
             for line, words, what in (
-                (2, "Foo 1", "package name"), (3, "bar 1_", "version"), (4, "zed a/7", "version"),
+                (2, "Foo 1", "package name"), (3, "bar 1_", "version"), (4, "zed foo/7", "version"),
                 (5, "x 1", "package name"), (6, "qq é", "version"))))
 
     def test_highest(self):
@@ -177,6 +177,27 @@ class OverFile(unittest.TestCase):
                 self.assertIn(told, errors)
         self.assertEqual(page.read_text(), "old")
         self.assertFalse([name for name in os.listdir(self.folder) if name.startswith(".")])
+
+    def test_other_programs(self):
+        """A program that is no desk's is told, and is not read as a desk without bugs."""
+        index = written(self.folder, "index", "foo 1\nfoo 2\n")
+        one = written(self.folder, "one", "foo 1\n")
+        for script, path, told in (
+            ("cat", one, "answered '@list foo foo/1'"), (":", one, "answered 'no line'"),
+            ("echo 'Bugs in foo at foo/1: 0'; echo", one, "answered ''"),
+            ("echo 'Bugs in foo at foo/1: 1'; exit 3", one, "it ended with status 3"),
+            ("echo 'Bugs in foo at foo/1: 0'; exit 3", one, "it ended with status 3"),
+            ("printf '\\377\\n'", one, "bytes that are not UTF-8"),
+            ("for v in 1 2; do echo Bugs in foo at foo/$v: 0; done", index, "order of versions"),
+        ):
+            program = written(self.folder, "program", f"#!/bin/sh\n{script}\n")
+            program.chmod(0o755)
+            with self.subTest(script):
+                _, errors = release(
+                    f"--program={program}", "--store=x", f"s={path}", status=3)
+                self.assertIn(told, errors)
+        _, errors = release(f"--program={self.folder}/x", "--store=x", f"s={one}", status=3)
+        self.assertIn("it can't be run: No such file or directory", errors)
 
     def test_bad_words(self):
         """Bad words have status 2."""
@@ -248,10 +269,10 @@ class OverPort(unittest.TestCase):
     def test_refused(self):
         """What a server refuses is told with its line."""
         with folder() as place, desks.served(make_desk(place, DAY)) as port:
-            index = written(place, "index", "foo 1.0-2\nFoo 1\nbar 1_\nbar? 1\n")
+            index = written(place, "index", "foo 1.0-2\nFoo 1\nbar 1_\nbar? 1\n%66oo 1\n")
             output, errors = release(f"--port={port}", f"s={index}")
             self.assertIn("s: 1 package, 3 bugs\n", output)
-            self.assertEqual(re.findall(":([0-9]):", errors), ["2", "3", "4"])
+            self.assertEqual(re.findall(":([0-9]):", errors), ["2", "3", "4", "5"])
 
     def test_ended(self):
         """A server that ends meanwhile."""
@@ -269,6 +290,7 @@ class OverPort(unittest.TestCase):
             (b"HTTP/1.1 404 Not Found\r\nContent-Length: 2\r\n\r\nno", "as no desk does"),
             (b"HTTP/1.1 200 OK\r\nContent-Length: 5\r\n\r\nhello", "as no desk does"),
             (head + b"90\r\n\r\n" + body, "as no desk does"),
+            (b"HTTP/1.1 200 OK\r\n\r\n" + body, "as no desk does"),
             (b"SSH-2.0-OpenSSH_9.2\r\n", "as no desk does"),
             (b"", "as no desk does"), (b"\xff" * 100_000, "as no desk does"),
             (None, "no answer within"),

@@ -157,6 +157,15 @@ class Report(unittest.TestCase):
         self.assertEqual(comparison.common, {"foo": [FOUR, ONE, TWO]})
         self.assertEqual(comparison.differing(), [])
 
+    def test_most(self):
+        """The packages with the most release-critical bugs come first, then those by name."""
+        counts = {f"p{place:02}": count for place, count in enumerate([1, 2, 1, 3] + [1] * 10)}
+        one = suite("a", **dict.fromkeys(counts, "1"))
+        for package, count in counts.items():
+            one.take(package, [ONE] * count + [TWO] * 5, ())
+        names = ["p03", "p01", "p00", "p02", "p04", "p05", "p06", "p07", "p08", "p09"]
+        self.assertEqual(one.most(), [(name, counts[name]) for name in names])
+
     def test_refused(self):
         """What is refused is left out, and told with its line."""
         one = suite("a", foo="2", bad="_")
