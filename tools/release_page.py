@@ -23,7 +23,7 @@ from release_text import (
     versions_told,
 )
 
-BAR_WIDTH, BAR_HEIGHT = 130, 12
+BAR_WIDTH, BAR_HEIGHT = 120, 12
 # A longer table of versions is folded up.
 MOST_ROWS = 100
 CONTROL = re.compile("[\x00-\x08\x0b-\x1f\x7f-\x9f]")

@@ -115,7 +115,7 @@ class Page(unittest.TestCase):
         _, page = page_of([few, many, half])
         self.assertEqual(
             [rect for rect in page.rects if rect[1]],
-            [("grave", 1), ("minor", 130), ("normal", 65)])
+            [("grave", 1), ("minor", 120), ("normal", 60)])
         self.assertEqual(len(page.rects), 21)
 
     def test_without_bugs(self):
