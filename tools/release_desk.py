@@ -19,7 +19,7 @@ SEVERITIES = ("critical", "grave", "serious", "important", "normal", "minor", "w
 ROW = re.compile(r" *([0-9]+)  ([a-z]+) +(open|done)  (.*)", re.DOTALL)
 PAGE_LINES = 16
 BATCH = 1_000
-REFUSED, FAULT_STATUS = 1, 3
+REFUSED = 1
 # How many lines are read after an answer that is none, for the program to say why.
 MOST_DRAINED = 1_000
 SECONDS = 20

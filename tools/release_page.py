@@ -223,11 +223,16 @@ def contents(suites, comparison, severity):
         yield f'<li><a href="#suite-{place}">{text(suite.name)}</a>: '
         yield f'<a href="#suite-{place}-bugs">{listed}</a>'
     if comparison:
-        yield f'<li><a href="#comparison">{text(comparison_title(comparison))}</a>: '
-        for place, (words, _) in enumerate(comparison_parts(comparison), 1):
-            yield f'<a href="#comparison-{place}">{text(words.partition(":")[0])}</a>, '
-        yield '<a href="#comparison-versions">packages whose versions differ</a>'
+        yield from comparison_contents(comparison)
     yield '<li><a href="#bugs">What is known of each bug</a></ul></nav>'
+
+
+def comparison_contents(comparison):
+    """What the contents list has of a comparison."""
+    yield f'<li><a href="#comparison">{text(comparison_title(comparison))}</a>: '
+    for place, (words, _) in enumerate(comparison_parts(comparison), 1):
+        yield f'<a href="#comparison-{place}">{text(words.partition(":")[0])}</a>, '
+    yield '<a href="#comparison-versions">packages whose versions differ</a>'
 
 
 def bug_part(pages):

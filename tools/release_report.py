@@ -77,9 +77,9 @@ class Suite:
 def questions_of(suites):
     """Each source and version that some suite has, once, with those suites."""
     having = {}
-    for suite in suites:
-        for package, version in suite.versions.items():
-            having.setdefault((package, version), []).append(suite)
+    pairs = ((question, suite) for suite in suites for question in suite.versions.items())
+    for question, suite in pairs:
+        having.setdefault(question, []).append(suite)
     return having
 
 
@@ -87,13 +87,19 @@ def gather(desk, suites, listed, progress):
     """Asks the desk for the lists of all packages, and puts the answers to their suites."""
     having = questions_of(suites)
     questions = sorted(having)
-    for question, (bugs, refusal) in zip(questions, desk.lists(questions), strict=True):
-        for suite in having[question]:
-            if refusal is None:
-                suite.take(question[0], bugs, listed)
-            else:
-                suite.leave_out(question[0], refusal)
+    for question, answer in zip(questions, desk.lists(questions), strict=True):
+        give(having[question], question[0], answer, listed)
         progress(len(questions), "lists")
+
+
+def give(suites, package, answer, listed):
+    """Gives the list of a package to the suites that have it, or leaves it out of them."""
+    bugs, refusal = answer
+    for suite in suites:
+        if refusal is None:
+            suite.take(package, bugs, listed)
+        else:
+            suite.leave_out(package, refusal)
 
 
 def listed_numbers(suites):
@@ -153,11 +159,12 @@ def compare(first, second):
 def by_package(suites, numbers):
     """The listed bugs that have these numbers, by package, each once in a package."""
     found = {}
-    for suite in suites:
-        for package, bugs in suite.listed.items():
-            for bug in bugs:
-                if bug.number in numbers:
-                    found.setdefault(package, {})[bug.number] = bug
+    rows = (
+        (package, bug) for suite in suites for package, bugs in suite.listed.items()
+        for bug in bugs if bug.number in numbers
+    )
+    for package, bug in rows:
+        found.setdefault(package, {})[bug.number] = bug
     return {
         package: sorted(found[package].values(), key=bug_order) for package in sorted(found)
     }

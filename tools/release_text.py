@@ -42,8 +42,7 @@ def suite_lines(suite, severity):
     critical = suite.count(at_least(CRITICAL))
     yield f"{suite.name}: {plural(len(suite.versions), 'package')}, {plural(suite.count(), 'bug')}"
     yield ""
-    for name in SEVERITIES:
-        yield f"  {name:<16}  {suite.count([name]):9,}"
+    yield from (f"  {name:<16}  {suite.count([name]):9,}" for name in SEVERITIES)
     yield f"  {'release-critical':<16}  {critical:9,}"
     if suite.critical:
         yield ""
@@ -88,12 +87,17 @@ def comparison_lines(comparison, severity):
         yield count_line(name, [f"{count:,}" for count in comparison.counts[name]], widths)
     totals = [f"{comparison.total(place, at_least(CRITICAL)):,}" for place in range(3)]
     yield count_line("release-critical", totals, widths)
+    yield ""
+    yield from part_lines(comparison, severity)
+    yield from differing_lines(comparison)
+
+
+def part_lines(comparison, severity):
+    """The listed bugs of a comparison, in its three parts."""
     for title, bugs in comparison_parts(comparison):
-        yield ""
         yield f"{capitalized(listed_title(severity))} {title}"
         yield from package_lines(bugs, lambda package: versions_told(comparison, package))
-    yield ""
-    yield from differing_lines(comparison)
+        yield ""
 
 
 def count_line(name, counts, widths):

@@ -91,8 +91,8 @@ class Compare(unittest.TestCase):
         words = [f"--program={desks.program()}", "--scripts=200"]
         output, _ = run([TOOLS / "compare", *words])
         self.assertRegex(output, "^200 of 200 scripts without a difference")
-        output, _ = run([TOOLS / "compare", "--stored", words[0], "--scripts=50"])
-        self.assertRegex(output, "^50 of 50 scripts without a difference")
+        output, _ = run([TOOLS / "compare", "--stored", words[0], "--scripts=20"])
+        self.assertRegex(output, "^20 of 20 scripts without a difference")
 
     def test_wrong_program(self):
         """A program that answers nothing differs, and a short script shows it."""

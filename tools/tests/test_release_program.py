@@ -6,6 +6,10 @@ import os
 import pathlib
 import random
 import re
+import signal
+import subprocess
+import sys
+import time
 import unittest
 import unittest.mock
 
@@ -55,6 +59,15 @@ def random_day(chance):
         yield chance.choice((
             f"close {number} {version}", f"fixed {number} {version}", f"found {number} {version}",
             f"affects {number} {chance.choice(PACKAGES)}"))
+
+
+def wait_for(path):
+    """Waits until a file is there."""
+    end = time.monotonic() + desks.TIME_LIMIT
+    while not path.exists():
+        if time.monotonic() > end:
+            raise AssertionError(f"{path} does not come to be")
+        time.sleep(0.01)
 
 
 def manual_blocks():
@@ -198,6 +211,35 @@ class OverFile(unittest.TestCase):
                 self.assertIn(told, errors)
         _, errors = release(f"--program={self.folder}/x", "--store=x", f"s={one}", status=3)
         self.assertIn("it can't be run: No such file or directory", errors)
+
+    def test_stopped(self):
+        """A report that is stopped as it asks for pages leaves the old page, and no other file."""
+        script = 'read -r line; case $line in @list*) echo "Bugs in foo at foo/1: 1";'
+        script += ' echo "        1  grave      open  x";; *) echo asked >&2; exec sleep 60;; esac'
+        script = script.replace("asked >&2", f"asked >{self.folder}/asked")
+        program = written(self.folder, "program", f"#!/bin/sh\n{script}\n")
+        program.chmod(0o755)
+        page, one = written(self.folder, "page", "old"), written(self.folder, "one", "foo 1\n")
+        words = [sys.executable, desks.TOOLS / "release", f"--program={program}", "--store=x"]
+        process = subprocess.Popen([*words, f"--html={page}", f"s={one}"])
+        wait_for(pathlib.Path(self.folder, "asked"))
+        self.assertEqual(len([name for name in os.listdir(self.folder) if name[0] == "."]), 1)
+        process.terminate()
+        self.assertEqual(process.wait(desks.TIME_LIMIT), 128 + signal.SIGTERM)
+        self.assertEqual(page.read_text(), "old")
+        self.assertEqual(sorted(os.listdir(self.folder)), ["asked", "one", "page", "program"])
+
+    def test_progress(self):
+        """On a terminal standard error tells how far the report is, and elsewhere it doesn't."""
+        words = self.day()
+        terminal, side = os.openpty()
+        release_words = [sys.executable, desks.TOOLS / "release", f"--program={desks.program()}"]
+        subprocess.run([*release_words, *words], stdout=subprocess.DEVNULL, stderr=side, check=True)
+        told = os.read(terminal, 10_000).decode()
+        os.close(terminal)
+        os.close(side)
+        self.assertRegex(told, "^\rrelease: 1 of 5 lists.*\rrelease: 5 of 5 lists\r?\n$")
+        self.assertEqual(release(*words)[1], "")
 
     def test_bad_words(self):
         """Bad words have status 2."""
