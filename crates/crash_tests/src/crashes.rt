@@ -1,9 +1,13 @@
 //! Desks that crash or are closed between two calls, and are opened again.
 
-use crate::desks::{FusedDesk, new_desk, writes};
+use crate::desks::{desk_after, writes};
+use crate::tasks::{Came, CrashTask, new_files, over_new_files};
 use desk_crashes::{close_and_open, crash_and_open};
-use sqlite::Options;
+use desk_tables::TableDesk;
+use sqlite::{Alter, Connection, Options};
+use sqlite_trees::store::Reopen;
 use std::alloc::Global;
+use test_desks::connected;
 
 // Two bugs that are merged, and a branch.
 const SCRIPT: &str =
@@ -18,35 +22,36 @@ const SHOWN: &str =
     "Bugs in foo at foo/2: 2\n        1  normal     open  a\n        2  normal     open  b\n\
     > merge 1 2\nOK, no change.\nOK 3\n";
 
-// A desk after the script, whose files pass all calls on.
-fn desk_after(alloc: Global) -> Option<FusedDesk> {
-    let mut desk = new_desk(alloc, u64::MAX)?;
-    if writes(alloc, &mut desk, SCRIPT, ANSWERS) {
-        Some(desk)
-    } else {
-        None
-    }
-}
+// The script, and a crash.
+struct Crash;
 
 // Whether there is a desk, and it is as after the script.
-fn shows_all(alloc: Global, desk: Option<FusedDesk>) -> bool {
+fn shows_all<S: Alter + Drop>(alloc: Global, desk: Option<TableDesk<S>>) -> bool {
     match desk {
         Some(mut desk) => writes(alloc, &mut desk, QUESTIONS, SHOWN),
         None => false,
     }
 }
 
-// Whether all is there after a crash.
-fn survives_a_crash(alloc: Global) -> bool {
-    match desk_after(alloc) {
-        Some(desk) => shows_all(alloc, crash_and_open(alloc, desk)),
-        None => false,
+impl CrashTask for Crash {
+    fn run_over<S: Alter + Reopen + Drop>(&self, alloc: Global, conn: Connection<S>) -> Came {
+        let Some(desk) = desk_after(alloc, conn, SCRIPT, ANSWERS) else {
+            return Came::NoDesk;
+        };
+        if shows_all(alloc, crash_and_open(alloc, desk)) {
+            Came::Done
+        } else {
+            Came::Wrong
+        }
     }
 }
 
 // Whether all is there after a close.
 fn survives_a_close(alloc: Global) -> bool {
-    match desk_after(alloc) {
+    let Ok(conn) = connected(alloc, new_files(alloc, u64::MAX), Options::new(1)) else {
+        return false;
+    };
+    match desk_after(alloc, conn, SCRIPT, ANSWERS) {
         Some(desk) => shows_all(alloc, close_and_open(alloc, desk, Options::new(1))),
         None => false,
     }
@@ -54,7 +59,7 @@ fn survives_a_close(alloc: Global) -> bool {
 
 #[test]
 fn a_crash_between_two_calls_loses_nothing(rt: HostRuntime) {
-    assert!(rt; survives_a_crash(rt.alloc()));
+    assert!(rt; over_new_files(rt.alloc(), u64::MAX, &Crash) == Came::Done);
 }
 
 #[test]

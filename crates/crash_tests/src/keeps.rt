@@ -1,13 +1,18 @@
 //! An outcome that is kept on a desk that is stopped within the call, crashes, and is opened again.
 
-use crate::stops::{Came, desk_with_bug, outcome_of};
+use crate::desks::desk_with_bug;
+use crate::stops::{fails_until_done, outcome_of};
+use crate::tasks::{Came, CrashTask};
 use desk_crashes::keep_and_crash;
 use desk_store::Records;
 use desk_tables::TableDesk;
 use desk_text::Outcome;
-use sqlite::Alter;
+use sqlite::{Alter, Connection};
 use sqlite_trees::store::Reopen;
 use std::alloc::Global;
+
+// An outcome that is kept of a message.
+struct Keep;
 
 /// Keeps that the only line of a message stopped it, and crashes right after it: whether it was
 /// answered, and the desk that is opened; `None` where something may be kept of the id already.
@@ -31,7 +36,7 @@ fn stop_and_crash<S: Alter + Reopen + Drop>(
 }
 
 // How many outcomes are kept of the message; `None` where that can't be read.
-fn kept_outcomes<S: Records>(desk: &mut S) -> Option<usize> {
+fn kept_outcomes<R: Records>(desk: &mut R) -> Option<usize> {
     match desk.kept("m1") {
         Ok(Some(kept)) => Some(kept.outcomes.as_slice().len()),
         Ok(None) => Some(0),
@@ -39,17 +44,28 @@ fn kept_outcomes<S: Records>(desk: &mut S) -> Option<usize> {
     }
 }
 
-/// What comes of an outcome that is kept, where the log passes so many calls on.
-pub(crate) fn keep_stopped(alloc: Global, calls: u64) -> Came {
-    let Some(desk) = desk_with_bug(alloc, calls) else {
-        return Came::NoDesk;
-    };
-    let Some((answered, again)) = stop_and_crash(alloc, desk) else {
-        return Came::NoDesk;
-    };
+// What came of an outcome that was answered or not, by what the desk that is opened has kept.
+fn kept_on<S: Alter + Drop>(again: Option<TableDesk<S>>, answered: bool) -> Came {
     let Some(mut again) = again else {
         return Came::Wrong;
     };
     let kept = kept_outcomes(&mut again);
     outcome_of(answered, kept == Some(1), kept == Some(0))
+}
+
+impl CrashTask for Keep {
+    fn run_over<S: Alter + Reopen + Drop>(&self, alloc: Global, conn: Connection<S>) -> Came {
+        let Some(desk) = desk_with_bug(alloc, conn) else {
+            return Came::NoDesk;
+        };
+        match stop_and_crash(alloc, desk) {
+            Some((answered, again)) => kept_on(again, answered),
+            None => Came::NoDesk,
+        }
+    }
+}
+
+#[test]
+fn an_outcome_is_kept_as_a_whole_or_not_at_all(rt: HostRuntime) {
+    assert!(rt; fails_until_done(rt.alloc(), &Keep));
 }

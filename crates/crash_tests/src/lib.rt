@@ -3,6 +3,8 @@
 #![tactic(auto)]
 
 #[cfg(test)]
+mod changes;
+#[cfg(test)]
 mod crashes;
 #[cfg(test)]
 mod desks;
@@ -10,3 +12,5 @@ mod desks;
 mod keeps;
 #[cfg(test)]
 mod stops;
+#[cfg(test)]
+mod tasks;

@@ -2,14 +2,21 @@
 //! ended.
 
 use crate::header::{Header, read_header};
-use crate::streams::Output;
 use desk_run::{ScriptEnd, ScriptFault, run_script};
 use desk_store::{PlainDesk, Records};
-use desk_tables::TableDesk;
 use line_words::LARGEST_NUMBER;
-use sqlite::Connection;
+use sqlite::{Alter, Connection};
+use sqlite_pager::Options;
 use std::alloc::{AllocError, Global};
 use std::io::{self, Write};
+use test_desks::{ConnectionTask, create, over_bytes};
+
+// A script that runs on a new desk, whose first bug has this number.
+#[derive(Clone, Copy)]
+struct Script<'a> {
+    first: u64,
+    lines: &'a [u8],
+}
 
 // How a script ended, as a line.
 fn end_line(alloc: Global, end: Result<ScriptEnd, ScriptFault>) -> Result<String, AllocError> {
@@ -20,41 +27,65 @@ fn end_line(alloc: Global, end: Result<ScriptEnd, ScriptFault>) -> Result<String
     }
 }
 
-// What a script writes over a desk, and a line that tells how it ended.
-fn run_over<S: Records>(alloc: Global, desk: &mut S, script: &[u8]) -> Result<Vec<u8>, AllocError> {
-    let mut reader = script;
-    let mut output = Output::new(alloc, usize::MAX);
-    let end = run_script(alloc, desk, &mut reader, &mut output);
-    let line = end_line(alloc, end)?;
-    let mut written = output.bytes;
-    written.extend_from_slice(line.as_bytes())?;
-    Ok(written)
-}
-
-// The same over a new desk in memory.
-fn run_in_memory(alloc: Global, first: u64, script: &[u8]) -> Result<Vec<u8>, AllocError> {
-    let mut desk = PlainDesk::new(alloc, first.clamp(1, LARGEST_NUMBER));
-    run_over(alloc, &mut desk, script)
-}
-
-// The same over a new desk in tables.
-fn run_in_tables(alloc: Global, first: u64, script: &[u8]) -> Result<Vec<u8>, AllocError> {
-    let conn = Connection::open_in_memory(alloc)?;
-    match TableDesk::create(alloc, conn, first.clamp(1, LARGEST_NUMBER)) {
-        Ok(mut desk) => run_over(alloc, &mut desk, script),
-        Err(_) => Vec::from_slice(alloc, b"-- no tables\n"),
+impl Script<'_> {
+    // Runs it on a desk, and adds what it writes, and a line that tells how it ended; what is added
+    // ends early where there is no memory for it.
+    fn run_on<R: Records>(&self, alloc: Global, desk: &mut R, written: &mut Vec<u8>) {
+        let mut reader = self.lines;
+        let end = run_script(alloc, desk, &mut reader, written);
+        match end_line(alloc, end) {
+            Ok(line) => drop(written.extend_from_slice(line.as_bytes())),
+            Err(_) => {}
+        }
     }
 }
 
+impl ConnectionTask<Vec<u8>> for Script<'_> {
+    fn run_over<S: Alter>(
+        &self,
+        alloc: Global,
+        conn: Connection<S>,
+        written: &mut Vec<u8>,
+    ) -> Connection<S> {
+        match create(alloc, conn, self.first) {
+            Ok(desk) => {
+                let mut desk = desk;
+                self.run_on(alloc, &mut desk, written);
+                desk.close()
+            }
+            Err((_, conn)) => conn,
+        }
+    }
+}
+
+// What a script writes over a new desk in memory, and how it ended.
+fn run_in_memory(alloc: Global, script: &Script<'_>) -> Vec<u8> {
+    let mut desk = PlainDesk::new(alloc, script.first.clamp(1, LARGEST_NUMBER));
+    let mut written = Vec::new(alloc);
+    script.run_on(alloc, &mut desk, &mut written);
+    written
+}
+
+// The same over a new desk in tables; nothing where there is no such desk.
+fn run_in_tables(alloc: Global, script: &Script<'_>) -> io::Result<Vec<u8>> {
+    let mut written = Vec::new(alloc);
+    over_bytes(alloc, &[], &[], Options::new(1), script, &mut written)?;
+    Ok(written)
+}
+
 // Runs one script, where it has a header.
-fn run_example(rt: &HostRuntime, header: Option<Header<'_>>, script: &[u8]) -> io::Result<()> {
+fn run_example(rt: &HostRuntime, header: Option<Header<'_>>, lines: &[u8]) -> io::Result<()> {
     let Some(header) = header else {
         return Ok(());
     };
     println!(rt; "== {}", header.text)?;
-    let in_memory = run_in_memory(rt.alloc(), header.first, script)?;
+    let script = Script {
+        first: header.first,
+        lines,
+    };
+    let in_memory = run_in_memory(rt.alloc(), &script);
     io::writer(rt).write_all(&in_memory)?;
-    let in_tables = run_in_tables(rt.alloc(), header.first, script)?;
+    let in_tables = run_in_tables(rt.alloc(), &script)?;
     if in_tables != in_memory {
         println!(rt; "-- over tables:")?;
         io::writer(rt).write_all(&in_tables)?;

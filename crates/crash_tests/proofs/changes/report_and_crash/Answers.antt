@@ -1,6 +1,6 @@
 use Rattle.std.proofs.Common.{sym, ap, ◌∙◌}
 use Rattle.bug_record.specs.Desk.{Desk}
-use Rattle.crash_tests.proofs.stops.report_and_crash.Goals as goal
+use Rattle.crash_tests.proofs.changes.report_and_crash.Goals as goal
 
 pub apply_and_crash-done-requires-clause-fits : goal.apply_and_crash-done-requires-clause-fits
 apply_and_crash-done-requires-clause-fits g c kept honest =

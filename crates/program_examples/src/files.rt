@@ -1,9 +1,9 @@
 //! What the lines between command lines do with files.
 
-use crate::requests::add_text;
 use bts_jobs::{JobEnd, open_desk, run_script_over};
 use sqlite::{Connection, Wary};
 use std::{fs, io};
+use test_streams::add_text;
 
 // What is told of something that was to be done.
 fn done(is_done: bool) -> Option<&'static str> {

@@ -3,7 +3,6 @@
 use crate::files;
 use crate::help::print_help;
 use crate::ports::{FREE, TAKEN, free_port, words_of};
-use crate::requests::add_text;
 use crate::streams::{Caller, Input, Output};
 use bts_jobs::{Ending, close_desk, open_desk, run_program, run_words};
 use control_text::number_word;
@@ -11,6 +10,7 @@ use sqlite::Wary;
 use std::alloc::{AllocError, Global};
 use std::io;
 use std::net::TcpListener;
+use test_streams::add_text;
 
 // What a command line is run on.
 #[derive(Drop)]

@@ -1,0 +1,137 @@
+"""Tests of tools that have no file of tests of their own: each passes what is right and no more."""
+
+import gzip
+import pathlib
+import re
+import sqlite3
+import unittest
+
+import desks
+from desks import TOOLS, folder, make_desk, run, written
+
+CHANGELOG = """foo (1.1-1) UNRELEASED; urgency=medium
+
+  * New upstream version.
+
+foo (1.0-2) unstable; urgency=medium
+
+  * It no longer crashes (closes: #43).
+
+ -- Ann Maintainer <ann@foo.example>  Tue, 02 Jan 2024 10:00:00 +0000
+
+libfoo (0.9_b-1) unstable; urgency=medium
+
+  * A beta version.
+
+ -- Ann Maintainer <ann@foo.example>  Sun, 31 Dec 2023 10:00:00 +0000
+
+libfoo (0.9-1) unstable; urgency=medium
+
+  * First version.
+
+ -- Ann Maintainer <ann@foo.example>  Sat, 30 Dec 2023 10:00:00 +0000
+"""
+# A program that answers nothing, and calls each script good.
+SILENT = "#!/bin/sh\ncat >/dev/null\n"
+
+
+class Branches(unittest.TestCase):
+    """`branches`, which reads changelogs."""
+
+    def test_changelog(self):
+        """A changelog, plain and packed: its branch, and what is left out of it."""
+        with folder() as place:
+            for content in (CHANGELOG.encode(), gzip.compress(CHANGELOG.encode())):
+                path = written(place, "changelog", content)
+                output, errors = run([TOOLS / "branches", path])
+                self.assertEqual(output, "@branch foo/1.0-2 libfoo/0.9-1\n")
+                self.assertEqual(re.findall(":([0-9]+): ", errors), ["1", "11"])
+
+    def test_long(self):
+        """A changelog of 400 versions gives three lines that hang together."""
+        entries = "".join(
+            f"foo ({version}) unstable; urgency=low\n\n  * x\n\n -- A <a@b.example>  x\n\n"
+            for version in range(400, 0, -1))
+        output, _ = run([TOOLS / "branches", "-"], entries)
+        lines = [line.split() for line in output.splitlines()]
+        self.assertEqual([len(line) - 1 for line in lines], [200, 200, 2])
+        self.assertEqual([line[1] for line in lines], ["foo/400", "foo/201", "foo/2"])
+
+    def test_faults(self):
+        """A changelog that can't be read, or has no entry."""
+        with folder() as place:
+            for path in (place, written(place, "empty", "")):
+                run([TOOLS / "branches", path], status=1)
+        run([TOOLS / "branches"], status=2)
+
+
+class CheckDesk(unittest.TestCase):
+    """`check_desk`, which reads the file of a desk."""
+
+    def test_in_order(self):
+        """A desk that the program left is in order, and one with a row less is not."""
+        with folder() as place:
+            store = make_desk(place, desks.DAY)
+            self.assertEqual(run([TOOLS / "check_desk", store])[0], f"{store}: in order\n")
+            with sqlite3.connect(store) as connection:
+                (count,) = connection.execute("SELECT count(*) FROM nearest").fetchone()
+                first = "(SELECT min(rowid) FROM nearest)"
+                connection.execute(f"DELETE FROM nearest WHERE rowid = {first}")
+            connection.close()
+            self.assertGreater(count, 1)
+            output, _ = run([TOOLS / "check_desk", store], status=1)
+            self.assertEqual(output, f"{store}: nearest: 0 rows too many, 1 missing\n")
+
+
+class Compare(unittest.TestCase):
+    """`compare`, which runs the program and the second reading on random scripts."""
+
+    def test_program(self):
+        """The program answers as the reading does."""
+        words = [f"--program={desks.program()}", "--scripts=200"]
+        output, _ = run([TOOLS / "compare", *words])
+        self.assertRegex(output, "^200 of 200 scripts without a difference")
+        output, _ = run([TOOLS / "compare", "--stored", words[0], "--scripts=50"])
+        self.assertRegex(output, "^50 of 50 scripts without a difference")
+
+    def test_wrong_program(self):
+        """A program that answers nothing differs, and a short script shows it."""
+        with folder() as place:
+            program = written(place, "program", SILENT)
+            program.chmod(0o755)
+            words = [f"--program={program}", "--scripts=2", "--kinds", "mixed"]
+            output, _ = run([TOOLS / "compare", *words], status=1)
+            shrunk = output.partition("--- shrunk\n")[2].partition("--- program")[0]
+            self.assertEqual(shrunk.count("\n"), 1)
+
+
+class KillDesk(unittest.TestCase):
+    """`kill_desk`, which kills the program and looks at the desk that it left."""
+
+    def test_program(self):
+        """Some rounds of the program."""
+        output, _ = run([TOOLS / "kill_desk", f"--program={desks.program()}", "--rounds=3"])
+        self.assertRegex(output, "between lines|with a line kept|ended before")
+
+
+class CheckOptions(unittest.TestCase):
+    """`check_options`, which compares manual pages and completion with the help."""
+
+    def test_program(self):
+        """The program's help has what the manual pages and the completion have."""
+        self.assertEqual(run([TOOLS / "check_options", desks.program()]), ("", ""))
+
+    def test_wrong_help(self):
+        """A help without the option of a store differs."""
+        told, _ = run([desks.program(), "--help"])
+        with folder() as place:
+            program = pathlib.Path(place, "program")
+            wrong = told.replace("--store", "--stow")
+            program.write_text(f"#!/bin/sh\ncat <<'END'\n{wrong}\nEND\n")
+            program.chmod(0o755)
+            output, _ = run([TOOLS / "check_options", program], status=1)
+            self.assertIn("store", output)
+
+
+if __name__ == "__main__":
+    unittest.main()
