@@ -50,7 +50,7 @@ def report(port, sender, line):
 def branch(port, _, line):
     """A branch; the line is its versions, the newest first."""
     status, text = ask(port, "POST", "/branches", {"branch": cut_words(line)})
-    return answered(port, status, text, lambda value: "OK\n" if value == {"ok": True} else None)
+    return answered(port, status, text, lambda value: "OK\n" if value.get("ok") is True else None)
 
 
 def is_well_formed(text, is_answer):
@@ -66,7 +66,7 @@ def question(port, path, refusal, is_answer):
     status, text = ask(port, "GET", path)
     if status == DONE and is_well_formed(text, is_answer):
         return text, ACCEPTED
-    if status in NOT_FOUND and "error" in object_of(port, text):
+    if status in NOT_FOUND and isinstance(object_of(port, text).get("error"), str):
         return f"NO {refusal}\n", REFUSED
     if status == FAILED:
         raise store_fault(port, object_of(port, text))

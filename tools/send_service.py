@@ -82,8 +82,10 @@ def ask(port, method, path, value=None):
     try:
         connection.request(method, path, body)
         response = connection.getresponse()
-        if response.length is None or response.length > LARGEST_ANSWER:
-            raise no_desk(port, "a body of no length")
+        if response.length is None:
+            raise Lost(str(no_desk(port, "a body of no length, or half a head")))
+        if response.length > LARGEST_ANSWER:
+            raise no_desk(port, f"a body of {response.length} bytes")
         return response.status, response.read().decode()
     except ConnectionRefusedError as error:
         raise NotBegun(f"port {port}: no desk is served there: {error.strerror}") from error

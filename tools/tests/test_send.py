@@ -14,21 +14,24 @@ from test_send_words import EXAMPLES
 MESSAGES = (
     "severity 2 grave , retitle it a  b", "close 9", "severity 1 huge , close 1 2.0-1",
     "thanks", "close 1 , thank you , close 2", "a , b , c , d , e , f", "@list foo 1", "# close 1",
-    "clone 2 -1 , retitle -1 \u00e9\u2028\u0085\U0001d54f", "affects 1 bar, archive 1", ">", "quit,",
+    "clone 2 -1 , retitle -1 \u00e9\u2028\u0085\U0001d54f", "affects 1 bar, archive 1", ">",
+    "quit,",
     "tags 1 + patch \" ' \\ ",
 )
 DIRECTIVES = (
     "@report foo 1.0-1 GRAVE  two  blanks ", "@report foo - wishlist \"'\\ \u00e9",
     "@report Foo 1 normal a", "@report foo 1_ normal a", "@report foo 1 huge a",
-    "@report foo 1 normal", f"@report foo 1 normal {'x' * 201}", "@branch foo", "@branch foo/3 foo/2",
-    "@branch foo/2.0-1 foo/7", "@branch foo/4 foo/4", "@list foo 2.0-1", "@list foo bar/3",
+    "@report foo 1 normal", f"@report foo 1 normal {'x' * 201}", "@branch foo",
+    "@branch foo/3 foo/2", "@branch foo/2.0-1 foo/7", "@branch foo/4 foo/4", "@list foo 2.0-1",
+    "@list foo bar/3",
     "@branch " + " ".join(f"p/{place}" for place in range(201)), "@list foo .", "@list foo ..",
-    "@list g++ 1:2~3+4", "@list Foo 1", "@list Foo 1_", "@list foo 1_", "@list foo foo/", "@list f",
+    "@list g++ 1:2~3+4", "@list Foo 1", "@list Foo 1_", "@list foo 1_", "@list foo foo/",
+    "@list f 1",
     "@list foo /1", "@list foo a/b/c", "@list foo? 1", "@list %66oo 1", f"@list {'x' * 9000} 1",
     "@show 1", "@show #1", "@show 007", "@show 99", "@report foo 1 normal \u00a0",
     "@list foo \u00e9",
 )
-BAD_DIRECTIVES = ("@report foo 1", "@list foo 1 2", "@show -1", "@show 1 2", "@show x")
+BAD_DIRECTIVES = ("@report foo 1", "@list foo 1 2", "@list f", "@show -1", "@show 1 2", "@show x")
 
 
 def send(*words, given="", status=0):
