@@ -40,7 +40,8 @@ class Lost(Fault):
 
 def is_port(word):
     """Whether a word is a number from 1 to 65,535."""
-    return word.isascii() and word.isdecimal() and 1 <= int(word[:6]) <= 65_535
+    digits = word.lstrip("0")
+    return word.isascii() and digits.isdecimal() and len(digits) < 6 and int(digits) <= 65_535
 
 
 def default_port():
@@ -76,9 +77,10 @@ def body_of(value):
 
 
 def ask(port, method, path, value=None):
-    """The status of an answer, and its body."""
+    """The status of an answer, and its body; a long message is given more time."""
     body = None if value is None else body_of(value)
-    connection = http.client.HTTPConnection("127.0.0.1", port, timeout=SECONDS)
+    seconds = SECONDS + len(body or b"") // 1_000
+    connection = http.client.HTTPConnection("127.0.0.1", port, timeout=seconds)
     try:
         connection.request(method, path, body)
         response = connection.getresponse()
@@ -90,7 +92,7 @@ def ask(port, method, path, value=None):
     except ConnectionRefusedError as error:
         raise NotBegun(f"port {port}: no desk is served there: {error.strerror}") from error
     except TimeoutError as error:
-        raise Lost(f"port {port}: no answer within {SECONDS} seconds") from error
+        raise Lost(f"port {port}: no answer within {seconds} seconds") from error
     except (http.client.IncompleteRead, ConnectionError) as error:
         raise Lost(f"port {port}: the connection ended before a whole answer came") from error
     except http.client.HTTPException as error:

@@ -1,12 +1,15 @@
 """Tests of `send` beside what is no desk, or half of one, and of the file that has the port."""
 
 import contextlib
+import http.client as http_client
 import importlib.machinery
 import importlib.util
 import io
+import itertools
 import json
 import os
 import pathlib
+import re
 import socket
 import threading
 import unittest
@@ -77,24 +80,49 @@ def run_tool(*words):
     return status, "".join(output), errors.getvalue()
 
 
+def read_request(connection):
+    """The whole of a request, so that no unread rest breaks the connection before the answer."""
+    with connection.makefile("rb") as file:
+        head = "".join(line.decode() for line in iter(file.readline, b"\r\n"))
+        length = re.search("(?i)^content-length: ([0-9]+)", head, re.MULTILINE)
+        return head, file.read(int(length[1]) if length else 0).decode()
+
+
+def serve(server, answers, requests, kept):
+    """Gives each connection its answer, or keeps it open where that is None."""
+    with contextlib.suppress(OSError):
+        for answer in answers:
+            connection = server.accept()[0]
+            requests.append(read_request(connection)[1])
+            if answer is None:
+                kept.append(connection)
+            else:
+                with connection:
+                    connection.sendall(answer)
+
+
 @contextlib.contextmanager
 def scripted(answers):
     """The port of a server that gives these answers in turn, and the list of what it was sent."""
-    requests = []
+    requests, kept = [], []
     with socket.create_server(("127.0.0.1", 0)) as server:
-        def serve():
-            with contextlib.suppress(OSError):
-                for answer in answers:
-                    with server.accept()[0] as connection:
-                        requests.append(connection.recv(100_000).decode())
-                        connection.sendall(answer)
-        thread = threading.Thread(target=serve, daemon=True)
+        thread = threading.Thread(
+            target=serve, args=(server, answers, requests, kept), daemon=True)
         thread.start()
         try:
             yield server.getsockname()[1], requests
         finally:
             server.shutdown(socket.SHUT_RDWR)
             thread.join()
+            for connection in kept:
+                connection.close()
+
+
+@contextlib.contextmanager
+def answering(answer):
+    """The port of a server that gives each connection this answer."""
+    with scripted(itertools.repeat(answer)) as (port, _):
+        yield port
 
 
 class Hostile(unittest.TestCase):
@@ -109,7 +137,7 @@ class Hostile(unittest.TestCase):
     def test_messages(self):
         """Each answer to a message that is none is told, with status 3."""
         for answer, told in NO_DESKS + LOST:
-            with self.subTest(answer and answer[:80]), desks.answering(answer) as port:
+            with self.subTest(answer and answer[:80]), answering(answer) as port:
                 status, output, errors = run_tool(f"--port={port}", "--from=ann", "close", "1")
                 self.assertEqual((status, output), (3, ""))
                 self.assertRegex(errors, f"^send: port {port}: .*{told}")
@@ -118,7 +146,7 @@ class Hostile(unittest.TestCase):
     def test_refusals(self):
         """A refusal of a desk is written, and has its status."""
         for answer, told, wanted in REFUSALS:
-            with self.subTest(answer), desks.answering(answer) as port:
+            with self.subTest(answer), answering(answer) as port:
                 status, output, _ = run_tool(f"--port={port}", "--from=ann", "--id=x", "a")
                 self.assertEqual((status, output), (wanted, told))
 
@@ -137,7 +165,7 @@ class Hostile(unittest.TestCase):
         ):
             lost = [answer for answer, _ in LOST]
             for answer in [http(302, ""), http(200, {}), http(400, {"error": []}), *wrong, *lost]:
-                with self.subTest(name, answer=answer), desks.answering(answer) as port:
+                with self.subTest(name, answer=answer), answering(answer) as port:
                     words_given = [f"--port={port}", "--from=ann", f"--{name}", *words]
                     status, output, errors = run_tool(*words_given)
                     self.assertEqual((status, output), (3, ""))
@@ -154,7 +182,7 @@ class Hostile(unittest.TestCase):
                 f"--port={port}", "--from=ann", "--id=auto", "close", "1")
         self.assertEqual((status, output), (0, GOOD["transcript"]))
         self.assertEqual(errors.count("it is sent again"), 4)
-        bodies = [json.loads(request.partition("\r\n\r\n")[2]) for request in requests]
+        bodies = [json.loads(request) for request in requests]
         self.assertEqual(len(bodies), 5)
         word = bodies[0].pop("id")
         self.assertRegex(word, "^[!-~]{1,100}$")
@@ -169,7 +197,7 @@ class Hostile(unittest.TestCase):
                 status, output, errors = run_tool(
                     f"--port={port}", "--from=ann", "--id=auto", "close", "1")
             self.assertEqual((status, output, len(requests)), (3, "", 5))
-            word = json.loads(requests[0].partition("\r\n\r\n")[2])["id"]
+            word = json.loads(requests[0])["id"]
             self.assertIn(f"it was sent 5 times: send the same again with --id={word}", errors)
             words.add(word)
         self.assertEqual(len(words), 2)
@@ -186,6 +214,16 @@ class Hostile(unittest.TestCase):
             with self.subTest(answer), scripted([answer] * 9) as (port, requests):
                 run_tool(f"--port={port}", "--from=ann", word, "close", "1")
                 self.assertEqual(len(requests), times)
+
+    def test_long(self):
+        """A long message is waited for longer, since each of its lines is kept."""
+        words = ["x" * 999] * 2
+        for given, seconds in ((["close", "1"], SHORT), (words, SHORT + 2)):
+            with answering(http(200, GOOD)) as port, mock.patch.object(
+                send_service.http.client, "HTTPConnection", wraps=http_client.HTTPConnection
+            ) as made:
+                run_tool(f"--port={port}", "--from=ann", *given)
+            made.assert_called_once_with("127.0.0.1", port, timeout=seconds)
 
     def test_terminal(self):
         """On a terminal what would steer it is written out, and elsewhere not."""
@@ -216,14 +254,14 @@ class PortFile(unittest.TestCase):
         for content, port in (
             (None, 8080), (packaged, 8080), (packaged.replace(b"8080", b"8081"), 8081),
             (b"PORT=1\nPORT=65535", 65535), (b'# PORT=7\n PORT = "99" \r\n', 99),
-            (b"OTHER=7\nPORT='1024'\n", 1024),
+            (b"OTHER=7\nPORT='1024'\n", 1024), (b"PORT=0008081", 8081),
         ):
             self.assertEqual(self.port(content), port)
 
     def test_no_port(self):
         """A file without a port, or that can't be read, is told."""
         for content in (b"", b"PORT=", b"PORT=0", b"PORT=65536", b"PORT=a", b"#PORT=1", b"PORT=-1",
-                        b"PORT=\xff"):
+                        b"PORT=\xff", b"PORT=00655359", b"PORT=\xd9\xa1", b"PORT= "):
             with self.subTest(content), self.assertRaisesRegex(Fault, "give --port=N"):
                 self.port(content)
         with mock.patch.object(send_service, "DEFAULTS", pathlib.Path("/")):
