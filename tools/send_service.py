@@ -54,9 +54,10 @@ def default_port():
         reason = getattr(error, "strerror", None) or "not UTF-8"
         raise Fault(f"{DEFAULTS}: it can't be read: {reason}; give --port=N") from error
     values = re.findall(r"^[ \t]*PORT[ \t]*=[ \t]*(.*?)[ \t\r]*$", text, re.MULTILINE)
-    if not values or not is_port(values[-1].strip("\"'")):
+    value = values[-1].strip("\"'") if values else ""
+    if not is_port(value):
         raise Fault(f"{DEFAULTS}: it sets no PORT from 1 to 65,535; give --port=N")
-    return int(values[-1].strip("\"'"))
+    return int(value)
 
 
 # One exchange.

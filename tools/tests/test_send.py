@@ -1,6 +1,7 @@
 """Tests of `send` beside a server of the program: its answers are those of the program itself."""
 
 import re
+import shlex
 import subprocess
 import sys
 import unittest
@@ -54,6 +55,16 @@ def readme_day():
     return [re.sub("(?m)^    ", "", block) for block in blocks[:2]]
 
 
+def manual_runs(heading, name):
+    """The words of each run of a tool below a heading of the manual, and its answer."""
+    text = (TOOLS.parent / "docs/MANUAL.md").read_text(encoding="utf-8")
+    chapter = re.split("\n##+ ", text.partition(f"\n{heading}\n")[2])[0]
+    for command, answer in re.findall(r"(?m)^    \$ (.*)\n((?:    (?!\$).*\n)*)", chapter):
+        words = shlex.split(command)
+        if words[0] == name:
+            yield words[1:], re.sub("(?m)^    ", "", answer)
+
+
 def words_of(line):
     """The words by which `send` does a line of a script."""
     words = line.split(" ")
@@ -93,6 +104,20 @@ class BesideServer(unittest.TestCase):
                 told += send(*options, *words_of(line))[0]
         self.assertEqual(len(lines), 7)
         self.assertEqual(told, answers)
+
+    def test_manual(self):
+        """The runs of the manual: what they answer, over the desks that the manual has there."""
+        for heading, name, script, count in (
+            ("### The service", "boxhumilwa-send", "", 4),
+            ("## Words to a server", "tools/send", "@report foo 1 minor a\n" * 2, 3),
+        ):
+            with folder() as place, served(make_desk(place, script)) as port:
+                runs = list(manual_runs(heading, name))
+                self.assertEqual(len(runs), count)
+                for words, answer in runs:
+                    words = [word for word in words if not word.startswith("--port=")]
+                    output, errors = send(f"--port={port}", *words)
+                    self.assertEqual((output if answer else "", errors), (answer, ""))
 
     def test_words(self):
         """The transcripts and statuses of words are those of the program over a file."""

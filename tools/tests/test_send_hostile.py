@@ -254,7 +254,7 @@ class PortFile(unittest.TestCase):
         for content, port in (
             (None, 8080), (packaged, 8080), (packaged.replace(b"8080", b"8081"), 8081),
             (b"PORT=1\nPORT=65535", 65535), (b'# PORT=7\n PORT = "99" \r\n', 99),
-            (b"OTHER=7\nPORT='1024'\n", 1024), (b"PORT=0008081", 8081),
+            (b"OTHER=7\nPORT='1024'\n", 1024), (b"PORT=0008081", 8081), (b"PORT=x\nPORT=9", 9),
         ):
             self.assertEqual(self.port(content), port)
 
