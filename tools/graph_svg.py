@@ -7,15 +7,17 @@ The picture is written beside its file and then takes its place, so that none is
 
 import contextlib
 import html
+import itertools
 import os
 import stat
 import tempfile
 
 from graph_text import (
-    WIDEST_LABEL,
+    ALONE,
     WIDTH,
     columns,
     facts_of,
+    label_width,
     row_label,
     row_words,
     title_of,
@@ -26,7 +28,9 @@ from release_index import Fault
 from release_page import umask
 
 # Sizes in pixels; a letter of the fonts below has at most LETTER.
-ROW, LANE, LINE, MARGIN, LETTER = 30, 28, 20, 20, 8
+ROW, LANE, LINE, MARGIN, LETTER = 28, 28, 20, 20, 8
+# What the legend takes.
+LEGEND = 640
 RADIUS, RING, HALF_SQUARE, HALF_LENGTH = 7, 11, 12, 11
 STATES = {True: "listed", False: "clear", None: "unasked"}
 STYLE = """
@@ -100,7 +104,7 @@ def line_down(row, y, base_y):
             f'{left} {low}V{base_y}"/>')
 
 
-def row_parts(picture, row, y, label_width):
+def row_parts(picture, row, y, width):
     """The sign and the words of a row."""
     first, is_folded = row.versions[0], len(row.versions) > 1
     label, words = row_label(picture.page.package, row), row_words(row)
@@ -110,8 +114,7 @@ def row_parts(picture, row, y, label_width):
                     first.is_fixed)
     yield text_at(x, y + 5, label, "folded" if is_folded else "version")
     if words:
-        width = max(label_width, columns(label))
-        yield text_at(x + LETTER * (width + 2), y + 5, words)
+        yield text_at(x + LETTER * (max(width, columns(label)) + 2), y + 5, words)
     yield "</g>"
 
 
@@ -123,7 +126,7 @@ def row_title(row):
 
 
 def placed(picture, y):
-    """The place from above of each row, and that of the heading of rows in no branch."""
+    """The places from above of the rows, of the heading of those in no branch, and of the end."""
     places, heading = [], None
     for rows in picture.trees:
         places.extend(y + ROW * place for place in range(len(rows)))
@@ -135,52 +138,67 @@ def placed(picture, y):
     return places, heading, y
 
 
-def row_width(picture, row, label_width):
+def row_width(picture, row, width):
     """How many pixels a row needs."""
-    label = max(label_width, columns(row_label(picture.page.package, row)))
+    label = max(width, columns(row_label(picture.page.package, row)))
     return lane_x(picture.lanes()) + LETTER * (label + 2 + columns(row_words(row))) + MARGIN
 
 
 # The picture.
 
 
+def head_lines(picture):
+    """The lines above the rows, each with its kind."""
+    told = (wrapped(line, WIDTH) for line in (facts_of(picture), *picture.notes))
+    return [
+        *(("heading", line) for line in wrapped(title_of(picture.page), WIDTH)),
+        *((None, line) for line in itertools.chain(*told))]
+
+
+def size_of(picture, heads, bottom):
+    """The width and the height of a picture whose rows end at a place from above."""
+    rows, labels = picture.rows(), label_width(picture)
+    widths = [
+        *(columns(line) * LETTER + 2 * MARGIN for _, line in heads),
+        *(row_width(picture, row, labels) for row in rows), LEGEND if rows else 0]
+    return max(widths), bottom + (MARGIN if rows else -ROW // 2)
+
+
 def svg_lines(picture):
     """The lines of a picture as SVG."""
-    rows = picture.rows()
-    heads = [("heading", line) for line in wrapped(title_of(picture.page), WIDTH)]
-    for told in (facts_of(picture), *picture.notes):
-        heads.extend((None, line) for line in wrapped(told, WIDTH))
-    widths = [columns(row_label(picture.page.package, row)) for row in rows]
-    label_width = max((width for width in widths if width <= WIDEST_LABEL), default=0)
-    places, heading, bottom = placed(picture, MARGIN + LINE * len(heads) + ROW)
-    height = bottom + (MARGIN if rows else -ROW // 2)
-    width = max([
-        *(columns(line) * LETTER + 2 * MARGIN for _, line in heads),
-        *(row_width(picture, row, label_width) for row in rows), 80 * LETTER if rows else 0])
+    heads, rows = head_lines(picture), picture.rows()
+    places, alone, bottom = placed(picture, MARGIN + LINE * len(heads) + ROW)
+    width, height = size_of(picture, heads, bottom)
     yield (f'<svg xmlns="http://www.w3.org/2000/svg" width="{width}" height="{height}" '
            f'viewBox="0 0 {width} {height}" role="img">')
     yield f"<title>{html.escape(title_of(picture.page))}</title><style>{STYLE}</style>"
     yield f'<rect width="{width}" height="{height}" fill="#fff"/>'
-    for place, (kind, line) in enumerate(heads):
-        yield text_at(MARGIN, MARGIN + LINE * place + 12, line, kind)
-    if heading:
-        yield text_at(MARGIN, heading + 5, "In no branch, each by itself:", "grey")
-    yield from rows_drawn(picture, rows, places, label_width)
+    yield from (text_at(MARGIN, MARGIN + LINE * place + 12, line, kind)
+                for place, (kind, line) in enumerate(heads))
+    yield from lines_drawn(rows, places)
+    yield from rows_drawn(picture, rows, places)
+    if alone:
+        yield text_at(MARGIN, alone + 5, ALONE, "grey")
     if rows:
         yield from legend(picture, bottom)
     yield "</svg>"
 
 
-def rows_drawn(picture, rows, places, label_width):
-    """All lines, and above them all rows."""
+def lines_drawn(rows, places):
+    """The lines from all rows to what they are based on."""
     place_of = {
         version.node: place for row, place in zip(rows, places) for version in row.versions
     }
     for row, place in zip(rows, places):
         if row.base:
             yield line_down(row, place, place_of[row.base])
+
+
+def rows_drawn(picture, rows, places):
+    """The signs and the words of all rows."""
+    labels = label_width(picture)
     for row, place in zip(rows, places):
-        yield from row_parts(picture, row, place, label_width)
+        yield from row_parts(picture, row, place, labels)
 
 
 # Its file.

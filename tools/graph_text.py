@@ -1,15 +1,18 @@
 """A picture of a bug's versions as text for a terminal, and in the language of dot(1)."""
 
+import itertools
 import unicodedata
 
 from graph_branches import source_of
 from release_index import shown
+from release_text import plural
 
 WIDTH = 80
 # Where labels and words have less room, lines may be longer than WIDTH.
 LEAST_ROOM = 20
 WIDEST_LABEL = 36
 GAP = "  "
+ALONE = "In no branch, each by itself:"
 SIGNS = {True: "*", False: "o", None: "-"}
 ARCHIVED = "archived: it is in no list, so its marks alone are drawn"
 
@@ -102,21 +105,28 @@ def facts_of(picture):
         facts.append(ARCHIVED)
     elif versions:
         count = sum(version.is_listed for version in versions)
-        facts.append(f"listed at {count:,} of {len(versions):,} versions")
+        facts.append(f"listed at {count:,} of {plural(len(versions), 'version')}")
     if page.merged:
         facts.append(f"merged with {' '.join(page.merged)}")
     return ", ".join(facts)
 
 
+def label_width(picture):
+    """The width of the labels beside which something is told, but of very wide ones."""
+    widths = (
+        columns(row_label(picture.page.package, row)) for row in picture.rows() if row_words(row))
+    return max((width for width in widths if width <= WIDEST_LABEL), default=0)
+
+
 # Text.
 
 
-def row_lines(picture, row, label_width):
-    """The lines of a row."""
+def row_lines(picture, row, width):
+    """The lines of a row, whose label has this width."""
     package = picture.page.package
     label, words = row_label(package, row), row_words(row)
     graph_width = len(GAP) * picture.lanes() + 1
-    told = f"{padded(label, label_width)}{GAP}{words}".rstrip(" ")
+    told = f"{padded(label, width)}{GAP}{words}".rstrip(" ")
     lines = wrapped(told, max(LEAST_ROOM, WIDTH - graph_width))
     sign = "| " * row.lane + SIGNS[row.versions[0].is_listed]
     further = "| " * row.lane + ("|" if row.base else " ")
@@ -126,11 +136,12 @@ def row_lines(picture, row, label_width):
         yield "| " * (row.lane - 1) + "|/"
 
 
-def part_lines(picture, rows, label_width):
+def part_lines(picture, rows):
     """The lines of some rows, with an empty line before them."""
+    width = label_width(picture)
     yield ""
     for row in rows:
-        yield from row_lines(picture, row, label_width)
+        yield from row_lines(picture, row, width)
 
 
 def legend_line(picture):
@@ -142,18 +153,14 @@ def legend_line(picture):
 
 def text_lines(picture):
     """The lines of a picture as text."""
-    page, rows = picture.page, picture.rows()
-    for line in (title_of(page), facts_of(picture), *picture.notes):
-        yield from wrapped(line, WIDTH)
-    widths = [columns(row_label(page.package, row)) for row in rows]
-    label_width = max((width for width in widths if width <= WIDEST_LABEL), default=0)
-    for rows_of_tree in picture.trees:
-        yield from part_lines(picture, rows_of_tree, label_width)
+    heads = (title_of(picture.page), facts_of(picture), *picture.notes)
+    yield from itertools.chain(*(wrapped(line, WIDTH) for line in heads))
+    yield from itertools.chain(*(part_lines(picture, rows) for rows in picture.trees))
     if picture.alone:
         yield ""
-        yield "In no branch, each by itself:"
-        yield from part_lines(picture, picture.alone, label_width)
-    if rows:
+        yield ALONE
+        yield from part_lines(picture, picture.alone)
+    if picture.rows():
         yield ""
         yield legend_line(picture)
 
@@ -195,22 +202,24 @@ def dot_row(picture, row, name):
     return f"  {name} [{told}];"
 
 
+def dot_title(picture):
+    """What stands above a picture, and what its colours mean."""
+    lines = [title_of(picture.page), facts_of(picture), *picture.notes]
+    if picture.rows() and not picture.page.is_archived:
+        lines.append("red: listed, white: not listed")
+    return "\n".join(lines)
+
+
 def dot_lines(picture):
     """The lines of a picture for dot(1), in which each version stands above what it is based on."""
     rows = picture.rows()
     names = {
         version.node: f"n{place}" for place, row in enumerate(rows) for version in row.versions
     }
-    legend = "red: listed, white: not listed"
-    title = [title_of(picture.page), facts_of(picture), *picture.notes]
     yield f"digraph {quoted(f'bug {picture.page.number}')} {{"
-    title = "\n".join(title if picture.page.is_archived or not rows else [*title, legend])
-    yield f"  graph [label={quoted(title)}, labelloc=t, fontname=monospace];"
+    yield f"  graph [label={quoted(dot_title(picture))}, labelloc=t, fontname=monospace];"
     yield "  node [shape=box, fontname=monospace];"
     yield "  edge [dir=none];"
-    for row in rows:
-        yield dot_row(picture, row, names[row.versions[0].node])
-    for row in rows:
-        if row.base:
-            yield f"  {names[row.versions[0].node]} -> {names[row.base]};"
+    yield from (dot_row(picture, row, f"n{place}") for place, row in enumerate(rows))
+    yield from (f"  n{place} -> {names[row.base]};" for place, row in enumerate(rows) if row.base)
     yield "}"
