@@ -54,7 +54,8 @@ def page_of(number, text):
 
 def page_text(desk, number):
     """The text of a bug's page, or the desk's words where there is no such bug."""
-    return next(iter(list(desk.pages([number]))))
+    (text,) = desk.pages([number])
+    return text
 
 
 # Lists.

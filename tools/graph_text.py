@@ -217,8 +217,8 @@ def dot_lines(picture):
         version.node: f"n{place}" for place, row in enumerate(rows) for version in row.versions
     }
     yield f"digraph {quoted(f'bug {picture.page.number}')} {{"
-    yield f"  graph [label={quoted(dot_title(picture))}, labelloc=t, fontname=monospace];"
-    yield "  node [shape=box, fontname=monospace];"
+    yield f"  graph [label={quoted(dot_title(picture))}, labelloc=t, fontname=Courier];"
+    yield "  node [shape=box, fontname=Courier];"
     yield "  edge [dir=none];"
     yield from (dot_row(picture, row, f"n{place}") for place, row in enumerate(rows))
     yield from (f"  n{place} -> {names[row.base]};" for place, row in enumerate(rows) if row.base)

@@ -176,9 +176,9 @@ class Dot(unittest.TestCase):
             output, _ = graph(f"--store={store}", "--dot", "1")
         first, title, *rest = output.split("\n")
         self.assertEqual(first, 'digraph "bug 1" {')
-        self.assertRegex(title, f"^  graph \\[label={QUOTED}, labelloc=t, fontname=monospace\\];$")
+        self.assertRegex(title, f"^  graph \\[label={QUOTED}, labelloc=t, fontname=Courier\\];$")
         self.assertEqual(rest, [
-            "  node [shape=box, fontname=monospace];", "  edge [dir=none];", "}", ""])
+            "  node [shape=box, fontname=Courier];", "  edge [dir=none];", "}", ""])
 
 
 class Manual(unittest.TestCase):
