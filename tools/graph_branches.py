@@ -49,12 +49,18 @@ def opened(path):
             connection.close()
 
 
-def joined_sources(pairs, sources):
-    """These sources, and all that branches join with them."""
+def neighbours(pairs):
+    """What each source is paired with."""
     near = {}
     for one, other in pairs:
         near.setdefault(one, []).append(other)
         near.setdefault(other, []).append(one)
+    return near
+
+
+def joined_sources(pairs, sources):
+    """These sources, and all that branches join with them."""
+    near = neighbours(pairs)
     found, waiting = set(sources), list(sources)
     while waiting:
         new = set(near.get(waiting.pop(), ())) - found

@@ -77,6 +77,14 @@ class Faults(InFolder):
                     graph_branches.read_nodes(store, {"foo"})
         self.assertIn("in use by another process", str(raised.exception))
 
+    def test_read_only(self):
+        """The connection that reads the branches can't change the file."""
+        store = make_desk(self.folder, DAY)
+        with self.assertRaises(Fault) as raised:
+            with graph_branches.opened(store) as connection:
+                connection.execute("DELETE FROM nodes")
+        self.assertIn("attempt to write a readonly database", str(raised.exception))
+
     def test_output(self):
         """Output that can't be written has status 3."""
         store = make_desk(self.folder, DAY)
@@ -87,8 +95,9 @@ class Faults(InFolder):
     def test_bad_words(self):
         """Bad words have status 2."""
         for words in (
-            ("--store=x",), ("1",), ("--store=x", "1", "2"), ("--store=x", "0"), ("--store=x", "-1"),
-            ("--store=x", "1234567890"), ("--store=x", "one"), ("--store=x", "=y", "1"),
+            ("--store=x",), ("1",), ("--store=x", "1", "2"), ("--store=x", "0"),
+            ("--store=x", "-1"), ("--store=x", "1234567890"), ("--store=x", "one"),
+            ("--store=x", "=y", "1"),
             ("--store=x", "--port=80", "1"), ("--port=80", "1"), ("--port=0", "--branches=x", "1"),
             ("--store=x", "--branches=x", "1"), ("--store=x", "a=b", "a=c", "1"),
             ("--port=80", "--branches=-", "a=-", "1"), ("--store=x", "--dot", "--text", "1"),

@@ -11,6 +11,7 @@ import re
 import subprocess
 import sys
 import unittest
+import urllib.request
 
 import desks
 import graph_text
@@ -176,8 +177,8 @@ def random_day(chance):
         yield f"@report {chance.choice(PACKAGES)} {chance.choice(('-', '3', '9'))} normal x"
     for _ in range(30):
         node = chance.choice(("", "", "", "foo/", "lib/")) + str(chance.randint(1, 26))
-        number, word = chance.randint(1, BUGS), chance.choice(("found", "fixed", "close", "notfound"))
-        yield f"{word} {number} {node}"
+        word = chance.choice(("found", "fixed", "close", "notfound"))
+        yield f"{word} {chance.randint(1, BUGS)} {node}"
 
 
 def random_desk(place, name, script):
@@ -261,7 +262,7 @@ class OverFile(InFolder):
         store = make_desk(self.folder, OTHERS)
         sources = "".join(
             f"Package: {name}\nVersion: {version}\n\n" for name, version in
-            (("foo", "2"), ("foo", "3"), ("foo", "2.5"), ("newfoo", "4"), ("foo", "3_"), ("x", "1")))
+            (("foo", "2"), ("foo", "3"), ("foo", "2.5"), ("newfoo", "4"), ("foo", "3_")))
         packed = written(self.folder, "packed", gzip.compress(sources.encode()))
         lines = written(self.folder, "lines", "foo 3\nlibfoo 1.8\nzed 9\nnewfoo 77\n")
         other = written(self.folder, "other", "zed 8\n")
@@ -303,7 +304,8 @@ o    2.7         in d
         place.mkdir()
         store = make_desk(place, DAY)
         with desks.served(store) as port:
-            run(["curl", "-s", f"127.0.0.1:{port}/branches", "-d", '{"branch":["foo/3","foo/2.0-1"]}'])
+            urllib.request.urlopen(
+                f"http://127.0.0.1:{port}/branches", b'{"branch":["foo/3","foo/2.0-1"]}').close()
             for name in ("desk.db", "desk.db-wal"):
                 written(self.folder, name, pathlib.Path(place, name).read_bytes())
         self.assertIn("\no    3         head\n", drawn(f"--store={self.folder}/desk.db", 1))
@@ -359,7 +361,8 @@ class OverPort(InFolder):
         """Branches that the program refuses are told with their lines, and others are drawn."""
         store = make_desk(self.folder, DAY)
         lines = "# @branch foo/0 foo/7\n@branch foo/2.0-1 foo/1.0-2\n@branch foo/2.0-1 foo/5\n"
-        lines += " @branch foo/9\n@branch foo\n@branches foo/8\n@branch\tfoo/1.0-2 foo/1.0-1\n@branch"
+        lines += " @branch foo/9\n@branch foo\n@branches foo/8\n"
+        lines += "@branch\tfoo/1.0-2 foo/1.0-1\n@branch"
         packed = gzip.compress(lines.encode())
         with desks.served(store) as port:
             output, errors = graph(f"--port={port}", "--branches=-", "1", given=packed)

@@ -189,7 +189,9 @@ o    7""")
 
     def test_columns(self):
         """How many columns letters take."""
-        for text, count in (("abc", 3), ("\u4e2d\u6587", 4), ("e\u0301", 1), ("", 0), ("\uff21", 2)):
+        for text, count in (
+            ("abc", 3), ("\u4e2d\u6587", 4), ("e\u0301", 1), ("", 0), ("\uff21", 2),
+        ):
             self.assertEqual(graph_text.columns(text), count)
 
     def test_wrapped(self):
