@@ -12,7 +12,7 @@ from release_index import Fault
 
 NONE = "-"
 MISSING = "NO "
-# Each has a line of its own on a page.
+# Each has a line of its own on a page, and all but the title are words of ASCII.
 FIELDS = (
     "Title", "Package", "Severity", "State", "Archived", "Found", "Fixed", "Merged with")
 
@@ -43,10 +43,10 @@ def words_of(value):
 def page_of(number, text):
     """The page of a bug from its text."""
     fields = dict(line.partition(": ")[::2] for line in text.split("\n")[1:])
-    if any(not fields.get(name) for name in FIELDS):
+    title, *others = (fields.get(name, "") for name in FIELDS)
+    if not title or not all(value and value.isascii() and value.isprintable() for value in others):
         raise Fault(f"bug {number}: its page lacks a line that each page of a desk has")
-    title, package, severity, state, archived, found, fixed, merged = (
-        fields[name] for name in FIELDS)
+    package, severity, state, archived, found, fixed, merged = others
     return Page(
         number, title, package, severity, state, archived == "yes",
         words_of(found), words_of(fixed), words_of(merged))

@@ -56,6 +56,7 @@ class Faults(InFolder):
         for script, told in (
             ("echo hello", "answered 'hello', as no desk does"),
             (f"{page} | sed 's/^Found:.*/Else: x/'", "its page lacks a line"),
+            (f"{page} | sed 's/^Package:.*/Package: \\x1b[2J/'", "its page lacks a line"),
             (f"{page} | sed 's/^Bugs in foo at .*/OK/'", "answered 'OK', as no desk does"),
             (f"{page} | sed \"s/^Tags: .*/Tags: $$/\"", "was changed meanwhile: ask again"),
             ("exit 3", "it ended with status 3"),
