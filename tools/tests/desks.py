@@ -10,7 +10,7 @@ import threading
 
 TOOLS = pathlib.Path(__file__).resolve().parent.parent
 PROGRAM = TOOLS.parent / "crates/bts/out/bts"
-TIME_LIMIT = 60
+TIME_LIMIT = 300
 
 # The release day of the manual, with the packages of two suites.
 DAY = """@from ann
