@@ -225,6 +225,12 @@ def highest_versions(program, choices, refuse):
 # The service.
 
 
+def is_port(word):
+    """Whether a word is a number from 1 to 65,535."""
+    digits = word.lstrip("0")
+    return word.isascii() and digits.isdecimal() and len(digits) < 6 and int(digits) <= 65_535
+
+
 class PortDesk:
     """A desk that is served on a port of this machine: a connection for each question."""
 

@@ -8,7 +8,7 @@ import re
 import secrets
 import time
 
-from release_desk import LARGEST_ANSWER, SECONDS
+from release_desk import LARGEST_ANSWER, SECONDS, is_port
 from release_index import Fault, shown
 from send_words import BadWords
 
@@ -36,12 +36,6 @@ class Lost(Fault):
 
 
 # The port.
-
-
-def is_port(word):
-    """Whether a word is a number from 1 to 65,535."""
-    digits = word.lstrip("0")
-    return word.isascii() and digits.isdecimal() and len(digits) < 6 and int(digits) <= 65_535
 
 
 def default_port():
