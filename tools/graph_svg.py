@@ -5,13 +5,10 @@ A mark found is a ring around it, and a mark fixed a square; several versions ar
 The picture is written beside its file and then takes its place, so that none is half written.
 """
 
-import contextlib
 import html
 import itertools
-import os
-import stat
-import tempfile
 
+import release_files
 from graph_text import (
     ALONE,
     WIDTH,
@@ -24,8 +21,6 @@ from graph_text import (
     version_words,
     wrapped,
 )
-from release_index import Fault
-from release_page import umask
 
 # Sizes in pixels; a letter of the fonts below has at most LETTER.
 ROW, LANE, LINE, MARGIN, LETTER = 28, 28, 20, 20, 8
@@ -201,33 +196,11 @@ def rows_drawn(picture, rows, places):
         yield from row_parts(picture, row, place, labels)
 
 
-# Its file.
-
-
 def test_path(path):
     """Tests early that a picture can take the place of what is there."""
-    if os.path.exists(path) and not stat.S_ISREG(os.stat(path).st_mode):
-        raise Fault(f"{path}: the picture can't be written: it is no regular file")
-    folder = os.path.dirname(os.path.realpath(path))
-    if not os.access(folder, os.W_OK | os.X_OK):
-        raise Fault(
-            f"{path}: the picture can't be written: its folder is not there or not writable")
+    release_files.test_path(path, "the picture")
 
 
 def write_picture(path, lines):
     """Writes a picture, which is there whole or not at all."""
-    place = os.path.realpath(path)
-    written = None
-    try:
-        handle, written = tempfile.mkstemp(dir=os.path.dirname(place), prefix=".graph-")
-        with open(handle, "w", encoding="utf-8") as file:
-            file.writelines(f"{line}\n" for line in lines)
-        os.chmod(written, 0o666 & ~umask())
-        os.replace(written, place)
-        written = None
-    except OSError as error:
-        raise Fault(f"{path}: the picture can't be written: {error.strerror}") from error
-    finally:
-        if written:
-            with contextlib.suppress(OSError):
-                os.unlink(written)
+    release_files.write_lines(path, lines, "the picture")

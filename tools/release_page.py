@@ -4,15 +4,11 @@ The page is written beside its file and then takes its place, so that none is ha
 Bars are drawings without text: a text browser leaves them out, and loses no figure.
 """
 
-import contextlib
 import html
-import os
 import re
-import stat
-import tempfile
 import time
 
-from release_index import Fault
+import release_files
 from release_report import CRITICAL, SEVERITIES, at_least
 from release_text import (
     NONE,
@@ -260,40 +256,12 @@ def parts(suites, comparison, severity, pages):
     yield "</body></html>"
 
 
-# Its file.
-
-
 def test_path(path):
     """Tests early that a page can take the place of what is there."""
-    if os.path.exists(path) and not stat.S_ISREG(os.stat(path).st_mode):
-        raise Fault(f"{path}: the page can't be written: it is no regular file")
-    folder = os.path.dirname(os.path.realpath(path))
-    if not os.access(folder, os.W_OK | os.X_OK):
-        raise Fault(f"{path}: the page can't be written: its folder is not there or not writable")
+    release_files.test_path(path, "the page")
 
 
 def write_page(path, suites, comparison, severity, pages):
     """Writes the page, which is there whole or not at all."""
-    place = os.path.realpath(path)
-    written = None
-    try:
-        handle, written = tempfile.mkstemp(dir=os.path.dirname(place), prefix=".release-")
-        with open(handle, "w", encoding="utf-8") as file:
-            for part in parts(suites, comparison, severity, pages):
-                file.write(f"{part}\n")
-        os.chmod(written, 0o666 & ~umask())
-        os.replace(written, place)
-        written = None
-    except OSError as error:
-        raise Fault(f"{path}: the page can't be written: {error.strerror}") from error
-    finally:
-        if written:
-            with contextlib.suppress(OSError):
-                os.unlink(written)
-
-
-def umask():
-    """The rights that new files do not get."""
-    mask = os.umask(0)
-    os.umask(mask)
-    return mask
+    lines = parts(suites, comparison, severity, pages)
+    release_files.write_lines(path, lines, "the page")
