@@ -12,14 +12,16 @@ TOOLS = pathlib.Path(__file__).resolve().parent.parent
 PROGRAM = TOOLS.parent / "crates/bts/out/bts"
 TIME_LIMIT = 300
 
-# The release day of the manual, with the packages of two suites.
-DAY = """@from ann
+# The release day of the manual, up to the upload that closes bug 1.
+RELEASE_DAY = """@from ann
 @branch foo/2.0-1 foo/1.0-2 foo/1.0-1
 @report foo 1.0-1 grave crashes at start
 @report foo 1.0-2 important loses the last line
 @report foo - wishlist needs a manual
 close 1 2.0-1
-@report bar 3 serious eats <b>all</b> & more
+"""
+# The same with other packages, and the packages of two suites.
+DAY = RELEASE_DAY + """@report bar 3 serious eats <b>all</b> & more
 @report zed 7 critical burns
 """
 STABLE = "bar 2\nfoo 1.0-2\n"

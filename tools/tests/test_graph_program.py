@@ -15,17 +15,10 @@ import urllib.request
 
 import desks
 import graph_text
-from desks import folder, make_desk, run, written
+from desks import RELEASE_DAY, folder, make_desk, run, written
 
 # The release day of the manual with its stable branch, before its archive, and its suites.
-DAY = """@from ann
-@branch foo/2.0-1 foo/1.0-2 foo/1.0-1
-@report foo 1.0-1 grave crashes at start
-@report foo 1.0-2 important loses the last line
-@report foo - wishlist needs a manual
-close 1 2.0-1
-@branch foo/1.0-2+s1 foo/1.0-2
-"""
+DAY = RELEASE_DAY + "@branch foo/1.0-2+s1 foo/1.0-2\n"
 SUITES = {"stable": "foo 1.0-2+s1\n", "testing": "foo 2.0-1\nbar 7\n"}
 DAY_TEXT = """Bug 1 in foo: crashes at start
 grave, done, listed at 3 of 4 versions
