@@ -5,10 +5,10 @@ use Rattle.std.proofs.Common.{Ok, All, refl, sym, ap, ◌∙◌, subst, ⊎_elim
 use Rattle.std.proofs.lemmas.Bool.{cases_Bool, false≢true, or_left, or_right}
 use Rattle.std.proofs.lemmas.List.Elements.{All-nil, All-cons, All-head, All-tail, All-weaker}
 use Rattle.std.specs.BTreeMap.{insert_entry}
-use Rattle.ancestry.specs.Nodes.{Node, same_node, node_cmp}
-use Rattle.ancestry.specs.Trees.{Ancestry, has_node, knows, parent_of, IsLine, line, is_ancestor, IsForest}
+use Rattle.version_nodes.specs.Nodes.{Node, same_node, node_cmp}
+use Rattle.version_nodes.specs.Trees.{Ancestry, has_node, knows, parent_of, IsLine, line, is_ancestor, IsForest}
 use Rattle.ancestry.specs.Branches.{learn, learn_all, with_parent, base_on, base_all, or_conflict, AreBased}
-use Rattle.ancestry.proofs.NodeLemmas.{has_tail}
+use Rattle.version_nodes.proofs.NodeLemmas.{has_tail}
 use Rattle.ancestry.proofs.LineLemmas.{line_is, line_begins, rest_from}
 use Rattle.ancestry.proofs.BranchLemmas.{Longer, knows_kept, knows_put, learnt_lines, based_line, longer, based_forest}
 

@@ -3,11 +3,11 @@
 use Rattle.std.proofs.Common.{◌≡◌, true, false, List, [], ◌∷◌, ◌++◌, Option, Some, None, is_some, sym, ap, ◌∙◌, subst, ⊎_elim}
 use Rattle.std.proofs.lemmas.Bool.{cases_Bool, false≢true, or_parts}
 use Rattle.std.specs.BTreeMap.{insert_entry}
-use Rattle.ancestry.specs.Nodes.{Node, IsNode, same_node, node_cmp}
+use Rattle.version_nodes.specs.Nodes.{Node, IsNode, same_node, node_cmp}
 use Rattle.std.specs.Option.{option_flatten}
-use Rattle.ancestry.specs.Trees.{Ancestry, has_node, knows, parent_of, IsLine, line, IsForest}
+use Rattle.version_nodes.specs.Trees.{Ancestry, has_node, knows, parent_of, IsLine, line, IsForest}
 use Rattle.ancestry.specs.Branches.{with_parent}
-use Rattle.ancestry.proofs.NodeLemmas.{same_true, known_put, known_others}
+use Rattle.version_nodes.proofs.NodeLemmas.{same_true, known_put, known_others}
 use Rattle.ancestry.proofs.LinkLemmas.{ascends_put}
 use Rattle.ancestry.proofs.LineLemmas.{line_begins, line_cons, unknown_has_none, IsForest-from}
 

@@ -9,15 +9,15 @@ use Rattle.std.specs.BTreeMap.{insert_entry}
 use Rattle.std.specs.List.Sorted.{IsStrictlySortedBy}
 use Rattle.std.specs.Map.{keys_of}
 use Rattle.std.specs.Ordering.{is_eq}
-use Rattle.ancestry.specs.Nodes.{Node, same_node, node_cmp}
+use Rattle.version_nodes.specs.Nodes.{Node, same_node, node_cmp}
 use Rattle.std.specs.Option.{option_flatten}
-use Rattle.ancestry.specs.Trees.{Ancestry, has_node, known_at, knows, parent_of, line, is_ancestor, IsForest}
+use Rattle.version_nodes.specs.Trees.{Ancestry, has_node, known_at, knows, parent_of, line, is_ancestor, IsForest}
 use Rattle.ancestry.specs.Branches.{learn, with_parent, base_on}
 use Rattle.ancestry.specs.Branches.{Extends}
 use Rattle.ancestry.specs.Changes.{past_of}
 use Rattle.ancestry.specs.declared.branch.Past.{Past}
 use Rattle.ancestry.specs.declared.branch.Past.TheVariants.{Unknown, Root, Based}
-use Rattle.ancestry.proofs.NodeLemmas.{same_true, same_itself, same_back, ties_same, has_head, has_cases, known_others}
+use Rattle.version_nodes.proofs.NodeLemmas.{same_true, same_itself, same_back, ties_same, has_head, has_cases, known_others}
 use Rattle.ancestry.proofs.LineLemmas.{unknown_has_none}
 use Rattle.ancestry.proofs.BranchLemmas.{knows_kept}
 use Rattle.ancestry.proofs.LinkLemmas.{ascends_put, same_links}

@@ -15,13 +15,13 @@ use Rattle.std.specs.List.Sorted.{IsStrictlySortedBy}
 use Rattle.std.specs.Map.{keys_of}
 use Rattle.std.specs.Ordering.{nat_cmp, ordering_then, ordering_reverse, is_eq, is_le}
 use Rattle.std.specs.Str.{bytes_eq}
-use Rattle.ancestry.specs.Nodes.{Node, IsNode, node, node_of, node_cmp}
-use Rattle.ancestry.specs.Trees.{Ancestry, has_node, known_at, knows, is_parent, heads, IsForest}
-use Rattle.ancestry.specs.Kept.{lowest_version}
-use Rattle.ancestry.proofs.NodeLemmas.{has_head, has_tail, has_cases, at_first}
+use Rattle.version_nodes.specs.Nodes.{Node, IsNode, node, node_of, node_cmp}
+use Rattle.version_nodes.specs.Trees.{Ancestry, has_node, known_at, knows, is_parent, heads, IsForest}
+use Rattle.version_nodes.specs.Lowest.{lowest_version}
+use Rattle.version_nodes.proofs.NodeLemmas.{has_head, has_tail, has_cases, at_first}
 use Rattle.ancestry.proofs.LinkLemmas.{AreAbove}
 use Rattle.ancestry.proofs.LowestLemmas.{lowest_below}
-use Rattle.ancestry.proofs.ReadLemmas.{nodes_exactly}
+use Rattle.version_nodes.proofs.ReadLemmas.{nodes_exactly}
 
 abbrev pub is_head : Ancestry → List ℕ → Node → Bool
 is_head t source n = bytes_eq n.source source && not (is_parent t n)

@@ -3,10 +3,10 @@ use Rattle.std.proofs.Common.{◌≡◌, ◌≤◌, ◌<◌, ℕ, true, false, B
 use Rattle.std.specs.Prelude.{max, ◌+◌, if◌then◌else◌, Some, option_map}
 use Rattle.std.proofs.lemmas.Bool.Decides.{nat_tests}
 use Rattle.ancestry.specs.Heights.{height, greatest_height, kind_by_heights}
-use Rattle.ancestry.specs.Nodes.{Node, same_node}
-use Rattle.ancestry.specs.Statuses.{first_marked, kind_at, first_kind}
-use Rattle.ancestry.specs.Trees.{has_node}
-use Rattle.ancestry.specs.declared.statuses.MarkKind.TheVariants.{Found, Fixed}
+use Rattle.version_nodes.specs.Nodes.{Node, same_node}
+use Rattle.version_nodes.specs.Statuses.{first_marked, kind_at, first_kind}
+use Rattle.version_nodes.specs.Trees.{has_node}
+use Rattle.version_nodes.specs.declared.statuses.MarkKind.TheVariants.{Found, Fixed}
 
 height-le : (line : List Node) (n : Node) → height line n ≤ length line
 height-le [] n = omega arith

@@ -1,8 +1,5 @@
-pub mod ForestProp
-pub mod NodeLemmas
 pub mod LinkLemmas
 pub mod LineLemmas
-pub mod ReadLemmas
 pub mod WalkLemmas
 pub mod BranchLemmas
 pub mod ParentLemmas

@@ -10,10 +10,10 @@ use Rattle.std.specs.List.{AllByRecursion, IsDistinct, list_any}
 use Rattle.std.specs.List.Sorted.{IsStrictlySortedBy}
 use Rattle.std.specs.Map.{keys_of}
 use Rattle.std.specs.Ordering.{eq_by_cmp}
-use Rattle.ancestry.specs.Nodes.{Node, IsNode, same_node, node_cmp}
-use Rattle.ancestry.specs.NodeLaws.{node_cmp_total, node_ties}
-use Rattle.ancestry.specs.Trees.{Ancestry, has_node, known_at, knows, parent_of, IsLine, line_within, line, is_ancestor, IsForest}
-use Rattle.ancestry.proofs.NodeLemmas.{has_head, has_tail, has_cases}
+use Rattle.version_nodes.specs.Nodes.{Node, IsNode, same_node, node_cmp}
+use Rattle.version_nodes.specs.NodeLaws.{node_cmp_total, node_ties}
+use Rattle.version_nodes.specs.Trees.{Ancestry, has_node, known_at, knows, parent_of, IsLine, line_within, line, is_ancestor, IsForest}
+use Rattle.version_nodes.proofs.NodeLemmas.{has_head, has_tail, has_cases}
 
 -- the line from a parent on, where there is one
 abbrev pub line_above : (Node → List Node) → Option Node → List Node

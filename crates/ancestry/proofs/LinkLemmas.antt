@@ -9,10 +9,10 @@ use Rattle.std.specs.List.{AllByRecursion}
 use Rattle.std.specs.List.Sorted.{IsStrictlySortedBy}
 use Rattle.std.specs.Map.{keys_of}
 use Rattle.std.specs.Ordering.{is_eq, ordering_reverse}
-use Rattle.ancestry.specs.Nodes.{Node, same_node, node_cmp}
-use Rattle.ancestry.specs.NodeLaws.{node_cmp_total}
-use Rattle.ancestry.specs.Trees.{Ancestry, known_at}
-use Rattle.ancestry.proofs.NodeLemmas.{same_true, ties_same, ties_node, at_first, past_first, put_step}
+use Rattle.version_nodes.specs.Nodes.{Node, same_node, node_cmp}
+use Rattle.version_nodes.specs.NodeLaws.{node_cmp_total}
+use Rattle.version_nodes.specs.Trees.{Ancestry, known_at}
+use Rattle.version_nodes.proofs.NodeLemmas.{same_true, ties_same, ties_node, at_first, past_first, put_step}
 
 -- ---- nodes in order
 

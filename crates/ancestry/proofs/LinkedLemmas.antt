@@ -3,10 +3,10 @@ use Rattle.std.proofs.Common.{◌≡◌, true, false, cond, List, [], ◌∷◌,
 use Rattle.std.proofs.Common.{◌∙◌, subst, ⊎_elim}
 use Rattle.std.proofs.lemmas.Bool.{cases_Bool}
 use Rattle.std.specs.BTreeMap.{insert_entry}
-use Rattle.ancestry.specs.Nodes.{Node, node_cmp}
-use Rattle.ancestry.specs.Trees.{Ancestry, has_node, knows, parent_of, IsLine, line, is_parent, IsForest}
+use Rattle.version_nodes.specs.Nodes.{Node, node_cmp}
+use Rattle.version_nodes.specs.Trees.{Ancestry, has_node, knows, parent_of, IsLine, line, is_parent, IsForest}
 use Rattle.ancestry.specs.Branches.{learn, learn_all, with_parent, Extends}
-use Rattle.ancestry.proofs.NodeLemmas.{has_head, has_tail}
+use Rattle.version_nodes.proofs.NodeLemmas.{has_head, has_tail}
 use Rattle.ancestry.proofs.LineLemmas.{line_is}
 use Rattle.ancestry.proofs.BranchLemmas.{learnt_parents}
 use Rattle.ancestry.proofs.AncestorLemmas.{learn_kept, learn_known, learn_all_lines}

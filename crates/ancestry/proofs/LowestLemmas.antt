@@ -15,8 +15,8 @@ use Rattle.debver.specs.Cut.{cut, IsVersion}
 use Rattle.debver.specs.Keys.{key, key_from, weight, first_numbers, string_cmp}
 use Rattle.debver.specs.Versions.{epoch_value, revision_or_zero, total_cmp}
 use Rattle.debver.proofs.OrderLaws.{total_cmp_total}
-use Rattle.ancestry.specs.Nodes.{Node, node, node_cmp}
-use Rattle.ancestry.specs.Kept.{tildes, lowest_version}
+use Rattle.version_nodes.specs.Nodes.{Node, node, node_cmp}
+use Rattle.version_nodes.specs.Lowest.{tildes, lowest_version}
 
 abbrev upto : ℕ → List ℕ → List ℕ → Ordering
 upto n k l = slice_cmp nat_cmp (first_numbers n k) (first_numbers n l)

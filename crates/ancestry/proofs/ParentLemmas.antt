@@ -8,11 +8,11 @@ use Rattle.std.specs.BTreeMap.{insert_entry}
 use Rattle.std.specs.BTreeSet.{BTreeSet, contains}
 use Rattle.std.specs.Option.{option_flatten, option_map_or}
 use Rattle.std.specs.Ordering.{is_eq}
-use Rattle.ancestry.specs.Nodes.{Node, same_node, node_cmp}
-use Rattle.ancestry.specs.Trees.{Ancestry, has_node, known_at, knows, parent_of, line, is_ancestor, is_parent}
+use Rattle.version_nodes.specs.Nodes.{Node, same_node, node_cmp}
+use Rattle.version_nodes.specs.Trees.{Ancestry, has_node, known_at, knows, parent_of, line, is_ancestor, is_parent}
 use Rattle.ancestry.specs.Branches.{learn, with_parent, base_on}
 use Rattle.ancestry.specs.Kept.{AreParents, Adds}
-use Rattle.ancestry.proofs.NodeLemmas.{same_true, same_itself, same_back, ties_same, put_step}
+use Rattle.version_nodes.proofs.NodeLemmas.{same_true, same_itself, same_back, ties_same, put_step}
 use Rattle.ancestry.proofs.LineLemmas.{unknown_has_none}
 
 -- ---- the parents of the links

@@ -10,13 +10,13 @@ use Rattle.std.specs.List.Sorted.{IsPermutation, IsStrictlySortedBy}
 use Rattle.std.specs.Map.{keys_of}
 use Rattle.std.specs.Option.{option_and_then, option_flatten, option_map_or}
 use Rattle.std.specs.Ordering.{is_eq}
-use Rattle.ancestry.specs.Nodes.{Node, same_node, node_cmp}
-use Rattle.ancestry.specs.Trees.{Ancestry, no_nodes, has_node, known_at, knows, parent_of, IsLine, line, IsForest}
+use Rattle.version_nodes.specs.Nodes.{Node, same_node, node_cmp}
+use Rattle.version_nodes.specs.Trees.{Ancestry, no_nodes, has_node, known_at, knows, parent_of, IsLine, line, IsForest}
 use Rattle.ancestry.specs.Branches.{learn, learn_all, with_parent}
 use Rattle.ancestry.specs.Links.{has_parent, under, linked, linked_all}
-use Rattle.ancestry.proofs.ForestProp.{no_nodes-forest}
-use Rattle.ancestry.proofs.NodeLemmas.{same_true, same_itself, same_back, ties_same, has_tail, has_cases, at_first, past_first, known_put}
-use Rattle.ancestry.proofs.NodeLemmas.{known_others}
+use Rattle.version_nodes.proofs.ForestProp.{no_nodes-forest}
+use Rattle.version_nodes.proofs.NodeLemmas.{same_true, same_itself, same_back, ties_same, has_tail, has_cases, at_first, past_first, known_put}
+use Rattle.version_nodes.proofs.NodeLemmas.{known_others}
 use Rattle.ancestry.proofs.LinkLemmas.{AreAbove, same_links}
 use Rattle.ancestry.proofs.LineLemmas.{line_is, line_up, here_in_line, rest_from, shorter_up}
 use Rattle.ancestry.proofs.BranchLemmas.{learnt_forest, based_forest}

@@ -3,8 +3,8 @@ use Rattle.std.proofs.Common.{◌≡◌, ◌==◌, ℕ, ◌+◌, ◌<◌, ◌≤
 use Rattle.std.proofs.Common.{length, get_or, drop, Option, Some, None, Result, Ok, Err, sym, ap, ◌∙◌, subst}
 use Rattle.std.proofs.lemmas.List.{at_drop_more}
 use Rattle.std.specs.Option.{option_map_or}
-use Rattle.ancestry.specs.Nodes.{Node}
-use Rattle.ancestry.specs.Trees.{Ancestry, knows, IsForest}
+use Rattle.version_nodes.specs.Nodes.{Node}
+use Rattle.version_nodes.specs.Trees.{Ancestry, knows, IsForest}
 use Rattle.ancestry.specs.Branches.{learn_all, or_conflict, base_on, base_all, first_repeat, branched, IsBranched, TakesMemory}
 use Rattle.ancestry.specs.Changes.{Makes}
 use Rattle.ancestry.specs.declared.fault.BranchFault.{BranchFault}

@@ -2,9 +2,9 @@
 use Rattle.std.proofs.Common.{◌≡◌, ◌∷◌, List, Option, Some, Bor, false, ◌||◌, ap, sym, ◌∙◌}
 use Rattle.std.specs.Prelude.{if◌then◌else◌}
 use Rattle.std.specs.Option.{option_copied}
-use Rattle.ancestry.specs.Nodes.{Node}
-use Rattle.ancestry.specs.Trees.{Ancestry, has_node, parent_of, line, IsForest}
-use Rattle.ancestry.specs.Statuses.{first_marked}
+use Rattle.version_nodes.specs.Nodes.{Node}
+use Rattle.version_nodes.specs.Trees.{Ancestry, has_node, parent_of, line, IsForest}
+use Rattle.version_nodes.specs.Statuses.{first_marked}
 use Rattle.ancestry.proofs.LineLemmas.{line_above, line_step}
 
 -- the line from where the walk is, and that from where it goes on

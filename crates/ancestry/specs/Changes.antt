@@ -1,8 +1,8 @@
 -- What may have changed while a branch is taken, so that it can be put back.
 -- This project's own rule.
 use Rattle.std.specs.Prelude.{◌≡◌, ⊤, Option, Some, None, Result, Ok, Err}
-use Rattle.ancestry.specs.Nodes.{Node}
-use Rattle.ancestry.specs.Trees.{Ancestry}
+use Rattle.version_nodes.specs.Nodes.{Node}
+use Rattle.version_nodes.specs.Trees.{Ancestry}
 use Rattle.ancestry.specs.declared.branch.Past.{Past}
 use Rattle.ancestry.specs.declared.branch.Past.TheVariants.{Unknown, Root, Based}
 use Rattle.ancestry.specs.declared.fault.BranchFault.{BranchFault}

@@ -4,9 +4,9 @@
 use Rattle.std.specs.Prelude.{ℕ, ◌≡◌, ◌+◌, nat_lt, List, [], ◌∷◌, length, max, Option, Some, None, if◌then◌else◌}
 use Rattle.std.specs.Option.{option_map_or}
 use Rattle.std.specs.HashMap.{HashMap, get}
-use Rattle.ancestry.specs.Nodes.{Node, same_node}
-use Rattle.ancestry.specs.declared.statuses.MarkKind.{MarkKind}
-use Rattle.ancestry.specs.declared.statuses.MarkKind.TheVariants.{Found, Fixed}
+use Rattle.version_nodes.specs.Nodes.{Node, same_node}
+use Rattle.version_nodes.specs.declared.statuses.MarkKind.{MarkKind}
+use Rattle.version_nodes.specs.declared.statuses.MarkKind.TheVariants.{Found, Fixed}
 
 -- how many nodes a line has from this one on; none, where it doesn't have this one
 abbrev pub height : List Node → Node → ℕ

@@ -1,9 +1,9 @@
-pub mod Nodes
-pub mod NodeLaws
-pub mod Trees
+pub use Rattle.version_nodes.specs.Nodes
+pub use Rattle.version_nodes.specs.NodeLaws
+pub use Rattle.version_nodes.specs.Trees
+pub use Rattle.version_nodes.specs.Statuses
 pub mod Branches
 pub mod Links
-pub mod Statuses
 -- definitions that only private functions and fields cite
 pub mod Changes
 pub mod Kept

@@ -2,8 +2,8 @@
 -- This project's own rule.
 use Rattle.std.specs.Prelude.{Bool, false, List, [], ◌∷◌, Option, Some, None, is_none, is_some, if◌then◌else◌}
 use Rattle.std.specs.Option.{option_and_then, option_map_or}
-use Rattle.ancestry.specs.Nodes.{Node, same_node}
-use Rattle.ancestry.specs.Trees.{Ancestry, has_node, parent_of, line}
+use Rattle.version_nodes.specs.Nodes.{Node, same_node}
+use Rattle.version_nodes.specs.Trees.{Ancestry, has_node, parent_of, line}
 use Rattle.ancestry.specs.Branches.{learn, learn_all, with_parent}
 
 -- whether the node has this parent, or none

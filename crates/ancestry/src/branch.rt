@@ -6,8 +6,8 @@ ghost use Rattle.std.specs.List.Sorted.{IsStrictlySortedBy};
 ghost use Rattle.std.specs.BTreeSet.{contains};
 ghost use Rattle.std.specs.Map.{keys_of};
 ghost use Rattle.std.specs.Ordering.{is_eq};
-ghost use Rattle.ancestry.specs.Nodes.{Node, same_node, node_cmp};
-ghost use Rattle.ancestry.specs.Trees.{Ancestry, has_node, known_at, knows, parent_of, line, is_ancestor, is_parent, IsForest};
+ghost use Rattle.version_nodes.specs.Nodes.{Node, same_node, node_cmp};
+ghost use Rattle.version_nodes.specs.Trees.{Ancestry, has_node, known_at, knows, parent_of, line, is_ancestor, is_parent, IsForest};
 ghost use Rattle.ancestry.specs.Branches.{learn, learn_all, with_parent, or_conflict, base_on, base_all, is_repeat, first_repeat};
 ghost use Rattle.ancestry.specs.Branches.{branched, IsBranched, TakesMemory, AreBased, Extends};
 ghost use Rattle.ancestry.specs.Changes.{Makes, past_of};
@@ -15,10 +15,10 @@ ghost use Rattle.ancestry.specs.Kept.{Adds};
 ghost use Rattle.ancestry.specs.declared.fault.BranchFault.TheVariants.{Memory};
 
 use crate::fault::BranchFault;
-use crate::node::Node;
 use crate::tree::Tree;
 use std::alloc::AllocError;
 use std::collections::{BTreeMap, BTreeSet};
+use version_nodes::Node;
 
 // How many nodes a branch has at most.
 const MOST_NODES: usize = 200;

@@ -1,13 +1,4 @@
-//! Why a node or a branch is refused.
-
-/// Why a text gives no node.
-#[derive(Clone, Copy, Debug, PartialEq, Eq, Drop)]
-pub enum NodeFault {
-    /// The text is no package name and version.
-    BadNode,
-    /// There was no memory.
-    Memory,
-}
+//! Why a branch is refused.
 
 /// Why a branch is refused.
 /// Places count from 0.

@@ -4,15 +4,14 @@ ghost use Rattle.std.specs.Prelude.{◌≡◌, ℕ, IfOk, OnOk, if◌then◌else
 ghost use Rattle.std.specs.HashMap.{get};
 ghost use Rattle.std.specs.Option.{option_map_or};
 ghost use Rattle.ancestry.specs.Heights.{HasHeights, height, greatest_height, kind_by_heights};
-ghost use Rattle.ancestry.specs.Nodes.{Node, same_node};
-ghost use Rattle.ancestry.specs.Statuses.{first_kind, status_on};
+ghost use Rattle.version_nodes.specs.Nodes.{Node, same_node};
+ghost use Rattle.version_nodes.specs.Statuses.{first_kind, status_on};
 
 use crate::marks::status_from;
-use crate::node::Node;
-use crate::statuses::{MarkKind, Status};
 use std::alloc::{AllocError, Global};
 use std::collections::HashMap;
 use std::marker::Model;
+use version_nodes::{MarkKind, Node, Status};
 
 /// A line, and how many nodes it has from each of its nodes on.
 /// Contracts see the line.
@@ -27,7 +26,7 @@ pub struct IndexedLine {
 impl Model for IndexedLine {
     ghost use Rattle.std.specs.Prelude.{List};
     ghost use Rattle.ancestry.specs.Heights.{HasHeights};
-    ghost use Rattle.ancestry.specs.Nodes.{Node as Seen};
+    ghost use Rattle.version_nodes.specs.Nodes.{Node as Seen};
 
     ghost Value = { List Seen };
 
@@ -123,7 +122,7 @@ impl IndexedLine {
     /// gone through.
     /// Takes no memory.
     /// This project's own rule.
-    #[tactic(auto, unfolding(crate::specs::Statuses::status_on))]
+    #[tactic(auto, unfolding(version_nodes::specs::Statuses::status_on))]
     pub fn status(&self, found: &[Node], fixed: &[Node], closed: bool) -> Status
         ensures { result ≡ status_on self.now found.now fixed.now closed }
     {

@@ -5,8 +5,8 @@ ghost use Rattle.std.specs.Prelude.{◌≡◌, ◌↔◌, ℕ, List, Some};
 ghost use Rattle.std.specs.List.Sorted.{IsPermutation};
 ghost use Rattle.debver.specs.Names.{IsName};
 ghost use Rattle.debver.specs.Cut.{IsVersion};
-ghost use Rattle.ancestry.specs.Nodes.{Node, node, node_of};
-ghost use Rattle.ancestry.specs.Trees.{Ancestry, no_nodes, IsForest, IsLine, line};
+ghost use Rattle.version_nodes.specs.Nodes.{Node, node, node_of};
+ghost use Rattle.version_nodes.specs.Trees.{Ancestry, no_nodes, IsForest, IsLine, line};
 ghost use Rattle.ancestry.specs.Links.{linked_all};
 
 /// Two texts give a node exactly where the one is a package name and the other a version, and then

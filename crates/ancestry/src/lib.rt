@@ -1,5 +1,5 @@
-//! Nodes (versions of source packages), the tree that says which is based on which, and the status
-//! of a bug at a node.
+//! The tree that says which version of a source package is based on which, branches of versions,
+//! and the status of a bug at a node.
 #![tactic(auto)]
 
 mod branch;
@@ -8,14 +8,11 @@ mod indexed;
 mod laws;
 mod links;
 mod marks;
-mod node;
-mod statuses;
 mod tree;
 
-pub use fault::{BranchFault, NodeFault};
+pub use fault::BranchFault;
 pub use indexed::IndexedLine;
 pub use laws::{one_line, replayed, valid_nodes};
 pub use marks::{status, status_from};
-pub use node::{Node, at_first_slash};
-pub use statuses::{MarkKind, Status};
 pub use tree::Tree;
+pub use version_nodes::{MarkKind, Node, NodeFault, Status, at_first_slash};

@@ -2,15 +2,15 @@
 
 ghost use Rattle.std.specs.Prelude.{◌≡◌, false, [], ◌∷◌, None, Some, IfOk, OnOk, OnErr, is_some, unwrap_or};
 ghost use Rattle.std.specs.Option.{option_copied, option_map_or};
-ghost use Rattle.ancestry.specs.Nodes.{Node, same_node};
-ghost use Rattle.ancestry.specs.Trees.{has_node, parent_of, line, is_parent, IsForest};
+ghost use Rattle.version_nodes.specs.Nodes.{Node, same_node};
+ghost use Rattle.version_nodes.specs.Trees.{has_node, parent_of, line, is_parent, IsForest};
 ghost use Rattle.ancestry.specs.Branches.{learn_all, with_parent, Extends};
 ghost use Rattle.ancestry.specs.Links.{under, linked};
 
 use crate::branch::put_back_one;
-use crate::node::Node;
 use crate::tree::Tree;
 use std::alloc::AllocError;
+use version_nodes::Node;
 
 // Whether this is the parent that a node is to have.
 fn is_parent_wanted(wanted: Option<&Node>, parent: &Node) -> bool

@@ -1,12 +1,11 @@
 //! The status of a bug at a node, by its marks.
 
 ghost use Rattle.std.specs.Prelude.{◌≡◌};
-ghost use Rattle.ancestry.specs.Trees.{has_node, line};
-ghost use Rattle.ancestry.specs.Statuses.{first_kind, status_from, status};
+ghost use Rattle.version_nodes.specs.Trees.{has_node, line};
+ghost use Rattle.version_nodes.specs.Statuses.{first_kind, status_from, status};
 
-use crate::node::Node;
-use crate::statuses::{MarkKind, Status};
 use crate::tree::Tree;
+use version_nodes::{MarkKind, Node, Status};
 
 fn has_node(nodes: &[Node], node: &Node) -> bool
     ensures { result ≡ has_node nodes.now node.now }
@@ -62,7 +61,7 @@ pub fn status_from(
 /// With no such node it is `Found` where nothing is marked as found, and else `Absent`.
 /// Takes no memory.
 /// This project's own rule.
-#[tactic(auto, unfolding(crate::specs::Statuses::status, crate::specs::Statuses::status_on))]
+#[tactic(auto, unfolding(version_nodes::specs::Statuses::status, version_nodes::specs::Statuses::status_on))]
 pub fn status(tree: &Tree, found: &[Node], fixed: &[Node], closed: bool, node: &Node) -> Status
     ensures { result ≡ status tree.now found.now fixed.now closed node.now }
 {

@@ -3,14 +3,13 @@
 ghost use Rattle.std.specs.Prelude.{◌≡◌, IfOk};
 ghost use Rattle.std.specs.List.Sorted.{IsStrictlySortedBy};
 ghost use Rattle.std.specs.Option.{option_copied};
-ghost use Rattle.ancestry.specs.Nodes.{node_cmp};
-ghost use Rattle.ancestry.specs.Trees.{no_nodes, knows, parent_of, IsLine, line, is_parent, heads, IsForest};
+ghost use Rattle.version_nodes.specs.Nodes.{node_cmp};
+ghost use Rattle.version_nodes.specs.Trees.{no_nodes, knows, parent_of, IsLine, line, is_parent, heads, IsForest};
 
-use crate::fault::NodeFault;
-use crate::node::Node;
 use std::alloc::{AllocError, Global};
 use std::collections::{BTreeMap, BTreeSet};
 use std::marker::Model;
+use version_nodes::{Node, NodeFault};
 
 /// The known nodes, each with its parent, if it has one: parents are known, and there are no
 /// cycles.
@@ -25,7 +24,7 @@ pub struct Tree {
 }
 
 impl Model for Tree {
-    ghost use Rattle.ancestry.specs.Trees.{Ancestry, IsForest};
+    ghost use Rattle.version_nodes.specs.Trees.{Ancestry, IsForest};
     ghost use Rattle.ancestry.specs.Kept.{AreParents};
 
     ghost Value = { Ancestry };

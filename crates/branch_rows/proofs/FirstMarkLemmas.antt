@@ -4,16 +4,16 @@ use Rattle.std.specs.Prelude.{option_map}
 use Rattle.std.specs.Option.{option_or}
 use Rattle.std.proofs.lemmas.Option.{none-some}
 use Rattle.line_words.specs.declared.named.TheConstants.{LARGEST_NUMBER, AFTER_LARGEST}
-use Rattle.ancestry.specs.Nodes.{Node}
-use Rattle.ancestry.specs.Trees.{has_node}
-use Rattle.ancestry.specs.declared.statuses.MarkKind.TheVariants.{Found, Fixed}
+use Rattle.version_nodes.specs.Nodes.{Node}
+use Rattle.version_nodes.specs.Trees.{has_node}
+use Rattle.version_nodes.specs.declared.statuses.MarkKind.TheVariants.{Found, Fixed}
 use Rattle.bug_record.specs.Sets.{has}
 use Rattle.bug_record.specs.Images.{bug_of}
 use Rattle.bug_record.specs.declared.bug.SetImage.{SetImage}
 use Rattle.nearest_marks.specs.Nearest.{own_mark, nearest_on}
 use Rattle.nearest_marks.specs.declared.near.Near.{Near}
 use Rattle.nearest_marks.proofs.LineLemmas.{longer}
-use Rattle.desk_places.proofs.KeyLemmas.{shown-some}
+use Rattle.bugs_in_memory.proofs.KeyLemmas.{shown-some}
 use Rattle.desk_content.specs.Content.{Content}
 use Rattle.desk_content.specs.View.{image, shared_of}
 use Rattle.desk_content.specs.Kept.{IsKeptContent}

@@ -5,10 +5,10 @@ use Rattle.std.specs.List.{AllByRecursion}
 use Rattle.std.specs.Option.{option_flatten}
 use Rattle.std.proofs.lemmas.Bool.{false≢true}
 use Rattle.std.proofs.lemmas.List.Elements.{recursion_from_All}
-use Rattle.ancestry.specs.Nodes.{Node}
-use Rattle.ancestry.specs.Trees.{Ancestry, IsForest, has_node, known_at, knows, parent_of}
+use Rattle.version_nodes.specs.Nodes.{Node}
+use Rattle.version_nodes.specs.Trees.{Ancestry, IsForest, has_node, known_at, knows, parent_of}
 use Rattle.ancestry.specs.Branches.{Extends}
-use Rattle.ancestry.proofs.NodeLemmas.{has_cases}
+use Rattle.version_nodes.proofs.NodeLemmas.{has_cases}
 use Rattle.nearest_marks.proofs.LineLemmas.{sees_still}
 use Rattle.branch_rows.specs.Grown.{unknown_of, roots_of, changed_of, IsGrown}
 use Rattle.branch_rows.proofs.NodeListLemmas.{has_append, has_filter}

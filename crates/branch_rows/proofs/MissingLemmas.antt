@@ -1,7 +1,7 @@
 -- The rows of the nodes whose line has a changed node are all those that are missing.
 use Rattle.std.proofs.Common.{◌≡◌, ℕ, Bool, true, false, cond, ◌&&◌, List, Option, Some, None, is_some, refl, sym, ap, ◌∙◌}
-use Rattle.ancestry.specs.Nodes.{Node}
-use Rattle.ancestry.specs.Trees.{Ancestry, has_node, knows, line}
+use Rattle.version_nodes.specs.Nodes.{Node}
+use Rattle.version_nodes.specs.Trees.{Ancestry, has_node, knows, line}
 use Rattle.nearest_marks.specs.Nearest.{nearest_on, nearest_of, meets}
 use Rattle.nearest_marks.specs.declared.near.Near.{Near}
 use Rattle.nearest_marks.proofs.LineLemmas.{sees_same}

@@ -1,9 +1,9 @@
 -- Nodes in lists of two parts, and in filtered ones.
 use Rattle.std.proofs.Common.{◌≡◌, Bool, true, false, cond, ◌||◌, ◌&&◌, List, [], ◌∷◌, ◌++◌, refl, sym, ap, ◌∙◌}
 use Rattle.std.specs.Prelude.{filter}
-use Rattle.ancestry.specs.Nodes.{Node, same_node}
-use Rattle.ancestry.specs.Trees.{has_node}
-use Rattle.ancestry.proofs.NodeLemmas.{same_true}
+use Rattle.version_nodes.specs.Nodes.{Node, same_node}
+use Rattle.version_nodes.specs.Trees.{has_node}
+use Rattle.version_nodes.proofs.NodeLemmas.{same_true}
 
 and_false : (a : Bool) → (a && false) ≡ false
 and_false true = refl

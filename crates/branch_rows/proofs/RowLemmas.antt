@@ -9,10 +9,10 @@ use Rattle.std.specs.BTreeMap.{is_at}
 use Rattle.std.proofs.lemmas.Bool.{false≢true, eqb-true, eq-eqb}
 use Rattle.std.proofs.lemmas.Map.Keys.{sorted_head, sorted_tail}
 use Rattle.line_words.specs.declared.named.TheConstants.{LARGEST_NUMBER}
-use Rattle.ancestry.specs.Nodes.{Node, same_node}
-use Rattle.ancestry.specs.NodeLaws.{same_node_equiv}
-use Rattle.ancestry.specs.Trees.{Ancestry, has_node, knows, line}
-use Rattle.ancestry.proofs.NodeLemmas.{same_true, same_itself}
+use Rattle.version_nodes.specs.Nodes.{Node, same_node}
+use Rattle.version_nodes.specs.NodeLaws.{same_node_equiv}
+use Rattle.version_nodes.specs.Trees.{Ancestry, has_node, knows, line}
+use Rattle.version_nodes.proofs.NodeLemmas.{same_true, same_itself}
 use Rattle.bug_record.specs.Sets.{Each}
 use Rattle.bug_record.proofs.OrderedLemmas.{eq_cmp}
 use Rattle.nearest_marks.specs.Nearest.{nearest_on, nearest_of}

@@ -1,8 +1,8 @@
 -- What a branch changes in an ancestry.
 -- This project's own rule.
 use Rattle.std.specs.Prelude.{◌≡◌, ◌&&◌, ◌++◌, true, false, not, List, filter, Some, is_none, is_some}
-use Rattle.ancestry.specs.Nodes.{Node}
-use Rattle.ancestry.specs.Trees.{Ancestry, IsForest, has_node, known_at, knows, parent_of}
+use Rattle.version_nodes.specs.Nodes.{Node}
+use Rattle.version_nodes.specs.Trees.{Ancestry, IsForest, has_node, known_at, knows, parent_of}
 use Rattle.nearest_marks.specs.Nearest.{nearest_of}
 use Rattle.nearest_marks.specs.declared.near.Near.{Near}
 

@@ -2,8 +2,8 @@
 -- This project's own rule.
 use Rattle.std.specs.Prelude.{ℕ, ◌≡◌, ◌≤◌, List, [], ◌∷◌, None, is_some, if◌then◌else◌}
 use Rattle.line_words.specs.declared.named.TheConstants.{LARGEST_NUMBER}
-use Rattle.ancestry.specs.Nodes.{Node}
-use Rattle.ancestry.specs.Trees.{Ancestry, has_node}
+use Rattle.version_nodes.specs.Nodes.{Node}
+use Rattle.version_nodes.specs.Trees.{Ancestry, has_node}
 use Rattle.bug_record.specs.Sets.{Each}
 use Rattle.nearest_marks.specs.Nearest.{nearest_of}
 use Rattle.nearest_marks.specs.declared.near.Near.{Near}

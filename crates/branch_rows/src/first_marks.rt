@@ -7,10 +7,10 @@ ghost use Rattle.std.specs.BTreeMap.{get};
 ghost use Rattle.bug_record.specs.Sets.{has};
 ghost use Rattle.branch_rows.specs.FirstMarks.{mark, mark_at};
 
-use ancestry::{MarkKind, Node};
 use nearest_marks::Near;
 use std::alloc::AllocError;
 use std::collections::BTreeMap;
+use version_nodes::{MarkKind, Node};
 
 // Adds the mark of the set of this key, unless it has one.
 fn add_first(

@@ -3,8 +3,9 @@
 ghost use Rattle.std.specs.Prelude.{◌≡◌, IfOk};
 ghost use Rattle.branch_rows.specs.Grown.{unknown_of, roots_of, changed_of};
 
-use ancestry::{Node, Tree};
+use ancestry::Tree;
 use std::alloc::{AllocError, Global};
+use version_nodes::Node;
 
 /// Those nodes of a branch that it may change, as they are before it is taken.
 #[derive(Drop)]

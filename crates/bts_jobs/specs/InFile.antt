@@ -15,7 +15,7 @@ use Rattle.sqlite_store.specs.declared.store.FileStore.{FileStore}
 use Rattle.sqlite_trees.specs.Tree.{Trees}
 use Rattle.sqlite_wal.specs.Recovery.{Image}
 use Rattle.bug_record.specs.Desk.{Desk}
-use Rattle.desk_places.specs.Plain.{empty_desk}
+use Rattle.bugs_in_memory.specs.Plain.{empty_desk}
 use Rattle.desk_store.specs.Store.{Faults, no_faults}
 use Rattle.desk_content.specs.Content.{Content}
 use Rattle.desk_content.specs.Kept.{IsKeptContent}

@@ -7,10 +7,10 @@ use Rattle.sqlite_wal.specs.Files.{image_at}
 use Rattle.line_words.specs.declared.named.TheConstants.{LARGEST_NUMBER}
 use Rattle.bug_record.specs.Desk.{Desk}
 use Rattle.bug_record.specs.Texts.{IsText}
-use Rattle.desk_text.specs.declared.outcome.End.{End}
+use Rattle.bug_record.specs.declared.outcome.End.{End}
 use Rattle.desk_store.specs.Store.{Faults, Holds, no_faults, faults_after_end}
 use Rattle.message_machine.specs.Message.{Entry, IsReceived}
-use Rattle.desk_places.specs.Plain.{empty_desk}
+use Rattle.bugs_in_memory.specs.Plain.{empty_desk}
 use Rattle.desk_lines.specs.Reading.{Known, Left}
 use Rattle.desk_lines.specs.declared.fault.ScriptFault.{ScriptFault}
 use Rattle.desk_lines.specs.declared.fault.ScriptFault.TheVariants.{Read}
@@ -28,7 +28,7 @@ use Rattle.desk_answers.specs.Stored.{stored}
 use Rattle.message_machine.specs.Kept.{Keeping, none_kept}
 use Rattle.bts_jobs.specs.Endings.{end_of_script, end_of_server, end_of_message}
 use Rattle.desk_lines.specs.Lines.{lines_of}
-use Rattle.message_machine.specs.Ids.{IsId}
+use Rattle.line_words.specs.Ids.{IsId}
 use Rattle.desk_messages.specs.declared.message.Received.{Received}
 use Rattle.desk_repeats.specs.Once.{IsOnce, faults_after_once}
 use Rattle.desk_repeats.specs.declared.once.OnceFault.{OnceFault}

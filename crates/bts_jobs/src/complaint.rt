@@ -4,8 +4,8 @@ ghost use Rattle.std.specs.Prelude.{◌≡◌, ◌++◌, decimal};
 ghost use Rattle.bts_jobs.specs.Endings.{store_line, cause_line, IsWritten, IsTold};
 
 use crate::ending::{Cause, JobEnd};
+use bug_record::StoreFault;
 use desk_lines::write_out;
-use desk_text::StoreFault;
 use itoa::Buffer;
 use std::io::Write;
 

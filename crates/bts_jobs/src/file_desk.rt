@@ -11,8 +11,8 @@ ghost use Rattle.bts_jobs.specs.Endings.{cause_of_opening};
 ghost use Rattle.bts_jobs.specs.InFile.{IsOpenCause, IsInitCause, IsNewInFile, IsOpenedInFile};
 
 use crate::ending::Cause;
+use bug_record::StoreFault;
 use desk_tables::{OpenFault, TableDesk};
-use desk_text::StoreFault;
 use sqlite::{Connection, Error, ErrorCode, FileFrom, FileStore, Start};
 use std::alloc::Global;
 use std::fs;

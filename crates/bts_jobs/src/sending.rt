@@ -7,13 +7,12 @@ ghost use Rattle.bts_jobs.specs.Jobs.{IsSentOver, IsSentToFile, TellsMessage};
 
 use crate::ending::{Cause, JobEnd};
 use crate::file_desk::{close_desk, open_desk};
-use bug_record::is_text;
+use bug_record::{End, is_text};
 use debver::Text;
 use desk_lines::write_out;
 use desk_messages::{Received, receive_lines, received_bytes};
 use desk_run::refuses;
 use desk_store::Records;
-use desk_text::End;
 use sqlite::Start;
 use std::alloc::Global;
 use std::io::Write;

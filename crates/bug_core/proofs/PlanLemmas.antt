@@ -29,7 +29,7 @@ use Rattle.bug_record.specs.declared.command.PlanFault.TheVariants.{Refused, Mem
 use Rattle.bug_record.specs.declared.command.Refusal.{Refusal}
 use Rattle.bug_record.specs.declared.command.Refusal.TheVariants.{NoBug, Archived, NotArchived, OwnSet, NotDone, StillFound}
 use Rattle.bug_record.specs.declared.command.Command.TheVariants as commands
-use Rattle.ancestry.specs.Nodes.{Node}
+use Rattle.version_nodes.specs.Nodes.{Node}
 use Rattle.bug_record.specs.Words.{archived_refusal}
 use Rattle.set_images.specs.Refusals.{records_refusal}
 use Rattle.bug_core.specs.Others.{others}
@@ -192,26 +192,7 @@ tests-own (commands.Unarchive n) head merged f =
     elim f.archived as (λ t. IfGiven IsRefusalOfPlan (option_or (cond t None (Some (NotArchived n))) None))
     [ true ↦ tt | false ↦ tt ]
 tests-own (commands.Affects n step names) head merged f = tt
-tests-own (commands.Found n version) head merged f = tt
-tests-own (commands.NotFound n version) head merged f = tt
-tests-own (commands.Fixed n version) head merged f = tt
-tests-own (commands.NotFixed n version) head merged f = tt
-tests-own (commands.Close n version) head merged f = tt
-tests-own (commands.Reopen n who) head merged f = tt
-tests-own (commands.Severity n severity) head merged f = tt
-tests-own (commands.Tags n steps) head merged f = tt
-tests-own (commands.Retitle n text) head merged f = tt
-tests-own (commands.Submitter n who) head merged f = tt
-tests-own (commands.Reassign n package_name version) head merged f = tt
-tests-own (commands.Merge n ns) head merged f = tt
-tests-own (commands.ForceMerge n ns) head merged f = tt
-tests-own (commands.Unmerge n) head merged f = tt
-tests-own (commands.Clone n ks) head merged f = tt
-tests-own (commands.Unblock n ns) head merged f = tt
-tests-own (commands.Forwarded n text) head merged f = tt
-tests-own (commands.NotForwarded n) head merged f = tt
-tests-own (commands.Owner n who) head merged f = tt
-tests-own (commands.NoOwner n) head merged f = tt
+tests-own _ head merged f = tt
 
 -- a refusal of the bugs
 pub planned-tested : (head : Option Node) (sender : List ℕ) (command : Command ℕ) (is : List SetImage) (next : ℕ) (i : SetImage)

@@ -5,13 +5,13 @@ use Rattle.std.specs.Cmp.Lexicographic.{nat_list_cmp_total, nat_list_eq_equiv, t
 use Rattle.std.specs.List.{list_any}
 use Rattle.std.specs.List.Sorted.{IsStrictlySortedBy}
 use Rattle.std.proofs.lemmas.Bool.{eqb-true, eq-eqb}
-use Rattle.ancestry.specs.Nodes.{Node, node_cmp, same_node}
-use Rattle.ancestry.specs.NodeLaws.{same_node_equiv, node_cmp_total, node_ties}
+use Rattle.version_nodes.specs.Nodes.{Node, node_cmp}
+use Rattle.version_nodes.specs.NodeLaws.{same_node_equiv, node_cmp_total, node_ties}
 use Rattle.bug_record.specs.Sets.{has, IsAscending, number_set}
 use Rattle.bug_record.specs.Tags.{tag_place, same_tag, has_tag, with_tag, IsTagSet}
 use Rattle.bug_record.specs.Marks.{node_set}
 use Rattle.bug_record.specs.PackageSets.{name_cmp, has_name, name_set}
-use Rattle.ancestry.specs.Trees.{has_node}
+use Rattle.version_nodes.specs.Trees.{has_node}
 use Rattle.bug_record.specs.Bugs.{bugs_at, all_of}
 use Rattle.bug_record.specs.Merges.{first_owner, all_merged, joined_tags, joined_shared}
 use Rattle.bug_record.specs.Images.{numbers_of, bug_of, bug_in, AreApart}

@@ -5,7 +5,7 @@ use Rattle.bug_record.specs.Words.{first_bug_refusal, words_refusal}
 use Rattle.bug_record.specs.Desk.{Desk}
 use Rattle.bug_record.specs.Differences.{first_difference, package_difference}
 use Rattle.bug_record.specs.Merges.{sets_joined}
-use Rattle.ancestry.specs.Nodes.{Node}
+use Rattle.version_nodes.specs.Nodes.{Node}
 use Rattle.bug_record.specs.Bugs.{at_bug, unless, first_of}
 use Rattle.bug_record.specs.Heads.{open_head}
 use Rattle.bug_record.specs.Commands.{bugs_named}
@@ -60,28 +60,7 @@ pub step-with : (d : Desk) (head : Option Node) (sender : List ℕ) (command : C
 step-with d head sender (commands.Archive n) h =
     ap (unless (first_bug_refusal false d.bug (n ∷ []))) (changed-with d head sender n h)
 step-with d head sender (commands.Found n version) h = refl
-step-with d head sender (commands.NotFound n version) h = refl
-step-with d head sender (commands.Fixed n version) h = refl
-step-with d head sender (commands.NotFixed n version) h = refl
-step-with d head sender (commands.Close n version) h = refl
-step-with d head sender (commands.Reopen n who) h = refl
-step-with d head sender (commands.Severity n severity) h = refl
-step-with d head sender (commands.Tags n steps) h = refl
-step-with d head sender (commands.Retitle n text) h = refl
-step-with d head sender (commands.Submitter n who) h = refl
-step-with d head sender (commands.Reassign n package_name version) h = refl
-step-with d head sender (commands.Merge n ns) h = refl
-step-with d head sender (commands.ForceMerge n ns) h = refl
-step-with d head sender (commands.Unmerge n) h = refl
-step-with d head sender (commands.Clone n ks) h = refl
-step-with d head sender (commands.Block n ns) h = refl
-step-with d head sender (commands.Unblock n ns) h = refl
-step-with d head sender (commands.Forwarded n text) h = refl
-step-with d head sender (commands.NotForwarded n) h = refl
-step-with d head sender (commands.Owner n who) h = refl
-step-with d head sender (commands.NoOwner n) h = refl
-step-with d head sender (commands.Unarchive n) h = refl
-step-with d head sender (commands.Affects n step names) h = refl
+step-with d head sender _ h = refl
 
 -- a command that changes no set
 pub planned-others : (head : Option Node) (sender : List ℕ) (command : Command ℕ) (is : List SetImage) (next : ℕ)
@@ -100,21 +79,4 @@ planned-others head sender (commands.Block n ns) is next result a b c e h =
 planned-others head sender (commands.Unblock n ns) is next result a b c e h =
     subst (λ (ks : List ℕ). IsPlanned (n ∷ ns) (λ d. unless (words_refusal (λ n. Ok n) d.bug (commands.Unblock n ns))
     (records_changed (λ _. head) sender (commands.Unblock n ks) d)) is next result) (map-same ns) h
-planned-others head sender (commands.Found n version) is next result a b c e h = h
-planned-others head sender (commands.NotFound n version) is next result a b c e h = h
-planned-others head sender (commands.Fixed n version) is next result a b c e h = h
-planned-others head sender (commands.NotFixed n version) is next result a b c e h = h
-planned-others head sender (commands.Close n version) is next result a b c e h = h
-planned-others head sender (commands.Reopen n who) is next result a b c e h = h
-planned-others head sender (commands.Severity n severity) is next result a b c e h = h
-planned-others head sender (commands.Tags n steps) is next result a b c e h = h
-planned-others head sender (commands.Retitle n text) is next result a b c e h = h
-planned-others head sender (commands.Submitter n who) is next result a b c e h = h
-planned-others head sender (commands.Reassign n package_name version) is next result a b c e h = h
-planned-others head sender (commands.Forwarded n text) is next result a b c e h = h
-planned-others head sender (commands.NotForwarded n) is next result a b c e h = h
-planned-others head sender (commands.Owner n who) is next result a b c e h = h
-planned-others head sender (commands.NoOwner n) is next result a b c e h = h
-planned-others head sender (commands.Archive n) is next result a b c e h = h
-planned-others head sender (commands.Unarchive n) is next result a b c e h = h
-planned-others head sender (commands.Affects n step names) is next result a b c e h = h
+planned-others head sender _ is next result a b c e h = h

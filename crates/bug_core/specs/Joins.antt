@@ -1,7 +1,7 @@
 -- What joined sets have, one image after another.
 use Rattle.std.specs.Prelude.{ℕ, ◌≡◌, Bool, not, ◌==◌, List, [], ◌∷◌, filter, if◌then◌else◌}
 use Rattle.std.specs.Map.{values_of}
-use Rattle.ancestry.specs.Nodes.{Node, node_cmp}
+use Rattle.version_nodes.specs.Nodes.{Node, node_cmp}
 use Rattle.bug_record.specs.Sets.{has, Each, IsAscending, with_items}
 use Rattle.bug_record.specs.Tags.{tag_place}
 use Rattle.bug_record.specs.Ordered.{with_each}

@@ -4,7 +4,7 @@ use Rattle.bug_record.specs.Sets.{Each}
 use Rattle.bug_record.specs.Desk.{Desk, IsSound}
 use Rattle.bug_record.specs.Bugs.{unless}
 use Rattle.bug_record.specs.Commands.{bugs_named}
-use Rattle.ancestry.specs.Nodes.{Node}
+use Rattle.version_nodes.specs.Nodes.{Node}
 use Rattle.bug_record.specs.Words.{first_bug_refusal, words_refusal}
 use Rattle.bug_record.specs.Steps.{step_by, records_changed}
 use Rattle.bug_record.specs.declared.command.Command.{Command}

@@ -1,6 +1,6 @@
 -- The image of a new report: a set of one bug, which is open.
 use Rattle.std.specs.Prelude.{ℕ, false, List, [], ◌∷◌, Option, None}
-use Rattle.ancestry.specs.Nodes.{Node}
+use Rattle.version_nodes.specs.Nodes.{Node}
 use Rattle.bug_record.specs.Steps.{found_first}
 use Rattle.bug_record.specs.declared.bug.Member.{Member}
 use Rattle.bug_record.specs.declared.bug.SetImage.{SetImage}

@@ -15,7 +15,6 @@ ghost use Rattle.bug_core.specs.Others.{those_meant};
 ghost use Rattle.bug_core.specs.Named.{named_numbers};
 
 use crate::images::{Named, has_any};
-use ancestry::Node;
 use bug_record::{
     Agreed, Member, Members, Sequence, SetImage, Shared, Tag, Tags, add_names, add_numbers,
 };
@@ -24,6 +23,7 @@ use set_images::{Index, member_numbers};
 use std::alloc::{AllocError, Global};
 use std::collections::{BTreeMap, BTreeSet};
 use std::marker::Model;
+use version_nodes::Node;
 
 // Fields that are joined, which contracts see as such.
 // The affected packages, the marks and the blockers are kept apart from the others, so that one

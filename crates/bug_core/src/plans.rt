@@ -1,7 +1,7 @@
 //! What a command does, planned on the images of the sets of merged bugs that it names.
 
 ghost use Rattle.std.specs.Prelude.{◌≡◌, ◌≤◌, ◌∷◌, [], map, IfOk, IfErr, Option, Some, None};
-ghost use Rattle.ancestry.specs.Nodes.{Node};
+ghost use Rattle.version_nodes.specs.Nodes.{Node};
 ghost use Rattle.bug_record.specs.Sets.{Each};
 ghost use Rattle.bug_record.specs.Texts.{IsText};
 ghost use Rattle.bug_record.specs.Desk.{Desk, IsSound};
@@ -20,11 +20,11 @@ use crate::clones::plan_clone;
 use crate::images::{Named, replace_by_one};
 use crate::merges::{Agreement, plan_merge};
 use crate::unmerge::plan_unmerge;
-use ancestry::Node;
 use bug_record::{Agreed, Change, Command, PlanFault, Refusal, SetImage, Shared};
 use record_changes::{members_with, shared_after};
 use set_images::{bug_named, find_image, records_refusal};
 use std::alloc::{AllocError, Global};
+use version_nodes::Node;
 
 // The change that gives the bug's set these shared fields, and its members what the command gives
 // them.

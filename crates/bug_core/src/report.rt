@@ -5,16 +5,16 @@ ghost use Rattle.debver.specs.Names.{IsName};
 ghost use Rattle.bug_record.specs.Sets.{Each};
 ghost use Rattle.bug_record.specs.Texts.{IsText, IfGiven};
 ghost use Rattle.bug_record.specs.Desk.{Desk, IsSound};
-ghost use Rattle.ancestry.specs.Nodes.{IsNode};
+ghost use Rattle.version_nodes.specs.Nodes.{IsNode};
 ghost use Rattle.bug_record.specs.Steps.{found_first, reported};
 ghost use Rattle.bug_record.specs.Images.{put, AreApart, HasMember, FitsDesk};
 ghost use Rattle.bug_core.specs.Reports.{only_member, shared_of_report, image_of_report};
 ghost use Rattle.line_words.specs.declared.named.TheConstants.{AFTER_LARGEST};
 
-use ancestry::Node;
 use bug_record::{Agreed, Change, Member, Members, Nodes, Sequence, SetImage, Severity, Shared};
 use debver::Text;
 use std::alloc::{AllocError, Global};
+use version_nodes::Node;
 
 // The set of the node, if one is given.
 fn found_first(alloc: Global, node: Option<Node>) -> Result<Nodes, AllocError>

@@ -3,10 +3,10 @@ use Rattle.std.proofs.Common.{◌≡◌, ◌||◌, ◌&&◌, List, [], ◌++◌}
 use Rattle.std.specs.Prelude.{not}
 use Rattle.std.specs.List.Sorted.{IsStrictlySortedBy}
 use Rattle.std.proofs.lemmas.List.Kept.{IsStrictlySortedBy-filter}
-use Rattle.ancestry.specs.Nodes.{Node, IsNode, same_node, node_cmp}
-use Rattle.ancestry.specs.NodeLaws.{same_node_equiv, node_cmp_total, node_ties}
-use Rattle.ancestry.proofs.NodeLemmas.{same_true}
-use Rattle.ancestry.specs.Trees.{has_node}
+use Rattle.version_nodes.specs.Nodes.{Node, IsNode, same_node, node_cmp}
+use Rattle.version_nodes.specs.NodeLaws.{same_node_equiv, node_cmp_total, node_ties}
+use Rattle.version_nodes.proofs.NodeLemmas.{same_true}
+use Rattle.version_nodes.specs.Trees.{has_node}
 use Rattle.bug_record.specs.Sets.{Each}
 use Rattle.bug_record.specs.Marks.{IsNodeSet, with_node, node_set, without_node}
 use Rattle.bug_record.proofs.OrderedSetLemmas.{sorted-insert, sorted-set, each-insert, each-set, each-filter}

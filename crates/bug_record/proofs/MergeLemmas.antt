@@ -1,11 +1,11 @@
 -- What merged bugs have, by what each of them has.
 use Rattle.std.proofs.Common.{◌≡◌, ℕ, ◌||◌, ◌&&◌, not, List, [], ◌∷◌, refl, ap, ◌∙◌}
 use Rattle.std.specs.List.{list_any}
-use Rattle.ancestry.specs.Nodes.{Node}
+use Rattle.version_nodes.specs.Nodes.{Node}
 use Rattle.bug_record.specs.Sets.{has, IsAscending, number_set}
 use Rattle.bug_record.specs.Marks.{node_set}
 use Rattle.bug_record.specs.PackageSets.{has_name, name_set}
-use Rattle.ancestry.specs.Trees.{has_node}
+use Rattle.version_nodes.specs.Trees.{has_node}
 use Rattle.bug_record.specs.Bugs.{all_of}
 use Rattle.bug_record.specs.Merges.{all_merged, joined_blockers}
 use Rattle.bug_record.specs.declared.bug.Bug.{Bug}

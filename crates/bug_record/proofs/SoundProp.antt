@@ -3,9 +3,9 @@ use Rattle.std.proofs.Common.{ℕ, List, [], ◌∷◌, map, Option, Some, None}
 use Rattle.std.proofs.Props.{props}
 use Rattle.std.specs.Coded.{×_prop, Unit-prop, le_prop}
 use Rattle.std.specs.List.Sorted.{IsStrictlySortedBy-prop}
-use Rattle.ancestry.specs.Nodes.{Node, IsNode, node_cmp}
+use Rattle.version_nodes.specs.Nodes.{Node, IsNode, node_cmp}
 use Rattle.debver.specs.Names.{IsName}
-use Rattle.ancestry.proofs.ForestProp.{IsNode-prop, IsForest-prop}
+use Rattle.version_nodes.proofs.ForestProp.{IsNode-prop, IsForest-prop}
 use Rattle.bug_record.specs.Sets.{AllAbove, IsAscending, Each}
 use Rattle.bug_record.specs.Texts.{IsGoodText, IfGiven}
 use Rattle.bug_record.specs.Tags.{tag_place}

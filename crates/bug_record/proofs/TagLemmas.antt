@@ -35,22 +35,7 @@ tag_at (suc (suc (suc (suc (suc (suc (suc (suc (suc (suc (suc (suc (suc (suc (su
 
 tag_at-place : (t : Tag) → tag_at (tag_place t) ≡ t
 tag_at-place tags.A11y = refl
-tag_at-place tags.Confirmed = refl
-tag_at-place tags.DebianInstaller = refl
-tag_at-place tags.FixedUpstream = refl
-tag_at-place tags.Ftbfs = refl
-tag_at-place tags.Help = refl
-tag_at-place tags.Ipv6 = refl
-tag_at-place tags.L10n = refl
-tag_at-place tags.Lfs = refl
-tag_at-place tags.Moreinfo = refl
-tag_at-place tags.Newcomer = refl
-tag_at-place tags.Patch = refl
-tag_at-place tags.Pending = refl
-tag_at-place tags.Security = refl
-tag_at-place tags.Unreproducible = refl
-tag_at-place tags.Upstream = refl
-tag_at-place tags.Wontfix = refl
+tag_at-place _ = refl
 
 -- tags of one place are one
 pub same_tag_place : (t u : Tag) → tag_place t ≡ tag_place u → t ≡ u
@@ -153,22 +138,7 @@ set-all_tags = ascending 17 0
 
 has-all_tags : (t : Tag) → has_tag all_tags t ≡ true
 has-all_tags tags.A11y = refl
-has-all_tags tags.Confirmed = refl
-has-all_tags tags.DebianInstaller = refl
-has-all_tags tags.FixedUpstream = refl
-has-all_tags tags.Ftbfs = refl
-has-all_tags tags.Help = refl
-has-all_tags tags.Ipv6 = refl
-has-all_tags tags.L10n = refl
-has-all_tags tags.Lfs = refl
-has-all_tags tags.Moreinfo = refl
-has-all_tags tags.Newcomer = refl
-has-all_tags tags.Patch = refl
-has-all_tags tags.Pending = refl
-has-all_tags tags.Security = refl
-has-all_tags tags.Unreproducible = refl
-has-all_tags tags.Upstream = refl
-has-all_tags tags.Wontfix = refl
+has-all_tags _ = refl
 
 -- the tags of merged bugs
 pub has-joined_tags : (bugs : List Bug) (t : Tag) → has_tag (joined_tags bugs) t ≡ list_any (λ b. has_tag b.shared.tags t) bugs

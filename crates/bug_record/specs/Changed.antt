@@ -3,7 +3,7 @@ use Rattle.std.specs.Prelude.{ℕ, suc, zero, ◌≡◌, ◌≤◌, Bool, true, 
 use Rattle.std.specs.Prelude.{filter}
 use Rattle.std.specs.Str.{bytes_eq}
 use Rattle.std.specs.Cmp.Lexicographic.{pointwise}
-use Rattle.ancestry.specs.Nodes.{Node, same_node}
+use Rattle.version_nodes.specs.Nodes.{Node, same_node}
 use Rattle.bug_record.specs.Severities.{rank}
 use Rattle.bug_record.specs.Tags.{same_tag}
 use Rattle.bug_record.specs.Differences.{same_flag, same_text, same_state}

@@ -4,7 +4,7 @@ use Rattle.std.specs.Prelude.{ℕ, IsTrue, List, [], ◌∷◌, map, unwrap_or, 
 use Rattle.std.specs.Str.{is_utf8}
 use Rattle.debver.specs.Names.{IsName}
 use Rattle.debver.specs.Cut.{IsVersion}
-use Rattle.ancestry.specs.Nodes.{Node, node}
+use Rattle.version_nodes.specs.Nodes.{Node, node}
 use Rattle.bug_record.specs.Sets.{Each}
 use Rattle.bug_record.specs.Texts.{IsText, IfGiven}
 use Rattle.bug_record.specs.declared.command.Command.{Command}

@@ -1,7 +1,7 @@
 -- A desk: bugs that each have their own whole record.
 use Rattle.std.specs.Prelude.{ℕ, ◌≡◌, ◌≢◌, ◌<◌, ◌≤◌, true, false, List, Option, Some, None}
 use Rattle.debver.specs.Names.{IsName}
-use Rattle.ancestry.specs.Trees.{Ancestry, IsForest}
+use Rattle.version_nodes.specs.Trees.{Ancestry, IsForest}
 use Rattle.line_words.specs.declared.named.TheConstants.{AFTER_LARGEST}
 use Rattle.bug_record.specs.Sets.{has, IsAscending}
 use Rattle.bug_record.specs.Texts.{IsGoodText, IfGiven}

@@ -2,11 +2,11 @@
 -- This project's own rule.
 use Rattle.std.specs.Prelude.{Bool, true, false, Option}
 use Rattle.std.specs.List.{find}
-use Rattle.ancestry.specs.Nodes.{Node}
-use Rattle.ancestry.specs.Trees.{Ancestry, heads}
-use Rattle.ancestry.specs.Statuses.{status}
-use Rattle.ancestry.specs.declared.statuses.Status.{Status}
-use Rattle.ancestry.specs.declared.statuses.Status.TheVariants as statuses
+use Rattle.version_nodes.specs.Nodes.{Node}
+use Rattle.version_nodes.specs.Trees.{Ancestry, heads}
+use Rattle.version_nodes.specs.Statuses.{status}
+use Rattle.version_nodes.specs.declared.statuses.Status.{Status}
+use Rattle.version_nodes.specs.declared.statuses.Status.TheVariants as statuses
 use Rattle.bug_record.specs.declared.bug.Shared.{Shared}
 
 abbrev pub is_found : Status → Bool

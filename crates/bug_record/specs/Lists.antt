@@ -2,9 +2,9 @@
 -- This project's own rule.
 use Rattle.std.specs.Prelude.{ℕ, ◌==◌, ◌&&◌, ◌||◌, Bool, not, List, flat_map}
 use Rattle.std.specs.Str.{bytes_eq}
-use Rattle.ancestry.specs.Nodes.{Node}
-use Rattle.ancestry.specs.Trees.{Ancestry}
-use Rattle.ancestry.specs.Statuses.{status}
+use Rattle.version_nodes.specs.Nodes.{Node}
+use Rattle.version_nodes.specs.Trees.{Ancestry}
+use Rattle.version_nodes.specs.Statuses.{status}
 use Rattle.bug_record.specs.Severities.{all_severities, rank}
 use Rattle.bug_record.specs.Heads.{is_found}
 use Rattle.bug_record.specs.Desk.{Desk}

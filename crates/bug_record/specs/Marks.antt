@@ -6,7 +6,7 @@ use Rattle.std.specs.List.Sorted.{IsStrictlySortedBy}
 use Rattle.std.specs.Ordering.{is_lt}
 use Rattle.std.specs.List.{list_any}
 use Rattle.debver.specs.Versions.{text_cmp}
-use Rattle.ancestry.specs.Nodes.{Node, IsNode, same_node, node_cmp}
+use Rattle.version_nodes.specs.Nodes.{Node, IsNode, same_node, node_cmp}
 use Rattle.bug_record.specs.Ordered.{ordered_set}
 use Rattle.bug_record.specs.Sets.{Each}
 

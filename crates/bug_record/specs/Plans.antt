@@ -1,6 +1,6 @@
 -- What is planned for a command on the images of sets, and what that says of a desk.
 use Rattle.std.specs.Prelude.{ℕ, ◌≡◌, List, [], ◌∷◌, Option, Some, None, Result, Ok, Err, ⊤}
-use Rattle.ancestry.specs.Nodes.{Node}
+use Rattle.version_nodes.specs.Nodes.{Node}
 use Rattle.bug_record.specs.Heads.{open_head}
 use Rattle.bug_record.specs.Desk.{Desk, IsSound}
 use Rattle.bug_record.specs.Steps.{step_of_numbers}

@@ -5,7 +5,7 @@ use Rattle.std.specs.Prelude.{ℕ, ◌==◌, ◌&&◌, false, true, List, [], �
 use Rattle.std.specs.Prelude.{◌++◌, not, filter, option_map, if◌then◌else◌}
 use Rattle.std.specs.Str.{bytes_eq}
 use Rattle.line_words.specs.declared.named.Named.{Named}
-use Rattle.ancestry.specs.Nodes.{Node}
+use Rattle.version_nodes.specs.Nodes.{Node}
 use Rattle.std.specs.List.{find}
 use Rattle.bug_record.specs.Sets.{has, number_set}
 use Rattle.bug_record.specs.Marks.{with_node, without_node, is_below_some}

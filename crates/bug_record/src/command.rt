@@ -8,9 +8,9 @@ use crate::bug::SetImage;
 use crate::sequence::Sequence;
 use crate::severity::Severity;
 use crate::tag::Tag;
-use ancestry::Node;
 use debver::Text;
 use std::alloc::AllocError;
+use version_nodes::Node;
 
 /// A version as a command names it: of this source package, or of the bug's own where there is
 /// none.

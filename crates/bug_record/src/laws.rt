@@ -4,11 +4,11 @@
 ghost use Rattle.std.specs.Prelude.{◌≡◌, ℕ, List, ◌||◌, ◌&&◌, not};
 ghost use Rattle.std.specs.List.{list_any};
 ghost use Rattle.std.specs.List.Sorted.{IsStrictlySortedBy};
-ghost use Rattle.ancestry.specs.Nodes.{Node, same_node, node_cmp};
+ghost use Rattle.version_nodes.specs.Nodes.{Node, same_node, node_cmp};
 ghost use Rattle.bug_record.specs.Sets.{has, IsAscending};
 ghost use Rattle.bug_record.specs.Marks.{with_node, without_node};
 ghost use Rattle.bug_record.specs.PackageSets.{name_cmp, has_name};
-ghost use Rattle.ancestry.specs.Trees.{has_node};
+ghost use Rattle.version_nodes.specs.Trees.{has_node};
 ghost use Rattle.bug_record.specs.Tags.{has_tag, IsTagSet};
 ghost use Rattle.bug_record.specs.Merges.{all_merged, joined_tags, joined_shared};
 ghost use Rattle.bug_record.specs.declared.bug.Bug.{Bug};

@@ -1,6 +1,6 @@
 //! Bugs and commands as values: a bug's whole record, the image of a set of merged bugs, commands
-//! and refusals, and the definitions (`specs/`) of a desk of bugs, of what keeps it sound, and of
-//! what each command does to it.
+//! and refusals, outcomes and faults; and the definitions (`specs/`) of a desk of bugs, of what
+//! keeps it sound, and of what each command does to it.
 #![tactic(auto)]
 
 mod agreed;
@@ -8,6 +8,7 @@ mod bug;
 mod command;
 mod laws;
 mod members;
+mod outcome;
 mod sequence;
 mod severity;
 mod tag;
@@ -20,6 +21,7 @@ pub use command::{
 };
 pub use laws::{joined_are_sets, joined_by_membership, marks_by_membership};
 pub use members::Members;
+pub use outcome::{End, Outcome, ReportFault, StoreFault};
 pub use sequence::{
     Names, Nodes, Numbered, Numbers, Sequence, add_names, add_number, add_numbers, name_set,
     number_set,

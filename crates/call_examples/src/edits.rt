@@ -2,12 +2,12 @@
 
 use crate::rows::{MarkSets, kind_word, no_marks, read_marks};
 use crate::words::{EditWords, MarkWords, edit_words};
-use ancestry::{MarkKind, Node};
 use bug_record::{Agreed, Member, Members, Numbers, Sequence, SetImage, Severity, Shared, Tags};
 use debver::Text;
 use desk_content::{Edit, RowEdits, row_edits};
 use nearest_marks::Family;
 use std::alloc::{AllocError, Global};
+use version_nodes::{MarkKind, Node};
 
 // Puts the number that a word is into a list; answers whether it is one.
 fn read_number(numbers: &mut Numbers, word: &str) -> Result<bool, AllocError> {

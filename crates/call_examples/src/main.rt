@@ -10,11 +10,11 @@ mod trees;
 mod versions;
 mod words;
 
-use ancestry::Node;
 use kinds::{Kind, NodeKind};
 use nearest_marks::Family;
 use std::alloc::{AllocError, Global};
 use std::{fs, io};
+use version_nodes::Node;
 
 /// The name of the file that lists the tables.
 const FILES: &str = "files";

@@ -2,10 +2,10 @@
 
 use crate::trees::{add_sorted, given, read_nodes, sort};
 use crate::words::{MarkWords, mark_words};
-use ancestry::{MarkKind, Node};
 use bug_record::Nodes;
 use nearest_marks::{Family, NearRow, affected, nearest_rows};
 use std::alloc::{AllocError, Global};
+use version_nodes::{MarkKind, Node};
 
 // The row of a node, if there is one.
 fn row_of<'a>(rows: &'a [NearRow], node: &Node) -> Option<&'a NearRow> {

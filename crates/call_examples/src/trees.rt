@@ -2,10 +2,11 @@
 
 use crate::kinds::NodeKind;
 use crate::words::{StatusWords, status_words};
-use ancestry::{BranchFault, Node, NodeFault, Tree, status};
+use ancestry::{BranchFault, Tree, status};
 use bug_record::{Nodes, Sequence};
 use nearest_marks::Family;
 use std::alloc::{AllocError, Global};
+use version_nodes::{Node, NodeFault};
 
 // The node, if the text gave one.
 pub(crate) fn given(node: Result<Node, NodeFault>) -> Result<Option<Node>, AllocError> {

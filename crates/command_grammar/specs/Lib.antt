@@ -2,5 +2,6 @@ pub mod CommandWords
 pub mod Versions
 pub mod Commands
 pub mod Reads
+pub mod Lines
 -- definitions that only private functions cite
 pub mod Growing

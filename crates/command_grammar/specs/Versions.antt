@@ -5,7 +5,7 @@ use Rattle.std.specs.List.{list_any, before_first, after_first}
 use Rattle.std.specs.Str.{bytes_eq}
 use Rattle.debver.specs.Names.{name_fault}
 use Rattle.debver.specs.Faults.{text_fault}
-use Rattle.ancestry.specs.Nodes.{is_slash}
+use Rattle.version_nodes.specs.Nodes.{is_slash}
 use Rattle.bug_record.specs.declared.command.VersionArg.{VersionArg}
 
 -- a version without its source, which is the bug's own package

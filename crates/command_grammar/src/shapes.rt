@@ -11,11 +11,11 @@ ghost use Rattle.bug_record.specs.declared.command.Refusal.TheVariants.{BadVersi
 
 use crate::fault::LineFault;
 use crate::few_words::{one_word, two_words};
-use ancestry::at_first_slash;
 use bug_record::{Refusal, VersionArg};
 use debver::{Text, check, check_name};
 use line_words::{Named, bug_word};
 use std::alloc::Global;
+use version_nodes::at_first_slash;
 
 /// The refusal of a line whose shape is wrong.
 pub(crate) const MALFORMED: LineFault = LineFault::Refused(Refusal::Malformed);

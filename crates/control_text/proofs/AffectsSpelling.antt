@@ -1,6 +1,5 @@
 -- The packages of `affects`, as they are written, are read as they are.
-use Rattle.std.proofs.Common.{◌≡◌, ℕ, Bool, true, false, List, [], ◌∷◌, ◌++◌, length, Option, Some, Result, Ok, refl, ap, ◌∙◌, arith}
-use Rattle.std.specs.List.{list_any}
+use Rattle.std.proofs.Common.{◌≡◌, ℕ, List, [], ◌∷◌, Option, Some, Result, Ok, refl, ap, ◌∙◌, arith}
 use Rattle.debver.specs.Names.{IsName}
 use Rattle.bug_record.specs.Sets.{Each}
 use Rattle.bug_record.specs.declared.command.AffectsStep.{AffectsStep}
@@ -10,7 +9,7 @@ use Rattle.bug_record.specs.declared.command.Command.TheVariants as commands
 use Rattle.bug_record.specs.declared.command.Refusal.{Refusal}
 use Rattle.line_words.specs.declared.named.Named.{Named}
 use Rattle.line_words.specs.Bugs.{IsGoodBug}
-use Rattle.line_words.specs.Words.{is_blank_or_comma, words, words_with_commas, after_word}
+use Rattle.line_words.specs.Words.{words, words_with_commas, after_word}
 use Rattle.command_grammar.specs.declared.signs.Sign.{Sign}
 use Rattle.command_grammar.specs.declared.signs.Sign.TheVariants.{Plus, Minus, Equals}
 use Rattle.command_grammar.specs.Commands.{and_read, read_bug, read_package, each_word, affects_step, are_given, affects_command, sign_and_words}

@@ -12,3 +12,9 @@ pub mod BlockSpelling
 pub mod StepSpelling
 pub mod AffectsSpelling
 pub mod SpellingLaw
+pub mod CutLemmas
+pub mod PlaceLemmas
+pub mod LineLemmas
+pub mod ReadLemmas
+pub mod FaultLemmas
+pub mod JoinLemmas

@@ -10,8 +10,8 @@ use Rattle.std.proofs.lemmas.Slice.Eq.{bytes_eq-Decides}
 use Rattle.debver.specs.Names.{IsName, name_fault}
 use Rattle.debver.specs.Cut.{IsVersion}
 use Rattle.debver.specs.Faults.{text_fault}
-use Rattle.ancestry.specs.Nodes.{node, is_slash, node_of}
-use Rattle.ancestry.proofs.ReadLemmas.{nodes_exactly}
+use Rattle.version_nodes.specs.Nodes.{node, is_slash, node_of}
+use Rattle.version_nodes.proofs.ReadLemmas.{nodes_exactly}
 use Rattle.line_words.specs.Blanks.{is_blank, is_control}
 use Rattle.bug_record.specs.Sets.{Each}
 use Rattle.bug_record.specs.Texts.{IsText, IfGiven}

@@ -30,9 +30,9 @@ use Rattle.command_grammar.specs.Commands.{who_of_text, some_text, some_who, opt
 use Rattle.command_grammar.specs.Commands.{affects_step, are_given, sign_and_words, affects_command, some_bugs, read_name, some_names, bug_and_names, is_by, by_bugs, bug_by_bugs}
 use Rattle.command_grammar.specs.Commands.{bug_and_some_who, each_word, bug_and_others, sign_and_rest, adds_after, tag_step}
 use Rattle.command_grammar.specs.Commands.{tag_steps, word_steps, all_steps, some_steps, tags_command, reopen_command, command_of}
-use Rattle.control_text.specs.declared.line.Line.{Line}
-use Rattle.control_text.specs.declared.line.Line.TheVariants.{Comment, Stop, Do}
-use Rattle.control_text.specs.Lines.{begins_hash, is_stop_line, command_reading, reading_of_words, reading, IsRefusalOfLine}
+use Rattle.command_grammar.specs.declared.line.Line.{Line}
+use Rattle.command_grammar.specs.declared.line.Line.TheVariants.{Comment, Stop, Do}
+use Rattle.command_grammar.specs.Lines.{begins_hash, is_stop_line, command_reading, reading_of_words, reading, IsRefusalOfLine}
 
 -- what is read, or a refusal of a line
 abbrev IsOfLine : {A : Type 0} → Result A Refusal → Type 0
@@ -255,25 +255,17 @@ command_of-of command_words.Merge arguments =
     and_read-of (bug_and_others (words arguments)) _ (bug_and_others-of (words arguments)) (λ both. tt)
 command_of-of command_words.ForceMerge arguments =
     and_read-of (bug_and_others (words arguments)) _ (bug_and_others-of (words arguments)) (λ both. tt)
-command_of-of command_words.Unmerge arguments =
-    and_read-of (bug_alone (words arguments)) _ (bug_alone-of (words arguments)) (λ bug. tt)
 command_of-of command_words.Clone arguments =
     and_read-of (bug_and_names (words arguments)) _ (bug_and_names-of (words arguments)) (λ both. tt)
 command_of-of command_words.Block arguments = and_read-of (bug_by_bugs arguments) _ (bug_by_bugs-of arguments) (λ both. tt)
 command_of-of command_words.Unblock arguments = and_read-of (bug_by_bugs arguments) _ (bug_by_bugs-of arguments) (λ both. tt)
 command_of-of command_words.Forwarded arguments =
     and_read-of (bug_and_some_text arguments) _ (bug_and_some_text-of arguments) (λ both. tt)
-command_of-of command_words.NotForwarded arguments =
-    and_read-of (bug_alone (words arguments)) _ (bug_alone-of (words arguments)) (λ bug. tt)
 command_of-of command_words.Owner arguments =
     and_read-of (bug_and_some_who arguments) _ (bug_and_some_who-of arguments) (λ both. tt)
-command_of-of command_words.NoOwner arguments =
-    and_read-of (bug_alone (words arguments)) _ (bug_alone-of (words arguments)) (λ bug. tt)
-command_of-of command_words.Archive arguments =
-    and_read-of (bug_alone (words arguments)) _ (bug_alone-of (words arguments)) (λ bug. tt)
-command_of-of command_words.Unarchive arguments =
-    and_read-of (bug_alone (words arguments)) _ (bug_alone-of (words arguments)) (λ bug. tt)
 command_of-of command_words.Affects arguments = affects_command-of arguments
+command_of-of _ arguments =
+    and_read-of (bug_alone (words arguments)) _ (bug_alone-of (words arguments)) (λ bug. tt)
 
 abbrev as_line : Command Named → Result Line Refusal
 as_line meant = Ok (Do meant)

@@ -14,13 +14,13 @@ use Rattle.bug_record.specs.declared.command.Refusal.{Refusal}
 use Rattle.bug_record.specs.declared.command.Refusal.TheVariants.{Unknown, Malformed}
 use Rattle.line_words.specs.declared.named.Named.{Named}
 use Rattle.command_grammar.specs.declared.command_word.CommandWord.{CommandWord}
-use Rattle.control_text.specs.declared.line.Line.{Line}
-use Rattle.control_text.specs.declared.line.Line.TheVariants.{Comment, Stop, Do}
+use Rattle.command_grammar.specs.declared.line.Line.{Line}
+use Rattle.command_grammar.specs.declared.line.Line.TheVariants.{Comment, Stop, Do}
 use Rattle.line_words.specs.Words.{is_blank_or_comma, words_with_commas}
 use Rattle.line_words.specs.Words.{has_bytes, words, EndsWord, trimmed, first_word, after_word, without_last_blanks}
 use Rattle.command_grammar.specs.CommandWords.{command_word}
 use Rattle.command_grammar.specs.Commands.{and_read, command_of}
-use Rattle.control_text.specs.Lines.{begins_hash, is_stop_word, is_stop_line, command_reading, reading_of_words, reading}
+use Rattle.command_grammar.specs.Lines.{begins_hash, is_stop_word, is_stop_line, command_reading, reading_of_words, reading}
 use Rattle.control_text.specs.Spelling.{joined_by_blanks}
 use Rattle.control_text.specs.Spaces.{after_spaces}
 use Rattle.line_words.proofs.WordLemmas.{words-nil, words-separator, words-word, without_first-separator, words-first, words-none}

@@ -17,14 +17,14 @@ use Rattle.bug_record.specs.declared.command.Refusal.TheVariants.{BadSeverity}
 use Rattle.line_words.specs.declared.named.Named.{Named}
 use Rattle.command_grammar.specs.declared.command_word.CommandWord.{CommandWord}
 use Rattle.command_grammar.specs.declared.command_word.CommandWord.TheVariants as command_words
-use Rattle.control_text.specs.declared.line.Line.TheVariants.{Do}
+use Rattle.command_grammar.specs.declared.line.Line.TheVariants.{Do}
 use Rattle.line_words.specs.Bugs.{IsGoodBug}
 use Rattle.line_words.specs.Words.{words, trimmed, after_word}
 use Rattle.command_grammar.specs.Commands.{and_read, read_version, read_package, bug_alone, bug_and_version}
 use Rattle.command_grammar.specs.Commands.{bug_and_optional_version, severity_command, reassign_command, optional_who}
 use Rattle.command_grammar.specs.Commands.{bug_and_some_text, bug_and_some_who, bug_and_others, bug_and_names, bug_by_bugs}
 use Rattle.command_grammar.specs.Commands.{reopen_command, command_of}
-use Rattle.control_text.specs.Lines.{reading}
+use Rattle.command_grammar.specs.Lines.{reading}
 use Rattle.control_text.specs.WellFormed.{IsPlain, IsAddress, IsWellFormed}
 use Rattle.control_text.specs.Spelling.{name_text, bug_text, version_text, who_text, step_words, word_if, spelling, spelled_words, affects_sign}
 use Rattle.control_text.specs.Spelling.{joined_by_blanks}

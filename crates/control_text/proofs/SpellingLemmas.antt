@@ -19,8 +19,8 @@ use Rattle.debver.specs.Parts.{in_upstream, in_revision, epoch_text, revision_te
 use Rattle.debver.specs.Cut.{cut, IsVersion}
 use Rattle.debver.specs.Faults.{text_fault}
 use Rattle.debver.proofs.CutLaws.{parts_exactly}
-use Rattle.ancestry.specs.Nodes.{Node, node, is_slash}
-use Rattle.ancestry.proofs.ReadLemmas.{nodes_exactly}
+use Rattle.version_nodes.specs.Nodes.{Node, node, is_slash}
+use Rattle.version_nodes.proofs.ReadLemmas.{nodes_exactly}
 use Rattle.bug_record.specs.Severities.{severity_name, severity_of}
 use Rattle.bug_record.specs.Commands.{IsGoodVersion}
 use Rattle.bug_record.specs.Texts.{IfGiven}
@@ -179,18 +179,8 @@ package-back p name =
 -- severities
 pub severity-back : (s : Severity) → severity_of (severity_name s) ≡ Some s
 severity-back severities.Critical = refl
-severity-back severities.Grave = refl
-severity-back severities.Serious = refl
-severity-back severities.Important = refl
-severity-back severities.Normal = refl
-severity-back severities.Minor = refl
-severity-back severities.Wishlist = refl
+severity-back _ = refl
 
 pub severity-plain : (s : Severity) → IsPlainWord (severity_name s)
 severity-plain severities.Critical = record { some = refl; graphic = refl }
-severity-plain severities.Grave = record { some = refl; graphic = refl }
-severity-plain severities.Serious = record { some = refl; graphic = refl }
-severity-plain severities.Important = record { some = refl; graphic = refl }
-severity-plain severities.Normal = record { some = refl; graphic = refl }
-severity-plain severities.Minor = record { some = refl; graphic = refl }
-severity-plain severities.Wishlist = record { some = refl; graphic = refl }
+severity-plain _ = record { some = refl; graphic = refl }

@@ -28,22 +28,7 @@ record IsTagName (tag : Tag) : Type 0 where
 
 tag_word : (tag : Tag) → IsTagName tag
 tag_word tags.A11y = record { graphic = refl; whole = refl; back = λ adds. refl }
-tag_word tags.Confirmed = record { graphic = refl; whole = refl; back = λ adds. refl }
-tag_word tags.DebianInstaller = record { graphic = refl; whole = refl; back = λ adds. refl }
-tag_word tags.FixedUpstream = record { graphic = refl; whole = refl; back = λ adds. refl }
-tag_word tags.Ftbfs = record { graphic = refl; whole = refl; back = λ adds. refl }
-tag_word tags.Help = record { graphic = refl; whole = refl; back = λ adds. refl }
-tag_word tags.Ipv6 = record { graphic = refl; whole = refl; back = λ adds. refl }
-tag_word tags.L10n = record { graphic = refl; whole = refl; back = λ adds. refl }
-tag_word tags.Lfs = record { graphic = refl; whole = refl; back = λ adds. refl }
-tag_word tags.Moreinfo = record { graphic = refl; whole = refl; back = λ adds. refl }
-tag_word tags.Newcomer = record { graphic = refl; whole = refl; back = λ adds. refl }
-tag_word tags.Patch = record { graphic = refl; whole = refl; back = λ adds. refl }
-tag_word tags.Pending = record { graphic = refl; whole = refl; back = λ adds. refl }
-tag_word tags.Security = record { graphic = refl; whole = refl; back = λ adds. refl }
-tag_word tags.Unreproducible = record { graphic = refl; whole = refl; back = λ adds. refl }
-tag_word tags.Upstream = record { graphic = refl; whole = refl; back = λ adds. refl }
-tag_word tags.Wontfix = record { graphic = refl; whole = refl; back = λ adds. refl }
+tag_word _ = record { graphic = refl; whole = refl; back = λ adds. refl }
 
 step_whole : (step : TagStep) → IsPlainWord (step_text step) × (list_any is_blank_or_comma (step_text step) ≡ false)
 step_whole (Add tag) = let name = tag_word tag in (record { some = refl; graphic = name.graphic }, name.whole)

@@ -2,10 +2,10 @@
 //! Each body is empty: the contract is the law.
 
 ghost use Rattle.std.specs.Prelude.{◌≡◌, ℕ, List, Ok, IfErr};
-ghost use Rattle.control_text.specs.Lines.{reading, IsRefusalOfLine};
+ghost use Rattle.command_grammar.specs.Lines.{reading, IsRefusalOfLine};
 ghost use Rattle.control_text.specs.WellFormed.{IsWellFormed};
 ghost use Rattle.control_text.specs.Spelling.{spelling};
-ghost use Rattle.control_text.specs.declared.line.Line.TheVariants.{Do};
+ghost use Rattle.command_grammar.specs.declared.line.Line.TheVariants.{Do};
 ghost use Rattle.line_words.specs.declared.named.Named.{Named};
 ghost use Rattle.bug_record.specs.declared.command.Command.{Command};
 

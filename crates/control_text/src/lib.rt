@@ -1,16 +1,25 @@
 //! The lines of a control message: what each says, or why it is refused, by the BTS page 'control
-//! and manipulation', and how a command is spelled.
+//! and manipulation', and how a command is spelled; and the words of a command line, in the
+//! manner of bts(1), as such lines.
 #![tactic(auto)]
 
+mod bug_places;
+mod cut;
+mod fault;
 mod laws;
 mod limits;
 mod line;
 mod spelling;
+mod word_laws;
+mod word_lines;
+mod writer;
 
-pub use bts_words::{WordsFault, words_to_lines};
-pub use command_grammar::LineFault;
+pub use command_grammar::{Line, LineFault};
+pub use fault::WordsFault;
 pub use laws::{refusals_of_lines, spelling_is_read_back};
 pub use limits::well_formed;
-pub use line::{Line, read_line};
+pub use line::read_line;
 pub use line_words::{Named, next_word, number_word, trim};
 pub use spelling::write_command;
+pub use word_laws::a_line_has_the_words_of_its_command;
+pub use word_lines::words_to_lines;

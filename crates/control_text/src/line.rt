@@ -3,26 +3,13 @@
 ghost use Rattle.std.specs.Prelude.{◌≡◌, ◌∷◌, IfOk, IfErr};
 ghost use Rattle.line_words.specs.Words.{words};
 ghost use Rattle.command_grammar.specs.Reads.{Reads};
-ghost use Rattle.control_text.specs.Lines.{begins_hash, is_stop_word, is_stop_line, reading, BeginsWithCommand};
+ghost use Rattle.command_grammar.specs.Lines.{begins_hash, is_stop_word, is_stop_line, reading, BeginsWithCommand};
 ghost use Rattle.control_text.specs.WellFormed.{IsWellFormedLine};
 
-use bug_record::{Command, Refusal};
-use command_grammar::{CommandWord, LineFault, read_command};
-use line_words::{Named, has_control, is_word, next_word, split_word};
+use bug_record::Refusal;
+use command_grammar::{CommandWord, Line, LineFault, read_command};
+use line_words::{has_control, is_word, next_word, split_word};
 use std::alloc::Global;
-
-/// What a line says.
-#[derive(Drop)]
-pub enum Line {
-    /// Nothing, or blanks alone.
-    Blank,
-    /// The first character that is no blank is `#`.
-    Comment,
-    /// The end of the message.
-    Stop,
-    /// A command.
-    Do(Command<Named>),
-}
 
 fn begins_hash(word: &str) -> bool
     ensures { result ≡ begins_hash word.now }
@@ -63,7 +50,7 @@ fn is_stop_line(word: &str, rest: &str) -> bool
 /// `Refused` with the refusal that the line has, of those that need no desk: `Unknown`,
 /// `Malformed`, `TooLong`, `BadSeverity`, `BadTag`, `BadVersion`, `BadPackage`.
 /// `Memory` where there was none, which a line asks for only where its first word is a command.
-#[tactic(auto, unfolding(crate::specs::Lines::reading))]
+#[tactic(auto, unfolding(command_grammar::specs::Lines::reading))]
 pub fn read_line(alloc: Global, text: &str) -> Result<Line, LineFault>
     ensures exact { Reads (reading text.now) result }
     ensures well_formed { IfOk result IsWellFormedLine }

@@ -2,10 +2,10 @@
 use Rattle.std.proofs.Common.{◌≡◌, length, Option, None, refl, sym, ap, subst, ◌∙◌, codes}
 use Rattle.std.specs.Prelude.{slice_get}
 use Rattle.bug_record.specs.Desk.{Desk}
-use Rattle.control_text.specs.Lines.{reading}
+use Rattle.command_grammar.specs.Lines.{reading}
 use Rattle.desk_lines.specs.Lines.{lines_of}
 use Rattle.desk_store.specs.Store.{MayBeKept}
-use Rattle.desk_text.specs.declared.outcome.Outcome.TheVariants.{Stopped}
+use Rattle.bug_record.specs.declared.outcome.Outcome.TheVariants.{Stopped}
 use Rattle.line_words.specs.Words.{words_between}
 use Rattle.message_machine.specs.Kept.{Keeping, IsOfMessage, lines_told, outcomes_kept, told}
 use Rattle.message_machine.specs.Message.{end_of}

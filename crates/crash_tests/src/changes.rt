@@ -3,7 +3,6 @@
 use crate::desks::{desk_with_bug, writes};
 use crate::stops::{fails_until_done, outcome_of};
 use crate::tasks::{Came, CrashTask};
-use ancestry::{Node, NodeFault};
 use bug_core::report_change;
 use bug_record::Severity;
 use desk_crashes::{apply_and_crash, branch_and_crash};
@@ -13,6 +12,7 @@ use line_words::AFTER_LARGEST;
 use sqlite::{Alter, Connection};
 use sqlite_trees::store::Reopen;
 use std::alloc::Global;
+use version_nodes::{Node, NodeFault};
 
 // A branch of these nodes.
 #[derive(Clone, Copy)]

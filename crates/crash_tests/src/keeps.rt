@@ -3,10 +3,10 @@
 use crate::desks::desk_with_bug;
 use crate::stops::{fails_until_done, outcome_of};
 use crate::tasks::{Came, CrashTask};
+use bug_record::Outcome;
 use desk_crashes::keep_and_crash;
 use desk_store::Records;
 use desk_tables::TableDesk;
-use desk_text::Outcome;
 use sqlite::{Alter, Connection};
 use sqlite_trees::store::Reopen;
 use std::alloc::Global;
@@ -16,7 +16,7 @@ struct Keep;
 
 /// Keeps that the only line of a message stopped it, and crashes right after it: whether it was
 /// answered, and the desk that is opened; `None` where something may be kept of the id already.
-#[tactic(auto, unfolding(bug_record::specs::Texts::is_text, message_machine::specs::Ids::is_id))]
+#[tactic(auto, unfolding(bug_record::specs::Texts::is_text, line_words::specs::Ids::is_id))]
 fn stop_and_crash<S: Alter + Reopen + Drop>(
     alloc: Global,
     desk: TableDesk<S>,

@@ -1,21 +1,21 @@
 -- What requests are answered, out of what was done.
 use Rattle.std.proofs.Common.{◌≡◌, inl, inr, ℕ, List, Option, Some, None, Result, Ok, Err, refl, sym, ap, ◌∙◌, subst, codes}
 use Rattle.std.specs.Prelude.{if◌then◌else◌}
-use Rattle.ancestry.specs.Nodes.{Node}
-use Rattle.ancestry.specs.Trees.{Ancestry}
+use Rattle.version_nodes.specs.Nodes.{Node}
+use Rattle.version_nodes.specs.Trees.{Ancestry}
 use Rattle.ancestry.specs.Branches.{branched}
 use Rattle.ancestry.specs.declared.fault.BranchFault.{BranchFault}
 use Rattle.bug_record.specs.Desk.{Desk}
-use Rattle.desk_text.specs.declared.outcome.StoreFault.{StoreFault}
-use Rattle.desk_text.specs.declared.outcome.StoreFault.TheVariants.{Memory}
-use Rattle.desk_json.specs.Answers.{ok_json}
+use Rattle.bug_record.specs.declared.outcome.StoreFault.{StoreFault}
+use Rattle.bug_record.specs.declared.outcome.StoreFault.TheVariants.{Memory}
+use Rattle.routes_and_json.specs.Answers.{ok_json}
 use Rattle.desk_store.specs.Store.{Branches}
 use Rattle.desk_questions.specs.Questions.{Told, list_told, AsksForList, IsTold}
 use Rattle.desk_questions.specs.declared.told.Told.{Told as ToldBytes}
 use Rattle.desk_questions.specs.declared.told.QuestionFault.{QuestionFault}
 use Rattle.desk_questions.specs.declared.told.QuestionFault.TheVariants as questions
-use Rattle.desk_run.specs.Branches.{BranchRefusal, nodes_of, branched_by, or_refused, branch_of}
-use Rattle.desk_run.proofs.BranchLemmas.{branch_of_none}
+use Rattle.desk_questions.specs.Branches.{BranchRefusal, nodes_of, branched_by, or_refused, branch_of}
+use Rattle.desk_questions.proofs.BranchLemmas.{branch_of_none}
 use Rattle.desk_answers.specs.Answer.{Answer, json_answer, page_answer, not_found}
 use Rattle.desk_answers.specs.Requests.{Request, PostBranch, GetList}
 use Rattle.desk_answers.specs.Answers.{answer_to, answered_branch, answered_question, refused_answer}

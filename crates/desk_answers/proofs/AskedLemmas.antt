@@ -2,7 +2,7 @@
 use Rattle.std.proofs.Common.{◌≡◌, Option, sym, subst}
 use Rattle.desk_store.specs.Store.{Holds}
 use Rattle.desk_store.proofs.HoldsLemmas.{holds_where}
-use Rattle.desk_text.specs.declared.outcome.StoreFault.{StoreFault}
+use Rattle.bug_record.specs.declared.outcome.StoreFault.{StoreFault}
 use Rattle.desk_answers.specs.Answer.{Answer}
 use Rattle.desk_answers.specs.Faults.{IsAnswer}
 use Rattle.desk_answers.specs.Repeats.{IsAskedAnswer}

@@ -2,11 +2,11 @@
 use Rattle.std.proofs.Common.{inl, inr, ℕ, ◌-◌, List, length, Option, sym, ap, ◌∙◌, subst, arith}
 use Rattle.std.proofs.lemmas.List.{take_all}
 use Rattle.bug_record.specs.Desk.{Desk}
-use Rattle.desk_text.specs.declared.outcome.StoreFault.{StoreFault}
-use Rattle.desk_text.specs.declared.outcome.End.{End}
-use Rattle.desk_text.specs.declared.outcome.End.TheVariants as ends
+use Rattle.bug_record.specs.declared.outcome.StoreFault.{StoreFault}
+use Rattle.bug_record.specs.declared.outcome.End.{End}
+use Rattle.bug_record.specs.declared.outcome.End.TheVariants as ends
 use Rattle.desk_lines.specs.Lines.{lines_of}
-use Rattle.desk_json.specs.Members.{Control}
+use Rattle.routes_and_json.specs.Members.{Control}
 use Rattle.message_machine.specs.Message.{Entry, Machine, Comes, IsReceived, at_start, after_lines}
 use Rattle.desk_answers.specs.Answer.{json_answer}
 use Rattle.desk_answers.specs.Requests.{PostControl}

@@ -1,21 +1,17 @@
 -- The nodes of words, from a word on.
 use Rattle.std.proofs.Common.{◌≡◌, ℕ, suc, ◌+◌, ◌<◌, ◌≤◌, List, [], ◌∷◌, ◌++◌, length, drop, get_or, map, Option, Some, None}
-use Rattle.std.proofs.Common.{option_map, string_bytes, String, Global, Err, refl, sym, ap, ◌∙◌, add-one, append_assoc, append-nil}
+use Rattle.std.proofs.Common.{option_map, string_bytes, String, Global, Err, sym, ap, ◌∙◌, add-one, append-nil}
 use Rattle.std.proofs.Common.{drop-cons, drop_of_length-le}
-use Rattle.ancestry.specs.Nodes.{Node, node_of_text, IsRead}
-use Rattle.ancestry.specs.declared.fault.NodeFault.{NodeFault}
-use Rattle.ancestry.specs.declared.fault.NodeFault.TheVariants.{BadNode as WordIsNoNode, Memory as NoMemory}
-use Rattle.desk_run.specs.Branches.{node_before, nodes_of}
-use Rattle.desk_run.specs.BranchWords.{AreRead}
+use Rattle.version_nodes.specs.Nodes.{Node, node_of_text, IsRead}
+use Rattle.version_nodes.specs.declared.fault.NodeFault.{NodeFault}
+use Rattle.version_nodes.specs.declared.fault.NodeFault.TheVariants.{BadNode as WordIsNoNode, Memory as NoMemory}
+use Rattle.desk_questions.specs.Branches.{node_before, nodes_of}
+use Rattle.desk_questions.specs.BranchWords.{AreRead}
+use Rattle.desk_questions.proofs.BranchLemmas.{after_others}
 
 -- the nodes from the word i on, after these
 abbrev pub nodes_from : List Node → List (String Global) → ℕ → Option (List Node)
 nodes_from nodes ws i = option_map (λ ns. nodes ++ ns) (nodes_of (map string_bytes (drop i ws)))
-
-joined : (nodes : List Node) (n : Node) (o : Option (List Node))
-    → option_map (λ ns. nodes ++ ns) (node_before (Some n) o) ≡ option_map (λ ns. (nodes ++ n ∷ []) ++ ns) o
-joined nodes n None = refl
-joined nodes n (Some ns) = ap Some (sym (append_assoc nodes (n ∷ []) ns))
 
 -- from a word on, by what it is
 by_word : (nodes : List Node) (ws : List (String Global)) (i : ℕ) (d : String Global) (o : Option Node) → i < length ws
@@ -29,7 +25,7 @@ pub nodes_more : (nodes : List Node) (ws : List (String Global)) (i : ℕ) (d : 
     → node_of_text (string_bytes (get_or ws i d)) ≡ Some n → nodes_from nodes ws i ≡ nodes_from (nodes ++ n ∷ []) ws (i + 1)
 nodes_more nodes ws i d n h e =
     by_word nodes ws i d (Some n) h e
-    ∙ joined nodes n (nodes_of (map string_bytes (drop (suc i) ws)))
+    ∙ after_others n nodes (nodes_of (map string_bytes (drop (suc i) ws)))
     ∙ ap (nodes_from (nodes ++ n ∷ []) ws) (sym (add-one i))
 
 pub nodes_end : (nodes : List Node) (ws : List (String Global)) (i : ℕ) → length ws ≤ i → nodes_from nodes ws i ≡ Some nodes

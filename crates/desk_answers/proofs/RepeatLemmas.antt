@@ -6,13 +6,13 @@ use Rattle.std.proofs.lemmas.List.{take_all}
 use Rattle.std.proofs.lemmas.Slice.Eq.{bytes_eq-Decides}
 use Rattle.std.specs.Str.{bytes_eq}
 use Rattle.bug_record.specs.Desk.{Desk}
-use Rattle.desk_json.specs.Members.{Control}
+use Rattle.routes_and_json.specs.Members.{Control}
 use Rattle.desk_lines.specs.Lines.{lines_of}
 use Rattle.desk_messages.specs.declared.message.Received.{Received}
 use Rattle.desk_repeats.specs.Once.{IsOnce}
-use Rattle.desk_text.specs.declared.outcome.StoreFault.{StoreFault}
-use Rattle.desk_text.specs.declared.outcome.End.{End}
-use Rattle.desk_text.specs.declared.outcome.End.TheVariants as ends
+use Rattle.bug_record.specs.declared.outcome.StoreFault.{StoreFault}
+use Rattle.bug_record.specs.declared.outcome.End.{End}
+use Rattle.bug_record.specs.declared.outcome.End.TheVariants as ends
 use Rattle.message_machine.specs.Message.{Entry, Machine}
 use Rattle.message_machine.specs.Kept.{Keeping, outcomes_kept, outcomes_in, told, lines_told, kept_with, IsOfMessage, IsResumed}
 use Rattle.message_machine.specs.Kept.{GoesOn}

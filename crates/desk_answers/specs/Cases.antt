@@ -1,11 +1,11 @@
 -- What they answer in each case.
 use Rattle.std.specs.Prelude.{ℕ, ◌≡◌, ◌≢◌, ◌⊎◌, List, Some, Result, Ok, Err, if◌then◌else◌}
-use Rattle.desk_text.specs.declared.outcome.End.{End}
-use Rattle.desk_text.specs.declared.outcome.End.TheVariants as ends
-use Rattle.desk_text.specs.declared.outcome.ReportFault.{ReportFault}
-use Rattle.desk_text.specs.declared.outcome.ReportFault.TheVariants as reports
-use Rattle.desk_text.specs.declared.outcome.StoreFault.{StoreFault}
-use Rattle.desk_text.specs.declared.outcome.StoreFault.TheVariants.{Memory}
+use Rattle.bug_record.specs.declared.outcome.End.{End}
+use Rattle.bug_record.specs.declared.outcome.End.TheVariants as ends
+use Rattle.bug_record.specs.declared.outcome.ReportFault.{ReportFault}
+use Rattle.bug_record.specs.declared.outcome.ReportFault.TheVariants as reports
+use Rattle.bug_record.specs.declared.outcome.StoreFault.{StoreFault}
+use Rattle.bug_record.specs.declared.outcome.StoreFault.TheVariants.{Memory}
 use Rattle.message_machine.specs.Message.{Entry}
 use Rattle.desk_questions.specs.declared.told.Told.{Told}
 use Rattle.desk_questions.specs.declared.told.QuestionFault.{QuestionFault}

@@ -1,17 +1,17 @@
 -- What is answered where the store fails, or there is no memory.
 -- This project's own rule.
 use Rattle.std.specs.Prelude.{ℕ, ◌≡◌, ◌≢◌, ◌⊎◌, List, take, Option, Some, None, ⊤}
-use Rattle.ancestry.specs.Nodes.{Node}
+use Rattle.version_nodes.specs.Nodes.{Node}
 use Rattle.bug_record.specs.Desk.{Desk}
-use Rattle.desk_text.specs.declared.outcome.StoreFault.{StoreFault}
-use Rattle.desk_text.specs.declared.outcome.StoreFault.TheVariants.{Memory}
-use Rattle.desk_text.specs.declared.outcome.End.TheVariants as ends
+use Rattle.bug_record.specs.declared.outcome.StoreFault.{StoreFault}
+use Rattle.bug_record.specs.declared.outcome.StoreFault.TheVariants.{Memory}
+use Rattle.bug_record.specs.declared.outcome.End.TheVariants as ends
 use Rattle.desk_lines.specs.Lines.{lines_of}
-use Rattle.desk_json.specs.Members.{Control}
+use Rattle.routes_and_json.specs.Members.{Control}
 use Rattle.desk_store.specs.Store.{Faults, counted}
 use Rattle.message_machine.specs.Message.{Entry, IsReceived, at_start, after_lines}
 use Rattle.desk_questions.specs.Questions.{AsksForList}
-use Rattle.desk_run.specs.Branches.{nodes_of}
+use Rattle.desk_questions.specs.Branches.{nodes_of}
 use Rattle.desk_answers.specs.Answer.{Answer, json_answer, store_fault}
 use Rattle.desk_answers.specs.Requests.{Request, PostBug, PostControl, PostBranch, GetBug, GetList}
 use Rattle.desk_answers.specs.Answers.{answer_to, message_json}

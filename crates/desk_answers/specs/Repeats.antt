@@ -4,13 +4,13 @@ use Rattle.std.specs.Prelude.{ℕ, ◌≡◌, ◌≢◌, ◌⊎◌, ◌&&◌, Bo
 use Rattle.std.specs.Prelude.{if◌then◌else◌}
 use Rattle.std.specs.Str.{bytes_eq}
 use Rattle.bug_record.specs.Desk.{Desk}
-use Rattle.desk_json.specs.Members.{Control}
+use Rattle.routes_and_json.specs.Members.{Control}
 use Rattle.desk_lines.specs.Lines.{lines_of}
-use Rattle.desk_text.specs.declared.outcome.Outcome.{Outcome}
-use Rattle.desk_text.specs.declared.outcome.End.{End}
-use Rattle.desk_text.specs.declared.outcome.End.TheVariants as ends
-use Rattle.desk_text.specs.declared.outcome.StoreFault.{StoreFault}
-use Rattle.desk_text.specs.declared.outcome.StoreFault.TheVariants.{Memory}
+use Rattle.bug_record.specs.declared.outcome.Outcome.{Outcome}
+use Rattle.bug_record.specs.declared.outcome.End.{End}
+use Rattle.bug_record.specs.declared.outcome.End.TheVariants as ends
+use Rattle.bug_record.specs.declared.outcome.StoreFault.{StoreFault}
+use Rattle.bug_record.specs.declared.outcome.StoreFault.TheVariants.{Memory}
 use Rattle.message_machine.specs.Message.{Entry, Machine, machine, after_lines, end_of}
 use Rattle.message_machine.specs.Kept.{outcomes_kept, outcomes_in, told, lines_told, kept_with, IsOfMessage, IsResumed, GoesOn}
 use Rattle.message_machine.specs.declared.kept.Kept.{Kept}

@@ -2,8 +2,8 @@
 -- This project's own rule.
 use Rattle.std.specs.Prelude.{ℕ, List, ⊤}
 use Rattle.bug_record.specs.Texts.{IsText}
-use Rattle.message_machine.specs.Ids.{IsId}
-use Rattle.desk_json.specs.Members.{Report, Control}
+use Rattle.line_words.specs.Ids.{IsId}
+use Rattle.routes_and_json.specs.Members.{Report, Control}
 
 pub data Request : Type 0 where
   -- a report of a bug

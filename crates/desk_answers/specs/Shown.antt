@@ -1,6 +1,6 @@
 -- The answer that a reply stands for, and what a request asks.
 use Rattle.std.specs.Prelude.{ℕ, List, map, option_map, string_bytes}
-use Rattle.desk_json.specs.Members.{Report, Control}
+use Rattle.routes_and_json.specs.Members.{Report, Control}
 use Rattle.desk_answers.specs.Answer.{Answer, json, plain}
 use Rattle.desk_answers.specs.Requests.{Asked, Always, Once, PostBug, PostControl, PostBranch, GetBug, GetList}
 use Rattle.desk_answers.specs.declared.reply.Body.{Body}

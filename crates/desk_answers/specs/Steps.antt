@@ -1,6 +1,6 @@
 -- What the functions that carry requests out answer.
 use Rattle.std.specs.Prelude.{◌≡◌, Some, None}
-use Rattle.desk_text.specs.declared.outcome.StoreFault.{StoreFault}
+use Rattle.bug_record.specs.declared.outcome.StoreFault.{StoreFault}
 use Rattle.desk_answers.specs.Answer.{Answer, store_fault}
 use Rattle.desk_answers.specs.Shown.{shown}
 use Rattle.desk_answers.specs.declared.reply.Reply.{Reply}

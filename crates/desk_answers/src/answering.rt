@@ -9,9 +9,9 @@ ghost use Rattle.desk_answers.specs.Stored.{stored};
 ghost use Rattle.desk_answers.specs.Shown.{shown, asked};
 
 use crate::branches::answer_branch;
+use crate::lists_and_pages::{answer_list, answer_page};
 use crate::messages::answer_message;
 use crate::once::answer_once;
-use crate::questions::{answer_list, answer_page};
 use crate::reply::Reply;
 use crate::reports::answer_report;
 use crate::request::Request;

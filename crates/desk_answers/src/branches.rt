@@ -2,9 +2,9 @@
 
 ghost use Rattle.std.specs.Prelude.{◌≡◌, None, Some, IfOk, map, string_bytes};
 ghost use Rattle.desk_store.specs.Store.{Holds};
-ghost use Rattle.desk_run.specs.Branches.{nodes_of};
-ghost use Rattle.desk_run.specs.BranchWords.{AreRead};
-ghost use Rattle.desk_json.specs.Answers.{ok_json};
+ghost use Rattle.desk_questions.specs.Branches.{nodes_of};
+ghost use Rattle.desk_questions.specs.BranchWords.{AreRead};
+ghost use Rattle.routes_and_json.specs.Answers.{ok_json};
 ghost use Rattle.desk_answers.specs.Answer.{json_answer};
 ghost use Rattle.desk_answers.specs.Requests.{PostBranch};
 ghost use Rattle.desk_answers.specs.Faults.{IsAnswer, IsTold, counted_with};
@@ -13,12 +13,13 @@ ghost use Rattle.desk_answers.specs.Steps.{Gives};
 
 use crate::refusals::{refuse, refuse_nodes};
 use crate::reply::{Body, Reply, store_fault};
-use ancestry::{BranchFault, Node, NodeFault};
-use desk_json::ok_json;
+use ancestry::BranchFault;
+use bug_record::StoreFault;
 use desk_store::Records;
-use desk_text::StoreFault;
 use http::StatusCode;
+use routes_and_json::ok_json;
 use std::alloc::Global;
+use version_nodes::{Node, NodeFault};
 
 // The nodes of these words.
 // `BadNode` where a word is no node, `Memory` where there was none.

@@ -3,9 +3,9 @@
 
 mod answering;
 mod branches;
+mod lists_and_pages;
 mod messages;
 mod once;
-mod questions;
 mod refusals;
 mod reply;
 mod reports;

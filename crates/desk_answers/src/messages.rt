@@ -12,13 +12,13 @@ ghost use Rattle.desk_answers.specs.Cases.{GivesOrFails, TellsFault, AnswersEnd}
 
 use crate::reply::{Body, Reply, json_reply, store_fault};
 use crate::request::MessageRequest;
+use bug_record::{End, StoreFault};
 use debver::Text;
-use desk_json::control_json;
 use desk_lines::split_lines;
 use desk_messages::{Received, receive_lines, received_bytes};
 use desk_store::Records;
-use desk_text::{End, StoreFault};
 use http::StatusCode;
+use routes_and_json::control_json;
 use std::alloc::{AllocError, Global};
 
 // How a message ended.

@@ -2,7 +2,7 @@
 
 ghost use Rattle.std.specs.Prelude.{◌≡◌, string_bytes};
 ghost use Rattle.bug_record.specs.Texts.{IsText};
-ghost use Rattle.message_machine.specs.Ids.{IsId};
+ghost use Rattle.line_words.specs.Ids.{IsId};
 ghost use Rattle.desk_store.specs.Store.{Holds};
 ghost use Rattle.desk_answers.specs.Faults.{IsTold, counted_with};
 ghost use Rattle.desk_answers.specs.Repeats.{id_in_use, IsOnceAnswer};
@@ -13,10 +13,10 @@ ghost use Rattle.desk_answers.specs.Stored.{stored};
 use crate::messages::tell;
 use crate::reply::{Body, Reply, store_fault};
 use crate::request::OnceRequest;
+use bug_record::StoreFault;
 use desk_lines::split_lines;
 use desk_repeats::{OnceFault, receive_once};
 use desk_store::Records;
-use desk_text::StoreFault;
 use http::StatusCode;
 use std::alloc::Global;
 

@@ -8,9 +8,9 @@ ghost use Rattle.desk_answers.specs.Cases.{GivesOrFails};
 
 use crate::reply::{Reply, json_reply, store_fault};
 use ancestry::BranchFault;
-use desk_json::error_json;
 use desk_text::{StoreFault, nodes_refusal};
 use http::StatusCode;
+use routes_and_json::error_json;
 use std::alloc::Global;
 
 /// A refusal of a request that was read: 400, and why.

@@ -7,7 +7,7 @@ ghost use Rattle.desk_answers.specs.Faults.{IsTold};
 ghost use Rattle.desk_answers.specs.Shown.{media_of, body_of, shown};
 ghost use Rattle.desk_answers.specs.Steps.{Fails, Gives};
 
-use desk_text::StoreFault;
+use bug_record::StoreFault;
 use http::StatusCode;
 
 /// What stands in an answer.

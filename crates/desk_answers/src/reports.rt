@@ -11,11 +11,11 @@ ghost use Rattle.desk_answers.specs.Cases.{RefusesReport};
 use crate::refusals::refuse;
 use crate::reply::{Reply, json_reply, store_fault};
 use crate::request::ReportRequest;
-use desk_json::bug_json;
 use desk_messages::report;
 use desk_store::Records;
 use desk_text::{ReportFault, StoreFault, report_refusal};
 use http::StatusCode;
+use routes_and_json::bug_json;
 use std::alloc::Global;
 
 // The version that a report gives.

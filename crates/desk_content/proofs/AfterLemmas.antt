@@ -2,7 +2,7 @@
 use Rattle.std.proofs.Common.{◌≡◌, List, ℕ, Option, Some, None, sym, ap, subst, ◌∙◌}
 use Rattle.bug_record.specs.Texts.{IfGiven}
 use Rattle.bug_record.specs.declared.command.Change.{Change}
-use Rattle.desk_text.specs.declared.outcome.Outcome.{Outcome}
+use Rattle.bug_record.specs.declared.outcome.Outcome.{Outcome}
 use Rattle.message_machine.specs.Kept.{Keeping, kept_also, AreGoodKept}
 use Rattle.desk_content.specs.Changes.{FitsContent}
 use Rattle.desk_content.specs.Content.{Content}

@@ -9,10 +9,10 @@ use Rattle.std.proofs.lemmas.Bool.{false≢true, eqb-true, eq-eqb}
 use Rattle.std.proofs.lemmas.Option.{none-some}
 use Rattle.std.proofs.lemmas.List.Kept.{IsStrictlySortedBy-filter}
 use Rattle.line_words.specs.declared.named.TheConstants.{LARGEST_NUMBER}
-use Rattle.ancestry.specs.Nodes.{Node, same_node, node_cmp}
-use Rattle.ancestry.specs.NodeLaws.{same_node_equiv}
-use Rattle.ancestry.specs.Trees.{Ancestry, IsForest, has_node, known_at, parent_of}
-use Rattle.ancestry.proofs.NodeLemmas.{same_true, same_itself, same_back, past_first, at_first, known_put, known_others}
+use Rattle.version_nodes.specs.Nodes.{Node, same_node, node_cmp}
+use Rattle.version_nodes.specs.NodeLaws.{same_node_equiv}
+use Rattle.version_nodes.specs.Trees.{Ancestry, IsForest, has_node, known_at, parent_of}
+use Rattle.version_nodes.proofs.NodeLemmas.{same_true, same_itself, same_back, past_first, at_first, known_put, known_others}
 use Rattle.ancestry.proofs.LinkLemmas.{ascends_put, same_links}
 use Rattle.bug_record.specs.Sets.{Each}
 use Rattle.nearest_marks.specs.Nearest.{nearest_of}

@@ -4,17 +4,17 @@ use Rattle.std.specs.Prelude.{filter, not, option_map, is_some, ◌==◌, ◌≢
 use Rattle.std.specs.Option.{option_or}
 use Rattle.std.proofs.lemmas.Bool.{false≢true, eq-eqb}
 use Rattle.std.proofs.lemmas.Option.{same_Some, none-some}
-use Rattle.ancestry.specs.Nodes.{Node}
-use Rattle.ancestry.specs.Trees.{Ancestry, knows, line}
+use Rattle.version_nodes.specs.Nodes.{Node}
+use Rattle.version_nodes.specs.Trees.{Ancestry, knows, line}
 use Rattle.bug_record.specs.Sets.{has, Each}
 use Rattle.bug_record.specs.Desk.{IsSound}
 use Rattle.bug_record.specs.Images.{numbers_of, image_with, bug_in, bug_of, AreApart, HasMember, CoverSets, put}
 use Rattle.bug_record.specs.declared.bug.Member.{Member}
 use Rattle.bug_record.specs.declared.bug.SetImage.{SetImage}
 use Rattle.bug_record.specs.declared.command.Change.{Change}
-use Rattle.desk_places.specs.Keys.{key_of, keyed_bug, IsKeyed, key_after, image_at_key, set_after}
-use Rattle.desk_places.proofs.ImageLemmas.{bug_in-some, bug_in-none}
-use Rattle.desk_places.proofs.KeyLemmas.{shown-some, keyed-after, bug-after}
+use Rattle.bugs_in_memory.specs.Keys.{key_of, keyed_bug, IsKeyed, key_after, image_at_key, set_after}
+use Rattle.bugs_in_memory.proofs.ImageLemmas.{bug_in-some, bug_in-none}
+use Rattle.bugs_in_memory.proofs.KeyLemmas.{shown-some, keyed-after, bug-after}
 use Rattle.nearest_marks.specs.Nearest.{nearest_of, nearest_on}
 use Rattle.nearest_marks.specs.declared.near.Near.{Near}
 use Rattle.desk_content.specs.Content.{Content}

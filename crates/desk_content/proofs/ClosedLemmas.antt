@@ -9,8 +9,8 @@ use Rattle.bug_record.specs.Sets.{has, Each}
 use Rattle.bug_record.specs.Images.{numbers_of, image_with, bug_in, AreApart, HasMember}
 use Rattle.bug_record.specs.declared.bug.Member.{Member}
 use Rattle.bug_record.specs.declared.bug.SetImage.{SetImage}
-use Rattle.desk_places.specs.Keys.{key_of, first_number}
-use Rattle.desk_places.proofs.ImageLemmas.{none_from, bug_in-some}
+use Rattle.bugs_in_memory.specs.Keys.{key_of, first_number}
+use Rattle.bugs_in_memory.proofs.ImageLemmas.{none_from, bug_in-some}
 use Rattle.nearest_marks.specs.Nearest.{nearest_of}
 use Rattle.desk_content.specs.Content.{Content}
 use Rattle.desk_content.specs.Edits.{put_at}

@@ -9,11 +9,11 @@ use Rattle.std.specs.List.Sorted.{IsStrictlySortedBy}
 use Rattle.std.proofs.lemmas.Bool.{false≢true, eq-eqb}
 use Rattle.std.proofs.lemmas.Bool.Decides.{nat_tests}
 use Rattle.line_words.specs.declared.named.TheConstants.{LARGEST_NUMBER}
-use Rattle.ancestry.specs.Nodes.{Node, same_node, node_cmp}
-use Rattle.ancestry.specs.Trees.{has_node}
-use Rattle.ancestry.specs.declared.statuses.MarkKind.{MarkKind}
-use Rattle.ancestry.specs.declared.statuses.MarkKind.TheVariants.{Found, Fixed}
-use Rattle.ancestry.proofs.NodeLemmas.{same_true, same_itself, ties_same}
+use Rattle.version_nodes.specs.Nodes.{Node, same_node, node_cmp}
+use Rattle.version_nodes.specs.Trees.{has_node}
+use Rattle.version_nodes.specs.declared.statuses.MarkKind.{MarkKind}
+use Rattle.version_nodes.specs.declared.statuses.MarkKind.TheVariants.{Found, Fixed}
+use Rattle.version_nodes.proofs.NodeLemmas.{same_true, same_itself, ties_same}
 use Rattle.bug_record.specs.Sets.{has, IsAscending}
 use Rattle.bug_record.specs.Images.{numbers_of}
 use Rattle.bug_record.specs.declared.bug.Member.{Member}
@@ -25,7 +25,7 @@ use Rattle.bug_record.proofs.PackageLemmas.{same_name, has-with_name}
 use Rattle.bug_record.specs.Marks.{with_node}
 use Rattle.bug_record.proofs.MarkLemmas.{has-with_node}
 use Rattle.bug_record.proofs.SetLemmas.{has-above}
-use Rattle.desk_places.specs.Keys.{key_of}
+use Rattle.bugs_in_memory.specs.Keys.{key_of}
 use Rattle.nearest_marks.specs.Nearest.{row_at, once}
 use Rattle.nearest_marks.specs.declared.near.Near.{Near}
 use Rattle.nearest_marks.specs.declared.near.NearRow.{NearRow}

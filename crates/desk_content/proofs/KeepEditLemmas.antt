@@ -7,8 +7,8 @@ use Rattle.line_words.specs.Numbers.{IsGoodNumber}
 use Rattle.bug_record.specs.Changed.{numbers_below}
 use Rattle.bug_record.specs.Sets.{has, IsAscending, Each}
 use Rattle.bug_record.proofs.SetLemmas.{has-numbers_below}
-use Rattle.desk_text.specs.declared.outcome.Outcome.{Outcome}
-use Rattle.desk_text.specs.declared.outcome.Outcome.TheVariants.{Changed, Refused, Stopped}
+use Rattle.bug_record.specs.declared.outcome.Outcome.{Outcome}
+use Rattle.bug_record.specs.declared.outcome.Outcome.TheVariants.{Changed, Refused, Stopped}
 use Rattle.message_machine.specs.Kept.{IsGoodOutcome, IsOfMessage}
 use Rattle.message_machine.specs.declared.kept.Kept.{Kept}
 use Rattle.desk_content.specs.Content.{Content}

@@ -12,8 +12,8 @@ use Rattle.bug_record.specs.Sets.{has}
 use Rattle.bug_record.specs.declared.bug.SetImage.{SetImage}
 use Rattle.bug_record.specs.declared.command.Change.{Change}
 use Rattle.bug_record.proofs.SetLemmas.{has-numbers_below}
-use Rattle.desk_text.specs.declared.outcome.Outcome.{Outcome}
-use Rattle.desk_text.specs.declared.outcome.Outcome.TheVariants.{Changed, Refused, Stopped}
+use Rattle.bug_record.specs.declared.outcome.Outcome.{Outcome}
+use Rattle.bug_record.specs.declared.outcome.Outcome.TheVariants.{Changed, Refused, Stopped}
 use Rattle.message_machine.specs.Kept.{Keeping, outcomes_kept, kept_with, kept_also, AreGoodKept}
 use Rattle.message_machine.specs.declared.kept.Kept.{Kept}
 use Rattle.desk_content.specs.Content.{Content}

@@ -1,8 +1,8 @@
 -- The content of a new desk.
-use Rattle.std.proofs.Common.{◌≡◌, ◌<◌, ◌≤◌, ℕ, Bool, true, false, cond, List, [], None, Some, sym, refl, arith}
+use Rattle.std.proofs.Common.{◌≡◌, ◌<◌, ◌≤◌, ℕ, List, [], refl, arith}
 use Rattle.std.proofs.lemmas.Option.{none-some}
 use Rattle.line_words.specs.declared.named.TheConstants.{AFTER_LARGEST, LARGEST_NUMBER}
-use Rattle.ancestry.proofs.ForestProp.{no_nodes-forest}
+use Rattle.version_nodes.proofs.ForestProp.{no_nodes-forest}
 use Rattle.bug_record.specs.Changed.{numbers_below}
 use Rattle.desk_content.specs.Content.{no_content}
 use Rattle.desk_content.specs.Kept.{IsKeptContent}

@@ -3,8 +3,8 @@ use Rattle.std.proofs.Common.{◌≡◌, Some, refl}
 use Rattle.bug_record.specs.declared.command.Field.TheVariants as fields
 use Rattle.bug_record.specs.declared.command.Refusal.{Refusal}
 use Rattle.bug_record.specs.declared.command.Refusal.TheVariants as refusals
-use Rattle.desk_text.specs.declared.outcome.Outcome.{Outcome}
-use Rattle.desk_text.specs.declared.outcome.Outcome.TheVariants.{Changed, Refused, Stopped}
+use Rattle.bug_record.specs.declared.outcome.Outcome.{Outcome}
+use Rattle.bug_record.specs.declared.outcome.Outcome.TheVariants.{Changed, Refused, Stopped}
 use Rattle.desk_content.specs.Outcomes.{bare, outcome_kind, outcome_number, outcome_field, outcome_node, outcome_in}
 
 abbrev IsReadBack : Outcome → Type 0

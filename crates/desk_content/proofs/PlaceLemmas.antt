@@ -7,8 +7,8 @@ use Rattle.std.proofs.lemmas.Bool.Decides.{nat_tests}
 use Rattle.std.specs.BTreeSet.{insert_key}
 use Rattle.std.specs.Cmp.Lexicographic.{nat_list_cmp_total, nat_list_eq_equiv, texts_ties}
 use Rattle.std.specs.declared.cmp.Ordering.{Ordering}
-use Rattle.ancestry.specs.Nodes.{Node, node_cmp}
-use Rattle.ancestry.specs.NodeLaws.{same_node_equiv, node_cmp_total, node_ties}
+use Rattle.version_nodes.specs.Nodes.{Node, node_cmp}
+use Rattle.version_nodes.specs.NodeLaws.{same_node_equiv, node_cmp_total, node_ties}
 use Rattle.bug_record.specs.Sets.{AllAbove, IsAscending}
 use Rattle.bug_record.specs.Marks.{IsNodeSet, with_node}
 use Rattle.bug_record.specs.Ordered.{with_each}

@@ -3,16 +3,16 @@ use Rattle.std.proofs.Common.{◌≡◌, ℕ, true, false, cond, ◌&&◌, List,
 use Rattle.std.specs.Prelude.{◌==◌}
 use Rattle.std.specs.Option.{option_or}
 use Rattle.std.proofs.lemmas.Bool.{eqb-true}
-use Rattle.ancestry.specs.Nodes.{Node, same_node}
-use Rattle.ancestry.specs.declared.statuses.MarkKind.TheVariants.{Found, Fixed}
-use Rattle.ancestry.proofs.NodeLemmas.{same_true}
+use Rattle.version_nodes.specs.Nodes.{Node, same_node}
+use Rattle.version_nodes.specs.declared.statuses.MarkKind.TheVariants.{Found, Fixed}
+use Rattle.version_nodes.proofs.NodeLemmas.{same_true}
 use Rattle.bug_record.specs.Sets.{has, IsAscending}
 use Rattle.bug_record.specs.Marks.{with_node}
 use Rattle.bug_record.specs.PackageSets.{with_name}
 use Rattle.bug_record.specs.Images.{numbers_of}
 use Rattle.bug_record.specs.declared.bug.Member.{Member}
 use Rattle.bug_record.specs.declared.bug.SetImage.{SetImage}
-use Rattle.desk_places.specs.Keys.{key_of}
+use Rattle.bugs_in_memory.specs.Keys.{key_of}
 use Rattle.nearest_marks.specs.Nearest.{nearest_of, row_at, once}
 use Rattle.nearest_marks.specs.declared.near.Near.{Near}
 use Rattle.nearest_marks.specs.declared.near.NearRow.{NearRow}

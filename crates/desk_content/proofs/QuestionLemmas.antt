@@ -4,11 +4,11 @@ use Rattle.std.specs.Prelude.{option_map, nat_lt}
 use Rattle.std.specs.Option.{option_map_or, option_and_then}
 use Rattle.std.proofs.lemmas.Bool.Decides.{nat_tests}
 use Rattle.std.proofs.lemmas.Option.{none-some}
-use Rattle.ancestry.specs.Nodes.{Node}
-use Rattle.ancestry.specs.Trees.{Ancestry, IsForest, has_node, knows, line}
-use Rattle.ancestry.specs.Statuses.{first_marked, first_kind, kind_at}
-use Rattle.ancestry.specs.declared.statuses.MarkKind.{MarkKind}
-use Rattle.ancestry.specs.declared.statuses.MarkKind.TheVariants.{Found, Fixed}
+use Rattle.version_nodes.specs.Nodes.{Node}
+use Rattle.version_nodes.specs.Trees.{Ancestry, IsForest, has_node, knows, line}
+use Rattle.version_nodes.specs.Statuses.{first_marked, first_kind, kind_at}
+use Rattle.version_nodes.specs.declared.statuses.MarkKind.{MarkKind}
+use Rattle.version_nodes.specs.declared.statuses.MarkKind.TheVariants.{Found, Fixed}
 use Rattle.ancestry.proofs.LineLemmas.{line_step, line_above, unknown_has_none}
 use Rattle.bug_record.specs.Asked.{passes, numbers_where}
 use Rattle.bug_record.specs.Changed.{numbers_below}
@@ -17,14 +17,14 @@ use Rattle.bug_record.specs.Images.{bug_of, member_at}
 use Rattle.bug_record.specs.declared.bug.Shared.{Shared}
 use Rattle.bug_record.specs.declared.bug.SetImage.{SetImage}
 use Rattle.bug_record.proofs.SetLemmas.{has-filter, has-numbers_below, IsAscending-filter, IsAscending-numbers_below, same-ascending}
-use Rattle.desk_places.proofs.KeyLemmas.{found-image, shown-some}
+use Rattle.bugs_in_memory.proofs.KeyLemmas.{found-image, shown-some}
 use Rattle.nearest_marks.specs.Nearest.{nearest_on, nearest_of, own_mark}
 use Rattle.nearest_marks.specs.declared.near.Near.{Near}
 use Rattle.desk_content.specs.Content.{Content}
 use Rattle.desk_content.specs.View.{shared_of, image, desk_in}
 use Rattle.desk_content.specs.Kept.{IsKeptContent}
 use Rattle.desk_content.specs.Branches.{with_nodes}
-use Rattle.desk_content.specs.Questions.{set_passes, bug_passes, kind_here, kind_of}
+use Rattle.desk_content.specs.KindsAtNodes.{set_passes, bug_passes, kind_here, kind_of}
 use Rattle.desk_content.specs.declared.edit.SetFields.{SetFields}
 
 pub branch_kept : (c : Content) (t : Ancestry) → IsKeptContent c → IsForest t → IsKeptContent (with_nodes t c)

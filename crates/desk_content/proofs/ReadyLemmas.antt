@@ -5,17 +5,17 @@ use Rattle.std.specs.Option.{option_or, option_and_then}
 use Rattle.std.specs.Cmp.Lexicographic.{pointwise}
 use Rattle.std.proofs.lemmas.Bool.{false≢true, eq-eqb}
 use Rattle.line_words.specs.declared.named.TheConstants.{AFTER_LARGEST, LARGEST_NUMBER}
-use Rattle.ancestry.specs.Nodes.{Node, same_node}
-use Rattle.ancestry.specs.Trees.{Ancestry}
-use Rattle.ancestry.proofs.NodeLemmas.{same_true}
+use Rattle.version_nodes.specs.Nodes.{Node, same_node}
+use Rattle.version_nodes.specs.Trees.{Ancestry}
+use Rattle.version_nodes.proofs.NodeLemmas.{same_true}
 use Rattle.bug_record.specs.Sets.{Each}
 use Rattle.bug_record.specs.Images.{image_with, bug_of, member_at, AreApart, HasMember, put}
 use Rattle.bug_record.specs.declared.bug.Bug.{Bug}
 use Rattle.bug_record.specs.declared.bug.Member.{Member}
 use Rattle.bug_record.specs.declared.bug.SetImage.{SetImage}
 use Rattle.bug_record.specs.declared.command.Change.{Change}
-use Rattle.desk_places.specs.Keys.{key_of}
-use Rattle.desk_places.proofs.ImageLemmas.{bug_in-image_with, bug_in-none, member-has}
+use Rattle.bugs_in_memory.specs.Keys.{key_of}
+use Rattle.bugs_in_memory.proofs.ImageLemmas.{bug_in-image_with, bug_in-none, member-has}
 use Rattle.nearest_marks.specs.Nearest.{nearest_of}
 use Rattle.nearest_marks.specs.declared.near.Near.{Near}
 use Rattle.desk_content.specs.Content.{Content}

@@ -28,22 +28,7 @@ chosen_by p (t ∷ ts) =
 
 every : (t : Tag) → has_tag all_tags t ≡ true
 every tags.A11y = refl
-every tags.Confirmed = refl
-every tags.DebianInstaller = refl
-every tags.FixedUpstream = refl
-every tags.Ftbfs = refl
-every tags.Help = refl
-every tags.Ipv6 = refl
-every tags.L10n = refl
-every tags.Lfs = refl
-every tags.Moreinfo = refl
-every tags.Newcomer = refl
-every tags.Patch = refl
-every tags.Pending = refl
-every tags.Security = refl
-every tags.Unreproducible = refl
-every tags.Upstream = refl
-every tags.Wontfix = refl
+every _ = refl
 
 all_ascend : IsTagSet all_tags
 all_ascend = search rules

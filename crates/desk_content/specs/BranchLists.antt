@@ -1,7 +1,7 @@
 -- The edits of a branch, one after another.
 use Rattle.std.specs.Prelude.{List, [], ◌∷◌, map, flat_map}
-use Rattle.ancestry.specs.Nodes.{Node}
-use Rattle.ancestry.specs.Trees.{Ancestry, parent_of}
+use Rattle.version_nodes.specs.Nodes.{Node}
+use Rattle.version_nodes.specs.Trees.{Ancestry, parent_of}
 use Rattle.desk_content.specs.declared.branches.SetNear.{SetNear}
 use Rattle.desk_content.specs.declared.edit.Edit.{Edit}
 use Rattle.desk_content.specs.declared.edit.Edit.TheVariants.{DropLink, PutLink, PutNear}

@@ -3,8 +3,8 @@
 -- This project's own rule.
 use Rattle.std.specs.Prelude.{ℕ, ◌≡◌, ◌≤◌, ◌==◌, ◌&&◌, true, false, List, [], ◌∷◌, Option, Some, None, is_some, if◌then◌else◌, ⊤}
 use Rattle.line_words.specs.declared.named.TheConstants.{LARGEST_NUMBER}
-use Rattle.ancestry.specs.Nodes.{Node, same_node}
-use Rattle.ancestry.specs.Trees.{Ancestry, IsForest, has_node, knows, known_at}
+use Rattle.version_nodes.specs.Nodes.{Node, same_node}
+use Rattle.version_nodes.specs.Trees.{Ancestry, IsForest, has_node, knows, known_at}
 use Rattle.bug_record.specs.Sets.{Each}
 use Rattle.nearest_marks.specs.Nearest.{nearest_of}
 use Rattle.nearest_marks.specs.declared.near.Near.{Near}

@@ -6,7 +6,7 @@ use Rattle.bug_record.specs.Sets.{Each}
 use Rattle.bug_record.specs.Images.{AreApart, HasMember, FitsDesk}
 use Rattle.bug_record.specs.declared.bug.SetImage.{SetImage}
 use Rattle.bug_record.specs.declared.command.Change.{Change}
-use Rattle.desk_places.specs.Keys.{key_of}
+use Rattle.bugs_in_memory.specs.Keys.{key_of}
 use Rattle.desk_content.specs.Content.{Content}
 use Rattle.desk_content.specs.View.{desk_in}
 use Rattle.desk_content.specs.Images.{same_marks, without_image, with_image}

@@ -1,8 +1,8 @@
 -- What the tables of a desk say, with no row in it.
 -- This project's own rule.
 use Rattle.std.specs.Prelude.{ℕ, List, [], Option, None}
-use Rattle.ancestry.specs.Nodes.{Node}
-use Rattle.ancestry.specs.Trees.{Ancestry, no_nodes}
+use Rattle.version_nodes.specs.Nodes.{Node}
+use Rattle.version_nodes.specs.Trees.{Ancestry, no_nodes}
 use Rattle.bug_record.specs.declared.bug.Member.{Member}
 use Rattle.nearest_marks.specs.declared.near.Near.{Near}
 use Rattle.desk_content.specs.declared.edit.SetFields.{SetFields}

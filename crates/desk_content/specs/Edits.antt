@@ -3,15 +3,15 @@
 use Rattle.std.specs.Prelude.{ℕ, ◌==◌, ◌&&◌, nat_lt, not, List, [], ◌∷◌, filter, map, Some, None, if◌then◌else◌, Option}
 use Rattle.std.specs.BTreeMap.{insert_entry}
 use Rattle.std.specs.Str.{bytes_eq}
-use Rattle.ancestry.specs.Nodes.{Node, same_node, node_cmp}
-use Rattle.ancestry.specs.declared.statuses.MarkKind.{MarkKind}
-use Rattle.ancestry.specs.declared.statuses.MarkKind.TheVariants.{Found, Fixed}
+use Rattle.version_nodes.specs.Nodes.{Node, same_node, node_cmp}
+use Rattle.version_nodes.specs.declared.statuses.MarkKind.{MarkKind}
+use Rattle.version_nodes.specs.declared.statuses.MarkKind.TheVariants.{Found, Fixed}
 use Rattle.bug_record.specs.Marks.{with_node}
 use Rattle.bug_record.specs.PackageSets.{with_name}
 use Rattle.bug_record.specs.declared.bug.Member.{Member}
 use Rattle.nearest_marks.specs.declared.near.Near.{Near}
 use Rattle.desk_content.specs.Content.{Content}
-use Rattle.desk_text.specs.declared.outcome.Outcome.{Outcome}
+use Rattle.bug_record.specs.declared.outcome.Outcome.{Outcome}
 use Rattle.desk_content.specs.Encodings.{tags_number, tags_in}
 use Rattle.desk_content.specs.Outcomes.{bare}
 use Rattle.desk_content.specs.declared.edit.Edit.{Edit}

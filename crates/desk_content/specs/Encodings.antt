@@ -1,8 +1,8 @@
 -- The numbers that stand for severities, flags, tags and kinds of marks in the tables.
 -- This project's own rule.
 use Rattle.std.specs.Prelude.{ℕ, ◌==◌, ◌+◌, ◌*◌, ◌/◌, ◌%◌, Bool, true, false, List, [], ◌∷◌, map, slice_get, Option, Some, None, if◌then◌else◌}
-use Rattle.ancestry.specs.declared.statuses.MarkKind.{MarkKind}
-use Rattle.ancestry.specs.declared.statuses.MarkKind.TheVariants.{Found, Fixed}
+use Rattle.version_nodes.specs.declared.statuses.MarkKind.{MarkKind}
+use Rattle.version_nodes.specs.declared.statuses.MarkKind.TheVariants.{Found, Fixed}
 use Rattle.bug_record.specs.Severities.{all_severities}
 use Rattle.bug_record.specs.Tags.{all_tags, has_tag}
 use Rattle.bug_record.specs.declared.severity.Severity.{Severity}

@@ -1,12 +1,12 @@
 -- Contents that a desk keeps.
 -- This project's own rule.
 use Rattle.std.specs.Prelude.{ℕ, ◌≡◌, ◌==◌, ◌&&◌, ◌||◌, Bool, true, false, List, [], ◌∷◌, length, None}
-use Rattle.ancestry.specs.Nodes.{Node}
+use Rattle.version_nodes.specs.Nodes.{Node}
 use Rattle.bug_record.specs.Desk.{IsSound}
 use Rattle.bug_record.specs.Changed.{numbers_below}
-use Rattle.desk_places.specs.Keys.{IsKeyed}
-use Rattle.desk_text.specs.declared.outcome.Outcome.{Outcome}
-use Rattle.desk_text.specs.declared.outcome.Outcome.TheVariants.{Changed, Refused, Stopped}
+use Rattle.bugs_in_memory.specs.Keys.{IsKeyed}
+use Rattle.bug_record.specs.declared.outcome.Outcome.{Outcome}
+use Rattle.bug_record.specs.declared.outcome.Outcome.TheVariants.{Changed, Refused, Stopped}
 use Rattle.message_machine.specs.Kept.{AreGoodKept}
 use Rattle.nearest_marks.specs.Nearest.{nearest_of}
 use Rattle.desk_content.specs.Content.{Content}

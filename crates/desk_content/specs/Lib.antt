@@ -9,7 +9,7 @@ pub mod Images
 pub mod Changes
 pub mod Branches
 pub mod Keeping
-pub mod Questions
+pub mod KindsAtNodes
 -- definitions that only private functions cite
 pub mod EditLists
 pub mod BranchLists

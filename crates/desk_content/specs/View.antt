@@ -5,8 +5,8 @@ use Rattle.std.specs.Prelude.{ℕ, List, map, Option, option_map}
 use Rattle.bug_record.specs.Desk.{Desk}
 use Rattle.bug_record.specs.declared.bug.Shared.{Shared}
 use Rattle.bug_record.specs.declared.bug.SetImage.{SetImage}
-use Rattle.desk_places.specs.Keys.{keyed_desk}
-use Rattle.desk_text.specs.declared.outcome.Outcome.{Outcome}
+use Rattle.bugs_in_memory.specs.Keys.{keyed_desk}
+use Rattle.bug_record.specs.declared.outcome.Outcome.{Outcome}
 use Rattle.message_machine.specs.Kept.{Keeping}
 use Rattle.desk_content.specs.Content.{Content}
 use Rattle.desk_content.specs.Outcomes.{numbered}

@@ -2,7 +2,7 @@
 
 ghost use Rattle.std.specs.Prelude.{◌≡◌, ◌++◌, OnOk, IfOk};
 ghost use Rattle.std.specs.Option.{option_copied};
-ghost use Rattle.ancestry.specs.Trees.{IsForest};
+ghost use Rattle.version_nodes.specs.Trees.{IsForest};
 ghost use Rattle.desk_content.specs.Content.{Content};
 ghost use Rattle.desk_content.specs.Edits.{edited_all};
 ghost use Rattle.desk_content.specs.Free.{AreFree};
@@ -10,10 +10,11 @@ ghost use Rattle.desk_content.specs.Branches.{with_nodes, ChangesNodes, AreMissi
 ghost use Rattle.desk_content.specs.BranchLists.{link_puts, set_near_puts};
 
 use crate::edit::Edit;
-use ancestry::{Node, Tree};
+use ancestry::Tree;
 use bug_record::Sequence;
 use nearest_marks::NearRow;
 use std::alloc::{AllocError, Global};
+use version_nodes::Node;
 
 /// A row of nearest marks: of the set of this key, as seen from a node.
 #[derive(Drop)]

@@ -1,10 +1,9 @@
 //! The edits of tables that a change is made of.
 
-use ancestry::{MarkKind, Node};
-use bug_record::{Member, Severity, Tags};
+use bug_record::{Member, Outcome, Severity, Tags};
 use debver::Text;
-use desk_text::Outcome;
 use nearest_marks::Near;
+use version_nodes::{MarkKind, Node};
 
 /// The fields that a set of merged bugs has in its own row.
 /// Its marks, blockers, affected packages and members stand in tables of their own.

@@ -4,9 +4,9 @@ ghost use Rattle.std.specs.Prelude.{◌≡◌, ◌≤◌, ◌<◌, ◌^◌, ◌+
 ghost use Rattle.bug_record.specs.Tags.{all_tags, has_tag};
 ghost use Rattle.desk_content.specs.Encodings.{severity_in, flag, flag_in, kind_number, kind_in, binary, tags_number, chosen, tags_in};
 
-use ancestry::MarkKind;
 use bug_record::{Severity, Tag, Tags};
 use std::alloc::{AllocError, Global};
+use version_nodes::MarkKind;
 
 // All tags, in their order.
 const ALL_TAGS: [Tag; 17] = [

@@ -1,8 +1,8 @@
 //! What is cleared and what is put for the image of a set.
 
 ghost use Rattle.std.specs.Prelude.{◌≡◌, ◌++◌, List, OnOk, IfOk};
-ghost use Rattle.ancestry.specs.Nodes.{Node};
-ghost use Rattle.desk_places.specs.Keys.{key_of};
+ghost use Rattle.version_nodes.specs.Nodes.{Node};
+ghost use Rattle.bugs_in_memory.specs.Keys.{key_of};
 ghost use Rattle.nearest_marks.specs.Nearest.{nearest_of, row_at, once};
 ghost use Rattle.nearest_marks.specs.declared.near.NearRow.{NearRow};
 ghost use Rattle.desk_content.specs.Content.{Content};
@@ -13,11 +13,11 @@ ghost use Rattle.desk_content.specs.View.{fields_of};
 ghost use Rattle.desk_content.specs.EditLists.{drops_of, drops, mark_drops, member_puts, blocker_puts, affected_puts, mark_puts, near_puts, all_mark_puts, set_puts};
 
 use crate::edit::{Edit, SetFields};
-use ancestry::{MarkKind, Node};
 use bug_record::{Member, Sequence, SetImage, Shared};
 use debver::Text;
 use nearest_marks::{Family, NearRow, nearest_rows};
 use std::alloc::{AllocError, Global};
+use version_nodes::{MarkKind, Node};
 
 /// The edits that put the image of a set, in two parts: those of all images of a change are played
 /// first in the one, then in the other.

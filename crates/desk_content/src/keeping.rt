@@ -12,9 +12,8 @@ ghost use Rattle.desk_content.specs.Outcomes.{numbers_of};
 ghost use Rattle.desk_content.specs.View.{keeping_in};
 
 use crate::edit::Edit;
-use bug_record::Sequence;
+use bug_record::{Outcome, Sequence};
 use debver::Text;
-use desk_text::Outcome;
 use message_machine::copy_outcome;
 use std::alloc::{AllocError, Global};
 

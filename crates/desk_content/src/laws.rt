@@ -2,10 +2,10 @@
 //! Each body is empty: the contract is the law.
 
 ghost use Rattle.std.specs.Prelude.{◌≡◌, ◌<◌, ◌≤◌, ℕ, Bool, List, ◌∷◌, ◌++◌, Some};
-ghost use Rattle.ancestry.specs.Nodes.{Node};
-ghost use Rattle.ancestry.specs.Trees.{Ancestry, IsForest, line};
-ghost use Rattle.ancestry.specs.Statuses.{first_kind};
-ghost use Rattle.ancestry.specs.declared.statuses.MarkKind.{MarkKind};
+ghost use Rattle.version_nodes.specs.Nodes.{Node};
+ghost use Rattle.version_nodes.specs.Trees.{Ancestry, IsForest, line};
+ghost use Rattle.version_nodes.specs.Statuses.{first_kind};
+ghost use Rattle.version_nodes.specs.declared.statuses.MarkKind.{MarkKind};
 ghost use Rattle.bug_record.specs.Asked.{numbers_where};
 ghost use Rattle.bug_record.specs.Sets.{has, IsAscending};
 ghost use Rattle.bug_record.specs.Images.{put};
@@ -17,16 +17,16 @@ ghost use Rattle.bug_record.specs.declared.bug.SetImage.{SetImage};
 ghost use Rattle.bug_record.specs.declared.bug.Shared.{Shared};
 ghost use Rattle.bug_record.specs.declared.command.Change.{Change};
 ghost use Rattle.line_words.specs.declared.named.TheConstants.{LARGEST_NUMBER};
-ghost use Rattle.desk_places.specs.Plain.{empty_desk};
+ghost use Rattle.bugs_in_memory.specs.Plain.{empty_desk};
 ghost use Rattle.desk_content.specs.Content.{Content, no_content};
 ghost use Rattle.desk_content.specs.View.{desk_in, keeping_in};
 ghost use Rattle.desk_content.specs.Keeping.{with_kept};
 ghost use Rattle.desk_content.specs.Outcomes.{bare, outcome_kind, outcome_number, outcome_field, outcome_node, outcome_in};
-ghost use Rattle.desk_text.specs.declared.outcome.Outcome.{Outcome};
+ghost use Rattle.bug_record.specs.declared.outcome.Outcome.{Outcome};
 ghost use Rattle.message_machine.specs.Kept.{none_kept, kept_also, AreGoodKept};
 ghost use Rattle.desk_content.specs.Kept.{IsKeptContent};
 ghost use Rattle.desk_content.specs.Branches.{with_nodes};
-ghost use Rattle.desk_content.specs.Questions.{bug_passes, kind_of};
+ghost use Rattle.desk_content.specs.KindsAtNodes.{bug_passes, kind_of};
 ghost use Rattle.desk_content.specs.Images.{IsGoodImage, IsCleared};
 ghost use Rattle.desk_content.specs.Encodings.{severity_in, flag, flag_in, kind_number, kind_in, tags_number, tags_in};
 ghost use Rattle.desk_content.specs.Changes.{keeps_marks, with_images, cleared_for, changed, FitsContent};

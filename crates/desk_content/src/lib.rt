@@ -8,9 +8,9 @@ mod edit;
 mod encodings;
 mod images;
 mod keeping;
+mod kinds_at_nodes;
 mod laws;
 mod outcomes;
-mod questions;
 
 pub use branches::{SetNear, branch_edits};
 pub use edit::{Edit, SentMessage, SetFields, ToldOutcome};
@@ -20,6 +20,7 @@ pub use encodings::{
 };
 pub use images::{RowEdits, key_of, row_edits};
 pub use keeping::keep_edits;
+pub use kinds_at_nodes::kind_here;
 pub use laws::{
     branches_are_put, bugs_are_asked_by_sets, changes_are_put, images_are_ready, kinds_are_nearest,
     new_contents_are_kept, numbers_are_read_back, outcomes_are_kept,
@@ -27,4 +28,3 @@ pub use laws::{
 pub use outcomes::{
     field_of_outcome, kind_of_outcome, node_of_outcome, number_of_outcome, outcome_of_numbers,
 };
-pub use questions::kind_here;

@@ -5,10 +5,9 @@ ghost use Rattle.std.specs.Option.{option_copied};
 ghost use Rattle.desk_content.specs.Outcomes.{refusal_kind, outcome_kind, refusal_number, outcome_number, field_number, field_in, outcome_field, outcome_node};
 ghost use Rattle.desk_content.specs.Outcomes.{plain_refusal, numbered_refusal, differing, refusal_in, outcome_in};
 
-use ancestry::Node;
-use bug_record::{Field, Refusal, Sequence};
-use desk_text::Outcome;
+use bug_record::{Field, Outcome, Refusal, Sequence};
 use std::alloc::Global;
+use version_nodes::Node;
 
 fn kind_of_refusal(refusal: &Refusal) -> u32
     ensures { result ≡ refusal_kind refusal.now }

@@ -7,13 +7,13 @@ use Rattle.sqlite_trees.specs.Tree.{Trees}
 use Rattle.sqlite_trees.specs.View.{IsClean}
 use Rattle.sqlite_trees.specs.declared.store.Store as store
 use Rattle.ancestry.specs.Branches.{branched}
-use Rattle.ancestry.specs.Nodes.{Node}
+use Rattle.version_nodes.specs.Nodes.{Node}
 use Rattle.ancestry.specs.declared.fault.BranchFault.{BranchFault}
 use Rattle.bug_record.specs.Desk.{Desk}
 use Rattle.bug_record.specs.Images.{put}
 use Rattle.bug_record.specs.Texts.{IsText, IfGiven}
 use Rattle.bug_record.specs.declared.command.Change.{Change}
-use Rattle.desk_text.specs.declared.outcome.Outcome.{Outcome}
+use Rattle.bug_record.specs.declared.outcome.Outcome.{Outcome}
 use Rattle.message_machine.specs.Kept.{Keeping, kept_also}
 use Rattle.desk_content.specs.Branches.{with_nodes}
 use Rattle.desk_content.specs.Changes.{FitsContent, changed}
@@ -24,7 +24,7 @@ use Rattle.desk_content.proofs.AfterLemmas.{after_keeping, after_kept}
 use Rattle.desk_content.proofs.ChangeLemmas.{change_desk, change_kept}
 use Rattle.desk_content.proofs.KeepLemmas.{change_keeping}
 use Rattle.desk_content.proofs.QuestionLemmas.{branch_kept}
-use Rattle.desk_text.specs.declared.outcome.StoreFault.{StoreFault}
+use Rattle.bug_record.specs.declared.outcome.StoreFault.{StoreFault}
 use Rattle.desk_store.specs.Store.{Holds, Applies, Branches, Keeps, MayBeKept, with_change}
 use Rattle.desk_store.proofs.HoldsLemmas.{holds_none}
 use Rattle.desk_store.proofs.KeepLemmas.{kept_also-good}

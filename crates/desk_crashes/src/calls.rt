@@ -8,21 +8,21 @@ ghost use Rattle.bug_record.specs.Desk.{Desk};
 ghost use Rattle.bug_record.specs.Sets.{Each};
 ghost use Rattle.bug_record.specs.Images.{AreApart, HasMember, FitsDesk, put};
 ghost use Rattle.bug_record.specs.Texts.{IsText, IfGiven};
-ghost use Rattle.message_machine.specs.Ids.{IsId};
+ghost use Rattle.line_words.specs.Ids.{IsId};
 ghost use Rattle.message_machine.specs.Kept.{Keeping, kept_also};
 ghost use Rattle.desk_store.specs.Store.{Since, MayBeKept, with_change};
 ghost use Rattle.desk_tables.specs.Kept.{desk_seen, MayKeep};
 ghost use Rattle.desk_crashes.specs.Settled.{HasHonestDisk, HasKeptTables, IsSettled, IsOpenedOver, HasTakenBranch};
 
 use crate::opening::open_store;
-use ancestry::{BranchFault, Node};
-use bug_record::Change;
+use ancestry::BranchFault;
+use bug_record::{Change, Outcome, StoreFault};
 use desk_store::Records;
 use desk_tables::TableDesk;
-use desk_text::{Outcome, StoreFault};
 use sqlite::Alter;
 use sqlite_trees::store::Reopen;
 use std::alloc::Global;
+use version_nodes::Node;
 
 /// Crashes at this moment, between two calls, and opens what is left.
 /// Where the desk was settled, what is opened is the same desk, with what is kept of messages,

@@ -1,7 +1,7 @@
 //! The bytes of a request, out of its lines.
 
 use std::alloc::{AllocError, Global};
-use test_streams::add_text;
+use test_desks::add_text;
 
 /// The bytes of a request; `None` where a sign in it is none.
 /// Its lines up to the first empty one end with a carriage return and a line feed each, but for a

@@ -3,9 +3,9 @@ use Rattle.std.proofs.Common.{◌≡◌, ℕ, List, Bool, true, false, not, Opti
 use Rattle.std.specs.Prelude.{if◌then◌else◌}
 use Rattle.std.specs.Str.{IsUtf8, is_utf8, bytes_eq}
 use Rattle.std.proofs.lemmas.Str.{IsUtf8-from_is_utf8, is_utf8-from_IsUtf8}
-use Rattle.desk_routes.specs.Routes.{method, route_at}
-use Rattle.desk_routes.specs.Parts.{path_of}
-use Rattle.desk_routes.specs.declared.router.Route.{Route}
+use Rattle.routes_and_json.specs.Routes.{method, route_at}
+use Rattle.routes_and_json.specs.Parts.{path_of}
+use Rattle.routes_and_json.specs.declared.router.Route.{Route}
 use Rattle.request_reading.specs.Found.{HadBytes}
 use Rattle.request_reading.proofs.HadLemmas.{had_any}
 use Rattle.desk_answers.specs.Answer.{Answer, not_found}

@@ -1,5 +1,5 @@
 -- What serving one connection takes from its reader.
-use Rattle.std.proofs.Common.{◌≡◌, ℕ, ◌+◌, ◌≤◌, List, [], ◌++◌, length, take, drop, Option, Some, None, Result, Ok, Err, Bool, true, false, not, refl, sym, ap, ◌∙◌, subst, inl, inr, arith, length-append, append_assoc}
+use Rattle.std.proofs.Common.{◌≡◌, ℕ, ◌+◌, ◌≤◌, List, [], ◌++◌, length, take, drop, Option, Some, None, Result, Ok, Err, Bool, true, false, not, refl, sym, ap, ◌∙◌, subst, inl, inr, arith, length-append}
 use Rattle.std.specs.Prelude.{◌⊎◌, nat_le, if◌then◌else◌}
 use Rattle.std.proofs.lemmas.List.{nil_from_length}
 use Rattle.std.proofs.lemmas.Bool.Decides.{nat_tests}
@@ -10,9 +10,9 @@ use Rattle.httparse.specs.Grammar.{RequestHead}
 use Rattle.httparse.specs.Spans.{IsRequestAt}
 use Rattle.httparse.specs.declared.spans.HeaderSpan.{HeaderSpan}
 use Rattle.httparse.specs.declared.spans.RequestSpans.{RequestSpans}
-use Rattle.desk_routes.specs.Routes.{method}
-use Rattle.desk_routes.specs.Parts.{path_of}
-use Rattle.desk_routes.specs.declared.router.Route.{Route}
+use Rattle.routes_and_json.specs.Routes.{method}
+use Rattle.routes_and_json.specs.Parts.{path_of}
+use Rattle.routes_and_json.specs.declared.router.Route.{Route}
 use Rattle.request_reading.specs.Head.{BeginsWithHead, HasNoHead}
 use Rattle.request_reading.specs.Body.{TakesBody}
 use Rattle.request_reading.specs.Found.{GaveHead, TakesHead, IsComplete}

@@ -11,19 +11,19 @@ use Rattle.httparse.specs.Spans.{name_and_value}
 use Rattle.serde_json.specs.Data.{Data}
 use Rattle.bug_record.specs.Texts.{is_text}
 use Rattle.control_text.specs.Numbers.{number_of_word}
-use Rattle.desk_json.specs.Body.{json_of}
-use Rattle.desk_json.specs.Members.{Control as ControlMembers, report_members, control_members, id_member, branch_member}
-use Rattle.desk_routes.specs.Routes.{method, route_at}
-use Rattle.desk_routes.specs.Parts.{path_of, bug_part, package_part, version_part, decoded_text}
-use Rattle.desk_routes.specs.declared.router.Route.{Route}
-use Rattle.desk_routes.specs.declared.router.Route.TheVariants.{Bugs, Control, Branches, Bug}
-use Rattle.desk_routes.specs.declared.router.Route.TheVariants.{List as ListRoute}
+use Rattle.routes_and_json.specs.Body.{json_of}
+use Rattle.routes_and_json.specs.Members.{Control as ControlMembers, report_members, control_members, id_member, branch_member}
+use Rattle.routes_and_json.specs.Routes.{method, route_at}
+use Rattle.routes_and_json.specs.Parts.{path_of, bug_part, package_part, version_part, decoded_text}
+use Rattle.routes_and_json.specs.declared.router.Route.{Route}
+use Rattle.routes_and_json.specs.declared.router.Route.TheVariants.{Bugs, Control, Branches, Bug}
+use Rattle.routes_and_json.specs.declared.router.Route.TheVariants.{List as ListRoute}
 use Rattle.request_reading.specs.Body.{body_of}
 use Rattle.request_reading.specs.declared.refusal.BodyRefusal.{BodyRefusal}
 use Rattle.request_reading.specs.declared.refusal.BodyRefusal.TheVariants as bodies
 use Rattle.desk_answers.specs.Answer.{Answer, json_answer, json, not_found}
 use Rattle.desk_answers.specs.Requests.{Request, Asked, Always, Once, PostBug, PostControl, PostBranch, GetBug, GetList}
-use Rattle.message_machine.specs.Ids.{is_id}
+use Rattle.line_words.specs.Ids.{is_id}
 
 -- the answers to what is no request
 abbrev pub bad_request : Answer

@@ -5,11 +5,11 @@ use Rattle.std.specs.Io.KnownBytes.{Keeps}
 use Rattle.std.specs.Str.{bytes_eq}
 use Rattle.httparse.specs.Grammar.{RequestHead}
 use Rattle.httparse.specs.Spans.{name_and_value}
-use Rattle.desk_routes.specs.Routes.{method}
-use Rattle.desk_routes.specs.Parts.{path_of}
-use Rattle.desk_routes.specs.declared.router.Route.{Route}
-use Rattle.desk_routes.specs.declared.router.Route.TheVariants.{Bugs, Control, Branches, Bug}
-use Rattle.desk_routes.specs.declared.router.Route.TheVariants.{List as ListRoute}
+use Rattle.routes_and_json.specs.Routes.{method}
+use Rattle.routes_and_json.specs.Parts.{path_of}
+use Rattle.routes_and_json.specs.declared.router.Route.{Route}
+use Rattle.routes_and_json.specs.declared.router.Route.TheVariants.{Bugs, Control, Branches, Bug}
+use Rattle.routes_and_json.specs.declared.router.Route.TheVariants.{List as ListRoute}
 use Rattle.request_reading.specs.Head.{BeginsWithHead}
 use Rattle.request_reading.specs.Headers.{body_length}
 use Rattle.request_reading.specs.Body.{size_told, TakesBody}

@@ -16,9 +16,9 @@ use crate::bodies::ask_body;
 use crate::paths::{ask_list, ask_page, route_of};
 use crate::refusal::Refusal;
 use desk_answers::Request;
-use desk_routes::{Route, bug_part, list_parts, method, path};
 use httparse::spans::{HeaderSpan, RequestSpans};
 use request_reading::{ReadFault, read_body};
+use routes_and_json::{Route, bug_part, list_parts, method, path};
 use std::alloc::{AllocError, Global};
 use std::io::Read;
 

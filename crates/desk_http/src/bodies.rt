@@ -3,21 +3,21 @@
 ghost use Rattle.std.specs.Prelude.{◌≡◌, IfOk, map, option_map, string_bytes};
 ghost use Rattle.serde_json.specs.View.{view};
 ghost use Rattle.bug_record.specs.Texts.{IsText};
-ghost use Rattle.desk_json.specs.Shown.{report_shown, control_shown, texts_shown};
+ghost use Rattle.routes_and_json.specs.Shown.{report_shown, control_shown, texts_shown};
 ghost use Rattle.desk_answers.specs.Requests.{IsGoodAsked};
 ghost use Rattle.desk_answers.specs.Shown.{asked, report_asked, message_asked};
-ghost use Rattle.desk_json.specs.Members.{control_members, id_member};
+ghost use Rattle.routes_and_json.specs.Members.{control_members, id_member};
 ghost use Rattle.desk_http.specs.Requests.{is_good_asked, control_asked, posted, members_of, asked_by_body};
 ghost use Rattle.desk_http.specs.Shown.{asks};
 
 use crate::refusal::Refusal;
 use bug_core::is_text;
 use desk_answers::{MessageRequest, OnceRequest, ReportRequest, Request};
-use desk_json::{
-    ControlMembers, ReportMembers, branch_member, control_members, id_member, parse, report_members,
-};
-use desk_routes::Route;
 use message_machine::is_id;
+use routes_and_json::{
+    ControlMembers, ReportMembers, Route, branch_member, control_members, id_member, parse,
+    report_members,
+};
 use serde_json::Value;
 use std::alloc::{AllocError, Global};
 

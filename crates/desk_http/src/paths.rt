@@ -9,7 +9,7 @@ ghost use Rattle.desk_http.specs.Shown.{asks};
 use crate::refusal::Refusal;
 use control_text::number_word;
 use desk_answers::{ListRequest, Request};
-use desk_routes::{ListParts, Route, decoded_text, find_route};
+use routes_and_json::{ListParts, Route, decoded_text, find_route};
 use std::alloc::{AllocError, Global};
 use std::str;
 

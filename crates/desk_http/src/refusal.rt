@@ -1,7 +1,7 @@
 //! Why a request is refused before it is carried out.
 
 ghost use Rattle.std.specs.Prelude.{◌≡◌, Some, option_map};
-ghost use Rattle.desk_routes.specs.Routes.{method};
+ghost use Rattle.routes_and_json.specs.Routes.{method};
 ghost use Rattle.desk_answers.specs.Answer.{json_answer};
 ghost use Rattle.desk_answers.specs.Faults.{IsTold};
 ghost use Rattle.desk_answers.specs.Shown.{shown};
@@ -10,9 +10,9 @@ ghost use Rattle.desk_http.specs.Requests.{bad_request, body_refused, not_allowe
 ghost use Rattle.desk_http.specs.Shown.{refused};
 
 use desk_answers::{Body, Reply, not_found};
-use desk_routes::{Route, method};
 use http::StatusCode;
 use request_reading::BodyRefusal;
+use routes_and_json::{Route, method};
 
 /// Why a request is refused.
 #[derive(Clone, Copy)]

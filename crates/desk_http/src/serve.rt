@@ -17,9 +17,9 @@ ghost use Rattle.desk_http.specs.Taken.{TakesRequest};
 
 use crate::asking::ask;
 use crate::refusal::{Refusal, refuse};
+use bug_record::StoreFault;
 use desk_answers::{Reply, Request, answer_request, store_fault, write_reply};
 use desk_store::Records;
-use desk_text::StoreFault;
 use http::StatusCode;
 use httparse::spans::{EMPTY_HEADER_SPAN, HeaderSpan};
 use request_reading::{Head, MAX_HEAD, MAX_HEADERS, ReadFault, read_head};

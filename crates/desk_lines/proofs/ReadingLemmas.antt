@@ -14,7 +14,7 @@ use Rattle.desk_lines.specs.Reading.{Known, Left, GivesPiece, IsLineFault}
 use Rattle.desk_lines.specs.Pieces.{GivesBytes, GivesRaw, IsFirstFeed, IsLengthFault}
 use Rattle.desk_lines.specs.Pieces.{IsTextFault}
 use Rattle.desk_lines.specs.declared.fault.ScriptFault.{ScriptFault}
-use Rattle.desk_lines.specs.declared.fault.ScriptFault.TheVariants.{Read, Write, NotUtf8, LineTooLong, Memory, Store}
+use Rattle.desk_lines.specs.declared.fault.ScriptFault.TheVariants.{NotUtf8, LineTooLong, Memory}
 use Rattle.desk_lines.specs.declared.source.Piece.{Piece}
 use Rattle.desk_lines.specs.declared.source.Piece.TheVariants as pieces
 use Rattle.desk_lines.specs.declared.source.RawLine.{RawLine}
@@ -139,10 +139,7 @@ length_fault number (LineTooLong k) line rest free h =
     let first = line_goes_on line rest free (omega (arith, h.1)) in
     (h.0, first.0, first.1, first.2, omega (arith, h.1, first.3))
 length_fault number Memory line rest free h = tt
-length_fault number Read line rest free h = absurd h
-length_fault number Write line rest free h = absurd h
-length_fault number (NotUtf8 k) line rest free h = absurd h
-length_fault number (Store fault) line rest free h = absurd h
+length_fault number _ line rest free h = absurd h
 
 -- with all that is unread
 pub rest_too_long : {a b : Option (List ℕ)} (number : ℕ) (fault : ScriptFault) (s line unread : List ℕ) (n : ℕ)
@@ -181,10 +178,7 @@ text_fault : (number : ℕ) (fault : ScriptFault) (all raw : List ℕ) (more : L
     → length raw ≤ 65536 → IsTextFault number raw fault → IsLineFault number fault all
 text_fault number (NotUtf8 line) all raw more first short h = (h.0, raw, more, first, short, h.1)
 text_fault number Memory all raw more first short h = tt
-text_fault number Read all raw more first short h = absurd h
-text_fault number Write all raw more first short h = absurd h
-text_fault number (LineTooLong line) all raw more first short h = absurd h
-text_fault number (Store fault) all raw more first short h = absurd h
+text_fault number _ all raw more first short h = absurd h
 
 -- a piece as it was read, of what a reader has left
 pub piece_left : {a b : Option (List ℕ)} (s t : List ℕ) (raw : RawLine) (result : Result Piece ScriptFault)

@@ -1,6 +1,6 @@
 //! How a script ends before its end.
 
-use desk_text::StoreFault;
+use bug_record::StoreFault;
 use thiserror::Error;
 
 /// Why a script was not run to its end.

@@ -8,7 +8,7 @@ use Rattle.bug_record.specs.Desk.{Desk, IsSound}
 use Rattle.bug_record.specs.Steps.{step}
 use Rattle.bug_record.specs.Words.{Names}
 use Rattle.bug_record.specs.Images.{bug_in, put, FitsDesk}
-use Rattle.ancestry.specs.Nodes.{Node}
+use Rattle.version_nodes.specs.Nodes.{Node}
 use Rattle.bug_record.specs.Plans.{IsShownBy, IsOpenHeadFor, CoverImages, BringNone}
 use Rattle.bug_record.specs.Changed.{changed_numbers, AreChanged, Replaces}
 use Rattle.set_images.proofs.ChangedLemmas.{changed-on_desk}
@@ -20,16 +20,16 @@ use Rattle.line_words.specs.Numbers.{IsGoodNumber}
 use Rattle.bug_record.specs.declared.command.Command.{Command}
 use Rattle.bug_record.specs.declared.command.Refusal.{Refusal}
 use Rattle.line_words.specs.declared.named.Named.{Named}
-use Rattle.desk_text.specs.declared.outcome.Outcome.TheVariants.{Changed, Refused}
+use Rattle.bug_record.specs.declared.outcome.Outcome.TheVariants.{Changed, Refused}
 use Rattle.message_machine.specs.Message.{outcome_of, does}
 use Rattle.message_names.specs.Telling.{refusal_meant, result_meant, step_among}
-use Rattle.desk_text.specs.declared.outcome.StoreFault.{StoreFault}
+use Rattle.bug_record.specs.declared.outcome.StoreFault.{StoreFault}
 use Rattle.desk_store.specs.Store.{Answers, with_change}
 use Rattle.desk_messages.specs.Commands.{HaveNumbers, MayBeMade, Fits, Makes, DecidesTold, Decides}
-use Rattle.desk_messages.specs.declared.command.Decision.{Decision}
+use Rattle.desk_messages.specs.declared.command_decision.Decision.{Decision}
 use Rattle.desk_messages.proofs.RefusalLemmas.{does-good}
 use Rattle.desk_messages.specs.Images.{ShowBugs}
-use Rattle.desk_messages.specs.Questions.{IsAnswered}
+use Rattle.desk_messages.specs.PlanInputs.{IsAnswered}
 
 -- after the two questions
 pub shown : (d d1 : Desk) (images sets : List SetImage) (next : ℕ) (ns : List ℕ) → sets ≡ images → ShowBugs d ns images → d1 ≡ d

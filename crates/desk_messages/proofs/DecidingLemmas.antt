@@ -10,20 +10,20 @@ use Rattle.bug_record.specs.declared.command.Command.TheVariants as commands
 use Rattle.bug_record.specs.declared.command.Refusal.{Refusal}
 use Rattle.line_words.specs.Numbers.{IsGoodNumber}
 use Rattle.line_words.specs.declared.named.Named.{Named}
-use Rattle.control_text.specs.Lines.{reading, IsRefusalOfLine}
+use Rattle.command_grammar.specs.Lines.{reading, IsRefusalOfLine}
 use Rattle.control_text.specs.WellFormed.{IsSpellable}
-use Rattle.control_text.specs.declared.line.Line.{Line}
-use Rattle.control_text.specs.declared.line.Line.TheVariants.{Stop, Do}
+use Rattle.command_grammar.specs.declared.line.Line.{Line}
+use Rattle.command_grammar.specs.declared.line.Line.TheVariants.{Stop, Do}
 use Rattle.control_text.proofs.RefusalLemmas.{reading-of}
-use Rattle.desk_text.specs.declared.outcome.Outcome.{Outcome}
-use Rattle.desk_text.specs.declared.outcome.Outcome.TheVariants.{Refused, Stopped}
-use Rattle.desk_text.specs.declared.outcome.StoreFault.{StoreFault}
+use Rattle.bug_record.specs.declared.outcome.Outcome.{Outcome}
+use Rattle.bug_record.specs.declared.outcome.Outcome.TheVariants.{Refused, Stopped}
+use Rattle.bug_record.specs.declared.outcome.StoreFault.{StoreFault}
 use Rattle.desk_store.specs.Store.{Answers}
 use Rattle.message_machine.specs.Kept.{IsGoodOutcome}
 use Rattle.message_machine.specs.Message.{Entry, machine, takes, does, with_outcome, names_given, names_of, known_names, unreadable_count, end_of}
 use Rattle.desk_messages.specs.Commands.{HaveNumbers, Decides}
 use Rattle.desk_messages.specs.Taking.{IsInStep, IsReady, IsDecision, DecidesLine, FitsDecided, plainly}
-use Rattle.desk_messages.specs.declared.command.Decision.{Decision}
+use Rattle.desk_messages.specs.declared.command_decision.Decision.{Decision}
 use Rattle.desk_messages.proofs.GivenLemmas.{known-push, known-same, given-of}
 use Rattle.desk_messages.proofs.RefusalLemmas.{line-good}
 
@@ -111,26 +111,4 @@ refused-good line refusal reads =
 -- the names of a command that was read are good numbers
 pub names-spelled : (command : Command Named) → IsSpellable command → Each IsGoodNumber (names_in command)
 names-spelled (commands.Clone n ks) h = h.0
-names-spelled (commands.Found n version) h = tt
-names-spelled (commands.NotFound n version) h = tt
-names-spelled (commands.Fixed n version) h = tt
-names-spelled (commands.NotFixed n version) h = tt
-names-spelled (commands.Close n version) h = tt
-names-spelled (commands.Reopen n who) h = tt
-names-spelled (commands.Severity n severity) h = tt
-names-spelled (commands.Tags n steps) h = tt
-names-spelled (commands.Retitle n text) h = tt
-names-spelled (commands.Submitter n who) h = tt
-names-spelled (commands.Reassign n package_name version) h = tt
-names-spelled (commands.Merge n ns) h = tt
-names-spelled (commands.ForceMerge n ns) h = tt
-names-spelled (commands.Unmerge n) h = tt
-names-spelled (commands.Block n ns) h = tt
-names-spelled (commands.Unblock n ns) h = tt
-names-spelled (commands.Forwarded n text) h = tt
-names-spelled (commands.NotForwarded n) h = tt
-names-spelled (commands.Owner n who) h = tt
-names-spelled (commands.NoOwner n) h = tt
-names-spelled (commands.Archive n) h = tt
-names-spelled (commands.Unarchive n) h = tt
-names-spelled (commands.Affects n step names) h = tt
+names-spelled _ h = tt

@@ -9,11 +9,11 @@ use Rattle.bug_record.specs.declared.command.Command.{Command}
 use Rattle.bug_record.specs.declared.command.Refusal.{Refusal}
 use Rattle.line_words.specs.Numbers.{IsGoodNumber}
 use Rattle.line_words.specs.declared.named.Named.{Named}
-use Rattle.control_text.specs.Lines.{reading}
-use Rattle.control_text.specs.declared.line.Line.{Line}
-use Rattle.control_text.specs.declared.line.Line.TheVariants.{Blank, Comment, Stop, Do}
-use Rattle.desk_text.specs.declared.outcome.Outcome.{Outcome}
-use Rattle.desk_text.specs.declared.outcome.Outcome.TheVariants.{Changed, Refused, Stopped}
+use Rattle.command_grammar.specs.Lines.{reading}
+use Rattle.command_grammar.specs.declared.line.Line.{Line}
+use Rattle.command_grammar.specs.declared.line.Line.TheVariants.{Blank, Comment, Stop, Do}
+use Rattle.bug_record.specs.declared.outcome.Outcome.{Outcome}
+use Rattle.bug_record.specs.declared.outcome.Outcome.TheVariants.{Changed, Refused, Stopped}
 use Rattle.message_machine.specs.Kept.{IsGoodOutcome}
 use Rattle.message_machine.specs.Message.{Entry, names_with, names_given, known_names, names_of}
 use Rattle.message_names.specs.Known.{AreOfBugs}

@@ -3,7 +3,7 @@ pub mod GivenLemmas
 pub mod WrittenLemmas
 pub mod CommandLemmas
 pub mod GatherLemmas
-pub mod QuestionLemmas
+pub mod PlanInputLemmas
 pub mod EndLemmas
 pub mod DecidingLemmas
 pub mod MachineLemmas

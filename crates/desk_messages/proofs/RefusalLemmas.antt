@@ -9,9 +9,9 @@ use Rattle.std.specs.Option.{option_or}
 use Rattle.std.proofs.lemmas.Bool.{false≢true, and_parts}
 use Rattle.std.proofs.lemmas.Bool.Decides.{nat_tests}
 use Rattle.std.specs.Map.{keys_of}
-use Rattle.ancestry.specs.Nodes.{Node, IsNode}
-use Rattle.ancestry.specs.Trees.{Ancestry, has_node, IsForest, heads}
-use Rattle.ancestry.proofs.NodeLemmas.{has_head, has_tail}
+use Rattle.version_nodes.specs.Nodes.{Node, IsNode}
+use Rattle.version_nodes.specs.Trees.{Ancestry, has_node, IsForest, heads}
+use Rattle.version_nodes.proofs.NodeLemmas.{has_head, has_tail}
 use Rattle.ancestry.proofs.HeadLemmas.{listed_valid}
 use Rattle.bug_record.specs.Sets.{has, Each, IsAscending}
 use Rattle.bug_record.specs.Texts.{IfGiven}
@@ -38,8 +38,8 @@ use Rattle.line_words.specs.Numbers.{IsGoodNumber}
 use Rattle.line_words.specs.Bugs.{IsGoodBug}
 use Rattle.line_words.specs.declared.named.Named.{Named}
 use Rattle.line_words.specs.declared.named.Named.TheVariants.{Number, Name}
-use Rattle.control_text.specs.Lines.{IsRefusalOfLine}
-use Rattle.desk_text.specs.declared.outcome.Outcome.{Outcome}
+use Rattle.command_grammar.specs.Lines.{IsRefusalOfLine}
+use Rattle.bug_record.specs.declared.outcome.Outcome.{Outcome}
 use Rattle.message_machine.specs.Message.{outcome_of, does}
 use Rattle.message_names.proofs.OverLemmas.{bug-over, others-over, names-over}
 use Rattle.message_machine.specs.Kept.{IsGoodRefusal, IsGoodOutcome}
@@ -127,27 +127,7 @@ own-good (commands.Archive n) head merged f g o h =
     or-good _ _ (if-not-good f.closed (refusals.NotDone n) g)
     (or-good _ None (mapped-good IsNode refusals.StillFound head (λ x p. p) h) tt)
 own-good (commands.Unarchive n) head merged f g o h = or-good _ None (if-not-good f.archived (refusals.NotArchived n) g) tt
-own-good (commands.Found n version) head merged f g o h = tt
-own-good (commands.NotFound n version) head merged f g o h = tt
-own-good (commands.Fixed n version) head merged f g o h = tt
-own-good (commands.NotFixed n version) head merged f g o h = tt
-own-good (commands.Close n version) head merged f g o h = tt
-own-good (commands.Reopen n who) head merged f g o h = tt
-own-good (commands.Severity n severity) head merged f g o h = tt
-own-good (commands.Tags n steps) head merged f g o h = tt
-own-good (commands.Retitle n text) head merged f g o h = tt
-own-good (commands.Submitter n who) head merged f g o h = tt
-own-good (commands.Reassign n package_name version) head merged f g o h = tt
-own-good (commands.Merge n ns) head merged f g o h = tt
-own-good (commands.ForceMerge n ns) head merged f g o h = tt
-own-good (commands.Unmerge n) head merged f g o h = tt
-own-good (commands.Clone n ks) head merged f g o h = tt
-own-good (commands.Unblock n ns) head merged f g o h = tt
-own-good (commands.Forwarded n text) head merged f g o h = tt
-own-good (commands.NotForwarded n) head merged f g o h = tt
-own-good (commands.Owner n who) head merged f g o h = tt
-own-good (commands.NoOwner n) head merged f g o h = tt
-own-good (commands.Affects n step names) head merged f g o h = tt
+own-good _ head merged f g o h = tt
 
 records-good : (head_of : Shared → Option Node) (sender : List ℕ) (c : Command ℕ) (d : Desk) → IsGoodNumber (bug_named c)
     → Each IsGoodNumber (other_bugs c) → ((f : Shared) → IfGiven IsNode (head_of f))
@@ -371,15 +351,4 @@ line-good refusals.BadSeverity h = tt
 line-good refusals.BadTag h = tt
 line-good refusals.BadVersion h = tt
 line-good refusals.BadPackage h = tt
-line-good (refusals.NoName k) h = absurd h
-line-good (refusals.NoBug n) h = absurd h
-line-good (refusals.Differ field n) h = absurd h
-line-good (refusals.Archived n) h = absurd h
-line-good (refusals.NotArchived n) h = absurd h
-line-good (refusals.NotMerged n) h = absurd h
-line-good (refusals.Merged n) h = absurd h
-line-good (refusals.NameTaken k) h = absurd h
-line-good (refusals.OwnSet n) h = absurd h
-line-good (refusals.NotDone n) h = absurd h
-line-good (refusals.StillFound node) h = absurd h
-line-good refusals.Full h = absurd h
+line-good _ h = absurd h

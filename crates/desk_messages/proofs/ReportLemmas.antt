@@ -6,13 +6,13 @@ use Rattle.std.proofs.lemmas.Bool.Decides.{nat_tests}
 use Rattle.bug_record.specs.Desk.{Desk}
 use Rattle.bug_record.specs.Steps.{reported}
 use Rattle.bug_record.specs.declared.severity.Severity.{Severity}
-use Rattle.desk_text.specs.declared.outcome.ReportFault.{ReportFault}
-use Rattle.desk_text.specs.declared.outcome.ReportFault.TheVariants.{BadPackage, BadVersion, BadSeverity, BadTitle, Full, Store}
+use Rattle.bug_record.specs.declared.outcome.ReportFault.{ReportFault}
+use Rattle.bug_record.specs.declared.outcome.ReportFault.TheVariants.{BadPackage, BadVersion, BadSeverity, BadTitle, Full, Store}
 use Rattle.desk_store.specs.Store.{Faults}
 use Rattle.desk_messages.specs.Reports.{node_reported, report_severity, desk_reported, report_of, IsReported}
 use Rattle.desk_messages.specs.ReportWords.{IsOfWords}
 use Rattle.desk_messages.specs.Reports.{faults_after_report, FollowsNext, AsksForNext}
-use Rattle.desk_text.specs.declared.outcome.StoreFault.{StoreFault}
+use Rattle.bug_record.specs.declared.outcome.StoreFault.{StoreFault}
 
 -- words that are refused
 words_of : (sender p : List ℕ) (v : Option (List ℕ)) (s t : List ℕ) (d : Desk) (fault : ReportFault)
@@ -31,12 +31,9 @@ words_refused sender p v s t d (Store fault) o e = absurd o
 
 pub words_not_counted : (fault : ReportFault) (faults : Faults) → IsOfWords fault
     → faults ≡ faults_after_report (Err fault) faults
-words_not_counted BadPackage faults o = refl
-words_not_counted BadVersion faults o = refl
-words_not_counted BadSeverity faults o = refl
-words_not_counted BadTitle faults o = refl
 words_not_counted Full faults o = absurd o
 words_not_counted (Store fault) faults o = absurd o
+words_not_counted _ faults o = refl
 
 -- no number is left
 pub report_full : (sender p : List ℕ) (v : Option (List ℕ)) (s t : List ℕ) (d e : Desk) (severity : Severity) (next : ℕ)

@@ -11,12 +11,12 @@ use Rattle.bug_record.specs.declared.command.Change.{Change}
 use Rattle.bug_record.specs.declared.command.Command.{Command}
 use Rattle.line_words.specs.Numbers.{IsGoodNumber}
 use Rattle.line_words.specs.declared.named.Named.{Named}
-use Rattle.desk_text.specs.declared.outcome.Outcome.TheVariants.{Changed}
+use Rattle.bug_record.specs.declared.outcome.Outcome.TheVariants.{Changed}
 use Rattle.desk_store.specs.Store.{with_change}
 use Rattle.message_machine.specs.Kept.{IsGoodOutcome}
 use Rattle.message_machine.specs.Message.{outcome_of, does}
 use Rattle.message_names.specs.Telling.{result_meant, step_among}
-use Rattle.desk_messages.specs.declared.command.Decision.{Decision}
+use Rattle.desk_messages.specs.declared.command_decision.Decision.{Decision}
 
 -- the names stand for numbers from 1 to 999,999,999
 abbrev pub HaveNumbers : Names → Type 0

@@ -4,6 +4,6 @@ pub mod Reports
 pub mod Commands
 pub mod Written
 pub mod Images
-pub mod Questions
+pub mod PlanInputs
 pub mod Taking
 pub mod ReportWords

@@ -4,16 +4,16 @@ use Rattle.std.specs.Prelude.{ℕ, ◌≡◌, ◌≤◌, nat_lt, Bool, true, fal
 use Rattle.std.specs.Prelude.{if◌then◌else◌}
 use Rattle.debver.specs.Names.{name_fault}
 use Rattle.debver.specs.Faults.{text_fault}
-use Rattle.ancestry.specs.Nodes.{Node, node}
+use Rattle.version_nodes.specs.Nodes.{Node, node}
 use Rattle.line_words.specs.declared.named.TheConstants.{AFTER_LARGEST}
 use Rattle.bug_record.specs.Texts.{is_text}
 use Rattle.bug_record.specs.Severities.{severity_of}
 use Rattle.bug_record.specs.Desk.{Desk}
 use Rattle.bug_record.specs.Steps.{reported}
 use Rattle.bug_record.specs.declared.severity.Severity.{Severity}
-use Rattle.desk_text.specs.declared.outcome.StoreFault.{StoreFault}
-use Rattle.desk_text.specs.declared.outcome.ReportFault.{ReportFault}
-use Rattle.desk_text.specs.declared.outcome.ReportFault.TheVariants.{BadPackage, BadVersion, BadSeverity, BadTitle, Full, Store}
+use Rattle.bug_record.specs.declared.outcome.StoreFault.{StoreFault}
+use Rattle.bug_record.specs.declared.outcome.ReportFault.{ReportFault}
+use Rattle.bug_record.specs.declared.outcome.ReportFault.TheVariants.{BadPackage, BadVersion, BadSeverity, BadTitle, Full, Store}
 use Rattle.desk_store.specs.Store.{Faults, counted}
 
 -- a version that is given, and is none

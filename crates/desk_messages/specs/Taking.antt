@@ -6,16 +6,16 @@ use Rattle.bug_record.specs.Sets.{Each}
 use Rattle.bug_record.specs.Texts.{IfGiven}
 use Rattle.bug_record.specs.Words.{Names}
 use Rattle.bug_record.specs.declared.command.Change.{Change}
-use Rattle.control_text.specs.Lines.{reading}
-use Rattle.desk_text.specs.declared.outcome.Outcome.{Outcome}
-use Rattle.desk_text.specs.declared.outcome.StoreFault.{StoreFault}
-use Rattle.desk_text.specs.declared.outcome.End.{End}
-use Rattle.desk_text.specs.declared.outcome.End.TheVariants as ends
+use Rattle.command_grammar.specs.Lines.{reading}
+use Rattle.bug_record.specs.declared.outcome.Outcome.{Outcome}
+use Rattle.bug_record.specs.declared.outcome.StoreFault.{StoreFault}
+use Rattle.bug_record.specs.declared.outcome.End.{End}
+use Rattle.bug_record.specs.declared.outcome.End.TheVariants as ends
 use Rattle.desk_store.specs.Store.{with_change}
 use Rattle.message_machine.specs.Kept.{IsGoodOutcome}
 use Rattle.message_machine.specs.Message.{Entry, machine, takes, end_of, unreadable_count, known_names}
 use Rattle.desk_messages.specs.Commands.{HaveNumbers, Fits}
-use Rattle.desk_messages.specs.declared.command.Decision.{Decision}
+use Rattle.desk_messages.specs.declared.command_decision.Decision.{Decision}
 
 -- a message goes on at `All`
 abbrev pub goes_on : End → Bool

@@ -10,9 +10,8 @@ ghost use Rattle.desk_store.specs.Store.{Asks, Answers, faults_after};
 ghost use Rattle.desk_messages.specs.Images.{meets, Lists, Gather, ShowBugs};
 
 use bug_core::{bug_named, other_bugs};
-use bug_record::{Command, Member, Sequence, SetImage};
+use bug_record::{Command, Member, Sequence, SetImage, StoreFault};
 use desk_store::Records;
-use desk_text::StoreFault;
 use std::alloc::{AllocError, Global};
 use std::collections::BTreeSet;
 

@@ -1,20 +1,20 @@
 //! Messages and reports, over any store of a desk.
 #![tactic(auto)]
 
-mod command;
-mod deciding;
+mod command_decision;
 mod images;
+mod line_decision;
 mod message;
-mod progress;
-mod questions;
+mod outcomes_so_far;
+mod plan_inputs;
 mod reporting;
 mod transcript;
-mod writing;
+mod written_images;
 
-pub use command::Decision;
-pub use deciding::decide_line;
+pub use command_decision::Decision;
 pub use desk_text::ReportFault;
+pub use line_decision::decide_line;
 pub use message::{Received, receive, receive_lines};
-pub use progress::{Progress, goes_on, make_room, settle};
+pub use outcomes_so_far::{Progress, goes_on, make_room, settle};
 pub use reporting::report;
 pub use transcript::{received_bytes, received_text};

@@ -9,13 +9,12 @@ ghost use Rattle.desk_messages.specs.Taking.{IsInStep, TakesLine, HasMembers, Ca
 ghost use Rattle.desk_lines.specs.Lines.{lines_of};
 ghost use Rattle.desk_messages.specs.Transcripts.{IsLineOf};
 
-use crate::deciding::decide_line;
-use crate::progress::{Progress, goes_on, settle};
-use bug_record::{Change, Sequence};
+use crate::line_decision::decide_line;
+use crate::outcomes_so_far::{Progress, goes_on, settle};
+use bug_record::{Change, End, Outcome, Sequence, StoreFault};
 use debver::Text;
 use desk_lines::split_lines;
 use desk_store::Records;
-use desk_text::{End, Outcome, StoreFault};
 use std::alloc::Global;
 
 /// The outcomes of a message, each with its line as written, and its end.

@@ -10,14 +10,13 @@ ghost use Rattle.desk_messages.specs.Reports.{has_bad_version, node_reported, re
 ghost use Rattle.desk_messages.specs.ReportWords.{IsOfWords};
 ghost use Rattle.desk_messages.specs.Reports.{faults_after_report, AsksForNext};
 
-use ancestry::{Node, NodeFault};
 use bug_core::{is_text, report_change};
-use bug_record::Severity;
+use bug_record::{ReportFault, Severity, StoreFault};
 use debver::{check, check_name};
 use desk_store::Records;
-use desk_text::{ReportFault, StoreFault};
 use line_words::AFTER_LARGEST;
 use std::alloc::Global;
+use version_nodes::{Node, NodeFault};
 
 fn has_bad_version(version: Option<&str>) -> bool
     ensures value { result ≡ has_bad_version (option_copied version.entry) }

@@ -6,12 +6,12 @@ use Rattle.std.specs.Str.{bytes_eq}
 use Rattle.std.proofs.lemmas.Bool.{eqb-true, false≢true, or_parts, or_right, or_from, or_cases, and_parts, and_from}
 use Rattle.std.proofs.lemmas.Bool.Decides.{nat_tests}
 use Rattle.std.proofs.lemmas.Slice.Eq.{bytes_eq-Decides}
-use Rattle.ancestry.specs.Nodes.{Node}
-use Rattle.ancestry.specs.Trees.{Ancestry, has_node, line}
-use Rattle.ancestry.specs.Statuses.{first_marked, kind_at, status_by, status_on, status}
-use Rattle.ancestry.specs.declared.statuses.MarkKind.TheVariants.{Found as MarkedFound, Fixed as MarkedFixed}
-use Rattle.ancestry.specs.declared.statuses.Status.{Status}
-use Rattle.ancestry.specs.declared.statuses.Status.TheVariants.{Found, Absent, Done}
+use Rattle.version_nodes.specs.Nodes.{Node}
+use Rattle.version_nodes.specs.Trees.{Ancestry, has_node, line}
+use Rattle.version_nodes.specs.Statuses.{first_marked, kind_at, status_by, status_on, status}
+use Rattle.version_nodes.specs.declared.statuses.MarkKind.TheVariants.{Found as MarkedFound, Fixed as MarkedFixed}
+use Rattle.version_nodes.specs.declared.statuses.Status.{Status}
+use Rattle.version_nodes.specs.declared.statuses.Status.TheVariants.{Found, Absent, Done}
 use Rattle.bug_record.specs.Sets.{Each, has}
 use Rattle.bug_record.specs.Heads.{is_found}
 use Rattle.bug_record.specs.Desk.{Desk}
@@ -209,12 +209,7 @@ in_all g Wishlist n h = in_some g (Critical ∷ Grave ∷ Serious ∷ Important 
 
 same_rank : (s : Severity) → IsTrue (rank s == rank s)
 same_rank Critical = refl
-same_rank Grave = refl
-same_rank Serious = refl
-same_rank Important = refl
-same_rank Normal = refl
-same_rank Minor = refl
-same_rank Wishlist = refl
+same_rank _ = refl
 
 -- a number of those that pass a test
 where_is : (test : Shared → Bool) (d : Desk) (n : ℕ) → has (numbers_where test d) n ≡ (nat_lt n d.next && passes test (d.bug n))

@@ -3,7 +3,7 @@ use Rattle.std.proofs.Common.{◌≡◌, ℕ, true, false, Bool, List, [], ◌�
 use Rattle.std.specs.Prelude.{◌==◌, ◌||◌, if◌then◌else◌, IfOk, IfErr, is_some, ⊤}
 use Rattle.std.proofs.lemmas.Bool.{eqb-true, false≢true}
 use Rattle.debver.specs.Names.{name_fault}
-use Rattle.ancestry.specs.Nodes.{Node, node_at}
+use Rattle.version_nodes.specs.Nodes.{Node, node_at}
 use Rattle.bug_record.specs.Sets.{Each, has}
 use Rattle.bug_record.specs.Desk.{Desk}
 use Rattle.bug_record.specs.Images.{numbers_of, member_at, bug_of}

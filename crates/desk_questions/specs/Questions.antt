@@ -2,13 +2,14 @@
 -- This project's own rule.
 use Rattle.std.specs.Prelude.{ℕ, ◌≡◌, Bool, true, false, List, Option, Some, None, Result, Ok, Err, is_some, if◌then◌else◌}
 use Rattle.debver.specs.Names.{name_fault}
-use Rattle.ancestry.specs.Nodes.{Node, node_at}
+use Rattle.version_nodes.specs.Nodes.{Node, node_at}
 use Rattle.bug_record.specs.Desk.{Desk}
 use Rattle.bug_record.specs.Lists.{listed}
 use Rattle.bug_record.specs.Waiting.{waiting_on}
 use Rattle.bug_record.specs.declared.bug.Bug.{Bug}
 use Rattle.desk_text.specs.Answers.{bad_package_answer, bad_version_answer, no_bug_answer}
-use Rattle.desk_text.specs.Lists.{rows_of, list_text}
+use Rattle.desk_text.specs.Lists.{list_text}
+use Rattle.set_images.specs.Rows.{rows_of}
 use Rattle.desk_text.specs.Pages.{page_text}
 use Rattle.desk_store.specs.Store.{Faults, counted}
 use Rattle.desk_questions.specs.declared.told.Told.{Told as ToldBytes}

@@ -1,8 +1,8 @@
 -- Which bugs a list has, in the words of somebody who releases a version.
 -- This project's own rule.
 use Rattle.std.specs.Prelude.{◌≡◌, ◌⊎◌, ℕ, List, [], ◌∷◌, ◌++◌, IsTrue, IsFalse}
-use Rattle.ancestry.specs.Nodes.{Node}
-use Rattle.ancestry.specs.Trees.{Ancestry, has_node, line}
+use Rattle.version_nodes.specs.Nodes.{Node}
+use Rattle.version_nodes.specs.Trees.{Ancestry, has_node, line}
 use Rattle.bug_record.specs.PackageSets.{has_name}
 use Rattle.bug_record.specs.Sets.{Each}
 use Rattle.bug_record.specs.declared.bug.Shared.{Shared}

@@ -2,7 +2,7 @@
 //! Its body is empty: the contract is the law.
 
 ghost use Rattle.std.specs.Prelude.{◌≡◌, ◌<◌, ℕ, List, Some, IsTrue};
-ghost use Rattle.ancestry.specs.Nodes.{Node};
+ghost use Rattle.version_nodes.specs.Nodes.{Node};
 ghost use Rattle.bug_record.specs.Desk.{Desk};
 ghost use Rattle.bug_record.specs.Lists.{listed};
 ghost use Rattle.bug_record.specs.Sets.{has};

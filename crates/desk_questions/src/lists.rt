@@ -5,11 +5,11 @@ ghost use Rattle.desk_store.specs.Store.{Holds};
 ghost use Rattle.desk_questions.specs.Questions.{list_at, list_told, AsksForList, IsTold, faults_after_question};
 
 use crate::told::{QuestionFault, Told};
-use ancestry::{Node, NodeFault};
 use debver::check_name;
 use desk_store::Records;
 use desk_text::{bad_package_answer, bad_version_answer, list_text};
 use std::alloc::Global;
+use version_nodes::{Node, NodeFault};
 
 // A refusal by a text that is at hand.
 fn refuse(alloc: Global, answer: &str) -> Result<Told, QuestionFault>

@@ -1,6 +1,6 @@
 //! What a question is told.
 
-use desk_text::StoreFault;
+use bug_record::StoreFault;
 
 /// What is told: a text, and whether it refuses the question.
 #[derive(Debug, Drop)]

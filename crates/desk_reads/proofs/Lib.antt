@@ -2,3 +2,9 @@ pub mod KeptSteps
 pub mod LoopLemmas
 pub mod KeyLemmas
 pub mod WaitingLemmas
+pub mod WhereSteps
+pub mod RowSteps
+pub mod MapLemmas
+pub mod FoundLemmas
+pub mod ListedLemmas
+pub mod OpenLemmas

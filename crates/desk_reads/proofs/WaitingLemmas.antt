@@ -9,11 +9,11 @@ use Rattle.bug_record.specs.declared.bug.Shared.{Shared}
 use Rattle.bug_record.specs.declared.bug.SetImage.{SetImage}
 use Rattle.bug_record.proofs.SetLemmas.{same_test, has-append}
 use Rattle.bug_record.proofs.NumberLemmas.{has-with_items, IsAscending-with_items}
-use Rattle.desk_places.proofs.KeyLemmas.{found-image, shown-some}
+use Rattle.bugs_in_memory.proofs.KeyLemmas.{found-image, shown-some}
 use Rattle.desk_content.specs.Content.{Content}
 use Rattle.desk_content.specs.View.{image, desk_in, shared_of}
 use Rattle.desk_content.specs.Kept.{IsKeptContent}
-use Rattle.desk_content.specs.Questions.{set_passes, bug_passes}
+use Rattle.desk_content.specs.KindsAtNodes.{set_passes, bug_passes}
 use Rattle.desk_content.specs.declared.edit.SetFields.{SetFields}
 use Rattle.desk_content.proofs.QuestionLemmas.{asked}
 use Rattle.set_rows.specs.Waiting.{AreKeysOf}

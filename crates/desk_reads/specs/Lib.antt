@@ -1,4 +1,8 @@
 pub mod Kept
 pub mod Listing
+pub mod Asked
 -- definitions that only private functions cite
 pub mod Bugs
+pub mod Found
+pub mod Rows
+pub mod Keys

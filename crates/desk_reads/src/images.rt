@@ -2,7 +2,7 @@
 
 ghost use Rattle.std.specs.Prelude.{◌≡◌, ◌≢◌, IfOk, IfErr, option_map};
 ghost use Rattle.sqlite.specs.Held.{state};
-ghost use Rattle.desk_text.specs.declared.outcome.StoreFault.TheVariants.{Foreign};
+ghost use Rattle.bug_record.specs.declared.outcome.StoreFault.TheVariants.{Foreign};
 ghost use Rattle.desk_content.specs.View.{desk_in, image, shared_of};
 ghost use Rattle.desk_schema.specs.Steps.{Reads, Serves};
 ghost use Rattle.desk_store.specs.Store.{IsImageOf};
@@ -11,11 +11,9 @@ ghost use Rattle.desk_reads.specs.Bugs.{image_with};
 ghost use Rattle.desk_reads.specs.Listing.{unlinked, listing};
 
 use crate::keys::small_key;
-use affect_rows::read_affected;
-use bug_record::{Agreed, Sequence, SetImage, Shared};
+use bug_record::{Agreed, Sequence, SetImage, Shared, StoreFault};
 use desk_content::SetFields;
-use desk_text::StoreFault;
-use set_rows::{read_blockers, read_fields, read_key, read_marks, read_members};
+use set_rows::{read_affected, read_blockers, read_fields, read_key, read_marks, read_members};
 use sqlite::{Alter, Transaction};
 use std::alloc::Global;
 

@@ -2,9 +2,9 @@
 
 ghost use Rattle.std.specs.Prelude.{◌≡◌, ◌≢◌, ◌<◌, ◌^◌, IfOk, IfErr};
 ghost use Rattle.bug_record.specs.Sets.{Each};
-ghost use Rattle.desk_text.specs.declared.outcome.StoreFault.TheVariants.{Foreign};
+ghost use Rattle.bug_record.specs.declared.outcome.StoreFault.TheVariants.{Foreign};
 
-use desk_text::StoreFault;
+use bug_record::StoreFault;
 use std::alloc::Global;
 
 // A key that was read; no set of a desk has one that is no u32.

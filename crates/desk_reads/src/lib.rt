@@ -1,9 +1,16 @@
-//! Questions of a desk inside one transaction, as several statements.
+//! Questions of a desk within one transaction, each as several statements: the image of a set, what
+//! a list asks of one, who waits on a bug, what is listed, and the first open head.
 #![tactic(auto)]
 
+mod found;
+mod heads;
 mod images;
 mod keys;
+mod listed;
+mod rows;
 mod waiting;
 
-pub use images::{read_image, read_listing, read_set_of};
+pub use heads::read_open_head;
+pub use images::read_set_of;
+pub use listed::read_listed;
 pub use waiting::read_waiting_on;

@@ -8,20 +8,20 @@ use Rattle.bug_record.specs.Desk.{Desk}
 use Rattle.bug_record.specs.Words.{Names}
 use Rattle.bug_record.specs.declared.command.Change.{Change}
 use Rattle.bug_record.specs.declared.command.Refusal.{Refusal}
-use Rattle.control_text.specs.Lines.{reading}
-use Rattle.control_text.specs.declared.line.Line.{Line}
-use Rattle.control_text.specs.declared.line.Line.TheVariants.{Blank, Comment, Stop, Do}
+use Rattle.command_grammar.specs.Lines.{reading}
+use Rattle.command_grammar.specs.declared.line.Line.{Line}
+use Rattle.command_grammar.specs.declared.line.Line.TheVariants.{Blank, Comment, Stop, Do}
 use Rattle.desk_lines.specs.Lines.{lines_of}
 use Rattle.desk_messages.specs.Commands.{HaveNumbers}
 use Rattle.desk_messages.specs.Taking.{goes_on, IsDecision}
-use Rattle.desk_messages.specs.declared.command.Decision.{Decision}
+use Rattle.desk_messages.specs.declared.command_decision.Decision.{Decision}
 use Rattle.desk_messages.proofs.MachineLemmas.{after_append, after_ended}
 use Rattle.desk_messages.proofs.EndLemmas.{never_store}
 use Rattle.desk_store.specs.Store.{Holds, MayBeKept, with_change}
-use Rattle.desk_text.specs.declared.outcome.Outcome.{Outcome}
-use Rattle.desk_text.specs.declared.outcome.End.{End}
-use Rattle.desk_text.specs.declared.outcome.End.TheVariants as ends
-use Rattle.desk_text.specs.declared.outcome.StoreFault.{StoreFault}
+use Rattle.bug_record.specs.declared.outcome.Outcome.{Outcome}
+use Rattle.bug_record.specs.declared.outcome.End.{End}
+use Rattle.bug_record.specs.declared.outcome.End.TheVariants as ends
+use Rattle.bug_record.specs.declared.outcome.StoreFault.{StoreFault}
 use Rattle.message_machine.specs.Message.{Entry, Machine, machine, after_lines, takes, takes_at, end_of}
 use Rattle.message_machine.specs.Kept.{Keeping, has_outcome, reads_as_command, lines_told, told, outcomes_in, outcomes_kept, kept_with, kept_also}
 use Rattle.message_machine.specs.Kept.{IsNextOutcome, IsResumed, IsOfMessage}

@@ -1,6 +1,6 @@
 -- What is kept of an id, one outcome after another.
 use Rattle.std.proofs.Common.{◌≡◌, ℕ, true, false, cond, List, [], ◌∷◌, ◌++◌, Option, Some, None, Result, Ok, Err, refl, sym, ap, subst, ◌∙◌, arith, length}
-use Rattle.std.specs.Prelude.{zip, slice_get, ◌-◌}
+use Rattle.std.specs.Prelude.{zip, slice_get}
 use Rattle.std.specs.Str.{bytes_eq}
 use Rattle.std.proofs.lemmas.Option.{same_Some}
 use Rattle.std.proofs.lemmas.Slice.Eq.{bytes_eq-Decides}
@@ -8,11 +8,11 @@ use Rattle.bug_record.proofs.PackageLemmas.{same_name}
 use Rattle.bug_record.specs.Sets.{Each}
 use Rattle.bug_record.specs.Commands.{names_in}
 use Rattle.bug_record.specs.declared.command.Refusal.{Refusal}
-use Rattle.control_text.specs.Lines.{reading}
-use Rattle.control_text.specs.declared.line.Line.{Line}
-use Rattle.control_text.specs.declared.line.Line.TheVariants.{Blank, Comment, Stop, Do}
+use Rattle.command_grammar.specs.Lines.{reading}
+use Rattle.command_grammar.specs.declared.line.Line.{Line}
+use Rattle.command_grammar.specs.declared.line.Line.TheVariants.{Blank, Comment, Stop, Do}
 use Rattle.desk_lines.specs.Lines.{lines_of}
-use Rattle.desk_text.specs.declared.outcome.Outcome.{Outcome}
+use Rattle.bug_record.specs.declared.outcome.Outcome.{Outcome}
 use Rattle.message_machine.specs.Message.{Entry, end_of, names_with, names_given, known_names}
 use Rattle.message_machine.specs.Kept.{Keeping, lines_told, told, outcomes_in, outcomes_kept, IsOfMessage, kept_with, kept_also}
 use Rattle.message_machine.specs.Kept.{IsGoodKept, IsGoodOutcome, GiveNames}

@@ -3,3 +3,7 @@ pub mod RecallLemmas
 pub mod KeepLemmas
 pub mod GoingLemmas
 pub mod OnceLemmas
+pub mod ZipLemmas
+pub mod CallLemmas
+pub mod GrownLemmas
+pub mod SentLemmas

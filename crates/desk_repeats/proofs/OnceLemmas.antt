@@ -5,9 +5,9 @@ use Rattle.bug_record.specs.Words.{Names}
 use Rattle.desk_lines.specs.Lines.{lines_of}
 use Rattle.desk_messages.specs.Taking.{goes_on}
 use Rattle.desk_messages.proofs.MachineLemmas.{after_ended}
-use Rattle.desk_text.specs.declared.outcome.Outcome.{Outcome}
-use Rattle.desk_text.specs.declared.outcome.End.{End}
-use Rattle.message_machine.specs.Ids.{IsId}
+use Rattle.bug_record.specs.declared.outcome.Outcome.{Outcome}
+use Rattle.bug_record.specs.declared.outcome.End.{End}
+use Rattle.line_words.specs.Ids.{IsId}
 use Rattle.message_machine.specs.Message.{Entry, machine, end_of, known_names}
 use Rattle.message_machine.specs.Kept.{Keeping, lines_told, told, outcomes_in, outcomes_kept, kept_with, IsOfMessage, IsResumed, AreGoodKept}
 use Rattle.message_machine.specs.declared.kept.Kept.{Kept}

@@ -2,11 +2,11 @@
 use Rattle.std.specs.Prelude.{ℕ, ◌≡◌, List, Result, Ok, Err}
 use Rattle.bug_record.specs.Desk.{Desk}
 use Rattle.bug_record.specs.Words.{Names}
-use Rattle.control_text.specs.Lines.{reading}
+use Rattle.command_grammar.specs.Lines.{reading}
 use Rattle.desk_lines.specs.Lines.{lines_of}
 use Rattle.desk_messages.specs.Commands.{HaveNumbers}
-use Rattle.desk_text.specs.declared.outcome.End.{End}
-use Rattle.desk_text.specs.declared.outcome.StoreFault.{StoreFault}
+use Rattle.bug_record.specs.declared.outcome.End.{End}
+use Rattle.bug_record.specs.declared.outcome.StoreFault.{StoreFault}
 use Rattle.message_machine.specs.Message.{Entry, machine, takes}
 use Rattle.message_machine.specs.Kept.{Keeping, IsOfMessage, IsResumed, outcomes_kept, outcomes_in, told, kept_with}
 

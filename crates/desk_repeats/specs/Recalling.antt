@@ -2,11 +2,11 @@
 use Rattle.std.specs.Prelude.{ℕ, ◌≡◌, ◌≤◌, ◌-◌, List, [], length, take, Option, Some, None, Result, Ok, Err}
 use Rattle.bug_record.specs.Commands.{names_in}
 use Rattle.bug_record.specs.declared.command.Refusal.{Refusal}
-use Rattle.control_text.specs.declared.line.Line.{Line}
-use Rattle.control_text.specs.declared.line.Line.TheVariants.{Blank, Comment, Stop, Do}
-use Rattle.desk_text.specs.declared.outcome.Outcome.{Outcome}
-use Rattle.desk_text.specs.declared.outcome.Outcome.TheVariants.{Changed}
-use Rattle.desk_text.specs.declared.outcome.End.TheVariants as ends
+use Rattle.command_grammar.specs.declared.line.Line.{Line}
+use Rattle.command_grammar.specs.declared.line.Line.TheVariants.{Blank, Comment, Stop, Do}
+use Rattle.bug_record.specs.declared.outcome.Outcome.{Outcome}
+use Rattle.bug_record.specs.declared.outcome.Outcome.TheVariants.{Changed}
+use Rattle.bug_record.specs.declared.outcome.End.TheVariants as ends
 use Rattle.message_machine.specs.Message.{end_of}
 use Rattle.message_machine.specs.Kept.{lines_told, told, GiveNames}
 

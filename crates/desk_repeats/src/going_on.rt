@@ -4,7 +4,7 @@ ghost use Rattle.std.specs.Prelude.{◌≡◌, ◌≤◌, ◌+◌, ◌∷◌, []
 ghost use Rattle.bug_record.specs.Texts.{IsText};
 ghost use Rattle.desk_lines.specs.Lines.{lines_of};
 ghost use Rattle.desk_store.specs.Store.{Holds, Since, faults_after, faults_after_end};
-ghost use Rattle.message_machine.specs.Ids.{IsId};
+ghost use Rattle.line_words.specs.Ids.{IsId};
 ghost use Rattle.message_machine.specs.Kept.{has_outcome, lines_told};
 ghost use Rattle.message_machine.specs.Message.{end_of, unreadable_count, known_names};
 ghost use Rattle.desk_messages.specs.Taking.{IsInStep};
@@ -12,10 +12,10 @@ ghost use Rattle.desk_messages.specs.Transcripts.{IsLineOf};
 ghost use Rattle.desk_repeats.specs.GoingOn.{IsBegun, TakesOnce, Resumes};
 
 use crate::recalling::Recalled;
+use bug_record::{End, StoreFault};
 use debver::Text;
 use desk_messages::{Progress, Received, decide_line, goes_on, settle};
 use desk_store::Records;
-use desk_text::{End, StoreFault};
 use std::alloc::Global;
 
 // Takes one line of a message that has an id, and says whether it ends the message: its outcome is

@@ -5,17 +5,17 @@ ghost use Rattle.std.specs.Str.{bytes_eq};
 ghost use Rattle.bug_record.specs.Texts.{IsText};
 ghost use Rattle.desk_lines.specs.Lines.{lines_of};
 ghost use Rattle.desk_store.specs.Store.{Holds};
-ghost use Rattle.message_machine.specs.Ids.{is_id};
+ghost use Rattle.line_words.specs.Ids.{is_id};
 ghost use Rattle.message_machine.specs.Kept.{IsOfMessage, outcomes_kept};
 ghost use Rattle.desk_messages.specs.Transcripts.{IsLineOf};
 ghost use Rattle.desk_repeats.specs.Once.{IsOnce, faults_after_once};
 
 use crate::going_on::go_on;
 use crate::recalling::{RecallFault, recall};
+use bug_record::{Outcome, StoreFault};
 use desk_lines::split_lines;
 use desk_messages::{Received, goes_on};
 use desk_store::Records;
-use desk_text::{Outcome, StoreFault};
 use message_machine::{Kept, is_id};
 use std::alloc::Global;
 

@@ -3,17 +3,16 @@
 ghost use Rattle.std.specs.Prelude.{◌≡◌, ◌≤◌, ◌++◌, ◌∷◌, ◌<◌, [], vec_len, vec_capacity, true, None, IfOk, OnOk, OnErr, Result};
 ghost use Rattle.bug_record.specs.Clones.{name_refusal};
 ghost use Rattle.bug_record.specs.Commands.{names_in};
-ghost use Rattle.control_text.specs.Lines.{reading};
+ghost use Rattle.command_grammar.specs.Lines.{reading};
 ghost use Rattle.message_machine.specs.Message.{end_of, unreadable_count, known_names, names_of};
 ghost use Rattle.message_machine.specs.Kept.{has_outcome, told, new_names};
 ghost use Rattle.desk_messages.specs.Taking.{IsInStep};
 ghost use Rattle.desk_repeats.specs.Recalling.{names_read, names_accepted, AreOfLines, IsTaken};
 
-use bug_record::{Command, Sequence};
+use bug_record::{Command, End, Outcome, Sequence};
 use control_text::{Line, LineFault, Named, read_line};
 use debver::Text;
 use desk_messages::{Progress, goes_on, make_room, settle};
-use desk_text::{End, Outcome};
 use message_machine::copy_outcome;
 use message_names::KnownNames;
 use std::alloc::Global;

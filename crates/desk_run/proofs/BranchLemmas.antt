@@ -1,29 +1,30 @@
 -- A branch that is carried out in parts.
 use Rattle.std.proofs.Common.{◌≡◌, inl, inr, ℕ, Bool, ◌∷◌, ◌++◌, [], List, Option, Some, None, Result, Ok, Err, true, sym, ◌∙◌}
-use Rattle.std.proofs.Common.{ap, subst, refl, append_assoc, append-nil, false, arith}
+use Rattle.std.proofs.Common.{ap, subst, refl, append-nil, false, arith}
 use Rattle.std.specs.Prelude.{option_map, length, ◌==◌, ◌||◌}
 use Rattle.std.proofs.lemmas.Bool.{false≢true, eqb-true}
 use Rattle.std.proofs.lemmas.Option.{none-some, same_Some}
 use Rattle.control_text.specs.Words.{words, has_bytes}
-use Rattle.ancestry.specs.declared.fault.NodeFault.{NodeFault}
-use Rattle.ancestry.specs.declared.fault.NodeFault.TheVariants.{BadNode as WordIsNoNode, Memory as NoMemory}
-use Rattle.ancestry.specs.Nodes.{Node, node_of_text, IsRead}
-use Rattle.ancestry.specs.Trees.{Ancestry}
+use Rattle.version_nodes.specs.declared.fault.NodeFault.{NodeFault}
+use Rattle.version_nodes.specs.declared.fault.NodeFault.TheVariants.{BadNode as WordIsNoNode, Memory as NoMemory}
+use Rattle.version_nodes.specs.Nodes.{Node, node_of_text, IsRead}
+use Rattle.version_nodes.specs.Trees.{Ancestry}
 use Rattle.ancestry.specs.Branches.{branched}
 use Rattle.ancestry.specs.declared.fault.BranchFault.{BranchFault}
 use Rattle.bug_record.specs.Desk.{Desk}
-use Rattle.desk_text.specs.declared.outcome.StoreFault.{StoreFault}
-use Rattle.desk_text.specs.declared.outcome.StoreFault.TheVariants as faults
+use Rattle.bug_record.specs.declared.outcome.StoreFault.{StoreFault}
+use Rattle.bug_record.specs.declared.outcome.StoreFault.TheVariants as faults
 use Rattle.desk_text.specs.Texts.{fault_text}
 use Rattle.desk_store.specs.Store.{Branches, Faults, counted, faults_after}
-use Rattle.desk_run.specs.Branches.{BranchRefusal, BadNode, node_before, nodes_of, or_refused, branched_by, branch_of}
-use Rattle.desk_run.specs.BranchWords.{AreRead}
+use Rattle.desk_questions.specs.Branches.{BranchRefusal, node_before, nodes_of, or_refused, branched_by, branch_of}
+use Rattle.desk_questions.specs.BranchWords.{AreRead}
+use Rattle.desk_questions.proofs.BranchLemmas.{after_others}
 use Rattle.desk_run.specs.Script.{DirectiveLine, Branch, Standing, standing, part_text, part_after, directive_of, branch_text}
 use Rattle.desk_run.specs.Script.{after_branch}
 use Rattle.desk_run.specs.Running.{AsksStore, FaultsIn}
 use Rattle.desk_run.proofs.WrittenLemmas.{Carried}
 use Rattle.desk_text.specs.Answers.{branch_answer}
-use Rattle.desk_run.specs.Answers.{refuses_branch, fault_of_branch}
+use Rattle.desk_run.specs.RefusedAndFailed.{refuses_branch, fault_of_branch}
 use Rattle.desk_run.proofs.PartLemmas.{order_is}
 
 or_false : (b : Bool) → (b || false) ≡ b
@@ -44,11 +45,6 @@ branch_is line names nodes s r e n h =
     let o = order_is line s (Branch names) e in
     let b : branch_of s.desk.tree names ≡ or_refused r = ap (branched_by s.desk.tree) n ∙ ap or_refused h in
     (o.0 ∙ ap branch_text b, o.1 ∙ ap (λ (x : Result Ancestry BranchRefusal). after_branch x s) b)
-
--- a word that is no node refuses the branch
-pub branch_of_none : (tree : Ancestry) (names : List (List ℕ)) → nodes_of names ≡ None → branch_of tree names ≡ Err BadNode
-unfolding branch_of
-branch_of_none tree names h = ap (branched_by tree) h
 
 -- with no fault of the store
 pub branch_whole : (line : List ℕ) (names : List (List ℕ)) (nodes : List Node) (s : Standing) (d : Desk)
@@ -109,12 +105,8 @@ pub nodes-more : (word : List ℕ) (words : List (List ℕ)) (n : Node) (before 
     → option_map (λ nodes. before ++ nodes) (nodes_of (word ∷ words))
     ≡ option_map (λ nodes. (before ++ n ∷ []) ++ nodes) (nodes_of words)
 nodes-more word words n before e =
-    ap (λ (o : Option Node). option_map (λ nodes. before ++ nodes) (node_before o (nodes_of words))) e ∙ rest (nodes_of words)
-  where
-    rest : (o : Option (List Node))
-        → option_map (λ nodes. before ++ nodes) (node_before (Some n) o) ≡ option_map (λ nodes. (before ++ n ∷ []) ++ nodes) o
-    rest None = refl
-    rest (Some nodes) = ap Some (sym (append_assoc before (n ∷ []) nodes))
+    ap (λ (o : Option Node). option_map (λ nodes. before ++ nodes) (node_before o (nodes_of words))) e
+    ∙ after_others n before (nodes_of words)
 
 pub nodes-none : (word : List ℕ) (words : List (List ℕ)) (before : List Node) → node_of_text word ≡ None
     → option_map (λ nodes. before ++ nodes) (nodes_of (word ∷ words)) ≡ None

@@ -6,10 +6,10 @@ use Rattle.std.proofs.lemmas.Option.{none-some, same_Some}
 use Rattle.std.specs.Io.KnownBytes.{Appends}
 use Rattle.bug_record.specs.Desk.{Desk}
 use Rattle.desk_text.specs.Texts.{fault_text}
-use Rattle.desk_text.specs.declared.outcome.StoreFault.{StoreFault}
-use Rattle.desk_text.specs.declared.outcome.StoreFault.TheVariants as faults
-use Rattle.desk_text.specs.declared.outcome.End.{End}
-use Rattle.desk_text.specs.declared.outcome.End.TheVariants as ends
+use Rattle.bug_record.specs.declared.outcome.StoreFault.{StoreFault}
+use Rattle.bug_record.specs.declared.outcome.StoreFault.TheVariants as faults
+use Rattle.bug_record.specs.declared.outcome.End.{End}
+use Rattle.bug_record.specs.declared.outcome.End.TheVariants as ends
 use Rattle.desk_store.specs.Store.{Faults, counted, faults_after_end}
 use Rattle.message_machine.specs.Message.{Entry, Machine, machine, after_lines, at_start, IsReceived, Comes}
 use Rattle.desk_messages.specs.Transcripts.{received_text}
@@ -20,9 +20,9 @@ use Rattle.desk_run.specs.Script.{report_text, after_report}
 use Rattle.desk_run.specs.Running.{AsksStore, FaultsIn, StopsIn}
 use Rattle.desk_run.specs.Carrying.{Carries}
 use Rattle.desk_text.specs.Answers.{report_answer}
-use Rattle.desk_run.specs.Answers.{fault_of_end, store_fault}
-use Rattle.desk_text.specs.declared.outcome.ReportFault.{ReportFault}
-use Rattle.desk_text.specs.declared.outcome.ReportFault.TheVariants as reports
+use Rattle.desk_run.specs.RefusedAndFailed.{fault_of_end, store_fault}
+use Rattle.bug_record.specs.declared.outcome.ReportFault.{ReportFault}
+use Rattle.bug_record.specs.declared.outcome.ReportFault.TheVariants as reports
 use Rattle.desk_lines.specs.declared.fault.ScriptFault.{ScriptFault}
 use Rattle.desk_lines.specs.declared.fault.ScriptFault.TheVariants as stops
 use Rattle.desk_run.proofs.WrittenLemmas.{appends_none, course, Carried}
@@ -214,28 +214,17 @@ pub reported_fault : (line p : List ℕ) (v : Option (List ℕ)) (sev t : List �
 reported_fault line p v sev t s d (reports.Store fault) f e says h =
     (subst AsksStore (sym says) (h.0, h.1), h.2, ap fault_text (same_Some fault f e))
 reported_fault line p v sev t s d reports.BadPackage f e says h = absurd (none-some f e)
-reported_fault line p v sev t s d reports.BadVersion f e says h = absurd (none-some f e)
-reported_fault line p v sev t s d reports.BadSeverity f e says h = absurd (none-some f e)
-reported_fault line p v sev t s d reports.BadTitle f e says h = absurd (none-some f e)
-reported_fault line p v sev t s d reports.Full f e says h = absurd (none-some f e)
+reported_fault line p v sev t s d _ f e says h = absurd (none-some f e)
 
 -- how it is counted
 pub refused_count : (fault : ReportFault) (n : Faults) → store_fault fault ≡ None → faults_after_report (Err fault) n ≡ n
 refused_count (reports.Store fault) n e = absurd (none-some fault (sym e))
-refused_count reports.BadPackage n e = refl
-refused_count reports.BadVersion n e = refl
-refused_count reports.BadSeverity n e = refl
-refused_count reports.BadTitle n e = refl
-refused_count reports.Full n e = refl
+refused_count _ n e = refl
 
 pub fault_count : (fault : ReportFault) (f : StoreFault) (n : Faults) → store_fault fault ≡ Some f
     → faults_after_report (Err fault) n ≡ counted f n
 fault_count (reports.Store fault) f n e = ap (λ (x : StoreFault). counted x n) (same_Some fault f e)
-fault_count reports.BadPackage f n e = absurd (none-some f e)
-fault_count reports.BadVersion f n e = absurd (none-some f e)
-fault_count reports.BadSeverity f n e = absurd (none-some f e)
-fault_count reports.BadTitle f n e = absurd (none-some f e)
-fault_count reports.Full f n e = absurd (none-some f e)
+fault_count _ f n e = absurd (none-some f e)
 
 pub end_count : (end : End) (fault : StoreFault) (n : Faults) → fault_of_end end ≡ Some fault
     → faults_after_end end n ≡ counted fault n

@@ -3,7 +3,7 @@ use Rattle.std.proofs.Common.{◌≡◌, inl, inr, ℕ, Bool, List, sym, ◌∙�
 use Rattle.std.specs.Prelude.{◌||◌}
 use Rattle.bug_record.specs.Desk.{Desk}
 use Rattle.desk_text.specs.Texts.{fault_text}
-use Rattle.desk_text.specs.declared.outcome.StoreFault.{StoreFault}
+use Rattle.bug_record.specs.declared.outcome.StoreFault.{StoreFault}
 use Rattle.desk_store.specs.Store.{Faults, counted}
 use Rattle.desk_lines.specs.declared.fault.ScriptFault.{ScriptFault}
 use Rattle.desk_lines.specs.declared.fault.ScriptFault.TheVariants as stops
@@ -16,7 +16,7 @@ use Rattle.desk_run.specs.Script.{after_question}
 use Rattle.desk_run.specs.Running.{AsksStore, FaultsIn, StopsIn}
 use Rattle.desk_run.specs.Carrying.{Carries}
 use Rattle.desk_run.proofs.WrittenLemmas.{course}
-use Rattle.desk_run.specs.Answers.{Tells, TellsFault}
+use Rattle.desk_run.specs.RefusedAndFailed.{Tells, TellsFault}
 use Rattle.desk_run.proofs.PartLemmas.{order_done, order_unwritten}
 
 -- the store failed in a question

@@ -204,14 +204,11 @@ first_bad texts before g input rest line number P r c n e raw more is bad = reco
 place_of_line : (texts : List (List ℕ)) (before : List Part) (g : List (List ℕ)) (input rest : List ℕ) (number : ℕ)
     (fault : ScriptFault) → ReadTo texts input rest → IsCut texts before g → length texts + 1 ≡ number
     → IsLineFault number fault rest → IsPlace fault (raw_lines input) before
-place_of_line texts before g input rest number stops.Read r c n f = tt
-place_of_line texts before g input rest number stops.Memory r c n f = tt
-place_of_line texts before g input rest number stops.Write r c n f = tt
-place_of_line texts before g input rest number (stops.Store fault) r c n f = tt
 place_of_line texts before g input rest number (stops.NotUtf8 line) r c n f =
     first_bad texts before g input rest line number _ r c n f.0 f.1 f.2 f.3 (f.4, f.5)
 place_of_line texts before g input rest number (stops.LineTooLong line) r c n f =
     first_bad texts before g input rest line number _ r c n f.0 f.1 f.2 f.3 f.4
+place_of_line texts before g input rest number _ r c n f = tt
 
 pub stops_reading : (texts : List (List ℕ)) (before : List Part) (g : List (List ℕ)) (input left : List ℕ)
     (rest : Option (List ℕ)) (number : ℕ) (a b : Standing) (d : Desk) (n0 n1 : Faults) (c0 c1 : Option (List ℕ))

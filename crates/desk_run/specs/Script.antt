@@ -9,18 +9,18 @@ use Rattle.bug_record.specs.Desk.{Desk}
 use Rattle.control_text.specs.Words.{has_bytes, words, trimmed, first_word, after_word}
 use Rattle.control_text.specs.Numbers.{number_of_word}
 use Rattle.desk_text.specs.Answers.{report_answer, branch_answer, bad_version_answer, bad_directive_answer}
-use Rattle.desk_text.specs.declared.outcome.Outcome.{Outcome}
-use Rattle.desk_text.specs.declared.outcome.Outcome.TheVariants as outcomes
-use Rattle.desk_text.specs.declared.outcome.End.{End}
-use Rattle.desk_text.specs.declared.outcome.End.TheVariants as ends
+use Rattle.bug_record.specs.declared.outcome.Outcome.{Outcome}
+use Rattle.bug_record.specs.declared.outcome.Outcome.TheVariants as outcomes
+use Rattle.bug_record.specs.declared.outcome.End.{End}
+use Rattle.bug_record.specs.declared.outcome.End.TheVariants as ends
 use Rattle.message_machine.specs.Message.{Entry, Machine, after_lines, at_start, end_of}
 use Rattle.desk_lines.specs.Lines.{lines_of}
 use Rattle.desk_messages.specs.Transcripts.{received_text}
-use Rattle.ancestry.specs.Trees.{Ancestry}
+use Rattle.version_nodes.specs.Trees.{Ancestry}
 use Rattle.desk_messages.specs.Reports.{report_of}
 use Rattle.desk_questions.specs.Questions.{Told, list_told, page_told}
-use Rattle.desk_run.specs.Branches.{BranchRefusal, BadNode, Refused, branch_of}
-use Rattle.desk_text.specs.declared.outcome.ReportFault.{ReportFault}
+use Rattle.desk_questions.specs.Branches.{BranchRefusal, BadNode, Refused, branch_of}
+use Rattle.bug_record.specs.declared.outcome.ReportFault.{ReportFault}
 use Rattle.desk_run.specs.declared.script.ScriptEnd.{ScriptEnd}
 use Rattle.desk_run.specs.declared.script.ScriptEnd.TheVariants as script_ends
 

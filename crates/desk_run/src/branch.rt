@@ -2,12 +2,12 @@
 
 ghost use Rattle.std.specs.Prelude.{◌≡◌, Some, None};
 ghost use Rattle.control_text.specs.Words.{words};
-ghost use Rattle.desk_run.specs.Branches.{nodes_of};
-ghost use Rattle.desk_run.specs.BranchWords.{AreRead};
+ghost use Rattle.desk_questions.specs.Branches.{nodes_of};
+ghost use Rattle.desk_questions.specs.BranchWords.{AreRead};
 
-use ancestry::{Node, NodeFault};
 use control_text::next_word;
 use std::alloc::Global;
+use version_nodes::{Node, NodeFault};
 
 /// The nodes of the words of a text.
 /// `BadNode` where a word is no node, `Memory` where there was none.

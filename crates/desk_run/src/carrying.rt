@@ -7,15 +7,16 @@ ghost use Rattle.bug_record.specs.Texts.{IsText};
 ghost use Rattle.desk_store.specs.Store.{Holds};
 ghost use Rattle.desk_run.specs.Script.{Report, Branch, Message, DirectiveLine, standing, directive_of};
 ghost use Rattle.std.specs.Io.KnownBytes.{Appends};
-ghost use Rattle.desk_run.specs.Branches.{nodes_of};
-ghost use Rattle.desk_run.specs.Answers.{Tells, TellsFault};
+ghost use Rattle.desk_questions.specs.Branches.{nodes_of};
+ghost use Rattle.desk_run.specs.RefusedAndFailed.{Tells, TellsFault};
 ghost use Rattle.desk_run.specs.Running.{IsCounted};
 ghost use Rattle.desk_run.specs.Carrying.{Carries, IsOfPart};
 
-use crate::answer::{fault_of_branch, fault_of_end, refuses, refuses_branch, store_fault};
 use crate::branch::read_nodes;
 use crate::directive::{Directive, ReportWords, read_directive};
-use ancestry::{Node, NodeFault};
+use crate::refused_and_failed::{
+    fault_of_branch, fault_of_end, refuses, refuses_branch, store_fault,
+};
 use debver::Text;
 use desk_lines::{ScriptFault, write_out};
 use desk_messages::{receive_lines, received_bytes, report};
@@ -27,6 +28,7 @@ use desk_text::{
 };
 use std::alloc::Global;
 use std::io::Write;
+use version_nodes::{Node, NodeFault};
 
 // A script in its course: the current sender, whether anything was refused, and the lines of the
 // current message.

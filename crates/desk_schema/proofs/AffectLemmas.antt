@@ -6,7 +6,7 @@ use Rattle.sql_forms.specs.Forms.{Changes}
 use Rattle.sql_forms.specs.TypedRows.{AreRows}
 use Rattle.desk_content.specs.Content.{Content}
 use Rattle.desk_schema.specs.Tables.{AFFECTS, desk_schema}
-use Rattle.desk_schema.specs.AffectRows.{AffectRow, affect_cells, affect_in, IsAffectRow, affects_in}
+use Rattle.desk_schema.specs.AffectRows.{affect_cells, affect_in, IsAffectRow, affects_in}
 use Rattle.desk_schema.specs.Rows.{AreShown}
 use Rattle.desk_schema.specs.Steps.{seen}
 use Rattle.desk_schema.proofs.ContentLemmas.{remade, read_back}

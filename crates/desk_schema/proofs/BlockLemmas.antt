@@ -6,7 +6,7 @@ use Rattle.sql_forms.specs.Forms.{Changes}
 use Rattle.sql_forms.specs.TypedRows.{AreRows}
 use Rattle.desk_content.specs.Content.{Content}
 use Rattle.desk_schema.specs.Tables.{BLOCKS, desk_schema}
-use Rattle.desk_schema.specs.BlockRows.{BlockRow, block_cells, block_in, IsBlockRow, blockers_in}
+use Rattle.desk_schema.specs.BlockRows.{block_cells, block_in, IsBlockRow, blockers_in}
 use Rattle.desk_schema.specs.Rows.{AreShown}
 use Rattle.desk_schema.specs.Steps.{seen}
 use Rattle.desk_schema.proofs.ContentLemmas.{remade, read_back}

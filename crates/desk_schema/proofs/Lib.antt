@@ -3,6 +3,7 @@ pub mod ReadSteps
 pub mod StatementLemmas
 pub mod SchemaLemmas
 pub mod ContentLemmas
+pub mod AnyOrder
 pub mod PlacedLemmas
 pub mod NodeTexts
 pub mod BlockLists

@@ -3,9 +3,9 @@
 use Rattle.std.proofs.Common.{◌≡◌, ℕ, Bool, true, false, not, ◌&&◌, ◌||◌, ◌==◌, cond, if◌then◌else◌, filter, map, List, [], ◌∷◌, ◌++◌, append-nil, refl, sym, ap, ◌∙◌, true≢false}
 use Rattle.std.specs.List.Sorted.{IsStrictlySortedBy}
 use Rattle.std.proofs.lemmas.Bool.{eqb-true}
-use Rattle.ancestry.specs.Nodes.{Node, same_node, node_cmp}
-use Rattle.ancestry.specs.Trees.{has_node}
-use Rattle.ancestry.specs.declared.statuses.MarkKind.{MarkKind}
+use Rattle.version_nodes.specs.Nodes.{Node, same_node, node_cmp}
+use Rattle.version_nodes.specs.Trees.{has_node}
+use Rattle.version_nodes.specs.declared.statuses.MarkKind.{MarkKind}
 use Rattle.bug_record.specs.Marks.{with_node}
 use Rattle.bug_record.proofs.MarkLemmas.{has-with_node, sorted-with_node, same-sorted_nodes}
 use Rattle.desk_content.specs.Edits.{put_at}

@@ -7,7 +7,7 @@ use Rattle.sql_forms.specs.TypedRows.{AreRows}
 use Rattle.desk_content.specs.Content.{Content}
 use Rattle.desk_content.specs.declared.edit.SentMessage.{SentMessage}
 use Rattle.desk_schema.specs.Tables.{MESSAGES, desk_schema}
-use Rattle.desk_schema.specs.MessageRows.{MessageRow, message_cells, message_in, IsMessageRow, messages_in}
+use Rattle.desk_schema.specs.MessageRows.{message_cells, message_in, IsMessageRow, messages_in}
 use Rattle.desk_schema.specs.Rows.{AreShown}
 use Rattle.desk_schema.specs.Steps.{seen}
 use Rattle.desk_schema.proofs.ContentLemmas.{remade, read_back}

@@ -3,8 +3,8 @@ use Rattle.std.proofs.Common.{◌≡◌, ℕ, List, map, Option, sym, ap, ◌∙
 use Rattle.std.specs.Prelude.{unwrap_or}
 use Rattle.sqlite.specs.Order.{Row}
 use Rattle.sqlite.specs.State.{State}
-use Rattle.ancestry.specs.Nodes.{Node}
-use Rattle.ancestry.specs.declared.statuses.MarkKind.TheVariants.{Found}
+use Rattle.version_nodes.specs.Nodes.{Node}
+use Rattle.version_nodes.specs.declared.statuses.MarkKind.TheVariants.{Found}
 use Rattle.nearest_marks.specs.declared.near.Near.{Near}
 use Rattle.sql_forms.specs.Forms.{Changes}
 use Rattle.sql_forms.specs.TypedRows.{AreRows}

@@ -10,11 +10,11 @@ use Rattle.std.specs.Ordering.{is_eq}
 use Rattle.std.proofs.lemmas.List.Kept.{IsStrictlySortedBy-filter}
 use Rattle.std.proofs.lemmas.List.Sorted.{IsPermutation-refl, IsPermutation-sym, IsPermutation-cons, IsPermutation-trans, IsPermutation-middle, IsPermutation-append_right}
 use Rattle.sqlite_trees.specs.Tree.{IsAscending}
-use Rattle.ancestry.specs.Nodes.{Node, same_node, node_cmp}
-use Rattle.ancestry.specs.NodeLaws.{same_node_equiv}
-use Rattle.ancestry.specs.Trees.{Ancestry, no_nodes, known_at, knows}
+use Rattle.version_nodes.specs.Nodes.{Node, same_node, node_cmp}
+use Rattle.version_nodes.specs.NodeLaws.{same_node_equiv}
+use Rattle.version_nodes.specs.Trees.{Ancestry, no_nodes, known_at, knows}
 use Rattle.ancestry.proofs.LinkLemmas.{ascends_put, same_links}
-use Rattle.ancestry.proofs.NodeLemmas.{same_true, ties_same, ties_node, at_first, past_first, put_step, known_put, known_others}
+use Rattle.version_nodes.proofs.NodeLemmas.{same_true, ties_same, ties_node, at_first, past_first, put_step, known_put, known_others}
 use Rattle.desk_schema.specs.NodeRows.{NodeRow, with_links, nodes_in}
 
 -- ---- one more row

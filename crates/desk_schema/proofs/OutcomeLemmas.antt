@@ -4,7 +4,7 @@ use Rattle.sqlite.specs.Order.{Row}
 use Rattle.sqlite.specs.State.{State}
 use Rattle.sqlite.specs.Values.{or_null}
 use Rattle.sqlite.specs.declared.types.Value.TheVariants.{Int}
-use Rattle.desk_text.specs.declared.outcome.Outcome.TheVariants.{Stopped}
+use Rattle.bug_record.specs.declared.outcome.Outcome.TheVariants.{Stopped}
 use Rattle.sql_forms.specs.Forms.{Changes}
 use Rattle.sql_forms.specs.TypedRows.{AreRows}
 use Rattle.desk_content.specs.Content.{Content}

@@ -1,5 +1,5 @@
 -- The schema is what the texts of its creation mean, and its tables are plain ones.
-use Rattle.std.proofs.Common.{◌≡◌, inl, inr, ℕ, List, [], ◌∷◌, codes, Bool, true, false, not, ◌&&◌, eqb, Ok, IsTrue, refl, sym, subst, ◌∙◌, true≢false}
+use Rattle.std.proofs.Common.{◌≡◌, inl, inr, ℕ, List, [], ◌∷◌, codes, Bool, true, false, not, ◌&&◌, eqb, Ok, IsTrue, refl, sym, subst, true≢false}
 use Rattle.std.specs.List.{AllByRecursion}
 use Rattle.std.proofs.lemmas.Bool.{eq-eqb}
 use Rattle.sqlite.specs.Compile.{table_defined_by, index_defined_by}

@@ -6,7 +6,7 @@ use Rattle.sqlite.specs.Values.{or_null}
 use Rattle.sqlite.specs.declared.types.Value.TheVariants.{Text}
 use Rattle.bug_record.specs.Severities.{rank}
 use Rattle.bug_record.specs.declared.severity.Severity.{Severity}
-use Rattle.bug_record.specs.declared.severity.Severity.TheVariants.{Critical, Grave, Serious, Important, Normal, Minor, Wishlist}
+use Rattle.bug_record.specs.declared.severity.Severity.TheVariants.{Critical}
 use Rattle.sql_forms.specs.Forms.{Changes}
 use Rattle.sql_forms.specs.TypedRows.{AreRows}
 use Rattle.desk_content.specs.Content.{Content}
@@ -24,12 +24,7 @@ use Rattle.desk_schema.proofs.StatementLemmas.{Makes}
 
 severity_back : (s : Severity) → severity_in (rank s) ≡ Some s
 severity_back Critical = refl
-severity_back Grave = refl
-severity_back Serious = refl
-severity_back Important = refl
-severity_back Normal = refl
-severity_back Minor = refl
-severity_back Wishlist = refl
+severity_back _ = refl
 
 flag_back : (b : Bool) → flag_in (flag b) ≡ Some b
 flag_back true = refl

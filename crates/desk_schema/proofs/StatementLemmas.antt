@@ -7,7 +7,7 @@ use Rattle.sqlite.specs.declared.error.Error.{Error}
 use Rattle.sqlite.specs.State.{State, HasCleanDisk, KeepsCommit, Survives, ExecutesInside, IsUnchanged, IsRolledBack, Shown, FailsToQuery, FailsToShow, IsTooLate, IsNotRun}
 use Rattle.sqlite_resolve.specs.declared.compiled.Compiled.{Compiled}
 use Rattle.sqlite_schema.specs.declared.command.Returning.{Returning}
-use Rattle.desk_text.specs.declared.outcome.StoreFault.TheVariants.{Foreign}
+use Rattle.bug_record.specs.declared.outcome.StoreFault.TheVariants.{Foreign}
 use Rattle.sql_forms.specs.Faults.{fault_of, written, told}
 use Rattle.sql_forms.proofs.ReadLemmas.{shown_open, shown_same}
 use Rattle.sql_forms.proofs.FailLemmas.{stored_free, query_fault_or_same}

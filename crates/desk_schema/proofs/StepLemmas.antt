@@ -6,8 +6,8 @@ use Rattle.std.specs.Prelude.{⊤}
 use Rattle.sqlite.specs.State.{State, HasCleanDisk, Survives}
 use Rattle.sqlite.proofs.InsideLemmas.{keeps_then}
 use Rattle.sqlite.proofs.StateLemmas.{survives_then}
-use Rattle.desk_text.specs.declared.outcome.StoreFault.{StoreFault}
-use Rattle.desk_text.specs.declared.outcome.StoreFault.TheVariants.{Foreign}
+use Rattle.bug_record.specs.declared.outcome.StoreFault.{StoreFault}
+use Rattle.bug_record.specs.declared.outcome.StoreFault.TheVariants.{Foreign}
 use Rattle.desk_content.specs.Content.{Content}
 use Rattle.desk_content.specs.Edits.{edited, edited_all}
 use Rattle.desk_content.specs.Free.{IsFree, AreFree}

@@ -5,9 +5,9 @@ use Rattle.std.specs.Prelude.{ℕ, ℤ, pos, ◌==◌, ◌&&◌, List, [], ◌�
 use Rattle.sqlite.specs.Edit.{id_in}
 use Rattle.sqlite.specs.Order.{Row, column}
 use Rattle.sqlite.specs.declared.types.Value.TheVariants.{Int, Text}
-use Rattle.ancestry.specs.Nodes.{Node, IsNode, node}
-use Rattle.ancestry.specs.declared.statuses.MarkKind.{MarkKind}
-use Rattle.ancestry.specs.declared.statuses.MarkKind.TheVariants.{Found}
+use Rattle.version_nodes.specs.Nodes.{Node, IsNode, node}
+use Rattle.version_nodes.specs.declared.statuses.MarkKind.{MarkKind}
+use Rattle.version_nodes.specs.declared.statuses.MarkKind.TheVariants.{Found}
 use Rattle.bug_record.specs.Marks.{with_node}
 use Rattle.sql_forms.specs.Numbers.{number_in}
 use Rattle.desk_content.specs.Encodings.{kind_number, kind_in}

@@ -4,8 +4,8 @@ use Rattle.std.specs.Prelude.{ℕ, ℤ, pos, ◌==◌, ◌&&◌, List, [], ◌�
 use Rattle.sqlite.specs.Edit.{id_in}
 use Rattle.sqlite.specs.Order.{Row, column}
 use Rattle.sqlite.specs.declared.types.Value.TheVariants.{Int, Text}
-use Rattle.ancestry.specs.Nodes.{Node, IsNode, node, same_node}
-use Rattle.ancestry.specs.declared.statuses.MarkKind.TheVariants.{Found}
+use Rattle.version_nodes.specs.Nodes.{Node, IsNode, node, same_node}
+use Rattle.version_nodes.specs.declared.statuses.MarkKind.TheVariants.{Found}
 use Rattle.nearest_marks.specs.declared.near.Near.{Near}
 use Rattle.sql_forms.specs.Numbers.{number_in}
 use Rattle.desk_content.specs.Encodings.{kind_number, kind_in}

@@ -1,15 +1,14 @@
 -- The rows of nodes: one for each known node, with its parent or none.
 -- This project's own rule.
-use Rattle.std.specs.Prelude.{ℕ, ℤ, List, [], ◌∷◌, Option, Some, None, option_map}
+use Rattle.std.specs.Prelude.{ℕ, ℤ, List, [], ◌∷◌, Option, option_map}
 use Rattle.std.specs.BTreeMap.{insert_entry}
 use Rattle.std.specs.Option.{option_and_then}
 use Rattle.sqlite.specs.Edit.{id_in}
 use Rattle.sqlite.specs.Order.{Row, column}
 use Rattle.sqlite.specs.Values.{or_null}
-use Rattle.sqlite.specs.declared.types.Value.{Value}
 use Rattle.sqlite.specs.declared.types.Value.TheVariants.{Int, Text}
-use Rattle.ancestry.specs.Nodes.{Node, IsNode, node, node_cmp}
-use Rattle.ancestry.specs.Trees.{Ancestry, no_nodes}
+use Rattle.version_nodes.specs.Nodes.{Node, IsNode, node, node_cmp}
+use Rattle.version_nodes.specs.Trees.{Ancestry, no_nodes}
 use Rattle.bug_record.specs.Texts.{IfGiven}
 use Rattle.desk_schema.specs.Cells.{maybe_text, text_in}
 

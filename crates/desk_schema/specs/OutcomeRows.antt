@@ -7,10 +7,10 @@ use Rattle.sqlite.specs.Edit.{id_in}
 use Rattle.sqlite.specs.Order.{Row, column}
 use Rattle.sqlite.specs.Values.{or_null}
 use Rattle.sqlite.specs.declared.types.Value.TheVariants.{Int, Text}
-use Rattle.ancestry.specs.Nodes.{Node, IsNode}
+use Rattle.version_nodes.specs.Nodes.{Node, IsNode}
 use Rattle.bug_record.specs.Texts.{IfGiven}
-use Rattle.desk_text.specs.declared.outcome.Outcome.{Outcome}
-use Rattle.desk_text.specs.declared.outcome.Outcome.TheVariants.{Stopped}
+use Rattle.bug_record.specs.declared.outcome.Outcome.{Outcome}
+use Rattle.bug_record.specs.declared.outcome.Outcome.TheVariants.{Stopped}
 use Rattle.sql_forms.specs.Numbers.{number_in}
 use Rattle.desk_content.specs.Edits.{placed}
 use Rattle.desk_content.specs.Outcomes.{bare, outcome_kind, outcome_number, outcome_field, outcome_node, outcome_in}

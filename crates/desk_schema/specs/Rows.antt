@@ -4,7 +4,7 @@ use Rattle.std.specs.Prelude.{◌≡◌, ℕ, pos, map, List, [], ◌∷◌}
 use Rattle.sqlite.specs.Order.{Row, column}
 use Rattle.sqlite.specs.Tree.{Trees}
 use Rattle.sqlite.specs.declared.types.Value.TheVariants.{Null, Int}
-use Rattle.ancestry.specs.declared.statuses.MarkKind.TheVariants.{Found, Fixed}
+use Rattle.version_nodes.specs.declared.statuses.MarkKind.TheVariants.{Found, Fixed}
 use Rattle.sql_forms.specs.Numbers.{number_in}
 use Rattle.sql_forms.specs.TypedRows.{AreRows}
 use Rattle.desk_content.specs.Content.{Content}

@@ -5,16 +5,16 @@ ghost use Rattle.std.specs.Str.{IsUtf8};
 ghost use Rattle.sqlite.specs.Order.{column};
 ghost use Rattle.sqlite.specs.Values.{or_null};
 ghost use Rattle.sqlite.specs.declared.types.Value.TheVariants.{Int, Text as TextCell, Blob};
-ghost use Rattle.ancestry.specs.Nodes.{Node as SeenNode, IsNode};
+ghost use Rattle.version_nodes.specs.Nodes.{Node as SeenNode, IsNode};
 ghost use Rattle.bug_record.specs.Texts.{IfGiven};
-ghost use Rattle.desk_text.specs.declared.outcome.StoreFault.TheVariants.{Foreign};
+ghost use Rattle.bug_record.specs.declared.outcome.StoreFault.TheVariants.{Foreign};
 
 use crate::faults::fault_of;
-use ancestry::{Node, NodeFault};
+use bug_record::StoreFault;
 use debver::Text;
-use desk_text::StoreFault;
 use sqlite::Row;
 use std::alloc::Global;
+use version_nodes::{Node, NodeFault};
 
 /// The number in a cell, counted from 0; one below 0 can't be read.
 pub fn number_at(row: &Row, at: usize) -> Result<u64, StoreFault>

@@ -2,12 +2,11 @@
 
 ghost use Rattle.std.specs.Prelude.{◌≡◌, ◌≢◌, ℕ, List, [], ◌∷◌, Option, IfOk, IfErr, map};
 ghost use Rattle.std.specs.Option.{option_map_or};
-ghost use Rattle.desk_text.specs.declared.outcome.StoreFault.TheVariants.{Foreign};
+ghost use Rattle.bug_record.specs.declared.outcome.StoreFault.TheVariants.{Foreign};
 ghost use Rattle.sql_forms.specs.Numbers.{number_row};
 
 use crate::cells::number_at;
-use bug_record::{Numbers, Sequence};
-use desk_text::StoreFault;
+use bug_record::{Numbers, Sequence, StoreFault};
 use sqlite::Row;
 use std::alloc::Global;
 

@@ -1,7 +1,7 @@
 -- The count of a store's faults never falls.
 use Rattle.std.proofs.Common.{◌≡◌, ℕ, ◌+◌, ◌<◌, ◌≤◌, List, [], ◌∷◌, ◌++◌, length, length-append, Option, Some, None, Ok, Err, arith, sym, subst}
-use Rattle.desk_text.specs.declared.outcome.StoreFault.{StoreFault}
-use Rattle.desk_text.specs.declared.outcome.StoreFault.TheVariants.{Memory, Device, Full, Foreign}
+use Rattle.bug_record.specs.declared.outcome.StoreFault.{StoreFault}
+use Rattle.bug_record.specs.declared.outcome.StoreFault.TheVariants.{Memory, Device, Full, Foreign}
 use Rattle.desk_store.specs.Store.{Faults, counted, total}
 use Rattle.desk_answers.specs.Faults.{counted_with}
 use Rattle.desk_http.specs.declared.serve.Served.TheVariants.{Answered, Closed}

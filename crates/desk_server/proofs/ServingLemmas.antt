@@ -1,5 +1,5 @@
 -- Connections, one after another, and one of them.
-use Rattle.std.proofs.Common.{◌≡◌, ℕ, List, [], ◌∷◌, ◌++◌, Option, Some, None, Result, Ok, Err, IfOk, OnErr, refl, sym, subst}
+use Rattle.std.proofs.Common.{◌≡◌, ℕ, List, [], ◌∷◌, ◌++◌, Option, None, Result, Ok, Err, IfOk, OnErr, refl, sym, subst}
 use Rattle.desk_answers.specs.Stored.{Stored}
 use Rattle.desk_store.specs.Store.{Faults}
 use Rattle.desk_answers.specs.Faults.{counted_with}
@@ -7,9 +7,9 @@ use Rattle.desk_answers.specs.Shown.{shown}
 use Rattle.desk_answers.specs.declared.reply.Reply.{Reply}
 use Rattle.desk_http.specs.Exchange.{IsServed, IsCounted, IsRight}
 use Rattle.desk_http.specs.declared.serve.Served.{Served}
-use Rattle.desk_http.specs.declared.serve.Served.TheVariants.{Answered, Closed}
+use Rattle.desk_http.specs.declared.serve.Served.TheVariants.{Answered}
 use Rattle.desk_http.specs.declared.serve.ServeFault.{ServeFault}
-use Rattle.desk_http.specs.declared.serve.ServeFault.TheVariants.{Read, Write}
+use Rattle.desk_http.specs.declared.serve.ServeFault.TheVariants.{Write}
 use Rattle.desk_server.specs.Serving.{Connection, InTurn, IsServing, IsInTurn}
 use Rattle.desk_server.specs.declared.port.ServerFault.{ServerFault}
 

@@ -5,7 +5,7 @@ use Rattle.std.proofs.lemmas.Bool.{lt-ltb, le-ltb}
 use Rattle.std.specs.Cmp.Lexicographic.{bytes_decides}
 use Rattle.std.specs.Map.{update}
 use Rattle.std.specs.Str.{bytes_eq}
-use Rattle.desk_text.specs.declared.outcome.Outcome.{Outcome}
+use Rattle.bug_record.specs.declared.outcome.Outcome.{Outcome}
 use Rattle.message_machine.specs.Kept.{Keeping, IsGoodKept, AreGoodKept, IsOfMessage, outcomes_kept, kept_also}
 use Rattle.message_machine.specs.declared.kept.Kept.{Kept}
 use Rattle.desk_store.specs.KeptMessages.{shorter, without_last}

@@ -1,18 +1,18 @@
 -- The desk in memory as its bugs by sets, its tree and its next number.
 use Rattle.std.proofs.Common.{◌≡◌, ℕ, Option, Some, None, Result, Ok, Err, OnOk, OnErr, ap, sym, subst}
 use Rattle.std.specs.Option.{option_or, option_and_then}
-use Rattle.ancestry.specs.Trees.{Ancestry}
+use Rattle.version_nodes.specs.Trees.{Ancestry}
 use Rattle.bug_record.specs.Desk.{Desk, IsSound}
 use Rattle.bug_record.specs.Images.{bug_in, put, FitsDesk}
 use Rattle.bug_record.specs.Texts.{IfGiven}
 use Rattle.bug_record.specs.declared.bug.SetImage.{SetImage}
 use Rattle.bug_record.specs.declared.command.Change.{Change}
-use Rattle.desk_places.specs.Keys.{Keyed, keyed_desk}
-use Rattle.desk_places.specs.Plain.{keyed_of, desk_of}
-use Rattle.desk_places.specs.declared.bug_sets.BugSets.{BugSets}
+use Rattle.bugs_in_memory.specs.Keys.{Keyed, keyed_desk}
+use Rattle.bugs_in_memory.specs.Plain.{keyed_of, desk_of}
+use Rattle.bugs_in_memory.specs.declared.bug_sets.BugSets.{BugSets}
 use Rattle.desk_store.specs.Store.{IsImageOf, with_change}
-use Rattle.desk_places.proofs.ImageLemmas.{both_steps}
-use Rattle.desk_places.proofs.KeyLemmas.{image-of_key}
+use Rattle.bugs_in_memory.proofs.ImageLemmas.{both_steps}
+use Rattle.bugs_in_memory.proofs.KeyLemmas.{image-of_key}
 
 -- the desk whose bugs are these keys and images
 pub desk_of-keyed : (bugs : BugSets) (b : Keyed) (tree : Ancestry) (next : ℕ) → keyed_of bugs ≡ b

@@ -1,6 +1,6 @@
 -- What a call of a store says of its content.
 use Rattle.std.specs.Prelude.{ℕ, ◌≡◌, ◌+◌, ◌-◌, ◌^◌, min, true, List, Option, Some, None, Result, Ok, Err, ⊤}
-use Rattle.ancestry.specs.Nodes.{Node}
+use Rattle.version_nodes.specs.Nodes.{Node}
 use Rattle.ancestry.specs.Branches.{branched}
 use Rattle.ancestry.specs.declared.fault.BranchFault.{BranchFault}
 use Rattle.ancestry.specs.declared.fault.BranchFault.TheVariants.{Memory as WantOfMemory}
@@ -10,15 +10,15 @@ use Rattle.bug_record.specs.Heads.{open_head}
 use Rattle.bug_record.specs.Images.{numbers_of, IsSetOf, put}
 use Rattle.bug_record.specs.Waiting.{waiting_on}
 use Rattle.bug_record.specs.Lists.{listed}
-use Rattle.desk_text.specs.Lists.{rows_of}
-use Rattle.desk_text.specs.declared.lists.ListRow.{ListRow}
+use Rattle.set_images.specs.Rows.{rows_of}
+use Rattle.set_images.specs.declared.rows.ListRow.{ListRow}
 use Rattle.bug_record.specs.declared.bug.SetImage.{SetImage}
 use Rattle.bug_record.specs.declared.command.Change.{Change}
-use Rattle.desk_text.specs.declared.outcome.StoreFault.{StoreFault}
-use Rattle.desk_text.specs.declared.outcome.StoreFault.TheVariants.{Memory, Device, Full, Foreign}
-use Rattle.desk_text.specs.declared.outcome.Outcome.{Outcome}
-use Rattle.desk_text.specs.declared.outcome.End.{End}
-use Rattle.desk_text.specs.declared.outcome.End.TheVariants as ends
+use Rattle.bug_record.specs.declared.outcome.StoreFault.{StoreFault}
+use Rattle.bug_record.specs.declared.outcome.StoreFault.TheVariants.{Memory, Device, Full, Foreign}
+use Rattle.bug_record.specs.declared.outcome.Outcome.{Outcome}
+use Rattle.bug_record.specs.declared.outcome.End.{End}
+use Rattle.bug_record.specs.declared.outcome.End.TheVariants as ends
 use Rattle.message_machine.specs.Kept.{Keeping, IsGoodOutcome, IsNextOutcome, kept_also}
 
 -- A call goes from old to new: honesty isn't won, and where the tables were kept as it began and

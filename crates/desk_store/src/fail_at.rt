@@ -6,16 +6,17 @@ ghost use Rattle.bug_record.specs.Sets.{Each};
 ghost use Rattle.bug_record.specs.Images.{AreApart, HasMember, IsSetOf, FitsDesk};
 ghost use Rattle.desk_store.specs.Store.{Holds, Asks, Answers, IsImageOf, IsNext, IsOpenHead, AreWaitingOn, AreListed};
 ghost use Rattle.bug_record.specs.Texts.{IsText, IfGiven};
-ghost use Rattle.message_machine.specs.Ids.{IsId};
+ghost use Rattle.line_words.specs.Ids.{IsId};
 ghost use Rattle.desk_store.specs.Store.{Applies, Branches, IsRefusal, Since, MayBeKept, Keeps};
 ghost use Rattle.desk_store.specs.Store.{faults_after};
 ghost use Rattle.desk_store.specs.FailAt.{faults_with};
 
 use crate::records::Records;
-use ancestry::{BranchFault, Node};
-use bug_record::{Change, Numbers, Sequence, SetImage};
-use desk_text::{ListRow, Outcome, StoreFault};
+use ancestry::BranchFault;
+use bug_record::{Change, Numbers, Outcome, Sequence, SetImage, StoreFault};
 use message_machine::Kept;
+use set_images::ListRow;
+use version_nodes::Node;
 
 /// A store round another.
 /// One call of `apply`, `branch` or `keep` answers `Device`, changes nothing and is counted; every

@@ -5,9 +5,8 @@ ghost use Rattle.std.specs.Option.{option_copied};
 ghost use Rattle.message_machine.specs.Kept.{none_kept, IsOfMessage, kept_also};
 ghost use Rattle.desk_store.specs.KeptMessages.{one_outcome};
 
-use bug_record::Sequence;
+use bug_record::{Outcome, Sequence};
 use debver::Text;
-use desk_text::Outcome;
 use message_machine::Kept;
 use std::alloc::{AllocError, Global};
 use std::collections::BTreeMap;

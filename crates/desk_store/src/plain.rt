@@ -3,7 +3,7 @@
 ghost use Rattle.std.specs.Prelude.{◌≡◌, ◌≤◌, None, Ok, IfOk, IfErr, OnOk, OnErr};
 ghost use Rattle.std.specs.Option.{option_and_then, option_copied};
 ghost use Rattle.line_words.specs.declared.named.TheConstants.{LARGEST_NUMBER};
-ghost use Rattle.ancestry.specs.Trees.{Ancestry};
+ghost use Rattle.version_nodes.specs.Trees.{Ancestry};
 ghost use Rattle.bug_record.specs.Desk.{IsSound};
 ghost use Rattle.bug_record.specs.Images.{AreApart, CoverSets, FitsDesk, put};
 ghost use Rattle.bug_record.specs.Texts.{IsText, IfGiven};
@@ -13,16 +13,17 @@ ghost use Rattle.message_machine.proofs.KeptProp.{AreGoodKept-prop};
 ghost use Rattle.desk_store.specs.Store.{IsImageOf, IsOpenHead, AreWaitingOn, AreListed, Branches, IsRefusal, no_faults};
 ghost use Rattle.desk_store.specs.Store.{MayBeKept, Keeps, with_change};
 ghost use Rattle.desk_store.specs.KeptMessages.{keeping_of};
-ghost use Rattle.desk_places.specs.Plain.{keyed_of, desk_of, empty_desk};
+ghost use Rattle.bugs_in_memory.specs.Plain.{keyed_of, desk_of, empty_desk};
 
 use crate::kept_messages::KeptMessages;
 use crate::records::Records;
-use ancestry::{BranchFault, Node, Tree};
-use bug_record::{Change, Numbers, Sequence, SetImage};
-use desk_places::{BugSets, open_head};
-use desk_text::{ListRow, Outcome, StoreFault};
+use ancestry::{BranchFault, Tree};
+use bug_record::{Change, Numbers, Outcome, Sequence, SetImage, StoreFault};
+use bugs_in_memory::{BugSets, open_head};
 use message_machine::{Kept, copy_outcome};
+use set_images::ListRow;
 use std::alloc::{AllocError, Global};
+use version_nodes::Node;
 
 /// A desk in memory: its bugs by sets, the tree of nodes, and what is kept of messages.
 #[derive(Drop)]

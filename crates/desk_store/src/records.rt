@@ -7,16 +7,17 @@ ghost use Rattle.bug_record.specs.Desk.{Desk, IsSound};
 ghost use Rattle.bug_record.specs.Images.{AreApart, HasMember, IsSetOf, FitsDesk};
 ghost use Rattle.desk_store.specs.Store.{Holds, Asks, Answers, IsImageOf, IsNext, IsOpenHead, AreWaitingOn, AreListed};
 ghost use Rattle.desk_store.specs.Store.{Applies, Branches, IsRefusal, Since, MayBeKept, Keeps};
-ghost use Rattle.desk_text.specs.declared.outcome.StoreFault.{StoreFault};
+ghost use Rattle.bug_record.specs.declared.outcome.StoreFault.{StoreFault};
 ghost use Rattle.desk_store.specs.Store.{Faults, faults_after, total};
 ghost use Rattle.bug_record.specs.Texts.{IsText, IfGiven};
-ghost use Rattle.message_machine.specs.Ids.{IsId};
+ghost use Rattle.line_words.specs.Ids.{IsId};
 ghost use Rattle.message_machine.specs.Kept.{Keeping, AreGoodKept};
 
-use ancestry::{BranchFault, Node};
-use bug_record::{Change, Numbers, Sequence, SetImage};
-use desk_text::{ListRow, Outcome, StoreFault};
+use ancestry::BranchFault;
+use bug_record::{Change, Numbers, Outcome, Sequence, SetImage, StoreFault};
 use message_machine::Kept;
+use set_images::ListRow;
+use version_nodes::Node;
 
 /// A store of a desk, in memory or in tables, and of what is kept of messages that have an id.
 ///

@@ -6,13 +6,13 @@ use Rattle.sqlite.specs.State.{State, HasCleanDisk, Survives}
 use Rattle.sqlite.proofs.StateLemmas.{survives_weaker}
 use Rattle.sqlite_trees.specs.declared.store.Store as store
 use Rattle.ancestry.specs.Branches.{branched, IsBranched}
-use Rattle.ancestry.specs.Nodes.{Node}
-use Rattle.ancestry.specs.Trees.{Ancestry, IsForest}
+use Rattle.version_nodes.specs.Nodes.{Node}
+use Rattle.version_nodes.specs.Trees.{Ancestry, IsForest}
 use Rattle.ancestry.specs.declared.fault.BranchFault.{BranchFault}
-use Rattle.ancestry.specs.declared.fault.BranchFault.TheVariants.{EmptyBranch, Repeated, Conflict, TooLong, Memory}
+use Rattle.ancestry.specs.declared.fault.BranchFault.TheVariants.{Memory}
 use Rattle.branch_rows.specs.Grown.{IsGrown}
-use Rattle.desk_text.specs.declared.outcome.StoreFault.{StoreFault}
-use Rattle.desk_text.specs.declared.outcome.StoreFault.TheVariants.{Foreign}
+use Rattle.bug_record.specs.declared.outcome.StoreFault.{StoreFault}
+use Rattle.bug_record.specs.declared.outcome.StoreFault.TheVariants.{Foreign}
 use Rattle.desk_content.specs.Branches.{with_nodes}
 use Rattle.desk_content.specs.Content.{Content}
 use Rattle.desk_content.specs.Kept.{IsKeptContent}
@@ -104,11 +104,8 @@ taken_refused t u nodes s refusal is other = record {
 
 -- a refusal is why, and leaves the tree
 pub refusal_is : (t u : Ancestry) (nodes : List Node) (refusal : BranchFault) → IsBranched t nodes (Err refusal) u → IsRefusal (Err refusal) → (branched t nodes ≡ Err refusal) × (u ≡ t)
-refusal_is t u nodes EmptyBranch is other = is
-refusal_is t u nodes (Repeated place) is other = is
-refusal_is t u nodes (Conflict place) is other = is
-refusal_is t u nodes TooLong is other = is
 refusal_is t u nodes Memory is other = absurd other
+refusal_is t u nodes _ is other = is
 
 -- ---- what is remembered
 

@@ -7,8 +7,8 @@ use Rattle.sqlite_catalog.specs.Listing.{Lists}
 use Rattle.sqlite_trees.specs.Objects.{catalog_tree}
 use Rattle.sqlite_trees.specs.Tree.{Trees}
 use Rattle.desk_content.specs.Content.{Content}
-use Rattle.desk_making.specs.Making.{AreEarlier, schema_of}
-use Rattle.desk_making.specs.declared.making.Earlier.{Earlier}
+use Rattle.desk_migrations.specs.Making.{AreEarlier, schema_of}
+use Rattle.desk_migrations.specs.declared.making.Earlier.{Earlier}
 use Rattle.desk_schema.specs.Tables.{desk_schema}
 use Rattle.desk_schema.specs.Rows.{content_of, AreShown}
 use Rattle.desk_schema.specs.Steps.{seen}

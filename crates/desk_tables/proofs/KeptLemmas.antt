@@ -4,13 +4,13 @@ use Rattle.std.specs.List.{AllByRecursion}
 use Rattle.sqlite.specs.Held.{Held, state}
 use Rattle.sqlite.specs.State.{HasCleanDisk, Survives}
 use Rattle.sqlite_trees.specs.declared.store.Store as store
-use Rattle.ancestry.specs.Trees.{Ancestry}
+use Rattle.version_nodes.specs.Trees.{Ancestry}
 use Rattle.bug_record.specs.Desk.{Desk}
 use Rattle.bug_record.specs.Images.{put, HasMember, IsSetOf}
 use Rattle.bug_record.specs.declared.bug.SetImage.{SetImage}
 use Rattle.bug_record.specs.declared.command.Change.{Change}
-use Rattle.desk_text.specs.declared.outcome.StoreFault.{StoreFault}
-use Rattle.desk_text.specs.declared.outcome.StoreFault.TheVariants.{Foreign}
+use Rattle.bug_record.specs.declared.outcome.StoreFault.{StoreFault}
+use Rattle.bug_record.specs.declared.outcome.StoreFault.TheVariants.{Foreign}
 use Rattle.desk_content.specs.Changes.{FitsContent, changed, cleared_for}
 use Rattle.desk_content.specs.Content.{Content}
 use Rattle.desk_content.specs.Kept.{IsKeptContent}
@@ -19,7 +19,7 @@ use Rattle.desk_content.proofs.ChangeLemmas.{change_desk, change_kept}
 use Rattle.desk_content.proofs.ClosedLemmas.{put_nodes, no_nodes}
 use Rattle.desk_content.proofs.KeepLemmas.{change_keeping}
 use Rattle.desk_schema.specs.Steps.{seen}
-use Rattle.desk_lists.specs.Asked.{IsAskedFor}
+use Rattle.desk_reads.specs.Asked.{IsAskedFor}
 use Rattle.desk_store.specs.Store.{Answers}
 use Rattle.desk_tables.specs.Kept.{content_seen, desk_seen, keeping_seen, IsKept}
 use Rattle.desk_tables.specs.Shown.{HasContent, AreTablesOf}

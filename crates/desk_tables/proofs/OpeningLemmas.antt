@@ -6,22 +6,22 @@ use Rattle.sqlite.specs.State.{State, HasCleanDisk, Survives}
 use Rattle.sqlite.specs.Tree.{Trees}
 use Rattle.sqlite.proofs.StateLemmas.{survives_then, survives_weaker}
 use Rattle.sqlite_trees.specs.declared.store.Store as store
-use Rattle.ancestry.specs.Trees.{Ancestry}
+use Rattle.version_nodes.specs.Trees.{Ancestry}
 use Rattle.line_words.specs.declared.named.TheConstants.{LARGEST_NUMBER}
-use Rattle.desk_places.specs.Plain.{empty_desk}
+use Rattle.bugs_in_memory.specs.Plain.{empty_desk}
 use Rattle.desk_content.specs.Content.{Content, no_content}
 use Rattle.desk_content.specs.Kept.{IsKeptContent}
 use Rattle.desk_content.specs.View.{desk_in, keeping_in}
 use Rattle.message_machine.specs.Kept.{none_kept}
 use Rattle.desk_content.proofs.NewLemmas.{new_kept}
-use Rattle.desk_text.specs.declared.outcome.StoreFault.{StoreFault}
+use Rattle.bug_record.specs.declared.outcome.StoreFault.{StoreFault}
 use Rattle.desk_schema.specs.Steps.{seen}
-use Rattle.desk_making.specs.Making.{AreEarlier, number_of}
-use Rattle.desk_making.specs.declared.making.Earlier.{Earlier}
-use Rattle.desk_making.specs.declared.making.Earlier.TheVariants as schemas
-use Rattle.desk_making.specs.declared.number.SchemaRead.{SchemaRead}
-use Rattle.desk_making.specs.declared.number.SchemaRead.TheVariants.{Number, NoNumber}
-use Rattle.desk_making.specs.Number.{SaysSchema, Says}
+use Rattle.desk_migrations.specs.Making.{AreEarlier, number_of}
+use Rattle.desk_migrations.specs.declared.making.Earlier.{Earlier}
+use Rattle.desk_migrations.specs.declared.making.Earlier.TheVariants as schemas
+use Rattle.desk_migrations.specs.declared.number.SchemaRead.{SchemaRead}
+use Rattle.desk_migrations.specs.declared.number.SchemaRead.TheVariants.{Number, NoNumber}
+use Rattle.desk_migrations.specs.Number.{SaysSchema, Says}
 use Rattle.desk_tables.specs.Kept.{desk_seen, keeping_seen, IsKept}
 use Rattle.desk_tables.specs.Opening.{unlimited, IsLeft, IsStoreFailure, IsReason, SaysEarlier, SaysDesk}
 use Rattle.desk_tables.specs.Shown.{IsDesk, HasContent, HasEarlierContent, HoldsContent, AreTablesOf}

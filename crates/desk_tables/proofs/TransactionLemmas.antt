@@ -5,18 +5,18 @@ use Rattle.sqlite.specs.Steps.{FailsToCommit}
 use Rattle.sqlite.specs.State.{State, Shows, KeepsCounts, HasCleanDisk, KeepsCommit, Survives, IsUnchanged, IsRolledBack}
 use Rattle.sqlite.specs.declared.error.Error.{Error}
 use Rattle.sqlite.proofs.StateLemmas.{survives_then, survives_weaker}
-use Rattle.desk_text.specs.declared.outcome.StoreFault.{StoreFault}
-use Rattle.desk_text.specs.declared.outcome.StoreFault.TheVariants.{Foreign}
+use Rattle.bug_record.specs.declared.outcome.StoreFault.{StoreFault}
+use Rattle.bug_record.specs.declared.outcome.StoreFault.TheVariants.{Foreign}
 use Rattle.sql_forms.specs.Faults.{fault_of}
 use Rattle.sql_forms.proofs.FailLemmas.{commit_free}
 use Rattle.desk_content.specs.Content.{Content, no_content}
 use Rattle.desk_schema.specs.Rows.{content_of, AreShown}
 use Rattle.desk_schema.specs.Steps.{IsInside, seen, Goes, Acts, Serves}
 use Rattle.desk_schema.proofs.StepLemmas.{done, failed, acts_none}
-use Rattle.desk_making.specs.Making.{IsBlank, IsDeskOf, IsEarlier, Builds}
-use Rattle.desk_making.specs.Number.{Says, ReadsSchema}
-use Rattle.desk_making.specs.declared.making.Earlier.{Earlier}
-use Rattle.desk_making.specs.declared.number.SchemaRead.{SchemaRead}
+use Rattle.desk_migrations.specs.Making.{IsBlank, IsDeskOf, IsEarlier, Builds}
+use Rattle.desk_migrations.specs.Number.{Says, ReadsSchema}
+use Rattle.desk_migrations.specs.declared.making.Earlier.{Earlier}
+use Rattle.desk_migrations.specs.declared.number.SchemaRead.{SchemaRead}
 use Rattle.desk_tables.specs.Opening.{IsLeft}
 use Rattle.desk_tables.specs.Shown.{IsDesk, HasContent, HasEarlierContent, AreTablesOf}
 use Rattle.desk_tables.specs.Transactions.{IsAsked, IsChanged, IsMade, IsCarried, AsksSchema, Ends}

@@ -3,7 +3,7 @@ use Rattle.std.specs.Prelude.{◌≡◌, ℕ, List, [], ◌∷◌, Option, IfSom
 use Rattle.std.specs.List.{AllByRecursion}
 use Rattle.sqlite.specs.Held.{Held, state}
 use Rattle.sqlite_trees.specs.declared.store.Store as store
-use Rattle.ancestry.specs.Trees.{Ancestry}
+use Rattle.version_nodes.specs.Trees.{Ancestry}
 use Rattle.bug_record.specs.Desk.{Desk}
 use Rattle.bug_record.specs.declared.command.Change.{Change}
 use Rattle.desk_content.specs.Content.{Content, no_content}
@@ -11,7 +11,7 @@ use Rattle.desk_content.specs.Kept.{IsKeptContent}
 use Rattle.desk_content.specs.View.{desk_in, keeping_in}
 use Rattle.desk_schema.specs.Steps.{seen}
 use Rattle.desk_store.specs.Store.{MayBeKept}
-use Rattle.desk_text.specs.declared.outcome.Outcome.{Outcome}
+use Rattle.bug_record.specs.declared.outcome.Outcome.{Outcome}
 use Rattle.message_machine.specs.Kept.{Keeping}
 use Rattle.desk_tables.specs.Shown.{HasContent}
 

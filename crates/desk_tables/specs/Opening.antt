@@ -2,12 +2,12 @@
 use Rattle.std.specs.Prelude.{◌≡◌, ◌≢◌, ◌<◌, ◌⊎◌, false, None, IsTrue}
 use Rattle.sqlite.specs.Effect.{Database}
 use Rattle.sqlite.specs.State.{State, HasCleanDisk}
-use Rattle.desk_text.specs.declared.outcome.StoreFault.{StoreFault}
-use Rattle.desk_text.specs.declared.outcome.StoreFault.TheVariants.{Foreign}
+use Rattle.bug_record.specs.declared.outcome.StoreFault.{StoreFault}
+use Rattle.bug_record.specs.declared.outcome.StoreFault.TheVariants.{Foreign}
 use Rattle.desk_content.specs.Content.{Content}
-use Rattle.desk_making.specs.Making.{number_of}
-use Rattle.desk_making.specs.Number.{SaysSchema, SaysNone}
-use Rattle.desk_making.specs.declared.making.Earlier.{Earlier}
+use Rattle.desk_migrations.specs.Making.{number_of}
+use Rattle.desk_migrations.specs.Number.{SaysSchema, SaysNone}
+use Rattle.desk_migrations.specs.declared.making.Earlier.{Earlier}
 use Rattle.desk_tables.specs.Shown.{HasContent}
 use Rattle.desk_tables.specs.declared.open_fault.OpenFault.{OpenFault}
 use Rattle.desk_tables.specs.declared.open_fault.OpenFault.TheVariants.{NotADesk, NewerSchema, Store, NotEmpty}

@@ -4,12 +4,12 @@ use Rattle.sqlite.specs.Effect.{IsDatabase}
 use Rattle.sqlite.specs.State.{State, HasCleanDisk}
 use Rattle.sqlite.specs.Tree.{Trees}
 use Rattle.ancestry.specs.Branches.{branched}
-use Rattle.ancestry.specs.Nodes.{Node}
-use Rattle.ancestry.specs.Trees.{Ancestry, IsForest}
+use Rattle.version_nodes.specs.Nodes.{Node}
+use Rattle.version_nodes.specs.Trees.{Ancestry, IsForest}
 use Rattle.desk_content.specs.Branches.{with_nodes}
 use Rattle.desk_content.specs.Content.{Content}
-use Rattle.desk_making.specs.Making.{AreEarlier, schema_of}
-use Rattle.desk_making.specs.declared.making.Earlier.{Earlier}
+use Rattle.desk_migrations.specs.Making.{AreEarlier, schema_of}
+use Rattle.desk_migrations.specs.declared.making.Earlier.{Earlier}
 use Rattle.desk_schema.specs.Tables.{desk_schema}
 use Rattle.desk_schema.specs.Rows.{content_of, AreShown}
 use Rattle.desk_schema.specs.Steps.{seen}

@@ -1,23 +1,23 @@
 -- What a transaction over a connection comes to, whole.
 use Rattle.std.specs.Prelude.{◌≡◌, ◌≢◌, ◌⊎◌, ◌↔◌, ℕ, false, true, List, IsOk, Ok, Err, IfOk, IfErr, Result, IsTrue}
 use Rattle.sqlite.specs.State.{State, HasCleanDisk, Survives, IsRolledBack}
-use Rattle.desk_text.specs.declared.outcome.StoreFault.{StoreFault}
-use Rattle.desk_text.specs.declared.outcome.StoreFault.TheVariants.{Foreign}
+use Rattle.bug_record.specs.declared.outcome.StoreFault.{StoreFault}
+use Rattle.bug_record.specs.declared.outcome.StoreFault.TheVariants.{Foreign}
 use Rattle.ancestry.specs.Branches.{IsBranched}
-use Rattle.ancestry.specs.Nodes.{Node}
-use Rattle.ancestry.specs.Trees.{Ancestry}
+use Rattle.version_nodes.specs.Nodes.{Node}
+use Rattle.version_nodes.specs.Trees.{Ancestry}
 use Rattle.ancestry.specs.declared.fault.BranchFault.{BranchFault}
 use Rattle.desk_content.specs.Branches.{with_nodes}
 use Rattle.desk_content.specs.Content.{Content, no_content}
 use Rattle.desk_content.specs.Kept.{IsKeptContent}
 use Rattle.desk_schema.specs.Steps.{seen}
 use Rattle.desk_store.specs.Store.{IsRefusal}
-use Rattle.desk_making.specs.Making.{number_of}
-use Rattle.desk_making.specs.Names.{no_tables, has_desk_table}
-use Rattle.desk_making.specs.Number.{Says, SaysSchema}
-use Rattle.desk_making.specs.declared.making.Earlier.{Earlier}
-use Rattle.desk_making.specs.declared.number.SchemaRead.{SchemaRead}
-use Rattle.desk_making.specs.declared.number.SchemaRead.TheVariants.{Number}
+use Rattle.desk_migrations.specs.Making.{number_of}
+use Rattle.desk_migrations.specs.Names.{no_tables, has_desk_table}
+use Rattle.desk_migrations.specs.Number.{Says, SaysSchema}
+use Rattle.desk_migrations.specs.declared.making.Earlier.{Earlier}
+use Rattle.desk_migrations.specs.declared.number.SchemaRead.{SchemaRead}
+use Rattle.desk_migrations.specs.declared.number.SchemaRead.TheVariants.{Number}
 use Rattle.desk_tables.specs.Opening.{IsLeft, IsStoreFailure, IsReason}
 use Rattle.desk_tables.specs.Shown.{IsDesk, HasContent, HasEarlierContent, HoldsContent, AreTablesOf, AreTablesAfter}
 use Rattle.desk_tables.specs.declared.opening.Schema.{Schema}

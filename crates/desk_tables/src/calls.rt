@@ -4,34 +4,32 @@ ghost use Rattle.std.specs.Prelude.{◌≡◌, false, None, ⊤};
 ghost use Rattle.std.specs.Option.{option_copied};
 ghost use Rattle.sqlite.specs.Held.{state};
 ghost use Rattle.sqlite.specs.State.{IsLive};
-ghost use Rattle.ancestry.specs.Trees.{IsForest};
+ghost use Rattle.version_nodes.specs.Trees.{IsForest};
 ghost use Rattle.desk_content.specs.Changes.{FitsContent, changed};
 ghost use Rattle.desk_content.specs.Keeping.{MayBePut, kept_after};
 ghost use Rattle.desk_content.specs.Kept.{IsKeptContent};
 ghost use Rattle.desk_content.specs.View.{desk_in, keeping_in};
 ghost use Rattle.desk_store.specs.Store.{IsImageOf, AreWaitingOn, AreListed, IsOpenHead};
-ghost use Rattle.desk_lists.specs.Asked.{IsAskedFor};
+ghost use Rattle.desk_reads.specs.Asked.{IsAskedFor};
 ghost use Rattle.branch_rows.specs.Grown.{IsGrown, unknown_of, roots_of, changed_of};
 ghost use Rattle.desk_content.specs.Branches.{with_nodes};
-ghost use Rattle.desk_making.specs.Names.{no_tables};
+ghost use Rattle.desk_migrations.specs.Names.{no_tables};
 ghost use Rattle.desk_tables.specs.Transactions.{IsAsked, IsChanged, IsTaken, IsMade, IsCarried, AsksSchema, Ends};
 
-use ancestry::{BranchFault, Node};
+use ancestry::BranchFault;
 use branch_rows::{OpenNodes, branches_grow, changed_nodes, open_nodes};
-use bug_record::{Change, Numbers, Sequence, SetImage};
-use desk_branches::put_branch;
-use desk_keeping::{put_kept, read_kept};
-use desk_lists::{read_listed, read_open_head};
-use desk_making::{Earlier, SchemaRead, carry_over, make_tables, read_schema};
-use desk_reads::{read_set_of, read_waiting_on};
+use bug_record::{Change, Numbers, Outcome, Sequence, SetImage, StoreFault};
+use desk_migrations::{Earlier, SchemaRead, carry_over, make_tables, read_schema};
+use desk_reads::{read_listed, read_open_head, read_set_of, read_waiting_on};
+use desk_rows::{read_family, read_next};
 use desk_schema::fault_of;
-use desk_steps::put_change;
-use desk_text::{ListRow, Outcome, StoreFault};
+use desk_writes::{put_branch, put_change, put_kept, read_kept};
 use message_machine::Kept;
 use nearest_marks::Family;
-use node_rows::{read_family, read_next};
+use set_images::ListRow;
 use sqlite::{Alter, Connection, Transaction};
 use std::alloc::Global;
+use version_nodes::Node;
 
 // The image of the set that the bug is in, if there is such a bug.
 fn ask_small_set_of<S: Alter>(

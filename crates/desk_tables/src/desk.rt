@@ -9,19 +9,19 @@ ghost use Rattle.bug_record.specs.Texts.{IsText, IfGiven};
 ghost use Rattle.desk_content.specs.Changes.{FitsContent, changed};
 ghost use Rattle.desk_content.specs.Keeping.{kept_after};
 ghost use Rattle.desk_store.specs.Store.{Holds, Asks, Answers, Applies, Branches, Keeps, IsRefusal, IsOpenHead, no_faults};
-ghost use Rattle.desk_text.specs.declared.outcome.StoreFault.TheVariants.{Foreign};
+ghost use Rattle.bug_record.specs.declared.outcome.StoreFault.TheVariants.{Foreign};
 ghost use Rattle.desk_tables.specs.Kept.{content_seen, desk_seen, keeping_seen, MayKeep, IsKept};
 ghost use Rattle.desk_tables.specs.Shown.{AreTablesOf, AreTablesAfter};
 
 use crate::calls::{ask_family, ask_open_head, change_sets, keep_line, take_nodes};
 use crate::counts::Counts;
-use ancestry::{BranchFault, Node};
-use bug_record::{Change, SetImage};
-use desk_text::{Outcome, StoreFault};
+use crate::seen::Seen;
+use ancestry::BranchFault;
+use bug_record::{Change, Outcome, SetImage, StoreFault};
 use nearest_marks::Family;
-use seen_values::Seen;
 use sqlite::{Alter, Connection};
 use std::alloc::Global;
+use version_nodes::Node;
 
 /// A desk in the tables of a connection.
 ///

@@ -9,6 +9,7 @@ mod desk;
 mod open_fault;
 mod opening;
 mod records;
+mod seen;
 
 pub use desk::TableDesk;
 pub use open_fault::OpenFault;

@@ -1,6 +1,6 @@
 //! Why no desk is created or opened.
 
-use desk_text::StoreFault;
+use bug_record::StoreFault;
 
 /// Why no desk is created in a database, or opened.
 #[derive(Clone, Copy, Debug, PartialEq, Eq, Drop)]

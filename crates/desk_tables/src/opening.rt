@@ -6,11 +6,11 @@ ghost use Rattle.sqlite.specs.State.{HasCleanDisk, Survives};
 ghost use Rattle.line_words.specs.declared.named.TheConstants.{LARGEST_NUMBER};
 ghost use Rattle.desk_content.specs.Content.{Content, no_content};
 ghost use Rattle.desk_content.specs.Kept.{IsKeptContent};
-ghost use Rattle.desk_making.specs.Names.{no_tables, has_desk_table};
-ghost use Rattle.desk_making.specs.declared.making.Earlier.{Earlier as EarlierSchema};
-ghost use Rattle.desk_places.specs.Plain.{empty_desk};
+ghost use Rattle.desk_migrations.specs.Names.{no_tables, has_desk_table};
+ghost use Rattle.desk_migrations.specs.declared.making.Earlier.{Earlier as EarlierSchema};
+ghost use Rattle.bugs_in_memory.specs.Plain.{empty_desk};
 ghost use Rattle.desk_store.specs.Store.{no_faults};
-ghost use Rattle.desk_text.specs.declared.outcome.StoreFault.TheVariants.{Foreign};
+ghost use Rattle.bug_record.specs.declared.outcome.StoreFault.TheVariants.{Foreign};
 ghost use Rattle.desk_tables.specs.Kept.{content_seen, desk_seen, keeping_seen, IsKept};
 ghost use Rattle.message_machine.specs.Kept.{none_kept};
 ghost use Rattle.desk_tables.specs.Opening.{unlimited, IsLeft, IsStoreFailure, IsReason, SaysEarlier, SaysDesk};
@@ -21,9 +21,9 @@ ghost use Rattle.desk_tables.specs.declared.open_fault.OpenFault.TheVariants as 
 use crate::calls::{ask_schema, carry_desk, make_desk};
 use crate::desk::TableDesk;
 use crate::open_fault::OpenFault;
-use desk_making::{Earlier, SchemaRead, is_blank, names_a_desk_table};
-use desk_text::StoreFault;
-use seen_values::Seen;
+use crate::seen::Seen;
+use bug_record::StoreFault;
+use desk_migrations::{Earlier, SchemaRead, is_blank, names_a_desk_table};
 use sqlite::{Alter, Connection};
 use std::alloc::Global;
 

@@ -12,20 +12,21 @@ ghost use Rattle.bug_record.specs.Images.{AreApart, HasMember, IsSetOf, FitsDesk
 ghost use Rattle.desk_content.specs.Changes.{changed};
 ghost use Rattle.desk_content.specs.Keeping.{kept_after};
 ghost use Rattle.desk_store.specs.Store.{Holds, Asks, Answers, Applies, Branches, IsRefusal, IsImageOf, IsNext, IsOpenHead, AreWaitingOn, AreListed, Since, MayBeKept, Keeps, faults_after, total};
-ghost use Rattle.desk_text.specs.declared.outcome.StoreFault.TheVariants.{Foreign};
+ghost use Rattle.bug_record.specs.declared.outcome.StoreFault.TheVariants.{Foreign};
 ghost use Rattle.desk_tables.specs.declared.desk.TableDesk.{TableDesk as SeenDesk};
 ghost use Rattle.desk_tables.specs.Kept.{content_seen, desk_seen, keeping_seen, MayKeep, IsKept};
-ghost use Rattle.message_machine.specs.Ids.{IsId};
+ghost use Rattle.line_words.specs.Ids.{IsId};
 ghost use Rattle.desk_tables.specs.Shown.{AreTablesOf, AreTablesAfter};
 
 use crate::calls::{ask_kept, ask_listed, ask_next, ask_set_of, ask_waiting_on};
 use crate::desk::TableDesk;
-use ancestry::{BranchFault, Node};
-use bug_record::{Change, Numbers, Sequence, SetImage};
+use ancestry::BranchFault;
+use bug_record::{Change, Numbers, Outcome, Sequence, SetImage, StoreFault};
 use desk_store::Records;
-use desk_text::{ListRow, Outcome, StoreFault};
 use message_machine::Kept;
+use set_images::ListRow;
 use sqlite::Alter;
+use version_nodes::Node;
 
 impl<S: Alter> Records for TableDesk<S> {
     ghost desk = { λ d. desk_seen S.Store d.last.values };

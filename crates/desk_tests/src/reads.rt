@@ -4,7 +4,7 @@ use crate::exchanges::{EXCHANGES, desk_after, is_after};
 use desk_http::{ServeFault, Served, serve_one};
 use desk_store::PlainDesk;
 use std::alloc::Global;
-use test_streams::Feed;
+use test_desks::Feed;
 
 // Whether an exchange is told as it has to be, where so many reads followed the one that failed.
 fn is_told_well(told: &Result<Served, ServeFault>, later: Option<u64>) -> bool {

@@ -3,7 +3,7 @@
 use crate::exchanges::{EXCHANGES, desk_after, is_after};
 use desk_http::{ServeFault, Served, serve_one};
 use std::alloc::Global;
-use test_streams::{Failure, Sink};
+use test_desks::{Failure, Sink};
 
 // Whether the bytes are the first ones of the answer, but not all.
 fn is_front(taken: &[u8], answer: &[u8]) -> bool {

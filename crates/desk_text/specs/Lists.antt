@@ -1,27 +1,12 @@
--- The text of a list of bugs, and its rows.
+-- The text of a list of bugs.
 -- This project's own rule.
-use Rattle.std.specs.Prelude.{ℕ, ◌-◌, Bool, List, [], ◌∷◌, ◌++◌, length, replicate, flat_map, Option, Some, None, codes}
+use Rattle.std.specs.Prelude.{ℕ, ◌-◌, Bool, List, ◌++◌, length, replicate, flat_map, codes}
 use Rattle.std.specs.Prelude.{if◌then◌else◌}
 use Rattle.std.specs.Fmt.{decimal}
-use Rattle.ancestry.specs.Nodes.{Node, node_text}
+use Rattle.version_nodes.specs.Nodes.{Node, node_text}
 use Rattle.bug_record.specs.Severities.{severity_name}
-use Rattle.bug_record.specs.declared.bug.Bug.{Bug}
 use Rattle.desk_text.specs.Texts.{as_line}
-use Rattle.desk_text.specs.declared.lists.ListRow.{ListRow}
-
--- the row of the bug n
-abbrev pub row_of : ℕ → Bug → ListRow
-row_of n b = record { number = n; severity = b.shared.severity; closed = b.shared.closed; title = b.title }
-
--- a row before others, if there is a bug
-abbrev pub with_row : ℕ → Option Bug → List ListRow → List ListRow
-with_row n None rows = rows
-with_row n (Some b) rows = row_of n b ∷ rows
-
--- the rows of those of the bugs of these numbers that are there
-abbrev pub rows_of : (ℕ → Option Bug) → List ℕ → List ListRow
-rows_of bug [] = []
-rows_of bug (n ∷ ns) = with_row n (bug n) (rows_of bug ns)
+use Rattle.set_images.specs.declared.rows.ListRow.{ListRow}
 
 -- a text in so many places, with spaces before it, or after it; a longer one stands by itself
 abbrev pub right_aligned : ℕ → List ℕ → List ℕ

@@ -2,7 +2,7 @@
 -- This project's own rule.
 use Rattle.std.specs.Prelude.{ℕ, Bool, List, [], ◌∷◌, ◌++◌, flat_map, Option, Some, None, codes, if◌then◌else◌}
 use Rattle.std.specs.Fmt.{decimal}
-use Rattle.ancestry.specs.Nodes.{node_text}
+use Rattle.version_nodes.specs.Nodes.{node_text}
 use Rattle.bug_record.specs.Severities.{severity_name}
 use Rattle.bug_record.specs.Tags.{tag_name}
 use Rattle.bug_record.specs.Merges.{others_merged}

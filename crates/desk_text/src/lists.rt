@@ -1,62 +1,18 @@
 //! The text of a list of bugs.
 
-ghost use Rattle.std.specs.Prelude.{◌≡◌, ◌++◌, ◌-◌, length, replicate, flat_map, option_map, IfOk, OnOk, OnErr, codes};
+ghost use Rattle.std.specs.Prelude.{◌≡◌, ◌++◌, ◌-◌, length, replicate, flat_map, OnOk, OnErr, codes};
 ghost use Rattle.std.specs.Io.{StartsWith};
 ghost use Rattle.std.specs.Fmt.{decimal};
-ghost use Rattle.ancestry.specs.Nodes.{node_text};
+ghost use Rattle.version_nodes.specs.Nodes.{node_text};
 ghost use Rattle.bug_record.specs.Severities.{severity_name};
-ghost use Rattle.bug_record.specs.Images.{member_at, bug_of};
-ghost use Rattle.desk_text.specs.Lists.{row_of, right_aligned, left_aligned, state_word, row_text, list_head, list_text};
+ghost use Rattle.desk_text.specs.Lists.{right_aligned, left_aligned, state_word, row_text, list_head, list_text};
 
-use crate::pages::member_at;
 use crate::texts::{append_node, append_number, append_text};
-use ancestry::Node;
-use bug_record::{SetImage, Severity};
-use debver::Text;
+use bug_record::Severity;
 use itoa::Buffer;
-use std::alloc::{AllocError, Global};
-
-/// A bug in a list.
-#[derive(Debug, PartialEq, Eq, Drop)]
-pub struct ListRow {
-    pub number: u64,
-    pub severity: Severity,
-    pub closed: bool,
-    pub title: Text,
-}
-
-impl ListRow {
-    /// The row of a bug of the set that has this image; `None` where the bug is not in it.
-    /// Its title shares the memory of the bug's.
-    pub fn of(image: &SetImage, number: u64) -> Result<Option<ListRow>, AllocError>
-        ensures { IfOk result (λ row.
-            row ≡ option_map (row_of number) (option_map (bug_of image.now) (member_at image.now.members number))) }
-    {
-        let Some(member) = member_at(image.members.as_slice(), number) else {
-            return Ok(None);
-        };
-        Ok(Some(ListRow {
-            number,
-            severity: image.shared.fields().severity,
-            closed: image.shared.fields().closed,
-            title: member.title.copy()?,
-        }))
-    }
-
-    /// An equal row, whose title shares the memory of this one's.
-    /// It takes no memory itself, and answers out of memory only where no more copies of the title
-    /// can be counted.
-    pub fn copy(&self) -> Result<ListRow, AllocError>
-        ensures { IfOk result (λ row. row ≡ self.now) }
-    {
-        Ok(ListRow {
-            number: self.number,
-            severity: self.severity,
-            closed: self.closed,
-            title: self.title.copy()?,
-        })
-    }
-}
+use set_images::ListRow;
+use std::alloc::AllocError;
+use version_nodes::Node;
 
 // The places in which a number and a severity stand.
 const PLACES: usize = 9;

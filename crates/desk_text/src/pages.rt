@@ -1,9 +1,8 @@
 //! The text of a bug's page.
 
 ghost use Rattle.std.specs.Prelude.{◌≡◌, ◌++◌, ◌∷◌, flat_map, IfOk, OnOk, OnErr, codes};
-ghost use Rattle.std.specs.Option.{option_copied};
 ghost use Rattle.std.specs.Fmt.{decimal};
-ghost use Rattle.ancestry.specs.Nodes.{node_text};
+ghost use Rattle.version_nodes.specs.Nodes.{node_text};
 ghost use Rattle.bug_record.specs.Tags.{tag_name};
 ghost use Rattle.bug_record.specs.Images.{numbers_of, member_at, bug_of};
 ghost use Rattle.bug_record.specs.Merges.{others_merged};
@@ -12,11 +11,12 @@ ghost use Rattle.desk_text.specs.Pages.{bug_lines, people_lines, mark_lines, rel
 
 use crate::lists::state_word;
 use crate::texts::{append_node, append_numbers, append_text};
-use ancestry::Node;
 use bug_record::{Member, Numbers, Sequence, SetImage, Shared, Tag};
 use debver::Text;
 use itoa::Buffer;
+use set_images::member_at;
 use std::alloc::{AllocError, Global};
+use version_nodes::Node;
 
 /// What the page of a bug tells: the image of the set that it is in, its number, and the numbers of
 /// the bugs that wait on it, ascending.
@@ -202,18 +202,6 @@ fn append_relations(
     append_number_line(out, "Blocks:", waiting)?;
     append_number_line(out, "Merged with:", others)?;
     Ok(())
-}
-
-/// The member of the number.
-pub(crate) fn member_at(members: &[Member], number: u64) -> Option<&Member>
-    ensures { option_copied result ≡ member_at members.now number }
-{
-    for member in members {
-        if member.number == number {
-            return Some(member);
-        }
-    }
-    None
 }
 
 // The page of a bug that is this member of the image.

@@ -2,16 +2,15 @@
 
 ghost use Rattle.std.specs.Prelude.{◌≡◌, [], ◌++◌, IsOk, OnOk, OnErr, IsUtf8, codes, decimal};
 ghost use Rattle.std.specs.Io.{StartsWith};
-ghost use Rattle.ancestry.specs.Nodes.{node_text};
+ghost use Rattle.version_nodes.specs.Nodes.{node_text};
 ghost use Rattle.desk_text.specs.Texts.{full_text, said_of_bug, still_found_text};
 ghost use Rattle.desk_text.specs.Texts.{as_line, echo, field_word, refusal_text, numbers_text, changed_text, answer_text};
 ghost use Rattle.desk_text.specs.Texts.{fault_word, fault_text, outcome_text, store_end_text, end_text};
 
-use crate::outcome::{End, Outcome, StoreFault};
-use ancestry::Node;
-use bug_record::{Field, Refusal};
+use bug_record::{End, Field, Outcome, Refusal, StoreFault};
 use itoa::Buffer;
 use std::alloc::{AllocError, Global};
+use version_nodes::Node;
 
 // What of a difference follows the bug's number.
 fn difference_end(field: Field) -> &'static str

@@ -4,8 +4,8 @@ use Rattle.std.specs.Prelude.{◌≡◌, ◌⊎◌, ⊤, ℕ, ◌&&◌, if◌the
 use Rattle.std.specs.Prelude.{List, [], ◌∷◌, Option, Some, None, is_none}
 use Rattle.std.specs.Str.{bytes_eq}
 use Rattle.bug_record.specs.Texts.{is_text, IsText, IfGiven}
-use Rattle.message_machine.specs.Ids.{is_id, IsId}
-use Rattle.bts_words.specs.Lines.{first_fault, lines}
+use Rattle.line_words.specs.Ids.{is_id, IsId}
+use Rattle.control_text.specs.WordLines.{first_fault, lines}
 use Rattle.line_words.specs.declared.named.TheConstants.{LARGEST_NUMBER}
 use Rattle.job_words.specs.Cut.{Text, option_words, command_words, has_lone_dash}
 use Rattle.job_words.specs.Options.{Given, given_in, refusals, asks_help, has_bad_option}

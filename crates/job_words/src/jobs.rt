@@ -12,8 +12,7 @@ use crate::numbers::{number_in, number_or};
 use crate::options::Values;
 use bug_record::is_text;
 use debver::Text;
-use line_words::LARGEST_NUMBER;
-use message_machine::is_id;
+use line_words::{LARGEST_NUMBER, is_id};
 use std::alloc::{AllocError, Global};
 
 /// The highest port.

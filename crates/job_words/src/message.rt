@@ -5,8 +5,8 @@ ghost use Rattle.std.specs.String.{string_bytes};
 ghost use Rattle.job_words.specs.Jobs.{lines_in};
 
 use crate::job::Lines;
-use bts_words::{WordsFault, words_to_lines};
 use bug_record::Sequence;
+use control_text::{WordsFault, words_to_lines};
 use debver::Text;
 use std::alloc::{AllocError, Global};
 

@@ -3,3 +3,4 @@ pub mod AnyCase
 pub mod Words
 pub mod Numbers
 pub mod Bugs
+pub mod Ids

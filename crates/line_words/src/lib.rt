@@ -1,15 +1,17 @@
 //! The words of a line: what stands between blanks, or between blanks and commas, the words that
-//! stand for numbers and bugs, and the words that are names in any ASCII case.
+//! stand for numbers and bugs, the words that are names in any ASCII case, and ids.
 #![tactic(auto)]
 
 mod any_case;
 mod blanks;
+mod ids;
 mod laws;
 mod named;
 mod words;
 
 pub use any_case::{Spelled, find_spelled, is_word};
 pub use blanks::{has_control, is_blank, is_control};
+pub use ids::is_id;
 pub use laws::one_list_of_words;
 pub use named::{AFTER_LARGEST, LARGEST_NUMBER, Named, bug_word, name_word, number_word};
 pub use words::{Separators, next_word, split_word, split_word_by, split_word_with_commas, trim};

@@ -2,21 +2,21 @@
 use Rattle.std.proofs.Common.{ℕ, List, [], ◌∷◌, ◌++◌}
 use Rattle.std.proofs.Props.{props}
 use Rattle.std.specs.Coded.{×_prop, Unit-prop}
-use Rattle.ancestry.proofs.ForestProp.{IsNode-prop}
+use Rattle.version_nodes.proofs.ForestProp.{IsNode-prop}
 use Rattle.bug_record.proofs.SoundProp.{IsAscending-prop}
 use Rattle.bug_record.specs.Sets.{Each}
 use Rattle.bug_record.specs.Words.{Names}
 use Rattle.bug_record.specs.declared.command.Refusal.{Refusal}
 use Rattle.bug_record.specs.declared.command.Refusal.TheVariants as refusals
-use Rattle.desk_text.specs.declared.outcome.Outcome.{Outcome}
-use Rattle.desk_text.specs.declared.outcome.Outcome.TheVariants.{Changed, Refused, Stopped}
+use Rattle.bug_record.specs.declared.outcome.Outcome.{Outcome}
+use Rattle.bug_record.specs.declared.outcome.Outcome.TheVariants.{Changed, Refused, Stopped}
 use Rattle.line_words.specs.Numbers.{IsGoodNumber}
 use Rattle.message_machine.specs.Message.{Entry, names_given}
 use Rattle.message_machine.specs.Kept.{IsGoodRefusal, IsGoodOutcome, GiveNames, IsGoodKept, Keeping, AreGoodKept}
 use Rattle.message_machine.specs.declared.kept.Kept.{Kept}
 use Rattle.std.specs.Coded.{Coded-set}
-use Rattle.desk_text.specs.declared.outcome.End.{End}
-use Rattle.desk_text.specs.contracts.End as the_end
+use Rattle.bug_record.specs.declared.outcome.End.{End}
+use Rattle.bug_record.specs.contracts.End as the_end
 use Rattle.bug_record.specs.contracts.Refusal as the_refusal
 
 Each-prop : {T : Type 0} (P : T → Type 0) → ((x : T) → IsProp (P x)) → (xs : List T) → IsProp (Each P xs)
@@ -38,14 +38,7 @@ IsGoodRefusal-prop (refusals.NameTaken k) = IsGoodNumber-prop k
 IsGoodRefusal-prop (refusals.OwnSet n) = IsGoodNumber-prop n
 IsGoodRefusal-prop (refusals.NotDone n) = IsGoodNumber-prop n
 IsGoodRefusal-prop (refusals.StillFound node) = IsNode-prop node
-IsGoodRefusal-prop refusals.Unknown = Unit-prop
-IsGoodRefusal-prop refusals.Malformed = Unit-prop
-IsGoodRefusal-prop refusals.TooLong = Unit-prop
-IsGoodRefusal-prop refusals.BadSeverity = Unit-prop
-IsGoodRefusal-prop refusals.BadTag = Unit-prop
-IsGoodRefusal-prop refusals.BadVersion = Unit-prop
-IsGoodRefusal-prop refusals.BadPackage = Unit-prop
-IsGoodRefusal-prop refusals.Full = Unit-prop
+IsGoodRefusal-prop _ = Unit-prop
 
 IsGoodOutcome-prop : (o : Outcome) → IsProp (IsGoodOutcome o)
 IsGoodOutcome-prop (Changed numbers) =

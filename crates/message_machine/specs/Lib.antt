@@ -1,3 +1,3 @@
+pub use Rattle.line_words.specs.Ids
 pub mod Message
-pub mod Ids
 pub mod Kept

@@ -2,9 +2,8 @@
 
 ghost use Rattle.std.specs.Prelude.{◌≡◌, IfOk};
 
-use bug_record::{Refusal, Sequence};
+use bug_record::{Outcome, Refusal, Sequence};
 use debver::Text;
-use desk_text::Outcome;
 use std::alloc::AllocError;
 
 /// What is kept of a message that has an id: its sender, its text, and the outcomes of its first

@@ -2,8 +2,7 @@
 //! kept of messages that have an id.
 #![tactic(auto)]
 
-mod ids;
 mod kept;
 
-pub use ids::is_id;
 pub use kept::{Kept, copy_outcome};
+pub use line_words::is_id;

@@ -10,164 +10,32 @@ use Rattle.bug_record.specs.declared.command.Command.TheVariants as commands
 -- the bug that a command over others names
 pub bug-over : {N M : Type 0} (f : N → M) (command : Command N) → bug_named (command_over f command) ≡ f (bug_named command)
 bug-over f (commands.Found n version) = refl
-bug-over f (commands.NotFound n version) = refl
-bug-over f (commands.Fixed n version) = refl
-bug-over f (commands.NotFixed n version) = refl
-bug-over f (commands.Close n version) = refl
-bug-over f (commands.Reopen n who) = refl
-bug-over f (commands.Severity n severity) = refl
-bug-over f (commands.Tags n steps) = refl
-bug-over f (commands.Retitle n text) = refl
-bug-over f (commands.Submitter n who) = refl
-bug-over f (commands.Reassign n package_name version) = refl
-bug-over f (commands.Merge n ns) = refl
-bug-over f (commands.ForceMerge n ns) = refl
-bug-over f (commands.Unmerge n) = refl
-bug-over f (commands.Clone n ks) = refl
-bug-over f (commands.Block n ns) = refl
-bug-over f (commands.Unblock n ns) = refl
-bug-over f (commands.Forwarded n text) = refl
-bug-over f (commands.NotForwarded n) = refl
-bug-over f (commands.Owner n who) = refl
-bug-over f (commands.NoOwner n) = refl
-bug-over f (commands.Archive n) = refl
-bug-over f (commands.Unarchive n) = refl
-bug-over f (commands.Affects n step names) = refl
+bug-over f _ = refl
 
 -- whether that bug may be archived
 pub may-over : {N M : Type 0} (f : N → M) (command : Command N) → first_may_be_archived (command_over f command) ≡ first_may_be_archived command
 may-over f (commands.Found n version) = refl
-may-over f (commands.NotFound n version) = refl
-may-over f (commands.Fixed n version) = refl
-may-over f (commands.NotFixed n version) = refl
-may-over f (commands.Close n version) = refl
-may-over f (commands.Reopen n who) = refl
-may-over f (commands.Severity n severity) = refl
-may-over f (commands.Tags n steps) = refl
-may-over f (commands.Retitle n text) = refl
-may-over f (commands.Submitter n who) = refl
-may-over f (commands.Reassign n package_name version) = refl
-may-over f (commands.Merge n ns) = refl
-may-over f (commands.ForceMerge n ns) = refl
-may-over f (commands.Unmerge n) = refl
-may-over f (commands.Clone n ks) = refl
-may-over f (commands.Block n ns) = refl
-may-over f (commands.Unblock n ns) = refl
-may-over f (commands.Forwarded n text) = refl
-may-over f (commands.NotForwarded n) = refl
-may-over f (commands.Owner n who) = refl
-may-over f (commands.NoOwner n) = refl
-may-over f (commands.Archive n) = refl
-may-over f (commands.Unarchive n) = refl
-may-over f (commands.Affects n step names) = refl
+may-over f _ = refl
 
 -- whether those that it names besides may be
 pub others-may-over : {N M : Type 0} (f : N → M) (command : Command N) → others_may_be_archived (command_over f command) ≡ others_may_be_archived command
 others-may-over f (commands.Found n version) = refl
-others-may-over f (commands.NotFound n version) = refl
-others-may-over f (commands.Fixed n version) = refl
-others-may-over f (commands.NotFixed n version) = refl
-others-may-over f (commands.Close n version) = refl
-others-may-over f (commands.Reopen n who) = refl
-others-may-over f (commands.Severity n severity) = refl
-others-may-over f (commands.Tags n steps) = refl
-others-may-over f (commands.Retitle n text) = refl
-others-may-over f (commands.Submitter n who) = refl
-others-may-over f (commands.Reassign n package_name version) = refl
-others-may-over f (commands.Merge n ns) = refl
-others-may-over f (commands.ForceMerge n ns) = refl
-others-may-over f (commands.Unmerge n) = refl
-others-may-over f (commands.Clone n ks) = refl
-others-may-over f (commands.Block n ns) = refl
-others-may-over f (commands.Unblock n ns) = refl
-others-may-over f (commands.Forwarded n text) = refl
-others-may-over f (commands.NotForwarded n) = refl
-others-may-over f (commands.Owner n who) = refl
-others-may-over f (commands.NoOwner n) = refl
-others-may-over f (commands.Archive n) = refl
-others-may-over f (commands.Unarchive n) = refl
-others-may-over f (commands.Affects n step names) = refl
+others-may-over f _ = refl
 
 -- the bugs that it names besides
 pub others-over : {N M : Type 0} (f : N → M) (command : Command N) → other_bugs (command_over f command) ≡ map f (other_bugs command)
 others-over f (commands.Found n version) = refl
-others-over f (commands.NotFound n version) = refl
-others-over f (commands.Fixed n version) = refl
-others-over f (commands.NotFixed n version) = refl
-others-over f (commands.Close n version) = refl
-others-over f (commands.Reopen n who) = refl
-others-over f (commands.Severity n severity) = refl
-others-over f (commands.Tags n steps) = refl
-others-over f (commands.Retitle n text) = refl
-others-over f (commands.Submitter n who) = refl
-others-over f (commands.Reassign n package_name version) = refl
-others-over f (commands.Merge n ns) = refl
-others-over f (commands.ForceMerge n ns) = refl
-others-over f (commands.Unmerge n) = refl
-others-over f (commands.Clone n ks) = refl
-others-over f (commands.Block n ns) = refl
-others-over f (commands.Unblock n ns) = refl
-others-over f (commands.Forwarded n text) = refl
-others-over f (commands.NotForwarded n) = refl
-others-over f (commands.Owner n who) = refl
-others-over f (commands.NoOwner n) = refl
-others-over f (commands.Archive n) = refl
-others-over f (commands.Unarchive n) = refl
-others-over f (commands.Affects n step names) = refl
+others-over f _ = refl
 
 -- the names that it gives
 pub names-over : {N M : Type 0} (f : N → M) (command : Command N) → names_in (command_over f command) ≡ names_in command
 names-over f (commands.Found n version) = refl
-names-over f (commands.NotFound n version) = refl
-names-over f (commands.Fixed n version) = refl
-names-over f (commands.NotFixed n version) = refl
-names-over f (commands.Close n version) = refl
-names-over f (commands.Reopen n who) = refl
-names-over f (commands.Severity n severity) = refl
-names-over f (commands.Tags n steps) = refl
-names-over f (commands.Retitle n text) = refl
-names-over f (commands.Submitter n who) = refl
-names-over f (commands.Reassign n package_name version) = refl
-names-over f (commands.Merge n ns) = refl
-names-over f (commands.ForceMerge n ns) = refl
-names-over f (commands.Unmerge n) = refl
-names-over f (commands.Clone n ks) = refl
-names-over f (commands.Block n ns) = refl
-names-over f (commands.Unblock n ns) = refl
-names-over f (commands.Forwarded n text) = refl
-names-over f (commands.NotForwarded n) = refl
-names-over f (commands.Owner n who) = refl
-names-over f (commands.NoOwner n) = refl
-names-over f (commands.Archive n) = refl
-names-over f (commands.Unarchive n) = refl
-names-over f (commands.Affects n step names) = refl
+names-over f _ = refl
 
 -- the parts of a command that is meant are those of the command
 pub parts-over : {N M : Type 0} (f : N → M) (command : Command N) → HasGoodParts command → HasGoodParts (command_over f command)
 parts-over f (commands.Found n version) h = h
-parts-over f (commands.NotFound n version) h = h
-parts-over f (commands.Fixed n version) h = h
-parts-over f (commands.NotFixed n version) h = h
-parts-over f (commands.Close n version) h = h
-parts-over f (commands.Reopen n who) h = h
-parts-over f (commands.Severity n severity) h = h
-parts-over f (commands.Tags n steps) h = h
-parts-over f (commands.Retitle n text) h = h
-parts-over f (commands.Submitter n who) h = h
-parts-over f (commands.Reassign n package_name version) h = h
-parts-over f (commands.Merge n ns) h = h
-parts-over f (commands.ForceMerge n ns) h = h
-parts-over f (commands.Unmerge n) h = h
-parts-over f (commands.Clone n ks) h = h
-parts-over f (commands.Block n ns) h = h
-parts-over f (commands.Unblock n ns) h = h
-parts-over f (commands.Forwarded n text) h = h
-parts-over f (commands.NotForwarded n) h = h
-parts-over f (commands.Owner n who) h = h
-parts-over f (commands.NoOwner n) h = h
-parts-over f (commands.Archive n) h = h
-parts-over f (commands.Unarchive n) h = h
-parts-over f (commands.Affects n step names) h = h
+parts-over f _ h = h
 
 map-agree : {N M K : Type 0} (f : N → M) (g : M → K) (h : N → K) (ns : List N) → Each (λ n. g (f n) ≡ h n) ns
     → map g (map f ns) ≡ map h ns

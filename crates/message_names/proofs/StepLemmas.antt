@@ -7,7 +7,7 @@ use Rattle.std.specs.Option.{option_or}
 use Rattle.std.proofs.lemmas.Option.{none-some}
 use Rattle.line_words.specs.Bugs.{IsGoodBug}
 use Rattle.line_words.specs.declared.named.Named.{Named}
-use Rattle.ancestry.specs.Nodes.{Node}
+use Rattle.version_nodes.specs.Nodes.{Node}
 use Rattle.bug_record.specs.Sets.{has, Each}
 use Rattle.bug_record.specs.Texts.{IfGiven}
 use Rattle.bug_record.specs.Desk.{Desk, IsSound}
@@ -112,26 +112,7 @@ tests-stay (commands.Archive n) head merged f =
 tests-stay (commands.Unarchive n) head merged f =
     elim f.archived as (λ t. AsIs (option_or (if t then None else Some (NotArchived n)) None)) [ true ↦ tt | false ↦ refl ]
 tests-stay (commands.Affects n step names) head merged f = tt
-tests-stay (commands.Found n version) head merged f = tt
-tests-stay (commands.NotFound n version) head merged f = tt
-tests-stay (commands.Fixed n version) head merged f = tt
-tests-stay (commands.NotFixed n version) head merged f = tt
-tests-stay (commands.Close n version) head merged f = tt
-tests-stay (commands.Reopen n who) head merged f = tt
-tests-stay (commands.Severity n severity) head merged f = tt
-tests-stay (commands.Tags n steps) head merged f = tt
-tests-stay (commands.Retitle n text) head merged f = tt
-tests-stay (commands.Submitter n who) head merged f = tt
-tests-stay (commands.Reassign n package_name version) head merged f = tt
-tests-stay (commands.Merge n ns) head merged f = tt
-tests-stay (commands.ForceMerge n ns) head merged f = tt
-tests-stay (commands.Unmerge n) head merged f = tt
-tests-stay (commands.Clone n ks) head merged f = tt
-tests-stay (commands.Unblock n ns) head merged f = tt
-tests-stay (commands.Forwarded n text) head merged f = tt
-tests-stay (commands.NotForwarded n) head merged f = tt
-tests-stay (commands.Owner n who) head merged f = tt
-tests-stay (commands.NoOwner n) head merged f = tt
+tests-stay _ head merged f = tt
 
 records-stay : (d : Desk) (sender : List ℕ) (command : Command ℕ) (b : Bug) → d.bug (bug_named command) ≡ Some b
     → Stays (records_changed (open_head d.tree) sender command d)

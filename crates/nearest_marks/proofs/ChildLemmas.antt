@@ -6,9 +6,9 @@ use Rattle.std.specs.BTreeMap.{BTreeMap, get, is_at}
 use Rattle.std.specs.BTreeSet.{BTreeSet, contains}
 use Rattle.std.specs.List.{list_any}
 use Rattle.std.specs.Option.{option_map_or}
-use Rattle.ancestry.specs.Nodes.{Node, same_node, node_cmp}
-use Rattle.ancestry.specs.NodeLaws.{same_node_equiv}
-use Rattle.ancestry.proofs.NodeLemmas.{same_true, ties_same}
+use Rattle.version_nodes.specs.Nodes.{Node, same_node, node_cmp}
+use Rattle.version_nodes.specs.NodeLaws.{same_node_equiv}
+use Rattle.version_nodes.proofs.NodeLemmas.{same_true, ties_same}
 use Rattle.nearest_marks.specs.Children.{is_child}
 
 in_set : Option (BTreeSet Node) → Node → Bool

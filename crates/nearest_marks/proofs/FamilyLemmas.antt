@@ -5,13 +5,13 @@ use Rattle.std.proofs.lemmas.Bool.{cases_Bool, false≢true}
 use Rattle.std.specs.BTreeMap.{BTreeMap}
 use Rattle.std.specs.BTreeSet.{BTreeSet}
 use Rattle.std.specs.Option.{option_flatten, option_map_or}
-use Rattle.ancestry.specs.Nodes.{Node, same_node}
-use Rattle.ancestry.specs.Trees.{Ancestry, has_node, parent_of, line, is_ancestor}
+use Rattle.version_nodes.specs.Nodes.{Node, same_node}
+use Rattle.version_nodes.specs.Trees.{Ancestry, has_node, parent_of, line, is_ancestor}
 use Rattle.ancestry.specs.Branches.{learn, learn_all, with_parent, base_on, or_conflict, base_all, first_repeat, branched, IsBranched}
 use Rattle.ancestry.specs.Links.{has_parent, linked}
 use Rattle.ancestry.specs.declared.fault.BranchFault.{BranchFault}
 use Rattle.ancestry.specs.declared.fault.BranchFault.TheVariants.{EmptyBranch, Repeated, Conflict, TooLong, Memory}
-use Rattle.ancestry.proofs.NodeLemmas.{same_true, known_put, known_others}
+use Rattle.version_nodes.proofs.NodeLemmas.{same_true, known_put, known_others}
 use Rattle.ancestry.proofs.LinkedLemmas.{learn_parents}
 use Rattle.nearest_marks.specs.Children.{is_child, is_pair, AreChildren}
 

@@ -4,10 +4,10 @@ use Rattle.std.specs.Prelude.{option_map, is_some, is_none}
 use Rattle.std.specs.Option.{option_or, option_and_then, option_flatten}
 use Rattle.std.proofs.lemmas.Bool.{false≢true}
 use Rattle.std.proofs.lemmas.Option.{none-some}
-use Rattle.ancestry.specs.Nodes.{Node}
-use Rattle.ancestry.specs.Trees.{Ancestry, IsForest, IsLine, has_node, knows, known_at, parent_of, line}
+use Rattle.version_nodes.specs.Nodes.{Node}
+use Rattle.version_nodes.specs.Trees.{Ancestry, IsForest, IsLine, has_node, knows, known_at, parent_of, line}
 use Rattle.ancestry.specs.Branches.{Extends}
-use Rattle.ancestry.specs.Statuses.{first_marked}
+use Rattle.version_nodes.specs.Statuses.{first_marked}
 use Rattle.ancestry.proofs.LineLemmas.{line_is, line_up}
 use Rattle.nearest_marks.specs.Nearest.{nearest_on, nearest_of, own_mark, meets}
 use Rattle.nearest_marks.specs.declared.near.Near.{Near}

@@ -9,11 +9,11 @@ use Rattle.std.specs.List.{AllByRecursion}
 use Rattle.std.specs.List.Sorted.{IsStrictlySortedBy}
 use Rattle.std.specs.Map.{keys_of, lookup}
 use Rattle.std.specs.Ordering.{is_eq}
-use Rattle.ancestry.specs.Nodes.{Node, same_node, node_cmp}
-use Rattle.ancestry.specs.NodeLaws.{same_node_equiv}
-use Rattle.ancestry.specs.Trees.{Ancestry, has_node, knows}
-use Rattle.ancestry.specs.declared.statuses.MarkKind.{MarkKind}
-use Rattle.ancestry.proofs.NodeLemmas.{same_true, ties_same}
+use Rattle.version_nodes.specs.Nodes.{Node, same_node, node_cmp}
+use Rattle.version_nodes.specs.NodeLaws.{same_node_equiv}
+use Rattle.version_nodes.specs.Trees.{Ancestry, has_node, knows}
+use Rattle.version_nodes.specs.declared.statuses.MarkKind.{MarkKind}
+use Rattle.version_nodes.proofs.NodeLemmas.{same_true, ties_same}
 use Rattle.nearest_marks.specs.Nearest.{row_at, once}
 use Rattle.nearest_marks.specs.Walks.{row_of, rows_of_marks}
 use Rattle.nearest_marks.specs.declared.near.Near.{Near}

@@ -4,8 +4,8 @@ use Rattle.std.proofs.Common.{take, get_or, sym, refl, ap, ◌∙◌, ⊎_elim, 
 use Rattle.std.proofs.lemmas.Bool.{cases_Bool, false≢true}
 use Rattle.std.specs.BTreeMap.{BTreeMap}
 use Rattle.std.specs.BTreeSet.{BTreeSet}
-use Rattle.ancestry.specs.Nodes.{Node, same_node}
-use Rattle.ancestry.proofs.NodeLemmas.{same_true, same_itself}
+use Rattle.version_nodes.specs.Nodes.{Node, same_node}
+use Rattle.version_nodes.proofs.NodeLemmas.{same_true, same_itself}
 use Rattle.nearest_marks.specs.Children.{is_child, is_pair}
 
 or_swap : (a b c : Bool) → (a || (b || c)) ≡ (b || (a || c))

@@ -8,10 +8,10 @@ use Rattle.std.specs.List.{AllByRecursion, IsDistinct}
 use Rattle.std.specs.List.Sorted.{IsStrictlySortedBy}
 use Rattle.std.specs.Option.{option_or}
 use Rattle.std.specs.Ordering.{is_eq, eq_by_cmp}
-use Rattle.ancestry.specs.Nodes.{Node, same_node, node_cmp}
-use Rattle.ancestry.specs.NodeLaws.{same_node_equiv, node_ties}
-use Rattle.ancestry.specs.Trees.{has_node}
-use Rattle.ancestry.proofs.NodeLemmas.{same_true, same_itself, ties_same}
+use Rattle.version_nodes.specs.Nodes.{Node, same_node, node_cmp}
+use Rattle.version_nodes.specs.NodeLaws.{same_node_equiv, node_ties}
+use Rattle.version_nodes.specs.Trees.{has_node}
+use Rattle.version_nodes.proofs.NodeLemmas.{same_true, same_itself, ties_same}
 use Rattle.nearest_marks.specs.Nearest.{row_at, once}
 use Rattle.nearest_marks.specs.Walks.{row_of, rows_below}
 use Rattle.nearest_marks.specs.declared.near.Near.{Near}

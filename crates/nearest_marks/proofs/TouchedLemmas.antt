@@ -2,9 +2,9 @@
 use Rattle.std.proofs.Common.{◌≡◌, Bool, true, false, cond, not, ◌||◌, ◌&&◌, List, [], ◌∷◌, Some, None, is_some}
 use Rattle.std.proofs.Common.{Result, Ok, Err, refl, ap, ◌∙◌}
 use Rattle.std.specs.Prelude.{Vec, IfOk, option_map}
-use Rattle.ancestry.specs.Nodes.{Node}
-use Rattle.ancestry.specs.Trees.{Ancestry, has_node, knows, line}
-use Rattle.ancestry.specs.Statuses.{first_marked}
+use Rattle.version_nodes.specs.Nodes.{Node}
+use Rattle.version_nodes.specs.Trees.{Ancestry, has_node, knows, line}
+use Rattle.version_nodes.specs.Statuses.{first_marked}
 use Rattle.nearest_marks.specs.Nearest.{own_mark, nearest_on, nearest_of, row_at, once, meets, is_once}
 use Rattle.nearest_marks.specs.declared.near.NearRow.{NearRow}
 use Rattle.nearest_marks.proofs.RowLemmas.{nodes_of, has_nodes_of}

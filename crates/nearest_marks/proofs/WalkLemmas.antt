@@ -14,13 +14,13 @@ use Rattle.std.specs.List.Sorted.{IsStrictlySortedBy}
 use Rattle.std.specs.Map.{keys_of}
 use Rattle.std.specs.Option.{option_and_then, option_map_or, option_or}
 use Rattle.std.specs.Ordering.{eq_by_cmp}
-use Rattle.ancestry.specs.Nodes.{Node, same_node, node_cmp}
-use Rattle.ancestry.specs.NodeLaws.{node_cmp_total, node_ties}
-use Rattle.ancestry.specs.Trees.{Ancestry, IsForest, IsLine, has_node, knows, parent_of, line}
+use Rattle.version_nodes.specs.Nodes.{Node, same_node, node_cmp}
+use Rattle.version_nodes.specs.NodeLaws.{node_cmp_total, node_ties}
+use Rattle.version_nodes.specs.Trees.{Ancestry, IsForest, IsLine, has_node, knows, parent_of, line}
 use Rattle.ancestry.specs.Links.{has_parent}
-use Rattle.ancestry.specs.Statuses.{first_marked, kind_at}
-use Rattle.ancestry.specs.declared.statuses.MarkKind.{MarkKind}
-use Rattle.ancestry.proofs.NodeLemmas.{same_true, same_itself, ties_same}
+use Rattle.version_nodes.specs.Statuses.{first_marked, kind_at}
+use Rattle.version_nodes.specs.declared.statuses.MarkKind.{MarkKind}
+use Rattle.version_nodes.proofs.NodeLemmas.{same_true, same_itself, ties_same}
 use Rattle.ancestry.proofs.LineLemmas.{unknown_has_none}
 use Rattle.nearest_marks.specs.Nearest.{own_mark, nearest_on, nearest_of, row_at, once}
 use Rattle.nearest_marks.specs.Walks.{is_marked, AreMarks, rows_of_marks, rows_below, Step}

@@ -2,9 +2,9 @@
 -- This project's own rule.
 use Rattle.std.specs.Prelude.{◌≡◌, ◌&&◌, Bool, true, not, List, [], ◌∷◌, Option, Some, None, option_map, if◌then◌else◌, ⊤}
 use Rattle.std.specs.List.{list_any}
-use Rattle.ancestry.specs.Nodes.{Node, same_node}
-use Rattle.ancestry.specs.Trees.{Ancestry, knows, has_node, line}
-use Rattle.ancestry.specs.Statuses.{first_marked, kind_at}
+use Rattle.version_nodes.specs.Nodes.{Node, same_node}
+use Rattle.version_nodes.specs.Trees.{Ancestry, knows, has_node, line}
+use Rattle.version_nodes.specs.Statuses.{first_marked, kind_at}
 use Rattle.nearest_marks.specs.declared.near.Near.{Near}
 use Rattle.nearest_marks.specs.declared.near.NearRow.{NearRow}
 

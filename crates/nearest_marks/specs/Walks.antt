@@ -2,11 +2,11 @@
 use Rattle.std.specs.Prelude.{◌≡◌, ◌||◌, ◌++◌, ℕ, Bool, List, [], ◌∷◌, Some, None, slice_get, if◌then◌else◌}
 use Rattle.std.specs.BTreeMap.{BTreeMap, get}
 use Rattle.std.specs.List.Sorted.{IsStrictlySortedBy}
-use Rattle.ancestry.specs.Nodes.{Node, node_cmp}
-use Rattle.ancestry.specs.Trees.{Ancestry, knows, has_node}
+use Rattle.version_nodes.specs.Nodes.{Node, node_cmp}
+use Rattle.version_nodes.specs.Trees.{Ancestry, knows, has_node}
 use Rattle.ancestry.specs.Links.{has_parent}
-use Rattle.ancestry.specs.Statuses.{kind_at}
-use Rattle.ancestry.specs.declared.statuses.MarkKind.{MarkKind}
+use Rattle.version_nodes.specs.Statuses.{kind_at}
+use Rattle.version_nodes.specs.declared.statuses.MarkKind.{MarkKind}
 use Rattle.nearest_marks.specs.declared.near.Near.{Near}
 use Rattle.nearest_marks.specs.declared.near.NearRow.{NearRow}
 

@@ -2,13 +2,14 @@
 
 ghost use Rattle.std.specs.Prelude.{◌≡◌, ◌+◌, ◌<◌, ◌&&◌, ◌||◌, true, false, not, is_some, Some, OnOk, OnErr, slice_index};
 ghost use Rattle.std.specs.BTreeMap.{get};
-ghost use Rattle.ancestry.specs.Nodes.{Node, same_node, node_cmp};
+ghost use Rattle.version_nodes.specs.Nodes.{Node, same_node, node_cmp};
 ghost use Rattle.ancestry.specs.Links.{has_parent};
 ghost use Rattle.nearest_marks.specs.Children.{is_child, is_pair};
 
-use ancestry::{Node, Tree};
+use ancestry::Tree;
 use std::alloc::{AllocError, Global};
 use std::collections::{BTreeMap, BTreeSet};
+use version_nodes::Node;
 
 // Makes room for children of a node.
 fn make_room(

@@ -3,8 +3,8 @@
 ghost use Rattle.std.specs.Prelude.{◌≡◌, ◌&&◌, true, false, Some, None, Err, All, IfOk, OnOk, OnErr, is_some, unwrap_or};
 ghost use Rattle.std.specs.Option.{option_copied, option_map_or};
 ghost use Rattle.std.specs.BTreeSet.{contains};
-ghost use Rattle.ancestry.specs.Nodes.{Node, same_node, node_cmp};
-ghost use Rattle.ancestry.specs.Trees.{Ancestry, no_nodes, knows, is_ancestor, IsForest};
+ghost use Rattle.version_nodes.specs.Nodes.{Node, same_node, node_cmp};
+ghost use Rattle.version_nodes.specs.Trees.{Ancestry, no_nodes, knows, is_ancestor, IsForest};
 ghost use Rattle.ancestry.specs.Branches.{branched, TakesMemory, IsBranched, AreBased, Extends};
 ghost use Rattle.ancestry.specs.Links.{has_parent, linked};
 ghost use Rattle.ancestry.specs.declared.fault.BranchFault.TheVariants.{Memory};
@@ -12,10 +12,11 @@ ghost use Rattle.nearest_marks.specs.Children.{is_child, is_pair, AreChildren};
 
 use crate::children::{add_child, add_pairs, settle, settle_pairs};
 use crate::refusals::fault_without_memory;
-use ancestry::{BranchFault, Node, Tree};
+use ancestry::{BranchFault, Tree};
 use std::alloc::{AllocError, Global};
 use std::collections::{BTreeMap, BTreeSet};
 use std::marker::Model;
+use version_nodes::Node;
 
 /// A tree of versions in which one can go from a node to those that are based on it.
 /// Contracts see its ancestry.
@@ -28,7 +29,7 @@ pub struct Family {
 }
 
 impl Model for Family {
-    ghost use Rattle.ancestry.specs.Trees.{Ancestry, IsForest};
+    ghost use Rattle.version_nodes.specs.Trees.{Ancestry, IsForest};
     ghost use Rattle.nearest_marks.specs.Children.{AreChildren};
 
     ghost Value = { Ancestry };

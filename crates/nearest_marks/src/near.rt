@@ -4,15 +4,16 @@ ghost use Rattle.std.specs.Prelude.{◌≡◌, ◌<◌, ◌++◌, Some, is_some,
 ghost use Rattle.std.specs.BTreeMap.{get};
 ghost use Rattle.std.specs.List.Sorted.{IsStrictlySortedBy};
 ghost use Rattle.std.specs.Map.{keys_of};
-ghost use Rattle.ancestry.specs.Nodes.{Node, node_cmp};
-ghost use Rattle.ancestry.specs.Trees.{has_node};
+ghost use Rattle.version_nodes.specs.Nodes.{Node, node_cmp};
+ghost use Rattle.version_nodes.specs.Trees.{has_node};
 ghost use Rattle.nearest_marks.specs.Nearest.{nearest_of, row_at, once};
 ghost use Rattle.nearest_marks.specs.Walks.{row_of, rows_of_marks, rows_below, AreMarks, Step};
 
 use crate::family::Family;
-use ancestry::{MarkKind, Node, Tree};
+use ancestry::Tree;
 use std::alloc::{AllocError, Global};
 use std::collections::{BTreeMap, BTreeSet};
+use version_nodes::{MarkKind, Node};
 
 /// The nearest mark as seen from a node: the first marked node of its line, and as what it is
 /// marked.

@@ -1,11 +1,12 @@
 //! Why a branch is refused, where there is no memory to take it.
 
 ghost use Rattle.std.specs.Prelude.{◌≡◌, Err};
-ghost use Rattle.ancestry.specs.Trees.{Ancestry};
+ghost use Rattle.version_nodes.specs.Trees.{Ancestry};
 ghost use Rattle.ancestry.specs.Branches.{is_repeat, first_repeat, branched, IsBranched, TakesMemory};
 ghost use Rattle.ancestry.specs.declared.fault.BranchFault.TheVariants.{Memory};
 
-use ancestry::{BranchFault, Node};
+use ancestry::BranchFault;
+use version_nodes::Node;
 
 // How many nodes a branch has at most.
 const MOST_NODES: usize = 200;

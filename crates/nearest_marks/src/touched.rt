@@ -1,14 +1,14 @@
 //! The nodes that a branch touches.
 
 ghost use Rattle.std.specs.Prelude.{◌≡◌, ◌&&◌, true, map, IfOk};
-ghost use Rattle.ancestry.specs.Nodes.{Node};
-ghost use Rattle.ancestry.specs.Trees.{has_node, knows, line};
+ghost use Rattle.version_nodes.specs.Nodes.{Node};
+ghost use Rattle.version_nodes.specs.Trees.{has_node, knows, line};
 ghost use Rattle.nearest_marks.specs.Nearest.{meets, is_once};
 
 use crate::family::Family;
 use crate::near::{NearRow, nearest_rows};
-use ancestry::Node;
 use std::alloc::{AllocError, Global};
+use version_nodes::Node;
 
 // The nodes of rows.
 fn nodes_of(alloc: Global, rows: Vec<NearRow>) -> Result<Vec<Node>, AllocError>

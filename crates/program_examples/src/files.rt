@@ -3,7 +3,7 @@
 use bts_jobs::{JobEnd, open_desk, run_script_over};
 use sqlite::{Connection, Wary};
 use std::{fs, io};
-use test_streams::add_text;
+use test_desks::add_text;
 
 // What is told of something that was to be done.
 fn done(is_done: bool) -> Option<&'static str> {

@@ -1,7 +1,7 @@
 //! Words of messages, and the lines that they stand for.
 
 use crate::words::{add_words, keep_words};
-use bts_words::{WordsFault, words_to_lines};
+use control_text::{WordsFault, words_to_lines};
 use std::io;
 
 // Prints texts, one a line.

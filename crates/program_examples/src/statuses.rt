@@ -10,7 +10,7 @@ use sqlite::Wary;
 use std::alloc::{AllocError, Global};
 use std::io;
 use std::net::TcpListener;
-use test_streams::add_text;
+use test_desks::add_text;
 
 // What a command line is run on.
 #[derive(Drop)]

@@ -6,7 +6,7 @@ use Rattle.std.specs.Option.{option_or}
 use Rattle.std.specs.Str.{bytes_eq}
 use Rattle.std.proofs.lemmas.Bool.{false≢true, eqb-true, and_parts}
 use Rattle.std.proofs.lemmas.Option.{none-some}
-use Rattle.ancestry.specs.Nodes.{Node}
+use Rattle.version_nodes.specs.Nodes.{Node}
 use Rattle.bug_record.specs.Sets.{has, number_set}
 use Rattle.bug_record.specs.Desk.{Desk, AreGoodBlockers}
 use Rattle.bug_record.specs.Bugs.{first_of}
@@ -111,23 +111,6 @@ good-blockers_after d sender (commands.Reassign n to (Some version)) head merged
     (cond t f (record f { «package» = to; found = []; fixed = [] })).blockers) [ true ↦ h | false ↦ h ]
 good-blockers_after d sender (commands.Found n None) head merged f h words tests = h
 good-blockers_after d sender (commands.Found n (Some version)) head merged f h words tests = h
-good-blockers_after d sender (commands.NotFound n version) head merged f h words tests = h
-good-blockers_after d sender (commands.Fixed n version) head merged f h words tests = h
-good-blockers_after d sender (commands.NotFixed n version) head merged f h words tests = h
 good-blockers_after d sender (commands.Close n None) head merged f h words tests = h
 good-blockers_after d sender (commands.Close n (Some version)) head merged f h words tests = h
-good-blockers_after d sender (commands.Severity n severity) head merged f h words tests = h
-good-blockers_after d sender (commands.Tags n steps) head merged f h words tests = h
-good-blockers_after d sender (commands.Retitle n text) head merged f h words tests = h
-good-blockers_after d sender (commands.Submitter n who) head merged f h words tests = h
-good-blockers_after d sender (commands.Merge n ns) head merged f h words tests = h
-good-blockers_after d sender (commands.ForceMerge n ns) head merged f h words tests = h
-good-blockers_after d sender (commands.Unmerge n) head merged f h words tests = h
-good-blockers_after d sender (commands.Clone n ks) head merged f h words tests = h
-good-blockers_after d sender (commands.Forwarded n text) head merged f h words tests = h
-good-blockers_after d sender (commands.NotForwarded n) head merged f h words tests = h
-good-blockers_after d sender (commands.Owner n who) head merged f h words tests = h
-good-blockers_after d sender (commands.NoOwner n) head merged f h words tests = h
-good-blockers_after d sender (commands.Archive n) head merged f h words tests = h
-good-blockers_after d sender (commands.Unarchive n) head merged f h words tests = h
-good-blockers_after d sender (commands.Affects n step names) head merged f h words tests = h
+good-blockers_after d sender _ head merged f h words tests = h

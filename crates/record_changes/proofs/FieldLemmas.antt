@@ -3,7 +3,7 @@ use Rattle.std.proofs.Common.{ℕ, Bool, true, false, cond, eqb, List, [], ◌�
 use Rattle.std.specs.Prelude.{◌++◌, not, filter, unwrap_or}
 use Rattle.std.specs.Str.{bytes_eq}
 use Rattle.debver.specs.Names.{IsName}
-use Rattle.ancestry.specs.Nodes.{Node, IsNode}
+use Rattle.version_nodes.specs.Nodes.{Node, IsNode}
 use Rattle.bug_record.specs.Sets.{has, Each, number_set}
 use Rattle.bug_record.specs.Texts.{IsGoodText, IfGiven}
 use Rattle.bug_record.specs.Marks.{IsNodeSet, with_node, without_node}
@@ -205,14 +205,8 @@ good-shared_after sender (commands.Tags n steps) text good utf8 f h =
       found = h.found;
       fixed = h.fixed;
     }
-good-shared_after sender (commands.Retitle n title) text good utf8 f h = h
-good-shared_after sender (commands.Submitter n who) text good utf8 f h = h
 good-shared_after sender (commands.Reassign n package_name version) text good utf8 f h =
     good-reassigned package_name version f good.0 good.1 h
-good-shared_after sender (commands.Merge n ns) text good utf8 f h = h
-good-shared_after sender (commands.ForceMerge n ns) text good utf8 f h = h
-good-shared_after sender (commands.Unmerge n) text good utf8 f h = h
-good-shared_after sender (commands.Clone n ks) text good utf8 f h = h
 good-shared_after sender (commands.Block n ns) text good utf8 f h = good-blockers (number_set (f.blockers ++ ns)) f h
 good-shared_after sender (commands.Unblock n ns) text good utf8 f h = good-blockers (filter (λ m. not (has ns m)) f.blockers) f h
 good-shared_after sender (commands.Forwarded n address) text good utf8 f h = good-forwarded (Some address) f (good, utf8) h
@@ -232,63 +226,21 @@ good-shared_after sender (commands.Affects n step names) text good utf8 f h =
       found = h.found;
       fixed = h.fixed;
     }
+good-shared_after sender _ text good utf8 f h = h
 
 pub good-new_title : (command : Command ℕ) → HasGoodParts command → HasUtf8Texts command → (m : ℕ)
     → IfGiven IsGoodText (new_title command m)
-good-new_title (commands.Found n version) good utf8 m = tt
-good-new_title (commands.NotFound n version) good utf8 m = tt
-good-new_title (commands.Fixed n version) good utf8 m = tt
-good-new_title (commands.NotFixed n version) good utf8 m = tt
-good-new_title (commands.Close n version) good utf8 m = tt
-good-new_title (commands.Reopen n who) good utf8 m = tt
-good-new_title (commands.Severity n severity) good utf8 m = tt
-good-new_title (commands.Tags n steps) good utf8 m = tt
 good-new_title (commands.Retitle n text) good utf8 m =
     elim (eqb m n) as (λ t. IfGiven IsGoodText (cond t (Some text) None)) [ true ↦ (good, utf8) | false ↦ tt ]
-good-new_title (commands.Submitter n who) good utf8 m = tt
-good-new_title (commands.Reassign n package_name version) good utf8 m = tt
-good-new_title (commands.Merge n ns) good utf8 m = tt
-good-new_title (commands.ForceMerge n ns) good utf8 m = tt
-good-new_title (commands.Unmerge n) good utf8 m = tt
-good-new_title (commands.Clone n ks) good utf8 m = tt
-good-new_title (commands.Block n ns) good utf8 m = tt
-good-new_title (commands.Unblock n ns) good utf8 m = tt
-good-new_title (commands.Forwarded n address) good utf8 m = tt
-good-new_title (commands.NotForwarded n) good utf8 m = tt
-good-new_title (commands.Owner n who) good utf8 m = tt
-good-new_title (commands.NoOwner n) good utf8 m = tt
-good-new_title (commands.Archive n) good utf8 m = tt
-good-new_title (commands.Unarchive n) good utf8 m = tt
-good-new_title (commands.Affects n step names) good utf8 m = tt
+good-new_title _ good utf8 m = tt
 
 pub good-new_submitter : (sender : List ℕ) (command : Command ℕ) → IsGoodText sender → HasGoodParts command → HasUtf8Texts command
     → (f : Shared) (m : ℕ) → IfGiven IsGoodText (new_submitter sender command f m)
-good-new_submitter sender (commands.Found n version) h good utf8 f m = tt
-good-new_submitter sender (commands.NotFound n version) h good utf8 f m = tt
-good-new_submitter sender (commands.Fixed n version) h good utf8 f m = tt
-good-new_submitter sender (commands.NotFixed n version) h good utf8 f m = tt
-good-new_submitter sender (commands.Close n version) h good utf8 f m = tt
 good-new_submitter sender (commands.Reopen n None) h good utf8 f m = tt
 good-new_submitter sender (commands.Reopen n (Some who)) h good utf8 f m =
     elim f.closed as (λ t. IfGiven IsGoodText (cond t (Some (person sender who)) None))
     [ true ↦ good-person sender who h good utf8 | false ↦ tt ]
-good-new_submitter sender (commands.Severity n severity) h good utf8 f m = tt
-good-new_submitter sender (commands.Tags n steps) h good utf8 f m = tt
-good-new_submitter sender (commands.Retitle n text) h good utf8 f m = tt
 good-new_submitter sender (commands.Submitter n who) h good utf8 f m =
     elim (eqb m n) as (λ t. IfGiven IsGoodText (cond t (Some (person sender who)) None))
     [ true ↦ good-person sender who h good utf8 | false ↦ tt ]
-good-new_submitter sender (commands.Reassign n package_name version) h good utf8 f m = tt
-good-new_submitter sender (commands.Merge n ns) h good utf8 f m = tt
-good-new_submitter sender (commands.ForceMerge n ns) h good utf8 f m = tt
-good-new_submitter sender (commands.Unmerge n) h good utf8 f m = tt
-good-new_submitter sender (commands.Clone n ks) h good utf8 f m = tt
-good-new_submitter sender (commands.Block n ns) h good utf8 f m = tt
-good-new_submitter sender (commands.Unblock n ns) h good utf8 f m = tt
-good-new_submitter sender (commands.Forwarded n address) h good utf8 f m = tt
-good-new_submitter sender (commands.NotForwarded n) h good utf8 f m = tt
-good-new_submitter sender (commands.Owner n who) h good utf8 f m = tt
-good-new_submitter sender (commands.NoOwner n) h good utf8 f m = tt
-good-new_submitter sender (commands.Archive n) h good utf8 f m = tt
-good-new_submitter sender (commands.Unarchive n) h good utf8 f m = tt
-good-new_submitter sender (commands.Affects n step names) h good utf8 f m = tt
+good-new_submitter sender _ h good utf8 f m = tt

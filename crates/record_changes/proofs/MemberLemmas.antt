@@ -17,27 +17,7 @@ unchanged sender (commands.Submitter n who) f h m = absurd (false≢true (sym h)
 unchanged sender (commands.Reopen n (Some who)) f h m =
     ap (λ t. record m { submitter = unwrap_or (cond t (Some (person sender who)) None) m.submitter }) h
 unchanged sender (commands.Reopen n None) f h m = refl
-unchanged sender (commands.Found n version) f h m = refl
-unchanged sender (commands.NotFound n version) f h m = refl
-unchanged sender (commands.Fixed n version) f h m = refl
-unchanged sender (commands.NotFixed n version) f h m = refl
-unchanged sender (commands.Close n version) f h m = refl
-unchanged sender (commands.Severity n severity) f h m = refl
-unchanged sender (commands.Tags n steps) f h m = refl
-unchanged sender (commands.Reassign n package_name version) f h m = refl
-unchanged sender (commands.Merge n ns) f h m = refl
-unchanged sender (commands.ForceMerge n ns) f h m = refl
-unchanged sender (commands.Unmerge n) f h m = refl
-unchanged sender (commands.Clone n ks) f h m = refl
-unchanged sender (commands.Block n ns) f h m = refl
-unchanged sender (commands.Unblock n ns) f h m = refl
-unchanged sender (commands.Forwarded n text) f h m = refl
-unchanged sender (commands.NotForwarded n) f h m = refl
-unchanged sender (commands.Owner n who) f h m = refl
-unchanged sender (commands.NoOwner n) f h m = refl
-unchanged sender (commands.Archive n) f h m = refl
-unchanged sender (commands.Unarchive n) f h m = refl
-unchanged sender (commands.Affects n step names) f h m = refl
+unchanged sender _ f h m = refl
 
 pub members-unchanged : (sender : List ℕ) (command : Command ℕ) (f : Shared) → changes_members command f ≡ false
     → (ms : List Member) → ms ≡ map (member_after sender command f) ms

@@ -11,8 +11,8 @@ use Rattle.debver.specs.Names.{IsName, name_fault}
 use Rattle.debver.specs.Cut.{cut, IsVersion}
 use Rattle.debver.specs.Faults.{text_fault}
 use Rattle.bug_record.specs.Texts.{IfGiven}
-use Rattle.ancestry.specs.Nodes.{Node, node, is_slash, node_of, node_of_text, node_at}
-use Rattle.ancestry.proofs.ReadLemmas.{nodes_exactly}
+use Rattle.version_nodes.specs.Nodes.{Node, node, is_slash, node_of, node_of_text, node_at}
+use Rattle.version_nodes.proofs.ReadLemmas.{nodes_exactly}
 
 -- characters none of which is a slash
 no_slash : (test : ℕ → Bool) → test 47 ≡ false → (s : List ℕ) → list_all test s ≡ true → list_any is_slash s ≡ false

@@ -9,10 +9,10 @@ ghost use Rattle.bug_record.specs.Commands.{node_meant, IsGoodVersion};
 ghost use Rattle.bug_record.specs.Steps.{marked_found, marked_fixed, found_at};
 ghost use Rattle.record_changes.specs.Fields.{IsVersionFault};
 
-use ancestry::{Node, NodeFault};
 use bug_record::{PlanFault, Refusal, Shared, VersionArg};
 use debver::{cut, order};
 use std::alloc::{AllocError, Global};
+use version_nodes::{Node, NodeFault};
 
 // The source package that a version means.
 fn source_meant<'a>(package: &'a str, version: &'a VersionArg) -> &'a str

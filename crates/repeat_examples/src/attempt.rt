@@ -1,8 +1,8 @@
 //! A message that is sent to the desk in files, whatever becomes of them.
 
 use crate::sending::{Ended, Sending};
+use bug_record::StoreFault;
 use desk_run::{End, OnceFault, Records};
-use desk_text::StoreFault;
 use sqlite::{Alter, Connection};
 use std::alloc::Global;
 use test_desks::{ConnectionTask, DeskTask, on_made, open, run_into};

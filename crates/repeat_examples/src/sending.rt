@@ -1,8 +1,7 @@
 //! A message that has an id, and what comes of it on a desk.
 
-use bug_record::is_text;
+use bug_record::{StoreFault, is_text};
 use desk_run::{End, OnceFault, Received, Records, receive_once, received_text};
-use desk_text::StoreFault;
 use std::alloc::{AllocError, Global};
 
 /// A message that has an id.

@@ -3,11 +3,12 @@
 ghost use Rattle.std.specs.Prelude.{◌≡◌, ◌⊎◌, ◌||◌, true, false, Err};
 ghost use Rattle.script_tests.specs.Fails.{faults_with};
 
-use ancestry::{BranchFault, Node};
-use bug_record::{Change, Numbers, Sequence, SetImage};
+use ancestry::BranchFault;
+use bug_record::{Change, Numbers, Outcome, Sequence, SetImage, StoreFault};
 use desk_store::Records;
-use desk_text::{ListRow, Outcome, StoreFault};
 use message_machine::Kept;
+use set_images::ListRow;
+use version_nodes::Node;
 
 /// A store round another.
 /// One call of `set_of`, `next`, `open_head`, `waiting_on`, `listed`, `kept`, `apply`, `branch` or

@@ -2,9 +2,9 @@
 
 use crate::fails::Fails;
 use crate::scripts::writes;
+use bug_record::StoreFault;
 use desk_run::{ScriptEnd, ScriptFault, run_script};
 use desk_store::PlainDesk;
-use desk_text::StoreFault;
 use std::alloc::Global;
 use std::process::Abort;
 

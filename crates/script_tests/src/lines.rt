@@ -5,7 +5,7 @@ use std::alloc::{AllocError, Global};
 use std::io::Read;
 use std::process::Abort;
 use std::test::Fail;
-use test_streams::{Failure, Feed, Pieces, Sink};
+use test_desks::{Failure, Feed, Pieces, Sink};
 
 fn shown(piece: &Piece) -> (&str, &str) {
     match piece {

@@ -1,9 +1,9 @@
 //! Messages and their transcripts, as calls.
 
 use crate::stores::failing;
+use bug_record::{End, StoreFault};
 use desk_run::{Received, receive, received_text};
 use desk_store::{PlainDesk, Records};
-use desk_text::{End, StoreFault};
 use std::alloc::{AllocError, Global};
 use std::test::Fail;
 

@@ -5,7 +5,7 @@ use crate::scripts::{REPORTED, SCRIPT, WRITTEN};
 use desk_run::{ScriptEnd, ScriptFault, run_script};
 use desk_store::PlainDesk;
 use std::alloc::Global;
-use test_streams::{Failure, Feed, Round, Sink};
+use test_desks::{Failure, Feed, Round, Sink};
 
 // Whether a call has failed, where a script has this end and so many calls followed the one that
 // failed: then it ends at once as this fault, with a front of the answers, and otherwise whole.

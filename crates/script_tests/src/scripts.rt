@@ -4,7 +4,7 @@ use desk_run::{ScriptEnd, ScriptFault, run_script};
 use desk_store::{PlainDesk, Records};
 use std::alloc::{AllocError, Global};
 use std::test::Fail;
-use test_streams::{Failure, Feed, Sink};
+use test_desks::{Failure, Feed, Sink};
 
 // Three bugs that are merged, and of which one is taken out.
 pub(crate) const SCRIPT: &str =

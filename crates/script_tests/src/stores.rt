@@ -1,9 +1,9 @@
 //! Stores that fail once.
 
 use crate::scripts::writes;
+use bug_record::StoreFault;
 use desk_run::{ScriptEnd, ScriptFault, run_script};
 use desk_store::{FailAt, PlainDesk, Records};
-use desk_text::StoreFault;
 use std::alloc::Global;
 
 /// Reports of three bugs of the package foo, with version 1 and severity normal.

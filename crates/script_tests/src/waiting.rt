@@ -2,8 +2,8 @@
 
 use crate::fails::Fails;
 use crate::stores::{REPORTS, written};
+use bug_record::StoreFault;
 use desk_store::{PlainDesk, Records};
-use desk_text::StoreFault;
 use std::alloc::Global;
 
 // How many images a store has been given after a script.

@@ -8,8 +8,8 @@ use Rattle.std.proofs.lemmas.Bool.{false≢true, eqb-true, eq-eqb, lt-ltb, not-t
 use Rattle.std.proofs.lemmas.Bool.{or_parts}
 use Rattle.std.proofs.lemmas.Slice.Eq.{bytes_eq-Decides, slice_eq-Decides}
 use Rattle.std.specs.Bool.{Decides}
-use Rattle.ancestry.specs.Nodes.{Node, same_node}
-use Rattle.ancestry.proofs.NodeLemmas.{same_true, same_itself}
+use Rattle.version_nodes.specs.Nodes.{Node, same_node}
+use Rattle.version_nodes.proofs.NodeLemmas.{same_true, same_itself}
 use Rattle.bug_record.specs.Sets.{has, IsAscending}
 use Rattle.bug_record.specs.Severities.{rank}
 use Rattle.bug_record.specs.Desk.{Desk, IsSound}
@@ -44,12 +44,7 @@ of_rank (suc (suc (suc (suc (suc (suc n)))))) = Wishlist
 
 of_rank-rank : (s : Severity) → of_rank (rank s) ≡ s
 of_rank-rank Critical = refl
-of_rank-rank Grave = refl
-of_rank-rank Serious = refl
-of_rank-rank Important = refl
-of_rank-rank Normal = refl
-of_rank-rank Minor = refl
-of_rank-rank Wishlist = refl
+of_rank-rank _ = refl
 
 same_severity : (s t : Severity) → rank s ≡ rank t → s ≡ t
 same_severity s t e = sym (of_rank-rank s) ∙ ap of_rank e ∙ of_rank-rank t

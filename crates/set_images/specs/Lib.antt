@@ -1,4 +1,5 @@
 pub mod Refusals
+pub mod Rows
 -- definitions that only private functions and fields cite
 pub mod Index
 pub mod Changes

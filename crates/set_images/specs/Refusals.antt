@@ -1,7 +1,7 @@
 -- What is tested of a bug before a command of it is planned.
 use Rattle.std.specs.Prelude.{ℕ, List, Option, Ok}
 use Rattle.std.specs.Option.{option_or}
-use Rattle.ancestry.specs.Nodes.{Node}
+use Rattle.version_nodes.specs.Nodes.{Node}
 use Rattle.bug_record.specs.Bugs.{first_of}
 use Rattle.bug_record.specs.Images.{numbers_of, bug_in}
 use Rattle.bug_record.specs.Words.{words_refusal}

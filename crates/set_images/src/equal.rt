@@ -7,9 +7,9 @@ ghost use Rattle.bug_record.specs.Changed.{same_nodes, same_names, same_tags, sa
 ghost use Rattle.bug_record.specs.Differences.{same_text, same_state};
 ghost use Rattle.set_images.specs.Changes.{same_texts, same_set};
 
-use ancestry::Node;
 use bug_record::{Member, SetImage, Shared, Tag};
 use debver::Text;
+use version_nodes::Node;
 
 fn same_nodes(a: &[Node], b: &[Node]) -> bool
     ensures { result ≡ same_nodes a.now b.now }

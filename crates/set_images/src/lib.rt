@@ -1,6 +1,6 @@
 //! Images of sets of merged bugs: the one that has a bug, where each bug stands, which bugs two
-//! lists of images show otherwise, and why a command is refused for a bug of them before it is
-//! planned.
+//! lists of images show otherwise, the rows of lists, and why a command is refused for a bug before
+//! it is planned.
 //! The values and definitions are those of `bug_record`.
 #![tactic(auto)]
 
@@ -13,6 +13,7 @@ mod laws;
 mod named;
 mod parted;
 mod refusals;
+mod rows;
 
 pub use changes::changed;
 pub use equal::same_text;
@@ -21,3 +22,4 @@ pub use index::Index;
 pub use laws::{changed_numbers_differ, new_bugs_are_changed};
 pub use named::{bug_named, other_bugs};
 pub use refusals::{archived_refusal, first_refused, records_refusal};
+pub use rows::{ListRow, member_at};

@@ -14,10 +14,10 @@ ghost use Rattle.set_images.specs.Refusals.{records_refusal};
 use crate::images::member_numbers;
 use crate::index::Index;
 use crate::named::{bug_named, first_may_be_archived, other_bugs, others_may_be_archived};
-use ancestry::Node;
 use bug_record::{Command, Refusal, SetImage, Shared};
 use std::alloc::{AllocError, Global};
 use std::collections::BTreeSet;
+use version_nodes::Node;
 
 /// The refusal of a bug that is archived and may not be.
 pub fn archived_refusal(may_be: bool, number: u64, shared: &Shared) -> Option<Refusal>

@@ -23,7 +23,7 @@ use Rattle.sqlite_tied.specs.Compute.{everything}
 use Rattle.sqlite_trees.specs.Tree.{with_tree}
 use Rattle.sqlite_value.specs.Keys.{plain, first_key}
 use Rattle.bug_record.specs.Sets.{has}
-use Rattle.desk_text.specs.declared.outcome.StoreFault.TheVariants.{Foreign}
+use Rattle.bug_record.specs.declared.outcome.StoreFault.TheVariants.{Foreign}
 use Rattle.sql_forms.specs.Faults.{fault_of}
 use Rattle.sql_forms.specs.Forms.{Changes, inserted}
 use Rattle.sql_forms.specs.TypedRows.{AreRows}

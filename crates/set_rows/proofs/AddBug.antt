@@ -18,7 +18,7 @@ use Rattle.sqlite.specs.declared.types.Value.{Value}
 use Rattle.sqlite.specs.declared.types.Value.TheVariants.{Null, Int, Text}
 use Rattle.sqlite_tied.specs.Compute.{everything}
 use Rattle.bug_record.specs.declared.bug.Member.{Member}
-use Rattle.desk_text.specs.declared.outcome.StoreFault.TheVariants.{Foreign}
+use Rattle.bug_record.specs.declared.outcome.StoreFault.TheVariants.{Foreign}
 use Rattle.sql_forms.specs.Faults.{fault_of}
 use Rattle.sql_forms.specs.Forms.{Changes, inserted}
 use Rattle.sql_forms.proofs.InsertLemmas.{InsertsRow, inserts}

@@ -21,7 +21,7 @@ use Rattle.sqlite_tied.specs.Compute.{everything}
 use Rattle.sqlite_trees.specs.Tree.{with_tree}
 use Rattle.sqlite_typing.specs.Types.{accepts_terms}
 use Rattle.bug_record.specs.Severities.{rank}
-use Rattle.desk_text.specs.declared.outcome.StoreFault.TheVariants.{Foreign}
+use Rattle.bug_record.specs.declared.outcome.StoreFault.TheVariants.{Foreign}
 use Rattle.sql_forms.specs.Faults.{fault_of}
 use Rattle.sql_forms.specs.Forms.{Changes, inserted}
 use Rattle.sql_forms.specs.TypedRows.{AreRows}

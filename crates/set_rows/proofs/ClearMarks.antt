@@ -5,7 +5,7 @@ use Rattle.sqlite.specs.Listing.{understood}
 use Rattle.sqlite.specs.State.{State, ExecutesInside}
 use Rattle.sqlite.specs.declared.types.Value.TheVariants.{Int}
 use Rattle.sqlite_tied.specs.Compute.{everything}
-use Rattle.ancestry.specs.declared.statuses.MarkKind.TheVariants.{Found, Fixed}
+use Rattle.version_nodes.specs.declared.statuses.MarkKind.TheVariants.{Found, Fixed}
 use Rattle.sql_forms.specs.Forms.{passes, equals}
 use Rattle.sql_forms.proofs.DeleteLemmas.{DeletesRows, deletes}
 use Rattle.sql_forms.proofs.DeleteErrors.{rowids_of}

@@ -12,3 +12,11 @@ pub mod ReadMarks
 pub mod AddFields
 pub mod ClearFields
 pub mod ReadFields
+pub mod AddAffected
+pub mod ClearAffected
+pub mod ReadAffected
+pub mod ReadAffecting
+pub mod ReadMarksAt
+pub mod ReadKeys
+pub mod NearKeys
+pub mod ReadNear

@@ -9,7 +9,7 @@ use Rattle.sqlite.specs.Order.{Row}
 use Rattle.sqlite.specs.Term.{col, eval_all}
 use Rattle.sqlite_tied.specs.Compute.{everything}
 use Rattle.bug_record.specs.Sets.{has}
-use Rattle.desk_text.specs.declared.outcome.StoreFault.{StoreFault}
+use Rattle.bug_record.specs.declared.outcome.StoreFault.{StoreFault}
 use Rattle.sql_forms.specs.Forms.{passes, equals}
 use Rattle.sql_forms.specs.Numbers.{number_row}
 use Rattle.sql_forms.proofs.AnswerLemmas.{number_at_front, numbers_in_any}

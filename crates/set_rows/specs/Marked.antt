@@ -4,9 +4,9 @@ use Rattle.std.specs.Prelude.{◌≡◌, ℕ, pos, List, [], ◌∷◌}
 use Rattle.std.specs.List.{AllByRecursion}
 use Rattle.sqlite.specs.Order.{Row}
 use Rattle.sqlite.specs.declared.types.Value.TheVariants.{Int, Text}
-use Rattle.ancestry.specs.Nodes.{Node, IsNode}
-use Rattle.ancestry.specs.declared.statuses.MarkKind.{MarkKind}
-use Rattle.ancestry.specs.declared.statuses.MarkKind.TheVariants.{Found, Fixed}
+use Rattle.version_nodes.specs.Nodes.{Node, IsNode}
+use Rattle.version_nodes.specs.declared.statuses.MarkKind.{MarkKind}
+use Rattle.version_nodes.specs.declared.statuses.MarkKind.TheVariants.{Found, Fixed}
 use Rattle.bug_record.specs.Marks.{with_node}
 use Rattle.desk_content.specs.Content.{Content}
 use Rattle.desk_content.specs.Encodings.{kind_number}

@@ -1,6 +1,6 @@
 -- When a CREATE TABLE and a CREATE INDEX are refused for memory, the disk or its size alone.
 use Rattle.std.proofs.Common.{◌≡◌, ◌≢◌, ◌≤◌, inl, inr, ℕ, ◌+◌, ◌^◌, List, [], ◌∷◌, length, codes, Bool, true, false, None, Some, Ok, Err, Result, IsTrue, IsUtf8, refl, sym, ap, subst, ◌∙◌, true≢false, not, ◌&&◌, ◌==◌}
-use Rattle.std.specs.List.{AllByRecursion, list_all}
+use Rattle.std.specs.List.{AllByRecursion}
 use Rattle.std.specs.Str.{is_utf8}
 use Rattle.std.proofs.Math.Dec.{leb}
 use Rattle.std.proofs.lemmas.Bool.{le-leb, and_from}
@@ -31,7 +31,7 @@ use Rattle.sqlite.specs.Rows.{Then}
 use Rattle.sqlite.specs.State.{State, mode_of, ExecutesInside}
 use Rattle.sqlite.proofs.Callers.{statement_of}
 use Rattle.sql_forms.specs.Faults.{fault_of}
-use Rattle.desk_text.specs.declared.outcome.StoreFault.TheVariants.{Foreign}
+use Rattle.bug_record.specs.declared.outcome.StoreFault.TheVariants.{Foreign}
 use Rattle.sql_forms.proofs.InsertLemmas.{same_value, off}
 use Rattle.sql_forms.proofs.CreateLemmas.{CreatesTable, CreatesIndex}
 use Rattle.sql_forms.proofs.ErrorLemmas.{IsStoreError, IsCallOf, fails_as, same_stop}

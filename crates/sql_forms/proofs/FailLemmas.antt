@@ -9,18 +9,14 @@ use Rattle.sqlite_schema.specs.declared.command.Returning.{Returning}
 use Rattle.std.proofs.Common.{Option}
 use Rattle.sqlite.specs.Steps.{FailsToCommit}
 use Rattle.sqlite_trees.specs.declared.error.StoreError.{StoreError}
-use Rattle.sqlite_trees.specs.declared.error.StoreError.TheVariants.{OutOfMemory, Io, Corrupt, Full as NoRoom, Broken, Unstorable}
+use Rattle.sqlite_trees.specs.declared.error.StoreError.TheVariants.{OutOfMemory}
 use Rattle.sql_forms.specs.Faults.{fault_of}
-use Rattle.desk_text.specs.declared.outcome.StoreFault.TheVariants.{Foreign}
+use Rattle.bug_record.specs.declared.outcome.StoreFault.TheVariants.{Foreign}
 use Rattle.sql_forms.proofs.ErrorLemmas.{IsStoreError}
 
 store_not_foreign : (cause : StoreError) → fault_of (store_error cause) ≢ Foreign
 store_not_foreign OutOfMemory e = absurd cc
-store_not_foreign Io e = absurd cc
-store_not_foreign Corrupt e = absurd cc
-store_not_foreign NoRoom e = absurd cc
-store_not_foreign Broken e = absurd cc
-store_not_foreign Unstorable e = absurd cc
+store_not_foreign _ e = absurd cc
 
 pub stored_free : (e : Error) → IsStoreError e → fault_of e ≢ Foreign
 stored_free e store = λ f. store_not_foreign store.0 (ap fault_of (sym store.1) ∙ f)

@@ -5,7 +5,7 @@ use Rattle.std.specs.Ordering.{is_eq}
 use Rattle.std.proofs.lemmas.Bool.Decides.{nat_tests}
 use Rattle.std.proofs.lemmas.Int.{ints}
 use Rattle.sqlite.specs.declared.types.Value.{Value}
-use Rattle.sqlite.specs.declared.types.Value.TheVariants.{Null, Int, Real, Text, Blob}
+use Rattle.sqlite.specs.declared.types.Value.TheVariants.{Null, Int, Text}
 use Rattle.sqlite.specs.Order.{Row, column, value_cmp}
 use Rattle.sqlite.specs.Ops.{binary, is_true, from_truth}
 use Rattle.sqlite.specs.Edit.{id_in, next_rowid}
@@ -30,10 +30,7 @@ truth_is false = refl
 test_is : (v : Value) (k : ℤ) → is_true (binary (Compare Eq Binary) v (Int k)) ≡ is_eq (value_cmp v (Int k))
 unfolding binary
 test_is Null k = sym (ap is_eq (value_cmp-Null (Int k)))
-test_is (Int n) k = truth_is _
-test_is (Real x) k = truth_is _
-test_is (Text t) k = truth_is _
-test_is (Blob b) k = truth_is _
+test_is _ k = truth_is _
 
 pub and_true : (b : Bool) → (b && true) ≡ b
 and_true true = refl
@@ -45,10 +42,7 @@ hits place k r = and_true _ ∙ test_is (column r place) k
 text_is : (v : Value) (t : List ℕ) → is_true (binary (Compare Eq Binary) v (Text t)) ≡ is_eq (value_cmp v (Text t))
 unfolding binary
 text_is Null t = sym (ap is_eq (value_cmp-Null (Text t)))
-text_is (Int n) t = truth_is _
-text_is (Real x) t = truth_is _
-text_is (Text s) t = truth_is _
-text_is (Blob b) t = truth_is _
+text_is _ t = truth_is _
 
 -- whether a column has the text of a parameter
 pub holds_text : (place at : ℕ) (params r : Row) (t : List ℕ) → column params at ≡ Text t → holds (params ∷ r ∷ []) (equals_at place at) ≡ is_eq (value_cmp (column r place) (Text t))

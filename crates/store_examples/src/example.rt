@@ -1,8 +1,8 @@
 //! A file of examples while it is run.
 
 use crate::questions::Answers;
+use bug_record::StoreFault;
 use desk_tables::OpenFault;
-use desk_text::StoreFault;
 use std::alloc::{AllocError, Global};
 use store_trials::Report;
 

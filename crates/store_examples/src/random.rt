@@ -2,14 +2,13 @@
 //! closed and opened before each directive.
 
 use control_text::number_word;
-use random_scripts::Maker;
 use sqlite::{Alter, Connection};
 use sqlite_pager::Options;
 use std::alloc::{AllocError, Global};
 use std::io;
 use store_trials::{Task, Told};
 use test_desks::{
-    ConnectionTask, Disks, create, in_memory, limited, new_disks, on_made, open, over_files,
+    ConnectionTask, Disks, Maker, create, in_memory, limited, new_disks, on_made, open, over_files,
 };
 
 // What is done over files.

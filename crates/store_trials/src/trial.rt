@@ -2,8 +2,8 @@
 
 use crate::fronts::{DEVICE, Fronts, MEMORY, Reach};
 use crate::held::Held;
+use bug_record::StoreFault;
 use desk_run::{Records, ScriptEnd, ScriptFault};
-use desk_text::StoreFault;
 use sqlite::{Alter, Connection};
 use sqlite_disk::{Disk, Files};
 use sqlite_pager::Options;

@@ -1,20 +1,29 @@
-//! Desks for tests: over files in memory that stop at some call, what a stop leaves of those files,
-//! and what scripts write on a desk.
+//! What examples and tests are made of: desks in memory and over files in memory, of which one
+//! stops; readers and writers that give and take so many bytes at a time, fail once, or never end,
+//! and count the calls; the bytes that they give, out of a text with signs; and random scripts.
 #![tactic(auto)]
 
 mod desks;
 mod disks;
+mod endless;
+mod failing;
 mod left;
 mod limits;
+mod lines;
 mod scripts;
+mod signs;
 mod stops;
 mod tasks;
 
 pub use desks::{Made, create, new_desk, open};
 pub use disks::{Disks, connected, copy_of, disks_in, files_with, new_disks};
-pub use left::{BothLeft, Left, both_left};
+pub use endless::{Pieces, Round};
+pub use failing::{Failure, Feed, Sink};
+pub use left::{BothLeft, both_left};
 pub use limits::limited;
+pub use lines::Maker;
 pub use scripts::{answer_to, run_into};
+pub use signs::add_text;
 pub use stops::{Setting, goes_on, setting_of, stopping};
 pub use tasks::{
     ConnectionTask, DeskTask, in_memory, in_memory_failing, in_tables_failing, on_made, over_bytes,

@@ -1,12 +1,12 @@
 //! Sets of nodes, in node order, as a bug's marks are.
 
 ghost use Rattle.std.specs.Prelude.{◌≡◌, not, filter, IfOk, OnOk, OnErr};
-ghost use Rattle.ancestry.specs.Nodes.{same_node};
+ghost use Rattle.version_nodes.specs.Nodes.{same_node};
 ghost use Rattle.bug_record.specs.Marks.{with_node, without_node};
 
 use super::Sequence;
-use ancestry::Node;
 use std::alloc::AllocError;
+use version_nodes::Node;
 
 /// A set of nodes, kept in node order.
 pub type Nodes = Sequence<Node>;

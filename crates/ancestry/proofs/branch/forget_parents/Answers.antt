@@ -2,7 +2,7 @@ use Rattle.std.proofs.Common.{length, drop, rules, sym, subst}
 use Rattle.std.specs.BTreeSet.{contains}
 use Rattle.std.proofs.lemmas.List.{length_push}
 use Rattle.std.proofs.lemmas.Slice.Zip.{zip_turn, zip_end}
-use Rattle.ancestry.specs.Nodes.{node_cmp}
+use Rattle.version_nodes.specs.Nodes.{node_cmp}
 use Rattle.ancestry.specs.Kept.{Adds}
 use Rattle.ancestry.proofs.ParentLemmas.{forget_none, forget_one, forgotten}
 use Rattle.ancestry.proofs.branch.forget_parents.Goals as goal

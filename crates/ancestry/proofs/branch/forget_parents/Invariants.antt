@@ -1,6 +1,6 @@
 use Rattle.std.proofs.Common.{◌≡◌, Bool, length, map, drop}
 use Rattle.std.specs.BTreeSet.{contains}
-use Rattle.ancestry.specs.Nodes.{Node, node_cmp}
+use Rattle.version_nodes.specs.Nodes.{Node, node_cmp}
 use Rattle.ancestry.specs.Kept.{Adds}
 use Rattle.ancestry.proofs.branch.forget_parents.Given as goal
 

@@ -1,7 +1,7 @@
 use Rattle.std.proofs.Common.{take, false, refl, sym, ap, ◌∙◌}
 use Rattle.std.specs.Option.{option_map_or}
 use Rattle.std.proofs.lemmas.Option.{slice_get_past, slice_get_read}
-use Rattle.ancestry.specs.Trees.{has_node}
+use Rattle.version_nodes.specs.Trees.{has_node}
 use Rattle.ancestry.proofs.RepeatLemmas.{has_turned}
 use Rattle.ancestry.proofs.branch.is_repeat.Goals as goal
 

@@ -2,7 +2,7 @@ use Rattle.std.proofs.Common.{◌≡◌, drop}
 use Rattle.std.specs.HashMap.{get}
 use Rattle.std.specs.Option.{option_map_or}
 use Rattle.ancestry.specs.Heights.{height}
-use Rattle.ancestry.specs.Nodes.{Node, same_node}
+use Rattle.version_nodes.specs.Nodes.{Node, same_node}
 use Rattle.ancestry.proofs.indexed.heights_of.Given as goal
 
 -- what is kept, and beside it the heights in the rest of the line, are those in the line

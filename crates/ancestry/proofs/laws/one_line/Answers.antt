@@ -1,5 +1,5 @@
 use Rattle.std.proofs.Common.{sym, subst}
-use Rattle.ancestry.specs.Trees.{IsLine}
+use Rattle.version_nodes.specs.Trees.{IsLine}
 use Rattle.ancestry.proofs.LineLemmas.{line_is}
 use Rattle.ancestry.proofs.laws.one_line.Goals as goal
 

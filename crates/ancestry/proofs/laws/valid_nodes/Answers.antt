@@ -1,4 +1,4 @@
-use Rattle.ancestry.proofs.ReadLemmas.{nodes_exactly}
+use Rattle.version_nodes.proofs.ReadLemmas.{nodes_exactly}
 use Rattle.ancestry.proofs.laws.valid_nodes.Goals as goal
 
 pub returns : goal.returns

@@ -1,9 +1,9 @@
 use Rattle.std.proofs.Common.{length, ap, sym, ◌∙◌, arith}
 use Rattle.std.specs.Prelude.{option_map}
 use Rattle.std.specs.Option.{option_copied}
-use Rattle.ancestry.specs.Trees.{line}
+use Rattle.version_nodes.specs.Trees.{line}
 use Rattle.ancestry.proofs.LineLemmas.{line_above}
-use Rattle.ancestry.specs.Statuses.{first_marked, kind_at}
+use Rattle.version_nodes.specs.Statuses.{first_marked, kind_at}
 use Rattle.ancestry.proofs.WalkLemmas.{walk_step, unmarked}
 use Rattle.ancestry.proofs.marks.first_kind.Goals as goal
 

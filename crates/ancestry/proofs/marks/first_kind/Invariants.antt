@@ -1,8 +1,8 @@
 use Rattle.std.proofs.Common.{◌≡◌, length}
 use Rattle.std.specs.Option.{option_copied}
-use Rattle.ancestry.specs.Trees.{line}
+use Rattle.version_nodes.specs.Trees.{line}
 use Rattle.ancestry.proofs.LineLemmas.{line_above}
-use Rattle.ancestry.specs.Statuses.{first_kind}
+use Rattle.version_nodes.specs.Statuses.{first_kind}
 use Rattle.ancestry.proofs.marks.first_kind.Given as goal
 
 -- the line from here on decides as the whole one does

@@ -1,6 +1,6 @@
 use Rattle.std.proofs.Common.{◌∙◌, ℕ, List, inr, rules, subst}
 use Rattle.bug_record.specs.Texts.{IsText}
-use Rattle.message_machine.specs.Ids.{IsId}
+use Rattle.line_words.specs.Ids.{IsId}
 use Rattle.bts_jobs.specs.InFile.{IsKeptInFile, HasHonestFile, desk_in_file, keeping_in_file, faults_in_file}
 use Rattle.bts_jobs.specs.Jobs.{IsSentOnceOver}
 use Rattle.bts_jobs.proofs.repeats.send_once_to_file.Goals as goal

@@ -1,7 +1,7 @@
 use Rattle.std.proofs.Common.{subst}
 use Rattle.bug_record.specs.Desk.{Desk}
 use Rattle.desk_store.specs.Store.{no_faults}
-use Rattle.desk_places.specs.Plain.{desk_of}
+use Rattle.bugs_in_memory.specs.Plain.{desk_of}
 use Rattle.desk_run.specs.Script.{begin}
 use Rattle.desk_run.specs.Running.{Ends}
 use Rattle.bts_jobs.proofs.script.run_script_job.Goals as goal

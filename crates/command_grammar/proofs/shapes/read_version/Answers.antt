@@ -1,6 +1,6 @@
 use Rattle.std.proofs.Common.{◌≡◌, Option, cond, ap, ◌∙◌, subst}
 use Rattle.std.specs.List.{before_first, after_first}
-use Rattle.ancestry.specs.Nodes.{is_slash}
+use Rattle.version_nodes.specs.Nodes.{is_slash}
 use Rattle.bug_record.specs.declared.command.VersionArg.{VersionArg}
 use Rattle.bug_record.specs.declared.command.Refusal.TheVariants.{BadVersion}
 use Rattle.std.specs.Option.{ok_or}

@@ -6,7 +6,7 @@ use Rattle.bug_record.specs.declared.command.Command.{Command}
 use Rattle.bug_record.specs.declared.command.Refusal.{Refusal}
 use Rattle.line_words.specs.declared.named.Named.{Named}
 use Rattle.control_text.specs.WellFormed.{IsWellFormed}
-use Rattle.control_text.specs.Lines.{reading}
+use Rattle.command_grammar.specs.Lines.{reading}
 use Rattle.control_text.proofs.ReadingLemmas.{command_of-good, clean_after_word}
 use Rattle.control_text.proofs.line.read_line.Goals as goal
 

@@ -1,5 +1,5 @@
 use Rattle.std.proofs.Common.{◌≡◌, ◌∙◌, ◌+◌, ap, sym, ℕ, List, string_bytes, subst, arith, Some, Err}
-use Rattle.ancestry.specs.Nodes.{Node, node_of_text, IsRead}
+use Rattle.version_nodes.specs.Nodes.{Node, node_of_text, IsRead}
 use Rattle.desk_answers.proofs.NodesLemmas.{nodes_from, nodes_more, nodes_unread}
 use Rattle.desk_answers.proofs.branches.read_nodes.Goals as goal
 

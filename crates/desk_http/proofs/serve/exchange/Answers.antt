@@ -1,6 +1,6 @@
 use Rattle.std.proofs.Common.{rules, ◌≡◌, Option, Some, refl, sym, subst, take}
-use Rattle.desk_text.specs.declared.outcome.StoreFault.{StoreFault}
-use Rattle.desk_text.specs.declared.outcome.StoreFault.TheVariants.{Memory}
+use Rattle.bug_record.specs.declared.outcome.StoreFault.{StoreFault}
+use Rattle.bug_record.specs.declared.outcome.StoreFault.TheVariants.{Memory}
 use Rattle.request_reading.specs.Found.{IsFound}
 use Rattle.request_reading.specs.declared.head.Head.{Head}
 use Rattle.desk_store.proofs.HoldsLemmas.{holds_none, holds_weaker}

@@ -1,7 +1,7 @@
 use Rattle.std.proofs.Common.{List, ℕ, Bor, Option, Some, Err, sym, ap, ◌∙◌, subst}
 use Rattle.std.specs.Option.{option_copied}
 use Rattle.debver.specs.Cut.{IsVersion}
-use Rattle.ancestry.specs.Nodes.{node_at, IsRead}
+use Rattle.version_nodes.specs.Nodes.{node_at, IsRead}
 use Rattle.bug_record.specs.Texts.{IfGiven}
 use Rattle.record_changes.proofs.NodeLemmas.{at-some, at-none}
 use Rattle.desk_messages.specs.Reports.{node_reported}

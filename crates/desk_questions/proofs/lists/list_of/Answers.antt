@@ -1,6 +1,6 @@
 use Rattle.std.proofs.Common.{◌∙◌, sym, ap, subst, Err}
 use Rattle.std.specs.Prelude.{is_some}
-use Rattle.ancestry.specs.Nodes.{node_at, IsRead}
+use Rattle.version_nodes.specs.Nodes.{node_at, IsRead}
 use Rattle.desk_store.proofs.HoldsLemmas.{holds_none, holds_weaker}
 use Rattle.desk_questions.specs.Questions.{refusal}
 use Rattle.desk_questions.proofs.QuestionLemmas.{refused, told_so, list_of_bad_name, list_of_name}

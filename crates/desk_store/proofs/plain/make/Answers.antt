@@ -2,7 +2,7 @@ use Rattle.std.proofs.Common.{◌≡◌, ◌∙◌, List, sym, ap, subst}
 use Rattle.std.specs.Option.{option_or}
 use Rattle.bug_record.specs.Images.{CoverSets, bug_in, put}
 use Rattle.bug_record.specs.declared.bug.SetImage.{SetImage}
-use Rattle.desk_places.specs.Plain.{desk_of}
+use Rattle.bugs_in_memory.specs.Plain.{desk_of}
 use Rattle.desk_store.proofs.PlainLemmas.{desk_of-put}
 use Rattle.desk_store.proofs.plain.make.Goals as goal
 

@@ -1,6 +1,6 @@
 use Rattle.std.proofs.Common.{◌≡◌, rules, subst}
 use Rattle.sqlite.specs.Held.{state}
-use Rattle.ancestry.specs.Trees.{IsForest}
+use Rattle.version_nodes.specs.Trees.{IsForest}
 use Rattle.desk_tables.specs.Transactions.{IsAsked}
 use Rattle.desk_tables.proofs.TransactionLemmas.{asked}
 use Rattle.desk_tables.proofs.calls.ask_family.Goals as goal

@@ -2,7 +2,7 @@ use Rattle.std.proofs.Common.{◌≡◌, rules, subst}
 use Rattle.sqlite.specs.Held.{state}
 use Rattle.desk_content.specs.Content.{Content}
 use Rattle.desk_content.specs.View.{desk_in}
-use Rattle.desk_lists.specs.Asked.{IsAskedFor}
+use Rattle.desk_reads.specs.Asked.{IsAskedFor}
 use Rattle.desk_store.specs.Store.{IsOpenHead}
 use Rattle.desk_tables.specs.Transactions.{IsAsked}
 use Rattle.desk_tables.proofs.TransactionLemmas.{asked}

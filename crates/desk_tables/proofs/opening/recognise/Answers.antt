@@ -1,7 +1,7 @@
 use Rattle.std.proofs.Common.{ap, ◌∙◌}
 use Rattle.sqlite.specs.Held.{state}
-use Rattle.desk_making.specs.declared.making.Earlier.TheVariants.{First, Second}
-use Rattle.desk_making.specs.declared.number.SchemaRead.TheVariants.{Number}
+use Rattle.desk_migrations.specs.declared.making.Earlier.TheVariants.{First, Second}
+use Rattle.desk_migrations.specs.declared.number.SchemaRead.TheVariants.{Number}
 use Rattle.desk_tables.proofs.OpeningLemmas.{current, before, newer, no_number}
 use Rattle.desk_tables.proofs.opening.recognise.Goals as goal
 

@@ -1,5 +1,5 @@
 use Rattle.std.proofs.Common.{◌++◌, codes}
-use Rattle.ancestry.specs.Nodes.{node_text}
+use Rattle.version_nodes.specs.Nodes.{node_text}
 use Rattle.desk_text.proofs.Appends.{and_then, last_ok, within_err}
 use Rattle.desk_text.proofs.lists.append_subject.Goals as goal
 

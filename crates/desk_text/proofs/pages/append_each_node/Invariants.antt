@@ -1,5 +1,5 @@
 use Rattle.std.proofs.Common.{◌≡◌, ◌++◌, ◌∷◌, drop, flat_map}
-use Rattle.ancestry.specs.Nodes.{node_text}
+use Rattle.version_nodes.specs.Nodes.{node_text}
 use Rattle.desk_text.proofs.pages.append_each_node.Given as goal
 
 abbrev pub invariant-loop-node : goal.invariant-loop-node

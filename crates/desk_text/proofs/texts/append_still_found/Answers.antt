@@ -1,5 +1,5 @@
 use Rattle.std.proofs.Common.{codes}
-use Rattle.ancestry.specs.Nodes.{node_text}
+use Rattle.version_nodes.specs.Nodes.{node_text}
 use Rattle.desk_text.specs.Texts.{still_found_text}
 use Rattle.desk_text.proofs.Appends.{last_ok, within_err}
 use Rattle.desk_text.proofs.texts.append_still_found.Goals as goal

@@ -1,5 +1,5 @@
 use Rattle.std.proofs.Common.{◌≡◌, true, false, take}
-use Rattle.ancestry.specs.Nodes.{Node}
+use Rattle.version_nodes.specs.Nodes.{Node}
 use Rattle.nearest_marks.specs.Children.{is_child, is_pair}
 use Rattle.nearest_marks.proofs.children.add_pairs.Given as goal
 

@@ -1,5 +1,5 @@
 use Rattle.std.proofs.Common.{is_some, sym, ap, ◌∙◌}
-use Rattle.ancestry.specs.Nodes.{node_cmp}
+use Rattle.version_nodes.specs.Nodes.{node_cmp}
 use Rattle.std.specs.BTreeMap.{get}
 use Rattle.nearest_marks.proofs.ChildLemmas.{room_same, none_of}
 use Rattle.nearest_marks.proofs.children.make_room.Goals as goal

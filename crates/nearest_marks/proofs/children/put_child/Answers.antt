@@ -1,7 +1,7 @@
 use Rattle.std.proofs.Common.{IsSome, refl, sym, ap, subst}
 use Rattle.std.specs.List.{list_any}
 use Rattle.std.specs.BTreeMap.{is_at}
-use Rattle.ancestry.specs.Nodes.{node_cmp}
+use Rattle.version_nodes.specs.Nodes.{node_cmp}
 use Rattle.nearest_marks.proofs.ChildLemmas.{added, on_err, same_set}
 use Rattle.nearest_marks.proofs.children.put_child.Goals as goal
 

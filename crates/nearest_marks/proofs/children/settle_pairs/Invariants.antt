@@ -1,5 +1,5 @@
 use Rattle.std.proofs.Common.{◌≡◌, not, ◌||◌, ◌&&◌, take, Some}
-use Rattle.ancestry.specs.Nodes.{Node}
+use Rattle.version_nodes.specs.Nodes.{Node}
 use Rattle.ancestry.specs.Links.{has_parent}
 use Rattle.nearest_marks.specs.Children.{is_child, is_pair}
 use Rattle.nearest_marks.proofs.children.settle_pairs.Given as goal

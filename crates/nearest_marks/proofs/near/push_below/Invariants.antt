@@ -1,6 +1,6 @@
 use Rattle.std.proofs.Common.{◌≡◌, ◌++◌, is_some}
 use Rattle.std.specs.BTreeMap.{get}
-use Rattle.ancestry.specs.Nodes.{node_cmp}
+use Rattle.version_nodes.specs.Nodes.{node_cmp}
 use Rattle.nearest_marks.specs.Walks.{rows_below}
 use Rattle.nearest_marks.proofs.near.push_below.Given as goal
 

@@ -1,6 +1,6 @@
 use Rattle.std.proofs.Common.{is_some, ap}
 use Rattle.std.specs.BTreeMap.{get}
-use Rattle.ancestry.specs.Nodes.{Node, node_cmp}
+use Rattle.version_nodes.specs.Nodes.{Node, node_cmp}
 use Rattle.nearest_marks.proofs.WalkLemmas.{step_none, step_some}
 use Rattle.nearest_marks.proofs.near.push_children.Goals as goal
 

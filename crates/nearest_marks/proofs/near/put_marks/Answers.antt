@@ -1,7 +1,7 @@
 use Rattle.std.proofs.Common.{cond, Some}
 use Rattle.std.specs.BTreeMap.{get}
-use Rattle.ancestry.specs.Nodes.{node_cmp}
-use Rattle.ancestry.specs.Trees.{has_node}
+use Rattle.version_nodes.specs.Nodes.{node_cmp}
+use Rattle.version_nodes.specs.Trees.{has_node}
 use Rattle.nearest_marks.proofs.MarkLemmas.{marks_more}
 use Rattle.nearest_marks.proofs.near.put_marks.Goals as goal
 

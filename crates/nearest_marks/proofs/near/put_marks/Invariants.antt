@@ -1,7 +1,7 @@
 use Rattle.std.proofs.Common.{◌≡◌, cond, drop, Some}
 use Rattle.std.specs.BTreeMap.{get}
-use Rattle.ancestry.specs.Nodes.{Node, node_cmp}
-use Rattle.ancestry.specs.Trees.{has_node}
+use Rattle.version_nodes.specs.Nodes.{Node, node_cmp}
+use Rattle.version_nodes.specs.Trees.{has_node}
 use Rattle.nearest_marks.proofs.near.put_marks.Given as goal
 
 -- with those that are left the map is the whole one

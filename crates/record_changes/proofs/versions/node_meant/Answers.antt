@@ -1,6 +1,6 @@
 use Rattle.std.proofs.Common.{Err, sym, ap, ◌∙◌, subst}
 use Rattle.std.specs.Prelude.{unwrap_or}
-use Rattle.ancestry.specs.Nodes.{node_at, IsRead}
+use Rattle.version_nodes.specs.Nodes.{node_at, IsRead}
 use Rattle.record_changes.proofs.NodeLemmas.{at-some, at-none-meant}
 use Rattle.record_changes.proofs.versions.node_meant.Goals as goal
 

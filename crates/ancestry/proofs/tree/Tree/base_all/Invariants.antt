@@ -1,6 +1,6 @@
 use Rattle.std.proofs.Common.{◌≡◌, ◌∷◌, true, drop}
-use Rattle.ancestry.specs.Nodes.{Node}
-use Rattle.ancestry.specs.Trees.{has_node, knows, is_parent, IsForest}
+use Rattle.version_nodes.specs.Nodes.{Node}
+use Rattle.version_nodes.specs.Trees.{has_node, knows, is_parent, IsForest}
 use Rattle.ancestry.specs.Branches.{base_all}
 use Rattle.ancestry.specs.Branches.{Extends}
 use Rattle.ancestry.specs.Kept.{Adds}

@@ -3,9 +3,9 @@ use Rattle.std.proofs.lemmas.Grind.{common_steps}
 use Rattle.std.specs.Prelude.{filter}
 use Rattle.std.specs.List.Sorted.{IsStrictlySortedBy}
 use Rattle.std.specs.Ordering.{is_le}
-use Rattle.ancestry.specs.Nodes.{node_cmp, node_of, IsRead}
-use Rattle.ancestry.specs.Trees.{heads, IsForest}
-use Rattle.ancestry.specs.Kept.{lowest_version}
+use Rattle.version_nodes.specs.Nodes.{node_cmp, node_of, IsRead}
+use Rattle.version_nodes.specs.Trees.{heads, IsForest}
+use Rattle.version_nodes.specs.Lowest.{lowest_version}
 use Rattle.ancestry.proofs.HeadLemmas.{no_heads, no_source, at_lowest, one_found, none_found, found_before, found_all}
 use Rattle.ancestry.proofs.HeadLemmas.{heads_ascend}
 use Rattle.ancestry.proofs.tree.Tree.heads.Goals as goal

@@ -1,5 +1,5 @@
 use Rattle.std.proofs.Common.{◌≡◌, length}
-use Rattle.ancestry.specs.Trees.{has_node, line}
+use Rattle.version_nodes.specs.Trees.{has_node, line}
 use Rattle.ancestry.proofs.tree.Tree.leads_to.Given as goal
 
 abbrev pub invariant-loop-parent : goal.invariant-loop-parent

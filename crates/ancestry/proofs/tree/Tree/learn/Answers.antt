@@ -1,8 +1,8 @@
 use Rattle.std.proofs.Common.{None, sym, ◌∙◌, subst, arith}
 use Rattle.std.proofs.lemmas.Grind.{common_steps}
 use Rattle.std.specs.BTreeMap.{insert_entry}
-use Rattle.ancestry.specs.Nodes.{node_cmp}
-use Rattle.ancestry.specs.Trees.{IsForest}
+use Rattle.version_nodes.specs.Nodes.{node_cmp}
+use Rattle.version_nodes.specs.Trees.{IsForest}
 use Rattle.ancestry.specs.Kept.{AreParents}
 use Rattle.ancestry.proofs.BranchLemmas.{learnt_forest}
 use Rattle.ancestry.proofs.ParentLemmas.{kept_learnt}

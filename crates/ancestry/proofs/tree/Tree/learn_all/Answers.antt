@@ -3,7 +3,7 @@ use Rattle.std.proofs.lemmas.List.{at_drop_more}
 use Rattle.ancestry.specs.Branches.{learn, learn_all}
 use Rattle.ancestry.specs.Branches.{Extends}
 use Rattle.ancestry.specs.Kept.{Adds}
-use Rattle.ancestry.specs.Trees.{is_parent}
+use Rattle.version_nodes.specs.Trees.{is_parent}
 use Rattle.ancestry.proofs.ChangeLemmas.{has_at, extends_also, extends_learn}
 use Rattle.ancestry.proofs.ParentLemmas.{adds_also, adds_learn}
 use Rattle.ancestry.proofs.tree.Tree.learn_all.Goals as goal

@@ -1,5 +1,5 @@
 use Rattle.std.proofs.Common.{◌≡◌, drop}
-use Rattle.ancestry.specs.Trees.{is_parent, IsForest}
+use Rattle.version_nodes.specs.Trees.{is_parent, IsForest}
 use Rattle.ancestry.specs.Branches.{learn_all}
 use Rattle.ancestry.specs.Branches.{Extends}
 use Rattle.ancestry.specs.Kept.{Adds}

@@ -1,6 +1,6 @@
 use Rattle.std.proofs.Common.{◌++◌, [], ◌∷◌, length, ap, sym, ◌∙◌, append_assoc, arith}
 use Rattle.std.specs.Option.{option_copied}
-use Rattle.ancestry.specs.Trees.{line}
+use Rattle.version_nodes.specs.Trees.{line}
 use Rattle.ancestry.proofs.LineLemmas.{line_above}
 use Rattle.ancestry.proofs.WalkLemmas.{walk_step}
 use Rattle.ancestry.proofs.tree.Tree.line.Goals as goal

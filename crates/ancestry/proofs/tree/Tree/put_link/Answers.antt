@@ -1,5 +1,5 @@
 use Rattle.std.proofs.Common.{[], ◌∷◌, sym, ap, ◌∙◌, subst}
-use Rattle.ancestry.specs.Trees.{is_parent, IsForest}
+use Rattle.version_nodes.specs.Trees.{is_parent, IsForest}
 use Rattle.ancestry.specs.Branches.{Extends}
 use Rattle.ancestry.proofs.ChangeLemmas.{all_put_back}
 use Rattle.ancestry.proofs.tree.Tree.put_link.Goals as goal

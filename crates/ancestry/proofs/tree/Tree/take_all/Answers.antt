@@ -2,8 +2,8 @@ use Rattle.std.proofs.Common.{◌≡◌, true, List, sym, subst, All, arith}
 use Rattle.std.proofs.lemmas.Grind.{common_steps}
 use Rattle.std.proofs.lemmas.List.Elements.{All-weaker}
 use Rattle.std.proofs.lemmas.Result.{on_ok_weaker}
-use Rattle.ancestry.specs.Nodes.{Node}
-use Rattle.ancestry.specs.Trees.{Ancestry, knows, IsForest}
+use Rattle.version_nodes.specs.Nodes.{Node}
+use Rattle.version_nodes.specs.Trees.{Ancestry, knows, IsForest}
 use Rattle.ancestry.specs.Branches.{learn_all, AreBased}
 use Rattle.ancestry.proofs.AncestorLemmas.{Keeps, Course, learn_all_known, learn_all_keeps}
 use Rattle.ancestry.proofs.TakeLemmas.{course_made}

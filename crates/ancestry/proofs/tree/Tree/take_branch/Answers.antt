@@ -1,6 +1,6 @@
 use Rattle.std.proofs.Common.{refl, sym, ap, ◌∙◌, subst, arith}
 use Rattle.std.proofs.lemmas.Grind.{common_steps}
-use Rattle.ancestry.specs.Trees.{is_parent, IsForest}
+use Rattle.version_nodes.specs.Trees.{is_parent, IsForest}
 use Rattle.ancestry.specs.Branches.{Extends}
 use Rattle.ancestry.specs.Kept.{Adds}
 use Rattle.ancestry.proofs.ParentLemmas.{adds_kept}

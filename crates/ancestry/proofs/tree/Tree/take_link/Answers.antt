@@ -1,5 +1,5 @@
 use Rattle.std.proofs.Common.{[], ◌∷◌, Result, Ok, Err, OnErr, sym, ap, ◌∙◌, subst}
-use Rattle.ancestry.specs.Trees.{is_parent, IsForest}
+use Rattle.version_nodes.specs.Trees.{is_parent, IsForest}
 use Rattle.ancestry.specs.Branches.{Extends}
 use Rattle.ancestry.proofs.LinkedLemmas.{one_extends, one_parents, knows_child, knows_above, same_parents, still_apart, link_extends, link_parents}
 use Rattle.ancestry.proofs.tree.Tree.take_link.Goals as goal

@@ -1,8 +1,8 @@
 use Rattle.std.proofs.Common.{◌≡◌, ◌∙◌, ap, sym, subst, rules}
-use Rattle.ancestry.specs.Trees.{Ancestry}
+use Rattle.version_nodes.specs.Trees.{Ancestry}
 use Rattle.bug_record.specs.Desk.{IsSound}
-use Rattle.desk_places.specs.Keys.{no_bugs, keyed_desk}
-use Rattle.desk_places.specs.Plain.{desk_of, empty_desk}
+use Rattle.bugs_in_memory.specs.Keys.{no_bugs, keyed_desk}
+use Rattle.bugs_in_memory.specs.Plain.{desk_of, empty_desk}
 use Rattle.message_machine.specs.Kept.{AreGoodKept}
 use Rattle.desk_store.proofs.KeepLemmas.{none-good}
 use Rattle.desk_store.proofs.PlainLemmas.{desk_of-keyed}

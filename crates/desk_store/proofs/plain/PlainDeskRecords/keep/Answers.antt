@@ -3,8 +3,8 @@ use Rattle.std.specs.Option.{option_copied}
 use Rattle.std.specs.Result.{is_err}
 use Rattle.std.proofs.lemmas.Bool.{false≢true}
 use Rattle.message_machine.specs.Kept.{Keeping, AreGoodKept, kept_also}
-use Rattle.desk_places.specs.Plain.{desk_of}
-use Rattle.desk_text.specs.declared.outcome.Outcome.{Outcome}
+use Rattle.bugs_in_memory.specs.Plain.{desk_of}
+use Rattle.bug_record.specs.declared.outcome.Outcome.{Outcome}
 use Rattle.desk_store.specs.KeptMessages.{keeping_of, without_last}
 use Rattle.desk_store.specs.Store.{with_change}
 use Rattle.desk_store.proofs.PlainLemmas.{desk_of-same, made-sound}

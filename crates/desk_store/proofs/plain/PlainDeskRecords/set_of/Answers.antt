@@ -1,5 +1,5 @@
 use Rattle.std.proofs.Common.{Some, sym, subst}
-use Rattle.desk_places.specs.Plain.{desk_of}
+use Rattle.bugs_in_memory.specs.Plain.{desk_of}
 use Rattle.desk_store.specs.Store.{IsImageOf}
 use Rattle.desk_store.proofs.PlainLemmas.{image-is}
 use Rattle.desk_store.proofs.plain.PlainDeskRecords.set_of.Goals as goal

@@ -1,6 +1,6 @@
 use Rattle.sqlite.specs.Held.{state}
 use Rattle.sqlite.specs.State.{HasCleanDisk}
-use Rattle.desk_lists.specs.Asked.{IsAskedFor}
+use Rattle.desk_reads.specs.Asked.{IsAskedFor}
 use Rattle.desk_content.specs.View.{desk_in}
 use Rattle.desk_store.specs.Store.{IsOpenHead}
 use Rattle.desk_tables.specs.Kept.{content_seen, desk_seen, IsKept}

@@ -1,5 +1,5 @@
 use Rattle.std.proofs.Common.{◌≡◌, Some, refl, sym, ◌∙◌}
-use Rattle.ancestry.specs.Trees.{IsForest}
+use Rattle.version_nodes.specs.Trees.{IsForest}
 use Rattle.desk_tables.specs.Kept.{content_seen}
 use Rattle.desk_tables.proofs.KeptLemmas.{noted, kept, was_kept, no_tree}
 use Rattle.desk_tables.proofs.desk.TableDesk.load.Goals as goal

@@ -1,5 +1,5 @@
 use Rattle.std.proofs.Common.{◌&&◌}
-use Rattle.ancestry.specs.Nodes.{same_node}
+use Rattle.version_nodes.specs.Nodes.{same_node}
 use Rattle.nearest_marks.proofs.FamilyLemmas.{settled}
 use Rattle.nearest_marks.proofs.family.Family.put_under.Goals as goal
 

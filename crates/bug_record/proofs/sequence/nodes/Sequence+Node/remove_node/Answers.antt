@@ -1,7 +1,7 @@
 use Rattle.std.proofs.Common.{ap, ◌∙◌, rules}
 use Rattle.std.specs.Prelude.{not}
 use Rattle.std.proofs.lemmas.Fn.{filter_same}
-use Rattle.ancestry.specs.Nodes.{same_node}
+use Rattle.version_nodes.specs.Nodes.{same_node}
 use Rattle.bug_record.specs.Marks.{without_node}
 use Rattle.bug_record.proofs.sequence.nodes.Sequence+Node.remove_node.Goals as goal
 

@@ -1,4 +1,0 @@
-pub mod AddAffected
-pub mod ClearAffected
-pub mod ReadAffected
-pub mod ReadAffecting

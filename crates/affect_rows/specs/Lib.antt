@@ -1,3 +1,0 @@
-pub mod Affecting
--- definitions that only private functions cite
-pub mod Names

@@ -1,6 +1,0 @@
-mod CutLemmas
-mod PlaceLemmas
-mod LineLemmas
-mod ReadLemmas
-mod FaultLemmas
-mod JoinLemmas

@@ -1,5 +1,0 @@
-use Rattle.std.proofs.Common.{rules}
-use Rattle.bts_words.proofs.writer.Writer.meant.Goals as goal
-
-pub returns-then-is_it : goal.returns-then-is_it
-returns-then-is_it c = search rules

@@ -1,0 +1,30 @@
+use Rattle.std.proofs.lemmas.Result.{on_ok_weaker, on_err_weaker}
+use Rattle.version_nodes.specs.Trees.{no_nodes}
+use Rattle.bugs_in_memory.proofs.AfterLemmas.{same_sets, sets_after, fit-put, bugs-after}
+use Rattle.bugs_in_memory.proofs.bug_sets.BugSets.put.Goals as goal
+
+pub invariant_of-self : goal.invariant_of-self
+invariant_of-self c =
+    let old = c.args.self.now in
+    record {
+      keyed =
+          fit-put old.places c.put_images.new.bugs c.args.images.now c.requires.apart (c.requires.whole no_nodes 0) old.keyed
+          c.put_images.result c.put_images.ensures.ok c.put_images.ensures.err;
+    }
+
+pub returns-clause-ok : goal.returns-clause-ok
+returns-clause-ok c =
+    on_ok_weaker c.put_images.result (sets_after c.args.self.now.places c.put_images.new.bugs c.args.images.now)
+    c.put_images.ensures.ok
+
+pub returns-clause-bugs : goal.returns-clause-bugs
+returns-clause-bugs c =
+    let old = c.args.self.now in
+    on_ok_weaker c.put_images.result
+    (λ h tree next. bugs-after old.places c.put_images.new.bugs c.args.images.now c.requires.apart (c.requires.whole no_nodes 0)
+    old.keyed h)
+    c.put_images.ensures.ok
+
+pub returns-clause-err : goal.returns-clause-err
+returns-clause-err c =
+    on_err_weaker c.put_images.result (same_sets c.put_images.new.bugs c.args.self.now.places) c.put_images.ensures.err

@@ -1,0 +1,6 @@
+pub mod Keys
+pub mod Places
+pub mod Plain
+-- definitions that only private functions cite
+pub mod Passing
+pub mod PlacesOfImages

@@ -1,0 +1,61 @@
+//! The bugs of a desk in memory, by sets, as one value.
+
+ghost use Rattle.std.specs.Prelude.{◌≡◌, ℕ, OnOk, OnErr};
+ghost use Rattle.std.specs.Option.{option_or, option_and_then, option_copied};
+ghost use Rattle.version_nodes.specs.Trees.{Ancestry};
+ghost use Rattle.bug_record.specs.Images.{AreApart, CoverSets, bug_in};
+ghost use Rattle.bugs_in_memory.specs.Keys.{IsKeyed, no_bugs, after_images};
+ghost use Rattle.bugs_in_memory.specs.Places.{keys, sets};
+
+use crate::places::{Place, image_of, put_images};
+use bug_record::SetImage;
+use std::alloc::{AllocError, Global};
+use std::collections::HashMap;
+
+/// The bugs of a desk in memory: the image of each set of merged bugs stands at the first of them,
+/// and the number of the first at the others.
+/// Contracts see the key of each bug, which is the number of the first of its set, and the image of
+/// each key.
+/// This project's own rule.
+#[derive(Drop)]
+pub struct BugSets {
+    pub(crate) places: HashMap<u64, Place>,
+    pub ghost keyed: { IsKeyed (keys places) (sets places) },
+}
+
+impl BugSets {
+    ghost use Rattle.bugs_in_memory.specs.Plain.{keyed_of, desk_of};
+
+    /// No bug.
+    /// It takes no memory.
+    pub fn new(alloc: Global) -> BugSets
+        ensures { keyed_of result ≡ no_bugs }
+    {
+        BugSets {
+            places: HashMap::new(alloc),
+        }
+    }
+
+    /// The image of the set that the bug of this number is in, if there is such a bug.
+    /// Takes no memory.
+    pub fn image_of(&self, number: u64) -> Option<&SetImage>
+        ensures { option_copied result ≡ option_and_then (keyed_of self.now).set ((keyed_of self.now).key number) }
+    {
+        image_of(&self.places, number)
+    }
+
+    /// Puts images of whole sets: each bug that they have is in the set of its image, and a number
+    /// that was a key stays one only where it is the first of its image.
+    /// Where there is no memory, all is as before; only a new number can want memory.
+    /// One image that keeps its set, or has one bug alone, is put with one or two look-ups.
+    pub fn put(&mut self, alloc: Global, images: &[SetImage]) -> Result<(), AllocError>
+        requires apart { AreApart images.now }
+        requires whole { (tree : Ancestry) (next : ℕ) → CoverSets (desk_of self.old tree next) images.now }
+        ensures ok { OnOk result (keyed_of self.new ≡ after_images (keyed_of self.old) images.now) }
+        ensures bugs { OnOk result ((tree : Ancestry) (next n : ℕ) → (desk_of self.new tree next).bug n
+            ≡ option_or (bug_in images.now n) ((desk_of self.old tree next).bug n)) }
+        ensures err { OnErr result (keyed_of self.new ≡ keyed_of self.old) }
+    {
+        put_images(alloc, &mut self.places, images)
+    }
+}

@@ -1,0 +1,13 @@
+//! A desk in memory, by sets: a map that gives each bug its place in its set, where the image of
+//! the set stands at the first of them; what is put into it, and what is asked of it.
+#![tactic(auto)]
+
+mod bug_sets;
+mod heads;
+mod lists;
+mod passing;
+mod places;
+mod waiting;
+
+pub use bug_sets::BugSets;
+pub use heads::open_head;

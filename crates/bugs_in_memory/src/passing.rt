@@ -1,0 +1,132 @@
+//! What is asked of all bugs of a desk in memory: those whose shared fields pass a test.
+
+ghost use Rattle.std.specs.Prelude.{◌≡◌, ℕ, IfOk, OnOk};
+ghost use Rattle.std.specs.Str.{bytes_eq};
+ghost use Rattle.version_nodes.specs.Statuses.{status_on};
+ghost use Rattle.version_nodes.specs.Trees.{Ancestry};
+ghost use Rattle.bug_record.specs.Asked.{numbers_where};
+ghost use Rattle.bug_record.specs.Desk.{IsSound};
+ghost use Rattle.bug_record.specs.Heads.{is_found};
+ghost use Rattle.bug_record.specs.Images.{numbers_of};
+ghost use Rattle.bug_record.specs.PackageSets.{has_name};
+ghost use Rattle.bug_record.specs.Sets.{has, with_items};
+ghost use Rattle.bugs_in_memory.specs.Plain.{desk_of};
+ghost use Rattle.bug_record.specs.Lists.{concerns};
+ghost use Rattle.bugs_in_memory.specs.Passing.{is_listed_on, test_of, passing_there};
+
+use crate::bug_sets::BugSets;
+use crate::heads::is_there;
+use crate::places::Place;
+use ancestry::IndexedLine;
+use bug_record::{Member, Numbers, Sequence, Shared, add_number};
+use debver::Text;
+use std::alloc::{AllocError, Global};
+use std::collections::BTreeSet;
+
+/// What is asked of a bug.
+#[derive(Clone, Copy)]
+pub(crate) enum Question<'a> {
+    /// Whether it waits on the bug of this number.
+    WaitsOn(u64),
+    /// Whether it is a bug of this package or affects it, is not archived, and is found at the node
+    /// of this line.
+    IsListed(&'a str, &'a IndexedLine),
+}
+
+// Whether a bug with these fields is found at the node of this line.
+fn is_found_on(shared: &Shared, line: &IndexedLine) -> bool
+    ensures { result ≡ is_found (status_on line.now shared.now.found shared.now.fixed shared.now.closed) }
+{
+    let (found, fixed) = (shared.found.as_slice(), shared.fixed.as_slice());
+    is_there(line.status(found, fixed, shared.closed))
+}
+
+// Whether a package has this name.
+fn is_named(package: &str, name: &Text) -> bool
+    ensures { result ≡ bytes_eq «package».now name.now }
+{
+    package == name.as_str()
+}
+
+// Whether this package is among those.
+fn is_among(package: &str, names: &[Text]) -> bool
+    ensures { result ≡ has_name names.now «package».now }
+{
+    names.iter().any(|name| is_named(package, name))
+}
+
+// Whether a bug with these fields is one of this package or affects it.
+fn concerns(shared: &Shared, package: &str) -> bool
+    ensures { result ≡ concerns shared.now «package».now }
+{
+    shared.package.as_str() == package || is_among(package, shared.affects.as_slice())
+}
+
+// Whether a bug with these fields is listed for this package, at the node of this line.
+fn is_listed(shared: &Shared, package: &str, line: &IndexedLine) -> bool
+    ensures { result ≡ is_listed_on line.now «package».now shared.now }
+{
+    concerns(shared, package) && !shared.archived && is_found_on(shared, line)
+}
+
+// Whether these fields name the bug of this number as a blocker.
+fn waits_on(shared: &Shared, number: u64) -> bool
+    ensures { result ≡ has shared.now.blockers number }
+{
+    shared.blockers.as_slice().contains(&number)
+}
+
+// Whether the answer is yes, of a bug with these fields.
+fn holds(question: Question, shared: &Shared) -> bool
+    ensures { result ≡ test_of question.entry shared.now }
+{
+    match question {
+        Question::WaitsOn(number) => waits_on(shared, number),
+        Question::IsListed(package, line) => is_listed(shared, package, line),
+    }
+}
+
+// Adds the numbers of these members to a set.
+fn add_members(numbers: &mut BTreeSet<u64>, members: &[Member]) -> Result<(), AllocError>
+    ensures { OnOk result (numbers.new.keys ≡ with_items (λ n. n) numbers.old.keys (numbers_of members.now)) }
+{
+    for member in members {
+        add_number(numbers, member.number)?;
+    }
+    Ok(())
+}
+
+// Adds the bugs of the set whose image stands at a place, where the answer is yes.
+fn add_passing(
+    numbers: &mut BTreeSet<u64>,
+    place: &Place,
+    question: Question,
+) -> Result<(), AllocError>
+    ensures { OnOk result
+        (numbers.new.keys ≡ with_items (λ n. n) numbers.old.keys (passing_there (test_of question.entry) place.now)) }
+{
+    match place {
+        Place::First(image) => {
+            if holds(question, image.shared.fields()) {
+                return add_members(numbers, image.members.as_slice());
+            }
+            Ok(())
+        }
+        Place::After(_) => Ok(()),
+    }
+}
+
+impl BugSets {
+    /// The bugs of which the answer is yes, ascending.
+    /// Each set is looked at once, not once for each of its bugs.
+    pub(crate) fn passing(&self, alloc: Global, question: Question) -> Result<Numbers, AllocError>
+        ensures { (tree : Ancestry) (next : ℕ) → IsSound (desk_of self.now tree next)
+            → IfOk result (λ numbers. numbers ≡ numbers_where (test_of question.entry) (desk_of self.now tree next)) }
+    {
+        let mut numbers = BTreeSet::new(alloc);
+        for place in self.places.values() {
+            add_passing(&mut numbers, place, question)?;
+        }
+        Sequence::in_order(alloc, &numbers)
+    }
+}

@@ -1,3 +1,0 @@
-pub mod MarkedLemmas
-pub mod RowSteps
-pub mod BranchSteps

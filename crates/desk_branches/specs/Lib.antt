@@ -1,3 +1,0 @@
--- definitions that only private functions cite
-pub mod Marked
-pub mod Steps

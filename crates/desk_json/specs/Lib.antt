@@ -1,4 +1,0 @@
-pub mod Body
-pub mod Members
-pub mod Shown
-pub mod Answers

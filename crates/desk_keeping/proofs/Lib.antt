@@ -1,3 +1,0 @@
-pub mod LineSteps
-pub mod OutcomeSteps
-pub mod ReadSteps

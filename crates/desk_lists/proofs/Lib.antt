@@ -1,6 +1,0 @@
-pub mod WhereSteps
-pub mod RowSteps
-pub mod MapLemmas
-pub mod FoundLemmas
-pub mod ListedLemmas
-pub mod OpenLemmas

@@ -1,5 +1,0 @@
-pub mod Asked
--- definitions that only private functions cite
-pub mod Found
-pub mod Rows
-pub mod Keys

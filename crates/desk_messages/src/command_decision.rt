@@ -1,0 +1,202 @@
+//! What one command of a message comes to, decided by questions to a store.
+
+ghost use Rattle.std.specs.Prelude.{◌≡◌, ◌≤◌, ◌++◌, ℕ, List, length, Ok, None, IfOk, OnOk, OnErr, Result};
+ghost use Rattle.bug_record.specs.Sets.{Each};
+ghost use Rattle.bug_record.specs.Texts.{IsText, IfGiven};
+ghost use Rattle.bug_record.specs.Desk.{Desk};
+ghost use Rattle.bug_record.specs.Images.{AreApart, HasMember};
+ghost use Rattle.bug_record.specs.Clones.{name_refusal};
+ghost use Rattle.bug_record.specs.Commands.{HasGoodParts, bugs_named, names_in};
+ghost use Rattle.bug_record.specs.Words.{Names};
+ghost use Rattle.line_words.specs.Bugs.{IsGoodBug};
+ghost use Rattle.line_words.specs.Numbers.{IsGoodNumber};
+ghost use Rattle.desk_store.specs.Store.{Asks, Answers, faults_after};
+ghost use Rattle.desk_messages.specs.Commands.{HaveNumbers, MayBeMade, Fits, Makes, DecidesTold, Decides};
+ghost use Rattle.message_machine.specs.Message.{names_of};
+
+use crate::plan_inputs::ask;
+use crate::written_images::written;
+use bug_core::{changed, plan};
+use bug_record::{Change, Command, Outcome, PlanFault, Refusal, SetImage, StoreFault};
+use control_text::Named;
+use desk_store::Records;
+use message_names::{KnownNames, command_told, names_in, refusal_meant, with_names};
+use std::alloc::{AllocError, Global};
+
+/// What a line comes to that has an outcome: the outcome, and the change that the line makes, if it
+/// makes one.
+#[derive(Drop)]
+pub struct Decision {
+    pub outcome: Outcome,
+    pub change: Option<Change>,
+}
+
+/// An outcome without a change.
+pub(crate) fn without_change(outcome: Outcome) -> Decision
+    ensures outcome { result.outcome ≡ outcome }
+    ensures change { result.change ≡ None }
+{
+    Decision {
+        outcome,
+        change: None,
+    }
+}
+
+// What is made of a planned change: of several images, those with a changed bug are written.
+// A change of nothing isn't made.
+fn decide_change(
+    alloc: Global,
+    images: &[SetImage],
+    next: u64,
+    change: Change,
+) -> Result<Decision, StoreFault>
+    requires { Each HasMember change.images }
+    ensures made { IfOk result (λ decision. (d : Desk) → AreApart change.images → MayBeMade d images.now next change
+        → Makes d change decision) }
+    ensures members { IfOk result (λ decision. IfGiven (λ c. Each HasMember c.images) decision.change) }
+    ensures memory { OnErr result (result ≡ Result.Err StoreFault.Memory) }
+{
+    let Ok(numbers) = changed(alloc, images, change.images.as_slice()) else {
+        return Err(StoreFault::Memory);
+    };
+    if numbers.as_slice().is_empty() && change.next == next {
+        return Ok(without_change(Outcome::Changed(numbers)));
+    }
+    match written(alloc, change, numbers.as_slice()) {
+        Ok(change) => Ok(Decision {
+            outcome: Outcome::Changed(numbers),
+            change: Some(change),
+        }),
+        Err(_) => Err(StoreFault::Memory),
+    }
+}
+
+// Decides one command that was told; `taken` is the refusal of the names that it gives.
+fn decide_told<S: Records>(
+    alloc: Global,
+    store: &mut S,
+    from: &str,
+    taken: Option<Refusal>,
+    command: &Command<u64>,
+) -> Result<Decision, StoreFault>
+    requires sender { IsText from.now }
+    requires parts { HasGoodParts command.now }
+    ensures answer { Asks S.is_kept S.is_honest store.old store.new
+        (Answers (S.desk store.old) (S.desk store.new) result
+        (λ decision. (names : Names) → taken ≡ name_refusal names (names_in command.now)
+        → DecidesTold from.now names (S.desk store.old) command.now decision)) }
+    ensures free { IfOk result (λ decision. (numbers : List ℕ) → decision.outcome ≡ Outcome.Changed numbers → taken ≡ None) }
+    ensures members { IfOk result (λ decision. IfGiven (λ c. Each HasMember c.images) decision.change) }
+    ensures stays { S.keeping store.new ≡ S.keeping store.old }
+    ensures count { S.faults store.new ≡ faults_after result (S.faults store.old) }
+{
+    let (images, open_head) = match ask(alloc, store, command) {
+        Ok(answers) => answers,
+        Err(fault) => return Err(fault),
+    };
+    let next = match store.next() {
+        Ok(next) => next,
+        Err(fault) => return Err(fault),
+    };
+    let sets = images.as_slice();
+    let planned = plan(alloc, command, from, sets, next, open_head.as_ref());
+    match with_names(taken, planned) {
+        Ok(change) => decide_change(alloc, sets, next, change),
+        Err(PlanFault::Refused(refusal)) => {
+            Ok(without_change(Outcome::Refused(refusal_meant(refusal))))
+        }
+        Err(PlanFault::Memory) => Err(StoreFault::Memory),
+    }
+}
+
+// The refusal of the first of these names that can't be given.
+// Makes room for them; no names need none.
+fn name_refusal(
+    alloc: Global,
+    known: &mut KnownNames,
+    names: &[u32],
+) -> Result<Option<Refusal>, AllocError>
+    ensures same { known.new.names ≡ known.old.names }
+    ensures refusal { IfOk result (λ refusal. refusal ≡ name_refusal known.old.names names.now) }
+    ensures room { OnOk result (length names.now ≤ known.new.room) }
+{
+    if names.is_empty() {
+        return Ok(None);
+    }
+    known.make_room(names.len())?;
+    known.refusal(alloc, names)
+}
+
+// Makes the names known that a command gives, where it is accepted.
+fn note_names(known: &mut KnownNames, names: &[u32], outcome: &Outcome)
+    requires room { length names.now ≤ known.old.room }
+    requires free { (numbers : List ℕ) → outcome.now ≡ Outcome.Changed numbers
+        → name_refusal known.old.names names.now ≡ None }
+    ensures { known.new.names ≡ known.old.names ++ names_of names.now outcome.now }
+{
+    if let Outcome::Changed(numbers) = outcome {
+        known.bind(names, numbers.as_slice());
+    }
+}
+
+// Decides one command that was told where these names are known, and notes those that it gives.
+fn decide_known<S: Records>(
+    alloc: Global,
+    store: &mut S,
+    from: &str,
+    known: &mut KnownNames,
+    command: &Command<u64>,
+) -> Result<Decision, StoreFault>
+    requires sender { IsText from.now }
+    requires parts { HasGoodParts command.now }
+    ensures answer { Asks S.is_kept S.is_honest store.old store.new
+        (Answers (S.desk store.old) (S.desk store.new) result
+        (DecidesTold from.now known.old.names (S.desk store.old) command.now)) }
+    ensures named { IfOk result
+        (λ decision. known.new.names ≡ known.old.names ++ names_of (names_in command.now) decision.outcome) }
+    ensures members { IfOk result (λ decision. IfGiven (λ c. Each HasMember c.images) decision.change) }
+    ensures stays { S.keeping store.new ≡ S.keeping store.old }
+    ensures count { S.faults store.new ≡ faults_after result (S.faults store.old) }
+{
+    let names = names_in(command);
+    let Ok(taken) = name_refusal(alloc, known, names) else {
+        return Err(StoreFault::Memory);
+    };
+    match decide_told(alloc, store, from, taken, command) {
+        Ok(decision) => {
+            note_names(known, names, &decision.outcome);
+            Ok(decision)
+        }
+        Err(fault) => Err(fault),
+    }
+}
+
+/// What one command comes to, which changes nothing yet.
+/// The names that are known are then those that an accepted `clone` gives too.
+pub(crate) fn decide_command<S: Records>(
+    alloc: Global,
+    store: &mut S,
+    from: &str,
+    known: &mut KnownNames,
+    command: Command<Named>,
+) -> Result<Decision, StoreFault>
+    requires sender { IsText from.now }
+    requires bugs { Each IsGoodBug (bugs_named command) }
+    requires names { Each IsGoodNumber (names_in command) }
+    requires parts { HasGoodParts command }
+    ensures answer { Asks S.is_kept S.is_honest store.old store.new
+        (Answers (S.desk store.old) (S.desk store.new) result (λ decision. HaveNumbers known.old.names
+        → Decides from.now known.old.names (S.desk store.old) command decision × HaveNumbers known.new.names)) }
+    ensures fits { S.is_kept store.new → S.is_honest store.new
+        → IfOk result (λ decision. Fits (S.desk store.new) decision.change) }
+    ensures named { IfOk result
+        (λ decision. known.new.names ≡ known.old.names ++ names_of (names_in command) decision.outcome) }
+    ensures members { IfOk result (λ decision. IfGiven (λ c. Each HasMember c.images) decision.change) }
+    ensures stays { S.keeping store.new ≡ S.keeping store.old }
+    ensures count { S.faults store.new ≡ faults_after result (S.faults store.old) }
+{
+    match command_told(alloc, known, command) {
+        Ok(command) => decide_known(alloc, store, from, known, &command),
+        Err(_) => Err(StoreFault::Memory),
+    }
+}

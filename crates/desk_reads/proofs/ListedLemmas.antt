@@ -1,0 +1,277 @@
+-- The rows of all sets of a package that are found at a node, in a content that a desk keeps.
+use Rattle.std.proofs.Common.{◌≡◌, ◌⊎◌, inl, inr, ◌<◌, ◌^◌, ◌+◌, ℕ, Bool, true, false, not, ◌||◌, ◌&&◌, ◌==◌, List, [], ◌∷◌, ◌++◌, length, drop, get_or, Option, Some, None, Result, Ok, Err, IfOk, if◌then◌else◌, sym, refl, ap, subst, ◌∙◌}
+use Rattle.std.specs.Prelude.{filter, flat_map, is_some, option_map}
+use Rattle.std.specs.BTreeMap.{BTreeMap, get}
+use Rattle.std.specs.List.{AllByRecursion}
+use Rattle.std.specs.List.Sorted.{IsStrictlySortedBy}
+use Rattle.std.specs.Map.{keys_of, values_of}
+use Rattle.std.specs.Option.{option_or, option_and_then, option_map_or}
+use Rattle.std.specs.Ordering.{nat_cmp}
+use Rattle.std.specs.Str.{bytes_eq}
+use Rattle.std.proofs.lemmas.Bool.{false≢true, true≢false, eqb-true, eq-eqb}
+use Rattle.std.proofs.lemmas.Cmp.{nat_cmp_total}
+use Rattle.std.proofs.lemmas.List.Elements.{recursion_from_All}
+use Rattle.std.proofs.lemmas.Map.Views.{All-found}
+use Rattle.std.proofs.lemmas.Option.{none-some, same_Some}
+use Rattle.version_nodes.specs.Nodes.{Node}
+use Rattle.version_nodes.specs.Statuses.{status_on}
+use Rattle.version_nodes.specs.Trees.{line}
+use Rattle.bug_record.specs.Asked.{numbers_where}
+use Rattle.bug_record.specs.Heads.{is_found}
+use Rattle.bug_record.specs.Images.{numbers_of, bug_of, member_at}
+use Rattle.bug_record.specs.PackageSets.{has_name}
+use Rattle.bug_record.specs.Sets.{has, Each}
+use Rattle.bug_record.proofs.SetLemmas.{has-append}
+use Rattle.bug_record.specs.declared.outcome.StoreFault.{StoreFault}
+use Rattle.bug_record.specs.Severities.{all_severities}
+use Rattle.bug_record.specs.declared.bug.Bug.{Bug}
+use Rattle.bug_record.specs.declared.bug.Member.{Member}
+use Rattle.bug_record.specs.declared.bug.Shared.{Shared}
+use Rattle.bug_record.specs.declared.bug.SetImage.{SetImage}
+use Rattle.set_images.specs.Rows.{row_of, rows_of, with_row}
+use Rattle.set_images.specs.declared.rows.ListRow.{ListRow}
+use Rattle.bugs_in_memory.specs.Passing.{is_listed_on, is_row_of}
+use Rattle.bugs_in_memory.proofs.ImageLemmas.{has-member_some, member-has}
+use Rattle.bugs_in_memory.proofs.KeyLemmas.{found-image, shown}
+use Rattle.bugs_in_memory.proofs.ListLemmas.{rows-listed}
+use Rattle.desk_content.specs.Content.{Content}
+use Rattle.desk_content.specs.Kept.{IsKeptContent}
+use Rattle.desk_content.specs.KindsAtNodes.{set_passes, bug_passes}
+use Rattle.desk_content.specs.View.{image, desk_in, shared_of}
+use Rattle.desk_content.specs.declared.edit.SetFields.{SetFields}
+use Rattle.desk_content.proofs.QuestionLemmas.{asked}
+use Rattle.set_rows.specs.Affecting.{AreKeysAffecting}
+use Rattle.set_rows.specs.Listed.{is_of, AreKeysFor}
+use Rattle.desk_store.specs.Store.{AreListed}
+use Rattle.desk_reads.specs.Listing.{listing}
+use Rattle.desk_reads.proofs.KeyLemmas.{image_is, set_small}
+use Rattle.desk_reads.proofs.LoopLemmas.{here}
+use Rattle.desk_reads.specs.Found.{is_shown_at}
+use Rattle.desk_reads.specs.Keys.{AreKeysToList}
+use Rattle.desk_reads.specs.Rows.{row_at, row_in, row_for}
+use Rattle.desk_reads.proofs.FoundLemmas.{found_right}
+use Rattle.desk_reads.proofs.MapLemmas.{ascending, has_number}
+
+-- ---- plain values
+
+or_none : {A : Type 0} (o : Option A) → option_or None o ≡ o
+or_none None = refl
+or_none (Some a) = refl
+
+none_or : {A : Type 0} (o : Option A) → option_or o None ≡ o
+none_or None = refl
+none_or (Some a) = refl
+
+or_same : {A : Type 0} (o : Option A) → option_or o o ≡ o
+or_same None = refl
+or_same (Some a) = refl
+
+pub or_or : {A : Type 0} (a b c : Option A) → option_or (option_or a b) c ≡ option_or a (option_or b c)
+or_or None b c = refl
+or_or (Some x) b c = refl
+
+-- one test within another
+tests : {A : Type 0} (of kept affects found : Bool) (o : Option A)
+    → (if (of && kept) || affects then (if kept && found then o else None) else None) ≡ (if (of || affects) && kept && found then o else None)
+tests true true affects found o = refl
+tests true false true found o = refl
+tests true false false found o = refl
+tests false kept true found o = refl
+tests false kept false found o = refl
+
+-- ---- the rows of one set
+
+row_of_image : (c : Content) (k : ℕ) (v : Node) (n : ℕ) (i : SetImage) (o : Option ListRow) → image c k ≡ Some i
+    → option_or (row_in c k v n) o ≡ (if is_shown_at c k v i.shared then option_or (row_at i n) o else o)
+row_of_image c k v n i o is =
+    ap (λ (s : Option SetImage). option_or (option_and_then (λ j. if is_shown_at c k v j.shared then row_at j n else None) s) o) is
+    ∙ elim (is_shown_at c k v i.shared) as (λ b. option_or (if b then row_at i n else None) o ≡ (if b then option_or (row_at i n) o else o)) [ true ↦ refl | false ↦ refl ]
+
+row_of_none : (c : Content) (k : ℕ) (v : Node) (n : ℕ) (o : Option ListRow) → image c k ≡ None → option_or (row_in c k v n) o ≡ o
+row_of_none c k v n o none = ap (λ (s : Option SetImage). option_or (option_and_then (λ j. if is_shown_at c k v j.shared then row_at j n else None) s) o) none
+
+-- what a list asks of a set gives the rows of its image
+same_row : (j : SetImage) (n : ℕ) (o : Option Member) → option_map (row_of n) (option_map (bug_of j) o) ≡ option_map (row_of n) (option_map (bug_of (listing j)) o)
+same_row j n None = refl
+same_row j n (Some x) = refl
+
+pub row_of_listing : (c : Content) (k : ℕ) (v : Node) (n : ℕ) (i : SetImage) (o : Option ListRow) → option_map listing (image c k) ≡ Some i
+    → option_or (row_in c k v n) o ≡ (if is_shown_at c k v i.shared then option_or (row_at i n) o else o)
+row_of_listing c k v n i o is = cases (image c k) refl is
+  where
+    cases : (s : Option SetImage) → image c k ≡ s → option_map listing s ≡ Some i → option_or (row_in c k v n) o ≡ (if is_shown_at c k v i.shared then option_or (row_at i n) o else o)
+    cases None e none = absurd (none-some i none)
+    cases (Some j) e some =
+        row_of_image c k v n j o e
+        ∙ ap (λ (r : Option ListRow). if is_shown_at c k v j.shared then option_or r o else o) (same_row j n (member_at j.members n))
+        ∙ ap (λ (h : SetImage). if is_shown_at c k v h.shared then option_or (row_at h n) o else o) (same_Some _ _ some)
+
+pub row_of_no_listing : (c : Content) (k : ℕ) (v : Node) (n : ℕ) (o : Option ListRow) → option_map listing (image c k) ≡ None → option_or (row_in c k v n) o ≡ o
+row_of_no_listing c k v n o none = cases (image c k) refl none
+  where
+    cases : (s : Option SetImage) → image c k ≡ s → option_map listing s ≡ None → option_or (row_in c k v n) o ≡ o
+    cases None e h = row_of_none c k v n o e
+    cases (Some j) e h = absurd (none-some (listing j) (sym h))
+
+-- the rows of one more set, and those of the sets that are left
+pub set_came : (c : Content) (v : Node) (keys : List ℕ) (at k other n : ℕ) (old new to : Option ListRow) → at < length keys → k ≡ get_or keys at other
+    → new ≡ option_or (row_in c k v n) old → option_or (row_for c v (drop at keys) n) old ≡ to → option_or (row_for c v (drop (at + 1) keys) n) new ≡ to
+set_came c v keys at k other n old new to low is came before =
+    ap (option_or (row_for c v (drop (at + 1) keys) n)) came
+    ∙ sym (or_or (row_for c v (drop (at + 1) keys) n) (row_in c k v n) old)
+    ∙ sym (ap (λ (ks : List ℕ). option_or (row_for c v ks n) old) (here keys at k other low is))
+    ∙ before
+
+-- ---- the rows of a package
+
+itself : (k : ℕ) → (k == k) ≡ true
+itself k = eq-eqb k k refl
+
+either : (a b : Bool) → b ≡ true → (a || b) ≡ true
+either true b h = refl
+either false b h = h
+
+-- what holds of each that is there
+each_of : (P : ℕ → Type 0) (ks : List ℕ) → ((k : ℕ) → has ks k ≡ true → P k) → Each P ks
+each_of P [] all = tt
+each_of P (k ∷ ks) all = (all k (ap (λ t. t || has ks k) (itself k)), each_of P ks (λ j h. all j (either (k == j) (has ks j) h)))
+
+-- the keys of both questions
+pub keys_both : (p : List ℕ) (c : Content) (keys more all : List ℕ) → AreKeysFor p c keys → AreKeysAffecting p c more → all ≡ keys ++ more → AreKeysToList p c all
+keys_both p c keys more all a b is = λ k. ap (λ ks. has ks k) is ∙ has-append keys more k ∙ (λ i. a k i || b k i)
+
+pub keys_are : {A : Type 0} (items : A → List ℕ) (p : List ℕ) (c : Content) (keys : List ℕ) (r : Result A StoreFault) → AreKeysToList p c keys → IfOk r (λ a. items a ≡ keys) → IfOk r (λ a. AreKeysToList p c (items a))
+keys_are items p c keys (Ok a) says is = λ k. ap (λ ks. has ks k) is ∙ says k
+keys_are items p c keys (Err e) says is = tt
+
+module _ (c : Content) (kept : IsKeptContent c) (p : List ℕ) where
+  -- a key to list has a row
+  keyed_row : (keys : List ℕ) → AreKeysToList p c keys → (k : ℕ) → has keys k ≡ true → (f : SetFields) × (c.fields k ≡ Some f)
+  keyed_row keys are k h = cases (c.fields k) refl
+    where
+      cases : (o : Option SetFields) → c.fields k ≡ o → (f : SetFields) × (c.fields k ≡ Some f)
+      cases None e = absurd (false≢true (sym ((λ i. is_of p (e i) || has_name (kept.no_affects k e i) p)) ∙ sym (are k) ∙ h))
+      cases (Some f) e = (f, e)
+
+  -- each key is a u32
+  pub keys_small : (keys : List ℕ) → AreKeysToList p c keys → Each (λ k. k < 2 ^ 32) keys
+  keys_small keys are = each_of (λ k. k < 2 ^ 32) keys (λ k h.
+      let f = keyed_row keys are k h in
+      set_small c kept k (record { shared = shared_of c k f.0; members = c.members k }) (image_is c k f.0 f.1))
+
+module _ (c : Content) (kept : IsKeptContent c) (p : List ℕ) (v : Node) where
+  abbrev test : Shared → Bool
+  test = is_listed_on (line c.nodes v) p
+
+  abbrev set_of : ℕ → SetFields → SetImage
+  set_of k f = record { shared = shared_of c k f; members = c.members k }
+
+  -- a set that has not the bug says nothing of it
+  no_row : (k n : ℕ) → (c.key n ≡ Some k → ⊥) → row_in c k v n ≡ None
+  no_row k n other = cases (image c k) refl
+    where
+      within : (i : SetImage) → image c k ≡ Some i → (o : Option Member) → member_at i.members n ≡ o → (b : Bool)
+          → (if b then option_map (row_of n) (option_map (bug_of i) o) else None) ≡ None
+      within i e None m true = refl
+      within i e None m false = refl
+      within i e (Some x) m b = absurd (other (kept.keyed.known n k i e (has-member_some i.members n x m)))
+
+      cases : (o : Option SetImage) → image c k ≡ o → option_and_then (λ i. if is_shown_at c k v i.shared then row_at i n else None) o ≡ None
+      cases None e = refl
+      cases (Some i) e = within i e (member_at i.members n) refl (is_shown_at c k v i.shared)
+
+  no_rows : (ks : List ℕ) (n : ℕ) → c.key n ≡ None → row_for c v ks n ≡ None
+  no_rows [] n none = refl
+  no_rows (k ∷ ks) n none = (λ i. option_or (no_rows ks n none i) (no_row k n (λ e. none-some k (sym none ∙ e)) i))
+
+  -- what is said of a bug is what its own set says
+  one_row : (ks : List ℕ) (n k : ℕ) → c.key n ≡ Some k → row_for c v ks n ≡ (if has ks k then row_in c k v n else None)
+  one_row [] n k e = refl
+  one_row (j ∷ ks) n k e = go (j == k) refl (one_row ks n k e)
+    where
+      same : (b : Bool) → option_or (if b then row_in c k v n else None) (row_in c k v n) ≡ row_in c k v n
+      same true = or_same (row_in c k v n)
+      same false = or_none (row_in c k v n)
+
+      go : (b : Bool) → (j == k) ≡ b → row_for c v ks n ≡ (if has ks k then row_in c k v n else None)
+          → option_or (row_for c v ks n) (row_in c j v n) ≡ (if b || has ks k then row_in c k v n else None)
+      go true is h = (λ i. option_or (h i) (row_in c (eqb-true j k is i) v n)) ∙ same (has ks k)
+      go false is h =
+          (λ i. option_or (h i) (no_row j n (λ o. true≢false (sym (eq-eqb j k (same_Some _ _ (sym o ∙ e))) ∙ is)) i))
+          ∙ none_or (if has ks k then row_in c k v n else None)
+
+  module _ (keys : List ℕ) (are : AreKeysToList p c keys) where
+    -- a bug is not listed and has no row, or is listed and has its row
+    abbrev IsSaid : ℕ → Type 0
+    IsSaid n =
+        ((bug_passes test c n ≡ false) × (row_for c v keys n ≡ None))
+        ⊎ ((b : Bug) × ((desk_in c).bug n ≡ Some b) × (bug_passes test c n ≡ true) × (row_for c v keys n ≡ Some (row_of n b)))
+
+    -- of a bug in a set
+    in_set : (n k : ℕ) (f : SetFields) (x : Member) → c.key n ≡ Some k → c.fields k ≡ Some f → member_at (c.members k) n ≡ Some x
+        → (desk_in c).bug n ≡ Some (bug_of (set_of k f) x) → IsSaid n
+    in_set n k f x e is m shows = cases (test (shared_of c k f)) refl
+      where
+        passing : bug_passes test c n ≡ test (shared_of c k f)
+        passing =
+            ap (λ (o : Option ℕ). option_map_or (set_passes test c) o false) e
+            ∙ ap (λ (o : Option SetFields). option_map_or (λ g. test (shared_of c k g)) o false) is
+
+        here : row_in c k v n ≡ (if is_shown_at c k v (shared_of c k f) then Some (row_of n (bug_of (set_of k f) x)) else None)
+        here =
+            ap (λ (o : Option SetImage). option_and_then (λ i. if is_shown_at c k v i.shared then row_at i n else None) o) (image_is c k f is)
+            ∙ ap (λ (o : Option Member). if is_shown_at c k v (shared_of c k f) then option_map (row_of n) (option_map (bug_of (set_of k f)) o) else None) m
+
+        said : row_for c v keys n ≡ (if test (shared_of c k f) then Some (row_of n (bug_of (set_of k f) x)) else None)
+        said =
+            one_row keys n k e
+            ∙ (λ i. if (are k ∙ ap (λ (o : Option SetFields). is_of p o || has_name (c.affects k) p) is) i then here i else None)
+            ∙ ap (λ t. if (bytes_eq f.«package» p && not f.archived) || has_name (c.affects k) p then (if not f.archived && t then Some (row_of n (bug_of (set_of k f) x)) else None) else None)
+            (found_right c k v (shared_of c k f) kept refl refl)
+            ∙ tests (bytes_eq f.«package» p) (not f.archived) (has_name (c.affects k) p) (is_found (status_on (line c.nodes v) (c.found k) (c.fixed k) f.closed)) (Some (row_of n (bug_of (set_of k f) x)))
+
+        cases : (b : Bool) → test (shared_of c k f) ≡ b → IsSaid n
+        cases true t = inr (bug_of (set_of k f) x, shows, passing ∙ t, said ∙ ap (λ b. if b then Some (row_of n (bug_of (set_of k f) x)) else None) t)
+        cases false t = inl (passing ∙ t, said ∙ ap (λ b. if b then Some (row_of n (bug_of (set_of k f) x)) else None) t)
+
+    is_said : (n : ℕ) → IsSaid n
+    is_said n = by_key (c.key n) refl
+      where
+        by_fields : (k : ℕ) → c.key n ≡ Some k → (i : SetImage) → image c k ≡ Some i → has (numbers_of i.members) n ≡ true
+            → (o : Option SetFields) → c.fields k ≡ o → IsSaid n
+        by_fields k e i s h None is = absurd (none-some i (sym (ap (option_map (set_of k)) is) ∙ s))
+        by_fields k e i s h (Some f) is =
+            let same : set_of k f ≡ i = same_Some _ _ (sym (image_is c k f is) ∙ s) in
+            let x = member-has (c.members k) n (subst (λ (j : SetImage). has (numbers_of j.members) n ≡ true) (sym same) h) in
+            in_set n k f x.0 e is x.1
+            (shown c.key (image c) kept.keyed k n (set_of k f) (image_is c k f is) (subst (λ (j : SetImage). has (numbers_of j.members) n ≡ true) (sym same) h)
+            ∙ ap (option_map (bug_of (set_of k f))) x.1)
+
+        by_key : (o : Option ℕ) → c.key n ≡ o → IsSaid n
+        by_key None e = inl (ap (λ (o : Option ℕ). option_map_or (set_passes test c) o false) e, no_rows keys n e)
+        by_key (Some k) e = let i = found-image c.key (image c) kept.keyed n k e in by_fields k e i.0 i.1 i.2 (c.fields k) refl
+
+    module _ (m : BTreeMap ℕ ListRow) (up : IsStrictlySortedBy nat_cmp (keys_of m.entries)) (has_rows : (n : ℕ) → get nat_cmp m n ≡ row_for c v keys n) where
+      -- the numbers are those of the bugs that are listed
+      numbers_are : keys_of m.entries ≡ numbers_where test (desk_in c)
+      numbers_are = asked c test kept (keys_of m.entries) (ascending (keys_of m.entries) up) (λ n. has_number m n ∙ ap is_some (has_rows n) ∙ is_there n (is_said n))
+        where
+          is_there : (n : ℕ) → IsSaid n → is_some (row_for c v keys n) ≡ bug_passes test c n
+          is_there n (inl h) = ap is_some h.1 ∙ sym h.0
+          is_there n (inr h) = ap is_some h.3 ∙ sym h.2
+
+      -- a row that is there is the bug's
+      shows_row : (n : ℕ) (r : ListRow) → row_for c v keys n ≡ Some r → IsSaid n → (b : Bug) × ((desk_in c).bug n ≡ Some b) × (r ≡ row_of n b)
+      shows_row n r e (inl h) = absurd (none-some r (sym h.1 ∙ e))
+      shows_row n r e (inr h) = (h.0, h.1, same_Some _ _ (sym e ∙ h.3))
+
+      rows_are : (es : List (ℕ × ListRow)) → AllByRecursion (λ e. get nat_cmp m e.0 ≡ Some e.1) es → values_of es ≡ rows_of (desk_in c).bug (keys_of es)
+      rows_are [] all = refl
+      rows_are (e ∷ es) all =
+          let b = shows_row e.0 e.1 (sym (has_rows e.0) ∙ all.0) (is_said e.0) in
+          (λ i. b.2 i ∷ rows_are es all.1 i) ∙ sym (ap (λ (o : Option Bug). with_row e.0 o (rows_of (desk_in c).bug (keys_of es))) b.1)
+
+      pub are_listed : (sorted : List ListRow) → sorted ≡ flat_map (λ severity. filter (is_row_of severity) (values_of m.entries)) all_severities → AreListed (desk_in c) p v sorted
+      are_listed sorted is =
+          rows-listed (desk_in c) p v (keys_of m.entries) (values_of m.entries) sorted numbers_are
+          (rows_are m.entries (recursion_from_All (λ e. get nat_cmp m e.0 ≡ Some e.1) m.entries (All-found nat_cmp_total m up))) is

@@ -1,0 +1,27 @@
+use Rattle.std.proofs.Common.{◌≡◌, ℕ, drop, get_or, refl, ◌∙◌}
+use Rattle.std.specs.BTreeMap.{get}
+use Rattle.std.specs.Option.{option_or}
+use Rattle.std.specs.Ordering.{nat_cmp}
+use Rattle.sqlite.specs.Held.{state}
+use Rattle.desk_schema.proofs.ReadSteps.{known_then, known_weaker}
+use Rattle.desk_reads.specs.Rows.{row_in, row_for}
+use Rattle.desk_reads.proofs.ListedLemmas.{set_came}
+use Rattle.desk_reads.proofs.listed.read_rows.Goals as goal
+
+pub loop-key-preserved : goal.loop-key-preserved
+loop-key-preserved g c = record {
+  same = c.add_set.ensures.same_reference ∙ c.loop-key.invariant.same;
+  known =
+      let old = state g.S.Store c.args.tx.now.conn.now in
+      let mid = state g.S.Store c.loop-key.tx.conn.now in
+      let new = state g.S.Store c.add_set.new.tx.conn.now in
+      known_weaker old new
+      (λ k. ((n : ℕ) → option_or (row_for k c.args.node.now (drop c.loop-key.key-index c.args.keys.now) n) (get nat_cmp c.loop-key.rows n) ≡ row_for k c.args.node.now c.args.keys.now n)
+      × ((n : ℕ) → get nat_cmp c.add_set.new.rows n ≡ option_or (row_in k (get_or c.args.keys.now c.loop-key.key-index 0) c.args.node.now n) (get nat_cmp c.loop-key.rows n))) _
+      (λ k p n. set_came k c.args.node.now c.args.keys.now c.loop-key.key-index (get_or c.args.keys.now c.loop-key.key-index 0) 0 n (get nat_cmp c.loop-key.rows n) (get nat_cmp c.add_set.new.rows n) _
+      c.loop-key-test.true refl (p.1 n) (p.0 n))
+      (known_then old mid new tt
+      (λ k. (n : ℕ) → option_or (row_for k c.args.node.now (drop c.loop-key.key-index c.args.keys.now) n) (get nat_cmp c.loop-key.rows n) ≡ row_for k c.args.node.now c.args.keys.now n)
+      (λ k _. (n : ℕ) → get nat_cmp c.add_set.new.rows n ≡ option_or (row_in k (get_or c.args.keys.now c.loop-key.key-index 0) c.args.node.now n) (get nat_cmp c.loop-key.rows n))
+      c.loop-key.invariant.known c.in_ok-add_set.ensures.reads);
+}

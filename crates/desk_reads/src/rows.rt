@@ -1,0 +1,97 @@
+//! Rows of lists, by number and by severity.
+
+ghost use Rattle.std.specs.Prelude.{◌≡◌, ◌++◌, ℕ, ◌==◌, filter, flat_map, IfOk, OnOk, if◌then◌else◌};
+ghost use Rattle.std.specs.BTreeMap.{get};
+ghost use Rattle.std.specs.List.Sorted.{IsStrictlySortedBy};
+ghost use Rattle.std.specs.Map.{keys_of, values_of};
+ghost use Rattle.std.specs.Option.{option_or};
+ghost use Rattle.std.specs.Ordering.{nat_cmp};
+ghost use Rattle.bug_record.specs.Severities.{all_severities};
+ghost use Rattle.bugs_in_memory.specs.Passing.{is_row_of};
+ghost use Rattle.desk_reads.specs.Rows.{row_at};
+
+use bug_record::{Sequence, SetImage, Severity};
+use set_images::ListRow;
+use std::alloc::{AllocError, Global};
+use std::collections::BTreeMap;
+
+// The row of a bug, if it is the image's, comes into the map.
+fn put_row(
+    rows: &mut BTreeMap<u64, ListRow>,
+    image: &SetImage,
+    number: u64,
+) -> Result<(), AllocError>
+    ensures { OnOk result ((n : ℕ) → get nat_cmp rows.new n
+        ≡ (if number == n then option_or (row_at image.now n) (get nat_cmp rows.old n) else get nat_cmp rows.old n)) }
+{
+    let Some(row) = ListRow::of(image, number)? else {
+        return Ok(());
+    };
+    rows.insert(number, row)?;
+    Ok(())
+}
+
+// The rows of all bugs of the image come into the map.
+pub(crate) fn put_rows(
+    rows: &mut BTreeMap<u64, ListRow>,
+    image: &SetImage,
+) -> Result<(), AllocError>
+    ensures { OnOk result ((n : ℕ) → get nat_cmp rows.new n ≡ option_or (row_at image.now n) (get nat_cmp rows.old n)) }
+{
+    for member in image.members.as_slice() {
+        put_row(rows, image, member.number)?;
+    }
+    Ok(())
+}
+
+// The rows of the map, by number.
+fn by_number(alloc: Global, rows: BTreeMap<u64, ListRow>) -> Result<Sequence<ListRow>, AllocError>
+    ensures value { IfOk result (λ listed. listed ≡ values_of rows.entries) }
+    ensures ordered { IsStrictlySortedBy nat_cmp (keys_of rows.entries) }
+{
+    let mut listed = Sequence::new(alloc);
+    for (_, row) in rows {
+        listed.push(row)?;
+    }
+    Ok(listed)
+}
+
+// Adds those of the rows that are of a severity.
+fn add_rows_of(
+    sorted: &mut Sequence<ListRow>,
+    rows: &[ListRow],
+    severity: Severity,
+) -> Result<(), AllocError>
+    ensures { OnOk result (sorted.new ≡ sorted.old ++ filter (is_row_of severity) rows.now) }
+{
+    for row in rows {
+        if row.severity.rank() == severity.rank() {
+            sorted.push(row.copy()?)?;
+        }
+    }
+    Ok(())
+}
+
+// The rows by severity, from critical to wishlist, and of each severity in their order.
+fn by_severity(alloc: Global, rows: &[ListRow]) -> Result<Sequence<ListRow>, AllocError>
+    ensures { IfOk result (λ sorted. sorted ≡ flat_map (λ severity. filter (is_row_of severity) rows.now) all_severities) }
+{
+    let mut sorted = Sequence::new(alloc);
+    let severities = Severity::all();
+    for severity in severities.as_slice() {
+        add_rows_of(&mut sorted, rows, *severity)?;
+    }
+    Ok(sorted)
+}
+
+// The rows of the map by severity, from critical to wishlist, and then by number.
+pub(crate) fn sorted_rows(
+    alloc: Global,
+    rows: BTreeMap<u64, ListRow>,
+) -> Result<Sequence<ListRow>, AllocError>
+    ensures value { IfOk result (λ sorted. sorted ≡ flat_map (λ severity. filter (is_row_of severity) (values_of rows.entries)) all_severities) }
+    ensures ordered { IsStrictlySortedBy nat_cmp (keys_of rows.entries) }
+{
+    let rows = by_number(alloc, rows)?;
+    by_severity(alloc, rows.as_slice())
+}

@@ -1,0 +1,9 @@
+use Rattle.sqlite.specs.Held.{state}
+use Rattle.desk_schema.proofs.StatementLemmas.{acts_write}
+use Rattle.desk_rows.proofs.AddNear.{add_is}
+use Rattle.desk_rows.proofs.nearest.add_near.Goals as goal
+
+pub returns-clause-plays : goal.returns-clause-plays
+returns-clause-plays g c =
+    rw c.written.ensures.told (acts_write _ _ _ _ (add_is c.args.key c.args.node.now c.args.near.now c.source.ensures.valid c.source-2.ensures.valid) (state g.S.Store c.args.tx.now.conn.now) (state g.S.Store c.execute.new.self.conn.now) c.execute.result c.execute.ensures.survives
+    (rw (c.params-to_sql.ensures, c.params-to_sql-2.ensures, c.params-to_sql-3.ensures, c.params-to_sql-4.ensures, c.params-to_sql-5.ensures, c.params-to_sql-6.ensures, c.number_of_kind.ensures, c.source.ensures.value, c.version.ensures.value, c.source-2.ensures.value, c.version-2.ensures.value) at c.execute.ensures.runs))

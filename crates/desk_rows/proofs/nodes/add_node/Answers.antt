@@ -1,0 +1,18 @@
+use Rattle.sqlite.specs.Held.{state}
+use Rattle.desk_schema.proofs.StatementLemmas.{acts_write}
+use Rattle.desk_rows.proofs.AddNode.{add_is, maybe_bound}
+use Rattle.desk_rows.proofs.nodes.add_node.Goals as goal
+
+pub returns-clause-plays : goal.returns-clause-plays
+returns-clause-plays g c =
+    rw c.written.ensures.told (acts_write _ _ _ _ (add_is c.args.node.now c.args.parent.now c.source.ensures.valid c.source_of.ensures.valid) (state g.S.Store c.args.tx.now.conn.now) (state g.S.Store c.execute.new.self.conn.now) c.execute.result c.execute.ensures.survives
+    (rw (
+      c.params-to_sql.ensures,
+      c.params-to_sql-2.ensures,
+      c.params-to_sql-3.ensures,
+      c.params-to_sql-4.ensures,
+      c.source.ensures.value,
+      c.version.ensures.value,
+      maybe_bound c.source_of.result _ c.source_of.ensures.value,
+      maybe_bound c.version_of.result _ c.version_of.ensures.value,
+    ) at c.execute.ensures.runs))

@@ -1,0 +1,13 @@
+use Rattle.sqlite.specs.Held.{state}
+use Rattle.desk_schema.proofs.StatementLemmas.{acts_write, serves_write}
+use Rattle.desk_rows.proofs.ClearNode.{clear_is}
+use Rattle.desk_rows.proofs.nodes.clear_node.Goals as goal
+
+pub returns-clause-plays : goal.returns-clause-plays
+returns-clause-plays g c =
+    rw c.written.ensures.told (acts_write _ _ _ _ (clear_is c.args.node.now) (state g.S.Store c.args.tx.now.conn.now) (state g.S.Store c.execute.new.self.conn.now) c.execute.result c.execute.ensures.survives
+    (rw (c.params-to_sql.ensures, c.params-to_sql-2.ensures, c.source.ensures.value, c.version.ensures.value) at c.execute.ensures.runs))
+
+pub returns-clause-serves : goal.returns-clause-serves
+returns-clause-serves g c =
+    rw c.written.ensures.told (serves_write _ _ (state g.S.Store c.args.tx.now.conn.now) (state g.S.Store c.execute.new.self.conn.now) c.execute.result c.execute.ensures.runs)

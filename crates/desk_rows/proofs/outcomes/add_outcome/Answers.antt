@@ -1,0 +1,29 @@
+use Rattle.std.proofs.Common.{option_map, ap, subst, ◌∙◌}
+use Rattle.sqlite.specs.Held.{state}
+use Rattle.version_nodes.specs.Nodes.{Node, IsNode}
+use Rattle.bug_record.specs.Texts.{IfGiven}
+use Rattle.desk_content.specs.Outcomes.{outcome_number, outcome_field, outcome_node}
+use Rattle.desk_schema.proofs.StatementLemmas.{acts_write}
+use Rattle.desk_rows.proofs.AddOutcome.{add_is, maybe_bound, number_bound}
+use Rattle.desk_rows.proofs.outcomes.add_outcome.Goals as goal
+
+pub returns-clause-plays : goal.returns-clause-plays
+returns-clause-plays g c =
+    let o = c.args.outcome.now in
+    let node = c.node_of_outcome-node.ensures in
+    let valid : IfGiven IsNode (outcome_node o) = subst (IfGiven IsNode) node c.source_of.ensures.valid in
+    rw c.written.ensures.told (acts_write _ _ _ _ (add_is c.args.id.now c.args.place o c.utf8.id valid) (state g.S.Store c.args.tx.now.conn.now) (state g.S.Store c.execute.new.self.conn.now) c.execute.result c.execute.ensures.survives
+    (rw (
+      c.params-to_sql.ensures,
+      c.params-to_sql-2.ensures,
+      c.params-to_sql-3.ensures,
+      c.params-to_sql-4.ensures,
+      c.params-to_sql-5.ensures,
+      c.params-to_sql-6.ensures,
+      c.params-to_sql-7.ensures,
+      c.kind_of_outcome.ensures,
+      number_bound c.in_ok-number.number (outcome_number o) (c.in_ok-number.ensures.same ∙ c.number_of_outcome.ensures),
+      number_bound c.field_of_outcome.result (outcome_field o) c.field_of_outcome.ensures,
+      maybe_bound c.source_of.result (option_map (λ (v : Node). v.source) (outcome_node o)) (c.source_of.ensures.value ∙ ap (option_map (λ (v : Node). v.source)) node),
+      maybe_bound c.version_of.result (option_map (λ (v : Node). v.version) (outcome_node o)) (c.version_of.ensures.value ∙ ap (option_map (λ (v : Node). v.version)) node),
+    ) at c.execute.ensures.runs))

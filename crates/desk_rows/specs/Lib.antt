@@ -1,0 +1,3 @@
+-- definitions that only private functions cite
+pub mod Links
+pub mod Rows

@@ -1,5 +1,0 @@
-use Rattle.std.proofs.Common.{rules}
-use Rattle.desk_run.proofs.answer.refuses_branch.Goals as goal
-
-pub returns-in-Ok-Err : goal.returns-in-Ok-Err
-returns-in-Ok-Err c = search rules

@@ -1,2 +1,0 @@
--- definitions that only private functions cite
-pub mod Plans

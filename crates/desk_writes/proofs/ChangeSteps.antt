@@ -1,0 +1,62 @@
+-- What the steps of a change come to together.
+use Rattle.std.proofs.Common.{◌≡◌, ◌≢◌, List, Result, Ok, sym, ap, subst, ◌∙◌}
+use Rattle.std.specs.Prelude.{⊤}
+use Rattle.version_nodes.specs.Trees.{Ancestry}
+use Rattle.bug_record.specs.declared.command.Change.{Change}
+use Rattle.sqlite.specs.State.{State}
+use Rattle.bug_record.specs.declared.outcome.StoreFault.{StoreFault}
+use Rattle.desk_content.specs.Content.{Content}
+use Rattle.desk_content.specs.Changes.{FitsContent, changed}
+use Rattle.desk_content.specs.Edits.{edited_all}
+use Rattle.desk_content.specs.Free.{AreFree}
+use Rattle.desk_content.specs.Kept.{IsKeptContent}
+use Rattle.desk_content.specs.declared.images.RowEdits.{RowEdits}
+use Rattle.desk_schema.specs.Steps.{Acts, PlaysAll, Reads}
+use Rattle.desk_schema.proofs.StepLemmas.{done, failed, none, acts_stop, acts_then}
+use Rattle.desk_writes.specs.Plans.{ArePlans, cleared_edits, put_edits}
+use Rattle.desk_writes.proofs.PlanLemmas.{first_free, then_free, come_to}
+
+module _ (t : Ancestry) (change : Change) where
+  -- the change fits what the tables say, and the tree is theirs
+  abbrev pub Fits : Content → Type 0
+  Fits c = IsKeptContent c × FitsContent c change × (c.nodes ≡ t)
+
+  abbrev pub IsMade : Content → Content → Type 0
+  IsMade c d = IsKeptContent c → FitsContent c change → c.nodes ≡ t → d ≡ changed c change
+
+  -- the images are planned, and what goes is gone
+  abbrev pub IsCleared : List RowEdits → Content → Content → Type 0
+  IsCleared plans c d = ArePlans c t change.images plans × (d ≡ edited_all (cleared_edits plans) c)
+
+  -- and what comes has come
+  abbrev pub IsPut : List RowEdits → Content → Content → Type 0
+  IsPut plans c d = ArePlans c t change.images plans × (d ≡ edited_all (put_edits plans) (edited_all (cleared_edits plans) c))
+
+  over : (c : Content) (plans : List RowEdits) → c.nodes ≡ t → ArePlans c t change.images plans → ArePlans c c.nodes change.images plans
+  over c plans is all = subst (λ tree. ArePlans c tree change.images plans) (sym is) all
+
+  module _ {A : Type 0} (items : A → List RowEdits) (plans : A) (old new : State) where
+    abbrev planned : Result A StoreFault
+    planned = Ok plans
+
+    -- one after another, with what each of them answered
+    pub cleared : (mid : State) (r : Result (Unit {0}) StoreFault) → Reads (λ c a. ArePlans c t change.images (items a)) old mid planned → PlaysAll (cleared_edits (items plans)) mid new r
+        → Acts old new r Fits (λ c d _. IsCleared (items plans) c d)
+    cleared mid r one two = acts_then old mid new plans (λ _. ⊤) (AreFree (cleared_edits (items plans))) Fits (λ c d a. (d ≡ c) × ArePlans c t change.images (items a)) (λ d e _. e ≡ edited_all (cleared_edits (items plans)) d) (λ c d _. IsCleared (items plans) c d) r
+        (λ c fits. tt) (λ c d p fits. subst (AreFree (cleared_edits (items plans))) (sym p.0) (first_free c change fits.0 fits.1 (items plans) (over c (items plans) fits.2 p.1)))
+        (λ c d e _ p q. (p.1, q ∙ ap (edited_all (cleared_edits (items plans))) p.0)) one two
+
+  module _ (plans : List RowEdits) (old mid new : State) (r : Result (Unit {0}) StoreFault) where
+    pub then_put : Acts old mid done Fits (λ c d _. IsCleared plans c d) → PlaysAll (put_edits plans) mid new r → Acts old new r Fits (λ c d _. IsPut plans c d)
+    then_put one two = acts_then old mid new none Fits (AreFree (put_edits plans)) Fits (λ c d _. IsCleared plans c d) (λ d e _. e ≡ edited_all (put_edits plans) d) (λ c d _. IsPut plans c d) r
+        (λ c fits. fits) (λ c d p fits. subst (AreFree (put_edits plans)) (sym p.1) (then_free c change fits.0 fits.1 plans (over c plans fits.2 p.0)))
+        (λ c d e _ p q. (p.0, q ∙ ap (edited_all (put_edits plans)) p.1)) one two
+
+    pub then_next : Acts old mid done Fits (λ c d _. IsPut plans c d) → Acts mid new r (λ _. ⊤) (λ c d _. d ≡ record c { next = change.next }) → Acts old new r Fits (λ c d _. IsMade c d)
+    then_next one two = acts_then old mid new none Fits (λ _. ⊤) Fits (λ c d _. IsPut plans c d) (λ c d _. d ≡ record c { next = change.next }) (λ c d _. IsMade c d) r
+        (λ c fits. fits) (λ c d p fits. tt)
+        (λ c d e _ p q kept fits is. q ∙ ap (λ (k : Content). record k { next = change.next }) (p.1 ∙ come_to c change kept fits plans (over c plans is p.0))) one two
+
+  -- a step failed
+  pub unmade : (old new : State) (fault : StoreFault) (P : Content → Content → Type 0) → Acts old new (failed fault) Fits (λ c d _. P c d) → Acts old new (failed fault) Fits (λ c d _. IsMade c d)
+  unmade old new fault P one = acts_stop old new fault Fits Fits (λ c d _. P c d) (λ c d _. IsMade c d) (λ c fits. fits) one

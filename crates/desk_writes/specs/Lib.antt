@@ -1,0 +1,5 @@
+-- definitions that only private functions cite
+pub mod Plans
+pub mod Marked
+pub mod Steps
+pub mod Lines

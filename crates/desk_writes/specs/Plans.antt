@@ -1,0 +1,36 @@
+-- The edits of images, as the marks stand before a change.
+use Rattle.std.specs.Prelude.{◌≡◌, List, [], ◌∷◌, flat_map, ⊤}
+use Rattle.version_nodes.specs.Nodes.{Node}
+use Rattle.version_nodes.specs.Trees.{Ancestry}
+use Rattle.bug_record.specs.declared.bug.SetImage.{SetImage}
+use Rattle.bugs_in_memory.specs.Keys.{key_of}
+use Rattle.desk_content.specs.Content.{Content}
+use Rattle.desk_content.specs.Edits.{edited_all}
+use Rattle.desk_content.specs.Free.{AreFree}
+use Rattle.desk_content.specs.Images.{same_marks, without_image, with_image, IsCleared, IsGoodImage}
+use Rattle.desk_content.specs.declared.edit.Edit.{Edit}
+use Rattle.desk_content.specs.declared.images.RowEdits.{RowEdits}
+
+-- the edits that put an image, where these marks stand under its key
+pub record IsPlan (t : Ancestry) (found fixed : List Node) (i : SetImage) (plan : RowEdits) : Type 0 where
+  pub cleared : (c : Content) → edited_all plan.cleared c ≡ without_image (same_marks i found fixed) i c
+  pub put : (c : Content) → c.nodes ≡ t → IsGoodImage i → IsCleared (same_marks i found fixed) i c → edited_all plan.put c ≡ with_image i c
+  pub free : (c : Content) → IsGoodImage i → AreFree plan.cleared c
+  pub put_free : (c : Content) → IsGoodImage i → IsCleared (same_marks i found fixed) i c → AreFree plan.put c
+
+-- as the marks of the content are
+abbrev pub IsPlanOf : Content → Ancestry → SetImage → RowEdits → Type 0
+IsPlanOf before t i plan = IsPlan t (before.found (key_of i)) (before.fixed (key_of i)) i plan
+
+-- one plan for each image
+abbrev pub ArePlans : Content → Ancestry → List SetImage → List RowEdits → Type 0
+ArePlans before t [] [] = ⊤
+ArePlans before t [] (plan ∷ plans) = ⊥
+ArePlans before t (i ∷ is) [] = ⊥
+ArePlans before t (i ∷ is) (plan ∷ plans) = IsPlanOf before t i plan × ArePlans before t is plans
+
+abbrev pub cleared_edits : List RowEdits → List Edit
+cleared_edits plans = flat_map (λ plan. plan.cleared) plans
+
+abbrev pub put_edits : List RowEdits → List Edit
+put_edits plans = flat_map (λ plan. plan.put) plans

@@ -1,0 +1,126 @@
+//! A change of sets, carried out within one transaction.
+
+ghost use Rattle.std.specs.Prelude.{◌≡◌, ◌≢◌, IfOk, IfErr, ⊤};
+ghost use Rattle.sqlite.specs.Held.{state};
+ghost use Rattle.desk_content.specs.Changes.{FitsContent, changed};
+ghost use Rattle.desk_content.specs.Kept.{IsKeptContent};
+ghost use Rattle.desk_schema.specs.Steps.{Acts, PlaysAll, Reads, Serves};
+ghost use Rattle.desk_writes.specs.Plans.{IsPlan, IsPlanOf, ArePlans, cleared_edits, put_edits};
+ghost use Rattle.bug_record.specs.declared.outcome.StoreFault.TheVariants.{Foreign};
+
+use crate::parameters::parameter;
+use crate::play::play_all;
+use bug_record::{Change, SetImage, StoreFault};
+use desk_content::{RowEdits, key_of, row_edits};
+use desk_rows::write_next;
+use nearest_marks::Family;
+use set_rows::{Marks, read_marks};
+use sqlite::{Alter, Transaction};
+use std::alloc::Global;
+
+// The edits of an image, where these marks stand under its key.
+fn plan_of(
+    alloc: Global,
+    family: &Family,
+    image: &SetImage,
+    marks: &Marks,
+) -> Result<RowEdits, StoreFault>
+    ensures plan { IfOk result (λ plan. IsPlan family.now marks.now.found marks.now.fixed image.now plan) }
+    ensures sure { IfErr result (λ fault. fault ≢ Foreign) }
+{
+    let found = marks.found.as_slice();
+    let fixed = marks.fixed.as_slice();
+    match row_edits(alloc, family, image, found, fixed) {
+        Ok(plan) => Ok(plan),
+        Err(_) => Err(StoreFault::Memory),
+    }
+}
+
+// The edits of an image, as its marks stand now.
+fn plan_image<S: Alter>(
+    alloc: Global,
+    tx: &mut Transaction<'_, S>,
+    family: &Family,
+    image: &SetImage,
+) -> Result<RowEdits, StoreFault>
+    ensures same_reference { tx.new.conn.ghost_name ≡ tx.old.conn.ghost_name }
+    ensures reads { Reads (λ c plan. IsPlanOf c family.now image.now plan) (state S.Store tx.old.conn.now) (state S.Store tx.new.conn.now) result }
+{
+    let key = parameter(key_of(image))?;
+    let marks = read_marks(alloc, tx, key)?;
+    plan_of(alloc, family, image, &marks)
+}
+
+// The edits of all images, as the marks stand now.
+fn plan_images<S: Alter>(
+    alloc: Global,
+    tx: &mut Transaction<'_, S>,
+    family: &Family,
+    images: &[SetImage],
+) -> Result<Vec<RowEdits>, StoreFault>
+    ensures same_reference { tx.new.conn.ghost_name ≡ tx.old.conn.ghost_name }
+    ensures reads { Reads (λ c plans. ArePlans c family.now images.now plans.items) (state S.Store tx.old.conn.now) (state S.Store tx.new.conn.now) result }
+{
+    let mut plans = Vec::new(alloc);
+    for image in images {
+        let plan = plan_image(alloc, tx, family, image)?;
+        match plans.push(plan) {
+            Ok(()) => {}
+            Err(_) => return Err(StoreFault::Memory),
+        }
+    }
+    Ok(plans)
+}
+
+// What goes of all images goes.
+fn clear_images<S: Alter>(tx: &mut Transaction<'_, S>, plans: &[RowEdits]) -> Result<(), StoreFault>
+    ensures same_reference { tx.new.conn.ghost_name ≡ tx.old.conn.ghost_name }
+    ensures plays { PlaysAll (cleared_edits plans.now) (state S.Store tx.old.conn.now) (state S.Store tx.new.conn.now) result }
+{
+    for plan in plans {
+        play_all(tx, plan.cleared.as_slice())?;
+    }
+    Ok(())
+}
+
+// What comes of all images comes.
+fn put_images<S: Alter>(tx: &mut Transaction<'_, S>, plans: &[RowEdits]) -> Result<(), StoreFault>
+    ensures same_reference { tx.new.conn.ghost_name ≡ tx.old.conn.ghost_name }
+    ensures plays { PlaysAll (put_edits plans.now) (state S.Store tx.old.conn.now) (state S.Store tx.new.conn.now) result }
+{
+    for plan in plans {
+        play_all(tx, plan.put.as_slice())?;
+    }
+    Ok(())
+}
+
+// The next number to give.
+fn put_next<S: Alter>(tx: &mut Transaction<'_, S>, next: u64) -> Result<(), StoreFault>
+    ensures same_reference { tx.new.conn.ghost_name ≡ tx.old.conn.ghost_name }
+    ensures acts { Acts (state S.Store tx.old.conn.now) (state S.Store tx.new.conn.now) result (λ _. ⊤) (λ c d _. d ≡ record c { next = next }) }
+    ensures serves { Serves (state S.Store tx.old.conn.now) (state S.Store tx.new.conn.now) result }
+{
+    let next = parameter(next)?;
+    write_next(tx, next)
+}
+
+/// Carries a change out: what stands under the numbers of its bugs goes, its sets come, and last
+/// the next number.
+/// It fails for memory, the disk or its size alone, where the change fits kept tables.
+pub fn put_change<S: Alter>(
+    alloc: Global,
+    tx: &mut Transaction<'_, S>,
+    family: &Family,
+    change: &Change,
+) -> Result<(), StoreFault>
+    ensures same_reference { tx.new.conn.ghost_name ≡ tx.old.conn.ghost_name }
+    ensures acts { Acts (state S.Store tx.old.conn.now) (state S.Store tx.new.conn.now) result
+        (λ c. IsKeptContent c × FitsContent c change.now × (c.nodes ≡ family.now))
+        (λ c d _. IsKeptContent c → FitsContent c change.now → c.nodes ≡ family.now → d ≡ changed c change.now) }
+    ensures serves { Serves (state S.Store tx.old.conn.now) (state S.Store tx.new.conn.now) result }
+{
+    let plans = plan_images(alloc, tx, family, change.images.as_slice())?;
+    clear_images(tx, plans.as_slice())?;
+    put_images(tx, plans.as_slice())?;
+    put_next(tx, change.next)
+}

@@ -1,0 +1,137 @@
+//! An outcome that is kept, with a change of sets, within one transaction.
+
+ghost use Rattle.std.specs.Prelude.{◌≡◌, ◌≢◌, Some, length, IfOk, IfErr};
+ghost use Rattle.std.specs.Option.{option_copied};
+ghost use Rattle.sqlite.specs.Held.{state};
+ghost use Rattle.desk_content.specs.Keeping.{MayBePut, kept_after, with_kept};
+ghost use Rattle.desk_content.specs.Kept.{IsKeptContent};
+ghost use Rattle.desk_schema.specs.Steps.{Acts, Reads, Serves};
+ghost use Rattle.bug_record.specs.declared.outcome.StoreFault.TheVariants.{Foreign};
+ghost use Rattle.desk_writes.specs.Lines.{IsLine, AreEditsOf};
+
+use crate::change::put_change;
+use crate::play::play_all;
+use bug_record::{Change, Outcome, Sequence, StoreFault};
+use desk_content::{Edit, keep_edits};
+use desk_rows::read_outcomes;
+use nearest_marks::Family;
+use sqlite::{Alter, Transaction};
+use std::alloc::Global;
+
+// How many outcomes are kept of the message of an id.
+fn count_outcomes<S: Alter>(
+    alloc: Global,
+    tx: &mut Transaction<'_, S>,
+    id: &str,
+) -> Result<u64, StoreFault>
+    ensures same_reference { tx.new.conn.ghost_name ≡ tx.old.conn.ghost_name }
+    ensures reads { Reads (λ c count. count ≡ length (c.outcomes id.now)) (state S.Store tx.old.conn.now) (state S.Store tx.new.conn.now) result }
+    ensures serves { Serves (state S.Store tx.old.conn.now) (state S.Store tx.new.conn.now) result }
+{
+    let outcomes = read_outcomes(alloc, tx, id)?;
+    Ok(outcomes.as_slice().len() as u64)
+}
+
+// The edits of an outcome at the place of a message, or that there was no memory.
+fn edits_at(
+    alloc: Global,
+    id: &str,
+    from: &str,
+    message: &str,
+    place: u64,
+    outcome: &Outcome,
+) -> Result<Sequence<Edit>, StoreFault>
+    ensures value { IfOk result (AreEditsOf id.now from.now message.now place outcome.now) }
+    ensures sure { IfErr result (λ fault. fault ≢ Foreign) }
+{
+    match keep_edits(alloc, id, from, message, place, outcome) {
+        Ok(edits) => Ok(edits),
+        Err(_) => Err(StoreFault::Memory),
+    }
+}
+
+// The edits of an outcome behind those that are kept of its message.
+fn edits_of<S: Alter>(
+    alloc: Global,
+    tx: &mut Transaction<'_, S>,
+    id: &str,
+    from: &str,
+    message: &str,
+    outcome: &Outcome,
+) -> Result<Sequence<Edit>, StoreFault>
+    ensures same_reference { tx.new.conn.ghost_name ≡ tx.old.conn.ghost_name }
+    ensures reads { Reads (λ c edits. AreEditsOf id.now from.now message.now (length (c.outcomes id.now)) outcome.now edits)
+        (state S.Store tx.old.conn.now) (state S.Store tx.new.conn.now) result }
+    ensures serves { Serves (state S.Store tx.old.conn.now) (state S.Store tx.new.conn.now) result }
+{
+    let place = count_outcomes(alloc, tx, id)?;
+    edits_at(alloc, id, from, message, place, outcome)
+}
+
+// Keeps an outcome behind those that are kept of its message.
+fn put_outcome<S: Alter>(
+    alloc: Global,
+    tx: &mut Transaction<'_, S>,
+    id: &str,
+    from: &str,
+    message: &str,
+    outcome: &Outcome,
+) -> Result<(), StoreFault>
+    ensures same_reference { tx.new.conn.ghost_name ≡ tx.old.conn.ghost_name }
+    ensures acts { Acts (state S.Store tx.old.conn.now) (state S.Store tx.new.conn.now) result
+        (IsLine id.now from.now message.now outcome.now)
+        (λ c d _. IsLine id.now from.now message.now outcome.now c → d ≡ with_kept id.now from.now message.now outcome.now c) }
+    ensures serves { Serves (state S.Store tx.old.conn.now) (state S.Store tx.new.conn.now) result }
+{
+    let edits = edits_of(alloc, tx, id, from, message, outcome)?;
+    play_all(tx, edits.as_slice())
+}
+
+// Carries a change out, and keeps the outcome of its line.
+fn put_both<S: Alter>(
+    alloc: Global,
+    tx: &mut Transaction<'_, S>,
+    family: &Family,
+    id: &str,
+    from: &str,
+    message: &str,
+    outcome: &Outcome,
+    change: &Change,
+) -> Result<(), StoreFault>
+    ensures same_reference { tx.new.conn.ghost_name ≡ tx.old.conn.ghost_name }
+    ensures acts { Acts (state S.Store tx.old.conn.now) (state S.Store tx.new.conn.now) result
+        (λ c. IsKeptContent c × MayBePut id.now from.now message.now outcome.now (Some change.now) c × (c.nodes ≡ family.now))
+        (λ c d _. IsKeptContent c → MayBePut id.now from.now message.now outcome.now (Some change.now) c → c.nodes ≡ family.now →
+        d ≡ kept_after id.now from.now message.now outcome.now (Some change.now) c) }
+    ensures serves { Serves (state S.Store tx.old.conn.now) (state S.Store tx.new.conn.now) result }
+{
+    put_change(alloc, tx, family, change)?;
+    put_outcome(alloc, tx, id, from, message, outcome)
+}
+
+/// Carries a change out, if there is one, and keeps the outcome of its line behind those that are
+/// kept of the message of the id; the message becomes known with its first outcome.
+/// It fails for memory, the disk or its size alone, where the change fits kept tables, and the
+/// outcome and the message may be kept in them.
+pub fn put_kept<S: Alter>(
+    alloc: Global,
+    tx: &mut Transaction<'_, S>,
+    family: &Family,
+    id: &str,
+    from: &str,
+    message: &str,
+    outcome: &Outcome,
+    change: Option<&Change>,
+) -> Result<(), StoreFault>
+    ensures same_reference { tx.new.conn.ghost_name ≡ tx.old.conn.ghost_name }
+    ensures acts { Acts (state S.Store tx.old.conn.now) (state S.Store tx.new.conn.now) result
+        (λ c. IsKeptContent c × MayBePut id.now from.now message.now outcome.now (option_copied change.entry) c × (c.nodes ≡ family.now))
+        (λ c d _. IsKeptContent c → MayBePut id.now from.now message.now outcome.now (option_copied change.entry) c → c.nodes ≡ family.now →
+        d ≡ kept_after id.now from.now message.now outcome.now (option_copied change.entry) c) }
+    ensures serves { Serves (state S.Store tx.old.conn.now) (state S.Store tx.new.conn.now) result }
+{
+    match change {
+        Some(change) => put_both(alloc, tx, family, id, from, message, outcome, change),
+        None => put_outcome(alloc, tx, id, from, message, outcome),
+    }
+}

@@ -1,0 +1,21 @@
+//! What changes a desk within one transaction, each as several statements: a change of sets, a
+//! branch of versions, and an outcome that is kept with its change; and what is kept of an id, read
+//! back.
+#![tactic(auto)]
+
+mod branch;
+mod change;
+mod drops;
+mod first_marks;
+mod keeping;
+mod kept;
+mod missing;
+mod new_rows;
+mod parameters;
+mod play;
+mod puts;
+
+pub use branch::put_branch;
+pub use change::put_change;
+pub use keeping::put_kept;
+pub use kept::read_kept;

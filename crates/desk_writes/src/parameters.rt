@@ -1,0 +1,18 @@
+//! Numbers as parameters of statements.
+
+ghost use Rattle.std.specs.Prelude.{◌≡◌, ◌≤◌, ◌^◌, IfOk, IfErr};
+ghost use Rattle.bug_record.specs.declared.outcome.StoreFault.TheVariants.{Full};
+
+use bug_record::StoreFault;
+
+/// A number as a statement takes it: there is no room for a larger one in the tables, and no bug
+/// has one.
+pub fn parameter(number: u64) -> Result<u32, StoreFault>
+    ensures same { IfOk result (λ n. n ≡ number) }
+    ensures large { IfErr result (λ fault. (fault ≡ Full) × (2 ^ 32 ≤ number)) }
+{
+    match u32::try_from(number) {
+        Ok(small) => Ok(small),
+        Err(_) => Err(StoreFault::Full),
+    }
+}

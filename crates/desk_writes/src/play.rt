@@ -1,0 +1,57 @@
+//! Edits, played.
+
+ghost use Rattle.std.specs.Prelude.{◌≡◌};
+ghost use Rattle.sqlite.specs.Held.{state};
+ghost use Rattle.desk_schema.specs.Steps.{Plays, PlaysAll};
+
+use crate::drops::{drop_affects, drop_blockers, drop_fields, drop_marks, drop_member, drop_near};
+use crate::puts::{
+    put_affects, put_blocker, put_fields, put_mark, put_member, put_near, put_outcome,
+    put_outcome_number,
+};
+use bug_record::StoreFault;
+use desk_content::Edit;
+use desk_rows::{add_message, add_node, clear_node};
+use sqlite::{Alter, Transaction};
+
+// Makes one edit.
+fn play<S: Alter>(tx: &mut Transaction<'_, S>, edit: &Edit) -> Result<(), StoreFault>
+    ensures same_reference { tx.new.conn.ghost_name ≡ tx.old.conn.ghost_name }
+    ensures plays { Plays edit.now (state S.Store tx.old.conn.now) (state S.Store tx.new.conn.now) result }
+{
+    match edit {
+        Edit::DropFields { key } => drop_fields(tx, *key),
+        Edit::PutFields { key, fields } => put_fields(tx, *key, fields),
+        Edit::DropMember { number } => drop_member(tx, *number),
+        Edit::PutMember { key, member } => put_member(tx, *key, member),
+        Edit::DropMarks { key } => drop_marks(tx, *key),
+        Edit::PutMark { key, kind, node } => put_mark(tx, *key, *kind, node),
+        Edit::DropBlockers { key } => drop_blockers(tx, *key),
+        Edit::PutBlocker { key, blocker } => put_blocker(tx, *key, *blocker),
+        Edit::DropAffects { key } => drop_affects(tx, *key),
+        Edit::PutAffects { key, package } => put_affects(tx, *key, package.as_str()),
+        Edit::DropNear { key } => drop_near(tx, *key),
+        Edit::PutNear { key, node, near } => put_near(tx, *key, node, near),
+        Edit::DropLink { node } => clear_node(tx, node),
+        Edit::PutLink { node, parent } => add_node(tx, node, parent),
+        Edit::PutMessage { id, from, message } => {
+            add_message(tx, id.as_str(), from.as_str(), message.as_str())
+        }
+        Edit::PutOutcome { id, place, outcome } => put_outcome(tx, id.as_str(), *place, outcome),
+        Edit::PutOutcomeNumber { id, place, number } => {
+            put_outcome_number(tx, id.as_str(), *place, *number)
+        }
+    }
+}
+
+/// Makes edits, one after another.
+/// It fails for memory, the disk or its size alone, where no row stands in the way of one.
+pub fn play_all<S: Alter>(tx: &mut Transaction<'_, S>, edits: &[Edit]) -> Result<(), StoreFault>
+    ensures same_reference { tx.new.conn.ghost_name ≡ tx.old.conn.ghost_name }
+    ensures plays { PlaysAll edits.now (state S.Store tx.old.conn.now) (state S.Store tx.new.conn.now) result }
+{
+    for edit in edits {
+        play(tx, edit)?;
+    }
+    Ok(())
+}

@@ -1,5 +1,0 @@
-pub mod Marked
-pub mod Listed
--- definitions that only private functions cite
-pub mod MarkAnswers
-pub mod KindAnswers

@@ -1,9 +1,0 @@
-pub mod AddMessage
-pub mod AddOutcome
-pub mod AddNumber
-pub mod KeyLemmas
-pub mod OutcomeOrder
-pub mod ReadMessage
-pub mod ReadOutcomes
-pub mod ReadNumbers
-pub mod NodeCells

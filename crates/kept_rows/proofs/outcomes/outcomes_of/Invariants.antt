@@ -1,7 +1,0 @@
-use Rattle.std.proofs.Common.{◌≡◌, List, take}
-use Rattle.desk_content.specs.declared.edit.ToldOutcome.{ToldOutcome}
-use Rattle.kept_rows.specs.Rows.{AreOutcomeRows}
-use Rattle.kept_rows.proofs.outcomes.outcomes_of.Given as goal
-
-abbrev pub invariant-loop-row : goal.invariant-loop-row
-invariant-loop-row l = (ts : List ToldOutcome) → AreOutcomeRows l.rows ts → l.outcomes ≡ take l.row-index ts

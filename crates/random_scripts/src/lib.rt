@@ -1,6 +1,0 @@
-//! Random scripts for tests.
-#![tactic(auto)]
-
-mod lines;
-
-pub use lines::Maker;

@@ -1,4 +1,0 @@
-mod ZipLemmas
-mod CallLemmas
-mod GrownLemmas
-mod SentLemmas

@@ -1,3 +1,0 @@
-pub mod Calls
--- definitions that only private lemmas cite
-pub mod Grown

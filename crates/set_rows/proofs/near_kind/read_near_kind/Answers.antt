@@ -1,0 +1,17 @@
+use Rattle.std.proofs.Common.{◌≡◌, option_map, ◌∙◌, Err, rules}
+use Rattle.std.specs.Prelude.{⊤}
+use Rattle.sqlite.specs.Held.{state}
+use Rattle.desk_schema.proofs.StepLemmas.{acts_stop, reads_work}
+use Rattle.set_rows.specs.KindAnswers.{kind_rows}
+use Rattle.set_rows.proofs.near_kind.read_near_kind.Goals as goal
+
+pub returns-in_err-rows-clause-reads : goal.returns-in_err-rows-clause-reads
+returns-in_err-rows-clause-reads g c =
+    let is : c.from_residual.result ≡ Err c.in_err-rows.field-0.0 = search rules in
+    rw is (acts_stop (state g.S.Store c.args.tx.now.conn.now) (state g.S.Store c.near_rows.new.tx.conn.now) c.in_err-rows.field-0.0 (λ _. ⊤) _ _ _ (λ _ _. tt) c.in_err-rows.ensures.reads)
+
+pub returns-clause-reads : goal.returns-clause-reads
+returns-clause-reads g c =
+    reads_work (state g.S.Store c.args.tx.now.conn.now) (state g.S.Store c.near_rows.new.tx.conn.now) c.in_ok-rows.rows c.kind_in.result (λ _. ⊤)
+    (λ k rows. rows.items ≡ kind_rows (option_map (λ near. near.kind) (k.near c.args.key c.args.node.now))) (λ k kind. kind ≡ option_map (λ near. near.kind) (k.near c.args.key c.args.node.now))
+    (λ k p. let is = c.as_slice.ensures.value ∙ p in (c.kind_in.ensures.value _ is, c.kind_in.ensures.sure _ is)) c.in_ok-rows.ensures.reads

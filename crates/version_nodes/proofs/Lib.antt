@@ -1,0 +1,3 @@
+pub mod ForestProp
+pub mod NodeLemmas
+pub mod ReadLemmas

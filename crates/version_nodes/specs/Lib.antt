@@ -1,0 +1,5 @@
+pub mod Nodes
+pub mod NodeLaws
+pub mod Trees
+pub mod Statuses
+pub mod Lowest
