@@ -3,9 +3,9 @@
 Run it as python3 tools/release_trial.py real FOLDER, or made-up FOLDER.
 `real` makes a desk with the branches of the changelogs in /usr/share/doc and 2,000 random bugs, and
 compares the report's counts with those that a few lines of `sh` count from `@list`.
-`made-up` makes a desk of 36,000 packages and 20,000 bugs, and tells the seconds and the memory of
-reports over its file and beside its server.
-The desks, indexes and pages stay in the folder, and what is there already is made anew.
+`made-up` makes a desk of 36,000 packages and 20,000 bugs, and prints the seconds and the memory of
+reports, from the desk's file and from its server.
+The desks, indexes and pages stay in the folder, and replace those that are already there.
 """
 
 import glob

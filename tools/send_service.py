@@ -16,7 +16,7 @@ DEFAULTS = pathlib.Path("/etc/default/boxhumilwa")
 FIRST_PORT = 8080
 LARGEST_BODY = 65_536
 ENDS = ("all", "stopped", "unreadable")
-# The seconds before a message is sent again: the service is started anew 5 seconds after it ended.
+# The seconds before a message is sent again: systemd restarts the service after 5 seconds.
 PAUSES = (0.5, 1, 3, 8)
 ACCEPTED, REFUSED = 0, 1
 # The status of HTTP where the store failed, or there was no memory.
