@@ -138,7 +138,7 @@ def why_ended(program, status, errors):
     reason = next((line for line in told[1:] if line), f"it ended with status {status}")
     text = f"{program}: {reason.removeprefix('bts: ')}"
     if IN_USE in reason:
-        text += "\nrelease: a server may have it open: then use --port=N instead of --store=FILE"
+        text += "\nrelease: a server may have it open: ask that one, by --port=N for --store=FILE"
     return text
 
 

@@ -37,7 +37,7 @@ def report(port, sender, line):
     """A new bug; the line is the package, the version, the severity and the title."""
     words = cut_words(line)
     if len(words) < 3:
-        raise BadWords("--report takes PACKAGE VERSION SEVERITY TITLE")
+        raise BadWords("a report is PACKAGE VERSION SEVERITY TITLE")
     package, version, severity = words[:3]
     status, text = ask(port, "POST", "/bugs", {
         "from": sender, "package": package, "version": None if version == "-" else version,
@@ -84,7 +84,7 @@ def list_bugs(port, _, line):
     """The list of a package at a version."""
     words = cut_words(line)
     if len(words) != 2:
-        raise BadWords("--list takes PACKAGE VERSION")
+        raise BadWords("a list is PACKAGE VERSION")
     package, version = words
     node = version if "/" in version else f"{package}/{version}"
     path = [urllib.parse.quote(part, safe="") for part in (package, *version.split("/"))]
@@ -98,7 +98,7 @@ def show(port, _, line):
     words = cut_words(line)
     number = number_word(words[0]) if len(words) == 1 else None
     if number is None:
-        raise BadWords("--show takes N, the number of a bug")
+        raise BadWords("a page is that of N, the number of a bug")
     return question(
         port, f"/bugs/{number}", f"no such bug {number}",
         lambda lines: lines[0] == f"Bug {number}" and len(lines) == PAGE_LINES)

@@ -54,7 +54,7 @@ def line_of(command, last):
 def test_words(words):
     """Refuses words with a control character other than tab, which no line may be made of."""
     if any(map(has_control_character, words)):
-        raise BadWords("a word has a control character, such as a line feed")
+        raise BadWords("a word has a control character, as a line feed")
 
 
 def lines_of(words):
