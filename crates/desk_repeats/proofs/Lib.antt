@@ -7,3 +7,4 @@ pub mod ZipLemmas
 pub mod CallLemmas
 pub mod GrownLemmas
 pub mod SentLemmas
+pub mod OneLemmas

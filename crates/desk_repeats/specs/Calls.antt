@@ -6,6 +6,7 @@ use Rattle.bug_record.specs.Desk.{Desk}
 use Rattle.desk_lines.specs.Lines.{lines_of}
 use Rattle.bug_record.specs.declared.outcome.End.{End}
 use Rattle.bug_record.specs.declared.outcome.End.TheVariants.{All}
+use Rattle.bug_record.specs.declared.outcome.Outcome.{Outcome}
 use Rattle.message_machine.specs.Message.{Entry, machine, after_lines}
 use Rattle.message_machine.specs.Kept.{Keeping, outcomes_kept, outcomes_in, lines_told, told, kept_with, IsOfMessage}
 use Rattle.message_machine.specs.declared.kept.Kept.{Kept}
@@ -38,6 +39,11 @@ pub record Took (id sender message : List ℕ) (taken : List Entry) (old new : S
 abbrev pub Does : Call → State → State → Type 0
 Does Other old new = new.1 ≡ old.1
 Does (Sent id sender message taken) old new = Took id sender message taken old new
+
+-- one line of a message was taken, with this outcome, as where a crash cuts the message behind it
+abbrev pub TookOne : (id sender message : List ℕ) → Outcome → State → State → Type 0
+TookOne id sender message outcome old new =
+    (line : List ℕ) × Does (Sent id sender message ((line, outcome) ∷ [])) old new
 
 -- the calls were made one after another
 abbrev pub InTurn : List Call → State → State → Type 0

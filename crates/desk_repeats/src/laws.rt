@@ -1,13 +1,17 @@
 //! That each line of a message with an id acts once at most, and in order.
 
-ghost use Rattle.std.specs.Prelude.{◌≡◌, ◌++◌, ℕ, List};
+ghost use Rattle.std.specs.Prelude.{◌≡◌, ◌++◌, ℕ, List, Option};
 ghost use Rattle.std.specs.Prelude.{Ok, Err};
 ghost use Rattle.bug_record.specs.Desk.{Desk};
+ghost use Rattle.bug_record.specs.declared.command.Change.{Change};
+ghost use Rattle.bug_record.specs.declared.outcome.Outcome.{Outcome};
 ghost use Rattle.desk_messages.specs.declared.message.Received.{Received};
 ghost use Rattle.desk_repeats.specs.Once.{IsOnce};
 ghost use Rattle.desk_repeats.specs.declared.once.OnceFault.{OnceFault};
-ghost use Rattle.message_machine.specs.Kept.{Keeping, AreGoodKept};
-ghost use Rattle.desk_repeats.specs.Calls.{State, Call, Does, Other, InTurn, taken_in, told_of, IsSameMessage, IsSent};
+ghost use Rattle.desk_store.specs.Store.{MayBeKept, with_change};
+ghost use Rattle.message_machine.specs.Kept.{Keeping, AreGoodKept, kept_also};
+ghost use Rattle.desk_repeats.specs.Calls.{State, Call, Does, Other, InTurn, TookOne};
+ghost use Rattle.desk_repeats.specs.Calls.{taken_in, told_of, IsSameMessage, IsSent};
 
 /// Over every list of calls of a store, with other messages, faults, crashes and openings between
 /// them: the lines that calls took of the message of an id are, in the order in which they were
@@ -33,4 +37,14 @@ pub fn a_sent_message_takes_its_next_lines()
         → IsSent id sender message received.outcomes received.end (d, k) (e, l) }
     ensures refused { (id sender message : List ℕ) (fault : OnceFault) (d e : Desk) (k l : Keeping)
         → IsOnce id sender message d k (Err fault) e l → (e ≡ d) × Does Other (d, k) (e, l) }
+{}
+
+/// A store that keeps one outcome, with its change, has made a call of such a list that took one
+/// line.
+/// So a message that a crash cuts is as many of these calls as it has lines that were kept before
+/// the crash, wherever it was cut, and each line of it acts once at most, too.
+pub fn a_kept_outcome_takes_its_line()
+    ensures { (id sender message : List ℕ) (outcome : Outcome) (change : Option Change) (d : Desk) (k : Keeping)
+        → MayBeKept id sender message k d outcome change
+        → TookOne id sender message outcome (d, k) (with_change change d, kept_also id sender message outcome k) }
 {}

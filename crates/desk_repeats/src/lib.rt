@@ -9,5 +9,7 @@ mod laws;
 mod once;
 mod recalling;
 
-pub use laws::{a_sent_message_takes_its_next_lines, each_line_acts_once};
+pub use laws::{
+    a_kept_outcome_takes_its_line, a_sent_message_takes_its_next_lines, each_line_acts_once,
+};
 pub use once::{OnceFault, receive_once};

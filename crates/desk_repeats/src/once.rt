@@ -1,10 +1,10 @@
 //! Messages that act once per line.
 
-ghost use Rattle.std.specs.Prelude.{◌≡◌, false, true, IsTrue, IfOk, Result};
+ghost use Rattle.std.specs.Prelude.{◌≡◌, false, true, IfOk, IfErr, Result, ⊤};
 ghost use Rattle.std.specs.Str.{bytes_eq};
 ghost use Rattle.bug_record.specs.Texts.{IsText};
 ghost use Rattle.desk_lines.specs.Lines.{lines_of};
-ghost use Rattle.desk_store.specs.Store.{Holds};
+ghost use Rattle.desk_store.specs.Store.{Holds, Asks};
 ghost use Rattle.line_words.specs.Ids.{is_id};
 ghost use Rattle.message_machine.specs.Kept.{IsOfMessage, outcomes_kept};
 ghost use Rattle.desk_messages.specs.Transcripts.{IsLineOf};
@@ -62,9 +62,10 @@ fn outcomes_kept(kept: &Option<Kept>) -> &[Outcome]
 /// # Errors
 ///
 /// `BadId` where the id is none, `Reused` where it is known with another sender or text, and
-/// `Store` for a fault, or a want of memory, before the first line that has no kept outcome is
+/// `Store` for a fault, or where memory ran out, before the first line that has no kept outcome is
 /// begun, in this order, except that a fault as what is kept is read comes before `Reused`.
-/// Then nothing has changed.
+/// Then nothing has changed, and the store was asked questions and no more: a fault at the first
+/// new line is told as the end.
 pub fn receive_once<S: Records>(
     alloc: Global,
     store: &mut S,
@@ -79,6 +80,7 @@ pub fn receive_once<S: Records>(
     ensures bad { is_id id.now ≡ false → result ≡ Result.Err OnceFault.BadId }
     ensures good { result ≡ Result.Err OnceFault.BadId → is_id id.now ≡ false }
     ensures same { result ≡ Result.Err OnceFault.BadId → store.new ≡ store.old }
+    ensures asked { IfErr result (λ fault. Asks S.is_kept S.is_honest store.old store.new ⊤) }
     ensures line { IfOk result (λ r. IsLineOf r.end (lines_of message.now)) }
     ensures count { S.faults store.new ≡ faults_after_once result (S.faults store.old) }
 {
