@@ -34,8 +34,8 @@ fn serve_next<C: Clock, S: Records>(
 /// A connection that can't be accepted, or whose exchange fails, counts like any other, so a client
 /// that goes away ends nothing but its own exchange.
 /// A client that says nothing keeps the others waiting for 1 second, one that sends its request
-/// slowly for less than 10, and one that takes its answer slowly for 5, and one more for each
-/// 10,000 bytes of the answer's body.
+/// slowly for less than 10, and one that takes its answer slowly for 5, and one more for each whole
+/// 1,000,000 bytes of the answer's body.
 /// After an answer the server writes no more, and reads what the client still sends, for 1 second a
 /// read and 4 in all, and at most 16,777,216 bytes, so that the answer is not lost.
 /// These are this project's own rules.

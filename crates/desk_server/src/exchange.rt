@@ -29,8 +29,10 @@ const REQUEST: u64 = 10;
 /// How long a client may take to be given its answer, in seconds.
 const ANSWER: u64 = 5;
 
-/// For so many bytes of the answer's body it may take a second more.
-const BYTES_A_SECOND: usize = 10_000;
+/// For each whole so many bytes of the answer's body it may take a second more.
+/// On the loopback this is slow, so a client that takes nothing does not hold the others up for
+/// long.
+const BYTES_A_SECOND: usize = 1_000_000;
 
 /// How long a read may take after the answer, in seconds.
 const LATE_CALL: u64 = 1;
@@ -116,7 +118,8 @@ fn close<C: Clock + Copy + Drop, R: Read + Limits>(clock: C, reader: &mut Timed<
 ///
 /// The first byte has to come within 1 second, and the head and the body within 10 seconds of the
 /// call.
-/// The answer has 5 seconds from its first byte, and one more for each 10,000 bytes of its body.
+/// The answer has 5 seconds from its first byte, and one more for each whole 1,000,000 bytes
+/// of its body.
 /// After it no more is written, and what the client still sends is read, for 1 second a read, 4
 /// seconds in all and 16,777,216 bytes, so that the answer is not lost.
 /// These are this project's own rules.

@@ -1,10 +1,10 @@
 //! A clock and two ends of a connection that pass the time by themselves: how long a server waits.
 
-use crate::exchanges::REPORT;
+use crate::exchanges::{REPORT, serve};
 use desk_http::{ServeFault, Served};
 use desk_server::{Limits, serve_within};
 use desk_store::{PlainDesk, Records};
-use std::alloc::{AllocError, Global};
+use std::alloc::Global;
 use std::cell::Cell;
 use std::io::{self, ErrorKind, Read, Write};
 use std::test::Fail;
@@ -249,44 +249,100 @@ fn a_short_answer_has_five_seconds(rt: HostRuntime) -> Result<(), Fail> {
     Ok(())
 }
 
-// Adds the body of a message of so many lines.
-fn add_body(body: &mut String, lines: usize) -> Result<(), AllocError> {
-    body.push_str("{\"from\":\"ann\",\"message\":\"")?;
-    for _ in 0..lines {
-        body.push_str("severity 1 grave\\n")?;
+// A list of all bugs.
+const LIST: &str = "GET /list/foo/1 HTTP/1.1\r\n\r\n";
+
+// A report whose title has 200 bytes, so that its row of a list has 229.
+fn long_report(alloc: Global) -> Result<String, Fail> {
+    let mut request = String::from_str(
+        alloc,
+        "POST /bugs HTTP/1.1\r\nContent-Length: 261\r\n\r\n",
+    )?;
+    request.push_str("{\"from\":\"ann\",\"package\":\"foo\",\"severity\":\"normal\",\"title\":\"")?;
+    for _ in 0..200 {
+        request.push_str("x")?;
     }
-    body.push_str("\"}")
+    request.push_str("\"}")?;
+    Ok(request)
 }
 
-// A message of so many lines.
-fn long_message(alloc: Global, lines: usize) -> Result<String, Fail> {
-    let mut body = String::new(alloc);
-    add_body(&mut body, lines)?;
-    let len = body.len();
-    Ok(format!(in alloc; "POST /control HTTP/1.1\r\nContent-Length: {len}\r\n\r\n{body}")?)
+// A desk with so many bugs, each of which has a row of 229 bytes in a list.
+fn full_desk(alloc: Global, bugs: usize) -> Result<PlainDesk, Fail> {
+    let mut desk = PlainDesk::new(alloc, 1);
+    let request = long_report(alloc)?;
+    for _ in 0..bugs {
+        let mut written = Vec::new(alloc);
+        serve(alloc, &mut desk, &request, &mut written);
+    }
+    Ok(desk)
 }
 
-// What comes of a long message whose answer is first taken after so long, and how many bytes of it
-// are taken.
-fn long_answer(alloc: Global, first: u64) -> Result<((Outcome, u64, u64), usize), Fail> {
+// What comes of an answer: how it ends, when, and how many bytes of it are taken.
+type Taken = (Outcome, u64, usize);
+
+// What comes of a list of all bugs that is taken at this pace.
+fn list_at(alloc: Global, desk: &mut PlainDesk, takes: Pace) -> Result<Taken, Fail> {
     let paces = Paces {
         sends: AT_ONCE,
-        takes: late(first),
+        takes,
         more: 0,
         sends_more: AT_ONCE,
     };
-    let client = Client::new(long_message(alloc, 600)?, paces);
-    let end = ends(alloc, &client);
-    Ok((end, client.written.get()))
+    let client = Client::new(String::from_str(alloc, LIST)?, paces);
+    let told = serve_within(&client, alloc, desk, &client, &client);
+    Ok((outcome_of(&told), client.now.get(), client.written.get()))
 }
 
+// The same of lists of so many bugs, one after another.
+fn lists_at(alloc: Global, bugs: usize, takes: &[Pace]) -> Result<Vec<Taken>, Fail> {
+    let mut desk = full_desk(alloc, bugs)?;
+    let mut all = Vec::new(alloc);
+    for pace in takes {
+        all.push(list_at(alloc, &mut desk, *pace)?)?;
+    }
+    Ok(all)
+}
+
+// The first line of these lists has 27 bytes, so 4,366 bugs make 999,841 and 4,367 make 1,000,070,
+// after a head of 103 and 104 bytes.
 #[test]
-fn an_answer_has_a_second_more_for_each_10_000_bytes(rt: HostRuntime) -> Result<(), Fail> {
-    let (end, written) = long_answer(rt.alloc(), 6_999)?;
-    assert!(rt; end == (Outcome::Answered, 6_999, 0));
-    assert!(rt; 20_200 < written && written < 30_000, "{written}");
-    let (end, _) = long_answer(rt.alloc(), 7_001)?;
-    assert!(rt; end == (Outcome::WriteFault, 7_000, 0));
+fn an_answer_has_a_second_more_for_each_million_bytes(rt: HostRuntime) -> Result<(), Fail> {
+    let below = lists_at(rt.alloc(), 4_366, &[late(4_999), late(5_001)])?;
+    assert!(rt;
+        below[..]
+            == [
+                (Outcome::Answered, 4_999, 999_944),
+                (Outcome::WriteFault, 5_000, 0)
+            ]
+    );
+    let above = lists_at(rt.alloc(), 4_367, &[late(5_999), late(6_001)])?;
+    assert!(rt;
+        above[..]
+            == [
+                (Outcome::Answered, 5_999, 1_000_174),
+                (Outcome::WriteFault, 6_000, 0)
+            ]
+    );
+    Ok(())
+}
+
+// A client that takes 4,096 bytes after each pause, the first at once.
+fn takes_after(pause: u64) -> Pace {
+    Pace {
+        first: 0,
+        pause,
+        piece: 4_096,
+    }
+}
+
+// 18,000 bugs make 4,122,028 bytes, after a head of 104, which are 1,007 pieces.
+#[test]
+fn a_list_of_four_megabytes_has_nine_seconds(rt: HostRuntime) -> Result<(), Fail> {
+    let paces = [late(u64::MAX), takes_after(2), takes_after(8)];
+    let taken = lists_at(rt.alloc(), 18_000, &paces)?;
+    assert!(rt; taken[0] == (Outcome::WriteFault, 9_000, 0));
+    assert!(rt; taken[1] == (Outcome::Answered, 2_012, 4_122_132));
+    assert!(rt; taken[2] == (Outcome::Answered, 8_048, 4_122_132));
     Ok(())
 }
 

@@ -6,7 +6,7 @@ pub(crate) const ABOUT: &str = "A bug desk with the control commands of the Debi
 /// How a command line is written.
 pub(crate) const USAGE: &str = "bts [--OPTION=VALUE]... [COMMAND]";
 
-/// The commands, and an example.
+/// The commands, the words of a message, and examples.
 pub(crate) const COMMANDS: &str = "\
 Commands:
   none, or run   Carries out the script on standard input (--store)
@@ -17,8 +17,26 @@ Commands:
 Options stand before the command, and a value follows `=`: --store=desk, not --store desk.
 `init` needs --store, `serve` needs --port, and other words need --store and --from.
 
-Example:
-  bts --store=desk --from=ann severity 5 normal , merge it 43 , retitle it blah";
+Words of a message (N, M are bugs, V is a version; `,` or `.` ends a command, `it` is the last bug):
+  found N [V], notfound N V          Marks a version that has the bug, or unmarks it
+  fixed N V, notfixed N V            The same of a version that fixes it
+  close N [V], reopen N [WHO]        Closes it, as fixed in a version; opens it again
+  severity N LEVEL                   critical, grave, serious, important, normal, minor, wishlist
+  tags N [+|-|=] TAG...              Adds tags, takes them away, or sets them
+  affects N [+|-|=] PACKAGE...       The same of other packages that list it
+  retitle N TEXT, submitter N WHO    Its title; who sent it (`!` is the sender)
+  owner N WHO, noowner N             Who works on it
+  forwarded N TEXT, notforwarded N   Where it was forwarded to
+  reassign N PACKAGE [V]             It is a bug of another package
+  merge N M..., forcemerge N M...    Makes them one, if they agree, or in any case
+  unmerge N, clone N -1...           Takes it out of these; copies it, named -1
+  block N by M..., unblock N by M... It waits for others, or no longer
+  archive N, unarchive N             Hides it from lists, or no longer
+
+Examples:
+  bts --store=desk.db init
+  echo @report foo 1.0-1 normal crashes at start | bts --store=desk.db
+  bts --store=desk.db --from=ann severity 1 grave , tags it + patch";
 
 /// What `--store` gives.
 pub(crate) const STORE: &str = "The file of the desk; `run` and `serve` need none";

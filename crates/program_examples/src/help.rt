@@ -3,7 +3,7 @@
 use std::io;
 
 /// What the help has to name.
-const NAMES: [&str; 12] = [
+const NAMES: [&str; 13] = [
     "--store <FILE>",
     "--from <TEXT>",
     "--id <TEXT>",
@@ -15,7 +15,8 @@ const NAMES: [&str; 12] = [
     "init           Makes the file of a new desk",
     "serve          Answers HTTP on 127.0.0.1",
     "other words    Sends them as one message, as bts(1) does",
-    "Example",
+    "severity N LEVEL",
+    "Examples",
 ];
 
 /// Prints what a text of help names.
