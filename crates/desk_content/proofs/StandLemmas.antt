@@ -1,10 +1,9 @@
 -- Bugs that stand under the key of an image are the set of that key.
-use Rattle.std.proofs.Common.{◌≡◌, ℕ, Bool, true, false, cond, ◌||◌, List, [], ◌∷◌, Option, Some, None, sym, refl, ap, ◌∙◌, subst}
+use Rattle.std.proofs.Common.{◌≡◌, ℕ, Bool, true, false, cond, ◌||◌, List, [], ◌∷◌, Option, Some, None, sym, refl, ap, ◌∙◌}
 use Rattle.std.specs.Prelude.{filter, not, ◌==◌}
 use Rattle.std.proofs.lemmas.Bool.{false≢true, eq-eqb}
 use Rattle.std.proofs.lemmas.Option.{same_Some}
 use Rattle.version_nodes.specs.Nodes.{Node}
-use Rattle.version_nodes.specs.Trees.{Ancestry}
 use Rattle.bug_record.specs.Sets.{has}
 use Rattle.bug_record.specs.Images.{numbers_of, HasMember}
 use Rattle.bug_record.specs.declared.bug.Member.{Member}
@@ -15,7 +14,7 @@ use Rattle.desk_content.specs.Content.{Content}
 use Rattle.desk_content.specs.View.{image, shared_of}
 use Rattle.desk_content.specs.Kept.{IsKeptContent}
 use Rattle.desk_content.specs.Images.{is_member}
-use Rattle.desk_content.specs.Staying.{Stays, HasNothing}
+use Rattle.desk_content.specs.Staying.{Stays}
 use Rattle.desk_content.specs.declared.edit.SetFields.{SetFields}
 use Rattle.desk_content.proofs.ChangeLemmas.{no_near_marks}
 

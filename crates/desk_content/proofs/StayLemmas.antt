@@ -1,14 +1,11 @@
 -- What the edits of an image whose bugs stay make of a content.
-use Rattle.std.proofs.Common.{◌≡◌, ◌≤◌, ℕ, Bool, true, false, cond, ◌||◌, ◌&&◌, List, [], ◌∷◌, ◌++◌, Option, Some, None, sym, refl, ap, ◌∙◌, subst}
+use Rattle.std.proofs.Common.{◌≡◌, ◌≤◌, ℕ, Bool, true, false, cond, ◌&&◌, List, [], ◌∷◌, ◌++◌, Option, Some, None, sym, refl, ap, ◌∙◌, subst}
 use Rattle.std.proofs.Common.{append-nil, append_assoc}
-use Rattle.std.specs.Prelude.{filter, not, ◌==◌}
+use Rattle.std.specs.Prelude.{not, ◌==◌}
 use Rattle.std.proofs.lemmas.Bool.{eqb-true, eq-eqb}
 use Rattle.line_words.specs.declared.named.TheConstants.{LARGEST_NUMBER}
 use Rattle.version_nodes.specs.Nodes.{Node}
 use Rattle.version_nodes.specs.Trees.{Ancestry}
-use Rattle.bug_record.specs.Sets.{has}
-use Rattle.bug_record.specs.Images.{numbers_of}
-use Rattle.bug_record.specs.declared.bug.Member.{Member}
 use Rattle.bug_record.specs.declared.bug.SetImage.{SetImage}
 use Rattle.bugs_in_memory.specs.Keys.{key_of}
 use Rattle.nearest_marks.specs.Nearest.{nearest_of, row_at, once}
@@ -24,7 +21,7 @@ use Rattle.desk_content.specs.declared.edit.Edit.{Edit}
 use Rattle.desk_content.proofs.ClosedLemmas.{own_key}
 use Rattle.desk_content.proofs.EditLemmas.{same_content, edited_all-append}
 use Rattle.desk_content.proofs.FreeLemmas.{free-append, set_free, all_marks_free}
-use Rattle.desk_content.proofs.PutLemmas.{put_keys, put_keys-is, members_put, numbers_put, put_kept, put_new}
+use Rattle.desk_content.proofs.PutLemmas.{put_keys-is, members_put, numbers_put, put_kept, put_new}
 
 free-later : (xs ys : List Edit) (c : Content) → AreFree (xs ++ ys) c → AreFree ys (edited_all xs c)
 free-later [] ys c free = free
