@@ -28,6 +28,15 @@ use Rattle.desk_content.proofs.ClosedLemmas.{no_near, no_nodes, pick, put_key, p
 use Rattle.desk_content.proofs.ClosedLemmas.{put_fixed, put_near}
 use Rattle.desk_content.proofs.KeepLemmas.{images_say, says_kept, kept_of}
 
+-- a set that has no marks has no nearest one
+pub no_near_marks : (t : Ancestry) (v : Node) → None ≡ nearest_of t [] [] v
+no_near_marks t v = elim (knows t v) as (λ b. None ≡ cond b (nearest_on [] [] (line t v)) None)
+    [ true ↦ sym (none_on (line t v)) | false ↦ refl ]
+  where
+    none_on : (vs : List Node) → nearest_on [] [] vs ≡ None
+    none_on [] = refl
+    none_on (w ∷ vs) = none_on vs
+
 -- ---- bugs that the images have
 
 pub in_some-is : (is : List SetImage) (n : ℕ) → in_some is n ≡ is_some (image_with is n)
@@ -286,15 +295,6 @@ module _ (c : Content) (is : List SetImage) (kept : IsKeptContent c) (apart : Ar
       subst (λ (key : ℕ → Option ℕ). IsKeyed key (image after)) (sym keys_are)
       (subst (λ (set : ℕ → Option SetImage). IsKeyed (key_after is c.key) set) (sym images_are)
       (keyed-after c.key (image c) kept.keyed is c.nodes c.next apart whole))
-
-  -- a set that has no marks has no nearest one
-  no_near_marks : (t : Ancestry) (v : Node) → None ≡ nearest_of t [] [] v
-  no_near_marks t v = elim (knows t v) as (λ b. None ≡ cond b (nearest_on [] [] (line t v)) None)
-      [ true ↦ sym (none_on (line t v)) | false ↦ refl ]
-    where
-      none_on : (vs : List Node) → nearest_on [] [] vs ≡ None
-      none_on [] = refl
-      none_on (w ∷ vs) = none_on vs
 
   -- where no set is, nothing is said of one
   module _ {A : Type 0} (k : ℕ) (f : Content → A) (new : SetImage → A) (gone : A)

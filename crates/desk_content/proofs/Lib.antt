@@ -15,3 +15,5 @@ pub mod KeepLemmas
 pub mod KeepEditLemmas
 pub mod OutcomeLemmas
 pub mod AfterLemmas
+pub mod StandLemmas
+pub mod StayLemmas

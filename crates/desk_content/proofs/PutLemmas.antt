@@ -137,7 +137,7 @@ marks_put i rows c =
     ∙ near_put k rows (record d { fixed = put_each with_node k i.shared.fixed d.fixed })
 
 module _ (i : SetImage) (good : IsGoodImage i) (c : Content) where
-  numbers_put : c.members (key_of i) ≡ [] → (n : ℕ)
+  pub numbers_put : c.members (key_of i) ≡ [] → (n : ℕ)
       → put_each (placed (λ (m : Member). m.number)) (key_of i) i.members c.members n ≡ put_at (key_of i) i.members c.members n
   numbers_put none = put_all (placed (λ (m : Member). m.number)) (key_of i) i.members c.members none
       (placed_all (λ (m : Member). m.number) i.members good.members)

@@ -41,8 +41,14 @@ abbrev pub all_mark_puts : SetImage → List NearRow → List Edit
 all_mark_puts i rows =
     mark_puts (key_of i) Found i.shared.found ++ (mark_puts (key_of i) Fixed i.shared.fixed ++ near_puts (key_of i) rows)
 
+abbrev pub shared_puts : SetImage → List Edit
+shared_puts i =
+    PutFields (key_of i) (fields_of i.shared)
+    ∷ (blocker_puts (key_of i) i.shared.blockers ++ affected_puts (key_of i) i.shared.affects)
+
 abbrev pub set_puts : SetImage → List Edit
-set_puts i =
-    member_puts (key_of i) i.members
-    ++ (PutFields (key_of i) (fields_of i.shared)
-    ∷ (blocker_puts (key_of i) i.shared.blockers ++ affected_puts (key_of i) i.shared.affects))
+set_puts i = member_puts (key_of i) i.members ++ shared_puts i
+
+-- what stands under a key goes, and its bugs stay
+abbrev pub key_drops : Bool → ℕ → List Edit
+key_drops keeps key = DropFields key ∷ DropBlockers key ∷ DropAffects key ∷ mark_drops keeps key key

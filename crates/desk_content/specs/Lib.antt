@@ -6,6 +6,7 @@ pub mod Kept
 pub mod Edits
 pub mod Free
 pub mod Images
+pub mod Staying
 pub mod Changes
 pub mod Branches
 pub mod Keeping

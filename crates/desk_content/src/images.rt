@@ -10,7 +10,8 @@ ghost use Rattle.desk_content.specs.Edits.{edited_all};
 ghost use Rattle.desk_content.specs.Free.{AreFree};
 ghost use Rattle.desk_content.specs.Images.{same_marks, without_image, with_image, IsCleared, IsGoodImage};
 ghost use Rattle.desk_content.specs.View.{fields_of};
-ghost use Rattle.desk_content.specs.EditLists.{drops_of, drops, mark_drops, member_puts, blocker_puts, affected_puts, mark_puts, near_puts, all_mark_puts, set_puts};
+ghost use Rattle.desk_content.specs.EditLists.{drops_of, drops, mark_drops, member_puts, blocker_puts, affected_puts};
+ghost use Rattle.desk_content.specs.EditLists.{mark_puts, near_puts, all_mark_puts, shared_puts, set_puts};
 
 use crate::edit::{Edit, SetFields};
 use bug_record::{Member, Sequence, SetImage, Shared};
@@ -31,7 +32,7 @@ pub struct RowEdits {
 }
 
 // What goes of the marks of a number, unless it is a key that keeps them.
-fn drop_marks(
+pub(crate) fn drop_marks(
     edits: &mut Sequence<Edit>,
     keeps: bool,
     key: u64,
@@ -152,7 +153,7 @@ fn put_near(edits: &mut Sequence<Edit>, key: u64, rows: Vec<NearRow>) -> Result<
 }
 
 // All marks come, with the nearest ones.
-fn put_all_marks(
+pub(crate) fn put_all_marks(
     alloc: Global,
     edits: &mut Sequence<Edit>,
     family: &Family,
@@ -205,11 +206,27 @@ pub fn key_of(image: &SetImage) -> u64
 }
 
 // Whether these are the image's marks.
-fn has_marks(image: &SetImage, found: &[Node], fixed: &[Node]) -> bool
+pub(crate) fn has_marks(image: &SetImage, found: &[Node], fixed: &[Node]) -> bool
     ensures { result ≡ same_marks image.now found.now fixed.now }
 {
     let shared = image.shared.fields();
     found == shared.found.as_slice() && fixed == shared.fixed.as_slice()
+}
+
+// The fields, the blockers and the affected packages come.
+pub(crate) fn put_shared(
+    edits: &mut Sequence<Edit>,
+    key: u64,
+    image: &SetImage,
+) -> Result<(), AllocError>
+    requires { key ≡ key_of image.now }
+    ensures { OnOk result (edits.new ≡ edits.old ++ shared_puts image.now) }
+{
+    let shared = image.shared.fields();
+    let fields = copy_fields(shared)?;
+    edits.push(Edit::PutFields { key, fields })?;
+    put_blockers(edits, key, shared.blockers.as_slice())?;
+    put_affects(edits, key, shared.affects.as_slice())
 }
 
 // All but the marks comes.
@@ -219,10 +236,7 @@ fn put_set(alloc: Global, key: u64, image: &SetImage) -> Result<Sequence<Edit>, 
 {
     let mut edits = Sequence::new(alloc);
     put_members(&mut edits, key, image.members.as_slice())?;
-    let fields = copy_fields(image.shared.fields())?;
-    edits.push(Edit::PutFields { key, fields })?;
-    put_blockers(&mut edits, key, image.shared.fields().blockers.as_slice())?;
-    put_affects(&mut edits, key, image.shared.fields().affects.as_slice())?;
+    put_shared(&mut edits, key, image)?;
     Ok(edits)
 }
 

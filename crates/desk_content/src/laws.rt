@@ -8,7 +8,8 @@ ghost use Rattle.version_nodes.specs.Statuses.{first_kind};
 ghost use Rattle.version_nodes.specs.declared.statuses.MarkKind.{MarkKind};
 ghost use Rattle.bug_record.specs.Asked.{numbers_where};
 ghost use Rattle.bug_record.specs.Sets.{has, IsAscending};
-ghost use Rattle.bug_record.specs.Images.{put};
+ghost use Rattle.bug_record.specs.Images.{put, HasMember};
+ghost use Rattle.bugs_in_memory.specs.Keys.{key_of};
 ghost use Rattle.bug_record.specs.Severities.{rank};
 ghost use Rattle.bug_record.specs.Tags.{IsTagSet};
 ghost use Rattle.bug_record.specs.declared.severity.Severity.{Severity};
@@ -28,6 +29,7 @@ ghost use Rattle.desk_content.specs.Kept.{IsKeptContent};
 ghost use Rattle.desk_content.specs.Branches.{with_nodes};
 ghost use Rattle.desk_content.specs.KindsAtNodes.{bug_passes, kind_of};
 ghost use Rattle.desk_content.specs.Images.{IsGoodImage, IsCleared};
+ghost use Rattle.desk_content.specs.Staying.{Stays};
 ghost use Rattle.desk_content.specs.Encodings.{severity_in, flag, flag_in, kind_number, kind_in, tags_number, tags_in};
 ghost use Rattle.desk_content.specs.Changes.{keeps_marks, with_images, cleared_for, changed, FitsContent};
 
@@ -51,6 +53,12 @@ pub fn images_are_ready()
         IsCleared (keeps_marks c i) i (with_images xs (cleared_for c change)) }
     ensures nodes { (c : Content) (change : Change) (xs : List SetImage) →
         (with_images xs (cleared_for c change)).nodes ≡ c.nodes }
+{}
+
+/// Where the bugs of an image are those that stand under its key, they are that key's set, and
+/// nothing stands under the numbers of the others.
+pub fn sets_stay()
+    ensures { (c : Content) (i : SetImage) → IsKeptContent c → HasMember i → c.members (key_of i) ≡ i.members → Stays i c }
 {}
 
 /// Where an outcome is kept of the message of an id, the content shows it behind the others of the

@@ -11,6 +11,7 @@ mod keeping;
 mod kinds_at_nodes;
 mod laws;
 mod outcomes;
+mod staying;
 
 pub use branches::{SetNear, branch_edits};
 pub use edit::{Edit, SentMessage, SetFields, ToldOutcome};
@@ -23,8 +24,9 @@ pub use keeping::keep_edits;
 pub use kinds_at_nodes::kind_here;
 pub use laws::{
     branches_are_put, bugs_are_asked_by_sets, changes_are_put, images_are_ready, kinds_are_nearest,
-    new_contents_are_kept, numbers_are_read_back, outcomes_are_kept,
+    new_contents_are_kept, numbers_are_read_back, outcomes_are_kept, sets_stay,
 };
 pub use outcomes::{
     field_of_outcome, kind_of_outcome, node_of_outcome, number_of_outcome, outcome_of_numbers,
 };
+pub use staying::stay_edits;

@@ -1,18 +1,18 @@
 -- What the steps of a change come to together.
-use Rattle.std.proofs.Common.{◌≡◌, ◌≢◌, List, Result, Ok, sym, ap, subst, ◌∙◌}
+use Rattle.std.proofs.Common.{◌≡◌, List, Result, Ok, sym, ap, subst, ◌∙◌}
 use Rattle.std.specs.Prelude.{⊤}
 use Rattle.version_nodes.specs.Trees.{Ancestry}
 use Rattle.bug_record.specs.declared.command.Change.{Change}
 use Rattle.sqlite.specs.State.{State}
 use Rattle.bug_record.specs.declared.outcome.StoreFault.{StoreFault}
 use Rattle.desk_content.specs.Content.{Content}
-use Rattle.desk_content.specs.Changes.{FitsContent, changed}
+use Rattle.desk_content.specs.Changes.{FitsContent, changed, with_images, cleared_for}
 use Rattle.desk_content.specs.Edits.{edited_all}
 use Rattle.desk_content.specs.Free.{AreFree}
 use Rattle.desk_content.specs.Kept.{IsKeptContent}
 use Rattle.desk_content.specs.declared.images.RowEdits.{RowEdits}
 use Rattle.desk_schema.specs.Steps.{Acts, PlaysAll, Reads}
-use Rattle.desk_schema.proofs.StepLemmas.{done, failed, none, acts_stop, acts_then}
+use Rattle.desk_schema.proofs.StepLemmas.{done, failed, none, acts_stop, acts_then, acts_weaker}
 use Rattle.desk_writes.specs.Plans.{ArePlans, cleared_edits, put_edits}
 use Rattle.desk_writes.proofs.PlanLemmas.{first_free, then_free, come_to}
 
@@ -23,6 +23,10 @@ module _ (t : Ancestry) (change : Change) where
 
   abbrev pub IsMade : Content → Content → Type 0
   IsMade c d = IsKeptContent c → FitsContent c change → c.nodes ≡ t → d ≡ changed c change
+
+  -- the sets of all images are written
+  abbrev pub IsWritten : Content → Content → Type 0
+  IsWritten c d = IsKeptContent c → FitsContent c change → c.nodes ≡ t → d ≡ with_images change.images (cleared_for c change)
 
   -- the images are planned, and what goes is gone
   abbrev pub IsCleared : List RowEdits → Content → Content → Type 0
@@ -52,11 +56,16 @@ module _ (t : Ancestry) (change : Change) where
         (λ c fits. fits) (λ c d p fits. subst (AreFree (put_edits plans)) (sym p.1) (then_free c change fits.0 fits.1 plans (over c plans fits.2 p.0)))
         (λ c d e _ p q. (p.0, q ∙ ap (edited_all (put_edits plans)) p.1)) one two
 
-    pub then_next : Acts old mid done Fits (λ c d _. IsPut plans c d) → Acts mid new r (λ _. ⊤) (λ c d _. d ≡ record c { next = change.next }) → Acts old new r Fits (λ c d _. IsMade c d)
-    then_next one two = acts_then old mid new none Fits (λ _. ⊤) Fits (λ c d _. IsPut plans c d) (λ c d _. d ≡ record c { next = change.next }) (λ c d _. IsMade c d) r
-        (λ c fits. fits) (λ c d p fits. tt)
-        (λ c d e _ p q kept fits is. q ∙ ap (λ (k : Content). record k { next = change.next }) (p.1 ∙ come_to c change kept fits plans (over c plans is p.0))) one two
+    pub written : Acts old new r Fits (λ c d _. IsPut plans c d) → Acts old new r Fits (λ c d _. IsWritten c d)
+    written one = acts_weaker old new r Fits Fits (λ c d _. IsPut plans c d) (λ c d _. IsWritten c d) (λ c fits. fits)
+        (λ c d _ p kept fits is. p.1 ∙ come_to c change kept fits plans (over c plans is p.0)) one
+
+  pub then_next : (old mid new : State) (r : Result (Unit {0}) StoreFault) → Acts old mid done Fits (λ c d _. IsWritten c d)
+      → Acts mid new r (λ _. ⊤) (λ c d _. d ≡ record c { next = change.next }) → Acts old new r Fits (λ c d _. IsMade c d)
+  then_next old mid new r one two = acts_then old mid new none Fits (λ _. ⊤) Fits (λ c d _. IsWritten c d) (λ c d _. d ≡ record c { next = change.next }) (λ c d _. IsMade c d) r
+      (λ c fits. fits) (λ c d p fits. tt)
+      (λ c d e _ p q kept fits is. q ∙ ap (λ (k : Content). record k { next = change.next }) (p kept fits is)) one two
 
   -- a step failed
-  pub unmade : (old new : State) (fault : StoreFault) (P : Content → Content → Type 0) → Acts old new (failed fault) Fits (λ c d _. P c d) → Acts old new (failed fault) Fits (λ c d _. IsMade c d)
-  unmade old new fault P one = acts_stop old new fault Fits Fits (λ c d _. P c d) (λ c d _. IsMade c d) (λ c fits. fits) one
+  pub unmade : (old new : State) (fault : StoreFault) (P Q : Content → Content → Type 0) → Acts old new (failed fault) Fits (λ c d _. P c d) → Acts old new (failed fault) Fits (λ c d _. Q c d)
+  unmade old new fault P Q one = acts_stop old new fault Fits Fits (λ c d _. P c d) (λ c d _. Q c d) (λ c fits. fits) one

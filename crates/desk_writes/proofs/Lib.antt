@@ -6,3 +6,5 @@ pub mod BranchSteps
 pub mod LineSteps
 pub mod OutcomeSteps
 pub mod ReadSteps
+pub mod MemberLemmas
+pub mod StaySteps

@@ -13,7 +13,7 @@ use Rattle.desk_schema.specs.Steps.{Reads}
 use Rattle.desk_schema.proofs.StepLemmas.{acts_then}
 
 -- one question after another
-reads_then : {A B : Type 0} (old mid new : State) (a : A) (r : Result B StoreFault) (P : Content → A → Type 0) (Q R : Content → B → Type 0)
+pub reads_then : {A B : Type 0} (old mid new : State) (a : A) (r : Result B StoreFault) (P : Content → A → Type 0) (Q R : Content → B → Type 0)
     → ((c : Content) (b : B) → P c a → Q c b → R c b) → Reads P old mid (Ok a) → Reads Q mid new r → Reads R old new r
 reads_then old mid new a r P Q R join one two =
     acts_then old mid new a (λ _. ⊤) (λ _. ⊤) (λ _. ⊤) (λ c d a. (d ≡ c) × P c a) (λ d e b. (e ≡ d) × Q d b) (λ c e b. (e ≡ c) × R c b) r

@@ -8,6 +8,7 @@ use Rattle.desk_content.specs.Content.{Content}
 use Rattle.desk_content.specs.Edits.{edited_all}
 use Rattle.desk_content.specs.Free.{AreFree}
 use Rattle.desk_content.specs.Images.{same_marks, without_image, with_image, IsCleared, IsGoodImage}
+use Rattle.desk_content.specs.Staying.{Stays}
 use Rattle.desk_content.specs.declared.edit.Edit.{Edit}
 use Rattle.desk_content.specs.declared.images.RowEdits.{RowEdits}
 
@@ -34,3 +35,18 @@ cleared_edits plans = flat_map (λ plan. plan.cleared) plans
 
 abbrev pub put_edits : List RowEdits → List Edit
 put_edits plans = flat_map (λ plan. plan.put) plans
+
+-- the edits of an image whose bugs stay, where these marks stand under its key: they make what
+-- clearing all its rows and putting them again makes
+pub record IsStay (t : Ancestry) (found fixed : List Node) (i : SetImage) (edits : List Edit) : Type 0 where
+  pub made : (c : Content) → c.nodes ≡ t → IsGoodImage i → Stays i c → IsCleared (same_marks i found fixed) i (without_image (same_marks i found fixed) i c)
+      → edited_all edits c ≡ with_image i (without_image (same_marks i found fixed) i c)
+  pub free : (c : Content) → IsGoodImage i → Stays i c → IsCleared (same_marks i found fixed) i (without_image (same_marks i found fixed) i c) → AreFree edits c
+
+-- as the marks of the content are
+abbrev pub IsStayOf : Content → Ancestry → SetImage → List Edit → Type 0
+IsStayOf before t i edits = IsStay t (before.found (key_of i)) (before.fixed (key_of i)) i edits
+
+-- and its bugs stand under the image's key
+abbrev pub IsStayPlan : Content → Ancestry → SetImage → List Edit → Type 0
+IsStayPlan c t i edits = (c.members (key_of i) ≡ i.members) × IsStayOf c t i edits

@@ -1,8 +1,8 @@
 //! A change of sets, carried out within one transaction.
 
-ghost use Rattle.std.specs.Prelude.{◌≡◌, ◌≢◌, IfOk, IfErr, ⊤};
+ghost use Rattle.std.specs.Prelude.{◌≡◌, ◌≢◌, [], ◌∷◌, IfOk, IfErr, ⊤};
 ghost use Rattle.sqlite.specs.Held.{state};
-ghost use Rattle.desk_content.specs.Changes.{FitsContent, changed};
+ghost use Rattle.desk_content.specs.Changes.{FitsContent, changed, with_images, cleared_for};
 ghost use Rattle.desk_content.specs.Kept.{IsKeptContent};
 ghost use Rattle.desk_schema.specs.Steps.{Acts, PlaysAll, Reads, Serves};
 ghost use Rattle.desk_writes.specs.Plans.{IsPlan, IsPlanOf, ArePlans, cleared_edits, put_edits};
@@ -10,9 +10,10 @@ ghost use Rattle.bug_record.specs.declared.outcome.StoreFault.TheVariants.{Forei
 
 use crate::parameters::parameter;
 use crate::play::play_all;
+use crate::staying::stay_plan;
 use bug_record::{Change, SetImage, StoreFault};
 use desk_content::{RowEdits, key_of, row_edits};
-use desk_rows::write_next;
+use desk_rows::{read_next, write_next};
 use nearest_marks::Family;
 use set_rows::{Marks, read_marks};
 use sqlite::{Alter, Transaction};
@@ -94,18 +95,79 @@ fn put_images<S: Alter>(tx: &mut Transaction<'_, S>, plans: &[RowEdits]) -> Resu
     Ok(())
 }
 
-// The next number to give.
+// The sets of all images are written anew: what stands under the numbers of their bugs goes, and
+// then they come.
+fn rewrite_sets<S: Alter>(
+    alloc: Global,
+    tx: &mut Transaction<'_, S>,
+    family: &Family,
+    change: &Change,
+) -> Result<(), StoreFault>
+    ensures same_reference { tx.new.conn.ghost_name ≡ tx.old.conn.ghost_name }
+    ensures acts { Acts (state S.Store tx.old.conn.now) (state S.Store tx.new.conn.now) result
+        (λ c. IsKeptContent c × FitsContent c change.now × (c.nodes ≡ family.now))
+        (λ c d _. IsKeptContent c → FitsContent c change.now → c.nodes ≡ family.now → d ≡ with_images change.now.images (cleared_for c change.now)) }
+{
+    let plans = plan_images(alloc, tx, family, change.images.as_slice())?;
+    clear_images(tx, plans.as_slice())?;
+    put_images(tx, plans.as_slice())
+}
+
+// The set of the only image is written: where its bugs stay, they are not touched.
+fn put_one<S: Alter>(
+    alloc: Global,
+    tx: &mut Transaction<'_, S>,
+    family: &Family,
+    change: &Change,
+    image: &SetImage,
+) -> Result<(), StoreFault>
+    requires { change.now.images ≡ image.now ∷ [] }
+    ensures same_reference { tx.new.conn.ghost_name ≡ tx.old.conn.ghost_name }
+    ensures acts { Acts (state S.Store tx.old.conn.now) (state S.Store tx.new.conn.now) result
+        (λ c. IsKeptContent c × FitsContent c change.now × (c.nodes ≡ family.now))
+        (λ c d _. IsKeptContent c → FitsContent c change.now → c.nodes ≡ family.now → d ≡ with_images change.now.images (cleared_for c change.now)) }
+{
+    match stay_plan(alloc, tx, family, image)? {
+        Some(edits) => play_all(tx, edits.as_slice()),
+        None => rewrite_sets(alloc, tx, family, change),
+    }
+}
+
+// The sets of all images are written.
+fn put_sets<S: Alter>(
+    alloc: Global,
+    tx: &mut Transaction<'_, S>,
+    family: &Family,
+    change: &Change,
+) -> Result<(), StoreFault>
+    ensures same_reference { tx.new.conn.ghost_name ≡ tx.old.conn.ghost_name }
+    ensures acts { Acts (state S.Store tx.old.conn.now) (state S.Store tx.new.conn.now) result
+        (λ c. IsKeptContent c × FitsContent c change.now × (c.nodes ≡ family.now))
+        (λ c d _. IsKeptContent c → FitsContent c change.now → c.nodes ≡ family.now → d ≡ with_images change.now.images (cleared_for c change.now)) }
+{
+    match change.images.as_slice() {
+        [image] => put_one(alloc, tx, family, change, image),
+        _ => rewrite_sets(alloc, tx, family, change),
+    }
+}
+
+// The next number to give is written where it is another one.
 fn put_next<S: Alter>(tx: &mut Transaction<'_, S>, next: u64) -> Result<(), StoreFault>
     ensures same_reference { tx.new.conn.ghost_name ≡ tx.old.conn.ghost_name }
     ensures acts { Acts (state S.Store tx.old.conn.now) (state S.Store tx.new.conn.now) result (λ _. ⊤) (λ c d _. d ≡ record c { next = next }) }
     ensures serves { Serves (state S.Store tx.old.conn.now) (state S.Store tx.new.conn.now) result }
 {
-    let next = parameter(next)?;
-    write_next(tx, next)
+    let number = parameter(next)?;
+    if read_next(tx)? == next {
+        return Ok(());
+    }
+    write_next(tx, number)
 }
 
 /// Carries a change out: what stands under the numbers of its bugs goes, its sets come, and last
 /// the next number.
+/// Where it has one image, whose bugs stay, these are not touched, and the next number is written
+/// only where it is another one.
 /// It fails for memory, the disk or its size alone, where the change fits kept tables.
 pub fn put_change<S: Alter>(
     alloc: Global,
@@ -119,8 +181,6 @@ pub fn put_change<S: Alter>(
         (λ c d _. IsKeptContent c → FitsContent c change.now → c.nodes ≡ family.now → d ≡ changed c change.now) }
     ensures serves { Serves (state S.Store tx.old.conn.now) (state S.Store tx.new.conn.now) result }
 {
-    let plans = plan_images(alloc, tx, family, change.images.as_slice())?;
-    clear_images(tx, plans.as_slice())?;
-    put_images(tx, plans.as_slice())?;
+    put_sets(alloc, tx, family, change)?;
     put_next(tx, change.next)
 }

@@ -14,6 +14,7 @@ mod new_rows;
 mod parameters;
 mod play;
 mod puts;
+mod staying;
 
 pub use branch::put_branch;
 pub use change::put_change;

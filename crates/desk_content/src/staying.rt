@@ -1,0 +1,60 @@
+//! What goes and what comes for the image of a set whose bugs stay.
+
+ghost use Rattle.std.specs.Prelude.{◌≡◌, IfOk};
+ghost use Rattle.desk_content.specs.Content.{Content};
+ghost use Rattle.desk_content.specs.Edits.{edited_all};
+ghost use Rattle.desk_content.specs.Free.{AreFree};
+ghost use Rattle.desk_content.specs.Images.{same_marks, without_image, with_image, IsCleared, IsGoodImage};
+ghost use Rattle.desk_content.specs.Staying.{Stays};
+ghost use Rattle.desk_content.specs.EditLists.{key_drops};
+
+use crate::edit::Edit;
+use crate::images::{drop_marks, has_marks, key_of, put_all_marks, put_shared};
+use bug_record::{Sequence, SetImage};
+use nearest_marks::Family;
+use std::alloc::{AllocError, Global};
+use version_nodes::Node;
+
+// What stands under a key goes, but for its bugs, and for its marks where it keeps them.
+fn drop_key(alloc: Global, keeps: bool, key: u64) -> Result<Sequence<Edit>, AllocError>
+    ensures { IfOk result (λ edits. edits ≡ key_drops keeps key) }
+{
+    let mut edits = Sequence::new(alloc);
+    edits.push(Edit::DropFields { key })?;
+    edits.push(Edit::DropBlockers { key })?;
+    edits.push(Edit::DropAffects { key })?;
+    drop_marks(&mut edits, keeps, key, key)?;
+    Ok(edits)
+}
+
+/// What goes and what comes for the image of a set whose bugs stay as they are, titles and
+/// submitters among it, where these are the marks that stand under its key.
+/// Where they are the image's marks, they and their nearest marks stay too.
+/// The edits make what clearing all rows of the image and putting them again would make, and are
+/// free, where the image is one of a sound desk.
+/// The error is that there was no memory.
+/// This project's own rule.
+pub fn stay_edits(
+    alloc: Global,
+    family: &Family,
+    image: &SetImage,
+    found: &[Node],
+    fixed: &[Node],
+) -> Result<Sequence<Edit>, AllocError>
+    ensures edits { IfOk result (λ edits. (c : Content) → c.nodes ≡ family.now → IsGoodImage image.now → Stays image.now c →
+        IsCleared (same_marks image.now found.now fixed.now) image.now (without_image (same_marks image.now found.now fixed.now) image.now c) →
+        edited_all edits c ≡ with_image image.now (without_image (same_marks image.now found.now fixed.now) image.now c)) }
+    ensures free { IfOk result (λ edits. (c : Content) → IsGoodImage image.now → Stays image.now c →
+        IsCleared (same_marks image.now found.now fixed.now) image.now (without_image (same_marks image.now found.now fixed.now) image.now c) →
+        AreFree edits c) }
+{
+    let key = key_of(image);
+    let keeps = has_marks(image, found, fixed);
+    let mut edits = drop_key(alloc, keeps, key)?;
+    put_shared(&mut edits, key, image)?;
+    if keeps {
+        return Ok(edits);
+    }
+    put_all_marks(alloc, &mut edits, family, key, image)?;
+    Ok(edits)
+}

@@ -1,0 +1,94 @@
+//! The edits of a set whose bugs stay.
+
+ghost use Rattle.std.specs.Prelude.{◌≡◌, ◌≢◌, true, IfOk, IfErr, IfSome};
+ghost use Rattle.sqlite.specs.Held.{state};
+ghost use Rattle.bug_record.specs.declared.outcome.StoreFault.TheVariants.{Foreign};
+ghost use Rattle.desk_schema.specs.Steps.{Reads};
+ghost use Rattle.desk_writes.specs.Plans.{IsStay, IsStayOf, IsStayPlan};
+
+use crate::parameters::parameter;
+use bug_record::{Member, Sequence, SetImage, StoreFault};
+use desk_content::{Edit, key_of, stay_edits};
+use nearest_marks::Family;
+use set_rows::{Marks, read_marks, read_members};
+use sqlite::{Alter, Transaction};
+use std::alloc::Global;
+
+// Whether two bugs are one, with the same title and submitter.
+fn same_member(a: &Member, b: &Member) -> bool
+    ensures { result ≡ true → a.now ≡ b.now }
+{
+    a.number == b.number
+        && a.title.as_str() == b.title.as_str()
+        && a.submitter.as_str() == b.submitter.as_str()
+}
+
+// Whether these bugs are those, in the same order.
+fn same_members(members: &[Member], others: &[Member]) -> bool
+    ensures { result ≡ true → members.now ≡ others.now }
+{
+    if members.len() != others.len() {
+        return false;
+    }
+    for i in 0..members.len() {
+        if !same_member(&members[i], &others[i]) {
+            return false;
+        }
+    }
+    true
+}
+
+// The edits of an image whose bugs stay, where these marks stand under its key.
+fn stay_of(
+    alloc: Global,
+    family: &Family,
+    image: &SetImage,
+    marks: &Marks,
+) -> Result<Sequence<Edit>, StoreFault>
+    ensures plan { IfOk result (λ edits. IsStay family.now marks.now.found marks.now.fixed image.now edits) }
+    ensures sure { IfErr result (λ fault. fault ≢ Foreign) }
+{
+    let found = marks.found.as_slice();
+    let fixed = marks.fixed.as_slice();
+    match stay_edits(alloc, family, image, found, fixed) {
+        Ok(edits) => Ok(edits),
+        Err(_) => Err(StoreFault::Memory),
+    }
+}
+
+// The same, as its marks stand now.
+fn stay_image<S: Alter>(
+    alloc: Global,
+    tx: &mut Transaction<'_, S>,
+    family: &Family,
+    image: &SetImage,
+) -> Result<Sequence<Edit>, StoreFault>
+    ensures same_reference { tx.new.conn.ghost_name ≡ tx.old.conn.ghost_name }
+    ensures reads { Reads (λ c edits. IsStayOf c family.now image.now edits) (state S.Store tx.old.conn.now) (state S.Store tx.new.conn.now) result }
+{
+    let key = parameter(key_of(image))?;
+    let marks = read_marks(alloc, tx, key)?;
+    stay_of(alloc, family, image, &marks)
+}
+
+/// The edits of an image, if its bugs, with their titles and submitters, are those that stand under
+/// its key.
+pub(crate) fn stay_plan<S: Alter>(
+    alloc: Global,
+    tx: &mut Transaction<'_, S>,
+    family: &Family,
+    image: &SetImage,
+) -> Result<Option<Sequence<Edit>>, StoreFault>
+    ensures same_reference { tx.new.conn.ghost_name ≡ tx.old.conn.ghost_name }
+    ensures reads { Reads (λ c plan. IfSome plan (λ edits. IsStayPlan c family.now image.now edits)) (state S.Store tx.old.conn.now) (state S.Store tx.new.conn.now) result }
+{
+    let key = parameter(key_of(image))?;
+    let members = read_members(alloc, tx, key)?;
+    if !same_members(members.as_slice(), image.members.as_slice()) {
+        return Ok(None);
+    }
+    match stay_image(alloc, tx, family, image) {
+        Ok(edits) => Ok(Some(edits)),
+        Err(fault) => Err(fault),
+    }
+}
