@@ -14,5 +14,6 @@ pub mod KeyLemmas
 pub mod OutcomeOrder
 pub mod ReadMessage
 pub mod ReadOutcomes
+pub mod ReadPlace
 pub mod ReadNumbers
 pub mod NodeCells

@@ -9,6 +9,7 @@ mod nearest;
 mod nodes;
 mod outcome_numbers;
 mod outcomes;
+mod places;
 
 pub use family::read_family;
 pub use messages::{add_message, read_message};
@@ -17,3 +18,4 @@ pub use nearest::{add_near, clear_near};
 pub use nodes::{add_node, clear_node};
 pub use outcome_numbers::{add_outcome_number, read_outcome_numbers};
 pub use outcomes::{add_outcome, read_outcomes};
+pub use places::read_next_place;

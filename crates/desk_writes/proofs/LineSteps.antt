@@ -1,5 +1,5 @@
 -- What the steps that keep an outcome come to together.
-use Rattle.std.proofs.Common.{◌≡◌, ◌≢◌, ℕ, List, Option, Some, None, length, Result, Ok, Err, IfOk, IfErr, refl, sym, ap, subst, ◌∙◌}
+use Rattle.std.proofs.Common.{◌≡◌, ◌≢◌, ℕ, List, Option, Some, None, Result, Ok, Err, IfOk, IfErr, sym, ap, subst, ◌∙◌}
 use Rattle.std.specs.Prelude.{⊤}
 use Rattle.sqlite.specs.State.{State}
 use Rattle.version_nodes.specs.Trees.{Ancestry}
@@ -10,7 +10,8 @@ use Rattle.bug_record.specs.declared.outcome.StoreFault.TheVariants.{Foreign}
 use Rattle.message_machine.specs.Kept.{Keeping, IsOfMessage}
 use Rattle.desk_content.specs.Changes.{FitsContent, changed}
 use Rattle.desk_content.specs.Content.{Content}
-use Rattle.desk_content.specs.Edits.{edited_all}
+use Rattle.sql_forms.specs.Numbers.{next_above}
+use Rattle.desk_content.specs.Edits.{edited_all, places_of}
 use Rattle.desk_content.specs.Free.{AreFree}
 use Rattle.desk_content.specs.Keeping.{MayBePut, kept_after, with_kept}
 use Rattle.desk_content.specs.Kept.{IsKeptContent}
@@ -20,37 +21,42 @@ use Rattle.desk_content.proofs.KeepLemmas.{change_keeping}
 use Rattle.desk_schema.specs.Steps.{Acts, PlaysAll, Reads}
 use Rattle.desk_schema.proofs.StepLemmas.{none, done, failed, acts_stop, acts_then, acts_weaker, reads_work}
 use Rattle.desk_writes.specs.Lines.{IsLine, AreEditsOf}
+use Rattle.desk_writes.proofs.PlaceLemmas.{place_is}
 
 module _ (id sender message : List ℕ) (outcome : Outcome) where
   abbrev pub Keeps : Content → Content → Type 0
   Keeps c d = IsLine id sender message outcome c → d ≡ with_kept id sender message outcome c
 
-  -- the edits at the place that was counted
+  -- the place behind those that are kept
+  abbrev place_in : Content → ℕ
+  place_in c = next_above (places_of (c.outcomes id))
+
+  -- the edits at that place
   pub edits_read : (old new : State) (place : ℕ) (r : Result (List Edit) StoreFault) → IfOk r (AreEditsOf id sender message place outcome) → IfErr r (λ fault. fault ≢ Foreign)
-      → Reads (λ c count. count ≡ length (c.outcomes id)) old new (Ok place)
-      → Reads (λ c edits. AreEditsOf id sender message (length (c.outcomes id)) outcome edits) old new r
+      → Reads (λ c place. place ≡ place_in c) old new (Ok place)
+      → Reads (λ c edits. AreEditsOf id sender message (place_in c) outcome edits) old new r
   edits_read old new place r are sure one =
-      reads_work old new place r (λ _. ⊤) (λ c count. count ≡ length (c.outcomes id)) (λ c edits. AreEditsOf id sender message (length (c.outcomes id)) outcome edits)
+      reads_work old new place r (λ _. ⊤) (λ c place. place ≡ place_in c) (λ c edits. AreEditsOf id sender message (place_in c) outcome edits)
       (λ c is. (at c r is are, sure)) one
     where
-      at : (c : Content) (r : Result (List Edit) StoreFault) → place ≡ length (c.outcomes id) → IfOk r (AreEditsOf id sender message place outcome)
-          → IfOk r (λ edits. AreEditsOf id sender message (length (c.outcomes id)) outcome edits)
+      at : (c : Content) (r : Result (List Edit) StoreFault) → place ≡ place_in c → IfOk r (AreEditsOf id sender message place outcome)
+          → IfOk r (λ edits. AreEditsOf id sender message (place_in c) outcome edits)
       at c (Ok edits) is are = subst (λ n. AreEditsOf id sender message n outcome edits) is are
       at c (Err fault) is are = tt
 
   -- they are played
   pub line_put : (old mid new : State) (edits : List Edit) (r : Result (Unit {0}) StoreFault)
-      → Reads (λ c edits. AreEditsOf id sender message (length (c.outcomes id)) outcome edits) old mid (Ok edits) → PlaysAll edits mid new r
+      → Reads (λ c edits. AreEditsOf id sender message (place_in c) outcome edits) old mid (Ok edits) → PlaysAll edits mid new r
       → Acts old new r (IsLine id sender message outcome) (λ c d _. Keeps c d)
   line_put old mid new edits r one two =
       acts_then old mid new edits (λ _. ⊤) (AreFree edits) (IsLine id sender message outcome)
-      (λ c d es. (d ≡ c) × AreEditsOf id sender message (length (c.outcomes id)) outcome es) (λ d e _. e ≡ edited_all edits d) (λ c d _. Keeps c d) r
+      (λ c d es. (d ≡ c) × AreEditsOf id sender message (place_in c) outcome es) (λ d e _. e ≡ edited_all edits d) (λ c d _. Keeps c d) r
       (λ c line. tt)
-      (λ c d p line. subst (AreFree edits) (sym p.0) (p.1.free c line refl))
-      (λ c d e _ p q line. q ∙ ap (edited_all edits) p.0 ∙ p.1.put c line refl) one two
+      (λ c d p line. subst (AreFree edits) (sym p.0) (p.1.free c line (place_is c line.kept id)))
+      (λ c d e _ p q line. q ∙ ap (edited_all edits) p.0 ∙ p.1.put c line (place_is c line.kept id)) one two
 
   pub line_failed : (old new : State) (fault : StoreFault)
-      → Reads (λ c edits. AreEditsOf id sender message (length (c.outcomes id)) outcome edits) old new (Err fault)
+      → Reads (λ c edits. AreEditsOf id sender message (place_in c) outcome edits) old new (Err fault)
       → Acts old new (failed fault) (IsLine id sender message outcome) (λ c d _. Keeps c d)
   line_failed old new fault one = acts_stop old new fault (λ _. ⊤) (IsLine id sender message outcome) _ (λ c d _. Keeps c d) (λ c line. tt) one
 

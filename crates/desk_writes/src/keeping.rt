@@ -1,8 +1,10 @@
 //! An outcome that is kept, with a change of sets, within one transaction.
 
-ghost use Rattle.std.specs.Prelude.{◌≡◌, ◌≢◌, Some, length, IfOk, IfErr};
+ghost use Rattle.std.specs.Prelude.{◌≡◌, ◌≢◌, Some, IfOk, IfErr};
 ghost use Rattle.std.specs.Option.{option_copied};
 ghost use Rattle.sqlite.specs.Held.{state};
+ghost use Rattle.sql_forms.specs.Numbers.{next_above};
+ghost use Rattle.desk_content.specs.Edits.{places_of};
 ghost use Rattle.desk_content.specs.Keeping.{MayBePut, kept_after, with_kept};
 ghost use Rattle.desk_content.specs.Kept.{IsKeptContent};
 ghost use Rattle.desk_schema.specs.Steps.{Acts, Reads, Serves};
@@ -13,24 +15,10 @@ use crate::change::put_change;
 use crate::play::play_all;
 use bug_record::{Change, Outcome, Sequence, StoreFault};
 use desk_content::{Edit, keep_edits};
-use desk_rows::read_outcomes;
+use desk_rows::read_next_place;
 use nearest_marks::Family;
 use sqlite::{Alter, Transaction};
 use std::alloc::Global;
-
-// How many outcomes are kept of the message of an id.
-fn count_outcomes<S: Alter>(
-    alloc: Global,
-    tx: &mut Transaction<'_, S>,
-    id: &str,
-) -> Result<u64, StoreFault>
-    ensures same_reference { tx.new.conn.ghost_name ≡ tx.old.conn.ghost_name }
-    ensures reads { Reads (λ c count. count ≡ length (c.outcomes id.now)) (state S.Store tx.old.conn.now) (state S.Store tx.new.conn.now) result }
-    ensures serves { Serves (state S.Store tx.old.conn.now) (state S.Store tx.new.conn.now) result }
-{
-    let outcomes = read_outcomes(alloc, tx, id)?;
-    Ok(outcomes.as_slice().len() as u64)
-}
 
 // The edits of an outcome at the place of a message, or that there was no memory.
 fn edits_at(
@@ -60,11 +48,11 @@ fn edits_of<S: Alter>(
     outcome: &Outcome,
 ) -> Result<Sequence<Edit>, StoreFault>
     ensures same_reference { tx.new.conn.ghost_name ≡ tx.old.conn.ghost_name }
-    ensures reads { Reads (λ c edits. AreEditsOf id.now from.now message.now (length (c.outcomes id.now)) outcome.now edits)
+    ensures reads { Reads (λ c edits. AreEditsOf id.now from.now message.now (next_above (places_of (c.outcomes id.now))) outcome.now edits)
         (state S.Store tx.old.conn.now) (state S.Store tx.new.conn.now) result }
     ensures serves { Serves (state S.Store tx.old.conn.now) (state S.Store tx.new.conn.now) result }
 {
-    let place = count_outcomes(alloc, tx, id)?;
+    let place = read_next_place(tx, id)?;
     edits_at(alloc, id, from, message, place, outcome)
 }
 

@@ -13,6 +13,7 @@ pub mod UniqueLemmas
 pub mod DeleteErrors
 pub mod QueryErrors
 pub mod ReadLemmas
+pub mod GreatestLemmas
 pub mod CreateLemmas
 pub mod CreateErrors
 pub mod UpdateLemmas

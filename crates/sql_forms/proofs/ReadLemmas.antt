@@ -19,10 +19,10 @@ use Rattle.sql_forms.specs.Numbers.{with_numbers, number_in, number_row}
 
 -- ---- a column of numbers in order, over any query that shows and orders by that column
 
-abbrev pair_of : ℕ → Output
+abbrev pub pair_of : ℕ → Output
 pair_of n = (number_row n, number_row n)
 
-abbrev back : Output → ℕ
+abbrev pub back : Output → ℕ
 back o = number_in (column o.0 0)
 
 pairs_are : (ns : List ℕ) → AllByRecursion (λ o. o ≡ pair_of (back o)) (map pair_of ns)
@@ -45,14 +45,19 @@ up_from cmp low (n ∷ m ∷ ns) sorted =
     let rest = up_from cmp low (m ∷ ns) (λ k d p q. rw add-one (rw add-one at (sorted (suc k) d (omega arith) (omega arith)))) in
     ((first, all_least n m ns first rest.0), rest)
 
+-- the outputs are those of numbers, in some order
+pub numbers_out : (ns : List ℕ) (outs : List Output) → IsPermutation (map pair_of ns) outs → (outs ≡ map pair_of (map back outs)) × IsPermutation ns (map back outs)
+numbers_out ns outs same = (
+  rebuilt outs (recursion_from_All (λ o. o ≡ pair_of (back o)) outs (All-permutation (λ o. o ≡ pair_of (back o)) _ outs same (All-from_recursion (λ o. o ≡ pair_of (back o)) _ (pairs_are ns)))),
+  subst (λ ms. IsPermutation ms (map back outs)) (backs ns) (IsPermutation-map back _ _ same),
+)
+
 pub numbers_in_order : (cmp : Output → Output → Ordering) → ((a b : ℕ) → is_lt (cmp (pair_of b) (pair_of a)) ≡ false → a ≤ b) → (ns : List ℕ) (outs : List Output)
     → IsPermutation (map pair_of ns) outs → IsSorted cmp outs → map (λ o. o.1) outs ≡ map number_row (with_numbers [] ns)
 numbers_in_order cmp low ns outs same sorted =
-    let all = recursion_from_All (λ o. o ≡ pair_of (back o)) outs (All-permutation (λ o. o ≡ pair_of (back o)) _ outs same (All-from_recursion (λ o. o ≡ pair_of (back o)) _ (pairs_are ns))) in
-    let are = rebuilt outs all in
-    let moved = subst (λ ms. IsPermutation ms (map back outs)) (backs ns) (IsPermutation-map back _ _ same) in
-    let up = up_from cmp low (map back outs) (subst (IsSorted cmp) are sorted) in
-    ap (map (λ (o : Output). o.1)) are ∙ map_map pair_of (λ (o : Output). o.1) _ ∙ ap (map number_row) (one_order ns (map back outs) moved up)
+    let are = numbers_out ns outs same in
+    let up = up_from cmp low (map back outs) (subst (IsSorted cmp) are.0 sorted) in
+    ap (map (λ (o : Output). o.1)) are.0 ∙ map_map pair_of (λ (o : Output). o.1) _ ∙ ap (map number_row) (one_order ns (map back outs) are.1 up)
 
 -- rows were shown, so the connection was open
 opens : (old new : State) (sql : List ℕ) (c : Compiled) (params : Row) (rows : List Row) (r : Option Returning) → ShowsRows old new sql c params rows r → IsTrue old.is_open
