@@ -1,5 +1,5 @@
 -- Links that are put in one after another, and the tree that they make.
-use Rattle.std.proofs.Common.{◌≡◌, ◌≢◌, ℕ, suc, zero, ◌+◌, ◌<◌, ◌≤◌, add-one, length, get_or, drop, map, option_map, List, [], ◌∷◌, Option, Some, None, Result, Ok, Err, IfOk, IfErr, refl, sym, ap, subst, ◌∙◌, arith}
+use Rattle.std.proofs.Common.{◌≡◌, ◌≢◌, ℕ, suc, zero, ◌+◌, ◌<◌, ◌≤◌, length, get_or, drop, map, option_map, List, [], ◌∷◌, Option, Some, None, Result, Ok, Err, IfOk, IfErr, refl, sym, ap, subst, ◌∙◌, arith}
 use Rattle.std.specs.Prelude.{⊤}
 use Rattle.std.specs.List.{AllByRecursion}
 use Rattle.std.specs.Option.{option_and_then}
@@ -17,6 +17,7 @@ use Rattle.bug_record.specs.declared.outcome.StoreFault.TheVariants.{Foreign}
 use Rattle.desk_content.specs.Content.{Content}
 use Rattle.desk_schema.specs.Steps.{seen, Goes, Acts, Serves}
 use Rattle.desk_schema.proofs.NodeTexts.{name_utf8}
+use Rattle.desk_schema.proofs.TableQueries.{next_at}
 use Rattle.desk_rows.specs.Links.{link_row, IsLink}
 
 -- ---- the parent in a row
@@ -58,14 +59,6 @@ parent_there row l s valid is given =
 
 -- ---- one row after another
 
-abbrev IsNext : Row → Ancestry → Ancestry → Type 0
-IsNext r rest more = (l : Node × Option Node) × (r ≡ link_row l) × IsLink l × (rest ≡ l ∷ more)
-
-next_link : (ls : Ancestry) (at : ℕ) (r : Row) → AllByRecursion IsLink ls → at < length (map link_row ls) → r ≡ get_or (map link_row ls) at r → IsNext r (drop at ls) (drop (suc at) ls)
-next_link [] at r valid low is = absurd (omega arith)
-next_link (l ∷ ls) zero r valid low is = (l, is, valid.0, refl)
-next_link (l ∷ ls) (suc at) r valid low is = next_link ls at r valid.1 (omega (arith, low)) is
-
 -- the link is put in, and those after it can be
 pub record IsPut (t u : Ancestry) (r : Row) (more : Ancestry) : Type 0 where
   pub link : Node × Option Node
@@ -83,9 +76,8 @@ split (Some u) more t h = (u, refl, h)
 pub put_next : (rows : List Row) (ls t u : Ancestry) (at : ℕ) (r : Row) → AllByRecursion IsLink ls → rows ≡ map link_row ls → at < length rows → r ≡ get_or rows at r → linked_all u (drop at ls) ≡ Some t
     → IsPut t u r (drop (at + 1) ls)
 put_next rows ls t u at r valid are low is goes =
-    let h = next_link ls at r valid (subst (λ rs. at < length rs) are low) (subst (λ rs. r ≡ get_or rs at r) are is) in
-    let here : drop at ls ≡ h.0 ∷ drop (at + 1) ls = h.3 ∙ ap (λ n. h.0 ∷ drop n ls) (sym (add-one at)) in
-    let parts = split (linked u h.0.0 h.0.1) (drop (at + 1) ls) t (sym (ap (linked_all u) here) ∙ goes) in
+    let h = next_at link_row IsLink rows ls at r valid are low is in
+    let parts = split (linked u h.0.0 h.0.1) (drop (at + 1) ls) t (sym (ap (linked_all u) h.3) ∙ goes) in
     record { link = h.0; is = h.1; valid = h.2; made = parts.0; put = parts.1; left = parts.2 }
 
 none_after : (ls : Ancestry) (at : ℕ) → length (map link_row ls) ≤ at → drop at ls ≡ []

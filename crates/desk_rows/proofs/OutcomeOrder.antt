@@ -14,7 +14,6 @@ use Rattle.desk_schema.specs.OutcomeRows.{OutcomeRow, IsOutcomeRow, told_of, pla
 use Rattle.desk_schema.proofs.OutcomeLists.{told}
 use Rattle.desk_schema.proofs.PlacedLemmas.{all_with}
 use Rattle.desk_rows.specs.Rows.{IsToldOutcome}
-use Rattle.desk_rows.proofs.AddOutcome.{same_place}
 
 abbrev place_in : ToldOutcome → ℕ
 place_in t = t.place
@@ -41,6 +40,9 @@ pub all_in : (xs : List ToldOutcome) → IsPermutation xs (placed_each [] xs)
 all_in xs = put_all_in [] xs
 
 -- ---- by place
+
+abbrev pub same_place : OutcomeRow → OutcomeRow → Bool
+same_place x y = bytes_eq x.message_id y.message_id && eqb x.place y.place
 
 abbrev pub Rises : List ToldOutcome → Type 0
 Rises ts = IsAscending (λ (a b : ToldOutcome). a.place < b.place) ts

@@ -1,6 +1,5 @@
 -- What the query of a message's outcomes answers.
-use Rattle.std.proofs.Common.{◌≡◌, ℕ, ◌<◌, pos, true, false, List, [], ◌∷◌, codes, map, filter, Less, IsTrue, refl, sym, ap, subst, ◌∙◌, arith}
-use Rattle.std.specs.List.{AllByRecursion}
+use Rattle.std.proofs.Common.{◌≡◌, ℕ, ◌<◌, pos, false, List, [], ◌∷◌, codes, map, filter, Less, refl, sym, ap, subst, ◌∙◌, arith}
 use Rattle.std.specs.List.Sorted.{IsPermutation, IsSorted}
 use Rattle.std.specs.Str.{bytes_eq}
 use Rattle.std.proofs.lemmas.Bool.Decides.{nat_tests}
@@ -10,17 +9,12 @@ use Rattle.sqlite.specs.declared.types.Value.TheVariants.{Int, Text}
 use Rattle.sqlite.specs.Listing.{understood}
 use Rattle.sqlite.specs.Order.{Row, value_cmp}
 use Rattle.sqlite.specs.Query.{Query, Output, output, output_cmp}
-use Rattle.sqlite.specs.State.{State}
 use Rattle.sqlite.specs.Term.{Term, col}
-use Rattle.sqlite.specs.Tree.{Trees, IsTable}
 use Rattle.sqlite_keyed.proofs.ListLemmas.{ascending-map, ascending_weaker}
 use Rattle.sqlite_keyed.proofs.SortLemmas.{sorted_unique}
-use Rattle.sqlite_schema.specs.Rules.{Keeps, clashes, passes as keeps_to}
-use Rattle.sqlite_schema.specs.declared.schema.Constraint.TheVariants.{Unique}
 use Rattle.sqlite_sql.proofs.QueryLemmas.{output_cmp_total}
 use Rattle.sqlite_tied.specs.Compute.{everything}
 use Rattle.sqlite_trees.specs.Tree.{IsAscending}
-use Rattle.sqlite_value.specs.Keys.{plain}
 use Rattle.sqlite_value.specs.declared.keys.Key.{Key}
 use Rattle.sqlite_value.specs.declared.keys.Collation.TheVariants.{Binary}
 use Rattle.sqlite_value.proofs.OrderLemmas.{value_cmp-Int, then-Equal}
@@ -29,19 +23,17 @@ use Rattle.sql_forms.specs.Numbers.{number_row}
 use Rattle.sql_forms.proofs.QueryErrors.{IsQueryOf}
 use Rattle.sql_forms.proofs.QueryLemmas.{map_map}
 use Rattle.sql_forms.proofs.RowLemmas.{kept_rows, and_true, holds_text}
+use Rattle.desk_content.specs.Content.{Content}
 use Rattle.desk_content.specs.declared.edit.ToldOutcome.{ToldOutcome}
 use Rattle.desk_schema.specs.OutcomeRows.{OutcomeRow, outcome_cells, told_of, placed_each}
-use Rattle.desk_schema.specs.Rows.{AreShown}
-use Rattle.desk_schema.specs.Steps.{IsInside}
-use Rattle.desk_schema.specs.Tables.{OUTCOMES, outcomes_table, desk_schema}
+use Rattle.desk_schema.specs.Tables.{OUTCOMES, desk_schema}
 use Rattle.desk_schema.proofs.CellLemmas.{same_text}
-use Rattle.desk_schema.proofs.OutcomeLemmas.{outcomes_are}
+use Rattle.desk_schema.proofs.DeskTables.{outcomes, keyed_outcomes}
+use Rattle.desk_schema.proofs.KeyLemmas.{rows_apart}
 use Rattle.desk_schema.proofs.OutcomeLists.{told}
-use Rattle.desk_schema.proofs.SchemaLemmas.{unique_at}
 use Rattle.desk_schema.proofs.StatementLemmas.{IsRead, reads_inside}
+use Rattle.desk_schema.proofs.TableLemmas.{seen_is}
 use Rattle.desk_rows.specs.Rows.{outcome_row, AreOutcomeRows}
-use Rattle.desk_rows.proofs.AddOutcome.{places, same_place, alike}
-use Rattle.desk_rows.proofs.KeyLemmas.{HasNoClash, not_on, apart_in}
 use Rattle.desk_rows.proofs.OutcomeOrder.{Rises, all_in, all_rise, told_apart, outcomes_good}
 
 abbrev pub read_text : List ℕ
@@ -60,21 +52,6 @@ read_is : (id : List ℕ) → IsQueryOf desk_schema read_text (Text id ∷ []) O
     (codes "place" ∷ codes "kind" ∷ codes "number" ∷ codes "field" ∷ codes "source" ∷ codes "version" ∷ [])
 unfolding understood everything
 read_is id = record { command_is = refl; plain = (refl, refl); whole = omega arith; given = refl; unlisted = refl; typed = refl }
-
--- ---- no place of an id has two rows
-
-each_alone : (db : Trees) (rows : List Row) → AllByRecursion (λ r. keeps_to Unique desk_schema db outcomes_table r ≡ true) rows → HasNoClash places (db OUTCOMES) rows
-each_alone db [] h = tt
-each_alone db (r ∷ rows) h = (not_on (clashes plain places (db OUTCOMES) r) h.0, each_alone db rows h.1)
-
-no_clash : (db : Trees) → Keeps Unique desk_schema db → HasNoClash places (db OUTCOMES) (db OUTCOMES)
-no_clash db unique = each_alone db (db OUTCOMES) unique.1.1.1.1.1.1.1.1.1.0
-
-rows_apart : (s : State) → IsInside s → IsTrue s.is_open → (shown : AreShown s.now.trees) → IsAscending (λ a b. same_place a b ≡ false) shown.outcomes.items
-rows_apart s inside live shown =
-    let are = shown.outcomes.are in
-    apart_in outcome_cells (λ (x : OutcomeRow). x.id) (λ x. refl) places same_place alike (map outcome_cells shown.outcomes.items) shown.outcomes.items (λ r h. h)
-    (subst IsTable are shown.outcomes.up) (subst (λ rows. HasNoClash places rows rows) are (no_clash s.now.trees (unique_at s inside live)))
 
 -- ---- the rows stand in the order that is asked for
 
@@ -112,8 +89,8 @@ outcomes_read id = reads_inside read_text (Text id ∷ []) OUTCOMES (equals 1 �
     let shows = λ (r : Row). output asked ((Text id ∷ []) ∷ r ∷ []) in
     let p = passes (equals 1 ∷ []) (Text id ∷ []) in
     let same = subst (λ os. IsPermutation os f.ordered) (ap (λ rs. map shows (filter p rs)) shown.are ∙ outputs id shown.items) f.same in
-    let up = all_rise (told_of id shown.items) (told_apart id shown.items (rows_apart s inside live all)) in
-    subst (λ (g : List ℕ → List ToldOutcome). AreOutcomeRows rows (g id)) (sym (outcomes_are s all)) (record {
+    let up = all_rise (told_of id shown.items) (told_apart id shown.items (rows_apart keyed_outcomes s inside live all)) in
+    subst (λ (g : List ℕ → List ToldOutcome). AreOutcomeRows rows (g id)) (sym (ap (λ (c : Content). c.outcomes) (seen_is outcomes s all))) (record {
       are = f.is ∙ in_order (told_of id shown.items) f.ordered up same f.sorted;
       good = outcomes_good id shown.items shown.good;
     }))

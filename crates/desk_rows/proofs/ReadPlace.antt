@@ -25,14 +25,16 @@ use Rattle.sql_forms.proofs.QueryErrors.{IsPageOf, page_free}
 use Rattle.sql_forms.proofs.QueryLemmas.{finds_first, map_map}
 use Rattle.sql_forms.proofs.ReadLemmas.{pair_of, shown_open, shown_same}
 use Rattle.sql_forms.proofs.RowLemmas.{kept_rows, and_true, holds_text}
+use Rattle.desk_content.specs.Content.{Content}
 use Rattle.desk_content.specs.Edits.{places_of}
 use Rattle.desk_content.specs.declared.edit.ToldOutcome.{ToldOutcome}
 use Rattle.desk_schema.specs.OutcomeRows.{OutcomeRow, outcome_cells, told_of, placed_each}
 use Rattle.desk_schema.specs.Tables.{OUTCOMES, desk_schema}
 use Rattle.desk_schema.proofs.CellLemmas.{same_text}
-use Rattle.desk_schema.proofs.OutcomeLemmas.{outcomes_are}
+use Rattle.desk_schema.proofs.DeskTables.{outcomes}
 use Rattle.desk_schema.proofs.OutcomeLists.{told}
 use Rattle.desk_schema.proofs.StatementLemmas.{IsRead}
+use Rattle.desk_schema.proofs.TableLemmas.{seen_is}
 use Rattle.desk_rows.proofs.OutcomeOrder.{all_in}
 
 abbrev pub read_text : List ℕ
@@ -84,7 +86,7 @@ place_read id = record {
       let same = subst (λ os. IsPermutation os f.ordered) (ap (λ rs. map shows (filter p rs)) shown.are ∙ outputs id shown.items) f.same in
       let is = greatest_first (output_cmp asked) high_is (places_of (told_of id shown.items)) f.ordered same f.sorted in (
         shown_same old new read_text (Text id ∷ []) rows (subst (λ schema. IsPlain (understood schema read_text)) (sym has) it.plain) h,
-        subst (λ (g : List ℕ → List ToldOutcome). AreGreatest (places_of (g id)) rows) (sym (outcomes_are old all))
+        subst (λ (g : List ℕ → List ToldOutcome). AreGreatest (places_of (g id)) rows) (sym (ap (λ (c : Content). c.outcomes) (seen_is outcomes old all)))
             (by_their_place (told_of id shown.items) rows (subst (AreGreatest (places_of (told_of id shown.items))) (sym (first.is ∙ ap (take 1) f.is)) is)),
       );
   free = λ old new e inside h. elim (query_fault_or_same old new read_text (Text id ∷ []) e h) [

@@ -1,13 +1,13 @@
 //! The outcomes of messages that have an id, without the numbers of accepted lines.
 
-ghost use Rattle.std.specs.Prelude.{◌≡◌, ◌≢◌, ◌+◌, ◌<◌, ◌^◌, ℕ, List, Option, option_map, option_copied, length, IfOk, IfErr};
+ghost use Rattle.std.specs.Prelude.{◌≡◌, ◌≢◌, ◌+◌, ◌<◌, ℕ, List, Option, option_map, option_copied, length, IfOk, IfErr};
 ghost use Rattle.sqlite.specs.Held.{state};
 ghost use Rattle.sqlite.specs.Order.{column};
 ghost use Rattle.sqlite.specs.Values.{or_null};
 ghost use Rattle.sqlite.specs.declared.types.Value.TheVariants.{Text as TextCell};
 ghost use Rattle.version_nodes.specs.Nodes.{Node as SeenNode, IsNode};
 ghost use Rattle.bug_record.specs.Texts.{IfGiven};
-ghost use Rattle.bug_record.specs.declared.outcome.StoreFault.TheVariants.{Foreign, Full};
+ghost use Rattle.bug_record.specs.declared.outcome.StoreFault.TheVariants.{Foreign};
 ghost use Rattle.desk_content.specs.declared.edit.Edit.TheVariants.{PutOutcome};
 ghost use Rattle.desk_content.specs.declared.edit.ToldOutcome.{ToldOutcome as SeenOutcome};
 ghost use Rattle.desk_schema.specs.Steps.{Plays, Reads, Serves};
@@ -18,25 +18,12 @@ use desk_content::{
     ToldOutcome, field_of_outcome, kind_of_outcome, node_of_outcome, number_of_outcome,
     outcome_of_numbers,
 };
-use desk_schema::{maybe_number_at, maybe_text_at, node_at, number_at, told, written};
+use desk_schema::{
+    maybe_number_at, maybe_parameter, maybe_text_at, node_at, number_at, told, written,
+};
 use sqlite::{Alter, Row, Transaction, params};
 use std::alloc::Global;
 use version_nodes::Node;
-
-// A number that may be missing, as a statement takes it: there is no room for a larger one in the
-// tables.
-fn parameter(number: Option<u64>) -> Result<Option<u32>, StoreFault>
-    ensures same { IfOk result (λ n. n ≡ number) }
-    ensures large { IfErr result (λ fault. fault ≡ Full) }
-{
-    let Some(number) = number else {
-        return Ok(None);
-    };
-    match u32::try_from(number) {
-        Ok(small) => Ok(Some(small)),
-        Err(_) => Err(StoreFault::Full),
-    }
-}
 
 // The source of a node that may be missing, for a parameter.
 fn source_of(node: Option<&Node>) -> Option<&str>
@@ -71,7 +58,7 @@ pub fn add_outcome<S: Alter>(
     ensures same_reference { tx.new.conn.ghost_name ≡ tx.old.conn.ghost_name }
     ensures plays { Plays (PutOutcome id.now place outcome.now) (state S.Store tx.old.conn.now) (state S.Store tx.new.conn.now) result }
 {
-    let number = parameter(number_of_outcome(outcome))?;
+    let number = maybe_parameter(number_of_outcome(outcome))?;
     let node = node_of_outcome(outcome);
     written(tx.execute(
         "INSERT INTO outcomes VALUES (?1, ?2, ?3, ?4, ?5, ?6, ?7)",

@@ -1,10 +1,12 @@
 -- Typed rows of an answer, in any order.
 -- Nothing here speaks of a statement.
-use Rattle.std.proofs.Common.{◌≡◌, List, [], ◌∷◌, map, refl, sym, ap, subst, ◌∙◌}
+use Rattle.std.proofs.Common.{◌≡◌, List, [], ◌∷◌, map, Option, Some, None, arith, refl, sym, ap, subst, ◌∙◌}
 use Rattle.std.specs.List.{AllByRecursion}
 use Rattle.std.specs.List.Sorted.{IsPermutation}
+use Rattle.std.specs.Option.{option_map_or}
 use Rattle.std.proofs.lemmas.List.Elements.{All-from_recursion, recursion_from_All}
-use Rattle.std.proofs.lemmas.List.Sorted.{IsPermutation-map, All-permutation}
+use Rattle.std.proofs.lemmas.List.Sorted.{IsPermutation-map, All-permutation, length_permutation}
+use Rattle.sqlite.proofs.Callers.{one_permutation}
 use Rattle.sqlite.specs.Order.{Row}
 use Rattle.desk_schema.proofs.ContentLemmas.{read_back}
 
@@ -22,3 +24,9 @@ module _ {T : Type 0} (cells : T → Row) (back : Row → T) (same : (x : T) →
     rebuilt rows (recursion_from_All (λ r. r ≡ cells (back r)) rows (All-permutation (λ r. r ≡ cells (back r)) _ rows any (All-from_recursion (λ r. r ≡ cells (back r)) _ (rows_are xs)))),
     subst (λ ys. IsPermutation ys (map back rows)) (read_back cells back same xs) (IsPermutation-map back _ _ any),
   )
+
+-- one item at most has one order
+pub only_order : {T : Type 0} (o : Option T) (ys : List T) → IsPermutation (option_map_or (λ x. x ∷ []) o []) ys → ys ≡ option_map_or (λ x. x ∷ []) o []
+only_order (Some x) ys same = one_permutation x ys same
+only_order None [] same = refl
+only_order None (y ∷ ys) same = absurd (omega (arith, length_permutation _ _ same))

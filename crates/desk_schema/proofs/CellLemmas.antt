@@ -1,15 +1,19 @@
 -- What a column makes of the cells that a desk writes, and when cells of texts are equal.
-use Rattle.std.proofs.Common.{◌≡◌, ℕ, ℤ, List, Bool, true, false, cond, refl, sym, ap, ◌∙◌}
+use Rattle.std.proofs.Common.{Bor, Option, Some, None, option_copied, ◌≡◌, ℕ, ℤ, pos, List, Bool, true, false, eqb, cond, refl, sym, ap, ◌∙◌}
 use Rattle.std.specs.Cmp.Lexicographic.{texts_ties}
 use Rattle.std.specs.Ordering.{is_eq}
 use Rattle.std.specs.Str.{bytes_eq}
 use Rattle.sqlite.specs.Cast.{cast}
 use Rattle.sqlite.specs.Kind.TheVariants.{Integer}
-use Rattle.sqlite.specs.Ops.{unary}
+use Rattle.sqlite.specs.Ops.{unary, binary}
 use Rattle.sqlite.specs.Order.{value_cmp}
+use Rattle.sqlite.specs.Values.{or_null, bound_value}
 use Rattle.sqlite.specs.declared.types.Value.{Value}
 use Rattle.sqlite.specs.declared.types.Value.TheVariants.{Null, Int, Text}
+use Rattle.sqlite_schema.specs.Rules.{equal}
+use Rattle.sqlite_value.specs.Keys.{plain, first_key}
 use Rattle.sqlite_value.proofs.OrderLemmas.{value_cmp-Text}
+use Rattle.sql_forms.proofs.RowLemmas.{same_number, truth_is}
 
 either : (b : Bool) (x : Value) → cond b x x ≡ x
 either true x = refl
@@ -26,3 +30,19 @@ cast_null = either _ Null
 -- texts are told apart by their bytes
 pub same_text : (s t : List ℕ) → is_eq (value_cmp (Text s) (Text t)) ≡ bytes_eq s t
 same_text s t = ap is_eq (value_cmp-Text s t) ∙ sym (texts_ties s t)
+
+-- ---- cells of keys
+
+pub number_key : (m n : ℕ) → equal (first_key plain).collation (Int (pos m)) (Int (pos n)) ≡ eqb m n
+unfolding binary first_key
+number_key m n = truth_is _ ∙ same_number m n
+
+pub text_key : (s t : List ℕ) → equal (first_key plain).collation (Text s) (Text t) ≡ bytes_eq s t
+unfolding binary first_key
+text_key s t = truth_is _ ∙ same_text s t
+
+-- ---- parameters that may be missing
+
+pub maybe_bound : (o : Option (Bor (List ℕ))) (t : Option (List ℕ)) → option_copied o ≡ t → bound_value (or_null (λ s. Text s.now) o) ≡ or_null Text t
+maybe_bound None t is = ap (or_null Text) is
+maybe_bound (Some s) t is = ap (or_null Text) is

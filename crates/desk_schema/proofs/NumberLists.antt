@@ -1,49 +1,97 @@
--- What a row that is added makes of the numbers of accepted lines that the rows say.
+-- The rows of blocks give blockers to keys, and those of outcome_numbers numbers to places of ids.
 -- Nothing here speaks of a statement.
-use Rattle.std.proofs.Common.{◌≡◌, ℕ, Bool, true, false, ◌&&◌, ◌==◌, cond, if◌then◌else◌, filter, map, List, [], ◌∷◌, ◌++◌, append-nil, refl, sym, ap, ◌∙◌}
+use Rattle.std.proofs.Common.{◌≡◌, ℕ, Bool, true, false, ◌&&◌, ◌||◌, ◌==◌, eqb, if◌then◌else◌, nat_lt, List, [], ◌∷◌, ◌++◌, refl, ap, ◌∙◌}
 use Rattle.std.specs.Cmp.Lexicographic.{bytes_decides}
 use Rattle.std.specs.Str.{bytes_eq}
-use Rattle.std.proofs.lemmas.Bool.{eqb-true}
+use Rattle.std.proofs.lemmas.Bool.{eqb-true, and_parts}
 use Rattle.bug_record.specs.Sets.{has}
-use Rattle.desk_content.specs.Edits.{put_at, put_of, placed}
-use Rattle.sql_forms.specs.Numbers.{with_numbers}
-use Rattle.desk_schema.specs.NumberRows.{NumberRow, numbers_at, outcome_numbers_in}
-use Rattle.desk_schema.proofs.BlockLists.{placed_is, with_last, in_lists, or_false}
+use Rattle.desk_content.specs.Edits.{placed}
+use Rattle.sql_forms.specs.Numbers.{with_number, with_numbers}
+use Rattle.desk_schema.specs.BlockRows.{BlockRow}
+use Rattle.desk_schema.specs.NumberRows.{NumberRow}
+use Rattle.desk_schema.proofs.OwnerLists.{OwnerRows}
 
-abbrev is_at : List ℕ → ℕ → NumberRow → Bool
-is_at id place x = bytes_eq x.message_id id && (x.place == place)
+-- a number comes into its place
+placed_is : (xs : List ℕ) (x : ℕ) → with_number xs x ≡ placed (λ n. n) xs x
+placed_is [] x = refl
+placed_is (y ∷ xs) x = ap (λ ys. if nat_lt x y then x ∷ y ∷ xs else y ∷ ys) (placed_is xs x)
 
-of_last : (id : List ℕ) (place : ℕ) (xs : List NumberRow) (x : NumberRow)
-    → numbers_at id place (xs ++ x ∷ []) ≡ numbers_at id place xs ++ (if is_at id place x then x.number ∷ [] else [])
-of_last id place [] x = elim (is_at id place x) as (λ b. map (λ (y : NumberRow). y.number) (cond b (x ∷ []) []) ≡ (if b then x.number ∷ [] else [])) [ true ↦ refl | false ↦ refl ]
-of_last id place (y ∷ xs) x =
-    elim (is_at id place y) as (λ b. map (λ (z : NumberRow). z.number) (cond b (y ∷ filter (is_at id place) (xs ++ x ∷ [])) (filter (is_at id place) (xs ++ x ∷ [])))
-    ≡ map (λ (z : NumberRow). z.number) (cond b (y ∷ filter (is_at id place) xs) (filter (is_at id place) xs)) ++ (if is_at id place x then x.number ∷ [] else []))
-    [ true ↦ ap (λ ns. y.number ∷ ns) (of_last id place xs x) | false ↦ of_last id place xs x ]
+with_last : (ys xs : List ℕ) (x : ℕ) → with_numbers ys (xs ++ x ∷ []) ≡ with_number (with_numbers ys xs) x
+with_last ys [] x = refl
+with_last ys (y ∷ xs) x = with_last (with_number ys y) xs x
 
-abbrev more : List NumberRow → NumberRow → List ℕ
-more xs x = placed (λ k. k) (outcome_numbers_in xs x.message_id x.place) x.number
+pub or_swap : (a b c : Bool) → (a || (b || c)) ≡ (b || (a || c))
+or_swap true true c = refl
+or_swap true false c = refl
+or_swap false true c = refl
+or_swap false false c = refl
 
-pub one_more : (xs : List NumberRow) (x : NumberRow) → outcome_numbers_in (xs ++ x ∷ [])
-    ≡ put_of x.message_id (put_at x.place (placed (λ k. k) (outcome_numbers_in xs x.message_id x.place) x.number) (outcome_numbers_in xs x.message_id)) (outcome_numbers_in xs)
-one_more xs x = λ i. λ id place. (ap (with_numbers []) (of_last id place xs x) ∙ go id place (bytes_eq x.message_id id) (x.place == place) refl refl) i
-  where
-    go : (id : List ℕ) (place : ℕ) (a b : Bool) → bytes_eq x.message_id id ≡ a → (x.place == place) ≡ b
-        → with_numbers [] (numbers_at id place xs ++ (if a && b then x.number ∷ [] else []))
-        ≡ (if a then (λ (p : ℕ). if x.place == p then more xs x else outcome_numbers_in xs x.message_id p) else outcome_numbers_in xs id) place
-    go id place true true p q =
-        with_last [] (numbers_at id place xs) x.number
-        ∙ placed_is _ x.number
-        ∙ (λ i. placed (λ k. k) (outcome_numbers_in xs (sym ((bytes_decides x.message_id id).0 p) i) (sym (eqb-true x.place place q) i)) x.number)
-        ∙ sym (ap (λ t. cond t (more xs x) (outcome_numbers_in xs x.message_id place)) q)
-    go id place true false p q =
-        ap (with_numbers []) (append-nil (numbers_at id place xs))
-        ∙ ap (λ (i : List ℕ). outcome_numbers_in xs i place) (sym ((bytes_decides x.message_id id).0 p))
-        ∙ sym (ap (λ t. cond t (more xs x) (outcome_numbers_in xs x.message_id place)) q)
-    go id place false b p q = ap (with_numbers []) (append-nil (numbers_at id place xs))
+pub or_assoc : (a b c : Bool) → (a || (b || c)) ≡ ((a || b) || c)
+or_assoc true b c = refl
+or_assoc false b c = refl
 
--- ---- which numbers are there
+pub or_false : (b : Bool) → (b || false) ≡ b
+or_false true = refl
+or_false false = refl
 
--- an id and a place have a number where their rows have it
-pub has_number : (id : List ℕ) (place n : ℕ) (xs : List NumberRow) → has (outcome_numbers_in xs id place) n ≡ has (numbers_at id place xs) n
-has_number id place n xs = in_lists n [] (numbers_at id place xs) ∙ or_false _
+in_list : (x : ℕ) (ys : List ℕ) (y : ℕ) → has (with_number ys y) x ≡ (eqb y x || has ys x)
+in_list x [] y = refl
+in_list x (z ∷ ys) y =
+    elim (nat_lt y z) as (λ b. has (if b then y ∷ z ∷ ys else z ∷ with_number ys y) x ≡ (eqb y x || (eqb z x || has ys x)))
+    [ true ↦ refl | false ↦ ap (λ b. eqb z x || b) (in_list x ys y) ∙ or_swap (eqb z x) (eqb y x) (has ys x) ]
+
+in_lists : (x : ℕ) (ys zs : List ℕ) → has (with_numbers ys zs) x ≡ (has zs x || has ys x)
+in_lists x ys [] = refl
+in_lists x ys (z ∷ zs) = in_lists x (with_number ys z) zs ∙ ap (λ b. has zs x || b) (in_list x ys z) ∙ or_swap (has zs x) (eqb z x) (has ys x) ∙ or_assoc (eqb z x) (has zs x) (has ys x)
+
+-- ---- as items of owners
+
+pub number_last : (ns : List ℕ) (n : ℕ) → with_numbers [] (ns ++ n ∷ []) ≡ placed (λ k. k) (with_numbers [] ns) n
+number_last ns n = with_last [] ns n ∙ placed_is (with_numbers [] ns) n
+
+pub has_numbers : (ns : List ℕ) (n : ℕ) → has (with_numbers [] ns) n ≡ has ns n
+has_numbers ns n = in_lists n [] ns ∙ or_false (has ns n)
+
+abbrev pub block_rows : OwnerRows BlockRow ℕ ℕ
+block_rows = record {
+  owner = λ x. x.key;
+  item = λ x. x.blocker;
+  one_owner = λ a b. a == b;
+  owner_is = eqb-true;
+  one_item = λ a b. a == b;
+  all = with_numbers [];
+  add = placed (λ n. n);
+  has = has;
+  none = refl;
+  empty = λ i. refl;
+  last = number_last;
+  first = λ i is j. refl;
+  there = has_numbers;
+}
+
+abbrev pub one_place : List ℕ × ℕ → List ℕ × ℕ → Bool
+one_place a b = bytes_eq a.0 b.0 && (a.1 == b.1)
+
+pub place_is : (a b : List ℕ × ℕ) → one_place a b ≡ true → a ≡ b
+place_is a b h =
+    let parts = and_parts (bytes_eq a.0 b.0) (a.1 == b.1) h in
+    let id = (bytes_decides a.0 b.0).0 parts.0 in
+    let place = eqb-true a.1 b.1 parts.1 in
+    λ i. (id i, place i)
+
+abbrev pub number_rows : OwnerRows NumberRow (List ℕ × ℕ) ℕ
+number_rows = record {
+  owner = λ x. (x.message_id, x.place);
+  item = λ x. x.number;
+  one_owner = one_place;
+  owner_is = place_is;
+  one_item = λ a b. a == b;
+  all = with_numbers [];
+  add = placed (λ n. n);
+  has = has;
+  none = refl;
+  empty = λ i. refl;
+  last = number_last;
+  first = λ i is j. refl;
+  there = has_numbers;
+}

@@ -1,12 +1,13 @@
 -- The rows of bugs: one for each bug, under its number.
 -- This project's own rule.
-use Rattle.std.specs.Prelude.{ℕ, pos, ◌==◌, List, [], ◌∷◌, map, filter, Option, Some, None, if◌then◌else◌}
+use Rattle.std.specs.Prelude.{ℕ, pos, ◌==◌, List, [], ◌∷◌, map, filter, Option, option_map}
 use Rattle.std.specs.Str.{IsUtf8}
 use Rattle.sqlite.specs.Order.{Row, column}
 use Rattle.sqlite.specs.declared.types.Value.TheVariants.{Null, Int, Text}
 use Rattle.bug_record.specs.declared.bug.Member.{Member}
 use Rattle.sql_forms.specs.Numbers.{number_in}
 use Rattle.desk_schema.specs.Cells.{text_in}
+use Rattle.desk_schema.specs.LastRow.{last_row}
 
 pub record BugRow : Type 0 where
   pub number : ℕ
@@ -27,8 +28,7 @@ pub record IsBugRow (x : BugRow) : Type 0 where
 
 -- the key of a bug's set, if it has a row
 abbrev pub key_in : List BugRow → ℕ → Option ℕ
-key_in [] n = None
-key_in (x ∷ xs) n = if x.number == n then Some x.key else key_in xs n
+key_in xs n = option_map (λ (x : BugRow). x.key) (last_row (λ x. x.number == n) xs)
 
 abbrev pub member_of : BugRow → Member
 member_of x = record { number = x.number; title = x.title; submitter = x.submitter }

@@ -1,5 +1,6 @@
 pub mod Tables
 pub mod Cells
+pub mod LastRow
 pub mod SetRows
 pub mod BugRows
 pub mod MarkRows

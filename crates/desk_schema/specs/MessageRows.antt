@@ -1,12 +1,13 @@
 -- The rows of messages: one for each message that has an id.
 -- This project's own rule.
-use Rattle.std.specs.Prelude.{ℕ, ℤ, List, [], ◌∷◌, Option, Some, None, if◌then◌else◌}
+use Rattle.std.specs.Prelude.{ℕ, ℤ, List, [], ◌∷◌, Option, option_map}
 use Rattle.std.specs.Str.{bytes_eq, IsUtf8}
 use Rattle.sqlite.specs.Edit.{id_in}
 use Rattle.sqlite.specs.Order.{Row, column}
 use Rattle.sqlite.specs.declared.types.Value.TheVariants.{Int, Text, Blob}
 use Rattle.desk_content.specs.declared.edit.SentMessage.{SentMessage}
 use Rattle.desk_schema.specs.Cells.{text_in, bytes_in}
+use Rattle.desk_schema.specs.LastRow.{last_row}
 
 pub record MessageRow : Type 0 where
   pub id : ℤ
@@ -31,11 +32,9 @@ pub record IsMessageRow (x : MessageRow) : Type 0 where
   pub sender : IsUtf8 x.sender
   pub message : IsUtf8 x.message
 
+abbrev pub sent : MessageRow → SentMessage
+sent x = record { from = x.sender; message = x.message }
+
 -- the message of an id, if it has a row: the last row counts
 abbrev pub messages_in : List MessageRow → List ℕ → Option SentMessage
-messages_in [] id = None
-messages_in (x ∷ xs) id = later (messages_in xs id)
-  where
-    later : Option SentMessage → Option SentMessage
-    later (Some message) = Some message
-    later None = if bytes_eq x.message_id id then Some (record { from = x.sender; message = x.message }) else None
+messages_in xs id = option_map sent (last_row (λ x. bytes_eq x.message_id id) xs)

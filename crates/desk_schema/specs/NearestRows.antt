@@ -1,6 +1,6 @@
 -- The rows of nearest: one for each set and each node that sees a mark of it.
 -- This project's own rule.
-use Rattle.std.specs.Prelude.{ℕ, ℤ, pos, ◌==◌, ◌&&◌, List, [], ◌∷◌, Option, Some, None, unwrap_or, if◌then◌else◌}
+use Rattle.std.specs.Prelude.{ℕ, ℤ, pos, ◌==◌, ◌&&◌, Bool, List, [], ◌∷◌, Option, option_map, unwrap_or}
 use Rattle.sqlite.specs.Edit.{id_in}
 use Rattle.sqlite.specs.Order.{Row, column}
 use Rattle.sqlite.specs.declared.types.Value.TheVariants.{Int, Text}
@@ -10,6 +10,7 @@ use Rattle.nearest_marks.specs.declared.near.Near.{Near}
 use Rattle.sql_forms.specs.Numbers.{number_in}
 use Rattle.desk_content.specs.Encodings.{kind_number, kind_in}
 use Rattle.desk_schema.specs.Cells.{text_in}
+use Rattle.desk_schema.specs.LastRow.{last_row}
 
 pub record NearestRow : Type 0 where
   pub id : ℤ
@@ -38,11 +39,10 @@ pub record IsNearestRow (x : NearestRow) : Type 0 where
   pub node : IsNode x.node
   pub mark : IsNode x.near.mark
 
+-- whether the row is of the key and the node
+abbrev pub is_of : ℕ → Node → NearestRow → Bool
+is_of k v x = x.key == k && same_node x.node v
+
 -- the nearest mark of a key's set as seen from a node: the last row counts
 abbrev pub near_in : List NearestRow → ℕ → Node → Option Near
-near_in [] k v = None
-near_in (x ∷ xs) k v = later (near_in xs k v)
-  where
-    later : Option Near → Option Near
-    later (Some near) = Some near
-    later None = if x.key == k && same_node x.node v then Some x.near else None
+near_in xs k v = option_map (λ (x : NearestRow). x.near) (last_row (is_of k v) xs)

@@ -1,6 +1,6 @@
 -- The rows of sets: one for each set, under its key.
 -- This project's own rule.
-use Rattle.std.specs.Prelude.{ℕ, pos, ◌==◌, Bool, false, List, [], ◌∷◌, Option, Some, None, unwrap_or, if◌then◌else◌}
+use Rattle.std.specs.Prelude.{ℕ, pos, ◌==◌, Bool, false, List, [], ◌∷◌, Option, option_map, unwrap_or}
 use Rattle.std.specs.Str.{IsUtf8}
 use Rattle.sqlite.specs.Order.{Row, column}
 use Rattle.sqlite.specs.Values.{or_null}
@@ -13,6 +13,7 @@ use Rattle.sql_forms.specs.Numbers.{number_in}
 use Rattle.desk_content.specs.Encodings.{severity_in, flag, flag_in, tags_in}
 use Rattle.desk_content.specs.declared.edit.SetFields.{SetFields}
 use Rattle.desk_schema.specs.Cells.{maybe_text, text_in}
+use Rattle.desk_schema.specs.LastRow.{last_row}
 
 pub record SetRow : Type 0 where
   pub key : ℕ
@@ -62,5 +63,4 @@ fields_of_row x = record {
 
 -- the fields of a key's set, if it has a row
 abbrev pub fields_in : List SetRow → ℕ → Option SetFields
-fields_in [] k = None
-fields_in (x ∷ xs) k = if x.key == k then Some (fields_of_row x) else fields_in xs k
+fields_in xs k = option_map fields_of_row (last_row (λ x. x.key == k) xs)

@@ -1,6 +1,6 @@
 use Rattle.sqlite.specs.Held.{state}
 use Rattle.desk_schema.proofs.StatementLemmas.{acts_write, serves_write}
-use Rattle.desk_rows.proofs.ClearNode.{clear_is}
+use Rattle.desk_rows.proofs.NodeStatements.{clear_is}
 use Rattle.desk_rows.proofs.nodes.clear_node.Goals as goal
 
 pub returns-clause-plays : goal.returns-clause-plays

@@ -1,6 +1,6 @@
 use Rattle.sqlite.specs.Held.{state}
 use Rattle.desk_schema.proofs.StatementLemmas.{acts_write}
-use Rattle.desk_rows.proofs.AddNumber.{add_is}
+use Rattle.desk_rows.proofs.NumberStatements.{add_is}
 use Rattle.desk_rows.proofs.outcome_numbers.add_outcome_number.Goals as goal
 
 pub returns-clause-plays : goal.returns-clause-plays

@@ -4,7 +4,8 @@ use Rattle.version_nodes.specs.Nodes.{Node, IsNode}
 use Rattle.bug_record.specs.Texts.{IfGiven}
 use Rattle.desk_content.specs.Outcomes.{outcome_number, outcome_field, outcome_node}
 use Rattle.desk_schema.proofs.StatementLemmas.{acts_write}
-use Rattle.desk_rows.proofs.AddOutcome.{add_is, maybe_bound, number_bound}
+use Rattle.desk_schema.proofs.CellLemmas.{maybe_bound}
+use Rattle.desk_rows.proofs.OutcomeStatements.{add_is, number_bound}
 use Rattle.desk_rows.proofs.outcomes.add_outcome.Goals as goal
 
 pub returns-clause-plays : goal.returns-clause-plays

@@ -1,6 +1,6 @@
 use Rattle.sqlite.specs.Held.{state}
 use Rattle.desk_schema.proofs.StatementLemmas.{acts_write}
-use Rattle.set_rows.proofs.AddAffected.{add_is}
+use Rattle.set_rows.proofs.AffectStatements.{add_is}
 use Rattle.set_rows.proofs.affects.add_affected.Goals as goal
 
 pub returns-clause-plays : goal.returns-clause-plays

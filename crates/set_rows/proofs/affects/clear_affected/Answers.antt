@@ -1,6 +1,6 @@
 use Rattle.sqlite.specs.Held.{state}
 use Rattle.desk_schema.proofs.StatementLemmas.{acts_write, serves_write}
-use Rattle.set_rows.proofs.ClearAffected.{clear_is}
+use Rattle.set_rows.proofs.AffectStatements.{clear_is}
 use Rattle.set_rows.proofs.affects.clear_affected.Goals as goal
 
 pub returns-clause-plays : goal.returns-clause-plays

@@ -3,7 +3,7 @@ use Rattle.std.specs.Prelude.{⊤}
 use Rattle.sqlite.specs.Held.{state}
 use Rattle.desk_schema.proofs.StepLemmas.{acts_stop, reads_work}
 use Rattle.set_rows.specs.Names.{text_row, AreNamesOf}
-use Rattle.set_rows.proofs.ReadAffected.{names_are}
+use Rattle.desk_schema.proofs.TableQueries.{answer_is}
 use Rattle.set_rows.proofs.affects.read_affected.Goals as goal
 
 pub returns-in_err-rows-clause-reads : goal.returns-in_err-rows-clause-reads
@@ -15,4 +15,4 @@ pub returns-clause-reads : goal.returns-clause-reads
 returns-clause-reads g c =
     reads_work (state g.S.Store c.args.tx.now.conn.now) (state g.S.Store c.name_rows.new.tx.conn.now) c.in_ok-rows.rows c.names_of.result (λ _. ⊤)
     (λ k rows. (ns : List (List ℕ)) × (rows.items ≡ map text_row ns) × AreNamesOf c.args.key k ns) (λ k names. names ≡ k.affects c.args.key)
-    (λ k p. let is = c.as_slice.ensures.value ∙ p.1 in (names_are c.args.key k p.0 c.names_of.result p.2 (c.names_of.ensures.value _ p.2.valid is), c.names_of.ensures.sure _ p.2.valid is)) c.in_ok-rows.ensures.reads
+    (λ k p. let is = c.as_slice.ensures.value ∙ p.1 in (answer_is (λ names. names) (λ names. names ≡ k.affects c.args.key) _ c.names_of.result p.2.all (c.names_of.ensures.value _ p.2.valid is), c.names_of.ensures.sure _ p.2.valid is)) c.in_ok-rows.ensures.reads

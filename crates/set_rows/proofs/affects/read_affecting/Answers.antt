@@ -4,7 +4,7 @@ use Rattle.sqlite.specs.Held.{state}
 use Rattle.sql_forms.specs.Numbers.{number_row}
 use Rattle.desk_schema.proofs.StepLemmas.{acts_stop, reads_work}
 use Rattle.set_rows.specs.Affecting.{AreKeysAffecting}
-use Rattle.set_rows.proofs.ReadAffecting.{keys_are}
+use Rattle.desk_schema.proofs.TableQueries.{answer_is}
 use Rattle.set_rows.proofs.affects.read_affecting.Goals as goal
 
 pub returns-in_err-rows-clause-reads : goal.returns-in_err-rows-clause-reads
@@ -16,4 +16,4 @@ pub returns-clause-reads : goal.returns-clause-reads
 returns-clause-reads g c =
     reads_work (state g.S.Store c.args.tx.now.conn.now) (state g.S.Store c.key_rows.new.tx.conn.now) c.in_ok-rows.rows c.numbers_of.result (λ _. ⊤)
     (λ k rows. (keys : List ℕ) × (rows.items ≡ map number_row keys) × AreKeysAffecting c.args.«package».now k keys) (λ k keys. AreKeysAffecting c.args.«package».now k keys)
-    (λ k p. let is = c.as_slice.ensures.value ∙ p.1 in (keys_are (λ keys. keys) c.args.«package».now k p.0 c.numbers_of.result p.2 (c.numbers_of.ensures.value _ is), c.numbers_of.ensures.sure _ is)) c.in_ok-rows.ensures.reads
+    (λ k p. let is = c.as_slice.ensures.value ∙ p.1 in (answer_is (λ keys. keys) (AreKeysAffecting c.args.«package».now k) p.0 c.numbers_of.result p.2 (c.numbers_of.ensures.value _ is), c.numbers_of.ensures.sure _ is)) c.in_ok-rows.ensures.reads

@@ -1,6 +1,6 @@
 use Rattle.sqlite.specs.Held.{state}
 use Rattle.desk_schema.proofs.StatementLemmas.{acts_write}
-use Rattle.set_rows.proofs.AddBlocker.{add_is}
+use Rattle.set_rows.proofs.BlockStatements.{add_is}
 use Rattle.set_rows.proofs.blocks.add_blocker.Goals as goal
 
 pub returns-clause-plays : goal.returns-clause-plays

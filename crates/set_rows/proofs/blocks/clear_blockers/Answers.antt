@@ -1,6 +1,6 @@
 use Rattle.sqlite.specs.Held.{state}
 use Rattle.desk_schema.proofs.StatementLemmas.{acts_write, serves_write}
-use Rattle.set_rows.proofs.ClearBlockers.{clear_is}
+use Rattle.set_rows.proofs.BlockStatements.{clear_is}
 use Rattle.set_rows.proofs.blocks.clear_blockers.Goals as goal
 
 pub returns-clause-plays : goal.returns-clause-plays

@@ -1,6 +1,6 @@
 use Rattle.sqlite.specs.Held.{state}
 use Rattle.desk_schema.proofs.StatementLemmas.{acts_query, serves_query}
-use Rattle.set_rows.proofs.ReadWaiting.{waiting_read}
+use Rattle.set_rows.proofs.BlockStatements.{waiting_read}
 use Rattle.set_rows.proofs.blocks.waiting_rows.Goals as goal
 
 pub returns-clause-reads : goal.returns-clause-reads

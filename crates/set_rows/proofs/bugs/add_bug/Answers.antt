@@ -1,6 +1,6 @@
 use Rattle.sqlite.specs.Held.{state}
 use Rattle.desk_schema.proofs.StatementLemmas.{acts_write}
-use Rattle.set_rows.proofs.AddBug.{add_is}
+use Rattle.set_rows.proofs.BugStatements.{add_is}
 use Rattle.set_rows.proofs.bugs.add_bug.Goals as goal
 
 pub returns-clause-plays : goal.returns-clause-plays

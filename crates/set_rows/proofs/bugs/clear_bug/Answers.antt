@@ -1,6 +1,6 @@
 use Rattle.sqlite.specs.Held.{state}
 use Rattle.desk_schema.proofs.StatementLemmas.{acts_write, serves_write}
-use Rattle.set_rows.proofs.ClearBug.{clear_is}
+use Rattle.set_rows.proofs.BugStatements.{clear_is}
 use Rattle.set_rows.proofs.bugs.clear_bug.Goals as goal
 
 pub returns-clause-plays : goal.returns-clause-plays

@@ -1,6 +1,6 @@
 use Rattle.sqlite.specs.Held.{state}
 use Rattle.desk_schema.proofs.StatementLemmas.{acts_query, serves_query}
-use Rattle.set_rows.proofs.ReadKey.{key_read}
+use Rattle.set_rows.proofs.BugStatements.{key_read}
 use Rattle.set_rows.proofs.bugs.key_rows.Goals as goal
 
 pub returns-clause-reads : goal.returns-clause-reads

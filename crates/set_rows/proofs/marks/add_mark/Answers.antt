@@ -1,6 +1,6 @@
 use Rattle.sqlite.specs.Held.{state}
 use Rattle.desk_schema.proofs.StatementLemmas.{acts_write}
-use Rattle.set_rows.proofs.AddMark.{add_is}
+use Rattle.set_rows.proofs.MarkStatements.{add_is}
 use Rattle.set_rows.proofs.marks.add_mark.Goals as goal
 
 pub returns-clause-plays : goal.returns-clause-plays

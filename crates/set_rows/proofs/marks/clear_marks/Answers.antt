@@ -1,6 +1,6 @@
 use Rattle.sqlite.specs.Held.{state}
 use Rattle.desk_schema.proofs.StatementLemmas.{acts_write, serves_write}
-use Rattle.set_rows.proofs.ClearMarks.{clear_is}
+use Rattle.set_rows.proofs.MarkStatements.{clear_is}
 use Rattle.set_rows.proofs.marks.clear_marks.Goals as goal
 
 pub returns-clause-plays : goal.returns-clause-plays

@@ -5,7 +5,7 @@ use Rattle.desk_schema.proofs.StepLemmas.{acts_stop, reads_work}
 use Rattle.set_rows.specs.MarkedAt.{AreMarksAt}
 use Rattle.set_rows.specs.MarkAnswers.{mark_row}
 use Rattle.set_rows.specs.declared.marks_at.SetMark.{SetMark}
-use Rattle.set_rows.proofs.ReadMarksAt.{marks_are}
+use Rattle.desk_schema.proofs.TableQueries.{answer_is}
 use Rattle.set_rows.proofs.marks_at.read_marks_at.Goals as goal
 
 pub returns-in_err-rows-clause-reads : goal.returns-in_err-rows-clause-reads
@@ -17,4 +17,4 @@ pub returns-clause-reads : goal.returns-clause-reads
 returns-clause-reads g c =
     reads_work (state g.S.Store c.args.tx.now.conn.now) (state g.S.Store c.mark_rows.new.tx.conn.now) c.in_ok-rows.rows c.marks_in.result (λ _. ⊤)
     (λ k rows. (ms : List SetMark) × (rows.items ≡ map mark_row ms) × AreMarksAt c.args.node.now k ms) (λ k marks. AreMarksAt c.args.node.now k marks.items)
-    (λ k p. let is = c.as_slice.ensures.value ∙ p.1 in (marks_are (λ marks. marks.items) c.args.node.now k p.0 c.marks_in.result p.2 (c.marks_in.ensures.value _ is), c.marks_in.ensures.sure _ is)) c.in_ok-rows.ensures.reads
+    (λ k p. let is = c.as_slice.ensures.value ∙ p.1 in (answer_is (λ marks. marks.items) (AreMarksAt c.args.node.now k) p.0 c.marks_in.result p.2 (c.marks_in.ensures.value _ is), c.marks_in.ensures.sure _ is)) c.in_ok-rows.ensures.reads

@@ -3,7 +3,8 @@ use Rattle.std.specs.Str.{IsUtf8}
 use Rattle.sqlite.specs.Held.{state}
 use Rattle.desk_schema.specs.SetRows.{IsSetRow}
 use Rattle.desk_schema.proofs.StatementLemmas.{acts_write}
-use Rattle.set_rows.proofs.AddFields.{new_row, add_is, maybe_bound}
+use Rattle.desk_schema.proofs.CellLemmas.{maybe_bound}
+use Rattle.set_rows.proofs.SetStatements.{new_row, add_is}
 use Rattle.set_rows.proofs.sets.add_fields.Goals as goal
 
 pub returns-clause-plays : goal.returns-clause-plays

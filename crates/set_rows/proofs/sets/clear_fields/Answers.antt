@@ -1,6 +1,6 @@
 use Rattle.sqlite.specs.Held.{state}
 use Rattle.desk_schema.proofs.StatementLemmas.{acts_write}
-use Rattle.set_rows.proofs.ClearFields.{clear_is}
+use Rattle.set_rows.proofs.SetStatements.{clear_is}
 use Rattle.set_rows.proofs.sets.clear_fields.Goals as goal
 
 pub returns-clause-plays : goal.returns-clause-plays

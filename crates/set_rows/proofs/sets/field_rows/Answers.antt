@@ -1,6 +1,6 @@
 use Rattle.sqlite.specs.Held.{state}
 use Rattle.desk_schema.proofs.StatementLemmas.{acts_query, serves_query}
-use Rattle.set_rows.proofs.ReadFields.{fields_read}
+use Rattle.set_rows.proofs.SetStatements.{fields_read}
 use Rattle.set_rows.proofs.sets.field_rows.Goals as goal
 
 pub returns-clause-reads : goal.returns-clause-reads

@@ -1,0 +1,86 @@
+-- What the statements on nearest mean.
+use Rattle.std.proofs.Common.{◌≡◌, ℕ, pos, ◌==◌, Bool, true, false, not, if◌then◌else◌, List, [], ◌∷◌, codes, filter, Option, None, refl, ap, ◌∙◌, arith}
+use Rattle.std.proofs.lemmas.Bool.{eqb-true, and_parts}
+use Rattle.sqlite.specs.Command.TheVariants.{Insert, Delete}
+use Rattle.sqlite.specs.Listing.{understood}
+use Rattle.sqlite.specs.Order.{Row}
+use Rattle.sqlite.specs.Source.TheVariants.{Values}
+use Rattle.sqlite.specs.Term.{Term, lit, col}
+use Rattle.sqlite.specs.declared.types.Value.TheVariants.{Null, Int, Text}
+use Rattle.sqlite_tied.specs.Compute.{everything}
+use Rattle.version_nodes.specs.Nodes.{Node, IsNode, same_node}
+use Rattle.nearest_marks.specs.declared.near.Near.{Near}
+use Rattle.sql_forms.specs.Forms.{passes, equals}
+use Rattle.sql_forms.proofs.DeleteErrors.{rowids_of}
+use Rattle.sql_forms.proofs.ErrorLemmas.{IsCallOf}
+use Rattle.sql_forms.proofs.RowLemmas.{hits, same_number}
+use Rattle.desk_content.specs.Edits.{put_at, edited}
+use Rattle.desk_content.specs.Encodings.{kind_number}
+use Rattle.desk_content.specs.Free.{IsFree}
+use Rattle.desk_content.specs.declared.edit.Edit.TheVariants.{PutNear, DropNear}
+use Rattle.desk_schema.specs.Tables.{NEAREST, desk_schema}
+use Rattle.desk_schema.specs.NearestRows.{NearestRow, nearest_cells, is_of, near_in}
+use Rattle.desk_schema.proofs.CellLemmas.{cast_int, cast_null}
+use Rattle.desk_schema.proofs.DeskTables.{nearest, keyed_nearest}
+use Rattle.desk_schema.proofs.LastLists.{said_more, said_left, none_said}
+use Rattle.desk_schema.proofs.OwnerLists.{turned}
+use Rattle.desk_schema.proofs.StatementLemmas.{IsWrite}
+use Rattle.desk_schema.proofs.TableLemmas.{adds, clears}
+
+-- ---- a nearest mark comes
+
+abbrev add_text : List ℕ
+add_text = codes "INSERT INTO nearest VALUES (?1, ?2, ?3, ?4, ?5, ?6)"
+
+abbrev terms : List Term
+terms = lit Null ∷ col 0 0 ∷ col 0 1 ∷ col 0 2 ∷ col 0 3 ∷ col 0 4 ∷ col 0 5 ∷ []
+
+abbrev add_params : ℕ → Node → Near → Row
+add_params k v near = Int (pos k) ∷ Text v.source ∷ Text v.version ∷ Text near.mark.source ∷ Text near.mark.version ∷ Int (pos (kind_number near.kind)) ∷ []
+
+add_call : (k : ℕ) (v : Node) (near : Near) → IsCallOf desk_schema add_text (add_params k v near) (Insert 6 (Values terms 7))
+unfolding understood everything
+add_call k v near = record { command_is = refl; writes = tt; plain = (refl, refl); whole = omega arith; given = refl }
+
+pub add_is : (k : ℕ) (v : Node) (near : Near) → IsNode v → IsNode near.mark → IsWrite add_text (add_params k v near) (IsFree (PutNear k v near)) (edited (PutNear k v near))
+add_is k v near is is' = adds keyed_nearest add_text (add_params k v near) terms (PutNear k v near) (record {
+  text = record { call = add_call k v near; typed = refl; one = λ row. refl };
+  new = λ id. record { id = id; key = k; node = v; near = near };
+  own = λ id. refl;
+  is = λ rows. rw (cast_null, cast_int (pos k), cast_int (pos (kind_number near.kind))) refl;
+  good = λ id. record { node = is; mark = is' };
+  kept = λ id. record { datatype = λ db. refl; not_null = λ db. refl; check = λ db. refl; keyed = refl };
+  more = λ xs id c. λ i. record c { near = λ j w. said_more (λ (x : NearestRow). x.near) (is_of j w) xs (record { id = id; key = k; node = v; near = near }) i };
+  none = λ xs id c free. none_said (λ (x : NearestRow). x.near) (is_of k v) xs free.1;
+})
+
+-- ---- those of a key go
+
+abbrev clear_text : List ℕ
+clear_text = codes "DELETE FROM nearest WHERE set_key = ?1"
+
+clear_call : (k : ℕ) → IsCallOf desk_schema clear_text (Int (pos k) ∷ []) (Delete 6 (rowids_of NEAREST (equals 1 ∷ [])))
+unfolding understood everything
+clear_call k = record { command_is = refl; writes = tt; plain = (refl, refl); whole = omega arith; given = refl }
+
+hit_key : (k : ℕ) (x : NearestRow) → passes (equals 1 ∷ []) (Int (pos k) ∷ []) (nearest_cells x) ≡ (x.key == k)
+hit_key k x = hits 1 (pos k) (nearest_cells x) ∙ same_number x.key k
+
+own_key : (k n : ℕ) (v : Node) (x : NearestRow) → is_of n v x ≡ true → (x.key == k) ≡ (k == n)
+own_key k n v x here = ap (λ m. m == k) (eqb-true x.key n (and_parts (x.key == n) (same_node x.node v) here).0) ∙ turned n k
+
+at_node : (b : Bool) (f : Node → Option Near) (v : Node) → (if b then None else f v) ≡ (if b then (λ (w : Node). None) else f) v
+at_node true f v = refl
+at_node false f v = refl
+
+less : (k n : ℕ) (v : Node) (xs : List NearestRow) → near_in (filter (λ x. not (x.key == k)) xs) n v ≡ put_at k (λ w. None) (near_in xs) n v
+less k n v xs = said_left (λ (x : NearestRow). x.near) (is_of n v) (λ x. x.key == k) (k == n) (own_key k n v) xs ∙ at_node (k == n) (near_in xs n) v
+
+pub clear_is : (k : ℕ) → IsWrite clear_text (Int (pos k) ∷ []) (IsFree (DropNear k)) (edited (DropNear k))
+clear_is k = clears nearest clear_text (Int (pos k) ∷ []) (equals 1 ∷ []) (DropNear k) (record {
+  call = clear_call k;
+  typed = refl;
+  is_hit = λ x. x.key == k;
+  hits = hit_key k;
+  less = λ xs c. λ i. record c { near = λ n v. less k n v xs i };
+})

@@ -1,0 +1,151 @@
+-- What the statements on affects mean.
+use Rattle.std.proofs.Common.{◌≡◌, ℕ, pos, ◌==◌, List, [], ◌∷◌, codes, map, refl, sym, ◌∙◌, arith}
+use Rattle.std.specs.List.{AllByRecursion}
+use Rattle.std.specs.List.Sorted.{IsPermutation}
+use Rattle.std.specs.Prelude.{⊤}
+use Rattle.std.specs.Str.{bytes_eq, IsUtf8}
+use Rattle.std.proofs.lemmas.List.Elements.{All-from_recursion, recursion_from_All}
+use Rattle.std.proofs.lemmas.List.Sorted.{All-permutation, list_any-IsPermutation}
+use Rattle.sqlite.specs.Command.TheVariants.{Insert, Delete}
+use Rattle.sqlite.specs.Listing.{understood}
+use Rattle.sqlite.specs.Order.{Row, column}
+use Rattle.sqlite.specs.Source.TheVariants.{Values}
+use Rattle.sqlite.specs.Term.{Term, lit, col}
+use Rattle.sqlite.specs.declared.types.Value.TheVariants.{Null, Int, Text}
+use Rattle.sqlite_tied.specs.Compute.{everything}
+use Rattle.bug_record.specs.Ordered.{with_each}
+use Rattle.bug_record.specs.PackageSets.{name_cmp}
+use Rattle.sql_forms.specs.Forms.{passes, equals}
+use Rattle.sql_forms.specs.Numbers.{number_row}
+use Rattle.sql_forms.proofs.AnswerLemmas.{number_at_front}
+use Rattle.sql_forms.proofs.DeleteErrors.{rowids_of}
+use Rattle.sql_forms.proofs.ErrorLemmas.{IsCallOf}
+use Rattle.sql_forms.proofs.QueryErrors.{IsQueryOf}
+use Rattle.sql_forms.proofs.RowLemmas.{all_filter, hits, holds_text, same_number, and_true}
+use Rattle.desk_content.specs.Content.{Content}
+use Rattle.desk_content.specs.Edits.{edited}
+use Rattle.desk_content.specs.Free.{IsFree}
+use Rattle.desk_content.specs.declared.edit.Edit.TheVariants.{PutAffects, DropAffects}
+use Rattle.desk_schema.specs.Cells.{text_in}
+use Rattle.desk_schema.specs.Tables.{AFFECTS, desk_schema}
+use Rattle.desk_schema.specs.AffectRows.{AffectRow, affect_cells, IsAffectRow, names_of}
+use Rattle.desk_schema.proofs.AffectLists.{affect_rows, same_names}
+use Rattle.desk_schema.proofs.DeskTables.{affects, keyed_affects}
+use Rattle.desk_schema.proofs.CellLemmas.{cast_int, cast_null, same_text}
+use Rattle.desk_schema.proofs.OwnerLists.{turned, one_more, none_left, apart, owners_any}
+use Rattle.desk_schema.proofs.StatementLemmas.{IsWrite, IsRead}
+use Rattle.desk_schema.proofs.TableLemmas.{adds, clears}
+use Rattle.desk_schema.proofs.TableQueries.{asks}
+use Rattle.set_rows.specs.Affecting.{AreKeysAffecting}
+use Rattle.set_rows.specs.Names.{text_row, AreNamesOf}
+use Rattle.set_rows.proofs.KeyAnswers.{has_any}
+
+-- ---- a package comes
+
+abbrev add_text : List ℕ
+add_text = codes "INSERT INTO affects VALUES (?1, ?2)"
+
+abbrev terms : List Term
+terms = lit Null ∷ col 0 0 ∷ col 0 1 ∷ []
+
+abbrev add_params : ℕ → List ℕ → Row
+add_params k n = Int (pos k) ∷ Text n ∷ []
+
+add_call : (k : ℕ) (n : List ℕ) → IsCallOf desk_schema add_text (add_params k n) (Insert 7 (Values terms 3))
+unfolding understood everything
+add_call k n = record { command_is = refl; writes = tt; plain = (refl, refl); whole = omega arith; given = refl }
+
+pub add_is : (k : ℕ) (n : List ℕ) → IsUtf8 n → IsWrite add_text (add_params k n) (IsFree (PutAffects k n)) (edited (PutAffects k n))
+add_is k n is = adds keyed_affects add_text (add_params k n) terms (PutAffects k n) (record {
+  text = record { call = add_call k n; typed = refl; one = λ row. refl };
+  new = λ id. record { id = id; key = k; «package» = n };
+  own = λ id. refl;
+  is = λ rows. rw (cast_null, cast_int (pos k)) refl;
+  good = λ id. is;
+  kept = λ id. record { datatype = λ db. refl; not_null = λ db. refl; check = λ db. refl; keyed = refl };
+  more = λ xs id c. λ i. record c { affects = λ o. one_more affect_rows xs (record { id = id; key = k; «package» = n }) o i };
+  none = λ xs id c free. apart affect_rows k n _ (λ x. refl) xs free.1;
+})
+
+-- ---- those of a key go
+
+abbrev clear_text : List ℕ
+clear_text = codes "DELETE FROM affects WHERE set_key = ?1"
+
+clear_call : (k : ℕ) → IsCallOf desk_schema clear_text (Int (pos k) ∷ []) (Delete 7 (rowids_of AFFECTS (equals 1 ∷ [])))
+unfolding understood everything
+clear_call k = record { command_is = refl; writes = tt; plain = (refl, refl); whole = omega arith; given = refl }
+
+hit_key : (k : ℕ) (x : AffectRow) → passes (equals 1 ∷ []) (Int (pos k) ∷ []) (affect_cells x) ≡ (x.key == k)
+hit_key k x = hits 1 (pos k) (affect_cells x) ∙ same_number x.key k
+
+pub clear_is : (k : ℕ) → IsWrite clear_text (Int (pos k) ∷ []) (IsFree (DropAffects k)) (edited (DropAffects k))
+clear_is k = clears affects clear_text (Int (pos k) ∷ []) (equals 1 ∷ []) (DropAffects k) (record {
+  call = clear_call k;
+  typed = refl;
+  is_hit = λ x. x.key == k;
+  hits = hit_key k;
+  less = λ xs c. λ i. record c { affects = λ o. none_left affect_rows (λ x. x.key == k) (λ j. k == j) (λ x. turned x.key k) xs o i };
+})
+
+-- ---- those of a key are read
+
+abbrev read_text : List ℕ
+read_text = codes "SELECT package FROM affects WHERE set_key = ?1"
+
+read_is : (k : ℕ) → IsQueryOf desk_schema read_text (Int (pos k) ∷ []) AFFECTS (equals 1 ∷ []) (col 1 2 ∷ []) [] (codes "package" ∷ [])
+unfolding understood everything
+read_is k = record { command_is = refl; plain = (refl, refl); whole = omega arith; given = refl; unlisted = refl; typed = refl }
+
+valid_of : (xs : List AffectRow) → AllByRecursion IsAffectRow xs → AllByRecursion IsUtf8 (map (λ (x : AffectRow). x.«package») xs)
+valid_of [] h = tt
+valid_of (x ∷ xs) h = (h.0, valid_of xs h.1)
+
+are_names : (k : ℕ) (c : Content) (xs : List AffectRow) (ns : List (List ℕ)) → AllByRecursion IsAffectRow xs → IsPermutation (names_of k xs) ns
+    → c.affects k ≡ with_each name_cmp [] (names_of k xs) → AreNamesOf k c ns
+are_names k c xs ns good same says = record {
+  valid = recursion_from_All IsUtf8 ns (All-permutation IsUtf8 _ ns same (All-from_recursion IsUtf8 _ (valid_of _ (all_filter IsAffectRow (λ x. x.key == k) xs good))));
+  all = same_names ns (names_of k xs) (λ n. sym (list_any-IsPermutation (bytes_eq n) _ _ same)) ∙ sym says;
+}
+
+pub names_read : (k : ℕ) → IsRead read_text (Int (pos k) ∷ []) (λ c rows. (ns : List (List ℕ)) × (rows ≡ map text_row ns) × AreNamesOf k c ns)
+names_read k = asks affects read_text (Int (pos k) ∷ []) (equals 1 ∷ []) (col 1 2 ∷ []) (codes "package" ∷ []) _ (record {
+  text = read_is k;
+  is_hit = λ x. x.key == k;
+  hits = hit_key k;
+  of = λ x. x.«package»;
+  row = text_row;
+  back = λ r. text_in (column r 0);
+  same = λ n. refl;
+  shows = λ x. refl;
+  AreFine = λ xs. ⊤;
+  fine = λ s inside live all. tt;
+  says = λ xs c fine good ns any. (ns, refl, are_names k _ xs ns good any refl);
+})
+
+-- ---- the keys of a package are read
+
+abbrev keys_text : List ℕ
+keys_text = codes "SELECT set_key FROM affects WHERE package = ?1"
+
+keys_is : (p : List ℕ) → IsQueryOf desk_schema keys_text (Text p ∷ []) AFFECTS (equals 2 ∷ []) (col 1 1 ∷ []) [] (codes "set_key" ∷ [])
+unfolding understood everything
+keys_is p = record { command_is = refl; plain = (refl, refl); whole = omega arith; given = refl; unlisted = refl; typed = refl }
+
+hit_package : (p : List ℕ) (x : AffectRow) → passes (equals 2 ∷ []) (Text p ∷ []) (affect_cells x) ≡ bytes_eq x.«package» p
+hit_package p x = and_true _ ∙ holds_text 2 0 (Text p ∷ []) (affect_cells x) p refl ∙ same_text x.«package» p
+
+pub keys_read : (p : List ℕ) → IsRead keys_text (Text p ∷ []) (λ c rows. (keys : List ℕ) × (rows ≡ map number_row keys) × AreKeysAffecting p c keys)
+keys_read p = asks affects keys_text (Text p ∷ []) (equals 2 ∷ []) (col 1 1 ∷ []) (codes "set_key" ∷ []) _ (record {
+  text = keys_is p;
+  is_hit = λ x. bytes_eq x.«package» p;
+  hits = hit_package p;
+  of = λ x. x.key;
+  row = number_row;
+  back = number_at_front;
+  same = λ n. refl;
+  shows = λ x. refl;
+  AreFine = λ xs. ⊤;
+  fine = λ s inside live all. tt;
+  says = λ xs c fine good keys any. (keys, refl, λ k. has_any k keys ∙ owners_any affect_rows (λ x. x.key) (λ y. y == k) k p (λ x. refl) xs keys any);
+})

@@ -1,0 +1,227 @@
+-- What the statements on sets mean.
+use Rattle.std.proofs.Common.{◌≡◌, ℕ, pos, ◌==◌, ◌&&◌, ◌<◌, Bool, true, false, not, List, [], ◌∷◌, codes, map, filter, Option, Some, None, option_map, refl, ap, ◌∙◌, arith}
+use Rattle.std.specs.List.{list_any}
+use Rattle.std.specs.Option.{option_map_or}
+use Rattle.std.specs.Str.{bytes_eq}
+use Rattle.sqlite.specs.Command.TheVariants.{Insert, Delete}
+use Rattle.sqlite.specs.Listing.{understood}
+use Rattle.sqlite.specs.Order.{Row}
+use Rattle.sqlite.specs.Source.TheVariants.{Values}
+use Rattle.sqlite.specs.Term.{Term, lit, col}
+use Rattle.sqlite.specs.declared.types.Value.TheVariants.{Null, Int, Text}
+use Rattle.sqlite_tied.specs.Compute.{everything}
+use Rattle.sqlite.specs.Cast.{cast}
+use Rattle.sqlite.specs.Kind.TheVariants.{Text as TextKind}
+use Rattle.std.proofs.Common.{◌≡◌, ℕ, pos, List, [], ◌∷◌, codes, Bool, true, false, ◌==◌, map, Option, Some, None, refl, ap, arith}
+use Rattle.sqlite.specs.Kind.TheVariants.{Text as TextKind}
+use Rattle.sqlite.specs.Values.{or_null}
+use Rattle.sqlite_typing.specs.Types.{accepts_terms}
+use Rattle.bug_record.specs.Severities.{rank}
+use Rattle.sql_forms.proofs.RefusalLemmas.{IsGoodRow}
+use Rattle.desk_content.specs.Encodings.{flag, tags_number}
+use Rattle.desk_content.specs.declared.edit.SetFields.{SetFields}
+use Rattle.sqlite_trees.specs.Tree.{IsAscending}
+use Rattle.sql_forms.specs.Forms.{passes, equals, equals_at}
+use Rattle.sql_forms.specs.Numbers.{number_row}
+use Rattle.sql_forms.proofs.AnswerLemmas.{number_at_front}
+use Rattle.sql_forms.proofs.DeleteErrors.{rowids_of}
+use Rattle.sql_forms.proofs.ErrorLemmas.{IsCallOf}
+use Rattle.sql_forms.proofs.QueryErrors.{IsQueryOf}
+use Rattle.sql_forms.proofs.RowLemmas.{hits, holds_text, same_number}
+use Rattle.desk_content.specs.Edits.{edited}
+use Rattle.desk_content.specs.Free.{IsFree}
+use Rattle.sqlite.specs.Term.{Term, lit, col, op2}
+use Rattle.sqlite_sql.specs.declared.ops.BinaryOp.TheVariants.{Compare}
+use Rattle.sqlite_sql.specs.declared.ops.CompareOp.TheVariants.{Eq}
+use Rattle.sqlite_value.specs.declared.keys.Collation.TheVariants.{Binary}
+use Rattle.desk_content.specs.Encodings.{flag}
+use Rattle.desk_schema.proofs.NumberLists.{or_false}
+use Rattle.desk_content.specs.declared.edit.Edit.TheVariants.{PutFields, DropFields}
+use Rattle.desk_schema.specs.Tables.{SETS, sets_table, desk_schema}
+use Rattle.desk_schema.specs.SetRows.{SetRow, set_cells, IsSetRow, fields_of_row}
+use Rattle.desk_schema.proofs.DeskTables.{sets}
+use Rattle.desk_schema.specs.LastRow.{last_row}
+use Rattle.desk_schema.proofs.CellLemmas.{cast_int, cast_null, same_text}
+use Rattle.desk_schema.proofs.LastLists.{numbered_more, numbered_left, none_said, one_kept, one_numbered, last_good}
+use Rattle.desk_schema.proofs.StatementLemmas.{IsWrite, IsRead}
+use Rattle.desk_schema.proofs.TableLemmas.{clears, adds_numbered, rises}
+use Rattle.desk_schema.proofs.TableQueries.{asks, one_answer}
+use Rattle.set_rows.specs.Fields.{field_row, field_rows, AreFieldsOf}
+use Rattle.set_rows.specs.Listed.{is_of, AreKeysFor}
+use Rattle.set_rows.proofs.KeyAnswers.{has_key}
+
+abbrev set_key : SetRow → ℕ
+set_key x = x.key
+
+-- ---- fields come
+
+abbrev add_text : List ℕ
+add_text = codes "INSERT INTO sets VALUES (?1, ?2, ?3, ?4, ?5, ?6, ?7, ?8)"
+
+abbrev terms : List Term
+terms = col 0 0 ∷ lit Null ∷ col 0 1 ∷ col 0 2 ∷ col 0 3 ∷ col 0 4 ∷ col 0 5 ∷ col 0 6 ∷ col 0 7 ∷ []
+
+-- the row that is added
+abbrev pub new_row : ℕ → SetFields → SetRow
+new_row k f = record { key = k; «package» = f.«package»; severity = f.severity; closed = f.closed; forwarded = f.forwarded; owner = f.owner; tags = tags_number f.tags; archived = f.archived }
+
+abbrev add_params : ℕ → SetFields → Row
+add_params k f =
+    Int (pos k) ∷ Text f.«package» ∷ Int (pos (rank f.severity)) ∷ Int (pos (flag f.closed)) ∷ or_null Text f.forwarded ∷ or_null Text f.owner ∷ Int (pos (tags_number f.tags))
+    ∷ Int (pos (flag f.archived)) ∷ []
+
+add_call : (k : ℕ) (f : SetFields) → IsCallOf desk_schema add_text (add_params k f) (Insert 1 (Values terms 9))
+unfolding understood everything
+add_call k f = record { command_is = refl; writes = tt; plain = (refl, refl); whole = omega arith; given = refl }
+
+cast_maybe : (t : Option (List ℕ)) → cast TextKind (or_null Text t) ≡ or_null Text t
+cast_maybe None = refl
+cast_maybe (Some t) = refl
+
+good_with : (x : SetRow) (f o : Option (List ℕ)) → IsGoodRow desk_schema sets_table (set_cells (record x { forwarded = f; owner = o }))
+good_with x None None = record { datatype = λ db. refl; not_null = λ db. refl; check = λ db. refl; keyed = refl }
+good_with x None (Some o) = record { datatype = λ db. refl; not_null = λ db. refl; check = λ db. refl; keyed = refl }
+good_with x (Some f) None = record { datatype = λ db. refl; not_null = λ db. refl; check = λ db. refl; keyed = refl }
+good_with x (Some f) (Some o) = record { datatype = λ db. refl; not_null = λ db. refl; check = λ db. refl; keyed = refl }
+
+accepted : (k : ℕ) (s : SetFields) (f o : Option (List ℕ)) → accepts_terms terms (add_params k (record s { forwarded = f; owner = o })) ≡ true
+accepted k s None None = refl
+accepted k s None (Some o) = refl
+accepted k s (Some f) None = refl
+accepted k s (Some f) (Some o) = refl
+
+pub add_is : (k : ℕ) (f : SetFields) → IsSetRow (new_row k f) → IsWrite add_text (add_params k f) (IsFree (PutFields k f)) (edited (PutFields k f))
+add_is k f fine = adds_numbered sets set_key (λ x. refl) add_text (add_params k f) terms (PutFields k f) (record {
+  text = record { call = add_call k f; typed = accepted k f f.forwarded f.owner; one = λ row. refl };
+  new = new_row k f;
+  is = λ rows. rw (cast_null, cast_int (pos k), cast_int (pos (rank f.severity)), cast_int (pos (flag f.closed)), cast_maybe f.forwarded, cast_maybe f.owner, cast_int (pos (tags_number f.tags)), cast_int (pos (flag f.archived))) refl;
+  good = fine;
+  kept = good_with (new_row k f) f.forwarded f.owner;
+  more = λ xs c up apart. λ i. record c { fields = λ n. numbered_more fields_of_row set_key n xs (new_row k f) apart i };
+  none = λ xs c free. none_said fields_of_row (λ x. x.key == k) xs free.1;
+  unkeyed = λ db. refl;
+})
+
+-- ---- those of a key go
+
+abbrev clear_text : List ℕ
+clear_text = codes "DELETE FROM sets WHERE set_key = ?1"
+
+clear_call : (k : ℕ) → IsCallOf desk_schema clear_text (Int (pos k) ∷ []) (Delete 1 (rowids_of SETS (equals 0 ∷ [])))
+unfolding understood everything
+clear_call k = record { command_is = refl; writes = tt; plain = (refl, refl); whole = omega arith; given = refl }
+
+hit_key : (k : ℕ) (x : SetRow) → passes (equals 0 ∷ []) (Int (pos k) ∷ []) (set_cells x) ≡ (x.key == k)
+hit_key k x = hits 0 (pos k) (set_cells x) ∙ same_number x.key k
+
+pub clear_is : (k : ℕ) → IsWrite clear_text (Int (pos k) ∷ []) (IsFree (DropFields k)) (edited (DropFields k))
+clear_is k = clears sets clear_text (Int (pos k) ∷ []) (equals 0 ∷ []) (DropFields k) (record {
+  call = clear_call k;
+  typed = refl;
+  is_hit = λ x. x.key == k;
+  hits = hit_key k;
+  less = λ xs c. λ i. record c { fields = λ n. numbered_left fields_of_row set_key n k xs i };
+})
+
+-- ---- those of a key are read
+
+abbrev read_text : List ℕ
+read_text = codes "SELECT package, severity, closed, forwarded, owner, tags, archived FROM sets WHERE set_key = ?1"
+
+abbrev shown_terms : List Term
+shown_terms = col 1 2 ∷ col 1 3 ∷ col 1 4 ∷ col 1 5 ∷ col 1 6 ∷ col 1 7 ∷ col 1 8 ∷ []
+
+abbrev names : List (List ℕ)
+names = codes "package" ∷ codes "severity" ∷ codes "closed" ∷ codes "forwarded" ∷ codes "owner" ∷ codes "tags" ∷ codes "archived" ∷ []
+
+read_is : (k : ℕ) → IsQueryOf desk_schema read_text (Int (pos k) ∷ []) SETS (equals 0 ∷ []) shown_terms [] names
+unfolding understood everything
+read_is k = record { command_is = refl; plain = (refl, refl); whole = omega arith; given = refl; unlisted = refl; typed = refl }
+
+are_rows : (o : Option SetRow) → option_map_or (λ (r : Row). r ∷ []) (option_map field_row o) [] ≡ field_rows o
+are_rows None = refl
+are_rows (Some x) = refl
+
+abbrev Rises : List SetRow → Type 0
+Rises xs = IsAscending (λ a b. set_key a < set_key b) xs
+
+pub fields_read : (k : ℕ) → IsRead read_text (Int (pos k) ∷ []) (AreFieldsOf k)
+fields_read k = asks sets read_text (Int (pos k) ∷ []) (equals 0 ∷ []) shown_terms names (AreFieldsOf k) (record {
+  text = read_is k;
+  is_hit = λ x. x.key == k;
+  hits = hit_key k;
+  of = field_row;
+  row = λ r. r;
+  back = λ r. r;
+  same = λ r. refl;
+  shows = λ x. refl;
+  AreFine = Rises;
+  fine = λ s inside live all. rises sets set_key (λ x. refl) s all;
+  says = λ xs c up good rows any. record {
+    row = last_row (λ x. x.key == k) xs;
+    are = one_answer field_row (λ (r : Row). r) (last_row (λ x. x.key == k) xs) (filter (λ x. x.key == k) xs) (one_kept (λ x. x.key == k) xs (one_numbered set_key k xs up)) rows any
+        ∙ are_rows (last_row (λ x. x.key == k) xs);
+    says = refl;
+    good = last_good (λ x. x.key == k) IsSetRow xs good;
+  };
+})
+
+-- ---- the keys of a package are read
+
+abbrev keys_text : List ℕ
+keys_text = codes "SELECT set_key FROM sets WHERE package = ?1 AND archived = 0"
+
+abbrev listed : List Term
+listed = equals_at 2 0 ∷ op2 (Compare Eq Binary) (col 1 8) (lit (Int (pos 0))) ∷ []
+
+keys_is : (p : List ℕ) → IsQueryOf desk_schema keys_text (Text p ∷ []) SETS listed (col 1 0 ∷ []) [] (codes "set_key" ∷ [])
+unfolding understood everything
+keys_is p = record { command_is = refl; plain = (refl, refl); whole = omega arith; given = refl; unlisted = refl; typed = refl }
+
+unset : (b : Bool) → (flag b == 0) ≡ not b
+unset true = refl
+unset false = refl
+
+abbrev is_row_of : List ℕ → SetRow → Bool
+is_row_of p x = bytes_eq x.«package» p && not x.archived
+
+hit_row : (p : List ℕ) (x : SetRow) → passes listed (Text p ∷ []) (set_cells x) ≡ is_row_of p x
+hit_row p x =
+    let of_package = holds_text 2 0 (Text p ∷ []) (set_cells x) p refl ∙ same_text x.«package» p in
+    let kept = hits 8 (pos 0) (set_cells x) ∙ same_number (flag x.archived) 0 ∙ unset x.archived in
+    λ i. of_package i && kept i
+
+-- a key that is listed is that of the row
+any_swapped : {T : Type 0} (p q : T → Bool) (xs : List T) → list_any p (filter q xs) ≡ list_any q (filter p xs)
+any_swapped p q [] = refl
+any_swapped p q (x ∷ xs) = go (p x) (q x) refl refl (any_swapped p q xs)
+  where
+    go : (a b : Bool) → p x ≡ a → q x ≡ b → list_any p (filter q xs) ≡ list_any q (filter p xs) → list_any p (filter q (x ∷ xs)) ≡ list_any q (filter p (x ∷ xs))
+    go true true r s h = rw (r, s, r) refl
+    go true false r s h = rw (r, s) h
+    go false true r s h = rw (r, s, r) h
+    go false false r s h = rw (r, s) h
+
+any_one : (p : List ℕ) (o : Option SetRow) → list_any (is_row_of p) (option_map_or (λ x. x ∷ []) o []) ≡ is_of p (option_map fields_of_row o)
+any_one p None = refl
+any_one p (Some x) = or_false (is_row_of p x)
+
+pub keys_read : (p : List ℕ) → IsRead keys_text (Text p ∷ []) (λ c rows. (keys : List ℕ) × (rows ≡ map number_row keys) × AreKeysFor p c keys)
+keys_read p = asks sets keys_text (Text p ∷ []) listed (col 1 0 ∷ []) (codes "set_key" ∷ []) _ (record {
+  text = keys_is p;
+  is_hit = is_row_of p;
+  hits = hit_row p;
+  of = set_key;
+  row = number_row;
+  back = number_at_front;
+  same = λ n. refl;
+  shows = λ x. refl;
+  AreFine = Rises;
+  fine = λ s inside live all. rises sets set_key (λ x. refl) s all;
+  says = λ xs c up good keys any. (
+    keys,
+    refl,
+    λ k. has_key set_key k (filter (is_row_of p) xs) keys any ∙ any_swapped (λ (x : SetRow). x.key == k) (is_row_of p) xs
+        ∙ ap (list_any (is_row_of p)) (one_kept (λ (x : SetRow). x.key == k) xs (one_numbered set_key k xs up)) ∙ any_one p (last_row (λ (x : SetRow). x.key == k) xs),
+  );
+})
