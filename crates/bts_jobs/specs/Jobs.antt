@@ -1,6 +1,7 @@
 -- What the jobs do.
 -- This project's own rule.
-use Rattle.std.specs.Prelude.{ℕ, ◌≡◌, ◌⊎◌, ◌<◌, ◌≤◌, ◌++◌, [], ◌∷◌, List, length, take, codes, Option, None, Some, Result, Ok, Err, OnOk}
+use Rattle.std.specs.Prelude.{ℕ, ◌≡◌, ◌≢◌, ◌==◌, ◌⊎◌, ◌<◌, ◌≤◌, ◌++◌, false, [], ◌∷◌, List, length, take, codes, Option, None, Some, Result, Ok, Err, OnOk}
+use Rattle.std.specs.List.{list_any}
 use Rattle.std.specs.Io.KnownBytes.{Appends}
 use Rattle.sqlite_disk.specs.declared.start.Start.{Ghosts}
 use Rattle.sqlite_wal.specs.Files.{image_at}
@@ -27,7 +28,7 @@ use Rattle.desk_server.specs.Serving.{State, IsInTurn, IsServing}
 use Rattle.desk_answers.specs.Stored.{stored}
 use Rattle.message_machine.specs.Kept.{Keeping, none_kept}
 use Rattle.bts_jobs.specs.Endings.{end_of_script, end_of_server, end_of_message}
-use Rattle.desk_lines.specs.Lines.{lines_of}
+use Rattle.desk_lines.specs.Lines.{lines_of, is_feed}
 use Rattle.line_words.specs.Ids.{IsId}
 use Rattle.desk_messages.specs.declared.message.Received.{Received}
 use Rattle.desk_repeats.specs.Once.{IsOnce, faults_after_once}
@@ -143,6 +144,12 @@ with_feeds (line ∷ lines) = 10 ∷ line ++ with_feeds lines
 abbrev pub message_text : List (List ℕ) → List ℕ
 message_text [] = []
 message_text (line ∷ lines) = line ++ with_feeds lines
+
+-- a line that isn't empty, and has no line feed and no carriage return
+pub record IsPlainLine (line : List ℕ) : Type 0 where
+  pub some : line ≢ []
+  pub feeds : list_any is_feed line ≡ false
+  pub returns : list_any (λ c. c == 13) line ≡ false
 
 -- what is written for a message with an id that came to this, and how its job ends
 abbrev pub TellsOnce : List ℕ → Result Received OnceFault → Option (List ℕ) → Option (List ℕ) → JobEnd → Type 0
