@@ -1,5 +1,5 @@
 -- What the steps of a change come to together.
-use Rattle.std.proofs.Common.{◌≡◌, ◌≢◌, List, Result, Ok, sym, ap, subst, ◌∙◌}
+use Rattle.std.proofs.Common.{◌≡◌, List, Result, Ok, sym, ap, subst, ◌∙◌}
 use Rattle.std.specs.Prelude.{⊤}
 use Rattle.version_nodes.specs.Trees.{Ancestry}
 use Rattle.bug_record.specs.declared.command.Change.{Change}
