@@ -1,61 +1,19 @@
 -- Links that are put in one after another, and the tree that they make.
-use Rattle.std.proofs.Common.{◌≡◌, ◌≢◌, ℕ, suc, zero, ◌+◌, ◌<◌, ◌≤◌, length, get_or, drop, map, option_map, List, [], ◌∷◌, Option, Some, None, Result, Ok, Err, IfOk, IfErr, refl, sym, ap, subst, ◌∙◌, arith}
+use Rattle.std.proofs.Common.{◌≡◌, ◌≢◌, ℕ, suc, zero, ◌+◌, ◌<◌, ◌≤◌, length, get_or, drop, map, List, [], ◌∷◌, Option, Some, None, Result, Ok, Err, IfOk, IfErr, refl, sym, ap, subst, ◌∙◌, arith}
 use Rattle.std.specs.Prelude.{⊤}
 use Rattle.std.specs.List.{AllByRecursion}
 use Rattle.std.specs.Option.{option_and_then}
-use Rattle.std.specs.Str.{IsUtf8}
-use Rattle.sqlite.specs.Order.{Row, column}
+use Rattle.sqlite.specs.Order.{Row}
 use Rattle.sqlite.specs.State.{State}
-use Rattle.sqlite.specs.Values.{or_null}
-use Rattle.sqlite.specs.declared.types.Value.TheVariants.{Text}
-use Rattle.version_nodes.specs.Nodes.{Node, IsNode}
+use Rattle.version_nodes.specs.Nodes.{Node}
 use Rattle.version_nodes.specs.Trees.{Ancestry}
 use Rattle.ancestry.specs.Links.{linked, linked_all}
-use Rattle.bug_record.specs.Texts.{IfGiven}
 use Rattle.bug_record.specs.declared.outcome.StoreFault.{StoreFault}
 use Rattle.bug_record.specs.declared.outcome.StoreFault.TheVariants.{Foreign}
 use Rattle.desk_content.specs.Content.{Content}
 use Rattle.desk_schema.specs.Steps.{seen, Goes, Acts, Serves}
-use Rattle.desk_schema.proofs.NodeTexts.{name_utf8}
 use Rattle.desk_schema.proofs.TableQueries.{next_at}
 use Rattle.desk_rows.specs.Links.{link_row, IsLink}
-
--- ---- the parent in a row
-
-pub source_cell : (p : Option Node) → or_null (λ (v : Node). Text v.source) p ≡ or_null Text (option_map (λ (v : Node). v.source) p)
-source_cell None = refl
-source_cell (Some p) = refl
-
-pub no_parent : (p : Option Node) → ◌≡◌ {A = Option (List ℕ)} None (option_map (λ (v : Node). v.source) p) → None ≡ p
-no_parent None h = refl
-no_parent (Some p) h = absurd cc
-
-pub some_parent : (p : Option Node) (s : List ℕ) → Some s ≡ option_map (λ (v : Node). v.source) p → (q : Node) × (p ≡ Some q)
-some_parent None s h = absurd cc
-some_parent (Some q) s h = (q, refl)
-
-pub parent_utf8 : (p : Option Node) → IfGiven IsNode p → IfGiven IsUtf8 (option_map (λ (v : Node). v.source) p)
-parent_utf8 None h = tt
-parent_utf8 (Some p) h = name_utf8 p.source h.source
-
--- a parent whose source stands in the row is there, with its version
-pub record IsParent (row : Row) (p : Option Node) : Type 0 where
-  pub parent : Node
-  pub is : p ≡ Some parent
-  pub valid : IsNode parent
-  pub source : column row 2 ≡ Text parent.source
-  pub version : column row 3 ≡ Text parent.version
-
-pub parent_there : (row : Row) (l : Node × Option Node) (s : List ℕ) → IsLink l → row ≡ link_row l → Some s ≡ option_map (λ (v : Node). v.source) l.1 → IsParent row l.1
-parent_there row l s valid is given =
-    let there = some_parent l.1 s given in
-    record {
-      parent = there.0;
-      is = there.1;
-      valid = subst (IfGiven IsNode) there.1 valid.parent;
-      source = ap (λ r. column r 2) is ∙ ap (or_null (λ (v : Node). Text v.source)) there.1;
-      version = ap (λ r. column r 3) is ∙ ap (or_null (λ (v : Node). Text v.version)) there.1;
-    }
 
 -- ---- one row after another
 

@@ -9,8 +9,9 @@ ghost use Rattle.bug_record.specs.declared.outcome.StoreFault.TheVariants.{Forei
 ghost use Rattle.desk_schema.specs.Steps.{Acts, Reads, Serves};
 ghost use Rattle.desk_rows.specs.Links.{link_row, IsLink, AreLinksOf};
 
+use crate::outcomes::maybe_node_at;
 use bug_record::StoreFault;
-use desk_schema::{maybe_text_at, node_at, told};
+use desk_schema::{node_at, told};
 use nearest_marks::Family;
 use sqlite::{Alter, Row, Transaction};
 use std::alloc::Global;
@@ -33,13 +34,7 @@ fn parent_in(alloc: Global, row: &Row) -> Result<Option<Node>, StoreFault>
     ensures value { (l : SeenNode × Option SeenNode) → IsLink l → row.now ≡ link_row l → IfOk result (λ parent. parent ≡ l.1) }
     ensures sure { (l : SeenNode × Option SeenNode) → IsLink l → row.now ≡ link_row l → IfErr result (λ fault. fault ≢ Foreign) }
 {
-    match maybe_text_at(alloc, row, 2)? {
-        None => Ok(None),
-        Some(_) => match node_at(alloc, row, 2) {
-            Ok(parent) => Ok(Some(parent)),
-            Err(fault) => Err(fault),
-        },
-    }
+    maybe_node_at(alloc, row, 2)
 }
 
 // Puts in a node with its parent, or with none.

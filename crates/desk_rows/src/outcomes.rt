@@ -90,7 +90,7 @@ fn outcome_rows<S: Alter>(tx: &mut Transaction<'_, S>, id: &str) -> Result<Vec<R
 
 // The node whose source stands in a cell, counted from 0, and its version in the next one, if there
 // is one.
-fn maybe_node_at(alloc: Global, row: &Row, at: usize) -> Result<Option<Node>, StoreFault>
+pub(crate) fn maybe_node_at(alloc: Global, row: &Row, at: usize) -> Result<Option<Node>, StoreFault>
     requires { at < 100 }
     ensures value { (v : Option SeenNode) → IfGiven IsNode v → column row.now at ≡ or_null (λ n. TextCell n.source) v →
         column row.now (at + 1) ≡ or_null (λ n. TextCell n.version) v → IfOk result (λ node. node ≡ v) }

@@ -8,12 +8,12 @@ ghost use Rattle.desk_schema.specs.Steps.{Acts, PlaysAll, Reads, Serves};
 ghost use Rattle.desk_writes.specs.Plans.{IsPlan, IsPlanOf, ArePlans, cleared_edits, put_edits};
 ghost use Rattle.bug_record.specs.declared.outcome.StoreFault.TheVariants.{Foreign};
 
-use crate::parameters::parameter;
 use crate::play::play_all;
 use crate::staying::stay_plan;
 use bug_record::{Change, SetImage, StoreFault};
 use desk_content::{RowEdits, key_of, row_edits};
 use desk_rows::{read_next, write_next};
+use desk_schema::parameter;
 use nearest_marks::Family;
 use set_rows::{Marks, read_marks};
 use sqlite::{Alter, Transaction};

@@ -5,9 +5,9 @@ ghost use Rattle.sqlite.specs.Held.{state};
 ghost use Rattle.desk_content.specs.declared.edit.Edit.TheVariants.{DropFields, DropMember, DropMarks, DropBlockers, DropAffects, DropNear};
 ghost use Rattle.desk_schema.specs.Steps.{Plays};
 
-use crate::parameters::parameter;
 use bug_record::StoreFault;
 use desk_rows::clear_near;
+use desk_schema::parameter;
 use set_rows::{clear_affected, clear_blockers, clear_bug, clear_fields, clear_marks};
 use sqlite::{Alter, Transaction};
 

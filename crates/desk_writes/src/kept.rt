@@ -8,10 +8,10 @@ ghost use Rattle.desk_schema.specs.Steps.{Reads, Serves};
 ghost use Rattle.bug_record.specs.declared.outcome.Outcome.TheVariants.{Changed};
 ghost use Rattle.bug_record.specs.declared.outcome.StoreFault.TheVariants.{Foreign};
 
-use crate::parameters::parameter;
 use bug_record::{Outcome, Sequence, StoreFault};
 use desk_content::{SentMessage, ToldOutcome};
 use desk_rows::{read_message, read_outcome_numbers, read_outcomes};
+use desk_schema::parameter;
 use message_machine::{Kept, copy_outcome};
 use sqlite::{Alter, Transaction};
 use std::alloc::Global;

@@ -11,7 +11,6 @@ mod keeping;
 mod kept;
 mod missing;
 mod new_rows;
-mod parameters;
 mod play;
 mod puts;
 mod staying;

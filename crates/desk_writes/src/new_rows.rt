@@ -1,34 +1,22 @@
 //! The rows of nearest marks of one node that are not there yet.
 
-ghost use Rattle.std.specs.Prelude.{◌≡◌, ◌≢◌, ◌++◌, [], ◌∷◌, is_some, IfOk, IfErr, OnOk};
+ghost use Rattle.std.specs.Prelude.{◌≡◌, ◌++◌, [], ◌∷◌, is_some, IfOk, OnOk};
 ghost use Rattle.std.specs.Ordering.{nat_cmp};
 ghost use Rattle.std.specs.List.Sorted.{IsStrictlySortedBy};
 ghost use Rattle.std.specs.Map.{keys_of};
 ghost use Rattle.sqlite.specs.Held.{state};
-ghost use Rattle.bug_record.specs.declared.outcome.StoreFault.TheVariants.{Foreign};
 ghost use Rattle.branch_rows.specs.Missing.{set_near, new_rows};
 ghost use Rattle.desk_schema.specs.Steps.{Reads};
 
 use bug_record::StoreFault;
 use desk_content::SetNear;
+use desk_schema::parameter;
 use nearest_marks::{Near, NearRow};
 use set_rows::read_near_kind;
 use sqlite::{Alter, Transaction};
 use std::alloc::AllocError;
 use std::collections::BTreeMap;
 use version_nodes::Node;
-
-// A key as a statement takes it: there is no room for a larger one in the tables, and no set has
-// one.
-fn parameter(key: u64) -> Result<u32, StoreFault>
-    ensures value { IfOk result (λ k. k ≡ key) }
-    ensures sure { IfErr result (λ fault. fault ≢ Foreign) }
-{
-    match u32::try_from(key) {
-        Ok(key) => Ok(key),
-        Err(_) => Err(StoreFault::Full),
-    }
-}
 
 // Whether the set of the key has a row at the node.
 fn has_row<S: Alter>(tx: &mut Transaction<'_, S>, key: u64, node: &Node) -> Result<bool, StoreFault>

@@ -5,10 +5,10 @@ ghost use Rattle.sqlite.specs.Held.{state};
 ghost use Rattle.desk_content.specs.declared.edit.Edit.TheVariants.{PutFields, PutMember, PutMark, PutBlocker, PutAffects, PutNear, PutOutcome, PutOutcomeNumber};
 ghost use Rattle.desk_schema.specs.Steps.{Plays};
 
-use crate::parameters::parameter;
 use bug_record::{Member, Outcome, StoreFault};
 use desk_content::SetFields;
 use desk_rows::{add_near, add_outcome, add_outcome_number};
+use desk_schema::parameter;
 use nearest_marks::Near;
 use set_rows::{add_affected, add_blocker, add_bug, add_fields, add_mark};
 use sqlite::{Alter, Transaction};

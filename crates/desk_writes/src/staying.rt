@@ -6,9 +6,9 @@ ghost use Rattle.bug_record.specs.declared.outcome.StoreFault.TheVariants.{Forei
 ghost use Rattle.desk_schema.specs.Steps.{Reads};
 ghost use Rattle.desk_writes.specs.Plans.{IsStay, IsStayOf, IsStayPlan};
 
-use crate::parameters::parameter;
 use bug_record::{Member, Sequence, SetImage, StoreFault};
 use desk_content::{Edit, key_of, stay_edits};
+use desk_schema::parameter;
 use nearest_marks::Family;
 use set_rows::{Marks, read_marks, read_members};
 use sqlite::{Alter, Transaction};
