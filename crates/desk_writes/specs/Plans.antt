@@ -1,5 +1,5 @@
 -- The edits of images, as the marks stand before a change.
-use Rattle.std.specs.Prelude.{◌≡◌, List, [], ◌∷◌, flat_map, ⊤}
+use Rattle.std.specs.Prelude.{◌≡◌, false, List, [], ◌∷◌, flat_map, ⊤}
 use Rattle.version_nodes.specs.Nodes.{Node}
 use Rattle.version_nodes.specs.Trees.{Ancestry}
 use Rattle.bug_record.specs.declared.bug.SetImage.{SetImage}
@@ -14,7 +14,7 @@ use Rattle.desk_content.specs.declared.images.RowEdits.{RowEdits}
 -- the edits that put an image, where these marks stand under its key
 pub record IsPlan (t : Ancestry) (found fixed : List Node) (i : SetImage) (plan : RowEdits) : Type 0 where
   pub cleared : (c : Content) → edited_all plan.cleared c ≡ without_image (same_marks i found fixed) i c
-  pub put : (c : Content) → c.nodes ≡ t → IsGoodImage i → IsCleared (same_marks i found fixed) i c → edited_all plan.put c ≡ with_image i c
+  pub put : (c : Content) → (same_marks i found fixed ≡ false → c.nodes ≡ t) → IsGoodImage i → IsCleared (same_marks i found fixed) i c → edited_all plan.put c ≡ with_image i c
   pub free : (c : Content) → IsGoodImage i → AreFree plan.cleared c
   pub put_free : (c : Content) → IsGoodImage i → IsCleared (same_marks i found fixed) i c → AreFree plan.put c
 

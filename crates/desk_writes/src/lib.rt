@@ -14,8 +14,10 @@ mod new_rows;
 mod parameters;
 mod play;
 mod puts;
+mod stay;
 
 pub use branch::put_branch;
 pub use change::put_change;
 pub use keeping::put_kept;
 pub use kept::read_kept;
+pub use stay::read_marks_stay;

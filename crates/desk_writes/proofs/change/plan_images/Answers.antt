@@ -1,5 +1,4 @@
 use Rattle.std.proofs.Common.{◌≡◌, Err, take, ◌∙◌, rules}
-use Rattle.std.specs.Prelude.{⊤}
 use Rattle.sqlite.specs.Held.{state}
 use Rattle.desk_schema.proofs.ReadSteps.{known_then, known_stop, known_weaker}
 use Rattle.desk_writes.specs.Plans.{IsPlanOf, ArePlans}
