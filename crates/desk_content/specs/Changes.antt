@@ -2,6 +2,7 @@
 -- image are put.
 -- This project's own rule.
 use Rattle.std.specs.Prelude.{Bool, List, [], ◌∷◌}
+use Rattle.std.specs.List.{list_all}
 use Rattle.bug_record.specs.Sets.{Each}
 use Rattle.bug_record.specs.Images.{AreApart, HasMember, FitsDesk}
 use Rattle.bug_record.specs.declared.bug.SetImage.{SetImage}
@@ -14,6 +15,10 @@ use Rattle.desk_content.specs.Images.{same_marks, without_image, with_image}
 -- whether the image's marks stand under its key already
 abbrev pub keeps_marks : Content → SetImage → Bool
 keeps_marks c i = same_marks i (c.found (key_of i)) (c.fixed (key_of i))
+
+-- whether the marks of all images do
+abbrev pub all_stay : Content → List SetImage → Bool
+all_stay c is = list_all (keeps_marks c) is
 
 -- without the images' rows; the marks that stay are those that stood before
 abbrev pub without_images : Content → List SetImage → Content → Content

@@ -1,6 +1,6 @@
 //! What is cleared and what is put for the image of a set.
 
-ghost use Rattle.std.specs.Prelude.{◌≡◌, ◌++◌, List, OnOk, IfOk};
+ghost use Rattle.std.specs.Prelude.{◌≡◌, ◌++◌, false, List, OnOk, IfOk};
 ghost use Rattle.version_nodes.specs.Nodes.{Node};
 ghost use Rattle.bugs_in_memory.specs.Keys.{key_of};
 ghost use Rattle.nearest_marks.specs.Nearest.{nearest_of, row_at, once};
@@ -205,8 +205,8 @@ pub fn key_of(image: &SetImage) -> u64
     }
 }
 
-// Whether these are the image's marks.
-pub(crate) fn has_marks(image: &SetImage, found: &[Node], fixed: &[Node]) -> bool
+/// Whether these are the marks of an image.
+pub fn has_marks(image: &SetImage, found: &[Node], fixed: &[Node]) -> bool
     ensures { result ≡ same_marks image.now found.now fixed.now }
 {
     let shared = image.shared.fields();
@@ -242,7 +242,8 @@ fn put_set(alloc: Global, key: u64, image: &SetImage) -> Result<Sequence<Edit>, 
 
 /// What is cleared and what is put for the image of a set, where these are the marks that stand
 /// under its key, the number of its first bug.
-/// Where they are the image's marks, they and their nearest marks stay as they are.
+/// Where they are the image's marks, they and their nearest marks stay as they are, whatever the
+/// tree is.
 /// The edits are free, where the image is one of a sound desk and its rows are cleared before they
 /// are put.
 /// The error is that there was no memory.
@@ -256,7 +257,8 @@ pub fn row_edits(
 ) -> Result<RowEdits, AllocError>
     ensures cleared { IfOk result (λ edits. (c : Content) →
         edited_all edits.cleared c ≡ without_image (same_marks image.now found.now fixed.now) image.now c) }
-    ensures put { IfOk result (λ edits. (c : Content) → c.nodes ≡ family.now → IsGoodImage image.now →
+    ensures put { IfOk result (λ edits. (c : Content) →
+        (same_marks image.now found.now fixed.now ≡ false → c.nodes ≡ family.now) → IsGoodImage image.now →
         IsCleared (same_marks image.now found.now fixed.now) image.now c → edited_all edits.put c ≡ with_image image.now c) }
     ensures free { IfOk result (λ edits. (c : Content) → IsGoodImage image.now → AreFree edits.cleared c) }
     ensures put_free { IfOk result (λ edits. (c : Content) → IsGoodImage image.now →

@@ -19,7 +19,7 @@ pub use encodings::{
     flag_of_number, kind_of_number, number_of_flag, number_of_kind, number_of_tags,
     severity_of_number, tags_of_number,
 };
-pub use images::{RowEdits, key_of, row_edits};
+pub use images::{RowEdits, has_marks, key_of, row_edits};
 pub use keeping::keep_edits;
 pub use kinds_at_nodes::kind_here;
 pub use laws::{

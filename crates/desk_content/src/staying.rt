@@ -1,6 +1,6 @@
 //! What goes and what comes for the image of a set whose bugs stay.
 
-ghost use Rattle.std.specs.Prelude.{◌≡◌, IfOk};
+ghost use Rattle.std.specs.Prelude.{◌≡◌, false, IfOk};
 ghost use Rattle.desk_content.specs.Content.{Content};
 ghost use Rattle.desk_content.specs.Edits.{edited_all};
 ghost use Rattle.desk_content.specs.Free.{AreFree};
@@ -29,7 +29,7 @@ fn drop_key(alloc: Global, keeps: bool, key: u64) -> Result<Sequence<Edit>, Allo
 
 /// What goes and what comes for the image of a set whose bugs stay as they are, titles and
 /// submitters among it, where these are the marks that stand under its key.
-/// Where they are the image's marks, they and their nearest marks stay too.
+/// Where they are the image's marks, they and their nearest marks stay too, whatever the tree is.
 /// The edits make what clearing all rows of the image and putting them again would make, and are
 /// free, where the image is one of a sound desk.
 /// The error is that there was no memory.
@@ -41,7 +41,8 @@ pub fn stay_edits(
     found: &[Node],
     fixed: &[Node],
 ) -> Result<Sequence<Edit>, AllocError>
-    ensures edits { IfOk result (λ edits. (c : Content) → c.nodes ≡ family.now → IsGoodImage image.now → Stays image.now c →
+    ensures edits { IfOk result (λ edits. (c : Content) →
+        (same_marks image.now found.now fixed.now ≡ false → c.nodes ≡ family.now) → IsGoodImage image.now → Stays image.now c →
         IsCleared (same_marks image.now found.now fixed.now) image.now (without_image (same_marks image.now found.now fixed.now) image.now c) →
         edited_all edits c ≡ with_image image.now (without_image (same_marks image.now found.now fixed.now) image.now c)) }
     ensures free { IfOk result (λ edits. (c : Content) → IsGoodImage image.now → Stays image.now c →

@@ -1,5 +1,5 @@
 -- What a question and a change leave of what is remembered.
-use Rattle.std.proofs.Common.{◌≡◌, ◌≢◌, List, [], ◌∷◌, ◌++◌, Option, None, Some, is_some, false, true≢false, Result, Ok, Err, IfOk, IfErr, IfSome, IsTrue, arith, refl, sym, ap, subst, ◌∙◌}
+use Rattle.std.proofs.Common.{◌≡◌, ◌≢◌, List, [], ◌∷◌, ◌++◌, length, Option, None, Some, is_some, true, false, true≢false, Result, Ok, Err, IfOk, IfErr, OnOk, IfSome, IsTrue, arith, refl, sym, ap, subst, ◌∙◌}
 use Rattle.std.specs.List.{AllByRecursion}
 use Rattle.sqlite.specs.Held.{Held, state}
 use Rattle.sqlite.specs.State.{HasCleanDisk, Survives}
@@ -11,7 +11,7 @@ use Rattle.bug_record.specs.declared.bug.SetImage.{SetImage}
 use Rattle.bug_record.specs.declared.command.Change.{Change}
 use Rattle.bug_record.specs.declared.outcome.StoreFault.{StoreFault}
 use Rattle.bug_record.specs.declared.outcome.StoreFault.TheVariants.{Foreign}
-use Rattle.desk_content.specs.Changes.{FitsContent, changed, cleared_for}
+use Rattle.desk_content.specs.Changes.{FitsContent, all_stay, changed, cleared_for}
 use Rattle.desk_content.specs.Content.{Content}
 use Rattle.desk_content.specs.Kept.{IsKeptContent}
 use Rattle.desk_content.specs.View.{desk_in, keeping_in}
@@ -20,6 +20,7 @@ use Rattle.desk_content.proofs.ClosedLemmas.{put_nodes, no_nodes}
 use Rattle.desk_content.proofs.KeepLemmas.{change_keeping}
 use Rattle.desk_schema.specs.Steps.{seen}
 use Rattle.desk_reads.specs.Asked.{IsAskedFor}
+use Rattle.desk_writes.specs.Needs.{HasTree}
 use Rattle.desk_store.specs.Store.{Answers}
 use Rattle.desk_tables.specs.Kept.{content_seen, desk_seen, keeping_seen, IsKept}
 use Rattle.desk_tables.specs.Shown.{HasContent, AreTablesOf}
@@ -95,47 +96,60 @@ abbrev pub refused : StoreFault → Result (Unit {0}) StoreFault
 refused fault = Err fault
 
 -- the change fits what was seen, over this tree
-abbrev pub FitsOver : Ancestry → Change → Content → Type 0
-FitsOver t change c = IsKeptContent c × FitsContent c change × (c.nodes ≡ t)
+abbrev pub FitsOver : Option Ancestry → Change → Content → Type 0
+FitsOver t change c = IsKeptContent c × FitsContent c change × HasTree t c change
 
-module _ {S : Type 0} (g : store.Ghosts S) (last begun : List (Held S)) (old new : Held S) (t : Ancestry) (change : Change) where
-  fits_here : IsKept g last begun old (Some t) → FitsContent (content_seen g last) change → FitsOver t change (content_seen g last)
-  fits_here was fits = (was.content, fits, sym was.tree)
+-- over the same tree, if there is one
+pub over_same : {S : Type 0} (g : store.Ghosts S) (old new : Held S) (r : Result (Unit {0}) StoreFault) (change : Change) (t u : Option Ancestry) → t ≡ u
+    → IsChanged (state g old) (state g new) r (FitsOver t change) (λ c. changed c change) → IsChanged (state g old) (state g new) r (FitsOver u change) (λ c. changed c change)
+over_same g old new r change t u same = subst (λ v. IsChanged (state g old) (state g new) r (FitsOver v change) (λ c. changed c change)) same
+
+-- what is said of a tree that was read is said of the nodes after a change, which are the same
+pub same_tree : (t : Option Ancestry) (ns ms : Ancestry) → ns ≡ ms → IfSome t (λ u. u ≡ ns) → IfSome t (λ u. u ≡ ms)
+same_tree t ns ms same is = subst (λ (k : Ancestry). IfSome t (λ u. u ≡ k)) same is
+
+module _ {S : Type 0} (g : store.Ghosts S) (last begun : List (Held S)) (old new : Held S) (t : Option Ancestry) (change : Change) where
+  -- what is asked of a change
+  abbrev Asked : Type 0
+  Asked = FitsContent (content_seen g last) change × HasTree t (content_seen g last) change
+
+  fits_here : IsKept g last begun old t → Asked → FitsOver t change (content_seen g last)
+  fits_here was fits = (was.content, fits.0, fits.1)
 
   -- it was made, and after it the connection was noted anew
   module _ (last' begun' : List (Held S)) (changes : IsChanged (state g old) (state g new) made (FitsOver t change) (λ c. changed c change)) (is : last' ≡ new ∷ []) (none : begun' ≡ []) where
-    says : IsKept g last begun old (Some t) → FitsContent (content_seen g last) change → HasCleanDisk (state g new) → content_seen g last' ≡ changed (content_seen g last) change
+    says : IsKept g last begun old t → Asked → HasCleanDisk (state g new) → content_seen g last' ≡ changed (content_seen g last) change
     says was fits clean = ap (content_seen g) is ∙ (changes.ok (content_seen g last) clean was.now (fits_here was fits)).2
 
-    pub taken_serves : IsKept g last begun old (Some t) → FitsContent (content_seen g last) change → HasCleanDisk (state g new) → IsTrue (state g new).is_open
+    pub taken_serves : IsKept g last begun old t → Asked → HasCleanDisk (state g new) → IsTrue (state g new).is_open
     taken_serves was fits clean = (changes.ok (content_seen g last) clean was.now (fits_here was fits)).0
 
-    pub taken_kept : IsKept g last begun old (Some t) → FitsContent (content_seen g last) change → HasCleanDisk (state g new) → IsKept g last' begun' new (Some t)
+    pub taken_kept : IsKept g last begun old t → Asked → HasCleanDisk (state g new) → IsKept g last' begun' new t
     taken_kept was fits clean =
         let c = content_seen g last in
         let now = says was fits clean in
-        subst (λ b. IsKept g last' b new (Some t)) (sym none) (record {
+        subst (λ b. IsKept g last' b new t) (sym none) (record {
           now = subst (λ l. HasContent (content_seen g l) (state g new)) (sym is) (λ clean' open'. ((changes.ok c clean was.now (fits_here was fits)).1, refl));
           before = tt;
-          content = subst IsKeptContent (sym now) (change_kept c change was.content fits);
-          tree = was.tree ∙ sym (put_nodes change.images (cleared_for c change) ∙ no_nodes c change.images c) ∙ sym (ap (λ (k : Content). k.nodes) now);
+          content = subst IsKeptContent (sym now) (change_kept c change was.content fits.0);
+          tree = same_tree t c.nodes (content_seen g last').nodes (sym (put_nodes change.images (cleared_for c change) ∙ no_nodes c change.images c) ∙ sym (ap (λ (k : Content). k.nodes) now)) was.tree;
         })
 
-    pub taken_desk : IsKept g last begun old (Some t) → FitsContent (content_seen g last) change → HasCleanDisk (state g new) → desk_seen g last' ≡ put (desk_seen g last) change
-    taken_desk was fits clean = ap desk_in (says was fits clean) ∙ change_desk (content_seen g last) change was.content fits
+    pub taken_desk : IsKept g last begun old t → Asked → HasCleanDisk (state g new) → desk_seen g last' ≡ put (desk_seen g last) change
+    taken_desk was fits clean = ap desk_in (says was fits clean) ∙ change_desk (content_seen g last) change was.content fits.0
 
-    pub taken_keeping : IsKept g last begun old (Some t) → FitsContent (content_seen g last) change → HasCleanDisk (state g new) → keeping_seen g last' ≡ keeping_seen g last
+    pub taken_keeping : IsKept g last begun old t → Asked → HasCleanDisk (state g new) → keeping_seen g last' ≡ keeping_seen g last
     taken_keeping was fits clean = ap keeping_in (says was fits clean) ∙ change_keeping (content_seen g last) change
 
   -- it was not made
-  pub stayed : (fault : StoreFault) → IsChanged (state g old) (state g new) (refused fault) (FitsOver t change) (λ c. changed c change) → IsKept g last begun old (Some t) → IsKept g last begun new (Some t)
+  pub stayed : (fault : StoreFault) → IsChanged (state g old) (state g new) (refused fault) (FitsOver t change) (λ c. changed c change) → IsKept g last begun old t → IsKept g last begun new t
   stayed fault changes was = record { now = changes.err (content_seen g last) was.now; before = was.before; content = was.content; tree = was.tree }
 
   pub crashed : (r : Result (Unit {0}) StoreFault) → IsChanged (state g old) (state g new) r (FitsOver t change) (λ c. changed c change)
-      → (HasCleanDisk (state g new) → IsKept g last begun old (Some t) × FitsContent (content_seen g last) change) → Survives (state g old) (state g new) (AreTablesOf (changed (content_seen g last) change))
+      → (HasCleanDisk (state g new) → IsKept g last begun old t × Asked) → Survives (state g old) (state g new) (AreTablesOf (changed (content_seen g last) change))
   crashed r changes both = changes.crash (content_seen g last) (λ clean. let b = both clean in (b.0.now, fits_here b.0 b.1))
 
-  pub never_foreign : (fault : StoreFault) → IsChanged (state g old) (state g new) (refused fault) (FitsOver t change) (λ c. changed c change) → IsKept g last begun old (Some t) → FitsContent (content_seen g last) change
+  pub never_foreign : (fault : StoreFault) → IsChanged (state g old) (state g new) (refused fault) (FitsOver t change) (λ c. changed c change) → IsKept g last begun old t → Asked
       → HasCleanDisk (state g new) → fault ≢ Foreign
   never_foreign fault changes was fits clean = changes.sure (content_seen g last) clean was.now (fits_here was fits)
 
@@ -169,3 +183,25 @@ tree_seen g last begun conn family t is was = sym (subst (λ f. IfSome f (λ t. 
 -- a set of the desk, in its tree
 pub is_asked : (t : Ancestry) (i : SetImage) (c : Content) → IsKeptContent c → HasMember i → IsSetOf (desk_in c) i → c.nodes ≡ t → IsAskedFor t i c
 is_asked t i c kept some set nodes = record { image = record { kept = kept; some = some; set = set }; nodes = nodes }
+
+-- ---- the tree for a change
+
+-- one that was read
+pub tree_there : {S : Type 0} (g : store.Ghosts S) (last begun : List (Held S)) (conn : Held S) (family : Option Ancestry) (change : Change) → is_some family ≡ true → IsKept g last begun conn family → HasTree family (content_seen g last) change
+tree_there g last begun conn None change some was = absurd (true≢false (sym some))
+tree_there g last begun conn (Some t) change some was = sym was.tree
+
+-- none, where no mark changes
+pub tree_spared : (family : Option Ancestry) (c : Content) (change : Change) → is_some family ≡ false → all_stay c change.images ≡ true → HasTree family c change
+tree_spared None c change none stay = stay
+tree_spared (Some t) c change none stay = absurd (true≢false none)
+
+pub tree_read : {S : Type 0} (g : store.Ghosts S) (last begun : List (Held S)) (conn : Held S) (family : Option Ancestry) (change : Change) (r : Result (Unit {0}) StoreFault) → OnOk r (is_some family ≡ true) → IsKept g last begun conn family
+    → OnOk r (HasTree family (content_seen g last) change)
+tree_read g last begun conn family change (Ok done) some was = tree_there g last begun conn family change some was
+tree_read g last begun conn family change (Err fault) some was = tt
+
+-- no image has other marks where there is none
+pub none_change : (is : List SetImage) (c : Content) → length is ≡ 0 → true ≡ all_stay c is
+none_change [] c none = refl
+none_change (i ∷ is) c none = absurd cc

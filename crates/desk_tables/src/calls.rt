@@ -13,6 +13,7 @@ ghost use Rattle.desk_store.specs.Store.{IsImageOf, AreWaitingOn, AreListed, IsO
 ghost use Rattle.desk_reads.specs.Asked.{IsAskedFor};
 ghost use Rattle.branch_rows.specs.Grown.{IsGrown, unknown_of, roots_of, changed_of};
 ghost use Rattle.desk_content.specs.Branches.{with_nodes};
+ghost use Rattle.desk_writes.specs.Needs.{HasTree, HasTreeIfAny};
 ghost use Rattle.desk_migrations.specs.Names.{no_tables};
 ghost use Rattle.desk_tables.specs.Transactions.{IsAsked, IsChanged, IsTaken, IsMade, IsCarried, AsksSchema, Ends};
 
@@ -214,11 +215,12 @@ pub(crate) fn ask_kept<S: Alter>(
     answer
 }
 
-// Keeps an outcome, and carries its change out, if there is one.
+// Keeps an outcome, and carries its change out, if there is one; the tree may be missing where no
+// mark changes.
 pub(crate) fn keep_line<S: Alter>(
     alloc: Global,
     conn: &mut Connection<S>,
-    family: &Family,
+    family: Option<&Family>,
     id: &str,
     from: &str,
     message: &str,
@@ -230,7 +232,7 @@ pub(crate) fn keep_line<S: Alter>(
     ensures autocommit { conn.new.in_transaction ≡ false }
     ensures unlimited { conn.new.step_limit ≡ None }
     ensures changed { IsChanged (state S.Store conn.old) (state S.Store conn.new) result
-        (λ c. IsKeptContent c × MayBePut id.now from.now message.now outcome.now (option_copied change.entry) c × (c.nodes ≡ family.now))
+        (λ c. IsKeptContent c × MayBePut id.now from.now message.now outcome.now (option_copied change.entry) c × HasTreeIfAny (option_copied family.entry) c (option_copied change.entry))
         (λ c. kept_after id.now from.now message.now outcome.now (option_copied change.entry) c) }
 {
     let mut tx = conn.transaction();
@@ -238,11 +240,11 @@ pub(crate) fn keep_line<S: Alter>(
     finish(tx, done)
 }
 
-// Carries a change out.
+// Carries a change out; the tree may be missing where no mark changes.
 pub(crate) fn change_sets<S: Alter>(
     alloc: Global,
     conn: &mut Connection<S>,
-    family: &Family,
+    family: Option<&Family>,
     change: &Change,
 ) -> Result<(), StoreFault>
     requires autocommit { conn.old.in_transaction ≡ false }
@@ -250,7 +252,7 @@ pub(crate) fn change_sets<S: Alter>(
     ensures autocommit { conn.new.in_transaction ≡ false }
     ensures unlimited { conn.new.step_limit ≡ None }
     ensures changed { IsChanged (state S.Store conn.old) (state S.Store conn.new) result
-        (λ c. IsKeptContent c × FitsContent c change.now × (c.nodes ≡ family.now)) (λ c. changed c change.now) }
+        (λ c. IsKeptContent c × FitsContent c change.now × HasTree (option_copied family.entry) c change.now) (λ c. changed c change.now) }
 {
     let mut tx = conn.transaction();
     let done = put_change(alloc, &mut tx, family, change);

@@ -6,8 +6,9 @@ ghost use Rattle.sqlite.specs.State.{HasCleanDisk, Survives};
 ghost use Rattle.std.specs.Option.{option_copied};
 ghost use Rattle.bug_record.specs.Images.{HasMember, IsSetOf};
 ghost use Rattle.bug_record.specs.Texts.{IsText, IfGiven};
-ghost use Rattle.desk_content.specs.Changes.{FitsContent, changed};
+ghost use Rattle.desk_content.specs.Changes.{FitsContent, all_stay, changed};
 ghost use Rattle.desk_content.specs.Keeping.{kept_after};
+ghost use Rattle.desk_writes.specs.Needs.{HasTree, HasTreeIfAny};
 ghost use Rattle.desk_store.specs.Store.{Holds, Asks, Answers, Applies, Branches, Keeps, IsRefusal, IsOpenHead, no_faults};
 ghost use Rattle.bug_record.specs.declared.outcome.StoreFault.TheVariants.{Foreign};
 ghost use Rattle.desk_tables.specs.Kept.{content_seen, desk_seen, keeping_seen, MayKeep, IsKept};
@@ -16,6 +17,7 @@ ghost use Rattle.desk_tables.specs.Shown.{AreTablesOf, AreTablesAfter};
 use crate::calls::{ask_family, ask_open_head, change_sets, keep_line, take_nodes};
 use crate::counts::Counts;
 use crate::seen::Seen;
+use crate::stay::ask_marks_stay;
 use ancestry::BranchFault;
 use bug_record::{Change, Outcome, SetImage, StoreFault};
 use nearest_marks::Family;
@@ -118,9 +120,67 @@ impl<S: Alter> TableDesk<S> {
         Ok(())
     }
 
-    // Carries a change out over the tree that was read.
+    // Whether the marks of a change's images stand already.
+    fn ask_stay(&mut self, change: &Change) -> Result<bool, StoreFault>
+        ensures answer { Asks (λ d. IsKept S.Store d.last.values d.begun.values d.conn d.family) (λ d. HasCleanDisk (state S.Store d.conn)) self.old self.new
+            (self.new.last.values ≡ self.old.last.values) }
+        ensures sure { IsKept S.Store self.old.last.values self.old.begun.values self.old.conn self.old.family → HasCleanDisk (state S.Store self.new.conn) →
+            IfErr result (λ fault. fault ≢ Foreign) }
+        ensures stay { IsKept S.Store self.new.last.values self.new.begun.values self.new.conn self.new.family → HasCleanDisk (state S.Store self.new.conn) →
+            IfOk result (λ stay. stay ≡ all_stay (content_seen S.Store self.new.last.values) change.now.images) }
+        ensures last { self.new.last.values ≡ self.old.last.values }
+        ensures family { self.new.family ≡ self.old.family }
+        ensures survives { Survives (state S.Store self.old.conn) (state S.Store self.new.conn) (λ _. ⊥) }
+        ensures counts { self.new.counts ≡ self.old.counts }
+    {
+        self.begun = self.begun.and(&self.conn);
+        ask_marks_stay(self.alloc, &mut self.conn, change.images.as_slice())
+    }
+
+    // Reads the tree, where no call has read it yet and a mark changes.
+    fn load_for(&mut self, change: &Change) -> Result<(), StoreFault>
+        ensures answer { Asks (λ d. IsKept S.Store d.last.values d.begun.values d.conn d.family) (λ d. HasCleanDisk (state S.Store d.conn)) self.old self.new
+            (self.new.last.values ≡ self.old.last.values) }
+        ensures sure { IsKept S.Store self.old.last.values self.old.begun.values self.old.conn self.old.family → HasCleanDisk (state S.Store self.new.conn) →
+            IfErr result (λ fault. fault ≢ Foreign) }
+        ensures tree { IsKept S.Store self.new.last.values self.new.begun.values self.new.conn self.new.family → HasCleanDisk (state S.Store self.new.conn) →
+            OnOk result (HasTree self.new.family (content_seen S.Store self.new.last.values) change.now) }
+        ensures last { self.new.last.values ≡ self.old.last.values }
+        ensures survives { Survives (state S.Store self.old.conn) (state S.Store self.new.conn) (λ _. ⊥) }
+        ensures counts { self.new.counts ≡ self.old.counts }
+    {
+        if self.family.is_some() {
+            return Ok(());
+        }
+        let stay = self.ask_stay(change)?;
+        if stay {
+            return Ok(());
+        }
+        self.load()
+    }
+
+    // Reads the tree for the change of a line, if there is one.
+    fn load_for_line(&mut self, change: Option<&Change>) -> Result<(), StoreFault>
+        ensures answer { Asks (λ d. IsKept S.Store d.last.values d.begun.values d.conn d.family) (λ d. HasCleanDisk (state S.Store d.conn)) self.old self.new
+            (self.new.last.values ≡ self.old.last.values) }
+        ensures sure { IsKept S.Store self.old.last.values self.old.begun.values self.old.conn self.old.family → HasCleanDisk (state S.Store self.new.conn) →
+            IfErr result (λ fault. fault ≢ Foreign) }
+        ensures tree { IsKept S.Store self.new.last.values self.new.begun.values self.new.conn self.new.family → HasCleanDisk (state S.Store self.new.conn) →
+            OnOk result (HasTreeIfAny self.new.family (content_seen S.Store self.new.last.values) (option_copied change.entry)) }
+        ensures last { self.new.last.values ≡ self.old.last.values }
+        ensures survives { Survives (state S.Store self.old.conn) (state S.Store self.new.conn) (λ _. ⊥) }
+        ensures counts { self.new.counts ≡ self.old.counts }
+    {
+        match change {
+            Some(change) => self.load_for(change),
+            None => Ok(()),
+        }
+    }
+
+    // Carries a change out over the tree that was read, or over none where no mark changes.
     fn make(&mut self, change: &Change) -> Result<(), StoreFault>
-        requires loaded { is_some self.old.family ≡ true }
+        requires tree { IsKept S.Store self.old.last.values self.old.begun.values self.old.conn self.old.family → HasCleanDisk (state S.Store self.old.conn) →
+            HasTree self.old.family (content_seen S.Store self.old.last.values) change.now }
         requires fits { IsKept S.Store self.old.last.values self.old.begun.values self.old.conn self.old.family → HasCleanDisk (state S.Store self.old.conn) →
             FitsContent (content_seen S.Store self.old.last.values) change.now }
         ensures answer { Holds (λ d. IsKept S.Store d.last.values d.begun.values d.conn d.family) (λ d. HasCleanDisk (state S.Store d.conn)) self.old self.new
@@ -135,10 +195,7 @@ impl<S: Alter> TableDesk<S> {
             Survives (state S.Store self.old.conn) (state S.Store self.new.conn) (AreTablesOf (changed (content_seen S.Store self.old.last.values) change.now)) }
         ensures counts { self.new.counts ≡ self.old.counts }
     {
-        match &self.family {
-            Some(family) => change_sets(self.alloc, &mut self.conn, family, change)?,
-            None => return Err(StoreFault::Foreign),
-        }
+        change_sets(self.alloc, &mut self.conn, self.family.as_ref(), change)?;
         self.last = Seen::new().and(&self.conn);
         self.begun = Seen::new();
         Ok(())
@@ -160,7 +217,7 @@ impl<S: Alter> TableDesk<S> {
             Survives (state S.Store self.old.conn) (state S.Store self.new.conn) (AreTablesOf (changed (content_seen S.Store self.old.last.values) change.now)) }
         ensures counts { self.new.counts ≡ self.old.counts }
     {
-        self.load()?;
+        self.load_for(change)?;
         self.make(change)
     }
 
@@ -173,7 +230,8 @@ impl<S: Alter> TableDesk<S> {
         outcome: &Outcome,
         change: Option<&Change>,
     ) -> Result<(), StoreFault>
-        requires loaded { is_some self.old.family ≡ true }
+        requires tree { IsKept S.Store self.old.last.values self.old.begun.values self.old.conn self.old.family → HasCleanDisk (state S.Store self.old.conn) →
+            HasTreeIfAny self.old.family (content_seen S.Store self.old.last.values) (option_copied change) }
         requires sender { IsText from.now }
         requires fits { IsKept S.Store self.old.last.values self.old.begun.values self.old.conn self.old.family → HasCleanDisk (state S.Store self.old.conn) →
             IfGiven (FitsContent (content_seen S.Store self.old.last.values)) (option_copied change) }
@@ -192,19 +250,16 @@ impl<S: Alter> TableDesk<S> {
             (AreTablesOf (kept_after id.now from.now message.now outcome.now (option_copied change.entry) (content_seen S.Store self.old.last.values))) }
         ensures counts { self.new.counts ≡ self.old.counts }
     {
-        match &self.family {
-            Some(family) => keep_line(
-                self.alloc,
-                &mut self.conn,
-                family,
-                id,
-                from,
-                message,
-                outcome,
-                change,
-            )?,
-            None => return Err(StoreFault::Foreign),
-        }
+        keep_line(
+            self.alloc,
+            &mut self.conn,
+            self.family.as_ref(),
+            id,
+            from,
+            message,
+            outcome,
+            change,
+        )?;
         self.last = Seen::new().and(&self.conn);
         self.begun = Seen::new();
         Ok(())
@@ -237,7 +292,7 @@ impl<S: Alter> TableDesk<S> {
             (AreTablesOf (kept_after id.now from.now message.now outcome.now (option_copied change.entry) (content_seen S.Store self.old.last.values))) }
         ensures counts { self.new.counts ≡ self.old.counts }
     {
-        self.load()?;
+        self.load_for_line(change)?;
         self.keep_outcome(id, from, message, outcome, change)
     }
 

@@ -10,6 +10,7 @@ mod open_fault;
 mod opening;
 mod records;
 mod seen;
+mod stay;
 
 pub use desk::TableDesk;
 pub use open_fault::OpenFault;

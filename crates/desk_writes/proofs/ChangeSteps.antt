@@ -1,5 +1,5 @@
 -- What the steps of a change come to together.
-use Rattle.std.proofs.Common.{◌≡◌, List, Result, Ok, sym, ap, subst, ◌∙◌}
+use Rattle.std.proofs.Common.{◌≡◌, true≢false, List, Option, Some, None, Result, Ok, sym, ap, subst, ◌∙◌}
 use Rattle.std.specs.Prelude.{⊤}
 use Rattle.version_nodes.specs.Trees.{Ancestry}
 use Rattle.bug_record.specs.declared.command.Change.{Change}
@@ -13,20 +13,21 @@ use Rattle.desk_content.specs.Kept.{IsKeptContent}
 use Rattle.desk_content.specs.declared.images.RowEdits.{RowEdits}
 use Rattle.desk_schema.specs.Steps.{Acts, PlaysAll, Reads}
 use Rattle.desk_schema.proofs.StepLemmas.{done, failed, none, acts_stop, acts_then, acts_weaker}
+use Rattle.desk_writes.specs.Needs.{IsTreeFor, HasTree}
 use Rattle.desk_writes.specs.Plans.{ArePlans, cleared_edits, put_edits}
-use Rattle.desk_writes.proofs.PlanLemmas.{first_free, then_free, come_to}
+use Rattle.desk_writes.proofs.PlanLemmas.{all_over, first_free, then_free, come_to}
 
 module _ (t : Ancestry) (change : Change) where
   -- the change fits what the tables say, and the tree is theirs
   abbrev pub Fits : Content → Type 0
-  Fits c = IsKeptContent c × FitsContent c change × (c.nodes ≡ t)
+  Fits c = IsKeptContent c × FitsContent c change × IsTreeFor t c change
 
   abbrev pub IsMade : Content → Content → Type 0
-  IsMade c d = IsKeptContent c → FitsContent c change → c.nodes ≡ t → d ≡ changed c change
+  IsMade c d = IsKeptContent c → FitsContent c change → IsTreeFor t c change → d ≡ changed c change
 
   -- the sets of all images are written
   abbrev pub IsWritten : Content → Content → Type 0
-  IsWritten c d = IsKeptContent c → FitsContent c change → c.nodes ≡ t → d ≡ with_images change.images (cleared_for c change)
+  IsWritten c d = IsKeptContent c → FitsContent c change → IsTreeFor t c change → d ≡ with_images change.images (cleared_for c change)
 
   -- the images are planned, and what goes is gone
   abbrev pub IsCleared : List RowEdits → Content → Content → Type 0
@@ -36,8 +37,8 @@ module _ (t : Ancestry) (change : Change) where
   abbrev pub IsPut : List RowEdits → Content → Content → Type 0
   IsPut plans c d = ArePlans c t change.images plans × (d ≡ edited_all (put_edits plans) (edited_all (cleared_edits plans) c))
 
-  over : (c : Content) (plans : List RowEdits) → c.nodes ≡ t → ArePlans c t change.images plans → ArePlans c c.nodes change.images plans
-  over c plans is all = subst (λ tree. ArePlans c tree change.images plans) (sym is) all
+  over : (c : Content) (plans : List RowEdits) → IsTreeFor t c change → ArePlans c t change.images plans → ArePlans c c.nodes change.images plans
+  over c plans is all = all_over c t change.images plans is all
 
   module _ {A : Type 0} (items : A → List RowEdits) (plans : A) (old new : State) where
     abbrev planned : Result A StoreFault
@@ -69,3 +70,23 @@ module _ (t : Ancestry) (change : Change) where
   -- a step failed
   pub unmade : (old new : State) (fault : StoreFault) (P Q : Content → Content → Type 0) → Acts old new (failed fault) Fits (λ c d _. P c d) → Acts old new (failed fault) Fits (λ c d _. Q c d)
   unmade old new fault P Q one = acts_stop old new fault Fits Fits (λ c d _. P c d) (λ c d _. Q c d) (λ c fits. fits) one
+
+-- ---- over a tree, or none
+
+module _ (change : Change) where
+  abbrev pub MayBeMade : Option Ancestry → Content → Type 0
+  MayBeMade tree c = IsKeptContent c × FitsContent c change × HasTree tree c change
+
+  abbrev pub IsDone : Option Ancestry → Content → Content → Type 0
+  IsDone tree c d = IsKeptContent c → FitsContent c change → HasTree tree c change → d ≡ changed c change
+
+  pub made_over : (t : Ancestry) (old new : State) (r : Result (Unit {0}) StoreFault) → Acts old new r (Fits t change) (λ c d _. IsMade t change c d) → Acts old new r (MayBeMade (Some t)) (λ c d _. IsDone (Some t) c d)
+  made_over t old new r one = acts_weaker old new r (Fits t change) (MayBeMade (Some t)) (λ c d _. IsMade t change c d) (λ c d _. IsDone (Some t) c d)
+      (λ c fits. (fits.0, fits.1, λ _. fits.2)) (λ c d _ made kept fits is. made kept fits (λ _. is)) one
+
+  no_need : (t : Ancestry) (c : Content) → HasTree None c change → IsTreeFor t c change
+  no_need t c stay differs = absurd (true≢false (sym stay ∙ differs))
+
+  pub made_without : (t : Ancestry) (old new : State) (r : Result (Unit {0}) StoreFault) → Acts old new r (Fits t change) (λ c d _. IsMade t change c d) → Acts old new r (MayBeMade None) (λ c d _. IsDone None c d)
+  made_without t old new r one = acts_weaker old new r (Fits t change) (MayBeMade None) (λ c d _. IsMade t change c d) (λ c d _. IsDone None c d)
+      (λ c fits. (fits.0, fits.1, no_need t c fits.2)) (λ c d _ made kept fits stay. made kept fits (no_need t c stay)) one

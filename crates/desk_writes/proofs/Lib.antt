@@ -3,6 +3,7 @@ pub mod ChangeSteps
 pub mod MarkedLemmas
 pub mod RowSteps
 pub mod BranchSteps
+pub mod MarksStayLemmas
 pub mod PlaceLemmas
 pub mod LineSteps
 pub mod OutcomeSteps

@@ -20,6 +20,7 @@ use Rattle.desk_content.proofs.ChangeLemmas.{change_kept}
 use Rattle.desk_content.proofs.KeepLemmas.{change_keeping}
 use Rattle.desk_schema.specs.Steps.{Acts, PlaysAll, Reads}
 use Rattle.desk_schema.proofs.StepLemmas.{none, done, failed, acts_stop, acts_then, acts_weaker, reads_work}
+use Rattle.desk_writes.specs.Needs.{HasTree, HasTreeIfAny}
 use Rattle.desk_writes.specs.Lines.{IsLine, AreEditsOf}
 use Rattle.desk_writes.proofs.PlaceLemmas.{place_is}
 
@@ -62,21 +63,21 @@ module _ (id sender message : List ℕ) (outcome : Outcome) where
 
   -- ---- with a change
 
-  abbrev pub FitsLine : Ancestry → Option Change → Content → Type 0
-  FitsLine t change c = IsKeptContent c × MayBePut id sender message outcome change c × (c.nodes ≡ t)
+  abbrev pub FitsLine : Option Ancestry → Option Change → Content → Type 0
+  FitsLine t change c = IsKeptContent c × MayBePut id sender message outcome change c × HasTreeIfAny t c change
 
-  abbrev pub IsAfter : Ancestry → Option Change → Content → Content → Type 0
-  IsAfter t change c d = IsKeptContent c → MayBePut id sender message outcome change c → c.nodes ≡ t → d ≡ kept_after id sender message outcome change c
+  abbrev pub IsAfter : Option Ancestry → Option Change → Content → Content → Type 0
+  IsAfter t change c d = IsKeptContent c → MayBePut id sender message outcome change c → HasTreeIfAny t c change → d ≡ kept_after id sender message outcome change c
 
   -- without one
-  pub alone : (old new : State) (t : Ancestry) (r : Result (Unit {0}) StoreFault) → Acts old new r (IsLine id sender message outcome) (λ c d _. Keeps c d)
+  pub alone : (old new : State) (t : Option Ancestry) (r : Result (Unit {0}) StoreFault) → Acts old new r (IsLine id sender message outcome) (λ c d _. Keeps c d)
       → Acts old new r (FitsLine t None) (λ c d _. IsAfter t None c d)
   alone old new t r one =
       acts_weaker old new r (IsLine id sender message outcome) (FitsLine t None) (λ c d _. Keeps c d) (λ c d _. IsAfter t None c d)
       (λ c fits. record { kept = fits.0; same = fits.1.same; good = fits.1.good })
       (λ c d _ keeps kept may nodes. keeps (record { kept = kept; same = may.same; good = may.good })) one
 
-  module _ (t : Ancestry) (change : Change) where
+  module _ (t : Option Ancestry) (change : Change) where
     line_after : (c : Content) → IsKeptContent c → MayBePut id sender message outcome (Some change) c → IsLine id sender message outcome (changed c change)
     line_after c kept may = record {
       kept = change_kept c change kept may.fits;
@@ -85,10 +86,10 @@ module _ (id sender message : List ℕ) (outcome : Outcome) where
     }
 
     abbrev pub IsMade : Content → Content → Type 0
-    IsMade c d = IsKeptContent c → FitsContent c change → c.nodes ≡ t → d ≡ changed c change
+    IsMade c d = IsKeptContent c → FitsContent c change → HasTree t c change → d ≡ changed c change
 
     abbrev pub FitsChange : Content → Type 0
-    FitsChange c = IsKeptContent c × FitsContent c change × (c.nodes ≡ t)
+    FitsChange c = IsKeptContent c × FitsContent c change × HasTree t c change
 
     pub both_put : (old mid new : State) (r : Result (Unit {0}) StoreFault) → Acts old mid done FitsChange (λ c d _. IsMade c d)
         → Acts mid new r (IsLine id sender message outcome) (λ c d _. Keeps c d) → Acts old new r (FitsLine t (Some change)) (λ c d _. IsAfter t (Some change) c d)

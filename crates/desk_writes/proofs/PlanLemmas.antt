@@ -1,11 +1,11 @@
 -- What the edits of all images come to.
-use Rattle.std.proofs.Common.{◌≡◌, ℕ, ◌+◌, ◌<◌, length, take, get_or, arith, List, [], ◌∷◌, ◌++◌, append-nil, append_assoc, refl, sym, ap, subst, ◌∙◌}
+use Rattle.std.proofs.Common.{◌≡◌, ℕ, ◌+◌, ◌<◌, length, take, get_or, arith, Bool, true, false, ◌&&◌, List, [], ◌∷◌, ◌++◌, append-nil, append_assoc, refl, sym, ap, subst, ◌∙◌}
 use Rattle.std.proofs.lemmas.Grind.{common_steps}
 use Rattle.version_nodes.specs.Trees.{Ancestry}
 use Rattle.bug_record.specs.declared.bug.SetImage.{SetImage}
 use Rattle.bug_record.specs.declared.command.Change.{Change}
 use Rattle.desk_content.specs.Content.{Content}
-use Rattle.desk_content.specs.Changes.{keeps_marks, without_images, with_images, cleared_for, FitsContent}
+use Rattle.desk_content.specs.Changes.{keeps_marks, all_stay, without_images, with_images, cleared_for, FitsContent}
 use Rattle.desk_content.specs.Edits.{edited_all}
 use Rattle.desk_content.specs.Free.{AreFree}
 use Rattle.desk_content.specs.Images.{with_image, without_image}
@@ -64,7 +64,7 @@ module _ (c : Content) (change : Change) (kept : IsKeptContent c) (fits : FitsCo
   puts xs (i ∷ ys) (p ∷ plans) are all =
       let fine = good c change kept fits xs i ys are in
       let clear = ready c change kept fits xs i ys are in
-      let one : edited_all p.put (turn xs) ≡ turn (xs ++ i ∷ []) = all.0.put (turn xs) (turn_nodes xs) fine clear ∙ sym (with_one_more xs i (cleared_for c change)) in
+      let one : edited_all p.put (turn xs) ≡ turn (xs ++ i ∷ []) = all.0.put (turn xs) (λ _. turn_nodes xs) fine clear ∙ sym (with_one_more xs i (cleared_for c change)) in
       let more = puts (xs ++ i ∷ []) ys plans (moved xs i ys are) all.1 in (
         free-append p.put (put_edits plans) (turn xs) (all.0.put_free (turn xs) fine clear) (subst (AreFree (put_edits plans)) (sym one) more.0),
         edited_all-append p.put (put_edits plans) (turn xs) ∙ ap (edited_all (put_edits plans)) one ∙ more.1 ∙ ap turn (append_assoc xs (i ∷ []) ys),
@@ -78,6 +78,28 @@ module _ (c : Content) (change : Change) (kept : IsKeptContent c) (fits : FitsCo
 
   pub come_to : (plans : List RowEdits) → ArePlans c c.nodes change.images plans → edited_all (put_edits plans) (edited_all (cleared_edits plans) c) ≡ with_images change.images (cleared_for c change)
   come_to plans all = ap (edited_all (put_edits plans)) (all_cleared c c.nodes change.images plans all c) ∙ (puts [] change.images plans refl all).1
+
+-- ---- over another tree, where no mark changes
+
+module _ (c : Content) (t : Ancestry) where
+  also_over : (i : SetImage) (plan : RowEdits) → (keeps_marks c i ≡ false → c.nodes ≡ t) → IsPlanOf c t i plan → IsPlanOf c c.nodes i plan
+  also_over i plan is p = record { cleared = p.cleared; put = λ d same. p.put d (λ differs. same differs ∙ is differs); free = p.free; put_free = p.put_free }
+
+  one_differs : (a b : Bool) → a ≡ false → (a && b) ≡ false
+  one_differs a b is = rw is refl
+
+  more_differ : (a b : Bool) → b ≡ false → (a && b) ≡ false
+  more_differ true b is = is
+  more_differ false b is = refl
+
+  pub all_over : (is : List SetImage) (plans : List RowEdits) → (all_stay c is ≡ false → c.nodes ≡ t) → ArePlans c t is plans → ArePlans c c.nodes is plans
+  all_over [] [] same are = tt
+  all_over [] (p ∷ plans) same are = absurd are
+  all_over (i ∷ is) [] same are = absurd are
+  all_over (i ∷ is) (p ∷ plans) same are = (
+    also_over i p (λ differs. same (one_differs (keeps_marks c i) (all_stay c is) differs)) are.0,
+    all_over is plans (λ differs. same (more_differ (keeps_marks c i) (all_stay c is) differs)) are.1,
+  )
 
 -- the plans of the first images, and of one more
 pub grown : (before : Content) (t : Ancestry) (is : List SetImage) (at : ℕ) (i : SetImage) (plans : List RowEdits) (plan : RowEdits) (all : List RowEdits) → at < length is → i ≡ get_or is at i → all ≡ plans ++ plan ∷ []

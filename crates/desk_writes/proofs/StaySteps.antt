@@ -1,5 +1,5 @@
 -- What the edits of a set whose bugs stay come to.
-use Rattle.std.proofs.Common.{◌≡◌, [], ◌∷◌, List, Option, Some, Result, Ok, sym, ap, subst, ◌∙◌}
+use Rattle.std.proofs.Common.{◌≡◌, [], ◌∷◌, List, Option, Some, Result, Ok, sym, ap, subst, ◌∙◌, true, ◌&&◌}
 use Rattle.std.specs.Prelude.{⊤, IfSome}
 use Rattle.version_nodes.specs.Trees.{Ancestry}
 use Rattle.bug_record.specs.Sets.{Each}
@@ -10,7 +10,7 @@ use Rattle.bug_record.specs.declared.outcome.StoreFault.{StoreFault}
 use Rattle.sqlite.specs.State.{State}
 use Rattle.bugs_in_memory.specs.Keys.{key_of}
 use Rattle.desk_content.specs.Content.{Content}
-use Rattle.desk_content.specs.Changes.{keeps_marks, without_images, with_images, cleared_for, FitsContent}
+use Rattle.desk_content.specs.Changes.{keeps_marks, without_images, with_images, cleared_for, FitsContent, all_stay}
 use Rattle.desk_content.specs.Edits.{edited_all}
 use Rattle.desk_content.specs.Free.{AreFree}
 use Rattle.desk_content.specs.Images.{without_image, with_image, IsCleared, IsGoodImage}
@@ -21,6 +21,7 @@ use Rattle.desk_content.proofs.ReadyLemmas.{good, ready}
 use Rattle.desk_content.proofs.StandLemmas.{stand}
 use Rattle.desk_schema.specs.Steps.{Acts, PlaysAll, Reads}
 use Rattle.desk_schema.proofs.StepLemmas.{acts_then}
+use Rattle.desk_writes.specs.Needs.{IsTreeFor}
 use Rattle.desk_writes.specs.Plans.{IsStayPlan}
 use Rattle.desk_writes.proofs.ChangeSteps.{Fits, IsWritten}
 
@@ -40,9 +41,9 @@ module _ (c : Content) (change : Change) (kept : IsKeptContent c) (fits : FitsCo
   pub stay_free : (t : Ancestry) (edits : List Edit) → IsStayPlan c t i edits → AreFree edits c
   stay_free t edits plan = plan.1.free c is_good (stays plan.0) is_clear
 
-  pub stay_made : (t : Ancestry) (edits : List Edit) → c.nodes ≡ t → IsStayPlan c t i edits → edited_all edits c ≡ with_images change.images (cleared_for c change)
+  pub stay_made : (t : Ancestry) (edits : List Edit) → IsTreeFor t c change → IsStayPlan c t i edits → edited_all edits c ≡ with_images change.images (cleared_for c change)
   stay_made t edits tree plan =
-      plan.1.made c tree is_good (stays plan.0) is_clear
+      plan.1.made c (λ differs. tree (ap (all_stay c) only ∙ ap (λ b. b && true) differs)) is_good (stays plan.0) is_clear
       ∙ ap (with_image i) (sym cleared_is)
       ∙ sym (ap (λ (is : List SetImage). with_images is (cleared_for c change)) only)
 

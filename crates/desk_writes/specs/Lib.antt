@@ -1,3 +1,4 @@
+pub mod Needs
 -- definitions that only private functions cite
 pub mod Plans
 pub mod Marked

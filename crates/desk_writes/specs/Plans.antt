@@ -1,5 +1,5 @@
 -- The edits of images, as the marks stand before a change.
-use Rattle.std.specs.Prelude.{◌≡◌, List, [], ◌∷◌, flat_map, ⊤}
+use Rattle.std.specs.Prelude.{◌≡◌, false, List, [], ◌∷◌, flat_map, ⊤}
 use Rattle.version_nodes.specs.Nodes.{Node}
 use Rattle.version_nodes.specs.Trees.{Ancestry}
 use Rattle.bug_record.specs.declared.bug.SetImage.{SetImage}
@@ -15,7 +15,7 @@ use Rattle.desk_content.specs.declared.images.RowEdits.{RowEdits}
 -- the edits that put an image, where these marks stand under its key
 pub record IsPlan (t : Ancestry) (found fixed : List Node) (i : SetImage) (plan : RowEdits) : Type 0 where
   pub cleared : (c : Content) → edited_all plan.cleared c ≡ without_image (same_marks i found fixed) i c
-  pub put : (c : Content) → c.nodes ≡ t → IsGoodImage i → IsCleared (same_marks i found fixed) i c → edited_all plan.put c ≡ with_image i c
+  pub put : (c : Content) → (same_marks i found fixed ≡ false → c.nodes ≡ t) → IsGoodImage i → IsCleared (same_marks i found fixed) i c → edited_all plan.put c ≡ with_image i c
   pub free : (c : Content) → IsGoodImage i → AreFree plan.cleared c
   pub put_free : (c : Content) → IsGoodImage i → IsCleared (same_marks i found fixed) i c → AreFree plan.put c
 
@@ -39,7 +39,7 @@ put_edits plans = flat_map (λ plan. plan.put) plans
 -- the edits of an image whose bugs stay, where these marks stand under its key: they make what
 -- clearing all its rows and putting them again makes
 pub record IsStay (t : Ancestry) (found fixed : List Node) (i : SetImage) (edits : List Edit) : Type 0 where
-  pub made : (c : Content) → c.nodes ≡ t → IsGoodImage i → Stays i c → IsCleared (same_marks i found fixed) i (without_image (same_marks i found fixed) i c)
+  pub made : (c : Content) → (same_marks i found fixed ≡ false → c.nodes ≡ t) → IsGoodImage i → Stays i c → IsCleared (same_marks i found fixed) i (without_image (same_marks i found fixed) i c)
       → edited_all edits c ≡ with_image i (without_image (same_marks i found fixed) i c)
   pub free : (c : Content) → IsGoodImage i → Stays i c → IsCleared (same_marks i found fixed) i (without_image (same_marks i found fixed) i c) → AreFree edits c
 

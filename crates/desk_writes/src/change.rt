@@ -1,10 +1,12 @@
 //! A change of sets, carried out within one transaction.
 
-ghost use Rattle.std.specs.Prelude.{◌≡◌, ◌≢◌, [], ◌∷◌, IfOk, IfErr, ⊤};
+ghost use Rattle.std.specs.Prelude.{◌≡◌, ◌≢◌, [], ◌∷◌, None, IfOk, IfErr, ⊤};
+ghost use Rattle.std.specs.Option.{option_copied};
 ghost use Rattle.sqlite.specs.Held.{state};
 ghost use Rattle.desk_content.specs.Changes.{FitsContent, changed, with_images, cleared_for};
 ghost use Rattle.desk_content.specs.Kept.{IsKeptContent};
 ghost use Rattle.desk_schema.specs.Steps.{Acts, PlaysAll, Reads, Serves};
+ghost use Rattle.desk_writes.specs.Needs.{IsTreeFor, HasTree};
 ghost use Rattle.desk_writes.specs.Plans.{IsPlan, IsPlanOf, ArePlans, cleared_edits, put_edits};
 ghost use Rattle.bug_record.specs.declared.outcome.StoreFault.TheVariants.{Foreign};
 
@@ -105,8 +107,8 @@ fn rewrite_sets<S: Alter>(
 ) -> Result<(), StoreFault>
     ensures same_reference { tx.new.conn.ghost_name ≡ tx.old.conn.ghost_name }
     ensures acts { Acts (state S.Store tx.old.conn.now) (state S.Store tx.new.conn.now) result
-        (λ c. IsKeptContent c × FitsContent c change.now × (c.nodes ≡ family.now))
-        (λ c d _. IsKeptContent c → FitsContent c change.now → c.nodes ≡ family.now → d ≡ with_images change.now.images (cleared_for c change.now)) }
+        (λ c. IsKeptContent c × FitsContent c change.now × IsTreeFor family.now c change.now)
+        (λ c d _. IsKeptContent c → FitsContent c change.now → IsTreeFor family.now c change.now → d ≡ with_images change.now.images (cleared_for c change.now)) }
 {
     let plans = plan_images(alloc, tx, family, change.images.as_slice())?;
     clear_images(tx, plans.as_slice())?;
@@ -124,8 +126,8 @@ fn put_one<S: Alter>(
     requires { change.now.images ≡ image.now ∷ [] }
     ensures same_reference { tx.new.conn.ghost_name ≡ tx.old.conn.ghost_name }
     ensures acts { Acts (state S.Store tx.old.conn.now) (state S.Store tx.new.conn.now) result
-        (λ c. IsKeptContent c × FitsContent c change.now × (c.nodes ≡ family.now))
-        (λ c d _. IsKeptContent c → FitsContent c change.now → c.nodes ≡ family.now → d ≡ with_images change.now.images (cleared_for c change.now)) }
+        (λ c. IsKeptContent c × FitsContent c change.now × IsTreeFor family.now c change.now)
+        (λ c d _. IsKeptContent c → FitsContent c change.now → IsTreeFor family.now c change.now → d ≡ with_images change.now.images (cleared_for c change.now)) }
 {
     match stay_plan(alloc, tx, family, image)? {
         Some(edits) => play_all(tx, edits.as_slice()),
@@ -142,8 +144,8 @@ fn put_sets<S: Alter>(
 ) -> Result<(), StoreFault>
     ensures same_reference { tx.new.conn.ghost_name ≡ tx.old.conn.ghost_name }
     ensures acts { Acts (state S.Store tx.old.conn.now) (state S.Store tx.new.conn.now) result
-        (λ c. IsKeptContent c × FitsContent c change.now × (c.nodes ≡ family.now))
-        (λ c d _. IsKeptContent c → FitsContent c change.now → c.nodes ≡ family.now → d ≡ with_images change.now.images (cleared_for c change.now)) }
+        (λ c. IsKeptContent c × FitsContent c change.now × IsTreeFor family.now c change.now)
+        (λ c d _. IsKeptContent c → FitsContent c change.now → IsTreeFor family.now c change.now → d ≡ with_images change.now.images (cleared_for c change.now)) }
 {
     match change.images.as_slice() {
         [image] => put_one(alloc, tx, family, change, image),
@@ -164,12 +166,8 @@ fn put_next<S: Alter>(tx: &mut Transaction<'_, S>, next: u64) -> Result<(), Stor
     write_next(tx, number)
 }
 
-/// Carries a change out: what stands under the numbers of its bugs goes, its sets come, and last
-/// the next number.
-/// Where it has one image, whose bugs stay, these are not touched, and the next number is written
-/// only where it is another one.
-/// It fails for memory, the disk or its size alone, where the change fits kept tables.
-pub fn put_change<S: Alter>(
+// Carries a change out, over a tree that is the tables' where a mark changes.
+fn put_over<S: Alter>(
     alloc: Global,
     tx: &mut Transaction<'_, S>,
     family: &Family,
@@ -177,10 +175,50 @@ pub fn put_change<S: Alter>(
 ) -> Result<(), StoreFault>
     ensures same_reference { tx.new.conn.ghost_name ≡ tx.old.conn.ghost_name }
     ensures acts { Acts (state S.Store tx.old.conn.now) (state S.Store tx.new.conn.now) result
-        (λ c. IsKeptContent c × FitsContent c change.now × (c.nodes ≡ family.now))
-        (λ c d _. IsKeptContent c → FitsContent c change.now → c.nodes ≡ family.now → d ≡ changed c change.now) }
+        (λ c. IsKeptContent c × FitsContent c change.now × IsTreeFor family.now c change.now)
+        (λ c d _. IsKeptContent c → FitsContent c change.now → IsTreeFor family.now c change.now → d ≡ changed c change.now) }
     ensures serves { Serves (state S.Store tx.old.conn.now) (state S.Store tx.new.conn.now) result }
 {
     put_sets(alloc, tx, family, change)?;
     put_next(tx, change.next)
+}
+
+// Carries a change out in which no mark changes.
+fn put_without_tree<S: Alter>(
+    alloc: Global,
+    tx: &mut Transaction<'_, S>,
+    change: &Change,
+) -> Result<(), StoreFault>
+    ensures same_reference { tx.new.conn.ghost_name ≡ tx.old.conn.ghost_name }
+    ensures acts { Acts (state S.Store tx.old.conn.now) (state S.Store tx.new.conn.now) result
+        (λ c. IsKeptContent c × FitsContent c change.now × HasTree None c change.now)
+        (λ c d _. IsKeptContent c → FitsContent c change.now → HasTree None c change.now → d ≡ changed c change.now) }
+    ensures serves { Serves (state S.Store tx.old.conn.now) (state S.Store tx.new.conn.now) result }
+{
+    let family = Family::new(alloc);
+    put_over(alloc, tx, &family, change)
+}
+
+/// Carries a change out: what stands under the numbers of its bugs goes, its sets come, and last
+/// the next number.
+/// Where it has one image, whose bugs stay, these are not touched, and the next number is written
+/// only where it is another one.
+/// The tree may be missing where no mark changes.
+/// It fails for memory, the disk or its size alone, where the change fits kept tables.
+pub fn put_change<S: Alter>(
+    alloc: Global,
+    tx: &mut Transaction<'_, S>,
+    family: Option<&Family>,
+    change: &Change,
+) -> Result<(), StoreFault>
+    ensures same_reference { tx.new.conn.ghost_name ≡ tx.old.conn.ghost_name }
+    ensures acts { Acts (state S.Store tx.old.conn.now) (state S.Store tx.new.conn.now) result
+        (λ c. IsKeptContent c × FitsContent c change.now × HasTree (option_copied family.entry) c change.now)
+        (λ c d _. IsKeptContent c → FitsContent c change.now → HasTree (option_copied family.entry) c change.now → d ≡ changed c change.now) }
+    ensures serves { Serves (state S.Store tx.old.conn.now) (state S.Store tx.new.conn.now) result }
+{
+    match family {
+        Some(family) => put_over(alloc, tx, family, change),
+        None => put_without_tree(alloc, tx, change),
+    }
 }

@@ -9,6 +9,7 @@ ghost use Rattle.desk_content.specs.Keeping.{MayBePut, kept_after, with_kept};
 ghost use Rattle.desk_content.specs.Kept.{IsKeptContent};
 ghost use Rattle.desk_schema.specs.Steps.{Acts, Reads, Serves};
 ghost use Rattle.bug_record.specs.declared.outcome.StoreFault.TheVariants.{Foreign};
+ghost use Rattle.desk_writes.specs.Needs.{HasTree, HasTreeIfAny};
 ghost use Rattle.desk_writes.specs.Lines.{IsLine, AreEditsOf};
 
 use crate::change::put_change;
@@ -79,7 +80,7 @@ fn put_outcome<S: Alter>(
 fn put_both<S: Alter>(
     alloc: Global,
     tx: &mut Transaction<'_, S>,
-    family: &Family,
+    family: Option<&Family>,
     id: &str,
     from: &str,
     message: &str,
@@ -88,8 +89,8 @@ fn put_both<S: Alter>(
 ) -> Result<(), StoreFault>
     ensures same_reference { tx.new.conn.ghost_name ≡ tx.old.conn.ghost_name }
     ensures acts { Acts (state S.Store tx.old.conn.now) (state S.Store tx.new.conn.now) result
-        (λ c. IsKeptContent c × MayBePut id.now from.now message.now outcome.now (Some change.now) c × (c.nodes ≡ family.now))
-        (λ c d _. IsKeptContent c → MayBePut id.now from.now message.now outcome.now (Some change.now) c → c.nodes ≡ family.now →
+        (λ c. IsKeptContent c × MayBePut id.now from.now message.now outcome.now (Some change.now) c × HasTree (option_copied family.entry) c change.now)
+        (λ c d _. IsKeptContent c → MayBePut id.now from.now message.now outcome.now (Some change.now) c → HasTree (option_copied family.entry) c change.now →
         d ≡ kept_after id.now from.now message.now outcome.now (Some change.now) c) }
     ensures serves { Serves (state S.Store tx.old.conn.now) (state S.Store tx.new.conn.now) result }
 {
@@ -99,12 +100,13 @@ fn put_both<S: Alter>(
 
 /// Carries a change out, if there is one, and keeps the outcome of its line behind those that are
 /// kept of the message of the id; the message becomes known with its first outcome.
+/// The tree may be missing where no mark changes.
 /// It fails for memory, the disk or its size alone, where the change fits kept tables, and the
 /// outcome and the message may be kept in them.
 pub fn put_kept<S: Alter>(
     alloc: Global,
     tx: &mut Transaction<'_, S>,
-    family: &Family,
+    family: Option<&Family>,
     id: &str,
     from: &str,
     message: &str,
@@ -113,8 +115,8 @@ pub fn put_kept<S: Alter>(
 ) -> Result<(), StoreFault>
     ensures same_reference { tx.new.conn.ghost_name ≡ tx.old.conn.ghost_name }
     ensures acts { Acts (state S.Store tx.old.conn.now) (state S.Store tx.new.conn.now) result
-        (λ c. IsKeptContent c × MayBePut id.now from.now message.now outcome.now (option_copied change.entry) c × (c.nodes ≡ family.now))
-        (λ c d _. IsKeptContent c → MayBePut id.now from.now message.now outcome.now (option_copied change.entry) c → c.nodes ≡ family.now →
+        (λ c. IsKeptContent c × MayBePut id.now from.now message.now outcome.now (option_copied change.entry) c × HasTreeIfAny (option_copied family.entry) c (option_copied change.entry))
+        (λ c d _. IsKeptContent c → MayBePut id.now from.now message.now outcome.now (option_copied change.entry) c → HasTreeIfAny (option_copied family.entry) c (option_copied change.entry) →
         d ≡ kept_after id.now from.now message.now outcome.now (option_copied change.entry) c) }
     ensures serves { Serves (state S.Store tx.old.conn.now) (state S.Store tx.new.conn.now) result }
 {

@@ -1,3 +1,4 @@
+use Rattle.std.proofs.Common.{sym, ◌∙◌}
 use Rattle.desk_content.proofs.RowLemmas.{clears, puts_kept, puts_new, cleared_free, kept_free, new_free}
 use Rattle.desk_content.proofs.images.row_edits.Goals as goal
 
@@ -18,9 +19,9 @@ returns-clause-cleared c =
 
 pub returns-clause-put : goal.returns-clause-put
 returns-clause-put c =
-    puts_new c.args.image.now c.args.found.now c.args.fixed.now c.key_of-key.result c.has_marks-keeps.result c.key_of-key.ensures
+    λ x tree. puts_new c.args.image.now c.args.found.now c.args.fixed.now c.key_of-key.result c.has_marks-keeps.result c.key_of-key.ensures
     c.has_marks-keeps.ensures c.put_all_marks.new.edits c.in_ok-put.put c.args.family.now c.in_ok-put.ensures c.if-keeps.false
-    c.in_ok-put_all_marks.ensures
+    c.in_ok-put_all_marks.ensures x (tree (sym c.has_marks-keeps.ensures ∙ c.if-keeps.false))
 
 pub returns-then-keeps-clause-free : goal.returns-then-keeps-clause-free
 returns-then-keeps-clause-free c =

@@ -1,3 +1,4 @@
+use Rattle.std.proofs.Common.{sym, ◌∙◌}
 use Rattle.desk_content.proofs.StayLemmas.{stays_kept, stays_kept_free, stays_new, stays_new_free}
 use Rattle.desk_content.proofs.staying.stay_edits.Goals as goal
 
@@ -15,7 +16,7 @@ pub returns-clause-edits : goal.returns-clause-edits
 returns-clause-edits c =
     λ x tree good stays clear. stays_new c.args.image.now c.args.found.now c.args.fixed.now c.key_of-key.result c.has_marks-keeps.result c.key_of-key.ensures
     c.has_marks-keeps.ensures c.in_ok-edits.edits c.put_shared.new.edits c.in_ok-edits.ensures c.in_ok-put_shared.ensures x good stays clear
-    c.put_all_marks.new.edits c.args.family.now c.if-keeps.false c.in_ok-put_all_marks.ensures tree
+    c.put_all_marks.new.edits c.args.family.now c.if-keeps.false c.in_ok-put_all_marks.ensures (tree (sym c.has_marks-keeps.ensures ∙ c.if-keeps.false))
 
 pub returns-clause-free : goal.returns-clause-free
 returns-clause-free c =

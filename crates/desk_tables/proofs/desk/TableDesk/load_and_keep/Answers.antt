@@ -8,14 +8,14 @@ use Rattle.desk_tables.specs.Kept.{content_seen, desk_seen, keeping_seen, MayKee
 use Rattle.desk_tables.specs.Shown.{AreTablesOf}
 use Rattle.desk_tables.proofs.desk.TableDesk.load_and_keep.Goals as goal
 
-pub returns-in_err-load-clause-crash : goal.returns-in_err-load-clause-crash
-returns-in_err-load-clause-crash g c = λ may was.
-    survives_weaker (state g.S.Store c.args.self.now.conn) (state g.S.Store c.load.new.self.conn) (λ _. ⊥) _ (λ clean db none. absurd none) c.in_err-load.ensures.survives
+pub returns-in_err-load_for_line-clause-crash : goal.returns-in_err-load_for_line-clause-crash
+returns-in_err-load_for_line-clause-crash g c = λ may was.
+    survives_weaker (state g.S.Store c.args.self.now.conn) (state g.S.Store c.load_for_line.new.self.conn) (λ _. ⊥) _ (λ clean db none. absurd none) c.in_err-load_for_line.ensures.survives
 
 pub returns-clause-answer : goal.returns-clause-answer
 returns-clause-answer g c = λ may.
-    let last = c.in_ok-load.ensures.last in
-    let loaded = c.in_ok-load.ensures.answer.holds in
+    let last = c.in_ok-load_for_line.ensures.last in
+    let loaded = c.in_ok-load_for_line.ensures.answer.holds in
     let change = option_copied c.args.change in
     let did = c.keep_outcome.ensures.answer (subst (λ l. MayKeep g.S.Store l c.args.id.now c.args.from.now c.args.message.now c.args.outcome.now change) (sym last) may) in
     record {
@@ -28,11 +28,11 @@ returns-clause-answer g c = λ may.
 
 pub returns-clause-crash : goal.returns-clause-crash
 returns-clause-crash g c = λ may was.
-    let last = c.in_ok-load.ensures.last in
+    let last = c.in_ok-load_for_line.ensures.last in
     let change = option_copied c.args.change in
     let after = kept_after c.args.id.now c.args.from.now c.args.message.now c.args.outcome.now change (content_seen g.S.Store c.args.self.now.last.values) in
     let may_then = subst (λ l. MayKeep g.S.Store l c.args.id.now c.args.from.now c.args.message.now c.args.outcome.now change) (sym last) may in
-    survives_then (state g.S.Store c.args.self.now.conn) (state g.S.Store c.load.new.self.conn) (state g.S.Store c.keep_outcome.new.self.conn) (λ _. ⊥)
+    survives_then (state g.S.Store c.args.self.now.conn) (state g.S.Store c.load_for_line.new.self.conn) (state g.S.Store c.keep_outcome.new.self.conn) (λ _. ⊥)
     (AreTablesOf after) (AreTablesOf after)
-    (λ clean db none. absurd none) (λ clean db p. p) c.in_ok-load.ensures.survives
-    (rw last at (c.keep_outcome.ensures.crash may_then (λ clean. c.in_ok-load.ensures.answer.holds.kept was (c.keep_outcome.ensures.honest clean))))
+    (λ clean db none. absurd none) (λ clean db p. p) c.in_ok-load_for_line.ensures.survives
+    (rw last at (c.keep_outcome.ensures.crash may_then (λ clean. c.in_ok-load_for_line.ensures.answer.holds.kept was (c.keep_outcome.ensures.honest clean))))

@@ -1,0 +1,10 @@
+use Rattle.std.proofs.Common.{OnOk, sym, subst}
+use Rattle.std.specs.Option.{option_copied}
+use Rattle.desk_writes.specs.Needs.{HasTreeIfAny}
+use Rattle.desk_tables.specs.Kept.{content_seen}
+use Rattle.desk_tables.proofs.desk.TableDesk.load_for_line.Goals as goal
+
+pub returns-in-Some-clause-tree : goal.returns-in-Some-clause-tree
+returns-in-Some-clause-tree g c = λ now clean.
+    let d = c.load_for.new.self in
+    subst (λ x. OnOk c.load_for.result (HasTreeIfAny d.family (content_seen g.S.Store d.last.values) (option_copied x))) (sym c.in-Some.is) (c.load_for.ensures.tree now clean)

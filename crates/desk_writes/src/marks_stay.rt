@@ -1,0 +1,50 @@
+//! Whether the marks of a change's images stand already.
+
+ghost use Rattle.std.specs.Prelude.{◌≡◌, ◌<◌, length};
+ghost use Rattle.sqlite.specs.Held.{state};
+ghost use Rattle.desk_content.specs.Changes.{keeps_marks, all_stay};
+ghost use Rattle.desk_schema.specs.Steps.{Reads, Serves};
+
+use bug_record::{SetImage, StoreFault};
+use desk_content::{has_marks, key_of};
+use desk_schema::parameter;
+use set_rows::read_marks;
+use sqlite::{Alter, Transaction};
+use std::alloc::Global;
+
+// Whether the marks of an image stand under its key.
+fn read_stays<S: Alter>(
+    alloc: Global,
+    tx: &mut Transaction<'_, S>,
+    image: &SetImage,
+) -> Result<bool, StoreFault>
+    ensures same_reference { tx.new.conn.ghost_name ≡ tx.old.conn.ghost_name }
+    ensures reads { Reads (λ c stays. stays ≡ keeps_marks c image.now) (state S.Store tx.old.conn.now) (state S.Store tx.new.conn.now) result }
+    ensures serves { Serves (state S.Store tx.old.conn.now) (state S.Store tx.new.conn.now) result }
+{
+    let key = parameter(key_of(image))?;
+    let marks = read_marks(alloc, tx, key)?;
+    Ok(has_marks(image, marks.found.as_slice(), marks.fixed.as_slice()))
+}
+
+/// Whether the marks of all images stand under their keys: then a change that has these needs no
+/// tree.
+/// `Memory` where there is none for the marks.
+pub fn read_marks_stay<S: Alter>(
+    alloc: Global,
+    tx: &mut Transaction<'_, S>,
+    images: &[SetImage],
+) -> Result<bool, StoreFault>
+    requires { 0 < length images.now }
+    ensures same_reference { tx.new.conn.ghost_name ≡ tx.old.conn.ghost_name }
+    ensures reads { Reads (λ c stay. stay ≡ all_stay c images.now) (state S.Store tx.old.conn.now) (state S.Store tx.new.conn.now) result }
+    ensures serves { Serves (state S.Store tx.old.conn.now) (state S.Store tx.new.conn.now) result }
+{
+    for image in images {
+        let stays = read_stays(alloc, tx, image)?;
+        if !stays {
+            return Ok(false);
+        }
+    }
+    Ok(true)
+}
