@@ -27,7 +27,7 @@ use Rattle.desk_tables.specs.declared.desk.TableDesk.{TableDesk}
 use Rattle.bts_jobs.specs.declared.ending.Cause.{Cause}
 use Rattle.bts_jobs.specs.declared.ending.Cause.TheVariants.{Store, NoFile, InUse, NotADesk, NewerSchema, NotEmpty, CannotOpen}
 
--- the two files hold a desk with this content, which is kept, under schema 3, 2 or 1
+-- the two files hold a desk with this content, which is kept, under some schema of a desk
 pub record HoldDesk (image : Image) (c : Content) : Type 0 where
   pub trees : Trees
   pub database : HoldsDatabase image trees

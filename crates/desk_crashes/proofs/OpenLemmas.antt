@@ -1,11 +1,12 @@
 -- What is opened over trees that hold a desk.
-use Rattle.std.proofs.Common.{◌≡◌, Option, None, Some, inl, inr, IfSome, IsTrue, refl, sym, ap, subst, ◌∙◌}
+use Rattle.std.proofs.Common.{◌≡◌, ◌<◌, ℕ, Option, None, Some, inl, inr, arith, IfSome, IsTrue, refl, sym, ap, subst, ◌∙◌}
 use Rattle.sqlite.specs.Effect.{Database, IsDatabase}
 use Rattle.sqlite.specs.Held.{Held, state}
 use Rattle.sqlite.specs.State.{State, HasCleanDisk, Opens, IsLive, Survives}
 use Rattle.sqlite_trees.specs.Tree.{Trees}
 use Rattle.sqlite_trees.specs.declared.store.Store as store
 use Rattle.desk_content.specs.Content.{Content}
+use Rattle.desk_migrations.specs.declared.history.TheConstants.{NEWEST}
 use Rattle.desk_content.specs.Kept.{IsKeptContent}
 use Rattle.desk_content.specs.View.{desk_in, keeping_in}
 use Rattle.desk_schema.specs.Tables.{desk_schema}
@@ -13,9 +14,9 @@ use Rattle.desk_schema.specs.Rows.{content_of, AreShown}
 use Rattle.desk_schema.specs.Steps.{seen}
 use Rattle.desk_tables.specs.Kept.{content_seen, desk_seen, keeping_seen}
 use Rattle.desk_tables.specs.Opening.{unlimited}
-use Rattle.desk_tables.specs.Shown.{IsDesk, HasContent, HoldsContent, AreTablesOf}
+use Rattle.desk_tables.specs.Shown.{IsDesk, HasContent, HasContentUnder, HoldsContent, AreTablesOf}
 use Rattle.desk_tables.specs.declared.desk.TableDesk.{TableDesk}
-use Rattle.desk_tables.proofs.HeldLemmas.{shows_held}
+use Rattle.desk_tables.proofs.HeldLemmas.{shows_held, holds_newest}
 use Rattle.desk_crashes.specs.Settled.{HasHonestDisk, HasKeptTables, IsSettled, IsOpenedOver}
 
 -- what was committed of a desk are its tables
@@ -38,20 +39,21 @@ module _ {S : Type 0} (g : store.Ghosts S) where
   pub opened_over : Settles g → (conn : Held S) (t : TableDesk S g) → Opens (state g conn) → IsLive (state g conn)
       → ((c : Content) → HasHonestDisk g t → HoldsContent c (state g conn) → content_seen g t.last.values ≡ c)
       → ((c : Content) → HasHonestDisk g t → HoldsContent c (state g conn) → IsKeptContent c → HasKeptTables g t)
-      → ((c : Content) → (HasHonestDisk g t → HasContent c (state g conn)) → Survives (unlimited (state g conn)) (state g t.conn) (λ _. ⊥))
+      → ((k : ℕ) (c : Content) → (HasHonestDisk g t → HasContentUnder k c (state g conn)) → Survives (unlimited (state g conn)) (state g t.conn) (λ db. (k < NEWEST) × AreTablesOf c db))
       → HasHonestDisk g t
       → IsOpenedOver g (state g conn).committed.trees t
   opened_over settles conn t opens live content kept survives honest c tables good =
       let trees = (state g conn).committed.trees in
       let shown : HasContent c (state g conn) = λ clean served. shows_held (state g conn) trees c opens live refl tables in
-      let same = content c honest (inl shown) in
+      let holds = holds_newest c (state g conn) shown in
+      let same = content c honest holds in
       record {
-        kept = kept c honest (inl shown) good;
+        kept = kept c honest holds good;
         desk = ap desk_in same;
         keeping = ap keeping_in same;
         trees = trees;
         tables = subst (λ k. AreTablesOf k trees) (sym same) tables;
-        left = λ db may. elim ((survives c (λ clean. shown)).crash honest db may) [ inl before ↦ settles conn.store db opens.is_open before | inr none ↦ absurd none ];
+        left = λ db may. elim ((survives holds.0 c (λ clean. holds.1)).crash honest db may) [ inl before ↦ settles conn.store db opens.is_open before | inr earlier ↦ absurd (omega (arith, earlier.0)) ];
       }
 
   -- a desk that serves is settled

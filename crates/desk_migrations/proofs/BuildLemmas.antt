@@ -1,5 +1,5 @@
 -- What one text that makes a table or an index comes to, and several of them.
-use Rattle.std.proofs.Common.{◌≡◌, ◌≢◌, ◌≤◌, inl, inr, ℕ, ◌+◌, ◌^◌, List, [], ◌∷◌, ◌++◌, length, codes, true, false, Some, slice_get, None, Result, Ok, Err, IfOk, IsTrue, refl, sym, subst, ◌∙◌, arith}
+use Rattle.std.proofs.Common.{◌≡◌, ◌≢◌, ◌≤◌, inl, inr, ℕ, ◌+◌, ◌^◌, List, [], ◌∷◌, ◌++◌, length, codes, true, false, Some, slice_get, None, Result, Ok, Err, IfOk, IsTrue, refl, sym, ap, subst, ◌∙◌, arith}
 use Rattle.std.specs.List.{AllByRecursion}
 use Rattle.std.specs.Str.{is_utf8}
 use Rattle.std.proofs.Math.Dec.{leb}
@@ -30,8 +30,9 @@ use Rattle.sql_forms.proofs.CreateErrors.{IsSureTable, IsSureIndex, table_free, 
 use Rattle.sql_forms.proofs.CreateLemmas.{CreatesTable, CreatesIndex, creates, creates_index, still_rows}
 use Rattle.sqlite.specs.Held.{Held, state}
 use Rattle.sqlite.specs.Store.{Ghosts}
-use Rattle.desk_migrations.specs.Making.{IsBuilt, IsBlank, Builds}
-use Rattle.desk_migrations.specs.Stages.{HasRun}
+use Rattle.desk_schema.proofs.SchemaLemmas.{unplaced}
+use Rattle.desk_migrations.specs.Making.{IsBlank, Builds}
+use Rattle.desk_migrations.specs.Stages.{HasRun, IsBuilt}
 use Rattle.desk_migrations.specs.Names.{no_tables}
 
 -- ---- one text
@@ -118,21 +119,22 @@ all_push P (y ∷ xs) x all one = (all.0, all_push P xs x all.1 one)
 
 -- the text adds a table to the schema
 pub record AddsTable (schema : Schema) (sql : List ℕ) (table : Table) (later : Schema) : Type 0 where
-  pub creates : CreatesTable schema sql table
-  pub sure : IsSureTable schema sql table
-  pub later_is : created schema table ≡ later
+  pub creates : CreatesTable schema sql (unplaced table)
+  pub sure : IsSureTable schema sql (unplaced table)
+  pub placed : next_tree schema ≡ table.tree
+  pub later_is : created schema (unplaced table) ≡ later
 
 -- each fact is one that computing shows of a table's text
-pub table_adds : (schema : Schema) (sql : List ℕ) (table : Table) (later : Schema) → command_of (understood schema sql) ≡ CreateTable
-    → IsPlain (understood schema sql) → statement_of sql (understood schema sql) ≡ sql → table_defined_by sql ≡ Ok table
-    → lacks_sequence (created schema table) ≡ false → length sql ≤ tail_of (understood schema sql) → 0 ≡ width_of (understood schema sql)
-    → is_utf8 sql ≡ true → is_utf8 table.name ≡ true → is_used schema table.name ≡ false
-    → AllByRecursion (λ i. is_used schema i.name ≡ false) (automatics table 0 0 table.uniques) → is_reserved table.name ≡ false
-    → leb 65536 (next_tree schema + length table.uniques) ≡ false → leb (2 ^ 64) (table_reals table) ≡ false
-    → AllByRecursion (λ key. leb (2 ^ 64) (index_reals (table_reals table) key) ≡ false) table.uniques → is_formed table ≡ true
-    → is_fit (Text (codes "table")) (Text table.name) (Text table.name) (Text sql) ≡ true → created schema table ≡ later
+pub table_adds : (schema : Schema) (sql : List ℕ) (table : Table) (later : Schema) → let t = unplaced table in command_of (understood schema sql) ≡ CreateTable
+    → IsPlain (understood schema sql) → statement_of sql (understood schema sql) ≡ sql → table_defined_by sql ≡ Ok t
+    → lacks_sequence (created schema t) ≡ false → length sql ≤ tail_of (understood schema sql) → 0 ≡ width_of (understood schema sql)
+    → is_utf8 sql ≡ true → is_utf8 t.name ≡ true → is_used schema t.name ≡ false
+    → AllByRecursion (λ i. is_used schema i.name ≡ false) (automatics t 0 0 t.uniques) → is_reserved t.name ≡ false
+    → leb 65536 (next_tree schema + length t.uniques) ≡ false → leb (2 ^ 64) (table_reals t) ≡ false
+    → AllByRecursion (λ key. leb (2 ^ 64) (index_reals (table_reals t) key) ≡ false) t.uniques → is_formed t ≡ true
+    → is_fit (Text (codes "table")) (Text t.name) (Text t.name) (Text sql) ≡ true → next_tree schema ≡ table.tree → created schema t ≡ later
     → AddsTable schema sql table later
-table_adds schema sql table later command plain text defined uncounted whole given utf8 named free keys_free unreserved few small keys_small formed fits later_is = record {
+table_adds schema sql table later command plain text defined uncounted whole given utf8 named free keys_free unreserved few small keys_small formed fits placed later_is = record {
   creates = record { command = command; plain = plain; text = text; defined = defined; uncounted = uncounted };
   sure = record {
     call = record { command_is = command; writes = tt; plain = plain; whole = whole; given = given };
@@ -147,29 +149,9 @@ table_adds schema sql table later command plain text defined uncounted whole giv
     formed = formed;
     fits = fits;
   };
+  placed = placed;
   later_is = later_is;
 }
-
--- the new table has no row
-pub table_is : (rows : Trees) (schema : Schema) (sql : List ℕ) (table : Table) (later : Schema) → rows (next_tree schema) ≡ [] → AddsTable schema sql table later
-    → IsMaking sql [] (IsBuilt rows schema) (IsBuilt rows later)
-table_is rows schema sql table later none it = record {
-  begun = λ s was. was.begun;
-  makes = λ old new count was limit h. subst (λ s. IsBuilt rows s new) it.later_is (made old new count was limit h);
-  free = λ old new e was. table_free schema sql table it.creates it.sure old new e was.schema_is;
-}
-  where
-    made : (old new : State) (count : ℕ) → IsBuilt rows schema old → new.step_limit ≡ old.step_limit → ExecutesInside 0 sql [] old new (Ok count) → IsBuilt rows (created schema table) new
-    made old new count was limit h =
-        let done = creates schema sql table it.creates old new count (was.schema_is h.1.was_open) h.0 in
-        record {
-          begun = h.1.mode;
-          unlimited = limit ∙ was.unlimited;
-          schema_is = λ _. done.schema_is;
-          sound = λ _. done.sound;
-          rows_are = λ _. all_push (λ t. new.now.trees t.tree ≡ rows t.tree) schema.tables (record table { tree = next_tree schema })
-              (still_rows schema.tables rows old.now.trees new.now.trees (was.rows_are h.1.was_open) done.rows) (done.empty ∙ sym none);
-        }
 
 -- the text adds an index to the schema
 pub record AddsIndex (schema : Schema) (sql : List ℕ) (at : ℕ) (table : Table) (index : Index) (later : Schema) : Type 0 where
@@ -204,31 +186,61 @@ index_adds schema sql at table index later command plain text found defined whol
   later_is = later_is;
 }
 
--- what a sound database under a schema keeps
-pub unique_in : (rows : Trees) (schema : Schema) (s : State) → IsBuilt rows schema s → IsTrue s.is_open → Keeps Unique schema s.now.trees
-unique_in rows schema s was live = subst (λ k. Keeps Unique k s.now.trees) (was.schema_is live) ((was.sound live).obeys.rules Unique)
+-- ---- what they make
 
-pub index_is : (rows : Trees) (schema : Schema) (sql : List ℕ) (at : ℕ) (table : Table) (index : Index) (later : Schema) → AddsIndex schema sql at table index later
-    → IsMaking sql [] (IsBuilt rows schema) (IsBuilt rows later)
-index_is rows schema sql at table index later it = record {
-  begun = λ s was. was.begun;
-  makes = λ old new count was limit h. subst (λ s. IsBuilt rows s new) it.later_is (made old new count was limit h);
-  free = λ old new e was. index_free schema sql at table index it.creates it.sure old new e was.schema_is (unique_in rows schema old was);
-}
-  where
-    made : (old new : State) (count : ℕ) → IsBuilt rows schema old → new.step_limit ≡ old.step_limit → ExecutesInside 0 sql [] old new (Ok count) → IsBuilt rows (indexed schema table index) new
-    made old new count was limit h =
-        let done = creates_index schema sql at table index it.creates old new count (was.schema_is h.1.was_open) h.0 in
-        record {
-          begun = h.1.mode;
-          unlimited = limit ∙ was.unlimited;
-          schema_is = λ _. done.schema_is;
-          sound = λ _. done.sound;
-          rows_are = λ _. still_rows schema.tables rows old.now.trees new.now.trees (was.rows_are h.1.was_open) done.rows;
-        }
+module _ (Fact : Type 0) (rows : Trees) (schema : Schema) where
+  -- what a sound database under a schema keeps
+  pub unique_in : (s : State) → IsBuilt Fact rows schema s → IsTrue s.is_open → Keeps Unique schema s.now.trees
+  unique_in s was live = subst (λ k. Keeps Unique k s.now.trees) (was.schema_is live) ((was.sound live).obeys.rules Unique)
+
+  -- the new table has no row
+  pub table_is : (sql : List ℕ) (table : Table) (later : Schema) → rows table.tree ≡ [] → AddsTable schema sql table later
+      → IsMaking sql [] (IsBuilt Fact rows schema) (IsBuilt Fact rows later)
+  table_is sql table later none it = record {
+    begun = λ s was. was.begun;
+    makes = λ old new count was limit h. subst (λ k. IsBuilt Fact rows k new) it.later_is (made old new count was limit h);
+    free = λ old new e was. table_free schema sql (unplaced table) it.creates it.sure old new e was.schema_is;
+  }
+    where
+      made : (old new : State) (count : ℕ) → IsBuilt Fact rows schema old → new.step_limit ≡ old.step_limit → ExecutesInside 0 sql [] old new (Ok count)
+          → IsBuilt Fact rows (created schema (unplaced table)) new
+      made old new count was limit h =
+          let live = h.1.was_open in
+          let done = creates schema sql (unplaced table) it.creates old new count (was.schema_is live) h.0 in
+          record {
+            begun = h.1.mode;
+            unlimited = limit ∙ was.unlimited;
+            schema_is = λ _. done.schema_is;
+            sound = λ _. done.sound;
+            rows_are = λ _. all_push (λ t. new.now.trees t.tree ≡ rows t.tree) schema.tables (record table { tree = next_tree schema })
+                (still_rows schema.tables rows old.now.trees new.now.trees (was.rows_are live) done.rows) (done.empty ∙ sym (ap rows it.placed ∙ none));
+            fact = λ _. was.fact live;
+          }
+
+  pub index_is : (sql : List ℕ) (at : ℕ) (table : Table) (index : Index) (later : Schema) → AddsIndex schema sql at table index later
+      → IsMaking sql [] (IsBuilt Fact rows schema) (IsBuilt Fact rows later)
+  index_is sql at table index later it = record {
+    begun = λ s was. was.begun;
+    makes = λ old new count was limit h. subst (λ k. IsBuilt Fact rows k new) it.later_is (made old new count was limit h);
+    free = λ old new e was. index_free schema sql at table index it.creates it.sure old new e was.schema_is (unique_in old was);
+  }
+    where
+      made : (old new : State) (count : ℕ) → IsBuilt Fact rows schema old → new.step_limit ≡ old.step_limit → ExecutesInside 0 sql [] old new (Ok count)
+          → IsBuilt Fact rows (indexed schema table index) new
+      made old new count was limit h =
+          let live = h.1.was_open in
+          let done = creates_index schema sql at table index it.creates old new count (was.schema_is live) h.0 in
+          record {
+            begun = h.1.mode;
+            unlimited = limit ∙ was.unlimited;
+            schema_is = λ _. done.schema_is;
+            sound = λ _. done.sound;
+            rows_are = λ _. still_rows schema.tables rows old.now.trees new.now.trees (was.rows_are live) done.rows;
+            fact = λ _. was.fact live;
+          }
 
 -- ---- how a transaction begins
 
 -- a transaction that begins over a database with no table, no index and no view
 pub blank_begun : {S : Type 0} (g : Ghosts S) (old : Held S) → (state g old).now.schema ≡ no_tables → IsLive (state g old) → old.step_limit ≡ None → IsBlank (state g (record old { in_transaction = true }))
-blank_begun g old blank live unlimited = record { begun = refl; unlimited = unlimited; schema_is = λ _. blank; sound = λ o. (live o).0; rows_are = λ _. tt }
+blank_begun g old blank live unlimited = record { begun = refl; unlimited = unlimited; schema = λ _. blank; sound = λ o. (live o).0 }

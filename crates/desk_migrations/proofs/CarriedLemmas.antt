@@ -1,35 +1,30 @@
--- What the new tables leave of a desk under an earlier schema.
-use Rattle.std.proofs.Common.{◌≡◌, Result, IsTrue, refl, ◌∙◌}
+-- What the steps of the history make of a database.
+use Rattle.std.proofs.Common.{◌≡◌, ℕ, Bool, true, false, if◌then◌else◌, ◌==◌, eq-eqb, List, [], ◌∷◌, drop, Result, refl, sym, subst, ◌∙◌}
+use Rattle.std.specs.Prelude.{⊤}
+use Rattle.std.proofs.lemmas.List.{drop-map}
+use Rattle.std.specs.List.{AllByRecursion}
+use Rattle.sqlite.specs.Held.{Held, state}
 use Rattle.sqlite.specs.State.{State}
+use Rattle.sqlite.specs.Store.{Ghosts}
+use Rattle.sqlite.specs.Order.{Row}
+use Rattle.sqlite.specs.Table.{Table}
 use Rattle.sqlite.specs.Tree.{Trees}
 use Rattle.sqlite_catalog.specs.Change.{KeepsRows}
+use Rattle.sqlite_trees.specs.Tree.{with_tree}
 use Rattle.bug_record.specs.declared.outcome.StoreFault.{StoreFault}
 use Rattle.desk_content.specs.Content.{Content}
-use Rattle.desk_schema.specs.Tables.{desk_schema}
-use Rattle.desk_schema.proofs.ContentLemmas.{AreSame, same_content, same_shown}
-use Rattle.desk_migrations.specs.Making.{IsBuilt, IsEarlier, AreEarlier, HasNoLater, schema_of, without_later, carried, Builds}
-use Rattle.desk_migrations.specs.Stages.{IsExtended}
-use Rattle.desk_migrations.specs.declared.making.Earlier.{Earlier}
-use Rattle.desk_migrations.specs.declared.making.Earlier.TheVariants.{First, Second}
-use Rattle.desk_migrations.proofs.BuildLemmas.{builds_as}
+use Rattle.desk_schema.specs.Tables.{META, desk_schema}
+use Rattle.desk_schema.proofs.ContentLemmas.{AreSame}
+use Rattle.desk_migrations.specs.History.{Step, texts, history, schema_at, without, without_steps}
+use Rattle.desk_migrations.specs.Making.{no_rows, IsBlank, IsUnder}
+use Rattle.desk_migrations.specs.Names.{no_tables}
+use Rattle.desk_migrations.specs.Stages.{RunsSteps, IsBuilt, AreNumbered}
+use Rattle.desk_migrations.proofs.StepLemmas.{Goes, goes_from, HaveNoRow, steps_from, last_from, steps_go}
+use Rattle.desk_migrations.proofs.StepTexts.{steps, keeps_at}
 
--- the rows of the earlier schema are the same
-still_same : (from : Earlier) (c : Content) (db db' : Trees) → KeepsRows desk_schema.tables (without_later from db) db'
-    → AreSame (carried from c.next db') (carried from c.next db)
-still_same First c db db' kept = record {
-  meta = refl;
-  sets = kept.1.0;
-  bugs = kept.1.1.0;
-  marks = kept.1.1.1.0;
-  blocks = kept.1.1.1.1.0;
-  nodes = kept.1.1.1.1.1.0;
-  nearest = kept.1.1.1.1.1.1.0;
-  affects = refl;
-  messages = refl;
-  outcomes = refl;
-  outcome_numbers = refl;
-}
-still_same Second c db db' kept = record {
+-- where the tables of a desk have the same rows, they do whatever the row of meta is then
+pub kept_same : (db db' : Trees) (meta : List Row) → KeepsRows desk_schema.tables db db' → AreSame (with_tree db' META meta) (with_tree db META meta)
+kept_same db db' meta kept = record {
   meta = refl;
   sets = kept.1.0;
   bugs = kept.1.1.0;
@@ -38,61 +33,87 @@ still_same Second c db db' kept = record {
   nodes = kept.1.1.1.1.1.0;
   nearest = kept.1.1.1.1.1.1.0;
   affects = kept.1.1.1.1.1.1.1.0;
-  messages = refl;
-  outcomes = refl;
-  outcome_numbers = refl;
+  messages = kept.1.1.1.1.1.1.1.1.0;
+  outcomes = kept.1.1.1.1.1.1.1.1.1.0;
+  outcome_numbers = kept.1.1.1.1.1.1.1.1.1.1.0;
 }
 
-still_earlier : (from : Earlier) (c : Content) (db db' : Trees) → KeepsRows desk_schema.tables (without_later from db) db' → AreEarlier from c db → AreEarlier from c db'
-still_earlier from c db db' kept was = record {
-  meta = meta from kept ∙ was.meta;
-  shown = same_shown (carried from c.next db') (carried from c.next db) same was.shown;
-  says = same_content _ _ same ∙ was.says;
+-- ---- tables that are emptied
+
+here : (db : Trees) (tree : ℕ) → with_tree db tree [] tree ≡ []
+here db tree = rw (eq-eqb tree tree refl)
+
+still : (db : Trees) (tree t : ℕ) → db t ≡ [] → with_tree db tree [] t ≡ []
+still db tree t none = go (t == tree)
+  where
+    go : (b : Bool) → (if b then [] else db t) ≡ []
+    go true = refl
+    go false = none
+
+-- an empty tree stays so
+still_all : (tables : List Table) (db : Trees) (t : ℕ) → db t ≡ [] → without tables db t ≡ []
+still_all [] db t none = none
+still_all (u ∷ tables) db t none = still (without tables db) u.tree t (still_all tables db t none)
+
+none_of : (tables : List Table) (db : Trees) → AllByRecursion (λ t. without tables db t.tree ≡ []) tables
+none_of [] db = tt
+none_of (u ∷ tables) db = (here (without tables db) u.tree, more tables (none_of tables db))
+  where
+    more : (ts : List Table) → AllByRecursion (λ t. without tables db t.tree ≡ []) ts → AllByRecursion (λ t. with_tree (without tables db) u.tree [] t.tree ≡ []) ts
+    more [] all = tt
+    more (t ∷ ts) all = (still (without tables db) u.tree t.tree all.0, more ts all.1)
+
+none_later : (rest : List Step) (db : Trees) → HaveNoRow (without_steps rest db) rest
+none_later [] db = tt
+none_later (step ∷ rest) db = (none_of step.tables (without_steps rest db), more rest (none_later rest db))
+  where
+    tables : (ts : List Table) → AllByRecursion (λ t. without_steps rest db t.tree ≡ []) ts → AllByRecursion (λ t. without step.tables (without_steps rest db) t.tree ≡ []) ts
+    tables [] all = tt
+    tables (t ∷ ts) all = (still_all step.tables (without_steps rest db) t.tree all.0, tables ts all.1)
+
+    more : (steps : List Step) → HaveNoRow (without_steps rest db) steps → HaveNoRow (without step.tables (without_steps rest db)) steps
+    more [] all = tt
+    more (s ∷ steps) all = (tables s.tables all.0, more steps all.1)
+
+-- ---- the steps from a schema on
+
+module _ {S : Type 0} (g : Ghosts S) (Fact : Type 0) (rows : Trees) (k : ℕ) (none : HaveNoRow rows (drop k history)) (old new : Held S) (r : Result (Unit {0}) StoreFault) where
+  runs_go : RunsSteps g (drop k texts) old new r → Goes (IsBuilt Fact rows (schema_at k)) (IsBuilt Fact rows desk_schema) (state g old) (state g new) r
+  runs_go run =
+      subst (λ last. Goes (IsBuilt Fact rows (schema_at k)) (IsBuilt Fact rows last) (state g old) (state g new) r) (last_from no_tables history k)
+      (steps_go g Fact rows (schema_at k) (drop k history) (steps_from no_tables history k steps) none old new r
+      (subst (λ xs. RunsSteps g xs old new r) (drop-map (λ (s : Step). s.texts) k history) run))
+
+-- over a database with no table
+pub new_tables : {S : Type 0} (g : Ghosts S) (old new : Held S) (r : Result (Unit {0}) StoreFault) → RunsSteps g texts old new r → Goes IsBlank (IsBuilt ⊤ no_rows desk_schema) (state g old) (state g new) r
+new_tables g old new r run =
+    goes_from (IsBuilt ⊤ no_rows no_tables) IsBlank (IsBuilt ⊤ no_rows desk_schema) (state g old) (state g new) r
+    (λ was. record { begun = was.begun; unlimited = was.unlimited; schema_is = was.schema; sound = was.sound; rows_are = λ _. tt; fact = λ _. tt })
+    (runs_go g ⊤ no_rows 0 all_none old new r run)
+  where
+    all_none : HaveNoRow no_rows history
+    all_none = ((refl, (refl, (refl, (refl, (refl, (refl, (refl, tt))))))), ((refl, tt), ((refl, (refl, (refl, tt))), tt)))
+
+-- over the tables of a desk under a schema
+abbrev pub rows_of : ℕ → State → Trees
+rows_of k s = without_steps (drop k history) s.now.trees
+
+abbrev pub IsCarried : ℕ → Content → State → State → Type 0
+IsCarried k c old = IsBuilt (AreNumbered k c (rows_of k old)) (rows_of k old) desk_schema
+
+under_built : (k : ℕ) (c : Content) (s : State) → IsUnder k c s → IsBuilt (AreNumbered k c (rows_of k s)) (rows_of k s) (schema_at k) s
+under_built k c s was = record {
+  begun = was.begun;
+  unlimited = was.unlimited;
+  schema_is = was.schema;
+  sound = was.sound;
+  rows_are = λ o. (keeps_at k (was.shown o).some s.now.trees).1;
+  fact = λ o. let it = was.shown o in record { meta = sym (keeps_at k it.some s.now.trees).0 ∙ it.meta; shown = it.shown; says = it.says };
 }
-  where
-    same : AreSame (carried from c.next db') (carried from c.next db)
-    same = still_same from c db db' kept
 
-    meta : (e : Earlier) → KeepsRows desk_schema.tables (without_later e db) db' → db' 0 ≡ db 0
-    meta First all = all.0
-    meta Second all = all.0
-
--- the new tables have no row
-none_later : (from : Earlier) (db db' : Trees) → KeepsRows desk_schema.tables (without_later from db) db' → HasNoLater from db'
-none_later First db db' kept = (
-  kept.1.1.1.1.1.1.1.0,
-  record { messages = kept.1.1.1.1.1.1.1.1.0; outcomes = kept.1.1.1.1.1.1.1.1.1.0; outcome_numbers = kept.1.1.1.1.1.1.1.1.1.1.0 },
-)
-none_later Second db db' kept =
-    record { messages = kept.1.1.1.1.1.1.1.1.0; outcomes = kept.1.1.1.1.1.1.1.1.1.0; outcome_numbers = kept.1.1.1.1.1.1.1.1.1.1.0 }
-
-none_before : (from : Earlier) (db : Trees) → HasNoLater from (without_later from db)
-none_before First db = (refl, record { messages = refl; outcomes = refl; outcome_numbers = refl })
-none_before Second db = record { messages = refl; outcomes = refl; outcome_numbers = refl }
-
-own_rows : (from : Earlier) (db : Trees) → KeepsRows (schema_of from).tables (without_later from db) db
-own_rows First db = (refl, (refl, (refl, (refl, (refl, (refl, (refl, tt)))))))
-own_rows Second db = (refl, (refl, (refl, (refl, (refl, (refl, (refl, (refl, tt))))))))
-
-pub extends : (from : Earlier) (c : Content) (old new : State) (r : Result (Unit {0}) StoreFault)
-    → ((rows : Trees) → HasNoLater from rows → Builds (IsBuilt rows (schema_of from)) (IsBuilt rows desk_schema) old new r)
-    → Builds (IsEarlier from c) (IsExtended from c) old new r
-extends from c old new r builds =
-    builds_as (IsBuilt rows (schema_of from)) (IsBuilt rows desk_schema) (IsEarlier from c) (IsExtended from c) old new r before after
-    (builds rows (none_before from old.now.trees))
-  where
-    rows : Trees
-    rows = without_later from old.now.trees
-
-    before : IsEarlier from c old → IsBuilt rows (schema_of from) old
-    before was = record { begun = was.begun; unlimited = was.unlimited; schema_is = was.schema; sound = was.sound; rows_are = λ _. own_rows from old.now.trees }
-
-    after : IsEarlier from c old → IsTrue old.is_open → IsBuilt rows desk_schema new → IsExtended from c new
-    after was live now = record {
-      begun = now.begun;
-      unlimited = now.unlimited;
-      schema = now.schema_is;
-      sound = now.sound;
-      earlier = λ o. still_earlier from c old.now.trees new.now.trees (now.rows_are o) (was.shown live);
-      empty = λ o. none_later from old.now.trees new.now.trees (now.rows_are o);
-    }
+pub later_tables : {S : Type 0} (g : Ghosts S) (k : ℕ) (c : Content) (old new : Held S) (r : Result (Unit {0}) StoreFault) → RunsSteps g (drop k texts) old new r
+    → Goes (IsUnder k c) (IsCarried k c (state g old)) (state g old) (state g new) r
+later_tables g k c old new r run =
+    let rows = rows_of k (state g old) in
+    goes_from (IsBuilt (AreNumbered k c rows) rows (schema_at k)) (IsUnder k c) (IsCarried k c (state g old)) (state g old) (state g new) r (under_built k c (state g old))
+    (runs_go g (AreNumbered k c rows) rows k (none_later (drop k history) (state g old).now.trees) old new r run)

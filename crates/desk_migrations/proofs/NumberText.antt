@@ -11,7 +11,7 @@ use Rattle.sqlite_ast.specs.declared.Statement.TheVariants as written
 use Rattle.sqlite_resolve.specs.Lowering.{Checked, and_then}
 use Rattle.sqlite_resolve.specs.Program.{query as queried, program}
 use Rattle.sqlite_resolve.specs.declared.compiled.Compiled.{Compiled}
-use Rattle.sqlite_resolve.specs.declared.error.CompileError.TheVariants.{OutOfMemory, Parse, NoSuchTable, NoSuchIndex, NoSuchColumn, NoSuchFunction, Ambiguous, Exists, Misuse, Mismatch, Unsupported, TooBig, NeedsView}
+use Rattle.sqlite_resolve.specs.declared.error.CompileError.TheVariants.{NoSuchTable}
 use Rattle.sqlite_schema.specs.declared.command.Returning.{Returning}
 use Rattle.sqlite_schema.specs.declared.program.Program.{Program}
 use Rattle.sqlite_syntax.specs.declared.statement.Parsed.{Parsed}
@@ -29,18 +29,7 @@ unlisted = refl
 settled : (r : Checked Compiled) → (if misses_table r then if_select (compiled listing_schema number_text) else r) ≡ r
 settled (Ok c) = refl
 settled (Err NoSuchTable) = unlisted
-settled (Err OutOfMemory) = refl
-settled (Err (Parse e)) = refl
-settled (Err NoSuchIndex) = refl
-settled (Err NoSuchColumn) = refl
-settled (Err NoSuchFunction) = refl
-settled (Err Ambiguous) = refl
-settled (Err Exists) = refl
-settled (Err Misuse) = refl
-settled (Err Mismatch) = refl
-settled (Err Unsupported) = refl
-settled (Err TooBig) = refl
-settled (Err (NeedsView at)) = refl
+settled (Err _) = refl
 
 pub is_compiled : (schema : Schema) → understood schema number_text ≡ compiled schema number_text
 unfolding understood

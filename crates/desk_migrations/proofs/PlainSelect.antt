@@ -29,7 +29,7 @@ use Rattle.sqlite_resolve.specs.Select.{outermost, having, parts, ungrouped, ass
 use Rattle.sqlite_resolve.specs.Terms.{number, conjuncts}
 use Rattle.sqlite_resolve.specs.declared.body.Body.{Body}
 use Rattle.sqlite_resolve.specs.declared.body.Joined.{Joined}
-use Rattle.sqlite_resolve.specs.declared.error.CompileError.TheVariants.{OutOfMemory, Parse, NoSuchTable, NoSuchIndex, NoSuchColumn, NoSuchFunction, Ambiguous, Exists, Misuse, Mismatch, Unsupported, TooBig, NeedsView}
+use Rattle.sqlite_resolve.specs.declared.error.CompileError.TheVariants.{Mismatch, NeedsView}
 use Rattle.sqlite_schema.specs.Program.{let_in}
 use Rattle.sqlite_schema.specs.declared.program.Program.{Program}
 use Rattle.sqlite_schema.specs.declared.program.Table.{Table as Let}
@@ -229,18 +229,7 @@ plain_viewing query schema core page lets out none plain is = go (named schema c
         let e = same_ok is in
         (ap (λ (x : (building.Shown × Schema) × List Let). x.1) (sym e), subst (λ (x : (building.Shown × Schema) × List Let). IsPlainDraft page x.0.0.0) e (plain_named schema core page shown plain known))
     go (Err (NeedsView at)) known is = absurd (let no = rw none at is in cc)
-    go (Err OutOfMemory) known is = absurd (let no = is in cc)
-    go (Err (Parse e)) known is = absurd (let no = is in cc)
-    go (Err NoSuchTable) known is = absurd (let no = is in cc)
-    go (Err NoSuchIndex) known is = absurd (let no = is in cc)
-    go (Err NoSuchColumn) known is = absurd (let no = is in cc)
-    go (Err NoSuchFunction) known is = absurd (let no = is in cc)
-    go (Err Ambiguous) known is = absurd (let no = is in cc)
-    go (Err Exists) known is = absurd (let no = is in cc)
-    go (Err Misuse) known is = absurd (let no = is in cc)
-    go (Err Mismatch) known is = absurd (let no = is in cc)
-    go (Err Unsupported) known is = absurd (let no = is in cc)
-    go (Err TooBig) known is = absurd (let no = is in cc)
+    go (Err _) known is = absurd (let no = is in cc)
 
 abbrev whole_page : Term × Term
 whole_page = (lit (Int (negsuc 0)), number 0)

@@ -1,94 +1,62 @@
 -- How the tables of a new desk are made, and how those of an earlier schema are carried over.
-use Rattle.std.specs.Prelude.{◌≡◌, ◌≢◌, ℕ, [], ◌∷◌, pos, IsTrue, IfOk, IfErr, None, Result}
+use Rattle.std.specs.Prelude.{◌≡◌, ◌≢◌, ◌<◌, ◌≤◌, ℕ, [], ◌∷◌, pos, drop, IsTrue, IfOk, IfErr, None, Result}
 use Rattle.sqlite.specs.Effect.{IsDatabase}
 use Rattle.sqlite.specs.Order.{Row}
-use Rattle.sqlite.specs.Schema.{Schema}
 use Rattle.sqlite.specs.State.{State, HasCleanDisk, KeepsCommit, Survives}
 use Rattle.sqlite.specs.Tree.{Trees}
 use Rattle.sqlite.specs.declared.types.Value.TheVariants.{Null, Int}
-use Rattle.sqlite_catalog.specs.Change.{KeepsRows}
 use Rattle.sqlite_trees.specs.Tree.{with_tree}
 use Rattle.bug_record.specs.declared.outcome.StoreFault.{StoreFault}
 use Rattle.bug_record.specs.declared.outcome.StoreFault.TheVariants.{Foreign}
 use Rattle.desk_content.specs.Content.{Content}
 use Rattle.desk_schema.specs.Rows.{meta_cells, content_of, AreShown}
 use Rattle.desk_schema.specs.Steps.{IsInside, seen}
-use Rattle.desk_schema.specs.Tables.{META, AFFECTS, MESSAGES, OUTCOMES, OUTCOME_NUMBERS, first_schema, second_schema}
+use Rattle.desk_schema.specs.Tables.{META}
+use Rattle.desk_migrations.specs.History.{history, schema_at, without_steps}
 use Rattle.desk_migrations.specs.Names.{no_tables}
-use Rattle.desk_migrations.specs.declared.making.Earlier.{Earlier}
-use Rattle.desk_migrations.specs.declared.making.Earlier.TheVariants.{First, Second}
-
--- a transaction over this schema, of which each table has these rows, if the store still serves
-pub record IsBuilt (rows : Trees) (schema : Schema) (s : State) : Type 0 where
-  pub begun : IsTrue s.in_transaction
-  pub unlimited : s.step_limit ≡ None
-  pub schema_is : IsTrue s.is_open → s.now.schema ≡ schema
-  pub sound : IsTrue s.is_open → IsDatabase s.now
-  pub rows_are : IsTrue s.is_open → KeepsRows schema.tables rows s.now.trees
+use Rattle.desk_migrations.specs.declared.history.TheConstants.{NEWEST}
 
 abbrev pub no_rows : Trees
 no_rows tree = []
 
 -- a transaction over a database with no table, no index and no view, if the store still serves
-abbrev pub IsBlank : State → Type 0
-IsBlank = IsBuilt no_rows no_tables
+pub record IsBlank (s : State) : Type 0 where
+  pub begun : IsTrue s.in_transaction
+  pub unlimited : s.step_limit ≡ None
+  pub schema : IsTrue s.is_open → s.now.schema ≡ no_tables
+  pub sound : IsTrue s.is_open → IsDatabase s.now
 
 -- a transaction over the tables of a desk that say this
 pub record IsDeskOf (c : Content) (s : State) : Type 0 where
   pub inside : IsInside s
   pub says : seen s ≡ c
 
--- ---- earlier schemas
+-- ---- under the schema of a number
 
-abbrev pub number_of : Earlier → ℕ
-number_of First = 1
-number_of Second = 2
+-- the row of meta has that number
+abbrev pub numbered_cells : ℕ → ℕ → Row
+numbered_cells k next = Int (pos 1) ∷ Null ∷ Int (pos k) ∷ Int (pos next) ∷ []
 
-abbrev pub schema_of : Earlier → Schema
-schema_of First = first_schema
-schema_of Second = second_schema
+-- the tables of a desk under schema k, carried over: the number is the newest, and the tables of
+-- later steps have no row
+abbrev pub carried : ℕ → ℕ → Trees → Trees
+carried k next db = with_tree (without_steps (drop k history) db) META (meta_cells next ∷ [])
 
--- under an earlier schema the row of meta has that schema's number
-abbrev pub earlier_meta_cells : Earlier → ℕ → Row
-earlier_meta_cells from next = Int (pos 1) ∷ Null ∷ Int (pos (number_of from)) ∷ Int (pos next) ∷ []
+-- under schema k these trees are the tables of a desk, and say this
+pub record AreUnder (k : ℕ) (c : Content) (db : Trees) : Type 0 where
+  pub some : 0 < k
+  pub known : k ≤ NEWEST
+  pub meta : db META ≡ numbered_cells k c.next ∷ []
+  pub shown : AreShown (carried k c.next db)
+  pub says : content_of (carried k c.next db) ≡ c
 
--- the tables that schema 3 adds have no row
-pub record HasNoMessages (db : Trees) : Type 0 where
-  pub messages : db MESSAGES ≡ []
-  pub outcomes : db OUTCOMES ≡ []
-  pub outcome_numbers : db OUTCOME_NUMBERS ≡ []
-
--- the tables that come after an earlier schema have no row
-abbrev pub HasNoLater : Earlier → Trees → Type 0
-HasNoLater First db = (db AFFECTS ≡ []) × HasNoMessages db
-HasNoLater Second db = HasNoMessages db
-
-abbrev pub without_messages : Trees → Trees
-without_messages db = with_tree (with_tree (with_tree db MESSAGES []) OUTCOMES []) OUTCOME_NUMBERS []
-
--- these trees, with no row in the tables that come after an earlier schema
-abbrev pub without_later : Earlier → Trees → Trees
-without_later First db = without_messages (with_tree db AFFECTS [])
-without_later Second db = without_messages db
-
--- the tables of a desk under an earlier schema, carried over: the number is 3, no message is known,
--- and under schema 1 no bug affects a package
-abbrev pub carried : Earlier → ℕ → Trees → Trees
-carried from next db = without_later from (with_tree db META (meta_cells next ∷ []))
-
--- under an earlier schema these trees are the tables of a desk, and say this
-pub record AreEarlier (from : Earlier) (c : Content) (db : Trees) : Type 0 where
-  pub meta : db META ≡ earlier_meta_cells from c.next ∷ []
-  pub shown : AreShown (carried from c.next db)
-  pub says : content_of (carried from c.next db) ≡ c
-
--- a transaction over the tables of a desk under an earlier schema, if the store still serves
-pub record IsEarlier (from : Earlier) (c : Content) (s : State) : Type 0 where
+-- a transaction over the tables of a desk under schema k, if the store still serves
+pub record IsUnder (k : ℕ) (c : Content) (s : State) : Type 0 where
   pub begun : IsTrue s.in_transaction
   pub unlimited : s.step_limit ≡ None
-  pub schema : IsTrue s.is_open → s.now.schema ≡ schema_of from
+  pub schema : IsTrue s.is_open → s.now.schema ≡ schema_at k
   pub sound : IsTrue s.is_open → IsDatabase s.now
-  pub shown : IsTrue s.is_open → AreEarlier from c s.now.trees
+  pub shown : IsTrue s.is_open → AreUnder k c s.now.trees
 
 -- ---- what a call does
 

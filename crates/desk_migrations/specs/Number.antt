@@ -14,9 +14,7 @@ use Rattle.bug_record.specs.declared.outcome.StoreFault.{StoreFault}
 use Rattle.bug_record.specs.declared.outcome.StoreFault.TheVariants.{Foreign}
 use Rattle.sql_forms.specs.Numbers.{number_row}
 use Rattle.desk_content.specs.Content.{Content}
-use Rattle.desk_schema.specs.Steps.{IsInside}
-use Rattle.desk_migrations.specs.Making.{IsEarlier, number_of}
-use Rattle.desk_migrations.specs.declared.making.Earlier.{Earlier}
+use Rattle.desk_migrations.specs.Making.{IsUnder}
 use Rattle.desk_migrations.specs.declared.number.SchemaRead.{SchemaRead}
 use Rattle.desk_migrations.specs.declared.number.SchemaRead.TheVariants.{Number, NoNumber}
 
@@ -66,7 +64,5 @@ pub record ReadsSchema (old new : State) (result : Result SchemaRead StoreFault)
   pub sure : IfErr result (λ fault. fault ≢ Foreign)
   -- where the schema has no view the database says nothing else
   pub only : HasCleanDisk new → old.step_limit ≡ None → old.now.schema.views ≡ [] → IfOk result (λ read. (other : SchemaRead) → Says old.now other → other ≡ read)
-  -- the tables of a desk say 3
-  pub desk : HasCleanDisk new → IsInside old → IfOk result (λ read. read ≡ Number 3)
-  -- those of a desk under an earlier schema say that schema's number
-  pub earlier : (from : Earlier) (c : Content) → HasCleanDisk new → IsEarlier from c old → IfOk result (λ read. read ≡ Number (number_of from))
+  -- the tables of a desk say the number of their schema
+  pub under : (k : ℕ) (c : Content) → HasCleanDisk new → IsUnder k c old → IfOk result (λ read. read ≡ Number k)

@@ -1,15 +1,20 @@
--- What the texts of creation do, one after another.
-use Rattle.std.specs.Prelude.{◌≡◌, ℕ, List, [], ◌∷◌, IsTrue, None, Result}
+-- What the texts that make tables do, one after another.
+use Rattle.std.specs.Prelude.{◌≡◌, ◌⊎◌, ℕ, List, [], ◌∷◌, IsTrue, None, Result, Ok, Err}
 use Rattle.sqlite.specs.Effect.{IsDatabase}
+use Rattle.sqlite.specs.Held.{Held, state}
 use Rattle.sqlite.specs.Schema.{Schema}
+use Rattle.sqlite.specs.Store.{Ghosts}
 use Rattle.sqlite.specs.State.{State, HasCleanDisk, Survives, ExecutesInside}
+use Rattle.sqlite.specs.Tree.{Trees}
 use Rattle.sqlite.specs.declared.error.Error.{Error}
+use Rattle.sqlite_catalog.specs.Change.{KeepsRows}
+use Rattle.sqlite_trees.specs.Tree.{with_tree}
 use Rattle.bug_record.specs.declared.outcome.StoreFault.{StoreFault}
 use Rattle.sql_forms.specs.Faults.{written}
 use Rattle.desk_content.specs.Content.{Content}
-use Rattle.desk_schema.specs.Tables.{desk_schema, meta_table, sets_table, bugs_table, marks_table, blocks_table, nodes_table, nearest_table, marks_key, blocks_key, nodes_key, nearest_key}
-use Rattle.desk_migrations.specs.Making.{AreEarlier, HasNoLater}
-use Rattle.desk_migrations.specs.declared.making.Earlier.{Earlier}
+use Rattle.desk_schema.specs.Rows.{meta_cells, content_of, AreShown}
+use Rattle.desk_schema.specs.Tables.{META}
+use Rattle.desk_migrations.specs.Making.{numbered_cells}
 
 -- what one text, with no parameter, does in a transaction
 pub record HasRun (sql : List ℕ) (old new : State) (result : Result (Unit {0}) StoreFault) : Type 0 where
@@ -18,24 +23,34 @@ pub record HasRun (sql : List ℕ) (old new : State) (result : Result (Unit {0})
   pub told : result ≡ written answer
   pub runs : HasCleanDisk new → IsTrue old.in_transaction → ExecutesInside 0 sql [] old new answer
 
--- the schema with the first four tables
-abbrev pub first_tables : Schema
-first_tables = record { tables = meta_table ∷ sets_table ∷ bugs_table ∷ marks_table ∷ []; indexes = marks_key ∷ []; views = [] }
+-- each of a list was done, one after another, up to the first that failed
+abbrev pub InTurn : {X M : Type 0} → (X → M → M → Result (Unit {0}) StoreFault → Type 0) → List X → M → M → Result (Unit {0}) StoreFault → Type 0
+InTurn Did [] old new result = (new ≡ old) × (result ≡ Ok tt)
+InTurn {M = M} Did (x ∷ xs) old new result =
+    ((fault : StoreFault) × (result ≡ Err fault) × Did x old new (Err fault)) ⊎ ((mid : M) × Did x old mid (Ok tt) × InTurn Did xs mid new result)
 
--- the schema with the tables of schema 1, and the indexes of their keys alone
-abbrev pub all_first_tables : Schema
-all_first_tables = record {
-  tables = meta_table ∷ sets_table ∷ bugs_table ∷ marks_table ∷ blocks_table ∷ nodes_table ∷ nearest_table ∷ [];
-  indexes = marks_key ∷ blocks_key ∷ nodes_key ∷ nearest_key ∷ [];
-  views = [];
-}
+module _ {S : Type 0} (g : Ghosts S) where
+  abbrev pub RunsText : List ℕ → Held S → Held S → Result (Unit {0}) StoreFault → Type 0
+  RunsText sql old new result = HasRun sql (state g old) (state g new) result
 
--- a transaction over the tables of an earlier schema, which say this, and the tables that come
--- after it, with no row, before the number is set, if the store still serves
-pub record IsExtended (from : Earlier) (c : Content) (s : State) : Type 0 where
+  abbrev pub RunsStep : List (List ℕ) → Held S → Held S → Result (Unit {0}) StoreFault → Type 0
+  RunsStep step old new result = InTurn RunsText step old new result
+
+  abbrev pub RunsSteps : List (List (List ℕ)) → Held S → Held S → Result (Unit {0}) StoreFault → Type 0
+  RunsSteps steps old new result = InTurn RunsStep steps old new result
+
+-- a transaction over this schema, of which each table has these rows, and this is so, if the store
+-- still serves
+pub record IsBuilt (Fact : Type 0) (rows : Trees) (schema : Schema) (s : State) : Type 0 where
   pub begun : IsTrue s.in_transaction
   pub unlimited : s.step_limit ≡ None
-  pub schema : IsTrue s.is_open → s.now.schema ≡ desk_schema
+  pub schema_is : IsTrue s.is_open → s.now.schema ≡ schema
   pub sound : IsTrue s.is_open → IsDatabase s.now
-  pub earlier : IsTrue s.is_open → AreEarlier from c s.now.trees
-  pub empty : IsTrue s.is_open → HasNoLater from s.now.trees
+  pub rows_are : IsTrue s.is_open → KeepsRows schema.tables rows s.now.trees
+  pub fact : IsTrue s.is_open → Fact
+
+-- the row of meta has this number, and with the newest these trees say this
+pub record AreNumbered (k : ℕ) (c : Content) (db : Trees) : Type 0 where
+  pub meta : db META ≡ numbered_cells k c.next ∷ []
+  pub shown : AreShown (with_tree db META (meta_cells c.next ∷ []))
+  pub says : content_of (with_tree db META (meta_cells c.next ∷ [])) ≡ c

@@ -1,7 +1,6 @@
 -- What an outcome that is kept leaves of what is remembered.
-use Rattle.std.proofs.Common.{◌≡◌, ◌≢◌, ℕ, List, [], ◌∷◌, Option, None, Some, Result, IsTrue, refl, sym, ap, subst, ◌∙◌}
+use Rattle.std.proofs.Common.{◌≡◌, ℕ, List, Option, None, Some, Result, refl, ap, subst, ◌∙◌}
 use Rattle.sqlite.specs.Held.{Held, state}
-use Rattle.sqlite.specs.State.{HasCleanDisk, Survives}
 use Rattle.sqlite_trees.specs.declared.store.Store as store
 use Rattle.version_nodes.specs.Trees.{Ancestry}
 use Rattle.bug_record.specs.Texts.{IsText, IfGiven}
@@ -10,7 +9,6 @@ use Rattle.bug_record.specs.Sets.{Each}
 use Rattle.bug_record.specs.declared.command.Change.{Change}
 use Rattle.bug_record.specs.declared.outcome.Outcome.{Outcome}
 use Rattle.bug_record.specs.declared.outcome.StoreFault.{StoreFault}
-use Rattle.bug_record.specs.declared.outcome.StoreFault.TheVariants.{Foreign}
 use Rattle.desk_content.specs.Changes.{FitsContent, cleared_for}
 use Rattle.desk_content.specs.Content.{Content}
 use Rattle.desk_content.specs.Keeping.{MayBePut, changed_by, kept_after}
@@ -22,10 +20,9 @@ use Rattle.desk_content.proofs.ClosedLemmas.{put_nodes, no_nodes}
 use Rattle.desk_writes.specs.Needs.{HasTreeIfAny}
 use Rattle.desk_store.specs.Store.{Keeps, with_change}
 use Rattle.desk_store.proofs.KeepLemmas.{kept_also-good}
-use Rattle.desk_tables.specs.Kept.{content_seen, desk_seen, keeping_seen, MayKeep, IsKept}
-use Rattle.desk_tables.specs.Shown.{HasContent, AreTablesOf}
+use Rattle.desk_tables.specs.Kept.{content_seen, MayKeep}
 use Rattle.desk_tables.specs.Transactions.{IsChanged}
-use Rattle.desk_tables.proofs.KeptLemmas.{made, refused, same_tree}
+use Rattle.desk_tables.proofs.KeptLemmas.{made}
 
 -- ---- a change, if there is one
 
@@ -56,57 +53,21 @@ pub line_over_same : {S : Type 0} (g : store.Ghosts S) (old new : Held S) (r : R
 line_over_same g old new r id sender message outcome change t u same =
     subst (λ v. IsChanged (state g old) (state g new) r (FitsLine v id sender message outcome change) (λ c. kept_after id sender message outcome change c)) same
 
-module _ {S : Type 0} (g : store.Ghosts S) (last begun : List (Held S)) (old new : Held S) (t : Option Ancestry) (id sender message : List ℕ) (outcome : Outcome) (change : Option Change) where
-  -- what is asked of a change, if there is one
-  abbrev Asked : Type 0
-  Asked = IfGiven (FitsContent (content_seen g last)) change × HasTreeIfAny t (content_seen g last) change
+module _ {S : Type 0} (g : store.Ghosts S) (last : List (Held S)) (id sender message : List ℕ) (outcome : Outcome) (change : Option Change) (may : MayKeep g last id sender message outcome change)
+    (kept : IsKeptContent (content_seen g last)) (fits : IfGiven (FitsContent (content_seen g last)) change) where
+  abbrev c : Content
+  c = content_seen g last
 
-  abbrev Puts : Result (Unit {0}) StoreFault → Type 0
-  Puts r = IsChanged (state g old) (state g new) r (FitsLine t id sender message outcome change) (λ c. kept_after id sender message outcome change c)
+  abbrev after : Content
+  after = kept_after id sender message outcome change c
 
-  module _ (may : MayKeep g last id sender message outcome change) where
-    fits_here : IsKept g last begun old t → Asked → FitsLine t id sender message outcome change (content_seen g last)
-    fits_here was fits = (was.content, record { fits = fits.0; same = may.next.same; good = may.good }, fits.1)
+  pub line_is : (t : Option Ancestry) → HasTreeIfAny t c change → FitsLine t id sender message outcome change c
+  line_is t tree = (kept, record { fits = fits; same = may.next.same; good = may.good }, tree)
 
-    -- it was kept, and after it the connection was noted anew
-    module _ (last' begun' : List (Held S)) (changes : Puts made) (is : last' ≡ new ∷ []) (none : begun' ≡ []) (text : IsText sender) where
-      says : IsKept g last begun old t → Asked → HasCleanDisk (state g new)
-          → content_seen g last' ≡ kept_after id sender message outcome change (content_seen g last)
-      says was fits clean = ap (content_seen g) is ∙ (changes.ok (content_seen g last) clean was.now (fits_here was fits)).2
+  pub line_stays : IsText sender → IsKeptContent after × (after.nodes ≡ c.nodes)
+  line_stays text =
+      let good = kept_also-good id sender message (keeping_in c) (desk_in c) outcome (with_change change (desk_in c)) may.next kept.sound text may.good kept.good in
+      (after_kept c kept change fits id sender message outcome good, changed_nodes change c)
 
-      pub line_serves : IsKept g last begun old t → Asked → HasCleanDisk (state g new) → IsTrue (state g new).is_open
-      line_serves was fits clean = (changes.ok (content_seen g last) clean was.now (fits_here was fits)).0
-
-      pub line_kept : IsKept g last begun old t → Asked → HasCleanDisk (state g new) → IsKept g last' begun' new t
-      line_kept was fits clean =
-          let c = content_seen g last in
-          let now = says was fits clean in
-          let good = kept_also-good id sender message (keeping_in c) (desk_in c) outcome (with_change change (desk_in c)) may.next was.content.sound text may.good was.content.good in
-          subst (λ b. IsKept g last' b new t) (sym none) (record {
-            now = subst (λ l. HasContent (content_seen g l) (state g new)) (sym is) (λ clean' open'. ((changes.ok c clean was.now (fits_here was fits)).1, refl));
-            before = tt;
-            content = subst IsKeptContent (sym now) (after_kept c was.content change fits.0 id sender message outcome good);
-            tree = same_tree t c.nodes (content_seen g last').nodes (sym (changed_nodes change c) ∙ sym (ap (λ (k : Content). k.nodes) now)) was.tree;
-          })
-
-      pub line_fact : IsKept g last begun old t → Asked → HasCleanDisk (state g new)
-          → Keeps id sender message outcome change (desk_seen g last) (keeping_seen g last) made (desk_seen g last') (keeping_seen g last')
-      line_fact was fits clean =
-          let c = content_seen g last in
-          let now = says was fits clean in (
-            ap desk_in now ∙ changed_desk change c was.content fits.0,
-            ap keeping_in now ∙ after_keeping c was.content change fits.0 id sender message outcome,
-          )
-
-    pub line_crashed : (r : Result (Unit {0}) StoreFault) → Puts r
-        → (HasCleanDisk (state g new) → IsKept g last begun old t × Asked)
-        → Survives (state g old) (state g new) (AreTablesOf (kept_after id sender message outcome change (content_seen g last)))
-    line_crashed r changes both = changes.crash (content_seen g last) (λ clean. let b = both clean in (b.0.now, fits_here b.0 b.1))
-
-    pub line_never : (fault : StoreFault) → Puts (refused fault) → IsKept g last begun old t → Asked
-        → HasCleanDisk (state g new) → fault ≢ Foreign
-    line_never fault changes was fits clean = changes.sure (content_seen g last) clean was.now (fits_here was fits)
-
-  -- it was not kept
-  pub line_stayed : (fault : StoreFault) → Puts (refused fault) → IsKept g last begun old t → IsKept g last begun new t
-  line_stayed fault changes was = record { now = changes.err (content_seen g last) was.now; before = was.before; content = was.content; tree = was.tree }
+  pub line_fact : (d : Content) → d ≡ after → Keeps id sender message outcome change (desk_in c) (keeping_in c) made (desk_in d) (keeping_in d)
+  line_fact d is = (ap desk_in is ∙ changed_desk change c kept fits, ap keeping_in is ∙ after_keeping c kept change fits id sender message outcome)

@@ -1,12 +1,12 @@
 -- What a question and a change leave of what is remembered.
-use Rattle.std.proofs.Common.{◌≡◌, ◌≢◌, List, [], ◌∷◌, ◌++◌, length, Option, None, Some, is_some, true, false, true≢false, Result, Ok, Err, IfOk, IfErr, OnOk, IfSome, IsTrue, arith, refl, sym, ap, subst, ◌∙◌}
+use Rattle.std.proofs.Common.{◌≡◌, ◌≢◌, List, [], ◌∷◌, ◌++◌, Option, None, Some, is_some, false, true≢false, Result, Ok, Err, IfOk, IfErr, IfSome, IsTrue, arith, refl, sym, ap, subst, ◌∙◌, length, true, OnOk}
 use Rattle.std.specs.List.{AllByRecursion}
 use Rattle.sqlite.specs.Held.{Held, state}
 use Rattle.sqlite.specs.State.{HasCleanDisk, Survives}
 use Rattle.sqlite_trees.specs.declared.store.Store as store
 use Rattle.version_nodes.specs.Trees.{Ancestry}
 use Rattle.bug_record.specs.Desk.{Desk}
-use Rattle.bug_record.specs.Images.{put, HasMember, IsSetOf}
+use Rattle.bug_record.specs.Images.{HasMember, IsSetOf}
 use Rattle.bug_record.specs.declared.bug.SetImage.{SetImage}
 use Rattle.bug_record.specs.declared.command.Change.{Change}
 use Rattle.bug_record.specs.declared.outcome.StoreFault.{StoreFault}
@@ -14,16 +14,15 @@ use Rattle.bug_record.specs.declared.outcome.StoreFault.TheVariants.{Foreign}
 use Rattle.desk_content.specs.Changes.{FitsContent, all_stay, changed, cleared_for}
 use Rattle.desk_content.specs.Content.{Content}
 use Rattle.desk_content.specs.Kept.{IsKeptContent}
-use Rattle.desk_content.specs.View.{desk_in, keeping_in}
-use Rattle.desk_content.proofs.ChangeLemmas.{change_desk, change_kept}
+use Rattle.desk_content.specs.View.{desk_in}
+use Rattle.desk_content.proofs.ChangeLemmas.{change_kept}
 use Rattle.desk_content.proofs.ClosedLemmas.{put_nodes, no_nodes}
-use Rattle.desk_content.proofs.KeepLemmas.{change_keeping}
 use Rattle.desk_schema.specs.Steps.{seen}
 use Rattle.desk_reads.specs.Asked.{IsAskedFor}
 use Rattle.desk_writes.specs.Needs.{HasTree}
 use Rattle.desk_store.specs.Store.{Answers}
-use Rattle.desk_tables.specs.Kept.{content_seen, desk_seen, keeping_seen, IsKept}
-use Rattle.desk_tables.specs.Shown.{HasContent, AreTablesOf}
+use Rattle.desk_tables.specs.Kept.{content_seen, desk_seen, IsKept}
+use Rattle.desk_tables.specs.Shown.{IsDesk, HasContent, AreTablesOf}
 use Rattle.desk_tables.specs.Transactions.{IsAsked, IsChanged}
 
 all_push : {X : Type 0} (P : X → Type 0) (xs : List X) (x : X) → AllByRecursion P xs → P x → AllByRecursion P (xs ++ x ∷ [])
@@ -64,28 +63,32 @@ module _ {S A : Type 0} (g : store.Ghosts S) (last begun more : List (Held S)) (
   pub never : (family : Option Ancestry) → Fits (content_seen g last) → IsKept g last begun old family → HasCleanDisk (state g new) → IfErr r (λ fault. fault ≢ Foreign)
   never family fits was clean = asked.sure (content_seen g last) clean was.now fits
 
--- where the tree stays as it is
-pub record IsNoted {S A : Type 0} (g : store.Ghosts S) (last begun more : List (Held S)) (old new : Held S) (family : Option Ancestry) (r : Result A StoreFault) (Fits : Content → Type 0) (P : Content → A → Type 0) : Type 0 where
-  pub honest : HasCleanDisk (state g new) → HasCleanDisk (state g old)
-  pub kept : IsKept g last begun old family → HasCleanDisk (state g new) → IsKept g last more new family
-  pub was_kept : IsKept g last more new family → HasCleanDisk (state g new) → IsKept g last begun old family
-  pub answer : IsKept g last begun old family → HasCleanDisk (state g new) → IfOk r (P (content_seen g last))
-  pub never : Fits (content_seen g last) → IsKept g last begun old family → HasCleanDisk (state g new) → IfErr r (λ fault. fault ≢ Foreign)
-
-pub noted : {S A : Type 0} (g : store.Ghosts S) (last begun more : List (Held S)) (old new : Held S) (family : Option Ancestry) (r : Result A StoreFault) (Fits : Content → Type 0) (P : Content → A → Type 0)
-    → IsAsked (state g old) (state g new) r Fits P → more ≡ begun ++ old ∷ [] → IsNoted g last begun more old new family r Fits P
-noted g last begun more old new family r Fits P asked is = record {
-  honest = honest g last begun more old new r Fits P asked is;
-  kept = λ was clean. kept g last begun more old new r Fits P asked is family family (λ w. w.tree) was;
-  was_kept = λ now clean. was_kept g last begun more old new r Fits P asked is family family (λ w. w.tree) now;
-  answer = answer g last begun more old new r Fits P asked is family;
-  never = never g last begun more old new r Fits P asked is family;
-}
-
 -- what is answered, with the desk as it was
 pub answers : {A : Type 0} (d : Desk) (r : Result A StoreFault) (P Q : A → Type 0) → ((a : A) → P a → Q a) → IfOk r P → Answers d d r Q
 answers d (Ok a) P Q turn p = (turn a p, refl)
 answers d (Err fault) P Q turn p = refl
+
+-- where the tree stays as it is, and what is answered is what is asked of the desk
+pub record IsNoted {S A : Type 0} (g : store.Ghosts S) (last begun more : List (Held S)) (old new : Held S) (family : Option Ancestry) (r : Result A StoreFault) (Q : A → Type 0) : Type 0 where
+  pub honest : HasCleanDisk (state g new) → HasCleanDisk (state g old)
+  pub kept : IsKept g last begun old family → HasCleanDisk (state g new) → IsKept g last more new family
+  pub was_kept : IsKept g last more new family → HasCleanDisk (state g new) → IsKept g last begun old family
+  pub fact : IsKept g last begun old family → HasCleanDisk (state g new) → Answers (desk_seen g last) (desk_seen g last) r Q
+  pub never : IsKept g last begun old family → HasCleanDisk (state g new) → IfErr r (λ fault. fault ≢ Foreign)
+
+pub noted : {S A : Type 0} (g : store.Ghosts S) (last begun more : List (Held S)) (old new : Held S) (family : Option Ancestry) (r : Result A StoreFault) (Fits : Content → Type 0) (P : Content → A → Type 0)
+    → IsAsked (state g old) (state g new) r Fits P → more ≡ begun ++ old ∷ [] → (Q : A → Type 0)
+    → (IsKept g last begun old family → HasCleanDisk (state g old) → Fits (content_seen g last) × ((a : A) → P (content_seen g last) a → Q a)) → IsNoted g last begun more old new family r Q
+noted g last begun more old new family r Fits P asked is Q turn = record {
+  honest = honest g last begun more old new r Fits P asked is;
+  kept = λ was clean. kept g last begun more old new r Fits P asked is family family (λ w. w.tree) was;
+  was_kept = λ now clean. was_kept g last begun more old new r Fits P asked is family family (λ w. w.tree) now;
+  fact = λ was clean. answers (desk_seen g last) r (P (content_seen g last)) Q (turn was (early clean)).1 (answer g last begun more old new r Fits P asked is family was clean);
+  never = λ was clean. never g last begun more old new r Fits P asked is family (turn was (early clean)).0 was clean;
+}
+  where
+    early : HasCleanDisk (state g new) → HasCleanDisk (state g old)
+    early = honest g last begun more old new r Fits P asked is
 
 -- ---- a change
 
@@ -94,6 +97,50 @@ made = Ok tt
 
 abbrev pub refused : StoreFault → Result (Unit {0}) StoreFault
 refused fault = Err fault
+
+module _ {S : Type 0} (g : store.Ghosts S) (last begun : List (Held S)) (old new : Held S) (family : Option Ancestry) (Fits : Content → Type 0) (after : Content → Content)
+    (fits : IsKept g last begun old family → HasCleanDisk (state g old) → Fits (content_seen g last)) where
+  abbrev WasKept : Type 0
+  WasKept = IsKept g last begun old family
+
+  pub crashed : (r : Result (Unit {0}) StoreFault) → IsChanged (state g old) (state g new) r Fits after → (HasCleanDisk (state g new) → WasKept)
+      → Survives (state g old) (state g new) (AreTablesOf (after (content_seen g last)))
+  crashed r changes was = changes.crash (content_seen g last) (λ clean. let w = was clean in (w.now, fits w (changes.honest clean)))
+
+  -- it was not made
+  module _ (fault : StoreFault) (changes : IsChanged (state g old) (state g new) (refused fault) Fits after) where
+    pub stayed : WasKept → IsKept g last begun new family
+    stayed was = record { now = changes.err (content_seen g last) was.now; before = was.before; content = was.content; tree = was.tree }
+
+    pub never_foreign : WasKept → HasCleanDisk (state g new) → fault ≢ Foreign
+    never_foreign was clean = changes.sure (content_seen g last) clean was.now (fits was (changes.honest clean))
+
+  -- it was made, and after it the connection was noted anew
+  pub record IsTaken (last' begun' : List (Held S)) : Type 0 where
+    pub kept : WasKept → HasCleanDisk (state g new) → IsKept g last' begun' new family
+    pub says : WasKept → HasCleanDisk (state g new) → content_seen g last' ≡ after (content_seen g last)
+    pub serves : WasKept → HasCleanDisk (state g new) → IsTrue (state g new).is_open
+
+  pub taken : (last' begun' : List (Held S)) → IsChanged (state g old) (state g new) made Fits after → last' ≡ new ∷ [] → begun' ≡ []
+      → (WasKept → HasCleanDisk (state g old) → IsKeptContent (after (content_seen g last)) × ((after (content_seen g last)).nodes ≡ (content_seen g last).nodes)) → IsTaken last' begun'
+  taken last' begun' changes is none stays = record { kept = kept_then; says = says; serves = λ was clean. (done was clean).0 }
+    where
+      done : WasKept → HasCleanDisk (state g new) → IsTrue (state g new).is_open × IsDesk (state g new) × (seen (state g new) ≡ after (content_seen g last))
+      done was clean = changes.ok (content_seen g last) clean was.now (fits was (changes.honest clean))
+
+      says : WasKept → HasCleanDisk (state g new) → content_seen g last' ≡ after (content_seen g last)
+      says was clean = ap (content_seen g) is ∙ (done was clean).2
+
+      kept_then : WasKept → HasCleanDisk (state g new) → IsKept g last' begun' new family
+      kept_then was clean =
+          let now = says was clean in
+          let good = stays was (changes.honest clean) in
+          subst (λ b. IsKept g last' b new family) (sym none) (record {
+            now = subst (λ l. HasContent (content_seen g l) (state g new)) (sym is) (λ clean' open'. ((done was clean).1, refl));
+            before = tt;
+            content = subst IsKeptContent (sym now) good.0;
+            tree = subst (λ n. IfSome family (λ t. t ≡ n)) (sym (ap (λ (k : Content). k.nodes) now ∙ good.1)) was.tree;
+          })
 
 -- the change fits what was seen, over this tree
 abbrev pub FitsOver : Option Ancestry → Change → Content → Type 0
@@ -104,54 +151,8 @@ pub over_same : {S : Type 0} (g : store.Ghosts S) (old new : Held S) (r : Result
     → IsChanged (state g old) (state g new) r (FitsOver t change) (λ c. changed c change) → IsChanged (state g old) (state g new) r (FitsOver u change) (λ c. changed c change)
 over_same g old new r change t u same = subst (λ v. IsChanged (state g old) (state g new) r (FitsOver v change) (λ c. changed c change)) same
 
--- what is said of a tree that was read is said of the nodes after a change, which are the same
-pub same_tree : (t : Option Ancestry) (ns ms : Ancestry) → ns ≡ ms → IfSome t (λ u. u ≡ ns) → IfSome t (λ u. u ≡ ms)
-same_tree t ns ms same is = subst (λ (k : Ancestry). IfSome t (λ u. u ≡ k)) same is
-
-module _ {S : Type 0} (g : store.Ghosts S) (last begun : List (Held S)) (old new : Held S) (t : Option Ancestry) (change : Change) where
-  -- what is asked of a change
-  abbrev Asked : Type 0
-  Asked = FitsContent (content_seen g last) change × HasTree t (content_seen g last) change
-
-  fits_here : IsKept g last begun old t → Asked → FitsOver t change (content_seen g last)
-  fits_here was fits = (was.content, fits.0, fits.1)
-
-  -- it was made, and after it the connection was noted anew
-  module _ (last' begun' : List (Held S)) (changes : IsChanged (state g old) (state g new) made (FitsOver t change) (λ c. changed c change)) (is : last' ≡ new ∷ []) (none : begun' ≡ []) where
-    says : IsKept g last begun old t → Asked → HasCleanDisk (state g new) → content_seen g last' ≡ changed (content_seen g last) change
-    says was fits clean = ap (content_seen g) is ∙ (changes.ok (content_seen g last) clean was.now (fits_here was fits)).2
-
-    pub taken_serves : IsKept g last begun old t → Asked → HasCleanDisk (state g new) → IsTrue (state g new).is_open
-    taken_serves was fits clean = (changes.ok (content_seen g last) clean was.now (fits_here was fits)).0
-
-    pub taken_kept : IsKept g last begun old t → Asked → HasCleanDisk (state g new) → IsKept g last' begun' new t
-    taken_kept was fits clean =
-        let c = content_seen g last in
-        let now = says was fits clean in
-        subst (λ b. IsKept g last' b new t) (sym none) (record {
-          now = subst (λ l. HasContent (content_seen g l) (state g new)) (sym is) (λ clean' open'. ((changes.ok c clean was.now (fits_here was fits)).1, refl));
-          before = tt;
-          content = subst IsKeptContent (sym now) (change_kept c change was.content fits.0);
-          tree = same_tree t c.nodes (content_seen g last').nodes (sym (put_nodes change.images (cleared_for c change) ∙ no_nodes c change.images c) ∙ sym (ap (λ (k : Content). k.nodes) now)) was.tree;
-        })
-
-    pub taken_desk : IsKept g last begun old t → Asked → HasCleanDisk (state g new) → desk_seen g last' ≡ put (desk_seen g last) change
-    taken_desk was fits clean = ap desk_in (says was fits clean) ∙ change_desk (content_seen g last) change was.content fits.0
-
-    pub taken_keeping : IsKept g last begun old t → Asked → HasCleanDisk (state g new) → keeping_seen g last' ≡ keeping_seen g last
-    taken_keeping was fits clean = ap keeping_in (says was fits clean) ∙ change_keeping (content_seen g last) change
-
-  -- it was not made
-  pub stayed : (fault : StoreFault) → IsChanged (state g old) (state g new) (refused fault) (FitsOver t change) (λ c. changed c change) → IsKept g last begun old t → IsKept g last begun new t
-  stayed fault changes was = record { now = changes.err (content_seen g last) was.now; before = was.before; content = was.content; tree = was.tree }
-
-  pub crashed : (r : Result (Unit {0}) StoreFault) → IsChanged (state g old) (state g new) r (FitsOver t change) (λ c. changed c change)
-      → (HasCleanDisk (state g new) → IsKept g last begun old t × Asked) → Survives (state g old) (state g new) (AreTablesOf (changed (content_seen g last) change))
-  crashed r changes both = changes.crash (content_seen g last) (λ clean. let b = both clean in (b.0.now, fits_here b.0 b.1))
-
-  pub never_foreign : (fault : StoreFault) → IsChanged (state g old) (state g new) (refused fault) (FitsOver t change) (λ c. changed c change) → IsKept g last begun old t → Asked
-      → HasCleanDisk (state g new) → fault ≢ Foreign
-  never_foreign fault changes was fits clean = changes.sure (content_seen g last) clean was.now (fits_here was fits)
+pub change_stays : (change : Change) (c : Content) → IsKeptContent c → FitsContent c change → IsKeptContent (changed c change) × ((changed c change).nodes ≡ c.nodes)
+change_stays change c kept fits = (change_kept c change kept fits, put_nodes change.images (cleared_for c change) ∙ no_nodes c change.images c)
 
 -- ---- a desk that begins
 

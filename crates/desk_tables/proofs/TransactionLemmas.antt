@@ -1,7 +1,10 @@
 -- What a transaction comes to: a question that is rolled back, and a change that is committed.
 use Rattle.std.proofs.Common.{◌≡◌, ◌≢◌, ℕ, ◌⊎◌, inl, inr, [], Result, Ok, Err, IfOk, IfErr, IsTrue, IsOk, None, false, true, true≢false, arith, refl, sym, ap, subst, ◌∙◌}
+use Rattle.std.specs.Prelude.{⊤}
 use Rattle.sqlite.specs.Effect.{Database, IsDatabase}
+use Rattle.sqlite.specs.Held.{Held, state}
 use Rattle.sqlite.specs.Steps.{FailsToCommit}
+use Rattle.sqlite.specs.Store.{Ghosts}
 use Rattle.sqlite.specs.State.{State, Shows, KeepsCounts, HasCleanDisk, KeepsCommit, Survives, IsUnchanged, IsRolledBack}
 use Rattle.sqlite.specs.declared.error.Error.{Error}
 use Rattle.sqlite.proofs.StateLemmas.{survives_then, survives_weaker}
@@ -13,13 +16,12 @@ use Rattle.desk_content.specs.Content.{Content, no_content}
 use Rattle.desk_schema.specs.Rows.{content_of, AreShown}
 use Rattle.desk_schema.specs.Steps.{IsInside, seen, Goes, Acts, Serves}
 use Rattle.desk_schema.proofs.StepLemmas.{done, failed, acts_none}
-use Rattle.desk_migrations.specs.Making.{IsBlank, IsDeskOf, IsEarlier, Builds}
+use Rattle.desk_migrations.specs.Making.{IsBlank, IsDeskOf, IsUnder, Builds}
 use Rattle.desk_migrations.specs.Number.{Says, ReadsSchema}
-use Rattle.desk_migrations.specs.declared.making.Earlier.{Earlier}
 use Rattle.desk_migrations.specs.declared.number.SchemaRead.{SchemaRead}
 use Rattle.desk_tables.specs.Opening.{IsLeft}
-use Rattle.desk_tables.specs.Shown.{IsDesk, HasContent, HasEarlierContent, AreTablesOf}
-use Rattle.desk_tables.specs.Transactions.{IsAsked, IsChanged, IsMade, IsCarried, AsksSchema, Ends}
+use Rattle.desk_tables.specs.Shown.{IsDesk, HasContent, HasContentUnder, AreTablesOf}
+use Rattle.desk_tables.specs.Transactions.{IsAsked, IsChanged, IsDone, IsMade, IsCarried, AsksSchema, Ends}
 
 -- ---- a question in a transaction that is rolled back
 
@@ -29,8 +31,8 @@ begun s = record s { in_transaction = true }
 begins : (s : State) (c : Content) → s.step_limit ≡ None → HasCleanDisk s → HasContent c s → IsInside (begun s)
 begins s c limit clean shows = record { begun = refl; unlimited = limit; schema = λ o. (shows clean o).0.schema; sound = λ o. (shows clean o).0.sound; shown = λ o. (shows clean o).0.shown }
 
-begins_earlier : (from : Earlier) (s : State) (c : Content) → s.step_limit ≡ None → HasCleanDisk s → HasEarlierContent from c s → IsEarlier from c (begun s)
-begins_earlier from s c limit clean shows = record { begun = refl; unlimited = limit; schema = λ o. (shows clean o).schema; sound = λ o. (shows clean o).sound; shown = λ o. (shows clean o).shown }
+begins_under : (k : ℕ) (s : State) (c : Content) → s.step_limit ≡ None → HasCleanDisk s → HasContentUnder k c s → IsUnder k c (begun s)
+begins_under k s c limit clean shows = record { begun = refl; unlimited = limit; schema = λ o. (shows clean o).schema; sound = λ o. (shows clean o).sound; shown = λ o. (shows clean o).shown }
 
 -- what was begun is undone
 undone : (old mid new : State) (c : Content) → (IsTrue old.is_open → IsDesk old × (seen old ≡ c)) → KeepsCommit (begun old) mid → IsRolledBack mid new → IsTrue new.is_open → IsDesk new × (seen new ≡ c)
@@ -59,7 +61,7 @@ left_undone old mid new early kept back idle = record {
   content = λ c shows clean o. undone old mid new c (shows (early clean)) (kept clean) (back clean) o;
 }
 
-pub asked : {A : Type 0} (old mid new : State) (r : Result A StoreFault) (Fits : Content → Type 0) (P : Content → A → Type 0) → old.step_limit ≡ None
+asked : {A : Type 0} (old mid new : State) (r : Result A StoreFault) (Fits : Content → Type 0) (P : Content → A → Type 0) → old.step_limit ≡ None
     → Acts (begun old) mid r Fits (λ c d a. (d ≡ c) × P c a) → Serves (begun old) mid r → (HasCleanDisk new → IsRolledBack mid new) → Survives mid new (λ _. ⊥) → IsAsked old new r Fits P
 asked {A = A} old mid new r Fits P limit runs serves back survives = record {
   survives = survives_then old mid new _ _ (λ _. ⊥) (λ _ db none. none) (λ _ db none. none) (record { clean = one.clean; shield = one.shield; counts = one.counts; limit = one.limit; closes = one.closes; crash = one.crash }) survives;
@@ -81,6 +83,13 @@ asked {A = A} old mid new r Fits P limit runs serves back survives = record {
     answered (Ok a) c same live g = subst (λ d. P d a) (same live) g.changed.1
     answered (Err e) c same live g = tt
 
+-- and it is the connection that was lent
+pub asked_over : {S A : Type 0} (g : Ghosts S) (old mid new lent : Held S) → new ≡ lent → (r : Result A StoreFault) (Fits : Content → Type 0) (P : Content → A → Type 0) → old.step_limit ≡ None
+    → Acts (begun (state g old)) (state g mid) r Fits (λ c d a. (d ≡ c) × P c a) → Serves (begun (state g old)) (state g mid) r → (HasCleanDisk (state g new) → IsRolledBack (state g mid) (state g new))
+    → Survives (state g mid) (state g new) (λ _. ⊥) → IsAsked (state g old) (state g lent) r Fits P
+asked_over g old mid new lent same r Fits P limit runs serves back survives =
+    subst (λ h. IsAsked (state g old) (state g h) r Fits P) same (asked (state g old) (state g mid) (state g new) r Fits P limit runs serves back survives)
+
 -- the number of the schema is asked for
 pub asks : (old mid new : State) (r : Result SchemaRead StoreFault) → old.step_limit ≡ None → ReadsSchema (begun old) mid r → new.in_transaction ≡ false → (HasCleanDisk new → IsRolledBack mid new) → Survives mid new (λ _. ⊥)
     → AsksSchema old new r
@@ -89,8 +98,7 @@ asks old mid new r limit reads idle back survives = record {
   left = left_undone old mid new early kept back idle;
   ok = λ clean. said r (reads.ok (late clean) limit);
   sure = reads.sure;
-  desk = λ c clean shows. reads.desk (late clean) (begins old c limit (early clean) shows);
-  earlier = λ from c clean shows. reads.earlier from c (late clean) (begins_earlier from old c limit (early clean) shows);
+  under = λ k c clean shows. reads.under k c (late clean) (begins_under k old c limit (early clean) shows);
 }
   where
     one : Survives (begun old) mid (λ _. ⊥)
@@ -149,145 +157,25 @@ it_went : {X : Type 0} (did : Result (Unit {0}) StoreFault) → IsOk did → IfO
 it_went (Ok u) o x = x
 it_went (Err e) o x = absurd (true≢false (sym o))
 
-pub altered : (old mid new : State) (did r : Result (Unit {0}) StoreFault) (Fits : Content → Type 0) (after : Content → Content) → old.step_limit ≡ None
-    → Acts (begun old) mid did Fits (λ c d _. Fits c → d ≡ after c) → Serves (begun old) mid did → Ends mid new did r → IsChanged old new r Fits after
-altered old mid new did r Fits after limit runs serves ends = record { honest = early; ok = oks r ends.ok; err = λ c shows. errs r ends.err c shows; sure = sures r ends.err; crash = crash }
-  where
-    one : Survives (begun old) mid (λ _. ⊥)
-    one = runs.survives
+-- ---- a transaction that leads to the tables of a desk
 
-    late : HasCleanDisk new → HasCleanDisk mid
-    late clean = omega (arith, ends.survives.clean, clean)
+-- what its steps come to before it ends
+pub record Leads (Begun Fits : Type 0) (after : Content) (old mid : State) (did : Result (Unit {0}) StoreFault) : Type 0 where
+  pub survives : Survives old mid (λ _. ⊥)
+  pub keeps : HasCleanDisk mid → Begun → KeepsCommit old mid
+  pub goes_on : HasCleanDisk mid → Begun → IfOk did (λ _. IsTrue mid.in_transaction)
+  pub went : HasCleanDisk mid → Begun → Fits → IfOk did (λ _. IsTrue old.is_open × IsTrue mid.is_open × IsDeskOf after mid)
+  pub sure : HasCleanDisk mid → Begun → Fits → IfErr did (λ fault. fault ≢ Foreign)
 
-    early : HasCleanDisk new → HasCleanDisk old
-    early clean = omega (arith, ends.survives.clean, one.clean, clean)
-
-    inside : (c : Content) → HasCleanDisk new → HasContent c old → IsInside (begun old)
-    inside c clean shows = begins old c limit (early clean) shows
-
-    went : (c : Content) → HasCleanDisk new → HasContent c old → IsOk did → Goes (begun old) mid (λ c d. Fits c → d ≡ after c)
-    went c clean shows o = it_went did o (runs.ok (late clean) (inside c clean shows))
-
-    live : (c : Content) → HasCleanDisk new → HasContent c old → IsOk did → IsTrue old.is_open
-    live c clean shows o = it_went did o (serves (late clean) (inside c clean shows))
-
-    content : (c : Content) → HasCleanDisk new → HasContent c old → Fits c → IsOk did → seen mid ≡ after c
-    content c clean shows fits o =
-        let same : seen old ≡ c = (shows (early clean) (live c clean shows o)).1 in
-        (went c clean shows o).changed (subst Fits (sym same) fits) ∙ ap after same
-
-    oks : (r : Result (Unit {0}) StoreFault) → (HasCleanDisk new → IfOk r (λ _. IsOk did × IsTrue mid.is_open × IsTrue new.is_open × (new.now ≡ mid.now) × (new.committed ≡ mid.now)))
-        → (c : Content) → HasCleanDisk new → HasContent c old → Fits c → IfOk r (λ _. IsTrue new.is_open × IsDesk new × (seen new ≡ after c))
-    oks (Err e) ended c clean shows fits = tt
-    oks (Ok u) ended c clean shows fits =
-        let h = ended clean in
-        let g = went c clean shows h.0 in (
-          h.2,
-          record {
-            settled = h.3 ∙ sym h.4;
-            schema = ap (λ (d : Database). d.schema) h.3 ∙ g.inside.schema h.1;
-            sound = subst IsDatabase (sym h.3) (g.inside.sound h.1);
-            shown = subst (λ (d : Database). AreShown d.trees) (sym h.3) (g.inside.shown h.1);
-          },
-          ap (λ (d : Database). content_of d.trees) h.3 ∙ content c clean shows fits h.0,
-        )
-
-    errs : (r : Result (Unit {0}) StoreFault) → (HasCleanDisk new → (IsOk did → IsTrue mid.in_transaction) → IfErr r (λ fault. IsRolledBack mid new × (fault ≢ Foreign ⊎ (did ≡ failed fault))))
-        → (c : Content) → HasContent c old → IfErr r (λ _. HasContent c new)
-    errs (Ok u) ended c shows = tt
-    errs (Err e) ended c shows = λ clean o. undone old mid new c (shows (early clean)) (runs.keeps (late clean) (inside c clean shows)) (ended clean (λ ok. (went c clean shows ok).inside.begun)).0 o
-
-    sures : (r : Result (Unit {0}) StoreFault) → (HasCleanDisk new → (IsOk did → IsTrue mid.in_transaction) → IfErr r (λ fault. IsRolledBack mid new × (fault ≢ Foreign ⊎ (did ≡ failed fault))))
-        → (c : Content) → HasCleanDisk new → HasContent c old → Fits c → IfErr r (λ fault. fault ≢ Foreign)
-    sures (Ok u) ended c clean shows fits = tt
-    sures (Err e) ended c clean shows fits = elim ((ended clean (λ ok. (went c clean shows ok).inside.begun)).1) [
-      | inl sure ↦ sure
-      | inr same ↦ subst (λ r. IfErr r (λ fault. fault ≢ Foreign)) same (runs.sure (late clean) (inside c clean shows) (λ o. subst Fits (sym (shows (early clean) o).1) fits))
-    ]
-
-    crash : (c : Content) → (HasCleanDisk new → HasContent c old × Fits c) → Survives old new (AreTablesOf (after c))
-    crash c both = survives_then old mid new _ _ (AreTablesOf (after c)) (λ _ db none. absurd none)
-        (λ clean db p.
-        let shows = (both clean).0 in
-        let g = went c clean shows p.0 in
-        let o = g.serves (live c clean shows p.0) in
-        subst (AreTablesOf (after c)) (sym p.1) (record {
-          sound = subst (λ s. IsDatabase (record { schema = s; trees = mid.now.trees })) (g.inside.schema o) (g.inside.sound o);
-          shown = g.inside.shown o;
-          content = content c clean shows (both clean).1 p.0;
-        }))
-        (record { clean = one.clean; shield = one.shield; counts = one.counts; limit = one.limit; closes = one.closes; crash = one.crash }) ends.survives
-
--- ---- the tables of a new desk are made
-
-module _ (first : ℕ) (old mid new : State) (did : Result (Unit {0}) StoreFault) (blank : IsBlank (begun old))
-    (builds : Builds IsBlank (IsDeskOf (no_content first)) (begun old) mid did) where
-  pub made : (r : Result (Unit {0}) StoreFault) → Ends mid new did r → new.in_transaction ≡ false → IsMade first old new r
-  made r ends idle = record { ok = oks r ends.ok; err = errs r ends.err; sure = sures r ends.err; crash = crash }
-    where
-      late : HasCleanDisk new → HasCleanDisk mid
-      late clean = omega (arith, ends.survives.clean, clean)
-
-      early : HasCleanDisk new → HasCleanDisk old
-      early clean = omega (arith, ends.survives.clean, builds.survives.clean, clean)
-
-      inside : HasCleanDisk new → IsOk did → IsTrue mid.in_transaction
-      inside clean o = it_went did o (builds.goes_on (late clean) refl)
-
-      went : HasCleanDisk new → IsOk did → IsTrue old.is_open × IsTrue mid.is_open × IsDeskOf (no_content first) mid
-      went clean o = it_went did o (builds.ok (late clean) blank)
-
-      oks : (r : Result (Unit {0}) StoreFault) → (HasCleanDisk new → IfOk r (λ _. IsOk did × IsTrue mid.is_open × IsTrue new.is_open × (new.now ≡ mid.now) × (new.committed ≡ mid.now)))
-          → HasCleanDisk new → IfOk r (λ _. IsTrue new.is_open × IsDesk new × (seen new ≡ no_content first))
-      oks (Err e) ended clean = tt
-      oks (Ok u) ended clean =
-          let h = ended clean in
-          let g = (went clean h.0).2 in (
-            h.2,
-            record {
-              settled = h.3 ∙ sym h.4;
-              schema = ap (λ (d : Database). d.schema) h.3 ∙ g.inside.schema h.1;
-              sound = subst IsDatabase (sym h.3) (g.inside.sound h.1);
-              shown = subst (λ (d : Database). AreShown d.trees) (sym h.3) (g.inside.shown h.1);
-            },
-            ap (λ (d : Database). content_of d.trees) h.3 ∙ g.says,
-          )
-
-      errs : (r : Result (Unit {0}) StoreFault) → (HasCleanDisk new → (IsOk did → IsTrue mid.in_transaction) → IfErr r (λ fault. IsRolledBack mid new × (fault ≢ Foreign ⊎ (did ≡ failed fault))))
-          → IfErr r (λ _. IsLeft old new)
-      errs (Ok u) ended = tt
-      errs (Err e) ended = left_undone old mid new early (λ clean. builds.keeps (late clean) refl) (λ clean. (ended clean (inside clean)).0) idle
-
-      sures : (r : Result (Unit {0}) StoreFault) → (HasCleanDisk new → (IsOk did → IsTrue mid.in_transaction) → IfErr r (λ fault. IsRolledBack mid new × (fault ≢ Foreign ⊎ (did ≡ failed fault))))
-          → HasCleanDisk new → IfErr r (λ fault. fault ≢ Foreign)
-      sures (Ok u) ended clean = tt
-      sures (Err e) ended clean = elim ((ended clean (inside clean)).1) [
-        | inl sure ↦ sure
-        | inr same ↦ subst (λ r. IfErr r (λ fault. fault ≢ Foreign)) same (builds.sure (late clean) blank)
-      ]
-
-      crash : Survives old new (AreTablesOf (no_content first))
-      crash =
-          let steps = builds.survives in
-          survives_then old mid new _ _ (AreTablesOf (no_content first)) (λ _ db none. absurd none)
-          (λ clean db p.
-          let g = went clean p.0 in
-          subst (AreTablesOf (no_content first)) (sym p.1) (record {
-            sound = subst (λ s. IsDatabase (record { schema = s; trees = mid.now.trees })) (g.2.inside.schema g.1) (g.2.inside.sound g.1);
-            shown = g.2.inside.shown g.1;
-            content = g.2.says;
-          }))
-          (record { clean = steps.clean; shield = steps.shield; counts = steps.counts; limit = steps.limit; closes = steps.closes; crash = steps.crash }) ends.survives
-
--- ---- the tables of an earlier schema are carried over
-
-module _ (from : Earlier) (old mid new : State) (did : Result (Unit {0}) StoreFault) (limit : old.step_limit ≡ None)
-    (builds : (c : Content) → Builds (IsEarlier from c) (IsDeskOf c) (begun old) mid did) where
+module _ (Begun Fits : Type 0) (after : Content) (old mid new : State) (did : Result (Unit {0}) StoreFault) (leads : Leads Begun Fits after (begun old) mid did) where
   steps : Survives (begun old) mid (λ _. ⊥)
-  steps = (builds (no_content 0)).survives
+  steps = leads.survives
 
-  pub carried : (r : Result (Unit {0}) StoreFault) → Ends mid new did r → new.in_transaction ≡ false → IsCarried from old new r
-  carried r ends idle = record { honest = early; ok = oks r ends.ok; err = errs r ends.err; sure = sures r ends.err; crash = crash }
+  abbrev Failed : StoreFault → Type 0
+  Failed fault = IsRolledBack mid new × (fault ≢ Foreign ⊎ (did ≡ failed fault))
+
+  pub committed : (r : Result (Unit {0}) StoreFault) → Ends mid new did r → new.in_transaction ≡ false → IsDone Begun Fits after old new r
+  committed r ends idle = record { honest = early; ok = oks r ends.ok; err = errs r ends.err; sure = sures r ends.err; crash = crash }
     where
       late : HasCleanDisk new → HasCleanDisk mid
       late clean = omega (arith, ends.survives.clean, clean)
@@ -295,21 +183,18 @@ module _ (from : Earlier) (old mid new : State) (did : Result (Unit {0}) StoreFa
       early : HasCleanDisk new → HasCleanDisk old
       early clean = omega (arith, ends.survives.clean, steps.clean, clean)
 
-      kept : HasCleanDisk new → KeepsCommit (begun old) mid
-      kept clean = (builds (no_content 0)).keeps (late clean) refl
+      inside : HasCleanDisk new → Begun → IsOk did → IsTrue mid.in_transaction
+      inside clean was o = it_went did o (leads.goes_on (late clean) was)
 
-      inside : HasCleanDisk new → IsOk did → IsTrue mid.in_transaction
-      inside clean o = it_went did o ((builds (no_content 0)).goes_on (late clean) refl)
-
-      went : (c : Content) → HasCleanDisk new → HasEarlierContent from c old → IsOk did → IsTrue old.is_open × IsTrue mid.is_open × IsDeskOf c mid
-      went c clean shows o = it_went did o ((builds c).ok (late clean) (begins_earlier from old c limit (early clean) shows))
+      went : HasCleanDisk new → Begun → Fits → IsOk did → IsTrue old.is_open × IsTrue mid.is_open × IsDeskOf after mid
+      went clean was fits o = it_went did o (leads.went (late clean) was fits)
 
       oks : (r : Result (Unit {0}) StoreFault) → (HasCleanDisk new → IfOk r (λ _. IsOk did × IsTrue mid.is_open × IsTrue new.is_open × (new.now ≡ mid.now) × (new.committed ≡ mid.now)))
-          → (c : Content) → HasCleanDisk new → HasEarlierContent from c old → IfOk r (λ _. IsTrue new.is_open × IsDesk new × (seen new ≡ c))
-      oks (Err e) ended c clean shows = tt
-      oks (Ok u) ended c clean shows =
+          → HasCleanDisk new → Begun → Fits → IfOk r (λ _. IsTrue new.is_open × IsDesk new × (seen new ≡ after))
+      oks (Err e) ended clean was fits = tt
+      oks (Ok u) ended clean was fits =
           let h = ended clean in
-          let g = (went c clean shows h.0).2 in (
+          let g = (went clean was fits h.0).2 in (
             h.2,
             record {
               settled = h.3 ∙ sym h.4;
@@ -320,26 +205,89 @@ module _ (from : Earlier) (old mid new : State) (did : Result (Unit {0}) StoreFa
             ap (λ (d : Database). content_of d.trees) h.3 ∙ g.says,
           )
 
-      errs : (r : Result (Unit {0}) StoreFault) → (HasCleanDisk new → (IsOk did → IsTrue mid.in_transaction) → IfErr r (λ fault. IsRolledBack mid new × (fault ≢ Foreign ⊎ (did ≡ failed fault))))
-          → IfErr r (λ _. IsLeft old new)
-      errs (Ok u) ended = tt
-      errs (Err e) ended = left_undone old mid new early kept (λ clean. (ended clean (inside clean)).0) idle
+      errs : (r : Result (Unit {0}) StoreFault) → (HasCleanDisk new → (IsOk did → IsTrue mid.in_transaction) → IfErr r Failed) → Begun → IfErr r (λ _. IsLeft old new)
+      errs (Ok u) ended was = tt
+      errs (Err e) ended was = left_undone old mid new early (λ clean. leads.keeps (late clean) was) (λ clean. (ended clean (inside clean was)).0) idle
 
-      sures : (r : Result (Unit {0}) StoreFault) → (HasCleanDisk new → (IsOk did → IsTrue mid.in_transaction) → IfErr r (λ fault. IsRolledBack mid new × (fault ≢ Foreign ⊎ (did ≡ failed fault))))
-          → (c : Content) → HasCleanDisk new → HasEarlierContent from c old → IfErr r (λ fault. fault ≢ Foreign)
-      sures (Ok u) ended c clean shows = tt
-      sures (Err e) ended c clean shows = elim ((ended clean (inside clean)).1) [
+      sures : (r : Result (Unit {0}) StoreFault) → (HasCleanDisk new → (IsOk did → IsTrue mid.in_transaction) → IfErr r Failed)
+          → HasCleanDisk new → Begun → Fits → IfErr r (λ fault. fault ≢ Foreign)
+      sures (Ok u) ended clean was fits = tt
+      sures (Err e) ended clean was fits = elim ((ended clean (inside clean was)).1) [
         | inl sure ↦ sure
-        | inr same ↦ subst (λ r. IfErr r (λ fault. fault ≢ Foreign)) same ((builds c).sure (late clean) (begins_earlier from old c limit (early clean) shows))
+        | inr same ↦ subst (λ r. IfErr r (λ fault. fault ≢ Foreign)) same (leads.sure (late clean) was fits)
       ]
 
-      crash : (c : Content) → (HasCleanDisk new → HasEarlierContent from c old) → Survives old new (AreTablesOf c)
-      crash c shows = survives_then old mid new _ _ (AreTablesOf c) (λ _ db none. absurd none)
+      crash : (HasCleanDisk new → Begun × Fits) → Survives old new (AreTablesOf after)
+      crash both = survives_then old mid new _ _ (AreTablesOf after) (λ _ db none. absurd none)
           (λ clean db p.
-          let g = went c clean (shows clean) p.0 in
-          subst (AreTablesOf c) (sym p.1) (record {
+          let g = went clean (both clean).0 (both clean).1 p.0 in
+          subst (AreTablesOf after) (sym p.1) (record {
             sound = subst (λ s. IsDatabase (record { schema = s; trees = mid.now.trees })) (g.2.inside.schema g.1) (g.2.inside.sound g.1);
             shown = g.2.inside.shown g.1;
             content = g.2.says;
           }))
           (record { clean = steps.clean; shield = steps.shield; counts = steps.counts; limit = steps.limit; closes = steps.closes; crash = steps.crash }) ends.survives
+
+-- ---- those transactions
+
+module _ (old mid new : State) (did r : Result (Unit {0}) StoreFault) (limit : old.step_limit ≡ None) (ends : Ends mid new did r) (idle : new.in_transaction ≡ false) where
+  -- a change is made
+  pub altered : (Fits : Content → Type 0) (after : Content → Content) → Acts (begun old) mid did Fits (λ c d _. Fits c → d ≡ after c) → Serves (begun old) mid did → IsChanged old new r Fits after
+  altered Fits after runs serves = record {
+    honest = (all (no_content 0)).honest;
+    ok = λ c. (all c).ok;
+    err = λ c shows. shown r c ((all c).err shows) shows;
+    sure = λ c. (all c).sure;
+    crash = λ c. (all c).crash;
+  }
+    where
+      one : Survives (begun old) mid (λ _. ⊥)
+      one = runs.survives
+
+      early : HasCleanDisk mid → HasCleanDisk old
+      early clean = omega (arith, one.clean, clean)
+
+      inside : (c : Content) → HasCleanDisk mid → HasContent c old → IsInside (begun old)
+      inside c clean shows = begins old c limit (early clean) shows
+
+      shown : (r : Result (Unit {0}) StoreFault) (c : Content) → IfErr r (λ _. IsLeft old new) → HasContent c old → IfErr r (λ _. HasContent c new)
+      shown (Ok u) c left shows = tt
+      shown (Err e) c left shows = left.content c shows
+
+      goes : (did : Result (Unit {0}) StoreFault) (c : Content) → (IsTrue old.is_open → seen old ≡ c) → Fits c → IfOk did (λ _. IsTrue old.is_open) → IfOk did (λ a. Goes (begun old) mid (λ c d. Fits c → d ≡ after c))
+          → IfOk did (λ _. IsTrue old.is_open × IsTrue mid.is_open × IsDeskOf (after c) mid)
+      goes (Err e) c same fits live g = tt
+      goes (Ok u) c same fits live g = (live, g.serves live, record { inside = g.inside; says = g.changed (subst Fits (sym (same live)) fits) ∙ ap after (same live) })
+
+      begun_still : (did : Result (Unit {0}) StoreFault) → IfOk did (λ a. Goes (begun old) mid (λ c d. Fits c → d ≡ after c)) → IfOk did (λ _. IsTrue mid.in_transaction)
+      begun_still (Err e) g = tt
+      begun_still (Ok u) g = g.inside.begun
+
+      all : (c : Content) → IsDone (HasContent c old) (Fits c) (after c) old new r
+      all c = committed (HasContent c old) (Fits c) (after c) old mid new did (record {
+        survives = one;
+        keeps = λ clean shows. runs.keeps clean (inside c clean shows);
+        goes_on = λ clean shows. begun_still did (runs.ok clean (inside c clean shows));
+        went = λ clean shows fits. goes did c (λ o. (shows (early clean) o).1) fits (serves clean (inside c clean shows)) (runs.ok clean (inside c clean shows));
+        sure = λ clean shows fits. runs.sure clean (inside c clean shows) (λ o. subst Fits (sym (shows (early clean) o).1) fits);
+      }) r ends idle
+
+  -- tables are made, from what held before
+  built : (Fits : Type 0) (Before : State → Type 0) (c : Content) → (HasCleanDisk old → Fits → Before (begun old)) → Builds Before (IsDeskOf c) (begun old) mid did → IsDone ⊤ Fits c old new r
+  built Fits Before c before builds =
+      let one : Survives (begun old) mid (λ _. ⊥) = builds.survives in
+      committed ⊤ Fits c old mid new did (record {
+        survives = one;
+        keeps = λ clean _. builds.keeps clean refl;
+        goes_on = λ clean _. builds.goes_on clean refl;
+        went = λ clean _ fits. builds.ok clean (before (omega (arith, one.clean, clean)) fits);
+        sure = λ clean _ fits. builds.sure clean (before (omega (arith, one.clean, clean)) fits);
+      }) r ends idle
+
+  -- those of a new desk
+  pub made : (first : ℕ) → IsBlank (begun old) → Builds IsBlank (IsDeskOf (no_content first)) (begun old) mid did → IsMade first old new r
+  made first blank builds = built ⊤ IsBlank (no_content first) (λ _ _. blank) builds
+
+  -- those of an earlier schema are carried over
+  pub carried : (k : ℕ) → ((c : Content) → Builds (IsUnder k c) (IsDeskOf c) (begun old) mid did) → IsCarried k old new r
+  carried k builds = λ c. built (HasContentUnder k c old) (IsUnder k c) c (λ clean shows. begins_under k old c limit clean shows) (builds c)

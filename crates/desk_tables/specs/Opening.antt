@@ -1,13 +1,12 @@
 -- How a database is made a desk, or recognised as one.
-use Rattle.std.specs.Prelude.{◌≡◌, ◌≢◌, ◌<◌, ◌⊎◌, false, None, IsTrue}
+use Rattle.std.specs.Prelude.{◌≡◌, ◌≢◌, ◌<◌, ◌≤◌, ℕ, false, None, IsTrue}
 use Rattle.sqlite.specs.Effect.{Database}
 use Rattle.sqlite.specs.State.{State, HasCleanDisk}
 use Rattle.bug_record.specs.declared.outcome.StoreFault.{StoreFault}
 use Rattle.bug_record.specs.declared.outcome.StoreFault.TheVariants.{Foreign}
 use Rattle.desk_content.specs.Content.{Content}
-use Rattle.desk_migrations.specs.Making.{number_of}
 use Rattle.desk_migrations.specs.Number.{SaysSchema, SaysNone}
-use Rattle.desk_migrations.specs.declared.making.Earlier.{Earlier}
+use Rattle.desk_migrations.specs.declared.history.TheConstants.{NEWEST}
 use Rattle.desk_tables.specs.Shown.{HasContent}
 use Rattle.desk_tables.specs.declared.open_fault.OpenFault.{OpenFault}
 use Rattle.desk_tables.specs.declared.open_fault.OpenFault.TheVariants.{NotADesk, NewerSchema, Store, NotEmpty}
@@ -31,18 +30,18 @@ pub record IsLeft (old new : State) : Type 0 where
 abbrev pub IsStoreFailure : OpenFault → Type 0
 IsStoreFailure why = (fault : StoreFault) × (why ≡ Store fault) × (fault ≢ Foreign)
 
--- the database says the number of an earlier schema
+-- the database says the number of a schema before the newest
 abbrev pub SaysEarlier : Database → Type 0
-SaysEarlier db = (from : Earlier) × SaysSchema db (number_of from)
+SaysEarlier db = (k : ℕ) × (k < NEWEST) × SaysSchema db k
 
--- the database says the number of a schema of a desk, 3, 2 or 1
+-- the database says the number of a schema of a desk
 abbrev pub SaysDesk : Database → Type 0
-SaysDesk db = SaysSchema db 3 ⊎ SaysEarlier db
+SaysDesk db = (k : ℕ) × (k ≤ NEWEST) × SaysSchema db k
 
 -- what is so where the connection that was old and is new is refused to be a desk's for this
 abbrev pub IsReason : State → State → OpenFault → Type 0
 IsReason old new NotADesk = HasCleanDisk new → SaysNone old.now
-IsReason old new (NewerSchema n) = HasCleanDisk new → SaysSchema old.now n × (3 < n)
--- tables that say 1 or 2 and are no desk's may refuse to be carried over
+IsReason old new (NewerSchema n) = HasCleanDisk new → SaysSchema old.now n × (NEWEST < n)
+-- tables that say an earlier number and are no desk's may refuse to be carried over
 IsReason old new (Store fault) = HasCleanDisk new → fault ≡ Foreign → SaysEarlier old.now
 IsReason old new NotEmpty = ⊥

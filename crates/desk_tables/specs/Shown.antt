@@ -1,5 +1,5 @@
 -- What a connection shows of a desk, between two calls.
-use Rattle.std.specs.Prelude.{◌≡◌, ◌⊎◌, List, Ok, IsTrue}
+use Rattle.std.specs.Prelude.{◌≡◌, ℕ, List, Ok, IsTrue}
 use Rattle.sqlite.specs.Effect.{IsDatabase}
 use Rattle.sqlite.specs.State.{State, HasCleanDisk}
 use Rattle.sqlite.specs.Tree.{Trees}
@@ -8,8 +8,8 @@ use Rattle.version_nodes.specs.Nodes.{Node}
 use Rattle.version_nodes.specs.Trees.{Ancestry, IsForest}
 use Rattle.desk_content.specs.Branches.{with_nodes}
 use Rattle.desk_content.specs.Content.{Content}
-use Rattle.desk_migrations.specs.Making.{AreEarlier, schema_of}
-use Rattle.desk_migrations.specs.declared.making.Earlier.{Earlier}
+use Rattle.desk_migrations.specs.History.{schema_at}
+use Rattle.desk_migrations.specs.Making.{AreUnder}
 use Rattle.desk_schema.specs.Tables.{desk_schema}
 use Rattle.desk_schema.specs.Rows.{content_of, AreShown}
 use Rattle.desk_schema.specs.Steps.{seen}
@@ -25,21 +25,21 @@ pub record IsDesk (s : State) : Type 0 where
 abbrev pub HasContent : Content → State → Type 0
 HasContent c s = HasCleanDisk s → IsTrue s.is_open → IsDesk s × (seen s ≡ c)
 
--- the tables of a desk under an earlier schema, as the last commit left them, with this content
-pub record IsEarlierDesk (from : Earlier) (c : Content) (s : State) : Type 0 where
+-- the tables of a desk under schema k, as the last commit left them, with this content
+pub record IsDeskUnder (k : ℕ) (c : Content) (s : State) : Type 0 where
   pub settled : s.now ≡ s.committed
-  pub schema : s.now.schema ≡ schema_of from
+  pub schema : s.now.schema ≡ schema_at k
   pub sound : IsDatabase s.now
-  pub shown : AreEarlier from c s.now.trees
+  pub shown : AreUnder k c s.now.trees
 
--- as far as the disk is honest and the connection serves, it shows a desk under an earlier schema
--- with this content
-abbrev pub HasEarlierContent : Earlier → Content → State → Type 0
-HasEarlierContent from c s = HasCleanDisk s → IsTrue s.is_open → IsEarlierDesk from c s
+-- as far as the disk is honest and the connection serves, it shows a desk under schema k with this
+-- content
+abbrev pub HasContentUnder : ℕ → Content → State → Type 0
+HasContentUnder k c s = HasCleanDisk s → IsTrue s.is_open → IsDeskUnder k c s
 
--- it shows a desk with this content, under schema 3, 2 or 1
+-- it shows a desk with this content, under some schema of a desk
 abbrev pub HoldsContent : Content → State → Type 0
-HoldsContent c s = HasContent c s ⊎ ((from : Earlier) × HasEarlierContent from c s)
+HoldsContent c s = (k : ℕ) × HasContentUnder k c s
 
 -- these trees, with the desk's schema, are a desk with this content
 pub record AreTablesOf (c : Content) (db : Trees) : Type 0 where
@@ -47,14 +47,14 @@ pub record AreTablesOf (c : Content) (db : Trees) : Type 0 where
   pub shown : AreShown db
   pub content : content_of db ≡ c
 
--- these trees, with an earlier schema, are a desk with this content
-pub record AreEarlierTablesOf (from : Earlier) (c : Content) (db : Trees) : Type 0 where
-  pub sound : IsDatabase (record { schema = schema_of from; trees = db })
-  pub earlier : AreEarlier from c db
+-- these trees, with schema k, are a desk with this content
+pub record AreTablesUnder (k : ℕ) (c : Content) (db : Trees) : Type 0 where
+  pub sound : IsDatabase (record { schema = schema_at k; trees = db })
+  pub shown : AreUnder k c db
 
--- they are a desk with this content under schema 3, 2 or 1
+-- they are a desk with this content, under some schema of a desk
 abbrev pub HoldTables : Content → Trees → Type 0
-HoldTables c db = AreTablesOf c db ⊎ ((from : Earlier) × AreEarlierTablesOf from c db)
+HoldTables c db = (k : ℕ) × AreTablesUnder k c db
 
 -- these trees, with the desk's schema, are a desk with this content over the ancestry after a
 -- branch

@@ -1,5 +1,5 @@
 -- What a transaction over a connection comes to, whole.
-use Rattle.std.specs.Prelude.{◌≡◌, ◌≢◌, ◌⊎◌, ◌↔◌, ℕ, false, true, List, IsOk, Ok, Err, IfOk, IfErr, Result, IsTrue}
+use Rattle.std.specs.Prelude.{◌≡◌, ◌≢◌, ◌⊎◌, ◌↔◌, ◌<◌, ◌≤◌, ⊤, ℕ, false, true, List, IsOk, Ok, Err, IfOk, IfErr, Result, IsTrue}
 use Rattle.sqlite.specs.State.{State, HasCleanDisk, Survives, IsRolledBack}
 use Rattle.bug_record.specs.declared.outcome.StoreFault.{StoreFault}
 use Rattle.bug_record.specs.declared.outcome.StoreFault.TheVariants.{Foreign}
@@ -12,16 +12,13 @@ use Rattle.desk_content.specs.Content.{Content, no_content}
 use Rattle.desk_content.specs.Kept.{IsKeptContent}
 use Rattle.desk_schema.specs.Steps.{seen}
 use Rattle.desk_store.specs.Store.{IsRefusal}
-use Rattle.desk_migrations.specs.Making.{number_of}
 use Rattle.desk_migrations.specs.Names.{no_tables, has_desk_table}
 use Rattle.desk_migrations.specs.Number.{Says, SaysSchema}
-use Rattle.desk_migrations.specs.declared.making.Earlier.{Earlier}
+use Rattle.desk_migrations.specs.declared.history.TheConstants.{NEWEST}
 use Rattle.desk_migrations.specs.declared.number.SchemaRead.{SchemaRead}
 use Rattle.desk_migrations.specs.declared.number.SchemaRead.TheVariants.{Number}
-use Rattle.desk_tables.specs.Opening.{IsLeft, IsStoreFailure, IsReason}
-use Rattle.desk_tables.specs.Shown.{IsDesk, HasContent, HasEarlierContent, HoldsContent, AreTablesOf, AreTablesAfter}
-use Rattle.desk_tables.specs.declared.opening.Schema.{Schema}
-use Rattle.desk_tables.specs.declared.opening.Schema.TheVariants.{Before, Current}
+use Rattle.desk_tables.specs.Opening.{IsLeft, IsStoreFailure, IsReason, SaysEarlier, SaysDesk}
+use Rattle.desk_tables.specs.Shown.{IsDesk, HasContent, HasContentUnder, HoldsContent, AreTablesOf, AreTablesAfter}
 use Rattle.desk_tables.specs.declared.open_fault.OpenFault.{OpenFault}
 use Rattle.desk_tables.specs.declared.open_fault.OpenFault.TheVariants.{Store, NotEmpty}
 
@@ -64,14 +61,24 @@ pub record Ends (mid new : State) (done result : Result (Unit {0}) StoreFault) :
   pub ok : HasCleanDisk new → IfOk result (λ _. IsOk done × IsTrue mid.is_open × IsTrue new.is_open × (new.now ≡ mid.now) × (new.committed ≡ mid.now))
   pub err : HasCleanDisk new → (IsOk done → IsTrue mid.in_transaction) → IfErr result (λ fault. IsRolledBack mid new × (fault ≢ Foreign ⊎ (done ≡ Err fault)))
 
--- The tables of a new desk are made in a database with none, and committed, or there are none
--- still.
--- A crash at any moment leaves what it would have left before, or the new tables.
-pub record IsMade (first : ℕ) (old new : State) (result : Result (Unit {0}) StoreFault) : Type 0 where
-  pub ok : HasCleanDisk new → IfOk result (λ _. IsTrue new.is_open × IsDesk new × (seen new ≡ no_content first))
-  pub err : IfErr result (λ _. IsLeft old new)
-  pub sure : HasCleanDisk new → IfErr result (λ fault. fault ≢ Foreign)
-  pub crash : Survives old new (AreTablesOf (no_content first))
+-- A transaction that leads to the tables of a desk: where it began so, what was done is undone
+-- unless it is committed; and where that fitted, the tables are a desk's with this content, and
+-- committed, or there is a fault.
+-- A crash at any moment leaves what it would have left before, or those tables.
+pub record IsDone (Begun Fits : Type 0) (after : Content) (old new : State) (result : Result (Unit {0}) StoreFault) : Type 0 where
+  pub honest : HasCleanDisk new → HasCleanDisk old
+  pub ok : HasCleanDisk new → Begun → Fits → IfOk result (λ _. IsTrue new.is_open × IsDesk new × (seen new ≡ after))
+  pub err : Begun → IfErr result (λ _. IsLeft old new)
+  pub sure : HasCleanDisk new → Begun → Fits → IfErr result (λ fault. fault ≢ Foreign)
+  pub crash : (HasCleanDisk new → Begun × Fits) → Survives old new (AreTablesOf after)
+
+-- the tables of a new desk are made in a database with none
+abbrev pub IsMade : ℕ → State → State → Result (Unit {0}) StoreFault → Type 0
+IsMade first = IsDone ⊤ ⊤ (no_content first)
+
+-- the tables of a desk under schema k are carried over to the newest
+abbrev pub IsCarried : ℕ → State → State → Result (Unit {0}) StoreFault → Type 0
+IsCarried k old new result = (c : Content) → IsDone ⊤ (HasContentUnder k c old) c old new result
 
 -- A desk is created, or there is a reason.
 pub record IsCreated (first : ℕ) (old new : State) (result : Result (Unit {0}) OpenFault) : Type 0 where
@@ -82,34 +89,35 @@ pub record IsCreated (first : ℕ) (old new : State) (result : Result (Unit {0})
   pub sure : HasCleanDisk new → old.now.schema ≡ no_tables → IfErr result IsStoreFailure
   pub crash : Survives old new (AreTablesOf (no_content first))
 
--- The tables of an earlier schema are carried over in one transaction, or are left as they were.
--- A crash at any moment leaves what it would have left before, or the same desk under schema 3.
-pub record IsCarried (from : Earlier) (old new : State) (result : Result (Unit {0}) StoreFault) : Type 0 where
-  pub honest : HasCleanDisk new → HasCleanDisk old
-  pub ok : (c : Content) → HasCleanDisk new → HasEarlierContent from c old → IfOk result (λ _. IsTrue new.is_open × IsDesk new × (seen new ≡ c))
-  pub err : IfErr result (λ _. IsLeft old new)
-  pub sure : (c : Content) → HasCleanDisk new → HasEarlierContent from c old → IfErr result (λ fault. fault ≢ Foreign)
-  pub crash : (c : Content) → (HasCleanDisk new → HasEarlierContent from c old) → Survives old new (AreTablesOf c)
-
 -- The number of the schema is asked for: whatever is answered, the tables are left as they were.
 pub record AsksSchema (old new : State) (result : Result SchemaRead StoreFault) : Type 0 where
   pub survives : Survives old new (λ _. ⊥)
   pub left : IsLeft old new
   pub ok : HasCleanDisk new → IfOk result (λ read. IsTrue old.is_open × Says old.now read)
   pub sure : IfErr result (λ fault. fault ≢ Foreign)
-  pub desk : (c : Content) → HasCleanDisk new → HasContent c old → IfOk result (λ read. read ≡ Number 3)
-  pub earlier : (from : Earlier) (c : Content) → HasCleanDisk new → HasEarlierContent from c old → IfOk result (λ read. read ≡ Number (number_of from))
+  pub under : (k : ℕ) (c : Content) → HasCleanDisk new → HasContentUnder k c old → IfOk result (λ read. read ≡ Number k)
 
-abbrev pub number_in : Schema → ℕ
-number_in (Before from) = number_of from
-number_in Current = 3
-
--- A desk is recognised, under schema 3 or an earlier one, or there is a reason.
-pub record IsRecognised (old new : State) (result : Result Schema OpenFault) : Type 0 where
+-- A desk is recognised, under the schema of this number, or there is a reason.
+pub record IsRecognised (old new : State) (result : Result ℕ OpenFault) : Type 0 where
   pub survives : Survives old new (λ _. ⊥)
   pub left : IsLeft old new
-  pub ok : HasCleanDisk new → IfOk result (λ schema. IsTrue old.is_open × SaysSchema old.now (number_in schema))
-  pub current : (c : Content) → HasCleanDisk new → HasContent c old → IfOk result (λ schema. schema ≡ Current)
-  pub earlier : (from : Earlier) (c : Content) → HasCleanDisk new → HasEarlierContent from c old → IfOk result (λ schema. schema ≡ Before from)
+  pub ok : HasCleanDisk new → IfOk result (λ n. IsTrue old.is_open × SaysSchema old.now n)
+  pub known : IfOk result (λ n. n ≤ NEWEST)
+  pub under : (k : ℕ) (c : Content) → HasCleanDisk new → HasContentUnder k c old → IfOk result (λ n. n ≡ k)
   pub why : IfErr result (IsReason old new)
   pub desk : (c : Content) → HasCleanDisk new → HoldsContent c old → IfErr result IsStoreFailure
+
+-- A desk is found, and carried over where it is under an earlier schema, or there is a reason; what
+-- is remembered of it has its content.
+-- A crash at any moment leaves what it would have left before, or, of a desk under an earlier
+-- schema, the same desk under the newest.
+pub record IsFound {A : Type 0} (content : A → Content) (old new : State) (result : Result A OpenFault) : Type 0 where
+  pub honest : IfOk result (λ a. HasCleanDisk new → HasCleanDisk old)
+  pub holds : IfOk result (λ a. (c : Content) → HasCleanDisk new → HoldsContent c old → (content a ≡ c) × HasContent c new)
+  pub says : IfOk result (λ a. HasCleanDisk new → IsTrue old.is_open × SaysDesk old.now)
+  pub stays : IfOk result (λ a. (c : Content) → HasCleanDisk new → HasContent c old → IsLeft old new)
+  pub why : IfErr result (IsReason old new)
+  pub desk : (c : Content) → HasCleanDisk new → HoldsContent c old → IfErr result IsStoreFailure
+  pub err : IfErr result (λ _. IsLeft old new)
+  pub other : (HasCleanDisk new → ¬ (SaysEarlier old.now)) → IsLeft old new × Survives old new (λ _. ⊥)
+  pub crash : (k : ℕ) (c : Content) → (HasCleanDisk new → HasContentUnder k c old) → Survives old new (λ db. (k < NEWEST) × AreTablesOf c db)

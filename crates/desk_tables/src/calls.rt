@@ -20,7 +20,7 @@ ghost use Rattle.desk_tables.specs.Transactions.{IsAsked, IsChanged, IsTaken, Is
 use ancestry::BranchFault;
 use branch_rows::{OpenNodes, branches_grow, changed_nodes, open_nodes};
 use bug_record::{Change, Numbers, Outcome, Sequence, SetImage, StoreFault};
-use desk_migrations::{Earlier, SchemaRead, carry_over, make_tables, read_schema};
+use desk_migrations::{SchemaRead, carry_over, make_tables, read_schema};
 use desk_reads::{read_listed, read_open_head, read_set_of, read_waiting_on};
 use desk_rows::{read_family, read_next};
 use desk_schema::fault_of;
@@ -377,11 +377,8 @@ pub(crate) fn ask_schema<S: Alter>(conn: &mut Connection<S>) -> Result<SchemaRea
     answer
 }
 
-// Carries the tables of an earlier schema over.
-pub(crate) fn carry_desk<S: Alter>(
-    conn: &mut Connection<S>,
-    from: Earlier,
-) -> Result<(), StoreFault>
+// Carries the tables of a desk under this schema over to the newest.
+pub(crate) fn carry_desk<S: Alter>(conn: &mut Connection<S>, from: u64) -> Result<(), StoreFault>
     requires autocommit { conn.old.in_transaction ≡ false }
     requires unlimited { conn.old.step_limit ≡ None }
     ensures autocommit { conn.new.in_transaction ≡ false }

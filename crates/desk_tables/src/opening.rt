@@ -1,21 +1,20 @@
 //! How a desk is created in a database, and opened.
 
-ghost use Rattle.std.specs.Prelude.{◌≡◌, ◌≢◌, ◌↔◌, ◌≤◌, ◌∷◌, [], false, true, None, Err, IfOk, IfErr, IsErrAnd, IsTrue, MatchResult};
+ghost use Rattle.std.specs.Prelude.{◌≡◌, ◌≢◌, ◌↔◌, ◌<◌, ◌≤◌, ◌∷◌, [], false, true, None, Err, IfOk, IfErr, IsErrAnd, IsTrue, MatchResult};
 ghost use Rattle.sqlite.specs.Held.{state};
 ghost use Rattle.sqlite.specs.State.{HasCleanDisk, Survives};
 ghost use Rattle.line_words.specs.declared.named.TheConstants.{LARGEST_NUMBER};
 ghost use Rattle.desk_content.specs.Content.{Content, no_content};
 ghost use Rattle.desk_content.specs.Kept.{IsKeptContent};
 ghost use Rattle.desk_migrations.specs.Names.{no_tables, has_desk_table};
-ghost use Rattle.desk_migrations.specs.declared.making.Earlier.{Earlier as EarlierSchema};
 ghost use Rattle.bugs_in_memory.specs.Plain.{empty_desk};
 ghost use Rattle.desk_store.specs.Store.{no_faults};
 ghost use Rattle.bug_record.specs.declared.outcome.StoreFault.TheVariants.{Foreign};
 ghost use Rattle.desk_tables.specs.Kept.{content_seen, desk_seen, keeping_seen, IsKept};
 ghost use Rattle.message_machine.specs.Kept.{none_kept};
 ghost use Rattle.desk_tables.specs.Opening.{unlimited, IsLeft, IsStoreFailure, IsReason, SaysEarlier, SaysDesk};
-ghost use Rattle.desk_tables.specs.Shown.{HasContent, HasEarlierContent, HoldsContent, AreTablesOf};
-ghost use Rattle.desk_tables.specs.Transactions.{IsCreated, IsRecognised};
+ghost use Rattle.desk_tables.specs.Shown.{HasContent, HasContentUnder, HoldsContent, AreTablesOf};
+ghost use Rattle.desk_tables.specs.Transactions.{IsCreated, IsRecognised, IsFound};
 ghost use Rattle.desk_tables.specs.declared.open_fault.OpenFault.TheVariants as fault;
 
 use crate::calls::{ask_schema, carry_desk, make_desk};
@@ -23,7 +22,7 @@ use crate::desk::TableDesk;
 use crate::open_fault::OpenFault;
 use crate::seen::Seen;
 use bug_record::StoreFault;
-use desk_migrations::{Earlier, SchemaRead, is_blank, names_a_desk_table};
+use desk_migrations::{NEWEST, SchemaRead, is_blank, names_a_desk_table};
 use sqlite::{Alter, Connection};
 use std::alloc::Global;
 
@@ -48,15 +47,8 @@ fn create_tables<S: Alter>(conn: &mut Connection<S>, first: u32) -> Result<(), O
     }
 }
 
-// Which schema the tables of a desk have.
-#[derive(Clone, Copy, Debug, PartialEq, Eq, Drop)]
-pub(crate) enum Schema {
-    Before(Earlier),
-    Current,
-}
-
 // Asks the database whether it is a desk's, and under which schema.
-fn recognise<S: Alter>(conn: &mut Connection<S>) -> Result<Schema, OpenFault>
+fn recognise<S: Alter>(conn: &mut Connection<S>) -> Result<u64, OpenFault>
     requires autocommit { conn.old.in_transaction ≡ false }
     requires unlimited { conn.old.step_limit ≡ None }
     ensures autocommit { conn.new.in_transaction ≡ false }
@@ -64,9 +56,7 @@ fn recognise<S: Alter>(conn: &mut Connection<S>) -> Result<Schema, OpenFault>
     ensures recognised { IsRecognised (state S.Store conn.old) (state S.Store conn.new) result }
 {
     match ask_schema(conn) {
-        Ok(SchemaRead::Number(3)) => Ok(Schema::Current),
-        Ok(SchemaRead::Number(2)) => Ok(Schema::Before(Earlier::Second)),
-        Ok(SchemaRead::Number(1)) => Ok(Schema::Before(Earlier::First)),
+        Ok(SchemaRead::Number(number)) if number <= NEWEST => Ok(number),
         Ok(SchemaRead::Number(number)) => Err(OpenFault::NewerSchema(number)),
         Ok(SchemaRead::NoNumber) => Err(OpenFault::NotADesk),
         Err(fault) => Err(OpenFault::Store(fault)),
@@ -74,34 +64,18 @@ fn recognise<S: Alter>(conn: &mut Connection<S>) -> Result<Schema, OpenFault>
 }
 
 // Recognises a desk, and carries it over where it is kept under an earlier schema.
-// The answer remembers the connection that showed its content under schema 3.
+// The answer remembers the connection that showed its content under the newest.
 fn find_desk<S: Alter>(conn: &mut Connection<S>) -> Result<Seen<Connection<S>>, OpenFault>
     requires autocommit { conn.old.in_transaction ≡ false }
     requires unlimited { conn.old.step_limit ≡ None }
     ensures autocommit { conn.new.in_transaction ≡ false }
     ensures unlimited { conn.new.step_limit ≡ None }
-    ensures honest { IfOk result (λ last. HasCleanDisk (state S.Store conn.new) → HasCleanDisk (state S.Store conn.old)) }
-    ensures content { IfOk result (λ last. (c : Content) → HasCleanDisk (state S.Store conn.new) → HoldsContent c (state S.Store conn.old) →
-        content_seen S.Store last.values ≡ c) }
-    ensures shows { IfOk result (λ last. (c : Content) → HasCleanDisk (state S.Store conn.new) → HoldsContent c (state S.Store conn.old) →
-        HasContent c (state S.Store conn.new)) }
-    ensures says { IfOk result (λ last. HasCleanDisk (state S.Store conn.new) → IsTrue (state S.Store conn.old).is_open × SaysDesk (state S.Store conn.old).now) }
-    ensures why { IfErr result (IsReason (state S.Store conn.old) (state S.Store conn.new)) }
-    ensures desk { (c : Content) → HasCleanDisk (state S.Store conn.new) → HoldsContent c (state S.Store conn.old) → IfErr result IsStoreFailure }
-    ensures stays { IfOk result (λ last. (c : Content) → HasCleanDisk (state S.Store conn.new) → HasContent c (state S.Store conn.old) →
-        IsLeft (state S.Store conn.old) (state S.Store conn.new)) }
-    ensures err { IfErr result (λ _. IsLeft (state S.Store conn.old) (state S.Store conn.new)) }
-    ensures left { (c : Content) → (HasCleanDisk (state S.Store conn.new) → HasContent c (state S.Store conn.old)) →
-        Survives (state S.Store conn.old) (state S.Store conn.new) (λ _. ⊥) }
-    ensures other { (HasCleanDisk (state S.Store conn.new) → ¬ (SaysEarlier (state S.Store conn.old).now)) →
-        IsLeft (state S.Store conn.old) (state S.Store conn.new) × Survives (state S.Store conn.old) (state S.Store conn.new) (λ _. ⊥) }
-    ensures crash { (from : EarlierSchema) (c : Content) → (HasCleanDisk (state S.Store conn.new) → HasEarlierContent from c (state S.Store conn.old)) →
-        Survives (state S.Store conn.old) (state S.Store conn.new) (AreTablesOf c) }
+    ensures found { IsFound (λ last. content_seen S.Store last.values) (state S.Store conn.old) (state S.Store conn.new) result }
 {
     let last = Seen::new().and(conn);
     match recognise(conn) {
-        Ok(Schema::Current) => Ok(last),
-        Ok(Schema::Before(from)) => match carry_desk(conn, from) {
+        Ok(from) if from == NEWEST => Ok(last),
+        Ok(from) => match carry_desk(conn, from) {
             Ok(()) => Ok(Seen::new().and(conn)),
             Err(fault) => Err(OpenFault::Store(fault)),
         },
@@ -184,12 +158,11 @@ impl<S: Alter> TableDesk<S> {
             (λ d. (HasCleanDisk (state S.Store d.conn) → ¬ (SaysEarlier (state S.Store conn).now)) →
             IsLeft (state S.Store conn) (state S.Store d.conn) × Survives (unlimited (state S.Store conn)) (state S.Store d.conn) (λ _. ⊥))
             (λ e. (HasCleanDisk (state S.Store e.1) → ¬ (SaysEarlier (state S.Store conn).now)) → Survives (unlimited (state S.Store conn)) (state S.Store e.1) (λ _. ⊥)) }
-        ensures survives { (c : Content) → MatchResult result
-            (λ d. (HasCleanDisk (state S.Store d.conn) → HasContent c (state S.Store conn)) → Survives (unlimited (state S.Store conn)) (state S.Store d.conn) (λ _. ⊥))
-            (λ e. (HasCleanDisk (state S.Store e.1) → HasContent c (state S.Store conn)) → Survives (unlimited (state S.Store conn)) (state S.Store e.1) (λ _. ⊥)) }
-        ensures crash { (from : EarlierSchema) (c : Content) → MatchResult result
-            (λ d. (HasCleanDisk (state S.Store d.conn) → HasEarlierContent from c (state S.Store conn)) → Survives (unlimited (state S.Store conn)) (state S.Store d.conn) (AreTablesOf c))
-            (λ e. (HasCleanDisk (state S.Store e.1) → HasEarlierContent from c (state S.Store conn)) → Survives (unlimited (state S.Store conn)) (state S.Store e.1) (AreTablesOf c)) }
+        ensures crash { (k : _) (c : Content) → MatchResult result
+            (λ d. (HasCleanDisk (state S.Store d.conn) → HasContentUnder k c (state S.Store conn)) →
+            Survives (unlimited (state S.Store conn)) (state S.Store d.conn) (λ db. (k < NEWEST) × AreTablesOf c db))
+            (λ e. (HasCleanDisk (state S.Store e.1) → HasContentUnder k c (state S.Store conn)) →
+            Survives (unlimited (state S.Store conn)) (state S.Store e.1) (λ db. (k < NEWEST) × AreTablesOf c db)) }
     {
         let mut conn = conn;
         conn.set_step_limit(None);

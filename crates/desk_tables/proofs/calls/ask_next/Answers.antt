@@ -1,14 +1,10 @@
-use Rattle.std.proofs.Common.{◌≡◌, rules, subst}
-use Rattle.sqlite.specs.Held.{state}
-use Rattle.std.specs.Prelude.{⊤}
-use Rattle.desk_tables.specs.Transactions.{IsAsked}
-use Rattle.desk_tables.proofs.TransactionLemmas.{asked}
+use Rattle.std.proofs.Common.{◌≡◌, rules}
+use Rattle.desk_tables.proofs.TransactionLemmas.{asked_over}
 use Rattle.desk_tables.proofs.calls.ask_next.Goals as goal
 
 pub returns-clause-asked : goal.returns-clause-asked
 returns-clause-asked g c =
     let begun = c.transaction-tx.ensures.begun in
     let same : c.rollback.new.self.0 ≡ c.conn-1.given.0 = search rules in
-    subst (λ h. IsAsked (state g.S.Store c.args.conn.now) (state g.S.Store h) c.read_next-answer.result (λ _. ⊤) (λ k next. next ≡ k.next)) same
-    (asked (state g.S.Store c.args.conn.now) (state g.S.Store c.read_next-answer.new.tx.conn.now) (state g.S.Store c.rollback.new.self.0) c.read_next-answer.result (λ _. ⊤) (λ k next. next ≡ k.next)
-    c.requires.unlimited (rw begun at c.read_next-answer.ensures.reads) (rw begun at c.read_next-answer.ensures.serves) c.rollback.ensures.undone c.rollback.ensures.survives)
+    asked_over g.S.Store c.args.conn.now c.read_next-answer.new.tx.conn.now c.rollback.new.self.0 c.conn-1.given.0 same c.read_next-answer.result _ _ c.requires.unlimited
+    (rw begun at c.read_next-answer.ensures.reads) (rw begun at c.read_next-answer.ensures.serves) c.rollback.ensures.undone c.rollback.ensures.survives

@@ -1,16 +1,10 @@
-use Rattle.std.proofs.Common.{◌≡◌, rules, subst}
-use Rattle.sqlite.specs.Held.{state}
-use Rattle.desk_content.specs.Kept.{IsKeptContent}
-use Rattle.desk_content.specs.View.{desk_in}
-use Rattle.desk_store.specs.Store.{AreWaitingOn}
-use Rattle.desk_tables.specs.Transactions.{IsAsked}
-use Rattle.desk_tables.proofs.TransactionLemmas.{asked}
+use Rattle.std.proofs.Common.{◌≡◌, rules}
+use Rattle.desk_tables.proofs.TransactionLemmas.{asked_over}
 use Rattle.desk_tables.proofs.calls.ask_small_waiting_on.Goals as goal
 
 pub returns-clause-asked : goal.returns-clause-asked
 returns-clause-asked g c =
     let begun = c.transaction-tx.ensures.begun in
     let same : c.rollback.new.self.0 ≡ c.conn-1.given.0 = search rules in
-    subst (λ h. IsAsked (state g.S.Store c.args.conn.now) (state g.S.Store h) c.read_waiting_on-answer.result IsKeptContent (λ k numbers. IsKeptContent k → AreWaitingOn (desk_in k) c.args.number numbers)) same
-    (asked (state g.S.Store c.args.conn.now) (state g.S.Store c.read_waiting_on-answer.new.tx.conn.now) (state g.S.Store c.rollback.new.self.0) c.read_waiting_on-answer.result IsKeptContent (λ k numbers. IsKeptContent k → AreWaitingOn (desk_in k) c.args.number numbers)
-    c.requires.unlimited (rw begun at c.read_waiting_on-answer.ensures.reads) (rw begun at c.read_waiting_on-answer.ensures.serves) c.rollback.ensures.undone c.rollback.ensures.survives)
+    asked_over g.S.Store c.args.conn.now c.read_waiting_on-answer.new.tx.conn.now c.rollback.new.self.0 c.conn-1.given.0 same c.read_waiting_on-answer.result _ _ c.requires.unlimited
+    (rw begun at c.read_waiting_on-answer.ensures.reads) (rw begun at c.read_waiting_on-answer.ensures.serves) c.rollback.ensures.undone c.rollback.ensures.survives

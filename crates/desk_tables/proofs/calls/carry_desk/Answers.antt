@@ -17,5 +17,5 @@ returns-clause-carried g c =
     let begun = c.transaction-tx.ensures.begun in
     let same : c.finish.new.tx.0 ≡ c.conn-1.given.0 = search rules in
     subst (λ h. IsCarried c.args.from (state g.S.Store c.args.conn.now) (state g.S.Store h) c.finish.result) same
-    (carried c.args.from (state g.S.Store c.args.conn.now) (state g.S.Store c.carry_over-done.new.tx.conn.now) (state g.S.Store c.finish.new.tx.0) c.carry_over-done.result c.requires.unlimited
-    (λ k. rw begun at (c.carry_over-done.ensures.carries k)) c.finish.result c.finish.ensures.ends c.finish.ensures.ended)
+    (carried (state g.S.Store c.args.conn.now) (state g.S.Store c.carry_over-done.new.tx.conn.now) (state g.S.Store c.finish.new.tx.0) c.carry_over-done.result c.finish.result c.requires.unlimited
+    c.finish.ensures.ends c.finish.ensures.ended c.args.from (λ k. rw begun at (c.carry_over-done.ensures.carries k)))

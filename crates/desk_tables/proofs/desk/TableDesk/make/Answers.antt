@@ -1,58 +1,56 @@
-use Rattle.std.proofs.Common.{◌≡◌, [], ◌∷◌, Err, refl, rules}
+use Rattle.std.proofs.Common.{◌≡◌, [], ◌∷◌, Err, refl, ap, ◌∙◌, rules}
 use Rattle.std.specs.Option.{option_copied}
-use Rattle.desk_tables.proofs.KeptLemmas.{over_same, stayed, taken_kept, taken_desk, taken_keeping, taken_serves, crashed, made, refused}
+use Rattle.sqlite.specs.Held.{state}
+use Rattle.sqlite.specs.State.{HasCleanDisk}
+use Rattle.desk_content.specs.View.{desk_in, keeping_in}
+use Rattle.desk_content.proofs.ChangeLemmas.{change_desk}
+use Rattle.desk_content.proofs.KeepLemmas.{change_keeping}
+use Rattle.desk_tables.specs.Kept.{content_seen, IsKept}
+use Rattle.desk_tables.proofs.KeptLemmas.{over_same, stayed, never_foreign, crashed, taken, change_stays, made, refused}
 use Rattle.desk_tables.proofs.desk.TableDesk.make.Goals as goal
 
-pub returns-in_err-change_sets-clause-answer : goal.returns-in_err-change_sets-clause-answer
-returns-in_err-change_sets-clause-answer g c =
-    let is : c.from_residual.result ≡ Err c.in_err-change_sets.field-0.0 = search rules in
-    let changes = over_same g.S.Store c.args.self.now.conn c.change_sets.new.conn (refused c.in_err-change_sets.field-0.0) c.args.change.now (option_copied c.as_ref.result) c.args.self.now.family c.as_ref.ensures.value c.in_err-change_sets.ensures.changed in
-    let last = c.args.self.now.last.values in
-    let begun = c.args.self.now.begun.values in
+pub returns-in_err-change_sets : goal.returns-in_err-change_sets
+returns-in_err-change_sets g c =
+    let fault = c.in_err-change_sets.field-0.0 in
+    let is : c.from_residual.result ≡ Err fault = search rules in
+    let d = c.args.self.now in
+    let last = d.last.values in
+    let change = c.args.change.now in
+    let changes = over_same g.S.Store d.conn c.change_sets.new.conn (refused fault) change (option_copied c.as_ref.result) d.family c.as_ref.ensures.value c.in_err-change_sets.ensures.changed in
+    let fits = (λ (was : IsKept g.S.Store last d.begun.values d.conn d.family) (clean : HasCleanDisk (state g.S.Store d.conn)). (was.content, c.requires.fits was clean, c.requires.tree was clean)) in
     rw is (record {
-      honest = changes.honest;
-      kept = λ was clean. stayed g.S.Store last begun c.args.self.now.conn c.change_sets.new.conn c.args.self.now.family c.args.change.now c.in_err-change_sets.field-0.0 changes
-          was;
-      fact = λ was clean. refl;
+      answer = record {
+        honest = changes.honest;
+        kept = λ was clean. stayed g.S.Store last d.begun.values d.conn c.change_sets.new.conn d.family _ _ fits fault changes was;
+        fact = λ was clean. refl;
+      };
+      stays = λ was clean. refl;
+      sure = never_foreign g.S.Store last d.begun.values d.conn c.change_sets.new.conn d.family _ _ fits fault changes;
+      serves = λ was clean. tt;
+      crash = crashed g.S.Store last d.begun.values d.conn c.change_sets.new.conn d.family _ _ fits (refused fault) changes;
+      counts = refl;
     })
 
-pub returns-clause-answer : goal.returns-clause-answer
-returns-clause-answer g c =
-    let changes = over_same g.S.Store c.args.self.now.conn c.change_sets.new.conn made c.args.change.now (option_copied c.as_ref.result) c.args.self.now.family c.as_ref.ensures.value c.in_ok-change_sets.ensures.changed in
-    let last = c.args.self.now.last.values in
-    let begun = c.args.self.now.begun.values in
+pub returns : goal.returns
+returns g c =
+    let d = c.args.self.now in
+    let last = d.last.values in
+    let k = content_seen g.S.Store last in
+    let change = c.args.change.now in
+    let changes = over_same g.S.Store d.conn c.change_sets.new.conn made change (option_copied c.as_ref.result) d.family c.as_ref.ensures.value c.in_ok-change_sets.ensures.changed in
     let is : c.and-self.result.values ≡ c.change_sets.new.conn ∷ [] = search rules in
+    let fits = (λ (was : IsKept g.S.Store last d.begun.values d.conn d.family) (clean : HasCleanDisk (state g.S.Store d.conn)). (was.content, c.requires.fits was clean, c.requires.tree was clean)) in
+    let it = taken g.S.Store last d.begun.values d.conn c.change_sets.new.conn d.family _ _ fits c.and-self.result.values c.new-self.result.values changes is c.new-self.ensures
+    (λ was clean. change_stays change k was.content (c.requires.fits was clean)) in
     record {
-      honest = changes.honest;
-      kept = λ was clean. taken_kept g.S.Store last begun c.args.self.now.conn c.change_sets.new.conn c.args.self.now.family c.args.change.now c.and-self.result.values c.new-self.result.values changes is c.new-self.ensures
-          was (c.requires.fits was (changes.honest clean), c.requires.tree was (changes.honest clean)) clean;
-      fact = λ was clean.
-          taken_desk g.S.Store last begun c.args.self.now.conn c.change_sets.new.conn c.args.self.now.family c.args.change.now c.and-self.result.values c.new-self.result.values changes is c.new-self.ensures
-          was (c.requires.fits was (changes.honest clean), c.requires.tree was (changes.honest clean)) clean;
+      answer = record {
+        honest = changes.honest;
+        kept = it.kept;
+        fact = λ was clean. ap desk_in (it.says was clean) ∙ change_desk k change was.content (c.requires.fits was (changes.honest clean));
+      };
+      stays = λ was clean. ap keeping_in (it.says was clean) ∙ change_keeping k change;
+      sure = λ was clean. tt;
+      serves = it.serves;
+      crash = crashed g.S.Store last d.begun.values d.conn c.change_sets.new.conn d.family _ _ fits made changes;
+      counts = refl;
     }
-
-pub returns-in_err-change_sets-clause-crash : goal.returns-in_err-change_sets-clause-crash
-returns-in_err-change_sets-clause-crash g c = λ was.
-    let changes = over_same g.S.Store c.args.self.now.conn c.change_sets.new.conn (refused c.in_err-change_sets.field-0.0) c.args.change.now (option_copied c.as_ref.result) c.args.self.now.family c.as_ref.ensures.value c.in_err-change_sets.ensures.changed in
-    crashed g.S.Store c.args.self.now.last.values c.args.self.now.begun.values c.args.self.now.conn c.change_sets.new.conn c.args.self.now.family c.args.change.now (refused c.in_err-change_sets.field-0.0) changes
-    (λ clean. (was clean, (c.requires.fits (was clean) (changes.honest clean), c.requires.tree (was clean) (changes.honest clean))))
-
-pub returns-clause-crash : goal.returns-clause-crash
-returns-clause-crash g c = λ was.
-    let changes = over_same g.S.Store c.args.self.now.conn c.change_sets.new.conn made c.args.change.now (option_copied c.as_ref.result) c.args.self.now.family c.as_ref.ensures.value c.in_ok-change_sets.ensures.changed in
-    crashed g.S.Store c.args.self.now.last.values c.args.self.now.begun.values c.args.self.now.conn c.change_sets.new.conn c.args.self.now.family c.args.change.now made changes
-    (λ clean. (was clean, (c.requires.fits (was clean) (changes.honest clean), c.requires.tree (was clean) (changes.honest clean))))
-
-pub returns-clause-serves : goal.returns-clause-serves
-returns-clause-serves g c = λ was clean.
-    let changes = over_same g.S.Store c.args.self.now.conn c.change_sets.new.conn made c.args.change.now (option_copied c.as_ref.result) c.args.self.now.family c.as_ref.ensures.value c.in_ok-change_sets.ensures.changed in
-    let is : c.and-self.result.values ≡ c.change_sets.new.conn ∷ [] = search rules in
-    taken_serves g.S.Store c.args.self.now.last.values c.args.self.now.begun.values c.args.self.now.conn c.change_sets.new.conn c.args.self.now.family c.args.change.now c.and-self.result.values c.new-self.result.values changes is c.new-self.ensures
-    was (c.requires.fits was (changes.honest clean), c.requires.tree was (changes.honest clean)) clean
-
-pub returns-clause-stays : goal.returns-clause-stays
-returns-clause-stays g c = λ was clean.
-    let changes = over_same g.S.Store c.args.self.now.conn c.change_sets.new.conn made c.args.change.now (option_copied c.as_ref.result) c.args.self.now.family c.as_ref.ensures.value c.in_ok-change_sets.ensures.changed in
-    let is : c.and-self.result.values ≡ c.change_sets.new.conn ∷ [] = search rules in
-    taken_keeping g.S.Store c.args.self.now.last.values c.args.self.now.begun.values c.args.self.now.conn c.change_sets.new.conn c.args.self.now.family c.args.change.now c.and-self.result.values c.new-self.result.values changes is c.new-self.ensures
-    was (c.requires.fits was (changes.honest clean), c.requires.tree was (changes.honest clean)) clean

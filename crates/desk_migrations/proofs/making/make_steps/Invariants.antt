@@ -1,0 +1,12 @@
+use Rattle.std.proofs.Common.{◌≡◌, Result, drop, map}
+use Rattle.sqlite.specs.Held.{Held}
+use Rattle.bug_record.specs.declared.outcome.StoreFault.{StoreFault}
+use Rattle.desk_migrations.specs.Stages.{RunsSteps}
+use Rattle.desk_migrations.proofs.making.make_steps.Given as goal
+
+-- what the steps that are left come to, all come to
+abbrev pub invariant-loop-place : goal.invariant-loop-place
+invariant-loop-place g l = record {
+  same_reference : l.tx.conn.ghost_name ≡ l.fn.tx.conn.ghost_name;
+  runs : (new : Held _) (r : Result (Unit {0}) StoreFault) → RunsSteps g.S.Store (drop l.place (map (λ step. map (λ sql. sql.now) step.now) l.steps)) l.tx.conn.now new r → RunsSteps g.S.Store (drop l.fn.from (map (λ step. map (λ sql. sql.now) step.now) l.fn.steps)) l.fn.tx.conn.now new r;
+}
