@@ -16,7 +16,7 @@ use Rattle.desk_tables.specs.Kept.{content_seen, desk_seen, keeping_seen}
 use Rattle.desk_tables.specs.Opening.{unlimited}
 use Rattle.desk_tables.specs.Shown.{IsDesk, HasContent, HasContentUnder, HoldsContent, AreTablesOf}
 use Rattle.desk_tables.specs.declared.desk.TableDesk.{TableDesk}
-use Rattle.desk_tables.proofs.HeldLemmas.{shows_held, holds_newest}
+use Rattle.desk_tables.proofs.HeldLemmas.{shows_held, shows_newest, holds_newest}
 use Rattle.desk_crashes.specs.Settled.{HasHonestDisk, HasKeptTables, IsSettled, IsOpenedOver}
 
 -- what was committed of a desk are its tables
@@ -53,7 +53,7 @@ module _ {S : Type 0} (g : store.Ghosts S) where
         keeping = ap keeping_in same;
         trees = trees;
         tables = subst (λ k. AreTablesOf k trees) (sym same) tables;
-        left = λ db may. elim ((survives holds.0 c (λ clean. holds.1)).crash honest db may) [ inl before ↦ settles conn.store db opens.is_open before | inr earlier ↦ absurd (omega (arith, earlier.0)) ];
+        left = λ db may. elim ((survives NEWEST c (λ clean. shows_newest c (state g conn) shown)).crash honest db may) [ inl before ↦ settles conn.store db opens.is_open before | inr earlier ↦ absurd (omega (arith, earlier.0)) ];
       }
 
   -- a desk that serves is settled
