@@ -181,6 +181,13 @@ no_tree (Some t) P none = absurd (true≢false none)
 pub tree_seen : {S : Type 0} (g : store.Ghosts S) (last begun : List (Held S)) (conn : Held S) (family : Option Ancestry) (t : Ancestry) → family ≡ Some t → IsKept g last begun conn family → (content_seen g last).nodes ≡ t
 tree_seen g last begun conn family t is was = sym (subst (λ f. IfSome f (λ t. t ≡ (content_seen g last).nodes)) is was.tree)
 
+-- a change of the desk fits over the tree that there is, if it needs one
+pub fits_over : {S : Type 0} (g : store.Ghosts S) (last begun : List (Held S)) (conn : Held S) (family : Option Ancestry) (change : Change)
+    → (IsKept g last begun conn family → HasCleanDisk (state g conn) → FitsContent (content_seen g last) change)
+    → (IsKept g last begun conn family → HasCleanDisk (state g conn) → HasTree family (content_seen g last) change)
+    → IsKept g last begun conn family → HasCleanDisk (state g conn) → FitsOver family change (content_seen g last)
+fits_over g last begun conn family change fits tree was clean = (was.content, fits was clean, tree was clean)
+
 -- a set of the desk, in its tree
 pub is_asked : (t : Ancestry) (i : SetImage) (c : Content) → IsKeptContent c → HasMember i → IsSetOf (desk_in c) i → c.nodes ≡ t → IsAskedFor t i c
 is_asked t i c kept some set nodes = record { image = record { kept = kept; some = some; set = set }; nodes = nodes }

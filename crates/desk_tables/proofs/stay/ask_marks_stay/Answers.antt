@@ -1,10 +1,9 @@
-use Rattle.std.proofs.Common.{◌≡◌, true, length, rules, subst}
+use Rattle.std.proofs.Common.{◌≡◌, true, length, rules}
 use Rattle.std.specs.Prelude.{⊤}
 use Rattle.sqlite.specs.Held.{state}
 use Rattle.desk_content.specs.Changes.{all_stay}
-use Rattle.desk_tables.specs.Transactions.{IsAsked}
 use Rattle.desk_tables.proofs.KeptLemmas.{none_change}
-use Rattle.desk_tables.proofs.TransactionLemmas.{asked, asked_none}
+use Rattle.desk_tables.proofs.TransactionLemmas.{asked_none, asked_over}
 use Rattle.desk_tables.proofs.stay.ask_marks_stay.Goals as goal
 
 pub returns-then-is_empty-clause-asked : goal.returns-then-is_empty-clause-asked
@@ -16,6 +15,5 @@ pub returns-clause-asked : goal.returns-clause-asked
 returns-clause-asked g c =
     let begun = c.transaction-tx.ensures.begun in
     let same : c.rollback.new.self.0 ≡ c.conn-1.given.0 = search rules in
-    subst (λ h. IsAsked (state g.S.Store c.args.conn.now) (state g.S.Store h) c.read_marks_stay-answer.result (λ _. ⊤) (λ k stay. stay ≡ all_stay k c.args.images.now)) same
-    (asked (state g.S.Store c.args.conn.now) (state g.S.Store c.read_marks_stay-answer.new.tx.conn.now) (state g.S.Store c.rollback.new.self.0) c.read_marks_stay-answer.result (λ _. ⊤) (λ k stay. stay ≡ all_stay k c.args.images.now)
-    c.requires.unlimited (rw begun at c.read_marks_stay-answer.ensures.reads) (rw begun at c.read_marks_stay-answer.ensures.serves) c.rollback.ensures.undone c.rollback.ensures.survives)
+    asked_over g.S.Store c.args.conn.now c.read_marks_stay-answer.new.tx.conn.now c.rollback.new.self.0 c.conn-1.given.0 same c.read_marks_stay-answer.result _ _ c.requires.unlimited
+    (rw begun at c.read_marks_stay-answer.ensures.reads) (rw begun at c.read_marks_stay-answer.ensures.serves) c.rollback.ensures.undone c.rollback.ensures.survives

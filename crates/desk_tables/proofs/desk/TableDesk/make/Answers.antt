@@ -1,12 +1,10 @@
 use Rattle.std.proofs.Common.{◌≡◌, [], ◌∷◌, Err, refl, ap, ◌∙◌, rules}
 use Rattle.std.specs.Option.{option_copied}
-use Rattle.sqlite.specs.Held.{state}
-use Rattle.sqlite.specs.State.{HasCleanDisk}
 use Rattle.desk_content.specs.View.{desk_in, keeping_in}
 use Rattle.desk_content.proofs.ChangeLemmas.{change_desk}
 use Rattle.desk_content.proofs.KeepLemmas.{change_keeping}
-use Rattle.desk_tables.specs.Kept.{content_seen, IsKept}
-use Rattle.desk_tables.proofs.KeptLemmas.{over_same, stayed, never_foreign, crashed, taken, change_stays, made, refused}
+use Rattle.desk_tables.specs.Kept.{content_seen}
+use Rattle.desk_tables.proofs.KeptLemmas.{over_same, stayed, never_foreign, crashed, taken, change_stays, fits_over, made, refused}
 use Rattle.desk_tables.proofs.desk.TableDesk.make.Goals as goal
 
 pub returns-in_err-change_sets : goal.returns-in_err-change_sets
@@ -17,7 +15,7 @@ returns-in_err-change_sets g c =
     let last = d.last.values in
     let change = c.args.change.now in
     let changes = over_same g.S.Store d.conn c.change_sets.new.conn (refused fault) change (option_copied c.as_ref.result) d.family c.as_ref.ensures.value c.in_err-change_sets.ensures.changed in
-    let fits = (λ (was : IsKept g.S.Store last d.begun.values d.conn d.family) (clean : HasCleanDisk (state g.S.Store d.conn)). (was.content, c.requires.fits was clean, c.requires.tree was clean)) in
+    let fits = fits_over g.S.Store last d.begun.values d.conn d.family change c.requires.fits c.requires.tree in
     rw is (record {
       answer = record {
         honest = changes.honest;
@@ -39,7 +37,7 @@ returns g c =
     let change = c.args.change.now in
     let changes = over_same g.S.Store d.conn c.change_sets.new.conn made change (option_copied c.as_ref.result) d.family c.as_ref.ensures.value c.in_ok-change_sets.ensures.changed in
     let is : c.and-self.result.values ≡ c.change_sets.new.conn ∷ [] = search rules in
-    let fits = (λ (was : IsKept g.S.Store last d.begun.values d.conn d.family) (clean : HasCleanDisk (state g.S.Store d.conn)). (was.content, c.requires.fits was clean, c.requires.tree was clean)) in
+    let fits = fits_over g.S.Store last d.begun.values d.conn d.family change c.requires.fits c.requires.tree in
     let it = taken g.S.Store last d.begun.values d.conn c.change_sets.new.conn d.family _ _ fits c.and-self.result.values c.new-self.result.values changes is c.new-self.ensures
     (λ was clean. change_stays change k was.content (c.requires.fits was clean)) in
     record {
