@@ -340,9 +340,14 @@ fn takes_after(pause: u64) -> Pace {
 fn a_list_of_four_megabytes_has_nine_seconds(rt: HostRuntime) -> Result<(), Fail> {
     let paces = [late(u64::MAX), takes_after(2), takes_after(8)];
     let taken = lists_at(rt.alloc(), 18_000, &paces)?;
-    assert!(rt; taken[0] == (Outcome::WriteFault, 9_000, 0));
-    assert!(rt; taken[1] == (Outcome::Answered, 2_012, 4_122_132));
-    assert!(rt; taken[2] == (Outcome::Answered, 8_048, 4_122_132));
+    assert!(rt;
+        taken[..]
+            == [
+                (Outcome::WriteFault, 9_000, 0),
+                (Outcome::Answered, 2_012, 4_122_132),
+                (Outcome::Answered, 8_048, 4_122_132)
+            ]
+    );
     Ok(())
 }
 
