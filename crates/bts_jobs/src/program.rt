@@ -98,7 +98,7 @@ pub fn run_args<R: Read, W: Write, E: Write>(
 }
 
 // The arguments of the process; the error is the end where they can't be read: bad words where one
-// is not UTF-8, or want of memory.
+// is not UTF-8, or out of memory.
 fn read_args(rt: &HostRuntime, alloc: Global) -> Result<Vec<String>, JobEnd>
     ensures { IfErr result (λ end. (end ≡ JobEnd.BadWords) ⊎ (end ≡ JobEnd.Fault Cause.Memory)) }
 {

@@ -37,7 +37,7 @@ given request old new answer reply e g =
     subst (λ (f : Option StoreFault). IsAnswer request old f (shown reply) new) (sym g.1)
     (e ∙ pair (sym g.0) refl)
 
--- the fixed answer to want of memory
+-- the fixed answer where memory ran out
 pub wants_memory : (request : Request) (old new : Desk) (reply : Reply) → new ≡ old → Fails Memory reply
     → IsFixed request old Memory (shown reply) new
 wants_memory request old new reply same f = record { is = f.0; same = same; asked = λ differs. absurd (differs refl) }

@@ -46,6 +46,6 @@ page_answer text = record { status = 200; allow = None; media = plain; body = te
 abbrev pub not_found : Answer
 not_found = json_answer 404 (codes "{\"error\":\"not found\"}")
 
--- a fault of the store, or want of memory
+-- a fault of the store, or out of memory
 abbrev pub store_fault : Answer
 store_fault = json_answer 500 (codes "{\"error\":\"store fault\"}")

@@ -1,5 +1,5 @@
--- What a request is answered on a desk, and the desk after it, where no fault of the store and no
--- want of memory is met.
+-- What a request is answered on a desk, and the desk after it, where the store has no fault and
+-- memory does not run out.
 -- This project's own rule.
 use Rattle.std.specs.Prelude.{ℕ, List, Result, Ok, Err, codes, if◌then◌else◌}
 use Rattle.version_nodes.specs.Trees.{Ancestry}

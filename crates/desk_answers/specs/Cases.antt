@@ -26,7 +26,7 @@ abbrev pub RefusesReport : ReportFault → Reply → Type 0
 RefusesReport (reports.Store fault) reply = Fails fault reply
 RefusesReport refusal reply = GivesOrFails (refused_answer (report_refusal refusal)) reply
 
--- this answer to a fault other than want of memory, or the fixed one
+-- this answer to a fault other than out of memory, or the fixed one
 abbrev pub TellsFault : Answer → StoreFault → Reply → Type 0
 TellsFault answer fault reply =
     ((fault ≢ Memory) × (shown reply ≡ answer) × (reply.fault ≡ Some fault)) ⊎ Fails fault reply

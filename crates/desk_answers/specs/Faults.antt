@@ -30,7 +30,7 @@ abbrev pub IsAfterLines : Control → Desk → Desk → Type 0
 IsAfterLines c old new =
     (count : ℕ) × (new ≡ (after_lines c.from (at_start old) (take count (lines_of c.message))).desk)
 
--- The store failed at a line of the message, not for want of memory: the lines before it were
+-- The store failed at a line of the message, and memory had not run out: the lines before it were
 -- taken, and the answer has their transcript and tells the fault.
 pub record TellsCut (c : Control) (old : Desk) (fault : StoreFault) (answer : Answer) (new : Desk) :
     Type 0 where
@@ -67,7 +67,7 @@ abbrev pub IsAnswer : Request → Desk → Option StoreFault → Answer → Desk
 IsAnswer request old None answer new = answer_to request old ≡ (answer, new)
 IsAnswer request old (Some fault) answer new = IsFaulted request old fault answer new
 
--- Whatever the store is: a 500 comes only where a fault was met; want of memory is told by the
+-- Whatever the store is: a 500 comes only where a fault was met; out of memory is told by the
 -- fixed answer alone, and any other fault by a 500.
 abbrev pub IsTold : Option StoreFault → Answer → Type 0
 IsTold None answer = answer.status ≢ 500

@@ -48,7 +48,7 @@ answered_once id c s =
     then answered_resumed (resumed c.from (lines_of c.message) (outcomes_kept (s.kept id)) s.desk) id c s
     else (id_in_use, s)
 
--- The store failed at a line of the message, not for want of memory: the lines before it were
+-- The store failed at a line of the message, and memory had not run out: the lines before it were
 -- taken and their outcomes are kept, and the answer has their transcript and tells the fault.
 pub record TellsOnceCut (id : List ℕ) (c : Control) (old : Stored) (fault : StoreFault) (answer : Answer) (new : Stored) :
     Type 0 where

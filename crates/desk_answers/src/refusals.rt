@@ -24,7 +24,7 @@ pub(crate) fn refuse(alloc: Global, why: &str) -> Reply
     }
 }
 
-/// A refusal of a branch of nodes, which no store gives for want of memory.
+/// A refusal of a branch of nodes, which no store gives as out of memory.
 pub(crate) fn refuse_nodes(alloc: Global, fault: BranchFault) -> Reply
     ensures is { GivesOrFails (refused_answer (nodes_refusal fault)) result }
     ensures told { IsTold result.fault (shown result) }

@@ -52,7 +52,7 @@ pub struct Reply {
     /// The method that a 405 allows.
     pub allow: Option<&'static str>,
     pub body: Body,
-    /// The fault that was met; want of memory, wherever it was met, is `Memory`.
+    /// The fault that was met; out of memory, wherever it was met, is `Memory`.
     pub fault: Option<StoreFault>,
 }
 

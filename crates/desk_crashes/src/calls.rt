@@ -27,7 +27,7 @@ use version_nodes::Node;
 /// Crashes at this moment, between two calls, and opens what is left.
 /// Where the desk was settled, what is opened is the same desk, with what is kept of messages,
 /// and settled: nothing that was answered is lost.
-/// `None` where it is not opened: for want of memory, or by a fault of the store.
+/// `None` where it is not opened: out of memory, or by a fault of the store.
 pub fn crash_and_open<S: Alter + Reopen + Drop>(
     alloc: Global,
     desk: TableDesk<S>,
@@ -50,7 +50,7 @@ pub fn crash_and_open<S: Alter + Reopen + Drop>(
 /// Where the desk was settled, what is opened is the desk before the change or the desk after it,
 /// and settled; where the change was answered as made, it is the desk after it.
 /// Of the change it asks what `Records::apply` asks.
-/// The second answer is `None` where nothing is opened: for want of memory, or by a fault of the
+/// The second answer is `None` where nothing is opened: out of memory, or by a fault of the
 /// store.
 pub fn apply_and_crash<S: Alter + Reopen + Drop>(
     alloc: Global,
@@ -76,7 +76,7 @@ pub fn apply_and_crash<S: Alter + Reopen + Drop>(
 /// left.
 /// Where the desk was settled, what is opened is the desk before the branch or the desk after it,
 /// and settled; where the branch was answered as taken, it is the desk after it.
-/// The second answer is `None` where nothing is opened: for want of memory, or by a fault of the
+/// The second answer is `None` where nothing is opened: out of memory, or by a fault of the
 /// store.
 pub fn branch_and_crash<S: Alter + Reopen + Drop>(
     alloc: Global,
@@ -102,7 +102,7 @@ pub fn branch_and_crash<S: Alter + Reopen + Drop>(
 /// Where the desk was settled, and the outcome and the change may be kept there, what is opened has
 /// neither of them or both, and is settled; where the call was answered as done, it has both.
 /// It asks what `Records::keep` asks.
-/// The second answer is `None` where nothing is opened: for want of memory, or by a fault of the
+/// The second answer is `None` where nothing is opened: out of memory, or by a fault of the
 /// store.
 pub fn keep_and_crash<S: Alter + Reopen + Drop>(
     alloc: Global,

@@ -32,7 +32,7 @@ fn open_files<D: Disk + Drop>(
 }
 
 /// Closes a desk in two files, and opens it again: it is the same desk, and settled.
-/// `None` where it is not closed or not opened: for want of memory, or by a fault of a disk.
+/// `None` where it is not closed or not opened: out of memory, or by a fault of a disk.
 pub fn close_and_open<D: Disk + Drop>(
     alloc: Global,
     desk: TableDesk<FileStore<D>>,

@@ -29,7 +29,7 @@ use Rattle.desk_http.specs.declared.serve.Served.TheVariants.{Answered, Closed}
 use Rattle.desk_http.specs.declared.serve.ServeFault.{ServeFault}
 use Rattle.desk_http.specs.declared.serve.ServeFault.TheVariants.{Read, Write}
 
--- want of memory before anything was carried out
+-- memory ran out before anything was carried out
 memory_answers : (request : Asked) (d : Stored) (reply : Reply) → Fails Memory reply
     → IsAskedAnswer request d (Some Memory) (shown reply) d
 memory_answers (Always (PostBug report)) d reply f = (wants_memory (PostBug report) d.desk d.desk reply refl f, refl)
@@ -71,7 +71,7 @@ asked_right new buf headers spans made d e fault answer asks h head at =
     had_then new (λ more. made ≡ asked_of head (drop spans.len buf ++ more)) _
     (λ more is. subst (λ (r : Result Asked Answer). IsReplyTo r d fault answer e) is h) (asks head at)
 
--- want of memory where a request was read
+-- memory ran out where a request was read
 pub memory_right : (new : Option (List ℕ)) (buf : List ℕ) (spans : RequestSpans) (d : Stored) (reply : Reply) → Fails Memory reply
     → (head : RequestHead) → HadBytes new (λ more. IsReplyTo (asked_of head (drop spans.len buf ++ more)) d reply.fault (shown reply) d)
 memory_right new buf spans d reply f head = had_any new _ (λ more.

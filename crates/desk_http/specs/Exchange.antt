@@ -20,8 +20,8 @@ use Rattle.desk_http.specs.declared.serve.ServeFault.{ServeFault}
 use Rattle.desk_http.specs.declared.serve.ServeFault.TheVariants.{Read, Write}
 
 -- What is answered to what was asked, where this fault was met or none, and what the store holds
--- after it: a request that is refused changes nothing, and only want of memory can come before its
--- refusal.
+-- after it: a request that is refused changes nothing, and only 'out of memory' can come
+-- before its refusal.
 abbrev pub IsReplyTo : Result Asked Answer → Stored → Option StoreFault → Answer → Stored → Type 0
 IsReplyTo (Ok request) old fault answer new = IsAskedAnswer request old fault answer new
 IsReplyTo (Err refusal) old None answer new = (answer ≡ refusal) × (new ≡ old)

@@ -73,7 +73,7 @@ abbrev pub FollowsNext : Result ℕ StoreFault → Result ℕ ReportFault → Ty
 FollowsNext (Err fault) answer = answer ≡ Err (Store fault)
 FollowsNext (Ok next) answer = AFTER_LARGEST ≤ next → answer ≡ Err Full
 
--- The store was asked for the next number, before anything that may meet a want of memory.
+-- The store was asked for the next number, before anything that may run out of memory.
 pub record AsksForNext {S : Type 0} (next_gives : S → S → Result ℕ StoreFault → Type 0) (old : S) (answer : Result ℕ ReportFault) :
     Type 0 where
   pub next : Result ℕ StoreFault

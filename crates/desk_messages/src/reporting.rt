@@ -95,7 +95,7 @@ fn node_reported(
 /// sender, and which is found in the version of its package, if one is given.
 /// Answers its number.
 /// Where its words are good, the store is asked for the next number first, so that `Full` is
-/// answered before any want of memory that comes after.
+/// answered first, also where memory runs out later.
 pub fn report<S: Records>(
     alloc: Global,
     store: &mut S,

@@ -6,7 +6,7 @@ ghost use Rattle.desk_store.specs.Store.{faults_after, no_faults, total};
 use bug_record::StoreFault;
 use std::marker::Model;
 
-/// How often a store has answered each kind of fault, up to `u64::MAX`; want of memory is not
+/// How often a store has answered each kind of fault, up to `u64::MAX`; out of memory is not
 /// counted.
 #[derive(Drop)]
 pub(crate) struct Counts {

@@ -28,8 +28,8 @@ fn first_repeat(nodes: &[Node]) -> Option<usize>
     (0..nodes.len()).find(|place| is_repeat(nodes, *place))
 }
 
-// The fault of a branch that can't be taken for want of memory: one that it has whatever the memory
-// and the tree, or that want.
+// The fault of a branch that can't be taken, out of memory: one that it has whatever the memory
+// and the tree, or that memory ran out.
 pub(crate) fn fault_without_memory(nodes: &[Node]) -> BranchFault
     ensures exact { (t : Ancestry) → IsBranched t nodes.now (Err result) t }
     ensures memory { (t : Ancestry) → result ≡ Memory → TakesMemory (branched t nodes.now) }

@@ -48,7 +48,7 @@ fn text(route: Route) -> &'static str
     }
 }
 
-// Adds a route that conflicts with none of the router's, so that an error is want of memory.
+// Adds a route that conflicts with none of the router's, so that an error is out of memory.
 fn add(router: &mut Router<Route>, route: Route) -> Result<(), AllocError>
     requires { IsFree route router.old }
     ensures { OnOk result (router.new ≡ with_route route router.old) }
