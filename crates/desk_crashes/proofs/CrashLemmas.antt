@@ -25,6 +25,7 @@ use Rattle.desk_content.proofs.ChangeLemmas.{change_desk, change_kept}
 use Rattle.desk_content.proofs.KeepLemmas.{change_keeping}
 use Rattle.desk_content.proofs.QuestionLemmas.{branch_kept}
 use Rattle.bug_record.specs.declared.outcome.StoreFault.{StoreFault}
+use Rattle.desk_repeats.proofs.OneLemmas.{took_one}
 use Rattle.desk_store.specs.Store.{Holds, Applies, Branches, Keeps, MayBeKept, with_change}
 use Rattle.desk_store.proofs.HoldsLemmas.{holds_none}
 use Rattle.desk_store.proofs.KeepLemmas.{kept_also-good}
@@ -32,7 +33,7 @@ use Rattle.desk_tables.specs.Kept.{content_seen, desk_seen, keeping_seen, MayKee
 use Rattle.desk_tables.specs.Shown.{AreTablesOf, AreTablesAfter}
 use Rattle.desk_tables.specs.declared.desk.TableDesk.{TableDesk}
 use Rattle.desk_tables.proofs.KeepLemmas.{changed_desk}
-use Rattle.desk_crashes.specs.Settled.{HasHonestDisk, HasKeptTables, IsSettled, IsOpenedOver, HasTakenBranch}
+use Rattle.desk_crashes.specs.Settled.{HasHonestDisk, HasKeptTables, IsSettled, IsOpenedOver, HasTakenBranch, HasTakenLine}
 use Rattle.desk_crashes.proofs.OpenLemmas.{Settles, serving_settled}
 
 module _ {S : Type 0} (g : store.Ghosts S) where
@@ -262,3 +263,21 @@ module _ {S : Type 0} (g : store.Ghosts S) where
               let done = answer old (holds_none (HasKeptTables g) (HasHonestDisk g) old may) in
               let fact = done.fact was.kept clean in
               after_keep d k l.0 old new again l.2 was clean l.1 settles (done.kept was.kept clean) (serves may was.kept clean) id sender message outcome change fact.0 fact.1
+
+module _ {S : Type 0} (g : store.Ghosts S) (id sender message : List ℕ) (outcome : Outcome) (change : Option Change) where
+  -- what has the outcome with its change is the desk after a call that took that line
+  pub took_keep : (old : TableDesk S g) (opened : Option (TableDesk S g))
+      → IfSome opened (λ again. HasHonestDisk g again → (d : Desk) (k : Keeping) → IsSettled g d k old → MayBeKept id sender message k d outcome change
+      → IsSettled g d k again ⊎ IsSettled g (with_change change d) (kept_also id sender message outcome k) again)
+      → IfSome opened (λ again. HasHonestDisk g again → (d : Desk) (k : Keeping) → IsSettled g d k old → MayBeKept id sender message k d outcome change
+      → IsSettled g d k again ⊎ HasTakenLine g id sender message outcome d k again)
+  took_keep old None either = tt
+  took_keep old (Some again) either = λ honest d k was may. elim (either honest d k was may) [
+    | inl before ↦ inl before
+    | inr after ↦ inr (record {
+      desk = with_change change d;
+      keeping = kept_also id sender message outcome k;
+      took = took_one id sender message outcome change d k may;
+      settled = after;
+    })
+  ]

@@ -1,5 +1,5 @@
 -- What a crash leaves of a desk in tables.
-use Rattle.std.specs.Prelude.{◌≡◌, List, Ok}
+use Rattle.std.specs.Prelude.{◌≡◌, ℕ, List, Ok}
 use Rattle.sqlite.specs.Held.{state}
 use Rattle.sqlite.specs.State.{HasCleanDisk}
 use Rattle.sqlite_trees.specs.Tree.{Trees}
@@ -13,7 +13,9 @@ use Rattle.desk_content.specs.Kept.{IsKeptContent}
 use Rattle.desk_content.specs.View.{desk_in, keeping_in}
 use Rattle.desk_tables.specs.Kept.{content_seen, desk_seen, keeping_seen, IsKept}
 use Rattle.desk_tables.specs.Shown.{AreTablesOf}
+use Rattle.bug_record.specs.declared.outcome.Outcome.{Outcome}
 use Rattle.message_machine.specs.Kept.{Keeping}
+use Rattle.desk_repeats.specs.Calls.{TookOne}
 use Rattle.desk_tables.specs.declared.desk.TableDesk.{TableDesk}
 
 module _ {S : Type 0} (g : store.Ghosts S) where
@@ -45,3 +47,10 @@ module _ {S : Type 0} (g : store.Ghosts S) where
     pub ancestry : Ancestry
     pub taken : branched d.tree nodes ≡ Ok ancestry
     pub settled : IsSettled (record d { tree = ancestry }) k t
+
+  -- it is settled, after a call that took one line of a message with an id, with this outcome
+  pub record HasTakenLine (id sender message : List ℕ) (outcome : Outcome) (d : Desk) (k : Keeping) (t : TableDesk S g) : Type 0 where
+    pub desk : Desk
+    pub keeping : Keeping
+    pub took : TookOne id sender message outcome (d, k) (desk, keeping)
+    pub settled : IsSettled desk keeping t

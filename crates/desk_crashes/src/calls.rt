@@ -12,7 +12,7 @@ ghost use Rattle.line_words.specs.Ids.{IsId};
 ghost use Rattle.message_machine.specs.Kept.{Keeping, kept_also};
 ghost use Rattle.desk_store.specs.Store.{Since, MayBeKept, with_change};
 ghost use Rattle.desk_tables.specs.Kept.{desk_seen, MayKeep};
-ghost use Rattle.desk_crashes.specs.Settled.{HasHonestDisk, HasKeptTables, IsSettled, IsOpenedOver, HasTakenBranch};
+ghost use Rattle.desk_crashes.specs.Settled.{HasHonestDisk, HasKeptTables, IsSettled, IsOpenedOver, HasTakenBranch, HasTakenLine};
 
 use crate::opening::open_store;
 use ancestry::BranchFault;
@@ -101,6 +101,8 @@ pub fn branch_and_crash<S: Alter + Reopen + Drop>(
 /// and crashes right after the call, whatever it answered; then it opens what is left.
 /// Where the desk was settled, and the outcome and the change may be kept there, what is opened has
 /// neither of them or both, and is settled; where the call was answered as done, it has both.
+/// Where it has both, it is the desk after a call that took this one line of the message, of which
+/// the law `desk_repeats::each_line_acts_once` says that no later call takes it again.
 /// It asks what `Records::keep` asks.
 /// The second answer is `None` where nothing is opened: out of memory, or by a fault of the
 /// store.
@@ -124,6 +126,9 @@ pub fn keep_and_crash<S: Alter + Reopen + Drop>(
     ensures either { IfSome result.1 (λ again. HasHonestDisk S.Store again → (d : Desk) (k : Keeping) → IsSettled S.Store d k desk →
         MayBeKept id.now from.now message.now k d outcome.now (option_copied change.entry) →
         IsSettled S.Store d k again ⊎ IsSettled S.Store (with_change (option_copied change.entry) d) (kept_also id.now from.now message.now outcome.now k) again) }
+    ensures taken { IfSome result.1 (λ again. HasHonestDisk S.Store again → (d : Desk) (k : Keeping) → IsSettled S.Store d k desk →
+        MayBeKept id.now from.now message.now k d outcome.now (option_copied change.entry) →
+        IsSettled S.Store d k again ⊎ HasTakenLine S.Store id.now from.now message.now outcome.now d k again) }
     ensures done { IfSome result.1 (λ again. HasHonestDisk S.Store again → IsOk result.0 → (d : Desk) (k : Keeping) → IsSettled S.Store d k desk →
         MayBeKept id.now from.now message.now k d outcome.now (option_copied change.entry) →
         IsSettled S.Store (with_change (option_copied change.entry) d) (kept_also id.now from.now message.now outcome.now k) again) }

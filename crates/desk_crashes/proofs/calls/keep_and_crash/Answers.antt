@@ -1,7 +1,7 @@
 use Rattle.std.specs.Option.{option_copied}
 use Rattle.desk_tables.proofs.KeepLemmas.{line_fits}
 use Rattle.desk_tables.specs.Kept.{content_seen}
-use Rattle.desk_crashes.proofs.CrashLemmas.{either_keep, done_keep}
+use Rattle.desk_crashes.proofs.CrashLemmas.{either_keep, took_keep, done_keep}
 use Rattle.desk_crashes.proofs.calls.keep_and_crash.Goals as goal
 
 pub returns-clause-either : goal.returns-clause-either
@@ -11,6 +11,11 @@ returns-clause-either g c =
     c.keep-kept.ensures.crash c.keep-kept.ensures.honest
     (λ kept honest. line_fits (option_copied c.args.change) (content_seen g.S.Store c.args.desk.last.values) c.requires.members (c.requires.apart kept honest) (c.requires.fits kept honest))
     c.requires.sender
+
+pub returns-clause-taken : goal.returns-clause-taken
+returns-clause-taken g c =
+    took_keep g.S.Store c.args.id.now c.args.from.now c.args.message.now c.args.outcome.now (option_copied c.args.change) c.args.desk c.crash_and_open-again.result
+    (returns-clause-either g c)
 
 pub returns-clause-done : goal.returns-clause-done
 returns-clause-done g c =
