@@ -119,14 +119,14 @@ def write_report(connection, number, package):
 
 
 def write_severity(connection, number, severity):
-    """A change of a bug by itself, as the desk writes it: its rows are taken away and put anew."""
+    """A change of severity, as the desk writes it: bugs and marks stay, and the rest is put anew."""
     connection.execute("BEGIN IMMEDIATE")
     (key,) = connection.execute(
         "SELECT set_key FROM bugs WHERE number = ?", (number,)
     ).fetchone()
     kept = {
         table: connection.execute(f"SELECT * FROM {table} WHERE set_key = ?", (key,)).fetchall()
-        for table in ("sets", "bugs", "marks", "blocks", "affects")
+        for table in ("sets", "blocks", "affects")
     }
     kept["sets"] = [(*row[:2], severity, *row[3:]) for row in kept["sets"]]
     for table, rows in kept.items():

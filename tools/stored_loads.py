@@ -9,6 +9,7 @@ Each figure is the best of three runs.
 
 import json
 import os
+import shutil
 import socket
 import subprocess
 import sys
@@ -36,8 +37,7 @@ def best(program, store, script):
     for _ in range(TIMES):
         with tempfile.TemporaryDirectory(dir=os.path.dirname(store)) as place:
             copy = os.path.join(place, "copy")
-            with open(store, "rb") as it, open(copy, "wb") as to:
-                to.write(it.read())
+            shutil.copy(store, copy)
             seconds, answers = run(program, copy, script)
             if any(line.startswith(b"NO ") for line in answers):
                 raise SystemExit("benchmark: a line was refused")
@@ -62,7 +62,7 @@ def changes(count, step):
 
 
 def update(store, count, step):
-    """The seconds of these changes by Python's sqlite3: one statement each, and one to find the set."""
+    """The seconds of these changes by Python's sqlite3: one finds the set, and one changes it."""
     connection = connect(store)
     began = time.perf_counter()
     for place in range(count):
@@ -137,8 +137,8 @@ def time_messages(program, folder):
                 seconds = send(program, store, message, more)
                 least[name] = min(least.get(name, seconds), seconds)
         print(
-            f"a message of {count} lines: {least['without']:.3f} s, with an id {least['with']:.3f} s:"
-            f" {least['with'] / least['without']:.2f} times",
+            f"a message of {count} lines: {least['without']:.3f} s,"
+            f" with an id {least['with']:.3f} s: {least['with'] / least['without']:.2f} times",
             flush=True,
         )
 
@@ -183,15 +183,17 @@ def time_first(program, folder):
     script += ["@report package-0 1.0-1 normal does not start"] * SETS
     store = desk(program, folder, "nodes", script)
     opened = best(program, store, [])
+    severity = [SEVERITIES[at // SETS % 2] for at in range(201)]
     kinds = (
-        ("severity", [f"severity {1 + at % SETS} {SEVERITIES[at // SETS % 2]}" for at in range(201)]),
+        ("severity", [f"severity {1 + at % SETS} {it}" for at, it in enumerate(severity)]),
         ("found", [f"found {1 + at % SETS} {2 + at // SETS}.0-1" for at in range(201)]),
     )
     for name, lines in kinds:
         first = best(program, store, ["@from ann", lines[0]]) - opened
         later = (best(program, store, ["@from ann", *lines]) - opened - first) / (len(lines) - 1)
         print(
-            f"{name} on {NODES} nodes: first {first * 1e3:.1f} ms, each later one {later * 1e3:.2f} ms",
+            f"{name} on {NODES} nodes: first {first * 1e3:.1f} ms,"
+            f" each later one {later * 1e3:.2f} ms",
             flush=True,
         )
 
@@ -222,7 +224,8 @@ def time_words(program, folder):
         store = desk(program, folder, f"words-{count}", script)
         taken = []
         for turn in range(TIMES):
-            words = [program, f"--store={store}", "--from=ann", "severity", "5", SEVERITIES[turn % 2]]
+            change = ["severity", "5", SEVERITIES[turn % 2]]
+            words = [program, f"--store={store}", "--from=ann", *change]
             began = time.perf_counter()
             subprocess.run(words, check=True, stdout=subprocess.DEVNULL)
             taken.append(time.perf_counter() - began)
