@@ -4,3 +4,4 @@ pub mod OpeningLemmas
 pub mod BranchLemmas
 pub mod HeldLemmas
 pub mod KeepLemmas
+pub mod FileLemmas

@@ -176,6 +176,7 @@ module _ {A : Type 0} (content : A → Content) (old : State) where
     honest = tt;
     holds = tt;
     says = tt;
+    serves = tt;
     stays = tt;
     why = it.why;
     desk = it.desk;
@@ -192,6 +193,7 @@ module _ {A : Type 0} (content : A → Content) (old : State) where
         let shows = newest_shows c old (subst (λ k. HasContentUnder k c old) (sym (it.under holds.0 c clean holds.1) ∙ is) holds.1) in
         (same ∙ (shows (it.left.honest clean) (it.ok clean).0).1, it.left.content c shows);
     says = λ clean. let h = it.ok clean in (h.0, (n, it.known, h.1));
+    serves = λ k c clean low shows. let here = it.under k c clean shows in absurd (omega (arith, is, here, low));
     stays = λ c clean shows. it.left;
     why = tt;
     desk = λ c clean holds. tt;
@@ -240,6 +242,7 @@ module _ {A : Type 0} (content : A → Content) (old : State) where
       honest = λ clean. it.left.honest (early (Ok tt) carried clean);
       holds = λ c clean holds. let h = (carried c).ok clean tt (as_found holds.0 c (early (Ok tt) carried clean) holds.1) in (same ∙ h.2, λ _ o. (h.1, h.2));
       says = λ clean. let h = it.ok (early (Ok tt) carried clean) in (h.0, (n, it.known, h.1));
+      serves = λ k c clean _ shows. ((carried c).ok clean tt (as_found k c (early (Ok tt) carried clean) shows)).0;
       stays = λ c clean shows. absurd (earlier (it.under NEWEST c (early (Ok tt) carried clean) (shows_newest c old shows)));
       why = tt;
       desk = λ c clean holds. tt;
@@ -253,6 +256,7 @@ module _ {A : Type 0} (content : A → Content) (old : State) where
       honest = tt;
       holds = tt;
       says = tt;
+      serves = tt;
       stays = tt;
       why = λ clean is. (n, low, (it.ok (early (Err fault) carried clean)).1);
       desk = λ c clean holds. (fault, refl, (carried c).sure clean tt (as_found holds.0 c (early (Err fault) carried clean) holds.1));

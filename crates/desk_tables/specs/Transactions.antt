@@ -115,6 +115,7 @@ pub record IsFound {A : Type 0} (content : A → Content) (old new : State) (res
   pub honest : IfOk result (λ a. HasCleanDisk new → HasCleanDisk old)
   pub holds : IfOk result (λ a. (c : Content) → HasCleanDisk new → HoldsContent c old → (content a ≡ c) × HasContent c new)
   pub says : IfOk result (λ a. HasCleanDisk new → IsTrue old.is_open × SaysDesk old.now)
+  pub serves : IfOk result (λ a. (k : ℕ) (c : Content) → HasCleanDisk new → k < NEWEST → HasContentUnder k c old → IsTrue new.is_open)
   pub stays : IfOk result (λ a. (c : Content) → HasCleanDisk new → HasContent c old → IsLeft old new)
   pub why : IfErr result (IsReason old new)
   pub desk : (c : Content) → HasCleanDisk new → HoldsContent c old → IfErr result IsStoreFailure

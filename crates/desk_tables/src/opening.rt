@@ -134,6 +134,7 @@ impl<S: Alter> TableDesk<S> {
     /// says no number of a desk's schema, `NewerSchema` where it says one above 3, and else what
     /// the store failed for, which may be `Foreign` where the tables say 1 or 2 and are no desk's.
     /// The desk is kept where the tables are a desk's and say what a desk keeps.
+    /// Where a desk was carried over, the connection serves.
     /// From now on no statement has a limit of steps.
     /// A crash at any moment of the call leaves what it would have left before, or, where the
     /// tables are carried over, the same desk under schema 3.
@@ -148,6 +149,8 @@ impl<S: Alter> TableDesk<S> {
         ensures kept { IfOk result (λ d. (c : Content) → HasCleanDisk (state S.Store d.conn) → HoldsContent c (state S.Store conn) → IsKeptContent c →
             IsKept S.Store d.last.values d.begun.values d.conn d.family) }
         ensures says { IfOk result (λ d. HasCleanDisk (state S.Store d.conn) → IsTrue (state S.Store conn).is_open × SaysDesk (state S.Store conn).now) }
+        ensures serves { IfOk result (λ d. (k : _) (c : Content) → HasCleanDisk (state S.Store d.conn) → k < NEWEST → HasContentUnder k c (state S.Store conn) →
+            IsTrue (state S.Store d.conn).is_open) }
         ensures counts { IfOk result (λ d. d.counts ≡ no_faults) }
         ensures why { IfErr result (λ e. IsReason (state S.Store conn) (state S.Store e.1) e.0) }
         ensures desk { (c : Content) → HoldsContent c (state S.Store conn) → IfErr result (λ e. HasCleanDisk (state S.Store e.1) → IsStoreFailure e.0) }

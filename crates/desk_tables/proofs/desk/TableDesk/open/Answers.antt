@@ -16,6 +16,7 @@ returns-in-Ok g c =
           let all = it.found.holds k clean (it.holds k holds) in
           found_kept g.S.Store d.last.values d.begun.values d.conn d.family k (same ∙ all.0) c.found.ensures.begun c.found.ensures.family all.1 good;
       says = it.found.says;
+      serves = λ k content clean low shows. it.found.serves k content clean low (it.under k content shows);
       counts = c.found.ensures.counts;
       why = tt;
       desk = λ k holds. tt;
@@ -32,6 +33,7 @@ returns-in-Err g c =
       content = tt;
       kept = tt;
       says = tt;
+      serves = tt;
       counts = tt;
       why = it.reason c.in-Err.fault it.found.why;
       desk = λ k holds clean. it.found.desk k clean (it.holds k holds);
