@@ -1,8 +1,8 @@
 -- What is opened after a crash.
 use Rattle.std.proofs.Common.{◌≡◌, ◌⊎◌, inl, inr, ℕ, List, Option, None, Some, Result, Ok, Err, IfSome, IfOk, OnOk, IsOk, IsTrue, sym, ap, subst, ◌∙◌}
 use Rattle.std.proofs.lemmas.Bool.{false≢true}
-use Rattle.sqlite.specs.Held.{state}
-use Rattle.sqlite.specs.State.{Survives}
+use Rattle.sqlite.specs.Held.{Held, state}
+use Rattle.sqlite.specs.State.{HasCleanDisk, Survives}
 use Rattle.sqlite_trees.specs.Tree.{Trees}
 use Rattle.sqlite_trees.specs.View.{IsClean}
 use Rattle.sqlite_trees.specs.declared.store.Store as store
@@ -34,19 +34,15 @@ use Rattle.desk_tables.specs.Shown.{AreTablesOf, AreTablesAfter}
 use Rattle.desk_tables.specs.declared.desk.TableDesk.{TableDesk}
 use Rattle.desk_tables.proofs.KeepLemmas.{changed_desk}
 use Rattle.desk_crashes.specs.Settled.{HasHonestDisk, HasKeptTables, IsSettled, IsOpenedOver, HasTakenBranch, HasTakenLine}
-use Rattle.desk_crashes.proofs.OpenLemmas.{Settles, serving_settled}
+use Rattle.desk_crashes.proofs.OpenLemmas.{Settles, settled_as, serving_settled, opened_newest}
 
 module _ {S : Type 0} (g : store.Ghosts S) where
-  -- a desk that is settled, over another word for what it shows
-  settled_as : (t : TableDesk S g) (d e : Desk) (k l : Keeping) → d ≡ e → k ≡ l → IsSettled g d k t → IsSettled g e l t
-  settled_as t d e k l same alike it = subst (λ (x : Desk). IsSettled g x l t) same (subst (λ (x : Keeping). IsSettled g d x t) alike it)
-
   -- the crash left what the old desk's could have left
   pub settled_again : (d : Desk) (k : Keeping) (db : Trees) (old again : TableDesk S g) → IsOpenedOver g db again → (state g old.conn).may_leave db → IsSettled g d k old → IsSettled g d k again
   settled_again d k db old again opened may was =
       let c = content_seen g old.last.values in
       let tables : AreTablesOf c db = subst (AreTablesOf c) (sym (was.left db may)) was.tables in
-      settled_as again (desk_in c) d (keeping_in c) k was.desk was.keeping (opened c tables was.kept.content)
+      settled_as g again (desk_in c) d (keeping_in c) k was.desk was.keeping (opened_newest g db again opened c tables was.kept.content)
 
   module _ (d : Desk) (k : Keeping) (db : Trees) (old new again : TableDesk S g) (opened : IsOpenedOver g db again) (was : IsSettled g d k old) (clean : HasHonestDisk g new) (may : (state g new.conn).may_leave db) where
     abbrev c : Content
@@ -59,19 +55,19 @@ module _ {S : Type 0} (g : store.Ghosts S) where
         → IsSettled g d k again ⊎ IsSettled g (put d change) k again
     either_after_change change survives fits = elim (survives.crash clean db may) [
       | inl before ↦ inl (settled_again d k db old again opened before was)
-      | inr made ↦ inr (settled_as again (desk_in (changed c change)) (put d change) (keeping_in (changed c change)) k
+      | inr made ↦ inr (settled_as g again (desk_in (changed c change)) (put d change) (keeping_in (changed c change)) k
           (change_desk c change was.kept.content fits ∙ ap (λ (x : Desk). put x change) was.desk)
           (change_keeping c change ∙ was.keeping)
-          (opened (changed c change) made (change_kept c change was.kept.content fits)))
+          (opened_newest g db again opened (changed c change) made (change_kept c change was.kept.content fits)))
     ]
 
     taken : (nodes : List Node) → AreTablesAfter c nodes db → HasTakenBranch g d k nodes again
     taken nodes made = record {
       ancestry = made.ancestry;
       taken = subst (λ (x : Desk). branched x.tree nodes ≡ Ok made.ancestry) was.desk made.taken;
-      settled = settled_as again (desk_in (with_nodes made.ancestry c)) (record d { tree = made.ancestry }) (keeping_in (with_nodes made.ancestry c)) k
+      settled = settled_as g again (desk_in (with_nodes made.ancestry c)) (record d { tree = made.ancestry }) (keeping_in (with_nodes made.ancestry c)) k
           (ap (λ (x : Desk). let y : Desk = record x { tree = made.ancestry } in y) was.desk) was.keeping
-          (opened (with_nodes made.ancestry c) made.tables (branch_kept c made.ancestry was.kept.content made.forest));
+          (opened_newest g db again opened (with_nodes made.ancestry c) made.tables (branch_kept c made.ancestry was.kept.content made.forest));
     }
 
     -- it left that, or the whole branch
@@ -90,11 +86,11 @@ module _ {S : Type 0} (g : store.Ghosts S) where
       | inl before ↦ inl (settled_again d k db old again opened before was)
       | inr made ↦ (
           let good = kept_also-good id sender message (keeping_in c) (desk_in c) outcome (with_change change (desk_in c)) may_keep.next was.kept.content.sound text may_keep.good was.kept.content.good in
-          inr (settled_as again (desk_in (kept_after id sender message outcome change c)) (with_change change d)
+          inr (settled_as g again (desk_in (kept_after id sender message outcome change c)) (with_change change d)
           (keeping_in (kept_after id sender message outcome change c)) (kept_also id sender message outcome k)
           (changed_desk change c was.kept.content fits ∙ ap (with_change change) was.desk)
           (after_keeping c was.kept.content change fits id sender message outcome ∙ ap (kept_also id sender message outcome) was.keeping)
-          (opened (kept_after id sender message outcome change c) made (after_kept c was.kept.content change fits id sender message outcome good))))
+          (opened_newest g db again opened (kept_after id sender message outcome change c) made (after_kept c was.kept.content change fits id sender message outcome good))))
     ]
 
     -- what may be kept here may be kept over what was seen
@@ -113,7 +109,7 @@ module _ {S : Type 0} (g : store.Ghosts S) where
       pub after_change : (change : Change) → desk_seen g new.last.values ≡ put (desk_seen g old.last.values) change → keeping_seen g new.last.values ≡ keeping_seen g old.last.values
           → IsSettled g (put d change) k again
       after_change change is stays =
-          settled_as again (desk_seen g new.last.values) (put d change) (keeping_seen g new.last.values) k (is ∙ ap (λ (x : Desk). put x change) was.desk) (stays ∙ was.keeping) new_again
+          settled_as g again (desk_seen g new.last.values) (put d change) (keeping_seen g new.last.values) k (is ∙ ap (λ (x : Desk). put x change) was.desk) (stays ∙ was.keeping) new_again
 
       pub after_branch : (nodes : List Node) → branched (desk_seen g old.last.values).tree nodes ≡ Ok (desk_seen g new.last.values).tree
           → desk_seen g new.last.values ≡ record (desk_seen g old.last.values) { tree = (desk_seen g new.last.values).tree }
@@ -121,7 +117,7 @@ module _ {S : Type 0} (g : store.Ghosts S) where
       after_branch nodes is same stays = record {
         ancestry = (desk_seen g new.last.values).tree;
         taken = subst (λ (x : Desk). branched x.tree nodes ≡ Ok (desk_seen g new.last.values).tree) was.desk is;
-        settled = settled_as again (desk_seen g new.last.values) (record d { tree = (desk_seen g new.last.values).tree }) (keeping_seen g new.last.values) k
+        settled = settled_as g again (desk_seen g new.last.values) (record d { tree = (desk_seen g new.last.values).tree }) (keeping_seen g new.last.values) k
             (same ∙ ap (λ (x : Desk). let y : Desk = record x { tree = (desk_seen g new.last.values).tree } in y) was.desk) (stays ∙ was.keeping) new_again;
       }
 
@@ -130,7 +126,7 @@ module _ {S : Type 0} (g : store.Ghosts S) where
           → keeping_seen g new.last.values ≡ kept_also id sender message outcome (keeping_seen g old.last.values)
           → IsSettled g (with_change change d) (kept_also id sender message outcome k) again
       after_keep id sender message outcome change is also =
-          settled_as again (desk_seen g new.last.values) (with_change change d) (keeping_seen g new.last.values) (kept_also id sender message outcome k)
+          settled_as g again (desk_seen g new.last.values) (with_change change d) (keeping_seen g new.last.values) (kept_also id sender message outcome k)
           (is ∙ ap (with_change change) was.desk) (also ∙ ap (kept_also id sender message outcome) was.keeping) new_again
 
   -- ---- what is opened, if it is
@@ -138,14 +134,21 @@ module _ {S : Type 0} (g : store.Ghosts S) where
   abbrev pub IsLeft : TableDesk S g → Option (TableDesk S g) → Type 0
   IsLeft old o = IfSome o (λ again. HasHonestDisk g again → (db : Trees) × (state g old.conn).may_leave db × IsOpenedOver g db again)
 
-  pub left_again : (o : Option (TableDesk S g)) (old : TableDesk S g) (came : S) → (g.view came).trees ≡ (g.view came).committed
-      → (IsClean (g.view came) → g.recovers old.conn.store (g.view came).committed)
-      → IfSome o (λ again. HasHonestDisk g again → IsClean (g.view came))
-      → IfSome o (λ again. HasHonestDisk g again → IsOpenedOver g (g.view came).trees again)
-      → IsLeft old o
-  left_again None old came same found honest opened = tt
-  left_again (Some again) old came same found honest opened = λ h.
-      ((g.view came).committed, found (honest h), subst (λ t. IsOpenedOver g t again) same (opened h))
+  -- what is opened over the store that came back, after a crash of this connection
+  pub left_open : (o : Option (TableDesk S g)) (conn : Held S) (left : S)
+      → (IsClean (g.view left) → HasCleanDisk (state g conn) × (state g conn).may_leave (g.view left).trees)
+      → IfSome o (λ again. HasHonestDisk g again → IsClean (g.view left))
+      → IfSome o (λ again. HasHonestDisk g again → IsOpenedOver g (g.view left).trees again)
+      → IfSome o (λ again. HasHonestDisk g again → (db : Trees) × (state g conn).may_leave db × IsOpenedOver g db again)
+  left_open None conn left may honest opened = tt
+  left_open (Some again) conn left may honest opened = λ h. ((g.view left).trees, (may (honest h)).1, opened h)
+
+  pub left_clean : (o : Option (TableDesk S g)) (conn : Held S) (left : S)
+      → (IsClean (g.view left) → HasCleanDisk (state g conn) × (state g conn).may_leave (g.view left).trees)
+      → IfSome o (λ again. HasHonestDisk g again → IsClean (g.view left))
+      → IfSome o (λ again. HasHonestDisk g again → HasCleanDisk (state g conn))
+  left_clean None conn left may honest = tt
+  left_clean (Some again) conn left may honest = λ h. (may (honest h)).0
 
   pub settled_then : (o : Option (TableDesk S g)) (old : TableDesk S g) → IsLeft old o
       → IfSome o (λ again. HasHonestDisk g again → (d : Desk) (k : Keeping) → IsSettled g d k old → IsSettled g d k again)

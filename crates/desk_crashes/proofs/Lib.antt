@@ -1,3 +1,4 @@
 pub mod OpenLemmas
 pub mod CrashLemmas
+pub mod StartLemmas
 pub mod CloseLemmas

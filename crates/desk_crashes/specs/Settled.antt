@@ -1,5 +1,5 @@
 -- What a crash leaves of a desk in tables.
-use Rattle.std.specs.Prelude.{◌≡◌, ℕ, List, Ok}
+use Rattle.std.specs.Prelude.{◌≡◌, ◌≤◌, ℕ, List, Ok}
 use Rattle.sqlite.specs.Held.{state}
 use Rattle.sqlite.specs.State.{HasCleanDisk}
 use Rattle.sqlite_trees.specs.Tree.{Trees}
@@ -12,11 +12,15 @@ use Rattle.desk_content.specs.Content.{Content}
 use Rattle.desk_content.specs.Kept.{IsKeptContent}
 use Rattle.desk_content.specs.View.{desk_in, keeping_in}
 use Rattle.desk_tables.specs.Kept.{content_seen, desk_seen, keeping_seen, IsKept}
-use Rattle.desk_tables.specs.Shown.{AreTablesOf}
+use Rattle.desk_tables.specs.Shown.{AreTablesOf, AreTablesUnder, HoldTables}
 use Rattle.bug_record.specs.declared.outcome.Outcome.{Outcome}
 use Rattle.message_machine.specs.Kept.{Keeping}
 use Rattle.desk_repeats.specs.Calls.{TookOne}
 use Rattle.desk_tables.specs.declared.desk.TableDesk.{TableDesk}
+
+-- these trees are a desk with this content, under one of the schemas from k on
+abbrev pub HoldTablesFrom : ℕ → Content → Trees → Type 0
+HoldTablesFrom k c db = (j : ℕ) × (k ≤ j) × AreTablesUnder j c db
 
 module _ {S : Type 0} (g : store.Ghosts S) where
   -- so far the disk has returned what was written
@@ -37,10 +41,10 @@ module _ {S : Type 0} (g : store.Ghosts S) where
     pub tables : AreTablesOf (content_seen g t.last.values) trees
     pub left : (db : Trees) → (state g t.conn).may_leave db → db ≡ trees
 
-  -- A desk was opened over these trees: where they are the tables of a kept desk, it is that desk,
-  -- and settled.
+  -- A desk was opened over these trees: where they are the tables of a kept desk, under some schema
+  -- of a desk, it is that desk, and settled.
   abbrev pub IsOpenedOver : Trees → TableDesk S g → Type 0
-  IsOpenedOver db t = (c : Content) → AreTablesOf c db → IsKeptContent c → IsSettled (desk_in c) (keeping_in c) t
+  IsOpenedOver db t = (c : Content) → HoldTables c db → IsKeptContent c → IsSettled (desk_in c) (keeping_in c) t
 
   -- it is settled, with the ancestry after a branch of this desk, and else all that this desk has
   pub record HasTakenBranch (d : Desk) (k : Keeping) (nodes : List Node) (t : TableDesk S g) : Type 0 where

@@ -14,7 +14,7 @@ ghost use Rattle.desk_store.specs.Store.{Since, MayBeKept, with_change};
 ghost use Rattle.desk_tables.specs.Kept.{desk_seen, MayKeep};
 ghost use Rattle.desk_crashes.specs.Settled.{HasHonestDisk, HasKeptTables, IsSettled, IsOpenedOver, HasTakenBranch, HasTakenLine};
 
-use crate::opening::open_store;
+use crate::left::crash_and_find;
 use ancestry::BranchFault;
 use bug_record::{Change, Outcome, StoreFault};
 use desk_store::Records;
@@ -38,11 +38,7 @@ pub fn crash_and_open<S: Alter + Reopen + Drop>(
     ensures settled { IfSome result (λ again. HasHonestDisk S.Store again →
         (d : Desk) (k : Keeping) → IsSettled S.Store d k desk → IsSettled S.Store d k again) }
 {
-    let mut store = desk.close().into_store();
-    match store.crash_and_reopen() {
-        Ok(()) => open_store(alloc, store),
-        Err(_) => None,
-    }
+    crash_and_find(alloc, desk.close())
 }
 
 /// Carries a change out, and crashes right after the call, whatever it answered; then it opens

@@ -1,5 +1,6 @@
 //! What a crash leaves of a desk in tables, and what the next open finds: the desk as it was, or as
 //! the one call after it made it.
+//! What is left in two files that are closed is what the next open finds there.
 //!
 //! The crash is that of a store which can be made to crash and to come back, as
 //! `sqlite_trees::store::Reopen` has it: a store in memory, or two files over any disk that can
@@ -10,8 +11,11 @@
 mod calls;
 mod files;
 mod laws;
+mod left;
 mod opening;
+mod starts;
 
 pub use calls::{apply_and_crash, branch_and_crash, crash_and_open, keep_and_crash};
-pub use files::close_and_open;
-pub use laws::serving_desks_are_settled;
+pub use files::{close_and_crash, close_and_open, close_files, open_files};
+pub use laws::{serving_desks_are_settled, what_is_left_is_found};
+pub use starts::{crash_in_open, create_and_crash, open_and_crash};
