@@ -2,9 +2,10 @@
 
 use crate::desks::{desk_after, writes};
 use crate::tasks::{Came, CrashTask, new_files, over_new_files};
-use desk_crashes::{close_and_open, crash_and_open};
+use desk_crashes::{close_and_crash, close_and_open, crash_and_open};
 use desk_tables::TableDesk;
-use sqlite::{Alter, Connection, Options};
+use sqlite::{Alter, Connection, FileStore, Options};
+use sqlite_disk::{Fuse, Memory};
 use sqlite_trees::store::Reopen;
 use std::alloc::Global;
 use test_desks::connected;
@@ -25,8 +26,8 @@ const SHOWN: &str =
 // The script, and a crash.
 struct Crash;
 
-// Whether there is a desk, and it is as after the script.
-fn shows_all<S: Alter + Drop>(alloc: Global, desk: Option<TableDesk<S>>) -> bool {
+/// Whether there is a desk, and it is as after the script.
+pub(crate) fn shows_all<S: Alter + Drop>(alloc: Global, desk: Option<TableDesk<S>>) -> bool {
     match desk {
         Some(mut desk) => writes(alloc, &mut desk, QUESTIONS, SHOWN),
         None => false,
@@ -46,15 +47,25 @@ impl CrashTask for Crash {
     }
 }
 
-// Whether all is there after a close.
-fn survives_a_close(alloc: Global) -> bool {
-    let Ok(conn) = connected(alloc, new_files(alloc, u64::MAX), Options::new(1)) else {
+/// The desk after the script, in two files.
+pub(crate) fn desk_in_files(alloc: Global) -> Option<TableDesk<FileStore<Fuse<Memory>>>> {
+    match connected(alloc, new_files(alloc, u64::MAX), Options::new(1)) {
+        Ok(conn) => desk_after(alloc, conn, SCRIPT, ANSWERS),
+        Err(_) => None,
+    }
+}
+
+// Whether all is there after a close, or after a close and a crash.
+fn survives_a_close(alloc: Global, crashes: bool) -> bool {
+    let Some(desk) = desk_in_files(alloc) else {
         return false;
     };
-    match desk_after(alloc, conn, SCRIPT, ANSWERS) {
-        Some(desk) => shows_all(alloc, close_and_open(alloc, desk, Options::new(1))),
-        None => false,
-    }
+    let again = if crashes {
+        close_and_crash(alloc, desk, Options::new(1))
+    } else {
+        close_and_open(alloc, desk, Options::new(1))
+    };
+    shows_all(alloc, again)
 }
 
 #[test]
@@ -64,5 +75,10 @@ fn a_crash_between_two_calls_loses_nothing(rt: HostRuntime) {
 
 #[test]
 fn a_desk_that_was_closed_is_found_as_it_was(rt: HostRuntime) {
-    assert!(rt; survives_a_close(rt.alloc()));
+    assert!(rt; survives_a_close(rt.alloc(), false));
+}
+
+#[test]
+fn a_crash_after_a_close_loses_nothing(rt: HostRuntime) {
+    assert!(rt; survives_a_close(rt.alloc(), true));
 }

@@ -9,7 +9,11 @@ mod crashes;
 #[cfg(test)]
 mod desks;
 #[cfg(test)]
+mod earlier;
+#[cfg(test)]
 mod keeps;
+#[cfg(test)]
+mod opens;
 #[cfg(test)]
 mod stops;
 #[cfg(test)]

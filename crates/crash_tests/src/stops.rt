@@ -50,10 +50,9 @@ fn fewest_calls(alloc: Global) -> u64 {
     high
 }
 
-/// Whether some run of a task fails, and then one is done, and none before ends wrongly, each with
-/// one call of the log more.
-pub(crate) fn fails_until_done<K: CrashTask>(alloc: Global, task: &K) -> bool {
-    let fewest = fewest_calls(alloc);
+/// Whether some run of a task fails, and then one is done, and none before ends wrongly, from so
+/// many calls of the log on, each with one more.
+pub(crate) fn fails_from<K: CrashTask>(alloc: Global, fewest: u64, task: &K) -> bool {
     let mut has_failed = false;
     for more in 0..CALLS_OF_ONE_CALL {
         match over_new_files(alloc, fewest.saturating_add(more), task) {
@@ -64,4 +63,9 @@ pub(crate) fn fails_until_done<K: CrashTask>(alloc: Global, task: &K) -> bool {
         }
     }
     false
+}
+
+/// The same of a task on a desk with one bug, from the calls on that this desk takes.
+pub(crate) fn fails_until_done<K: CrashTask>(alloc: Global, task: &K) -> bool {
+    fails_from(alloc, fewest_calls(alloc), task)
 }
