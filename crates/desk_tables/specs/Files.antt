@@ -1,0 +1,37 @@
+-- A desk in the two files of a database: the log and the database file.
+use Rattle.std.specs.Prelude.{◌≡◌, ◌⊎◌, []}
+use Rattle.sqlite.specs.Files.{HoldsDatabase, image_of}
+use Rattle.sqlite_disk.specs.declared.Disk as disk
+use Rattle.sqlite_disk.specs.declared.Files.{Files}
+use Rattle.sqlite_trees.specs.Tree.{Trees}
+use Rattle.sqlite_wal.specs.Files.{outcomes}
+use Rattle.sqlite_wal.specs.Recovery.{Image}
+use Rattle.desk_content.specs.Content.{Content}
+use Rattle.desk_content.specs.Kept.{IsKeptContent}
+use Rattle.desk_tables.specs.Shown.{HoldTables}
+
+-- the two files hold a desk with this content, which is kept, under some schema of a desk
+pub record HoldDesk (image : Image) (c : Content) : Type 0 where
+  pub trees : Trees
+  pub database : ∥ HoldsDatabase image trees ∥₁
+  pub tables : HoldTables c trees
+  pub kept : IsKeptContent c
+
+-- they hold it, and the database file alone holds it too
+abbrev pub HoldDeskAlone : Image → Content → Type 0
+HoldDeskAlone image c = HoldDesk image c × HoldDesk (record image { log = [] }) c
+
+module _ {D : Type 0} (g : disk.Ghosts D) (files : Files D) where
+  -- two files are left with this desk: as they are now, and after a crash at this moment
+  pub record LeaveDesk (c : Content) : Type 0 where
+    pub now : HoldDeskAlone (image_of g files) c
+    pub crash : (image : Image) → outcomes g files.log files.db image → HoldDeskAlone image c
+
+  -- what a crash at this moment may leave of them, if there is one
+  abbrev pub MayStay : Image → Type 0
+  MayStay image = (image ≡ image_of g files) ⊎ outcomes g files.log files.db image
+
+  -- The next open may find this: what they hold, or what a crash leaves of them, with the log or
+  -- without it.
+  abbrev pub MayBeFound : Image → Type 0
+  MayBeFound image = MayStay image ⊎ ((whole : Image) × MayStay whole × (image ≡ record whole { log = [] }))
