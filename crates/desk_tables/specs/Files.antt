@@ -17,21 +17,18 @@ pub record HoldDesk (image : Image) (c : Content) : Type 0 where
   pub tables : HoldTables c trees
   pub kept : IsKeptContent c
 
--- they hold it, and the database file alone holds it too
-abbrev pub HoldDeskAlone : Image → Content → Type 0
-HoldDeskAlone image c = HoldDesk image c × HoldDesk (record image { log = [] }) c
+-- the two files hold it, and so does the database file with no log
+abbrev pub HoldCopy : Image → Content → Type 0
+HoldCopy image c = HoldDesk image c × HoldDesk (record image { log = [] }) c
 
 module _ {D : Type 0} (g : disk.Ghosts D) (files : Files D) where
   -- two files are left with this desk: as they are now, and after a crash at this moment
   pub record LeaveDesk (c : Content) : Type 0 where
-    pub now : HoldDeskAlone (image_of g files) c
-    pub crash : (image : Image) → outcomes g files.log files.db image → HoldDeskAlone image c
+    pub now : HoldCopy (image_of g files) c
+    pub crash : (image : Image) → outcomes g files.log files.db image → HoldCopy image c
 
-  -- what a crash at this moment may leave of them, if there is one
-  abbrev pub MayStay : Image → Type 0
-  MayStay image = (image ≡ image_of g files) ⊎ outcomes g files.log files.db image
-
-  -- The next open may find this: what they hold, or what a crash leaves of them, with the log or
+  -- What is found where these files are opened again, perhaps after a crash, with the log or
   -- without it.
-  abbrev pub MayBeFound : Image → Type 0
-  MayBeFound image = MayStay image ⊎ ((whole : Image) × MayStay whole × (image ≡ record whole { log = [] }))
+  -- A process that ends leaves what it wrote, which is one of the outcomes of a crash.
+  abbrev pub IsFoundIn : Image → Type 0
+  IsFoundIn image = (left : Image) × outcomes g files.log files.db left × ((image ≡ left) ⊎ (image ≡ record left { log = [] }))
