@@ -6,6 +6,7 @@ use Rattle.command_grammar.specs.Lines.{reading}
 use Rattle.desk_lines.specs.Lines.{lines_of}
 use Rattle.desk_store.specs.Store.{MayBeKept}
 use Rattle.bug_record.specs.declared.outcome.Outcome.TheVariants.{Stopped}
+use Rattle.line_words.specs.Ids.{is_id}
 use Rattle.line_words.specs.Words.{words_between}
 use Rattle.message_machine.specs.Kept.{Keeping, IsOfMessage, lines_told, outcomes_kept, told}
 use Rattle.message_machine.specs.Message.{end_of}
@@ -13,10 +14,11 @@ use Rattle.message_machine.specs.declared.kept.Kept.{Kept}
 
 stop_may_be_first : (kept : Keeping) (d : Desk) → kept (codes "m1") ≡ None
     → MayBeKept (codes "m1") (codes "ann") (codes "stop") kept d Stopped None
-unfolding reading end_of lines_of words_between
+unfolding reading end_of lines_of words_between is_id
 stop_may_be_first kept d none = record {
   good = tt;
   next = record {
+    is_id = refl;
     same = subst (IsOfMessage (codes "ann") (codes "stop")) (sym none) tt;
     goes_on = ap (λ (k : Option Kept). end_of (told (lines_of (codes "stop")) (outcomes_kept k))) none;
     line = codes "stop";

@@ -136,7 +136,7 @@ module _ (c : Content) (kept : IsKeptContent c) (id sender message : List ℕ) (
       cases : (o : Option SentMessage) → c.messages id ≡ o → o ≡ None
       cases None e = refl
       cases (Some m) e =
-          absurd ((kept.good id _ (ap (option_map (λ (m : SentMessage). let k : Kept = record { from = m.from; message = m.message; outcomes = outcomes_of c id } in k)) e)).some
+          absurd ((kept.good id _ (ap (option_map (λ (m : SentMessage). let k : Kept = record { from = m.from; message = m.message; outcomes = outcomes_of c id } in k)) e)).1.some
           (nothing ts empty _))
 
   known : length ts ≢ 0 → c.messages id ≡ the_message

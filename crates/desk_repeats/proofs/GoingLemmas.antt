@@ -12,6 +12,7 @@ use Rattle.command_grammar.specs.Lines.{reading}
 use Rattle.command_grammar.specs.declared.line.Line.{Line}
 use Rattle.command_grammar.specs.declared.line.Line.TheVariants.{Blank, Comment, Stop, Do}
 use Rattle.desk_lines.specs.Lines.{lines_of}
+use Rattle.line_words.specs.Ids.{IsId}
 use Rattle.desk_messages.specs.Commands.{HaveNumbers}
 use Rattle.desk_messages.specs.Taking.{goes_on, IsDecision}
 use Rattle.desk_messages.specs.declared.command_decision.Decision.{Decision}
@@ -37,16 +38,17 @@ length-outcomes (e ∷ es) = ap suc (length-outcomes es)
 
 -- what is decided of a line is the message's next outcome
 pub next-of : (id sender message line : List ℕ) (k k1 : Keeping) (d d1 : Desk) (before : List Entry) (known : Names)
-    (decision : Decision) → IsBegun id sender message k before known → end_of before ≡ ends.All
+    (decision : Decision) → IsId id → IsBegun id sender message k before known → end_of before ≡ ends.All
     → slice_get (lines_told (lines_of message)) (length before) ≡ Some line → IsDecision sender d before line decision
     → k1 ≡ k → d1 ≡ d
     → IsNextOutcome id sender message k1 d1 decision.outcome (with_change decision.change d1)
-next-of id sender message line k k1 d d1 before known decision b on at h same_kept same =
+next-of id sender message line k k1 d d1 before known decision named b on at h same_kept same =
     subst (λ (z : Keeping). IsNextOutcome id sender message z d1 decision.outcome (with_change decision.change d1)) (sym same_kept)
     (subst (λ (z : Desk). IsNextOutcome id sender message k z decision.outcome (with_change decision.change z)) (sym same) (
     let base : told (lines_of message) (outcomes_kept (k id)) ≡ before =
     ap (told (lines_of message)) b.kept_are ∙ b.told_are in
     record {
+      is_id = named;
       same = b.same;
       goes_on = ap end_of base ∙ on;
       line = line;
@@ -254,15 +256,15 @@ resumes-failed id sender message d now new k know knew before after outcomes kno
 -- ---- what may be kept
 
 pub may-keep : (id sender message line : List ℕ) (k k1 : Keeping) (d d1 : Desk) (before : List Entry) (known later : Names)
-    (decision : Decision) (change : Option Change) → IsBegun id sender message k before known → end_of before ≡ ends.All
+    (decision : Decision) (change : Option Change) → IsId id → IsBegun id sender message k before known → end_of before ≡ ends.All
     → slice_get (lines_told (lines_of message)) (length before) ≡ Some line
     → (HaveNumbers known → IsDecision sender d before line decision × HaveNumbers later) × (d1 ≡ d) → k1 ≡ k
     → change ≡ decision.change → MayBeKept id sender message k1 d1 decision.outcome change
-may-keep id sender message line k k1 d d1 before known later decision change b on at p same_kept is =
+may-keep id sender message line k k1 d d1 before known later decision change named b on at p same_kept is =
     let h = p.0 b.numbers in
     subst (MayBeKept id sender message k1 d1 decision.outcome) (sym is) (record {
       good = h.0.good;
-      next = next-of id sender message line k k1 d d1 before known decision b on at h.0 same_kept p.1;
+      next = next-of id sender message line k k1 d d1 before known decision named b on at h.0 same_kept p.1;
     })
 
 pub length-some : (before room after : List Entry) (line : List ℕ) (entry : Entry) → true ≡ has_outcome line → room ≡ before

@@ -24,7 +24,7 @@ pub recalled-begins : (id sender message : List ℕ) (k k1 : Keeping) (known : O
     → IsBegun id sender message k1 outs names
 recalled-begins id sender message k k1 known lines shown outs names good is same stays ls os told_is named =
     subst (λ (z : Keeping). IsBegun id sender message z outs names) (sym stays)
-    (begins id sender message k outs names (subst (IsOfMessage sender message) is same) (λ kk e. good id kk e)
+    (begins id sender message k outs names (subst (IsOfMessage sender message) is same) (λ kk e. (good id kk e).1)
     (told_is ∙ (λ i. told (ls i) ((os ∙ ap outcomes_kept is) i))) named)
 
 -- outcomes that were kept can be those of the message
@@ -34,7 +34,7 @@ pub never_mismatch : (id sender message : List ℕ) (k : Keeping) (known : Optio
 never_mismatch id sender message k known lines shown good is same ls os =
     subst (λ (w : List (List ℕ)). AreOfLines w shown) (sym ls)
     (subst (AreOfLines (lines_of message)) (sym (os ∙ ap outcomes_kept is))
-    (of_lines sender message (k id) (subst (IsOfMessage sender message) is same) (λ kk e. good id kk e)))
+    (of_lines sender message (k id) (subst (IsOfMessage sender message) is same) (λ kk e. (good id kk e).1)))
 
 -- where the recalled outcomes end the message
 pub once-ended : (id sender message : List ℕ) (d d1 : Desk) (k k1 : Keeping) (known : Option Kept) (outs outcomes : List Entry)

@@ -83,7 +83,7 @@ few_kept id sender message kept good same = by (kept id) refl same
   where
     by : (o : Option Kept) → kept id ≡ o → IsOfMessage sender message o → length (outcomes_kept o) ≤ length (lines_told (lines_of message))
     by None e of = omega arith
-    by (Some k) e of = subst (λ m. length k.outcomes ≤ length (lines_told (lines_of m))) of.1 (good id k e).few
+    by (Some k) e of = subst (λ m. length k.outcomes ≤ length (lines_told (lines_of m))) of.1 (good id k e).1.few
 
 map-append : {A B : Type 0} (f : A → B) (xs ys : List A) → map f (xs ++ ys) ≡ map f xs ++ map f ys
 map-append f [] ys = refl

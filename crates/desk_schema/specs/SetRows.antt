@@ -1,11 +1,12 @@
 -- The rows of sets: one for each set, under its key.
 -- This project's own rule.
-use Rattle.std.specs.Prelude.{ℕ, pos, ◌==◌, Bool, false, List, [], ◌∷◌, Option, option_map, unwrap_or}
+use Rattle.std.specs.Prelude.{ℕ, pos, ◌==◌, ◌<◌, ◌^◌, Bool, false, List, [], ◌∷◌, length, Option, option_map, unwrap_or}
 use Rattle.std.specs.Str.{IsUtf8}
 use Rattle.sqlite.specs.Order.{Row, column}
 use Rattle.sqlite.specs.Values.{or_null}
 use Rattle.sqlite.specs.declared.types.Value.TheVariants.{Null, Int, Text}
 use Rattle.bug_record.specs.Severities.{rank}
+use Rattle.bug_record.specs.Tags.{all_tags}
 use Rattle.bug_record.specs.Texts.{IfGiven}
 use Rattle.bug_record.specs.declared.severity.Severity.{Severity}
 use Rattle.bug_record.specs.declared.severity.Severity.TheVariants.{Critical}
@@ -43,11 +44,12 @@ set_in r = record {
   archived = unwrap_or (flag_in (number_in (column r 8))) false;
 }
 
--- its texts are UTF-8
+-- its texts are UTF-8, and the number of its tags has no digit above those of all tags
 pub record IsSetRow (x : SetRow) : Type 0 where
   pub «package» : IsUtf8 x.«package»
   pub forwarded : IfGiven IsUtf8 x.forwarded
   pub owner : IfGiven IsUtf8 x.owner
+  pub tags : x.tags < 2 ^ length all_tags
 
 -- the fields that a row says
 abbrev pub fields_of_row : SetRow → SetFields

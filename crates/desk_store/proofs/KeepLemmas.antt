@@ -4,10 +4,10 @@ use Rattle.std.proofs.Common.{refl, sym, ap, ◌∙◌, subst, arith, append_ass
 use Rattle.std.proofs.lemmas.Bool.{false≢true}
 use Rattle.std.proofs.lemmas.List.{length-append, length-map}
 use Rattle.std.proofs.lemmas.Option.{slice_get_within}
-use Rattle.std.proofs.lemmas.Slice.Zip.{length-zip}
 use Rattle.std.proofs.Math.Seq.{take-append_seam}
 use Rattle.std.specs.Prelude.{Result, Ok, Err, slice_get, if◌then◌else◌}
 use Rattle.std.specs.Result.{is_ok}
+use Rattle.std.specs.Cmp.Lexicographic.{bytes_decides}
 use Rattle.std.specs.Str.{bytes_eq}
 use Rattle.bug_record.specs.Bugs.{with_new_bugs, at_bug, unless, first_of}
 use Rattle.bug_record.specs.Changed.{numbers_below, changed_numbers}
@@ -27,10 +27,11 @@ use Rattle.command_grammar.specs.declared.line.Line.{Line}
 use Rattle.command_grammar.specs.declared.line.Line.TheVariants.{Blank, Comment, Stop, Do}
 use Rattle.desk_lines.specs.Lines.{lines_of}
 use Rattle.bug_record.specs.declared.outcome.Outcome.{Outcome}
+use Rattle.line_words.specs.Ids.{IsId}
 use Rattle.line_words.specs.declared.named.Named.{Named}
-use Rattle.message_machine.specs.Message.{Entry, Machine, machine, takes, does, outcome_of, end_of, names_given, names_with, known_names}
+use Rattle.message_machine.specs.Message.{Entry, Machine, machine, takes, does, outcome_of, end_of, names_given, known_names}
 use Rattle.message_machine.specs.Kept.{Keeping, none_kept, IsGoodOutcome, GiveNames, IsGoodKept, AreGoodKept, IsOfMessage, IsNextOutcome}
-use Rattle.message_machine.specs.Kept.{lines_told, told, new_names, names_by, outcomes_kept, kept_with, kept_also}
+use Rattle.message_machine.specs.Kept.{lines_told, told, new_names, names_by, copies_of, copies_by, new_copies, outcomes_kept, kept_with, kept_also}
 use Rattle.message_machine.specs.declared.kept.Kept.{Kept}
 use Rattle.desk_store.proofs.NameLemmas.{passed, copies}
 
@@ -64,11 +65,12 @@ free_names names d n ks (Some b) new e =
     (Ok (with_new_bugs d (clone_of b) (length ks))) new e)
 
 -- The names of a command can be given, each with its number.
-abbrev Gives : Names → List ℕ → List ℕ → Type 0
-Gives names ks numbers = (name_refusal names ks ≡ None) × (length ks ≡ length (zip ks numbers))
+abbrev Gives : Names → Command Named → List ℕ → Type 0
+Gives names command numbers =
+    (name_refusal names (names_in command) ≡ None) × (length (copies_of command numbers) ≡ length (names_in command))
 
 clone-gives : (names : Names) (d : Desk) (sender : List ℕ) (n : Named) (ks : List ℕ) (new : Desk) → IsSound d
-    → step names d sender (commands.Clone n ks) ≡ Ok new → Gives names ks (changed_numbers d new)
+    → step names d sender (commands.Clone n ks) ≡ Ok new → Gives names (commands.Clone n ks) (changed_numbers d new)
 clone-gives names d sender n ks new sound e =
     let m = number_by (meaning names) n in
     let done = passed (words_refusal (meaning names) d.bug (commands.Clone n ks)) (cloned (name_refusal names) d m ks) new e in
@@ -77,10 +79,10 @@ clone-gives names d sender n ks new sound e =
     (length ks) m (d.bug m) new sound done in
     let many : length (changed_numbers d new) ≡ length ks =
     ap length numbers ∙ length-map (numbers_below (length ks)) (λ k. d.next + k) ∙ length-numbers_below (length ks) in
-    (free_names names d m ks (d.bug m) new done, omega (arith, many, length-zip ks (changed_numbers d new)))
+    (free_names names d m ks (d.bug m) new done, many)
 
 command-gives : (names : Names) (d : Desk) (sender : List ℕ) (command : Command Named) (new : Desk) → IsSound d
-    → step names d sender command ≡ Ok new → Gives names (names_in command) (changed_numbers d new)
+    → step names d sender command ≡ Ok new → Gives names command (changed_numbers d new)
 command-gives names d sender (commands.Clone n ks) new sound e = clone-gives names d sender n ks new sound e
 command-gives names d sender command new sound e = (refl, refl)
 
@@ -88,7 +90,7 @@ command-gives names d sender command new sound e = (refl, refl)
 
 -- the names of a line with this outcome can be given, each with its number
 abbrev LineGives : Names → Result Line Refusal → Outcome → Type 0
-LineGives names read outcome = (name_refusal names (names_by read outcome) ≡ None) × (length (names_by read outcome) ≡ length (names_with read outcome))
+LineGives names read outcome = (name_refusal names (names_by read outcome) ≡ None) × (length (copies_by read outcome) ≡ length (names_by read outcome))
 
 does-gives : (names : Names) (d : Desk) (sender : List ℕ) (command : Command Named) (r : Result Desk Refusal) → IsSound d
     → step names d sender command ≡ r → LineGives names (Ok (Do command)) (outcome_of d r).0
@@ -119,7 +121,7 @@ line-gives sender line d new entries outcome sound (Ok (Do command)) e =
 
 GiveNames-push : (names : Names) (entries : List Entry) (entry : Entry) → GiveNames names entries
     → name_refusal (names ++ known_names entries) (new_names entry) ≡ None
-    → length (new_names entry) ≡ length (names_given entry)
+    → length (new_copies entry) ≡ length (new_names entry)
     → GiveNames names (entries ++ entry ∷ [])
 GiveNames-push names [] entry g free many =
     (subst (λ (ns : Names). name_refusal ns (new_names entry) ≡ None) (append-nil names) free, many, tt)
@@ -153,15 +155,15 @@ record AreGood (message : List ℕ) (outcomes : List Outcome) : Type 0 where
   names : GiveNames [] (told (lines_of message) outcomes)
   each : Each IsGoodOutcome outcomes
 
-kept-good : (sender message : List ℕ) (o : Option Kept) → ((k : Kept) → o ≡ Some k → IsGoodKept k) → IsOfMessage sender message o
+kept-good : (id sender message : List ℕ) (o : Option Kept) → ((k : Kept) → o ≡ Some k → IsId id × IsGoodKept k) → IsOfMessage sender message o
     → AreGood message (outcomes_kept o)
-kept-good sender message None good same = record {
+kept-good id sender message None good same = record {
   names = subst (GiveNames []) (sym (zip-nil (lines_told (lines_of message)))) tt;
   each = tt;
 }
-kept-good sender message (Some k) good same = record {
-  names = subst (λ (text : List ℕ). GiveNames [] (told (lines_of text) k.outcomes)) same.1 (good k refl).names;
-  each = (good k refl).outcomes;
+kept-good id sender message (Some k) good same = record {
+  names = subst (λ (text : List ℕ). GiveNames [] (told (lines_of text) k.outcomes)) same.1 (good k refl).1.names;
+  each = (good k refl).1.outcomes;
 }
 
 push-not_nil : {T : Type 0} (xs : List T) (x : T) → xs ++ x ∷ [] ≡ [] → ⊥
@@ -183,7 +185,7 @@ next-good : (id sender message : List ℕ) (kept : Keeping) (d : Desk) (outcome 
 next-good id sender message kept d outcome new next sound text fine good =
     let os = outcomes_kept (kept id) in
     let lines = lines_of message in
-    let old = kept-good sender message (kept id) (good id) next.same in
+    let old = kept-good id sender message (kept id) (good id) next.same in
     let gives = line-gives sender next.line d new (told lines os) outcome sound (reading next.line) next.takes in
     let entries : told lines (os ++ outcome ∷ []) ≡ told lines os ++ (next.line, outcome) ∷ [] =
     zip-push (lines_told lines) os next.line outcome next.is_next in
@@ -209,10 +211,12 @@ pub kept_with-push : (id sender message : List ℕ) (outcomes : List Outcome) (o
 kept_with-push id sender message [] outcome kept = refl
 kept_with-push id sender message (o ∷ outcomes) outcome kept = refl
 
-put-good : (b : Bool) (k : Kept) (o : Option Kept) → IsGoodKept k → ((j : Kept) → o ≡ Some j → IsGoodKept j) → (j : Kept)
-    → (if b then Some k else o) ≡ Some j → IsGoodKept j
-put-good true k o fine good j e = let h : k ≡ j = cc in subst IsGoodKept h fine
-put-good false k o fine good j e = good j e
+put-good : (id other : List ℕ) (b : Bool) (k : Kept) (o : Option Kept) → bytes_eq id other ≡ b → IsId id → IsGoodKept k
+    → ((j : Kept) → o ≡ Some j → IsId other × IsGoodKept j) → (j : Kept) → (if b then Some k else o) ≡ Some j
+    → IsId other × IsGoodKept j
+put-good id other true k o is named fine good j e =
+    let h : k ≡ j = cc in (subst IsId ((bytes_decides id other).0 is) named, subst IsGoodKept h fine)
+put-good id other false k o is named fine good j e = good j e
 
 -- What is kept stays right with the next outcome.
 pub kept_also-good : (id sender message : List ℕ) (kept : Keeping) (d : Desk) (outcome : Outcome) (new : Desk)
@@ -220,7 +224,7 @@ pub kept_also-good : (id sender message : List ℕ) (kept : Keeping) (d : Desk) 
     → AreGoodKept (kept_also id sender message outcome kept)
 kept_also-good id sender message kept d outcome new next sound text fine good =
     subst AreGoodKept (sym (kept_with-push id sender message (outcomes_kept (kept id)) outcome kept))
-    (λ other j e. put-good (bytes_eq id other) (kept_now sender message (outcomes_kept (kept id) ++ outcome ∷ [])) (kept other)
+    (λ other j e. put-good id other (bytes_eq id other) (kept_now sender message (outcomes_kept (kept id) ++ outcome ∷ [])) (kept other) refl next.is_id
     (next-good id sender message kept d outcome new next sound text fine good) (good other) j e)
 
 pub none-good : AreGoodKept none_kept

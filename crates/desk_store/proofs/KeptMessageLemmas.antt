@@ -6,6 +6,7 @@ use Rattle.std.specs.Cmp.Lexicographic.{bytes_decides}
 use Rattle.std.specs.Map.{update}
 use Rattle.std.specs.Str.{bytes_eq}
 use Rattle.bug_record.specs.declared.outcome.Outcome.{Outcome}
+use Rattle.line_words.specs.Ids.{IsId}
 use Rattle.message_machine.specs.Kept.{Keeping, IsGoodKept, AreGoodKept, IsOfMessage, outcomes_kept, kept_also}
 use Rattle.message_machine.specs.declared.kept.Kept.{Kept}
 use Rattle.desk_store.specs.KeptMessages.{shorter, without_last}
@@ -61,13 +62,13 @@ some_more : {T : Type 0} (xs : List T) → (xs ≡ [] → ⊥) → 0 < length xs
 some_more [] h = absurd (h refl)
 some_more (x ∷ xs) h = omega arith
 
-back : (sender message : List ℕ) (outcome : Outcome) (o : Option Kept) → IsOfMessage sender message o
-    → ((j : Kept) → o ≡ Some j → IsGoodKept j)
+back : (id sender message : List ℕ) (outcome : Outcome) (o : Option Kept) → IsOfMessage sender message o
+    → ((j : Kept) → o ≡ Some j → IsId id × IsGoodKept j)
     → shorter (Some (kept_now sender message (outcomes_kept o ++ outcome ∷ []))) ≡ o
-back sender message outcome None same good = refl
-back sender message outcome (Some j) same good =
+back id sender message outcome None same good = refl
+back id sender message outcome (Some j) same good =
     let k = kept_now sender message (j.outcomes ++ outcome ∷ []) in
-    let some = some_more j.outcomes (good j refl).some in
+    let some = some_more j.outcomes (good j refl).1.some in
     shorter-several k (omega (arith, some, length-append j.outcomes (outcome ∷ [])))
     ∙ ap (λ (os : List Outcome). Some (kept_now sender message os)) (but_last j.outcomes outcome)
     ∙ ap Some (sym (longer j sender message j.outcomes same))
@@ -77,7 +78,7 @@ back_at : (id other sender message : List ℕ) (outcome : Outcome) (b : Bool) (o
     → (let k = kept_now sender message (outcomes_kept (old id) ++ outcome ∷ []) in
     cond b (shorter (cond b (Some k) (old other))) (cond b (Some k) (old other))) ≡ old other
 back_at id other sender message outcome true old is same good =
-    back sender message outcome (old id) same (good id) ∙ ap old ((bytes_decides id other).0 is)
+    back id sender message outcome (old id) same (good id) ∙ ap old ((bytes_decides id other).0 is)
 back_at id other sender message outcome false old is same good = refl
 
 pub without_last-also : (id sender message : List ℕ) (outcome : Outcome) (old : Keeping) → IsOfMessage sender message (old id)

@@ -19,28 +19,33 @@ use set_images::ListRow;
 use version_nodes::Node;
 
 /// A store round another.
-/// One call of `apply`, `branch` or `keep` answers `Device`, changes nothing and is counted; every
-/// other call is the other store's.
+/// One call of `apply`, `branch` or `keep` answers the fault that it was made with, changes nothing
+/// and is counted, but for `Memory`; every other call is the other store's.
 #[derive(Drop)]
 pub struct FailAt<S> {
     inner: S,
     // Which call of `apply`, `branch` or `keep` is to fail, counted from 1; 0: none, or none any
     // more.
     left: u64,
+    // What that call answers.
+    fault: StoreFault,
     has_failed: bool,
     ghost once: { has_failed ≡ true → left ≡ 0 },
 }
 
 impl<S: Records> FailAt<S> {
-    /// The k-th call of `apply`, `branch` or `keep` is to fail, counted from 1; none where k is 0.
-    pub fn new(inner: S, k: u64) -> FailAt<S>
+    /// The k-th call of `apply`, `branch` or `keep` is to answer this fault, counted from 1; none
+    /// where k is 0.
+    pub fn new(inner: S, k: u64, fault: StoreFault) -> FailAt<S>
         ensures inner { result.inner ≡ inner }
         ensures left { result.left ≡ k }
+        ensures fault { result.fault ≡ fault }
         ensures has_failed { result.has_failed ≡ false }
     {
         FailAt {
             inner,
             left: k,
+            fault,
             has_failed: false,
         }
     }
@@ -50,6 +55,7 @@ impl<S: Records> FailAt<S> {
         ensures value { result ≡ (self.old.left == 1) }
         ensures countdown { self.new.left ≡ self.old.left - 1 }
         ensures has_failed { self.new.has_failed ≡ (self.old.has_failed || (self.old.left == 1)) }
+        ensures fault { self.new.fault ≡ self.old.fault }
         ensures inner { self.new.inner ≡ self.old.inner }
     {
         let due = self.left == 1;
@@ -68,7 +74,7 @@ impl<S: Records> Records for FailAt<S> {
 
     ghost is_honest = { λ s. S.is_honest s.inner };
 
-    ghost faults = { λ s. faults_with s.has_failed (S.faults s.inner) };
+    ghost faults = { λ s. faults_with s.has_failed s.fault (S.faults s.inner) };
 
     ghost next_gives = { λ old new answer. S.next_gives old.inner new.inner answer };
 
@@ -79,6 +85,7 @@ impl<S: Records> Records for FailAt<S> {
         ensures count { S.faults self.new.inner ≡ faults_after result (S.faults self.old.inner) }
         ensures left { self.new.left ≡ self.old.left }
         ensures has_failed { self.new.has_failed ≡ self.old.has_failed }
+        ensures fault { self.new.fault ≡ self.old.fault }
     {
         self.inner.set_of(number)
     }
@@ -91,6 +98,7 @@ impl<S: Records> Records for FailAt<S> {
         ensures count { S.faults self.new.inner ≡ faults_after result (S.faults self.old.inner) }
         ensures left { self.new.left ≡ self.old.left }
         ensures has_failed { self.new.has_failed ≡ self.old.has_failed }
+        ensures fault { self.new.fault ≡ self.old.fault }
     {
         self.inner.next()
     }
@@ -104,6 +112,7 @@ impl<S: Records> Records for FailAt<S> {
         ensures count { S.faults self.new.inner ≡ faults_after result (S.faults self.old.inner) }
         ensures left { self.new.left ≡ self.old.left }
         ensures has_failed { self.new.has_failed ≡ self.old.has_failed }
+        ensures fault { self.new.fault ≡ self.old.fault }
     {
         self.inner.open_head(image)
     }
@@ -115,6 +124,7 @@ impl<S: Records> Records for FailAt<S> {
         ensures count { S.faults self.new.inner ≡ faults_after result (S.faults self.old.inner) }
         ensures left { self.new.left ≡ self.old.left }
         ensures has_failed { self.new.has_failed ≡ self.old.has_failed }
+        ensures fault { self.new.fault ≡ self.old.fault }
     {
         self.inner.waiting_on(number)
     }
@@ -127,6 +137,7 @@ impl<S: Records> Records for FailAt<S> {
         ensures count { S.faults self.new.inner ≡ faults_after result (S.faults self.old.inner) }
         ensures left { self.new.left ≡ self.old.left }
         ensures has_failed { self.new.has_failed ≡ self.old.has_failed }
+        ensures fault { self.new.fault ≡ self.old.fault }
     {
         self.inner.listed(package, node)
     }
@@ -139,16 +150,17 @@ impl<S: Records> Records for FailAt<S> {
             (Applies (S.desk self.old.inner) (S.desk self.new.inner) result change.now) }
         ensures stays { Holds S.is_kept S.is_honest self.old.inner self.new.inner
             (S.keeping self.new.inner ≡ S.keeping self.old.inner) }
-        ensures count { faults_with self.new.has_failed (S.faults self.new.inner)
-            ≡ faults_after result (faults_with self.old.has_failed (S.faults self.old.inner)) }
+        ensures count { faults_with self.new.has_failed self.new.fault (S.faults self.new.inner)
+            ≡ faults_after result (faults_with self.old.has_failed self.old.fault (S.faults self.old.inner)) }
         ensures countdown { self.new.left ≡ self.old.left - 1 }
         ensures has_failed { self.new.has_failed ≡ (self.old.has_failed || (self.old.left == 1)) }
-        ensures due { self.old.left ≡ 1 → result ≡ Err StoreFault.Device }
+        ensures fault { self.new.fault ≡ self.old.fault }
+        ensures due { self.old.left ≡ 1 → result ≡ Err self.old.fault }
         ensures unchanged { self.old.left ≡ 1 → self.new.inner ≡ self.old.inner }
         ensures passed_on { self.old.left ≢ 1 → S.faults self.new.inner ≡ faults_after result (S.faults self.old.inner) }
     {
         if self.is_due() {
-            return Err(StoreFault::Device);
+            return Err(self.fault);
         }
         self.inner.apply(change)
     }
@@ -159,16 +171,17 @@ impl<S: Records> Records for FailAt<S> {
         ensures refusal { IfOk result IsRefusal }
         ensures stays { Holds S.is_kept S.is_honest self.old.inner self.new.inner
             (S.keeping self.new.inner ≡ S.keeping self.old.inner) }
-        ensures count { faults_with self.new.has_failed (S.faults self.new.inner)
-            ≡ faults_after result (faults_with self.old.has_failed (S.faults self.old.inner)) }
+        ensures count { faults_with self.new.has_failed self.new.fault (S.faults self.new.inner)
+            ≡ faults_after result (faults_with self.old.has_failed self.old.fault (S.faults self.old.inner)) }
         ensures countdown { self.new.left ≡ self.old.left - 1 }
         ensures has_failed { self.new.has_failed ≡ (self.old.has_failed || (self.old.left == 1)) }
-        ensures due { self.old.left ≡ 1 → result ≡ Err StoreFault.Device }
+        ensures fault { self.new.fault ≡ self.old.fault }
+        ensures due { self.old.left ≡ 1 → result ≡ Err self.old.fault }
         ensures unchanged { self.old.left ≡ 1 → self.new.inner ≡ self.old.inner }
         ensures passed_on { self.old.left ≢ 1 → S.faults self.new.inner ≡ faults_after result (S.faults self.old.inner) }
     {
         if self.is_due() {
-            Err(StoreFault::Device)
+            Err(self.fault)
         } else {
             self.inner.branch(nodes)
         }
@@ -182,6 +195,7 @@ impl<S: Records> Records for FailAt<S> {
         ensures count { S.faults self.new.inner ≡ faults_after result (S.faults self.old.inner) }
         ensures left { self.new.left ≡ self.old.left }
         ensures has_failed { self.new.has_failed ≡ self.old.has_failed }
+        ensures fault { self.new.fault ≡ self.old.fault }
     {
         self.inner.kept(id)
     }
@@ -211,23 +225,24 @@ impl<S: Records> Records for FailAt<S> {
             (Keeps id.now from.now message.now outcome.now (option_copied change.entry) (S.desk self.old.inner)
             (S.keeping self.old.inner) result (S.desk self.new.inner) (S.keeping self.new.inner)) }
         ensures honest { S.is_honest self.new.inner → S.is_honest self.old.inner }
-        ensures count { faults_with self.new.has_failed (S.faults self.new.inner)
-            ≡ faults_after result (faults_with self.old.has_failed (S.faults self.old.inner)) }
+        ensures count { faults_with self.new.has_failed self.new.fault (S.faults self.new.inner)
+            ≡ faults_after result (faults_with self.old.has_failed self.old.fault (S.faults self.old.inner)) }
         ensures countdown { self.new.left ≡ self.old.left - 1 }
         ensures has_failed { self.new.has_failed ≡ (self.old.has_failed || (self.old.left == 1)) }
-        ensures due { self.old.left ≡ 1 → result ≡ Err StoreFault.Device }
+        ensures fault { self.new.fault ≡ self.old.fault }
+        ensures due { self.old.left ≡ 1 → result ≡ Err self.old.fault }
         ensures unchanged { self.old.left ≡ 1 → self.new.inner ≡ self.old.inner }
         ensures passed_on { self.old.left ≢ 1 → S.faults self.new.inner ≡ faults_after result (S.faults self.old.inner) }
     {
         match self.is_due() {
-            true => Err(StoreFault::Device),
+            true => Err(self.fault),
             false => self.inner.keep(id, from, message, outcome, change),
         }
     }
 
     fn faults(&self) -> u64 {
         let faults = self.inner.faults();
-        if self.has_failed {
+        if self.has_failed && self.fault != StoreFault::Memory {
             faults.saturating_add(1)
         } else {
             faults

@@ -21,7 +21,7 @@ use Rattle.desk_migrations.specs.Number.{Says, ReadsSchema}
 use Rattle.desk_migrations.specs.declared.number.SchemaRead.{SchemaRead}
 use Rattle.desk_tables.specs.Opening.{IsLeft}
 use Rattle.desk_tables.specs.Shown.{IsDesk, HasContent, HasContentUnder, AreTablesOf}
-use Rattle.desk_tables.specs.Transactions.{IsAsked, IsChanged, IsDone, IsMade, IsCarried, AsksSchema, Ends}
+use Rattle.desk_tables.specs.Transactions.{IsAsked, IsChanged, IsDone, IsMade, IsCarried, AsksSchema, IsCommitFault, Ends}
 
 -- ---- a question in a transaction that is rolled back
 
@@ -133,6 +133,7 @@ ends_ok mid new ok survives = record {
   survives = survives_weaker mid new _ _ (λ clean db is. (refl, is)) survives;
   ok = λ clean. let h = (ok clean).1 in (refl, h.was_open, h.is_open, h.now_is, h.committed_is);
   err = λ clean inside. tt;
+  cause = λ clean did inside. tt;
 }
 
 pub ends_failed : (mid new : State) (e : Error) → (HasCleanDisk new → FailsToCommit mid new e) → Survives mid new (λ db. db ≡ mid.now.trees) → Ends mid new done (failed (fault_of e))
@@ -140,8 +141,13 @@ ends_failed mid new e fails survives = record {
   survives = survives_weaker mid new _ _ (λ clean db is. (refl, is)) survives;
   ok = λ clean. tt;
   err = λ clean inside. go (inside refl) (fails clean);
+  cause = λ clean did inside. named inside (fails clean);
 }
   where
+    named : IsTrue mid.in_transaction → FailsToCommit mid new e → IsCommitFault mid new (fault_of e)
+    named inside (inl fails) = (fails.0, ap fault_of fails.1, fails.2, fails.4)
+    named inside (inr (why, off, same)) = absurd (true≢false (sym inside ∙ off))
+
     go : IsTrue mid.in_transaction → FailsToCommit mid new e → IsRolledBack mid new × (fault_of e ≢ Foreign ⊎ (done ≡ failed (fault_of e)))
     go inside (inl fails) = (fails.3, inl (commit_free mid new e inside (inl fails)))
     go inside (inr (why, off, same)) = absurd (true≢false (sym inside ∙ off))
@@ -151,6 +157,7 @@ ends_undone mid new fault back survives = record {
   survives = survives_weaker mid new _ _ (λ clean db none. absurd none) survives;
   ok = λ clean. tt;
   err = λ clean inside. (back clean, inr refl);
+  cause = λ clean did inside. absurd (true≢false (sym did));
 }
 
 it_went : {X : Type 0} (did : Result (Unit {0}) StoreFault) → IsOk did → IfOk did (λ _. X) → X

@@ -1,6 +1,9 @@
 -- What a transaction over a connection comes to, whole.
 use Rattle.std.specs.Prelude.{◌≡◌, ◌≢◌, ◌⊎◌, ◌↔◌, ◌<◌, ◌≤◌, ⊤, ℕ, false, true, List, IsOk, Ok, Err, IfOk, IfErr, Result, IsTrue}
-use Rattle.sqlite.specs.State.{State, HasCleanDisk, Survives, IsRolledBack}
+use Rattle.sqlite.specs.State.{State, HasCleanDisk, Survives, IsRolledBack, HasCause, store_error}
+use Rattle.sqlite_trees.specs.View.{Tells}
+use Rattle.sqlite_trees.specs.declared.error.StoreError.{StoreError}
+use Rattle.sql_forms.specs.Faults.{fault_of}
 use Rattle.bug_record.specs.declared.outcome.StoreFault.{StoreFault}
 use Rattle.bug_record.specs.declared.outcome.StoreFault.TheVariants.{Foreign}
 use Rattle.ancestry.specs.Branches.{IsBranched}
@@ -55,11 +58,18 @@ pub record IsTaken (t u : Ancestry) (nodes : List Node) (old new : State) (resul
   pub sure : (c : Content) → HasCleanDisk new → HasContent c old → IsKeptContent c → c.nodes ≡ t → IfErr result (λ fault. fault ≢ Foreign)
   pub crash : (c : Content) → (HasCleanDisk new → HasContent c old × IsKeptContent c × (c.nodes ≡ t)) → Survives old new (AreTablesAfter c nodes)
 
+-- A fault of a commit has a cause: there was no memory, the connection was shut before, or the disk
+-- has failed or refused since, and then it is told as the store names its last error.
+abbrev pub IsCommitFault : State → State → StoreFault → Type 0
+IsCommitFault mid new fault =
+    (cause : StoreError) × (fault ≡ fault_of (store_error cause)) × HasCause mid new ⊥ cause × Tells new.blamed cause
+
 -- How a transaction ends: with a commit where its steps were done, and else undone.
 pub record Ends (mid new : State) (done result : Result (Unit {0}) StoreFault) : Type 0 where
   pub survives : Survives mid new (λ db. IsOk done × (db ≡ mid.now.trees))
   pub ok : HasCleanDisk new → IfOk result (λ _. IsOk done × IsTrue mid.is_open × IsTrue new.is_open × (new.now ≡ mid.now) × (new.committed ≡ mid.now))
   pub err : HasCleanDisk new → (IsOk done → IsTrue mid.in_transaction) → IfErr result (λ fault. IsRolledBack mid new × (fault ≢ Foreign ⊎ (done ≡ Err fault)))
+  pub cause : HasCleanDisk new → IsOk done → IsTrue mid.in_transaction → IfErr result (IsCommitFault mid new)
 
 -- A transaction that leads to the tables of a desk: where it began so, what was done is undone
 -- unless it is committed; and where that fitted, the tables are a desk's with this content, and

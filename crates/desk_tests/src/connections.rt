@@ -2,6 +2,7 @@
 
 use crate::clients::{ask, connect, gets, listen};
 use crate::exchanges::{FIRST_BUG, REPORT, STORE_FAULT};
+use bug_record::StoreFault;
 use desk_server::{ServerFault, serve_connections};
 use desk_store::{FailAt, PlainDesk};
 use std::io::{self, Write};
@@ -84,7 +85,7 @@ fn what_is_left_unread_is_drained_so_that_no_answer_is_lost(rt: HostRuntime) -> 
 // serves the next connection.
 fn fails_and_goes_on(rt: &HostRuntime, listener: &TcpListener) -> bool {
     let alloc = rt.alloc();
-    let mut store = FailAt::new(PlainDesk::new(alloc, 1), 1);
+    let mut store = FailAt::new(PlainDesk::new(alloc, 1), 1, StoreFault::Device);
     serve_connections(rt, alloc, &mut store, listener, 2) == Err(ServerFault::Store)
         && serve_connections(rt, alloc, &mut store, listener, 1) == Ok(())
 }

@@ -1,6 +1,7 @@
 //! Exchanges with a store that fails.
 
 use crate::exchanges::{FIRST_BUG, REPORT, STORE_FAULT, answers, serve, status_told};
+use bug_record::StoreFault;
 use desk_http::serve_one;
 use desk_store::{FailAt, PlainDesk, Records};
 use std::alloc::Global;
@@ -16,7 +17,7 @@ fn failing(alloc: Global, bugs: u32, at: u64) -> FailAt<PlainDesk> {
     for _ in 0..bugs {
         serve(alloc, &mut desk, REPORT, &mut written);
     }
-    FailAt::new(desk, at)
+    FailAt::new(desk, at, StoreFault::Device)
 }
 
 // Whether a request is answered so and told as 500, and the store has failed once then.

@@ -17,6 +17,8 @@ mod exchanges;
 #[cfg(test)]
 mod loopback;
 #[cfg(test)]
+mod message_faults;
+#[cfg(test)]
 mod paces;
 #[cfg(test)]
 mod port;

@@ -1,9 +1,9 @@
 //! A branch of versions, carried out within one transaction.
 
-ghost use Rattle.std.specs.Prelude.{◌≡◌, ◌≢◌, IfOk, IfErr};
+ghost use Rattle.std.specs.Prelude.{◌≡◌, IfOk, IfErr};
 ghost use Rattle.sqlite.specs.Held.{state};
 ghost use Rattle.version_nodes.specs.Trees.{IsForest};
-ghost use Rattle.bug_record.specs.declared.outcome.StoreFault.TheVariants.{Foreign};
+ghost use Rattle.bug_record.specs.declared.outcome.StoreFault.TheVariants.{Memory};
 ghost use Rattle.desk_content.specs.Content.{Content};
 ghost use Rattle.desk_content.specs.Kept.{IsKeptContent};
 ghost use Rattle.desk_content.specs.Branches.{with_nodes, AreMissing};
@@ -30,7 +30,7 @@ fn edits_of(
 ) -> Result<Sequence<Edit>, StoreFault>
     ensures made { IfOk result (λ edits. (c : Content) → IsKeptContent c → IsGrown c.nodes family.now changed.now →
         AreMissing c family.now rows.items → Makes family.now edits c) }
-    ensures sure { IfErr result (λ fault. fault ≢ Foreign) }
+    ensures memory { IfErr result (λ fault. fault ≡ Memory) }
 {
     match branch_edits(alloc, family.tree(), changed, rows) {
         Ok(edits) => Ok(edits),

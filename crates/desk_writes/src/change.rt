@@ -1,6 +1,6 @@
 //! A change of sets, carried out within one transaction.
 
-ghost use Rattle.std.specs.Prelude.{◌≡◌, ◌≢◌, [], ◌∷◌, None, IfOk, IfErr, ⊤};
+ghost use Rattle.std.specs.Prelude.{◌≡◌, [], ◌∷◌, None, IfOk, IfErr, ⊤};
 ghost use Rattle.std.specs.Option.{option_copied};
 ghost use Rattle.sqlite.specs.Held.{state};
 ghost use Rattle.desk_content.specs.Changes.{FitsContent, changed, with_images, cleared_for};
@@ -8,7 +8,7 @@ ghost use Rattle.desk_content.specs.Kept.{IsKeptContent};
 ghost use Rattle.desk_schema.specs.Steps.{Acts, PlaysAll, Reads, Serves};
 ghost use Rattle.desk_writes.specs.Needs.{IsTreeFor, HasTree};
 ghost use Rattle.desk_writes.specs.Plans.{IsPlan, IsPlanOf, ArePlans, cleared_edits, put_edits};
-ghost use Rattle.bug_record.specs.declared.outcome.StoreFault.TheVariants.{Foreign};
+ghost use Rattle.bug_record.specs.declared.outcome.StoreFault.TheVariants.{Memory};
 
 use crate::play::play_all;
 use crate::staying::stay_plan;
@@ -29,7 +29,7 @@ fn plan_of(
     marks: &Marks,
 ) -> Result<RowEdits, StoreFault>
     ensures plan { IfOk result (λ plan. IsPlan family.now marks.now.found marks.now.fixed image.now plan) }
-    ensures sure { IfErr result (λ fault. fault ≢ Foreign) }
+    ensures memory { IfErr result (λ fault. fault ≡ Memory) }
 {
     let found = marks.found.as_slice();
     let fixed = marks.fixed.as_slice();

@@ -1,6 +1,6 @@
 //! An outcome that is kept, with a change of sets, within one transaction.
 
-ghost use Rattle.std.specs.Prelude.{◌≡◌, ◌≢◌, Some, IfOk, IfErr};
+ghost use Rattle.std.specs.Prelude.{◌≡◌, Some, IfOk, IfErr};
 ghost use Rattle.std.specs.Option.{option_copied};
 ghost use Rattle.sqlite.specs.Held.{state};
 ghost use Rattle.sql_forms.specs.Numbers.{next_above};
@@ -8,7 +8,7 @@ ghost use Rattle.desk_content.specs.Edits.{places_of};
 ghost use Rattle.desk_content.specs.Keeping.{MayBePut, kept_after, with_kept};
 ghost use Rattle.desk_content.specs.Kept.{IsKeptContent};
 ghost use Rattle.desk_schema.specs.Steps.{Acts, Reads, Serves};
-ghost use Rattle.bug_record.specs.declared.outcome.StoreFault.TheVariants.{Foreign};
+ghost use Rattle.bug_record.specs.declared.outcome.StoreFault.TheVariants.{Memory};
 ghost use Rattle.desk_writes.specs.Needs.{HasTree, HasTreeIfAny};
 ghost use Rattle.desk_writes.specs.Lines.{IsLine, AreEditsOf};
 
@@ -31,7 +31,7 @@ fn edits_at(
     outcome: &Outcome,
 ) -> Result<Sequence<Edit>, StoreFault>
     ensures value { IfOk result (AreEditsOf id.now from.now message.now place outcome.now) }
-    ensures sure { IfErr result (λ fault. fault ≢ Foreign) }
+    ensures memory { IfErr result (λ fault. fault ≡ Memory) }
 {
     match keep_edits(alloc, id, from, message, place, outcome) {
         Ok(edits) => Ok(edits),

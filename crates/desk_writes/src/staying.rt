@@ -1,8 +1,8 @@
 //! The edits of a set whose bugs stay.
 
-ghost use Rattle.std.specs.Prelude.{◌≡◌, ◌≢◌, true, IfOk, IfErr, IfSome};
+ghost use Rattle.std.specs.Prelude.{◌≡◌, true, IfOk, IfErr, IfSome};
 ghost use Rattle.sqlite.specs.Held.{state};
-ghost use Rattle.bug_record.specs.declared.outcome.StoreFault.TheVariants.{Foreign};
+ghost use Rattle.bug_record.specs.declared.outcome.StoreFault.TheVariants.{Memory};
 ghost use Rattle.desk_schema.specs.Steps.{Reads};
 ghost use Rattle.desk_writes.specs.Plans.{IsStay, IsStayOf, IsStayPlan};
 
@@ -46,7 +46,7 @@ fn stay_of(
     marks: &Marks,
 ) -> Result<Sequence<Edit>, StoreFault>
     ensures plan { IfOk result (λ edits. IsStay family.now marks.now.found marks.now.fixed image.now edits) }
-    ensures sure { IfErr result (λ fault. fault ≢ Foreign) }
+    ensures memory { IfErr result (λ fault. fault ≡ Memory) }
 {
     let found = marks.found.as_slice();
     let fixed = marks.fixed.as_slice();

@@ -11,6 +11,8 @@ use Rattle.bug_record.specs.Desk.{Desk}
 use Rattle.bug_record.specs.Sets.{Each, IsAscending}
 use Rattle.bug_record.specs.Texts.{IsText}
 use Rattle.bug_record.specs.Words.{Names}
+use Rattle.bug_record.specs.declared.command.Command.{Command}
+use Rattle.bug_record.specs.declared.command.Command.TheVariants as commands
 use Rattle.bug_record.specs.declared.command.Refusal.{Refusal}
 use Rattle.bug_record.specs.declared.command.Refusal.TheVariants as refusals
 use Rattle.command_grammar.specs.Lines.{reading}
@@ -21,7 +23,9 @@ use Rattle.bug_record.specs.declared.outcome.Outcome.{Outcome}
 use Rattle.bug_record.specs.declared.outcome.Outcome.TheVariants.{Changed, Refused, Stopped}
 use Rattle.bug_record.specs.declared.outcome.End.{End}
 use Rattle.bug_record.specs.declared.outcome.End.TheVariants as ends
+use Rattle.line_words.specs.Ids.{IsId}
 use Rattle.line_words.specs.Numbers.{IsGoodNumber}
+use Rattle.line_words.specs.declared.named.Named.{Named}
 use Rattle.message_machine.specs.Message.{Entry, machine, takes, after_lines, end_of, names_given}
 use Rattle.message_machine.specs.declared.kept.Kept.{Kept}
 
@@ -88,16 +92,30 @@ names_by read outcome = []
 abbrev pub new_names : Entry → List ℕ
 new_names entry = names_by (reading entry.0) entry.1
 
+-- the numbers of the copies that an accepted command makes
+abbrev pub copies_of : Command Named → List ℕ → List ℕ
+copies_of (commands.Clone n ks) numbers = numbers
+copies_of command numbers = []
+
+-- those of a line which reads so where this is its outcome
+abbrev pub copies_by : Result Line Refusal → Outcome → List ℕ
+copies_by (Ok (Do command)) (Changed numbers) = copies_of command numbers
+copies_by read outcome = []
+
+abbrev pub new_copies : Entry → List ℕ
+new_copies entry = copies_by (reading entry.0) entry.1
+
 -- after lines that gave these names, those of each line could be given: none is known, and none
--- stands twice; and each has a number
+-- stands twice; and there are as many copies as names
 abbrev pub GiveNames : Names → List Entry → Type 0
 GiveNames names [] = ⊤
 GiveNames names (entry ∷ entries) =
-    (name_refusal names (new_names entry) ≡ None) × (length (new_names entry) ≡ length (names_given entry))
+    (name_refusal names (new_names entry) ≡ None) × (length (new_copies entry) ≡ length (new_names entry))
     × GiveNames (names ++ names_given entry) entries
 
 -- What is kept of a message is right: there is an outcome, and at most one for each line that has
--- one; none stands after one that ends the message; and names are given once, each with its number.
+-- one; none stands after one that ends the message; and names are given once, each with its number
+-- and no number without a name.
 pub record IsGoodKept (k : Kept) : Type 0 where
   pub sender : IsText k.from
   pub some : k.outcomes ≢ []
@@ -106,9 +124,9 @@ pub record IsGoodKept (k : Kept) : Type 0 where
   pub names : GiveNames [] (told (lines_of k.message) k.outcomes)
   pub outcomes : Each IsGoodOutcome k.outcomes
 
--- what is kept of each id is right
+-- each id that is known is one, and what is kept of it is right
 abbrev pub AreGoodKept : Keeping → Type 0
-AreGoodKept kept = (id : List ℕ) (k : Kept) → kept id ≡ Some k → IsGoodKept k
+AreGoodKept kept = (id : List ℕ) (k : Kept) → kept id ≡ Some k → IsId id × IsGoodKept k
 
 -- ---- one outcome more
 
@@ -132,9 +150,10 @@ kept_with id sender message (outcome ∷ outcomes) kept =
 abbrev pub kept_also : List ℕ → List ℕ → List ℕ → Outcome → Keeping → Keeping
 kept_also id sender message outcome kept = kept_with id sender message (outcomes_kept (kept id) ++ outcome ∷ []) kept
 
--- What comes of the message's first line that has an outcome and has none kept, on a desk of which
--- this is kept: this outcome, and this desk.
+-- What comes of the first line that has an outcome and has none kept, of a message under an id, on
+-- a desk of which this is kept: this outcome, and this desk.
 pub record IsNextOutcome (id sender message : List ℕ) (kept : Keeping) (d : Desk) (outcome : Outcome) (new : Desk) : Type 0 where
+  pub is_id : IsId id
   pub same : IsOfMessage sender message (kept id)
   pub goes_on : end_of (told (lines_of message) (outcomes_kept (kept id))) ≡ ends.All
   pub line : List ℕ

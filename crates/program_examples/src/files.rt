@@ -2,6 +2,7 @@
 
 use bts_jobs::{JobEnd, open_desk, run_script_over};
 use sqlite::{Connection, Wary};
+use std::os::unix::fs::PermissionsExt;
 use std::{fs, io};
 use test_desks::add_text;
 
@@ -33,6 +34,15 @@ fn look(rt: &HostRuntime, seen: &mut Vec<u8>, name: &str) -> io::Result<Option<&
 fn compare(rt: &HostRuntime, seen: &[u8], name: &str) -> io::Result<Option<&'static str>> {
     let is_same = fs::read(rt, name)?.as_slice() == seen;
     Ok(Some(if is_same { "yes" } else { "no" }))
+}
+
+// Sets the rights of a file or a folder, written as three octal digits.
+fn set_rights(rt: &HostRuntime, rest: &str) -> bool {
+    let (name, digits) = name_and_text(rest);
+    match u32::from_str_radix(digits, 8) {
+        Ok(mode) => fs::set_permissions(rt, name, fs::Permissions::from_mode(mode)).is_ok(),
+        Err(_) => false,
+    }
 }
 
 // Carries a text of SQL out on the database in a file, which is made where there is none.
@@ -74,6 +84,7 @@ fn run_and_drop(rt: &HostRuntime, rest: &str) -> io::Result<Option<&'static str>
 /// them.
 /// `folder NAME` makes a folder, and `remove folder NAME` removes one that is empty;
 /// `write NAME: TEXT` makes a file, whose text has the signs of requests;
+/// `rights NAME: DIGITS` sets the rights of a file or a folder;
 /// `look at NAME` keeps what a file holds, and `as seen NAME` compares it with what it holds then;
 /// `sql NAME: TEXT` carries SQL out, and `drop NAME: TEXT` runs a script over a desk that is
 /// dropped then.
@@ -88,6 +99,8 @@ pub(crate) fn answer(
         Ok(done(fs::remove_dir(rt, name).is_ok()))
     } else if let Some(rest) = line.strip_prefix("write ") {
         write_file(rt, rest)
+    } else if let Some(rest) = line.strip_prefix("rights ") {
+        Ok(done(set_rights(rt, rest)))
     } else if let Some(name) = line.strip_prefix("look at ") {
         look(rt, seen, name)
     } else if let Some(name) = line.strip_prefix("as seen ") {

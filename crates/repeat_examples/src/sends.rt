@@ -1,6 +1,7 @@
 //! Messages that are sent to a desk in memory, and to one in tables, again and again.
 
 use crate::sending::Sending;
+use bug_record::StoreFault;
 use control_text::number_word;
 use desk_run::Records;
 use std::alloc::{AllocError, Global};
@@ -106,20 +107,25 @@ impl Answers {
     }
 }
 
-// The call that a line `fails K` names; nothing of another line.
-fn call_of(line: &str) -> Option<u64> {
-    let word = line.strip_prefix("fails ")?;
-    Some(number_word(word).unwrap_or(0))
+// The call that a line `fails K` or `fails K full` names, and its fault; nothing of another line.
+fn call_of(line: &str) -> Option<(u64, StoreFault)> {
+    let words = line.strip_prefix("fails ")?;
+    let (word, fault) = match words.strip_suffix(" full") {
+        Some(word) => (word, StoreFault::Full),
+        None => (words, StoreFault::Device),
+    };
+    Some((number_word(word).unwrap_or(0), fault))
 }
 
-// Which call that changes or keeps something fails, of an example: that of its line `fails K`.
-fn fails(example: &str) -> u64 {
+// Which call that changes or keeps something fails, of an example, and by which fault: that of its
+// first line that names one.
+fn fails(example: &str) -> (u64, StoreFault) {
     for line in example.lines() {
-        if let Some(call) = call_of(line) {
-            return call;
+        if let Some(named) = call_of(line) {
+            return named;
         }
     }
-    0
+    (0, StoreFault::Device)
 }
 
 // Prints bytes that are UTF-8.
@@ -146,11 +152,11 @@ fn print_both(rt: &HostRuntime, in_memory: &Answers, in_tables: &Answers) -> io:
 fn run_example(rt: &HostRuntime, example: &str) -> io::Result<()> {
     let alloc = rt.alloc();
     let lines = Lines { example };
-    let call = fails(example);
+    let (call, fault) = fails(example);
     let mut in_memory = Answers::new(alloc);
     let mut in_tables = Answers::new(alloc);
-    in_memory_failing(alloc, call, &lines, &mut in_memory);
-    in_tables_failing(alloc, call, &lines, &mut in_tables);
+    in_memory_failing(alloc, call, fault, &lines, &mut in_memory);
+    in_tables_failing(alloc, call, fault, &lines, &mut in_tables);
     print_both(rt, &in_memory, &in_tables)
 }
 

@@ -1,6 +1,6 @@
 //! Tests of what data can't show of lines, messages and scripts: readers and writers in pieces,
-//! failing and without end, stores that fail at any call, which sets are written, and calls that no
-//! program makes.
+//! failing and without end, stores that fail at any call, little memory, which sets are written,
+//! and calls that no program makes.
 #![tactic(auto)]
 
 #[cfg(test)]
@@ -9,6 +9,8 @@ mod fails;
 mod faults;
 #[cfg(test)]
 mod lines;
+#[cfg(test)]
+mod memory;
 #[cfg(test)]
 mod messages;
 #[cfg(test)]

@@ -22,7 +22,7 @@ pub(crate) fn written<S: Records>(alloc: Global, store: &mut S, script: &str) ->
 pub(crate) fn failing(alloc: Global) -> FailAt<PlainDesk> {
     let mut desk = PlainDesk::new(alloc, 1);
     written(alloc, &mut desk, REPORTS);
-    FailAt::new(desk, 2)
+    FailAt::new(desk, 2, StoreFault::Device)
 }
 
 // Whether the store fails in a script, which writes this.
@@ -111,7 +111,7 @@ fn a_line_that_changes_nothing_writes_nothing(rt: HostRuntime) {
 // How many faults a store has had that fails at no change, after the reports; `None` where these
 // have not their answers.
 fn faults_of_none(alloc: Global) -> Option<u64> {
-    let mut store = FailAt::new(PlainDesk::new(alloc, 1), 0);
+    let mut store = FailAt::new(PlainDesk::new(alloc, 1), 0, StoreFault::Device);
     let end = Ok(ScriptEnd::Accepted);
     let answers = "OK 1\nOK 2\nOK 3\n";
     writes(alloc, &mut store, REPORTS.as_bytes(), end, answers).then_some(store.faults())

@@ -96,11 +96,11 @@ fn ask_before<R: Records>(alloc: Global, desk: &mut R, example: &mut Example) {
     example.report.note(told);
 }
 
-/// Takes the lines of a desk, up to one that closes it or asks for other files; before calls are
-/// limited the questions are asked.
+/// Takes the lines of a desk, up to one that closes it or asks for other files; before calls or
+/// room are limited the questions are asked.
 pub(crate) fn take_lines<R: Records>(alloc: Global, desk: &mut R, example: &mut Example) {
     for _ in 0..example.left() {
-        if example.begins_with("calls-left ") {
+        if example.limits_files() {
             return ask_before(alloc, desk, example);
         }
         if example.line() == "close" || example.is_at_end() {

@@ -64,12 +64,17 @@ impl Example {
         self.line().starts_with(word)
     }
 
+    /// Whether the next line asks for the same files with fewer calls or less room.
+    pub fn limits_files(&self) -> bool {
+        self.begins_with("calls-left ") || self.begins_with("room-left ")
+    }
+
     /// Whether no line is left that is taken with the same files.
     pub fn is_at_end(&self) -> bool {
         self.left() == 0
             || self.begins_with("== ")
             || self.begins_with("file ")
-            || self.begins_with("calls-left ")
+            || self.limits_files()
     }
 
     // Takes the next line, and tells it.

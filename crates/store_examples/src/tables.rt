@@ -10,7 +10,7 @@ use std::alloc::Global;
 use std::io;
 use store_trials::number_asked;
 use test_desks::{
-    ConnectionTask, Disks, Made, create, disks_in, limited, new_disks, open, over_files,
+    ConnectionTask, Disks, Made, create, disks_in, limited, new_disks, open, over_files, with_room,
 };
 
 // What is asked of a connection.
@@ -158,18 +158,20 @@ fn begun_files(rt: &HostRuntime, line: &str) -> io::Result<Disks> {
     }
 }
 
-// The files that a line asks for: those before, with fewer calls, or others.
+// The files that a line asks for: those before, with fewer calls or less room, or others.
 fn other_files(rt: &HostRuntime, files: &Disks, line: &str) -> io::Result<Disks> {
-    match line.strip_prefix("calls-left ") {
-        Some(word) => limited(rt.alloc(), files, word.parse::<u64>().ok()),
+    if let Some(word) = line.strip_prefix("calls-left ") {
+        return limited(rt.alloc(), files, word.parse::<u64>().ok());
+    }
+    match line.strip_prefix("room-left ") {
+        Some(word) => with_room(rt.alloc(), files, word.parse::<usize>().ok()),
         None => begun_files(rt, line),
     }
 }
 
-// Takes a line that asks for other files, which have a desk only if it limits the calls of those
-// before.
+// Takes a line that asks for other files, which have a desk only if it limits those before.
 fn pass_files(example: &mut Example) {
-    if !example.begins_with("calls-left ") {
+    if !example.limits_files() {
         example.is_desk = false;
     }
     example.pass();

@@ -1,5 +1,6 @@
 //! Files in memory, and what is done with a connection over files.
 
+use crate::room::Room;
 use sqlite::Connection;
 use sqlite_disk::{Disk, Files, Fuse, Memory};
 use sqlite_pager::Options;
@@ -7,23 +8,36 @@ use sqlite_store::FileStore;
 use std::alloc::Global;
 use std::{fs, io};
 
-/// The two files of a database, each in memory, and each with so many calls left.
-pub type Disks = Files<Fuse<Memory>>;
+/// A file in memory, with so much room and so many calls left.
+pub type File = Fuse<Room<Memory>>;
+
+/// The two files of a database.
+pub type Disks = Files<File>;
 
 /// Two empty files.
 pub fn new_disks(alloc: Global) -> Disks {
     Files {
-        log: Fuse::new(Memory::new(alloc), u64::MAX),
-        db: Fuse::new(Memory::new(alloc), u64::MAX),
+        log: Fuse::new(Room::new(Memory::new(alloc), usize::MAX), u64::MAX),
+        db: Fuse::new(Room::new(Memory::new(alloc), usize::MAX), u64::MAX),
     }
 }
 
-/// A file in memory with these bytes, which passes so many calls on.
-pub fn file_of(alloc: Global, bytes: &[u8], calls: u64) -> io::Result<Fuse<Memory>> {
+// A file in memory with these bytes, which has so much room and passes so many calls on.
+fn file_within(alloc: Global, bytes: &[u8], room: usize, calls: u64) -> io::Result<File> {
     let mut file = Memory::new(alloc);
     file.write_at(0, bytes)?;
     file.sync()?;
-    Ok(Fuse::new(file, calls))
+    Ok(Fuse::new(Room::new(file, room), calls))
+}
+
+/// A file in memory with these bytes, which passes so many calls on.
+pub fn file_of(alloc: Global, bytes: &[u8], calls: u64) -> io::Result<File> {
+    file_within(alloc, bytes, usize::MAX, calls)
+}
+
+/// The bytes of a file.
+pub fn bytes_of(file: &File) -> &[u8] {
+    file.inner().inner().bytes()
 }
 
 /// Files with these bytes, which pass all calls on.
@@ -41,8 +55,20 @@ pub fn disks_in(rt: &HostRuntime, name: &str) -> io::Result<Disks> {
 
 /// Files with the bytes of these, which pass so many calls on: the log, and the other.
 pub fn copy_of(alloc: Global, disks: &Disks, log: u64, db: u64) -> io::Result<Disks> {
-    let log = file_of(alloc, disks.log.inner().bytes(), log)?;
-    let db = file_of(alloc, disks.db.inner().bytes(), db)?;
+    let log = file_of(alloc, bytes_of(&disks.log), log)?;
+    let db = file_of(alloc, bytes_of(&disks.db), db)?;
+    Ok(Files { log, db })
+}
+
+/// Files with the bytes of these, of which the log has room for so many bytes more, or for all.
+pub fn with_room(alloc: Global, disks: &Disks, more: Option<usize>) -> io::Result<Disks> {
+    let held = bytes_of(&disks.log);
+    let room = match more {
+        Some(more) => held.len().saturating_add(more),
+        None => usize::MAX,
+    };
+    let log = file_within(alloc, held, room, u64::MAX)?;
+    let db = file_of(alloc, bytes_of(&disks.db), u64::MAX)?;
     Ok(Files { log, db })
 }
 

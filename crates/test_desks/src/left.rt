@@ -1,7 +1,7 @@
 //! What files hold once their use has ended at some call.
 
-use crate::disks::Disks;
-use sqlite_disk::{Crash, Fuse, Memory};
+use crate::disks::{Disks, File, bytes_of};
+use sqlite_disk::Crash;
 use std::alloc::{AllocError, Global};
 
 /// What a file holds as it is, and once the machine has stopped.
@@ -19,10 +19,10 @@ pub struct BothLeft {
 }
 
 // What a file holds, for which the machine stops.
-fn left_of(alloc: Global, file: &mut Fuse<Memory>) -> Result<Left, AllocError> {
-    let written = Vec::from_slice(alloc, file.inner().bytes())?;
+fn left_of(alloc: Global, file: &mut File) -> Result<Left, AllocError> {
+    let written = Vec::from_slice(alloc, bytes_of(file))?;
     file.crash();
-    let synced = Vec::from_slice(alloc, file.inner().bytes())?;
+    let synced = Vec::from_slice(alloc, bytes_of(file))?;
     Ok(Left { written, synced })
 }
 

@@ -1,6 +1,7 @@
 //! What examples and tests are made of: desks in memory and over files in memory, of which one
-//! stops; readers and writers that give and take so many bytes at a time, fail once, or never end,
-//! and count the calls; the bytes that they give, out of a text with signs; and random scripts.
+//! stops, or is full; readers and writers that give and take so many bytes at a time, fail once, or
+//! never end, and count the calls; the bytes that they give, out of a text with signs; and random
+//! scripts.
 #![tactic(auto)]
 
 mod desks;
@@ -10,18 +11,20 @@ mod failing;
 mod left;
 mod limits;
 mod lines;
+mod room;
 mod scripts;
 mod signs;
 mod stops;
 mod tasks;
 
 pub use desks::{Made, create, new_desk, open};
-pub use disks::{Disks, connected, copy_of, disks_in, files_with, new_disks};
+pub use disks::{Disks, File, connected, copy_of, disks_in, files_with, new_disks, with_room};
 pub use endless::{Pieces, Round};
 pub use failing::{Failure, Feed, Sink};
 pub use left::{BothLeft, both_left};
 pub use limits::limited;
 pub use lines::Maker;
+pub use room::Room;
 pub use scripts::{answer_to, run_into};
 pub use signs::add_text;
 pub use stops::{Setting, goes_on, setting_of, stopping};

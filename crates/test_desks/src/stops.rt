@@ -1,7 +1,7 @@
 //! Files of which one stops after so many calls.
 
-use crate::disks::{Disks, copy_of};
-use sqlite_disk::{Disk, Fuse, Memory};
+use crate::disks::{Disks, File, copy_of};
+use sqlite_disk::Disk;
 use sqlite_pager::Options;
 use std::alloc::Global;
 use std::io;
@@ -43,7 +43,7 @@ pub fn setting_of(line: &str) -> Option<Setting> {
 }
 
 // Whether a file passes a further call on.
-fn passes_on(file: &mut Fuse<Memory>) -> bool {
+fn passes_on(file: &mut File) -> bool {
     file.may_be_used() && file.len().is_ok()
 }
 

@@ -4,6 +4,7 @@
 
 use crate::desks::{Made, new_desk, open};
 use crate::disks::{connected, files_with};
+use bug_record::StoreFault;
 use desk_run::{FailAt, PlainDesk, Records};
 use sqlite::{Alter, Connection};
 use sqlite_disk::{Disk, Files};
@@ -34,16 +35,24 @@ fn on_failing<R: Records + Drop, T, K: DeskTask<T>>(
     alloc: Global,
     desk: R,
     call: u64,
+    fault: StoreFault,
     task: &K,
     told: &mut T,
 ) {
-    let mut desk = FailAt::new(desk, call);
+    let mut desk = FailAt::new(desk, call, fault);
     task.run_on(alloc, &mut desk, told);
 }
 
-/// Does a task on a new desk in memory, of whose calls that change or keep something one fails.
-pub fn in_memory_failing<T, K: DeskTask<T>>(alloc: Global, call: u64, task: &K, told: &mut T) {
-    on_failing(alloc, PlainDesk::new(alloc, 1), call, task, told);
+/// Does a task on a new desk in memory, of whose calls that change or keep something one fails, by
+/// this fault.
+pub fn in_memory_failing<T, K: DeskTask<T>>(
+    alloc: Global,
+    call: u64,
+    fault: StoreFault,
+    task: &K,
+    told: &mut T,
+) {
+    on_failing(alloc, PlainDesk::new(alloc, 1), call, fault, task, told);
 }
 
 /// Does a task on a desk that was made, and closes it; nothing where there is none.
@@ -107,11 +116,12 @@ fn on_failing_of<S: Alter + Drop, T, K: DeskTask<T>>(
     alloc: Global,
     conn: Connection<S>,
     call: u64,
+    fault: StoreFault,
     task: &K,
     told: &mut T,
 ) {
     match open(alloc, conn) {
-        Ok(desk) => on_failing(alloc, desk, call, task, told),
+        Ok(desk) => on_failing(alloc, desk, call, fault, task, told),
         Err(_) => {}
     }
 }
@@ -121,17 +131,24 @@ fn over_failing<D: Disk + Drop, T, K: DeskTask<T>>(
     alloc: Global,
     files: Files<D>,
     call: u64,
+    fault: StoreFault,
     task: &K,
     told: &mut T,
 ) {
     match connected(alloc, files, Options::new(1)) {
-        Ok(conn) => on_failing_of(alloc, conn, call, task, told),
+        Ok(conn) => on_failing_of(alloc, conn, call, fault, task, told),
         Err(_) => {}
     }
 }
 
-/// Does a task on a new desk in tables, of whose calls that change or keep something one fails;
-/// nothing where there is no such desk.
-pub fn in_tables_failing<T, K: DeskTask<T>>(alloc: Global, call: u64, task: &K, told: &mut T) {
-    over_failing(alloc, new_desk(alloc), call, task, told);
+/// Does a task on a new desk in tables, of whose calls that change or keep something one fails, by
+/// this fault; nothing where there is no such desk.
+pub fn in_tables_failing<T, K: DeskTask<T>>(
+    alloc: Global,
+    call: u64,
+    fault: StoreFault,
+    task: &K,
+    told: &mut T,
+) {
+    over_failing(alloc, new_desk(alloc), call, fault, task, told);
 }

@@ -31,7 +31,7 @@ keep-requires-clause-next g c =
       earlier = c.requires.begun.earlier;
       holds = holds_then c.requires.begun.holds a.holds
           (λ b p. may-keep c.args.id.now c.args.from.now c.args.message.now c.args.line.now _ _ _ _ c.args.progress.now.outcomes.items _ _
-          c.in-Ok-Some.decided.1 _ b c.requires.in_step.goes_on (c.requires.place (sym there)) p c.decide_line.ensures.stays
+          c.in-Ok-Some.decided.1 _ c.requires.id b c.requires.in_step.goes_on (c.requires.place (sym there)) p c.decide_line.ensures.stays
           c.as_ref.ensures.value);
     }
 
@@ -45,7 +45,7 @@ returns-in-Ok-clause-answer g c = λ earlier h.
     (c.in-Ok.ensures.answer earlier
     (holds_weaker x
     (λ p. may-keep c.args.id.now c.args.from.now c.args.message.now c.args.line.now _ _ _ _ c.args.progress.now.outcomes.items _ _
-    c.in-Ok-Some.decided.1 _ p.0 c.requires.in_step.goes_on (c.requires.place (sym there)) p.1 c.decide_line.ensures.stays
+    c.in-Ok-Some.decided.1 _ c.requires.id p.0 c.requires.in_step.goes_on (c.requires.place (sym there)) p.1 c.decide_line.ensures.stays
     c.as_ref.ensures.value)))
     c.in-Ok.ensures.honest
     (λ p q.

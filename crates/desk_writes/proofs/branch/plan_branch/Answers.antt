@@ -7,6 +7,7 @@ use Rattle.branch_rows.specs.Grown.{IsGrown}
 use Rattle.desk_schema.proofs.ReadSteps.{known_first, known_then, known_answer}
 use Rattle.desk_writes.specs.Steps.{Makes}
 use Rattle.desk_writes.proofs.BranchSteps.{says}
+use Rattle.desk_writes.proofs.MemoryLemmas.{memory_only}
 use Rattle.desk_writes.proofs.branch.plan_branch.Goals as goal
 
 pub returns-clause-reads : goal.returns-clause-reads
@@ -22,7 +23,7 @@ returns-clause-reads g c =
     (λ x p. (
       says c.edits_of.result (λ edits. (y : Content) → IsKeptContent y → IsGrown y.nodes u changed → AreMissing y u rows.items → Makes u edits y)
           (λ edits. IsKeptContent x → IsGrown x.nodes u changed → Makes u edits x) (λ edits made kept grown. made x kept grown (p.1 kept grown)) c.edits_of.ensures.made,
-      c.edits_of.ensures.sure,
+      memory_only c.edits_of.result c.edits_of.ensures.memory,
     ))
     (known_then old mid new rows (λ x. c.in_ok-read_next.field-0 ≡ x.next) (λ x rows. IsKeptContent x → IsGrown x.nodes u changed → AreMissing x u rows.items)
     (known_first old mid c.in_ok-read_next.field-0 (λ x next. next ≡ x.next) c.in_ok-read_next.ensures.reads) c.in_ok-rows.ensures.reads)

@@ -1,6 +1,7 @@
 use Rattle.std.proofs.Common.{subst}
 use Rattle.std.specs.Str.{IsUtf8}
 use Rattle.sqlite.specs.Held.{state}
+use Rattle.desk_content.proofs.TagLemmas.{number_below}
 use Rattle.desk_schema.specs.SetRows.{IsSetRow}
 use Rattle.desk_schema.proofs.StatementLemmas.{acts_write}
 use Rattle.desk_schema.proofs.CellLemmas.{maybe_bound}
@@ -9,7 +10,7 @@ use Rattle.set_rows.proofs.sets.add_fields.Goals as goal
 
 pub returns-clause-plays : goal.returns-clause-plays
 returns-clause-plays g c =
-    let fine : IsSetRow (new_row c.args.key c.args.fields.now) = record { «package» = subst IsUtf8 c.as_str.ensures c.as_str.utf8; forwarded = c.str_of.ensures.utf8; owner = c.str_of-2.ensures.utf8 } in
+    let fine : IsSetRow (new_row c.args.key c.args.fields.now) = record { «package» = subst IsUtf8 c.as_str.ensures c.as_str.utf8; forwarded = c.str_of.ensures.utf8; owner = c.str_of-2.ensures.utf8; tags = number_below c.args.fields.now.tags } in
     rw c.written.ensures.told (acts_write _ _ _ _ (add_is c.args.key c.args.fields.now fine) (state g.S.Store c.args.tx.now.conn.now) (state g.S.Store c.execute.new.self.conn.now) c.execute.result c.execute.ensures.survives
     (rw (
       c.params-to_sql.ensures,
