@@ -10,29 +10,20 @@ use Rattle.sqlite_disk.specs.declared.start.Start.{Ghosts}
 use Rattle.sqlite_disk.specs.declared.start.Wary.{Wary}
 use Rattle.sqlite_std_file.specs.declared.host.Host.{Host}
 use Rattle.sqlite.specs.State.{HasCleanDisk}
-use Rattle.sqlite.specs.Files.{file_state, over_files, HoldsDatabase}
+use Rattle.sqlite.specs.Files.{file_state, over_files}
 use Rattle.sqlite_store.specs.declared.store.FileStore.{FileStore}
-use Rattle.sqlite_trees.specs.Tree.{Trees}
 use Rattle.sqlite_wal.specs.Recovery.{Image}
 use Rattle.bug_record.specs.Desk.{Desk}
 use Rattle.bugs_in_memory.specs.Plain.{empty_desk}
 use Rattle.desk_store.specs.Store.{Faults, no_faults}
 use Rattle.desk_content.specs.Content.{Content}
-use Rattle.desk_content.specs.Kept.{IsKeptContent}
 use Rattle.desk_content.specs.View.{desk_in, keeping_in}
 use Rattle.message_machine.specs.Kept.{Keeping, none_kept}
+use Rattle.desk_tables.specs.Files.{HoldDesk}
 use Rattle.desk_tables.specs.Kept.{desk_seen, keeping_seen, IsKept}
-use Rattle.desk_tables.specs.Shown.{HoldTables}
 use Rattle.desk_tables.specs.declared.desk.TableDesk.{TableDesk}
 use Rattle.bts_jobs.specs.declared.ending.Cause.{Cause}
 use Rattle.bts_jobs.specs.declared.ending.Cause.TheVariants.{Store, NoFile, InUse, NotADesk, NewerSchema, NotEmpty, CannotOpen}
-
--- the two files hold a desk with this content, which is kept, under some schema of a desk
-pub record HoldDesk (image : Image) (c : Content) : Type 0 where
-  pub trees : Trees
-  pub database : HoldsDatabase image trees
-  pub tables : HoldTables c trees
-  pub kept : IsKeptContent c
 
 -- the calls of a file of the system, as `sqlite_std_file` notes them
 abbrev pub host : calls.Ghosts Host

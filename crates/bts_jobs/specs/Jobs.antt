@@ -1,14 +1,17 @@
 -- What the jobs do.
 -- This project's own rule.
-use Rattle.std.specs.Prelude.{ℕ, ◌≡◌, ◌≢◌, ◌==◌, ◌⊎◌, ◌<◌, ◌≤◌, ◌++◌, false, [], ◌∷◌, List, length, take, codes, Option, None, Some, Result, Ok, Err, OnOk}
+use Rattle.std.specs.Prelude.{ℕ, ◌≡◌, ◌≢◌, ◌==◌, ◌⊎◌, ◌<◌, ◌≤◌, ◌++◌, false, [], ◌∷◌, List, length, take, codes, Option, None, Some, Result, Ok, Err, OnOk, ⊤}
 use Rattle.std.specs.List.{list_any}
 use Rattle.std.specs.Io.KnownBytes.{Appends}
 use Rattle.sqlite_disk.specs.declared.start.Start.{Ghosts}
 use Rattle.sqlite_wal.specs.Files.{image_at}
+use Rattle.sqlite_wal.specs.Recovery.{Image}
 use Rattle.line_words.specs.declared.named.TheConstants.{LARGEST_NUMBER}
 use Rattle.bug_record.specs.Desk.{Desk}
 use Rattle.bug_record.specs.Texts.{IsText}
 use Rattle.bug_record.specs.declared.outcome.End.{End}
+use Rattle.desk_content.specs.Content.{Content}
+use Rattle.desk_tables.specs.Files.{HoldDesk}
 use Rattle.desk_store.specs.Store.{Faults, Holds, no_faults, faults_after_end}
 use Rattle.message_machine.specs.Message.{Entry, IsReceived}
 use Rattle.bugs_in_memory.specs.Plain.{empty_desk}
@@ -35,6 +38,8 @@ use Rattle.desk_repeats.specs.Once.{IsOnce, faults_after_once}
 use Rattle.desk_repeats.specs.declared.once.OnceFault.{OnceFault}
 use Rattle.desk_repeats.specs.declared.once.OnceFault.TheVariants.{BadId, Reused, Store as StoreFailed}
 use Rattle.bts_jobs.specs.InFile.{FileDesk, desk_in_file, keeping_in_file, IsKeptInFile, HasHonestFile, faults_in_file, IsOpenedInFile, IsNewInFile, IsOpenCause, IsInitCause}
+use Rattle.bts_jobs.specs.Left.{FilesLeft, IsLeftBy}
+use Rattle.bts_jobs.specs.declared.left.LeftFiles.TheVariants.{Nothing}
 use Rattle.bts_jobs.specs.declared.ending.Cause.{Cause}
 use Rattle.bts_jobs.specs.declared.ending.Cause.TheVariants.{Memory, Output, Store}
 use Rattle.bts_jobs.specs.declared.ending.JobEnd.{JobEnd}
@@ -166,52 +171,67 @@ pub record IsSentOnceOver {S : Type 0} (is_kept is_honest : S → Type 0) (desk 
   pub counts : faults new ≡ faults_after_once result (faults old)
   pub told : TellsOnce message result c0 c1 end
 
--- nothing was written, and the end is a fault with such a cause
-abbrev pub EndsFor : (Cause → Type 0) → Option (List ℕ) → Option (List ℕ) → JobEnd → Type 0
-EndsFor IsCause c0 c1 end = (cause : Cause) × IsCause cause × EndsAtOnce (Fault cause) c0 c1 end
-
 module _ {S : Type 0} (start : Ghosts S) where
-  -- A job over the desk in a file: it can't be opened, or it was, and this is so of it as it was
-  -- opened and as the job ends.
-  abbrev pub IsOverFile : Option (List ℕ) → Option (List ℕ) → JobEnd → (FileDesk start → FileDesk start → Type 0) → Type 0
-  IsOverFile c0 c1 end P = EndsFor IsOpenCause c0 c1 end
-      ⊎ ((old : FileDesk start) × (new : FileDesk start) × IsOpenedInFile (image_at start) old × P old new)
+  -- nothing was written, this is the end, and no desk was opened or made in a file
+  abbrev pub EndsUnopened : JobEnd → Option (List ℕ) → Option (List ℕ) → JobEnd → FilesLeft start → Type 0
+  EndsUnopened wanted c0 c1 end left = EndsAtOnce wanted c0 c1 end × (left ≡ Nothing)
 
-  -- A desk was made in a file, and the line `OK` is written.
-  pub record IsMade (first : ℕ) (c0 c1 : Option (List ℕ)) (end : JobEnd) : Type 0 where
+  -- the same, and the end is a fault with such a cause
+  abbrev pub EndsFor : (Cause → Type 0) → Option (List ℕ) → Option (List ℕ) → JobEnd → FilesLeft start → Type 0
+  EndsFor IsCause c0 c1 end left = (cause : Cause) × IsCause cause × EndsUnopened (Fault cause) c0 c1 end left
+
+  -- A job over the desk in a file: it can't be opened, or it was; then this is so of it as it was
+  -- opened and as the job ends, and this is left of its files.
+  abbrev pub IsOverFile : Option (List ℕ) → Option (List ℕ) → JobEnd → FilesLeft start → (FileDesk start → FileDesk start → Type 0) → Type 0
+  IsOverFile c0 c1 end left P = EndsFor IsOpenCause c0 c1 end left
+      ⊎ ((old : FileDesk start) × (new : FileDesk start) × IsOpenedInFile (image_at start) old × P old new × IsLeftBy start new left)
+
+  -- A desk was made in a file, the line `OK` is written, and this is left of its files.
+  pub record IsMade (first : ℕ) (c0 c1 : Option (List ℕ)) (end : JobEnd) (left : FilesLeft start) : Type 0 where
     pub made : FileDesk start
     pub is_new : IsNewInFile first made
     pub told : GivesText Done (codes "OK\n") c0 c1 end
+    pub left_by : IsLeftBy start made left
 
   -- the number of the first bug is from 1 to 999,999,999
-  abbrev pub IsInit : ℕ → Option (List ℕ) → Option (List ℕ) → JobEnd → Type 0
-  IsInit first c0 c1 end =
-      (¬ ((1 ≤ first) × (first ≤ LARGEST_NUMBER)) × EndsAtOnce BadWords c0 c1 end)
-      ⊎ (EndsFor IsInitCause c0 c1 end ⊎ IsMade first c0 c1 end)
+  abbrev pub IsInit : ℕ → Option (List ℕ) → Option (List ℕ) → JobEnd → FilesLeft start → Type 0
+  IsInit first c0 c1 end left =
+      (¬ ((1 ≤ first) × (first ≤ LARGEST_NUMBER)) × EndsUnopened BadWords c0 c1 end left)
+      ⊎ (EndsFor IsInitCause c0 c1 end left ⊎ IsMade first c0 c1 end left)
 
   -- a sender is a text
-  abbrev pub IsSentToFile : List ℕ → List (List ℕ) → Option (List ℕ) → Option (List ℕ) → JobEnd → Type 0
-  IsSentToFile from lines c0 c1 end =
-      ((¬ IsText from) × EndsAtOnce BadWords c0 c1 end)
-      ⊎ (IsText from × IsOverFile c0 c1 end (λ old new.
+  abbrev pub IsSentToFile : List ℕ → List (List ℕ) → Option (List ℕ) → Option (List ℕ) → JobEnd → FilesLeft start → Type 0
+  IsSentToFile from lines c0 c1 end left =
+      ((¬ IsText from) × EndsUnopened BadWords c0 c1 end left)
+      ⊎ (IsText from × IsOverFile c0 c1 end left (λ old new.
       IsSentOver IsKeptInFile HasHonestFile desk_in_file keeping_in_file faults_in_file from lines c0 c1 old new end))
 
   -- an id is one, and a sender is a text
-  abbrev pub IsSentOnceToFile : List ℕ → List ℕ → List (List ℕ) → Option (List ℕ) → Option (List ℕ) → JobEnd → Type 0
-  IsSentOnceToFile id from lines c0 c1 end =
-      ((¬ (IsText from × IsId id)) × EndsAtOnce BadWords c0 c1 end)
-      ⊎ ((IsText from × IsId id) × (EndsAtOnce (Fault Memory) c0 c1 end ⊎ IsOverFile c0 c1 end (λ old new.
+  abbrev pub IsSentOnceToFile : List ℕ → List ℕ → List (List ℕ) → Option (List ℕ) → Option (List ℕ) → JobEnd → FilesLeft start → Type 0
+  IsSentOnceToFile id from lines c0 c1 end left =
+      ((¬ (IsText from × IsId id)) × EndsUnopened BadWords c0 c1 end left)
+      ⊎ ((IsText from × IsId id) × (EndsUnopened (Fault Memory) c0 c1 end left ⊎ IsOverFile c0 c1 end left (λ old new.
       IsSentOnceOver IsKeptInFile HasHonestFile desk_in_file keeping_in_file faults_in_file id from (message_text lines)
       c0 c1 old new end)))
 
-  -- What a job does, where these bytes are left to read, if they are known.
-  abbrev pub IsJobDone : Job → Option (List ℕ) → Option (List ℕ) → Option (List ℕ) → JobEnd → Type 0
-  IsJobDone (Run None) r0 c0 c1 end = Known r0 (λ input. IsRun input c0 c1 end)
-  IsJobDone (Run (Some store)) r0 c0 c1 end = IsOverFile c0 c1 end (λ old new.
+  -- What a job does, where these bytes are left to read, if they are known, and what it leaves of
+  -- its files.
+  abbrev pub IsJobLeaving : Job → Option (List ℕ) → Option (List ℕ) → Option (List ℕ) → JobEnd → FilesLeft start → Type 0
+  IsJobLeaving (Run None) r0 c0 c1 end left = Known r0 (λ input. IsRun input c0 c1 end) × (left ≡ Nothing)
+  IsJobLeaving (Run (Some store)) r0 c0 c1 end left = IsOverFile c0 c1 end left (λ old new.
       IsRunOver IsKeptInFile HasHonestFile desk_in_file keeping_in_file faults_in_file r0 c0 c1 old new end)
-  IsJobDone (Init store first) r0 c0 c1 end = IsInit first c0 c1 end
-  IsJobDone (Serve None port count) r0 c0 c1 end = IsServer port count c0 c1 end
-  IsJobDone (Serve (Some store) port count) r0 c0 c1 end = IsOverFile c0 c1 end (λ old new.
+  IsJobLeaving (Init store first) r0 c0 c1 end left = IsInit first c0 c1 end left
+  IsJobLeaving (Serve None port count) r0 c0 c1 end left = IsServer port count c0 c1 end × (left ≡ Nothing)
+  IsJobLeaving (Serve (Some store) port count) r0 c0 c1 end left = IsOverFile c0 c1 end left (λ old new.
       IsServerOver IsKeptInFile HasHonestFile desk_in_file keeping_in_file faults_in_file port count c0 c1 old new end)
-  IsJobDone (Send store from None lines) r0 c0 c1 end = IsSentToFile from lines c0 c1 end
-  IsJobDone (Send store from (Some id) lines) r0 c0 c1 end = IsSentOnceToFile id from lines c0 c1 end
+  IsJobLeaving (Send store from None lines) r0 c0 c1 end left = IsSentToFile from lines c0 c1 end left
+  IsJobLeaving (Send store from (Some id) lines) r0 c0 c1 end left = IsSentOnceToFile id from lines c0 c1 end left
+
+  -- what a job does, where something is left of its files that fits
+  abbrev pub IsJobDone : Job → Option (List ℕ) → Option (List ℕ) → Option (List ℕ) → JobEnd → Type 0
+  IsJobDone job r0 c0 c1 end = (left : FilesLeft start) × IsJobLeaving job r0 c0 c1 end left
+
+-- a desk is in the files as a job begins, unless it is the job that makes one
+abbrev pub HasItsDesk : Job → Image → Type 0
+HasItsDesk (Init store first) image = ⊤
+HasItsDesk job image = (c : Content) × HoldDesk image c

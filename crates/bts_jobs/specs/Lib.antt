@@ -1,4 +1,5 @@
 pub mod Endings
 pub mod InFile
+pub mod Left
 pub mod Jobs
 pub mod Program

@@ -18,8 +18,8 @@ AreReadAs words (Ok job) = IsJobOf words job
 AreReadAs words (Err error) = IsErrorOf words error
 
 module _ {S : Type 0} (start : Ghosts S) where
-  -- What is done for words that are read so: their job is, or the help is given; bad words and want
-  -- of memory end at once.
+  -- What is done for words that are read so: their job is, or the help is given; bad words, and
+  -- words for which there is no memory, end at once.
   abbrev pub Does : Result Job WordsError → Option (List ℕ) → Option (List ℕ) → Option (List ℕ) → JobEnd → Type 0
   Does (Ok job) r0 c0 c1 end = IsJobDone start job r0 c0 c1 end
   Does (Err (Help text)) r0 c0 c1 end = GivesText Done text c0 c1 end

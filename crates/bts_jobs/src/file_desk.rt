@@ -9,8 +9,10 @@ ghost use Rattle.sqlite.specs.Start.{FindsIn};
 ghost use Rattle.sqlite.specs.Files.{file_state, IsOpened};
 ghost use Rattle.bts_jobs.specs.Endings.{cause_of_opening};
 ghost use Rattle.bts_jobs.specs.InFile.{IsOpenCause, IsInitCause, IsNewInFile, IsOpenedInFile};
+ghost use Rattle.bts_jobs.specs.Left.{IsLeftBy};
 
 use crate::ending::Cause;
+use crate::left::LeftFiles;
 use bug_record::StoreFault;
 use desk_tables::{OpenFault, TableDesk};
 use sqlite::{Connection, Error, ErrorCode, FileFrom, FileStore, Start};
@@ -181,9 +183,16 @@ pub fn open_desk<S: Start>(rt: &HostRuntime, start: S, path: &str) -> Result<Fil
     }
 }
 
-/// Copies the log into the file, and closes both.
-/// A fault of that is not told, since all that was answered is in the log already: the next
-/// open finds it there.
-pub fn close_desk<S: Start>(desk: FileDesk<S>) {
-    let _ = desk.close().close();
+/// Copies the log into the file, and hands both back, closed once they are dropped.
+/// Over an honest disk they hold the desk then, with the log and without it, and so they do after
+/// any crash.
+/// Where the log can't be copied, what was answered is in the log already, and the next open finds
+/// it there.
+pub fn close_desk<S: Start>(desk: FileDesk<S>) -> LeftFiles<FileFrom<S>>
+    ensures { IsLeftBy S.Start desk result }
+{
+    match desk.close().close_files() {
+        Ok(files) => LeftFiles::Copied(files),
+        Err((error, store)) => LeftFiles::Uncopied(error, store),
+    }
 }

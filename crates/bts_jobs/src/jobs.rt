@@ -3,20 +3,23 @@
 ghost use Rattle.std.specs.Prelude.{◌≡◌};
 ghost use Rattle.bts_jobs.specs.Endings.{status_of};
 ghost use Rattle.bts_jobs.specs.InFile.{wary};
-ghost use Rattle.bts_jobs.specs.Jobs.{IsJobDone};
+ghost use Rattle.bts_jobs.specs.Jobs.{IsJobDone, IsJobLeaving};
 
 use crate::ending::JobEnd;
+use crate::left::LeftFiles;
 use crate::making::make_desk;
 use crate::repeats::send_once_to_file;
 use crate::script::{run_script_in_file, run_script_job};
 use crate::sending::send_to_file;
 use crate::server::{serve_file, serve_job};
 use job_words::Job;
-use sqlite::{Start, Wary};
+use sqlite::{FileFrom, Start, Wary};
+use sqlite_disk::Disk;
 use std::alloc::Global;
 use std::io::{Read, Write};
 
-/// Carries a job out over the input and the output that are handed in, and answers how it ended.
+/// Carries a job out over the input and the output that are handed in, and answers how it ended,
+/// with what is left of the files of its store.
 ///
 /// `start` stands for what the store's files hold as they are opened, which no code can read: what
 /// is promised of a desk in a file is promised for whatever they hold.
@@ -31,8 +34,11 @@ use std::io::{Read, Write};
 /// where the id is known with another sender or text; an id that is none is bad words.
 /// Where a file can't be opened, or no desk can be made in it, nothing is written, and that is a
 /// fault.
-/// At the end the log beside the file is copied into it; a fault of that is not told, since all
-/// that was answered is in the log already.
+/// At the end the log beside the file is copied into it, and the files are handed back: over an
+/// honest disk they hold the desk as the job left it, with the log and without it, also after a
+/// crash.
+/// Where the log can't be copied that is not told by the end, since all that was answered is in the
+/// log already.
 pub fn do_job_from<S: Start, R: Read, W: Write>(
     rt: &HostRuntime,
     alloc: Global,
@@ -40,11 +46,11 @@ pub fn do_job_from<S: Start, R: Read, W: Write>(
     job: &Job,
     reader: &mut R,
     writer: &mut W,
-) -> JobEnd
-    ensures { IsJobDone S.Start job.now (R.remaining reader.old) (W.contents writer.old) (W.contents writer.new) result }
+) -> (JobEnd, LeftFiles<FileFrom<S>>)
+    ensures { IsJobLeaving S.Start job.now (R.remaining reader.old) (W.contents writer.old) (W.contents writer.new) result.0 result.1 }
 {
     match job {
-        Job::Run { store: None } => run_script_job(alloc, reader, writer),
+        Job::Run { store: None } => (run_script_job(alloc, reader, writer), LeftFiles::Nothing),
         Job::Run { store: Some(store) } => {
             run_script_in_file(rt, start, store.as_str(), reader, writer)
         }
@@ -52,7 +58,10 @@ pub fn do_job_from<S: Start, R: Read, W: Write>(
             store: None,
             port,
             count,
-        } => serve_job(rt, alloc, *port, *count, writer),
+        } => (
+            serve_job(rt, alloc, *port, *count, writer),
+            LeftFiles::Nothing,
+        ),
         Job::Serve {
             store: Some(store),
             port,
@@ -89,7 +98,16 @@ pub fn do_job_from<S: Start, R: Read, W: Write>(
     }
 }
 
-/// Carries a job out, as `do_job_from` does for any files.
+/// How a job ended; what is left of its files is closed.
+pub(crate) fn end_alone<D: Disk + Drop>(done: (JobEnd, LeftFiles<D>)) -> JobEnd
+    ensures { result ≡ done.0 }
+{
+    let (end, left) = done;
+    drop(left);
+    end
+}
+
+/// Carries a job out, as `do_job_from` does for any files, and closes these.
 /// `Wary` supposes nothing of a write that a loss of power cuts short.
 /// What a contract says at `Wary` is about new files alone; `do_job_from` has the same clause for
 /// any.
@@ -102,10 +120,26 @@ pub fn do_job<R: Read, W: Write>(
 ) -> JobEnd
     ensures { IsJobDone wary job.now (R.remaining reader.old) (W.contents writer.old) (W.contents writer.new) result }
 {
-    do_job_from(rt, alloc, Wary, job, reader, writer)
+    end_alone(do_job_from(rt, alloc, Wary, job, reader, writer))
 }
 
-/// Carries a job out, as `do_job` does, and answers the exit status.
+/// Carries a job out, as `do_job_from` does, closes what is left of its files, and answers the exit
+/// status.
+pub fn run_job_from<S: Start, R: Read, W: Write>(
+    rt: &HostRuntime,
+    alloc: Global,
+    start: S,
+    job: &Job,
+    reader: &mut R,
+    writer: &mut W,
+) -> u8
+    ensures { (end : JobEnd) × IsJobDone S.Start job.now (R.remaining reader.old) (W.contents writer.old) (W.contents writer.new) end
+        × (result ≡ status_of end) }
+{
+    end_alone(do_job_from(rt, alloc, start, job, reader, writer)).status()
+}
+
+/// Carries a job out, as `run_job_from` does at `Wary`.
 pub fn run_job<R: Read, W: Write>(
     rt: &HostRuntime,
     alloc: Global,
@@ -116,5 +150,5 @@ pub fn run_job<R: Read, W: Write>(
     ensures { (end : JobEnd) × IsJobDone wary job.now (R.remaining reader.old) (W.contents writer.old) (W.contents writer.new) end
         × (result ≡ status_of end) }
 {
-    do_job(rt, alloc, job, reader, writer).status()
+    run_job_from(rt, alloc, Wary, job, reader, writer)
 }

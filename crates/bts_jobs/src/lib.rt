@@ -7,6 +7,7 @@ mod ending;
 mod file_desk;
 mod jobs;
 mod laws;
+mod left;
 mod making;
 mod program;
 mod repeats;
@@ -16,9 +17,12 @@ mod server;
 
 pub use ending::{Cause, Ending, JobEnd};
 pub use file_desk::{FileDesk, close_desk, create_desk, open_desk};
-pub use jobs::{do_job, do_job_from, run_job};
-pub use laws::sent_lines_are_cut_again;
-pub use program::{run_args, run_program, run_words};
+pub use jobs::{do_job, do_job_from, run_job, run_job_from};
+pub use laws::{a_job_leaves_a_desk, sent_lines_are_cut_again, the_next_job_finds_the_desk};
+pub use left::LeftFiles;
+pub use program::{
+    run_args, run_args_from, run_program, run_program_from, run_words, run_words_from,
+};
 pub use repeats::send_once_over;
 pub use script::{run_script_job, run_script_over};
 pub use sending::send_over;

@@ -8,6 +8,7 @@ ghost use Rattle.bts_jobs.specs.Jobs.{with_feeds, message_text, TellsMessage, Is
 
 use crate::ending::{Cause, JobEnd};
 use crate::file_desk::{close_desk, open_desk};
+use crate::left::LeftFiles;
 use crate::making::give_text;
 use crate::sending::tell;
 use bug_record::is_text;
@@ -17,7 +18,7 @@ use desk_messages::Received;
 use desk_repeats::{OnceFault, receive_once};
 use desk_store::Records;
 use message_machine::is_id;
-use sqlite::Start;
+use sqlite::{FileFrom, Start};
 use std::alloc::{AllocError, Global};
 use std::io::Write;
 
@@ -81,6 +82,7 @@ pub fn send_once_over<D: Records, W: Write>(
 
 /// Takes a message from this sender into the desk in a file, as `send_once_over` does; its text is
 /// the lines, with a line feed between two of them.
+/// The second answer is what is left of the files.
 pub(crate) fn send_once_to_file<S: Start, W: Write>(
     rt: &HostRuntime,
     start: S,
@@ -89,21 +91,20 @@ pub(crate) fn send_once_to_file<S: Start, W: Write>(
     from: &str,
     lines: &[Text],
     writer: &mut W,
-) -> JobEnd
-    ensures { IsSentOnceToFile S.Start id.now from.now lines.now (W.contents writer.old) (W.contents writer.new) result }
+) -> (JobEnd, LeftFiles<FileFrom<S>>)
+    ensures { IsSentOnceToFile S.Start id.now from.now lines.now (W.contents writer.old) (W.contents writer.new) result.0 result.1 }
 {
     if !is_text(from) || !is_id(id) {
-        return JobEnd::BadWords;
+        return (JobEnd::BadWords, LeftFiles::Nothing);
     }
     let Ok(message) = message_text(rt.alloc(), lines) else {
-        return JobEnd::Fault(Cause::Memory);
+        return (JobEnd::Fault(Cause::Memory), LeftFiles::Nothing);
     };
     match open_desk(rt, start, path) {
         Ok(mut desk) => {
             let end = send_once_over(rt.alloc(), &mut desk, id, from, message.as_str(), writer);
-            close_desk(desk);
-            end
+            (end, close_desk(desk))
         }
-        Err(cause) => JobEnd::Fault(cause),
+        Err(cause) => (JobEnd::Fault(cause), LeftFiles::Nothing),
     }
 }

@@ -8,9 +8,10 @@ ghost use Rattle.bts_jobs.specs.InFile.{desk_in_file, keeping_in_file, IsKeptInF
 
 use crate::ending::{Cause, JobEnd};
 use crate::file_desk::{close_desk, open_desk};
+use crate::left::LeftFiles;
 use desk_run::{ScriptEnd, ScriptFault, run_script};
 use desk_store::{PlainDesk, Records};
-use sqlite::Start;
+use sqlite::{FileFrom, Start};
 use std::alloc::Global;
 use std::io::{Read, Write};
 use std::mem;
@@ -65,24 +66,24 @@ pub fn run_script_job<R: Read, W: Write>(alloc: Global, reader: &mut R, writer: 
     end
 }
 
-/// Runs a script over the desk in a file, and answers how it ended.
+/// Runs a script over the desk in a file, and answers how it ended, with what is left of its
+/// files.
 pub(crate) fn run_script_in_file<S: Start, R: Read, W: Write>(
     rt: &HostRuntime,
     start: S,
     path: &str,
     reader: &mut R,
     writer: &mut W,
-) -> JobEnd
-    ensures { IsOverFile S.Start (W.contents writer.old) (W.contents writer.new) result
+) -> (JobEnd, LeftFiles<FileFrom<S>>)
+    ensures { IsOverFile S.Start (W.contents writer.old) (W.contents writer.new) result.0 result.1
         (λ old new. IsRunOver IsKeptInFile HasHonestFile desk_in_file keeping_in_file faults_in_file (R.remaining reader.old)
-        (W.contents writer.old) (W.contents writer.new) old new result) }
+        (W.contents writer.old) (W.contents writer.new) old new result.0) }
 {
     match open_desk(rt, start, path) {
         Ok(mut desk) => {
             let end = run_script_over(rt.alloc(), &mut desk, reader, writer);
-            close_desk(desk);
-            end
+            (end, close_desk(desk))
         }
-        Err(cause) => JobEnd::Fault(cause),
+        Err(cause) => (JobEnd::Fault(cause), LeftFiles::Nothing),
     }
 }

@@ -7,13 +7,14 @@ ghost use Rattle.bts_jobs.specs.Jobs.{IsSentOver, IsSentToFile, TellsMessage};
 
 use crate::ending::{Cause, JobEnd};
 use crate::file_desk::{close_desk, open_desk};
+use crate::left::LeftFiles;
 use bug_record::{End, is_text};
 use debver::Text;
 use desk_lines::write_out;
 use desk_messages::{Received, receive_lines, received_bytes};
 use desk_run::refuses;
 use desk_store::Records;
-use sqlite::Start;
+use sqlite::{FileFrom, Start};
 use std::alloc::Global;
 use std::io::Write;
 
@@ -68,7 +69,8 @@ pub fn send_over<D: Records, W: Write>(
     tell(alloc, &received, lines, writer)
 }
 
-/// Takes a message from this sender into the desk in a file, as `send_over` does.
+/// Takes a message from this sender into the desk in a file, as `send_over` does; the second answer
+/// is what is left of the files.
 pub(crate) fn send_to_file<S: Start, W: Write>(
     rt: &HostRuntime,
     start: S,
@@ -76,18 +78,17 @@ pub(crate) fn send_to_file<S: Start, W: Write>(
     from: &str,
     lines: &[Text],
     writer: &mut W,
-) -> JobEnd
-    ensures { IsSentToFile S.Start from.now lines.now (W.contents writer.old) (W.contents writer.new) result }
+) -> (JobEnd, LeftFiles<FileFrom<S>>)
+    ensures { IsSentToFile S.Start from.now lines.now (W.contents writer.old) (W.contents writer.new) result.0 result.1 }
 {
     if !is_text(from) {
-        return JobEnd::BadWords;
+        return (JobEnd::BadWords, LeftFiles::Nothing);
     }
     match open_desk(rt, start, path) {
         Ok(mut desk) => {
             let end = send_over(rt.alloc(), &mut desk, from, lines, writer);
-            close_desk(desk);
-            end
+            (end, close_desk(desk))
         }
-        Err(cause) => JobEnd::Fault(cause),
+        Err(cause) => (JobEnd::Fault(cause), LeftFiles::Nothing),
     }
 }

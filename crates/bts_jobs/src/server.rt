@@ -7,9 +7,10 @@ ghost use Rattle.bts_jobs.specs.InFile.{desk_in_file, keeping_in_file, IsKeptInF
 
 use crate::ending::{Cause, JobEnd};
 use crate::file_desk::{close_desk, open_desk};
+use crate::left::LeftFiles;
 use desk_server::{ServerFault, serve_port};
 use desk_store::{PlainDesk, Records};
-use sqlite::Start;
+use sqlite::{FileFrom, Start};
 use std::alloc::Global;
 use std::io::Write;
 use std::mem;
@@ -63,7 +64,8 @@ pub fn serve_job<W: Write>(
     end
 }
 
-/// Answers HTTP for the desk in a file, as `serve_over` does.
+/// Answers HTTP for the desk in a file, as `serve_over` does; the second answer is what is left of
+/// the files.
 pub(crate) fn serve_file<S: Start, W: Write>(
     rt: &HostRuntime,
     start: S,
@@ -71,17 +73,16 @@ pub(crate) fn serve_file<S: Start, W: Write>(
     port: u16,
     count: u64,
     writer: &mut W,
-) -> JobEnd
-    ensures { IsOverFile S.Start (W.contents writer.old) (W.contents writer.new) result
+) -> (JobEnd, LeftFiles<FileFrom<S>>)
+    ensures { IsOverFile S.Start (W.contents writer.old) (W.contents writer.new) result.0 result.1
         (λ old new. IsServerOver IsKeptInFile HasHonestFile desk_in_file keeping_in_file faults_in_file port count
-        (W.contents writer.old) (W.contents writer.new) old new result) }
+        (W.contents writer.old) (W.contents writer.new) old new result.0) }
 {
     match open_desk(rt, start, path) {
         Ok(mut desk) => {
             let end = serve_over(rt, rt.alloc(), &mut desk, port, count, writer);
-            close_desk(desk);
-            end
+            (end, close_desk(desk))
         }
-        Err(cause) => JobEnd::Fault(cause),
+        Err(cause) => (JobEnd::Fault(cause), LeftFiles::Nothing),
     }
 }

@@ -125,7 +125,7 @@ fn run_beside(rt: &HostRuntime, words: &[&str], run: &Run) -> io::Result<()> {
     match open_desk(rt, Wary, run.open.as_str()) {
         Ok(desk) => {
             let told = run_on(rt, words, run, None);
-            close_desk(desk);
+            drop(close_desk(desk));
             told
         }
         Err(_) => println!(rt; "-- no desk"),

@@ -1,6 +1,8 @@
-use Rattle.std.proofs.Common.{sym, ap, subst}
+use Rattle.std.proofs.Common.{◌≡◌, sym, ap, subst}
+use Rattle.std.proofs.Math.Logic.{∥∥₁_elim}
 use Rattle.sqlite.specs.Files.{file_state}
 use Rattle.sqlite.specs.State.{HasCleanDisk}
+use Rattle.sqlite_trees.specs.Props.{Trees-set}
 use Rattle.desk_content.specs.View.{desk_in, keeping_in}
 use Rattle.desk_tables.specs.Shown.{HoldsContent}
 use Rattle.bts_jobs.specs.InFile.{IsOpenCause}
@@ -14,8 +16,8 @@ returns-in-Ok-clause-opened g c = record {
   found = λ content held honest.
       let clean : HasCleanDisk (file_state c.args.conn) = c.in-Ok.ensures.honest honest in
       let opened = c.requires.opened clean in
-      let holds : HoldsContent content (file_state c.args.conn) = holds_tables (file_state c.args.conn) held.trees content opened.0 opened.1
-      ((c.requires.found clean).holds held.trees held.database) held.tables in (
+      let is : (file_state c.args.conn).committed.trees ≡ held.trees = ∥∥₁_elim held.database (Trees-set _ _) ((c.requires.found clean).holds held.trees) in
+      let holds : HoldsContent content (file_state c.args.conn) = holds_tables (file_state c.args.conn) held.trees content opened.0 opened.1 is held.tables in (
         c.in-Ok.ensures.kept content honest holds held.kept,
         ap desk_in (c.in-Ok.ensures.content content honest holds),
         ap keeping_in (c.in-Ok.ensures.content content honest holds),

@@ -15,4 +15,4 @@ returns-in-Ok-open_desk g c =
     c.args.id.now c.args.from.now m (g.W.Write.contents c.args.writer.now)
     (g.W.Write.contents c.send_once_over-end.new.writer) old new c.send_once_over-end.result)
     (c.as_str.ensures.value ∙ c.in-Ok.ensures) c.send_once_over-end.ensures in
-    inr ((text, id), inr (inr (old, new, c.in-Ok-open_desk.ensures.opened, sent)))
+    inr ((text, id), inr (inr (old, new, c.in-Ok-open_desk.ensures.opened, sent, c.close_desk.ensures)))

@@ -1,6 +1,6 @@
 use Rattle.std.proofs.Common.{Err, rules}
 use Rattle.job_words.specs.declared.job.WordsError.TheVariants.{Memory}
-use Rattle.bts_jobs.proofs.program.run_args.Goals as goal
+use Rattle.bts_jobs.proofs.program.run_args_from.Goals as goal
 
 pub returns-in-Err-clause-done : goal.returns-in-Err-clause-done
 returns-in-Err-clause-done g c = record {
