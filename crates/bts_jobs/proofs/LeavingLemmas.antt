@@ -14,10 +14,10 @@ use Rattle.desk_answers.specs.Stored.{stored}
 use Rattle.desk_content.specs.Content.{Content}
 use Rattle.desk_tables.specs.Files.{HoldDesk, LeaveDesk}
 use Rattle.desk_tables.specs.declared.desk.TableDesk.{TableDesk}
-use Rattle.desk_server.specs.Port.{Serves}
-use Rattle.desk_server.specs.Serving.{IsServing}
-use Rattle.desk_server.specs.declared.port.ServerFault.{ServerFault}
-use Rattle.desk_server.specs.declared.port.ServerFault.TheVariants.{Bind, Write, Store}
+use Rattle.desk_http.specs.Port.{Serves}
+use Rattle.desk_http.specs.Serving.{IsServing}
+use Rattle.desk_http.specs.declared.port.ServerFault.{ServerFault}
+use Rattle.desk_http.specs.declared.port.ServerFault.TheVariants.{Bind, Write, Store}
 use Rattle.job_words.specs.declared.job.Job.{Job}
 use Rattle.job_words.specs.declared.job.Job.TheVariants.{Run, Init, Serve, Send}
 use Rattle.bts_jobs.specs.InFile.{FileDesk, file_disk, host, HasHonestFile, IsOpenedInFile, IsNewInFile, IsOpenCause, IsInitCause, IsKeptInFile, desk_in_file, keeping_in_file, faults_in_file}

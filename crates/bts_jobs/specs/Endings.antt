@@ -6,14 +6,14 @@ use Rattle.bug_record.specs.declared.outcome.StoreFault.{StoreFault}
 use Rattle.bug_record.specs.declared.outcome.StoreFault.TheVariants as stores
 use Rattle.bug_record.specs.declared.outcome.End.{End}
 use Rattle.bug_record.specs.declared.outcome.End.TheVariants as messages
-use Rattle.message_machine.specs.Message.{Entry}
+use Rattle.desk_store.specs.Message.{Entry}
 use Rattle.desk_lines.specs.declared.fault.ScriptFault.{ScriptFault}
 use Rattle.desk_lines.specs.declared.fault.ScriptFault.TheVariants as scripts
 use Rattle.desk_run.specs.Script.{refuses}
 use Rattle.desk_run.specs.declared.script.ScriptEnd.{ScriptEnd}
 use Rattle.desk_run.specs.declared.script.ScriptEnd.TheVariants as ends
-use Rattle.desk_server.specs.declared.port.ServerFault.{ServerFault}
-use Rattle.desk_server.specs.declared.port.ServerFault.TheVariants as servers
+use Rattle.desk_http.specs.declared.port.ServerFault.{ServerFault}
+use Rattle.desk_http.specs.declared.port.ServerFault.TheVariants as servers
 use Rattle.desk_tables.specs.declared.open_fault.OpenFault.{OpenFault}
 use Rattle.desk_tables.specs.declared.open_fault.OpenFault.TheVariants as openings
 use Rattle.bts_jobs.specs.declared.ending.Cause.{Cause}

@@ -18,7 +18,7 @@ use Rattle.bugs_in_memory.specs.Plain.{empty_desk}
 use Rattle.desk_store.specs.Store.{Faults, no_faults}
 use Rattle.desk_content.specs.Content.{Content}
 use Rattle.desk_content.specs.View.{desk_in, keeping_in}
-use Rattle.message_machine.specs.Kept.{Keeping, none_kept}
+use Rattle.desk_store.specs.Kept.{Keeping, none_kept}
 use Rattle.desk_tables.specs.Files.{HoldDesk}
 use Rattle.desk_tables.specs.Kept.{desk_seen, keeping_seen, IsKept}
 use Rattle.desk_tables.specs.declared.desk.TableDesk.{TableDesk}

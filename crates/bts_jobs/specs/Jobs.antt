@@ -13,23 +13,24 @@ use Rattle.bug_record.specs.declared.outcome.End.{End}
 use Rattle.desk_content.specs.Content.{Content}
 use Rattle.desk_tables.specs.Files.{HoldDesk}
 use Rattle.desk_store.specs.Store.{Faults, Holds, no_faults, faults_after_end}
-use Rattle.message_machine.specs.Message.{Entry, IsReceived}
+use Rattle.desk_store.specs.Message.{Entry, IsReceived}
 use Rattle.bugs_in_memory.specs.Plain.{empty_desk}
 use Rattle.desk_lines.specs.Reading.{Known, Left}
 use Rattle.desk_lines.specs.declared.fault.ScriptFault.{ScriptFault}
 use Rattle.desk_lines.specs.declared.fault.ScriptFault.TheVariants.{Read}
-use Rattle.desk_messages.specs.Transcripts.{IsLineOf, received_text}
+use Rattle.desk_messages.specs.Ends.{IsLineOf}
+use Rattle.desk_directives.specs.Transcripts.{received_text}
 use Rattle.desk_run.specs.Script.{begin}
 use Rattle.desk_run.specs.Running.{Ends, IsCounted, IsReadInPart}
 use Rattle.desk_run.specs.declared.script.ScriptEnd.{ScriptEnd}
-use Rattle.desk_server.specs.Port.{Serves, place_line}
-use Rattle.desk_server.specs.declared.port.ServerFault.{ServerFault}
-use Rattle.desk_server.specs.declared.port.ServerFault.TheVariants.{Bind, Write}
+use Rattle.desk_http.specs.Port.{Serves, place_line}
+use Rattle.desk_http.specs.declared.port.ServerFault.{ServerFault}
+use Rattle.desk_http.specs.declared.port.ServerFault.TheVariants.{Bind, Write}
 use Rattle.job_words.specs.declared.job.Job.{Job}
 use Rattle.job_words.specs.declared.job.Job.TheVariants.{Run, Init, Serve, Send}
-use Rattle.desk_server.specs.Serving.{State, IsInTurn, IsServing}
+use Rattle.desk_http.specs.Serving.{State, IsInTurn, IsServing}
 use Rattle.desk_answers.specs.Stored.{stored}
-use Rattle.message_machine.specs.Kept.{Keeping, none_kept}
+use Rattle.desk_store.specs.Kept.{Keeping, none_kept}
 use Rattle.bts_jobs.specs.Endings.{end_of_script, end_of_server, end_of_message}
 use Rattle.desk_lines.specs.Lines.{lines_of, is_feed}
 use Rattle.line_words.specs.Ids.{IsId}

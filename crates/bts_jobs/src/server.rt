@@ -8,8 +8,9 @@ ghost use Rattle.bts_jobs.specs.InFile.{desk_in_file, keeping_in_file, IsKeptInF
 use crate::ending::{Cause, JobEnd};
 use crate::file_desk::{close_desk, open_desk};
 use crate::left::LeftFiles;
-use desk_server::{ServerFault, serve_port};
-use desk_store::{PlainDesk, Records};
+use desk_http::{ServerFault, serve_port};
+use desk_in_memory::PlainDesk;
+use desk_store::Records;
 use sqlite::{FileFrom, Start};
 use std::alloc::Global;
 use std::io::Write;

@@ -335,9 +335,6 @@ command_of-good command_words.ForceMerge arguments clean =
     and_read-good (bug_and_others (words arguments)) (λ both. Ok (commands.ForceMerge both.0 both.1)) _ IsWellFormed
     (bug_and_others-good (words arguments))
     (λ both good. record { bugs = (good.0, good.1.0); parts = tt; spellable = good.1.1 })
-command_of-good command_words.Unmerge arguments clean =
-    and_read-good (bug_alone (words arguments)) (λ bug. Ok (commands.Unmerge bug)) IsGoodBug IsWellFormed
-    (bug_alone-good (words arguments)) (λ bug good. record { bugs = (good, tt); parts = tt; spellable = tt })
 command_of-good command_words.Clone arguments clean =
     and_read-good (bug_and_names (words arguments)) (λ both. Ok (commands.Clone both.0 both.1)) _ IsWellFormed
     (bug_and_names-good (words arguments)) (λ both good. record { bugs = (good.0, tt); parts = tt; spellable = good.1 })
@@ -351,20 +348,11 @@ command_of-good command_words.Unblock arguments clean =
 command_of-good command_words.Forwarded arguments clean =
     and_read-good (bug_and_some_text arguments) (λ both. Ok (commands.Forwarded both.0 both.1)) _ IsWellFormed
     (bug_and_some_text-good arguments clean) (λ both good. record { bugs = (good.0, tt); parts = good.1; spellable = tt })
-command_of-good command_words.NotForwarded arguments clean =
-    and_read-good (bug_alone (words arguments)) (λ bug. Ok (commands.NotForwarded bug)) IsGoodBug IsWellFormed
-    (bug_alone-good (words arguments)) (λ bug good. record { bugs = (good, tt); parts = tt; spellable = tt })
 command_of-good command_words.Owner arguments clean =
     and_read-good (bug_and_some_who arguments) (λ both. Ok (commands.Owner both.0 both.1)) _ IsWellFormed
     (bug_and_some_who-good arguments clean)
     (λ both good. record { bugs = (good.0, tt); parts = good.1.0; spellable = good.1.1 })
-command_of-good command_words.NoOwner arguments clean =
-    and_read-good (bug_alone (words arguments)) (λ bug. Ok (commands.NoOwner bug)) IsGoodBug IsWellFormed
-    (bug_alone-good (words arguments)) (λ bug good. record { bugs = (good, tt); parts = tt; spellable = tt })
-command_of-good command_words.Archive arguments clean =
-    and_read-good (bug_alone (words arguments)) (λ bug. Ok (commands.Archive bug)) IsGoodBug IsWellFormed
-    (bug_alone-good (words arguments)) (λ bug good. record { bugs = (good, tt); parts = tt; spellable = tt })
-command_of-good command_words.Unarchive arguments clean =
-    and_read-good (bug_alone (words arguments)) (λ bug. Ok (commands.Unarchive bug)) IsGoodBug IsWellFormed
-    (bug_alone-good (words arguments)) (λ bug good. record { bugs = (good, tt); parts = tt; spellable = tt })
 command_of-good command_words.Affects arguments clean = affects_command-good arguments
+command_of-good _ arguments clean =
+    and_read-good (bug_alone (words arguments)) _ IsGoodBug IsWellFormed
+    (bug_alone-good (words arguments)) (λ bug good. record { bugs = (good, tt); parts = tt; spellable = tt })

@@ -8,9 +8,9 @@ use Rattle.desk_store.specs.Store.{MayBeKept}
 use Rattle.bug_record.specs.declared.outcome.Outcome.TheVariants.{Stopped}
 use Rattle.line_words.specs.Ids.{is_id}
 use Rattle.line_words.specs.Words.{words_between}
-use Rattle.message_machine.specs.Kept.{Keeping, IsOfMessage, lines_told, outcomes_kept, told}
-use Rattle.message_machine.specs.Message.{end_of}
-use Rattle.message_machine.specs.declared.kept.Kept.{Kept}
+use Rattle.desk_store.specs.Kept.{Keeping, IsOfMessage, lines_told, outcomes_kept, told}
+use Rattle.desk_store.specs.Message.{end_of}
+use Rattle.desk_store.specs.declared.kept.Kept.{Kept}
 
 stop_may_be_first : (kept : Keeping) (d : Desk) → kept (codes "m1") ≡ None
     → MayBeKept (codes "m1") (codes "ann") (codes "stop") kept d Stopped None

@@ -10,21 +10,21 @@ use Rattle.bug_record.specs.declared.outcome.StoreFault.{StoreFault}
 use Rattle.bug_record.specs.declared.outcome.StoreFault.TheVariants.{Memory}
 use Rattle.routes_and_json.specs.Answers.{ok_json}
 use Rattle.desk_store.specs.Store.{Branches}
-use Rattle.desk_questions.specs.Questions.{Told, list_told, AsksForList, IsTold}
-use Rattle.desk_questions.specs.declared.told.Told.{Told as ToldBytes}
-use Rattle.desk_questions.specs.declared.told.QuestionFault.{QuestionFault}
-use Rattle.desk_questions.specs.declared.told.QuestionFault.TheVariants as questions
-use Rattle.desk_questions.specs.Branches.{BranchRefusal, nodes_of, branched_by, or_refused, branch_of}
-use Rattle.desk_questions.proofs.BranchLemmas.{branch_of_none}
-use Rattle.desk_answers.specs.Answer.{Answer, json_answer, page_answer, not_found}
-use Rattle.desk_answers.specs.Requests.{Request, PostBranch, GetList}
+use Rattle.desk_directives.specs.Questions.{Told, list_told, AsksForList, IsTold}
+use Rattle.desk_directives.specs.declared.told.Told.{Told as ToldBytes}
+use Rattle.desk_directives.specs.declared.told.QuestionFault.{QuestionFault}
+use Rattle.desk_directives.specs.declared.told.QuestionFault.TheVariants as questions
+use Rattle.desk_directives.specs.Branches.{BranchRefusal, nodes_of, branched_by, or_refused, branch_of}
+use Rattle.desk_directives.proofs.BranchLemmas.{branch_of_none}
+use Rattle.desk_requests.specs.Answer.{Answer, json_answer, page_answer, not_found}
+use Rattle.desk_requests.specs.Requests.{Request, PostBranch, GetList}
 use Rattle.desk_answers.specs.Answers.{answer_to, answered_branch, answered_question, refused_answer}
 use Rattle.desk_text.specs.Answers.{nodes_refusal}
 use Rattle.desk_answers.specs.Faults.{AsksStore, IsFixed, IsAnswer}
-use Rattle.desk_answers.specs.Shown.{shown}
+use Rattle.desk_requests.specs.Shown.{shown}
 use Rattle.desk_answers.specs.Cases.{GivesOrFails, AnswersQuestion}
-use Rattle.desk_answers.specs.Steps.{Fails, Gives}
-use Rattle.desk_answers.specs.declared.reply.Reply.{Reply}
+use Rattle.desk_requests.specs.Steps.{Fails, Gives}
+use Rattle.desk_requests.specs.declared.reply.Reply.{Reply}
 
 -- an answer and what is left, each equal to another
 pub pair : {D : Type 0} {a b : Answer} {d e : D} → a ≡ b → d ≡ e → ◌≡◌ {A = Answer × D} (a, d) (b, e)

@@ -3,10 +3,10 @@ use Rattle.std.proofs.Common.{◌≡◌, Option, sym, subst}
 use Rattle.desk_store.specs.Store.{Holds}
 use Rattle.desk_store.proofs.HoldsLemmas.{holds_where}
 use Rattle.bug_record.specs.declared.outcome.StoreFault.{StoreFault}
-use Rattle.desk_answers.specs.Answer.{Answer}
+use Rattle.desk_requests.specs.Answer.{Answer}
 use Rattle.desk_answers.specs.Faults.{IsAnswer}
 use Rattle.desk_answers.specs.Repeats.{IsAskedAnswer}
-use Rattle.desk_answers.specs.Requests.{Request, Asked, Always}
+use Rattle.desk_requests.specs.Requests.{Request, Asked, Always}
 use Rattle.desk_answers.specs.Stored.{Stored}
 
 pub always_right : {S : Type 0} {k h : S → Type 0} {a b : S} (asked : Asked) (request : Request) (old new : Stored)

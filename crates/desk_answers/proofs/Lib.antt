@@ -3,4 +3,3 @@ pub mod AskedLemmas
 pub mod MessageLemmas
 pub mod NodesLemmas
 pub mod RepeatLemmas
-pub mod WrittenLemmas

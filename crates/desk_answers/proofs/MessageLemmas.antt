@@ -7,14 +7,14 @@ use Rattle.bug_record.specs.declared.outcome.End.{End}
 use Rattle.bug_record.specs.declared.outcome.End.TheVariants as ends
 use Rattle.desk_lines.specs.Lines.{lines_of}
 use Rattle.routes_and_json.specs.Members.{Control}
-use Rattle.message_machine.specs.Message.{Entry, Machine, Comes, IsReceived, at_start, after_lines}
-use Rattle.desk_answers.specs.Answer.{json_answer}
-use Rattle.desk_answers.specs.Requests.{PostControl}
+use Rattle.desk_store.specs.Message.{Entry, Machine, Comes, IsReceived, at_start, after_lines}
+use Rattle.desk_requests.specs.Answer.{json_answer}
+use Rattle.desk_requests.specs.Requests.{PostControl}
 use Rattle.desk_answers.specs.Answers.{answered_message, message_json}
 use Rattle.desk_answers.specs.Faults.{IsAnswer}
-use Rattle.desk_answers.specs.Shown.{shown}
+use Rattle.desk_requests.specs.Shown.{shown}
 use Rattle.desk_answers.specs.Cases.{GivesOrFails, AnswersEnd}
-use Rattle.desk_answers.specs.declared.reply.Reply.{Reply}
+use Rattle.desk_requests.specs.declared.reply.Reply.{Reply}
 use Rattle.desk_answers.proofs.AnswerLemmas.{given}
 
 -- a message that came to its end

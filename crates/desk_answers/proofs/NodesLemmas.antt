@@ -5,9 +5,9 @@ use Rattle.std.proofs.Common.{drop-cons, drop_of_length-le}
 use Rattle.version_nodes.specs.Nodes.{Node, node_of_text, IsRead}
 use Rattle.version_nodes.specs.declared.fault.NodeFault.{NodeFault}
 use Rattle.version_nodes.specs.declared.fault.NodeFault.TheVariants.{BadNode as WordIsNoNode, Memory as NoMemory}
-use Rattle.desk_questions.specs.Branches.{node_before, nodes_of}
-use Rattle.desk_questions.specs.BranchWords.{AreRead}
-use Rattle.desk_questions.proofs.BranchLemmas.{after_others}
+use Rattle.desk_directives.specs.Branches.{node_before, nodes_of}
+use Rattle.desk_directives.specs.BranchWords.{AreRead}
+use Rattle.desk_directives.proofs.BranchLemmas.{after_others}
 
 -- the nodes from the word i on, after these
 abbrev pub nodes_from : List Node → List (String Global) → ℕ → Option (List Node)

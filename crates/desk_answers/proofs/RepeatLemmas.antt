@@ -13,18 +13,18 @@ use Rattle.desk_repeats.specs.Once.{IsOnce}
 use Rattle.bug_record.specs.declared.outcome.StoreFault.{StoreFault}
 use Rattle.bug_record.specs.declared.outcome.End.{End}
 use Rattle.bug_record.specs.declared.outcome.End.TheVariants as ends
-use Rattle.message_machine.specs.Message.{Entry, Machine}
-use Rattle.message_machine.specs.Kept.{Keeping, outcomes_kept, outcomes_in, told, lines_told, kept_with, IsOfMessage, IsResumed}
-use Rattle.message_machine.specs.Kept.{GoesOn}
-use Rattle.message_machine.specs.declared.kept.Kept.{Kept}
-use Rattle.desk_answers.specs.Answer.{Answer, json_answer}
+use Rattle.desk_store.specs.Message.{Entry, Machine}
+use Rattle.desk_store.specs.Kept.{Keeping, outcomes_kept, outcomes_in, told, lines_told, kept_with, IsOfMessage, IsResumed}
+use Rattle.desk_store.specs.Kept.{GoesOn}
+use Rattle.desk_store.specs.declared.kept.Kept.{Kept}
+use Rattle.desk_requests.specs.Answer.{Answer, json_answer}
 use Rattle.desk_answers.specs.Answers.{message_json}
 use Rattle.desk_answers.specs.Repeats.{id_in_use, is_of_message, answered_resumed, answered_once, IsOnceAnswer}
 use Rattle.desk_answers.specs.Stored.{Stored}
-use Rattle.desk_answers.specs.Shown.{shown}
+use Rattle.desk_requests.specs.Shown.{shown}
 use Rattle.desk_answers.specs.Cases.{GivesOrFails, AnswersEnd}
-use Rattle.desk_answers.specs.Steps.{Fails, Gives}
-use Rattle.desk_answers.specs.declared.reply.Reply.{Reply}
+use Rattle.desk_requests.specs.Steps.{Fails, Gives}
+use Rattle.desk_requests.specs.declared.reply.Reply.{Reply}
 use Rattle.desk_answers.proofs.AnswerLemmas.{pair}
 
 both : {P Q : Type 0} (a b : Bool) → Decides a P → Decides b Q → Decides (a && b) (P × Q)

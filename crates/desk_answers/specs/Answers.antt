@@ -9,14 +9,14 @@ use Rattle.bug_record.specs.declared.outcome.End.{End}
 use Rattle.bug_record.specs.declared.outcome.End.TheVariants as ends
 use Rattle.bug_record.specs.declared.outcome.ReportFault.{ReportFault}
 use Rattle.desk_lines.specs.Lines.{lines_of}
-use Rattle.message_machine.specs.Message.{Entry, Machine, at_start, after_lines, end_of}
-use Rattle.desk_questions.specs.Questions.{Told, page_told, list_told}
-use Rattle.desk_messages.specs.Reports.{report_of}
-use Rattle.desk_messages.specs.Transcripts.{received_text}
-use Rattle.desk_questions.specs.Branches.{BranchRefusal, BadNode, Refused, branch_of}
+use Rattle.desk_store.specs.Message.{Entry, Machine, at_start, after_lines, end_of}
+use Rattle.desk_directives.specs.Questions.{Told, page_told, list_told}
+use Rattle.desk_directives.specs.Reports.{report_of}
+use Rattle.desk_directives.specs.Transcripts.{received_text}
+use Rattle.desk_directives.specs.Branches.{BranchRefusal, BadNode, Refused, branch_of}
 use Rattle.routes_and_json.specs.Answers.{bug_json, error_json, control_json, ok_json}
-use Rattle.desk_answers.specs.Answer.{Answer, json_answer, page_answer, not_found}
-use Rattle.desk_answers.specs.Requests.{Request, PostBug, PostControl, PostBranch, GetBug, GetList}
+use Rattle.desk_requests.specs.Answer.{Answer, json_answer, page_answer, not_found}
+use Rattle.desk_requests.specs.Requests.{Request, PostBug, PostControl, PostBranch, GetBug, GetList}
 
 -- why a branch of words is refused
 abbrev pub branch_refusal : BranchRefusal → List ℕ

@@ -6,16 +6,16 @@ use Rattle.bug_record.specs.declared.outcome.ReportFault.{ReportFault}
 use Rattle.bug_record.specs.declared.outcome.ReportFault.TheVariants as reports
 use Rattle.bug_record.specs.declared.outcome.StoreFault.{StoreFault}
 use Rattle.bug_record.specs.declared.outcome.StoreFault.TheVariants.{Memory}
-use Rattle.message_machine.specs.Message.{Entry}
-use Rattle.desk_questions.specs.declared.told.Told.{Told}
-use Rattle.desk_questions.specs.declared.told.QuestionFault.{QuestionFault}
-use Rattle.desk_questions.specs.declared.told.QuestionFault.TheVariants as questions
-use Rattle.desk_answers.specs.Answer.{Answer, json_answer, page_answer, not_found}
+use Rattle.desk_store.specs.Message.{Entry}
+use Rattle.desk_directives.specs.declared.told.Told.{Told}
+use Rattle.desk_directives.specs.declared.told.QuestionFault.{QuestionFault}
+use Rattle.desk_directives.specs.declared.told.QuestionFault.TheVariants as questions
+use Rattle.desk_requests.specs.Answer.{Answer, json_answer, page_answer, not_found}
 use Rattle.desk_text.specs.Answers.{report_refusal}
 use Rattle.desk_answers.specs.Answers.{refused_answer, message_json}
-use Rattle.desk_answers.specs.Shown.{shown}
-use Rattle.desk_answers.specs.Steps.{Fails, Gives}
-use Rattle.desk_answers.specs.declared.reply.Reply.{Reply}
+use Rattle.desk_requests.specs.Shown.{shown}
+use Rattle.desk_requests.specs.Steps.{Fails, Gives}
+use Rattle.desk_requests.specs.declared.reply.Reply.{Reply}
 
 -- this answer, or there was no memory for it
 abbrev pub GivesOrFails : Answer → Reply → Type 0

@@ -9,11 +9,11 @@ use Rattle.bug_record.specs.declared.outcome.End.TheVariants as ends
 use Rattle.desk_lines.specs.Lines.{lines_of}
 use Rattle.routes_and_json.specs.Members.{Control}
 use Rattle.desk_store.specs.Store.{Faults, counted}
-use Rattle.message_machine.specs.Message.{Entry, IsReceived, at_start, after_lines}
-use Rattle.desk_questions.specs.Questions.{AsksForList}
-use Rattle.desk_questions.specs.Branches.{nodes_of}
-use Rattle.desk_answers.specs.Answer.{Answer, json_answer, store_fault}
-use Rattle.desk_answers.specs.Requests.{Request, PostBug, PostControl, PostBranch, GetBug, GetList}
+use Rattle.desk_store.specs.Message.{Entry, IsReceived, at_start, after_lines}
+use Rattle.desk_directives.specs.Questions.{AsksForList}
+use Rattle.desk_directives.specs.Branches.{nodes_of}
+use Rattle.desk_requests.specs.Answer.{Answer, json_answer, store_fault}
+use Rattle.desk_requests.specs.Requests.{Request, PostBug, PostControl, PostBranch, GetBug, GetList}
 use Rattle.desk_answers.specs.Answers.{answer_to, message_json}
 
 -- The store is asked: of a branch only where all its words are nodes, of a list only where its
@@ -66,13 +66,6 @@ IsFaulted (GetList name version) old fault answer new =
 abbrev pub IsAnswer : Request → Desk → Option StoreFault → Answer → Desk → Type 0
 IsAnswer request old None answer new = answer_to request old ≡ (answer, new)
 IsAnswer request old (Some fault) answer new = IsFaulted request old fault answer new
-
--- Whatever the store is: a 500 comes only where a fault was met; out of memory is told by the
--- fixed answer alone, and any other fault by a 500.
-abbrev pub IsTold : Option StoreFault → Answer → Type 0
-IsTold None answer = answer.status ≢ 500
-IsTold (Some Memory) answer = answer ≡ store_fault
-IsTold (Some fault) answer = answer.status ≡ 500
 
 -- the store's faults, where this fault was met or none
 abbrev pub counted_with : Option StoreFault → Faults → Faults

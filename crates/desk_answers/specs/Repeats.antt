@@ -11,13 +11,13 @@ use Rattle.bug_record.specs.declared.outcome.End.{End}
 use Rattle.bug_record.specs.declared.outcome.End.TheVariants as ends
 use Rattle.bug_record.specs.declared.outcome.StoreFault.{StoreFault}
 use Rattle.bug_record.specs.declared.outcome.StoreFault.TheVariants.{Memory}
-use Rattle.message_machine.specs.Message.{Entry, Machine, machine, after_lines, end_of}
-use Rattle.message_machine.specs.Kept.{outcomes_kept, outcomes_in, told, lines_told, kept_with, IsOfMessage, IsResumed, GoesOn}
-use Rattle.message_machine.specs.declared.kept.Kept.{Kept}
-use Rattle.desk_answers.specs.Answer.{Answer, json_answer, store_fault}
+use Rattle.desk_store.specs.Message.{Entry, Machine, machine, after_lines, end_of}
+use Rattle.desk_store.specs.Kept.{outcomes_kept, outcomes_in, told, lines_told, kept_with, IsOfMessage, IsResumed, GoesOn}
+use Rattle.desk_store.specs.declared.kept.Kept.{Kept}
+use Rattle.desk_requests.specs.Answer.{Answer, json_answer, store_fault}
 use Rattle.desk_answers.specs.Answers.{message_json}
 use Rattle.desk_answers.specs.Faults.{IsAnswer}
-use Rattle.desk_answers.specs.Requests.{Asked, Always, Once}
+use Rattle.desk_requests.specs.Requests.{Asked, Always, Once}
 use Rattle.desk_answers.specs.Stored.{Stored}
 
 -- the id stands for another message already

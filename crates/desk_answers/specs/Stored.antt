@@ -1,6 +1,6 @@
 -- What a store holds: a desk, and beside it what is kept of messages that have an id.
 use Rattle.bug_record.specs.Desk.{Desk}
-use Rattle.message_machine.specs.Kept.{Keeping}
+use Rattle.desk_store.specs.Kept.{Keeping}
 
 pub record Stored : Type 0 where
   pub desk : Desk

@@ -2,19 +2,19 @@
 
 ghost use Rattle.std.specs.Prelude.{◌≡◌};
 ghost use Rattle.desk_store.specs.Store.{Holds};
-ghost use Rattle.desk_answers.specs.Requests.{IsGoodAsked};
-ghost use Rattle.desk_answers.specs.Faults.{IsTold, counted_with};
+ghost use Rattle.desk_requests.specs.Requests.{IsGoodAsked};
+ghost use Rattle.desk_requests.specs.Told.{IsTold};
+ghost use Rattle.desk_answers.specs.Faults.{counted_with};
 ghost use Rattle.desk_answers.specs.Repeats.{IsAskedAnswer};
 ghost use Rattle.desk_answers.specs.Stored.{stored};
-ghost use Rattle.desk_answers.specs.Shown.{shown, asked};
+ghost use Rattle.desk_requests.specs.Shown.{shown, asked};
 
 use crate::branches::answer_branch;
 use crate::lists_and_pages::{answer_list, answer_page};
 use crate::messages::answer_message;
 use crate::once::answer_once;
-use crate::reply::Reply;
 use crate::reports::answer_report;
-use crate::request::Request;
+use desk_requests::{Reply, Request};
 use desk_store::Records;
 use std::alloc::Global;
 

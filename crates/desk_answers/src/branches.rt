@@ -2,19 +2,20 @@
 
 ghost use Rattle.std.specs.Prelude.{◌≡◌, None, Some, IfOk, map, string_bytes};
 ghost use Rattle.desk_store.specs.Store.{Holds};
-ghost use Rattle.desk_questions.specs.Branches.{nodes_of};
-ghost use Rattle.desk_questions.specs.BranchWords.{AreRead};
+ghost use Rattle.desk_directives.specs.Branches.{nodes_of};
+ghost use Rattle.desk_directives.specs.BranchWords.{AreRead};
 ghost use Rattle.routes_and_json.specs.Answers.{ok_json};
-ghost use Rattle.desk_answers.specs.Answer.{json_answer};
-ghost use Rattle.desk_answers.specs.Requests.{PostBranch};
-ghost use Rattle.desk_answers.specs.Faults.{IsAnswer, IsTold, counted_with};
-ghost use Rattle.desk_answers.specs.Shown.{shown};
-ghost use Rattle.desk_answers.specs.Steps.{Gives};
+ghost use Rattle.desk_requests.specs.Answer.{json_answer};
+ghost use Rattle.desk_requests.specs.Requests.{PostBranch};
+ghost use Rattle.desk_requests.specs.Told.{IsTold};
+ghost use Rattle.desk_answers.specs.Faults.{IsAnswer, counted_with};
+ghost use Rattle.desk_requests.specs.Shown.{shown};
+ghost use Rattle.desk_requests.specs.Steps.{Gives};
 
 use crate::refusals::{refuse, refuse_nodes};
-use crate::reply::{Body, Reply, store_fault};
 use ancestry::BranchFault;
 use bug_record::StoreFault;
+use desk_requests::{Body, Reply, store_fault};
 use desk_store::Records;
 use http::StatusCode;
 use routes_and_json::ok_json;

@@ -1,4 +1,4 @@
-//! Requests to a desk and their answers over HTTP, once a request is read, over any store.
+//! Requests to a desk, carried out over any store, and their answers.
 #![tactic(auto)]
 
 mod answering;
@@ -7,12 +7,6 @@ mod lists_and_pages;
 mod messages;
 mod once;
 mod refusals;
-mod reply;
 mod reports;
-mod request;
-mod writing;
 
 pub use answering::answer_request;
-pub use reply::{Body, Reply, not_found, store_fault};
-pub use request::{ListRequest, MessageRequest, OnceRequest, ReportRequest, Request};
-pub use writing::{write_reply, write_three};

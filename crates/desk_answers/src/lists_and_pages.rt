@@ -2,15 +2,15 @@
 
 ghost use Rattle.std.specs.Prelude.{◌≡◌, Ok, Err, string_bytes};
 ghost use Rattle.desk_store.specs.Store.{Holds};
-ghost use Rattle.desk_answers.specs.Requests.{GetBug, GetList};
-ghost use Rattle.desk_answers.specs.Faults.{IsAnswer, IsTold, counted_with};
-ghost use Rattle.desk_answers.specs.Shown.{shown};
+ghost use Rattle.desk_requests.specs.Requests.{GetBug, GetList};
+ghost use Rattle.desk_requests.specs.Told.{IsTold};
+ghost use Rattle.desk_answers.specs.Faults.{IsAnswer, counted_with};
+ghost use Rattle.desk_requests.specs.Shown.{shown};
 ghost use Rattle.desk_answers.specs.Cases.{AnswersQuestion};
 
-use crate::reply::{Reply, not_found, page_reply, store_fault};
-use crate::request::ListRequest;
 use bug_record::StoreFault;
-use desk_questions::{QuestionFault, Told, list_of, page_of};
+use desk_directives::{QuestionFault, Told, list_of, page_of};
+use desk_requests::{ListRequest, Reply, not_found, page_reply, store_fault};
 use desk_store::Records;
 use std::alloc::Global;
 

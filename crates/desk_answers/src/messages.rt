@@ -3,19 +3,20 @@
 ghost use Rattle.std.specs.Prelude.{◌≡◌, None, IfOk, string_bytes};
 ghost use Rattle.bug_record.specs.Texts.{IsText};
 ghost use Rattle.desk_store.specs.Store.{Holds};
-ghost use Rattle.desk_answers.specs.Answer.{json_answer};
+ghost use Rattle.desk_requests.specs.Answer.{json_answer};
 ghost use Rattle.desk_answers.specs.Answers.{end_word, message_json};
-ghost use Rattle.desk_answers.specs.Requests.{PostControl};
-ghost use Rattle.desk_answers.specs.Faults.{IsAnswer, IsTold, counted_with};
-ghost use Rattle.desk_answers.specs.Shown.{shown, message_asked};
+ghost use Rattle.desk_requests.specs.Requests.{PostControl};
+ghost use Rattle.desk_requests.specs.Told.{IsTold};
+ghost use Rattle.desk_answers.specs.Faults.{IsAnswer, counted_with};
+ghost use Rattle.desk_requests.specs.Shown.{shown, message_asked};
 ghost use Rattle.desk_answers.specs.Cases.{GivesOrFails, TellsFault, AnswersEnd};
 
-use crate::reply::{Body, Reply, json_reply, store_fault};
-use crate::request::MessageRequest;
 use bug_record::{End, StoreFault};
 use debver::Text;
+use desk_directives::received_bytes;
 use desk_lines::split_lines;
-use desk_messages::{Received, receive_lines, received_bytes};
+use desk_messages::{Received, receive_lines};
+use desk_requests::{Body, MessageRequest, Reply, json_reply, store_fault};
 use desk_store::Records;
 use http::StatusCode;
 use routes_and_json::control_json;

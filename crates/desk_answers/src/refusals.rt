@@ -2,12 +2,12 @@
 
 ghost use Rattle.desk_text.specs.Answers.{nodes_refusal};
 ghost use Rattle.desk_answers.specs.Answers.{refused_answer};
-ghost use Rattle.desk_answers.specs.Faults.{IsTold};
-ghost use Rattle.desk_answers.specs.Shown.{shown};
+ghost use Rattle.desk_requests.specs.Told.{IsTold};
+ghost use Rattle.desk_requests.specs.Shown.{shown};
 ghost use Rattle.desk_answers.specs.Cases.{GivesOrFails};
 
-use crate::reply::{Reply, json_reply, store_fault};
 use ancestry::BranchFault;
+use desk_requests::{Reply, json_reply, store_fault};
 use desk_text::{StoreFault, nodes_refusal};
 use http::StatusCode;
 use routes_and_json::error_json;

@@ -3,15 +3,15 @@
 ghost use Rattle.std.specs.Prelude.{◌≡◌, None, Some, Ok, Err, IfOk, string_bytes, option_map};
 ghost use Rattle.bug_record.specs.Texts.{IsText};
 ghost use Rattle.desk_store.specs.Store.{Holds};
-ghost use Rattle.desk_answers.specs.Requests.{PostBug};
-ghost use Rattle.desk_answers.specs.Faults.{IsAnswer, IsTold, counted_with};
-ghost use Rattle.desk_answers.specs.Shown.{shown, report_asked};
+ghost use Rattle.desk_requests.specs.Requests.{PostBug};
+ghost use Rattle.desk_requests.specs.Told.{IsTold};
+ghost use Rattle.desk_answers.specs.Faults.{IsAnswer, counted_with};
+ghost use Rattle.desk_requests.specs.Shown.{shown, report_asked};
 ghost use Rattle.desk_answers.specs.Cases.{RefusesReport};
 
 use crate::refusals::refuse;
-use crate::reply::{Reply, json_reply, store_fault};
-use crate::request::ReportRequest;
-use desk_messages::report;
+use desk_directives::report;
+use desk_requests::{Reply, ReportRequest, json_reply, store_fault};
 use desk_store::Records;
 use desk_text::{ReportFault, StoreFault, report_refusal};
 use http::StatusCode;

@@ -3,7 +3,7 @@ use Rattle.std.proofs.Common.{◌≡◌, List, ℕ, Option, Some, None, sym, ap,
 use Rattle.bug_record.specs.Texts.{IfGiven}
 use Rattle.bug_record.specs.declared.command.Change.{Change}
 use Rattle.bug_record.specs.declared.outcome.Outcome.{Outcome}
-use Rattle.message_machine.specs.Kept.{Keeping, kept_also, AreGoodKept}
+use Rattle.desk_store.specs.Kept.{Keeping, kept_also, AreGoodKept}
 use Rattle.desk_content.specs.Changes.{FitsContent}
 use Rattle.desk_content.specs.Content.{Content}
 use Rattle.desk_content.specs.Keeping.{changed_by, kept_after}

@@ -9,8 +9,8 @@ use Rattle.bug_record.specs.Sets.{has, IsAscending, Each}
 use Rattle.bug_record.proofs.SetLemmas.{has-numbers_below}
 use Rattle.bug_record.specs.declared.outcome.Outcome.{Outcome}
 use Rattle.bug_record.specs.declared.outcome.Outcome.TheVariants.{Changed, Refused, Stopped}
-use Rattle.message_machine.specs.Kept.{IsGoodOutcome, IsOfMessage}
-use Rattle.message_machine.specs.declared.kept.Kept.{Kept}
+use Rattle.desk_store.specs.Kept.{IsGoodOutcome, IsOfMessage}
+use Rattle.desk_store.specs.declared.kept.Kept.{Kept}
 use Rattle.desk_content.specs.Content.{Content}
 use Rattle.desk_content.specs.Edits.{put_at, put_of, placed, places_of, edited_all, with_outcome}
 use Rattle.desk_content.specs.Free.{AreFree}

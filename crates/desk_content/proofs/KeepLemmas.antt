@@ -14,8 +14,8 @@ use Rattle.bug_record.specs.declared.command.Change.{Change}
 use Rattle.bug_record.proofs.SetLemmas.{has-numbers_below}
 use Rattle.bug_record.specs.declared.outcome.Outcome.{Outcome}
 use Rattle.bug_record.specs.declared.outcome.Outcome.TheVariants.{Changed, Refused, Stopped}
-use Rattle.message_machine.specs.Kept.{Keeping, outcomes_kept, kept_with, kept_also, AreGoodKept}
-use Rattle.message_machine.specs.declared.kept.Kept.{Kept}
+use Rattle.desk_store.specs.Kept.{Keeping, outcomes_kept, kept_with, kept_also, AreGoodKept}
+use Rattle.desk_store.specs.declared.kept.Kept.{Kept}
 use Rattle.desk_content.specs.Content.{Content}
 use Rattle.desk_content.specs.Changes.{keeps_marks, without_images, with_images, changed}
 use Rattle.desk_content.specs.Edits.{put_at, places_of}

@@ -4,7 +4,7 @@ use Rattle.std.specs.Prelude.{ℕ, List, [], ◌∷◌, ◌++◌, length, Option
 use Rattle.bug_record.specs.Texts.{IfGiven}
 use Rattle.bug_record.specs.declared.command.Change.{Change}
 use Rattle.bug_record.specs.declared.outcome.Outcome.{Outcome}
-use Rattle.message_machine.specs.Kept.{IsGoodOutcome, IsOfMessage}
+use Rattle.desk_store.specs.Kept.{IsGoodOutcome, IsOfMessage}
 use Rattle.desk_content.specs.Changes.{changed, FitsContent}
 use Rattle.desk_content.specs.Content.{Content}
 use Rattle.desk_content.specs.Edits.{put_at, put_of}

@@ -7,7 +7,7 @@ use Rattle.bug_record.specs.Changed.{numbers_below}
 use Rattle.bugs_in_memory.specs.Keys.{IsKeyed}
 use Rattle.bug_record.specs.declared.outcome.Outcome.{Outcome}
 use Rattle.bug_record.specs.declared.outcome.Outcome.TheVariants.{Changed, Refused, Stopped}
-use Rattle.message_machine.specs.Kept.{AreGoodKept}
+use Rattle.desk_store.specs.Kept.{AreGoodKept}
 use Rattle.nearest_marks.specs.Nearest.{nearest_of}
 use Rattle.desk_content.specs.Content.{Content}
 use Rattle.desk_content.specs.Edits.{places_of}

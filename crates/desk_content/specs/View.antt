@@ -7,7 +7,7 @@ use Rattle.bug_record.specs.declared.bug.Shared.{Shared}
 use Rattle.bug_record.specs.declared.bug.SetImage.{SetImage}
 use Rattle.bugs_in_memory.specs.Keys.{keyed_desk}
 use Rattle.bug_record.specs.declared.outcome.Outcome.{Outcome}
-use Rattle.message_machine.specs.Kept.{Keeping}
+use Rattle.desk_store.specs.Kept.{Keeping}
 use Rattle.desk_content.specs.Content.{Content}
 use Rattle.desk_content.specs.Outcomes.{numbered}
 use Rattle.desk_content.specs.declared.edit.SetFields.{SetFields}

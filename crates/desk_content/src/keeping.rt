@@ -1,7 +1,7 @@
 //! What is put for an outcome that is kept.
 
 ghost use Rattle.std.specs.Prelude.{◌≡◌, ◌++◌, length, OnOk, IfOk};
-ghost use Rattle.message_machine.specs.Kept.{IsOfMessage, IsGoodOutcome};
+ghost use Rattle.desk_store.specs.Kept.{IsOfMessage, IsGoodOutcome};
 ghost use Rattle.desk_content.specs.Content.{Content};
 ghost use Rattle.desk_content.specs.Edits.{edited_all};
 ghost use Rattle.desk_content.specs.Free.{AreFree};
@@ -14,7 +14,7 @@ ghost use Rattle.desk_content.specs.View.{keeping_in};
 use crate::edit::Edit;
 use bug_record::{Outcome, Sequence};
 use debver::Text;
-use message_machine::copy_outcome;
+use desk_store::copy_outcome;
 use std::alloc::{AllocError, Global};
 
 // The numbers come.

@@ -24,7 +24,7 @@ ghost use Rattle.desk_content.specs.View.{desk_in, keeping_in};
 ghost use Rattle.desk_content.specs.Keeping.{with_kept};
 ghost use Rattle.desk_content.specs.Outcomes.{bare, outcome_kind, outcome_number, outcome_field, outcome_node, outcome_in};
 ghost use Rattle.bug_record.specs.declared.outcome.Outcome.{Outcome};
-ghost use Rattle.message_machine.specs.Kept.{none_kept, kept_also, AreGoodKept};
+ghost use Rattle.desk_store.specs.Kept.{none_kept, kept_also, AreGoodKept};
 ghost use Rattle.desk_content.specs.Kept.{IsKeptContent};
 ghost use Rattle.desk_content.specs.Branches.{with_nodes};
 ghost use Rattle.desk_content.specs.KindsAtNodes.{bug_passes, kind_of};

@@ -11,7 +11,7 @@ use Rattle.sqlite_trees.specs.Tree.{Trees}
 use Rattle.sqlite_wal.specs.Files.{outcomes}
 use Rattle.sqlite_wal.specs.Reads.{AreClean}
 use Rattle.bug_record.specs.Desk.{Desk}
-use Rattle.message_machine.specs.Kept.{Keeping}
+use Rattle.desk_store.specs.Kept.{Keeping}
 use Rattle.desk_content.specs.Content.{Content}
 use Rattle.desk_content.specs.View.{desk_in, keeping_in}
 use Rattle.desk_tables.specs.Files.{HoldDesk, LeaveDesk}

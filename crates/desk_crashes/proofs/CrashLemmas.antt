@@ -14,7 +14,7 @@ use Rattle.bug_record.specs.Images.{put}
 use Rattle.bug_record.specs.Texts.{IsText, IfGiven}
 use Rattle.bug_record.specs.declared.command.Change.{Change}
 use Rattle.bug_record.specs.declared.outcome.Outcome.{Outcome}
-use Rattle.message_machine.specs.Kept.{Keeping, kept_also}
+use Rattle.desk_store.specs.Kept.{Keeping, kept_also}
 use Rattle.desk_content.specs.Branches.{with_nodes}
 use Rattle.desk_content.specs.Changes.{FitsContent, changed}
 use Rattle.desk_content.specs.Content.{Content}
@@ -25,7 +25,7 @@ use Rattle.desk_content.proofs.ChangeLemmas.{change_desk, change_kept}
 use Rattle.desk_content.proofs.KeepLemmas.{change_keeping}
 use Rattle.desk_content.proofs.QuestionLemmas.{branch_kept}
 use Rattle.bug_record.specs.declared.outcome.StoreFault.{StoreFault}
-use Rattle.desk_repeats.proofs.OneLemmas.{took_one}
+use Rattle.desk_run.proofs.OneLemmas.{took_one}
 use Rattle.desk_store.specs.Store.{Holds, Applies, Branches, Keeps, MayBeKept, with_change}
 use Rattle.desk_store.proofs.HoldsLemmas.{holds_none}
 use Rattle.desk_store.proofs.KeepLemmas.{kept_also-good}

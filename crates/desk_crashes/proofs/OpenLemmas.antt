@@ -8,7 +8,7 @@ use Rattle.sqlite_trees.specs.Tree.{Trees}
 use Rattle.sqlite_trees.specs.View.{IsClean}
 use Rattle.sqlite_trees.specs.declared.store.Store as store
 use Rattle.bug_record.specs.Desk.{Desk}
-use Rattle.message_machine.specs.Kept.{Keeping}
+use Rattle.desk_store.specs.Kept.{Keeping}
 use Rattle.desk_content.specs.Content.{Content}
 use Rattle.desk_migrations.specs.declared.history.TheConstants.{NEWEST}
 use Rattle.desk_content.specs.Kept.{IsKeptContent}

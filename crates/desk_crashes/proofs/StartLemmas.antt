@@ -8,7 +8,7 @@ use Rattle.sqlite_trees.specs.declared.store.Store as store
 use Rattle.line_words.specs.declared.named.TheConstants.{LARGEST_NUMBER}
 use Rattle.bug_record.specs.Desk.{Desk}
 use Rattle.bugs_in_memory.specs.Plain.{empty_desk}
-use Rattle.message_machine.specs.Kept.{Keeping, none_kept}
+use Rattle.desk_store.specs.Kept.{Keeping, none_kept}
 use Rattle.desk_content.specs.Content.{Content, no_content}
 use Rattle.desk_content.proofs.NewLemmas.{new_kept}
 use Rattle.desk_tables.specs.Kept.{desk_seen, keeping_seen}

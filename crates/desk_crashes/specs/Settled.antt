@@ -14,8 +14,8 @@ use Rattle.desk_content.specs.View.{desk_in, keeping_in}
 use Rattle.desk_tables.specs.Kept.{content_seen, desk_seen, keeping_seen, IsKept}
 use Rattle.desk_tables.specs.Shown.{AreTablesOf, AreTablesUnder, HoldTables}
 use Rattle.bug_record.specs.declared.outcome.Outcome.{Outcome}
-use Rattle.message_machine.specs.Kept.{Keeping}
-use Rattle.desk_repeats.specs.Calls.{TookOne}
+use Rattle.desk_store.specs.Kept.{Keeping}
+use Rattle.desk_run.specs.Calls.{TookOne}
 use Rattle.desk_tables.specs.declared.desk.TableDesk.{TableDesk}
 
 -- these trees are a desk with this content, under one of the schemas from k on

@@ -9,7 +9,7 @@ ghost use Rattle.bug_record.specs.Sets.{Each};
 ghost use Rattle.bug_record.specs.Images.{AreApart, HasMember, FitsDesk, put};
 ghost use Rattle.bug_record.specs.Texts.{IsText, IfGiven};
 ghost use Rattle.line_words.specs.Ids.{IsId};
-ghost use Rattle.message_machine.specs.Kept.{Keeping, kept_also};
+ghost use Rattle.desk_store.specs.Kept.{Keeping, kept_also};
 ghost use Rattle.desk_store.specs.Store.{Since, MayBeKept, with_change};
 ghost use Rattle.desk_tables.specs.Kept.{desk_seen, MayKeep};
 ghost use Rattle.desk_crashes.specs.Settled.{HasHonestDisk, HasKeptTables, IsSettled, IsOpenedOver, HasTakenBranch, HasTakenLine};
@@ -98,7 +98,7 @@ pub fn branch_and_crash<S: Alter + Reopen + Drop>(
 /// Where the desk was settled, and the outcome and the change may be kept there, what is opened has
 /// neither of them or both, and is settled; where the call was answered as done, it has both.
 /// Where it has both, it is the desk after a call that took this one line of the message, of which
-/// the law `desk_repeats::each_line_acts_once` says that no later call takes it again.
+/// the law `desk_run::each_line_acts_once` says that no later call takes it again.
 /// It asks what `Records::keep` asks.
 /// The second answer is `None` where nothing is opened: out of memory, or by a fault of the
 /// store.

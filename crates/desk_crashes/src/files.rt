@@ -7,7 +7,7 @@ ghost use Rattle.sqlite_trees.specs.Tree.{Trees};
 ghost use Rattle.sqlite_wal.specs.Files.{outcomes};
 ghost use Rattle.sqlite_wal.specs.Reads.{AreClean};
 ghost use Rattle.bug_record.specs.Desk.{Desk};
-ghost use Rattle.message_machine.specs.Kept.{Keeping};
+ghost use Rattle.desk_store.specs.Kept.{Keeping};
 ghost use Rattle.desk_content.specs.Content.{Content};
 ghost use Rattle.desk_content.specs.View.{desk_in, keeping_in};
 ghost use Rattle.desk_tables.specs.Files.{HoldDesk, LeaveDesk};

@@ -8,7 +8,7 @@ ghost use Rattle.sqlite_trees.specs.Tree.{Trees};
 ghost use Rattle.sqlite_trees.specs.View.{IsClean};
 ghost use Rattle.line_words.specs.declared.named.TheConstants.{LARGEST_NUMBER};
 ghost use Rattle.bugs_in_memory.specs.Plain.{empty_desk};
-ghost use Rattle.message_machine.specs.Kept.{none_kept};
+ghost use Rattle.desk_store.specs.Kept.{none_kept};
 ghost use Rattle.desk_content.specs.Content.{Content};
 ghost use Rattle.desk_content.specs.Kept.{IsKeptContent};
 ghost use Rattle.desk_tables.specs.Shown.{AreTablesOf, AreTablesUnder, HoldTables};

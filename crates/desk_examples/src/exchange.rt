@@ -2,7 +2,7 @@
 
 use crate::answers::shown;
 use desk_http::{ServeFault, Served, serve_one};
-use desk_store::PlainDesk;
+use desk_in_memory::PlainDesk;
 use std::alloc::{AllocError, Global};
 use std::io::{self, Read};
 

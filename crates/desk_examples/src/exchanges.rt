@@ -4,7 +4,7 @@
 use crate::exchange::{Trickle, served};
 use crate::exchange_lines::{Line, read_line};
 use crate::requests::request_of;
-use desk_store::PlainDesk;
+use desk_in_memory::PlainDesk;
 use line_words::LARGEST_NUMBER;
 use std::alloc::Global;
 use std::io;

@@ -2,8 +2,9 @@
 //! ended.
 
 use crate::header::{Header, read_header};
+use desk_in_memory::PlainDesk;
 use desk_run::{ScriptEnd, ScriptFault, run_script};
-use desk_store::{PlainDesk, Records};
+use desk_store::Records;
 use line_words::LARGEST_NUMBER;
 use sqlite::{Alter, Connection};
 use sqlite_pager::Options;

@@ -8,19 +8,19 @@ use Rattle.httparse.specs.declared.spans.HeaderSpan.{HeaderSpan}
 use Rattle.httparse.specs.declared.spans.RequestSpans.{RequestSpans}
 use Rattle.bug_record.specs.declared.outcome.StoreFault.{StoreFault}
 use Rattle.bug_record.specs.declared.outcome.StoreFault.TheVariants.{Memory}
-use Rattle.request_reading.specs.Head.{BeginsWithHead, HasNoHead}
-use Rattle.request_reading.specs.Found.{HadBytes, IsWrong, IsComplete}
-use Rattle.request_reading.proofs.HeadLemmas.{begins-more}
-use Rattle.request_reading.proofs.HadLemmas.{had_any, had_then, had_before}
-use Rattle.desk_answers.specs.Answer.{Answer, answer_bytes}
-use Rattle.desk_answers.specs.Requests.{Asked, Always, Once, PostBug, PostControl, PostBranch, GetBug, GetList}
+use Rattle.connection_bytes.specs.Head.{BeginsWithHead, HasNoHead}
+use Rattle.connection_bytes.specs.Found.{HadBytes, IsWrong, IsComplete}
+use Rattle.connection_bytes.proofs.HeadLemmas.{begins-more}
+use Rattle.connection_bytes.proofs.HadLemmas.{had_any, had_then, had_before}
+use Rattle.desk_requests.specs.Answer.{Answer, answer_bytes}
+use Rattle.desk_requests.specs.Requests.{Asked, Always, Once, PostBug, PostControl, PostBranch, GetBug, GetList}
 use Rattle.desk_answers.specs.Stored.{Stored}
 use Rattle.desk_answers.specs.Repeats.{IsAskedAnswer}
-use Rattle.desk_answers.specs.Shown.{shown}
-use Rattle.desk_answers.specs.Steps.{Fails, Gives}
-use Rattle.desk_answers.specs.declared.reply.Reply.{Reply}
+use Rattle.desk_requests.specs.Shown.{shown}
+use Rattle.desk_requests.specs.Steps.{Fails, Gives}
+use Rattle.desk_requests.specs.declared.reply.Reply.{Reply}
 use Rattle.desk_answers.proofs.AnswerLemmas.{wants_memory}
-use Rattle.desk_http.specs.Requests.{asked_of, bad_request}
+use Rattle.desk_requests.specs.Asking.{asked_of, bad_request}
 use Rattle.desk_store.specs.Store.{Faults}
 use Rattle.desk_http.specs.Exchange.{IsReplyTo, Answers, IsRight, IsServed}
 use Rattle.desk_http.specs.Steps.{IsGiven}

@@ -1,3 +1,3 @@
-pub mod RequestLemmas
 pub mod ExchangeLemmas
-pub mod TakenLemmas
+pub mod ServingLemmas
+mod CountLemmas

@@ -5,15 +5,16 @@ use Rattle.std.specs.Io.KnownBytes.{Appends}
 use Rattle.httparse.specs.Grammar.{RequestHead}
 use Rattle.bug_record.specs.declared.outcome.StoreFault.{StoreFault}
 use Rattle.bug_record.specs.declared.outcome.StoreFault.TheVariants.{Memory}
-use Rattle.request_reading.specs.Head.{BeginsWithHead, HasNoHead}
-use Rattle.request_reading.specs.Found.{HadBytes}
+use Rattle.connection_bytes.specs.Head.{BeginsWithHead, HasNoHead}
+use Rattle.connection_bytes.specs.Found.{HadBytes}
 use Rattle.desk_store.specs.Store.{Faults}
-use Rattle.desk_answers.specs.Answer.{Answer, answer_bytes, store_fault}
-use Rattle.desk_answers.specs.Requests.{Asked}
-use Rattle.desk_answers.specs.Faults.{IsTold, counted_with}
+use Rattle.desk_requests.specs.Answer.{Answer, answer_bytes, store_fault}
+use Rattle.desk_requests.specs.Requests.{Asked}
+use Rattle.desk_requests.specs.Told.{IsTold}
+use Rattle.desk_answers.specs.Faults.{counted_with}
 use Rattle.desk_answers.specs.Repeats.{IsAskedAnswer}
 use Rattle.desk_answers.specs.Stored.{Stored}
-use Rattle.desk_http.specs.Requests.{asked_of, bad_request}
+use Rattle.desk_requests.specs.Asking.{asked_of, bad_request}
 use Rattle.desk_http.specs.declared.serve.Served.{Served}
 use Rattle.desk_http.specs.declared.serve.Served.TheVariants.{Answered, Closed}
 use Rattle.desk_http.specs.declared.serve.ServeFault.{ServeFault}

@@ -1,6 +1,4 @@
-pub mod Requests
 pub mod Exchange
-pub mod Taken
 pub mod Steps
--- definitions that only private functions cite
-pub mod Shown
+pub mod Serving
+pub mod Port

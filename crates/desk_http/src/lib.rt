@@ -1,14 +1,16 @@
-//! One HTTP exchange with a desk, over any store, reader and writer.
+//! The desk over HTTP, over any store: one exchange with any reader and writer, and a port of this
+//! machine, with connections one after another, each with its limits.
 #![tactic(auto)]
 
-mod asking;
-mod bodies;
+mod connection;
+mod connections;
 mod laws;
-mod paths;
-mod refusal;
+mod port;
 mod serve;
 
-pub use laws::{
-    an_input_has_one_request, nothing_is_taken_after_a_request, what_was_served_has_an_input,
-};
+pub use connection::serve_within;
+pub use connection_bytes::Limits;
+pub use connections::serve_connections;
+pub use laws::what_was_served_has_an_input;
+pub use port::{ServerFault, serve_port};
 pub use serve::{ServeFault, Served, exchange, serve_one};

@@ -2,27 +2,27 @@
 
 ghost use Rattle.std.specs.Prelude.{◌≡◌, ◌≢◌, [], None, Ok, Err, IfOk, IfErr, IfSome};
 ghost use Rattle.std.specs.Io.KnownBytes.{Appends};
-ghost use Rattle.request_reading.specs.Head.{HasNoHead};
+ghost use Rattle.connection_bytes.specs.Head.{HasNoHead};
 ghost use Rattle.desk_store.specs.Store.{Holds};
-ghost use Rattle.desk_answers.specs.Answer.{answer_bytes};
-ghost use Rattle.desk_answers.specs.Faults.{IsTold, counted_with};
-ghost use Rattle.desk_answers.specs.Requests.{IsGoodAsked};
-ghost use Rattle.desk_answers.specs.Shown.{asked, shown};
+ghost use Rattle.desk_requests.specs.Answer.{answer_bytes};
+ghost use Rattle.desk_requests.specs.Told.{IsTold};
+ghost use Rattle.desk_answers.specs.Faults.{counted_with};
+ghost use Rattle.desk_requests.specs.Requests.{IsGoodAsked};
+ghost use Rattle.desk_requests.specs.Shown.{asked, shown};
 ghost use Rattle.desk_answers.specs.Stored.{stored};
-ghost use Rattle.desk_http.specs.Requests.{bad_request};
+ghost use Rattle.desk_requests.specs.Asking.{bad_request};
 ghost use Rattle.desk_http.specs.Exchange.{IsReplyTo, IsServed, IsCounted, TellsFault};
 ghost use Rattle.desk_http.specs.Steps.{IsExchanged, IsExchangeCounted, IsGiven};
-ghost use Rattle.desk_http.specs.Shown.{asks};
-ghost use Rattle.desk_http.specs.Taken.{TakesRequest};
+ghost use Rattle.desk_requests.specs.Refused.{asks};
+ghost use Rattle.desk_requests.specs.Taken.{TakesRequest};
 
-use crate::asking::ask;
-use crate::refusal::{Refusal, refuse};
 use bug_record::StoreFault;
-use desk_answers::{Reply, Request, answer_request, store_fault, write_reply};
+use connection_bytes::{Head, MAX_HEAD, MAX_HEADERS, ReadFault, read_head};
+use desk_answers::answer_request;
+use desk_requests::{Refusal, Reply, Request, ask, refuse, store_fault, write_reply};
 use desk_store::Records;
 use http::StatusCode;
 use httparse::spans::{EMPTY_HEADER_SPAN, HeaderSpan};
-use request_reading::{Head, MAX_HEAD, MAX_HEADERS, ReadFault, read_head};
 use std::alloc::Global;
 use std::io::{Read, Write};
 

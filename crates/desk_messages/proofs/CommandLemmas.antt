@@ -21,7 +21,7 @@ use Rattle.bug_record.specs.declared.command.Command.{Command}
 use Rattle.bug_record.specs.declared.command.Refusal.{Refusal}
 use Rattle.line_words.specs.declared.named.Named.{Named}
 use Rattle.bug_record.specs.declared.outcome.Outcome.TheVariants.{Changed, Refused}
-use Rattle.message_machine.specs.Message.{outcome_of, does}
+use Rattle.desk_store.specs.Message.{outcome_of, does}
 use Rattle.message_names.specs.Telling.{refusal_meant, result_meant, step_among}
 use Rattle.bug_record.specs.declared.outcome.StoreFault.{StoreFault}
 use Rattle.desk_store.specs.Store.{Answers, with_change}

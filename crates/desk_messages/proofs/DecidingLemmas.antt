@@ -19,8 +19,8 @@ use Rattle.bug_record.specs.declared.outcome.Outcome.{Outcome}
 use Rattle.bug_record.specs.declared.outcome.Outcome.TheVariants.{Refused, Stopped}
 use Rattle.bug_record.specs.declared.outcome.StoreFault.{StoreFault}
 use Rattle.desk_store.specs.Store.{Answers}
-use Rattle.message_machine.specs.Kept.{IsGoodOutcome}
-use Rattle.message_machine.specs.Message.{Entry, machine, takes, does, with_outcome, names_given, names_of, known_names, unreadable_count, end_of}
+use Rattle.desk_store.specs.Kept.{IsGoodOutcome}
+use Rattle.desk_store.specs.Message.{Entry, machine, takes, does, with_outcome, names_given, names_of, known_names, unreadable_count, end_of}
 use Rattle.desk_messages.specs.Commands.{HaveNumbers, Decides}
 use Rattle.desk_messages.specs.Taking.{IsInStep, IsReady, IsDecision, DecidesLine, FitsDecided, plainly}
 use Rattle.desk_messages.specs.declared.command_decision.Decision.{Decision}

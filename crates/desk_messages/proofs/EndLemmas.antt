@@ -6,7 +6,7 @@ use Rattle.std.proofs.lemmas.List.Sums.{sum_by-append}
 use Rattle.std.proofs.lemmas.Bool.Decides.{nat_tests}
 use Rattle.bug_record.specs.declared.outcome.StoreFault.{StoreFault}
 use Rattle.bug_record.specs.declared.outcome.End.TheVariants.{All, Stopped, TooManyUnreadable, Store}
-use Rattle.message_machine.specs.Message.{Entry, is_stop, is_unreadable, unreadable_count, end_of}
+use Rattle.desk_store.specs.Message.{Entry, is_stop, is_unreadable, unreadable_count, end_of}
 
 any-push : (p : Entry → Bool) (es : List Entry) (e : Entry) → list_any p (es ++ e ∷ []) ≡ (list_any p es || p e)
 any-push p [] e = elim (p e) as (λ t. (t || false) ≡ t) [ true ↦ refl | false ↦ refl ]

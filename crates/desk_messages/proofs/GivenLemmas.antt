@@ -14,8 +14,8 @@ use Rattle.command_grammar.specs.declared.line.Line.{Line}
 use Rattle.command_grammar.specs.declared.line.Line.TheVariants.{Blank, Comment, Stop, Do}
 use Rattle.bug_record.specs.declared.outcome.Outcome.{Outcome}
 use Rattle.bug_record.specs.declared.outcome.Outcome.TheVariants.{Changed, Refused, Stopped}
-use Rattle.message_machine.specs.Kept.{IsGoodOutcome}
-use Rattle.message_machine.specs.Message.{Entry, names_with, names_given, known_names, names_of}
+use Rattle.desk_store.specs.Kept.{IsGoodOutcome}
+use Rattle.desk_store.specs.Message.{Entry, names_with, names_given, known_names, names_of}
 use Rattle.message_names.specs.Known.{AreOfBugs}
 use Rattle.desk_messages.specs.Commands.{HaveNumbers}
 

@@ -7,4 +7,3 @@ pub mod PlanInputLemmas
 pub mod EndLemmas
 pub mod DecidingLemmas
 pub mod MachineLemmas
-pub mod ReportLemmas

@@ -8,12 +8,12 @@ use Rattle.command_grammar.specs.Lines.{reading}
 use Rattle.bug_record.specs.declared.outcome.End.{End}
 use Rattle.bug_record.specs.declared.outcome.End.TheVariants as ends
 use Rattle.desk_store.specs.Store.{Faults, faults_after_end, with_change}
-use Rattle.message_machine.specs.Message.{Entry, Machine, machine, after_lines, at_start, takes, takes_at, end_of}
-use Rattle.message_machine.specs.Message.{Comes, IsReceived}
+use Rattle.desk_store.specs.Message.{Entry, Machine, machine, after_lines, at_start, takes, takes_at, end_of}
+use Rattle.desk_store.specs.Message.{Comes, IsReceived}
 use Rattle.desk_messages.specs.Commands.{HaveNumbers}
 use Rattle.desk_messages.specs.Taking.{goes_on, IsDecision}
 use Rattle.desk_messages.specs.declared.command_decision.Decision.{Decision}
-use Rattle.desk_messages.specs.Transcripts.{IsLineOf}
+use Rattle.desk_messages.specs.Ends.{IsLineOf}
 use Rattle.desk_messages.proofs.EndLemmas.{never_store, at_start_open}
 
 -- a decision carried out

@@ -40,9 +40,9 @@ use Rattle.line_words.specs.declared.named.Named.{Named}
 use Rattle.line_words.specs.declared.named.Named.TheVariants.{Number, Name}
 use Rattle.command_grammar.specs.Lines.{IsRefusalOfLine}
 use Rattle.bug_record.specs.declared.outcome.Outcome.{Outcome}
-use Rattle.message_machine.specs.Message.{outcome_of, does}
+use Rattle.desk_store.specs.Message.{outcome_of, does}
 use Rattle.message_names.proofs.OverLemmas.{bug-over, others-over, names-over}
-use Rattle.message_machine.specs.Kept.{IsGoodRefusal, IsGoodOutcome}
+use Rattle.desk_store.specs.Kept.{IsGoodRefusal, IsGoodOutcome}
 use Rattle.desk_messages.specs.Commands.{HaveNumbers}
 
 -- ---- lists
@@ -177,38 +177,7 @@ carried-good names head_of d sender (commands.ForceMerge n ns) g o k h = joined-
 carried-good names head_of d sender (commands.Unmerge n) g o k h =
     at-good (d.bug n) n _ g (λ b. taken-good d n (others_merged n b.merged) g)
 carried-good names head_of d sender (commands.Clone n ks) g o k h = cloned-good names d n ks g k
-carried-good names head_of d sender (commands.Block n ns) g o k h = records-good head_of sender (commands.Block n ns) d g o h
-carried-good names head_of d sender (commands.Unblock n ns) g o k h = records-good head_of sender (commands.Unblock n ns) d g o h
-carried-good names head_of d sender (commands.Archive n) g o k h = records-good head_of sender (commands.Archive n) d g o h
-carried-good names head_of d sender (commands.Unarchive n) g o k h = records-good head_of sender (commands.Unarchive n) d g o h
-carried-good names head_of d sender (commands.Found n version) g o k h =
-    records-good head_of sender (commands.Found n version) d g o h
-carried-good names head_of d sender (commands.NotFound n version) g o k h =
-    records-good head_of sender (commands.NotFound n version) d g o h
-carried-good names head_of d sender (commands.Fixed n version) g o k h =
-    records-good head_of sender (commands.Fixed n version) d g o h
-carried-good names head_of d sender (commands.NotFixed n version) g o k h =
-    records-good head_of sender (commands.NotFixed n version) d g o h
-carried-good names head_of d sender (commands.Close n version) g o k h =
-    records-good head_of sender (commands.Close n version) d g o h
-carried-good names head_of d sender (commands.Reopen n who) g o k h = records-good head_of sender (commands.Reopen n who) d g o h
-carried-good names head_of d sender (commands.Severity n severity) g o k h =
-    records-good head_of sender (commands.Severity n severity) d g o h
-carried-good names head_of d sender (commands.Tags n steps) g o k h = records-good head_of sender (commands.Tags n steps) d g o h
-carried-good names head_of d sender (commands.Retitle n text) g o k h =
-    records-good head_of sender (commands.Retitle n text) d g o h
-carried-good names head_of d sender (commands.Submitter n who) g o k h =
-    records-good head_of sender (commands.Submitter n who) d g o h
-carried-good names head_of d sender (commands.Reassign n package_name version) g o k h =
-    records-good head_of sender (commands.Reassign n package_name version) d g o h
-carried-good names head_of d sender (commands.Forwarded n text) g o k h =
-    records-good head_of sender (commands.Forwarded n text) d g o h
-carried-good names head_of d sender (commands.NotForwarded n) g o k h =
-    records-good head_of sender (commands.NotForwarded n) d g o h
-carried-good names head_of d sender (commands.Owner n who) g o k h = records-good head_of sender (commands.Owner n who) d g o h
-carried-good names head_of d sender (commands.NoOwner n) g o k h = records-good head_of sender (commands.NoOwner n) d g o h
-carried-good names head_of d sender (commands.Affects n step packages) g o k h =
-    records-good head_of sender (commands.Affects n step packages) d g o h
+carried-good names head_of d sender c g o k h = records-good head_of sender c d g o h
 
 -- ---- bug words
 

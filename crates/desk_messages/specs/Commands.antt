@@ -13,8 +13,8 @@ use Rattle.line_words.specs.Numbers.{IsGoodNumber}
 use Rattle.line_words.specs.declared.named.Named.{Named}
 use Rattle.bug_record.specs.declared.outcome.Outcome.TheVariants.{Changed}
 use Rattle.desk_store.specs.Store.{with_change}
-use Rattle.message_machine.specs.Kept.{IsGoodOutcome}
-use Rattle.message_machine.specs.Message.{outcome_of, does}
+use Rattle.desk_store.specs.Kept.{IsGoodOutcome}
+use Rattle.desk_store.specs.Message.{outcome_of, does}
 use Rattle.message_names.specs.Telling.{result_meant, step_among}
 use Rattle.desk_messages.specs.declared.command_decision.Decision.{Decision}
 

@@ -12,8 +12,8 @@ use Rattle.bug_record.specs.declared.outcome.StoreFault.{StoreFault}
 use Rattle.bug_record.specs.declared.outcome.End.{End}
 use Rattle.bug_record.specs.declared.outcome.End.TheVariants as ends
 use Rattle.desk_store.specs.Store.{with_change}
-use Rattle.message_machine.specs.Kept.{IsGoodOutcome}
-use Rattle.message_machine.specs.Message.{Entry, machine, takes, end_of, unreadable_count, known_names}
+use Rattle.desk_store.specs.Kept.{IsGoodOutcome}
+use Rattle.desk_store.specs.Message.{Entry, machine, takes, end_of, unreadable_count, known_names}
 use Rattle.desk_messages.specs.Commands.{HaveNumbers, Fits}
 use Rattle.desk_messages.specs.declared.command_decision.Decision.{Decision}
 

@@ -12,7 +12,7 @@ ghost use Rattle.line_words.specs.Bugs.{IsGoodBug};
 ghost use Rattle.line_words.specs.Numbers.{IsGoodNumber};
 ghost use Rattle.desk_store.specs.Store.{Asks, Answers, faults_after};
 ghost use Rattle.desk_messages.specs.Commands.{HaveNumbers, MayBeMade, Fits, Makes, DecidesTold, Decides};
-ghost use Rattle.message_machine.specs.Message.{names_of};
+ghost use Rattle.desk_store.specs.Message.{names_of};
 
 use crate::plan_inputs::ask;
 use crate::written_images::written;

@@ -1,4 +1,4 @@
-//! Messages and reports, over any store of a desk.
+//! Messages, over any store of a desk.
 #![tactic(auto)]
 
 mod command_decision;
@@ -7,14 +7,9 @@ mod line_decision;
 mod message;
 mod outcomes_so_far;
 mod plan_inputs;
-mod reporting;
-mod transcript;
 mod written_images;
 
 pub use command_decision::Decision;
-pub use desk_text::ReportFault;
 pub use line_decision::decide_line;
 pub use message::{Received, receive, receive_lines};
 pub use outcomes_so_far::{Progress, goes_on, make_room, settle};
-pub use reporting::report;
-pub use transcript::{received_bytes, received_text};

@@ -9,8 +9,8 @@ ghost use Rattle.line_words.specs.Numbers.{IsGoodNumber};
 ghost use Rattle.command_grammar.specs.Lines.{reading};
 ghost use Rattle.command_grammar.specs.declared.line.Line.TheVariants.{Do};
 ghost use Rattle.desk_store.specs.Store.{Asks, Answers, faults_after};
-ghost use Rattle.message_machine.specs.Message.{names_given};
-ghost use Rattle.message_machine.specs.Kept.{has_outcome};
+ghost use Rattle.desk_store.specs.Message.{names_given};
+ghost use Rattle.desk_store.specs.Kept.{has_outcome};
 ghost use Rattle.desk_messages.specs.Commands.{HaveNumbers};
 ghost use Rattle.desk_messages.specs.Taking.{IsInStep, IsReadyFor, DecidesLine, FitsDecided, HasMembers, plainly};
 

@@ -3,11 +3,11 @@
 ghost use Rattle.std.specs.Prelude.{◌≡◌, IfOk, OnOk, OnErr};
 ghost use Rattle.bug_record.specs.Texts.{IsText};
 ghost use Rattle.desk_store.specs.Store.{Holds, faults_after, faults_after_end};
-ghost use Rattle.message_machine.specs.Message.{unreadable_count, end_of, known_names, IsReceived};
+ghost use Rattle.desk_store.specs.Message.{unreadable_count, end_of, known_names, IsReceived};
 ghost use Rattle.desk_messages.specs.Commands.{HaveNumbers, Fits};
 ghost use Rattle.desk_messages.specs.Taking.{IsInStep, TakesLine, HasMembers, CarriesOut};
 ghost use Rattle.desk_lines.specs.Lines.{lines_of};
-ghost use Rattle.desk_messages.specs.Transcripts.{IsLineOf};
+ghost use Rattle.desk_messages.specs.Ends.{IsLineOf};
 
 use crate::line_decision::decide_line;
 use crate::outcomes_so_far::{Progress, goes_on, settle};

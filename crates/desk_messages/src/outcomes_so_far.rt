@@ -1,7 +1,7 @@
 //! What has come of a message so far.
 
 ghost use Rattle.std.specs.Prelude.{◌≡◌, ◌∷◌, ◌++◌, ◌<◌, [], vec_len, vec_capacity, IfOk, OnOk, OnErr, Result, if◌then◌else◌};
-ghost use Rattle.message_machine.specs.Message.{is_stop, is_unreadable, unreadable_count, end_of, known_names};
+ghost use Rattle.desk_store.specs.Message.{is_stop, is_unreadable, unreadable_count, end_of, known_names};
 ghost use Rattle.desk_messages.specs.Taking.{goes_on, IsReady};
 
 use crate::message::Received;

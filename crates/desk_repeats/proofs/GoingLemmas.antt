@@ -23,9 +23,9 @@ use Rattle.bug_record.specs.declared.outcome.Outcome.{Outcome}
 use Rattle.bug_record.specs.declared.outcome.End.{End}
 use Rattle.bug_record.specs.declared.outcome.End.TheVariants as ends
 use Rattle.bug_record.specs.declared.outcome.StoreFault.{StoreFault}
-use Rattle.message_machine.specs.Message.{Entry, Machine, machine, after_lines, takes, takes_at, end_of}
-use Rattle.message_machine.specs.Kept.{Keeping, has_outcome, reads_as_command, lines_told, told, outcomes_in, outcomes_kept, kept_with, kept_also}
-use Rattle.message_machine.specs.Kept.{IsNextOutcome, IsResumed, IsOfMessage}
+use Rattle.desk_store.specs.Message.{Entry, Machine, machine, after_lines, takes, takes_at, end_of}
+use Rattle.desk_store.specs.Kept.{Keeping, has_outcome, reads_as_command, lines_told, told, outcomes_in, outcomes_kept, kept_with, kept_also}
+use Rattle.desk_store.specs.Kept.{IsNextOutcome, IsResumed, IsOfMessage}
 use Rattle.desk_repeats.specs.GoingOn.{IsBegun, KeepsOn, TakesOn, Resumes}
 use Rattle.desk_repeats.proofs.KeepLemmas.{also-same, also-outcomes, keeps-also, outcomes-push, told-place}
 use Rattle.desk_repeats.proofs.ToldLemmas.{lines-more, lines-split, line-told, line-untold}

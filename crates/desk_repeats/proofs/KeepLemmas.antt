@@ -13,10 +13,10 @@ use Rattle.command_grammar.specs.declared.line.Line.{Line}
 use Rattle.command_grammar.specs.declared.line.Line.TheVariants.{Blank, Comment, Stop, Do}
 use Rattle.desk_lines.specs.Lines.{lines_of}
 use Rattle.bug_record.specs.declared.outcome.Outcome.{Outcome}
-use Rattle.message_machine.specs.Message.{Entry, end_of, names_with, names_given, known_names}
-use Rattle.message_machine.specs.Kept.{Keeping, lines_told, told, outcomes_in, outcomes_kept, IsOfMessage, kept_with, kept_also}
-use Rattle.message_machine.specs.Kept.{IsGoodKept, IsGoodOutcome, GiveNames}
-use Rattle.message_machine.specs.declared.kept.Kept.{Kept}
+use Rattle.desk_store.specs.Message.{Entry, end_of, names_with, names_given, known_names}
+use Rattle.desk_store.specs.Kept.{Keeping, lines_told, told, outcomes_in, outcomes_kept, IsOfMessage, kept_with, kept_also}
+use Rattle.desk_store.specs.Kept.{IsGoodKept, IsGoodOutcome, GiveNames}
+use Rattle.desk_store.specs.declared.kept.Kept.{Kept}
 use Rattle.desk_messages.specs.Commands.{HaveNumbers}
 use Rattle.desk_messages.proofs.EndLemmas.{at_start_open}
 use Rattle.desk_messages.proofs.GivenLemmas.{append-each, given-numbers}

@@ -3,8 +3,3 @@ pub mod RecallLemmas
 pub mod KeepLemmas
 pub mod GoingLemmas
 pub mod OnceLemmas
-pub mod ZipLemmas
-pub mod CallLemmas
-pub mod GrownLemmas
-pub mod SentLemmas
-pub mod OneLemmas

@@ -8,9 +8,9 @@ use Rattle.desk_messages.proofs.MachineLemmas.{after_ended}
 use Rattle.bug_record.specs.declared.outcome.Outcome.{Outcome}
 use Rattle.bug_record.specs.declared.outcome.End.{End}
 use Rattle.line_words.specs.Ids.{IsId}
-use Rattle.message_machine.specs.Message.{Entry, machine, end_of, known_names}
-use Rattle.message_machine.specs.Kept.{Keeping, lines_told, told, outcomes_in, outcomes_kept, kept_with, IsOfMessage, IsResumed, AreGoodKept}
-use Rattle.message_machine.specs.declared.kept.Kept.{Kept}
+use Rattle.desk_store.specs.Message.{Entry, machine, end_of, known_names}
+use Rattle.desk_store.specs.Kept.{Keeping, lines_told, told, outcomes_in, outcomes_kept, kept_with, IsOfMessage, IsResumed, AreGoodKept}
+use Rattle.desk_store.specs.declared.kept.Kept.{Kept}
 use Rattle.desk_repeats.specs.GoingOn.{IsBegun, Resumes}
 use Rattle.desk_repeats.specs.Recalling.{AreOfLines, IsTaken}
 use Rattle.desk_repeats.proofs.KeepLemmas.{begins, kept-own, of_lines}

@@ -18,8 +18,8 @@ use Rattle.bug_record.specs.declared.outcome.Outcome.{Outcome}
 use Rattle.bug_record.specs.declared.outcome.Outcome.TheVariants.{Changed, Refused, Stopped}
 use Rattle.bug_record.specs.declared.outcome.End.{End}
 use Rattle.bug_record.specs.declared.outcome.End.TheVariants as ends
-use Rattle.message_machine.specs.Message.{Entry, is_stop, is_unreadable, unreadable_count, end_of, names_of, names_with, names_given, known_names}
-use Rattle.message_machine.specs.Kept.{has_outcome, reads_as_command, lines_told, told, names_by, new_names, GiveNames}
+use Rattle.desk_store.specs.Message.{Entry, is_stop, is_unreadable, unreadable_count, end_of, names_of, names_with, names_given, known_names}
+use Rattle.desk_store.specs.Kept.{has_outcome, reads_as_command, lines_told, told, names_by, new_names, GiveNames}
 use Rattle.desk_messages.proofs.EndLemmas.{stops, open_tests, end_is}
 use Rattle.desk_messages.specs.Taking.{goes_on, IsInStep, IsReady}
 use Rattle.desk_messages.proofs.GivenLemmas.{known-push}

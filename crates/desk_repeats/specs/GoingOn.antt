@@ -7,8 +7,8 @@ use Rattle.desk_lines.specs.Lines.{lines_of}
 use Rattle.desk_messages.specs.Commands.{HaveNumbers}
 use Rattle.bug_record.specs.declared.outcome.End.{End}
 use Rattle.bug_record.specs.declared.outcome.StoreFault.{StoreFault}
-use Rattle.message_machine.specs.Message.{Entry, machine, takes}
-use Rattle.message_machine.specs.Kept.{Keeping, IsOfMessage, IsResumed, outcomes_kept, outcomes_in, told, kept_with}
+use Rattle.desk_store.specs.Message.{Entry, machine, takes}
+use Rattle.desk_store.specs.Kept.{Keeping, IsOfMessage, IsResumed, outcomes_kept, outcomes_in, told, kept_with}
 
 -- These are the message's outcomes so far, which are kept of its id, and its names have numbers.
 pub record IsBegun (id sender message : List ℕ) (kept : Keeping) (outcomes : List Entry) (known : Names) : Type 0 where

@@ -7,7 +7,7 @@ use Rattle.desk_lines.specs.Lines.{lines_of}
 use Rattle.desk_messages.specs.declared.message.Received.{Received}
 use Rattle.desk_store.specs.Store.{Faults, counted, faults_after_end}
 use Rattle.line_words.specs.Ids.{is_id, IsId}
-use Rattle.message_machine.specs.Kept.{Keeping, IsOfMessage, IsResumed, outcomes_kept, outcomes_in, kept_with}
+use Rattle.desk_store.specs.Kept.{Keeping, IsOfMessage, IsResumed, outcomes_kept, outcomes_in, kept_with}
 use Rattle.desk_repeats.specs.declared.once.OnceFault.{OnceFault}
 use Rattle.desk_repeats.specs.declared.once.OnceFault.TheVariants.{BadId, Reused, Store}
 

@@ -7,8 +7,8 @@ use Rattle.command_grammar.specs.declared.line.Line.TheVariants.{Blank, Comment,
 use Rattle.bug_record.specs.declared.outcome.Outcome.{Outcome}
 use Rattle.bug_record.specs.declared.outcome.Outcome.TheVariants.{Changed}
 use Rattle.bug_record.specs.declared.outcome.End.TheVariants as ends
-use Rattle.message_machine.specs.Message.{end_of}
-use Rattle.message_machine.specs.Kept.{lines_told, told, GiveNames}
+use Rattle.desk_store.specs.Message.{end_of}
+use Rattle.desk_store.specs.Kept.{lines_told, told, GiveNames}
 
 -- the names that a line which reads so gives where its command is accepted; none where the line has
 -- no outcome

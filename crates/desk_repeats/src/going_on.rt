@@ -5,10 +5,10 @@ ghost use Rattle.bug_record.specs.Texts.{IsText};
 ghost use Rattle.desk_lines.specs.Lines.{lines_of};
 ghost use Rattle.desk_store.specs.Store.{Holds, Since, faults_after, faults_after_end};
 ghost use Rattle.line_words.specs.Ids.{IsId};
-ghost use Rattle.message_machine.specs.Kept.{has_outcome, lines_told};
-ghost use Rattle.message_machine.specs.Message.{end_of, unreadable_count, known_names};
+ghost use Rattle.desk_store.specs.Kept.{has_outcome, lines_told};
+ghost use Rattle.desk_store.specs.Message.{end_of, unreadable_count, known_names};
 ghost use Rattle.desk_messages.specs.Taking.{IsInStep};
-ghost use Rattle.desk_messages.specs.Transcripts.{IsLineOf};
+ghost use Rattle.desk_messages.specs.Ends.{IsLineOf};
 ghost use Rattle.desk_repeats.specs.GoingOn.{IsBegun, TakesOnce, Resumes};
 
 use crate::recalling::Recalled;

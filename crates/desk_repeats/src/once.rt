@@ -6,8 +6,8 @@ ghost use Rattle.bug_record.specs.Texts.{IsText};
 ghost use Rattle.desk_lines.specs.Lines.{lines_of};
 ghost use Rattle.desk_store.specs.Store.{Holds, Asks};
 ghost use Rattle.line_words.specs.Ids.{is_id};
-ghost use Rattle.message_machine.specs.Kept.{IsOfMessage, outcomes_kept};
-ghost use Rattle.desk_messages.specs.Transcripts.{IsLineOf};
+ghost use Rattle.desk_store.specs.Kept.{IsOfMessage, outcomes_kept};
+ghost use Rattle.desk_messages.specs.Ends.{IsLineOf};
 ghost use Rattle.desk_repeats.specs.Once.{IsOnce, faults_after_once};
 
 use crate::going_on::go_on;
@@ -15,8 +15,7 @@ use crate::recalling::{RecallFault, recall};
 use bug_record::{Outcome, StoreFault};
 use desk_lines::split_lines;
 use desk_messages::{Received, goes_on};
-use desk_store::Records;
-use message_machine::{Kept, is_id};
+use desk_store::{Kept, Records, is_id};
 use std::alloc::Global;
 
 /// Why a message that has an id is not taken.

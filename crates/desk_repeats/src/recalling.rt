@@ -4,8 +4,8 @@ ghost use Rattle.std.specs.Prelude.{◌≡◌, ◌≤◌, ◌++◌, ◌∷◌, �
 ghost use Rattle.bug_record.specs.Clones.{name_refusal};
 ghost use Rattle.bug_record.specs.Commands.{names_in};
 ghost use Rattle.command_grammar.specs.Lines.{reading};
-ghost use Rattle.message_machine.specs.Message.{end_of, unreadable_count, known_names, names_of};
-ghost use Rattle.message_machine.specs.Kept.{has_outcome, told, new_names};
+ghost use Rattle.desk_store.specs.Message.{end_of, unreadable_count, known_names, names_of};
+ghost use Rattle.desk_store.specs.Kept.{has_outcome, told, new_names};
 ghost use Rattle.desk_messages.specs.Taking.{IsInStep};
 ghost use Rattle.desk_repeats.specs.Recalling.{names_read, names_accepted, AreOfLines, IsTaken};
 
@@ -13,7 +13,7 @@ use bug_record::{Command, End, Outcome, Sequence};
 use control_text::{Line, LineFault, Named, read_line};
 use debver::Text;
 use desk_messages::{Progress, goes_on, make_room, settle};
-use message_machine::copy_outcome;
+use desk_store::copy_outcome;
 use message_names::KnownNames;
 use std::alloc::Global;
 

@@ -16,9 +16,9 @@ use Rattle.bug_record.specs.declared.outcome.StoreFault.{StoreFault}
 use Rattle.bug_record.specs.declared.outcome.StoreFault.TheVariants as faults
 use Rattle.desk_text.specs.Texts.{fault_text}
 use Rattle.desk_store.specs.Store.{Branches, Faults, counted, faults_after}
-use Rattle.desk_questions.specs.Branches.{BranchRefusal, node_before, nodes_of, or_refused, branched_by, branch_of}
-use Rattle.desk_questions.specs.BranchWords.{AreRead}
-use Rattle.desk_questions.proofs.BranchLemmas.{after_others}
+use Rattle.desk_directives.specs.Branches.{BranchRefusal, node_before, nodes_of, or_refused, branched_by, branch_of}
+use Rattle.desk_directives.specs.BranchWords.{AreRead}
+use Rattle.desk_directives.proofs.BranchLemmas.{after_others}
 use Rattle.desk_run.specs.Script.{DirectiveLine, Branch, Standing, standing, part_text, part_after, directive_of, branch_text}
 use Rattle.desk_run.specs.Script.{after_branch}
 use Rattle.desk_run.specs.Running.{AsksStore, FaultsIn}

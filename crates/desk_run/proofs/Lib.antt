@@ -4,3 +4,8 @@ pub mod BranchLemmas
 pub mod QuestionLemmas
 pub mod RunLemmas
 pub mod ScriptLemmas
+pub mod ZipLemmas
+pub mod CallLemmas
+pub mod GrownLemmas
+pub mod SentLemmas
+pub mod OneLemmas

@@ -11,9 +11,9 @@ use Rattle.bug_record.specs.declared.outcome.StoreFault.TheVariants as faults
 use Rattle.bug_record.specs.declared.outcome.End.{End}
 use Rattle.bug_record.specs.declared.outcome.End.TheVariants as ends
 use Rattle.desk_store.specs.Store.{Faults, counted, faults_after_end}
-use Rattle.message_machine.specs.Message.{Entry, Machine, machine, after_lines, at_start, IsReceived, Comes}
-use Rattle.desk_messages.specs.Transcripts.{received_text}
-use Rattle.desk_messages.specs.Reports.{report_of, IsReported, faults_after_report}
+use Rattle.desk_store.specs.Message.{Entry, Machine, machine, after_lines, at_start, IsReceived, Comes}
+use Rattle.desk_directives.specs.Transcripts.{received_text}
+use Rattle.desk_directives.specs.Reports.{report_of, IsReported, faults_after_report}
 use Rattle.desk_run.specs.Script.{Part, Message, DirectiveLine, Directive, Report, Standing, standing, part_text, part_after}
 use Rattle.desk_run.specs.Script.{message_text, after_message, refuses, directive_of, directive_text, after_directive}
 use Rattle.desk_run.specs.Script.{report_text, after_report}

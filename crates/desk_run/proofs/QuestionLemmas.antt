@@ -7,10 +7,10 @@ use Rattle.bug_record.specs.declared.outcome.StoreFault.{StoreFault}
 use Rattle.desk_store.specs.Store.{Faults, counted}
 use Rattle.desk_lines.specs.declared.fault.ScriptFault.{ScriptFault}
 use Rattle.desk_lines.specs.declared.fault.ScriptFault.TheVariants as stops
-use Rattle.desk_questions.specs.Questions.{Told, IsTold, faults_after_question}
-use Rattle.desk_questions.specs.declared.told.Told.{Told as ToldBytes}
-use Rattle.desk_questions.specs.declared.told.QuestionFault.{QuestionFault}
-use Rattle.desk_questions.specs.declared.told.QuestionFault.TheVariants as questions
+use Rattle.desk_directives.specs.Questions.{Told, IsTold, faults_after_question}
+use Rattle.desk_directives.specs.declared.told.Told.{Told as ToldBytes}
+use Rattle.desk_directives.specs.declared.told.QuestionFault.{QuestionFault}
+use Rattle.desk_directives.specs.declared.told.QuestionFault.TheVariants as questions
 use Rattle.desk_run.specs.Script.{DirectiveLine, Directive, Standing, standing, directive_of, directive_text, after_directive}
 use Rattle.desk_run.specs.Script.{after_question}
 use Rattle.desk_run.specs.Running.{AsksStore, FaultsIn, StopsIn}

@@ -10,9 +10,9 @@ use Rattle.bug_record.specs.declared.outcome.ReportFault.TheVariants.{Store}
 use Rattle.desk_text.specs.Texts.{fault_text}
 use Rattle.desk_lines.specs.declared.fault.ScriptFault.{ScriptFault}
 use Rattle.desk_lines.specs.declared.fault.ScriptFault.TheVariants as stops
-use Rattle.desk_questions.specs.declared.told.Told.{Told}
-use Rattle.desk_questions.specs.declared.told.QuestionFault.{QuestionFault}
-use Rattle.desk_questions.specs.declared.told.QuestionFault.TheVariants as questions
+use Rattle.desk_directives.specs.declared.told.Told.{Told}
+use Rattle.desk_directives.specs.declared.told.QuestionFault.{QuestionFault}
+use Rattle.desk_directives.specs.declared.told.QuestionFault.TheVariants as questions
 
 abbrev pub refuses_branch : Result (Result (Unit {0}) BranchFault) StoreFault → Bool
 refuses_branch (Ok (Ok done)) = false

@@ -10,17 +10,17 @@ use Rattle.desk_text.specs.Texts.{fault_text}
 use Rattle.bug_record.specs.declared.outcome.StoreFault.{StoreFault}
 use Rattle.bug_record.specs.declared.outcome.End.TheVariants as ends
 use Rattle.desk_store.specs.Store.{Faults, counted}
-use Rattle.message_machine.specs.Message.{Entry, IsReceived}
+use Rattle.desk_store.specs.Message.{Entry, IsReceived}
 use Rattle.desk_lines.specs.Lines.{raw_lines, without_return}
 use Rattle.desk_lines.specs.Reading.{IsGoodLine, IsBegun}
-use Rattle.desk_messages.specs.Transcripts.{received_text}
+use Rattle.desk_directives.specs.Transcripts.{received_text}
 use Rattle.desk_run.specs.Script.{Part, Message, DirectiveLine, Directive, From, Report, Branch, ListOf, Show, Bad, directive_of}
 use Rattle.desk_run.specs.Script.{Standing, parts_of_lines, script_of, part_text, part_after, text_of, after_parts, end_of_script}
 use Rattle.bug_record.specs.declared.severity.Severity.{Severity}
 use Rattle.version_nodes.specs.Nodes.{Node}
-use Rattle.desk_messages.specs.Reports.{report_severity}
-use Rattle.desk_questions.specs.Questions.{AsksForList}
-use Rattle.desk_questions.specs.Branches.{nodes_of}
+use Rattle.desk_directives.specs.Reports.{report_severity}
+use Rattle.desk_directives.specs.Questions.{AsksForList}
+use Rattle.desk_directives.specs.Branches.{nodes_of}
 use Rattle.desk_lines.specs.declared.fault.ScriptFault.{ScriptFault}
 use Rattle.desk_lines.specs.declared.fault.ScriptFault.TheVariants.{Read, Write, NotUtf8, LineTooLong, Memory, Store}
 use Rattle.desk_run.specs.declared.script.ScriptEnd.{ScriptEnd}

@@ -13,13 +13,13 @@ use Rattle.bug_record.specs.declared.outcome.Outcome.{Outcome}
 use Rattle.bug_record.specs.declared.outcome.Outcome.TheVariants as outcomes
 use Rattle.bug_record.specs.declared.outcome.End.{End}
 use Rattle.bug_record.specs.declared.outcome.End.TheVariants as ends
-use Rattle.message_machine.specs.Message.{Entry, Machine, after_lines, at_start, end_of}
+use Rattle.desk_store.specs.Message.{Entry, Machine, after_lines, at_start, end_of}
 use Rattle.desk_lines.specs.Lines.{lines_of}
-use Rattle.desk_messages.specs.Transcripts.{received_text}
+use Rattle.desk_directives.specs.Transcripts.{received_text}
 use Rattle.version_nodes.specs.Trees.{Ancestry}
-use Rattle.desk_messages.specs.Reports.{report_of}
-use Rattle.desk_questions.specs.Questions.{Told, list_told, page_told}
-use Rattle.desk_questions.specs.Branches.{BranchRefusal, BadNode, Refused, branch_of}
+use Rattle.desk_directives.specs.Reports.{report_of}
+use Rattle.desk_directives.specs.Questions.{Told, list_told, page_told}
+use Rattle.desk_directives.specs.Branches.{BranchRefusal, BadNode, Refused, branch_of}
 use Rattle.bug_record.specs.declared.outcome.ReportFault.{ReportFault}
 use Rattle.desk_run.specs.declared.script.ScriptEnd.{ScriptEnd}
 use Rattle.desk_run.specs.declared.script.ScriptEnd.TheVariants as script_ends

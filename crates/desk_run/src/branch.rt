@@ -2,8 +2,8 @@
 
 ghost use Rattle.std.specs.Prelude.{◌≡◌, Some, None};
 ghost use Rattle.control_text.specs.Words.{words};
-ghost use Rattle.desk_questions.specs.Branches.{nodes_of};
-ghost use Rattle.desk_questions.specs.BranchWords.{AreRead};
+ghost use Rattle.desk_directives.specs.Branches.{nodes_of};
+ghost use Rattle.desk_directives.specs.BranchWords.{AreRead};
 
 use control_text::next_word;
 use std::alloc::Global;

@@ -7,7 +7,7 @@ ghost use Rattle.bug_record.specs.Texts.{IsText};
 ghost use Rattle.desk_store.specs.Store.{Holds};
 ghost use Rattle.desk_run.specs.Script.{Report, Branch, Message, DirectiveLine, standing, directive_of};
 ghost use Rattle.std.specs.Io.KnownBytes.{Appends};
-ghost use Rattle.desk_questions.specs.Branches.{nodes_of};
+ghost use Rattle.desk_directives.specs.Branches.{nodes_of};
 ghost use Rattle.desk_run.specs.RefusedAndFailed.{Tells, TellsFault};
 ghost use Rattle.desk_run.specs.Running.{IsCounted};
 ghost use Rattle.desk_run.specs.Carrying.{Carries, IsOfPart};
@@ -18,9 +18,9 @@ use crate::refused_and_failed::{
     fault_of_branch, fault_of_end, refuses, refuses_branch, store_fault,
 };
 use debver::Text;
+use desk_directives::{QuestionFault, Told, list_of, page_of, received_bytes, report};
 use desk_lines::{ScriptFault, write_out};
-use desk_messages::{receive_lines, received_bytes, report};
-use desk_questions::{QuestionFault, Told, list_of, page_of};
+use desk_messages::receive_lines;
 use desk_store::Records;
 use desk_text::{
     StoreFault, bad_directive_answer, bad_version_answer, branch_answer, fault_answer,

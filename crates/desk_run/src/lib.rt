@@ -1,17 +1,24 @@
 //! Scripts, over any store of a desk, any reader and any writer.
 //! The names of messages, ids and reports, of stores and of faults stand here too.
+//! Laws say what comes of messages with an id over every list of calls.
 #![tactic(auto)]
 
 mod branch;
 mod carrying;
 mod directive;
+mod laws;
 mod refused_and_failed;
 mod script;
 
+pub use desk_directives::{ReportFault, received_text, report};
+pub use desk_in_memory::{FailAt, PlainDesk};
 pub use desk_lines::ScriptFault;
-pub use desk_messages::{Received, ReportFault, receive, received_text, report};
+pub use desk_messages::{Received, receive};
 pub use desk_repeats::{OnceFault, receive_once};
-pub use desk_store::{FailAt, Kept, PlainDesk, Records, is_id};
+pub use desk_store::{Kept, Records, is_id};
 pub use desk_text::End;
+pub use laws::{
+    a_kept_outcome_takes_its_line, a_sent_message_takes_its_next_lines, each_line_acts_once,
+};
 pub use refused_and_failed::refuses;
 pub use script::{ScriptEnd, run_script};

@@ -8,7 +8,8 @@ ghost use Rattle.desk_run.specs.RefusedAndFailed.{refuses_branch, fault_of_branc
 use ancestry::BranchFault;
 use bug_record::{End, Outcome, StoreFault};
 use debver::Text;
-use desk_messages::{Received, ReportFault};
+use desk_directives::ReportFault;
+use desk_messages::Received;
 
 fn is_refused(outcome: &Outcome) -> bool
     ensures { result ≡ is_refused outcome.now }

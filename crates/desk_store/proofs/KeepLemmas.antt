@@ -29,10 +29,10 @@ use Rattle.desk_lines.specs.Lines.{lines_of}
 use Rattle.bug_record.specs.declared.outcome.Outcome.{Outcome}
 use Rattle.line_words.specs.Ids.{IsId}
 use Rattle.line_words.specs.declared.named.Named.{Named}
-use Rattle.message_machine.specs.Message.{Entry, Machine, machine, takes, does, outcome_of, end_of, names_given, known_names}
-use Rattle.message_machine.specs.Kept.{Keeping, none_kept, IsGoodOutcome, GiveNames, IsGoodKept, AreGoodKept, IsOfMessage, IsNextOutcome}
-use Rattle.message_machine.specs.Kept.{lines_told, told, new_names, names_by, copies_of, copies_by, new_copies, outcomes_kept, kept_with, kept_also}
-use Rattle.message_machine.specs.declared.kept.Kept.{Kept}
+use Rattle.desk_store.specs.Message.{Entry, Machine, machine, takes, does, outcome_of, end_of, names_given, known_names}
+use Rattle.desk_store.specs.Kept.{Keeping, none_kept, IsGoodOutcome, GiveNames, IsGoodKept, AreGoodKept, IsOfMessage, IsNextOutcome}
+use Rattle.desk_store.specs.Kept.{lines_told, told, new_names, names_by, copies_of, copies_by, new_copies, outcomes_kept, kept_with, kept_also}
+use Rattle.desk_store.specs.declared.kept.Kept.{Kept}
 use Rattle.desk_store.proofs.NameLemmas.{passed, copies}
 
 -- the numbers below n are n numbers

@@ -1,5 +1,4 @@
-pub mod PlainLemmas
 pub mod HoldsLemmas
 pub mod NameLemmas
 pub mod KeepLemmas
-pub mod KeptMessageLemmas
+pub mod KeptProp

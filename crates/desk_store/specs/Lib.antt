@@ -1,3 +1,4 @@
+pub use Rattle.line_words.specs.Ids
+pub mod Message
+pub mod Kept
 pub mod Store
-pub mod FailAt
-pub mod KeptMessages

@@ -19,7 +19,7 @@ use Rattle.bug_record.specs.declared.outcome.StoreFault.TheVariants.{Memory, Dev
 use Rattle.bug_record.specs.declared.outcome.Outcome.{Outcome}
 use Rattle.bug_record.specs.declared.outcome.End.{End}
 use Rattle.bug_record.specs.declared.outcome.End.TheVariants as ends
-use Rattle.message_machine.specs.Kept.{Keeping, IsGoodOutcome, IsNextOutcome, kept_also}
+use Rattle.desk_store.specs.Kept.{Keeping, IsGoodOutcome, IsNextOutcome, kept_also}
 
 -- A call goes from old to new: honesty isn't won, and where the tables were kept as it began and
 -- the disk was honest up to its end, they are kept again, and P holds.

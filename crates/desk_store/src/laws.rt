@@ -8,7 +8,7 @@ ghost use Rattle.bug_record.specs.Steps.{step};
 ghost use Rattle.bug_record.specs.Words.{Names};
 ghost use Rattle.bug_record.specs.declared.command.Command.TheVariants.{Clone};
 ghost use Rattle.command_grammar.specs.declared.line.Line.TheVariants.{Do};
-ghost use Rattle.message_machine.specs.Message.{names_with};
+ghost use Rattle.desk_store.specs.Message.{names_with};
 ghost use Rattle.desk_store.specs.Store.{Faults, counted, one_more, total};
 ghost use Rattle.bug_record.specs.declared.outcome.Outcome.TheVariants.{Changed};
 ghost use Rattle.line_words.specs.declared.named.Named.{Named};

@@ -1,15 +1,12 @@
-//! Stores of a desk: what every store says of its content, a desk in memory, and a store that fails
-//! once, for tests.
+//! A store of a desk: the machine that takes a message's lines one at a time, what is kept of
+//! messages that have an id, and what every store says of its content.
 #![tactic(auto)]
 
-mod fail_at;
-mod kept_messages;
+mod kept;
 mod laws;
-mod plain;
 mod records;
 
-pub use fail_at::FailAt;
+pub use kept::{Kept, copy_outcome};
 pub use laws::{faults_rise_by_one, names_stand_for_copies};
-pub use message_machine::{Kept, is_id};
-pub use plain::PlainDesk;
+pub use line_words::is_id;
 pub use records::Records;

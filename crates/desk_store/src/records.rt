@@ -11,11 +11,11 @@ ghost use Rattle.bug_record.specs.declared.outcome.StoreFault.{StoreFault};
 ghost use Rattle.desk_store.specs.Store.{Faults, faults_after, total};
 ghost use Rattle.bug_record.specs.Texts.{IsText, IfGiven};
 ghost use Rattle.line_words.specs.Ids.{IsId};
-ghost use Rattle.message_machine.specs.Kept.{Keeping, AreGoodKept};
+ghost use Rattle.desk_store.specs.Kept.{Keeping, AreGoodKept};
 
+use crate::kept::Kept;
 use ancestry::BranchFault;
 use bug_record::{Change, Numbers, Outcome, Sequence, SetImage, StoreFault};
-use message_machine::Kept;
 use set_images::ListRow;
 use version_nodes::Node;
 

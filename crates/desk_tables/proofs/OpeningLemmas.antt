@@ -11,7 +11,7 @@ use Rattle.bugs_in_memory.specs.Plain.{empty_desk}
 use Rattle.desk_content.specs.Content.{Content, no_content}
 use Rattle.desk_content.specs.Kept.{IsKeptContent}
 use Rattle.desk_content.specs.View.{desk_in, keeping_in}
-use Rattle.message_machine.specs.Kept.{none_kept}
+use Rattle.desk_store.specs.Kept.{none_kept}
 use Rattle.desk_content.proofs.NewLemmas.{new_kept}
 use Rattle.bug_record.specs.declared.outcome.StoreFault.{StoreFault}
 use Rattle.desk_schema.specs.Steps.{seen}

@@ -12,7 +12,7 @@ use Rattle.desk_content.specs.View.{desk_in, keeping_in}
 use Rattle.desk_schema.specs.Steps.{seen}
 use Rattle.desk_store.specs.Store.{MayBeKept}
 use Rattle.bug_record.specs.declared.outcome.Outcome.{Outcome}
-use Rattle.message_machine.specs.Kept.{Keeping}
+use Rattle.desk_store.specs.Kept.{Keeping}
 use Rattle.desk_tables.specs.Shown.{HasContent}
 
 module _ {S : Type 0} (g : store.Ghosts S) where

@@ -11,7 +11,7 @@ ghost use Rattle.bugs_in_memory.specs.Plain.{empty_desk};
 ghost use Rattle.desk_store.specs.Store.{no_faults};
 ghost use Rattle.bug_record.specs.declared.outcome.StoreFault.TheVariants.{Foreign};
 ghost use Rattle.desk_tables.specs.Kept.{content_seen, desk_seen, keeping_seen, IsKept};
-ghost use Rattle.message_machine.specs.Kept.{none_kept};
+ghost use Rattle.desk_store.specs.Kept.{none_kept};
 ghost use Rattle.desk_tables.specs.Opening.{unlimited, IsLeft, IsStoreFailure, IsReason, SaysEarlier, SaysDesk};
 ghost use Rattle.desk_tables.specs.Shown.{HasContent, HasContentUnder, HoldsContent, AreTablesOf};
 ghost use Rattle.desk_tables.specs.Transactions.{IsCreated, IsRecognised, IsFound};

@@ -2,7 +2,7 @@
 
 use crate::exchanges::{BAD_REQUEST, EXCHANGES, answers, desk_after, is_after, status_told};
 use desk_http::{ServeFault, Served, serve_one};
-use desk_store::PlainDesk;
+use desk_in_memory::PlainDesk;
 use std::alloc::Global;
 
 // Whether an exchange ended as it has to where its request is cut and this was written.

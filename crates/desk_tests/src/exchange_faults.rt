@@ -3,7 +3,8 @@
 use crate::exchanges::{FIRST_BUG, REPORT, STORE_FAULT, answers, serve, status_told};
 use bug_record::StoreFault;
 use desk_http::serve_one;
-use desk_store::{FailAt, PlainDesk, Records};
+use desk_in_memory::{FailAt, PlainDesk};
+use desk_store::Records;
 use std::alloc::Global;
 
 const NOT_FOUND: &str = "HTTP/1.1 404 Not Found\r\nConnection: close\r\nContent-Length: 21\r\n\

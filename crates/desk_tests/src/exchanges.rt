@@ -1,7 +1,8 @@
 //! Exchanges that a new desk has in turn, and what such a desk shows.
 
 use desk_http::{ServeFault, Served, serve_one};
-use desk_store::{PlainDesk, Records};
+use desk_in_memory::PlainDesk;
+use desk_store::Records;
 use std::alloc::Global;
 
 /// The requests and their answers: a report, a message, a list, and a branch that is refused.

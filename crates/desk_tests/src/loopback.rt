@@ -3,7 +3,7 @@
 use crate::clients::{ask, gets, listen};
 use crate::exchanges::EXCHANGES;
 use desk_http::{Served, serve_one};
-use desk_store::PlainDesk;
+use desk_in_memory::PlainDesk;
 use std::alloc::Global;
 use std::io;
 use std::net::TcpListener;

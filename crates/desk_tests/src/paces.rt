@@ -1,9 +1,9 @@
 //! A clock and two ends of a connection that pass the time by themselves: how long a server waits.
 
 use crate::exchanges::{REPORT, serve};
-use desk_http::{ServeFault, Served};
-use desk_server::{Limits, serve_within};
-use desk_store::{PlainDesk, Records};
+use desk_http::{Limits, ServeFault, Served, serve_within};
+use desk_in_memory::PlainDesk;
+use desk_store::Records;
 use std::alloc::Global;
 use std::cell::Cell;
 use std::io::{self, ErrorKind, Read, Write};

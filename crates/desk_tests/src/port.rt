@@ -2,8 +2,8 @@
 
 use crate::clients::{ask, gets, listen};
 use crate::exchanges::{FIRST_BUG, REPORT};
-use desk_server::{ServerFault, serve_port};
-use desk_store::PlainDesk;
+use desk_http::{ServerFault, serve_port};
+use desk_in_memory::PlainDesk;
 use std::alloc::{AllocError, Global};
 use std::io::{self, Write};
 use std::net::{Ipv4Addr, TcpStream};

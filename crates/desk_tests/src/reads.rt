@@ -2,7 +2,7 @@
 
 use crate::exchanges::{EXCHANGES, desk_after, is_after};
 use desk_http::{ServeFault, Served, serve_one};
-use desk_store::PlainDesk;
+use desk_in_memory::PlainDesk;
 use std::alloc::Global;
 use test_desks::Feed;
 

@@ -2,7 +2,7 @@
 
 use crate::exchanges::{REPORT, status_told};
 use desk_http::serve_one;
-use desk_store::PlainDesk;
+use desk_in_memory::PlainDesk;
 use std::alloc::Global;
 
 // Requests to a new desk, one for each status, and the first lines of their answers.

@@ -7,7 +7,7 @@ use Rattle.bug_record.specs.declared.command.Change.{Change}
 use Rattle.bug_record.specs.declared.outcome.Outcome.{Outcome}
 use Rattle.bug_record.specs.declared.outcome.StoreFault.{StoreFault}
 use Rattle.bug_record.specs.declared.outcome.StoreFault.TheVariants.{Foreign}
-use Rattle.message_machine.specs.Kept.{Keeping, IsOfMessage}
+use Rattle.desk_store.specs.Kept.{Keeping, IsOfMessage}
 use Rattle.desk_content.specs.Changes.{FitsContent, changed}
 use Rattle.desk_content.specs.Content.{Content}
 use Rattle.sql_forms.specs.Numbers.{next_above}

@@ -4,7 +4,7 @@ use Rattle.std.specs.Prelude.{⊤}
 use Rattle.sqlite.specs.State.{State}
 use Rattle.bug_record.specs.declared.outcome.Outcome.{Outcome}
 use Rattle.bug_record.specs.declared.outcome.StoreFault.{StoreFault}
-use Rattle.message_machine.specs.declared.kept.Kept.{Kept}
+use Rattle.desk_store.specs.declared.kept.Kept.{Kept}
 use Rattle.desk_content.specs.Content.{Content}
 use Rattle.desk_content.specs.View.{with_their_numbers, outcomes_of, keeping_in}
 use Rattle.desk_content.specs.declared.edit.SentMessage.{SentMessage}

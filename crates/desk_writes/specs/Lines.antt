@@ -1,7 +1,7 @@
 -- The outcome of a line, and the edits that keep it.
 use Rattle.std.specs.Prelude.{ℕ, ◌≡◌, List, length}
 use Rattle.bug_record.specs.declared.outcome.Outcome.{Outcome}
-use Rattle.message_machine.specs.Kept.{IsGoodOutcome, IsOfMessage}
+use Rattle.desk_store.specs.Kept.{IsGoodOutcome, IsOfMessage}
 use Rattle.desk_content.specs.Content.{Content}
 use Rattle.desk_content.specs.Edits.{edited_all}
 use Rattle.desk_content.specs.Free.{AreFree}

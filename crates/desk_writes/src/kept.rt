@@ -12,7 +12,7 @@ use bug_record::{Outcome, Sequence, StoreFault};
 use desk_content::{SentMessage, ToldOutcome};
 use desk_rows::{read_message, read_outcome_numbers, read_outcomes};
 use desk_schema::parameter;
-use message_machine::{Kept, copy_outcome};
+use desk_store::{Kept, copy_outcome};
 use sqlite::{Alter, Transaction};
 use std::alloc::Global;
 

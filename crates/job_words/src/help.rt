@@ -28,7 +28,7 @@ Words of a message (N, M are bugs, V is a version; `,` or `.` ends a command, `i
   owner N WHO, noowner N             Who works on it
   forwarded N TEXT, notforwarded N   Where it was forwarded to
   reassign N PACKAGE [V]             It is a bug of another package
-  merge N M..., forcemerge N M...    Makes them one, if they agree, or in any case
+  merge N M..., forcemerge N M...    Merges bugs that agree; makes those of one package agree
   unmerge N, clone N -1...           Takes it out of these; copies it, named -1
   block N by M..., unblock N by M... It waits for others, or no longer
   archive N, unarchive N             Hides it from lists, or no longer

@@ -124,30 +124,11 @@ records-stay d sender command b e =
 
 stays : (names : Names) (d : Desk) (sender : List ℕ) (command : Command ℕ) (b : Bug) → d.bug (bug_named command) ≡ Some b
     → Stays (carried_out (name_refusal names) (open_head d.tree) d sender command)
-stays names d sender (commands.Found n version) b e = records-stay d sender (commands.Found n version) b e
-stays names d sender (commands.NotFound n version) b e = records-stay d sender (commands.NotFound n version) b e
-stays names d sender (commands.Fixed n version) b e = records-stay d sender (commands.Fixed n version) b e
-stays names d sender (commands.NotFixed n version) b e = records-stay d sender (commands.NotFixed n version) b e
-stays names d sender (commands.Close n version) b e = records-stay d sender (commands.Close n version) b e
-stays names d sender (commands.Reopen n who) b e = records-stay d sender (commands.Reopen n who) b e
-stays names d sender (commands.Severity n severity) b e = records-stay d sender (commands.Severity n severity) b e
-stays names d sender (commands.Tags n steps) b e = records-stay d sender (commands.Tags n steps) b e
-stays names d sender (commands.Retitle n text) b e = records-stay d sender (commands.Retitle n text) b e
-stays names d sender (commands.Submitter n who) b e = records-stay d sender (commands.Submitter n who) b e
-stays names d sender (commands.Reassign n package_name version) b e = records-stay d sender (commands.Reassign n package_name version) b e
 stays names d sender (commands.Merge n ns) b e = joined-stays d first_difference n ns b e
 stays names d sender (commands.ForceMerge n ns) b e = joined-stays d package_difference n ns b e
 stays names d sender (commands.Unmerge n) b e = at-stays (d.bug n) n _ b e (λ c. taken-stays d n (others_merged n c.merged))
 stays names d sender (commands.Clone n ks) b e = cloned-stays names d n ks b e
-stays names d sender (commands.Block n ns) b e = records-stay d sender (commands.Block n ns) b e
-stays names d sender (commands.Unblock n ns) b e = records-stay d sender (commands.Unblock n ns) b e
-stays names d sender (commands.Forwarded n text) b e = records-stay d sender (commands.Forwarded n text) b e
-stays names d sender (commands.NotForwarded n) b e = records-stay d sender (commands.NotForwarded n) b e
-stays names d sender (commands.Owner n who) b e = records-stay d sender (commands.Owner n who) b e
-stays names d sender (commands.NoOwner n) b e = records-stay d sender (commands.NoOwner n) b e
-stays names d sender (commands.Archive n) b e = records-stay d sender (commands.Archive n) b e
-stays names d sender (commands.Unarchive n) b e = records-stay d sender (commands.Unarchive n) b e
-stays names d sender (commands.Affects n step packages) b e = records-stay d sender (commands.Affects n step packages) b e
+stays names d sender command b e = records-stay d sender command b e
 
 -- the first bug is there where none is refused
 first-there : (may_be : Bool) (o : Option Bug) (n : ℕ) (p : Option Refusal) → option_or (bug_refusal may_be o n) p ≡ None

@@ -5,8 +5,7 @@ ghost use Rattle.script_tests.specs.Fails.{faults_with};
 
 use ancestry::BranchFault;
 use bug_record::{Change, Numbers, Outcome, Sequence, SetImage, StoreFault};
-use desk_store::Records;
-use message_machine::Kept;
+use desk_store::{Kept, Records};
 use set_images::ListRow;
 use version_nodes::Node;
 

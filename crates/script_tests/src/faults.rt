@@ -3,8 +3,8 @@
 use crate::fails::Fails;
 use crate::scripts::writes;
 use bug_record::StoreFault;
+use desk_in_memory::PlainDesk;
 use desk_run::{ScriptEnd, ScriptFault, run_script};
-use desk_store::PlainDesk;
 use std::alloc::Global;
 use std::process::Abort;
 

@@ -1,8 +1,9 @@
 //! A message with an id for whose lines there is no memory.
 
 use bug_record::StoreFault;
+use desk_in_memory::PlainDesk;
 use desk_run::{OnceFault, Received, receive_once};
-use desk_store::{PlainDesk, Records};
+use desk_store::Records;
 use std::alloc::{AllocError, Global};
 use std::test::Fail;
 use store_trials::Held;

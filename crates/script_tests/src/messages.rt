@@ -2,8 +2,9 @@
 
 use crate::stores::failing;
 use bug_record::{End, StoreFault};
+use desk_in_memory::PlainDesk;
 use desk_run::{Received, receive, received_text};
-use desk_store::{PlainDesk, Records};
+use desk_store::Records;
 use std::alloc::{AllocError, Global};
 use std::test::Fail;
 

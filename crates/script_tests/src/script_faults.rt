@@ -2,8 +2,8 @@
 //! never ends.
 
 use crate::scripts::{REPORTED, SCRIPT, WRITTEN};
+use desk_in_memory::PlainDesk;
 use desk_run::{ScriptEnd, ScriptFault, run_script};
-use desk_store::PlainDesk;
 use std::alloc::Global;
 use test_desks::{Failure, Feed, Round, Sink};
 

@@ -1,7 +1,8 @@
 //! Scripts over readers and writers that fail.
 
+use desk_in_memory::PlainDesk;
 use desk_run::{ScriptEnd, ScriptFault, run_script};
-use desk_store::{PlainDesk, Records};
+use desk_store::Records;
 use std::alloc::{AllocError, Global};
 use std::test::Fail;
 use test_desks::{Failure, Feed, Sink};

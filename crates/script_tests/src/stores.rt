@@ -2,8 +2,9 @@
 
 use crate::scripts::writes;
 use bug_record::StoreFault;
+use desk_in_memory::{FailAt, PlainDesk};
 use desk_run::{ScriptEnd, ScriptFault, run_script};
-use desk_store::{FailAt, PlainDesk, Records};
+use desk_store::Records;
 use std::alloc::Global;
 
 /// Reports of three bugs of the package foo, with version 1 and severity normal.

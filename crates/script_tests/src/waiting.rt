@@ -3,7 +3,8 @@
 use crate::fails::Fails;
 use crate::stores::{REPORTS, written};
 use bug_record::StoreFault;
-use desk_store::{PlainDesk, Records};
+use desk_in_memory::PlainDesk;
+use desk_store::Records;
 use std::alloc::Global;
 
 // How many images a store has been given after a script.

@@ -1,11 +1,11 @@
 use Rattle.std.proofs.Common.{subst}
 use Rattle.desk_answers.proofs.RepeatLemmas.{stored_same}
 use Rattle.desk_answers.specs.Stored.{Stored}
-use Rattle.desk_store.specs.KeptMessages.{keeping_of}
+use Rattle.desk_in_memory.specs.KeptMessages.{keeping_of}
 use Rattle.desk_store.specs.Store.{no_faults}
 use Rattle.bugs_in_memory.specs.Plain.{desk_of}
-use Rattle.desk_server.specs.Serving.{IsInTurn}
-use Rattle.desk_server.proofs.ServingLemmas.{in_turn}
+use Rattle.desk_http.specs.Serving.{IsInTurn}
+use Rattle.desk_http.proofs.ServingLemmas.{in_turn}
 use Rattle.bts_jobs.proofs.ServerLemmas.{serves_weaker}
 use Rattle.bts_jobs.proofs.server.serve_job.Goals as goal
 

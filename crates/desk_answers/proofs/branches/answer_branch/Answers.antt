@@ -1,8 +1,8 @@
 use Rattle.std.proofs.Common.{Global, map, string_bytes, subst, Err}
 use Rattle.desk_store.proofs.HoldsLemmas.{holds_none}
 use Rattle.version_nodes.specs.declared.fault.NodeFault.{NodeFault}
-use Rattle.desk_questions.specs.Branches.{nodes_of}
-use Rattle.desk_questions.specs.BranchWords.{AreRead}
+use Rattle.desk_directives.specs.Branches.{nodes_of}
+use Rattle.desk_directives.specs.BranchWords.{AreRead}
 use Rattle.desk_answers.proofs.AnswerLemmas.{branch_unread}
 use Rattle.desk_answers.proofs.branches.answer_branch.Goals as goal
 

@@ -1,5 +1,5 @@
 use Rattle.std.proofs.Common.{◌≡◌, map, string_bytes}
-use Rattle.desk_questions.specs.Branches.{nodes_of}
+use Rattle.desk_directives.specs.Branches.{nodes_of}
 use Rattle.desk_answers.proofs.NodesLemmas.{nodes_from}
 use Rattle.desk_answers.proofs.branches.read_nodes.Given as goal
 

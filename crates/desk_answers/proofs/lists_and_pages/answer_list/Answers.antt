@@ -1,9 +1,9 @@
 use Rattle.std.proofs.Common.{List, ℕ, subst, string_bytes}
 use Rattle.desk_store.proofs.HoldsLemmas.{holds_weaker}
-use Rattle.desk_questions.specs.Questions.{list_told, AsksForList, IsTold}
-use Rattle.desk_answers.specs.Requests.{GetList}
+use Rattle.desk_directives.specs.Questions.{list_told, AsksForList, IsTold}
+use Rattle.desk_requests.specs.Requests.{GetList}
 use Rattle.desk_answers.specs.Faults.{IsAnswer}
-use Rattle.desk_answers.specs.Shown.{shown}
+use Rattle.desk_requests.specs.Shown.{shown}
 use Rattle.desk_answers.proofs.AnswerLemmas.{list_right}
 use Rattle.desk_answers.proofs.lists_and_pages.answer_list.Goals as goal
 

@@ -1,10 +1,10 @@
 use Rattle.std.proofs.Common.{◌≡◌, ◌∙◌, List, ℕ, subst, string_bytes}
 use Rattle.desk_lines.specs.Lines.{lines_of}
-use Rattle.message_machine.specs.Message.{IsReceived}
+use Rattle.desk_store.specs.Message.{IsReceived}
 use Rattle.desk_store.proofs.HoldsLemmas.{holds_weaker}
-use Rattle.desk_answers.specs.Requests.{PostControl}
+use Rattle.desk_requests.specs.Requests.{PostControl}
 use Rattle.desk_answers.specs.Faults.{IsAnswer}
-use Rattle.desk_answers.specs.Shown.{shown}
+use Rattle.desk_requests.specs.Shown.{shown}
 use Rattle.desk_answers.specs.Cases.{AnswersEnd}
 use Rattle.desk_answers.proofs.MessageLemmas.{message_right}
 use Rattle.desk_answers.proofs.messages.answer_message.Goals as goal

@@ -4,7 +4,7 @@ use Rattle.desk_store.specs.Store.{Holds}
 use Rattle.desk_store.proofs.HoldsLemmas.{holds_weaker}
 use Rattle.desk_repeats.specs.Once.{IsOnce}
 use Rattle.desk_answers.specs.Cases.{AnswersEnd}
-use Rattle.desk_answers.specs.Shown.{message_asked}
+use Rattle.desk_requests.specs.Shown.{message_asked}
 use Rattle.desk_answers.specs.Stored.{stored}
 use Rattle.desk_answers.proofs.RepeatLemmas.{once_right}
 use Rattle.desk_answers.proofs.once.answer_once.Goals as goal

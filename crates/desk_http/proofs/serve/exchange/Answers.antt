@@ -1,16 +1,16 @@
 use Rattle.std.proofs.Common.{rules, ◌≡◌, Option, Some, refl, sym, subst, take}
 use Rattle.bug_record.specs.declared.outcome.StoreFault.{StoreFault}
 use Rattle.bug_record.specs.declared.outcome.StoreFault.TheVariants.{Memory}
-use Rattle.request_reading.specs.Found.{IsFound}
-use Rattle.request_reading.specs.declared.head.Head.{Head}
+use Rattle.connection_bytes.specs.Found.{IsFound}
+use Rattle.connection_bytes.specs.declared.head.Head.{Head}
 use Rattle.desk_store.proofs.HoldsLemmas.{holds_none, holds_weaker}
 use Rattle.desk_answers.specs.Faults.{counted_with}
-use Rattle.desk_answers.specs.Shown.{shown}
+use Rattle.desk_requests.specs.Shown.{shown}
 use Rattle.desk_answers.specs.Stored.{stored}
 use Rattle.desk_http.specs.Exchange.{IsRight}
-use Rattle.desk_http.specs.Shown.{asks}
+use Rattle.desk_requests.specs.Refused.{asks}
 use Rattle.desk_http.proofs.ExchangeLemmas.{complete_right, asked_right, memory_right, not_wrong}
-use Rattle.desk_http.proofs.TakenLemmas.{takes_head, takes_behind}
+use Rattle.desk_requests.proofs.TakenLemmas.{takes_head, takes_behind}
 use Rattle.desk_http.proofs.serve.exchange.Goals as goal
 
 pub returns-in-Err-Memory-clause-answer : goal.returns-in-Err-Memory-clause-answer

@@ -1,6 +1,6 @@
 use Rattle.std.proofs.Common.{rules, refl}
 use Rattle.desk_store.proofs.HoldsLemmas.{holds_weaker}
-use Rattle.desk_answers.specs.Shown.{shown}
+use Rattle.desk_requests.specs.Shown.{shown}
 use Rattle.desk_http.proofs.ExchangeLemmas.{wrong_served, wrong_unwritten}
 use Rattle.desk_http.proofs.serve.serve_one.Goals as goal
 

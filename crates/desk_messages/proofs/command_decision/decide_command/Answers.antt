@@ -1,6 +1,6 @@
 use Rattle.std.proofs.Common.{◌++◌, ap, ◌∙◌}
 use Rattle.std.proofs.lemmas.Result.{IfOk-weaker}
-use Rattle.message_machine.specs.Message.{names_of}
+use Rattle.desk_store.specs.Message.{names_of}
 use Rattle.desk_messages.proofs.PlanInputLemmas.{asks_where, answers_weaker}
 use Rattle.desk_messages.proofs.CommandLemmas.{decides_told, fits_now}
 use Rattle.desk_messages.proofs.GivenLemmas.{of_bugs, have-more}

@@ -1,6 +1,6 @@
 use Rattle.std.proofs.Common.{◌∙◌, sym, ap, subst, refl}
 use Rattle.desk_store.proofs.HoldsLemmas.{holds_none, holds_then}
-use Rattle.message_machine.specs.Message.{machine, unreadable_count, end_of, known_names}
+use Rattle.desk_store.specs.Message.{machine, unreadable_count, end_of, known_names}
 use Rattle.desk_messages.specs.Commands.{HaveNumbers}
 use Rattle.desk_messages.specs.Taking.{goes_on}
 use Rattle.desk_messages.proofs.EndLemmas.{at_start_open}

@@ -1,6 +1,6 @@
 use Rattle.std.proofs.Common.{◌≡◌, take}
 use Rattle.desk_store.specs.Store.{Holds}
-use Rattle.message_machine.specs.Message.{after_lines, at_start, machine}
+use Rattle.desk_store.specs.Message.{after_lines, at_start, machine}
 use Rattle.desk_messages.specs.Commands.{HaveNumbers}
 use Rattle.desk_messages.specs.Taking.{IsInStep}
 use Rattle.desk_messages.proofs.message.receive_lines.Given as goal

@@ -1,5 +1,5 @@
 use Rattle.std.proofs.Common.{arith, sym, ◌∙◌}
-use Rattle.message_machine.specs.Message.{is_unreadable}
+use Rattle.desk_store.specs.Message.{is_unreadable}
 use Rattle.desk_messages.proofs.EndLemmas.{few, one_at_most, count-push, end_at_stop, end_at_fifth, end_not_yet}
 use Rattle.desk_messages.proofs.outcomes_so_far.settle.Goals as goal
 

@@ -4,7 +4,7 @@ use Rattle.std.proofs.lemmas.List.{take_all}
 use Rattle.desk_messages.specs.Taking.{goes_on}
 use Rattle.desk_messages.proofs.MachineLemmas.{goes_on-all, settled_faults, settled_line}
 use Rattle.desk_store.proofs.HoldsLemmas.{holds_weaker}
-use Rattle.message_machine.specs.Kept.{lines_told}
+use Rattle.desk_store.specs.Kept.{lines_told}
 use Rattle.desk_repeats.proofs.GoingLemmas.{carry, carry_both, going-first, going-more, going-all, resumes-ended, resumes-failed-in}
 use Rattle.desk_repeats.proofs.ToldLemmas.{lines-more, place-of}
 use Rattle.desk_repeats.proofs.going_on.go_on.Goals as goal

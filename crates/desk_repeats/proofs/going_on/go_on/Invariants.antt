@@ -1,6 +1,6 @@
 use Rattle.std.proofs.Common.{◌≡◌, ◌≤◌, length, take, drop}
 use Rattle.desk_store.specs.Store.{Holds}
-use Rattle.message_machine.specs.Kept.{lines_told}
+use Rattle.desk_store.specs.Kept.{lines_told}
 use Rattle.desk_messages.specs.Taking.{IsInStep}
 use Rattle.desk_repeats.specs.GoingOn.{IsBegun}
 use Rattle.desk_repeats.proofs.GoingLemmas.{Going}

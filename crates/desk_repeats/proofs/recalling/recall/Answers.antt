@@ -3,8 +3,8 @@ use Rattle.std.specs.Prelude.{slice_get}
 use Rattle.std.proofs.lemmas.Bool.{false≢true}
 use Rattle.std.proofs.lemmas.Option.{slice_get_read}
 use Rattle.bug_record.specs.Clones.{name_refusal}
-use Rattle.message_machine.specs.Message.{unreadable_count, known_names, end_of}
-use Rattle.message_machine.specs.Kept.{new_names}
+use Rattle.desk_store.specs.Message.{unreadable_count, known_names, end_of}
+use Rattle.desk_store.specs.Kept.{new_names}
 use Rattle.desk_messages.proofs.EndLemmas.{at_start_open}
 use Rattle.desk_repeats.specs.declared.recalling.RecallFault.TheVariants.{Mismatch}
 use Rattle.desk_repeats.proofs.ToldLemmas.{told-taken}

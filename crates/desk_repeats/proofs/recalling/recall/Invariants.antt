@@ -1,6 +1,6 @@
 use Rattle.std.proofs.Common.{◌≡◌, ◌≤◌, length, take}
-use Rattle.message_machine.specs.Message.{end_of, unreadable_count, known_names}
-use Rattle.message_machine.specs.Kept.{lines_told, told}
+use Rattle.desk_store.specs.Message.{end_of, unreadable_count, known_names}
+use Rattle.desk_store.specs.Kept.{lines_told, told}
 use Rattle.desk_repeats.proofs.recalling.recall.Given as goal
 
 abbrev pub invariant-loop-i : goal.invariant-loop-i

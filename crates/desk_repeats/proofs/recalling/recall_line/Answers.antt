@@ -1,5 +1,5 @@
 use Rattle.std.proofs.Common.{◌++◌, ◌∙◌, ap, refl}
-use Rattle.message_machine.specs.Message.{names_of}
+use Rattle.desk_store.specs.Message.{names_of}
 use Rattle.desk_repeats.proofs.RecallLemmas.{ready-recalled, recalled-some, recalled-none}
 use Rattle.desk_repeats.proofs.recalling.recall_line.Goals as goal
 

@@ -2,7 +2,7 @@ use Rattle.std.proofs.Common.{Global, rules, ◌≡◌, ◌<◌, ℕ, List, ◌�
 use Rattle.std.specs.Prelude.{option_map}
 use Rattle.control_text.specs.Words.{words}
 use Rattle.version_nodes.specs.Nodes.{Node}
-use Rattle.desk_questions.specs.Branches.{nodes_of}
+use Rattle.desk_directives.specs.Branches.{nodes_of}
 use Rattle.desk_run.proofs.BranchLemmas.{no_bytes, some_bytes, nodes-all, nodes-more, unread, map_all}
 use Rattle.desk_run.proofs.branch.read_nodes.Goals as goal
 

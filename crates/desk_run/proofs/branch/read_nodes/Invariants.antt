@@ -2,7 +2,7 @@ use Rattle.std.proofs.Common.{◌≡◌, length, ◌++◌}
 use Rattle.std.specs.Prelude.{option_map}
 use Rattle.std.specs.Str.{IsUtf8}
 use Rattle.control_text.specs.Words.{words}
-use Rattle.desk_questions.specs.Branches.{nodes_of}
+use Rattle.desk_directives.specs.Branches.{nodes_of}
 use Rattle.desk_run.proofs.branch.read_nodes.Given as goal
 
 abbrev pub invariant-loop-word : goal.invariant-loop-word

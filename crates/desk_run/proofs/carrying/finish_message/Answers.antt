@@ -2,7 +2,7 @@ use Rattle.std.proofs.Common.{ℕ, ◌<◌, length, List, take, ◌∙◌, sym, 
 use Rattle.std.specs.Prelude.{◌||◌}
 use Rattle.std.specs.Io.KnownBytes.{Appends}
 use Rattle.desk_store.proofs.HoldsLemmas.{holds_weaker}
-use Rattle.desk_messages.specs.Transcripts.{received_text}
+use Rattle.desk_directives.specs.Transcripts.{received_text}
 use Rattle.desk_run.specs.Script.{Message, standing}
 use Rattle.desk_run.proofs.PartLemmas.{untold, received_carried, received_fault, received_whole, end_count, message_count}
 use Rattle.desk_run.proofs.carrying.finish_message.Goals as goal

@@ -1,0 +1,37 @@
+-- The body of a request, out of the bytes after its head (RFC 9112, section 6).
+use Rattle.std.specs.Prelude.{ℕ, ◌-◌, ◌≤◌, if◌then◌else◌, nat_le, List, length, take, Option, Some, None, Result, Ok, Err, Vec}
+use Rattle.std.specs.Io.KnownBytes.{Consumes, Keeps}
+use Rattle.std.specs.declared.alloc.Global.{Global}
+use Rattle.connection_bytes.specs.Headers.{body_length}
+use Rattle.connection_bytes.specs.declared.refusal.BodyRefusal.{BodyRefusal}
+use Rattle.connection_bytes.specs.declared.refusal.BodyRefusal.TheVariants.{BadRequest}
+
+-- the first n bytes, where there are so many; a body that is cut is refused
+unfoldable pub whole : ℕ → List ℕ → Result (List ℕ) BodyRefusal
+whole n rest = if nat_le n (length rest) then Ok (take n rest) else Err BadRequest
+
+-- the body of this length
+abbrev pub body_of_length : Result ℕ BodyRefusal → List ℕ → Result (List ℕ) BodyRefusal
+body_of_length (Err refusal) rest = Err refusal
+body_of_length (Ok n) rest = whole n rest
+
+-- the body of a request with these headers, out of the bytes after its head
+abbrev pub body_of : List (List ℕ × List ℕ) → List ℕ → Result (List ℕ) BodyRefusal
+body_of headers rest = body_of_length (body_length headers) rest
+
+-- the bytes of a body, or its refusal
+abbrev pub shown : Result (Vec ℕ Global) BodyRefusal → Result (List ℕ) BodyRefusal
+shown (Ok body) = Ok body.items
+shown (Err refusal) = Err refusal
+
+-- the size of the body that is read, by what the headers say of its length
+abbrev pub size_told : Result ℕ BodyRefusal → Option ℕ
+size_told (Ok n) = Some n
+size_told (Err refusal) = None
+
+-- What a reader gave for a body of this size, where these bytes had come before: none after the
+-- body, and none where no body is read.
+abbrev pub TakesBody : Option ℕ → List ℕ → Option (List ℕ) → Option (List ℕ) → Type 0
+TakesBody None here old new = Keeps old new
+TakesBody (Some size) here old new =
+    (more : List ℕ) × Consumes old new more × (length more ≤ size - length here)

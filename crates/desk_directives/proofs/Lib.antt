@@ -1,0 +1,4 @@
+pub mod QuestionLemmas
+pub mod BranchLemmas
+pub mod ListedLemmas
+pub mod ReportLemmas

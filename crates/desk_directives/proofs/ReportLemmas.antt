@@ -1,0 +1,81 @@
+-- A report that is carried out in parts.
+use Rattle.std.proofs.Common.{◌≡◌, ◌≤◌, ◌<◌, ℕ, Bool, true, false, List, Option, Result, Ok, Err, sym, ◌∙◌, ap, refl, arith}
+use Rattle.std.proofs.Common.{subst}
+use Rattle.std.specs.Prelude.{nat_lt, if◌then◌else◌, OnOk}
+use Rattle.std.proofs.lemmas.Bool.Decides.{nat_tests}
+use Rattle.bug_record.specs.Desk.{Desk}
+use Rattle.bug_record.specs.Steps.{reported}
+use Rattle.bug_record.specs.declared.severity.Severity.{Severity}
+use Rattle.bug_record.specs.declared.outcome.ReportFault.{ReportFault}
+use Rattle.bug_record.specs.declared.outcome.ReportFault.TheVariants.{BadPackage, BadVersion, BadSeverity, BadTitle, Full, Store}
+use Rattle.desk_store.specs.Store.{Faults}
+use Rattle.desk_directives.specs.Reports.{node_reported, report_severity, desk_reported, report_of, IsReported}
+use Rattle.desk_directives.specs.ReportWords.{IsOfWords}
+use Rattle.desk_directives.specs.Reports.{faults_after_report, FollowsNext, AsksForNext}
+use Rattle.bug_record.specs.declared.outcome.StoreFault.{StoreFault}
+
+-- words that are refused
+words_of : (sender p : List ℕ) (v : Option (List ℕ)) (s t : List ℕ) (d : Desk) (fault : ReportFault)
+    → Err fault ≡ report_severity p v s t → report_of d sender p v s t ≡ Err fault
+unfolding report_of
+words_of sender p v s t d fault e = ap (λ r. desk_reported r d sender p v t) (sym e)
+
+pub words_refused : (sender p : List ℕ) (v : Option (List ℕ)) (s t : List ℕ) (d : Desk) (fault : ReportFault) → IsOfWords fault
+    → Err fault ≡ report_severity p v s t → IsReported sender p v s t d (Err fault) d
+words_refused sender p v s t d BadPackage o e = (words_of sender p v s t d BadPackage e, refl)
+words_refused sender p v s t d BadVersion o e = (words_of sender p v s t d BadVersion e, refl)
+words_refused sender p v s t d BadSeverity o e = (words_of sender p v s t d BadSeverity e, refl)
+words_refused sender p v s t d BadTitle o e = (words_of sender p v s t d BadTitle e, refl)
+words_refused sender p v s t d Full o e = absurd o
+words_refused sender p v s t d (Store fault) o e = absurd o
+
+pub words_not_counted : (fault : ReportFault) (faults : Faults) → IsOfWords fault
+    → faults ≡ faults_after_report (Err fault) faults
+words_not_counted Full faults o = absurd o
+words_not_counted (Store fault) faults o = absurd o
+words_not_counted _ faults o = refl
+
+-- no number is left
+pub report_full : (sender p : List ℕ) (v : Option (List ℕ)) (s t : List ℕ) (d e : Desk) (severity : Severity) (next : ℕ)
+    → Ok severity ≡ report_severity p v s t → (next ≡ d.next) × (e ≡ d) → 1000000000 ≤ next
+    → IsReported sender p v s t d (Err Full) e
+unfolding report_of
+report_full sender p v s t d e severity next w n le =
+    let m : d.next ≡ next = sym n.0 in
+    let b : nat_lt d.next 1000000000 ≡ false = grind (arith, nat_tests) in (
+      ap (λ r. desk_reported r d sender p v t) (sym w)
+          ∙ ap (λ (x : Bool). if x then Ok (reported d sender p severity t (node_reported p v)) else Err Full) b,
+      n.1,
+    )
+
+-- the new bug is there
+pub report_done : (sender p : List ℕ) (v : Option (List ℕ)) (s t : List ℕ) (d e new : Desk) (severity : Severity) (next : ℕ)
+    → Ok severity ≡ report_severity p v s t → (next ≡ d.next) × (e ≡ d) → next < 1000000000
+    → new ≡ reported e sender p severity t (node_reported p v) → IsReported sender p v s t d (Ok next) new
+unfolding report_of
+report_done sender p v s t d e new severity next w n lt is =
+    let m : d.next ≡ next = sym n.0 in
+    let b : nat_lt d.next 1000000000 ≡ true = grind (arith, nat_tests) in (
+      ap (λ r. desk_reported r d sender p v t) (sym w)
+          ∙ (ap (λ (x : Bool). if x then Ok (reported d sender p severity t (node_reported p v)) else Err Full) b
+          ∙ ap Ok (ap (λ (z : Desk). reported z sender p severity t (node_reported p v)) (sym n.1) ∙ sym is)),
+      n.0,
+    )
+
+-- a report whose words are refused asks for no number
+pub asks_not : {S : Type 0} (gives : S → S → Result ℕ StoreFault → Type 0) (old : S) (words : Result Severity ReportFault)
+    (fault : ReportFault) (answer : Result ℕ ReportFault) → Err fault ≡ words → OnOk words (AsksForNext gives old answer)
+asks_not gives old words fault answer e =
+    subst (λ (r : Result Severity ReportFault). OnOk r (AsksForNext gives old answer)) e tt
+
+-- one whose words are good asks for it first
+pub asks_first : {S : Type 0} (gives : S → S → Result ℕ StoreFault → Type 0) (old asked : S) (words : Result Severity ReportFault)
+    (severity : Severity) (next : Result ℕ StoreFault) (answer : Result ℕ ReportFault) → Ok severity ≡ words
+    → gives old asked next → FollowsNext next answer → OnOk words (AsksForNext gives old answer)
+asks_first gives old asked words severity next answer e given follows =
+    subst (λ (r : Result Severity ReportFault). OnOk r (AsksForNext gives old answer)) e
+    (record { next = next; asked = asked; gives = given; follows = follows })
+
+-- where a number is left
+pub some_left : (next : ℕ) (answer : Result ℕ ReportFault) → next < 1000000000 → FollowsNext (Ok next) answer
+some_left next answer few many = absurd (omega (arith, few, many))

@@ -1,0 +1,18 @@
+//! What directives and requests ask of a desk, over any store of it: reports, lists of bugs, pages
+//! of bugs, and the words of branches; and the transcripts of messages.
+#![tactic(auto)]
+
+mod laws;
+mod lists;
+mod pages;
+mod reporting;
+mod told;
+mod transcript;
+
+pub use bug_record::ReportFault;
+pub use laws::a_list_has_the_bugs_found_there;
+pub use lists::list_of;
+pub use pages::page_of;
+pub use reporting::report;
+pub use told::{QuestionFault, Told};
+pub use transcript::{received_bytes, received_text};

@@ -1,0 +1,139 @@
+//! Reports of bugs.
+
+ghost use Rattle.std.specs.Prelude.{◌≡◌, false, is_some, OnOk, IfOk, IfErr};
+ghost use Rattle.std.specs.Option.{option_copied};
+ghost use Rattle.debver.specs.Names.{IsName, name_fault};
+ghost use Rattle.debver.specs.Cut.{IsVersion};
+ghost use Rattle.bug_record.specs.Texts.{IsText, IfGiven};
+ghost use Rattle.desk_store.specs.Store.{Holds};
+ghost use Rattle.desk_directives.specs.Reports.{has_bad_version, node_reported, report_severity, IsReported};
+ghost use Rattle.desk_directives.specs.ReportWords.{IsOfWords};
+ghost use Rattle.desk_directives.specs.Reports.{faults_after_report, AsksForNext};
+
+use bug_core::{is_text, report_change};
+use bug_record::{ReportFault, Severity, StoreFault};
+use debver::{check, check_name};
+use desk_store::Records;
+use line_words::AFTER_LARGEST;
+use std::alloc::Global;
+use version_nodes::{Node, NodeFault};
+
+fn has_bad_version(version: Option<&str>) -> bool
+    ensures value { result ≡ has_bad_version (option_copied version.entry) }
+    ensures version { result ≡ false → IfGiven IsVersion (option_copied version.entry) }
+{
+    match version {
+        Some(version) => check(version).is_err(),
+        None => false,
+    }
+}
+
+fn has_bad_name(package: &str) -> bool
+    ensures value { result ≡ is_some (name_fault «package».now) }
+    ensures name { result ≡ false → IsName «package».now }
+{
+    match check_name(package) {
+        Ok(()) => false,
+        Err(_) => true,
+    }
+}
+
+// The severity of a report whose words are good, or its first refusal.
+#[tactic(auto, unfolding(crate::specs::Reports::report_severity))]
+fn report_severity(
+    package: &str,
+    version: Option<&str>,
+    severity: &str,
+    title: &str,
+) -> Result<Severity, ReportFault>
+    ensures value { result ≡ report_severity «package».now (option_copied version.entry) severity.now title.now }
+    ensures named { OnOk result (IsName «package».now) }
+    ensures titled { OnOk result (IsText title.now) }
+    ensures versioned { OnOk result (IfGiven IsVersion (option_copied version.entry)) }
+    ensures own { IfErr result IsOfWords }
+{
+    if has_bad_name(package) {
+        return Err(ReportFault::BadPackage);
+    }
+    if has_bad_version(version) {
+        return Err(ReportFault::BadVersion);
+    }
+    match Severity::read(severity) {
+        None => Err(ReportFault::BadSeverity),
+        Some(severity) => {
+            if is_text(title) {
+                Ok(severity)
+            } else {
+                Err(ReportFault::BadTitle)
+            }
+        }
+    }
+}
+
+// The node of a report: the version of the package, if one is given.
+fn node_reported(
+    alloc: Global,
+    package: &str,
+    version: Option<&str>,
+) -> Result<Option<Node>, ReportFault>
+    requires name { IsName «package».now }
+    requires version { IfGiven IsVersion (option_copied version) }
+    ensures node { IfOk result (λ node. node ≡ node_reported «package».now (option_copied version.entry)) }
+    ensures memory { IfErr result (λ fault. fault ≡ ReportFault.Store StoreFault.Memory) }
+{
+    let Some(version) = version else {
+        return Ok(None);
+    };
+    match Node::at(alloc, package, version) {
+        Ok(node) => Ok(Some(node)),
+        Err(NodeFault::BadNode) => unreachable!(),
+        Err(NodeFault::Memory) => Err(ReportFault::Store(StoreFault::Memory)),
+    }
+}
+
+/// Takes a report: a new bug of the next number, open and merged with none, whose submitter is the
+/// sender, and which is found in the version of its package, if one is given.
+/// Answers its number.
+/// Where its words are good, the store is asked for the next number first, so that `Full` is
+/// answered first, also where memory runs out later.
+pub fn report<S: Records>(
+    alloc: Global,
+    store: &mut S,
+    from: &str,
+    package: &str,
+    version: Option<&str>,
+    severity: &str,
+    title: &str,
+) -> Result<u64, ReportFault>
+    requires { IsText from.now }
+    ensures answer { Holds S.is_kept S.is_honest store.old store.new
+        (IsReported from.now «package».now (option_copied version.entry) severity.now title.now (S.desk store.old) result
+        (S.desk store.new)) }
+    ensures stays { Holds S.is_kept S.is_honest store.old store.new (S.keeping store.new ≡ S.keeping store.old) }
+    ensures first { OnOk (report_severity «package».now (option_copied version.entry) severity.now title.now)
+        (AsksForNext S.next_gives store.old result) }
+    ensures count { S.faults store.new ≡ faults_after_report result (S.faults store.old) }
+{
+    let severity = match report_severity(package, version, severity, title) {
+        Ok(severity) => severity,
+        Err(fault) => return Err(fault),
+    };
+    let next = match store.next() {
+        Ok(next) => next,
+        Err(fault) => return Err(ReportFault::Store(fault)),
+    };
+    if next >= AFTER_LARGEST {
+        return Err(ReportFault::Full);
+    }
+    let node = match node_reported(alloc, package, version) {
+        Ok(node) => node,
+        Err(fault) => return Err(fault),
+    };
+    let Ok(change) = report_change(alloc, from, package, severity, title, node, next) else {
+        return Err(ReportFault::Store(StoreFault::Memory));
+    };
+    match store.apply(&change) {
+        Ok(()) => Ok(next),
+        Err(fault) => Err(ReportFault::Store(fault)),
+    }
+}

@@ -1,0 +1,2 @@
+pub mod FailAt
+pub mod KeptMessages

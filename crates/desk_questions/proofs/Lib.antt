@@ -1,3 +1,0 @@
-pub mod QuestionLemmas
-pub mod BranchLemmas
-pub mod ListedLemmas

@@ -1,5 +1,0 @@
-use Rattle.std.proofs.Common.{rules}
-use Rattle.desk_questions.proofs.lists.list_at.Goals as goal
-
-pub returns-in-Ok-list_text-clause-answer : goal.returns-in-Ok-list_text-clause-answer
-returns-in-Ok-list_text-clause-answer g c = search rules

@@ -1,5 +1,0 @@
-use Rattle.desk_repeats.proofs.OneLemmas.{took_one}
-use Rattle.desk_repeats.proofs.laws.a_kept_outcome_takes_its_line.Goals as goal
-
-pub returns : goal.returns
-returns c = took_one

@@ -1,0 +1,3 @@
+pub mod WrittenLemmas
+pub mod RequestLemmas
+pub mod TakenLemmas

@@ -1,0 +1,20 @@
+//! Requests to a desk over HTTP, and their answers, without the desk.
+//! What a request asks, out of its bytes; why it is refused before it is carried out; and the bytes
+//! of an answer.
+#![tactic(auto)]
+
+mod asking;
+mod bodies;
+mod laws;
+mod paths;
+mod refusal;
+mod reply;
+mod request;
+mod writing;
+
+pub use asking::ask;
+pub use laws::{an_input_has_one_request, nothing_is_taken_after_a_request};
+pub use refusal::{Refusal, refuse};
+pub use reply::{Body, Reply, json_reply, not_found, page_reply, store_fault};
+pub use request::{ListRequest, MessageRequest, OnceRequest, ReportRequest, Request};
+pub use writing::{write_reply, write_three};

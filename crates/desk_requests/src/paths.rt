@@ -1,0 +1,70 @@
+//! What the path of a request asks.
+
+ghost use Rattle.std.specs.Prelude.{◌≡◌, IfOk, option_map, string_bytes};
+ghost use Rattle.desk_requests.specs.Requests.{IsGoodAsked};
+ghost use Rattle.desk_requests.specs.Shown.{asked};
+ghost use Rattle.desk_requests.specs.Asking.{page_by, list_by, route_of};
+ghost use Rattle.desk_requests.specs.Refused.{asks};
+
+use crate::refusal::Refusal;
+use crate::request::{ListRequest, Request};
+use control_text::number_word;
+use routes_and_json::{ListParts, Route, decoded_text, find_route};
+use std::alloc::{AllocError, Global};
+use std::str;
+
+/// The page that a part of a path asks for.
+///
+/// # Errors
+///
+/// Where there is no memory for the text of the part.
+#[tactic(auto, unfolding(crate::specs::Asking::page_by))]
+pub(crate) fn ask_page(alloc: Global, part: &[u8]) -> Result<Result<Request, Refusal>, AllocError>
+    ensures asks { IfOk result (λ asked. asks asked ≡ page_by part.now) }
+    ensures sender { IfOk result (λ made. IfOk made (λ request. IsGoodAsked (asked request))) }
+{
+    let Some(word) = decoded_text(alloc, part)? else {
+        return Ok(Err(Refusal::NotFound));
+    };
+    match number_word(word.as_str()) {
+        Some(number) => Ok(Ok(Request::Page(number))),
+        None => Ok(Err(Refusal::NotFound)),
+    }
+}
+
+/// The list that the parts of a path ask for.
+///
+/// # Errors
+///
+/// Where there is no memory for the texts of the parts.
+#[tactic(auto, unfolding(crate::specs::Asking::list_by))]
+pub(crate) fn ask_list(
+    alloc: Global,
+    parts: ListParts<'_>,
+) -> Result<Result<Request, Refusal>, AllocError>
+    ensures asks { IfOk result (λ asked. asks asked ≡ list_by parts.entry.«package».now parts.entry.version.now) }
+    ensures sender { IfOk result (λ made. IfOk made (λ request. IsGoodAsked (asked request))) }
+{
+    let Some(package) = decoded_text(alloc, parts.package)? else {
+        return Ok(Err(Refusal::NotFound));
+    };
+    let Some(version) = decoded_text(alloc, parts.version)? else {
+        return Ok(Err(Refusal::NotFound));
+    };
+    Ok(Ok(Request::ListOf(ListRequest { package, version })))
+}
+
+/// The route of a path, which has none where it is no UTF-8.
+///
+/// # Errors
+///
+/// Where there is no memory for the routes.
+#[tactic(auto, unfolding(crate::specs::Asking::route_of))]
+pub(crate) fn route_of(alloc: Global, path: &[u8]) -> Result<Option<Route>, AllocError>
+    ensures { IfOk result (λ route. route ≡ route_of path.now) }
+{
+    match str::from_utf8(path) {
+        Ok(path) => find_route(alloc, path),
+        Err(_) => Ok(None),
+    }
+}

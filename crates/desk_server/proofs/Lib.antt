@@ -1,3 +1,0 @@
-mod HeldLemmas
-pub mod ServingLemmas
-mod CountLemmas

@@ -1,4 +1,0 @@
-use Rattle.desk_server.proofs.exchange.drain.Given as goal
-
-abbrev pub decreases-loop-left : goal.decreases-loop-left
-decreases-loop-left g l = l.left

@@ -1,5 +1,0 @@
-use Rattle.std.proofs.Common.{rules}
-use Rattle.desk_server.proofs.port.serve_port.Goals as goal
-
-pub returns-clause-bind : goal.returns-clause-bind
-returns-clause-bind g c = search rules

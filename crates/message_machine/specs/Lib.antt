@@ -1,3 +1,0 @@
-pub use Rattle.line_words.specs.Ids
-pub mod Message
-pub mod Kept
