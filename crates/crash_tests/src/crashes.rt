@@ -1,14 +1,13 @@
 //! Desks that crash or are closed between two calls, and are opened again.
 
 use crate::desks::{desk_after, writes};
-use crate::tasks::{Came, CrashTask, new_files, over_new_files};
+use crate::tasks::{Came, CrashTask, over_new_files};
 use desk_crashes::{close_and_crash, close_and_open, crash_and_open};
 use desk_tables::TableDesk;
 use sqlite::{Alter, Connection, FileStore, Options};
-use sqlite_disk::{Fuse, Memory};
 use sqlite_trees::store::Reopen;
 use std::alloc::Global;
-use test_desks::connected;
+use test_desks::{File, connected, new_disks};
 
 // Two bugs that are merged, and a branch.
 const SCRIPT: &str =
@@ -48,8 +47,8 @@ impl CrashTask for Crash {
 }
 
 /// The desk after the script, in two files.
-pub(crate) fn desk_in_files(alloc: Global) -> Option<TableDesk<FileStore<Fuse<Memory>>>> {
-    match connected(alloc, new_files(alloc, u64::MAX), Options::new(1)) {
+pub(crate) fn desk_in_files(alloc: Global) -> Option<TableDesk<FileStore<File>>> {
+    match connected(alloc, new_disks(alloc), Options::new(1)) {
         Ok(conn) => desk_after(alloc, conn, SCRIPT, ANSWERS),
         Err(_) => None,
     }

@@ -26,8 +26,8 @@ pub(crate) trait CrashTask {
     fn run_over<S: Alter + Reopen + Drop>(&self, alloc: Global, conn: Connection<S>) -> Came;
 }
 
-/// Two empty files in memory, of which the log passes so many calls on, and the other file all.
-pub(crate) fn new_files(alloc: Global, calls: u64) -> Files<Fuse<Memory>> {
+// Two empty files in memory, of which the log passes so many calls on, and the other file all.
+fn new_files(alloc: Global, calls: u64) -> Files<Fuse<Memory>> {
     Files {
         log: Fuse::new(Memory::new(alloc), calls),
         db: Fuse::new(Memory::new(alloc), u64::MAX),
