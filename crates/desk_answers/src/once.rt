@@ -1,10 +1,13 @@
 //! Control messages that have an id.
 
-ghost use Rattle.std.specs.Prelude.{◌≡◌, string_bytes};
+ghost use Rattle.std.specs.Prelude.{◌≡◌, ℕ, List, string_bytes};
 ghost use Rattle.bug_record.specs.Texts.{IsText};
 ghost use Rattle.line_words.specs.Ids.{IsId};
+ghost use Rattle.desk_lines.specs.Lines.{lines_of};
+ghost use Rattle.desk_store.specs.Message.{Entry};
 ghost use Rattle.desk_store.specs.Store.{Holds};
 ghost use Rattle.desk_requests.specs.Told.{IsTold};
+ghost use Rattle.desk_answers.specs.Cases.{AnswersEnd};
 ghost use Rattle.desk_answers.specs.Faults.{counted_with};
 ghost use Rattle.desk_answers.specs.Repeats.{id_in_use, IsOnceAnswer};
 ghost use Rattle.desk_requests.specs.Shown.{shown, message_asked};
@@ -12,8 +15,9 @@ ghost use Rattle.desk_requests.specs.Steps.{Gives};
 ghost use Rattle.desk_answers.specs.Stored.{stored};
 
 use crate::messages::tell;
-use bug_record::StoreFault;
+use bug_record::{End, StoreFault};
 use desk_lines::split_lines;
+use desk_messages::Received;
 use desk_repeats::{OnceFault, receive_once};
 use desk_requests::{Body, OnceRequest, Reply, store_fault};
 use desk_store::Records;
@@ -33,7 +37,31 @@ fn id_in_use() -> Reply
     }
 }
 
+// The answer to a message that ended so, for whose transcript there is no memory.
+fn tell_end_alone(end: End) -> Reply
+    ensures is { (outcomes : List Entry) (lines : List (List ℕ)) → AnswersEnd outcomes end lines result }
+    ensures told { IsTold result.fault (shown result) }
+{
+    match end {
+        End::Store(fault, _) => store_fault(fault),
+        _ => store_fault(StoreFault::Memory),
+    }
+}
+
+// The answer to a message that was received, whose lines are cut once more for its transcript.
+fn tell_lines(alloc: Global, received: &Received, message: &str) -> Reply
+    ensures is { AnswersEnd received.now.outcomes received.now.end (lines_of message.now) result }
+    ensures told { IsTold result.fault (shown result) }
+{
+    match split_lines(alloc, message) {
+        Ok(lines) => tell(alloc, received, lines.as_slice()),
+        Err(_) => tell_end_alone(received.end),
+    }
+}
+
 /// Takes a control message that has an id: lines that were taken before are not taken again.
+/// That the id is in use is told before its lines are cut, so also where there is no memory for
+/// them.
 pub(crate) fn answer_once<S: Records>(alloc: Global, store: &mut S, request: &OnceRequest) -> Reply
     requires id { IsId (string_bytes request.now.id) }
     requires sender { IsText (string_bytes request.now.message.from) }
@@ -44,9 +72,6 @@ pub(crate) fn answer_once<S: Records>(alloc: Global, store: &mut S, request: &On
     ensures told { IsTold result.fault (shown result) }
 {
     let message = &request.message;
-    let Ok(lines) = split_lines(alloc, message.message.as_str()) else {
-        return store_fault(StoreFault::Memory);
-    };
     let received = receive_once(
         alloc,
         store,
@@ -55,7 +80,7 @@ pub(crate) fn answer_once<S: Records>(alloc: Global, store: &mut S, request: &On
         message.message.as_str(),
     );
     match received {
-        Ok(received) => tell(alloc, &received, lines.as_slice()),
+        Ok(received) => tell_lines(alloc, &received, message.message.as_str()),
         Err(OnceFault::BadId) => unreachable!("the id is one"),
         Err(OnceFault::Reused) => id_in_use(),
         Err(OnceFault::Store(fault)) => store_fault(fault),
