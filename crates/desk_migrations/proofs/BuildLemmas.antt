@@ -30,7 +30,6 @@ use Rattle.sql_forms.proofs.CreateErrors.{IsSureTable, IsSureIndex, table_free, 
 use Rattle.sql_forms.proofs.CreateLemmas.{CreatesTable, CreatesIndex, creates, creates_index, still_rows}
 use Rattle.sqlite.specs.Held.{Held, state}
 use Rattle.sqlite.specs.Store.{Ghosts}
-use Rattle.desk_schema.proofs.SchemaLemmas.{unplaced}
 use Rattle.desk_migrations.specs.Making.{IsBlank, Builds}
 use Rattle.desk_migrations.specs.Stages.{HasRun, IsBuilt}
 use Rattle.desk_migrations.specs.Names.{no_tables}
@@ -116,6 +115,10 @@ builds_as P Q P' Q' old new r before after h = record {
 all_push : {X : Type 0} (P : X → Type 0) (xs : List X) (x : X) → AllByRecursion P xs → P x → AllByRecursion P (xs ++ x ∷ [])
 all_push P [] x all one = (one, tt)
 all_push P (y ∷ xs) x all one = (all.0, all_push P xs x all.1 one)
+
+-- a table as a text defines it, before it has a place
+abbrev unplaced : Table → Table
+unplaced table = record table { tree = 0 }
 
 -- the text adds a table to the schema
 pub record AddsTable (schema : Schema) (sql : List ℕ) (table : Table) (later : Schema) : Type 0 where

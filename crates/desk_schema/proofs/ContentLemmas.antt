@@ -18,7 +18,7 @@ use Rattle.desk_schema.specs.MarkRows.{mark_cells, mark_in, IsMarkRow, marks_in}
 use Rattle.desk_schema.specs.BlockRows.{block_cells, block_in, IsBlockRow, blockers_in}
 use Rattle.desk_schema.specs.NodeRows.{node_cells, node_in, IsNodeRow, nodes_in}
 use Rattle.desk_schema.specs.NearestRows.{nearest_cells, nearest_in, IsNearestRow, near_in}
-use Rattle.desk_schema.specs.AffectRows.{affect_cells, affect_in, IsAffectRow, affects_in}
+use Rattle.desk_schema.specs.TextRows.{text_cells, text_row_in, IsTextRow, texts_in}
 use Rattle.desk_schema.specs.MessageRows.{message_cells, message_in, IsMessageRow, messages_in}
 use Rattle.desk_schema.specs.OutcomeRows.{outcome_cells, outcome_row_in, IsOutcomeRow, outcomes_in}
 use Rattle.desk_schema.specs.NumberRows.{number_cells, number_row_in, IsNumberRow, outcome_numbers_in}
@@ -49,7 +49,7 @@ same_content db' db same = λ i. record {
   found = marks_in Found (map mark_in (same.marks i));
   fixed = marks_in Fixed (map mark_in (same.marks i));
   blockers = blockers_in (map block_in (same.blocks i));
-  affects = affects_in (map affect_in (same.affects i));
+  affects = texts_in (map text_row_in (same.affects i));
   nodes = nodes_in (map node_in (same.nodes i));
   near = near_in (map nearest_in (same.nearest i));
   messages = messages_in (map message_in (same.messages i));
@@ -66,7 +66,7 @@ same_shown db' db same shown = record {
   blocks = subst (AreRows block_cells IsBlockRow) (sym same.blocks) shown.blocks;
   nodes = subst (AreRows node_cells IsNodeRow) (sym same.nodes) shown.nodes;
   nearest = subst (AreRows nearest_cells IsNearestRow) (sym same.nearest) shown.nearest;
-  affects = subst (AreRows affect_cells IsAffectRow) (sym same.affects) shown.affects;
+  affects = subst (AreRows text_cells IsTextRow) (sym same.affects) shown.affects;
   messages = subst (AreRows message_cells IsMessageRow) (sym same.messages) shown.messages;
   outcomes = subst (AreRows outcome_cells IsOutcomeRow) (sym same.outcomes) shown.outcomes;
   outcome_numbers = subst (AreRows number_cells IsNumberRow) (sym same.outcome_numbers) shown.outcome_numbers;

@@ -12,7 +12,7 @@ use Rattle.desk_schema.specs.MarkRows.{MarkRow, mark_cells, mark_in, IsMarkRow, 
 use Rattle.desk_schema.specs.BlockRows.{BlockRow, block_cells, block_in, IsBlockRow, blockers_in}
 use Rattle.desk_schema.specs.NodeRows.{NodeRow, node_cells, node_in, IsNodeRow, nodes_in}
 use Rattle.desk_schema.specs.NearestRows.{NearestRow, nearest_cells, nearest_in, IsNearestRow, near_in}
-use Rattle.desk_schema.specs.AffectRows.{AffectRow, affect_cells, affect_in, IsAffectRow, affects_in}
+use Rattle.desk_schema.specs.TextRows.{TextRow, text_cells, text_row_in, IsTextRow, texts_in}
 use Rattle.desk_schema.specs.MessageRows.{MessageRow, message_cells, message_in, IsMessageRow, messages_in}
 use Rattle.desk_schema.specs.OutcomeRows.{OutcomeRow, outcome_cells, outcome_row_in, IsOutcomeRow, outcomes_in}
 use Rattle.desk_schema.specs.NumberRows.{NumberRow, number_cells, number_row_in, IsNumberRow, outcome_numbers_in}
@@ -127,23 +127,23 @@ keyed_nearest = record {
   only = λ p. refl;
 }
 
-abbrev pub affects : DeskTable AffectRow
+abbrev pub affects : DeskTable TextRow
 affects = record {
-  row = record { cells = affect_cells; back = affect_in; IsGood = IsAffectRow; same = λ x good. refl };
+  row = record { cells = text_cells; back = text_row_in; IsGood = IsTextRow; same = λ x good. refl };
   place = record { at = 7; table = affects_table; is_plain = affects_plain; found = refl; bare = (refl, refl); still = λ olds news. refl };
-  says = λ xs c. record c { affects = affects_in xs };
+  says = λ xs c. record c { affects = texts_in xs };
   part = λ db. refl;
   rest = λ db rows. refl;
   typed = λ db all. all.affects;
   shown = λ db rows all are. record { meta = all.meta; sets = all.sets; bugs = all.bugs; marks = all.marks; blocks = all.blocks; nodes = all.nodes; nearest = all.nearest; affects = are; messages = all.messages; outcomes = all.outcomes; outcome_numbers = all.outcome_numbers };
 }
 
-abbrev pub keyed_affects : KeyedTable AffectRow
+abbrev pub keyed_affects : KeyedTable TextRow
 keyed_affects = record {
   base = affects;
   id = λ x. (x.id, refl);
   key = affects_key;
-  alike = λ x y. eqb x.key y.key && bytes_eq x.«package» y.«package»;
+  alike = λ x y. eqb x.key y.key && bytes_eq x.text y.text;
   agrees = λ x y. simp (number_key, text_key, and_true);
   only = λ p. refl;
 }

@@ -15,7 +15,7 @@ pub mod NodeTexts
 pub mod OwnerLists
 pub mod LastLists
 pub mod NumberLists
-pub mod AffectLists
+pub mod TextLists
 pub mod MarkLists
 pub mod BugLists
 pub mod MetaLemmas

@@ -1,4 +1,4 @@
--- The rows of affects give packages to keys.
+-- Such rows give texts to keys.
 -- Nothing here speaks of a statement.
 use Rattle.std.proofs.Common.{◌≡◌, ℕ, ◌||◌, ◌==◌, List, [], ◌∷◌, ◌++◌, refl, sym, ap, ◌∙◌}
 use Rattle.std.specs.BTreeSet.{insert_key}
@@ -10,7 +10,7 @@ use Rattle.bug_record.specs.Ordered.{with_each}
 use Rattle.bug_record.specs.PackageSets.{name_cmp, has_name, with_name}
 use Rattle.bug_record.proofs.OrderedSetLemmas.{in-each, sorted-each}
 use Rattle.bug_record.proofs.PackageLemmas.{names-none, same-sorted_names}
-use Rattle.desk_schema.specs.AffectRows.{AffectRow}
+use Rattle.desk_schema.specs.TextRows.{TextRow}
 use Rattle.desk_schema.proofs.OwnerLists.{OwnerRows}
 
 pub with_last : {T : Type 0} (cmp : T → T → Ordering) (ys xs : List T) (x : T) → with_each cmp ys (xs ++ x ∷ []) ≡ insert_key cmp (with_each cmp ys xs) x
@@ -24,10 +24,10 @@ has_names ns n = in-each nat_list_cmp_total nat_list_eq_equiv texts_ties ns [] n
 pub first_name : (i : List ℕ) (is : List (List ℕ)) (j : List ℕ) → has_name (i ∷ is) j ≡ (bytes_eq i j || has_name is j)
 first_name i is j = ap (λ b. b || has_name is j) (nat_list_eq_equiv.symm j i)
 
-abbrev pub affect_rows : OwnerRows AffectRow ℕ (List ℕ)
-affect_rows = record {
+abbrev pub text_rows : OwnerRows TextRow ℕ (List ℕ)
+text_rows = record {
   owner = λ x. x.key;
-  item = λ x. x.«package»;
+  item = λ x. x.text;
   one_owner = λ a b. a == b;
   owner_is = eqb-true;
   one_item = bytes_eq;

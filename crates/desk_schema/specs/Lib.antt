@@ -7,7 +7,7 @@ pub mod MarkRows
 pub mod BlockRows
 pub mod NodeRows
 pub mod NearestRows
-pub mod AffectRows
+pub mod TextRows
 pub mod MessageRows
 pub mod OutcomeRows
 pub mod NumberRows

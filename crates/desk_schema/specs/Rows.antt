@@ -15,7 +15,7 @@ use Rattle.desk_schema.specs.MarkRows.{mark_cells, mark_in, IsMarkRow, marks_in}
 use Rattle.desk_schema.specs.BlockRows.{block_cells, block_in, IsBlockRow, blockers_in}
 use Rattle.desk_schema.specs.NodeRows.{node_cells, node_in, IsNodeRow, nodes_in}
 use Rattle.desk_schema.specs.NearestRows.{nearest_cells, nearest_in, IsNearestRow, near_in}
-use Rattle.desk_schema.specs.AffectRows.{affect_cells, affect_in, IsAffectRow, affects_in}
+use Rattle.desk_schema.specs.TextRows.{text_cells, text_row_in, IsTextRow, texts_in}
 use Rattle.desk_schema.specs.MessageRows.{message_cells, message_in, IsMessageRow, messages_in}
 use Rattle.desk_schema.specs.OutcomeRows.{outcome_cells, outcome_row_in, IsOutcomeRow, outcomes_in}
 use Rattle.desk_schema.specs.NumberRows.{number_cells, number_row_in, IsNumberRow, outcome_numbers_in}
@@ -38,7 +38,7 @@ content_of db = record {
   found = marks_in Found (map mark_in (db MARKS));
   fixed = marks_in Fixed (map mark_in (db MARKS));
   blockers = blockers_in (map block_in (db BLOCKS));
-  affects = affects_in (map affect_in (db AFFECTS));
+  affects = texts_in (map text_row_in (db AFFECTS));
   nodes = nodes_in (map node_in (db NODES));
   near = near_in (map nearest_in (db NEAREST));
   messages = messages_in (map message_in (db MESSAGES));
@@ -55,7 +55,7 @@ pub record AreShown (db : Trees) : Type 0 where
   pub blocks : AreRows block_cells IsBlockRow (db BLOCKS)
   pub nodes : AreRows node_cells IsNodeRow (db NODES)
   pub nearest : AreRows nearest_cells IsNearestRow (db NEAREST)
-  pub affects : AreRows affect_cells IsAffectRow (db AFFECTS)
+  pub affects : AreRows text_cells IsTextRow (db AFFECTS)
   pub messages : AreRows message_cells IsMessageRow (db MESSAGES)
   pub outcomes : AreRows outcome_cells IsOutcomeRow (db OUTCOMES)
   pub outcome_numbers : AreRows number_cells IsNumberRow (db OUTCOME_NUMBERS)

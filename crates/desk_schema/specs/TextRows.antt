@@ -1,4 +1,4 @@
--- The rows of affects: one for each package that a set affects.
+-- The rows of a table that gives texts to sets, such as affects: one for each text of a set.
 -- This project's own rule.
 use Rattle.std.specs.Prelude.{ℕ, ℤ, pos, ◌==◌, filter, map, List, [], ◌∷◌}
 use Rattle.std.specs.Str.{IsUtf8}
@@ -10,25 +10,25 @@ use Rattle.bug_record.specs.PackageSets.{name_cmp}
 use Rattle.sql_forms.specs.Numbers.{number_in}
 use Rattle.desk_schema.specs.Cells.{text_in}
 
-pub record AffectRow : Type 0 where
+pub record TextRow : Type 0 where
   pub id : ℤ
   pub key : ℕ
-  pub «package» : List ℕ
+  pub text : List ℕ
 
-abbrev pub affect_cells : AffectRow → Row
-affect_cells x = Int x.id ∷ Int (pos x.key) ∷ Text x.«package» ∷ []
+abbrev pub text_cells : TextRow → Row
+text_cells x = Int x.id ∷ Int (pos x.key) ∷ Text x.text ∷ []
 
-abbrev pub affect_in : Row → AffectRow
-affect_in r = record { id = id_in (column r 0); key = number_in (column r 1); «package» = text_in (column r 2) }
+abbrev pub text_row_in : Row → TextRow
+text_row_in r = record { id = id_in (column r 0); key = number_in (column r 1); text = text_in (column r 2) }
 
 -- its text is UTF-8
-abbrev pub IsAffectRow : AffectRow → Type 0
-IsAffectRow x = IsUtf8 x.«package»
+abbrev pub IsTextRow : TextRow → Type 0
+IsTextRow x = IsUtf8 x.text
 
--- the packages of a set's key, as the rows have them
-abbrev pub names_of : ℕ → List AffectRow → List (List ℕ)
-names_of k xs = map (λ (x : AffectRow). x.«package») (filter (λ x. x.key == k) xs)
+-- the texts of a set's key, as the rows have them
+abbrev pub texts_of : ℕ → List TextRow → List (List ℕ)
+texts_of k xs = map (λ (x : TextRow). x.text) (filter (λ x. x.key == k) xs)
 
 -- the same in the order of their bytes
-abbrev pub affects_in : List AffectRow → ℕ → List (List ℕ)
-affects_in xs k = with_each name_cmp [] (names_of k xs)
+abbrev pub texts_in : List TextRow → ℕ → List (List ℕ)
+texts_in xs k = with_each name_cmp [] (texts_of k xs)

@@ -28,8 +28,8 @@ use Rattle.desk_content.specs.Free.{IsFree}
 use Rattle.desk_content.specs.declared.edit.Edit.TheVariants.{PutAffects, DropAffects}
 use Rattle.desk_schema.specs.Cells.{text_in}
 use Rattle.desk_schema.specs.Tables.{AFFECTS, desk_schema}
-use Rattle.desk_schema.specs.AffectRows.{AffectRow, affect_cells, IsAffectRow, names_of}
-use Rattle.desk_schema.proofs.AffectLists.{affect_rows, same_names}
+use Rattle.desk_schema.specs.TextRows.{TextRow, text_cells, IsTextRow, texts_of}
+use Rattle.desk_schema.proofs.TextLists.{text_rows, same_names}
 use Rattle.desk_schema.proofs.DeskTables.{affects, keyed_affects}
 use Rattle.desk_schema.proofs.CellLemmas.{cast_int, cast_null, same_text}
 use Rattle.desk_schema.proofs.OwnerLists.{turned, one_more, none_left, apart, owners_any}
@@ -58,13 +58,13 @@ add_call k n = record { command_is = refl; writes = tt; plain = (refl, refl); wh
 pub add_is : (k : ℕ) (n : List ℕ) → IsUtf8 n → IsWrite add_text (add_params k n) (IsFree (PutAffects k n)) (edited (PutAffects k n))
 add_is k n is = adds keyed_affects add_text (add_params k n) terms (PutAffects k n) (record {
   text = record { call = add_call k n; typed = refl; one = λ row. refl };
-  new = λ id. record { id = id; key = k; «package» = n };
+  new = λ id. record { id = id; key = k; text = n };
   own = λ id. refl;
   is = λ rows. rw (cast_null, cast_int (pos k)) refl;
   good = λ id. is;
   kept = λ id. record { datatype = λ db. refl; not_null = λ db. refl; check = λ db. refl; keyed = refl };
-  more = λ xs id c. λ i. record c { affects = λ o. one_more affect_rows xs (record { id = id; key = k; «package» = n }) o i };
-  none = λ xs id c free. apart affect_rows k n _ (λ x. refl) xs free.1;
+  more = λ xs id c. λ i. record c { affects = λ o. one_more text_rows xs (record { id = id; key = k; text = n }) o i };
+  none = λ xs id c free. apart text_rows k n _ (λ x. refl) xs free.1;
 })
 
 -- ---- those of a key go
@@ -76,8 +76,8 @@ clear_call : (k : ℕ) → IsCallOf desk_schema clear_text (Int (pos k) ∷ []) 
 unfolding understood everything
 clear_call k = record { command_is = refl; writes = tt; plain = (refl, refl); whole = omega arith; given = refl }
 
-hit_key : (k : ℕ) (x : AffectRow) → passes (equals 1 ∷ []) (Int (pos k) ∷ []) (affect_cells x) ≡ (x.key == k)
-hit_key k x = hits 1 (pos k) (affect_cells x) ∙ same_number x.key k
+hit_key : (k : ℕ) (x : TextRow) → passes (equals 1 ∷ []) (Int (pos k) ∷ []) (text_cells x) ≡ (x.key == k)
+hit_key k x = hits 1 (pos k) (text_cells x) ∙ same_number x.key k
 
 pub clear_is : (k : ℕ) → IsWrite clear_text (Int (pos k) ∷ []) (IsFree (DropAffects k)) (edited (DropAffects k))
 clear_is k = clears affects clear_text (Int (pos k) ∷ []) (equals 1 ∷ []) (DropAffects k) (record {
@@ -85,7 +85,7 @@ clear_is k = clears affects clear_text (Int (pos k) ∷ []) (equals 1 ∷ []) (D
   typed = refl;
   is_hit = λ x. x.key == k;
   hits = hit_key k;
-  less = λ xs c. λ i. record c { affects = λ o. none_left affect_rows (λ x. x.key == k) (λ j. k == j) (λ x. turned x.key k) xs o i };
+  less = λ xs c. λ i. record c { affects = λ o. none_left text_rows (λ x. x.key == k) (λ j. k == j) (λ x. turned x.key k) xs o i };
 })
 
 -- ---- those of a key are read
@@ -97,15 +97,15 @@ read_is : (k : ℕ) → IsQueryOf desk_schema read_text (Int (pos k) ∷ []) AFF
 unfolding understood everything
 read_is k = record { command_is = refl; plain = (refl, refl); whole = omega arith; given = refl; unlisted = refl; typed = refl }
 
-valid_of : (xs : List AffectRow) → AllByRecursion IsAffectRow xs → AllByRecursion IsUtf8 (map (λ (x : AffectRow). x.«package») xs)
+valid_of : (xs : List TextRow) → AllByRecursion IsTextRow xs → AllByRecursion IsUtf8 (map (λ (x : TextRow). x.text) xs)
 valid_of [] h = tt
 valid_of (x ∷ xs) h = (h.0, valid_of xs h.1)
 
-are_names : (k : ℕ) (c : Content) (xs : List AffectRow) (ns : List (List ℕ)) → AllByRecursion IsAffectRow xs → IsPermutation (names_of k xs) ns
-    → c.affects k ≡ with_each name_cmp [] (names_of k xs) → AreNamesOf k c ns
+are_names : (k : ℕ) (c : Content) (xs : List TextRow) (ns : List (List ℕ)) → AllByRecursion IsTextRow xs → IsPermutation (texts_of k xs) ns
+    → c.affects k ≡ with_each name_cmp [] (texts_of k xs) → AreNamesOf k c ns
 are_names k c xs ns good same says = record {
-  valid = recursion_from_All IsUtf8 ns (All-permutation IsUtf8 _ ns same (All-from_recursion IsUtf8 _ (valid_of _ (all_filter IsAffectRow (λ x. x.key == k) xs good))));
-  all = same_names ns (names_of k xs) (λ n. sym (list_any-IsPermutation (bytes_eq n) _ _ same)) ∙ sym says;
+  valid = recursion_from_All IsUtf8 ns (All-permutation IsUtf8 _ ns same (All-from_recursion IsUtf8 _ (valid_of _ (all_filter IsTextRow (λ x. x.key == k) xs good))));
+  all = same_names ns (texts_of k xs) (λ n. sym (list_any-IsPermutation (bytes_eq n) _ _ same)) ∙ sym says;
 }
 
 pub names_read : (k : ℕ) → IsRead read_text (Int (pos k) ∷ []) (λ c rows. (ns : List (List ℕ)) × (rows ≡ map text_row ns) × AreNamesOf k c ns)
@@ -113,7 +113,7 @@ names_read k = asks affects read_text (Int (pos k) ∷ []) (equals 1 ∷ []) (co
   text = read_is k;
   is_hit = λ x. x.key == k;
   hits = hit_key k;
-  of = λ x. x.«package»;
+  of = λ x. x.text;
   row = text_row;
   back = λ r. text_in (column r 0);
   same = λ n. refl;
@@ -132,13 +132,13 @@ keys_is : (p : List ℕ) → IsQueryOf desk_schema keys_text (Text p ∷ []) AFF
 unfolding understood everything
 keys_is p = record { command_is = refl; plain = (refl, refl); whole = omega arith; given = refl; unlisted = refl; typed = refl }
 
-hit_package : (p : List ℕ) (x : AffectRow) → passes (equals 2 ∷ []) (Text p ∷ []) (affect_cells x) ≡ bytes_eq x.«package» p
-hit_package p x = and_true _ ∙ holds_text 2 0 (Text p ∷ []) (affect_cells x) p refl ∙ same_text x.«package» p
+hit_package : (p : List ℕ) (x : TextRow) → passes (equals 2 ∷ []) (Text p ∷ []) (text_cells x) ≡ bytes_eq x.text p
+hit_package p x = and_true _ ∙ holds_text 2 0 (Text p ∷ []) (text_cells x) p refl ∙ same_text x.text p
 
 pub keys_read : (p : List ℕ) → IsRead keys_text (Text p ∷ []) (λ c rows. (keys : List ℕ) × (rows ≡ map number_row keys) × AreKeysAffecting p c keys)
 keys_read p = asks affects keys_text (Text p ∷ []) (equals 2 ∷ []) (col 1 1 ∷ []) (codes "set_key" ∷ []) _ (record {
   text = keys_is p;
-  is_hit = λ x. bytes_eq x.«package» p;
+  is_hit = λ x. bytes_eq x.text p;
   hits = hit_package p;
   of = λ x. x.key;
   row = number_row;
@@ -147,5 +147,5 @@ keys_read p = asks affects keys_text (Text p ∷ []) (equals 2 ∷ []) (col 1 1 
   shows = λ x. refl;
   AreFine = λ xs. ⊤;
   fine = λ s inside live all. tt;
-  says = λ xs c fine good keys any. (keys, refl, λ k. has_any k keys ∙ owners_any affect_rows (λ x. x.key) (λ y. y == k) k p (λ x. refl) xs keys any);
+  says = λ xs c fine good keys any. (keys, refl, λ k. has_any k keys ∙ owners_any text_rows (λ x. x.key) (λ y. y == k) k p (λ x. refl) xs keys any);
 })
