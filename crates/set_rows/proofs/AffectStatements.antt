@@ -1,35 +1,28 @@
 -- What the statements on affects mean.
-use Rattle.std.proofs.Common.{◌≡◌, ℕ, pos, ◌==◌, List, [], ◌∷◌, codes, map, refl, sym, ◌∙◌, arith}
-use Rattle.std.specs.List.{AllByRecursion}
-use Rattle.std.specs.List.Sorted.{IsPermutation}
+use Rattle.std.proofs.Common.{◌≡◌, ℕ, pos, ◌==◌, List, [], ◌∷◌, codes, map, refl, ◌∙◌, arith}
 use Rattle.std.specs.Prelude.{⊤}
 use Rattle.std.specs.Str.{bytes_eq, IsUtf8}
-use Rattle.std.proofs.lemmas.List.Elements.{All-from_recursion, recursion_from_All}
-use Rattle.std.proofs.lemmas.List.Sorted.{All-permutation, list_any-IsPermutation}
 use Rattle.sqlite.specs.Command.TheVariants.{Insert, Delete}
 use Rattle.sqlite.specs.Listing.{understood}
-use Rattle.sqlite.specs.Order.{Row, column}
+use Rattle.sqlite.specs.Order.{column}
 use Rattle.sqlite.specs.Source.TheVariants.{Values}
-use Rattle.sqlite.specs.Term.{Term, lit, col}
-use Rattle.sqlite.specs.declared.types.Value.TheVariants.{Null, Int, Text}
+use Rattle.sqlite.specs.Term.{col}
+use Rattle.sqlite.specs.declared.types.Value.TheVariants.{Int, Text}
 use Rattle.sqlite_tied.specs.Compute.{everything}
-use Rattle.bug_record.specs.Ordered.{with_each}
-use Rattle.bug_record.specs.PackageSets.{name_cmp}
 use Rattle.sql_forms.specs.Forms.{passes, equals}
 use Rattle.sql_forms.specs.Numbers.{number_row}
 use Rattle.sql_forms.proofs.AnswerLemmas.{number_at_front}
 use Rattle.sql_forms.proofs.DeleteErrors.{rowids_of}
 use Rattle.sql_forms.proofs.ErrorLemmas.{IsCallOf}
 use Rattle.sql_forms.proofs.QueryErrors.{IsQueryOf}
-use Rattle.sql_forms.proofs.RowLemmas.{all_filter, hits, holds_text, same_number, and_true}
-use Rattle.desk_content.specs.Content.{Content}
+use Rattle.sql_forms.proofs.RowLemmas.{hits, holds_text, and_true}
 use Rattle.desk_content.specs.Edits.{edited}
 use Rattle.desk_content.specs.Free.{IsFree}
 use Rattle.desk_content.specs.declared.edit.Edit.TheVariants.{PutAffects, DropAffects}
 use Rattle.desk_schema.specs.Cells.{text_in}
 use Rattle.desk_schema.specs.Tables.{AFFECTS, desk_schema}
-use Rattle.desk_schema.specs.TextRows.{TextRow, text_cells, IsTextRow, texts_of}
-use Rattle.desk_schema.proofs.TextLists.{text_rows, same_names}
+use Rattle.desk_schema.specs.TextRows.{TextRow, text_cells}
+use Rattle.desk_schema.proofs.TextLists.{text_rows}
 use Rattle.desk_schema.proofs.DeskTables.{affects, keyed_affects}
 use Rattle.desk_schema.proofs.CellLemmas.{cast_int, cast_null, same_text}
 use Rattle.desk_schema.proofs.OwnerLists.{turned, one_more, none_left, apart, owners_any}
@@ -39,17 +32,12 @@ use Rattle.desk_schema.proofs.TableQueries.{asks}
 use Rattle.set_rows.specs.Affecting.{AreKeysAffecting}
 use Rattle.set_rows.specs.Names.{text_row, AreNamesOf}
 use Rattle.set_rows.proofs.KeyAnswers.{has_any}
+use Rattle.set_rows.proofs.TextStatements.{terms, add_params, hit_key, are_names}
 
 -- ---- a package comes
 
 abbrev add_text : List ℕ
 add_text = codes "INSERT INTO affects VALUES (?1, ?2)"
-
-abbrev terms : List Term
-terms = lit Null ∷ col 0 0 ∷ col 0 1 ∷ []
-
-abbrev add_params : ℕ → List ℕ → Row
-add_params k n = Int (pos k) ∷ Text n ∷ []
 
 add_call : (k : ℕ) (n : List ℕ) → IsCallOf desk_schema add_text (add_params k n) (Insert 7 (Values terms 3))
 unfolding understood everything
@@ -76,9 +64,6 @@ clear_call : (k : ℕ) → IsCallOf desk_schema clear_text (Int (pos k) ∷ []) 
 unfolding understood everything
 clear_call k = record { command_is = refl; writes = tt; plain = (refl, refl); whole = omega arith; given = refl }
 
-hit_key : (k : ℕ) (x : TextRow) → passes (equals 1 ∷ []) (Int (pos k) ∷ []) (text_cells x) ≡ (x.key == k)
-hit_key k x = hits 1 (pos k) (text_cells x) ∙ same_number x.key k
-
 pub clear_is : (k : ℕ) → IsWrite clear_text (Int (pos k) ∷ []) (IsFree (DropAffects k)) (edited (DropAffects k))
 clear_is k = clears affects clear_text (Int (pos k) ∷ []) (equals 1 ∷ []) (DropAffects k) (record {
   call = clear_call k;
@@ -97,18 +82,7 @@ read_is : (k : ℕ) → IsQueryOf desk_schema read_text (Int (pos k) ∷ []) AFF
 unfolding understood everything
 read_is k = record { command_is = refl; plain = (refl, refl); whole = omega arith; given = refl; unlisted = refl; typed = refl }
 
-valid_of : (xs : List TextRow) → AllByRecursion IsTextRow xs → AllByRecursion IsUtf8 (map (λ (x : TextRow). x.text) xs)
-valid_of [] h = tt
-valid_of (x ∷ xs) h = (h.0, valid_of xs h.1)
-
-are_names : (k : ℕ) (c : Content) (xs : List TextRow) (ns : List (List ℕ)) → AllByRecursion IsTextRow xs → IsPermutation (texts_of k xs) ns
-    → c.affects k ≡ with_each name_cmp [] (texts_of k xs) → AreNamesOf k c ns
-are_names k c xs ns good same says = record {
-  valid = recursion_from_All IsUtf8 ns (All-permutation IsUtf8 _ ns same (All-from_recursion IsUtf8 _ (valid_of _ (all_filter IsTextRow (λ x. x.key == k) xs good))));
-  all = same_names ns (texts_of k xs) (λ n. sym (list_any-IsPermutation (bytes_eq n) _ _ same)) ∙ sym says;
-}
-
-pub names_read : (k : ℕ) → IsRead read_text (Int (pos k) ∷ []) (λ c rows. (ns : List (List ℕ)) × (rows ≡ map text_row ns) × AreNamesOf k c ns)
+pub names_read : (k : ℕ) → IsRead read_text (Int (pos k) ∷ []) (λ c rows. (ns : List (List ℕ)) × (rows ≡ map text_row ns) × AreNamesOf (c.affects k) ns)
 names_read k = asks affects read_text (Int (pos k) ∷ []) (equals 1 ∷ []) (col 1 2 ∷ []) (codes "package" ∷ []) _ (record {
   text = read_is k;
   is_hit = λ x. x.key == k;

@@ -1,4 +1,5 @@
 pub mod KeyAnswers
+pub mod TextStatements
 pub mod AffectStatements
 pub mod BlockStatements
 pub mod MarkStatements

@@ -1,4 +1,4 @@
--- The packages of a set as an answer has them, in any order.
+-- The texts of a set as an answer has them, in any order.
 use Rattle.std.specs.Prelude.{◌≡◌, ℕ, List, [], ◌∷◌}
 use Rattle.std.specs.List.{AllByRecursion}
 use Rattle.std.specs.Str.{IsUtf8}
@@ -6,12 +6,11 @@ use Rattle.sqlite.specs.Order.{Row}
 use Rattle.sqlite.specs.declared.types.Value.TheVariants.{Text}
 use Rattle.bug_record.specs.Ordered.{with_each}
 use Rattle.bug_record.specs.PackageSets.{name_cmp}
-use Rattle.desk_content.specs.Content.{Content}
 
 abbrev pub text_row : List ℕ → Row
 text_row t = Text t ∷ []
 
--- They are the packages of a key's set, in any order.
-pub record AreNamesOf (k : ℕ) (c : Content) (ns : List (List ℕ)) : Type 0 where
+-- They are these texts, in any order.
+pub record AreNamesOf (texts ns : List (List ℕ)) : Type 0 where
   pub valid : AllByRecursion IsUtf8 ns
-  pub all : with_each name_cmp [] ns ≡ c.affects k
+  pub all : with_each name_cmp [] ns ≡ texts

@@ -43,7 +43,7 @@ pub fn clear_affected<S: Alter>(tx: &mut Transaction<'_, S>, key: u32) -> Result
 // The rows of the packages that a set affects, in any order.
 fn name_rows<S: Alter>(tx: &mut Transaction<'_, S>, key: u32) -> Result<Vec<Row>, StoreFault>
     ensures same_reference { tx.new.conn.ghost_name ≡ tx.old.conn.ghost_name }
-    ensures reads { Reads (λ c rows. (ns : List (List ℕ)) × (rows.items ≡ map text_row ns) × AreNamesOf key c ns)
+    ensures reads { Reads (λ c rows. (ns : List (List ℕ)) × (rows.items ≡ map text_row ns) × AreNamesOf (c.affects key) ns)
         (state S.Store tx.old.conn.now) (state S.Store tx.new.conn.now) result }
     ensures serves { Serves (state S.Store tx.old.conn.now) (state S.Store tx.new.conn.now) result }
 {
