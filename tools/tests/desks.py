@@ -1,6 +1,7 @@
 """What the tests of tools share: the program, desks in files, servers, and runs of tools."""
 
 import contextlib
+import os
 import pathlib
 import socket
 import subprocess
@@ -80,11 +81,13 @@ def free_port():
 
 
 @contextlib.contextmanager
-def served(store, *options):
-    """The port of a server of a desk, which ends with the block."""
+def served(store, *options, variables=None):
+    """The port of a server of a desk, which ends with the block; these variables are set for it."""
     port = free_port()
     words = [program(), f"--port={port}", f"--store={store}", *options, "serve"]
-    server = subprocess.Popen(words, stdout=subprocess.PIPE, stderr=subprocess.DEVNULL)
+    server = subprocess.Popen(
+        words, stdout=subprocess.PIPE, stderr=subprocess.DEVNULL,
+        env=os.environ | (variables or {}))
     try:
         server.stdout.readline()
         yield port

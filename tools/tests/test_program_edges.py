@@ -1,5 +1,8 @@
-"""Tests of the program's edges, which no contract can know: its error output, and its files."""
+"""Tests of the program's edges, which no contract can know: its error output, its files, and what
+it tells first where it is out of memory."""
 
+import http.client
+import json
 import os
 import pathlib
 import shutil
@@ -8,7 +11,7 @@ import subprocess
 import unittest
 
 import desks
-from desks import folder, make_desk, program, run
+from desks import TOOLS, folder, make_desk, program, run, served
 
 NOBODY = 65534
 # The causes of a file that is not opened, as the manual has them.
@@ -90,6 +93,43 @@ class Files(unittest.TestCase):
                     preexec_fn=drop_rights, timeout=desks.TIME_LIMIT)
                 self.assertEqual((ran.returncode, ran.stdout), (3, b""))
                 self.assertEqual(ran.stderr.decode(), errors)
+
+
+class OutOfMemory(unittest.TestCase):
+    """A message with an id for whose lines there is no memory."""
+
+    # More than a request takes at once, and less than the lines of a message of so many.
+    ABOVE = 200_000
+    LINES = 32_000
+
+    def send(self, port, words):
+        """The status and the answer of a control message."""
+        connection = http.client.HTTPConnection("127.0.0.1", port, timeout=desks.TIME_LIMIT)
+        connection.request("POST", "/control", json.dumps({"from": "ann", **words}))
+        answer = connection.getresponse()
+        said = (answer.status, json.load(answer))
+        connection.close()
+        return said
+
+    def test_id_in_use(self):
+        """That the id has another message is told before its lines are cut."""
+        short = {"id": "m1", "message": "close 2"}
+        used = {"id": "m1", "message": "\n" * self.LINES}
+        new = {"id": "m2", "message": "\n" * self.LINES}
+        with folder() as place:
+            store = make_desk(place, desks.RELEASE_DAY)
+            library = str(pathlib.Path(place, "refuse.so"))
+            compiler = os.environ.get("CC", "cc")
+            run([compiler, "-O2", "-shared", "-fPIC", "-nostdlib", "-o", library,
+                 TOOLS / "refuse_memory.c"])
+            little = {"LD_PRELOAD": library, "ABOVE": str(self.ABOVE)}
+            with served(store, variables=little) as port:
+                self.assertEqual(self.send(port, short)[0], 200)
+                self.assertEqual(self.send(port, used), (409, {"error": "id in use"}))
+                self.assertEqual(self.send(port, new), (500, {"error": "store fault"}))
+            with served(store) as port:
+                self.assertEqual(self.send(port, used), (409, {"error": "id in use"}))
+                self.assertEqual(self.send(port, new), (200, {"end": "all", "transcript": ""}))
 
 
 if __name__ == "__main__":

@@ -2,6 +2,9 @@
 -- This project's own rule.
 use Rattle.std.specs.Prelude.{ℕ, ◌<◌, ◌++◌, Bool, true, false, List, [], length, take, codes, decimal, Option, Result, Ok, Err, if◌then◌else◌}
 use Rattle.std.specs.Io.KnownBytes.{Appends}
+use Rattle.sqlite.specs.declared.error.Error.{Error}
+use Rattle.sqlite.specs.declared.error.Error.TheVariants.{SqliteFailure}
+use Rattle.sqlite.specs.declared.error.ErrorCode.TheVariants as code
 use Rattle.bug_record.specs.declared.outcome.StoreFault.{StoreFault}
 use Rattle.bug_record.specs.declared.outcome.StoreFault.TheVariants as stores
 use Rattle.bug_record.specs.declared.outcome.End.{End}
@@ -56,6 +59,17 @@ end_of_server port (Err servers.Store) = Fault ServedStore
 abbrev pub end_of_message : List Entry → End → JobEnd
 end_of_message outcomes (messages.Store fault line) = Fault (Store fault)
 end_of_message outcomes last = if refuses outcomes last then Refused else Done
+
+-- why a file is not opened as a database
+abbrev pub cause_of_error : Error → Cause
+cause_of_error (SqliteFailure code.CannotOpen) = CannotOpen
+cause_of_error (SqliteFailure code.DatabaseBusy) = InUse
+cause_of_error (SqliteFailure code.NotADatabase) = NotADesk
+cause_of_error (SqliteFailure code.DatabaseCorrupt) = NotADesk
+cause_of_error (SqliteFailure code.OutOfMemory) = Store stores.Memory
+cause_of_error (SqliteFailure code.DiskFull) = Store stores.Full
+cause_of_error (SqliteFailure code.TooBig) = Store stores.Full
+cause_of_error _ = Store stores.Device
 
 -- why a database is not opened as a desk's, or made one
 abbrev pub cause_of_opening : OpenFault → Cause

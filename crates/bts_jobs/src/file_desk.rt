@@ -7,7 +7,7 @@ ghost use Rattle.sqlite.specs.State.{HasCleanDisk};
 ghost use Rattle.sqlite.specs.Held.{IsNew};
 ghost use Rattle.sqlite.specs.Start.{FindsIn};
 ghost use Rattle.sqlite.specs.Files.{file_state, IsOpened};
-ghost use Rattle.bts_jobs.specs.Endings.{cause_of_opening};
+ghost use Rattle.bts_jobs.specs.Endings.{cause_of_error, cause_of_opening};
 ghost use Rattle.bts_jobs.specs.InFile.{IsOpenCause, IsInitCause, IsNewInFile, IsOpenedInFile};
 ghost use Rattle.bts_jobs.specs.Left.{IsLeftBy};
 
@@ -30,6 +30,7 @@ pub type FileDesk<S> = TableDesk<FileStore<FileFrom<S>>>;
 
 // Why a file is not opened as a database.
 fn cause_of_error(error: Error) -> Cause
+    ensures is { result ≡ cause_of_error error }
     ensures open { IsOpenCause result }
     ensures init { IsInitCause result }
 {
