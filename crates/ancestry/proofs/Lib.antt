@@ -12,3 +12,4 @@ pub mod RepeatLemmas
 pub mod TakeLemmas
 pub mod LinkedLemmas
 pub mod ReplayLemmas
+pub mod WholeLemmas

@@ -125,15 +125,16 @@ unknown_has_none t n h = of_known (known_at t n) h
     of_known None h = refl
     of_known (Some v) h = absurd (cc)
 
+-- a list has a node by either test
+pub same_tests : (q : Node) (ms : List Node) → list_any (eq_by_cmp node_cmp q) ms ≡ has_node ms q
+same_tests q [] = refl
+same_tests q (m ∷ ms) = λ i. sym (node_ties q m) i || same_tests q ms i
+
 known_length : (t : Ancestry) → ((n p : Node) → parent_of t n ≡ Some p → knows t p ≡ true) → (n : Node) (ns : List Node)
     → IsLine t n ns → knows t n ≡ true → length ns ≤ length t
 known_length t parents n ns h k =
     length-le_from_keys (eq_by_cmp_equiv node_cmp_total) ns t (line_distinct t n ns h)
     (λ q g. line_known t parents n ns h k q (sym (same_tests q ns) ∙ g))
-  where
-    same_tests : (q : Node) (ms : List Node) → list_any (eq_by_cmp node_cmp q) ms ≡ has_node ms q
-    same_tests q [] = refl
-    same_tests q (m ∷ ms) = λ i. sym (node_ties q m) i || same_tests q ms i
 
 root_length : (t : Ancestry) (n : Node) (ns : List Node) → IsLine t n ns → parent_of t n ≡ None → length ns ≤ 1
 root_length t n [] h e = absurd h

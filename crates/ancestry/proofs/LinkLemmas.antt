@@ -22,7 +22,7 @@ AreAbove n ns = AllByRecursion (λ m. node_cmp n m ≡ Less) ns
 abbrev Ascends : Ancestry → Type 0
 Ascends t = IsStrictlySortedBy node_cmp (keys_of t)
 
-above_more : (n m : Node) → node_cmp n m ≡ Less → (ns : List Node) → AreAbove m ns → AreAbove n ns
+pub above_more : (n m : Node) → node_cmp n m ≡ Less → (ns : List Node) → AreAbove m ns → AreAbove n ns
 above_more n m l [] h = tt
 above_more n m l (k ∷ ns) h = (node_cmp_total.trans n m k l h.0, above_more n m l ns h.1)
 
@@ -54,7 +54,7 @@ ascends_put (e ∷ t) n v h = by_order (ascends_put t n v h.1) (node_cmp n e.0) 
 
 -- ---- where the same is known of each node, the links are equal
 
-unknown_below : (n : Node) (t : Ancestry) → AreAbove n (keys_of t) → known_at t n ≡ None
+pub unknown_below : (n : Node) (t : Ancestry) → AreAbove n (keys_of t) → known_at t n ≡ None
 unknown_below n [] h = refl
 unknown_below n (e ∷ t) h = past_first n e.0 e.1 t (sym (ties_same n e.0) ∙ ap is_eq h.0) ∙ unknown_below n t h.1
 

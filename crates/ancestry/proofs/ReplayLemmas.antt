@@ -29,7 +29,7 @@ pub record IsPart (u t : Ancestry) : Type 0 where
   pub known : (q : Node) → knows u q ≡ true → knows t q ≡ true
   pub parents : (q p : Node) → parent_of u q ≡ Some p → parent_of t q ≡ Some p
 
-none_of : {A : Type 0} (o : Option A) → is_some o ≡ false → o ≡ None
+pub none_of : {A : Type 0} (o : Option A) → is_some o ≡ false → o ≡ None
 none_of None h = refl
 none_of (Some x) h = absurd (cc)
 
@@ -269,14 +269,14 @@ still_known e t (f ∷ es) below all =
     ∙ All-head (λ g. known_at t g.0 ≡ Some g.1) f es all)
     (still_known e t es below.1 (All-tail (λ g. known_at t g.0 ≡ Some g.1) f es all))
 
-links_known : (t : Ancestry) → IsStrictlySortedBy node_cmp (keys_of t) → All (λ e. known_at t e.0 ≡ Some e.1) t
+pub links_known : (t : Ancestry) → IsStrictlySortedBy node_cmp (keys_of t) → All (λ e. known_at t e.0 ≡ Some e.1) t
 links_known [] a = All-nil (λ e. known_at [] e.0 ≡ Some e.1)
 links_known (e ∷ t) a =
     All-cons (λ f. known_at (e ∷ t) f.0 ≡ Some f.1) e t (at_first e.0 e.1 t)
     (still_known e t t (sorted_head node_cmp e.0 (keys_of t) a) (links_known t (sorted_tail node_cmp e.0 (keys_of t) a)))
 
 -- what holds of the nodes of all links holds of each known node
-of_known : (P : Node → Type 0) (es : Ancestry) → All (λ e. P e.0) es → (q : Node) → knows es q ≡ true → P q
+pub of_known : (P : Node → Type 0) (es : Ancestry) → All (λ e. P e.0) es → (q : Node) → knows es q ≡ true → P q
 of_known P [] all q h = absurd (false≢true h)
 of_known P (e ∷ es) all q h =
     ⊎_elim

@@ -8,3 +8,4 @@ pub mod Links
 pub mod Changes
 pub mod Kept
 pub mod Heights
+pub mod Whole

@@ -9,6 +9,7 @@ mod laws;
 mod links;
 mod marks;
 mod tree;
+mod whole;
 
 pub use fault::BranchFault;
 pub use indexed::IndexedLine;

@@ -46,6 +46,14 @@ impl Tree {
         }
     }
 
+    /// The known nodes in node order, each with its parent, if it has one.
+    pub fn links(&self) -> &BTreeMap<Node, Option<Node>>
+        ensures links { result.now.entries ≡ self.now }
+        ensures forest { IsForest self.now }
+    {
+        &self.links
+    }
+
     /// Whether a node is known.
     /// Takes no memory.
     pub fn knows(&self, node: &Node) -> bool

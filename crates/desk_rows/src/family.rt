@@ -1,15 +1,16 @@
 //! The tree of the known nodes.
 
-ghost use Rattle.std.specs.Prelude.{◌≡◌, ◌≢◌, Option, Some, IfOk, IfErr, OnOk};
+ghost use Rattle.std.specs.Prelude.{◌≡◌, ◌≢◌, Option, map, IfOk, IfErr};
+ghost use Rattle.std.specs.List.{AllByRecursion};
 ghost use Rattle.sqlite.specs.Held.{state};
 ghost use Rattle.version_nodes.specs.Nodes.{Node as SeenNode};
-ghost use Rattle.ancestry.specs.Links.{linked};
 ghost use Rattle.version_nodes.specs.Trees.{Ancestry, IsForest};
 ghost use Rattle.bug_record.specs.declared.outcome.StoreFault.TheVariants.{Foreign};
 ghost use Rattle.desk_schema.specs.Steps.{Acts, Reads, Serves};
 ghost use Rattle.desk_rows.specs.Links.{link_row, IsLink, AreLinksOf};
 
 use crate::outcomes::maybe_node_at;
+use ancestry::Tree;
 use bug_record::StoreFault;
 use desk_schema::{node_at, told};
 use nearest_marks::Family;
@@ -37,44 +38,59 @@ fn parent_in(alloc: Global, row: &Row) -> Result<Option<Node>, StoreFault>
     maybe_node_at(alloc, row, 2)
 }
 
-// Puts in a node with its parent, or with none.
-fn put_link(family: &mut Family, node: &Node, parent: &Option<Node>) -> Result<(), StoreFault>
-    ensures value { (t : Ancestry) → linked family.old node.now parent.now ≡ Some t → OnOk result (family.new ≡ t) }
-    ensures sure { (t : Ancestry) → linked family.old node.now parent.now ≡ Some t → IfErr result (λ fault. fault ≢ Foreign) }
+// The link of a row: a node with its parent, or with none.
+fn link_in(alloc: Global, row: &Row) -> Result<(Node, Option<Node>), StoreFault>
+    ensures value { (l : SeenNode × Option SeenNode) → IsLink l → row.now ≡ link_row l → IfOk result (λ link. link ≡ l) }
+    ensures sure { (l : SeenNode × Option SeenNode) → IsLink l → row.now ≡ link_row l → IfErr result (λ fault. fault ≢ Foreign) }
 {
-    match family.put(node, parent.as_ref()) {
-        Ok(true) => Ok(()),
-        Ok(false) => Err(StoreFault::Foreign),
+    let node = node_at(alloc, row, 0)?;
+    let parent = parent_in(alloc, row)?;
+    Ok((node, parent))
+}
+
+// The links of rows, in their order.
+fn links_of(alloc: Global, rows: &[Row]) -> Result<Vec<(Node, Option<Node>)>, StoreFault>
+    ensures value { (ls : Ancestry) → AllByRecursion IsLink ls → rows.now ≡ map link_row ls → IfOk result (λ links. links.items ≡ ls) }
+    ensures sure { (ls : Ancestry) → AllByRecursion IsLink ls → rows.now ≡ map link_row ls → IfErr result (λ fault. fault ≢ Foreign) }
+{
+    let mut links = Vec::new(alloc);
+    for row in rows {
+        let link = link_in(alloc, row)?;
+        match links.push(link) {
+            Ok(()) => {}
+            Err(_) => return Err(StoreFault::Memory),
+        }
+    }
+    Ok(links)
+}
+
+// The tree of the nodes of rows.
+fn tree_of(alloc: Global, rows: &[Row]) -> Result<Tree, StoreFault>
+    ensures value { (t : Ancestry) → IsForest t → AreLinksOf t rows.now → IfOk result (λ tree. tree ≡ t) }
+    ensures sure { (t : Ancestry) → IsForest t → AreLinksOf t rows.now → IfErr result (λ fault. fault ≢ Foreign) }
+{
+    let links = links_of(alloc, rows)?;
+    match Tree::of_links(alloc, links) {
+        Ok(Some(tree)) => Ok(tree),
+        Ok(None) => Err(StoreFault::Foreign),
         Err(_) => Err(StoreFault::Memory),
     }
 }
 
-// Puts in the node of a row.
-fn put_row(alloc: Global, family: &mut Family, row: &Row) -> Result<(), StoreFault>
-    ensures value { (l : SeenNode × Option SeenNode) (t : Ancestry) → IsLink l → row.now ≡ link_row l →
-        linked family.old l.0 l.1 ≡ Some t → OnOk result (family.new ≡ t) }
-    ensures sure { (l : SeenNode × Option SeenNode) (t : Ancestry) → IsLink l → row.now ≡ link_row l →
-        linked family.old l.0 l.1 ≡ Some t → IfErr result (λ fault. fault ≢ Foreign) }
-{
-    let node = node_at(alloc, row, 0)?;
-    let parent = parent_in(alloc, row)?;
-    put_link(family, &node, &parent)
-}
-
-// The tree of the nodes of rows.
+// The same, from which one can go to children.
 fn family_of(alloc: Global, rows: &[Row]) -> Result<Family, StoreFault>
     ensures value { (t : Ancestry) → IsForest t → AreLinksOf t rows.now → IfOk result (λ family. family ≡ t) }
     ensures sure { (t : Ancestry) → IsForest t → AreLinksOf t rows.now → IfErr result (λ fault. fault ≢ Foreign) }
 {
-    let mut family = Family::new(alloc);
-    for row in rows {
-        put_row(alloc, &mut family, row)?;
+    let tree = tree_of(alloc, rows)?;
+    match Family::of_tree(alloc, tree) {
+        Ok(family) => Ok(family),
+        Err(_) => Err(StoreFault::Memory),
     }
-    Ok(family)
 }
 
 /// The tree of the known nodes, where they are a forest.
-/// `Foreign` where a node would get a second parent, or one in whose line it is; `Memory` where
+/// `Foreign` where a parent is not known, or a node is in the line of its parent; `Memory` where
 /// there is none for the tree.
 pub fn read_family<S: Alter>(
     alloc: Global,

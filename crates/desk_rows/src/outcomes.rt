@@ -1,10 +1,10 @@
 //! The outcomes of messages that have an id, without the numbers of accepted lines.
 
-ghost use Rattle.std.specs.Prelude.{◌≡◌, ◌≢◌, ◌+◌, ◌<◌, ℕ, List, Option, option_map, option_copied, length, IfOk, IfErr};
+ghost use Rattle.std.specs.Prelude.{◌≡◌, ◌≢◌, ◌+◌, ◌<◌, ℕ, true, false, List, Option, option_map, option_copied, length, IfOk, IfErr};
 ghost use Rattle.sqlite.specs.Held.{state};
 ghost use Rattle.sqlite.specs.Order.{column};
 ghost use Rattle.sqlite.specs.Values.{or_null};
-ghost use Rattle.sqlite.specs.declared.types.Value.TheVariants.{Text as TextCell};
+ghost use Rattle.sqlite.specs.declared.types.Value.TheVariants.{Null, Text as TextCell};
 ghost use Rattle.version_nodes.specs.Nodes.{Node as SeenNode, IsNode};
 ghost use Rattle.bug_record.specs.Texts.{IfGiven};
 ghost use Rattle.bug_record.specs.declared.outcome.StoreFault.TheVariants.{Foreign};
@@ -18,9 +18,8 @@ use desk_content::{
     ToldOutcome, field_of_outcome, kind_of_outcome, node_of_outcome, number_of_outcome,
     outcome_of_numbers,
 };
-use desk_schema::{
-    maybe_number_at, maybe_parameter, maybe_text_at, node_at, number_at, told, written,
-};
+use desk_schema::{fault_of, maybe_number_at, maybe_parameter, node_at, number_at, told, written};
+use sqlite::types::ValueRef;
 use sqlite::{Alter, Row, Transaction, params};
 use std::alloc::Global;
 use version_nodes::Node;
@@ -88,6 +87,19 @@ fn outcome_rows<S: Alter>(tx: &mut Transaction<'_, S>, id: &str) -> Result<Vec<R
     ))
 }
 
+// Whether a cell, counted from 0, has no value.
+fn is_null_at(row: &Row, at: usize) -> Result<bool, StoreFault>
+    ensures null { IfOk result (λ null. null ≡ true → column row.now at ≡ Null) }
+    ensures other { IfOk result (λ null. null ≡ false → column row.now at ≢ Null) }
+    ensures sure { at < length row.now → IfErr result (λ fault. fault ≢ Foreign) }
+{
+    match row.get_ref(at) {
+        Ok(ValueRef::Null) => Ok(true),
+        Ok(_) => Ok(false),
+        Err(error) => Err(fault_of(&error)),
+    }
+}
+
 // The node whose source stands in a cell, counted from 0, and its version in the next one, if there
 // is one.
 pub(crate) fn maybe_node_at(alloc: Global, row: &Row, at: usize) -> Result<Option<Node>, StoreFault>
@@ -97,12 +109,13 @@ pub(crate) fn maybe_node_at(alloc: Global, row: &Row, at: usize) -> Result<Optio
     ensures sure { (v : Option SeenNode) → at + 1 < length row.now → IfGiven IsNode v → column row.now at ≡ or_null (λ n. TextCell n.source) v →
         column row.now (at + 1) ≡ or_null (λ n. TextCell n.version) v → IfErr result (λ fault. fault ≢ Foreign) }
 {
-    match maybe_text_at(alloc, row, at)? {
-        None => Ok(None),
-        Some(_) => match node_at(alloc, row, at) {
-            Ok(node) => Ok(Some(node)),
-            Err(fault) => Err(fault),
-        },
+    let is_null = is_null_at(row, at)?;
+    if is_null {
+        return Ok(None);
+    }
+    match node_at(alloc, row, at) {
+        Ok(node) => Ok(Some(node)),
+        Err(fault) => Err(fault),
     }
 }
 

@@ -13,6 +13,7 @@ use crate::faults::fault_of;
 use bug_record::StoreFault;
 use debver::Text;
 use sqlite::Row;
+use sqlite::types::ValueRef;
 use std::alloc::Global;
 use version_nodes::{Node, NodeFault};
 
@@ -99,6 +100,21 @@ pub fn bytes_text_at(alloc: Global, row: &Row, at: usize) -> Result<Text, StoreF
     }
 }
 
+// The text in a cell, counted from 0, where it stands; one that is no UTF-8 can't be read.
+fn str_at(row: &Row, at: usize) -> Result<&str, StoreFault>
+    ensures value { (t : List ℕ) → column row.now at ≡ TextCell t → IfOk result (λ v. v.now ≡ t) }
+    ensures sure { (t : List ℕ) → at < length row.now → column row.now at ≡ TextCell t → IsUtf8 t → IfErr result (λ fault. fault ≢ Foreign) }
+{
+    match row.get_ref(at) {
+        Ok(ValueRef::Text(bytes)) => match std::str::from_utf8(bytes) {
+            Ok(text) => Ok(text),
+            Err(_) => Err(StoreFault::Foreign),
+        },
+        Ok(_) => Err(StoreFault::Foreign),
+        Err(error) => Err(fault_of(&error)),
+    }
+}
+
 // The node of two texts.
 fn node_of(alloc: Global, source: &str, version: &str) -> Result<Node, StoreFault>
     ensures value { (v : SeenNode) → IsNode v → source.now ≡ v.source → version.now ≡ v.version → IfOk result (λ node. node ≡ v) }
@@ -120,7 +136,12 @@ pub fn node_at(alloc: Global, row: &Row, at: usize) -> Result<Node, StoreFault>
     ensures sure { (v : SeenNode) → at + 1 < length row.now → IsNode v → column row.now at ≡ TextCell v.source →
         column row.now (at + 1) ≡ TextCell v.version → IfErr result (λ fault. fault ≢ Foreign) }
 {
-    let source = text_at(alloc, row, at)?;
-    let version = text_at(alloc, row, at + 1)?;
-    node_of(alloc, source.as_str(), version.as_str())
+    let source = match str_at(row, at) {
+        Ok(source) => source,
+        Err(fault) => return Err(fault),
+    };
+    match str_at(row, at + 1) {
+        Ok(version) => node_of(alloc, source, version),
+        Err(fault) => Err(fault),
+    }
 }

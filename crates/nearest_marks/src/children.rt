@@ -1,10 +1,12 @@
 //! The children of each node.
 
-ghost use Rattle.std.specs.Prelude.{◌≡◌, ◌+◌, ◌<◌, ◌&&◌, ◌||◌, true, false, not, is_some, Some, OnOk, OnErr, slice_index};
+ghost use Rattle.std.specs.Prelude.{◌≡◌, ◌+◌, ◌<◌, ◌&&◌, ◌||◌, true, false, not, [], is_some, Some, All, IfOk, OnOk, OnErr, slice_index};
 ghost use Rattle.std.specs.BTreeMap.{get};
+ghost use Rattle.std.specs.Map.{keys_of};
 ghost use Rattle.version_nodes.specs.Nodes.{Node, same_node, node_cmp};
+ghost use Rattle.version_nodes.specs.Trees.{knows, IsForest};
 ghost use Rattle.ancestry.specs.Links.{has_parent};
-ghost use Rattle.nearest_marks.specs.Children.{is_child, is_pair};
+ghost use Rattle.nearest_marks.specs.Children.{is_child, is_pair, AreChildren};
 
 use ancestry::Tree;
 use std::alloc::{AllocError, Global};
@@ -33,6 +35,7 @@ fn put_child(
     child: Node,
 ) -> Result<(), AllocError>
     requires there { is_some (get node_cmp children.old parent.now) ≡ true }
+    ensures room { (p : Node) → is_some (get node_cmp children.new p) ≡ is_some (get node_cmp children.old p) }
     ensures ok { OnOk result ((p c : Node) → is_child children.new p c
         ≡ ((same_node c child && same_node p parent.now) || is_child children.old p c)) }
     ensures err { OnErr result ((p c : Node) → is_child children.new p c ≡ is_child children.old p c) }
@@ -56,6 +59,45 @@ pub(crate) fn add_child(
 {
     make_room(alloc, children, parent)?;
     put_child(children, parent, child.copy()?)
+}
+
+// An empty set for each known node.
+fn empty_rooms(alloc: Global, tree: &Tree) -> Result<Vec<(Node, BTreeSet<Node>)>, AllocError>
+    ensures nodes { IfOk result (λ rooms. keys_of rooms.items ≡ keys_of tree.now) }
+    ensures empty { IfOk result (λ rooms. All (λ room. room.1.keys ≡ []) rooms.items) }
+{
+    let mut rooms = Vec::new(alloc);
+    for node in tree.links().keys() {
+        rooms.push((node.copy()?, BTreeSet::new(alloc)))?;
+    }
+    Ok(rooms)
+}
+
+// Room for children of each known node, which has none yet.
+fn rooms_of(alloc: Global, tree: &Tree) -> Result<BTreeMap<Node, BTreeSet<Node>>, AllocError>
+    ensures there { IfOk result (λ children. (p : Node) → is_some (get node_cmp children p) ≡ knows tree.now p) }
+    ensures none { IfOk result (λ children. (p c : Node) → is_child children p c ≡ false) }
+{
+    let rooms = empty_rooms(alloc, tree)?;
+    rooms.into_iter().collect(alloc)
+}
+
+// The children of each node of a tree.
+pub(crate) fn children_of(
+    alloc: Global,
+    tree: &Tree,
+) -> Result<BTreeMap<Node, BTreeSet<Node>>, AllocError>
+    ensures children { IfOk result (AreChildren tree.now) }
+    ensures forest { IsForest tree.now }
+{
+    let links = tree.links();
+    let mut children = rooms_of(alloc, tree)?;
+    for (node, parent) in links {
+        if let Some(parent) = parent {
+            put_child(&mut children, parent, node.copy()?)?;
+        }
+    }
+    Ok(children)
 }
 
 // Takes a child out of those of a node.

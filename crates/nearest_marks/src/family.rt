@@ -10,7 +10,7 @@ ghost use Rattle.ancestry.specs.Links.{has_parent, linked};
 ghost use Rattle.ancestry.specs.declared.fault.BranchFault.TheVariants.{Memory};
 ghost use Rattle.nearest_marks.specs.Children.{is_child, is_pair, AreChildren};
 
-use crate::children::{add_child, add_pairs, settle, settle_pairs};
+use crate::children::{add_child, add_pairs, children_of, settle, settle_pairs};
 use crate::refusals::fault_without_memory;
 use ancestry::{BranchFault, Tree};
 use std::alloc::{AllocError, Global};
@@ -99,6 +99,19 @@ impl Family {
             children: BTreeMap::new(alloc),
             alloc,
         }
+    }
+
+    /// The family of a tree.
+    /// The error is that there was no memory.
+    pub fn of_tree(alloc: Global, tree: Tree) -> Result<Family, AllocError>
+        ensures { IfOk result (λ family. family ≡ tree) }
+    {
+        let children = children_of(alloc, &tree)?;
+        Ok(Family {
+            tree,
+            children,
+            alloc,
+        })
     }
 
     /// The tree.

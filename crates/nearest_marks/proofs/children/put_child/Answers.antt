@@ -3,6 +3,7 @@ use Rattle.std.specs.List.{list_any}
 use Rattle.std.specs.BTreeMap.{is_at}
 use Rattle.version_nodes.specs.Nodes.{node_cmp}
 use Rattle.nearest_marks.proofs.ChildLemmas.{added, on_err, same_set}
+use Rattle.nearest_marks.proofs.RoomLemmas.{same_room}
 use Rattle.nearest_marks.proofs.children.put_child.Goals as goal
 
 pub returns-in_ok-insert-clause-ok : goal.returns-in_ok-insert-clause-ok
@@ -18,3 +19,15 @@ returns-in_err-insert-clause-err c =
     (same_set c.args.children.now (c.get_mut.follows.lender c.insert.new.self) c.args.parent.now c.in-Some.own.now c.insert.new.self h
     ((c.get_mut.follows.holds c.insert.new.self).3 (subst IsSome (sym h) refl)).0
     (λ q. ap (list_any (is_at (node_cmp q))) c.in_err-insert.ensures.err))
+
+pub returns-in_ok-insert-clause-room : goal.returns-in_ok-insert-clause-room
+returns-in_ok-insert-clause-room c =
+    let h = sym c.in-Some.ensures.value in
+    same_room c.args.children.now (c.get_mut.follows.lender c.insert.new.self) c.args.parent.now c.in-Some.own.now c.insert.new.self h
+    ((c.get_mut.follows.holds c.insert.new.self).3 (subst IsSome (sym h) refl)).0
+
+pub returns-in_err-insert-clause-room : goal.returns-in_err-insert-clause-room
+returns-in_err-insert-clause-room c =
+    let h = sym c.in-Some.ensures.value in
+    same_room c.args.children.now (c.get_mut.follows.lender c.insert.new.self) c.args.parent.now c.in-Some.own.now c.insert.new.self h
+    ((c.get_mut.follows.holds c.insert.new.self).3 (subst IsSome (sym h) refl)).0
