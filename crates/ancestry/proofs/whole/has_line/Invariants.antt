@@ -3,7 +3,7 @@ use Rattle.version_nodes.specs.Trees.{line, IsForest}
 use Rattle.ancestry.specs.Whole.{HasLine}
 use Rattle.ancestry.proofs.whole.has_line.Given as goal
 
--- a line from here on is one from the first node on, and a forest's has no more steps than are left
+-- a line from here is one from the first node, and a forest's has no more steps than are left
 abbrev pub invariant-loop-parent : goal.invariant-loop-parent
 invariant-loop-parent l = record {
   from : HasLine l.links.entries l.at → HasLine l.links.entries l.from;
