@@ -99,7 +99,7 @@ class OutOfMemory(unittest.TestCase):
     """A message with an id for whose lines there is no memory."""
 
     # More than a request takes at once, and less than the lines of a message of so many.
-    ABOVE = 200_000
+    ABOVE = 250_000
     LINES = 32_000
 
     def send(self, port, words):
