@@ -20,7 +20,7 @@ use Rattle.bug_record.specs.Asked.{numbers_where}
 use Rattle.bug_record.specs.Heads.{is_found}
 use Rattle.bug_record.specs.Images.{numbers_of, bug_of, member_at}
 use Rattle.bug_record.specs.PackageSets.{has_name}
-use Rattle.bug_record.specs.Sets.{has, Each}
+use Rattle.bug_record.specs.Sets.{has, Each, IsAscending}
 use Rattle.bug_record.proofs.SetLemmas.{has-append}
 use Rattle.bug_record.specs.declared.outcome.StoreFault.{StoreFault}
 use Rattle.bug_record.specs.Severities.{all_severities}
@@ -32,7 +32,7 @@ use Rattle.set_images.specs.Rows.{row_of, rows_of, with_row}
 use Rattle.set_images.specs.declared.rows.ListRow.{ListRow}
 use Rattle.bugs_in_memory.specs.Passing.{is_listed_on, is_row_of}
 use Rattle.bugs_in_memory.proofs.ImageLemmas.{has-member_some, member-has}
-use Rattle.bugs_in_memory.proofs.KeyLemmas.{found-image, shown}
+use Rattle.bugs_in_memory.proofs.KeyLemmas.{found-image, shown, shown-some}
 use Rattle.bugs_in_memory.proofs.ListLemmas.{rows-listed}
 use Rattle.desk_content.specs.Content.{Content}
 use Rattle.desk_content.specs.Kept.{IsKeptContent}
@@ -43,12 +43,13 @@ use Rattle.desk_content.proofs.QuestionLemmas.{asked}
 use Rattle.set_rows.specs.Affecting.{AreKeysAffecting}
 use Rattle.set_rows.specs.Listed.{is_of, AreKeysFor}
 use Rattle.desk_store.specs.Store.{AreListed}
-use Rattle.desk_reads.specs.Listing.{listing}
 use Rattle.desk_reads.proofs.KeyLemmas.{image_is, set_small}
 use Rattle.desk_reads.proofs.LoopLemmas.{here}
-use Rattle.desk_reads.specs.Found.{is_shown_at}
+use Rattle.desk_reads.proofs.RowSteps.{or_or, none_or, rows_of_members}
+use Rattle.desk_reads.specs.Found.{is_shown_at, is_found_in}
 use Rattle.desk_reads.specs.Keys.{AreKeysToList}
-use Rattle.desk_reads.specs.Rows.{row_at, row_in, row_for}
+use Rattle.desk_reads.specs.Rows.{row_at, row_in, row_for, row_fields, row_among}
+use Rattle.desk_reads.specs.declared.rows.RowFields.{RowFields}
 use Rattle.desk_reads.proofs.FoundLemmas.{found_right}
 use Rattle.desk_reads.proofs.MapLemmas.{ascending, has_number}
 
@@ -58,17 +59,9 @@ or_none : {A : Type 0} (o : Option A) → option_or None o ≡ o
 or_none None = refl
 or_none (Some a) = refl
 
-none_or : {A : Type 0} (o : Option A) → option_or o None ≡ o
-none_or None = refl
-none_or (Some a) = refl
-
 or_same : {A : Type 0} (o : Option A) → option_or o o ≡ o
 or_same None = refl
 or_same (Some a) = refl
-
-pub or_or : {A : Type 0} (a b c : Option A) → option_or (option_or a b) c ≡ option_or a (option_or b c)
-or_or None b c = refl
-or_or (Some x) b c = refl
 
 -- one test within another
 tests : {A : Type 0} (of kept affects found : Bool) (o : Option A)
@@ -90,28 +83,52 @@ row_of_image c k v n i o is =
 row_of_none : (c : Content) (k : ℕ) (v : Node) (n : ℕ) (o : Option ListRow) → image c k ≡ None → option_or (row_in c k v n) o ≡ o
 row_of_none c k v n o none = ap (λ (s : Option SetImage). option_or (option_and_then (λ j. if is_shown_at c k v j.shared then row_at j n else None) s) o) none
 
--- what a list asks of a set gives the rows of its image
-same_row : (j : SetImage) (n : ℕ) (o : Option Member) → option_map (row_of n) (option_map (bug_of j) o) ≡ option_map (row_of n) (option_map (bug_of (listing j)) o)
-same_row j n None = refl
-same_row j n (Some x) = refl
+module _ (c : Content) (k : ℕ) (v : Node) (n : ℕ) (o : Option ListRow) (kept : IsKeptContent c) where
+  abbrev image_of : SetFields → SetImage
+  image_of g = record { shared = shared_of c k g; members = c.members k }
 
-pub row_of_listing : (c : Content) (k : ℕ) (v : Node) (n : ℕ) (i : SetImage) (o : Option ListRow) → option_map listing (image c k) ≡ Some i
-    → option_or (row_in c k v n) o ≡ (if is_shown_at c k v i.shared then option_or (row_at i n) o else o)
-row_of_listing c k v n i o is = cases (image c k) refl is
-  where
-    cases : (s : Option SetImage) → image c k ≡ s → option_map listing s ≡ Some i → option_or (row_in c k v n) o ≡ (if is_shown_at c k v i.shared then option_or (row_at i n) o else o)
-    cases None e none = absurd (none-some i none)
-    cases (Some j) e some =
-        row_of_image c k v n j o e
-        ∙ ap (λ (r : Option ListRow). if is_shown_at c k v j.shared then option_or r o else o) (same_row j n (member_at j.members n))
-        ∙ ap (λ (h : SetImage). if is_shown_at c k v h.shared then option_or (row_at h n) o else o) (same_Some _ _ some)
+  abbrev said_of : SetFields → RowFields
+  said_of g = record { severity = g.severity; closed = g.closed }
 
-pub row_of_no_listing : (c : Content) (k : ℕ) (v : Node) (n : ℕ) (o : Option ListRow) → option_map listing (image c k) ≡ None → option_or (row_in c k v n) o ≡ o
-row_of_no_listing c k v n o none = cases (image c k) refl none
-  where
-    cases : (s : Option SetImage) → image c k ≡ s → option_map listing s ≡ None → option_or (row_in c k v n) o ≡ o
-    cases None e h = row_of_none c k v n o e
-    cases (Some j) e h = absurd (none-some (listing j) (sym h))
+  abbrev put_among : RowFields → Option ListRow
+  put_among f = if is_found_in c k v f.closed then option_or (row_among f (c.members k) n) o else o
+
+  ascending_bugs : (i : SetImage) → image c k ≡ Some i → IsAscending (numbers_of i.members)
+  ascending_bugs i e =
+      let x = shown-some c.key (image c) kept.keyed k k i e (kept.keyed.own k i e) in
+      kept.sound.ascending k (bug_of i x.0) x.1
+
+  -- a set that is not archived gives the rows of its bugs where they are found
+  pub row_listed : (f : RowFields) → option_and_then row_fields (c.fields k) ≡ Some f → option_or (row_in c k v n) o ≡ put_among f
+  row_listed f is = cases (c.fields k) refl is
+    where
+      within : (g : SetFields) → c.fields k ≡ Some g → (b : Bool) → g.archived ≡ b
+          → (if b then None else Some (said_of g)) ≡ Some f → option_or (row_in c k v n) o ≡ put_among f
+      within g e true a h = absurd (none-some f h)
+      within g e false a h =
+          row_of_image c k v n (image_of g) o (image_is c k g e)
+          ∙ ap (λ b. if not b && is_found_in c k v g.closed then option_or (row_at (image_of g) n) o else o) a
+          ∙ ap (λ (r : Option ListRow). if is_found_in c k v g.closed then option_or r o else o) (sym (rows_of_members (image_of g) n (ascending_bugs (image_of g) (image_is c k g e))))
+          ∙ ap put_among (same_Some _ _ h)
+
+      cases : (s : Option SetFields) → c.fields k ≡ s → option_and_then row_fields s ≡ Some f → option_or (row_in c k v n) o ≡ put_among f
+      cases None e h = absurd (none-some f h)
+      cases (Some g) e h = within g e g.archived refl h
+
+  -- one that is archived, or is not there, gives none
+  pub row_unlisted : option_and_then row_fields (c.fields k) ≡ None → option_or (row_in c k v n) o ≡ o
+  row_unlisted is = cases (c.fields k) refl is
+    where
+      within : (g : SetFields) → c.fields k ≡ Some g → (b : Bool) → g.archived ≡ b
+          → (if b then None else Some (said_of g)) ≡ None → option_or (row_in c k v n) o ≡ o
+      within g e true a h =
+          row_of_image c k v n (image_of g) o (image_is c k g e)
+          ∙ ap (λ b. if not b && is_found_in c k v g.closed then option_or (row_at (image_of g) n) o else o) a
+      within g e false a h = absurd (none-some _ (sym h))
+
+      cases : (s : Option SetFields) → c.fields k ≡ s → option_and_then row_fields s ≡ None → option_or (row_in c k v n) o ≡ o
+      cases None e h = row_of_none c k v n o (ap (option_map image_of) e)
+      cases (Some g) e h = within g e g.archived refl h
 
 -- the rows of one more set, and those of the sets that are left
 pub set_came : (c : Content) (v : Node) (keys : List ℕ) (at k other n : ℕ) (old new to : Option ListRow) → at < length keys → k ≡ get_or keys at other

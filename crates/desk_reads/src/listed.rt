@@ -1,30 +1,30 @@
 //! The bugs that are listed for a package at a node.
 
-ghost use Rattle.std.specs.Prelude.{◌≡◌, ◌≢◌, ◌++◌, ◌&&◌, not, ℕ, List, filter, flat_map, IfOk, IfErr, OnOk, if◌then◌else◌};
+ghost use Rattle.std.specs.Prelude.{◌≡◌, ◌≢◌, ◌++◌, ℕ, List, filter, flat_map, IfOk, IfErr, OnOk, if◌then◌else◌};
 ghost use Rattle.std.specs.BTreeMap.{get};
 ghost use Rattle.std.specs.List.Sorted.{IsStrictlySortedBy};
 ghost use Rattle.std.specs.Map.{keys_of, values_of};
-ghost use Rattle.std.specs.Option.{option_or};
+ghost use Rattle.std.specs.Option.{option_or, option_and_then};
 ghost use Rattle.std.specs.Ordering.{nat_cmp};
 ghost use Rattle.sqlite.specs.Held.{state};
 ghost use Rattle.bug_record.specs.Severities.{all_severities};
 ghost use Rattle.bug_record.specs.declared.outcome.StoreFault.TheVariants.{Foreign};
 ghost use Rattle.bugs_in_memory.specs.Passing.{is_row_of};
+ghost use Rattle.desk_content.specs.Kept.{IsKeptContent};
 ghost use Rattle.desk_content.specs.View.{desk_in};
 ghost use Rattle.desk_schema.specs.Steps.{Reads, Serves};
 ghost use Rattle.desk_store.specs.Store.{AreListed};
 ghost use Rattle.desk_reads.specs.Kept.{ReadsKept};
-ghost use Rattle.desk_reads.specs.Found.{is_shown_at};
+ghost use Rattle.desk_reads.specs.Found.{is_found_in};
 ghost use Rattle.desk_reads.specs.Keys.{AreKeysToList};
-ghost use Rattle.desk_reads.specs.Rows.{row_at, row_in, row_for};
+ghost use Rattle.desk_reads.specs.Rows.{row_fields, row_among, row_in, row_for};
 
-use crate::found::read_found;
-use crate::images::read_listing;
+use crate::found::read_found_in;
 use crate::keys::small_keys;
-use crate::rows::{put_rows, sorted_rows};
-use bug_record::{Numbers, Sequence, SetImage, StoreFault};
+use crate::rows::{RowFields, put_rows, row_fields, sorted_rows};
+use bug_record::{Member, Numbers, Sequence, StoreFault};
 use set_images::ListRow;
-use set_rows::{read_affecting, read_keys_of};
+use set_rows::{read_affecting, read_fields, read_keys_of, read_members};
 use sqlite::{Alter, Transaction};
 use std::alloc::Global;
 use std::collections::BTreeMap;
@@ -74,49 +74,71 @@ fn read_small_keys<S: Alter>(
     small_keys(alloc, keys.as_slice())
 }
 
-// The rows of the image's bugs come into the map, where they are to be listed.
-fn put_found(
+// The rows of these bugs of a set come into the map.
+fn put_bugs(
     rows: &mut BTreeMap<u64, ListRow>,
-    image: &SetImage,
-    found: bool,
+    fields: RowFields,
+    members: &[Member],
 ) -> Result<(), StoreFault>
-    ensures value { OnOk result ((n : ℕ) → get nat_cmp rows.new n
-        ≡ (if found then option_or (row_at image.now n) (get nat_cmp rows.old n) else get nat_cmp rows.old n)) }
+    ensures value { OnOk result ((n : ℕ) → get nat_cmp rows.new n ≡ option_or (row_among fields members.now n) (get nat_cmp rows.old n)) }
     ensures sure { IfErr result (λ fault. fault ≢ Foreign) }
 {
-    if !found {
-        return Ok(());
-    }
-    match put_rows(rows, image) {
+    match put_rows(rows, fields, members) {
         Ok(()) => Ok(()),
         Err(_) => Err(StoreFault::Memory),
     }
 }
 
-// Whether bugs of this image are listed, where they are found or not.
-fn is_shown(image: &SetImage, found: bool) -> bool
-    ensures { result ≡ (not image.now.shared.archived && found) }
-{
-    !image.shared.fields().archived && found
-}
-
-// The rows of the bugs of the key's set, of which this is asked, come into the map, where they are
-// not archived and are found at a node.
-fn add_image<S: Alter>(
+// The rows of the bugs of the key's set, of which they have these fields, come into the map.
+fn add_bugs<S: Alter>(
+    alloc: Global,
     tx: &mut Transaction<'_, S>,
     rows: &mut BTreeMap<u64, ListRow>,
     key: u32,
-    image: &SetImage,
+    fields: RowFields,
+) -> Result<(), StoreFault>
+    ensures same_reference { tx.new.conn.ghost_name ≡ tx.old.conn.ghost_name }
+    ensures reads { Reads (λ c _. (n : ℕ) → get nat_cmp rows.new n ≡ option_or (row_among fields (c.members key) n) (get nat_cmp rows.old n))
+        (state S.Store tx.old.conn.now) (state S.Store tx.new.conn.now) result }
+{
+    let members = read_members(alloc, tx, key)?;
+    put_bugs(rows, fields, members.as_slice())
+}
+
+// The same, where they are found at a node.
+fn add_found<S: Alter>(
+    alloc: Global,
+    tx: &mut Transaction<'_, S>,
+    rows: &mut BTreeMap<u64, ListRow>,
+    key: u32,
+    fields: RowFields,
     node: &Node,
 ) -> Result<(), StoreFault>
     ensures same_reference { tx.new.conn.ghost_name ≡ tx.old.conn.ghost_name }
-    ensures reads { Reads (λ c _. (n : ℕ) → get nat_cmp rows.new n ≡ (if is_shown_at c key node.now image.now.shared
-        then option_or (row_at image.now n) (get nat_cmp rows.old n) else get nat_cmp rows.old n))
+    ensures reads { Reads (λ c _. IsKeptContent c → (n : ℕ) → get nat_cmp rows.new n ≡ (if is_found_in c key node.now fields.closed
+        then option_or (row_among fields (c.members key) n) (get nat_cmp rows.old n) else get nat_cmp rows.old n))
         (state S.Store tx.old.conn.now) (state S.Store tx.new.conn.now) result }
 {
-    let found = read_found(tx, key, image, node)?;
-    let shown = is_shown(image, found);
-    put_found(rows, image, shown)
+    let found = read_found_in(alloc, tx, key, fields.closed, node)?;
+    if !found {
+        return Ok(());
+    }
+    add_bugs(alloc, tx, rows, key, fields)
+}
+
+// What rows have of the key's set, if there is such a set and it is not archived.
+fn read_row_fields<S: Alter>(
+    alloc: Global,
+    tx: &mut Transaction<'_, S>,
+    key: u32,
+) -> Result<Option<RowFields>, StoreFault>
+    ensures same_reference { tx.new.conn.ghost_name ≡ tx.old.conn.ghost_name }
+    ensures reads { Reads (λ c fields. fields ≡ option_and_then row_fields (c.fields key)) (state S.Store tx.old.conn.now) (state S.Store tx.new.conn.now) result }
+{
+    match read_fields(alloc, tx, key)? {
+        Some(fields) => Ok(row_fields(&fields)),
+        None => Ok(None),
+    }
 }
 
 // The rows of the bugs of the key's set come into the map, where they are not archived and are
@@ -129,11 +151,11 @@ fn add_set<S: Alter>(
     node: &Node,
 ) -> Result<(), StoreFault>
     ensures same_reference { tx.new.conn.ghost_name ≡ tx.old.conn.ghost_name }
-    ensures reads { Reads (λ c _. (n : ℕ) → get nat_cmp rows.new n ≡ option_or (row_in c key node.now n) (get nat_cmp rows.old n))
+    ensures reads { Reads (λ c _. IsKeptContent c → (n : ℕ) → get nat_cmp rows.new n ≡ option_or (row_in c key node.now n) (get nat_cmp rows.old n))
         (state S.Store tx.old.conn.now) (state S.Store tx.new.conn.now) result }
 {
-    match read_listing(alloc, tx, key)? {
-        Some(image) => add_image(tx, rows, key, &image, node),
+    match read_row_fields(alloc, tx, key)? {
+        Some(fields) => add_found(alloc, tx, rows, key, fields, node),
         None => Ok(()),
     }
 }
@@ -147,7 +169,7 @@ fn read_rows<S: Alter>(
     node: &Node,
 ) -> Result<BTreeMap<u64, ListRow>, StoreFault>
     ensures same_reference { tx.new.conn.ghost_name ≡ tx.old.conn.ghost_name }
-    ensures reads { Reads (λ c rows. (n : ℕ) → get nat_cmp rows n ≡ row_for c node.now keys.now n)
+    ensures reads { Reads (λ c rows. IsKeptContent c → (n : ℕ) → get nat_cmp rows n ≡ row_for c node.now keys.now n)
         (state S.Store tx.old.conn.now) (state S.Store tx.new.conn.now) result }
 {
     let mut rows = BTreeMap::new(alloc);

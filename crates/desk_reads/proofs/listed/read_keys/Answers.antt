@@ -1,5 +1,4 @@
-use Rattle.std.proofs.Common.{◌≡◌, ◌++◌, ap, ◌∙◌}
-use Rattle.std.specs.Prelude.{⊤}
+use Rattle.std.proofs.Common.{◌++◌, ap, ◌∙◌}
 use Rattle.sqlite.specs.Held.{state}
 use Rattle.set_rows.specs.Affecting.{AreKeysAffecting}
 use Rattle.set_rows.specs.Listed.{AreKeysFor}

@@ -3,6 +3,8 @@ use Rattle.std.specs.BTreeMap.{get}
 use Rattle.std.specs.Option.{option_or}
 use Rattle.std.specs.Ordering.{nat_cmp}
 use Rattle.sqlite.specs.Held.{state}
+use Rattle.desk_content.specs.Content.{Content}
+use Rattle.desk_content.specs.Kept.{IsKeptContent}
 use Rattle.desk_schema.proofs.ReadSteps.{known_then, known_weaker}
 use Rattle.desk_reads.specs.Rows.{row_in, row_for}
 use Rattle.desk_reads.proofs.ListedLemmas.{set_came}
@@ -15,13 +17,12 @@ loop-key-preserved g c = record {
       let old = state g.S.Store c.args.tx.now.conn.now in
       let mid = state g.S.Store c.loop-key.tx.conn.now in
       let new = state g.S.Store c.add_set.new.tx.conn.now in
-      known_weaker old new
-      (λ k. ((n : ℕ) → option_or (row_for k c.args.node.now (drop c.loop-key.key-index c.args.keys.now) n) (get nat_cmp c.loop-key.rows n) ≡ row_for k c.args.node.now c.args.keys.now n)
-      × ((n : ℕ) → get nat_cmp c.add_set.new.rows n ≡ option_or (row_in k (get_or c.args.keys.now c.loop-key.key-index 0) c.args.node.now n) (get nat_cmp c.loop-key.rows n))) _
-      (λ k p n. set_came k c.args.node.now c.args.keys.now c.loop-key.key-index (get_or c.args.keys.now c.loop-key.key-index 0) 0 n (get nat_cmp c.loop-key.rows n) (get nat_cmp c.add_set.new.rows n) _
-      c.loop-key-test.true refl (p.1 n) (p.0 n))
-      (known_then old mid new tt
-      (λ k. (n : ℕ) → option_or (row_for k c.args.node.now (drop c.loop-key.key-index c.args.keys.now) n) (get nat_cmp c.loop-key.rows n) ≡ row_for k c.args.node.now c.args.keys.now n)
-      (λ k _. (n : ℕ) → get nat_cmp c.add_set.new.rows n ≡ option_or (row_in k (get_or c.args.keys.now c.loop-key.key-index 0) c.args.node.now n) (get nat_cmp c.loop-key.rows n))
-      c.loop-key.invariant.known c.in_ok-add_set.ensures.reads);
+      let before : Content → Type 0 =
+      λ k. IsKeptContent k → (n : ℕ) → option_or (row_for k c.args.node.now (drop c.loop-key.key-index c.args.keys.now) n) (get nat_cmp c.loop-key.rows n) ≡ row_for k c.args.node.now c.args.keys.now n in
+      let came : Content → Type 0 =
+      λ k. IsKeptContent k → (n : ℕ) → get nat_cmp c.add_set.new.rows n ≡ option_or (row_in k (get_or c.args.keys.now c.loop-key.key-index 0) c.args.node.now n) (get nat_cmp c.loop-key.rows n) in
+      known_weaker old new (λ k. before k × came k) _
+      (λ k p kept n. set_came k c.args.node.now c.args.keys.now c.loop-key.key-index (get_or c.args.keys.now c.loop-key.key-index 0) 0 n (get nat_cmp c.loop-key.rows n) (get nat_cmp c.add_set.new.rows n) _
+      c.loop-key-test.true refl (p.1 kept n) (p.0 kept n))
+      (known_then old mid new tt before (λ k _. came k) c.loop-key.invariant.known c.in_ok-add_set.ensures.reads);
 }

@@ -3,6 +3,7 @@ use Rattle.std.specs.BTreeMap.{get}
 use Rattle.std.specs.Option.{option_or}
 use Rattle.std.specs.Ordering.{nat_cmp}
 use Rattle.sqlite.specs.Held.{state}
+use Rattle.desk_content.specs.Kept.{IsKeptContent}
 use Rattle.desk_schema.proofs.ReadSteps.{Known}
 use Rattle.desk_reads.specs.Rows.{row_for}
 use Rattle.desk_reads.proofs.listed.read_rows.Given as goal
@@ -13,5 +14,5 @@ invariant-loop-key g l =
     record {
       same : l.tx.conn.ghost_name ≡ l.fn.tx.conn.ghost_name;
       known : Known (state g.S.Store l.fn.tx.conn.now) (state g.S.Store l.tx.conn.now)
-          (λ c. (n : ℕ) → option_or (row_for c l.node (drop l.key-index l.keys) n) (get nat_cmp l.rows n) ≡ row_for c l.node l.keys n);
+          (λ c. IsKeptContent c → (n : ℕ) → option_or (row_for c l.node (drop l.key-index l.keys) n) (get nat_cmp l.rows n) ≡ row_for c l.node l.keys n);
     }

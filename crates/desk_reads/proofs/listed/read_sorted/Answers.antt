@@ -23,11 +23,11 @@ returns-clause-reads g c =
     let new = state g.S.Store c.read_rows.new.tx.conn.now in
     kept_any old new c.sorted.result (λ k rows. IsKeptContent k → (p : List ℕ) → AreKeysToList p k c.args.keys.now → AreListed (desk_in k) p c.args.node.now rows)
     (λ k rows. (p : List ℕ) → AreKeysToList p k c.args.keys.now → AreListed (desk_in k) p c.args.node.now rows) (λ k rows kept says. says kept)
-    (reads_work old new c.in_ok-rows.rows c.sorted.result (λ _. ⊤) (λ k rows. (n : ℕ) → get nat_cmp rows n ≡ row_for k c.args.node.now c.args.keys.now n)
+    (reads_work old new c.in_ok-rows.rows c.sorted.result (λ _. ⊤) (λ k rows. IsKeptContent k → (n : ℕ) → get nat_cmp rows n ≡ row_for k c.args.node.now c.args.keys.now n)
     (λ k rows. IsKeptContent k → (p : List ℕ) → AreKeysToList p k c.args.keys.now → AreListed (desk_in k) p c.args.node.now rows)
     (λ k has. (
       if_same c.sorted.result (λ rows. rows ≡ flat_map (λ severity. filter (is_row_of severity) (values_of c.in_ok-rows.rows.entries)) all_severities)
           (λ rows. IsKeptContent k → (p : List ℕ) → AreKeysToList p k c.args.keys.now → AreListed (desk_in k) p c.args.node.now rows)
-          (λ rows is kept p are. are_listed k kept p c.args.node.now c.args.keys.now are c.in_ok-rows.rows c.sorted.ensures.ordered has rows is) c.sorted.ensures.value,
+          (λ rows is kept p are. are_listed k kept p c.args.node.now c.args.keys.now are c.in_ok-rows.rows c.sorted.ensures.ordered (has kept) rows is) c.sorted.ensures.value,
       c.sorted.ensures.sure,
     )) c.in_ok-rows.ensures.reads)
