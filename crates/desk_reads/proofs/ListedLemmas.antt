@@ -1,5 +1,5 @@
 -- The rows of all sets of a package that are found at a node, in a content that a desk keeps.
-use Rattle.std.proofs.Common.{◌≡◌, ◌⊎◌, inl, inr, ◌<◌, ◌^◌, ◌+◌, ℕ, Bool, true, false, not, ◌||◌, ◌&&◌, ◌==◌, List, [], ◌∷◌, ◌++◌, length, drop, get_or, Option, Some, None, Result, Ok, Err, IfOk, if◌then◌else◌, sym, refl, ap, subst, ◌∙◌}
+use Rattle.std.proofs.Common.{◌≡◌, ◌⊎◌, inl, inr, ◌<◌, ◌^◌, ◌+◌, ℕ, Bool, true, false, not, ◌||◌, ◌&&◌, ◌==◌, List, [], ◌∷◌, ◌++◌, length, drop, get_or, Option, Some, None, if◌then◌else◌, sym, refl, ap, subst, ◌∙◌}
 use Rattle.std.specs.Prelude.{filter, flat_map, is_some, option_map}
 use Rattle.std.specs.BTreeMap.{BTreeMap, get}
 use Rattle.std.specs.List.{AllByRecursion}
@@ -22,7 +22,6 @@ use Rattle.bug_record.specs.Images.{numbers_of, bug_of, member_at}
 use Rattle.bug_record.specs.PackageSets.{has_name}
 use Rattle.bug_record.specs.Sets.{has, Each, IsAscending}
 use Rattle.bug_record.proofs.SetLemmas.{has-append}
-use Rattle.bug_record.specs.declared.outcome.StoreFault.{StoreFault}
 use Rattle.bug_record.specs.Severities.{all_severities}
 use Rattle.bug_record.specs.declared.bug.Bug.{Bug}
 use Rattle.bug_record.specs.declared.bug.Member.{Member}
@@ -41,15 +40,16 @@ use Rattle.desk_content.specs.View.{image, desk_in, shared_of}
 use Rattle.desk_content.specs.declared.edit.SetFields.{SetFields}
 use Rattle.desk_content.proofs.QuestionLemmas.{asked}
 use Rattle.set_rows.specs.Affecting.{AreKeysAffecting}
-use Rattle.set_rows.specs.Listed.{is_of, AreKeysFor}
+use Rattle.set_rows.specs.Listed.{is_of, row_fields, keys_in, IsListedSet, AreKeysFor}
+use Rattle.set_rows.specs.declared.listed.ListedSet.{ListedSet}
 use Rattle.desk_store.specs.Store.{AreListed}
 use Rattle.desk_reads.proofs.KeyLemmas.{image_is, set_small}
 use Rattle.desk_reads.proofs.LoopLemmas.{here}
 use Rattle.desk_reads.proofs.RowSteps.{or_or, none_or, rows_of_members}
 use Rattle.desk_reads.specs.Found.{is_shown_at, is_found_in}
 use Rattle.desk_reads.specs.Keys.{AreKeysToList}
-use Rattle.desk_reads.specs.Rows.{row_at, row_in, row_for, row_fields, row_among}
-use Rattle.desk_reads.specs.declared.rows.RowFields.{RowFields}
+use Rattle.desk_reads.specs.Rows.{row_at, row_in, row_for, row_among}
+use Rattle.set_rows.specs.declared.listed.RowFields.{RowFields}
 use Rattle.desk_reads.proofs.FoundLemmas.{found_right}
 use Rattle.desk_reads.proofs.MapLemmas.{ascending, has_number}
 
@@ -139,6 +139,20 @@ set_came c v keys at k other n old new to low is came before =
     ∙ sym (ap (λ (ks : List ℕ). option_or (row_for c v ks n) old) (here keys at k other low is))
     ∙ before
 
+pub listed_came : (c : Content) (v : Node) (ss : List ListedSet) (at n : ℕ) (s other : ListedSet) (old new to : Option ListRow) → at < length ss → s ≡ get_or ss at other
+    → new ≡ option_or (row_in c s.key v n) old → option_or (row_for c v (keys_in (drop at ss)) n) old ≡ to → option_or (row_for c v (keys_in (drop (at + 1) ss)) n) new ≡ to
+listed_came c v ss at n s other old new to low is came before =
+    ap (option_or (row_for c v (keys_in (drop (at + 1) ss)) n)) came
+    ∙ sym (or_or (row_for c v (keys_in (drop (at + 1) ss)) n) (row_in c s.key v n) old)
+    ∙ sym (ap (λ (xs : List ListedSet). option_or (row_for c v (keys_in xs) n) old) (here ss at s other low is))
+    ∙ before
+
+-- the rows of some sets, and then of others
+pub row_for_both : (c : Content) (v : Node) (n : ℕ) (keys more : List ℕ) → row_for c v (keys ++ more) n ≡ option_or (row_for c v more n) (row_for c v keys n)
+row_for_both c v n [] more = sym (none_or (row_for c v more n))
+row_for_both c v n (k ∷ keys) more =
+    ap (λ o. option_or o (row_in c k v n)) (row_for_both c v n keys more) ∙ or_or (row_for c v more n) (row_for c v keys n) (row_in c k v n)
+
 -- ---- the rows of a package
 
 itself : (k : ℕ) → (k == k) ≡ true
@@ -157,24 +171,25 @@ each_of P (k ∷ ks) all = (all k (ap (λ t. t || has ks k) (itself k)), each_of
 pub keys_both : (p : List ℕ) (c : Content) (keys more all : List ℕ) → AreKeysFor p c keys → AreKeysAffecting p c more → all ≡ keys ++ more → AreKeysToList p c all
 keys_both p c keys more all a b is = λ k. ap (λ ks. has ks k) is ∙ has-append keys more k ∙ (λ i. a k i || b k i)
 
-pub keys_are : {A : Type 0} (items : A → List ℕ) (p : List ℕ) (c : Content) (keys : List ℕ) (r : Result A StoreFault) → AreKeysToList p c keys → IfOk r (λ a. items a ≡ keys) → IfOk r (λ a. AreKeysToList p c (items a))
-keys_are items p c keys (Ok a) says is = λ k. ap (λ ks. has ks k) is ∙ says k
-keys_are items p c keys (Err e) says is = tt
-
-module _ (c : Content) (kept : IsKeptContent c) (p : List ℕ) where
-  -- a key to list has a row
-  keyed_row : (keys : List ℕ) → AreKeysToList p c keys → (k : ℕ) → has keys k ≡ true → (f : SetFields) × (c.fields k ≡ Some f)
-  keyed_row keys are k h = cases (c.fields k) refl
+module _ (c : Content) (kept : IsKeptContent c) where
+  -- the key of a set of which a list asks is a u32
+  pub listed_small : (s : ListedSet) → IsListedSet c s → s.key < 2 ^ 32
+  listed_small s is = cases (c.fields s.key) refl is
     where
-      cases : (o : Option SetFields) → c.fields k ≡ o → (f : SetFields) × (c.fields k ≡ Some f)
-      cases None e = absurd (false≢true (sym ((λ i. is_of p (e i) || has_name (kept.no_affects k e i) p)) ∙ sym (are k) ∙ h))
-      cases (Some f) e = (f, e)
+      cases : (o : Option SetFields) → c.fields s.key ≡ o → option_and_then row_fields o ≡ Some s.fields → s.key < 2 ^ 32
+      cases None e h = absurd (none-some s.fields h)
+      cases (Some f) e h = set_small c kept s.key (record { shared = shared_of c s.key f; members = c.members s.key }) (image_is c s.key f e)
 
-  -- each key is a u32
-  pub keys_small : (keys : List ℕ) → AreKeysToList p c keys → Each (λ k. k < 2 ^ 32) keys
-  keys_small keys are = each_of (λ k. k < 2 ^ 32) keys (λ k h.
-      let f = keyed_row keys are k h in
-      set_small c kept k (record { shared = shared_of c k f.0; members = c.members k }) (image_is c k f.0 f.1))
+  -- and so is that of one that affects the package
+  affecting_small : (p : List ℕ) (k : ℕ) → has_name (c.affects k) p ≡ true → k < 2 ^ 32
+  affecting_small p k h = cases (c.fields k) refl
+    where
+      cases : (o : Option SetFields) → c.fields k ≡ o → k < 2 ^ 32
+      cases None e = absurd (false≢true (sym (ap (λ (names : List (List ℕ)). has_name names p) (kept.no_affects k e)) ∙ h))
+      cases (Some f) e = set_small c kept k (record { shared = shared_of c k f; members = c.members k }) (image_is c k f e)
+
+  pub keys_small : (p keys : List ℕ) → AreKeysAffecting p c keys → Each (λ k. k < 2 ^ 32) keys
+  keys_small p keys are = each_of (λ k. k < 2 ^ 32) keys (λ k h. affecting_small p k (sym (are k) ∙ h))
 
 module _ (c : Content) (kept : IsKeptContent c) (p : List ℕ) (v : Node) where
   abbrev test : Shared → Bool

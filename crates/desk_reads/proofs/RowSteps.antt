@@ -14,7 +14,7 @@ use Rattle.set_images.specs.declared.rows.ListRow.{ListRow}
 use Rattle.bugs_in_memory.proofs.ImageLemmas.{none_from, has-member_some}
 use Rattle.desk_reads.proofs.LoopLemmas.{here}
 use Rattle.desk_reads.specs.Rows.{row_at, row_with, row_among}
-use Rattle.desk_reads.specs.declared.rows.RowFields.{RowFields}
+use Rattle.set_rows.specs.declared.listed.RowFields.{RowFields}
 
 pub or_or : {A : Type 0} (a b c : Option A) → option_or (option_or a b) c ≡ option_or a (option_or b c)
 or_or None b c = refl

@@ -9,9 +9,8 @@ use Rattle.set_images.specs.Rows.{row_of}
 use Rattle.set_images.specs.declared.rows.ListRow.{ListRow}
 use Rattle.desk_content.specs.Content.{Content}
 use Rattle.desk_content.specs.View.{image}
-use Rattle.desk_content.specs.declared.edit.SetFields.{SetFields}
 use Rattle.desk_reads.specs.Found.{is_shown_at}
-use Rattle.desk_reads.specs.declared.rows.RowFields.{RowFields}
+use Rattle.set_rows.specs.declared.listed.RowFields.{RowFields}
 
 -- the row of the bug n, if it is one of the image's
 abbrev pub row_at : SetImage → ℕ → Option ListRow
@@ -26,11 +25,7 @@ abbrev pub row_for : Content → Node → List ℕ → ℕ → Option ListRow
 row_for c v [] n = None
 row_for c v (k ∷ ks) n = option_or (row_for c v ks n) (row_in c k v n)
 
--- what rows have of a set with these fields, if it is not archived
-abbrev pub row_fields : SetFields → Option RowFields
-row_fields f = if f.archived then None else Some (record { severity = f.severity; closed = f.closed })
-
--- the row of a bug of such a set
+-- the row of a bug of a set
 abbrev pub row_with : RowFields → Member → ListRow
 row_with f m = record { number = m.number; severity = f.severity; closed = f.closed; title = m.title }
 

@@ -8,20 +8,15 @@ ghost use Rattle.std.specs.Option.{option_or};
 ghost use Rattle.std.specs.Ordering.{nat_cmp};
 ghost use Rattle.bug_record.specs.Severities.{all_severities};
 ghost use Rattle.bugs_in_memory.specs.Passing.{is_row_of};
-ghost use Rattle.desk_reads.specs.Rows.{row_fields, row_with, row_among};
+ghost use Rattle.set_rows.specs.Listed.{row_fields};
+ghost use Rattle.desk_reads.specs.Rows.{row_with, row_among};
 
 use bug_record::{Member, Sequence, Severity};
 use desk_content::SetFields;
 use set_images::ListRow;
+use set_rows::RowFields;
 use std::alloc::{AllocError, Global};
 use std::collections::BTreeMap;
-
-/// What the rows of a set's bugs have of the set.
-#[derive(Clone, Copy, Drop)]
-pub(crate) struct RowFields {
-    pub severity: Severity,
-    pub closed: bool,
-}
 
 // What rows have of a set with these fields; `None` where it is archived.
 pub(crate) fn row_fields(fields: &SetFields) -> Option<RowFields>

@@ -5,4 +5,5 @@ pub mod MarkStatements
 pub mod MarksAtNode
 pub mod BugStatements
 pub mod SetStatements
+pub mod ListedSets
 pub mod NearStatements

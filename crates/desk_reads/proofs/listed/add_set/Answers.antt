@@ -7,7 +7,8 @@ use Rattle.sqlite.specs.Held.{state}
 use Rattle.desk_content.specs.Kept.{IsKeptContent}
 use Rattle.desk_schema.proofs.StepLemmas.{reads_work, done}
 use Rattle.desk_reads.specs.Found.{is_found_in}
-use Rattle.desk_reads.specs.Rows.{row_fields, row_among, row_in}
+use Rattle.set_rows.specs.Listed.{row_fields}
+use Rattle.desk_reads.specs.Rows.{row_among, row_in}
 use Rattle.desk_reads.proofs.KeptSteps.{reads_then}
 use Rattle.desk_reads.proofs.ListedLemmas.{row_listed, row_unlisted}
 use Rattle.desk_reads.proofs.listed.add_set.Goals as goal

@@ -4,8 +4,8 @@ use Rattle.std.specs.Prelude.{⊤}
 use Rattle.sqlite.specs.Held.{state}
 use Rattle.bug_record.specs.declared.outcome.StoreFault.{StoreFault}
 use Rattle.desk_schema.proofs.StepLemmas.{reads_work}
-use Rattle.desk_reads.specs.Rows.{row_fields}
-use Rattle.desk_reads.specs.declared.rows.RowFields.{RowFields}
+use Rattle.set_rows.specs.Listed.{row_fields}
+use Rattle.set_rows.specs.declared.listed.RowFields.{RowFields}
 use Rattle.desk_reads.proofs.listed.read_row_fields.Goals as goal
 
 pub returns-in-Some-clause-reads : goal.returns-in-Some-clause-reads
