@@ -15,8 +15,7 @@ use Rattle.desk_content.specs.View.{image, desk_in, shared_of}
 use Rattle.desk_content.specs.Kept.{IsKeptContent}
 use Rattle.desk_content.specs.declared.edit.SetFields.{SetFields}
 use Rattle.desk_store.specs.Store.{IsImageOf}
-use Rattle.desk_reads.specs.Bugs.{image_with}
-use Rattle.desk_reads.specs.Listing.{unlinked, listing}
+use Rattle.desk_reads.specs.Bugs.{image_with, unlinked}
 
 small : (n next : ℕ) → n < next → next ≤ AFTER_LARGEST → n < 2 ^ 32
 small n next low limit = omega (arith, low, limit)
@@ -40,16 +39,6 @@ shared_is c k f marked blockers affects p q r =
     ap (λ (m : Shared). let s : Shared = record m { blockers = blockers; affects = affects } in s) p
     ∙ ap (λ x. let s : Shared = record (shared_of c k f) { blockers = x; affects = affects } in s) q
     ∙ ap (λ x. let s : Shared = record (shared_of c k f) { affects = x } in s) r
-
--- what a list asks of a set that has a row
-pub listing_is : (c : Content) (k : ℕ) (f : SetFields) → c.fields k ≡ Some f → option_map listing (image c k) ≡ option_map listing (image_with c k f)
-listing_is c k f e = ap (option_map listing) (image_is c k f e)
-
-pub listing_of_parts : (c : Content) (k : ℕ) (f : SetFields) (shared : Shared) (members : List Member) → shared ≡ unlinked (shared_of c k f) → members ≡ c.members k
-    → Some (record { shared = shared; members = members }) ≡ option_map listing (image_with c k f)
-listing_of_parts c k f shared members p q =
-    ap (λ x. let i : SetImage = record { shared = x; members = members } in Some i) p
-    ∙ ap (λ x. let i : SetImage = record { shared = unlinked (shared_of c k f); members = x } in Some i) q
 
 pub image_of_parts : (c : Content) (k : ℕ) (f : SetFields) (shared : Shared) (members : List Member) → shared ≡ shared_of c k f → members ≡ c.members k
     → Some (record { shared = shared; members = members }) ≡ image_with c k f

@@ -1,5 +1,5 @@
 -- The rows of all sets of a package that are found at a node, in a content that a desk keeps.
-use Rattle.std.proofs.Common.{◌≡◌, ◌⊎◌, inl, inr, ◌<◌, ◌^◌, ◌+◌, ℕ, Bool, true, false, not, ◌||◌, ◌&&◌, ◌==◌, List, [], ◌∷◌, ◌++◌, length, drop, get_or, Option, Some, None, Result, Ok, Err, IfOk, if◌then◌else◌, sym, refl, ap, subst, ◌∙◌}
+use Rattle.std.proofs.Common.{◌≡◌, ◌⊎◌, inl, inr, ◌<◌, ◌^◌, ◌+◌, ℕ, Bool, true, false, not, ◌||◌, ◌&&◌, ◌==◌, List, [], ◌∷◌, ◌++◌, length, drop, get_or, Option, Some, None, if◌then◌else◌, sym, refl, ap, subst, ◌∙◌}
 use Rattle.std.specs.Prelude.{filter, flat_map, is_some, option_map}
 use Rattle.std.specs.BTreeMap.{BTreeMap, get}
 use Rattle.std.specs.List.{AllByRecursion}
@@ -20,9 +20,8 @@ use Rattle.bug_record.specs.Asked.{numbers_where}
 use Rattle.bug_record.specs.Heads.{is_found}
 use Rattle.bug_record.specs.Images.{numbers_of, bug_of, member_at}
 use Rattle.bug_record.specs.PackageSets.{has_name}
-use Rattle.bug_record.specs.Sets.{has, Each}
+use Rattle.bug_record.specs.Sets.{has, Each, IsAscending}
 use Rattle.bug_record.proofs.SetLemmas.{has-append}
-use Rattle.bug_record.specs.declared.outcome.StoreFault.{StoreFault}
 use Rattle.bug_record.specs.Severities.{all_severities}
 use Rattle.bug_record.specs.declared.bug.Bug.{Bug}
 use Rattle.bug_record.specs.declared.bug.Member.{Member}
@@ -32,7 +31,7 @@ use Rattle.set_images.specs.Rows.{row_of, rows_of, with_row}
 use Rattle.set_images.specs.declared.rows.ListRow.{ListRow}
 use Rattle.bugs_in_memory.specs.Passing.{is_listed_on, is_row_of}
 use Rattle.bugs_in_memory.proofs.ImageLemmas.{has-member_some, member-has}
-use Rattle.bugs_in_memory.proofs.KeyLemmas.{found-image, shown}
+use Rattle.bugs_in_memory.proofs.KeyLemmas.{found-image, shown, shown-some}
 use Rattle.bugs_in_memory.proofs.ListLemmas.{rows-listed}
 use Rattle.desk_content.specs.Content.{Content}
 use Rattle.desk_content.specs.Kept.{IsKeptContent}
@@ -41,14 +40,16 @@ use Rattle.desk_content.specs.View.{image, desk_in, shared_of}
 use Rattle.desk_content.specs.declared.edit.SetFields.{SetFields}
 use Rattle.desk_content.proofs.QuestionLemmas.{asked}
 use Rattle.set_rows.specs.Affecting.{AreKeysAffecting}
-use Rattle.set_rows.specs.Listed.{is_of, AreKeysFor}
+use Rattle.set_rows.specs.Listed.{is_of, row_fields, keys_in, IsListedSet, AreKeysFor}
+use Rattle.set_rows.specs.declared.listed.ListedSet.{ListedSet}
 use Rattle.desk_store.specs.Store.{AreListed}
-use Rattle.desk_reads.specs.Listing.{listing}
 use Rattle.desk_reads.proofs.KeyLemmas.{image_is, set_small}
 use Rattle.desk_reads.proofs.LoopLemmas.{here}
-use Rattle.desk_reads.specs.Found.{is_shown_at}
+use Rattle.desk_reads.proofs.RowSteps.{or_or, none_or, rows_of_members}
+use Rattle.desk_reads.specs.Found.{is_shown_at, is_found_in}
 use Rattle.desk_reads.specs.Keys.{AreKeysToList}
-use Rattle.desk_reads.specs.Rows.{row_at, row_in, row_for}
+use Rattle.desk_reads.specs.Rows.{row_at, row_in, row_for, row_among}
+use Rattle.set_rows.specs.declared.listed.RowFields.{RowFields}
 use Rattle.desk_reads.proofs.FoundLemmas.{found_right}
 use Rattle.desk_reads.proofs.MapLemmas.{ascending, has_number}
 
@@ -58,17 +59,9 @@ or_none : {A : Type 0} (o : Option A) → option_or None o ≡ o
 or_none None = refl
 or_none (Some a) = refl
 
-none_or : {A : Type 0} (o : Option A) → option_or o None ≡ o
-none_or None = refl
-none_or (Some a) = refl
-
 or_same : {A : Type 0} (o : Option A) → option_or o o ≡ o
 or_same None = refl
 or_same (Some a) = refl
-
-pub or_or : {A : Type 0} (a b c : Option A) → option_or (option_or a b) c ≡ option_or a (option_or b c)
-or_or None b c = refl
-or_or (Some x) b c = refl
 
 -- one test within another
 tests : {A : Type 0} (of kept affects found : Bool) (o : Option A)
@@ -90,28 +83,52 @@ row_of_image c k v n i o is =
 row_of_none : (c : Content) (k : ℕ) (v : Node) (n : ℕ) (o : Option ListRow) → image c k ≡ None → option_or (row_in c k v n) o ≡ o
 row_of_none c k v n o none = ap (λ (s : Option SetImage). option_or (option_and_then (λ j. if is_shown_at c k v j.shared then row_at j n else None) s) o) none
 
--- what a list asks of a set gives the rows of its image
-same_row : (j : SetImage) (n : ℕ) (o : Option Member) → option_map (row_of n) (option_map (bug_of j) o) ≡ option_map (row_of n) (option_map (bug_of (listing j)) o)
-same_row j n None = refl
-same_row j n (Some x) = refl
+module _ (c : Content) (k : ℕ) (v : Node) (n : ℕ) (o : Option ListRow) (kept : IsKeptContent c) where
+  abbrev image_of : SetFields → SetImage
+  image_of g = record { shared = shared_of c k g; members = c.members k }
 
-pub row_of_listing : (c : Content) (k : ℕ) (v : Node) (n : ℕ) (i : SetImage) (o : Option ListRow) → option_map listing (image c k) ≡ Some i
-    → option_or (row_in c k v n) o ≡ (if is_shown_at c k v i.shared then option_or (row_at i n) o else o)
-row_of_listing c k v n i o is = cases (image c k) refl is
-  where
-    cases : (s : Option SetImage) → image c k ≡ s → option_map listing s ≡ Some i → option_or (row_in c k v n) o ≡ (if is_shown_at c k v i.shared then option_or (row_at i n) o else o)
-    cases None e none = absurd (none-some i none)
-    cases (Some j) e some =
-        row_of_image c k v n j o e
-        ∙ ap (λ (r : Option ListRow). if is_shown_at c k v j.shared then option_or r o else o) (same_row j n (member_at j.members n))
-        ∙ ap (λ (h : SetImage). if is_shown_at c k v h.shared then option_or (row_at h n) o else o) (same_Some _ _ some)
+  abbrev said_of : SetFields → RowFields
+  said_of g = record { severity = g.severity; closed = g.closed }
 
-pub row_of_no_listing : (c : Content) (k : ℕ) (v : Node) (n : ℕ) (o : Option ListRow) → option_map listing (image c k) ≡ None → option_or (row_in c k v n) o ≡ o
-row_of_no_listing c k v n o none = cases (image c k) refl none
-  where
-    cases : (s : Option SetImage) → image c k ≡ s → option_map listing s ≡ None → option_or (row_in c k v n) o ≡ o
-    cases None e h = row_of_none c k v n o e
-    cases (Some j) e h = absurd (none-some (listing j) (sym h))
+  abbrev put_among : RowFields → Option ListRow
+  put_among f = if is_found_in c k v f.closed then option_or (row_among f (c.members k) n) o else o
+
+  ascending_bugs : (i : SetImage) → image c k ≡ Some i → IsAscending (numbers_of i.members)
+  ascending_bugs i e =
+      let x = shown-some c.key (image c) kept.keyed k k i e (kept.keyed.own k i e) in
+      kept.sound.ascending k (bug_of i x.0) x.1
+
+  -- a set that is not archived gives the rows of its bugs where they are found
+  pub row_listed : (f : RowFields) → option_and_then row_fields (c.fields k) ≡ Some f → option_or (row_in c k v n) o ≡ put_among f
+  row_listed f is = cases (c.fields k) refl is
+    where
+      within : (g : SetFields) → c.fields k ≡ Some g → (b : Bool) → g.archived ≡ b
+          → (if b then None else Some (said_of g)) ≡ Some f → option_or (row_in c k v n) o ≡ put_among f
+      within g e true a h = absurd (none-some f h)
+      within g e false a h =
+          row_of_image c k v n (image_of g) o (image_is c k g e)
+          ∙ ap (λ b. if not b && is_found_in c k v g.closed then option_or (row_at (image_of g) n) o else o) a
+          ∙ ap (λ (r : Option ListRow). if is_found_in c k v g.closed then option_or r o else o) (sym (rows_of_members (image_of g) n (ascending_bugs (image_of g) (image_is c k g e))))
+          ∙ ap put_among (same_Some _ _ h)
+
+      cases : (s : Option SetFields) → c.fields k ≡ s → option_and_then row_fields s ≡ Some f → option_or (row_in c k v n) o ≡ put_among f
+      cases None e h = absurd (none-some f h)
+      cases (Some g) e h = within g e g.archived refl h
+
+  -- one that is archived, or is not there, gives none
+  pub row_unlisted : option_and_then row_fields (c.fields k) ≡ None → option_or (row_in c k v n) o ≡ o
+  row_unlisted is = cases (c.fields k) refl is
+    where
+      within : (g : SetFields) → c.fields k ≡ Some g → (b : Bool) → g.archived ≡ b
+          → (if b then None else Some (said_of g)) ≡ None → option_or (row_in c k v n) o ≡ o
+      within g e true a h =
+          row_of_image c k v n (image_of g) o (image_is c k g e)
+          ∙ ap (λ b. if not b && is_found_in c k v g.closed then option_or (row_at (image_of g) n) o else o) a
+      within g e false a h = absurd (none-some _ (sym h))
+
+      cases : (s : Option SetFields) → c.fields k ≡ s → option_and_then row_fields s ≡ None → option_or (row_in c k v n) o ≡ o
+      cases None e h = row_of_none c k v n o (ap (option_map image_of) e)
+      cases (Some g) e h = within g e g.archived refl h
 
 -- the rows of one more set, and those of the sets that are left
 pub set_came : (c : Content) (v : Node) (keys : List ℕ) (at k other n : ℕ) (old new to : Option ListRow) → at < length keys → k ≡ get_or keys at other
@@ -121,6 +138,20 @@ set_came c v keys at k other n old new to low is came before =
     ∙ sym (or_or (row_for c v (drop (at + 1) keys) n) (row_in c k v n) old)
     ∙ sym (ap (λ (ks : List ℕ). option_or (row_for c v ks n) old) (here keys at k other low is))
     ∙ before
+
+pub listed_came : (c : Content) (v : Node) (ss : List ListedSet) (at n : ℕ) (s other : ListedSet) (old new to : Option ListRow) → at < length ss → s ≡ get_or ss at other
+    → new ≡ option_or (row_in c s.key v n) old → option_or (row_for c v (keys_in (drop at ss)) n) old ≡ to → option_or (row_for c v (keys_in (drop (at + 1) ss)) n) new ≡ to
+listed_came c v ss at n s other old new to low is came before =
+    ap (option_or (row_for c v (keys_in (drop (at + 1) ss)) n)) came
+    ∙ sym (or_or (row_for c v (keys_in (drop (at + 1) ss)) n) (row_in c s.key v n) old)
+    ∙ sym (ap (λ (xs : List ListedSet). option_or (row_for c v (keys_in xs) n) old) (here ss at s other low is))
+    ∙ before
+
+-- the rows of some sets, and then of others
+pub row_for_both : (c : Content) (v : Node) (n : ℕ) (keys more : List ℕ) → row_for c v (keys ++ more) n ≡ option_or (row_for c v more n) (row_for c v keys n)
+row_for_both c v n [] more = sym (none_or (row_for c v more n))
+row_for_both c v n (k ∷ keys) more =
+    ap (λ o. option_or o (row_in c k v n)) (row_for_both c v n keys more) ∙ or_or (row_for c v more n) (row_for c v keys n) (row_in c k v n)
 
 -- ---- the rows of a package
 
@@ -140,24 +171,25 @@ each_of P (k ∷ ks) all = (all k (ap (λ t. t || has ks k) (itself k)), each_of
 pub keys_both : (p : List ℕ) (c : Content) (keys more all : List ℕ) → AreKeysFor p c keys → AreKeysAffecting p c more → all ≡ keys ++ more → AreKeysToList p c all
 keys_both p c keys more all a b is = λ k. ap (λ ks. has ks k) is ∙ has-append keys more k ∙ (λ i. a k i || b k i)
 
-pub keys_are : {A : Type 0} (items : A → List ℕ) (p : List ℕ) (c : Content) (keys : List ℕ) (r : Result A StoreFault) → AreKeysToList p c keys → IfOk r (λ a. items a ≡ keys) → IfOk r (λ a. AreKeysToList p c (items a))
-keys_are items p c keys (Ok a) says is = λ k. ap (λ ks. has ks k) is ∙ says k
-keys_are items p c keys (Err e) says is = tt
-
-module _ (c : Content) (kept : IsKeptContent c) (p : List ℕ) where
-  -- a key to list has a row
-  keyed_row : (keys : List ℕ) → AreKeysToList p c keys → (k : ℕ) → has keys k ≡ true → (f : SetFields) × (c.fields k ≡ Some f)
-  keyed_row keys are k h = cases (c.fields k) refl
+module _ (c : Content) (kept : IsKeptContent c) where
+  -- the key of a set of which a list asks is a u32
+  pub listed_small : (s : ListedSet) → IsListedSet c s → s.key < 2 ^ 32
+  listed_small s is = cases (c.fields s.key) refl is
     where
-      cases : (o : Option SetFields) → c.fields k ≡ o → (f : SetFields) × (c.fields k ≡ Some f)
-      cases None e = absurd (false≢true (sym ((λ i. is_of p (e i) || has_name (kept.no_affects k e i) p)) ∙ sym (are k) ∙ h))
-      cases (Some f) e = (f, e)
+      cases : (o : Option SetFields) → c.fields s.key ≡ o → option_and_then row_fields o ≡ Some s.fields → s.key < 2 ^ 32
+      cases None e h = absurd (none-some s.fields h)
+      cases (Some f) e h = set_small c kept s.key (record { shared = shared_of c s.key f; members = c.members s.key }) (image_is c s.key f e)
 
-  -- each key is a u32
-  pub keys_small : (keys : List ℕ) → AreKeysToList p c keys → Each (λ k. k < 2 ^ 32) keys
-  keys_small keys are = each_of (λ k. k < 2 ^ 32) keys (λ k h.
-      let f = keyed_row keys are k h in
-      set_small c kept k (record { shared = shared_of c k f.0; members = c.members k }) (image_is c k f.0 f.1))
+  -- and so is that of one that affects the package
+  affecting_small : (p : List ℕ) (k : ℕ) → has_name (c.affects k) p ≡ true → k < 2 ^ 32
+  affecting_small p k h = cases (c.fields k) refl
+    where
+      cases : (o : Option SetFields) → c.fields k ≡ o → k < 2 ^ 32
+      cases None e = absurd (false≢true (sym (ap (λ (names : List (List ℕ)). has_name names p) (kept.no_affects k e)) ∙ h))
+      cases (Some f) e = set_small c kept k (record { shared = shared_of c k f; members = c.members k }) (image_is c k f e)
+
+  pub keys_small : (p keys : List ℕ) → AreKeysAffecting p c keys → Each (λ k. k < 2 ^ 32) keys
+  keys_small p keys are = each_of (λ k. k < 2 ^ 32) keys (λ k h. affecting_small p k (sym (are k) ∙ h))
 
 module _ (c : Content) (kept : IsKeptContent c) (p : List ℕ) (v : Node) where
   abbrev test : Shared → Bool

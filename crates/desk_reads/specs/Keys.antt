@@ -1,4 +1,4 @@
--- The keys of the sets that a list asks, in any order, some of them perhaps twice: those of the
+-- The keys of the sets of which a list asks, in any order, some of them perhaps twice: those of the
 -- package's sets that are not archived, and those of the sets that affect it.
 use Rattle.std.specs.Prelude.{◌≡◌, ◌||◌, ℕ, List}
 use Rattle.bug_record.specs.PackageSets.{has_name}

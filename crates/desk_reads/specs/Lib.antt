@@ -1,5 +1,4 @@
 pub mod Kept
-pub mod Listing
 pub mod Asked
 -- definitions that only private functions cite
 pub mod Bugs

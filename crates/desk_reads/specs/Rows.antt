@@ -1,14 +1,16 @@
 -- The row of a bug, as the images of sets show it.
-use Rattle.std.specs.Prelude.{ℕ, List, [], ◌∷◌, Option, None, option_map, if◌then◌else◌}
+use Rattle.std.specs.Prelude.{ℕ, ◌==◌, List, [], ◌∷◌, Option, Some, None, option_map, if◌then◌else◌}
 use Rattle.std.specs.Option.{option_or, option_and_then}
 use Rattle.version_nodes.specs.Nodes.{Node}
 use Rattle.bug_record.specs.Images.{bug_of, member_at}
+use Rattle.bug_record.specs.declared.bug.Member.{Member}
 use Rattle.bug_record.specs.declared.bug.SetImage.{SetImage}
 use Rattle.set_images.specs.Rows.{row_of}
 use Rattle.set_images.specs.declared.rows.ListRow.{ListRow}
 use Rattle.desk_content.specs.Content.{Content}
 use Rattle.desk_content.specs.View.{image}
 use Rattle.desk_reads.specs.Found.{is_shown_at}
+use Rattle.set_rows.specs.declared.listed.RowFields.{RowFields}
 
 -- the row of the bug n, if it is one of the image's
 abbrev pub row_at : SetImage → ℕ → Option ListRow
@@ -22,3 +24,12 @@ row_in c k v n = option_and_then (λ i. if is_shown_at c k v i.shared then row_a
 abbrev pub row_for : Content → Node → List ℕ → ℕ → Option ListRow
 row_for c v [] n = None
 row_for c v (k ∷ ks) n = option_or (row_for c v ks n) (row_in c k v n)
+
+-- the row of a bug of a set
+abbrev pub row_with : RowFields → Member → ListRow
+row_with f m = record { number = m.number; severity = f.severity; closed = f.closed; title = m.title }
+
+-- the row of the bug n, as the last of these bugs that has its number says it
+abbrev pub row_among : RowFields → List Member → ℕ → Option ListRow
+row_among f [] n = None
+row_among f (m ∷ ms) n = option_or (row_among f ms n) (if m.number == n then Some (row_with f m) else None)

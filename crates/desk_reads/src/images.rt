@@ -1,14 +1,13 @@
 //! The images of sets.
 
-ghost use Rattle.std.specs.Prelude.{◌≡◌, ◌≢◌, IfOk, IfErr, option_map};
+ghost use Rattle.std.specs.Prelude.{◌≡◌, ◌≢◌, IfOk, IfErr};
 ghost use Rattle.sqlite.specs.Held.{state};
 ghost use Rattle.bug_record.specs.declared.outcome.StoreFault.TheVariants.{Foreign};
 ghost use Rattle.desk_content.specs.View.{desk_in, image, shared_of};
 ghost use Rattle.desk_schema.specs.Steps.{Reads, Serves};
 ghost use Rattle.desk_store.specs.Store.{IsImageOf};
 ghost use Rattle.desk_reads.specs.Kept.{ReadsKept};
-ghost use Rattle.desk_reads.specs.Bugs.{image_with};
-ghost use Rattle.desk_reads.specs.Listing.{unlinked, listing};
+ghost use Rattle.desk_reads.specs.Bugs.{image_with, unlinked};
 
 use crate::keys::small_key;
 use bug_record::{Agreed, Sequence, SetImage, Shared, StoreFault};
@@ -17,7 +16,8 @@ use set_rows::{read_affected, read_blockers, read_fields, read_key, read_marks, 
 use sqlite::{Alter, Transaction};
 use std::alloc::Global;
 
-// The shared fields of the set of the key, which has these in its own row, as a list asks for them.
+// The shared fields of the set of the key, which has these in its own row, without the packages
+// that it affects and the bugs that block it.
 fn read_marked<S: Alter>(
     alloc: Global,
     tx: &mut Transaction<'_, S>,
@@ -118,41 +118,6 @@ pub fn read_image<S: Alter>(
 {
     match read_fields(alloc, tx, key)? {
         Some(fields) => read_rest(alloc, tx, key, fields),
-        None => Ok(None),
-    }
-}
-
-// What a list asks of the set of the key, which has these fields in its own row.
-fn read_listing_rest<S: Alter>(
-    alloc: Global,
-    tx: &mut Transaction<'_, S>,
-    key: u32,
-    fields: SetFields,
-) -> Result<Option<SetImage>, StoreFault>
-    ensures same_reference { tx.new.conn.ghost_name ≡ tx.old.conn.ghost_name }
-    ensures reads { Reads (λ c found. found ≡ option_map listing (image_with c key fields)) (state S.Store tx.old.conn.now) (state S.Store tx.new.conn.now) result }
-    ensures serves { Serves (state S.Store tx.old.conn.now) (state S.Store tx.new.conn.now) result }
-{
-    let marked = read_marked(alloc, tx, key, fields)?;
-    let shared = agreed(alloc, marked)?;
-    let members = read_members(alloc, tx, key)?;
-    Ok(Some(SetImage { shared, members }))
-}
-
-/// What a list asks of the set of the key, if there is such a set: its image, without the packages
-/// that it affects and the bugs that block it, which are not read.
-/// `Memory` where there is none for it.
-pub fn read_listing<S: Alter>(
-    alloc: Global,
-    tx: &mut Transaction<'_, S>,
-    key: u32,
-) -> Result<Option<SetImage>, StoreFault>
-    ensures same_reference { tx.new.conn.ghost_name ≡ tx.old.conn.ghost_name }
-    ensures reads { Reads (λ c found. found ≡ option_map listing (image c key)) (state S.Store tx.old.conn.now) (state S.Store tx.new.conn.now) result }
-    ensures serves { Serves (state S.Store tx.old.conn.now) (state S.Store tx.new.conn.now) result }
-{
-    match read_fields(alloc, tx, key)? {
-        Some(fields) => read_listing_rest(alloc, tx, key, fields),
         None => Ok(None),
     }
 }

@@ -1,5 +1,5 @@
-//! Questions of a desk within one transaction, each as several statements: the image of a set, what
-//! a list asks of one, who waits on a bug, what is listed, and the first open head.
+//! Questions of a desk within one transaction, each as several statements: the image of a set, who
+//! waits on a bug, what is listed, and the first open head.
 #![tactic(auto)]
 
 mod found;

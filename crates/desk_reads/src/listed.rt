@@ -1,122 +1,104 @@
 //! The bugs that are listed for a package at a node.
 
-ghost use Rattle.std.specs.Prelude.{◌≡◌, ◌≢◌, ◌++◌, ◌&&◌, not, ℕ, List, filter, flat_map, IfOk, IfErr, OnOk, if◌then◌else◌};
+ghost use Rattle.std.specs.Prelude.{◌≡◌, ◌≢◌, ◌<◌, ◌^◌, ℕ, List, filter, flat_map, IfOk, IfErr, OnOk, if◌then◌else◌};
 ghost use Rattle.std.specs.BTreeMap.{get};
+ghost use Rattle.std.specs.List.{AllByRecursion};
 ghost use Rattle.std.specs.List.Sorted.{IsStrictlySortedBy};
 ghost use Rattle.std.specs.Map.{keys_of, values_of};
-ghost use Rattle.std.specs.Option.{option_or};
+ghost use Rattle.std.specs.Option.{option_or, option_and_then};
 ghost use Rattle.std.specs.Ordering.{nat_cmp};
 ghost use Rattle.sqlite.specs.Held.{state};
+ghost use Rattle.bug_record.specs.Sets.{Each};
 ghost use Rattle.bug_record.specs.Severities.{all_severities};
 ghost use Rattle.bug_record.specs.declared.outcome.StoreFault.TheVariants.{Foreign};
 ghost use Rattle.bugs_in_memory.specs.Passing.{is_row_of};
+ghost use Rattle.desk_content.specs.Kept.{IsKeptContent};
 ghost use Rattle.desk_content.specs.View.{desk_in};
 ghost use Rattle.desk_schema.specs.Steps.{Reads, Serves};
+ghost use Rattle.set_rows.specs.Affecting.{AreKeysAffecting};
+ghost use Rattle.set_rows.specs.Listed.{row_fields, keys_in, IsListedSet, AreKeysFor};
 ghost use Rattle.desk_store.specs.Store.{AreListed};
 ghost use Rattle.desk_reads.specs.Kept.{ReadsKept};
-ghost use Rattle.desk_reads.specs.Found.{is_shown_at};
+ghost use Rattle.desk_reads.specs.Found.{is_found_in};
 ghost use Rattle.desk_reads.specs.Keys.{AreKeysToList};
-ghost use Rattle.desk_reads.specs.Rows.{row_at, row_in, row_for};
+ghost use Rattle.desk_reads.specs.Rows.{row_among, row_in, row_for};
 
-use crate::found::read_found;
-use crate::images::read_listing;
-use crate::keys::small_keys;
-use crate::rows::{put_rows, sorted_rows};
-use bug_record::{Numbers, Sequence, SetImage, StoreFault};
+use crate::found::read_found_in;
+use crate::keys::key_asked;
+use crate::rows::{put_rows, row_fields, sorted_rows};
+use bug_record::{Member, Sequence, StoreFault};
 use set_images::ListRow;
-use set_rows::{read_affecting, read_keys_of};
+use set_rows::{ListedSet, RowFields, read_affecting, read_fields, read_members, read_sets_of};
 use sqlite::{Alter, Transaction};
 use std::alloc::Global;
 use std::collections::BTreeMap;
 use version_nodes::Node;
 
-// Adds keys to others.
-fn add_keys(keys: &mut Numbers, more: &[u64]) -> Result<(), StoreFault>
-    ensures value { OnOk result (keys.new ≡ keys.old ++ more.now) }
-    ensures sure { IfErr result (λ fault. fault ≢ Foreign) }
-{
-    for key in more {
-        match keys.push(*key) {
-            Ok(()) => {}
-            Err(_) => return Err(StoreFault::Memory),
-        }
-    }
-    Ok(())
-}
-
-// The keys of the sets of a package that are not archived, and of those that affect it.
-fn read_keys<S: Alter>(
-    alloc: Global,
-    tx: &mut Transaction<'_, S>,
-    package: &str,
-) -> Result<Numbers, StoreFault>
-    ensures same_reference { tx.new.conn.ghost_name ≡ tx.old.conn.ghost_name }
-    ensures reads { Reads (λ c keys. AreKeysToList «package».now c keys) (state S.Store tx.old.conn.now) (state S.Store tx.new.conn.now) result }
-    ensures serves { Serves (state S.Store tx.old.conn.now) (state S.Store tx.new.conn.now) result }
-{
-    let mut keys = read_keys_of(alloc, tx, package)?;
-    let more = read_affecting(alloc, tx, package)?;
-    add_keys(&mut keys, more.as_slice())?;
-    Ok(keys)
-}
-
-// The same, as statements take them.
-fn read_small_keys<S: Alter>(
-    alloc: Global,
-    tx: &mut Transaction<'_, S>,
-    package: &str,
-) -> Result<Vec<u32>, StoreFault>
-    ensures same_reference { tx.new.conn.ghost_name ≡ tx.old.conn.ghost_name }
-    ensures reads { ReadsKept (λ c keys. AreKeysToList «package».now c keys.items) (state S.Store tx.old.conn.now) (state S.Store tx.new.conn.now) result }
-    ensures serves { Serves (state S.Store tx.old.conn.now) (state S.Store tx.new.conn.now) result }
-{
-    let keys = read_keys(alloc, tx, package)?;
-    small_keys(alloc, keys.as_slice())
-}
-
-// The rows of the image's bugs come into the map, where they are to be listed.
-fn put_found(
+// The rows of these bugs of a set come into the map.
+fn put_bugs(
     rows: &mut BTreeMap<u64, ListRow>,
-    image: &SetImage,
-    found: bool,
+    fields: RowFields,
+    members: &[Member],
 ) -> Result<(), StoreFault>
-    ensures value { OnOk result ((n : ℕ) → get nat_cmp rows.new n
-        ≡ (if found then option_or (row_at image.now n) (get nat_cmp rows.old n) else get nat_cmp rows.old n)) }
+    ensures value { OnOk result ((n : ℕ) → get nat_cmp rows.new n ≡ option_or (row_among fields members.now n) (get nat_cmp rows.old n)) }
     ensures sure { IfErr result (λ fault. fault ≢ Foreign) }
 {
-    if !found {
-        return Ok(());
-    }
-    match put_rows(rows, image) {
+    match put_rows(rows, fields, members) {
         Ok(()) => Ok(()),
         Err(_) => Err(StoreFault::Memory),
     }
 }
 
-// Whether bugs of this image are listed, where they are found or not.
-fn is_shown(image: &SetImage, found: bool) -> bool
-    ensures { result ≡ (not image.now.shared.archived && found) }
-{
-    !image.shared.fields().archived && found
-}
-
-// The rows of the bugs of the key's set, of which this is asked, come into the map, where they are
-// not archived and are found at a node.
-fn add_image<S: Alter>(
+// The rows of the bugs of the key's set, of which they have these fields, come into the map.
+fn add_bugs<S: Alter>(
+    alloc: Global,
     tx: &mut Transaction<'_, S>,
     rows: &mut BTreeMap<u64, ListRow>,
     key: u32,
-    image: &SetImage,
+    fields: RowFields,
+) -> Result<(), StoreFault>
+    ensures same_reference { tx.new.conn.ghost_name ≡ tx.old.conn.ghost_name }
+    ensures reads { Reads (λ c _. (n : ℕ) → get nat_cmp rows.new n ≡ option_or (row_among fields (c.members key) n) (get nat_cmp rows.old n))
+        (state S.Store tx.old.conn.now) (state S.Store tx.new.conn.now) result }
+{
+    let members = read_members(alloc, tx, key)?;
+    put_bugs(rows, fields, members.as_slice())
+}
+
+// The same, where they are found at a node.
+fn add_found<S: Alter>(
+    alloc: Global,
+    tx: &mut Transaction<'_, S>,
+    rows: &mut BTreeMap<u64, ListRow>,
+    key: u32,
+    fields: RowFields,
     node: &Node,
 ) -> Result<(), StoreFault>
     ensures same_reference { tx.new.conn.ghost_name ≡ tx.old.conn.ghost_name }
-    ensures reads { Reads (λ c _. (n : ℕ) → get nat_cmp rows.new n ≡ (if is_shown_at c key node.now image.now.shared
-        then option_or (row_at image.now n) (get nat_cmp rows.old n) else get nat_cmp rows.old n))
+    ensures reads { Reads (λ c _. IsKeptContent c → (n : ℕ) → get nat_cmp rows.new n ≡ (if is_found_in c key node.now fields.closed
+        then option_or (row_among fields (c.members key) n) (get nat_cmp rows.old n) else get nat_cmp rows.old n))
         (state S.Store tx.old.conn.now) (state S.Store tx.new.conn.now) result }
 {
-    let found = read_found(tx, key, image, node)?;
-    let shown = is_shown(image, found);
-    put_found(rows, image, shown)
+    let found = read_found_in(alloc, tx, key, fields.closed, node)?;
+    if !found {
+        return Ok(());
+    }
+    add_bugs(alloc, tx, rows, key, fields)
+}
+
+// What rows have of the key's set, if there is such a set and it is not archived.
+fn read_row_fields<S: Alter>(
+    alloc: Global,
+    tx: &mut Transaction<'_, S>,
+    key: u32,
+) -> Result<Option<RowFields>, StoreFault>
+    ensures same_reference { tx.new.conn.ghost_name ≡ tx.old.conn.ghost_name }
+    ensures reads { Reads (λ c fields. fields ≡ option_and_then row_fields (c.fields key)) (state S.Store tx.old.conn.now) (state S.Store tx.new.conn.now) result }
+{
+    match read_fields(alloc, tx, key)? {
+        Some(fields) => Ok(row_fields(&fields)),
+        None => Ok(None),
+    }
 }
 
 // The rows of the bugs of the key's set come into the map, where they are not archived and are
@@ -129,31 +111,123 @@ fn add_set<S: Alter>(
     node: &Node,
 ) -> Result<(), StoreFault>
     ensures same_reference { tx.new.conn.ghost_name ≡ tx.old.conn.ghost_name }
-    ensures reads { Reads (λ c _. (n : ℕ) → get nat_cmp rows.new n ≡ option_or (row_in c key node.now n) (get nat_cmp rows.old n))
+    ensures reads { Reads (λ c _. IsKeptContent c → (n : ℕ) → get nat_cmp rows.new n ≡ option_or (row_in c key node.now n) (get nat_cmp rows.old n))
         (state S.Store tx.old.conn.now) (state S.Store tx.new.conn.now) result }
 {
-    match read_listing(alloc, tx, key)? {
-        Some(image) => add_image(tx, rows, key, &image, node),
+    match read_row_fields(alloc, tx, key)? {
+        Some(fields) => add_found(alloc, tx, rows, key, fields, node),
         None => Ok(()),
     }
 }
 
-// The rows of the bugs of all sets of the keys that are not archived and are found at a node, by
-// number.
+// The rows of the bugs of all sets of the keys come into the map, where they are not archived and
+// are found at a node.
+fn add_keys<S: Alter>(
+    alloc: Global,
+    tx: &mut Transaction<'_, S>,
+    rows: &mut BTreeMap<u64, ListRow>,
+    keys: &[u64],
+    node: &Node,
+) -> Result<(), StoreFault>
+    ensures same_reference { tx.new.conn.ghost_name ≡ tx.old.conn.ghost_name }
+    ensures reads { Reads (λ c _. IsKeptContent c → Each (λ k. k < 2 ^ 32) keys.now → (n : ℕ) →
+        get nat_cmp rows.new n ≡ option_or (row_for c node.now keys.now n) (get nat_cmp rows.old n))
+        (state S.Store tx.old.conn.now) (state S.Store tx.new.conn.now) result }
+{
+    for key in keys {
+        add_set(alloc, tx, rows, key_asked(*key), node)?;
+    }
+    Ok(())
+}
+
+// The same of the sets that affect the package.
+fn add_affecting<S: Alter>(
+    alloc: Global,
+    tx: &mut Transaction<'_, S>,
+    rows: &mut BTreeMap<u64, ListRow>,
+    package: &str,
+    node: &Node,
+) -> Result<(), StoreFault>
+    ensures same_reference { tx.new.conn.ghost_name ≡ tx.old.conn.ghost_name }
+    ensures reads { Reads (λ c _. IsKeptContent c → (keys : List ℕ) × AreKeysAffecting «package».now c keys × ((n : ℕ) →
+        get nat_cmp rows.new n ≡ option_or (row_for c node.now keys n) (get nat_cmp rows.old n)))
+        (state S.Store tx.old.conn.now) (state S.Store tx.new.conn.now) result }
+{
+    let keys = read_affecting(alloc, tx, package)?;
+    add_keys(alloc, tx, rows, keys.as_slice(), node)
+}
+
+// The rows of the bugs of the set, which is as it is said to be, come into the map, where they are
+// found at a node.
+fn add_listed<S: Alter>(
+    alloc: Global,
+    tx: &mut Transaction<'_, S>,
+    rows: &mut BTreeMap<u64, ListRow>,
+    set: &ListedSet,
+    node: &Node,
+) -> Result<(), StoreFault>
+    ensures same_reference { tx.new.conn.ghost_name ≡ tx.old.conn.ghost_name }
+    ensures reads { Reads (λ c _. IsKeptContent c → IsListedSet c set.now → (n : ℕ) →
+        get nat_cmp rows.new n ≡ option_or (row_in c set.now.key node.now n) (get nat_cmp rows.old n))
+        (state S.Store tx.old.conn.now) (state S.Store tx.new.conn.now) result }
+{
+    add_found(alloc, tx, rows, key_asked(set.key), set.fields, node)
+}
+
+// The same of several sets.
+fn add_sets<S: Alter>(
+    alloc: Global,
+    tx: &mut Transaction<'_, S>,
+    rows: &mut BTreeMap<u64, ListRow>,
+    sets: &[ListedSet],
+    node: &Node,
+) -> Result<(), StoreFault>
+    ensures same_reference { tx.new.conn.ghost_name ≡ tx.old.conn.ghost_name }
+    ensures reads { Reads (λ c _. IsKeptContent c → AllByRecursion (IsListedSet c) sets.now → (n : ℕ) →
+        get nat_cmp rows.new n ≡ option_or (row_for c node.now (keys_in sets.now) n) (get nat_cmp rows.old n))
+        (state S.Store tx.old.conn.now) (state S.Store tx.new.conn.now) result }
+{
+    for set in sets {
+        add_listed(alloc, tx, rows, set, node)?;
+    }
+    Ok(())
+}
+
+// The same of the package's own sets that are not archived.
+fn add_own<S: Alter>(
+    alloc: Global,
+    tx: &mut Transaction<'_, S>,
+    rows: &mut BTreeMap<u64, ListRow>,
+    package: &str,
+    node: &Node,
+) -> Result<(), StoreFault>
+    ensures same_reference { tx.new.conn.ghost_name ≡ tx.old.conn.ghost_name }
+    ensures reads { Reads (λ c _. IsKeptContent c → (keys : List ℕ) × AreKeysFor «package».now c keys × ((n : ℕ) →
+        get nat_cmp rows.new n ≡ option_or (row_for c node.now keys n) (get nat_cmp rows.old n)))
+        (state S.Store tx.old.conn.now) (state S.Store tx.new.conn.now) result }
+    ensures serves { Serves (state S.Store tx.old.conn.now) (state S.Store tx.new.conn.now) result }
+{
+    let sets = read_sets_of(alloc, tx, package)?;
+    add_sets(alloc, tx, rows, sets.as_slice(), node)
+}
+
+// The rows of the bugs of the package's sets, and of those that affect it, that are not archived
+// and are found at a node, by number.
 fn read_rows<S: Alter>(
     alloc: Global,
     tx: &mut Transaction<'_, S>,
-    keys: &[u32],
+    package: &str,
     node: &Node,
 ) -> Result<BTreeMap<u64, ListRow>, StoreFault>
     ensures same_reference { tx.new.conn.ghost_name ≡ tx.old.conn.ghost_name }
-    ensures reads { Reads (λ c rows. (n : ℕ) → get nat_cmp rows n ≡ row_for c node.now keys.now n)
+    ensures reads { Reads (λ c rows. IsKeptContent c → (keys : List ℕ) × AreKeysToList «package».now c keys × ((n : ℕ) →
+        get nat_cmp rows n ≡ row_for c node.now keys n))
         (state S.Store tx.old.conn.now) (state S.Store tx.new.conn.now) result }
+    ensures serves { Serves (state S.Store tx.old.conn.now) (state S.Store tx.new.conn.now) result }
 {
     let mut rows = BTreeMap::new(alloc);
-    for key in keys {
-        add_set(alloc, tx, &mut rows, *key, node)?;
-    }
+    add_own(alloc, tx, &mut rows, package, node)?;
+    add_affecting(alloc, tx, &mut rows, package, node)?;
     Ok(rows)
 }
 
@@ -167,21 +241,6 @@ fn sorted(alloc: Global, rows: BTreeMap<u64, ListRow>) -> Result<Sequence<ListRo
         Ok(sorted) => Ok(sorted),
         Err(_) => Err(StoreFault::Memory),
     }
-}
-
-// The rows that are listed for the package whose sets, or those that affect it, these keys have.
-fn read_sorted<S: Alter>(
-    alloc: Global,
-    tx: &mut Transaction<'_, S>,
-    keys: &[u32],
-    node: &Node,
-) -> Result<Sequence<ListRow>, StoreFault>
-    ensures same_reference { tx.new.conn.ghost_name ≡ tx.old.conn.ghost_name }
-    ensures reads { ReadsKept (λ c rows. (p : List ℕ) → AreKeysToList p c keys.now → AreListed (desk_in c) p node.now rows)
-        (state S.Store tx.old.conn.now) (state S.Store tx.new.conn.now) result }
-{
-    let rows = read_rows(alloc, tx, keys, node)?;
-    sorted(alloc, rows)
 }
 
 /// The rows of the bugs of a package, and of those that affect it, that are not archived and are
@@ -199,6 +258,6 @@ pub fn read_listed<S: Alter>(
     ensures reads { ReadsKept (λ c rows. AreListed (desk_in c) «package».now node.now rows) (state S.Store tx.old.conn.now) (state S.Store tx.new.conn.now) result }
     ensures serves { Serves (state S.Store tx.old.conn.now) (state S.Store tx.new.conn.now) result }
 {
-    let keys = read_small_keys(alloc, tx, package)?;
-    read_sorted(alloc, tx, keys.as_slice(), node)
+    let rows = read_rows(alloc, tx, package, node)?;
+    sorted(alloc, rows)
 }

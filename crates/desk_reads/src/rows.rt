@@ -1,6 +1,6 @@
 //! Rows of lists, by number and by severity.
 
-ghost use Rattle.std.specs.Prelude.{◌≡◌, ◌++◌, ℕ, ◌==◌, filter, flat_map, IfOk, OnOk, if◌then◌else◌};
+ghost use Rattle.std.specs.Prelude.{◌≡◌, ◌++◌, ℕ, ◌==◌, Some, filter, flat_map, IfOk, OnOk, if◌then◌else◌};
 ghost use Rattle.std.specs.BTreeMap.{get};
 ghost use Rattle.std.specs.List.Sorted.{IsStrictlySortedBy};
 ghost use Rattle.std.specs.Map.{keys_of, values_of};
@@ -8,38 +8,65 @@ ghost use Rattle.std.specs.Option.{option_or};
 ghost use Rattle.std.specs.Ordering.{nat_cmp};
 ghost use Rattle.bug_record.specs.Severities.{all_severities};
 ghost use Rattle.bugs_in_memory.specs.Passing.{is_row_of};
-ghost use Rattle.desk_reads.specs.Rows.{row_at};
+ghost use Rattle.set_rows.specs.Listed.{row_fields};
+ghost use Rattle.desk_reads.specs.Rows.{row_with, row_among};
 
-use bug_record::{Sequence, SetImage, Severity};
+use bug_record::{Member, Sequence, Severity};
+use desk_content::SetFields;
 use set_images::ListRow;
+use set_rows::RowFields;
 use std::alloc::{AllocError, Global};
 use std::collections::BTreeMap;
 
-// The row of a bug, if it is the image's, comes into the map.
+// What rows have of a set with these fields; `None` where it is archived.
+pub(crate) fn row_fields(fields: &SetFields) -> Option<RowFields>
+    ensures { result ≡ row_fields fields.now }
+{
+    if fields.archived {
+        return None;
+    }
+    Some(RowFields {
+        severity: fields.severity,
+        closed: fields.closed,
+    })
+}
+
+// The row of a bug of a set.
+fn row_with(fields: RowFields, member: &Member) -> Result<ListRow, AllocError>
+    ensures { IfOk result (λ row. row ≡ row_with fields member.now) }
+{
+    Ok(ListRow {
+        number: member.number,
+        severity: fields.severity,
+        closed: fields.closed,
+        title: member.title.copy()?,
+    })
+}
+
+// The row of a bug of a set comes into the map.
 fn put_row(
     rows: &mut BTreeMap<u64, ListRow>,
-    image: &SetImage,
-    number: u64,
+    fields: RowFields,
+    member: &Member,
 ) -> Result<(), AllocError>
     ensures { OnOk result ((n : ℕ) → get nat_cmp rows.new n
-        ≡ (if number == n then option_or (row_at image.now n) (get nat_cmp rows.old n) else get nat_cmp rows.old n)) }
+        ≡ (if member.now.number == n then Some (row_with fields member.now) else get nat_cmp rows.old n)) }
 {
-    let Some(row) = ListRow::of(image, number)? else {
-        return Ok(());
-    };
-    rows.insert(number, row)?;
+    let row = row_with(fields, member)?;
+    rows.insert(member.number, row)?;
     Ok(())
 }
 
-// The rows of all bugs of the image come into the map.
+// The rows of these bugs of a set come into the map.
 pub(crate) fn put_rows(
     rows: &mut BTreeMap<u64, ListRow>,
-    image: &SetImage,
+    fields: RowFields,
+    members: &[Member],
 ) -> Result<(), AllocError>
-    ensures { OnOk result ((n : ℕ) → get nat_cmp rows.new n ≡ option_or (row_at image.now n) (get nat_cmp rows.old n)) }
+    ensures { OnOk result ((n : ℕ) → get nat_cmp rows.new n ≡ option_or (row_among fields members.now n) (get nat_cmp rows.old n)) }
 {
-    for member in image.members.as_slice() {
-        put_row(rows, image, member.number)?;
+    for member in members {
+        put_row(rows, fields, member)?;
     }
     Ok(())
 }

@@ -6,4 +6,5 @@ pub mod MarkStatements
 pub mod MarksAtNode
 pub mod BugStatements
 pub mod SetStatements
+pub mod ListedSets
 pub mod NearStatements

@@ -1,8 +1,6 @@
 -- What the statements on sets mean.
-use Rattle.std.proofs.Common.{◌≡◌, ℕ, pos, ◌==◌, ◌&&◌, ◌<◌, Bool, true, false, not, List, [], ◌∷◌, codes, map, filter, Option, Some, None, option_map, refl, ap, ◌∙◌, arith}
-use Rattle.std.specs.List.{list_any}
+use Rattle.std.proofs.Common.{◌≡◌, ℕ, pos, ◌==◌, ◌<◌, true, List, [], ◌∷◌, codes, filter, Option, Some, None, option_map, refl, ◌∙◌, arith}
 use Rattle.std.specs.Option.{option_map_or}
-use Rattle.std.specs.Str.{bytes_eq}
 use Rattle.sqlite.specs.Command.TheVariants.{Insert, Delete}
 use Rattle.sqlite.specs.Listing.{understood}
 use Rattle.sqlite.specs.Order.{Row}
@@ -12,7 +10,7 @@ use Rattle.sqlite.specs.declared.types.Value.TheVariants.{Null, Int, Text}
 use Rattle.sqlite_tied.specs.Compute.{everything}
 use Rattle.sqlite.specs.Cast.{cast}
 use Rattle.sqlite.specs.Kind.TheVariants.{Text as TextKind}
-use Rattle.std.proofs.Common.{◌≡◌, ℕ, pos, List, [], ◌∷◌, codes, Bool, true, false, ◌==◌, map, Option, Some, None, refl, ap, arith}
+use Rattle.std.proofs.Common.{◌≡◌, ℕ, pos, List, [], ◌∷◌, codes, true, ◌==◌, Option, Some, None, refl, arith}
 use Rattle.sqlite.specs.Kind.TheVariants.{Text as TextKind}
 use Rattle.sqlite.specs.Values.{or_null}
 use Rattle.sqlite_typing.specs.Types.{accepts_terms}
@@ -21,36 +19,28 @@ use Rattle.sql_forms.proofs.RefusalLemmas.{IsGoodRow}
 use Rattle.desk_content.specs.Encodings.{flag, tags_number}
 use Rattle.desk_content.specs.declared.edit.SetFields.{SetFields}
 use Rattle.sqlite_trees.specs.Tree.{IsAscending}
-use Rattle.sql_forms.specs.Forms.{passes, equals, equals_at}
-use Rattle.sql_forms.specs.Numbers.{number_row}
-use Rattle.sql_forms.proofs.AnswerLemmas.{number_at_front}
+use Rattle.sql_forms.specs.Forms.{passes, equals}
 use Rattle.sql_forms.proofs.DeleteErrors.{rowids_of}
 use Rattle.sql_forms.proofs.ErrorLemmas.{IsCallOf}
 use Rattle.sql_forms.proofs.QueryErrors.{IsQueryOf}
-use Rattle.sql_forms.proofs.RowLemmas.{hits, holds_text, same_number}
+use Rattle.sql_forms.proofs.RowLemmas.{hits, same_number}
 use Rattle.desk_content.specs.Edits.{edited}
 use Rattle.desk_content.specs.Free.{IsFree}
-use Rattle.sqlite.specs.Term.{Term, lit, col, op2}
-use Rattle.sqlite_sql.specs.declared.ops.BinaryOp.TheVariants.{Compare}
-use Rattle.sqlite_sql.specs.declared.ops.CompareOp.TheVariants.{Eq}
-use Rattle.sqlite_value.specs.declared.keys.Collation.TheVariants.{Binary}
+use Rattle.sqlite.specs.Term.{Term, lit, col}
 use Rattle.desk_content.specs.Encodings.{flag}
-use Rattle.desk_schema.proofs.NumberLists.{or_false}
 use Rattle.desk_content.specs.declared.edit.Edit.TheVariants.{PutFields, DropFields}
 use Rattle.desk_schema.specs.Tables.{SETS, sets_table, desk_schema}
 use Rattle.desk_schema.specs.SetRows.{SetRow, set_cells, IsSetRow, fields_of_row}
 use Rattle.desk_schema.proofs.DeskTables.{sets}
 use Rattle.desk_schema.specs.LastRow.{last_row}
-use Rattle.desk_schema.proofs.CellLemmas.{cast_int, cast_null, same_text}
+use Rattle.desk_schema.proofs.CellLemmas.{cast_int, cast_null}
 use Rattle.desk_schema.proofs.LastLists.{numbered_more, numbered_left, none_said, one_kept, one_numbered, last_good}
 use Rattle.desk_schema.proofs.StatementLemmas.{IsWrite, IsRead}
 use Rattle.desk_schema.proofs.TableLemmas.{clears, adds_numbered, rises}
 use Rattle.desk_schema.proofs.TableQueries.{asks, one_answer}
 use Rattle.set_rows.specs.Fields.{field_row, field_rows, AreFieldsOf}
-use Rattle.set_rows.specs.Listed.{is_of, AreKeysFor}
-use Rattle.set_rows.proofs.KeyAnswers.{has_key}
 
-abbrev set_key : SetRow → ℕ
+abbrev pub set_key : SetRow → ℕ
 set_key x = x.key
 
 -- ---- fields come
@@ -142,7 +132,7 @@ are_rows : (o : Option SetRow) → option_map_or (λ (r : Row). r ∷ []) (optio
 are_rows None = refl
 are_rows (Some x) = refl
 
-abbrev Rises : List SetRow → Type 0
+abbrev pub Rises : List SetRow → Type 0
 Rises xs = IsAscending (λ a b. set_key a < set_key b) xs
 
 pub fields_read : (k : ℕ) → IsRead read_text (Int (pos k) ∷ []) (AreFieldsOf k)
@@ -164,64 +154,4 @@ fields_read k = asks sets read_text (Int (pos k) ∷ []) (equals 0 ∷ []) shown
     says = refl;
     good = last_good (λ x. x.key == k) IsSetRow xs good;
   };
-})
-
--- ---- the keys of a package are read
-
-abbrev keys_text : List ℕ
-keys_text = codes "SELECT set_key FROM sets WHERE package = ?1 AND archived = 0"
-
-abbrev listed : List Term
-listed = equals_at 2 0 ∷ op2 (Compare Eq Binary) (col 1 8) (lit (Int (pos 0))) ∷ []
-
-keys_is : (p : List ℕ) → IsQueryOf desk_schema keys_text (Text p ∷ []) SETS listed (col 1 0 ∷ []) [] (codes "set_key" ∷ [])
-unfolding understood everything
-keys_is p = record { command_is = refl; plain = (refl, refl); whole = omega arith; given = refl; unlisted = refl; typed = refl }
-
-unset : (b : Bool) → (flag b == 0) ≡ not b
-unset true = refl
-unset false = refl
-
-abbrev is_row_of : List ℕ → SetRow → Bool
-is_row_of p x = bytes_eq x.«package» p && not x.archived
-
-hit_row : (p : List ℕ) (x : SetRow) → passes listed (Text p ∷ []) (set_cells x) ≡ is_row_of p x
-hit_row p x =
-    let of_package = holds_text 2 0 (Text p ∷ []) (set_cells x) p refl ∙ same_text x.«package» p in
-    let kept = hits 8 (pos 0) (set_cells x) ∙ same_number (flag x.archived) 0 ∙ unset x.archived in
-    λ i. of_package i && kept i
-
--- a key that is listed is that of the row
-any_swapped : {T : Type 0} (p q : T → Bool) (xs : List T) → list_any p (filter q xs) ≡ list_any q (filter p xs)
-any_swapped p q [] = refl
-any_swapped p q (x ∷ xs) = go (p x) (q x) refl refl (any_swapped p q xs)
-  where
-    go : (a b : Bool) → p x ≡ a → q x ≡ b → list_any p (filter q xs) ≡ list_any q (filter p xs) → list_any p (filter q (x ∷ xs)) ≡ list_any q (filter p (x ∷ xs))
-    go true true r s h = rw (r, s, r) refl
-    go true false r s h = rw (r, s) h
-    go false true r s h = rw (r, s, r) h
-    go false false r s h = rw (r, s) h
-
-any_one : (p : List ℕ) (o : Option SetRow) → list_any (is_row_of p) (option_map_or (λ x. x ∷ []) o []) ≡ is_of p (option_map fields_of_row o)
-any_one p None = refl
-any_one p (Some x) = or_false (is_row_of p x)
-
-pub keys_read : (p : List ℕ) → IsRead keys_text (Text p ∷ []) (λ c rows. (keys : List ℕ) × (rows ≡ map number_row keys) × AreKeysFor p c keys)
-keys_read p = asks sets keys_text (Text p ∷ []) listed (col 1 0 ∷ []) (codes "set_key" ∷ []) _ (record {
-  text = keys_is p;
-  is_hit = is_row_of p;
-  hits = hit_row p;
-  of = set_key;
-  row = number_row;
-  back = number_at_front;
-  same = λ n. refl;
-  shows = λ x. refl;
-  AreFine = Rises;
-  fine = λ s inside live all. rises sets set_key (λ x. refl) s all;
-  says = λ xs c up good keys any. (
-    keys,
-    refl,
-    λ k. has_key set_key k (filter (is_row_of p) xs) keys any ∙ any_swapped (λ (x : SetRow). x.key == k) (is_row_of p) xs
-        ∙ ap (list_any (is_row_of p)) (one_kept (λ (x : SetRow). x.key == k) xs (one_numbered set_key k xs up)) ∙ any_one p (last_row (λ (x : SetRow). x.key == k) xs),
-  );
 })

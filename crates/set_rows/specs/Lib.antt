@@ -9,3 +9,4 @@ pub mod Fields
 pub mod Names
 pub mod MarkAnswers
 pub mod KindAnswers
+pub mod SetAnswers

@@ -5,7 +5,7 @@
 mod affects;
 mod blocks;
 mod bugs;
-mod keys;
+mod listed;
 mod marks;
 mod marks_at;
 mod near_kind;
@@ -14,7 +14,7 @@ mod sets;
 pub use affects::{add_affected, clear_affected, read_affected, read_affecting};
 pub use blocks::{add_blocker, clear_blockers, read_blockers, read_waiting};
 pub use bugs::{add_bug, clear_bug, read_key, read_members};
-pub use keys::read_keys_of;
+pub use listed::{ListedSet, RowFields, read_sets_of};
 pub use marks::{Marks, add_mark, clear_marks, read_marks};
 pub use marks_at::{SetMark, read_marks_at};
 pub use near_kind::read_near_kind;

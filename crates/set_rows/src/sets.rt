@@ -82,7 +82,7 @@ fn field_rows<S: Alter>(tx: &mut Transaction<'_, S>, key: u32) -> Result<Vec<Row
 }
 
 // The severity in a cell; a number of none can't be read.
-fn severity_at(row: &Row, at: usize) -> Result<Severity, StoreFault>
+pub(crate) fn severity_at(row: &Row, at: usize) -> Result<Severity, StoreFault>
     ensures value { (s : SeenSeverity) → column row.now at ≡ Int (pos (rank s)) → IfOk result (λ v. v ≡ s) }
     ensures sure { (s : SeenSeverity) → at < length row.now → column row.now at ≡ Int (pos (rank s)) →
         IfErr result (λ fault. fault ≢ Foreign) }
@@ -94,7 +94,7 @@ fn severity_at(row: &Row, at: usize) -> Result<Severity, StoreFault>
 }
 
 // The flag in a cell; a number above 1 can't be read.
-fn flag_at(row: &Row, at: usize) -> Result<bool, StoreFault>
+pub(crate) fn flag_at(row: &Row, at: usize) -> Result<bool, StoreFault>
     ensures value { (b : Bool) → column row.now at ≡ Int (pos (flag b)) → IfOk result (λ v. v ≡ b) }
     ensures sure { (b : Bool) → at < length row.now → column row.now at ≡ Int (pos (flag b)) → IfErr result (λ fault. fault ≢ Foreign) }
 {

@@ -2,7 +2,7 @@ use Rattle.std.proofs.Common.{◌≡◌}
 use Rattle.sqlite.specs.Held.{state}
 use Rattle.desk_content.specs.View.{shared_of}
 use Rattle.desk_schema.proofs.ReadSteps.{known_first, known_then, known_answer}
-use Rattle.desk_reads.specs.Listing.{unlinked}
+use Rattle.desk_reads.specs.Bugs.{unlinked}
 use Rattle.desk_reads.proofs.KeyLemmas.{shared_is}
 use Rattle.desk_reads.proofs.images.read_shared.Goals as goal
 

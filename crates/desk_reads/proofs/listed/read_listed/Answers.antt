@@ -1,17 +1,35 @@
-use Rattle.std.proofs.Common.{ℕ, List, sym, subst}
+use Rattle.std.proofs.Common.{◌≡◌, ℕ, List}
+use Rattle.std.specs.BTreeMap.{get}
+use Rattle.std.specs.Ordering.{nat_cmp}
+use Rattle.std.specs.Prelude.{⊤, filter, flat_map}
+use Rattle.std.specs.Map.{values_of}
 use Rattle.sqlite.specs.Held.{state}
+use Rattle.bug_record.specs.Severities.{all_severities}
+use Rattle.bugs_in_memory.specs.Passing.{is_row_of}
+use Rattle.desk_content.specs.Kept.{IsKeptContent}
 use Rattle.desk_content.specs.View.{desk_in}
-use Rattle.desk_reads.specs.Keys.{AreKeysToList}
+use Rattle.desk_schema.proofs.StepLemmas.{reads_work}
 use Rattle.desk_store.specs.Store.{AreListed}
-use Rattle.desk_reads.proofs.KeptSteps.{kept_then}
+use Rattle.desk_reads.specs.Keys.{AreKeysToList}
+use Rattle.desk_reads.specs.Rows.{row_for}
+use Rattle.desk_reads.proofs.KeptSteps.{kept_any}
+use Rattle.desk_reads.proofs.ListedLemmas.{are_listed}
+use Rattle.desk_reads.proofs.OpenLemmas.{if_same}
 use Rattle.desk_reads.proofs.listed.read_listed.Goals as goal
 
 pub returns-clause-reads : goal.returns-clause-reads
 returns-clause-reads g c =
     let old = state g.S.Store c.args.tx.now.conn.now in
-    let mid = state g.S.Store c.read_small_keys.new.tx.conn.now in
-    let new = state g.S.Store c.read_sorted.new.tx.conn.now in
-    kept_then old mid new c.in_ok-keys.keys c.read_sorted.result (λ k keys. AreKeysToList c.args.«package».now k keys.items)
-    (λ k rows. (p : List ℕ) → AreKeysToList p k c.as_slice.result.now → AreListed (desk_in k) p c.args.node.now rows) (λ k rows. AreListed (desk_in k) c.args.«package».now c.args.node.now rows)
-    (λ k rows kept p q. q c.args.«package».now (subst (λ keys. AreKeysToList c.args.«package».now k keys) (sym c.as_slice.ensures.value) p))
-    c.in_ok-keys.ensures.reads c.read_sorted.ensures.reads
+    let new = state g.S.Store c.read_rows.new.tx.conn.now in
+    let p = c.args.«package».now in
+    let v = c.args.node.now in
+    kept_any old new c.sorted.result (λ k rows. IsKeptContent k → AreListed (desk_in k) p v rows) (λ k rows. AreListed (desk_in k) p v rows) (λ k rows kept says. says kept)
+    (reads_work old new c.in_ok-rows.rows c.sorted.result (λ _. ⊤)
+    (λ k rows. IsKeptContent k → (keys : List ℕ) × AreKeysToList p k keys × ((n : ℕ) → get nat_cmp rows n ≡ row_for k v keys n))
+    (λ k rows. IsKeptContent k → AreListed (desk_in k) p v rows)
+    (λ k has. (
+      if_same c.sorted.result (λ rows. rows ≡ flat_map (λ severity. filter (is_row_of severity) (values_of c.in_ok-rows.rows.entries)) all_severities)
+          (λ rows. IsKeptContent k → AreListed (desk_in k) p v rows)
+          (λ rows is kept. let h = has kept in are_listed k kept p v h.0 h.1 c.in_ok-rows.rows c.sorted.ensures.ordered h.2 rows is) c.sorted.ensures.value,
+      c.sorted.ensures.sure,
+    )) c.in_ok-rows.ensures.reads)

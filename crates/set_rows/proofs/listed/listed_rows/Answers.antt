@@ -1,11 +1,11 @@
 use Rattle.sqlite.specs.Held.{state}
 use Rattle.desk_schema.proofs.StatementLemmas.{acts_query, serves_query}
-use Rattle.set_rows.proofs.SetStatements.{keys_read}
-use Rattle.set_rows.proofs.keys.key_rows.Goals as goal
+use Rattle.set_rows.proofs.ListedSets.{sets_read}
+use Rattle.set_rows.proofs.listed.listed_rows.Goals as goal
 
 pub returns-clause-reads : goal.returns-clause-reads
 returns-clause-reads g c =
-    rw c.told.ensures.told (acts_query (λ rows. rows.items) _ _ _ (keys_read c.args.«package».now) (state g.S.Store c.args.tx.now.conn.now) (state g.S.Store c.query_all.new.self.conn.now) c.query_all.result c.query_all.ensures.survives
+    rw c.told.ensures.told (acts_query (λ rows. rows.items) _ _ _ (sets_read c.args.«package».now) (state g.S.Store c.args.tx.now.conn.now) (state g.S.Store c.query_all.new.self.conn.now) c.query_all.result c.query_all.ensures.survives
     (rw c.params-to_sql.ensures at c.query_all.ensures.ok) (rw c.params-to_sql.ensures at c.query_all.ensures.err))
 
 pub returns-clause-serves : goal.returns-clause-serves

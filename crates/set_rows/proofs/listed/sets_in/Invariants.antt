@@ -1,0 +1,7 @@
+use Rattle.std.proofs.Common.{◌≡◌, List, map, take}
+use Rattle.set_rows.specs.SetAnswers.{listed_row}
+use Rattle.set_rows.specs.declared.listed.ListedSet.{ListedSet}
+use Rattle.set_rows.proofs.listed.sets_in.Given as goal
+
+abbrev pub invariant-loop-row : goal.invariant-loop-row
+invariant-loop-row l = (ss : List ListedSet) → l.rows ≡ map listed_row ss → l.sets.items ≡ take l.row-index ss
