@@ -5,7 +5,6 @@
 
 mod branch;
 mod change;
-mod drops;
 mod first_marks;
 mod keeping;
 mod kept;

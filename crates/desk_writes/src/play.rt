@@ -4,14 +4,15 @@ ghost use Rattle.std.specs.Prelude.{◌≡◌};
 ghost use Rattle.sqlite.specs.Held.{state};
 ghost use Rattle.desk_schema.specs.Steps.{Plays, PlaysAll};
 
-use crate::drops::{drop_affects, drop_blockers, drop_fields, drop_marks, drop_member, drop_near};
 use crate::puts::{
     put_affects, put_blocker, put_fields, put_mark, put_member, put_near, put_outcome,
     put_outcome_number,
 };
 use bug_record::StoreFault;
 use desk_content::Edit;
-use desk_rows::{add_message, add_node, clear_node};
+use desk_rows::{add_message, add_node, clear_near, clear_node};
+use desk_schema::parameter;
+use set_rows::{clear_affected, clear_blockers, clear_bug, clear_fields, clear_marks};
 use sqlite::{Alter, Transaction};
 
 // Makes one edit.
@@ -20,17 +21,17 @@ fn play<S: Alter>(tx: &mut Transaction<'_, S>, edit: &Edit) -> Result<(), StoreF
     ensures plays { Plays edit.now (state S.Store tx.old.conn.now) (state S.Store tx.new.conn.now) result }
 {
     match edit {
-        Edit::DropFields { key } => drop_fields(tx, *key),
+        Edit::DropFields { key } => clear_fields(tx, parameter(*key)?),
         Edit::PutFields { key, fields } => put_fields(tx, *key, fields),
-        Edit::DropMember { number } => drop_member(tx, *number),
+        Edit::DropMember { number } => clear_bug(tx, parameter(*number)?),
         Edit::PutMember { key, member } => put_member(tx, *key, member),
-        Edit::DropMarks { key } => drop_marks(tx, *key),
+        Edit::DropMarks { key } => clear_marks(tx, parameter(*key)?),
         Edit::PutMark { key, kind, node } => put_mark(tx, *key, *kind, node),
-        Edit::DropBlockers { key } => drop_blockers(tx, *key),
+        Edit::DropBlockers { key } => clear_blockers(tx, parameter(*key)?),
         Edit::PutBlocker { key, blocker } => put_blocker(tx, *key, *blocker),
-        Edit::DropAffects { key } => drop_affects(tx, *key),
+        Edit::DropAffects { key } => clear_affected(tx, parameter(*key)?),
         Edit::PutAffects { key, package } => put_affects(tx, *key, package.as_str()),
-        Edit::DropNear { key } => drop_near(tx, *key),
+        Edit::DropNear { key } => clear_near(tx, parameter(*key)?),
         Edit::PutNear { key, node, near } => put_near(tx, *key, node, near),
         Edit::DropLink { node } => clear_node(tx, node),
         Edit::PutLink { node, parent } => add_node(tx, node, parent),
