@@ -39,56 +39,51 @@ all_last P (y ∷ xs) x all = all_last P xs x all.1
 
 -- ---- a question, before which the connection was noted
 
-module _ {S A : Type 0} (g : store.Ghosts S) (last begun more : List (Held S)) (old new : Held S) (r : Result A StoreFault) (Fits : Content → Type 0) (P : Content → A → Type 0)
-    (asked : IsAsked (state g old) (state g new) r Fits P) (is : more ≡ begun ++ old ∷ []) where
-  pub honest : HasCleanDisk (state g new) → HasCleanDisk (state g old)
-  honest clean = omega (arith, asked.survives.clean, clean)
-
-  pub kept : (family family' : Option Ancestry) → (IsKept g last begun old family → IfSome family' (λ t. t ≡ (content_seen g last).nodes)) → IsKept g last begun old family → IsKept g last more new family'
-  kept family family' same was = record {
-    now = asked.stays (content_seen g last) was.now;
-    before = subst (AllByRecursion (λ h. HasContent (content_seen g last) (state g h))) (sym is) (all_push _ begun old was.before was.now);
-    content = was.content;
-    tree = same was;
-  }
-
-  pub was_kept : (family family' : Option Ancestry) → (IsKept g last more new family' → IfSome family (λ t. t ≡ (content_seen g last).nodes)) → IsKept g last more new family' → IsKept g last begun old family
-  was_kept family family' same now =
-      let all = subst (AllByRecursion (λ h. HasContent (content_seen g last) (state g h))) is now.before in
-      record { now = all_last _ begun old all; before = all_front _ begun old all; content = now.content; tree = same now }
-
-  pub answer : (family : Option Ancestry) → IsKept g last begun old family → HasCleanDisk (state g new) → IfOk r (P (content_seen g last))
-  answer family was clean = asked.ok (content_seen g last) clean was.now
-
-  pub never : (family : Option Ancestry) → Fits (content_seen g last) → IsKept g last begun old family → HasCleanDisk (state g new) → IfErr r (λ fault. fault ≢ Foreign)
-  never family fits was clean = asked.sure (content_seen g last) clean was.now fits
-
 -- what is answered, with the desk as it was
-pub answers : {A : Type 0} (d : Desk) (r : Result A StoreFault) (P Q : A → Type 0) → ((a : A) → P a → Q a) → IfOk r P → Answers d d r Q
-answers d (Ok a) P Q turn p = (turn a p, refl)
-answers d (Err fault) P Q turn p = refl
+answers : {A : Type 0} (d : Desk) (r : Result A StoreFault) (P : A → Type 0) → IfOk r P → Answers d d r P
+answers d (Ok a) P p = (p, refl)
+answers d (Err fault) P p = refl
 
--- where the tree stays as it is, and what is answered is what is asked of the desk
-pub record IsNoted {S A : Type 0} (g : store.Ghosts S) (last begun more : List (Held S)) (old new : Held S) (family : Option Ancestry) (r : Result A StoreFault) (Q : A → Type 0) : Type 0 where
-  pub honest : HasCleanDisk (state g new) → HasCleanDisk (state g old)
-  pub kept : IsKept g last begun old family → HasCleanDisk (state g new) → IsKept g last more new family
-  pub was_kept : IsKept g last more new family → HasCleanDisk (state g new) → IsKept g last begun old family
-  pub fact : IsKept g last begun old family → HasCleanDisk (state g new) → Answers (desk_seen g last) (desk_seen g last) r Q
-  pub never : IsKept g last begun old family → HasCleanDisk (state g new) → IfErr r (λ fault. fault ≢ Foreign)
+-- an answer of which P holds
+pub answered : {A : Type 0} (old new : Desk) (r : Result A StoreFault) (P : A → Type 0) → Answers old new r P → IfOk r P
+answered old new (Ok a) P h = h.0
+answered old new (Err fault) P h = tt
 
-pub noted : {S A : Type 0} (g : store.Ghosts S) (last begun more : List (Held S)) (old new : Held S) (family : Option Ancestry) (r : Result A StoreFault) (Fits : Content → Type 0) (P : Content → A → Type 0)
-    → IsAsked (state g old) (state g new) r Fits P → more ≡ begun ++ old ∷ [] → (Q : A → Type 0)
-    → (IsKept g last begun old family → HasCleanDisk (state g old) → Fits (content_seen g last) × ((a : A) → P (content_seen g last) a → Q a)) → IsNoted g last begun more old new family r Q
-noted g last begun more old new family r Fits P asked is Q turn = record {
-  honest = honest g last begun more old new r Fits P asked is;
-  kept = λ was clean. kept g last begun more old new r Fits P asked is family family (λ w. w.tree) was;
-  was_kept = λ now clean. was_kept g last begun more old new r Fits P asked is family family (λ w. w.tree) now;
-  fact = λ was clean. answers (desk_seen g last) r (P (content_seen g last)) Q (turn was (early clean)).1 (answer g last begun more old new r Fits P asked is family was clean);
-  never = λ was clean. never g last begun more old new r Fits P asked is family (turn was (early clean)).0 was clean;
-}
-  where
-    early : HasCleanDisk (state g new) → HasCleanDisk (state g old)
-    early = honest g last begun more old new r Fits P asked is
+module _ {S A : Type 0} (g : store.Ghosts S) (last begun more : List (Held S)) (old new : Held S) (family : Option Ancestry) (r : Result A StoreFault) (Fits : Content → Type 0) (P : Content → A → Type 0) where
+  abbrev c : Content
+  c = content_seen g last
+
+  -- what the tables keep stays, and what is answered is right of it
+  pub record IsNoted : Type 0 where
+    pub honest : HasCleanDisk (state g new) → HasCleanDisk (state g old)
+    pub kept : IsKept g last begun old family → HasCleanDisk (state g new) → IsKept g last more new family
+    pub was_kept : IsKept g last more new family → HasCleanDisk (state g new) → IsKept g last begun old family
+    pub fact : IsKept g last begun old family → HasCleanDisk (state g new) → Answers (desk_seen g last) (desk_seen g last) r (P c)
+    pub never : IsKept g last begun old family → HasCleanDisk (state g new) → IfErr r (λ fault. fault ≢ Foreign)
+
+  pub noted : IsAsked (state g old) (state g new) r Fits P → more ≡ begun ++ old ∷ [] → (IsKept g last begun old family → HasCleanDisk (state g old) → Fits c) → IsNoted
+  noted asked is fits = record {
+    honest = early;
+    kept = λ was clean. record {
+      now = asked.stays c was.now;
+      before = subst (AllByRecursion (λ h. HasContent c (state g h))) (sym is) (all_push _ begun old was.before was.now);
+      content = was.content;
+      tree = was.tree;
+    };
+    was_kept = λ now clean.
+        let all = subst (AllByRecursion (λ h. HasContent c (state g h))) is now.before in
+        record { now = all_last _ begun old all; before = all_front _ begun old all; content = now.content; tree = now.tree };
+    fact = λ was clean. answers (desk_seen g last) r (P c) (asked.ok c clean was.now (fits was (early clean)));
+    never = λ was clean. asked.sure c clean was.now (fits was (early clean));
+  }
+    where
+      early : HasCleanDisk (state g new) → HasCleanDisk (state g old)
+      early clean = omega (arith, asked.survives.clean, clean)
+
+-- the same desk with another tree
+pub with_tree : {S : Type 0} (g : store.Ghosts S) (last begun : List (Held S)) (conn : Held S) (family family' : Option Ancestry) → IsKept g last begun conn family → IfSome family' (λ t. t ≡ (content_seen g last).nodes)
+    → IsKept g last begun conn family'
+with_tree g last begun conn family family' was tree = record { now = was.now; before = was.before; content = was.content; tree = tree }
 
 -- ---- a change
 

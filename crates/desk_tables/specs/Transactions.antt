@@ -1,6 +1,6 @@
 -- What a transaction over a connection comes to, whole.
 use Rattle.std.specs.Prelude.{◌≡◌, ◌≢◌, ◌⊎◌, ◌↔◌, ◌<◌, ◌≤◌, ⊤, ℕ, false, true, List, IsOk, Ok, Err, IfOk, IfErr, Result, IsTrue}
-use Rattle.sqlite.specs.State.{State, HasCleanDisk, Survives, IsRolledBack, HasCause, store_error}
+use Rattle.sqlite.specs.State.{State, HasCleanDisk, KeepsCommit, Survives, IsRolledBack, HasCause, store_error}
 use Rattle.sqlite_trees.specs.View.{Tells}
 use Rattle.sqlite_trees.specs.declared.error.StoreError.{StoreError}
 use Rattle.sql_forms.specs.Faults.{fault_of}
@@ -13,7 +13,7 @@ use Rattle.ancestry.specs.declared.fault.BranchFault.{BranchFault}
 use Rattle.desk_content.specs.Branches.{with_nodes}
 use Rattle.desk_content.specs.Content.{Content, no_content}
 use Rattle.desk_content.specs.Kept.{IsKeptContent}
-use Rattle.desk_schema.specs.Steps.{seen}
+use Rattle.desk_schema.specs.Steps.{IsInside, seen}
 use Rattle.desk_store.specs.Store.{IsRefusal}
 use Rattle.desk_migrations.specs.Names.{no_tables, has_desk_table}
 use Rattle.desk_migrations.specs.Number.{Says, SaysSchema}
@@ -25,12 +25,21 @@ use Rattle.desk_tables.specs.Shown.{IsDesk, HasContent, HasContentUnder, HoldsCo
 use Rattle.desk_tables.specs.declared.open_fault.OpenFault.{OpenFault}
 use Rattle.desk_tables.specs.declared.open_fault.OpenFault.TheVariants.{Store, NotEmpty}
 
+-- A question inside a transaction: nothing is committed.
+-- Where the tables of an open store say c, and c fits, an answer is right of c, and the question
+-- fails for memory, the disk or its size alone.
+pub record AsksInside {A : Type 0} (old new : State) (result : Result A StoreFault) (Fits : Content → Type 0) (P : Content → A → Type 0) : Type 0 where
+  pub survives : Survives old new (λ _. ⊥)
+  pub keeps : HasCleanDisk new → IsInside old → KeepsCommit old new
+  pub ok : (c : Content) → HasCleanDisk new → IsInside old → (IsTrue old.is_open → seen old ≡ c) → Fits c → IfOk result (P c)
+  pub sure : (c : Content) → HasCleanDisk new → IsInside old → (IsTrue old.is_open → seen old ≡ c) → Fits c → IfErr result (λ fault. fault ≢ Foreign)
+
 -- A question: whatever it answers, the connection shows the same desk as before.
 -- An answer is right also where a fault has shut the connection since.
 pub record IsAsked {A : Type 0} (old new : State) (result : Result A StoreFault) (Fits : Content → Type 0) (P : Content → A → Type 0) : Type 0 where
   pub survives : Survives old new (λ _. ⊥)
   pub stays : (c : Content) → HasContent c old → HasContent c new
-  pub ok : (c : Content) → HasCleanDisk new → HasContent c old → IfOk result (P c)
+  pub ok : (c : Content) → HasCleanDisk new → HasContent c old → Fits c → IfOk result (P c)
   pub sure : (c : Content) → HasCleanDisk new → HasContent c old → Fits c → IfErr result (λ fault. fault ≢ Foreign)
 
 -- A change that fits: it is made and committed, or the connection shows the same desk as before.

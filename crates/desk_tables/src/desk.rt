@@ -14,10 +14,11 @@ ghost use Rattle.bug_record.specs.declared.outcome.StoreFault.TheVariants.{Forei
 ghost use Rattle.desk_tables.specs.Kept.{content_seen, desk_seen, keeping_seen, MayKeep, IsKept};
 ghost use Rattle.desk_tables.specs.Shown.{AreTablesOf, AreTablesAfter};
 
-use crate::calls::{ask_family, ask_open_head, change_sets, keep_line, take_nodes};
+use crate::calls::{ask_within, change_sets, keep_line, take_nodes};
 use crate::counts::Counts;
+use crate::question::Question;
+use crate::questions::{MarksStay, OpenHead, Tree};
 use crate::seen::Seen;
-use crate::stay::ask_marks_stay;
 use ancestry::BranchFault;
 use bug_record::{Change, Outcome, SetImage, StoreFault};
 use nearest_marks::Family;
@@ -100,6 +101,23 @@ impl<S: Alter> TableDesk<S> {
         conn
     }
 
+    // Asks a question of what the tables say, which a desk keeps.
+    pub(crate) fn ask<Q: Question>(&mut self, question: &Q) -> Result<Q::Answer, StoreFault>
+        requires fits { IsKept S.Store self.old.last.values self.old.begun.values self.old.conn self.old.family → HasCleanDisk (state S.Store self.old.conn) →
+            Q.fits question.now (content_seen S.Store self.old.last.values) }
+        ensures answer { Asks (λ d. IsKept S.Store d.last.values d.begun.values d.conn d.family) (λ d. HasCleanDisk (state S.Store d.conn)) self.old self.new
+            (Answers (desk_seen S.Store self.old.last.values) (desk_seen S.Store self.new.last.values) result (Q.right question.now (content_seen S.Store self.old.last.values))) }
+        ensures sure { IsKept S.Store self.old.last.values self.old.begun.values self.old.conn self.old.family → HasCleanDisk (state S.Store self.new.conn) →
+            IfErr result (λ fault. fault ≢ Foreign) }
+        ensures last { self.new.last.values ≡ self.old.last.values }
+        ensures family { self.new.family ≡ self.old.family }
+        ensures survives { Survives (state S.Store self.old.conn) (state S.Store self.new.conn) (λ _. ⊥) }
+        ensures counts { self.new.counts ≡ self.old.counts }
+    {
+        self.begun = self.begun.and(&self.conn);
+        ask_within(&mut self.conn, question)
+    }
+
     // Reads the tree, where no call has read it yet.
     fn load(&mut self) -> Result<(), StoreFault>
         ensures answer { Asks (λ d. IsKept S.Store d.last.values d.begun.values d.conn d.family) (λ d. HasCleanDisk (state S.Store d.conn)) self.old self.new
@@ -114,8 +132,8 @@ impl<S: Alter> TableDesk<S> {
         if self.family.is_some() {
             return Ok(());
         }
-        self.begun = self.begun.and(&self.conn);
-        let family = ask_family(self.alloc, &mut self.conn)?;
+        let question = Tree { alloc: self.alloc };
+        let family = self.ask(&question)?;
         self.family = Some(family);
         Ok(())
     }
@@ -133,8 +151,11 @@ impl<S: Alter> TableDesk<S> {
         ensures survives { Survives (state S.Store self.old.conn) (state S.Store self.new.conn) (λ _. ⊥) }
         ensures counts { self.new.counts ≡ self.old.counts }
     {
-        self.begun = self.begun.and(&self.conn);
-        ask_marks_stay(self.alloc, &mut self.conn, change.images.as_slice())
+        let question = MarksStay {
+            alloc: self.alloc,
+            change,
+        };
+        self.ask(&question)
     }
 
     // Reads the tree, where no call has read it yet and a mark changes.
@@ -313,7 +334,7 @@ impl<S: Alter> TableDesk<S> {
     {
         self.begun = self.begun.and(&self.conn);
         match &self.family {
-            Some(family) => ask_open_head(&mut self.conn, family, image),
+            Some(family) => ask_within(&mut self.conn, &OpenHead { family, image }),
             None => Err(StoreFault::Foreign),
         }
     }

@@ -8,9 +8,10 @@ mod counts;
 mod desk;
 mod open_fault;
 mod opening;
+mod question;
+mod questions;
 mod records;
 mod seen;
-mod stay;
 
 pub use desk::TableDesk;
 pub use open_fault::OpenFault;

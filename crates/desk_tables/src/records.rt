@@ -18,8 +18,8 @@ ghost use Rattle.desk_tables.specs.Kept.{content_seen, desk_seen, keeping_seen, 
 ghost use Rattle.line_words.specs.Ids.{IsId};
 ghost use Rattle.desk_tables.specs.Shown.{AreTablesOf, AreTablesAfter};
 
-use crate::calls::{ask_kept, ask_listed, ask_next, ask_set_of, ask_waiting_on};
 use crate::desk::TableDesk;
+use crate::questions::{KeptOf, Listed, Next, SetOf, WaitingOn};
 use ancestry::BranchFault;
 use bug_record::{Change, Numbers, Outcome, Sequence, SetImage, StoreFault};
 use desk_store::{Kept, Records};
@@ -51,8 +51,11 @@ impl<S: Alter> Records for TableDesk<S> {
         ensures count { self.new.counts ≡ faults_after result self.old.counts }
         ensures crash { Survives (state S.Store self.old.conn) (state S.Store self.new.conn) (λ _. ⊥) }
     {
-        self.begun = self.begun.and(&self.conn);
-        let answer = ask_set_of(self.alloc, &mut self.conn, number);
+        let question = SetOf {
+            alloc: self.alloc,
+            number,
+        };
+        let answer = self.ask(&question);
         self.counts.note(answer)
     }
 
@@ -66,8 +69,7 @@ impl<S: Alter> Records for TableDesk<S> {
         ensures count { self.new.counts ≡ faults_after result self.old.counts }
         ensures crash { Survives (state S.Store self.old.conn) (state S.Store self.new.conn) (λ _. ⊥) }
     {
-        self.begun = self.begun.and(&self.conn);
-        let answer = ask_next(&mut self.conn);
+        let answer = self.ask(&Next);
         self.counts.note(answer)
     }
 
@@ -83,8 +85,11 @@ impl<S: Alter> Records for TableDesk<S> {
         ensures count { self.new.counts ≡ faults_after result self.old.counts }
         ensures crash { Survives (state S.Store self.old.conn) (state S.Store self.new.conn) (λ _. ⊥) }
     {
-        self.begun = self.begun.and(&self.conn);
-        let answer = ask_waiting_on(self.alloc, &mut self.conn, number);
+        let question = WaitingOn {
+            alloc: self.alloc,
+            number,
+        };
+        let answer = self.ask(&question);
         self.counts.note(answer)
     }
 
@@ -102,8 +107,12 @@ impl<S: Alter> Records for TableDesk<S> {
         ensures count { self.new.counts ≡ faults_after result self.old.counts }
         ensures crash { Survives (state S.Store self.old.conn) (state S.Store self.new.conn) (λ _. ⊥) }
     {
-        self.begun = self.begun.and(&self.conn);
-        let answer = ask_listed(self.alloc, &mut self.conn, package, node);
+        let question = Listed {
+            alloc: self.alloc,
+            package,
+            node,
+        };
+        let answer = self.ask(&question);
         self.counts.note(answer)
     }
 
@@ -189,8 +198,11 @@ impl<S: Alter> Records for TableDesk<S> {
         ensures count { self.new.counts ≡ faults_after result self.old.counts }
         ensures crash { Survives (state S.Store self.old.conn) (state S.Store self.new.conn) (λ _. ⊥) }
     {
-        self.begun = self.begun.and(&self.conn);
-        let answer = ask_kept(self.alloc, &mut self.conn, id);
+        let question = KeptOf {
+            alloc: self.alloc,
+            id,
+        };
+        let answer = self.ask(&question);
         self.counts.note(answer)
     }
 
