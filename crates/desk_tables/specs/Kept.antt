@@ -1,5 +1,5 @@
 -- A desk over a connection, whose content is remembered also once a fault has shut the connection.
-use Rattle.std.specs.Prelude.{◌≡◌, ℕ, List, [], ◌∷◌, Option, IfSome}
+use Rattle.std.specs.Prelude.{◌≡◌, ℕ, List, [], ◌∷◌, Option, IfSome, None, false}
 use Rattle.std.specs.List.{AllByRecursion}
 use Rattle.sqlite.specs.Held.{Held, state}
 use Rattle.sqlite_trees.specs.declared.store.Store as store
@@ -14,6 +14,11 @@ use Rattle.desk_store.specs.Store.{MayBeKept}
 use Rattle.bug_record.specs.declared.outcome.Outcome.{Outcome}
 use Rattle.desk_store.specs.Kept.{Keeping}
 use Rattle.desk_tables.specs.Shown.{HasContent}
+
+-- a connection between two calls: in no transaction, and its statements have no limit of steps
+pub record IsIdle {S : Type 0} (conn : Held S) : Type 0 where
+  pub autocommit : conn.in_transaction ≡ false
+  pub unlimited : conn.step_limit ≡ None
 
 module _ {S : Type 0} (g : store.Ghosts S) where
   -- what the last of these connections showed

@@ -1,5 +1,6 @@
 pub mod Shown
 pub mod Kept
+pub mod Desk
 pub mod Opening
 pub mod Files
 -- definitions that only private functions cite

@@ -1,18 +1,20 @@
 //! Transactions over a connection, one for each call.
 
-ghost use Rattle.std.specs.Prelude.{◌≡◌, false, None};
+ghost use Rattle.std.specs.Prelude.{◌≡◌, false};
 ghost use Rattle.std.specs.Option.{option_copied};
 ghost use Rattle.sqlite.specs.Held.{state};
 ghost use Rattle.sqlite.specs.State.{IsLive};
 ghost use Rattle.version_nodes.specs.Trees.{IsForest};
+ghost use Rattle.branch_rows.specs.Grown.{IsGrown, unknown_of, roots_of, changed_of};
+ghost use Rattle.desk_content.specs.Branches.{with_nodes};
 ghost use Rattle.desk_content.specs.Changes.{FitsContent, changed};
 ghost use Rattle.desk_content.specs.Keeping.{MayBePut, kept_after};
 ghost use Rattle.desk_content.specs.Kept.{IsKeptContent};
-ghost use Rattle.branch_rows.specs.Grown.{IsGrown, unknown_of, roots_of, changed_of};
-ghost use Rattle.desk_content.specs.Branches.{with_nodes};
-ghost use Rattle.desk_writes.specs.Needs.{HasTree, HasTreeIfAny};
 ghost use Rattle.desk_migrations.specs.Names.{no_tables};
-ghost use Rattle.desk_tables.specs.Transactions.{IsAsked, IsChanged, IsTaken, IsMade, IsCarried, AsksSchema, Ends};
+ghost use Rattle.desk_writes.specs.Needs.{HasTree, HasTreeIfAny};
+ghost use Rattle.desk_tables.specs.Kept.{IsIdle};
+ghost use Rattle.desk_tables.specs.Transactions.{IsAsked, IsChanged, IsTaken, IsMade, IsCarried};
+ghost use Rattle.desk_tables.specs.Transactions.{AsksSchema, Ends};
 
 use crate::question::Question;
 use ancestry::BranchFault;
@@ -31,10 +33,8 @@ pub(crate) fn ask_within<S: Alter, Q: Question>(
     conn: &mut Connection<S>,
     question: &Q,
 ) -> Result<Q::Answer, StoreFault>
-    requires autocommit { conn.old.in_transaction ≡ false }
-    requires unlimited { conn.old.step_limit ≡ None }
-    ensures autocommit { conn.new.in_transaction ≡ false }
-    ensures unlimited { conn.new.step_limit ≡ None }
+    requires idle { IsIdle conn.old }
+    ensures idle { IsIdle conn.new }
     ensures asked { IsAsked (state S.Store conn.old) (state S.Store conn.new) result
         (Q.fits question.now) (Q.right question.now) }
 {
@@ -47,7 +47,8 @@ pub(crate) fn ask_within<S: Alter, Q: Question>(
 // Ends a transaction: with a commit where its steps were done, and else undone.
 fn finish<S: Alter>(tx: Transaction<'_, S>, done: Result<(), StoreFault>) -> Result<(), StoreFault>
     ensures ended { tx.exit.0.now.in_transaction ≡ false }
-    ensures ends { Ends (state S.Store tx.entry.conn.now) (state S.Store tx.exit.0.now) done result }
+    ensures ends { Ends (state S.Store tx.entry.conn.now)
+        (state S.Store tx.exit.0.now) done result }
 {
     match done {
         Ok(()) => match tx.commit() {
@@ -73,12 +74,12 @@ pub(crate) fn keep_line<S: Alter>(
     outcome: &Outcome,
     change: Option<&Change>,
 ) -> Result<(), StoreFault>
-    requires autocommit { conn.old.in_transaction ≡ false }
-    requires unlimited { conn.old.step_limit ≡ None }
-    ensures autocommit { conn.new.in_transaction ≡ false }
-    ensures unlimited { conn.new.step_limit ≡ None }
+    requires idle { IsIdle conn.old }
+    ensures idle { IsIdle conn.new }
     ensures changed { IsChanged (state S.Store conn.old) (state S.Store conn.new) result
-        (λ c. IsKeptContent c × MayBePut id.now from.now message.now outcome.now (option_copied change.entry) c × HasTreeIfAny (option_copied family.entry) c (option_copied change.entry))
+        (λ c. IsKeptContent c × MayBePut id.now from.now message.now outcome.now
+        (option_copied change.entry) c × HasTreeIfAny (option_copied family.entry) c
+        (option_copied change.entry))
         (λ c. kept_after id.now from.now message.now outcome.now (option_copied change.entry) c) }
 {
     let mut tx = conn.transaction();
@@ -93,12 +94,11 @@ pub(crate) fn change_sets<S: Alter>(
     family: Option<&Family>,
     change: &Change,
 ) -> Result<(), StoreFault>
-    requires autocommit { conn.old.in_transaction ≡ false }
-    requires unlimited { conn.old.step_limit ≡ None }
-    ensures autocommit { conn.new.in_transaction ≡ false }
-    ensures unlimited { conn.new.step_limit ≡ None }
+    requires idle { IsIdle conn.old }
+    ensures idle { IsIdle conn.new }
     ensures changed { IsChanged (state S.Store conn.old) (state S.Store conn.new) result
-        (λ c. IsKeptContent c × FitsContent c change.now × HasTree (option_copied family.entry) c change.now) (λ c. changed c change.now) }
+        (λ c. IsKeptContent c × FitsContent c change.now × HasTree
+        (option_copied family.entry) c change.now) (λ c. changed c change.now) }
 {
     let mut tx = conn.transaction();
     let done = put_change(alloc, &mut tx, family, change);
@@ -112,12 +112,11 @@ fn put_changed<S: Alter>(
     family: &Family,
     changed: &[Node],
 ) -> Result<(), StoreFault>
-    requires autocommit { conn.old.in_transaction ≡ false }
-    requires unlimited { conn.old.step_limit ≡ None }
-    ensures autocommit { conn.new.in_transaction ≡ false }
-    ensures unlimited { conn.new.step_limit ≡ None }
+    requires idle { IsIdle conn.old }
+    ensures idle { IsIdle conn.new }
     ensures changed { IsChanged (state S.Store conn.old) (state S.Store conn.new) result
-        (λ c. IsKeptContent c × IsGrown c.nodes family.now changed.now) (λ c. with_nodes family.now c) }
+        (λ c. IsKeptContent c × IsGrown c.nodes family.now changed.now)
+        (λ c. with_nodes family.now c) }
 {
     let mut tx = conn.transaction();
     let done = put_branch(alloc, &mut tx, family, changed);
@@ -131,12 +130,11 @@ fn put_open<S: Alter>(
     family: &Family,
     before: OpenNodes,
 ) -> Result<(), StoreFault>
-    requires autocommit { conn.old.in_transaction ≡ false }
-    requires unlimited { conn.old.step_limit ≡ None }
-    ensures autocommit { conn.new.in_transaction ≡ false }
-    ensures unlimited { conn.new.step_limit ≡ None }
+    requires idle { IsIdle conn.old }
+    ensures idle { IsIdle conn.new }
     ensures changed { IsChanged (state S.Store conn.old) (state S.Store conn.new) result
-        (λ c. IsKeptContent c × IsGrown c.nodes family.now (changed_of family.now before.unknown.items before.roots.items))
+        (λ c. IsKeptContent c × IsGrown c.nodes family.now
+        (changed_of family.now before.unknown.items before.roots.items))
         (λ c. with_nodes family.now c) }
 {
     match changed_nodes(family.tree(), before) {
@@ -153,14 +151,13 @@ fn take_open<S: Alter>(
     nodes: &[Node],
     before: OpenNodes,
 ) -> Result<Result<(), BranchFault>, StoreFault>
-    requires autocommit { conn.old.in_transaction ≡ false }
-    requires unlimited { conn.old.step_limit ≡ None }
+    requires idle { IsIdle conn.old }
     requires unknown { before.unknown.items ≡ unknown_of family.old nodes.now }
     requires roots { before.roots.items ≡ roots_of family.old nodes.now }
     requires forest { IsForest family.old }
-    ensures autocommit { conn.new.in_transaction ≡ false }
-    ensures unlimited { conn.new.step_limit ≡ None }
-    ensures taken { IsTaken family.old family.new nodes.now (state S.Store conn.old) (state S.Store conn.new) result }
+    ensures idle { IsIdle conn.new }
+    ensures taken { IsTaken family.old family.new nodes.now (state S.Store conn.old)
+        (state S.Store conn.new) result }
     ensures forest { IsForest family.new }
 {
     branches_grow();
@@ -181,11 +178,10 @@ pub(crate) fn take_nodes<S: Alter>(
     family: &mut Family,
     nodes: &[Node],
 ) -> Result<Result<(), BranchFault>, StoreFault>
-    requires autocommit { conn.old.in_transaction ≡ false }
-    requires unlimited { conn.old.step_limit ≡ None }
-    ensures autocommit { conn.new.in_transaction ≡ false }
-    ensures unlimited { conn.new.step_limit ≡ None }
-    ensures taken { IsTaken family.old family.new nodes.now (state S.Store conn.old) (state S.Store conn.new) result }
+    requires idle { IsIdle conn.old }
+    ensures idle { IsIdle conn.new }
+    ensures taken { IsTaken family.old family.new nodes.now (state S.Store conn.old)
+        (state S.Store conn.new) result }
     ensures forest { IsForest family.new }
 {
     match open_nodes(alloc, family.tree(), nodes) {
@@ -196,12 +192,10 @@ pub(crate) fn take_nodes<S: Alter>(
 
 // Makes the tables of a new desk, which gives `first` to its first bug, in a database with none.
 pub(crate) fn make_desk<S: Alter>(conn: &mut Connection<S>, first: u32) -> Result<(), StoreFault>
-    requires autocommit { conn.old.in_transaction ≡ false }
-    requires unlimited { conn.old.step_limit ≡ None }
+    requires idle { IsIdle conn.old }
     requires blank { (state S.Store conn.old).now.schema ≡ no_tables }
     requires live { IsLive (state S.Store conn.old) }
-    ensures autocommit { conn.new.in_transaction ≡ false }
-    ensures unlimited { conn.new.step_limit ≡ None }
+    ensures idle { IsIdle conn.new }
     ensures made { IsMade first (state S.Store conn.old) (state S.Store conn.new) result }
 {
     let mut tx = conn.transaction();
@@ -211,10 +205,8 @@ pub(crate) fn make_desk<S: Alter>(conn: &mut Connection<S>, first: u32) -> Resul
 
 // What the database says of the number of its schema, whatever that schema is.
 pub(crate) fn ask_schema<S: Alter>(conn: &mut Connection<S>) -> Result<SchemaRead, StoreFault>
-    requires autocommit { conn.old.in_transaction ≡ false }
-    requires unlimited { conn.old.step_limit ≡ None }
-    ensures autocommit { conn.new.in_transaction ≡ false }
-    ensures unlimited { conn.new.step_limit ≡ None }
+    requires idle { IsIdle conn.old }
+    ensures idle { IsIdle conn.new }
     ensures asked { AsksSchema (state S.Store conn.old) (state S.Store conn.new) result }
 {
     let mut tx = conn.transaction();
@@ -225,10 +217,8 @@ pub(crate) fn ask_schema<S: Alter>(conn: &mut Connection<S>) -> Result<SchemaRea
 
 // Carries the tables of a desk under this schema over to the newest.
 pub(crate) fn carry_desk<S: Alter>(conn: &mut Connection<S>, from: u64) -> Result<(), StoreFault>
-    requires autocommit { conn.old.in_transaction ≡ false }
-    requires unlimited { conn.old.step_limit ≡ None }
-    ensures autocommit { conn.new.in_transaction ≡ false }
-    ensures unlimited { conn.new.step_limit ≡ None }
+    requires idle { IsIdle conn.old }
+    ensures idle { IsIdle conn.new }
     ensures carried { IsCarried from (state S.Store conn.old) (state S.Store conn.new) result }
 {
     let mut tx = conn.transaction();

@@ -4,8 +4,10 @@
 #![tactic(auto)]
 
 mod calls;
+mod changing;
 mod counts;
 mod desk;
+mod loading;
 mod open_fault;
 mod opening;
 mod question;

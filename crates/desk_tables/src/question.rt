@@ -22,6 +22,6 @@ pub(crate) trait Question {
     /// Asks it within a transaction.
     fn ask<S: Alter>(&self, tx: &mut Transaction<'_, S>) -> Result<Self::Answer, StoreFault>
         ensures same_reference { tx.new.conn.ghost_name ≡ tx.old.conn.ghost_name }
-        ensures asks { AsksInside (state S.Store tx.old.conn.now) (state S.Store tx.new.conn.now) result
-            (fits self.now) (right self.now) };
+        ensures asks { AsksInside (state S.Store tx.old.conn.now) (state S.Store tx.new.conn.now)
+            result (fits self.now) (right self.now) };
 }

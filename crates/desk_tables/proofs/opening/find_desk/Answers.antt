@@ -14,9 +14,9 @@ pub returns-in-Ok-carry_desk-clause-found : goal.returns-in-Ok-carry_desk-clause
 returns-in-Ok-carry_desk-clause-found g c =
     let is : c.and.result.values ≡ c.carry_desk.new.conn ∷ [] = search rules in
     found_earlier (λ last. content_seen g.S.Store last.values) (state g.S.Store c.args.conn.now) (state g.S.Store c.recognise.new.conn) (state g.S.Store c.carry_desk.new.conn) c.in-Ok.from c.if-from-eq-NEWEST.false
-    c.in-Ok-carry_desk.ensures.autocommit c.in-Ok.ensures.recognised c.and.result (ap (content_seen g.S.Store) is) c.in-Ok-carry_desk.ensures.carried
+    c.in-Ok-carry_desk.ensures.idle.autocommit c.in-Ok.ensures.recognised c.and.result (ap (content_seen g.S.Store) is) c.in-Ok-carry_desk.ensures.carried
 
 pub returns-in-Err-carry_desk-clause-found : goal.returns-in-Err-carry_desk-clause-found
 returns-in-Err-carry_desk-clause-found g c =
     not_earlier (λ last. content_seen g.S.Store last.values) (state g.S.Store c.args.conn.now) (state g.S.Store c.recognise.new.conn) (state g.S.Store c.carry_desk.new.conn) c.in-Ok.from c.if-from-eq-NEWEST.false
-    c.in-Err-carry_desk.ensures.autocommit c.in-Ok.ensures.recognised c.in-Err-carry_desk.fault c.in-Err-carry_desk.ensures.carried
+    c.in-Err-carry_desk.ensures.idle.autocommit c.in-Ok.ensures.recognised c.in-Err-carry_desk.fault c.in-Err-carry_desk.ensures.carried
