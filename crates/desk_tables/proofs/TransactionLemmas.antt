@@ -21,6 +21,8 @@ use Rattle.desk_migrations.specs.Number.{Says, ReadsSchema}
 use Rattle.desk_migrations.specs.declared.number.SchemaRead.{SchemaRead}
 use Rattle.desk_tables.specs.Opening.{IsLeft}
 use Rattle.desk_tables.specs.Shown.{IsDesk, HasContent, HasContentUnder, AreTablesOf}
+use Rattle.desk_tables.specs.Still.{IsAsBefore, StillShows}
+use Rattle.desk_tables.proofs.StillLemmas.{shows_now, left_still}
 use Rattle.desk_tables.specs.Transactions.{AsksInside, IsAsked, IsChanged, IsDone, IsMade, IsCarried, AsksSchema, IsCommitFault, Ends}
 
 -- ---- a question in a transaction that is rolled back
@@ -34,22 +36,17 @@ begins s c limit clean shows = record { begun = refl; unlimited = limit; schema 
 begins_under : (k : ℕ) (s : State) (c : Content) → s.step_limit ≡ None → HasCleanDisk s → HasContentUnder k c s → IsUnder k c (begun s)
 begins_under k s c limit clean shows = record { begun = refl; unlimited = limit; schema = λ o. (shows clean o).schema; sound = λ o. (shows clean o).sound; shown = λ o. (shows clean o).shown }
 
--- what was begun is undone
-undone : (old mid new : State) (c : Content) → (IsTrue old.is_open → IsDesk old × (seen old ≡ c)) → KeepsCommit (begun old) mid → IsRolledBack mid new → IsTrue new.is_open → IsDesk new × (seen new ≡ c)
-undone old mid new c shows kept back o =
-    let live = back.was_open o in
-    let was = shows (kept.was_open live) in
-    let now : new.now ≡ old.now = (back.undone o).0 ∙ kept.committed live ∙ sym was.0.settled in (
-      record {
-        settled = (back.undone o).0 ∙ sym (back.undone o).1;
-        schema = ap (λ (d : Database). d.schema) now ∙ was.0.schema;
-        sound = subst IsDatabase (sym now) was.0.sound;
-        shown = subst (λ (d : Database). AreShown d.trees) (sym now) was.0.shown;
-      },
-      ap (λ (d : Database). content_of d.trees) now ∙ was.1,
-    )
+-- what was begun is undone, and so the tables are as they were
+undone : (old mid new : State) → (HasCleanDisk new → HasCleanDisk old) → (HasCleanDisk new → KeepsCommit (begun old) mid) → (HasCleanDisk new → IsRolledBack mid new) → StillShows old new
+undone old mid new early kept back c shows = record {
+  honest = early;
+  was_open = λ clean o. (kept clean).was_open ((back clean).was_open o);
+  tables = λ clean o.
+      let live = (back clean).was_open o in
+      ((back clean).undone o).0 ∙ (kept clean).committed live ∙ sym (shows (early clean) ((kept clean).was_open live)).0.settled;
+  committed = λ clean o. ((back clean).undone o).1 ∙ (kept clean).committed ((back clean).was_open o);
+}
 
--- and so what was committed is left
 left_undone : (old mid new : State) → (HasCleanDisk new → HasCleanDisk old) → (HasCleanDisk new → KeepsCommit (begun old) mid) → (HasCleanDisk new → IsRolledBack mid new)
     → new.in_transaction ≡ false → IsLeft old new
 left_undone old mid new early kept back idle = record {
@@ -58,14 +55,14 @@ left_undone old mid new early kept back idle = record {
   was_open = λ clean o. (kept clean).was_open ((back clean).was_open o);
   committed = λ clean o. ((back clean).undone o).1 ∙ (kept clean).committed ((back clean).was_open o);
   now = λ clean o same. ((back clean).undone o).0 ∙ (kept clean).committed ((back clean).was_open o) ∙ sym same;
-  content = λ c shows clean o. undone old mid new c (shows (early clean)) (kept clean) (back clean) o;
+  content = λ c shows. shows_now old new c (undone old mid new early kept back c shows) shows;
 }
 
 module _ {A : Type 0} (r : Result A StoreFault) (Fits : Content → Type 0) (P : Content → A → Type 0) where
   asked : (old mid new : State) → old.step_limit ≡ None → AsksInside (begun old) mid r Fits P → (HasCleanDisk new → IsRolledBack mid new) → Survives mid new (λ _. ⊥) → IsAsked old new r Fits P
   asked old mid new limit asks back survives = record {
     survives = survives_then old mid new _ _ (λ _. ⊥) (λ _ db none. none) (λ _ db none. none) (record { clean = one.clean; shield = one.shield; counts = one.counts; limit = one.limit; closes = one.closes; crash = one.crash }) survives;
-    stays = λ c shows clean o. undone old mid new c (shows (early clean)) (asks.keeps (late clean) (inside c clean shows)) (back clean) o;
+    stays = λ c shows. undone old mid new early (λ clean. asks.keeps (late clean) (inside c clean shows)) back c shows;
     ok = λ c clean shows. asks.ok c (late clean) (inside c clean shows) (λ o. (shows (early clean) o).1);
     sure = λ c clean shows. asks.sure c (late clean) (inside c clean shows) (λ o. (shows (early clean) o).1);
   }
@@ -266,9 +263,9 @@ module _ (old mid new : State) (did r : Result (Unit {0}) StoreFault) (limit : o
       inside : (c : Content) → HasCleanDisk mid → HasContent c old → IsInside (begun old)
       inside c clean shows = begins old c limit (early clean) shows
 
-      shown : (r : Result (Unit {0}) StoreFault) (c : Content) → IfErr r (λ _. IsLeft old new) → HasContent c old → IfErr r (λ _. HasContent c new)
+      shown : (r : Result (Unit {0}) StoreFault) (c : Content) → IfErr r (λ _. IsLeft old new) → HasContent c old → IfErr r (λ _. IsAsBefore old new)
       shown (Ok u) c left shows = tt
-      shown (Err e) c left shows = left.content c shows
+      shown (Err e) c left shows = left_still old new left c shows
 
       goes : (did : Result (Unit {0}) StoreFault) (c : Content) → (IsTrue old.is_open → seen old ≡ c) → Fits c → IfOk did (λ _. IsTrue old.is_open) → IfOk did (λ a. Goes (begun old) mid (λ c d. Fits c → d ≡ after c))
           → IfOk did (λ _. IsTrue old.is_open × IsTrue mid.is_open × IsDeskOf (after c) mid)

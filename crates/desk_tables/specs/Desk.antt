@@ -25,7 +25,7 @@ module _ {S : Type 0} {g : store.Ghosts S} where
 
   -- what its connection showed as it was last made or found
   abbrev pub content_shown : TableDesk S g → Content
-  content_shown d = content_seen g d.last.values
+  content_shown d = content_seen g d.last.value
 
   abbrev pub desk_of : TableDesk S g → Desk
   desk_of d = desk_in (content_shown d)
@@ -44,7 +44,7 @@ module _ {S : Type 0} {g : store.Ghosts S} where
 
   -- its tables are kept
   abbrev pub HasKeptTables : TableDesk S g → Type 0
-  HasKeptTables d = IsKept g d.last.values d.begun.values d.conn d.family
+  HasKeptTables d = IsKept g d.last.value d.family
 
   -- a question of the desk: nothing changes, and an answer is one of which P holds
   abbrev pub IsAnswered : {T : Type 0} → TableDesk S g → TableDesk S g → Result T StoreFault

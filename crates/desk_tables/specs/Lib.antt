@@ -1,4 +1,5 @@
 pub mod Shown
+pub mod Still
 pub mod Kept
 pub mod Desk
 pub mod Opening

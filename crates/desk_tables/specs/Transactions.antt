@@ -1,5 +1,5 @@
 -- What a transaction over a connection comes to, whole.
-use Rattle.std.specs.Prelude.{◌≡◌, ◌≢◌, ◌⊎◌, ◌↔◌, ◌<◌, ◌≤◌, ⊤, ℕ, false, true, List, IsOk, Ok, Err, IfOk, IfErr, Result, IsTrue}
+use Rattle.std.specs.Prelude.{◌≡◌, ◌≢◌, ◌⊎◌, ◌↔◌, ◌<◌, ◌≤◌, ⊤, ℕ, false, true, List, IsOk, Err, IfOk, IfErr, Result, IsTrue}
 use Rattle.sqlite.specs.State.{State, HasCleanDisk, KeepsCommit, Survives, IsRolledBack, HasCause, store_error}
 use Rattle.sqlite_trees.specs.View.{Tells}
 use Rattle.sqlite_trees.specs.declared.error.StoreError.{StoreError}
@@ -22,6 +22,7 @@ use Rattle.desk_migrations.specs.declared.number.SchemaRead.{SchemaRead}
 use Rattle.desk_migrations.specs.declared.number.SchemaRead.TheVariants.{Number}
 use Rattle.desk_tables.specs.Opening.{IsLeft, IsStoreFailure, IsReason, SaysEarlier, SaysDesk}
 use Rattle.desk_tables.specs.Shown.{IsDesk, HasContent, HasContentUnder, HoldsContent, AreTablesOf, AreTablesAfter}
+use Rattle.desk_tables.specs.Still.{IsAsBefore, StillShows}
 use Rattle.desk_tables.specs.declared.open_fault.OpenFault.{OpenFault}
 use Rattle.desk_tables.specs.declared.open_fault.OpenFault.TheVariants.{Store, NotEmpty}
 
@@ -38,7 +39,7 @@ pub record AsksInside {A : Type 0} (old new : State) (result : Result A StoreFau
 -- An answer is right also where a fault has shut the connection since.
 pub record IsAsked {A : Type 0} (old new : State) (result : Result A StoreFault) (Fits : Content → Type 0) (P : Content → A → Type 0) : Type 0 where
   pub survives : Survives old new (λ _. ⊥)
-  pub stays : (c : Content) → HasContent c old → HasContent c new
+  pub stays : StillShows old new
   pub ok : (c : Content) → HasCleanDisk new → HasContent c old → Fits c → IfOk result (P c)
   pub sure : (c : Content) → HasCleanDisk new → HasContent c old → Fits c → IfErr result (λ fault. fault ≢ Foreign)
 
@@ -47,14 +48,9 @@ pub record IsAsked {A : Type 0} (old new : State) (result : Result A StoreFault)
 pub record IsChanged (old new : State) (result : Result (Unit {0}) StoreFault) (Fits : Content → Type 0) (after : Content → Content) : Type 0 where
   pub honest : HasCleanDisk new → HasCleanDisk old
   pub ok : (c : Content) → HasCleanDisk new → HasContent c old → Fits c → IfOk result (λ _. IsTrue new.is_open × IsDesk new × (seen new ≡ after c))
-  pub err : (c : Content) → HasContent c old → IfErr result (λ _. HasContent c new)
+  pub err : (c : Content) → HasContent c old → IfErr result (λ _. IsAsBefore old new)
   pub sure : (c : Content) → HasCleanDisk new → HasContent c old → Fits c → IfErr result (λ fault. fault ≢ Foreign)
   pub crash : (c : Content) → (HasCleanDisk new → HasContent c old × Fits c) → Survives old new (AreTablesOf (after c))
-
--- what a branch that was taken, or is refused, leaves of a connection that showed this content
-abbrev pub Follows : Ancestry → Content → State → Result (Unit {0}) BranchFault → Type 0
-Follows u c new (Ok done) = IsTrue new.is_open × IsDesk new × (seen new ≡ with_nodes u c)
-Follows u c new (Err refusal) = HasContent c new
 
 -- A branch over the ancestry t, which is u then: it is taken and committed, or refused, or there is
 -- a fault, and then the connection shows the same desk as before.
@@ -62,8 +58,10 @@ Follows u c new (Err refusal) = HasContent c new
 pub record IsTaken (t u : Ancestry) (nodes : List Node) (old new : State) (result : Result (Result (Unit {0}) BranchFault) StoreFault) : Type 0 where
   pub honest : HasCleanDisk new → HasCleanDisk old
   pub answer : IfOk result (λ a. IsBranched t nodes a u × IsRefusal a)
-  pub ok : (c : Content) → HasCleanDisk new → HasContent c old → IsKeptContent c → c.nodes ≡ t → IfOk result (Follows u c new)
-  pub err : (c : Content) → HasContent c old → IfErr result (λ _. HasContent c new)
+  pub ok : (c : Content) → HasCleanDisk new → HasContent c old → IsKeptContent c → c.nodes ≡ t
+      → IfOk result (λ a. IfOk a (λ _. IsTrue new.is_open × IsDesk new × (seen new ≡ with_nodes u c)))
+  pub refused : (c : Content) → HasContent c old → IfOk result (λ a. IfErr a (λ _. IsAsBefore old new))
+  pub err : (c : Content) → HasContent c old → IfErr result (λ _. IsAsBefore old new)
   pub sure : (c : Content) → HasCleanDisk new → HasContent c old → IsKeptContent c → c.nodes ≡ t → IfErr result (λ fault. fault ≢ Foreign)
   pub crash : (c : Content) → (HasCleanDisk new → HasContent c old × IsKeptContent c × (c.nodes ≡ t)) → Survives old new (AreTablesAfter c nodes)
 
@@ -130,9 +128,10 @@ pub record IsRecognised (old new : State) (result : Result ℕ OpenFault) : Type
 -- is remembered of it has its content.
 -- A crash at any moment leaves what it would have left before, or, of a desk under an earlier
 -- schema, the same desk under the newest.
-pub record IsFound {A : Type 0} (content : A → Content) (old new : State) (result : Result A OpenFault) : Type 0 where
+pub record IsFound {A : Type 0} (shown : A → State) (old new : State) (result : Result A OpenFault) : Type 0 where
   pub honest : IfOk result (λ a. HasCleanDisk new → HasCleanDisk old)
-  pub holds : IfOk result (λ a. (c : Content) → HasCleanDisk new → HoldsContent c old → (content a ≡ c) × HasContent c new)
+  pub holds : IfOk result (λ a. (c : Content) → HasCleanDisk new → HoldsContent c old → (seen (shown a) ≡ c) × HasContent c (shown a))
+  pub still : IfOk result (λ a. StillShows (shown a) new)
   pub says : IfOk result (λ a. HasCleanDisk new → IsTrue old.is_open × SaysDesk old.now)
   pub serves : IfOk result (λ a. (k : ℕ) (c : Content) → HasCleanDisk new → k < NEWEST → HasContentUnder k c old → IsTrue new.is_open)
   pub stays : IfOk result (λ a. (c : Content) → HasCleanDisk new → HasContent c old → IsLeft old new)

@@ -77,9 +77,9 @@ pub(crate) fn keep_line<S: Alter>(
     requires idle { IsIdle conn.old }
     ensures idle { IsIdle conn.new }
     ensures changed { IsChanged (state S.Store conn.old) (state S.Store conn.new) result
-        (λ c. IsKeptContent c × MayBePut id.now from.now message.now outcome.now
-        (option_copied change.entry) c × HasTreeIfAny (option_copied family.entry) c
-        (option_copied change.entry))
+        (λ c. IsKeptContent c
+        × MayBePut id.now from.now message.now outcome.now (option_copied change.entry) c
+        × HasTreeIfAny (option_copied family.entry) c (option_copied change.entry))
         (λ c. kept_after id.now from.now message.now outcome.now (option_copied change.entry) c) }
 {
     let mut tx = conn.transaction();
@@ -97,8 +97,9 @@ pub(crate) fn change_sets<S: Alter>(
     requires idle { IsIdle conn.old }
     ensures idle { IsIdle conn.new }
     ensures changed { IsChanged (state S.Store conn.old) (state S.Store conn.new) result
-        (λ c. IsKeptContent c × FitsContent c change.now × HasTree
-        (option_copied family.entry) c change.now) (λ c. changed c change.now) }
+        (λ c. IsKeptContent c × FitsContent c change.now
+        × HasTree (option_copied family.entry) c change.now)
+        (λ c. changed c change.now) }
 {
     let mut tx = conn.transaction();
     let done = put_change(alloc, &mut tx, family, change);

@@ -17,10 +17,10 @@ ghost use Rattle.desk_tables.specs.Shown.{AreTablesOf, AreTablesAfter};
 
 use crate::calls::{change_sets, keep_line, take_nodes};
 use crate::desk::TableDesk;
-use crate::seen::Seen;
 use ancestry::BranchFault;
 use bug_record::{Change, Outcome, StoreFault};
 use sqlite::Alter;
+use std::snapshot::Snapshot;
 use version_nodes::Node;
 
 impl<S: Alter> TableDesk<S> {
@@ -43,8 +43,7 @@ impl<S: Alter> TableDesk<S> {
         ensures counts { faults_of self.new ≡ faults_of self.old }
     {
         change_sets(self.alloc, &mut self.conn, self.family.as_ref(), change)?;
-        self.last = Seen::new().and(&self.conn);
-        self.begun = Seen::new();
+        self.last = Snapshot::of(&self.conn);
         Ok(())
     }
 
@@ -109,8 +108,7 @@ impl<S: Alter> TableDesk<S> {
             outcome,
             change,
         )?;
-        self.last = Seen::new().and(&self.conn);
-        self.begun = Seen::new();
+        self.last = Snapshot::of(&self.conn);
         Ok(())
     }
 
@@ -171,8 +169,7 @@ impl<S: Alter> TableDesk<S> {
         self.family = Some(family);
         match taken {
             Ok(()) => {
-                self.last = Seen::new().and(&self.conn);
-                self.begun = Seen::new();
+                self.last = Snapshot::of(&self.conn);
                 Ok(Ok(()))
             }
             Err(refusal) => Ok(Err(refusal)),

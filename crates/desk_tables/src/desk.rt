@@ -1,19 +1,21 @@
 //! The desk over a connection.
 
-ghost use Rattle.std.specs.Prelude.{◌≡◌, [], None};
+ghost use Rattle.std.specs.Prelude.{◌≡◌, None};
+ghost use Rattle.sqlite.specs.Held.{state};
 ghost use Rattle.desk_store.specs.Store.{no_faults};
 ghost use Rattle.desk_tables.specs.Kept.{IsIdle};
+ghost use Rattle.desk_tables.specs.Still.{StillShows, StillShows-prop};
 
 use crate::counts::Counts;
-use crate::seen::Seen;
 use nearest_marks::Family;
 use sqlite::{Alter, Connection};
 use std::alloc::Global;
+use std::snapshot::Snapshot;
 
 /// A desk in the tables of a connection.
 ///
 /// Its content is what the connection showed as it was last made or found.
-/// It is remembered also once a fault has shut the connection, by values that contracts alone can
+/// It is remembered also once a fault has shut the connection, by a value that contracts alone can
 /// see.
 pub struct TableDesk<S: Alter> {
     pub(crate) conn: Connection<S>,
@@ -22,10 +24,11 @@ pub struct TableDesk<S: Alter> {
     pub(crate) family: Option<Family>,
     pub(crate) counts: Counts,
     // The connection as the content was last made or found.
-    pub(crate) last: Seen<Connection<S>>,
-    // The connection as each question since then began.
-    pub(crate) begun: Seen<Connection<S>>,
+    pub(crate) last: Snapshot<Connection<S>>,
     ghost idle: { IsIdle conn },
+    // The desk that it showed then, it shows now.
+    ghost stays: { StillShows (state S.Store last.value) (state S.Store conn) } by { StillShows-prop
+        (state S.Store last.value) (state S.Store conn) },
 }
 
 // It is written out, so that a caller does not prove again how each part is dropped.
@@ -37,7 +40,6 @@ impl<S: Alter + Drop> Drop for TableDesk<S> {
             family: _,
             counts: _,
             last: _,
-            begun: _,
         } = self;
     }
 }
@@ -47,12 +49,12 @@ impl<S: Alter> TableDesk<S> {
     pub(crate) fn found(
         alloc: Global,
         conn: Connection<S>,
-        last: Seen<Connection<S>>,
+        last: Snapshot<Connection<S>>,
     ) -> TableDesk<S>
         requires idle { IsIdle conn }
+        requires stays { StillShows (state S.Store last.value) (state S.Store conn) }
         ensures conn { result.conn ≡ conn }
-        ensures last { result.last.values ≡ last.values }
-        ensures begun { result.begun.values ≡ [] }
+        ensures last { result.last.value ≡ last.value }
         ensures family { result.family ≡ None }
         ensures counts { result.counts ≡ no_faults }
     {
@@ -62,7 +64,6 @@ impl<S: Alter> TableDesk<S> {
             family: None,
             counts: Counts::new(),
             last,
-            begun: Seen::new(),
         }
     }
 
@@ -77,7 +78,6 @@ impl<S: Alter> TableDesk<S> {
             family: _,
             counts: _,
             last: _,
-            begun: _,
         } = self;
         conn
     }

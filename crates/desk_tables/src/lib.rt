@@ -13,7 +13,6 @@ mod opening;
 mod question;
 mod questions;
 mod records;
-mod seen;
 
 pub use desk::TableDesk;
 pub use open_fault::OpenFault;

@@ -26,22 +26,21 @@ impl<S: Alter> TableDesk<S> {
         ensures answer { IsAnswered self.old self.new result
             (Q.right question.now (content_shown self.old)) }
         ensures sure { NeverForeign self.old self.new result }
-        ensures last { self.new.last.values ≡ self.old.last.values }
+        ensures last { self.new.last.value ≡ self.old.last.value }
         ensures family { self.new.family ≡ self.old.family }
         ensures survives { Survives (state_of self.old) (state_of self.new) (λ _. ⊥) }
         ensures counts { faults_of self.new ≡ faults_of self.old }
     {
-        self.begun = self.begun.and(&self.conn);
         ask_within(&mut self.conn, question)
     }
 
     // Reads the tree, where no call has read it yet.
     pub(crate) fn load(&mut self) -> Result<(), StoreFault>
         ensures answer { Asks HasKeptTables HasHonestDisk self.old self.new
-            (self.new.last.values ≡ self.old.last.values) }
+            (self.new.last.value ≡ self.old.last.value) }
         ensures sure { NeverForeign self.old self.new result }
         ensures some { OnOk result (is_some self.new.family ≡ true) }
-        ensures last { self.new.last.values ≡ self.old.last.values }
+        ensures last { self.new.last.value ≡ self.old.last.value }
         ensures survives { Survives (state_of self.old) (state_of self.new) (λ _. ⊥) }
         ensures counts { faults_of self.new ≡ faults_of self.old }
     {
@@ -57,11 +56,11 @@ impl<S: Alter> TableDesk<S> {
     // Whether the marks of a change's images stand already.
     fn ask_stay(&mut self, change: &Change) -> Result<bool, StoreFault>
         ensures answer { Asks HasKeptTables HasHonestDisk self.old self.new
-            (self.new.last.values ≡ self.old.last.values) }
+            (self.new.last.value ≡ self.old.last.value) }
         ensures sure { NeverForeign self.old self.new result }
         ensures stay { HasKeptTables self.new → HasHonestDisk self.new →
             IfOk result (λ stay. stay ≡ all_stay (content_shown self.new) change.now.images) }
-        ensures last { self.new.last.values ≡ self.old.last.values }
+        ensures last { self.new.last.value ≡ self.old.last.value }
         ensures family { self.new.family ≡ self.old.family }
         ensures survives { Survives (state_of self.old) (state_of self.new) (λ _. ⊥) }
         ensures counts { faults_of self.new ≡ faults_of self.old }
@@ -76,11 +75,11 @@ impl<S: Alter> TableDesk<S> {
     // Reads the tree, where no call has read it yet and a mark changes.
     pub(crate) fn load_for(&mut self, change: &Change) -> Result<(), StoreFault>
         ensures answer { Asks HasKeptTables HasHonestDisk self.old self.new
-            (self.new.last.values ≡ self.old.last.values) }
+            (self.new.last.value ≡ self.old.last.value) }
         ensures sure { NeverForeign self.old self.new result }
         ensures tree { HasKeptTables self.new → HasHonestDisk self.new →
             OnOk result (HasTree self.new.family (content_shown self.new) change.now) }
-        ensures last { self.new.last.values ≡ self.old.last.values }
+        ensures last { self.new.last.value ≡ self.old.last.value }
         ensures survives { Survives (state_of self.old) (state_of self.new) (λ _. ⊥) }
         ensures counts { faults_of self.new ≡ faults_of self.old }
     {
@@ -97,12 +96,12 @@ impl<S: Alter> TableDesk<S> {
     // Reads the tree for the change of a line, if there is one.
     pub(crate) fn load_for_line(&mut self, change: Option<&Change>) -> Result<(), StoreFault>
         ensures answer { Asks HasKeptTables HasHonestDisk self.old self.new
-            (self.new.last.values ≡ self.old.last.values) }
+            (self.new.last.value ≡ self.old.last.value) }
         ensures sure { NeverForeign self.old self.new result }
         ensures tree { HasKeptTables self.new → HasHonestDisk self.new →
             OnOk result (HasTreeIfAny self.new.family (content_shown self.new)
             (option_copied change.entry)) }
-        ensures last { self.new.last.values ≡ self.old.last.values }
+        ensures last { self.new.last.value ≡ self.old.last.value }
         ensures survives { Survives (state_of self.old) (state_of self.new) (λ _. ⊥) }
         ensures counts { faults_of self.new ≡ faults_of self.old }
     {
@@ -122,11 +121,10 @@ impl<S: Alter> TableDesk<S> {
         ensures answer { IsAnswered self.old self.new result
             (IsOpenHead (desk_of self.old) image.now) }
         ensures sure { NeverForeign self.old self.new result }
-        ensures last { self.new.last.values ≡ self.old.last.values }
+        ensures last { self.new.last.value ≡ self.old.last.value }
         ensures survives { Survives (state_of self.old) (state_of self.new) (λ _. ⊥) }
         ensures counts { faults_of self.new ≡ faults_of self.old }
     {
-        self.begun = self.begun.and(&self.conn);
         match &self.family {
             Some(family) => ask_within(&mut self.conn, &OpenHead { family, image }),
             None => Err(StoreFault::Foreign),
@@ -141,7 +139,7 @@ impl<S: Alter> TableDesk<S> {
         ensures answer { IsAnswered self.old self.new result
             (IsOpenHead (desk_of self.old) image.now) }
         ensures sure { NeverForeign self.old self.new result }
-        ensures last { self.new.last.values ≡ self.old.last.values }
+        ensures last { self.new.last.value ≡ self.old.last.value }
         ensures survives { Survives (state_of self.old) (state_of self.new) (λ _. ⊥) }
         ensures counts { faults_of self.new ≡ faults_of self.old }
     {

@@ -14,7 +14,7 @@ ghost use Rattle.desk_store.specs.Kept.{none_kept};
 ghost use Rattle.desk_store.specs.Store.{no_faults};
 ghost use Rattle.desk_tables.specs.Desk.{connection_of, state_of, content_shown, desk_of};
 ghost use Rattle.desk_tables.specs.Desk.{keeping_of, faults_of, HasHonestDisk, HasKeptTables};
-ghost use Rattle.desk_tables.specs.Kept.{content_seen, IsIdle};
+ghost use Rattle.desk_tables.specs.Kept.{IsIdle};
 ghost use Rattle.desk_tables.specs.Opening.{unlimited, IsLeft, IsStoreFailure, IsReason};
 ghost use Rattle.desk_tables.specs.Opening.{SaysEarlier, SaysDesk};
 ghost use Rattle.desk_tables.specs.Shown.{HasContent, HasContentUnder, HoldsContent, AreTablesOf};
@@ -24,11 +24,11 @@ ghost use Rattle.desk_tables.specs.declared.open_fault.OpenFault.TheVariants as 
 use crate::calls::{ask_schema, carry_desk, make_desk};
 use crate::desk::TableDesk;
 use crate::open_fault::OpenFault;
-use crate::seen::Seen;
 use bug_record::StoreFault;
 use desk_migrations::{NEWEST, SchemaRead, is_blank, names_a_desk_table};
 use sqlite::{Alter, Connection};
 use std::alloc::Global;
+use std::snapshot::Snapshot;
 
 // Makes the tables of a new desk, unless there are tables.
 fn create_tables<S: Alter>(conn: &mut Connection<S>, first: u32) -> Result<(), OpenFault>
@@ -65,17 +65,17 @@ fn recognise<S: Alter>(conn: &mut Connection<S>) -> Result<u64, OpenFault>
 
 // Recognises a desk, and carries it over where it is kept under an earlier schema.
 // The answer remembers the connection that showed its content under the newest.
-fn find_desk<S: Alter>(conn: &mut Connection<S>) -> Result<Seen<Connection<S>>, OpenFault>
+fn find_desk<S: Alter>(conn: &mut Connection<S>) -> Result<Snapshot<Connection<S>>, OpenFault>
     requires idle { IsIdle conn.old }
     ensures idle { IsIdle conn.new }
-    ensures found { IsFound (λ last. content_seen S.Store last.values) (state S.Store conn.old)
+    ensures found { IsFound (λ last. state S.Store last.value) (state S.Store conn.old)
         (state S.Store conn.new) result }
 {
-    let last = Seen::new().and(conn);
+    let last = Snapshot::of(conn);
     match recognise(conn) {
         Ok(from) if from == NEWEST => Ok(last),
         Ok(from) => match carry_desk(conn, from) {
-            Ok(()) => Ok(Seen::new().and(conn)),
+            Ok(()) => Ok(Snapshot::of(conn)),
             Err(fault) => Err(OpenFault::Store(fault)),
         },
         Err(fault) => Err(fault),
@@ -121,7 +121,7 @@ impl<S: Alter> TableDesk<S> {
         conn.set_step_limit(None);
         match create_tables(&mut conn, first as u32) {
             Ok(()) => {
-                let last = Seen::new().and(&conn);
+                let last = Snapshot::of(&conn);
                 Ok(TableDesk::found(alloc, conn, last))
             }
             Err(fault) => Err((fault, conn)),

@@ -6,11 +6,11 @@ use Rattle.desk_tables.proofs.desk.TableDesk.ask_stay.Goals as goal
 
 pub returns-clause-answer : goal.returns-clause-answer
 returns-clause-answer g c =
-    let asked = c.ask.ensures.answer in
-    record { holds = record { honest = asked.holds.honest; kept = asked.holds.kept; fact = λ was clean. c.ask.ensures.last }; was_kept = asked.was_kept }
+    let did = c.ask.ensures in
+    record { holds = record { honest = did.answer.holds.honest; kept = did.answer.holds.kept; fact = λ was clean. did.last }; was_kept = did.answer.was_kept }
 
 pub returns-clause-stay : goal.returns-clause-stay
 returns-clause-stay g c = λ now clean.
-    let asked = c.ask.ensures.answer in
-    subst (λ l. IfOk c.ask.result (λ stay. stay ≡ all_stay (content_seen g.S.Store l) c.args.change.now.images)) (sym c.ask.ensures.last)
-    (answered _ _ c.ask.result _ (asked.holds.fact (asked.was_kept now clean) clean))
+    let did = c.ask.ensures in
+    subst (λ h. IfOk c.ask.result (λ stay. stay ≡ all_stay (content_seen g.S.Store h) c.args.change.now.images)) (sym did.last)
+    (answered _ _ c.ask.result _ (did.answer.holds.fact (did.answer.was_kept now clean) clean))
