@@ -19,6 +19,7 @@ use Rattle.desk_content.specs.Content.{Content}
 use Rattle.desk_migrations.specs.History.{schema_at}
 use Rattle.desk_migrations.specs.Making.{AreUnder}
 use Rattle.desk_migrations.specs.declared.history.TheConstants.{NEWEST}
+use Rattle.desk_tables.proofs.KeptLemmas.{kept_shows}
 use Rattle.desk_tables.proofs.HeldLemmas.{shows_newest}
 use Rattle.desk_tables.specs.Files.{HoldDesk, HoldCopy, IsFoundIn}
 use Rattle.desk_tables.specs.Shown.{IsDeskUnder, AreTablesUnder, HoldTables}
@@ -42,7 +43,7 @@ module _ {D : Type 0} {g : Ghosts D} (d : TableDesk (FileStore D g) over_files) 
   tables honest served kept = (
     NEWEST,
     committed_under NEWEST (content_in_file d) (file_state d.conn)
-        (shows_newest (content_in_file d) (file_state d.conn) kept.now honest served),
+        (shows_newest (content_in_file d) (file_state d.conn) (kept_shows d kept) honest served),
   )
 
   copy : HasHonestFile d → IsTrue (file_state d.conn).is_open → IsKeptInFile d → (image : Image)

@@ -20,7 +20,7 @@ use Rattle.desk_content.specs.Content.{Content}
 use Rattle.desk_content.specs.View.{desk_in, keeping_in}
 use Rattle.desk_store.specs.Kept.{Keeping, none_kept}
 use Rattle.desk_tables.specs.Files.{HoldDesk}
-use Rattle.desk_tables.specs.Kept.{desk_seen, keeping_seen, IsKept}
+use Rattle.desk_tables.specs.Desk.{desk_of, keeping_of, HasKeptTables}
 use Rattle.desk_tables.specs.declared.desk.TableDesk.{TableDesk}
 use Rattle.bts_jobs.specs.declared.ending.Cause.{Cause}
 use Rattle.bts_jobs.specs.declared.ending.Cause.TheVariants.{Store, NoFile, InUse, NotADesk, NewerSchema, NotEmpty, CannotOpen}
@@ -53,15 +53,15 @@ module _ {S : Type 0} (start : Ghosts S) where
 module _ {D : Type 0} {g : disk.Ghosts D} where
   -- the content
   abbrev pub desk_in_file : TableDesk (FileStore D g) over_files → Desk
-  desk_in_file d = desk_seen over_files d.last.values
+  desk_in_file d = desk_of d
 
   -- what is kept of messages that have an id
   abbrev pub keeping_in_file : TableDesk (FileStore D g) over_files → Keeping
-  keeping_in_file d = keeping_seen over_files d.last.values
+  keeping_in_file d = keeping_of d
 
   -- the tables are kept
   abbrev pub IsKeptInFile : TableDesk (FileStore D g) over_files → Type 0
-  IsKeptInFile d = IsKept over_files d.last.values d.begun.values d.conn d.family
+  IsKeptInFile d = HasKeptTables d
 
   -- so far the disk has returned what was written, and, at first, what the files held
   abbrev pub HasHonestFile : TableDesk (FileStore D g) over_files → Type 0

@@ -15,7 +15,7 @@ use Rattle.sqlite_trees.specs.View.{IsClean}
 use Rattle.sqlite_wal.specs.Reads.{AreClean}
 use Rattle.desk_content.specs.Content.{Content}
 use Rattle.desk_tables.specs.Files.{LeaveDesk}
-use Rattle.desk_tables.specs.Kept.{content_seen}
+use Rattle.desk_tables.specs.Desk.{content_shown}
 use Rattle.desk_tables.specs.Shown.{HoldTables}
 use Rattle.desk_tables.specs.declared.desk.TableDesk.{TableDesk}
 use Rattle.bts_jobs.specs.InFile.{FileDesk, host, file_disk, desk_in_file, keeping_in_file, IsKeptInFile, HasHonestFile}
@@ -25,7 +25,7 @@ use Rattle.bts_jobs.specs.declared.left.LeftFiles.TheVariants.{Nothing, Copied, 
 module _ {D : Type 0} {g : disk.Ghosts D} where
   -- what a desk's tables say, of which `desk_in_file` and `keeping_in_file` are
   abbrev pub content_in_file : TableDesk (FileStore D g) over_files → Content
-  content_in_file d = content_seen over_files d.last.values
+  content_in_file d = content_shown d
 
   -- The desk's log was copied into its file: the two hold the desk, also after a crash.
   pub record AreCopied (d : TableDesk (FileStore D g) over_files) (files : Files D) : Type 0 where

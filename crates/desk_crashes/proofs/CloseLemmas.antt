@@ -15,7 +15,7 @@ use Rattle.desk_store.specs.Kept.{Keeping}
 use Rattle.desk_content.specs.Content.{Content}
 use Rattle.desk_content.specs.View.{desk_in, keeping_in}
 use Rattle.desk_tables.specs.Files.{HoldDesk, LeaveDesk}
-use Rattle.desk_tables.specs.Kept.{content_seen, desk_seen, keeping_seen}
+use Rattle.desk_tables.specs.Desk.{content_shown, desk_of, keeping_of}
 use Rattle.desk_tables.specs.Shown.{AreTablesOf, HoldTables}
 use Rattle.desk_tables.specs.declared.desk.TableDesk.{TableDesk}
 use Rattle.desk_tables.proofs.FileLemmas.{found_trees}
@@ -46,7 +46,7 @@ module _ {D : Type 0} {g : Ghosts D} where
   -- ---- a desk that is closed
 
   abbrev content : TableDesk (FileStore D g) over_files → Content
-  content t = content_seen over_files t.last.values
+  content t = content_shown t
 
   -- where closing failed, a crash leaves the desk that was settled
   pub failed_leaves : (old : TableDesk (FileStore D g) over_files) (conn : Held (FileStore D g)) (last : FileStore D g) → conn ≡ old.conn → IsClosed conn last
@@ -58,7 +58,7 @@ module _ {D : Type 0} {g : Ghosts D} where
   module _ (o : Option (TableDesk (FileStore D g) over_files)) (old : TableDesk (FileStore D g) over_files) (files : Files D)
       (left : AreClean g files.log files.db → HasKeptTables over_files old → LeaveDesk g files (content old)) where
     abbrev IsAgain : Option (TableDesk (FileStore D g) over_files) → Type 0
-    IsAgain o = IfSome o (λ again. HasHonestDisk over_files again → HasKeptTables over_files old → IsSettled over_files (desk_seen over_files old.last.values) (keeping_seen over_files old.last.values) again)
+    IsAgain o = IfSome o (λ again. HasHonestDisk over_files again → HasKeptTables over_files old → IsSettled over_files (desk_of old) (keeping_of old) again)
 
     -- it is opened again
     pub closed_then : IfSome o (λ again. HasHonestDisk over_files again → AreClean g files.log files.db) → FindsDesk o files → IsAgain o

@@ -29,7 +29,7 @@ use Rattle.desk_run.proofs.OneLemmas.{took_one}
 use Rattle.desk_store.specs.Store.{Holds, Applies, Branches, Keeps, MayBeKept, with_change}
 use Rattle.desk_store.proofs.HoldsLemmas.{holds_none}
 use Rattle.desk_store.proofs.KeepLemmas.{kept_also-good}
-use Rattle.desk_tables.specs.Kept.{content_seen, desk_seen, keeping_seen, MayKeep}
+use Rattle.desk_tables.specs.Desk.{content_shown, desk_of, keeping_of, MayKeep}
 use Rattle.desk_tables.specs.Shown.{AreTablesOf, AreTablesAfter}
 use Rattle.desk_tables.specs.declared.desk.TableDesk.{TableDesk}
 use Rattle.desk_tables.proofs.KeepLemmas.{changed_desk}
@@ -40,13 +40,13 @@ module _ {S : Type 0} (g : store.Ghosts S) where
   -- the crash left what the old desk's could have left
   pub settled_again : (d : Desk) (k : Keeping) (db : Trees) (old again : TableDesk S g) → IsOpenedOver g db again → (state g old.conn).may_leave db → IsSettled g d k old → IsSettled g d k again
   settled_again d k db old again opened may was =
-      let c = content_seen g old.last.values in
+      let c = content_shown old in
       let tables : AreTablesOf c db = subst (AreTablesOf c) (sym (was.left db may)) was.tables in
       settled_as g again (desk_in c) d (keeping_in c) k was.desk was.keeping (opened_newest g db again opened c tables was.kept.content)
 
   module _ (d : Desk) (k : Keeping) (db : Trees) (old new again : TableDesk S g) (opened : IsOpenedOver g db again) (was : IsSettled g d k old) (clean : HasHonestDisk g new) (may : (state g new.conn).may_leave db) where
     abbrev c : Content
-    c = content_seen g old.last.values
+    c = content_shown old
 
     -- ---- a call that may have failed
 
@@ -80,7 +80,7 @@ module _ {S : Type 0} (g : store.Ghosts S) where
     -- it left that, or the outcome with its change
     pub either_after_keep : (id sender message : List ℕ) (outcome : Outcome) (change : Option Change)
         → Survives (state g old.conn) (state g new.conn) (AreTablesOf (kept_after id sender message outcome change c)) → IfGiven (FitsContent c) change → IsText sender
-        → MayKeep g old.last.values id sender message outcome change
+        → MayKeep old id sender message outcome change
         → IsSettled g d k again ⊎ IsSettled g (with_change change d) (kept_also id sender message outcome k) again
     either_after_keep id sender message outcome change survives fits text may_keep = elim (survives.crash clean db may) [
       | inl before ↦ inl (settled_again d k db old again opened before was)
@@ -95,38 +95,38 @@ module _ {S : Type 0} (g : store.Ghosts S) where
 
     -- what may be kept here may be kept over what was seen
     pub may_here : (id sender message : List ℕ) (outcome : Outcome) (change : Option Change) → MayBeKept id sender message k d outcome change
-        → MayKeep g old.last.values id sender message outcome change
+        → MayKeep old id sender message outcome change
     may_here id sender message outcome change it =
-        subst (λ (x : Desk). MayBeKept id sender message (keeping_seen g old.last.values) x outcome change) (sym was.desk)
+        subst (λ (x : Desk). MayBeKept id sender message (keeping_of old) x outcome change) (sym was.desk)
         (subst (λ (x : Keeping). MayBeKept id sender message x d outcome change) (sym was.keeping) it)
 
     -- ---- a call that was answered, and left a connection that serves
 
     module _ (settles : Settles g) (kept : HasKeptTables g new) (served : IsTrue (state g new.conn).is_open) where
-      new_again : IsSettled g (desk_seen g new.last.values) (keeping_seen g new.last.values) again
-      new_again = settled_again (desk_seen g new.last.values) (keeping_seen g new.last.values) db new again opened may (serving_settled g settles new kept clean served)
+      new_again : IsSettled g (desk_of new) (keeping_of new) again
+      new_again = settled_again (desk_of new) (keeping_of new) db new again opened may (serving_settled g settles new kept clean served)
 
-      pub after_change : (change : Change) → desk_seen g new.last.values ≡ put (desk_seen g old.last.values) change → keeping_seen g new.last.values ≡ keeping_seen g old.last.values
+      pub after_change : (change : Change) → desk_of new ≡ put (desk_of old) change → keeping_of new ≡ keeping_of old
           → IsSettled g (put d change) k again
       after_change change is stays =
-          settled_as g again (desk_seen g new.last.values) (put d change) (keeping_seen g new.last.values) k (is ∙ ap (λ (x : Desk). put x change) was.desk) (stays ∙ was.keeping) new_again
+          settled_as g again (desk_of new) (put d change) (keeping_of new) k (is ∙ ap (λ (x : Desk). put x change) was.desk) (stays ∙ was.keeping) new_again
 
-      pub after_branch : (nodes : List Node) → branched (desk_seen g old.last.values).tree nodes ≡ Ok (desk_seen g new.last.values).tree
-          → desk_seen g new.last.values ≡ record (desk_seen g old.last.values) { tree = (desk_seen g new.last.values).tree }
-          → keeping_seen g new.last.values ≡ keeping_seen g old.last.values → HasTakenBranch g d k nodes again
+      pub after_branch : (nodes : List Node) → branched (desk_of old).tree nodes ≡ Ok (desk_of new).tree
+          → desk_of new ≡ record (desk_of old) { tree = (desk_of new).tree }
+          → keeping_of new ≡ keeping_of old → HasTakenBranch g d k nodes again
       after_branch nodes is same stays = record {
-        ancestry = (desk_seen g new.last.values).tree;
-        taken = subst (λ (x : Desk). branched x.tree nodes ≡ Ok (desk_seen g new.last.values).tree) was.desk is;
-        settled = settled_as g again (desk_seen g new.last.values) (record d { tree = (desk_seen g new.last.values).tree }) (keeping_seen g new.last.values) k
-            (same ∙ ap (λ (x : Desk). let y : Desk = record x { tree = (desk_seen g new.last.values).tree } in y) was.desk) (stays ∙ was.keeping) new_again;
+        ancestry = (desk_of new).tree;
+        taken = subst (λ (x : Desk). branched x.tree nodes ≡ Ok (desk_of new).tree) was.desk is;
+        settled = settled_as g again (desk_of new) (record d { tree = (desk_of new).tree }) (keeping_of new) k
+            (same ∙ ap (λ (x : Desk). let y : Desk = record x { tree = (desk_of new).tree } in y) was.desk) (stays ∙ was.keeping) new_again;
       }
 
       pub after_keep : (id sender message : List ℕ) (outcome : Outcome) (change : Option Change)
-          → desk_seen g new.last.values ≡ with_change change (desk_seen g old.last.values)
-          → keeping_seen g new.last.values ≡ kept_also id sender message outcome (keeping_seen g old.last.values)
+          → desk_of new ≡ with_change change (desk_of old)
+          → keeping_of new ≡ kept_also id sender message outcome (keeping_of old)
           → IsSettled g (with_change change d) (kept_also id sender message outcome k) again
       after_keep id sender message outcome change is also =
-          settled_as g again (desk_seen g new.last.values) (with_change change d) (keeping_seen g new.last.values) (kept_also id sender message outcome k)
+          settled_as g again (desk_of new) (with_change change d) (keeping_of new) (kept_also id sender message outcome k)
           (is ∙ ap (with_change change) was.desk) (also ∙ ap (kept_also id sender message outcome) was.keeping) new_again
 
   -- ---- what is opened, if it is
@@ -157,7 +157,7 @@ module _ {S : Type 0} (g : store.Ghosts S) where
 
   module _ (old new : TableDesk S g) (o : Option (TableDesk S g)) (left : IsLeft new o) (honest : IfSome o (λ again. HasHonestDisk g again → HasHonestDisk g new)) where
     abbrev before : Content
-    before = content_seen g old.last.values
+    before = content_shown old
 
     pub either_change : (change : Change) → (HasKeptTables g old → Survives (state g old.conn) (state g new.conn) (AreTablesOf (changed before change)))
         → (HasHonestDisk g new → HasHonestDisk g old) → (HasKeptTables g old → HasHonestDisk g old → FitsContent before change)
@@ -184,7 +184,7 @@ module _ {S : Type 0} (g : store.Ghosts S) where
             either_after_branch d k l.0 old new again l.2 was (honest h) l.1 nodes (crash was.kept)
 
     pub either_keep : (id sender message : List ℕ) (outcome : Outcome) (change : Option Change)
-        → (MayKeep g old.last.values id sender message outcome change → HasKeptTables g old → Survives (state g old.conn) (state g new.conn) (AreTablesOf (kept_after id sender message outcome change before)))
+        → (MayKeep old id sender message outcome change → HasKeptTables g old → Survives (state g old.conn) (state g new.conn) (AreTablesOf (kept_after id sender message outcome change before)))
         → (HasHonestDisk g new → HasHonestDisk g old) → (HasKeptTables g old → HasHonestDisk g old → IfGiven (FitsContent before) change) → IsText sender
         → IfSome o (λ again. HasHonestDisk g again → (d : Desk) (k : Keeping) → IsSettled g d k old → MayBeKept id sender message k d outcome change
         → IsSettled g d k again ⊎ IsSettled g (with_change change d) (kept_also id sender message outcome k) again)
@@ -202,15 +202,15 @@ module _ {S : Type 0} (g : store.Ghosts S) where
 
     module _ (settles : Settles g) where
       pub done_change : (change : Change) (r : Result (Unit {0}) StoreFault)
-          → Holds (HasKeptTables g) (HasHonestDisk g) old new (Applies (desk_seen g old.last.values) (desk_seen g new.last.values) r change)
-          → Holds (HasKeptTables g) (HasHonestDisk g) old new (keeping_seen g new.last.values ≡ keeping_seen g old.last.values)
+          → Holds (HasKeptTables g) (HasHonestDisk g) old new (Applies (desk_of old) (desk_of new) r change)
+          → Holds (HasKeptTables g) (HasHonestDisk g) old new (keeping_of new ≡ keeping_of old)
           → (HasKeptTables g old → HasHonestDisk g new → OnOk r (IsTrue (state g new.conn).is_open))
           → IfSome o (λ again. HasHonestDisk g again → IsOk r → (d : Desk) (k : Keeping) → IsSettled g d k old → IsSettled g (put d change) k again)
       done_change change r answer stays serves = on o r left honest answer stays serves
         where
           on : (o : Option (TableDesk S g)) (r : Result (Unit {0}) StoreFault) → IsLeft new o → IfSome o (λ again. HasHonestDisk g again → HasHonestDisk g new)
-              → Holds (HasKeptTables g) (HasHonestDisk g) old new (Applies (desk_seen g old.last.values) (desk_seen g new.last.values) r change)
-              → Holds (HasKeptTables g) (HasHonestDisk g) old new (keeping_seen g new.last.values ≡ keeping_seen g old.last.values)
+              → Holds (HasKeptTables g) (HasHonestDisk g) old new (Applies (desk_of old) (desk_of new) r change)
+              → Holds (HasKeptTables g) (HasHonestDisk g) old new (keeping_of new ≡ keeping_of old)
               → (HasKeptTables g old → HasHonestDisk g new → OnOk r (IsTrue (state g new.conn).is_open))
               → IfSome o (λ again. HasHonestDisk g again → IsOk r → (d : Desk) (k : Keeping) → IsSettled g d k old → IsSettled g (put d change) k again)
           on None r left honest answer stays serves = tt
@@ -221,15 +221,15 @@ module _ {S : Type 0} (g : store.Ghosts S) where
               after_change d k l.0 old new again l.2 was clean l.1 settles (answer.kept was.kept clean) (serves was.kept clean) change (answer.fact was.kept clean) (stays.fact was.kept clean)
 
       pub done_branch : (nodes : List Node) (r : Result (Result (Unit {0}) BranchFault) StoreFault)
-          → Holds (HasKeptTables g) (HasHonestDisk g) old new (Branches (desk_seen g old.last.values) (desk_seen g new.last.values) r nodes)
-          → Holds (HasKeptTables g) (HasHonestDisk g) old new (keeping_seen g new.last.values ≡ keeping_seen g old.last.values)
+          → Holds (HasKeptTables g) (HasHonestDisk g) old new (Branches (desk_of old) (desk_of new) r nodes)
+          → Holds (HasKeptTables g) (HasHonestDisk g) old new (keeping_of new ≡ keeping_of old)
           → (HasKeptTables g old → HasHonestDisk g new → IfOk r (λ taken. OnOk taken (IsTrue (state g new.conn).is_open)))
           → IfSome o (λ again. HasHonestDisk g again → IfOk r (λ taken. IsOk taken → (d : Desk) (k : Keeping) → IsSettled g d k old → HasTakenBranch g d k nodes again))
       done_branch nodes r answer stays serves = on o r left honest answer stays serves
         where
           on : (o : Option (TableDesk S g)) (r : Result (Result (Unit {0}) BranchFault) StoreFault) → IsLeft new o → IfSome o (λ again. HasHonestDisk g again → HasHonestDisk g new)
-              → Holds (HasKeptTables g) (HasHonestDisk g) old new (Branches (desk_seen g old.last.values) (desk_seen g new.last.values) r nodes)
-              → Holds (HasKeptTables g) (HasHonestDisk g) old new (keeping_seen g new.last.values ≡ keeping_seen g old.last.values)
+              → Holds (HasKeptTables g) (HasHonestDisk g) old new (Branches (desk_of old) (desk_of new) r nodes)
+              → Holds (HasKeptTables g) (HasHonestDisk g) old new (keeping_of new ≡ keeping_of old)
               → (HasKeptTables g old → HasHonestDisk g new → IfOk r (λ taken. OnOk taken (IsTrue (state g new.conn).is_open)))
               → IfSome o (λ again. HasHonestDisk g again → IfOk r (λ taken. IsOk taken → (d : Desk) (k : Keeping) → IsSettled g d k old → HasTakenBranch g d k nodes again))
           on None r left honest answer stays serves = tt
@@ -242,19 +242,19 @@ module _ {S : Type 0} (g : store.Ghosts S) where
               after_branch d k l.0 old new again l.2 was clean l.1 settles (answer.kept was.kept clean) (serves was.kept clean) nodes fact.0 fact.1 (stays.fact was.kept clean)
 
       pub done_keep : (id sender message : List ℕ) (outcome : Outcome) (change : Option Change) (r : Result (Unit {0}) StoreFault)
-          → ((earlier : TableDesk S g) → Holds (HasKeptTables g) (HasHonestDisk g) earlier old (MayKeep g old.last.values id sender message outcome change)
+          → ((earlier : TableDesk S g) → Holds (HasKeptTables g) (HasHonestDisk g) earlier old (MayKeep old id sender message outcome change)
           → Holds (HasKeptTables g) (HasHonestDisk g) earlier new
-          (Keeps id sender message outcome change (desk_seen g old.last.values) (keeping_seen g old.last.values) r (desk_seen g new.last.values) (keeping_seen g new.last.values)))
-          → (MayKeep g old.last.values id sender message outcome change → HasKeptTables g old → HasHonestDisk g new → OnOk r (IsTrue (state g new.conn).is_open))
+          (Keeps id sender message outcome change (desk_of old) (keeping_of old) r (desk_of new) (keeping_of new)))
+          → (MayKeep old id sender message outcome change → HasKeptTables g old → HasHonestDisk g new → OnOk r (IsTrue (state g new.conn).is_open))
           → IfSome o (λ again. HasHonestDisk g again → IsOk r → (d : Desk) (k : Keeping) → IsSettled g d k old → MayBeKept id sender message k d outcome change
           → IsSettled g (with_change change d) (kept_also id sender message outcome k) again)
       done_keep id sender message outcome change r answer serves = on o r left honest answer serves
         where
           on : (o : Option (TableDesk S g)) (r : Result (Unit {0}) StoreFault) → IsLeft new o → IfSome o (λ again. HasHonestDisk g again → HasHonestDisk g new)
-              → ((earlier : TableDesk S g) → Holds (HasKeptTables g) (HasHonestDisk g) earlier old (MayKeep g old.last.values id sender message outcome change)
+              → ((earlier : TableDesk S g) → Holds (HasKeptTables g) (HasHonestDisk g) earlier old (MayKeep old id sender message outcome change)
               → Holds (HasKeptTables g) (HasHonestDisk g) earlier new
-              (Keeps id sender message outcome change (desk_seen g old.last.values) (keeping_seen g old.last.values) r (desk_seen g new.last.values) (keeping_seen g new.last.values)))
-              → (MayKeep g old.last.values id sender message outcome change → HasKeptTables g old → HasHonestDisk g new → OnOk r (IsTrue (state g new.conn).is_open))
+              (Keeps id sender message outcome change (desk_of old) (keeping_of old) r (desk_of new) (keeping_of new)))
+              → (MayKeep old id sender message outcome change → HasKeptTables g old → HasHonestDisk g new → OnOk r (IsTrue (state g new.conn).is_open))
               → IfSome o (λ again. HasHonestDisk g again → IsOk r → (d : Desk) (k : Keeping) → IsSettled g d k old → MayBeKept id sender message k d outcome change
               → IsSettled g (with_change change d) (kept_also id sender message outcome k) again)
           on None r left honest answer serves = tt

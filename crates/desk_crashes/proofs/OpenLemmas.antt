@@ -13,10 +13,11 @@ use Rattle.desk_content.specs.Content.{Content}
 use Rattle.desk_migrations.specs.declared.history.TheConstants.{NEWEST}
 use Rattle.desk_content.specs.Kept.{IsKeptContent}
 use Rattle.desk_content.specs.View.{desk_in, keeping_in}
-use Rattle.desk_tables.specs.Kept.{content_seen, desk_seen, keeping_seen}
+use Rattle.desk_tables.specs.Desk.{content_shown, desk_of, keeping_of}
 use Rattle.desk_tables.specs.Opening.{unlimited}
 use Rattle.desk_tables.specs.Shown.{HasContentUnder, HoldsContent, AreTablesOf, AreTablesUnder, HoldTables}
 use Rattle.desk_tables.specs.declared.desk.TableDesk.{TableDesk}
+use Rattle.desk_tables.proofs.KeptLemmas.{kept_shows}
 use Rattle.desk_tables.proofs.HeldLemmas.{shows_tables, committed_tables, are_newest, newest_held, of_newest}
 use Rattle.desk_crashes.specs.Settled.{HasHonestDisk, HasKeptTables, HoldTablesFrom, IsSettled, IsOpenedOver}
 
@@ -30,13 +31,13 @@ module _ {S : Type 0} (g : store.Ghosts S) where
   settled_as t d e k l same alike it = subst (λ (x : Desk). IsSettled g x l t) same (subst (λ (x : Keeping). IsSettled g d x t) alike it)
 
   -- a desk that serves is settled
-  pub serving_settled : Settles g → (t : TableDesk S g) → HasKeptTables g t → HasHonestDisk g t → IsTrue (state g t.conn).is_open → IsSettled g (desk_seen g t.last.values) (keeping_seen g t.last.values) t
+  pub serving_settled : Settles g → (t : TableDesk S g) → HasKeptTables g t → HasHonestDisk g t → IsTrue (state g t.conn).is_open → IsSettled g (desk_of t) (keeping_of t) t
   serving_settled settles t kept honest served = record {
     kept = kept;
     desk = refl;
     keeping = refl;
     trees = (state g t.conn).committed.trees;
-    tables = committed_tables (state g t.conn) (content_seen g t.last.values) (kept.now honest served);
+    tables = committed_tables (state g t.conn) (content_shown t) (kept_shows t kept honest served);
     left = λ db may. settles t.conn.store db served may;
   }
 
@@ -65,12 +66,12 @@ module _ {S : Type 0} (g : store.Ghosts S) where
           | inr made ↦ (NEWEST, omega (arith, known), are_newest c db made.1)
         ]
 
-    module _ (t : TableDesk S g) (content : (c : Content) → HasHonestDisk g t → HoldsContent c (state g conn) → content_seen g t.last.values ≡ c)
+    module _ (t : TableDesk S g) (content : (c : Content) → HasHonestDisk g t → HoldsContent c (state g conn) → content_shown t ≡ c)
         (kept : (c : Content) → HasHonestDisk g t → HoldsContent c (state g conn) → IsKeptContent c → HasKeptTables g t)
         (serves : (k : ℕ) (c : Content) → HasHonestDisk g t → k < NEWEST → HasContentUnder k c (state g conn) → IsTrue (state g t.conn).is_open) (crashes : Crashes conn (state g t.conn))
       where
         -- the tables were under the newest schema: they are as they were
-        as_before : HasHonestDisk g t → (c : Content) → AreTablesUnder NEWEST c trees → HasKeptTables g t → content_seen g t.last.values ≡ c → IsSettled g (desk_in c) (keeping_in c) t
+        as_before : HasHonestDisk g t → (c : Content) → AreTablesUnder NEWEST c trees → HasKeptTables g t → content_shown t ≡ c → IsSettled g (desk_in c) (keeping_in c) t
         as_before honest c tables is_kept same = record {
           kept = is_kept;
           desk = ap desk_in same;
@@ -92,7 +93,7 @@ module _ {S : Type 0} (g : store.Ghosts S) where
             let known = tables.shown.known in
             elim (cases_eq k NEWEST) [
               | inl newest ↦ as_before honest c (subst (λ j. AreTablesUnder j c trees) newest tables) is_kept same
-              | inr other ↦ settled_as t (desk_seen g t.last.values) (desk_in c) (keeping_seen g t.last.values) (keeping_in c) (ap desk_in same) (ap keeping_in same)
+              | inr other ↦ settled_as t (desk_of t) (desk_in c) (keeping_of t) (keeping_in c) (ap desk_in same) (ap keeping_in same)
                   (serving_settled settles t is_kept honest (serves k c honest (omega (arith, known, other)) (shows k c tables)))
             ]
 

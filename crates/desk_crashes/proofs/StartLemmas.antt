@@ -11,7 +11,7 @@ use Rattle.bugs_in_memory.specs.Plain.{empty_desk}
 use Rattle.desk_store.specs.Kept.{Keeping, none_kept}
 use Rattle.desk_content.specs.Content.{Content, no_content}
 use Rattle.desk_content.proofs.NewLemmas.{new_kept}
-use Rattle.desk_tables.specs.Kept.{desk_seen, keeping_seen}
+use Rattle.desk_tables.specs.Desk.{desk_of, keeping_of}
 use Rattle.desk_tables.specs.Opening.{unlimited}
 use Rattle.desk_tables.specs.Shown.{AreTablesOf, AreTablesUnder}
 use Rattle.desk_tables.specs.declared.desk.TableDesk.{TableDesk}
@@ -27,7 +27,7 @@ module _ {S : Type 0} (g : store.Ghosts S) where
   -- it was created
   pub created_again : Settles g → (first : ℕ) (t : TableDesk S g) (o : Option (TableDesk S g))
       → (HasHonestDisk g t → IsTrue (state g t.conn).is_open) → (HasHonestDisk g t → HasKeptTables g t)
-      → (HasHonestDisk g t → desk_seen g t.last.values ≡ empty_desk first) → (HasHonestDisk g t → keeping_seen g t.last.values ≡ none_kept)
+      → (HasHonestDisk g t → desk_of t ≡ empty_desk first) → (HasHonestDisk g t → keeping_of t ≡ none_kept)
       → IfSome o (λ again. HasHonestDisk g again → HasHonestDisk g t)
       → IfSome o (λ again. HasHonestDisk g again → (d : Desk) (k : Keeping) → IsSettled g d k t → IsSettled g d k again)
       → IfSome o (λ again. HasHonestDisk g again → IsSettled g (empty_desk first) none_kept again)
@@ -35,7 +35,7 @@ module _ {S : Type 0} (g : store.Ghosts S) where
   created_again settles first t (Some again) serves kept empty none honest settled = λ h.
       let clean = honest h in
       settled h (empty_desk first) none_kept
-      (settled_as g t (desk_seen g t.last.values) (empty_desk first) (keeping_seen g t.last.values) none_kept (empty clean) (none clean)
+      (settled_as g t (desk_of t) (empty_desk first) (keeping_of t) none_kept (empty clean) (none clean)
       (serving_settled g settles t (kept clean) clean (serves clean)))
 
   pub created_done : (Done : Type 0) (first : ℕ) (o : Option (TableDesk S g)) → IfSome o (λ again. HasHonestDisk g again → IsSettled g (empty_desk first) none_kept again)

@@ -11,7 +11,8 @@ use Rattle.bug_record.specs.Desk.{Desk}
 use Rattle.desk_content.specs.Content.{Content}
 use Rattle.desk_content.specs.Kept.{IsKeptContent}
 use Rattle.desk_content.specs.View.{desk_in, keeping_in}
-use Rattle.desk_tables.specs.Kept.{content_seen, desk_seen, keeping_seen, IsKept}
+use Rattle.desk_tables.specs.Desk.{content_shown, desk_of, keeping_of}
+use Rattle.desk_tables.specs.Kept.{IsKept}
 use Rattle.desk_tables.specs.Shown.{AreTablesOf, AreTablesUnder, HoldTables}
 use Rattle.bug_record.specs.declared.outcome.Outcome.{Outcome}
 use Rattle.desk_store.specs.Kept.{Keeping}
@@ -29,16 +30,16 @@ module _ {S : Type 0} (g : store.Ghosts S) where
 
   -- the tables are kept
   abbrev pub HasKeptTables : TableDesk S g → Type 0
-  HasKeptTables t = IsKept g t.last.values t.begun.values t.conn t.family
+  HasKeptTables t = IsKept g t.last.value t.family
 
   -- The tables are kept, and show this desk and what is kept of messages, and a crash at this
   -- moment leaves these tables and no others.
   pub record IsSettled (d : Desk) (k : Keeping) (t : TableDesk S g) : Type 0 where
     pub kept : HasKeptTables t
-    pub desk : desk_seen g t.last.values ≡ d
-    pub keeping : keeping_seen g t.last.values ≡ k
+    pub desk : desk_of t ≡ d
+    pub keeping : keeping_of t ≡ k
     pub trees : Trees
-    pub tables : AreTablesOf (content_seen g t.last.values) trees
+    pub tables : AreTablesOf (content_shown t) trees
     pub left : (db : Trees) → (state g t.conn).may_leave db → db ≡ trees
 
   -- A desk was opened over these trees: where they are the tables of a kept desk, under some schema

@@ -11,7 +11,7 @@ ghost use Rattle.bug_record.specs.Texts.{IsText, IfGiven};
 ghost use Rattle.line_words.specs.Ids.{IsId};
 ghost use Rattle.desk_store.specs.Kept.{Keeping, kept_also};
 ghost use Rattle.desk_store.specs.Store.{Since, MayBeKept, with_change};
-ghost use Rattle.desk_tables.specs.Kept.{desk_seen, MayKeep};
+ghost use Rattle.desk_tables.specs.Desk.{desk_of, MayKeep};
 ghost use Rattle.desk_crashes.specs.Settled.{HasHonestDisk, HasKeptTables, IsSettled, IsOpenedOver, HasTakenBranch, HasTakenLine};
 
 use crate::left::crash_and_find;
@@ -56,7 +56,7 @@ pub fn apply_and_crash<S: Alter + Reopen + Drop>(
     requires apart { HasKeptTables S.Store desk → HasHonestDisk S.Store desk → AreApart change.now.images }
     requires members { Each HasMember change.now.images }
     requires fits { HasKeptTables S.Store desk → HasHonestDisk S.Store desk →
-        FitsDesk (desk_seen S.Store desk.last.values) change.now }
+        FitsDesk (desk_of desk) change.now }
     ensures either { IfSome result.1 (λ again. HasHonestDisk S.Store again → (d : Desk) (k : Keeping) → IsSettled S.Store d k desk →
         IsSettled S.Store d k again ⊎ IsSettled S.Store (put d change.now) k again) }
     ensures done { IfSome result.1 (λ again. HasHonestDisk S.Store again → IsOk result.0 → (d : Desk) (k : Keeping) → IsSettled S.Store d k desk →
@@ -116,9 +116,9 @@ pub fn keep_and_crash<S: Alter + Reopen + Drop>(
     requires members { IfGiven (λ (c : Change). Each HasMember c.images) (option_copied change) }
     requires apart { HasKeptTables S.Store desk → HasHonestDisk S.Store desk → IfGiven (λ (c : Change). AreApart c.images) (option_copied change) }
     requires fits { HasKeptTables S.Store desk → HasHonestDisk S.Store desk →
-        IfGiven (FitsDesk (desk_seen S.Store desk.last.values)) (option_copied change) }
+        IfGiven (FitsDesk (desk_of desk)) (option_copied change) }
     requires next { Since (HasKeptTables S.Store) (HasHonestDisk S.Store) desk
-        (MayKeep S.Store desk.last.values id.now from.now message.now outcome.now (option_copied change)) }
+        (MayKeep desk id.now from.now message.now outcome.now (option_copied change)) }
     ensures either { IfSome result.1 (λ again. HasHonestDisk S.Store again → (d : Desk) (k : Keeping) → IsSettled S.Store d k desk →
         MayBeKept id.now from.now message.now k d outcome.now (option_copied change.entry) →
         IsSettled S.Store d k again ⊎ IsSettled S.Store (with_change (option_copied change.entry) d) (kept_also id.now from.now message.now outcome.now k) again) }

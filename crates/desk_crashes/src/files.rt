@@ -11,7 +11,7 @@ ghost use Rattle.desk_store.specs.Kept.{Keeping};
 ghost use Rattle.desk_content.specs.Content.{Content};
 ghost use Rattle.desk_content.specs.View.{desk_in, keeping_in};
 ghost use Rattle.desk_tables.specs.Files.{HoldDesk, LeaveDesk};
-ghost use Rattle.desk_tables.specs.Kept.{content_seen, desk_seen, keeping_seen};
+ghost use Rattle.desk_tables.specs.Desk.{content_shown, desk_of, keeping_of};
 ghost use Rattle.desk_tables.specs.Shown.{AreTablesOf};
 ghost use Rattle.desk_crashes.specs.Settled.{HasHonestDisk, HasKeptTables, IsSettled};
 
@@ -49,9 +49,9 @@ pub fn open_files<D: Disk + Drop>(
 pub fn close_files<D: Disk + Drop>(desk: TableDesk<FileStore<D>>) -> Result<Files<D>, FileStore<D>>
     ensures usable { IfOk result (λ files. IsTrue (D.Disk.is_usable files.log) × IsTrue (D.Disk.is_usable files.db)) }
     ensures left { IfOk result (λ files. AreClean D.Disk files.log files.db → HasKeptTables over_files desk →
-        LeaveDesk D.Disk files (content_seen over_files desk.last.values)) }
+        LeaveDesk D.Disk files (content_shown desk)) }
     ensures crash { IfErr result (λ store. (d : Desk) (k : Keeping) → IsSettled over_files d k desk → (db : Trees) → recovers store db →
-        AreTablesOf (content_seen over_files desk.last.values) db) }
+        AreTablesOf (content_shown desk) db) }
 {
     match desk.close().close_files() {
         Ok(files) => Ok(files),
@@ -67,7 +67,7 @@ pub fn close_and_open<D: Disk + Drop>(
     options: Options,
 ) -> Option<TableDesk<FileStore<D>>>
     ensures same { IfSome result (λ again. HasHonestDisk over_files again → HasKeptTables over_files desk →
-        IsSettled over_files (desk_seen over_files desk.last.values) (keeping_seen over_files desk.last.values) again) }
+        IsSettled over_files (desk_of desk) (keeping_of desk) again) }
 {
     match close_files(desk) {
         Ok(files) => open_files(alloc, files, options),
@@ -98,7 +98,7 @@ pub fn close_and_crash<D: Crash + Drop>(
     options: Options,
 ) -> Option<TableDesk<FileStore<D>>>
     ensures same { IfSome result (λ again. HasHonestDisk over_files again → HasKeptTables over_files desk →
-        IsSettled over_files (desk_seen over_files desk.last.values) (keeping_seen over_files desk.last.values) again) }
+        IsSettled over_files (desk_of desk) (keeping_of desk) again) }
 {
     match close_files(desk) {
         Ok(files) => open_files(alloc, crash_files(files), options),

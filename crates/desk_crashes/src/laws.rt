@@ -5,7 +5,7 @@ ghost use Rattle.sqlite.specs.Held.{state};
 ghost use Rattle.sqlite_wal.specs.Recovery.{Image};
 ghost use Rattle.desk_content.specs.Content.{Content};
 ghost use Rattle.desk_tables.specs.Files.{HoldDesk, LeaveDesk, IsFoundIn};
-ghost use Rattle.desk_tables.specs.Kept.{desk_seen, keeping_seen};
+ghost use Rattle.desk_tables.specs.Desk.{desk_of, keeping_of};
 ghost use Rattle.desk_crashes.specs.Settled.{HasHonestDisk, HasKeptTables, IsSettled};
 
 use desk_tables::TableDesk;
@@ -17,7 +17,7 @@ use sqlite_disk::Disk;
 /// So a new desk is settled, by the clauses of `TableDesk::create`.
 pub fn serving_desks_are_settled<S: Alter>(_desk: &TableDesk<S>)
     ensures { HasKeptTables S.Store _desk.now → HasHonestDisk S.Store _desk.now → IsTrue (state S.Store _desk.now.conn).is_open →
-        IsSettled S.Store (desk_seen S.Store _desk.now.last.values) (keeping_seen S.Store _desk.now.last.values) _desk.now }
+        IsSettled S.Store (desk_of _desk.now) (keeping_of _desk.now) _desk.now }
 {}
 
 /// What is left in two files is what the next open finds.

@@ -1,5 +1,5 @@
 -- What a branch comes to, and leaves of what is remembered.
-use Rattle.std.proofs.Common.{◌≡◌, ◌≢◌, List, [], ◌∷◌, None, Some, Result, Ok, Err, IsTrue, refl, sym, ap, subst, ◌∙◌}
+use Rattle.std.proofs.Common.{◌≡◌, ◌≢◌, List, Some, Result, Ok, Err, IsTrue, refl, sym, ap, subst, ◌∙◌}
 use Rattle.std.specs.Prelude.{⊤}
 use Rattle.sqlite.specs.Held.{Held, state}
 use Rattle.sqlite.specs.State.{State, HasCleanDisk, Survives}
@@ -18,11 +18,15 @@ use Rattle.desk_content.specs.Content.{Content}
 use Rattle.desk_content.specs.Kept.{IsKeptContent}
 use Rattle.desk_content.specs.View.{desk_in, keeping_in}
 use Rattle.desk_content.proofs.QuestionLemmas.{branch_kept}
+use Rattle.desk_schema.specs.Steps.{seen}
 use Rattle.desk_schema.proofs.StepLemmas.{none, acts_none}
 use Rattle.desk_store.specs.Store.{Branches, IsRefusal}
 use Rattle.desk_tables.specs.Kept.{content_seen, desk_seen, keeping_seen, IsKept}
-use Rattle.desk_tables.specs.Shown.{HasContent, AreTablesAfter}
+use Rattle.desk_tables.specs.Shown.{IsDesk, HasContent, AreTablesAfter}
+use Rattle.desk_tables.specs.Still.{StillShows}
+use Rattle.desk_tables.proofs.StillLemmas.{shows_now, still_same}
 use Rattle.desk_tables.specs.Transactions.{IsChanged, IsTaken}
+use Rattle.desk_tables.proofs.KeptLemmas.{content_is, noted_kept}
 
 abbrev pub Answer : Type 0
 Answer = Result (Result (Unit {0}) BranchFault) StoreFault
@@ -32,17 +36,17 @@ Answer = Result (Result (Unit {0}) BranchFault) StoreFault
 abbrev pub GrowsTo : Ancestry → List Node → Content → Type 0
 GrowsTo u changed c = IsKeptContent c × IsGrown c.nodes u changed
 
-stays : (s : State) → Survives s s (λ _. ⊥)
-stays s = (acts_none s none (λ _. ⊤) (λ c d a. ⊤) (λ c. tt)).survives
+survives_same : (s : State) → Survives s s (λ _. ⊥)
+survives_same s = (acts_none s none (λ _. ⊤) (λ c d a. ⊤) (λ c. tt)).survives
 
 -- nothing was done
 pub changed_none : (s : State) (fault : StoreFault) (Fits : Content → Type 0) (after : Content → Content) → fault ≢ Foreign → IsChanged s s (Err fault) Fits after
 changed_none s fault Fits after other = record {
   honest = λ clean. clean;
   ok = λ c clean shows fits. tt;
-  err = λ c shows. shows;
+  err = still_same s;
   sure = λ c clean shows fits. other;
-  crash = λ c both. survives_weaker s s _ _ (λ clean db none. absurd none) (stays s);
+  crash = λ c both. survives_weaker s s _ _ (λ clean db none. absurd none) (survives_same s);
 }
 
 pub changed_same : (old new : State) (r : Result (Unit {0}) StoreFault) (u : Ancestry) (changed changed' : List Node) → changed ≡ changed'
@@ -67,6 +71,7 @@ module _ (t u : Ancestry) (nodes changed : List Node) (old new : State) where
     honest = h.honest;
     answer = (is, tt);
     ok = λ c clean shows kept same. h.ok c clean shows (grows c grown kept same);
+    refused = λ c shows. tt;
     err = λ c shows. tt;
     sure = λ c clean shows kept same. tt;
     crash = crashes (Ok tt) is grown h;
@@ -77,6 +82,7 @@ module _ (t u : Ancestry) (nodes changed : List Node) (old new : State) where
     honest = h.honest;
     answer = tt;
     ok = λ c clean shows kept same. tt;
+    refused = λ c shows. tt;
     err = λ c shows. h.err c shows;
     sure = λ c clean shows kept same. h.sure c clean shows (grows c grown kept same);
     crash = crashes (Err fault) is grown h;
@@ -87,19 +93,21 @@ taken_none t u nodes s fault other = record {
   honest = λ clean. clean;
   answer = tt;
   ok = λ c clean shows kept same. tt;
-  err = λ c shows. shows;
+  refused = λ c shows. tt;
+  err = still_same s;
   sure = λ c clean shows kept same. other;
-  crash = λ c both. survives_weaker s s _ _ (λ clean db none. absurd none) (stays s);
+  crash = λ c both. survives_weaker s s _ _ (λ clean db none. absurd none) (survives_same s);
 }
 
 pub taken_refused : (t u : Ancestry) (nodes : List Node) (s : State) (refusal : BranchFault) → IsBranched t nodes (Err refusal) u → IsRefusal (Err refusal) → IsTaken t u nodes s s (Ok (Err refusal))
 taken_refused t u nodes s refusal is other = record {
   honest = λ clean. clean;
   answer = (is, other);
-  ok = λ c clean shows kept same. shows;
+  ok = λ c clean shows kept same. tt;
+  refused = still_same s;
   err = λ c shows. tt;
   sure = λ c clean shows kept same. tt;
-  crash = λ c both. survives_weaker s s _ _ (λ clean db none. absurd none) (stays s);
+  crash = λ c both. survives_weaker s s _ _ (λ clean db none. absurd none) (survives_same s);
 }
 
 -- a refusal is why, and leaves the tree
@@ -118,55 +126,47 @@ refused refusal = Ok (Err refusal)
 abbrev pub faulty : StoreFault → Answer
 faulty fault = Err fault
 
-module _ {S : Type 0} (g : store.Ghosts S) (last begun : List (Held S)) (old new : Held S) (t u : Ancestry) (nodes : List Node) where
-  -- the tree is the content's
-  tree_is : IsKept g last begun old (Some t) → (content_seen g last).nodes ≡ t
-  tree_is was = sym was.tree
+module _ {S : Type 0} (g : store.Ghosts S) (last old new : Held S) (t u : Ancestry) (nodes : List Node) (stays : StillShows (state g last) (state g old)) where
+  abbrev c : Content
+  c = content_seen g last
 
-  pub faulty_kept : (fault : StoreFault) → IsTaken t u nodes (state g old) (state g new) (faulty fault) → IsKept g last begun old (Some t) → IsKept g last begun new None
-  faulty_kept fault h was = record { now = h.err (content_seen g last) was.now; before = was.before; content = was.content; tree = tt }
+  abbrev WasKept : Type 0
+  WasKept = IsKept g last (Some t)
 
-  pub never_foreign : (fault : StoreFault) → IsTaken t u nodes (state g old) (state g new) (faulty fault) → IsKept g last begun old (Some t) → HasCleanDisk (state g new) → fault ≢ Foreign
-  never_foreign fault h was clean = h.sure (content_seen g last) clean was.now was.content (tree_is was)
+  now : WasKept → HasContent c (state g old)
+  now was = shows_now (state g last) (state g old) c (stays c was.shown) was.shown
 
-  pub crashed : (r : Answer) → IsTaken t u nodes (state g old) (state g new) r → (HasCleanDisk (state g new) → IsKept g last begun old (Some t)) → Survives (state g old) (state g new) (AreTablesAfter (content_seen g last) nodes)
-  crashed r h was = h.crash (content_seen g last) (λ clean. let w = was clean in (w.now, w.content, tree_is w))
+  pub never_foreign : (fault : StoreFault) → IsTaken t u nodes (state g old) (state g new) (faulty fault) → WasKept → HasCleanDisk (state g new) → fault ≢ Foreign
+  never_foreign fault h was clean = h.sure c clean (now was) was.content (sym was.tree)
+
+  pub crashed : (r : Answer) → IsTaken t u nodes (state g old) (state g new) r → (HasCleanDisk (state g new) → WasKept) → Survives (state g old) (state g new) (AreTablesAfter c nodes)
+  crashed r h was = h.crash c (λ clean. let w = was clean in (now w, w.content, sym w.tree))
 
   -- it was taken, and after it the connection was noted anew
-  module _ (last' begun' : List (Held S)) (h : IsTaken t u nodes (state g old) (state g new) taken) (forest : IsForest u) (is : last' ≡ new ∷ []) (none : begun' ≡ []) where
-    says : IsKept g last begun old (Some t) → HasCleanDisk (state g new) → content_seen g last' ≡ with_nodes u (content_seen g last)
-    says was clean = ap (content_seen g) is ∙ (h.ok (content_seen g last) clean was.now was.content (tree_is was)).2
+  pub record IsNotedAnew (last' : Held S) : Type 0 where
+    pub kept : WasKept → HasCleanDisk (state g new) → IsKept g last' (Some u)
+    pub desk : WasKept → HasCleanDisk (state g new) → Branches (desk_seen g last) (desk_seen g last') taken nodes
+    pub keeping : WasKept → HasCleanDisk (state g new) → keeping_seen g last' ≡ keeping_seen g last
+    pub serves : WasKept → HasCleanDisk (state g new) → IsTrue (state g new).is_open
 
-    pub taken_kept : IsKept g last begun old (Some t) → HasCleanDisk (state g new) → IsKept g last' begun' new (Some u)
-    taken_kept was clean =
-        let c = content_seen g last in
-        let now = says was clean in
-        subst (λ b. IsKept g last' b new (Some u)) (sym none) (record {
-          now = subst (λ l. HasContent (content_seen g l) (state g new)) (sym is) (λ clean' open'. ((h.ok c clean was.now was.content (tree_is was)).1, refl));
-          before = tt;
-          content = subst IsKeptContent (sym now) (branch_kept c u was.content forest);
-          tree = sym (ap (λ (k : Content). k.nodes) now);
-        })
-
-    pub taken_serves : IsKept g last begun old (Some t) → HasCleanDisk (state g new) → IsTrue (state g new).is_open
-    taken_serves was clean = (h.ok (content_seen g last) clean was.now was.content (tree_is was)).0
-
-    pub taken_desk : IsKept g last begun old (Some t) → HasCleanDisk (state g new) → Branches (desk_seen g last) (desk_seen g last') taken nodes
-    taken_desk was clean =
+  pub noted_anew : (last' : Held S) → IsTaken t u nodes (state g old) (state g new) taken → IsForest u → last' ≡ new → IsNotedAnew last'
+  noted_anew last' h forest is = record {
+    kept = λ was clean.
+        let d = done was clean in
+        noted_kept g last' new (Some u) (with_nodes u c) is (says was clean) (λ _ o. (d.1, d.2)) (branch_kept c u was.content forest) refl;
+    desk = λ was clean.
         subst (λ k. Branches (desk_seen g last) (desk_in k) taken nodes) (sym (says was clean))
-        (subst (λ n. branched n nodes ≡ Ok u) was.tree h.answer.0, refl)
+        (subst (λ n. branched n nodes ≡ Ok u) was.tree h.answer.0, refl);
+    keeping = λ was clean. ap keeping_in (says was clean);
+    serves = λ was clean. (done was clean).0;
+  }
+    where
+      done : WasKept → HasCleanDisk (state g new) → IsTrue (state g new).is_open × IsDesk (state g new) × (seen (state g new) ≡ with_nodes u c)
+      done was clean = h.ok c clean (now was) was.content (sym was.tree)
 
-    pub taken_keeping : IsKept g last begun old (Some t) → HasCleanDisk (state g new) → keeping_seen g last' ≡ keeping_seen g last
-    taken_keeping was clean = ap keeping_in (says was clean)
+      says : WasKept → HasCleanDisk (state g new) → content_seen g last' ≡ with_nodes u c
+      says was clean = ap (content_seen g) is ∙ content_is g new ∙ (done was clean).2
 
   -- it was refused
-  pub refused_kept : (refusal : BranchFault) → IsTaken t u nodes (state g old) (state g new) (refused refusal) → u ≡ t → IsKept g last begun old (Some t) → HasCleanDisk (state g new) → IsKept g last begun new (Some u)
-  refused_kept refusal h same was clean = record {
-    now = h.ok (content_seen g last) clean was.now was.content (tree_is was);
-    before = was.before;
-    content = was.content;
-    tree = same ∙ was.tree;
-  }
-
-  pub refused_desk : (refusal : BranchFault) → branched t nodes ≡ Err refusal → IsKept g last begun old (Some t) → Branches (desk_seen g last) (desk_seen g last) (refused refusal) nodes
+  pub refused_desk : (refusal : BranchFault) → branched t nodes ≡ Err refusal → WasKept → Branches (desk_seen g last) (desk_seen g last) (refused refusal) nodes
   refused_desk refusal is was = (subst (λ n. branched n nodes ≡ Err refusal) was.tree is, refl)

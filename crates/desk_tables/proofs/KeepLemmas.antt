@@ -1,14 +1,11 @@
 -- What an outcome that is kept leaves of what is remembered.
-use Rattle.std.proofs.Common.{◌≡◌, ℕ, List, Option, None, Some, Result, refl, ap, subst, ◌∙◌}
-use Rattle.sqlite.specs.Held.{Held, state}
-use Rattle.sqlite_trees.specs.declared.store.Store as store
+use Rattle.std.proofs.Common.{◌≡◌, ℕ, List, Option, None, Some, refl, ap, ◌∙◌}
 use Rattle.version_nodes.specs.Trees.{Ancestry}
 use Rattle.bug_record.specs.Texts.{IsText, IfGiven}
 use Rattle.bug_record.specs.Images.{AreApart, HasMember, FitsDesk}
 use Rattle.bug_record.specs.Sets.{Each}
 use Rattle.bug_record.specs.declared.command.Change.{Change}
 use Rattle.bug_record.specs.declared.outcome.Outcome.{Outcome}
-use Rattle.bug_record.specs.declared.outcome.StoreFault.{StoreFault}
 use Rattle.desk_content.specs.Changes.{FitsContent, cleared_for}
 use Rattle.desk_content.specs.Content.{Content}
 use Rattle.desk_content.specs.Keeping.{MayBePut, changed_by, kept_after}
@@ -18,10 +15,8 @@ use Rattle.desk_content.proofs.AfterLemmas.{after_keeping, after_kept}
 use Rattle.desk_content.proofs.ChangeLemmas.{change_desk}
 use Rattle.desk_content.proofs.ClosedLemmas.{put_nodes, no_nodes}
 use Rattle.desk_writes.specs.Needs.{HasTreeIfAny}
-use Rattle.desk_store.specs.Store.{Keeps, with_change}
+use Rattle.desk_store.specs.Store.{Keeps, MayBeKept, with_change}
 use Rattle.desk_store.proofs.KeepLemmas.{kept_also-good}
-use Rattle.desk_tables.specs.Kept.{content_seen, MayKeep}
-use Rattle.desk_tables.specs.Transactions.{IsChanged}
 use Rattle.desk_tables.proofs.KeptLemmas.{made}
 
 -- ---- a change, if there is one
@@ -46,18 +41,8 @@ line_fits (Some change) c members apart fits = record { members = members; apart
 abbrev pub FitsLine : Option Ancestry → List ℕ → List ℕ → List ℕ → Outcome → Option Change → Content → Type 0
 FitsLine t id sender message outcome change c = IsKeptContent c × MayBePut id sender message outcome change c × HasTreeIfAny t c change
 
--- over the same tree, if there is one
-pub line_over_same : {S : Type 0} (g : store.Ghosts S) (old new : Held S) (r : Result (Unit {0}) StoreFault) (id sender message : List ℕ) (outcome : Outcome) (change : Option Change) (t u : Option Ancestry) → t ≡ u
-    → IsChanged (state g old) (state g new) r (FitsLine t id sender message outcome change) (λ c. kept_after id sender message outcome change c)
-    → IsChanged (state g old) (state g new) r (FitsLine u id sender message outcome change) (λ c. kept_after id sender message outcome change c)
-line_over_same g old new r id sender message outcome change t u same =
-    subst (λ v. IsChanged (state g old) (state g new) r (FitsLine v id sender message outcome change) (λ c. kept_after id sender message outcome change c)) same
-
-module _ {S : Type 0} (g : store.Ghosts S) (last : List (Held S)) (id sender message : List ℕ) (outcome : Outcome) (change : Option Change) (may : MayKeep g last id sender message outcome change)
-    (kept : IsKeptContent (content_seen g last)) (fits : IfGiven (FitsContent (content_seen g last)) change) where
-  abbrev c : Content
-  c = content_seen g last
-
+module _ (c : Content) (id sender message : List ℕ) (outcome : Outcome) (change : Option Change) (may : MayBeKept id sender message (keeping_in c) (desk_in c) outcome change)
+    (kept : IsKeptContent c) (fits : IfGiven (FitsContent c) change) where
   abbrev after : Content
   after = kept_after id sender message outcome change c
 

@@ -1,6 +1,5 @@
 -- What a question and a change leave of what is remembered.
-use Rattle.std.proofs.Common.{◌≡◌, ◌≢◌, List, [], ◌∷◌, ◌++◌, Option, None, Some, is_some, false, true≢false, Result, Ok, Err, IfOk, IfErr, IfSome, IsTrue, arith, refl, sym, ap, subst, ◌∙◌, length, true, OnOk}
-use Rattle.std.specs.List.{AllByRecursion}
+use Rattle.std.proofs.Common.{◌≡◌, ◌≢◌, List, [], ◌∷◌, Option, None, Some, is_some, false, true, true≢false, Result, Ok, Err, OnOk, IfOk, IfErr, IfSome, IsTrue, arith, refl, sym, ap, subst, ◌∙◌, length}
 use Rattle.sqlite.specs.Held.{Held, state}
 use Rattle.sqlite.specs.State.{HasCleanDisk, Survives}
 use Rattle.sqlite_trees.specs.declared.store.Store as store
@@ -21,74 +20,61 @@ use Rattle.desk_schema.specs.Steps.{seen}
 use Rattle.desk_reads.specs.Asked.{IsAskedFor}
 use Rattle.desk_writes.specs.Needs.{HasTree}
 use Rattle.desk_store.specs.Store.{Answers}
+use Rattle.desk_tables.specs.Desk.{state_of, content_shown, HasKeptTables}
 use Rattle.desk_tables.specs.Kept.{content_seen, desk_seen, IsKept}
+use Rattle.desk_tables.specs.declared.desk.TableDesk.{TableDesk}
 use Rattle.desk_tables.specs.Shown.{IsDesk, HasContent, AreTablesOf}
+use Rattle.desk_tables.specs.Still.{StillShows}
+use Rattle.desk_tables.proofs.StillLemmas.{shows_now}
 use Rattle.desk_tables.specs.Transactions.{IsAsked, IsChanged}
 
-all_push : {X : Type 0} (P : X → Type 0) (xs : List X) (x : X) → AllByRecursion P xs → P x → AllByRecursion P (xs ++ x ∷ [])
-all_push P [] x all one = (one, tt)
-all_push P (y ∷ xs) x all one = (all.0, all_push P xs x all.1 one)
+-- what a connection shows is what its tables say
+pub content_is : {S : Type 0} (g : store.Ghosts S) (h : Held S) → content_seen g h ≡ seen (state g h)
+unfolding content_seen
+content_is g h = refl
 
-all_front : {X : Type 0} (P : X → Type 0) (xs : List X) (x : X) → AllByRecursion P (xs ++ x ∷ []) → AllByRecursion P xs
-all_front P [] x all = tt
-all_front P (y ∷ xs) x all = (all.0, all_front P xs x all.1)
+-- what is shown of a desk as it is noted anew
+pub noted_kept : {S : Type 0} (g : store.Ghosts S) (last conn : Held S) (family : Option Ancestry) (c : Content) → last ≡ conn → content_seen g last ≡ c → HasContent c (state g conn) → IsKeptContent c
+    → IfSome family (λ t. t ≡ c.nodes) → IsKept g last family
+noted_kept g last conn family c is says shows kept tree =
+    subst (λ k. HasContent k (state g conn) → IsKeptContent k → IfSome family (λ t. t ≡ k.nodes) → IsKept g last family) says
+    (λ shows kept tree. record { shown = subst (λ h. HasContent (content_seen g last) (state g h)) (sym is) shows; content = kept; tree = tree })
+    shows kept tree
 
-all_last : {X : Type 0} (P : X → Type 0) (xs : List X) (x : X) → AllByRecursion P (xs ++ x ∷ []) → P x
-all_last P [] x all = all.0
-all_last P (y ∷ xs) x all = all_last P xs x all.1
-
--- ---- a question, before which the connection was noted
-
-module _ {S A : Type 0} (g : store.Ghosts S) (last begun more : List (Held S)) (old new : Held S) (r : Result A StoreFault) (Fits : Content → Type 0) (P : Content → A → Type 0)
-    (asked : IsAsked (state g old) (state g new) r Fits P) (is : more ≡ begun ++ old ∷ []) where
-  pub honest : HasCleanDisk (state g new) → HasCleanDisk (state g old)
-  honest clean = omega (arith, asked.survives.clean, clean)
-
-  pub kept : (family family' : Option Ancestry) → (IsKept g last begun old family → IfSome family' (λ t. t ≡ (content_seen g last).nodes)) → IsKept g last begun old family → IsKept g last more new family'
-  kept family family' same was = record {
-    now = asked.stays (content_seen g last) was.now;
-    before = subst (AllByRecursion (λ h. HasContent (content_seen g last) (state g h))) (sym is) (all_push _ begun old was.before was.now);
-    content = was.content;
-    tree = same was;
-  }
-
-  pub was_kept : (family family' : Option Ancestry) → (IsKept g last more new family' → IfSome family (λ t. t ≡ (content_seen g last).nodes)) → IsKept g last more new family' → IsKept g last begun old family
-  was_kept family family' same now =
-      let all = subst (AllByRecursion (λ h. HasContent (content_seen g last) (state g h))) is now.before in
-      record { now = all_last _ begun old all; before = all_front _ begun old all; content = now.content; tree = same now }
-
-  pub answer : (family : Option Ancestry) → IsKept g last begun old family → HasCleanDisk (state g new) → IfOk r (P (content_seen g last))
-  answer family was clean = asked.ok (content_seen g last) clean was.now
-
-  pub never : (family : Option Ancestry) → Fits (content_seen g last) → IsKept g last begun old family → HasCleanDisk (state g new) → IfErr r (λ fault. fault ≢ Foreign)
-  never family fits was clean = asked.sure (content_seen g last) clean was.now fits
+-- ---- a question
 
 -- what is answered, with the desk as it was
-pub answers : {A : Type 0} (d : Desk) (r : Result A StoreFault) (P Q : A → Type 0) → ((a : A) → P a → Q a) → IfOk r P → Answers d d r Q
-answers d (Ok a) P Q turn p = (turn a p, refl)
-answers d (Err fault) P Q turn p = refl
+answers : {A : Type 0} (d : Desk) (r : Result A StoreFault) (P : A → Type 0) → IfOk r P → Answers d d r P
+answers d (Ok a) P p = (p, refl)
+answers d (Err fault) P p = refl
 
--- where the tree stays as it is, and what is answered is what is asked of the desk
-pub record IsNoted {S A : Type 0} (g : store.Ghosts S) (last begun more : List (Held S)) (old new : Held S) (family : Option Ancestry) (r : Result A StoreFault) (Q : A → Type 0) : Type 0 where
-  pub honest : HasCleanDisk (state g new) → HasCleanDisk (state g old)
-  pub kept : IsKept g last begun old family → HasCleanDisk (state g new) → IsKept g last more new family
-  pub was_kept : IsKept g last more new family → HasCleanDisk (state g new) → IsKept g last begun old family
-  pub fact : IsKept g last begun old family → HasCleanDisk (state g new) → Answers (desk_seen g last) (desk_seen g last) r Q
-  pub never : IsKept g last begun old family → HasCleanDisk (state g new) → IfErr r (λ fault. fault ≢ Foreign)
+-- an answer of which P holds
+pub answered : {A : Type 0} (old new : Desk) (r : Result A StoreFault) (P : A → Type 0) → Answers old new r P → IfOk r P
+answered old new (Ok a) P h = h.0
+answered old new (Err fault) P h = tt
 
-pub noted : {S A : Type 0} (g : store.Ghosts S) (last begun more : List (Held S)) (old new : Held S) (family : Option Ancestry) (r : Result A StoreFault) (Fits : Content → Type 0) (P : Content → A → Type 0)
-    → IsAsked (state g old) (state g new) r Fits P → more ≡ begun ++ old ∷ [] → (Q : A → Type 0)
-    → (IsKept g last begun old family → HasCleanDisk (state g old) → Fits (content_seen g last) × ((a : A) → P (content_seen g last) a → Q a)) → IsNoted g last begun more old new family r Q
-noted g last begun more old new family r Fits P asked is Q turn = record {
-  honest = honest g last begun more old new r Fits P asked is;
-  kept = λ was clean. kept g last begun more old new r Fits P asked is family family (λ w. w.tree) was;
-  was_kept = λ now clean. was_kept g last begun more old new r Fits P asked is family family (λ w. w.tree) now;
-  fact = λ was clean. answers (desk_seen g last) r (P (content_seen g last)) Q (turn was (early clean)).1 (answer g last begun more old new r Fits P asked is family was clean);
-  never = λ was clean. never g last begun more old new r Fits P asked is family (turn was (early clean)).0 was clean;
-}
-  where
-    early : HasCleanDisk (state g new) → HasCleanDisk (state g old)
-    early = honest g last begun more old new r Fits P asked is
+module _ {S A : Type 0} (g : store.Ghosts S) (last old new : Held S) (family : Option Ancestry) (r : Result A StoreFault) (Fits : Content → Type 0) (P : Content → A → Type 0) where
+  abbrev c : Content
+  c = content_seen g last
+
+  -- the desk stays, and what is answered is right of it
+  pub record IsNoted : Type 0 where
+    pub honest : HasCleanDisk (state g new) → HasCleanDisk (state g old)
+    pub fact : IsKept g last family → HasCleanDisk (state g new) → Answers (desk_seen g last) (desk_seen g last) r (P c)
+    pub never : IsKept g last family → HasCleanDisk (state g new) → IfErr r (λ fault. fault ≢ Foreign)
+
+  pub noted : IsAsked (state g old) (state g new) r Fits P → StillShows (state g last) (state g old) → (IsKept g last family → HasCleanDisk (state g old) → Fits c) → IsNoted
+  noted asked stays fits = record {
+    honest = early;
+    fact = λ was clean. answers (desk_seen g last) r (P c) (asked.ok c clean (now was) (fits was (early clean)));
+    never = λ was clean. asked.sure c clean (now was) (fits was (early clean));
+  }
+    where
+      now : IsKept g last family → HasContent c (state g old)
+      now was = shows_now (state g last) (state g old) c (stays c was.shown) was.shown
+
+      early : HasCleanDisk (state g new) → HasCleanDisk (state g old)
+      early clean = omega (arith, asked.survives.clean, clean)
 
 -- ---- a change
 
@@ -98,118 +84,85 @@ made = Ok tt
 abbrev pub refused : StoreFault → Result (Unit {0}) StoreFault
 refused fault = Err fault
 
-module _ {S : Type 0} (g : store.Ghosts S) (last begun : List (Held S)) (old new : Held S) (family : Option Ancestry) (Fits : Content → Type 0) (after : Content → Content)
-    (fits : IsKept g last begun old family → HasCleanDisk (state g old) → Fits (content_seen g last)) where
+module _ {S : Type 0} (g : store.Ghosts S) (last old new : Held S) (family : Option Ancestry) (Fits : Content → Type 0) (after : Content → Content)
+    (stays : StillShows (state g last) (state g old)) (fits : IsKept g last family → HasCleanDisk (state g old) → Fits (content_seen g last)) where
   abbrev WasKept : Type 0
-  WasKept = IsKept g last begun old family
+  WasKept = IsKept g last family
+
+  now : WasKept → HasContent (content_seen g last) (state g old)
+  now was = shows_now (state g last) (state g old) (content_seen g last) (stays (content_seen g last) was.shown) was.shown
 
   pub crashed : (r : Result (Unit {0}) StoreFault) → IsChanged (state g old) (state g new) r Fits after → (HasCleanDisk (state g new) → WasKept)
       → Survives (state g old) (state g new) (AreTablesOf (after (content_seen g last)))
-  crashed r changes was = changes.crash (content_seen g last) (λ clean. let w = was clean in (w.now, fits w (changes.honest clean)))
+  crashed r changes was = changes.crash (content_seen g last) (λ clean. let w = was clean in (now w, fits w (changes.honest clean)))
 
   -- it was not made
-  module _ (fault : StoreFault) (changes : IsChanged (state g old) (state g new) (refused fault) Fits after) where
-    pub stayed : WasKept → IsKept g last begun new family
-    stayed was = record { now = changes.err (content_seen g last) was.now; before = was.before; content = was.content; tree = was.tree }
-
-    pub never_foreign : WasKept → HasCleanDisk (state g new) → fault ≢ Foreign
-    never_foreign was clean = changes.sure (content_seen g last) clean was.now (fits was (changes.honest clean))
+  pub never_foreign : (fault : StoreFault) → IsChanged (state g old) (state g new) (refused fault) Fits after → WasKept → HasCleanDisk (state g new) → fault ≢ Foreign
+  never_foreign fault changes was clean = changes.sure (content_seen g last) clean (now was) (fits was (changes.honest clean))
 
   -- it was made, and after it the connection was noted anew
-  pub record IsTaken (last' begun' : List (Held S)) : Type 0 where
-    pub kept : WasKept → HasCleanDisk (state g new) → IsKept g last' begun' new family
+  pub record IsTaken (last' : Held S) : Type 0 where
+    pub kept : WasKept → HasCleanDisk (state g new) → IsKept g last' family
     pub says : WasKept → HasCleanDisk (state g new) → content_seen g last' ≡ after (content_seen g last)
     pub serves : WasKept → HasCleanDisk (state g new) → IsTrue (state g new).is_open
 
-  pub taken : (last' begun' : List (Held S)) → IsChanged (state g old) (state g new) made Fits after → last' ≡ new ∷ [] → begun' ≡ []
-      → (WasKept → HasCleanDisk (state g old) → IsKeptContent (after (content_seen g last)) × ((after (content_seen g last)).nodes ≡ (content_seen g last).nodes)) → IsTaken last' begun'
-  taken last' begun' changes is none stays = record { kept = kept_then; says = says; serves = λ was clean. (done was clean).0 }
+  pub taken : (last' : Held S) → IsChanged (state g old) (state g new) made Fits after → last' ≡ new
+      → (WasKept → HasCleanDisk (state g old) → IsKeptContent (after (content_seen g last)) × ((after (content_seen g last)).nodes ≡ (content_seen g last).nodes)) → IsTaken last'
+  taken last' changes is good = record {
+    kept = λ was clean.
+        let it = good was (changes.honest clean) in
+        let d = done was clean in
+        noted_kept g last' new family (after (content_seen g last)) is (says was clean) (λ _ o. (d.1, d.2)) it.0 (subst (λ n. IfSome family (λ t. t ≡ n)) (sym it.1) was.tree);
+    says = says;
+    serves = λ was clean. (done was clean).0;
+  }
     where
       done : WasKept → HasCleanDisk (state g new) → IsTrue (state g new).is_open × IsDesk (state g new) × (seen (state g new) ≡ after (content_seen g last))
-      done was clean = changes.ok (content_seen g last) clean was.now (fits was (changes.honest clean))
+      done was clean = changes.ok (content_seen g last) clean (now was) (fits was (changes.honest clean))
 
       says : WasKept → HasCleanDisk (state g new) → content_seen g last' ≡ after (content_seen g last)
-      says was clean = ap (content_seen g) is ∙ (done was clean).2
-
-      kept_then : WasKept → HasCleanDisk (state g new) → IsKept g last' begun' new family
-      kept_then was clean =
-          let now = says was clean in
-          let good = stays was (changes.honest clean) in
-          subst (λ b. IsKept g last' b new family) (sym none) (record {
-            now = subst (λ l. HasContent (content_seen g l) (state g new)) (sym is) (λ clean' open'. ((done was clean).1, refl));
-            before = tt;
-            content = subst IsKeptContent (sym now) good.0;
-            tree = subst (λ n. IfSome family (λ t. t ≡ n)) (sym (ap (λ (k : Content). k.nodes) now ∙ good.1)) was.tree;
-          })
+      says was clean = ap (content_seen g) is ∙ content_is g new ∙ (done was clean).2
 
 -- the change fits what was seen, over this tree
 abbrev pub FitsOver : Option Ancestry → Change → Content → Type 0
 FitsOver t change c = IsKeptContent c × FitsContent c change × HasTree t c change
 
--- over the same tree, if there is one
-pub over_same : {S : Type 0} (g : store.Ghosts S) (old new : Held S) (r : Result (Unit {0}) StoreFault) (change : Change) (t u : Option Ancestry) → t ≡ u
-    → IsChanged (state g old) (state g new) r (FitsOver t change) (λ c. changed c change) → IsChanged (state g old) (state g new) r (FitsOver u change) (λ c. changed c change)
-over_same g old new r change t u same = subst (λ v. IsChanged (state g old) (state g new) r (FitsOver v change) (λ c. changed c change)) same
-
 pub change_stays : (change : Change) (c : Content) → IsKeptContent c → FitsContent c change → IsKeptContent (changed c change) × ((changed c change).nodes ≡ c.nodes)
 change_stays change c kept fits = (change_kept c change kept fits, put_nodes change.images (cleared_for c change) ∙ no_nodes c change.images c)
 
--- ---- a desk that begins
+pub fits_over : (t : Option Ancestry) (change : Change) (c : Content) → IsKeptContent c → FitsContent c change → HasTree t c change → FitsOver t change c
+fits_over t change c kept fits tree = (kept, fits, tree)
 
--- what is remembered is kept
-pub found_kept : {S : Type 0} (g : store.Ghosts S) (last begun : List (Held S)) (conn : Held S) (family : Option Ancestry) (c : Content) → content_seen g last ≡ c → begun ≡ [] → family ≡ None → HasContent c (state g conn) → IsKeptContent c
-    → IsKept g last begun conn family
-found_kept g last begun conn family c same none no_family shows kept =
-    subst (IsKept g last begun conn) (sym no_family) (subst (λ b. IsKept g last b conn None) (sym none) (record {
-      now = subst (λ k. HasContent k (state g conn)) (sym same) shows;
-      before = tt;
-      content = subst IsKeptContent (sym same) kept;
-      tree = tt;
-    }))
-
--- what was seen is what is remembered
-pub seen_kept : {S : Type 0} (g : store.Ghosts S) (last begun : List (Held S)) (was conn : Held S) (family : Option Ancestry) → last ≡ was ∷ [] → begun ≡ [] → family ≡ None → HasContent (seen (state g was)) (state g conn) → IsKeptContent (seen (state g was))
-    → IsKept g last begun conn family
-seen_kept g last begun was conn family is none no_family shows kept = found_kept g last begun conn family (seen (state g was)) (ap (content_seen g) is) none no_family shows kept
+-- ---- the tree
 
 -- of no tree nothing is asked
 pub no_tree : (family : Option Ancestry) (P : Ancestry → Type 0) → is_some family ≡ false → IfSome family P
 no_tree None P none = tt
 no_tree (Some t) P none = absurd (true≢false none)
 
--- the tree that was read is the content's
-pub tree_seen : {S : Type 0} (g : store.Ghosts S) (last begun : List (Held S)) (conn : Held S) (family : Option Ancestry) (t : Ancestry) → family ≡ Some t → IsKept g last begun conn family → (content_seen g last).nodes ≡ t
-tree_seen g last begun conn family t is was = sym (subst (λ f. IfSome f (λ t. t ≡ (content_seen g last).nodes)) is was.tree)
-
--- a change of the desk fits over the tree that there is, if it needs one
-pub fits_over : {S : Type 0} (g : store.Ghosts S) (last begun : List (Held S)) (conn : Held S) (family : Option Ancestry) (change : Change)
-    → (IsKept g last begun conn family → HasCleanDisk (state g conn) → FitsContent (content_seen g last) change)
-    → (IsKept g last begun conn family → HasCleanDisk (state g conn) → HasTree family (content_seen g last) change)
-    → IsKept g last begun conn family → HasCleanDisk (state g conn) → FitsOver family change (content_seen g last)
-fits_over g last begun conn family change fits tree was clean = (was.content, fits was clean, tree was clean)
-
 -- a set of the desk, in its tree
-pub is_asked : (t : Ancestry) (i : SetImage) (c : Content) → IsKeptContent c → HasMember i → IsSetOf (desk_in c) i → c.nodes ≡ t → IsAskedFor t i c
-is_asked t i c kept some set nodes = record { image = record { kept = kept; some = some; set = set }; nodes = nodes }
+pub is_asked : (t : Ancestry) (i : SetImage) (c : Content) → IsKeptContent c → HasMember i → IsSetOf (desk_in c) i → t ≡ c.nodes → IsAskedFor t i c
+is_asked t i c kept some set nodes = record { image = record { kept = kept; some = some; set = set }; nodes = sym nodes }
 
--- ---- the tree for a change
-
--- one that was read
-pub tree_there : {S : Type 0} (g : store.Ghosts S) (last begun : List (Held S)) (conn : Held S) (family : Option Ancestry) (change : Change) → is_some family ≡ true → IsKept g last begun conn family → HasTree family (content_seen g last) change
-tree_there g last begun conn None change some was = absurd (true≢false (sym some))
-tree_there g last begun conn (Some t) change some was = sym was.tree
+-- the tree for a change: one that was read
+pub tree_there : (family : Option Ancestry) (c : Content) (change : Change) → is_some family ≡ true → IfSome family (λ t. t ≡ c.nodes) → HasTree family c change
+tree_there None c change some tree = absurd (true≢false (sym some))
+tree_there (Some t) c change some tree = sym tree
 
 -- none, where no mark changes
 pub tree_spared : (family : Option Ancestry) (c : Content) (change : Change) → is_some family ≡ false → all_stay c change.images ≡ true → HasTree family c change
 tree_spared None c change none stay = stay
 tree_spared (Some t) c change none stay = absurd (true≢false none)
 
-pub tree_read : {S : Type 0} (g : store.Ghosts S) (last begun : List (Held S)) (conn : Held S) (family : Option Ancestry) (change : Change) (r : Result (Unit {0}) StoreFault) → OnOk r (is_some family ≡ true) → IsKept g last begun conn family
-    → OnOk r (HasTree family (content_seen g last) change)
-tree_read g last begun conn family change (Ok done) some was = tree_there g last begun conn family change some was
-tree_read g last begun conn family change (Err fault) some was = tt
+pub tree_read : (family : Option Ancestry) (c : Content) (change : Change) (r : Result (Unit {0}) StoreFault) → OnOk r (is_some family ≡ true) → IfSome family (λ t. t ≡ c.nodes) → OnOk r (HasTree family c change)
+tree_read family c change (Ok done) some tree = tree_there family c change some tree
+tree_read family c change (Err fault) some tree = tt
 
 -- no image has other marks where there is none
 pub none_change : (is : List SetImage) (c : Content) → length is ≡ 0 → true ≡ all_stay c is
 none_change [] c none = refl
 none_change (i ∷ is) c none = absurd cc
+
+-- a desk that is kept is shown
+pub kept_shows : {S : Type 0} {g : store.Ghosts S} (d : TableDesk S g) → HasKeptTables d → HasContent (content_shown d) (state_of d)
+kept_shows {g = g} d kept = shows_now (state g d.last.value) (state_of d) (content_shown d) (d.stays (content_shown d) kept.shown) kept.shown

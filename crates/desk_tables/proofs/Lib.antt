@@ -1,3 +1,4 @@
+pub mod StillLemmas
 pub mod TransactionLemmas
 pub mod KeptLemmas
 pub mod OpeningLemmas

@@ -1,5 +1,5 @@
 -- What is remembered of a desk that is created or opened, and why there is none.
-use Rattle.std.proofs.Common.{◌≡◌, ◌≢◌, false, ◌<◌, ◌≤◌, ℕ, List, [], ◌∷◌, Option, None, Result, Ok, Err, arith, refl, sym, ap, subst, ◌∙◌}
+use Rattle.std.proofs.Common.{◌≡◌, ◌≢◌, false, ◌<◌, ◌≤◌, ℕ, Option, None, IfSome, Result, Ok, Err, arith, refl, sym, ap, subst, ◌∙◌}
 use Rattle.sqlite.specs.Held.{Held, state}
 use Rattle.sqlite.specs.Effect.{Database, IsDatabase}
 use Rattle.sqlite.specs.State.{State, HasCleanDisk, Survives}
@@ -9,7 +9,6 @@ use Rattle.version_nodes.specs.Trees.{Ancestry}
 use Rattle.line_words.specs.declared.named.TheConstants.{LARGEST_NUMBER}
 use Rattle.bugs_in_memory.specs.Plain.{empty_desk}
 use Rattle.desk_content.specs.Content.{Content, no_content}
-use Rattle.desk_content.specs.Kept.{IsKeptContent}
 use Rattle.desk_content.specs.View.{desk_in, keeping_in}
 use Rattle.desk_store.specs.Kept.{none_kept}
 use Rattle.desk_content.proofs.NewLemmas.{new_kept}
@@ -20,27 +19,30 @@ use Rattle.desk_migrations.specs.declared.history.TheConstants.{NEWEST}
 use Rattle.desk_migrations.specs.declared.number.SchemaRead.{SchemaRead}
 use Rattle.desk_migrations.specs.declared.number.SchemaRead.TheVariants.{Number, NoNumber}
 use Rattle.desk_migrations.specs.Number.{Says}
-use Rattle.desk_tables.specs.Kept.{desk_seen, keeping_seen, IsKept}
+use Rattle.desk_tables.specs.Kept.{content_seen, desk_seen, keeping_seen, IsKept}
 use Rattle.desk_tables.specs.Opening.{unlimited, IsLeft, IsReason, SaysEarlier}
 use Rattle.desk_tables.specs.Shown.{IsDesk, HasContent, HasContentUnder, HoldsContent, AreTablesOf}
+use Rattle.desk_tables.specs.Still.{StillShows}
 use Rattle.desk_tables.specs.Transactions.{AsksSchema, IsRecognised, IsCarried, IsFound}
 use Rattle.desk_tables.specs.declared.open_fault.OpenFault.{OpenFault}
 use Rattle.desk_tables.specs.declared.open_fault.OpenFault.TheVariants.{NotADesk, NewerSchema, Store, NotEmpty}
 use Rattle.desk_tables.proofs.HeldLemmas.{newest_shows, shows_newest}
-use Rattle.desk_tables.proofs.KeptLemmas.{seen_kept}
+use Rattle.desk_tables.proofs.KeptLemmas.{content_is, noted_kept}
+use Rattle.desk_tables.proofs.StillLemmas.{left_still, still_is}
 
 -- ---- a new desk
 
-module _ {S : Type 0} (g : store.Ghosts S) (first : ℕ) (last : List (Held S)) (conn : Held S) (is : last ≡ conn ∷ []) (desk : IsDesk (state g conn) × (seen (state g conn) ≡ no_content first)) where
-  pub new_is_kept : (begun : List (Held S)) (family : Option Ancestry) → begun ≡ [] → family ≡ None → 0 < first → first ≤ LARGEST_NUMBER → IsKept g last begun conn family
-  new_is_kept begun family none no_family low high =
-      seen_kept g last begun conn conn family is none no_family (λ clean o. (desk.0, refl)) (subst IsKeptContent (sym desk.1) (new_kept first low high))
+module _ {S : Type 0} (g : store.Ghosts S) (first : ℕ) (last conn : Held S) (is : last ≡ conn) (desk : IsDesk (state g conn) × (seen (state g conn) ≡ no_content first)) where
+  pub new_is_kept : (family : Option Ancestry) → family ≡ None → 0 < first → first ≤ LARGEST_NUMBER → IsKept g last family
+  new_is_kept family none low high =
+      noted_kept g last conn family (no_content first) is (ap (content_seen g) is ∙ content_is g conn ∙ desk.1) (λ clean o. desk) (new_kept first low high)
+      (subst (λ f. IfSome f (λ t. t ≡ (no_content first).nodes)) (sym none) tt)
 
   pub new_is_empty : desk_seen g last ≡ empty_desk first
-  new_is_empty = ap (desk_seen g) is ∙ ap desk_in desk.1
+  new_is_empty = ap (desk_seen g) is ∙ ap desk_in (content_is g conn ∙ desk.1)
 
   pub none_is_kept : keeping_seen g last ≡ none_kept
-  none_is_kept = ap (keeping_seen g) is ∙ ap keeping_in desk.1
+  none_is_kept = ap (keeping_seen g) is ∙ ap keeping_in (content_is g conn ∙ desk.1)
 
 -- ---- the limit of steps
 
@@ -65,18 +67,18 @@ pub left_before : {S : Type 0} (g : store.Ghosts S) (was conn : Held S) → conn
 left_before g was conn is new h = left_without (state g was) new (subst (λ s. IsLeft s new) (ap (state g) is) h)
 
 -- what was found over the connection without its limit, which another one is then
-pub record IsOpened {A : Type 0} (content : A → Content) (s new : State) (r : Result A OpenFault) : Type 0 where
-  pub found : IsFound content (unlimited s) new r
+pub record IsOpened {A : Type 0} (shown : A → State) (s new : State) (r : Result A OpenFault) : Type 0 where
+  pub found : IsFound shown (unlimited s) new r
   pub holds : (c : Content) → HoldsContent c s → HoldsContent c (unlimited s)
   pub shows : (c : Content) → HasContent c s → HasContent c (unlimited s)
   pub under : (k : ℕ) (c : Content) → HasContentUnder k c s → HasContentUnder k c (unlimited s)
   pub left : IsLeft (unlimited s) new → IsLeft s new
   pub reason : (why : OpenFault) → IsReason (unlimited s) new why → IsReason s new why
 
-pub opened : {S A : Type 0} (g : store.Ghosts S) (was conn new held : Held S) → conn ≡ record was { step_limit = None } → held ≡ new → (content : A → Content) (r : Result A OpenFault)
-    → IsFound content (state g conn) (state g new) r → IsOpened content (state g was) (state g held) r
-opened g was conn new held is same content r found = record {
-  found = subst (λ s. IsFound content s (state g held) r) (ap (state g) is) (subst (λ h. IsFound content (state g conn) (state g h) r) (sym same) found);
+pub opened : {S A : Type 0} (g : store.Ghosts S) (was conn new held : Held S) → conn ≡ record was { step_limit = None } → held ≡ new → (shown : A → State) (r : Result A OpenFault)
+    → IsFound shown (state g conn) (state g new) r → IsOpened shown (state g was) (state g held) r
+opened g was conn new held is same shown r found = record {
+  found = subst (λ s. IsFound shown s (state g held) r) (ap (state g) is) (subst (λ h. IsFound shown (state g conn) (state g h) r) (sym same) found);
   holds = λ c holds. (holds.0, under_without holds.0 c (state g was) holds.1);
   shows = λ c. shows_without c (state g was);
   under = λ k c. under_without k c (state g was);
@@ -166,15 +168,16 @@ unasked old new fault asked = record {
 
 -- ---- a desk that is found
 
-module _ {A : Type 0} (content : A → Content) (old : State) where
+module _ {A : Type 0} (shown : A → State) (old : State) where
   nothing : (new : State) (k : ℕ) (c : Content) → Survives old new (λ _. ⊥) → Survives old new (λ db. (k < NEWEST) × AreTablesOf c db)
   nothing new k c h = survives_weaker old new _ _ (λ clean db none. absurd none) h
 
   -- there is a reason against it
-  pub not_found : (new : State) (why : OpenFault) → IsRecognised old new (Err why) → IsFound content old new (Err why)
+  pub not_found : (new : State) (why : OpenFault) → IsRecognised old new (Err why) → IsFound shown old new (Err why)
   not_found new why it = record {
     honest = tt;
     holds = tt;
+    still = tt;
     says = tt;
     serves = tt;
     stays = tt;
@@ -186,12 +189,13 @@ module _ {A : Type 0} (content : A → Content) (old : State) where
   }
 
   -- its tables are under the newest schema
-  pub found_newest : (new : State) (n : ℕ) (a : A) → n ≡ NEWEST → content a ≡ seen old → IsRecognised old new (Ok n) → IsFound content old new (Ok a)
+  pub found_newest : (new : State) (n : ℕ) (a : A) → n ≡ NEWEST → shown a ≡ old → IsRecognised old new (Ok n) → IsFound shown old new (Ok a)
   found_newest new n a is same it = record {
     honest = it.left.honest;
     holds = λ c clean holds.
         let shows = newest_shows c old (subst (λ k. HasContentUnder k c old) (sym (it.under holds.0 c clean holds.1) ∙ is) holds.1) in
-        (same ∙ (shows (it.left.honest clean) (it.ok clean).0).1, it.left.content c shows);
+        (ap seen same ∙ (shows (it.left.honest clean) (it.ok clean).0).1, subst (HasContent c) (sym same) shows);
+    still = subst (λ s. StillShows s new) (sym same) (left_still old new it.left);
     says = λ clean. let h = it.ok clean in (h.0, (n, it.known, h.1));
     serves = λ k c clean low shows. let here = it.under k c clean shows in absurd (omega (arith, is, here, low));
     stays = λ c clean shows. it.left;
@@ -237,10 +241,11 @@ module _ {A : Type 0} (content : A → Content) (old : State) where
           never : HasCleanDisk new → ⊥
           never clean = other clean (n, low, (it.ok (early clean)).1)
 
-    pub found_earlier : (a : A) → content a ≡ seen new → IsCarried n mid new (Ok tt) → IsFound content old new (Ok a)
+    pub found_earlier : (a : A) → shown a ≡ new → IsCarried n mid new (Ok tt) → IsFound shown old new (Ok a)
     found_earlier a same carried = record {
       honest = λ clean. it.left.honest (early (Ok tt) carried clean);
-      holds = λ c clean holds. let h = (carried c).ok clean tt (as_found holds.0 c (early (Ok tt) carried clean) holds.1) in (same ∙ h.2, λ _ o. (h.1, h.2));
+      holds = λ c clean holds. let h = (carried c).ok clean tt (as_found holds.0 c (early (Ok tt) carried clean) holds.1) in (ap seen same ∙ h.2, subst (HasContent c) (sym same) (λ _ o. (h.1, h.2)));
+      still = still_is (shown a) new same;
       says = λ clean. let h = it.ok (early (Ok tt) carried clean) in (h.0, (n, it.known, h.1));
       serves = λ k c clean _ shows. ((carried c).ok clean tt (as_found k c (early (Ok tt) carried clean) shows)).0;
       stays = λ c clean shows. absurd (earlier (it.under NEWEST c (early (Ok tt) carried clean) (shows_newest c old shows)));
@@ -251,10 +256,11 @@ module _ {A : Type 0} (content : A → Content) (old : State) where
       crash = crashed (Ok tt) carried;
     }
 
-    pub not_earlier : (fault : StoreFault) → IsCarried n mid new (Err fault) → IsFound content old new (Err (Store fault))
+    pub not_earlier : (fault : StoreFault) → IsCarried n mid new (Err fault) → IsFound shown old new (Err (Store fault))
     not_earlier fault carried = record {
       honest = tt;
       holds = tt;
+      still = tt;
       says = tt;
       serves = tt;
       stays = tt;

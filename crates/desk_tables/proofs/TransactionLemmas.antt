@@ -21,7 +21,9 @@ use Rattle.desk_migrations.specs.Number.{Says, ReadsSchema}
 use Rattle.desk_migrations.specs.declared.number.SchemaRead.{SchemaRead}
 use Rattle.desk_tables.specs.Opening.{IsLeft}
 use Rattle.desk_tables.specs.Shown.{IsDesk, HasContent, HasContentUnder, AreTablesOf}
-use Rattle.desk_tables.specs.Transactions.{IsAsked, IsChanged, IsDone, IsMade, IsCarried, AsksSchema, IsCommitFault, Ends}
+use Rattle.desk_tables.specs.Still.{IsAsBefore, StillShows}
+use Rattle.desk_tables.proofs.StillLemmas.{shows_now, left_still}
+use Rattle.desk_tables.specs.Transactions.{AsksInside, IsAsked, IsChanged, IsDone, IsMade, IsCarried, AsksSchema, IsCommitFault, Ends}
 
 -- ---- a question in a transaction that is rolled back
 
@@ -34,22 +36,17 @@ begins s c limit clean shows = record { begun = refl; unlimited = limit; schema 
 begins_under : (k : ℕ) (s : State) (c : Content) → s.step_limit ≡ None → HasCleanDisk s → HasContentUnder k c s → IsUnder k c (begun s)
 begins_under k s c limit clean shows = record { begun = refl; unlimited = limit; schema = λ o. (shows clean o).schema; sound = λ o. (shows clean o).sound; shown = λ o. (shows clean o).shown }
 
--- what was begun is undone
-undone : (old mid new : State) (c : Content) → (IsTrue old.is_open → IsDesk old × (seen old ≡ c)) → KeepsCommit (begun old) mid → IsRolledBack mid new → IsTrue new.is_open → IsDesk new × (seen new ≡ c)
-undone old mid new c shows kept back o =
-    let live = back.was_open o in
-    let was = shows (kept.was_open live) in
-    let now : new.now ≡ old.now = (back.undone o).0 ∙ kept.committed live ∙ sym was.0.settled in (
-      record {
-        settled = (back.undone o).0 ∙ sym (back.undone o).1;
-        schema = ap (λ (d : Database). d.schema) now ∙ was.0.schema;
-        sound = subst IsDatabase (sym now) was.0.sound;
-        shown = subst (λ (d : Database). AreShown d.trees) (sym now) was.0.shown;
-      },
-      ap (λ (d : Database). content_of d.trees) now ∙ was.1,
-    )
+-- what was begun is undone, and so the tables are as they were
+undone : (old mid new : State) → (HasCleanDisk new → HasCleanDisk old) → (HasCleanDisk new → KeepsCommit (begun old) mid) → (HasCleanDisk new → IsRolledBack mid new) → StillShows old new
+undone old mid new early kept back c shows = record {
+  honest = early;
+  was_open = λ clean o. (kept clean).was_open ((back clean).was_open o);
+  tables = λ clean o.
+      let live = (back clean).was_open o in
+      ((back clean).undone o).0 ∙ (kept clean).committed live ∙ sym (shows (early clean) ((kept clean).was_open live)).0.settled;
+  committed = λ clean o. ((back clean).undone o).1 ∙ (kept clean).committed ((back clean).was_open o);
+}
 
--- and so what was committed is left
 left_undone : (old mid new : State) → (HasCleanDisk new → HasCleanDisk old) → (HasCleanDisk new → KeepsCommit (begun old) mid) → (HasCleanDisk new → IsRolledBack mid new)
     → new.in_transaction ≡ false → IsLeft old new
 left_undone old mid new early kept back idle = record {
@@ -58,37 +55,55 @@ left_undone old mid new early kept back idle = record {
   was_open = λ clean o. (kept clean).was_open ((back clean).was_open o);
   committed = λ clean o. ((back clean).undone o).1 ∙ (kept clean).committed ((back clean).was_open o);
   now = λ clean o same. ((back clean).undone o).0 ∙ (kept clean).committed ((back clean).was_open o) ∙ sym same;
-  content = λ c shows clean o. undone old mid new c (shows (early clean)) (kept clean) (back clean) o;
+  content = λ c shows. shows_now old new c (undone old mid new early kept back c shows) shows;
 }
 
-asked : {A : Type 0} (old mid new : State) (r : Result A StoreFault) (Fits : Content → Type 0) (P : Content → A → Type 0) → old.step_limit ≡ None
-    → Acts (begun old) mid r Fits (λ c d a. (d ≡ c) × P c a) → Serves (begun old) mid r → (HasCleanDisk new → IsRolledBack mid new) → Survives mid new (λ _. ⊥) → IsAsked old new r Fits P
-asked {A = A} old mid new r Fits P limit runs serves back survives = record {
-  survives = survives_then old mid new _ _ (λ _. ⊥) (λ _ db none. none) (λ _ db none. none) (record { clean = one.clean; shield = one.shield; counts = one.counts; limit = one.limit; closes = one.closes; crash = one.crash }) survives;
-  stays = λ c shows clean o. undone old mid new c (shows (early clean)) (runs.keeps (late clean) (begins old c limit (early clean) shows)) (back clean) o;
-  ok = λ c clean shows. answered r c (λ o. (shows (early clean) o).1) (serves (late clean) (begins old c limit (early clean) shows)) (runs.ok (late clean) (begins old c limit (early clean) shows));
-  sure = λ c clean shows fits. runs.sure (late clean) (begins old c limit (early clean) shows) (λ o. subst Fits (sym (shows (early clean) o).1) fits);
-}
-  where
-    one : Survives (begun old) mid (λ _. ⊥)
-    one = runs.survives
+module _ {A : Type 0} (r : Result A StoreFault) (Fits : Content → Type 0) (P : Content → A → Type 0) where
+  asked : (old mid new : State) → old.step_limit ≡ None → AsksInside (begun old) mid r Fits P → (HasCleanDisk new → IsRolledBack mid new) → Survives mid new (λ _. ⊥) → IsAsked old new r Fits P
+  asked old mid new limit asks back survives = record {
+    survives = survives_then old mid new _ _ (λ _. ⊥) (λ _ db none. none) (λ _ db none. none) (record { clean = one.clean; shield = one.shield; counts = one.counts; limit = one.limit; closes = one.closes; crash = one.crash }) survives;
+    stays = λ c shows. undone old mid new early (λ clean. asks.keeps (late clean) (inside c clean shows)) back c shows;
+    ok = λ c clean shows. asks.ok c (late clean) (inside c clean shows) (λ o. (shows (early clean) o).1);
+    sure = λ c clean shows. asks.sure c (late clean) (inside c clean shows) (λ o. (shows (early clean) o).1);
+  }
+    where
+      one : Survives (begun old) mid (λ _. ⊥)
+      one = asks.survives
 
-    late : HasCleanDisk new → HasCleanDisk mid
-    late clean = omega (arith, survives.clean, clean)
+      late : HasCleanDisk new → HasCleanDisk mid
+      late clean = omega (arith, survives.clean, clean)
 
-    early : HasCleanDisk new → HasCleanDisk old
-    early clean = omega (arith, survives.clean, one.clean, clean)
+      early : HasCleanDisk new → HasCleanDisk old
+      early clean = omega (arith, survives.clean, one.clean, clean)
 
-    answered : (r : Result A StoreFault) (c : Content) → (IsTrue old.is_open → seen old ≡ c) → IfOk r (λ _. IsTrue old.is_open) → IfOk r (λ a. Goes (begun old) mid (λ c d. (d ≡ c) × P c a)) → IfOk r (P c)
-    answered (Ok a) c same live g = subst (λ d. P d a) (same live) g.changed.1
-    answered (Err e) c same live g = tt
+      inside : (c : Content) → HasCleanDisk new → HasContent c old → IsInside (begun old)
+      inside c clean shows = begins old c limit (early clean) shows
 
--- and it is the connection that was lent
-pub asked_over : {S A : Type 0} (g : Ghosts S) (old mid new lent : Held S) → new ≡ lent → (r : Result A StoreFault) (Fits : Content → Type 0) (P : Content → A → Type 0) → old.step_limit ≡ None
-    → Acts (begun (state g old)) (state g mid) r Fits (λ c d a. (d ≡ c) × P c a) → Serves (begun (state g old)) (state g mid) r → (HasCleanDisk (state g new) → IsRolledBack (state g mid) (state g new))
-    → Survives (state g mid) (state g new) (λ _. ⊥) → IsAsked (state g old) (state g lent) r Fits P
-asked_over g old mid new lent same r Fits P limit runs serves back survives =
-    subst (λ h. IsAsked (state g old) (state g h) r Fits P) same (asked (state g old) (state g mid) (state g new) r Fits P limit runs serves back survives)
+  -- and it is the connection that was lent
+  pub asked_over : {S : Type 0} (g : Ghosts S) (old mid new lent : Held S) → new ≡ lent → old.step_limit ≡ None → AsksInside (begun (state g old)) (state g mid) r Fits P
+      → (HasCleanDisk (state g new) → IsRolledBack (state g mid) (state g new)) → Survives (state g mid) (state g new) (λ _. ⊥) → IsAsked (state g old) (state g lent) r Fits P
+  asked_over g old mid new lent same limit asks back survives =
+      subst (λ h. IsAsked (state g old) (state g h) r Fits P) same (asked (state g old) (state g mid) (state g new) limit asks back survives)
+
+  -- what is read of tables that an open store serves
+  pub asks_read : (old new : State) (Free : Content → Type 0) (Q : Content → A → Type 0) → ((c : Content) → Fits c → Free c) → ((c : Content) (a : A) → Q c a → Fits c → P c a)
+      → Acts old new r Free (λ c d a. (d ≡ c) × Q c a) → Serves old new r → AsksInside old new r Fits P
+  asks_read old new Free Q free right acts serves = record {
+    survives = acts.survives;
+    keeps = acts.keeps;
+    ok = λ c clean inside says fits. answered r c says fits (serves clean inside) (acts.ok clean inside);
+    sure = λ c clean inside says fits. acts.sure clean inside (λ o. subst Free (sym (says o)) (free c fits));
+  }
+    where
+      answered : (r : Result A StoreFault) (c : Content) → (IsTrue old.is_open → seen old ≡ c) → Fits c → IfOk r (λ _. IsTrue old.is_open) → IfOk r (λ a. Goes old new (λ c d. (d ≡ c) × Q c a)) → IfOk r (P c)
+      answered (Ok a) c says fits live went = right c a (subst (λ d. Q d a) (says live) went.changed.1) fits
+      answered (Err e) c says fits live went = tt
+
+-- what is known without the tables
+pub asks_known : {A : Type 0} (s : State) (a : A) (Fits : Content → Type 0) (P : Content → A → Type 0) → ((c : Content) → Fits c → P c a) → AsksInside s s (Ok a) Fits P
+asks_known s a Fits P known =
+    let none = acts_none s a Fits (λ c d b. ⊤) (λ c. tt) in
+    record { survives = none.survives; keeps = none.keeps; ok = λ c clean inside says fits. known c fits; sure = λ c clean inside says fits. tt }
 
 -- the number of the schema is asked for
 pub asks : (old mid new : State) (r : Result SchemaRead StoreFault) → old.step_limit ≡ None → ReadsSchema (begun old) mid r → new.in_transaction ≡ false → (HasCleanDisk new → IsRolledBack mid new) → Survives mid new (λ _. ⊥)
@@ -116,15 +131,6 @@ asks old mid new r limit reads idle back survives = record {
     said : (r : Result SchemaRead StoreFault) → IfOk r (λ read. IsUnchanged (begun old) mid × Says old.now read) → IfOk r (λ read. IsTrue old.is_open × Says old.now read)
     said (Ok read) h = (h.0.0.was_open, h.1)
     said (Err e) h = tt
-
--- nothing was asked, since the answer is known
-pub asked_none : {A : Type 0} (s : State) (a : A) (Fits : Content → Type 0) (P : Content → A → Type 0) → ((c : Content) → P c a) → IsAsked s s (Ok a) Fits P
-asked_none s a Fits P all = record {
-  survives = (acts_none s a Fits (λ c d b. (d ≡ c) × P c b) (λ c. (refl, all c))).survives;
-  stays = λ c shows. shows;
-  ok = λ c clean shows. all c;
-  sure = λ c clean shows fits. tt;
-}
 
 -- ---- the end of a transaction
 
@@ -257,9 +263,9 @@ module _ (old mid new : State) (did r : Result (Unit {0}) StoreFault) (limit : o
       inside : (c : Content) → HasCleanDisk mid → HasContent c old → IsInside (begun old)
       inside c clean shows = begins old c limit (early clean) shows
 
-      shown : (r : Result (Unit {0}) StoreFault) (c : Content) → IfErr r (λ _. IsLeft old new) → HasContent c old → IfErr r (λ _. HasContent c new)
+      shown : (r : Result (Unit {0}) StoreFault) (c : Content) → IfErr r (λ _. IsLeft old new) → HasContent c old → IfErr r (λ _. IsAsBefore old new)
       shown (Ok u) c left shows = tt
-      shown (Err e) c left shows = left.content c shows
+      shown (Err e) c left shows = left_still old new left c shows
 
       goes : (did : Result (Unit {0}) StoreFault) (c : Content) → (IsTrue old.is_open → seen old ≡ c) → Fits c → IfOk did (λ _. IsTrue old.is_open) → IfOk did (λ a. Goes (begun old) mid (λ c d. Fits c → d ≡ after c))
           → IfOk did (λ _. IsTrue old.is_open × IsTrue mid.is_open × IsDeskOf (after c) mid)

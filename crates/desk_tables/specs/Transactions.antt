@@ -1,6 +1,6 @@
 -- What a transaction over a connection comes to, whole.
-use Rattle.std.specs.Prelude.{◌≡◌, ◌≢◌, ◌⊎◌, ◌↔◌, ◌<◌, ◌≤◌, ⊤, ℕ, false, true, List, IsOk, Ok, Err, IfOk, IfErr, Result, IsTrue}
-use Rattle.sqlite.specs.State.{State, HasCleanDisk, Survives, IsRolledBack, HasCause, store_error}
+use Rattle.std.specs.Prelude.{◌≡◌, ◌≢◌, ◌⊎◌, ◌↔◌, ◌<◌, ◌≤◌, ⊤, ℕ, false, true, List, IsOk, Err, IfOk, IfErr, Result, IsTrue}
+use Rattle.sqlite.specs.State.{State, HasCleanDisk, KeepsCommit, Survives, IsRolledBack, HasCause, store_error}
 use Rattle.sqlite_trees.specs.View.{Tells}
 use Rattle.sqlite_trees.specs.declared.error.StoreError.{StoreError}
 use Rattle.sql_forms.specs.Faults.{fault_of}
@@ -13,7 +13,7 @@ use Rattle.ancestry.specs.declared.fault.BranchFault.{BranchFault}
 use Rattle.desk_content.specs.Branches.{with_nodes}
 use Rattle.desk_content.specs.Content.{Content, no_content}
 use Rattle.desk_content.specs.Kept.{IsKeptContent}
-use Rattle.desk_schema.specs.Steps.{seen}
+use Rattle.desk_schema.specs.Steps.{IsInside, seen}
 use Rattle.desk_store.specs.Store.{IsRefusal}
 use Rattle.desk_migrations.specs.Names.{no_tables, has_desk_table}
 use Rattle.desk_migrations.specs.Number.{Says, SaysSchema}
@@ -22,15 +22,25 @@ use Rattle.desk_migrations.specs.declared.number.SchemaRead.{SchemaRead}
 use Rattle.desk_migrations.specs.declared.number.SchemaRead.TheVariants.{Number}
 use Rattle.desk_tables.specs.Opening.{IsLeft, IsStoreFailure, IsReason, SaysEarlier, SaysDesk}
 use Rattle.desk_tables.specs.Shown.{IsDesk, HasContent, HasContentUnder, HoldsContent, AreTablesOf, AreTablesAfter}
+use Rattle.desk_tables.specs.Still.{IsAsBefore, StillShows}
 use Rattle.desk_tables.specs.declared.open_fault.OpenFault.{OpenFault}
 use Rattle.desk_tables.specs.declared.open_fault.OpenFault.TheVariants.{Store, NotEmpty}
+
+-- A question inside a transaction: nothing is committed.
+-- Where the tables of an open store say c, and c fits, an answer is right of c, and the question
+-- fails for memory, the disk or its size alone.
+pub record AsksInside {A : Type 0} (old new : State) (result : Result A StoreFault) (Fits : Content → Type 0) (P : Content → A → Type 0) : Type 0 where
+  pub survives : Survives old new (λ _. ⊥)
+  pub keeps : HasCleanDisk new → IsInside old → KeepsCommit old new
+  pub ok : (c : Content) → HasCleanDisk new → IsInside old → (IsTrue old.is_open → seen old ≡ c) → Fits c → IfOk result (P c)
+  pub sure : (c : Content) → HasCleanDisk new → IsInside old → (IsTrue old.is_open → seen old ≡ c) → Fits c → IfErr result (λ fault. fault ≢ Foreign)
 
 -- A question: whatever it answers, the connection shows the same desk as before.
 -- An answer is right also where a fault has shut the connection since.
 pub record IsAsked {A : Type 0} (old new : State) (result : Result A StoreFault) (Fits : Content → Type 0) (P : Content → A → Type 0) : Type 0 where
   pub survives : Survives old new (λ _. ⊥)
-  pub stays : (c : Content) → HasContent c old → HasContent c new
-  pub ok : (c : Content) → HasCleanDisk new → HasContent c old → IfOk result (P c)
+  pub stays : StillShows old new
+  pub ok : (c : Content) → HasCleanDisk new → HasContent c old → Fits c → IfOk result (P c)
   pub sure : (c : Content) → HasCleanDisk new → HasContent c old → Fits c → IfErr result (λ fault. fault ≢ Foreign)
 
 -- A change that fits: it is made and committed, or the connection shows the same desk as before.
@@ -38,14 +48,9 @@ pub record IsAsked {A : Type 0} (old new : State) (result : Result A StoreFault)
 pub record IsChanged (old new : State) (result : Result (Unit {0}) StoreFault) (Fits : Content → Type 0) (after : Content → Content) : Type 0 where
   pub honest : HasCleanDisk new → HasCleanDisk old
   pub ok : (c : Content) → HasCleanDisk new → HasContent c old → Fits c → IfOk result (λ _. IsTrue new.is_open × IsDesk new × (seen new ≡ after c))
-  pub err : (c : Content) → HasContent c old → IfErr result (λ _. HasContent c new)
+  pub err : (c : Content) → HasContent c old → IfErr result (λ _. IsAsBefore old new)
   pub sure : (c : Content) → HasCleanDisk new → HasContent c old → Fits c → IfErr result (λ fault. fault ≢ Foreign)
   pub crash : (c : Content) → (HasCleanDisk new → HasContent c old × Fits c) → Survives old new (AreTablesOf (after c))
-
--- what a branch that was taken, or is refused, leaves of a connection that showed this content
-abbrev pub Follows : Ancestry → Content → State → Result (Unit {0}) BranchFault → Type 0
-Follows u c new (Ok done) = IsTrue new.is_open × IsDesk new × (seen new ≡ with_nodes u c)
-Follows u c new (Err refusal) = HasContent c new
 
 -- A branch over the ancestry t, which is u then: it is taken and committed, or refused, or there is
 -- a fault, and then the connection shows the same desk as before.
@@ -53,8 +58,10 @@ Follows u c new (Err refusal) = HasContent c new
 pub record IsTaken (t u : Ancestry) (nodes : List Node) (old new : State) (result : Result (Result (Unit {0}) BranchFault) StoreFault) : Type 0 where
   pub honest : HasCleanDisk new → HasCleanDisk old
   pub answer : IfOk result (λ a. IsBranched t nodes a u × IsRefusal a)
-  pub ok : (c : Content) → HasCleanDisk new → HasContent c old → IsKeptContent c → c.nodes ≡ t → IfOk result (Follows u c new)
-  pub err : (c : Content) → HasContent c old → IfErr result (λ _. HasContent c new)
+  pub ok : (c : Content) → HasCleanDisk new → HasContent c old → IsKeptContent c → c.nodes ≡ t
+      → IfOk result (λ a. IfOk a (λ _. IsTrue new.is_open × IsDesk new × (seen new ≡ with_nodes u c)))
+  pub refused : (c : Content) → HasContent c old → IfOk result (λ a. IfErr a (λ _. IsAsBefore old new))
+  pub err : (c : Content) → HasContent c old → IfErr result (λ _. IsAsBefore old new)
   pub sure : (c : Content) → HasCleanDisk new → HasContent c old → IsKeptContent c → c.nodes ≡ t → IfErr result (λ fault. fault ≢ Foreign)
   pub crash : (c : Content) → (HasCleanDisk new → HasContent c old × IsKeptContent c × (c.nodes ≡ t)) → Survives old new (AreTablesAfter c nodes)
 
@@ -121,9 +128,10 @@ pub record IsRecognised (old new : State) (result : Result ℕ OpenFault) : Type
 -- is remembered of it has its content.
 -- A crash at any moment leaves what it would have left before, or, of a desk under an earlier
 -- schema, the same desk under the newest.
-pub record IsFound {A : Type 0} (content : A → Content) (old new : State) (result : Result A OpenFault) : Type 0 where
+pub record IsFound {A : Type 0} (shown : A → State) (old new : State) (result : Result A OpenFault) : Type 0 where
   pub honest : IfOk result (λ a. HasCleanDisk new → HasCleanDisk old)
-  pub holds : IfOk result (λ a. (c : Content) → HasCleanDisk new → HoldsContent c old → (content a ≡ c) × HasContent c new)
+  pub holds : IfOk result (λ a. (c : Content) → HasCleanDisk new → HoldsContent c old → (seen (shown a) ≡ c) × HasContent c (shown a))
+  pub still : IfOk result (λ a. StillShows (shown a) new)
   pub says : IfOk result (λ a. HasCleanDisk new → IsTrue old.is_open × SaysDesk old.now)
   pub serves : IfOk result (λ a. (k : ℕ) (c : Content) → HasCleanDisk new → k < NEWEST → HasContentUnder k c old → IsTrue new.is_open)
   pub stays : IfOk result (λ a. (c : Content) → HasCleanDisk new → HasContent c old → IsLeft old new)

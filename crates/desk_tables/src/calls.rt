@@ -1,181 +1,45 @@
 //! Transactions over a connection, one for each call.
 
-ghost use Rattle.std.specs.Prelude.{◌≡◌, false, None, ⊤};
+ghost use Rattle.std.specs.Prelude.{◌≡◌, false};
 ghost use Rattle.std.specs.Option.{option_copied};
 ghost use Rattle.sqlite.specs.Held.{state};
 ghost use Rattle.sqlite.specs.State.{IsLive};
 ghost use Rattle.version_nodes.specs.Trees.{IsForest};
+ghost use Rattle.branch_rows.specs.Grown.{IsGrown, unknown_of, roots_of, changed_of};
+ghost use Rattle.desk_content.specs.Branches.{with_nodes};
 ghost use Rattle.desk_content.specs.Changes.{FitsContent, changed};
 ghost use Rattle.desk_content.specs.Keeping.{MayBePut, kept_after};
 ghost use Rattle.desk_content.specs.Kept.{IsKeptContent};
-ghost use Rattle.desk_content.specs.View.{desk_in, keeping_in};
-ghost use Rattle.desk_store.specs.Store.{IsImageOf, AreWaitingOn, AreListed, IsOpenHead};
-ghost use Rattle.desk_reads.specs.Asked.{IsAskedFor};
-ghost use Rattle.branch_rows.specs.Grown.{IsGrown, unknown_of, roots_of, changed_of};
-ghost use Rattle.desk_content.specs.Branches.{with_nodes};
-ghost use Rattle.desk_writes.specs.Needs.{HasTree, HasTreeIfAny};
 ghost use Rattle.desk_migrations.specs.Names.{no_tables};
-ghost use Rattle.desk_tables.specs.Transactions.{IsAsked, IsChanged, IsTaken, IsMade, IsCarried, AsksSchema, Ends};
+ghost use Rattle.desk_writes.specs.Needs.{HasTree, HasTreeIfAny};
+ghost use Rattle.desk_tables.specs.Kept.{IsIdle};
+ghost use Rattle.desk_tables.specs.Transactions.{IsAsked, IsChanged, IsTaken, IsMade, IsCarried};
+ghost use Rattle.desk_tables.specs.Transactions.{AsksSchema, Ends};
 
+use crate::question::Question;
 use ancestry::BranchFault;
 use branch_rows::{OpenNodes, branches_grow, changed_nodes, open_nodes};
-use bug_record::{Change, Numbers, Outcome, Sequence, SetImage, StoreFault};
+use bug_record::{Change, Outcome, StoreFault};
 use desk_migrations::{SchemaRead, carry_over, make_tables, read_schema};
-use desk_reads::{read_listed, read_open_head, read_set_of, read_waiting_on};
-use desk_rows::{read_family, read_next};
 use desk_schema::fault_of;
-use desk_store::Kept;
-use desk_writes::{put_branch, put_change, put_kept, read_kept};
+use desk_writes::{put_branch, put_change, put_kept};
 use nearest_marks::Family;
-use set_images::ListRow;
 use sqlite::{Alter, Connection, Transaction};
 use std::alloc::Global;
 use version_nodes::Node;
 
-// The image of the set that the bug is in, if there is such a bug.
-fn ask_small_set_of<S: Alter>(
-    alloc: Global,
+// Asks a question in a transaction of its own, which is rolled back.
+pub(crate) fn ask_within<S: Alter, Q: Question>(
     conn: &mut Connection<S>,
-    number: u32,
-) -> Result<Option<SetImage>, StoreFault>
-    requires autocommit { conn.old.in_transaction ≡ false }
-    requires unlimited { conn.old.step_limit ≡ None }
-    ensures autocommit { conn.new.in_transaction ≡ false }
-    ensures unlimited { conn.new.step_limit ≡ None }
-    ensures asked { IsAsked (state S.Store conn.old) (state S.Store conn.new) result IsKeptContent
-        (λ c found. IsKeptContent c → IsImageOf (desk_in c) number found) }
+    question: &Q,
+) -> Result<Q::Answer, StoreFault>
+    requires idle { IsIdle conn.old }
+    ensures idle { IsIdle conn.new }
+    ensures asked { IsAsked (state S.Store conn.old) (state S.Store conn.new) result
+        (Q.fits question.now) (Q.right question.now) }
 {
     let mut tx = conn.transaction();
-    let answer = read_set_of(alloc, &mut tx, number);
-    tx.rollback();
-    answer
-}
-
-// The image of the set that the bug is in, if there is such a bug; none has a number that is no
-// u32.
-pub(crate) fn ask_set_of<S: Alter>(
-    alloc: Global,
-    conn: &mut Connection<S>,
-    number: u64,
-) -> Result<Option<SetImage>, StoreFault>
-    requires autocommit { conn.old.in_transaction ≡ false }
-    requires unlimited { conn.old.step_limit ≡ None }
-    ensures autocommit { conn.new.in_transaction ≡ false }
-    ensures unlimited { conn.new.step_limit ≡ None }
-    ensures asked { IsAsked (state S.Store conn.old) (state S.Store conn.new) result IsKeptContent
-        (λ c found. IsKeptContent c → IsImageOf (desk_in c) number found) }
-{
-    match u32::try_from(number) {
-        Ok(number) => ask_small_set_of(alloc, conn, number),
-        Err(_) => Ok(None),
-    }
-}
-
-// The next number.
-pub(crate) fn ask_next<S: Alter>(conn: &mut Connection<S>) -> Result<u64, StoreFault>
-    requires autocommit { conn.old.in_transaction ≡ false }
-    requires unlimited { conn.old.step_limit ≡ None }
-    ensures autocommit { conn.new.in_transaction ≡ false }
-    ensures unlimited { conn.new.step_limit ≡ None }
-    ensures asked { IsAsked (state S.Store conn.old) (state S.Store conn.new) result (λ _. ⊤) (λ c next. next ≡ c.next) }
-{
-    let mut tx = conn.transaction();
-    let answer = read_next(&mut tx);
-    tx.rollback();
-    answer
-}
-
-// The numbers of the bugs whose set waits on the bug.
-fn ask_small_waiting_on<S: Alter>(
-    alloc: Global,
-    conn: &mut Connection<S>,
-    number: u32,
-) -> Result<Numbers, StoreFault>
-    requires autocommit { conn.old.in_transaction ≡ false }
-    requires unlimited { conn.old.step_limit ≡ None }
-    ensures autocommit { conn.new.in_transaction ≡ false }
-    ensures unlimited { conn.new.step_limit ≡ None }
-    ensures asked { IsAsked (state S.Store conn.old) (state S.Store conn.new) result IsKeptContent
-        (λ c numbers. IsKeptContent c → AreWaitingOn (desk_in c) number numbers) }
-{
-    let mut tx = conn.transaction();
-    let answer = read_waiting_on(alloc, &mut tx, number);
-    tx.rollback();
-    answer
-}
-
-// The numbers of the bugs whose set waits on the bug; none waits on a number that is no u32.
-pub(crate) fn ask_waiting_on<S: Alter>(
-    alloc: Global,
-    conn: &mut Connection<S>,
-    number: u64,
-) -> Result<Numbers, StoreFault>
-    requires autocommit { conn.old.in_transaction ≡ false }
-    requires unlimited { conn.old.step_limit ≡ None }
-    ensures autocommit { conn.new.in_transaction ≡ false }
-    ensures unlimited { conn.new.step_limit ≡ None }
-    ensures asked { IsAsked (state S.Store conn.old) (state S.Store conn.new) result IsKeptContent
-        (λ c numbers. IsKeptContent c → AreWaitingOn (desk_in c) number numbers) }
-{
-    match u32::try_from(number) {
-        Ok(number) => ask_small_waiting_on(alloc, conn, number),
-        Err(_) => Ok(Sequence::new(alloc)),
-    }
-}
-
-// The bugs that are listed for a package at a node.
-pub(crate) fn ask_listed<S: Alter>(
-    alloc: Global,
-    conn: &mut Connection<S>,
-    package: &str,
-    node: &Node,
-) -> Result<Sequence<ListRow>, StoreFault>
-    requires autocommit { conn.old.in_transaction ≡ false }
-    requires unlimited { conn.old.step_limit ≡ None }
-    ensures autocommit { conn.new.in_transaction ≡ false }
-    ensures unlimited { conn.new.step_limit ≡ None }
-    ensures asked { IsAsked (state S.Store conn.old) (state S.Store conn.new) result IsKeptContent
-        (λ c rows. IsKeptContent c → AreListed (desk_in c) «package».now node.now rows) }
-{
-    let mut tx = conn.transaction();
-    let answer = read_listed(alloc, &mut tx, package, node);
-    tx.rollback();
-    answer
-}
-
-// The first head of the package of a set's bugs at which they are still found.
-pub(crate) fn ask_open_head<S: Alter>(
-    conn: &mut Connection<S>,
-    family: &Family,
-    image: &SetImage,
-) -> Result<Option<Node>, StoreFault>
-    requires autocommit { conn.old.in_transaction ≡ false }
-    requires unlimited { conn.old.step_limit ≡ None }
-    ensures autocommit { conn.new.in_transaction ≡ false }
-    ensures unlimited { conn.new.step_limit ≡ None }
-    ensures asked { IsAsked (state S.Store conn.old) (state S.Store conn.new) result (IsAskedFor family.now image.now)
-        (λ c head. IsAskedFor family.now image.now c → IsOpenHead (desk_in c) image.now head) }
-{
-    let mut tx = conn.transaction();
-    let answer = read_open_head(&mut tx, family, image);
-    tx.rollback();
-    answer
-}
-
-// The tree.
-pub(crate) fn ask_family<S: Alter>(
-    alloc: Global,
-    conn: &mut Connection<S>,
-) -> Result<Family, StoreFault>
-    requires autocommit { conn.old.in_transaction ≡ false }
-    requires unlimited { conn.old.step_limit ≡ None }
-    ensures autocommit { conn.new.in_transaction ≡ false }
-    ensures unlimited { conn.new.step_limit ≡ None }
-    ensures asked { IsAsked (state S.Store conn.old) (state S.Store conn.new) result (λ c. IsForest c.nodes)
-        (λ c family. IsForest c.nodes → family ≡ c.nodes) }
-{
-    let mut tx = conn.transaction();
-    let answer = read_family(alloc, &mut tx);
+    let answer = question.ask(&mut tx);
     tx.rollback();
     answer
 }
@@ -183,7 +47,8 @@ pub(crate) fn ask_family<S: Alter>(
 // Ends a transaction: with a commit where its steps were done, and else undone.
 fn finish<S: Alter>(tx: Transaction<'_, S>, done: Result<(), StoreFault>) -> Result<(), StoreFault>
     ensures ended { tx.exit.0.now.in_transaction ≡ false }
-    ensures ends { Ends (state S.Store tx.entry.conn.now) (state S.Store tx.exit.0.now) done result }
+    ensures ends { Ends (state S.Store tx.entry.conn.now)
+        (state S.Store tx.exit.0.now) done result }
 {
     match done {
         Ok(()) => match tx.commit() {
@@ -195,24 +60,6 @@ fn finish<S: Alter>(tx: Transaction<'_, S>, done: Result<(), StoreFault>) -> Res
             Err(fault)
         }
     }
-}
-
-// What is kept of the message of an id, if it is known.
-pub(crate) fn ask_kept<S: Alter>(
-    alloc: Global,
-    conn: &mut Connection<S>,
-    id: &str,
-) -> Result<Option<Kept>, StoreFault>
-    requires autocommit { conn.old.in_transaction ≡ false }
-    requires unlimited { conn.old.step_limit ≡ None }
-    ensures autocommit { conn.new.in_transaction ≡ false }
-    ensures unlimited { conn.new.step_limit ≡ None }
-    ensures asked { IsAsked (state S.Store conn.old) (state S.Store conn.new) result (λ _. ⊤) (λ c kept. kept ≡ keeping_in c id.now) }
-{
-    let mut tx = conn.transaction();
-    let answer = read_kept(alloc, &mut tx, id);
-    tx.rollback();
-    answer
 }
 
 // Keeps an outcome, and carries its change out, if there is one; the tree may be missing where no
@@ -227,12 +74,12 @@ pub(crate) fn keep_line<S: Alter>(
     outcome: &Outcome,
     change: Option<&Change>,
 ) -> Result<(), StoreFault>
-    requires autocommit { conn.old.in_transaction ≡ false }
-    requires unlimited { conn.old.step_limit ≡ None }
-    ensures autocommit { conn.new.in_transaction ≡ false }
-    ensures unlimited { conn.new.step_limit ≡ None }
+    requires idle { IsIdle conn.old }
+    ensures idle { IsIdle conn.new }
     ensures changed { IsChanged (state S.Store conn.old) (state S.Store conn.new) result
-        (λ c. IsKeptContent c × MayBePut id.now from.now message.now outcome.now (option_copied change.entry) c × HasTreeIfAny (option_copied family.entry) c (option_copied change.entry))
+        (λ c. IsKeptContent c
+        × MayBePut id.now from.now message.now outcome.now (option_copied change.entry) c
+        × HasTreeIfAny (option_copied family.entry) c (option_copied change.entry))
         (λ c. kept_after id.now from.now message.now outcome.now (option_copied change.entry) c) }
 {
     let mut tx = conn.transaction();
@@ -247,12 +94,12 @@ pub(crate) fn change_sets<S: Alter>(
     family: Option<&Family>,
     change: &Change,
 ) -> Result<(), StoreFault>
-    requires autocommit { conn.old.in_transaction ≡ false }
-    requires unlimited { conn.old.step_limit ≡ None }
-    ensures autocommit { conn.new.in_transaction ≡ false }
-    ensures unlimited { conn.new.step_limit ≡ None }
+    requires idle { IsIdle conn.old }
+    ensures idle { IsIdle conn.new }
     ensures changed { IsChanged (state S.Store conn.old) (state S.Store conn.new) result
-        (λ c. IsKeptContent c × FitsContent c change.now × HasTree (option_copied family.entry) c change.now) (λ c. changed c change.now) }
+        (λ c. IsKeptContent c × FitsContent c change.now
+        × HasTree (option_copied family.entry) c change.now)
+        (λ c. changed c change.now) }
 {
     let mut tx = conn.transaction();
     let done = put_change(alloc, &mut tx, family, change);
@@ -266,12 +113,11 @@ fn put_changed<S: Alter>(
     family: &Family,
     changed: &[Node],
 ) -> Result<(), StoreFault>
-    requires autocommit { conn.old.in_transaction ≡ false }
-    requires unlimited { conn.old.step_limit ≡ None }
-    ensures autocommit { conn.new.in_transaction ≡ false }
-    ensures unlimited { conn.new.step_limit ≡ None }
+    requires idle { IsIdle conn.old }
+    ensures idle { IsIdle conn.new }
     ensures changed { IsChanged (state S.Store conn.old) (state S.Store conn.new) result
-        (λ c. IsKeptContent c × IsGrown c.nodes family.now changed.now) (λ c. with_nodes family.now c) }
+        (λ c. IsKeptContent c × IsGrown c.nodes family.now changed.now)
+        (λ c. with_nodes family.now c) }
 {
     let mut tx = conn.transaction();
     let done = put_branch(alloc, &mut tx, family, changed);
@@ -285,12 +131,11 @@ fn put_open<S: Alter>(
     family: &Family,
     before: OpenNodes,
 ) -> Result<(), StoreFault>
-    requires autocommit { conn.old.in_transaction ≡ false }
-    requires unlimited { conn.old.step_limit ≡ None }
-    ensures autocommit { conn.new.in_transaction ≡ false }
-    ensures unlimited { conn.new.step_limit ≡ None }
+    requires idle { IsIdle conn.old }
+    ensures idle { IsIdle conn.new }
     ensures changed { IsChanged (state S.Store conn.old) (state S.Store conn.new) result
-        (λ c. IsKeptContent c × IsGrown c.nodes family.now (changed_of family.now before.unknown.items before.roots.items))
+        (λ c. IsKeptContent c × IsGrown c.nodes family.now
+        (changed_of family.now before.unknown.items before.roots.items))
         (λ c. with_nodes family.now c) }
 {
     match changed_nodes(family.tree(), before) {
@@ -307,14 +152,13 @@ fn take_open<S: Alter>(
     nodes: &[Node],
     before: OpenNodes,
 ) -> Result<Result<(), BranchFault>, StoreFault>
-    requires autocommit { conn.old.in_transaction ≡ false }
-    requires unlimited { conn.old.step_limit ≡ None }
+    requires idle { IsIdle conn.old }
     requires unknown { before.unknown.items ≡ unknown_of family.old nodes.now }
     requires roots { before.roots.items ≡ roots_of family.old nodes.now }
     requires forest { IsForest family.old }
-    ensures autocommit { conn.new.in_transaction ≡ false }
-    ensures unlimited { conn.new.step_limit ≡ None }
-    ensures taken { IsTaken family.old family.new nodes.now (state S.Store conn.old) (state S.Store conn.new) result }
+    ensures idle { IsIdle conn.new }
+    ensures taken { IsTaken family.old family.new nodes.now (state S.Store conn.old)
+        (state S.Store conn.new) result }
     ensures forest { IsForest family.new }
 {
     branches_grow();
@@ -335,11 +179,10 @@ pub(crate) fn take_nodes<S: Alter>(
     family: &mut Family,
     nodes: &[Node],
 ) -> Result<Result<(), BranchFault>, StoreFault>
-    requires autocommit { conn.old.in_transaction ≡ false }
-    requires unlimited { conn.old.step_limit ≡ None }
-    ensures autocommit { conn.new.in_transaction ≡ false }
-    ensures unlimited { conn.new.step_limit ≡ None }
-    ensures taken { IsTaken family.old family.new nodes.now (state S.Store conn.old) (state S.Store conn.new) result }
+    requires idle { IsIdle conn.old }
+    ensures idle { IsIdle conn.new }
+    ensures taken { IsTaken family.old family.new nodes.now (state S.Store conn.old)
+        (state S.Store conn.new) result }
     ensures forest { IsForest family.new }
 {
     match open_nodes(alloc, family.tree(), nodes) {
@@ -350,12 +193,10 @@ pub(crate) fn take_nodes<S: Alter>(
 
 // Makes the tables of a new desk, which gives `first` to its first bug, in a database with none.
 pub(crate) fn make_desk<S: Alter>(conn: &mut Connection<S>, first: u32) -> Result<(), StoreFault>
-    requires autocommit { conn.old.in_transaction ≡ false }
-    requires unlimited { conn.old.step_limit ≡ None }
+    requires idle { IsIdle conn.old }
     requires blank { (state S.Store conn.old).now.schema ≡ no_tables }
     requires live { IsLive (state S.Store conn.old) }
-    ensures autocommit { conn.new.in_transaction ≡ false }
-    ensures unlimited { conn.new.step_limit ≡ None }
+    ensures idle { IsIdle conn.new }
     ensures made { IsMade first (state S.Store conn.old) (state S.Store conn.new) result }
 {
     let mut tx = conn.transaction();
@@ -365,10 +206,8 @@ pub(crate) fn make_desk<S: Alter>(conn: &mut Connection<S>, first: u32) -> Resul
 
 // What the database says of the number of its schema, whatever that schema is.
 pub(crate) fn ask_schema<S: Alter>(conn: &mut Connection<S>) -> Result<SchemaRead, StoreFault>
-    requires autocommit { conn.old.in_transaction ≡ false }
-    requires unlimited { conn.old.step_limit ≡ None }
-    ensures autocommit { conn.new.in_transaction ≡ false }
-    ensures unlimited { conn.new.step_limit ≡ None }
+    requires idle { IsIdle conn.old }
+    ensures idle { IsIdle conn.new }
     ensures asked { AsksSchema (state S.Store conn.old) (state S.Store conn.new) result }
 {
     let mut tx = conn.transaction();
@@ -379,10 +218,8 @@ pub(crate) fn ask_schema<S: Alter>(conn: &mut Connection<S>) -> Result<SchemaRea
 
 // Carries the tables of a desk under this schema over to the newest.
 pub(crate) fn carry_desk<S: Alter>(conn: &mut Connection<S>, from: u64) -> Result<(), StoreFault>
-    requires autocommit { conn.old.in_transaction ≡ false }
-    requires unlimited { conn.old.step_limit ≡ None }
-    ensures autocommit { conn.new.in_transaction ≡ false }
-    ensures unlimited { conn.new.step_limit ≡ None }
+    requires idle { IsIdle conn.old }
+    ensures idle { IsIdle conn.new }
     ensures carried { IsCarried from (state S.Store conn.old) (state S.Store conn.new) result }
 {
     let mut tx = conn.transaction();

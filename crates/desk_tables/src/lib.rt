@@ -4,13 +4,15 @@
 #![tactic(auto)]
 
 mod calls;
+mod changing;
 mod counts;
 mod desk;
+mod loading;
 mod open_fault;
 mod opening;
+mod question;
+mod questions;
 mod records;
-mod seen;
-mod stay;
 
 pub use desk::TableDesk;
 pub use open_fault::OpenFault;

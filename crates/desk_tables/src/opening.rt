@@ -1,18 +1,22 @@
-//! How a desk is created in a database, and opened.
+//! How a desk is created in a database, opened, and closed.
 
-ghost use Rattle.std.specs.Prelude.{◌≡◌, ◌≢◌, ◌↔◌, ◌<◌, ◌≤◌, ◌∷◌, [], false, true, None, Err, IfOk, IfErr, IsErrAnd, IsTrue, MatchResult};
+ghost use Rattle.std.specs.Prelude.{◌≡◌, ◌≢◌, ◌↔◌, ◌<◌, ◌≤◌, false, true};
+ghost use Rattle.std.specs.Prelude.{IfOk, IfErr, IsErrAnd, IsTrue, MatchResult};
 ghost use Rattle.sqlite.specs.Held.{state};
 ghost use Rattle.sqlite.specs.State.{HasCleanDisk, Survives};
 ghost use Rattle.line_words.specs.declared.named.TheConstants.{LARGEST_NUMBER};
+ghost use Rattle.bug_record.specs.declared.outcome.StoreFault.TheVariants.{Foreign};
+ghost use Rattle.bugs_in_memory.specs.Plain.{empty_desk};
 ghost use Rattle.desk_content.specs.Content.{Content, no_content};
 ghost use Rattle.desk_content.specs.Kept.{IsKeptContent};
 ghost use Rattle.desk_migrations.specs.Names.{no_tables, has_desk_table};
-ghost use Rattle.bugs_in_memory.specs.Plain.{empty_desk};
-ghost use Rattle.desk_store.specs.Store.{no_faults};
-ghost use Rattle.bug_record.specs.declared.outcome.StoreFault.TheVariants.{Foreign};
-ghost use Rattle.desk_tables.specs.Kept.{content_seen, desk_seen, keeping_seen, IsKept};
 ghost use Rattle.desk_store.specs.Kept.{none_kept};
-ghost use Rattle.desk_tables.specs.Opening.{unlimited, IsLeft, IsStoreFailure, IsReason, SaysEarlier, SaysDesk};
+ghost use Rattle.desk_store.specs.Store.{no_faults};
+ghost use Rattle.desk_tables.specs.Desk.{connection_of, state_of, content_shown, desk_of};
+ghost use Rattle.desk_tables.specs.Desk.{keeping_of, faults_of, HasHonestDisk, HasKeptTables};
+ghost use Rattle.desk_tables.specs.Kept.{IsIdle};
+ghost use Rattle.desk_tables.specs.Opening.{unlimited, IsLeft, IsStoreFailure, IsReason};
+ghost use Rattle.desk_tables.specs.Opening.{SaysEarlier, SaysDesk};
 ghost use Rattle.desk_tables.specs.Shown.{HasContent, HasContentUnder, HoldsContent, AreTablesOf};
 ghost use Rattle.desk_tables.specs.Transactions.{IsCreated, IsRecognised, IsFound};
 ghost use Rattle.desk_tables.specs.declared.open_fault.OpenFault.TheVariants as fault;
@@ -20,18 +24,16 @@ ghost use Rattle.desk_tables.specs.declared.open_fault.OpenFault.TheVariants as 
 use crate::calls::{ask_schema, carry_desk, make_desk};
 use crate::desk::TableDesk;
 use crate::open_fault::OpenFault;
-use crate::seen::Seen;
 use bug_record::StoreFault;
 use desk_migrations::{NEWEST, SchemaRead, is_blank, names_a_desk_table};
 use sqlite::{Alter, Connection};
 use std::alloc::Global;
+use std::snapshot::Snapshot;
 
 // Makes the tables of a new desk, unless there are tables.
 fn create_tables<S: Alter>(conn: &mut Connection<S>, first: u32) -> Result<(), OpenFault>
-    requires autocommit { conn.old.in_transaction ≡ false }
-    requires unlimited { conn.old.step_limit ≡ None }
-    ensures autocommit { conn.new.in_transaction ≡ false }
-    ensures unlimited { conn.new.step_limit ≡ None }
+    requires idle { IsIdle conn.old }
+    ensures idle { IsIdle conn.new }
     ensures created { IsCreated first (state S.Store conn.old) (state S.Store conn.new) result }
 {
     let schema = conn.schema();
@@ -49,10 +51,8 @@ fn create_tables<S: Alter>(conn: &mut Connection<S>, first: u32) -> Result<(), O
 
 // Asks the database whether it is a desk's, and under which schema.
 fn recognise<S: Alter>(conn: &mut Connection<S>) -> Result<u64, OpenFault>
-    requires autocommit { conn.old.in_transaction ≡ false }
-    requires unlimited { conn.old.step_limit ≡ None }
-    ensures autocommit { conn.new.in_transaction ≡ false }
-    ensures unlimited { conn.new.step_limit ≡ None }
+    requires idle { IsIdle conn.old }
+    ensures idle { IsIdle conn.new }
     ensures recognised { IsRecognised (state S.Store conn.old) (state S.Store conn.new) result }
 {
     match ask_schema(conn) {
@@ -65,18 +65,17 @@ fn recognise<S: Alter>(conn: &mut Connection<S>) -> Result<u64, OpenFault>
 
 // Recognises a desk, and carries it over where it is kept under an earlier schema.
 // The answer remembers the connection that showed its content under the newest.
-fn find_desk<S: Alter>(conn: &mut Connection<S>) -> Result<Seen<Connection<S>>, OpenFault>
-    requires autocommit { conn.old.in_transaction ≡ false }
-    requires unlimited { conn.old.step_limit ≡ None }
-    ensures autocommit { conn.new.in_transaction ≡ false }
-    ensures unlimited { conn.new.step_limit ≡ None }
-    ensures found { IsFound (λ last. content_seen S.Store last.values) (state S.Store conn.old) (state S.Store conn.new) result }
+fn find_desk<S: Alter>(conn: &mut Connection<S>) -> Result<Snapshot<Connection<S>>, OpenFault>
+    requires idle { IsIdle conn.old }
+    ensures idle { IsIdle conn.new }
+    ensures found { IsFound (λ last. state S.Store last.value) (state S.Store conn.old)
+        (state S.Store conn.new) result }
 {
-    let last = Seen::new().and(conn);
+    let last = Snapshot::of(conn);
     match recognise(conn) {
         Ok(from) if from == NEWEST => Ok(last),
         Ok(from) => match carry_desk(conn, from) {
-            Ok(()) => Ok(Seen::new().and(conn)),
+            Ok(()) => Ok(Snapshot::of(conn)),
             Err(fault) => Err(OpenFault::Store(fault)),
         },
         Err(fault) => Err(fault),
@@ -99,26 +98,30 @@ impl<S: Alter> TableDesk<S> {
         requires autocommit { conn.in_transaction ≡ false }
         requires some { 1 ≤ first }
         requires few { first ≤ LARGEST_NUMBER }
-        ensures serves { IfOk result (λ d. HasCleanDisk (state S.Store d.conn) → IsTrue (state S.Store d.conn).is_open) }
-        ensures kept { IfOk result (λ d. HasCleanDisk (state S.Store d.conn) →
-            IsKept S.Store d.last.values d.begun.values d.conn d.family) }
-        ensures empty { IfOk result (λ d. HasCleanDisk (state S.Store d.conn) → desk_seen S.Store d.last.values ≡ empty_desk first) }
-        ensures none_kept { IfOk result (λ d. HasCleanDisk (state S.Store d.conn) → keeping_seen S.Store d.last.values ≡ none_kept) }
-        ensures counts { IfOk result (λ d. d.counts ≡ no_faults) }
-        ensures not_empty { IsErrAnd result (λ e. e.0 ≡ fault.NotEmpty) ↔ (has_desk_table (state S.Store conn).now.schema ≡ true) }
-        ensures foreign { has_desk_table (state S.Store conn).now.schema ≡ false → (state S.Store conn).now.schema ≢ no_tables →
+        ensures serves { IfOk result (λ d. HasHonestDisk d → IsTrue (state_of d).is_open) }
+        ensures kept { IfOk result (λ d. HasHonestDisk d → HasKeptTables d) }
+        ensures empty { IfOk result (λ d. HasHonestDisk d → desk_of d ≡ empty_desk first) }
+        ensures none_kept { IfOk result (λ d. HasHonestDisk d → keeping_of d ≡ none_kept) }
+        ensures counts { IfOk result (λ d. faults_of d ≡ no_faults) }
+        ensures not_empty { IsErrAnd result (λ e. e.0 ≡ fault.NotEmpty) ↔
+            (has_desk_table (state S.Store conn).now.schema ≡ true) }
+        ensures foreign { has_desk_table (state S.Store conn).now.schema ≡ false →
+            (state S.Store conn).now.schema ≢ no_tables →
             IsErrAnd result (λ e. e.0 ≡ fault.Store Foreign) }
-        ensures blank { (state S.Store conn).now.schema ≡ no_tables → IfErr result (λ e. HasCleanDisk (state S.Store e.1) → IsStoreFailure e.0) }
+        ensures blank { (state S.Store conn).now.schema ≡ no_tables →
+            IfErr result (λ e. HasCleanDisk (state S.Store e.1) → IsStoreFailure e.0) }
         ensures left { IfErr result (λ e. IsLeft (state S.Store conn) (state S.Store e.1)) }
         ensures crash { MatchResult result
-            (λ d. Survives (unlimited (state S.Store conn)) (state S.Store d.conn) (AreTablesOf (no_content first)))
-            (λ e. Survives (unlimited (state S.Store conn)) (state S.Store e.1) (AreTablesOf (no_content first))) }
+            (λ d. Survives (unlimited (state S.Store conn)) (state_of d)
+            (AreTablesOf (no_content first)))
+            (λ e. Survives (unlimited (state S.Store conn)) (state S.Store e.1)
+            (AreTablesOf (no_content first))) }
     {
         let mut conn = conn;
         conn.set_step_limit(None);
         match create_tables(&mut conn, first as u32) {
             Ok(()) => {
-                let last = Seen::new().and(&conn);
+                let last = Snapshot::of(&conn);
                 Ok(TableDesk::found(alloc, conn, last))
             }
             Err(fault) => Err((fault, conn)),
@@ -143,29 +146,36 @@ impl<S: Alter> TableDesk<S> {
         conn: Connection<S>,
     ) -> Result<TableDesk<S>, (OpenFault, Connection<S>)>
         requires autocommit { conn.in_transaction ≡ false }
-        ensures honest { IfOk result (λ d. HasCleanDisk (state S.Store d.conn) → HasCleanDisk (state S.Store conn)) }
-        ensures content { IfOk result (λ d. (c : Content) → HasCleanDisk (state S.Store d.conn) → HoldsContent c (state S.Store conn) →
-            content_seen S.Store d.last.values ≡ c) }
-        ensures kept { IfOk result (λ d. (c : Content) → HasCleanDisk (state S.Store d.conn) → HoldsContent c (state S.Store conn) → IsKeptContent c →
-            IsKept S.Store d.last.values d.begun.values d.conn d.family) }
-        ensures says { IfOk result (λ d. HasCleanDisk (state S.Store d.conn) → IsTrue (state S.Store conn).is_open × SaysDesk (state S.Store conn).now) }
-        ensures serves { IfOk result (λ d. (k : _) (c : Content) → HasCleanDisk (state S.Store d.conn) → k < NEWEST → HasContentUnder k c (state S.Store conn) →
-            IsTrue (state S.Store d.conn).is_open) }
-        ensures counts { IfOk result (λ d. d.counts ≡ no_faults) }
+        ensures honest { IfOk result (λ d. HasHonestDisk d → HasCleanDisk (state S.Store conn)) }
+        ensures content { IfOk result (λ d. (c : Content) → HasHonestDisk d →
+            HoldsContent c (state S.Store conn) → content_shown d ≡ c) }
+        ensures kept { IfOk result (λ d. (c : Content) → HasHonestDisk d →
+            HoldsContent c (state S.Store conn) → IsKeptContent c → HasKeptTables d) }
+        ensures says { IfOk result (λ d. HasHonestDisk d →
+            IsTrue (state S.Store conn).is_open × SaysDesk (state S.Store conn).now) }
+        ensures serves { IfOk result (λ d. (k : _) (c : Content) → HasHonestDisk d → k < NEWEST →
+            HasContentUnder k c (state S.Store conn) → IsTrue (state_of d).is_open) }
+        ensures counts { IfOk result (λ d. faults_of d ≡ no_faults) }
         ensures why { IfErr result (λ e. IsReason (state S.Store conn) (state S.Store e.1) e.0) }
-        ensures desk { (c : Content) → HoldsContent c (state S.Store conn) → IfErr result (λ e. HasCleanDisk (state S.Store e.1) → IsStoreFailure e.0) }
+        ensures desk { (c : Content) → HoldsContent c (state S.Store conn) →
+            IfErr result (λ e. HasCleanDisk (state S.Store e.1) → IsStoreFailure e.0) }
         ensures left { MatchResult result
-            (λ d. (c : Content) → HasCleanDisk (state S.Store d.conn) → HasContent c (state S.Store conn) → IsLeft (state S.Store conn) (state S.Store d.conn))
+            (λ d. (c : Content) → HasHonestDisk d → HasContent c (state S.Store conn) →
+            IsLeft (state S.Store conn) (state_of d))
             (λ e. IsLeft (state S.Store conn) (state S.Store e.1)) }
         ensures other { MatchResult result
-            (λ d. (HasCleanDisk (state S.Store d.conn) → ¬ (SaysEarlier (state S.Store conn).now)) →
-            IsLeft (state S.Store conn) (state S.Store d.conn) × Survives (unlimited (state S.Store conn)) (state S.Store d.conn) (λ _. ⊥))
-            (λ e. (HasCleanDisk (state S.Store e.1) → ¬ (SaysEarlier (state S.Store conn).now)) → Survives (unlimited (state S.Store conn)) (state S.Store e.1) (λ _. ⊥)) }
+            (λ d. (HasHonestDisk d → ¬ (SaysEarlier (state S.Store conn).now)) →
+            IsLeft (state S.Store conn) (state_of d) × Survives (unlimited (state S.Store conn))
+            (state_of d) (λ _. ⊥))
+            (λ e. (HasCleanDisk (state S.Store e.1) → ¬ (SaysEarlier (state S.Store conn).now)) →
+            Survives (unlimited (state S.Store conn)) (state S.Store e.1) (λ _. ⊥)) }
         ensures crash { (k : _) (c : Content) → MatchResult result
-            (λ d. (HasCleanDisk (state S.Store d.conn) → HasContentUnder k c (state S.Store conn)) →
-            Survives (unlimited (state S.Store conn)) (state S.Store d.conn) (λ db. (k < NEWEST) × AreTablesOf c db))
+            (λ d. (HasHonestDisk d → HasContentUnder k c (state S.Store conn)) →
+            Survives (unlimited (state S.Store conn)) (state_of d)
+            (λ db. (k < NEWEST) × AreTablesOf c db))
             (λ e. (HasCleanDisk (state S.Store e.1) → HasContentUnder k c (state S.Store conn)) →
-            Survives (unlimited (state S.Store conn)) (state S.Store e.1) (λ db. (k < NEWEST) × AreTablesOf c db)) }
+            Survives (unlimited (state S.Store conn)) (state S.Store e.1)
+            (λ db. (k < NEWEST) × AreTablesOf c db)) }
     {
         let mut conn = conn;
         conn.set_step_limit(None);
@@ -173,5 +183,14 @@ impl<S: Alter> TableDesk<S> {
             Ok(last) => Ok(TableDesk::found(alloc, conn, last)),
             Err(fault) => Err((fault, conn)),
         }
+    }
+
+    /// Hands the connection back.
+    /// It takes no memory.
+    pub fn close(self) -> Connection<S>
+        ensures conn { result ≡ connection_of self }
+        ensures autocommit { result.in_transaction ≡ false }
+    {
+        self.into_connection()
     }
 }

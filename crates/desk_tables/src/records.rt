@@ -2,24 +2,26 @@
 //!
 //! A crash at any moment of a question leaves what it would have left before.
 
-ghost use Rattle.std.specs.Prelude.{◌≡◌, ◌≢◌, IfOk, IfErr, OnOk, IsTrue, ⊤};
-ghost use Rattle.sqlite.specs.Held.{state};
-ghost use Rattle.sqlite.specs.State.{HasCleanDisk, Survives};
+ghost use Rattle.std.specs.Prelude.{◌≡◌, IfOk, OnOk, IsTrue, ⊤};
 ghost use Rattle.std.specs.Option.{option_copied};
+ghost use Rattle.sqlite.specs.State.{Survives};
+ghost use Rattle.bug_record.specs.Images.{AreApart, HasMember, IsSetOf, FitsDesk};
 ghost use Rattle.bug_record.specs.Sets.{Each};
 ghost use Rattle.bug_record.specs.Texts.{IsText, IfGiven};
-ghost use Rattle.bug_record.specs.Images.{AreApart, HasMember, IsSetOf, FitsDesk};
 ghost use Rattle.desk_content.specs.Changes.{changed};
 ghost use Rattle.desk_content.specs.Keeping.{kept_after};
-ghost use Rattle.desk_store.specs.Store.{Holds, Asks, Answers, Applies, Branches, IsRefusal, IsImageOf, IsNext, IsOpenHead, AreWaitingOn, AreListed, Since, MayBeKept, Keeps, faults_after, total};
-ghost use Rattle.bug_record.specs.declared.outcome.StoreFault.TheVariants.{Foreign};
-ghost use Rattle.desk_tables.specs.declared.desk.TableDesk.{TableDesk as SeenDesk};
-ghost use Rattle.desk_tables.specs.Kept.{content_seen, desk_seen, keeping_seen, MayKeep, IsKept};
+ghost use Rattle.desk_store.specs.Store.{Holds, Since, Applies, Branches, IsRefusal};
+ghost use Rattle.desk_store.specs.Store.{IsImageOf, IsNext, IsOpenHead, AreWaitingOn, AreListed};
+ghost use Rattle.desk_store.specs.Store.{faults_after, total};
 ghost use Rattle.line_words.specs.Ids.{IsId};
+ghost use Rattle.desk_tables.specs.Desk.{state_of, content_shown, desk_of, keeping_of, faults_of};
+ghost use Rattle.desk_tables.specs.Desk.{HasHonestDisk, HasKeptTables, IsAnswered, NeverForeign};
+ghost use Rattle.desk_tables.specs.Desk.{MayKeep, KeepsOf};
 ghost use Rattle.desk_tables.specs.Shown.{AreTablesOf, AreTablesAfter};
+ghost use Rattle.desk_tables.specs.declared.desk.TableDesk.{TableDesk as SeenDesk};
 
-use crate::calls::{ask_kept, ask_listed, ask_next, ask_set_of, ask_waiting_on};
 use crate::desk::TableDesk;
+use crate::questions::{KeptOf, Listed, Next, SetOf, WaitingOn};
 use ancestry::BranchFault;
 use bug_record::{Change, Numbers, Outcome, Sequence, SetImage, StoreFault};
 use desk_store::{Kept, Records};
@@ -28,46 +30,44 @@ use sqlite::Alter;
 use version_nodes::Node;
 
 impl<S: Alter> Records for TableDesk<S> {
-    ghost desk = { λ d. desk_seen S.Store d.last.values };
+    ghost desk = { desk_of };
 
-    ghost keeping = { λ d. keeping_seen S.Store d.last.values };
+    ghost keeping = { keeping_of };
 
-    ghost is_kept = { λ d. IsKept S.Store d.last.values d.begun.values d.conn d.family };
+    ghost is_kept = { HasKeptTables };
 
-    ghost is_honest = { λ d. HasCleanDisk (state S.Store d.conn) };
+    ghost is_honest = { HasHonestDisk };
 
-    ghost faults = { λ d. d.counts };
+    ghost faults = { faults_of };
 
     ghost next_gives = { λ old new answer. ⊤ };
 
     /// The image of the set that the bug is in; `None` exactly where there is no bug of this
     /// number.
     fn set_of(&mut self, number: u64) -> Result<Option<SetImage>, StoreFault>
-        ensures answer { Asks (λ d. IsKept S.Store d.last.values d.begun.values d.conn d.family) (λ d. HasCleanDisk (state S.Store d.conn)) self.old self.new
-            (Answers (desk_seen S.Store self.old.last.values) (desk_seen S.Store self.new.last.values) result (IsImageOf (desk_seen S.Store self.old.last.values) number)) }
-        ensures sure { IsKept S.Store self.old.last.values self.old.begun.values self.old.conn self.old.family → HasCleanDisk (state S.Store self.new.conn) →
-            IfErr result (λ fault. fault ≢ Foreign) }
-        ensures stays { keeping_seen S.Store self.new.last.values ≡ keeping_seen S.Store self.old.last.values }
-        ensures count { self.new.counts ≡ faults_after result self.old.counts }
-        ensures crash { Survives (state S.Store self.old.conn) (state S.Store self.new.conn) (λ _. ⊥) }
+        ensures answer { IsAnswered self.old self.new result (IsImageOf (desk_of self.old) number) }
+        ensures sure { NeverForeign self.old self.new result }
+        ensures stays { keeping_of self.new ≡ keeping_of self.old }
+        ensures count { faults_of self.new ≡ faults_after result (faults_of self.old) }
+        ensures crash { Survives (state_of self.old) (state_of self.new) (λ _. ⊥) }
     {
-        self.begun = self.begun.and(&self.conn);
-        let answer = ask_set_of(self.alloc, &mut self.conn, number);
+        let question = SetOf {
+            alloc: self.alloc,
+            number,
+        };
+        let answer = self.ask(&question);
         self.counts.note(answer)
     }
 
     /// The number of the next bug: 1,000,000,000 where no number is left.
     fn next(&mut self) -> Result<u64, StoreFault>
-        ensures answer { Asks (λ d. IsKept S.Store d.last.values d.begun.values d.conn d.family) (λ d. HasCleanDisk (state S.Store d.conn)) self.old self.new
-            (Answers (desk_seen S.Store self.old.last.values) (desk_seen S.Store self.new.last.values) result (IsNext (desk_seen S.Store self.old.last.values))) }
-        ensures sure { IsKept S.Store self.old.last.values self.old.begun.values self.old.conn self.old.family → HasCleanDisk (state S.Store self.new.conn) →
-            IfErr result (λ fault. fault ≢ Foreign) }
-        ensures stays { keeping_seen S.Store self.new.last.values ≡ keeping_seen S.Store self.old.last.values }
-        ensures count { self.new.counts ≡ faults_after result self.old.counts }
-        ensures crash { Survives (state S.Store self.old.conn) (state S.Store self.new.conn) (λ _. ⊥) }
+        ensures answer { IsAnswered self.old self.new result (IsNext (desk_of self.old)) }
+        ensures sure { NeverForeign self.old self.new result }
+        ensures stays { keeping_of self.new ≡ keeping_of self.old }
+        ensures count { faults_of self.new ≡ faults_after result (faults_of self.old) }
+        ensures crash { Survives (state_of self.old) (state_of self.new) (λ _. ⊥) }
     {
-        self.begun = self.begun.and(&self.conn);
-        let answer = ask_next(&mut self.conn);
+        let answer = self.ask(&Next);
         self.counts.note(answer)
     }
 
@@ -75,16 +75,18 @@ impl<S: Alter> Records for TableDesk<S> {
     /// among their blockers.
     /// Its errors are the store's faults, and `Memory` where there is none for the numbers.
     fn waiting_on(&mut self, number: u64) -> Result<Numbers, StoreFault>
-        ensures answer { Asks (λ d. IsKept S.Store d.last.values d.begun.values d.conn d.family) (λ d. HasCleanDisk (state S.Store d.conn)) self.old self.new
-            (Answers (desk_seen S.Store self.old.last.values) (desk_seen S.Store self.new.last.values) result (AreWaitingOn (desk_seen S.Store self.old.last.values) number)) }
-        ensures sure { IsKept S.Store self.old.last.values self.old.begun.values self.old.conn self.old.family → HasCleanDisk (state S.Store self.new.conn) →
-            IfErr result (λ fault. fault ≢ Foreign) }
-        ensures stays { keeping_seen S.Store self.new.last.values ≡ keeping_seen S.Store self.old.last.values }
-        ensures count { self.new.counts ≡ faults_after result self.old.counts }
-        ensures crash { Survives (state S.Store self.old.conn) (state S.Store self.new.conn) (λ _. ⊥) }
+        ensures answer { IsAnswered self.old self.new result
+            (AreWaitingOn (desk_of self.old) number) }
+        ensures sure { NeverForeign self.old self.new result }
+        ensures stays { keeping_of self.new ≡ keeping_of self.old }
+        ensures count { faults_of self.new ≡ faults_after result (faults_of self.old) }
+        ensures crash { Survives (state_of self.old) (state_of self.new) (λ _. ⊥) }
     {
-        self.begun = self.begun.and(&self.conn);
-        let answer = ask_waiting_on(self.alloc, &mut self.conn, number);
+        let question = WaitingOn {
+            alloc: self.alloc,
+            number,
+        };
+        let answer = self.ask(&question);
         self.counts.note(answer)
     }
 
@@ -94,16 +96,19 @@ impl<S: Alter> Records for TableDesk<S> {
     /// It looks at the marks of each such set and one row of nearest marks, and reads no tree.
     /// Its errors are the store's faults, and `Memory` where there is none for the rows.
     fn listed(&mut self, package: &str, node: &Node) -> Result<Sequence<ListRow>, StoreFault>
-        ensures answer { Asks (λ d. IsKept S.Store d.last.values d.begun.values d.conn d.family) (λ d. HasCleanDisk (state S.Store d.conn)) self.old self.new
-            (Answers (desk_seen S.Store self.old.last.values) (desk_seen S.Store self.new.last.values) result (AreListed (desk_seen S.Store self.old.last.values) «package».now node.now)) }
-        ensures sure { IsKept S.Store self.old.last.values self.old.begun.values self.old.conn self.old.family → HasCleanDisk (state S.Store self.new.conn) →
-            IfErr result (λ fault. fault ≢ Foreign) }
-        ensures stays { keeping_seen S.Store self.new.last.values ≡ keeping_seen S.Store self.old.last.values }
-        ensures count { self.new.counts ≡ faults_after result self.old.counts }
-        ensures crash { Survives (state S.Store self.old.conn) (state S.Store self.new.conn) (λ _. ⊥) }
+        ensures answer { IsAnswered self.old self.new result
+            (AreListed (desk_of self.old) «package».now node.now) }
+        ensures sure { NeverForeign self.old self.new result }
+        ensures stays { keeping_of self.new ≡ keeping_of self.old }
+        ensures count { faults_of self.new ≡ faults_after result (faults_of self.old) }
+        ensures crash { Survives (state_of self.old) (state_of self.new) (λ _. ⊥) }
     {
-        self.begun = self.begun.and(&self.conn);
-        let answer = ask_listed(self.alloc, &mut self.conn, package, node);
+        let question = Listed {
+            alloc: self.alloc,
+            package,
+            node,
+        };
+        let answer = self.ask(&question);
         self.counts.note(answer)
     }
 
@@ -112,15 +117,14 @@ impl<S: Alter> Records for TableDesk<S> {
     /// It is asked of an image of the desk, which has a member.
     fn open_head(&mut self, image: &SetImage) -> Result<Option<Node>, StoreFault>
         requires member { HasMember image.now }
-        requires set { IsKept S.Store self.old.last.values self.old.begun.values self.old.conn self.old.family → HasCleanDisk (state S.Store self.old.conn) →
-            IsSetOf (desk_seen S.Store self.old.last.values) image.now }
-        ensures answer { Asks (λ d. IsKept S.Store d.last.values d.begun.values d.conn d.family) (λ d. HasCleanDisk (state S.Store d.conn)) self.old self.new
-            (Answers (desk_seen S.Store self.old.last.values) (desk_seen S.Store self.new.last.values) result (IsOpenHead (desk_seen S.Store self.old.last.values) image.now)) }
-        ensures sure { IsKept S.Store self.old.last.values self.old.begun.values self.old.conn self.old.family → HasCleanDisk (state S.Store self.new.conn) →
-            IfErr result (λ fault. fault ≢ Foreign) }
-        ensures stays { keeping_seen S.Store self.new.last.values ≡ keeping_seen S.Store self.old.last.values }
-        ensures count { self.new.counts ≡ faults_after result self.old.counts }
-        ensures crash { Survives (state S.Store self.old.conn) (state S.Store self.new.conn) (λ _. ⊥) }
+        requires set { HasKeptTables self.old → HasHonestDisk self.old →
+            IsSetOf (desk_of self.old) image.now }
+        ensures answer { IsAnswered self.old self.new result
+            (IsOpenHead (desk_of self.old) image.now) }
+        ensures sure { NeverForeign self.old self.new result }
+        ensures stays { keeping_of self.new ≡ keeping_of self.old }
+        ensures count { faults_of self.new ≡ faults_after result (faults_of self.old) }
+        ensures crash { Survives (state_of self.old) (state_of self.new) (λ _. ⊥) }
     {
         let answer = self.load_and_ask_head(image);
         self.counts.note(answer)
@@ -133,22 +137,22 @@ impl<S: Alter> Records for TableDesk<S> {
     /// A crash at any moment of the call leaves what it would have left before, or the desk after
     /// the change.
     fn apply(&mut self, change: &Change) -> Result<(), StoreFault>
-        requires apart { IsKept S.Store self.old.last.values self.old.begun.values self.old.conn self.old.family → HasCleanDisk (state S.Store self.old.conn) →
+        requires apart { HasKeptTables self.old → HasHonestDisk self.old →
             AreApart change.now.images }
         requires members { Each HasMember change.now.images }
-        requires fits { IsKept S.Store self.old.last.values self.old.begun.values self.old.conn self.old.family → HasCleanDisk (state S.Store self.old.conn) →
-            FitsDesk (desk_seen S.Store self.old.last.values) change.now }
-        ensures answer { Holds (λ d. IsKept S.Store d.last.values d.begun.values d.conn d.family) (λ d. HasCleanDisk (state S.Store d.conn)) self.old self.new
-            (Applies (desk_seen S.Store self.old.last.values) (desk_seen S.Store self.new.last.values) result change.now) }
-        ensures sure { IsKept S.Store self.old.last.values self.old.begun.values self.old.conn self.old.family → HasCleanDisk (state S.Store self.new.conn) →
-            IfErr result (λ fault. fault ≢ Foreign) }
-        ensures stays { Holds (λ d. IsKept S.Store d.last.values d.begun.values d.conn d.family) (λ d. HasCleanDisk (state S.Store d.conn)) self.old self.new
-            (keeping_seen S.Store self.new.last.values ≡ keeping_seen S.Store self.old.last.values) }
-        ensures count { self.new.counts ≡ faults_after result self.old.counts }
-        ensures serves { IsKept S.Store self.old.last.values self.old.begun.values self.old.conn self.old.family → HasCleanDisk (state S.Store self.new.conn) →
-            OnOk result (IsTrue (state S.Store self.new.conn).is_open) }
-        ensures crash { IsKept S.Store self.old.last.values self.old.begun.values self.old.conn self.old.family →
-            Survives (state S.Store self.old.conn) (state S.Store self.new.conn) (AreTablesOf (changed (content_seen S.Store self.old.last.values) change.now)) }
+        requires fits { HasKeptTables self.old → HasHonestDisk self.old →
+            FitsDesk (desk_of self.old) change.now }
+        ensures answer { Holds HasKeptTables HasHonestDisk self.old self.new
+            (Applies (desk_of self.old) (desk_of self.new) result change.now) }
+        ensures sure { NeverForeign self.old self.new result }
+        ensures stays { Holds HasKeptTables HasHonestDisk self.old self.new
+            (keeping_of self.new ≡ keeping_of self.old) }
+        ensures count { faults_of self.new ≡ faults_after result (faults_of self.old) }
+        ensures serves { HasKeptTables self.old → HasHonestDisk self.new →
+            OnOk result (IsTrue (state_of self.new).is_open) }
+        ensures crash { HasKeptTables self.old →
+            Survives (state_of self.old) (state_of self.new)
+            (AreTablesOf (changed (content_shown self.old) change.now)) }
     {
         let done = self.load_and_make(change);
         self.counts.note(done)
@@ -161,18 +165,18 @@ impl<S: Alter> Records for TableDesk<S> {
     /// A crash at any moment of the call leaves what it would have left before, or the desk after
     /// the branch.
     fn branch(&mut self, nodes: &[Node]) -> Result<Result<(), BranchFault>, StoreFault>
-        ensures answer { Holds (λ d. IsKept S.Store d.last.values d.begun.values d.conn d.family) (λ d. HasCleanDisk (state S.Store d.conn)) self.old self.new
-            (Branches (desk_seen S.Store self.old.last.values) (desk_seen S.Store self.new.last.values) result nodes.now) }
+        ensures answer { Holds HasKeptTables HasHonestDisk self.old self.new
+            (Branches (desk_of self.old) (desk_of self.new) result nodes.now) }
         ensures refusal { IfOk result IsRefusal }
-        ensures sure { IsKept S.Store self.old.last.values self.old.begun.values self.old.conn self.old.family → HasCleanDisk (state S.Store self.new.conn) →
-            IfErr result (λ fault. fault ≢ Foreign) }
-        ensures stays { Holds (λ d. IsKept S.Store d.last.values d.begun.values d.conn d.family) (λ d. HasCleanDisk (state S.Store d.conn)) self.old self.new
-            (keeping_seen S.Store self.new.last.values ≡ keeping_seen S.Store self.old.last.values) }
-        ensures count { self.new.counts ≡ faults_after result self.old.counts }
-        ensures serves { IsKept S.Store self.old.last.values self.old.begun.values self.old.conn self.old.family → HasCleanDisk (state S.Store self.new.conn) →
-            IfOk result (λ taken. OnOk taken (IsTrue (state S.Store self.new.conn).is_open)) }
-        ensures crash { IsKept S.Store self.old.last.values self.old.begun.values self.old.conn self.old.family →
-            Survives (state S.Store self.old.conn) (state S.Store self.new.conn) (AreTablesAfter (content_seen S.Store self.old.last.values) nodes.now) }
+        ensures sure { NeverForeign self.old self.new result }
+        ensures stays { Holds HasKeptTables HasHonestDisk self.old self.new
+            (keeping_of self.new ≡ keeping_of self.old) }
+        ensures count { faults_of self.new ≡ faults_after result (faults_of self.old) }
+        ensures serves { HasKeptTables self.old → HasHonestDisk self.new →
+            IfOk result (λ taken. OnOk taken (IsTrue (state_of self.new).is_open)) }
+        ensures crash { HasKeptTables self.old →
+            Survives (state_of self.old) (state_of self.new)
+            (AreTablesAfter (content_shown self.old) nodes.now) }
     {
         let done = self.load_and_take(nodes);
         self.counts.note(done)
@@ -181,16 +185,18 @@ impl<S: Alter> Records for TableDesk<S> {
     /// What is kept of the message of this id; `None` where the id is not known.
     /// Its errors are the store's faults, and `Memory` where there is none for it.
     fn kept(&mut self, id: &str) -> Result<Option<Kept>, StoreFault>
-        ensures answer { Asks (λ d. IsKept S.Store d.last.values d.begun.values d.conn d.family) (λ d. HasCleanDisk (state S.Store d.conn)) self.old self.new
-            (Answers (desk_seen S.Store self.old.last.values) (desk_seen S.Store self.new.last.values) result (λ kept. kept ≡ keeping_seen S.Store self.old.last.values id.now)) }
-        ensures sure { IsKept S.Store self.old.last.values self.old.begun.values self.old.conn self.old.family → HasCleanDisk (state S.Store self.new.conn) →
-            IfErr result (λ fault. fault ≢ Foreign) }
-        ensures stays { keeping_seen S.Store self.new.last.values ≡ keeping_seen S.Store self.old.last.values }
-        ensures count { self.new.counts ≡ faults_after result self.old.counts }
-        ensures crash { Survives (state S.Store self.old.conn) (state S.Store self.new.conn) (λ _. ⊥) }
+        ensures answer { IsAnswered self.old self.new result
+            (λ kept. kept ≡ keeping_of self.old id.now) }
+        ensures sure { NeverForeign self.old self.new result }
+        ensures stays { keeping_of self.new ≡ keeping_of self.old }
+        ensures count { faults_of self.new ≡ faults_after result (faults_of self.old) }
+        ensures crash { Survives (state_of self.old) (state_of self.new) (λ _. ⊥) }
     {
-        self.begun = self.begun.and(&self.conn);
-        let answer = ask_kept(self.alloc, &mut self.conn, id);
+        let question = KeptOf {
+            alloc: self.alloc,
+            id,
+        };
+        let answer = self.ask(&question);
         self.counts.note(answer)
     }
 
@@ -209,27 +215,32 @@ impl<S: Alter> Records for TableDesk<S> {
     ) -> Result<(), StoreFault>
         requires id { IsId id.now }
         requires sender { IsText from.now }
-        requires members { IfGiven (λ (c : Change). Each HasMember c.images) (option_copied change) }
-        requires apart { IsKept S.Store self.old.last.values self.old.begun.values self.old.conn self.old.family → HasCleanDisk (state S.Store self.old.conn) →
+        requires members { IfGiven (λ (c : Change). Each HasMember c.images)
+            (option_copied change) }
+        requires apart { HasKeptTables self.old → HasHonestDisk self.old →
             IfGiven (λ (c : Change). AreApart c.images) (option_copied change) }
-        requires fits { IsKept S.Store self.old.last.values self.old.begun.values self.old.conn self.old.family → HasCleanDisk (state S.Store self.old.conn) →
-            IfGiven (FitsDesk (desk_seen S.Store self.old.last.values)) (option_copied change) }
-        requires next { Since (λ d. IsKept S.Store d.last.values d.begun.values d.conn d.family) (λ d. HasCleanDisk (state S.Store d.conn)) self.old
-            (MayBeKept id.now from.now message.now (keeping_seen S.Store self.old.last.values) (desk_seen S.Store self.old.last.values) outcome.now (option_copied change)) }
-        ensures answer { (earlier : SeenDesk S S.Store) → Holds (λ d. IsKept S.Store d.last.values d.begun.values d.conn d.family) (λ d. HasCleanDisk (state S.Store d.conn)) earlier self.old
-            (MayBeKept id.now from.now message.now (keeping_seen S.Store self.old.last.values) (desk_seen S.Store self.old.last.values) outcome.now (option_copied change.entry)) →
-            Holds (λ d. IsKept S.Store d.last.values d.begun.values d.conn d.family) (λ d. HasCleanDisk (state S.Store d.conn)) earlier self.new
-            (Keeps id.now from.now message.now outcome.now (option_copied change.entry) (desk_seen S.Store self.old.last.values) (keeping_seen S.Store self.old.last.values)
-            result (desk_seen S.Store self.new.last.values) (keeping_seen S.Store self.new.last.values)) }
-        ensures honest { HasCleanDisk (state S.Store self.new.conn) → HasCleanDisk (state S.Store self.old.conn) }
-        ensures sure { MayKeep S.Store self.old.last.values id.now from.now message.now outcome.now (option_copied change.entry) → IsKept S.Store self.old.last.values self.old.begun.values self.old.conn self.old.family → HasCleanDisk (state S.Store self.new.conn) →
-            IfErr result (λ fault. fault ≢ Foreign) }
-        ensures count { self.new.counts ≡ faults_after result self.old.counts }
-        ensures serves { MayKeep S.Store self.old.last.values id.now from.now message.now outcome.now (option_copied change.entry) → IsKept S.Store self.old.last.values self.old.begun.values self.old.conn self.old.family → HasCleanDisk (state S.Store self.new.conn) →
-            OnOk result (IsTrue (state S.Store self.new.conn).is_open) }
-        ensures crash { MayKeep S.Store self.old.last.values id.now from.now message.now outcome.now (option_copied change.entry) → IsKept S.Store self.old.last.values self.old.begun.values self.old.conn self.old.family →
-            Survives (state S.Store self.old.conn) (state S.Store self.new.conn)
-            (AreTablesOf (kept_after id.now from.now message.now outcome.now (option_copied change.entry) (content_seen S.Store self.old.last.values))) }
+        requires fits { HasKeptTables self.old → HasHonestDisk self.old →
+            IfGiven (FitsDesk (desk_of self.old)) (option_copied change) }
+        requires next { Since HasKeptTables HasHonestDisk self.old
+            (MayKeep self.old id.now from.now message.now outcome.now (option_copied change)) }
+        ensures answer { (earlier : SeenDesk S S.Store) →
+            Holds HasKeptTables HasHonestDisk earlier self.old
+            (MayKeep self.old id.now from.now message.now outcome.now
+            (option_copied change.entry)) → Holds HasKeptTables HasHonestDisk earlier self.new
+            (KeepsOf self.old self.new id.now from.now message.now outcome.now
+            (option_copied change.entry) result) }
+        ensures honest { HasHonestDisk self.new → HasHonestDisk self.old }
+        ensures sure { MayKeep self.old id.now from.now message.now outcome.now
+            (option_copied change.entry) → NeverForeign self.old self.new result }
+        ensures count { faults_of self.new ≡ faults_after result (faults_of self.old) }
+        ensures serves { MayKeep self.old id.now from.now message.now outcome.now
+            (option_copied change.entry) → HasKeptTables self.old → HasHonestDisk self.new →
+            OnOk result (IsTrue (state_of self.new).is_open) }
+        ensures crash { MayKeep self.old id.now from.now message.now outcome.now
+            (option_copied change.entry) → HasKeptTables self.old →
+            Survives (state_of self.old) (state_of self.new)
+            (AreTablesOf (kept_after id.now from.now message.now outcome.now
+            (option_copied change.entry) (content_shown self.old))) }
     {
         let done = self.load_and_keep(id, from, message, outcome, change);
         self.counts.note(done)
@@ -237,7 +248,7 @@ impl<S: Alter> Records for TableDesk<S> {
 
     /// How often the store has answered `Device`, `Full` or `Foreign` in all, up to `u64::MAX`.
     fn faults(&self) -> u64
-        ensures { result ≡ total self.now.counts }
+        ensures { result ≡ total (faults_of self.now) }
     {
         self.counts.total()
     }

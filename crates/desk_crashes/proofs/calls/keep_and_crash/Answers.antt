@@ -1,6 +1,6 @@
 use Rattle.std.specs.Option.{option_copied}
 use Rattle.desk_tables.proofs.KeepLemmas.{line_fits}
-use Rattle.desk_tables.specs.Kept.{content_seen}
+use Rattle.desk_tables.specs.Desk.{content_shown}
 use Rattle.desk_crashes.proofs.CrashLemmas.{either_keep, took_keep, done_keep}
 use Rattle.desk_crashes.proofs.calls.keep_and_crash.Goals as goal
 
@@ -9,7 +9,7 @@ returns-clause-either g c =
     either_keep g.S.Store c.args.desk c.keep-kept.new.self c.crash_and_open-again.result c.crash_and_open-again.ensures.left c.crash_and_open-again.ensures.honest
     c.args.id.now c.args.from.now c.args.message.now c.args.outcome.now (option_copied c.args.change)
     c.keep-kept.ensures.crash c.keep-kept.ensures.honest
-    (λ kept honest. line_fits (option_copied c.args.change) (content_seen g.S.Store c.args.desk.last.values) c.requires.members (c.requires.apart kept honest) (c.requires.fits kept honest))
+    (λ kept honest. line_fits (option_copied c.args.change) (content_shown c.args.desk) c.requires.members (c.requires.apart kept honest) (c.requires.fits kept honest))
     c.requires.sender
 
 pub returns-clause-taken : goal.returns-clause-taken

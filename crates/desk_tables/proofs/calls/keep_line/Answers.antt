@@ -22,7 +22,7 @@ returns-clause-changed g c =
     let change = option_copied c.args.change in
     let Fits : Content → Type 0 = (λ k. FitsLine (option_copied c.args.family) id sender message outcome change k) in
     subst (λ h. IsChanged (state g.S.Store c.args.conn.now) (state g.S.Store h) c.finish.result Fits (λ k. kept_after id sender message outcome change k)) same
-    (altered (state g.S.Store c.args.conn.now) (state g.S.Store c.put_kept-done.new.tx.conn.now) (state g.S.Store c.finish.new.tx.0) c.put_kept-done.result c.finish.result c.requires.unlimited
+    (altered (state g.S.Store c.args.conn.now) (state g.S.Store c.put_kept-done.new.tx.conn.now) (state g.S.Store c.finish.new.tx.0) c.put_kept-done.result c.finish.result c.requires.idle.unlimited
     c.finish.ensures.ends c.finish.ensures.ended Fits (λ k. kept_after id sender message outcome change k)
     (acts_weaker _ _ c.put_kept-done.result Fits Fits (λ k d _. IsKeptContent k → MayBePut id sender message outcome change k → HasTreeIfAny (option_copied c.args.family) k change → d ≡ kept_after id sender message outcome change k)
     (λ k d _. Fits k → d ≡ kept_after id sender message outcome change k) (λ k f. f) (λ k d a p f. p f.0 f.1 f.2)

@@ -16,7 +16,7 @@ returns-clause-changed g c =
     let same : c.finish.new.tx.0 ≡ c.conn-1.given.0 = search rules in
     let Fits : Content → Type 0 = (λ k. IsKeptContent k × IsGrown k.nodes u c.args.changed.now) in
     subst (λ h. IsChanged (state g.S.Store c.args.conn.now) (state g.S.Store h) c.finish.result Fits (λ k. with_nodes u k)) same
-    (altered (state g.S.Store c.args.conn.now) (state g.S.Store c.put_branch-done.new.tx.conn.now) (state g.S.Store c.finish.new.tx.0) c.put_branch-done.result c.finish.result c.requires.unlimited
+    (altered (state g.S.Store c.args.conn.now) (state g.S.Store c.put_branch-done.new.tx.conn.now) (state g.S.Store c.finish.new.tx.0) c.put_branch-done.result c.finish.result c.requires.idle.unlimited
     c.finish.ensures.ends c.finish.ensures.ended Fits (λ k. with_nodes u k)
     (acts_weaker _ _ c.put_branch-done.result Fits Fits (λ k d _. IsKeptContent k → IsGrown k.nodes u c.args.changed.now → d ≡ with_nodes u k) (λ k d _. Fits k → d ≡ with_nodes u k) (λ k f. f) (λ k d a p f. p f.0 f.1)
     (rw begun at c.put_branch-done.ensures.acts))

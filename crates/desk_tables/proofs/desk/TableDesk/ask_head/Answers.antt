@@ -1,21 +1,21 @@
-use Rattle.desk_store.specs.Store.{IsOpenHead}
-use Rattle.desk_tables.specs.Kept.{content_seen, desk_seen}
-use Rattle.desk_tables.proofs.KeptLemmas.{noted, tree_seen, is_asked}
-use Rattle.std.proofs.Common.{refl}
+use Rattle.std.proofs.Common.{◌≡◌, IfSome, refl, subst}
+use Rattle.desk_tables.specs.Kept.{content_seen}
+use Rattle.desk_tables.proofs.StillLemmas.{still_then}
+use Rattle.desk_tables.proofs.KeptLemmas.{noted, is_asked}
 use Rattle.desk_tables.proofs.desk.TableDesk.ask_head.Goals as goal
+
+pub invariant_of-self-clause-stays : goal.invariant_of-self-clause-stays
+invariant_of-self-clause-stays g c = still_then _ _ _ c.args.self.now.stays c.ask_within.ensures.asked.stays
 
 pub returns-in-Some : goal.returns-in-Some
 returns-in-Some g c =
     let d = c.args.self.now in
-    let last = d.last.values in
-    let image = c.args.image.now in
-    let asked = c.ask_open_head.ensures.asked in
-    let it = noted g.S.Store last d.begun.values c.and-self.result.values d.conn c.ask_open_head.new.conn d.family c.ask_open_head.result _ _ asked c.and-self.ensures (IsOpenHead (desk_seen g.S.Store last) image)
-    (λ was clean.
-    let for = is_asked c.in-Some.family image (content_seen g.S.Store last) was.content c.requires.member (c.requires.set was clean) (tree_seen g.S.Store last d.begun.values d.conn d.family c.in-Some.family c.in-Some.is was) in
-    (for, λ a p. p for)) in
+    let content = content_seen g.S.Store d.last.value in
+    let asked = c.ask_within.ensures.asked in
+    let it = noted g.S.Store d.last.value d.conn c.ask_within.new.conn d.family c.ask_within.result _ _ asked d.stays
+    (λ was clean. is_asked c.in-Some.family c.args.image.now content was.content c.requires.member (c.requires.set was clean) (subst (λ f. IfSome f (λ t. t ≡ content.nodes)) c.in-Some.is was.tree)) in
     record {
-      answer = record { holds = record { honest = it.honest; kept = it.kept; fact = it.fact }; was_kept = it.was_kept };
+      answer = record { holds = record { honest = it.honest; kept = λ was clean. was; fact = it.fact }; was_kept = λ now clean. now };
       sure = it.never;
       last = refl;
       survives = asked.survives;

@@ -1,30 +1,16 @@
-use Rattle.std.proofs.Common.{◌≡◌, refl}
-use Rattle.std.specs.Prelude.{⊤}
+use Rattle.std.proofs.Common.{◌≡◌, IfOk, sym, subst}
 use Rattle.desk_content.specs.Changes.{all_stay}
-use Rattle.desk_tables.proofs.KeptLemmas.{noted, answer, was_kept}
+use Rattle.desk_tables.specs.Kept.{content_seen}
+use Rattle.desk_tables.proofs.KeptLemmas.{answered}
 use Rattle.desk_tables.proofs.desk.TableDesk.ask_stay.Goals as goal
 
 pub returns-clause-answer : goal.returns-clause-answer
 returns-clause-answer g c =
-    let d = c.args.self.now in
-    let asked = rw c.as_slice.ensures at c.ask_marks_stay.ensures.asked in
-    let all = noted g.S.Store d.last.values d.begun.values c.and-self.result.values d.conn c.ask_marks_stay.new.conn d.family c.ask_marks_stay.result (λ _. ⊤)
-    (λ k stay. stay ≡ all_stay k c.args.change.now.images) asked c.and-self.ensures (λ _. ⊤) (λ was clean. (tt, λ a p. tt)) in
-    record { holds = record { honest = all.honest; kept = all.kept; fact = λ was clean. refl }; was_kept = all.was_kept }
-
-pub returns-clause-sure : goal.returns-clause-sure
-returns-clause-sure g c =
-    let d = c.args.self.now in
-    let asked = rw c.as_slice.ensures at c.ask_marks_stay.ensures.asked in
-    let all = noted g.S.Store d.last.values d.begun.values c.and-self.result.values d.conn c.ask_marks_stay.new.conn d.family c.ask_marks_stay.result (λ _. ⊤)
-    (λ k stay. stay ≡ all_stay k c.args.change.now.images) asked c.and-self.ensures (λ _. ⊤) (λ was clean. (tt, λ a p. tt)) in
-    all.never
+    let did = c.ask.ensures in
+    record { holds = record { honest = did.answer.holds.honest; kept = did.answer.holds.kept; fact = λ was clean. did.last }; was_kept = did.answer.was_kept }
 
 pub returns-clause-stay : goal.returns-clause-stay
 returns-clause-stay g c = λ now clean.
-    let d = c.args.self.now in
-    let asked = rw c.as_slice.ensures at c.ask_marks_stay.ensures.asked in
-    let was = was_kept g.S.Store d.last.values d.begun.values c.and-self.result.values d.conn c.ask_marks_stay.new.conn c.ask_marks_stay.result (λ _. ⊤)
-    (λ k stay. stay ≡ all_stay k c.args.change.now.images) asked c.and-self.ensures d.family d.family (λ w. w.tree) now in
-    answer g.S.Store d.last.values d.begun.values c.and-self.result.values d.conn c.ask_marks_stay.new.conn c.ask_marks_stay.result (λ _. ⊤)
-    (λ k stay. stay ≡ all_stay k c.args.change.now.images) asked c.and-self.ensures d.family was clean
+    let did = c.ask.ensures in
+    subst (λ h. IfOk c.ask.result (λ stay. stay ≡ all_stay (content_seen g.S.Store h) c.args.change.now.images)) (sym did.last)
+    (answered _ _ c.ask.result _ (did.answer.holds.fact (did.answer.was_kept now clean) clean))

@@ -1,10 +1,8 @@
-use Rattle.std.proofs.Common.{sym, subst}
 use Rattle.std.specs.Option.{option_copied}
 use Rattle.sqlite.specs.Held.{state}
 use Rattle.sqlite.proofs.StateLemmas.{survives_then, survives_weaker}
 use Rattle.desk_content.specs.Keeping.{kept_after}
-use Rattle.desk_store.specs.Store.{Keeps}
-use Rattle.desk_tables.specs.Kept.{content_seen, desk_seen, keeping_seen, MayKeep}
+use Rattle.desk_tables.specs.Kept.{content_seen}
 use Rattle.desk_tables.specs.Shown.{AreTablesOf}
 use Rattle.desk_tables.proofs.desk.TableDesk.load_and_keep.Goals as goal
 
@@ -16,23 +14,18 @@ pub returns-clause-answer : goal.returns-clause-answer
 returns-clause-answer g c = λ may.
     let last = c.in_ok-load_for_line.ensures.last in
     let loaded = c.in_ok-load_for_line.ensures.answer.holds in
-    let change = option_copied c.args.change in
-    let did = c.keep_outcome.ensures.answer (subst (λ l. MayKeep g.S.Store l c.args.id.now c.args.from.now c.args.message.now c.args.outcome.now change) (sym last) may) in
+    let did = c.keep_outcome.ensures.answer (rw last may) in
     record {
       honest = λ clean. loaded.honest (did.honest clean);
       kept = λ was clean. did.kept (loaded.kept was (did.honest clean)) clean;
-      fact = λ was clean. subst (λ l. Keeps c.args.id.now c.args.from.now c.args.message.now c.args.outcome.now change (desk_seen g.S.Store l) (keeping_seen g.S.Store l) c.keep_outcome.result
-          (desk_seen g.S.Store c.keep_outcome.new.self.last.values) (keeping_seen g.S.Store c.keep_outcome.new.self.last.values)) last
-          (did.fact (loaded.kept was (did.honest clean)) clean);
+      fact = λ was clean. rw last at (did.fact (loaded.kept was (did.honest clean)) clean);
     }
 
 pub returns-clause-crash : goal.returns-clause-crash
 returns-clause-crash g c = λ may was.
     let last = c.in_ok-load_for_line.ensures.last in
-    let change = option_copied c.args.change in
-    let after = kept_after c.args.id.now c.args.from.now c.args.message.now c.args.outcome.now change (content_seen g.S.Store c.args.self.now.last.values) in
-    let may_then = subst (λ l. MayKeep g.S.Store l c.args.id.now c.args.from.now c.args.message.now c.args.outcome.now change) (sym last) may in
+    let after = kept_after c.args.id.now c.args.from.now c.args.message.now c.args.outcome.now (option_copied c.args.change) (content_seen g.S.Store c.args.self.now.last.value) in
     survives_then (state g.S.Store c.args.self.now.conn) (state g.S.Store c.load_for_line.new.self.conn) (state g.S.Store c.keep_outcome.new.self.conn) (λ _. ⊥)
     (AreTablesOf after) (AreTablesOf after)
     (λ clean db none. absurd none) (λ clean db p. p) c.in_ok-load_for_line.ensures.survives
-    (rw last at (c.keep_outcome.ensures.crash may_then (λ clean. c.in_ok-load_for_line.ensures.answer.holds.kept was (c.keep_outcome.ensures.honest clean))))
+    (rw last at (c.keep_outcome.ensures.crash (rw last may) (λ clean. c.in_ok-load_for_line.ensures.answer.holds.kept was (c.keep_outcome.ensures.honest clean))))

@@ -13,6 +13,6 @@ pub returns-clause-crash : goal.returns-clause-crash
 returns-clause-crash g c = λ was.
     let last = c.in_ok-load_for.ensures.last in
     survives_then (state g.S.Store c.args.self.now.conn) (state g.S.Store c.load_for.new.self.conn) (state g.S.Store c.make.new.self.conn) (λ _. ⊥)
-    (AreTablesOf (changed (content_seen g.S.Store c.args.self.now.last.values) c.args.change.now)) (AreTablesOf (changed (content_seen g.S.Store c.args.self.now.last.values) c.args.change.now))
+    (AreTablesOf (changed (content_seen g.S.Store c.args.self.now.last.value) c.args.change.now)) (AreTablesOf (changed (content_seen g.S.Store c.args.self.now.last.value) c.args.change.now))
     (λ clean db none. absurd none) (λ clean db p. p) c.in_ok-load_for.ensures.survives
     (rw last at (c.make.ensures.crash (λ clean. c.in_ok-load_for.ensures.answer.holds.kept was (c.make.ensures.answer.honest clean))))

@@ -1,5 +1,4 @@
-use Rattle.std.proofs.Common.{◌≡◌, is_some, true, false, sym, ap, ◌∙◌}
-use Rattle.desk_content.specs.Changes.{all_stay}
+use Rattle.std.proofs.Common.{◌≡◌, is_some, false, sym, ap, ◌∙◌}
 use Rattle.desk_tables.specs.Kept.{content_seen}
 use Rattle.desk_tables.proofs.KeptLemmas.{tree_there, tree_spared, tree_read}
 use Rattle.desk_tables.proofs.desk.TableDesk.load_for.Goals as goal
@@ -7,16 +6,15 @@ use Rattle.desk_tables.proofs.desk.TableDesk.load_for.Goals as goal
 pub returns-then-is_some-clause-tree : goal.returns-then-is_some-clause-tree
 returns-then-is_some-clause-tree g c = λ was clean.
     let d = c.args.self.now in
-    tree_there g.S.Store d.last.values d.begun.values d.conn d.family c.args.change.now (sym c.is_some.ensures ∙ c.if-is_some.true) was
+    tree_there d.family (content_seen g.S.Store d.last.value) c.args.change.now (sym c.is_some.ensures ∙ c.if-is_some.true) was.tree
 
 pub returns-then-stay-clause-tree : goal.returns-then-stay-clause-tree
 returns-then-stay-clause-tree g c = λ now clean.
     let d = c.ask_stay.new.self in
     let none : is_some d.family ≡ false = ap is_some c.in_ok-stay.ensures.family ∙ sym c.is_some.ensures ∙ c.if-is_some.false in
-    let stay : all_stay (content_seen g.S.Store d.last.values) c.args.change.now.images ≡ true = sym (c.in_ok-stay.ensures.stay now clean) ∙ c.if-stay.true in
-    tree_spared d.family (content_seen g.S.Store d.last.values) c.args.change.now none stay
+    tree_spared d.family (content_seen g.S.Store d.last.value) c.args.change.now none (sym (c.in_ok-stay.ensures.stay now clean) ∙ c.if-stay.true)
 
 pub returns-clause-tree : goal.returns-clause-tree
 returns-clause-tree g c = λ now clean.
     let d = c.load.new.self in
-    tree_read g.S.Store d.last.values d.begun.values d.conn d.family c.args.change.now c.load.result c.load.ensures.some now
+    tree_read d.family (content_seen g.S.Store d.last.value) c.args.change.now c.load.result c.load.ensures.some now.tree

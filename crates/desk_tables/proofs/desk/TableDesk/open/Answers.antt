@@ -1,20 +1,24 @@
-use Rattle.std.proofs.Common.{Ok, Err, refl, ap, ◌∙◌}
+use Rattle.std.proofs.Common.{◌≡◌, Ok, Err, IfSome, refl, sym, ap, subst, ◌∙◌}
+use Rattle.sqlite.specs.Held.{state}
 use Rattle.desk_tables.specs.Kept.{content_seen}
-use Rattle.desk_tables.proofs.KeptLemmas.{found_kept}
+use Rattle.desk_tables.proofs.KeptLemmas.{content_is, noted_kept}
 use Rattle.desk_tables.proofs.OpeningLemmas.{opened}
 use Rattle.desk_tables.proofs.desk.TableDesk.open.Goals as goal
+
+pub found-requires-clause-stays : goal.found-requires-clause-stays
+found-requires-clause-stays g c = c.in-Ok.ensures.found.still
 
 pub returns-in-Ok : goal.returns-in-Ok
 returns-in-Ok g c =
     let d = c.found.result in
-    let it = opened g.S.Store c.args.conn c.set_step_limit.new.self c.find_desk.new.conn d.conn c.set_step_limit.ensures c.found.ensures.conn (λ last. content_seen g.S.Store last.values) (Ok c.in-Ok.last) c.in-Ok.ensures.found in
-    let same = ap (content_seen g.S.Store) c.found.ensures.last in
+    let it = opened g.S.Store c.args.conn c.set_step_limit.new.self c.find_desk.new.conn d.conn c.set_step_limit.ensures c.found.ensures.conn (λ last. state g.S.Store last.value) (Ok c.in-Ok.last) c.in-Ok.ensures.found in
+    let same = ap (content_seen g.S.Store) c.found.ensures.last ∙ content_is g.S.Store c.in-Ok.last.value in
     record {
       honest = it.found.honest;
       content = λ k clean holds. same ∙ (it.found.holds k clean (it.holds k holds)).0;
       kept = λ k clean holds good.
           let all = it.found.holds k clean (it.holds k holds) in
-          found_kept g.S.Store d.last.values d.begun.values d.conn d.family k (same ∙ all.0) c.found.ensures.begun c.found.ensures.family all.1 good;
+          noted_kept g.S.Store d.last.value c.in-Ok.last.value d.family k c.found.ensures.last (same ∙ all.0) all.1 good (subst (λ f. IfSome f (λ t. t ≡ k.nodes)) (sym c.found.ensures.family) tt);
       says = it.found.says;
       serves = λ k content clean low shows. it.found.serves k content clean low (it.under k content shows);
       counts = c.found.ensures.counts;
@@ -27,7 +31,7 @@ returns-in-Ok g c =
 
 pub returns-in-Err : goal.returns-in-Err
 returns-in-Err g c =
-    let it = opened g.S.Store c.args.conn c.set_step_limit.new.self c.find_desk.new.conn c.find_desk.new.conn c.set_step_limit.ensures refl (λ last. content_seen g.S.Store last.values) (Err c.in-Err.fault) c.in-Err.ensures.found in
+    let it = opened g.S.Store c.args.conn c.set_step_limit.new.self c.find_desk.new.conn c.find_desk.new.conn c.set_step_limit.ensures refl (λ last. state g.S.Store last.value) (Err c.in-Err.fault) c.in-Err.ensures.found in
     record {
       honest = tt;
       content = tt;

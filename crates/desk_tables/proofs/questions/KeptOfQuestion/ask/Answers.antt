@@ -1,0 +1,5 @@
+use Rattle.desk_tables.proofs.TransactionLemmas.{asks_read}
+use Rattle.desk_tables.proofs.questions.KeptOfQuestion.ask.Goals as goal
+
+pub returns-clause-asks : goal.returns-clause-asks
+returns-clause-asks g c = asks_read c.read_kept.result _ _ _ _ _ _ (λ k fits. tt) (λ k a p fits. p) c.read_kept.ensures.reads c.read_kept.ensures.serves
