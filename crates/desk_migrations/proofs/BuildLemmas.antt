@@ -1,38 +1,11 @@
 -- What one text that makes a table or an index comes to, and several of them.
-use Rattle.std.proofs.Common.{◌≡◌, ◌≢◌, ◌≤◌, inl, inr, ℕ, ◌+◌, ◌^◌, List, [], ◌∷◌, ◌++◌, length, codes, true, false, Some, slice_get, None, Result, Ok, Err, IfOk, IsTrue, refl, sym, ap, subst, ◌∙◌, arith}
-use Rattle.std.specs.List.{AllByRecursion}
-use Rattle.std.specs.Str.{is_utf8}
+use Rattle.desk_migrations.proofs.Imports.{IsBlank, Builds, HasRun, IsBuilt, no_tables}
+use Rattle.desk_schema.proofs.Exports.{◌≡◌, ◌≢◌, ◌≤◌, inl, inr, ℕ, ◌+◌, ◌^◌, List, [], ◌∷◌, ◌++◌, length, codes, true, false, Some, slice_get, None, Result, Ok, Err, IfOk, IsTrue, refl, sym, ap, subst, ◌∙◌, arith, AllByRecursion, is_utf8, created, indexed, next_tree, is_used, is_reserved, automatics, CreateTable, CreateIndex, table_defined_by, index_defined_by, understood, Text, IsPlain, command_of, statement_of, Row, Schema, Table, Trees, State, IsLive, HasCleanDisk, KeepsCommit, Survives, ExecutesInside, Error, survives_then, Keeps, table_reals, index_reals, Index, StoreFault, Foreign, fault_of, written, tail_of, width_of, IsSureTable, IsSureIndex, table_free, index_free, CreatesTable, CreatesIndex, creates, creates_index, still_rows, Held, state, Ghosts}
 use Rattle.std.proofs.Math.Dec.{leb}
-use Rattle.sqlite.specs.Change.{created, indexed, next_tree, is_used, is_reserved, automatics}
-use Rattle.sqlite.specs.Command.TheVariants.{CreateTable, CreateIndex}
-use Rattle.sqlite.specs.Compile.{table_defined_by, index_defined_by}
 use Rattle.sqlite.specs.Does.{lacks_sequence}
-use Rattle.sqlite.specs.Listing.{understood}
-use Rattle.sqlite.specs.declared.types.Value.TheVariants.{Text}
-use Rattle.sqlite.proofs.Callers.{IsPlain, command_of, statement_of}
 use Rattle.sqlite_catalog.specs.Listing.{is_fit, is_formed}
-use Rattle.sqlite.specs.Order.{Row}
-use Rattle.sqlite.specs.Schema.{Schema}
-use Rattle.sqlite.specs.Table.{Table}
-use Rattle.sqlite.specs.Tree.{Trees}
-use Rattle.sqlite.specs.State.{State, IsLive, HasCleanDisk, KeepsCommit, Survives, ExecutesInside}
-use Rattle.sqlite.specs.declared.error.Error.{Error}
 use Rattle.sqlite.proofs.InsideLemmas.{keeps_then}
-use Rattle.sqlite.proofs.StateLemmas.{survives_then}
-use Rattle.sqlite_schema.specs.Rules.{Keeps, table_reals, index_reals}
 use Rattle.sqlite_schema.specs.declared.schema.Constraint.TheVariants.{Unique}
-use Rattle.sqlite_schema.specs.declared.schema.Index.{Index}
-use Rattle.bug_record.specs.declared.outcome.StoreFault.{StoreFault}
-use Rattle.bug_record.specs.declared.outcome.StoreFault.TheVariants.{Foreign}
-use Rattle.sql_forms.specs.Faults.{fault_of, written}
-use Rattle.sql_forms.proofs.ErrorLemmas.{tail_of, width_of}
-use Rattle.sql_forms.proofs.CreateErrors.{IsSureTable, IsSureIndex, table_free, index_free}
-use Rattle.sql_forms.proofs.CreateLemmas.{CreatesTable, CreatesIndex, creates, creates_index, still_rows}
-use Rattle.sqlite.specs.Held.{Held, state}
-use Rattle.sqlite.specs.Store.{Ghosts}
-use Rattle.desk_migrations.specs.Making.{IsBlank, Builds}
-use Rattle.desk_migrations.specs.Stages.{HasRun, IsBuilt}
-use Rattle.desk_migrations.specs.Names.{no_tables}
 
 -- ---- one text
 

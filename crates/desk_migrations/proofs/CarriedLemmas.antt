@@ -1,24 +1,8 @@
 -- What the steps of the history make of a database.
-use Rattle.std.proofs.Common.{◌≡◌, ℕ, Bool, true, false, if◌then◌else◌, ◌==◌, eq-eqb, List, [], ◌∷◌, drop, Result, refl, sym, subst, ◌∙◌}
-use Rattle.std.specs.Prelude.{⊤}
-use Rattle.std.proofs.lemmas.List.{drop-map}
-use Rattle.std.specs.List.{AllByRecursion}
-use Rattle.sqlite.specs.Held.{Held, state}
-use Rattle.sqlite.specs.State.{State}
-use Rattle.sqlite.specs.Store.{Ghosts}
-use Rattle.sqlite.specs.Order.{Row}
-use Rattle.sqlite.specs.Table.{Table}
-use Rattle.sqlite.specs.Tree.{Trees}
+use Rattle.desk_migrations.proofs.Imports.{Step, texts, history, schema_at, without, without_steps, no_rows, IsBlank, IsUnder, no_tables, RunsSteps, IsBuilt, AreNumbered}
+use Rattle.desk_schema.proofs.Exports.{◌≡◌, ℕ, Bool, true, false, if◌then◌else◌, ◌==◌, List, [], ◌∷◌, drop, Result, refl, sym, subst, ◌∙◌, ⊤, drop-map, AllByRecursion, Held, state, State, Ghosts, Row, Table, Trees, with_tree, StoreFault, Content, META, desk_schema, AreSame}
+use Rattle.std.proofs.Common.{eq-eqb}
 use Rattle.sqlite_catalog.specs.Change.{KeepsRows}
-use Rattle.sqlite_trees.specs.Tree.{with_tree}
-use Rattle.bug_record.specs.declared.outcome.StoreFault.{StoreFault}
-use Rattle.desk_content.specs.Content.{Content}
-use Rattle.desk_schema.specs.Tables.{META, desk_schema}
-use Rattle.desk_schema.proofs.ContentLemmas.{AreSame}
-use Rattle.desk_migrations.specs.History.{Step, texts, history, schema_at, without, without_steps}
-use Rattle.desk_migrations.specs.Making.{no_rows, IsBlank, IsUnder}
-use Rattle.desk_migrations.specs.Names.{no_tables}
-use Rattle.desk_migrations.specs.Stages.{RunsSteps, IsBuilt, AreNumbered}
 use Rattle.desk_migrations.proofs.StepLemmas.{Goes, goes_from, HaveNoRow, steps_from, last_from, steps_go}
 use Rattle.desk_migrations.proofs.StepTexts.{steps, keeps_at}
 

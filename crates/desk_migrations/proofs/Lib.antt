@@ -9,3 +9,4 @@ pub mod SaidLemmas
 pub mod QuietLemmas
 pub mod PlainSelect
 pub mod NameLemmas
+pub mod Imports

@@ -1,42 +1,12 @@
 -- What is written of the row of meta: the row of a new desk, in tables with no row, and the number
 -- of the newest schema, in tables that are carried over to it.
-use Rattle.std.proofs.Common.{◌≡◌, ◌≢◌, ℕ, pos, List, [], ◌∷◌, codes, false, Ok, Err, refl, sym, subst, ◌∙◌, arith, filter, cond, true, IsTrue, ap}
-use Rattle.std.specs.Prelude.{⊤}
-use Rattle.std.specs.List.{AllByRecursion}
-use Rattle.sqlite.specs.Command.TheVariants.{Insert, Update}
-use Rattle.sqlite.specs.Edit.{is_taken, edited}
-use Rattle.sqlite.specs.Listing.{understood}
-use Rattle.sqlite.specs.Order.{Row}
-use Rattle.sqlite.specs.Source.TheVariants.{Values}
-use Rattle.sqlite.specs.State.{State, ExecutesInside}
-use Rattle.sqlite.specs.Term.{Term, lit, col, op2, eval_all}
-use Rattle.sqlite.specs.Tree.{Trees, put_row}
-use Rattle.sqlite.specs.declared.error.Error.{Error}
-use Rattle.sqlite.specs.declared.types.Value.TheVariants.{Null, Int}
-use Rattle.sqlite_tied.specs.Compute.{everything}
-use Rattle.sqlite_trees.specs.Tree.{with_tree}
-use Rattle.bug_record.specs.declared.outcome.StoreFault.TheVariants.{Foreign}
-use Rattle.sql_forms.specs.Faults.{fault_of}
-use Rattle.sql_forms.specs.Forms.{Changes, inserted, passes}
+use Rattle.desk_migrations.proofs.Imports.{IsDeskOf, no_rows, numbered_cells, IsBuilt, AreNumbered, Compare}
+use Rattle.desk_schema.proofs.Exports.{◌≡◌, ◌≢◌, ℕ, pos, List, [], ◌∷◌, codes, false, Ok, Err, refl, sym, subst, ◌∙◌, arith, filter, cond, true, IsTrue, ap, ⊤, AllByRecursion, Insert, Update, is_taken, understood, Row, Values, State, ExecutesInside, Term, lit, col, op2, eval_all, Trees, put_row, Error, Null, Int, everything, with_tree, Foreign, fault_of, Changes, inserted, passes, IsCallOf, InsertsRow, inserts, IsGoodRow, insert_free, ChangesWell, changed_row, update_free, no_content, Content, META, meta_table, desk_schema, meta_cells, content_of, AreShown, cast_int, cast_null, AreSame, same_content, remade, same_shown, meta_plain, Binary, hits, same_number, UpdatesRows, updating, update_edit, updates_one}
+use Rattle.sqlite.specs.Edit.{edited}
 use Rattle.sql_forms.specs.TypedRows.{AreRows}
-use Rattle.sql_forms.proofs.ErrorLemmas.{IsCallOf}
-use Rattle.sql_forms.proofs.InsertLemmas.{InsertsRow, inserts}
-use Rattle.sql_forms.proofs.RefusalLemmas.{IsGoodRow, insert_free, ChangesWell, changed_row, update_free}
-use Rattle.desk_content.specs.Content.{no_content, Content}
-use Rattle.desk_schema.specs.Tables.{META, meta_table, desk_schema}
-use Rattle.desk_schema.specs.Rows.{meta_cells, content_of, AreShown}
-use Rattle.desk_schema.proofs.CellLemmas.{cast_int, cast_null}
-use Rattle.desk_schema.proofs.ContentLemmas.{AreSame, same_content, remade, same_shown}
-use Rattle.desk_schema.proofs.SchemaLemmas.{meta_plain}
-use Rattle.desk_migrations.specs.Making.{IsDeskOf, no_rows, numbered_cells}
-use Rattle.desk_migrations.specs.Stages.{IsBuilt, AreNumbered}
 use Rattle.desk_migrations.proofs.BuildLemmas.{IsMaking, unique_in}
 use Rattle.desk_migrations.proofs.CarriedLemmas.{kept_same}
-use Rattle.sqlite_sql.specs.declared.ops.BinaryOp.TheVariants.{Compare}
 use Rattle.sqlite_sql.specs.declared.ops.CompareOp.TheVariants.{Eq}
-use Rattle.sqlite_value.specs.declared.keys.Collation.TheVariants.{Binary}
-use Rattle.sql_forms.proofs.RowLemmas.{hits, same_number}
-use Rattle.sql_forms.proofs.UpdateLemmas.{UpdatesRows, updating, update_edit, updates_one}
 
 abbrev pub put_text : List ℕ
 put_text = codes "INSERT INTO meta VALUES (1, 3, ?1)"

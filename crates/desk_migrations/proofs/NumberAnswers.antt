@@ -1,22 +1,8 @@
 -- What the call that asks for the number answers, over any database.
-use Rattle.std.proofs.Common.{◌≡◌, ◌⊎◌, inl, inr, ℕ, List, [], length, Option, Some, None, Result, Ok, Err, IfOk, IfErr, refl, sym, ap, subst, subst₂, ◌∙◌}
+use Rattle.desk_migrations.proofs.Imports.{number_text, IsAnswer, IsRefused, ReadsRows, unless_foreign}
+use Rattle.desk_schema.proofs.Exports.{◌≡◌, ◌⊎◌, inl, inr, ℕ, List, [], length, Option, Some, None, Result, Ok, Err, IfOk, IfErr, refl, sym, ap, subst, subst₂, ◌∙◌, Select, compiled, Database, Reads, RefusesToRead, RefusesQuery, Answers, understood, reads_listing, IsSourceOf, Row, State, HasCleanDisk, KeepsCommit, Survives, Shown, ShowsRows, IsUnchanged, IsRolledBack, FailsToQuery, FailsToShow, IsTooLate, IsNotRun, Error, Compiled, Returning, StoreFault, Memory, Device, Full, Foreign, fault_of, IsStoreError, stored_free}
 use Rattle.sqlite.specs.Clock.{timed}
-use Rattle.sqlite.specs.Command.TheVariants.{Select}
-use Rattle.sqlite.specs.Compile.{compiled}
-use Rattle.sqlite.specs.Effect.{Database, Reads, RefusesToRead, RefusesQuery, Answers}
-use Rattle.sqlite.specs.Listing.{understood, reads_listing, IsSourceOf}
-use Rattle.sqlite.specs.Order.{Row}
-use Rattle.sqlite.specs.State.{State, HasCleanDisk, KeepsCommit, Survives, Shown, ShowsRows, IsUnchanged, IsRolledBack, FailsToQuery, FailsToShow, IsTooLate, IsNotRun}
-use Rattle.sqlite.specs.declared.error.Error.{Error}
-use Rattle.sqlite_resolve.specs.declared.compiled.Compiled.{Compiled}
-use Rattle.sqlite_schema.specs.declared.command.Returning.{Returning}
-use Rattle.bug_record.specs.declared.outcome.StoreFault.{StoreFault}
-use Rattle.bug_record.specs.declared.outcome.StoreFault.TheVariants.{Memory, Device, Full, Foreign}
-use Rattle.sql_forms.specs.Faults.{fault_of, told}
-use Rattle.sql_forms.proofs.ErrorLemmas.{IsStoreError}
-use Rattle.sql_forms.proofs.FailLemmas.{stored_free}
-use Rattle.desk_migrations.specs.Number.{number_text, IsAnswer, IsRefused}
-use Rattle.desk_migrations.specs.Said.{ReadsRows, unless_foreign}
+use Rattle.sql_forms.specs.Faults.{told}
 use Rattle.desk_migrations.proofs.NumberText.{IsQuery, always_query, is_compiled, reads_tables}
 
 module _ (old new : State) where

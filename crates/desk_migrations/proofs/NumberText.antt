@@ -1,22 +1,13 @@
 -- What the text that asks for the number is under any schema.
 -- It is one query with no parameter, or refused.
-use Rattle.std.proofs.Common.{◌≡◌, ◌≤◌, ◌+◌, ℕ, List, [], codes, length, false, if◌then◌else◌, Option, None, Ok, Err, refl, sym, ap, subst, ◌∙◌, arith}
+use Rattle.desk_migrations.proofs.Imports.{number_text, Asks}
+use Rattle.desk_schema.proofs.Exports.{◌≡◌, ◌≤◌, ◌+◌, ℕ, List, [], codes, length, false, if◌then◌else◌, Option, None, Ok, Err, refl, sym, ap, subst, ◌∙◌, arith, Select, compiled, first, planned, meaning, returning, command, read, small, with_command, understood, reads_listing, misses_table, if_select, listing_schema, Schema, Checked, and_then, Compiled, NoSuchTable, Returning, Program, everything}
 use Rattle.sqlite.specs.Command.{Command}
-use Rattle.sqlite.specs.Command.TheVariants.{Select}
-use Rattle.sqlite.specs.Compile.{compiled, first, planned, meaning, returning, command, read, timed, small, with_command}
-use Rattle.sqlite.specs.Listing.{understood, reads_listing, misses_table, if_select, listing_schema}
-use Rattle.sqlite.specs.Schema.{Schema}
+use Rattle.sqlite.specs.Compile.{timed}
 use Rattle.sqlite_ast.specs.declared.Select as written_select
 use Rattle.sqlite_ast.specs.declared.Statement.TheVariants as written
-use Rattle.sqlite_resolve.specs.Lowering.{Checked, and_then}
 use Rattle.sqlite_resolve.specs.Program.{query as queried, program}
-use Rattle.sqlite_resolve.specs.declared.compiled.Compiled.{Compiled}
-use Rattle.sqlite_resolve.specs.declared.error.CompileError.TheVariants.{NoSuchTable}
-use Rattle.sqlite_schema.specs.declared.command.Returning.{Returning}
-use Rattle.sqlite_schema.specs.declared.program.Program.{Program}
 use Rattle.sqlite_syntax.specs.declared.statement.Parsed.{Parsed}
-use Rattle.sqlite_tied.specs.Compute.{everything}
-use Rattle.desk_migrations.specs.Number.{number_text, Asks}
 use Rattle.desk_migrations.proofs.PlainSelect.{IsPlainSelect, IsPlainQuery, plain_read}
 use Rattle.desk_migrations.proofs.QuietLemmas.{through, same_ok}
 

@@ -1,17 +1,11 @@
 -- What a SELECT of one column of one table, with one equation in WHERE, means.
 -- It is one plain query under a schema with no view.
-use Rattle.std.proofs.Common.{◌≡◌, ℕ, negsuc, pos, List, [], ◌∷◌, ◌++◌, true, false, map, Option, Some, None, Ok, Err, refl, sym, ap, subst, ◌∙◌, is_some, option_map, unwrap_or}
+use Rattle.desk_migrations.proofs.Imports.{Expr, out-Expr, Expr-F, Shown-F}
+use Rattle.desk_schema.proofs.Exports.{◌≡◌, ℕ, negsuc, pos, List, [], ◌∷◌, ◌++◌, true, false, map, Option, Some, None, Ok, Err, refl, sym, ap, subst, ◌∙◌, is_some, option_map, read, end, inner, Schema, Table, Term, lit, Int, table_at, table_in, bound, bounds, heading, is_column, shared, within, tests, shown, outputs, inner_join, join, joins, result, matching, body, lower, Checked, and_then, ◌>>=◌, pure, lift, last, take_slot, fresh, max_budget, keys, sorts, Name, Context, outermost, having, parts, ungrouped, assembled, named, paging, constant_or, number, conjuncts, Mismatch, NeedsView, Program, accepts_program, Level, Carried}
+use Rattle.std.proofs.Common.{unwrap_or}
 use Rattle.sqlite.specs.Command.TheVariants.{Select as Asking}
-use Rattle.sqlite.specs.Compile.{read}
-use Rattle.sqlite.specs.Query.{end, inner}
-use Rattle.sqlite.specs.Schema.{Schema}
-use Rattle.sqlite.specs.Table.{Table}
-use Rattle.sqlite.specs.Term.{Term, lit}
-use Rattle.sqlite.specs.declared.types.Value.TheVariants.{Int}
 use Rattle.sqlite_ast.specs.declared.Binary.TheVariants.{Eq}
 use Rattle.sqlite_ast.specs.declared.Core.{Core, out-Core}
-use Rattle.sqlite_ast.specs.declared.Expr.{Expr, out-Expr}
-use Rattle.sqlite_ast.specs.declared.Expr.TheOpen.{Expr-F, Shown-F}
 use Rattle.sqlite_ast.specs.declared.Origin.TheVariants as origin
 use Rattle.sqlite_ast.specs.declared.Select.{Select, out-Select}
 use Rattle.sqlite_ast.specs.declared.Shown as written
@@ -19,26 +13,14 @@ use Rattle.sqlite_ast.specs.declared.Source.{Source, out-Source}
 use Rattle.sqlite_draft.specs.Query.{query_of, grouping_of}
 use Rattle.sqlite_draft.specs.declared.join.Step.TheVariants.{Inner}
 use Rattle.sqlite_draft.specs.declared.query.Draft.{Draft}
-use Rattle.sqlite_resolve.specs.Body.{table_at, table_in, bound, bounds, heading, is_column, shared, within, tests, shown, outputs, inner_join, join, joins, result, matching, body}
-use Rattle.sqlite_resolve.specs.Expr.{lower}
-use Rattle.sqlite_resolve.specs.Lowering.{Checked, and_then, ◌>>=◌, pure, lift, last, take_slot, fresh, max_budget}
-use Rattle.sqlite_resolve.specs.Order.{keys, sorts}
 use Rattle.sqlite_resolve.specs.Program as building
-use Rattle.sqlite_resolve.specs.Scope.{Name, Context}
-use Rattle.sqlite_resolve.specs.Select.{outermost, having, parts, ungrouped, assembled, named, paging, constant_or}
-use Rattle.sqlite_resolve.specs.Terms.{number, conjuncts}
 use Rattle.sqlite_resolve.specs.declared.body.Body.{Body}
 use Rattle.sqlite_resolve.specs.declared.body.Joined.{Joined}
-use Rattle.sqlite_resolve.specs.declared.error.CompileError.TheVariants.{Mismatch, NeedsView}
 use Rattle.sqlite_schema.specs.Program.{let_in}
-use Rattle.sqlite_schema.specs.declared.program.Program.{Program}
 use Rattle.sqlite_schema.specs.declared.program.Table.{Table as Let}
-use Rattle.sqlite_typing.specs.Types.{accepts_program}
 use Rattle.sqlite_resolve.specs.declared.scope.Bound.{Bound}
-use Rattle.sqlite_resolve.specs.declared.scope.Level.{Level}
 use Rattle.sqlite_resolve.specs.declared.scope.Output.{Output}
 use Rattle.sqlite_resolve.specs.declared.select.Clauses.{Clauses}
-use Rattle.sqlite_resolve.specs.declared.state.Carried.{Carried}
 use Rattle.sqlite_resolve.specs.declared.state.State.{State}
 use Rattle.desk_migrations.proofs.QuietLemmas.{Quiet, Any, through, same_ok, choice, pure_quiet, lift_quiet, last_quiet, slot_quiet, quiet_then, column_at_quiet, integer_quiet, equation_quiet}
 

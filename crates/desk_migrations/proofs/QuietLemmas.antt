@@ -1,25 +1,16 @@
 -- Reading an expression that holds no aggregate and needs no step leaves no aggregate and no step.
-use Rattle.std.proofs.Common.{◌≡◌, ℕ, ◌+◌, ◌-◌, List, [], Bool, true, false, if◌then◌else◌, nat_lt, Option, None, Ok, Err, refl, sym, subst, suc, not, ◌&&◌, ◌==◌, slice_get}
-use Rattle.std.specs.Prelude.{⊤}
-use Rattle.sqlite_ast.specs.declared.Expr.{Expr, out-Expr}
-use Rattle.sqlite_ast.specs.declared.Expr.TheOpen.{Expr-F}
+use Rattle.desk_migrations.proofs.Imports.{Expr, out-Expr, Expr-F, Term, lit, col, Compare}
+use Rattle.desk_schema.proofs.Exports.{◌≡◌, ℕ, ◌+◌, ◌-◌, List, [], Bool, true, false, if◌then◌else◌, nat_lt, Option, None, Ok, Err, refl, sym, subst, suc, not, ◌&&◌, ◌==◌, slice_get, ⊤, opened, node_at, lower_to, operation, both, combine, wanted_truth, tests_truth, tests_alias, operated, Checked, and_then, or_else, Lowering, ◌>>=◌, ◌>>◌, pure, fail, lift, get, last, carry, begin, finish, spend, again, height, max_height, take_slot, max_slots, chosen, passed, written_or, nothing, either, pending, Name, Context, find, shown_again, column_at, term_of, TooBig, NoSuchColumn, Column, Rowid, Alias, Level, Carried}
 use Rattle.sqlite_ast.specs.declared.Binary.TheVariants.{Eq}
-use Rattle.sqlite_resolve.specs.Expr.{passes, node, opened, node_at, lower_to, operation, both, combine, wanted_truth, tests_truth, tests_alias, operated}
+use Rattle.sqlite_resolve.specs.Expr.{passes, node}
 use Rattle.sqlite_resolve.specs.Literal.{integer}
-use Rattle.sqlite_resolve.specs.Lowering.{Checked, and_then, or_else, Lowering, ◌>>=◌, ◌>>◌, pure, fail, lift, get, last, carry, begin, finish, spend, again, height, max_height, take_slot, max_slots, chosen, passed, written_or, nothing, either, pending}
-use Rattle.sqlite_resolve.specs.Scope.{Name, Context, find, shown_again, column_at, term_of, column}
+use Rattle.sqlite_resolve.specs.Scope.{column}
 use Rattle.sqlite_resolve.specs.declared.error.CompileError.{CompileError}
-use Rattle.sqlite_resolve.specs.declared.error.CompileError.TheVariants.{TooBig, NoSuchColumn}
 use Rattle.sqlite_resolve.specs.declared.scope.Found.{Found}
-use Rattle.sqlite_resolve.specs.declared.scope.Found.TheVariants.{Column, Rowid, Alias}
-use Rattle.sqlite_resolve.specs.declared.scope.Level.{Level}
 use Rattle.sqlite_resolve.specs.declared.scope.Output.{Output}
-use Rattle.sqlite_resolve.specs.declared.state.Carried.{Carried}
 use Rattle.sqlite_resolve.specs.declared.state.Passes.{Passes}
 use Rattle.sqlite_resolve.specs.declared.state.State.{State}
 use Rattle.sqlite_draft.specs.Measure.{nodes, reads}
-use Rattle.sqlite_sql.specs.Term.{Term, lit, col}
-use Rattle.sqlite_sql.specs.declared.ops.BinaryOp.TheVariants.{Compare}
 use Rattle.sqlite_sql.specs.declared.ops.CompareOp.TheVariants.{Eq as CompareEq}
 use Rattle.sqlite_value.specs.declared.keys.Collation.{Collation}
 

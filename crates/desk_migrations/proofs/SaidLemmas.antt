@@ -1,44 +1,16 @@
 -- What a database says of the number of its schema: the tables of a desk say theirs, one without
 -- views says one thing, and that is what the rows of an answer say.
-use Rattle.std.proofs.Common.{◌≡◌, ◌<◌, inl, inr, ℕ, zero, suc, pos, drop, List, [], ◌∷◌, codes, true, None, Ok, Err, IsTrue, map, filter, refl, sym, ap, subst, ◌∙◌, true≢false, arith, negsuc, false, ◌≢◌, Some, Result, IfOk, IfErr}
-use Rattle.std.specs.List.Sorted.{IsPermutation}
-use Rattle.sqlite.proofs.Callers.{command_of, one_permutation}
-use Rattle.sqlite.specs.Command.TheVariants.{Select}
-use Rattle.sqlite.specs.Compile.{compiled}
-use Rattle.sqlite.specs.Effect.{Answers, RefusesQuery, Database}
-use Rattle.sqlite.specs.Ops.{binary}
-use Rattle.sqlite.specs.Order.{Row, value_cmp}
+use Rattle.desk_migrations.proofs.Imports.{Compare, Step, history, schema_at, IsUnder, numbered_cells, number_text, Asks, IsAnswer, IsRefused, Says, AreNumber, SaysSchema, SaysNone, ReadsSchema, IsSaid, ReadsRows}
+use Rattle.desk_schema.proofs.Exports.{◌≡◌, ◌<◌, inl, inr, ℕ, zero, suc, pos, drop, List, [], ◌∷◌, codes, true, None, Ok, Err, IsTrue, map, filter, refl, sym, ap, subst, ◌∙◌, true≢false, arith, negsuc, false, ◌≢◌, Some, Result, IfOk, IfErr, IsPermutation, command_of, one_permutation, Select, compiled, Answers, RefusesQuery, Database, binary, Row, value_cmp, Schema, State, IsUnchanged, Term, lit, col, op2, eval_all, Error, Int, Null, Program, everything, accepts_program, Binary, query_of, passes, number_row, finds, found, Content, META, first_schema, IsPermutation-map, IsPermutation-sym, Query, end, inner, matches_as, Output, output, StoreFault, Foreign}
 use Rattle.sqlite.specs.Program.{overlay}
-use Rattle.sqlite.specs.Schema.{Schema}
-use Rattle.sqlite.specs.State.{State, IsUnchanged}
-use Rattle.sqlite.specs.Term.{Term, lit, col, op2, eval_all}
-use Rattle.sqlite.specs.declared.error.Error.{Error}
-use Rattle.sqlite.specs.declared.types.Value.TheVariants.{Int, Null}
 use Rattle.sqlite_rules.proofs.ListLemmas.{any_has}
-use Rattle.sqlite_schema.specs.declared.program.Program.{Program}
-use Rattle.sqlite_sql.specs.declared.ops.BinaryOp.TheVariants.{Compare}
 use Rattle.sqlite_sql.specs.declared.ops.CompareOp.TheVariants.{Eq}
-use Rattle.sqlite_tied.specs.Compute.{everything}
-use Rattle.sqlite_typing.specs.Types.{accepts_program}
-use Rattle.sqlite_value.specs.declared.keys.Collation.TheVariants.{Binary}
-use Rattle.sql_forms.specs.Forms.{query_of, passes}
-use Rattle.sql_forms.specs.Numbers.{number_row}
-use Rattle.sql_forms.proofs.QueryLemmas.{finds, found}
-use Rattle.desk_content.specs.Content.{Content}
-use Rattle.desk_schema.specs.Tables.{META, first_schema}
-use Rattle.desk_migrations.specs.History.{Step, history, schema_at}
-use Rattle.desk_migrations.specs.Making.{IsUnder, numbered_cells}
-use Rattle.desk_migrations.specs.Number.{number_text, Asks, IsAnswer, IsRefused, Says, AreNumber, SaysSchema, SaysNone, ReadsSchema}
 use Rattle.desk_migrations.specs.declared.number.SchemaRead.{SchemaRead}
 use Rattle.desk_migrations.specs.declared.number.SchemaRead.TheVariants.{Number, NoNumber}
 use Rattle.desk_migrations.proofs.StepLemmas.{AfterEach, after_any}
-use Rattle.std.proofs.lemmas.List.Sorted.{IsPermutation-map, IsPermutation-sym}
-use Rattle.sqlite.specs.Query.{Query, end, inner, matches_as, Output, output, IsAnswer as IsQueryAnswer}
+use Rattle.sqlite.specs.Query.{IsAnswer as IsQueryAnswer}
 use Rattle.desk_migrations.proofs.NumberText.{asks_plain, asks_one}
 use Rattle.desk_migrations.proofs.PlainSelect.{IsPlainQuery}
-use Rattle.bug_record.specs.declared.outcome.StoreFault.{StoreFault}
-use Rattle.bug_record.specs.declared.outcome.StoreFault.TheVariants.{Foreign}
-use Rattle.desk_migrations.specs.Said.{IsSaid, ReadsRows}
 
 -- ---- the tables of a desk
 

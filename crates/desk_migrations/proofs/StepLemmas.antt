@@ -1,19 +1,7 @@
 -- What the texts of steps make, one after another.
-use Rattle.std.proofs.Common.{◌≡◌, ◌<◌, ◌≤◌, ◌+◌, inl, inr, ℕ, zero, suc, List, [], ◌∷◌, get_or, length, map, drop, Result, Ok, Err, refl, sym, ap, subst, ◌∙◌, arith, add-one}
+use Rattle.desk_migrations.proofs.Imports.{Step, schema_after, Builds, InTurn, RunsText, RunsStep, RunsSteps, IsBuilt}
+use Rattle.desk_schema.proofs.Exports.{◌≡◌, ◌<◌, ◌≤◌, ◌+◌, inl, inr, ℕ, zero, suc, List, [], ◌∷◌, get_or, length, map, drop, Result, Ok, Err, refl, sym, ap, subst, ◌∙◌, arith, add-one, drop-map, AllByRecursion, Held, state, Schema, Ghosts, State, Table, Trees, Index, StoreFault}
 use Rattle.std.proofs.Math.Seq.{drop-cons}
-use Rattle.std.proofs.lemmas.List.{drop-map}
-use Rattle.std.specs.List.{AllByRecursion}
-use Rattle.sqlite.specs.Held.{Held, state}
-use Rattle.sqlite.specs.Schema.{Schema}
-use Rattle.sqlite.specs.Store.{Ghosts}
-use Rattle.sqlite.specs.State.{State}
-use Rattle.sqlite.specs.Table.{Table}
-use Rattle.sqlite.specs.Tree.{Trees}
-use Rattle.sqlite_schema.specs.declared.schema.Index.{Index}
-use Rattle.bug_record.specs.declared.outcome.StoreFault.{StoreFault}
-use Rattle.desk_migrations.specs.History.{Step, schema_after}
-use Rattle.desk_migrations.specs.Making.{Builds}
-use Rattle.desk_migrations.specs.Stages.{InTurn, RunsText, RunsStep, RunsSteps, IsBuilt}
 use Rattle.desk_migrations.proofs.BuildLemmas.{builds_run, builds_then, builds_stop, builds_as, AddsTable, AddsIndex, table_is, index_is}
 
 -- ---- calls one after another

@@ -1,18 +1,8 @@
 -- What the text of each table and index makes, and so each step of the history.
-use Rattle.std.proofs.Common.{◌<◌, ℕ, zero, suc, List, [], ◌∷◌, take, drop, get_or, refl, arith}
-use Rattle.std.specs.Str.{is_utf8, chars}
-use Rattle.sqlite.specs.Order.{value_cmp}
-use Rattle.sqlite.specs.Listing.{understood}
-use Rattle.sqlite.specs.Schema.{Schema}
-use Rattle.sqlite.specs.Tree.{Trees}
+use Rattle.desk_migrations.proofs.Imports.{Step, texts, history, schema_at, without_steps, no_tables}
+use Rattle.desk_schema.proofs.Exports.{◌<◌, ℕ, zero, suc, List, [], ◌∷◌, take, drop, get_or, refl, arith, is_utf8, chars, value_cmp, understood, Schema, Trees, Index, everything, begins, is_free_name, fits_kind, meta_table, sets_table, bugs_table, marks_table, blocks_table, nodes_table, nearest_table, affects_table, messages_table, outcomes_table, outcome_numbers_table, sets_by_package, bugs_by_set, marks_by_node, blocks_by_blocker, affects_by_package, first_schema, second_schema, desk_schema}
 use Rattle.sqlite_catalog.specs.Change.{KeepsRows}
-use Rattle.sqlite_schema.specs.declared.schema.Index.{Index}
-use Rattle.sqlite_tied.specs.Compute.{everything}
-use Rattle.sqlite_trees.specs.Sound.{same_name, begins, is_free_name, fits_kind}
-use Rattle.desk_schema.specs.Tables.{meta_table, sets_table, bugs_table, marks_table, blocks_table, nodes_table, nearest_table, affects_table, messages_table, outcomes_table, outcome_numbers_table}
-use Rattle.desk_schema.specs.Tables.{sets_by_package, bugs_by_set, marks_by_node, blocks_by_blocker, affects_by_package, first_schema, second_schema, desk_schema}
-use Rattle.desk_migrations.specs.History.{Step, texts, history, schema_at, without_steps}
-use Rattle.desk_migrations.specs.Names.{no_tables}
+use Rattle.sqlite_trees.specs.Sound.{same_name}
 use Rattle.desk_migrations.proofs.BuildLemmas.{AddsTable, AddsIndex, table_adds, index_adds}
 use Rattle.desk_migrations.proofs.StepLemmas.{Leads, made, table, index, AreSteps, AfterEach, after_any}
 

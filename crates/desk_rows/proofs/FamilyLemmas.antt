@@ -1,11 +1,5 @@
 -- What is made of the rows that a call answered.
-use Rattle.std.proofs.Common.{◌≢◌, Result, Ok, Err, IfOk, IfErr}
-use Rattle.std.specs.Prelude.{⊤}
-use Rattle.sqlite.specs.State.{State}
-use Rattle.bug_record.specs.declared.outcome.StoreFault.{StoreFault}
-use Rattle.bug_record.specs.declared.outcome.StoreFault.TheVariants.{Foreign}
-use Rattle.desk_content.specs.Content.{Content}
-use Rattle.desk_schema.specs.Steps.{seen, Goes, Acts, Serves}
+use Rattle.desk_schema.proofs.Exports.{◌≢◌, Result, Ok, Err, IfOk, IfErr, ⊤, State, StoreFault, Foreign, Content, seen, Goes, Acts, Serves}
 
 -- ---- pure work on what a call answered, which may ask that what the tables say is free for it
 

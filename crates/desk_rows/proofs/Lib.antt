@@ -10,3 +10,4 @@ pub mod ReadOutcomes
 pub mod ReadPlace
 pub mod NumberStatements
 pub mod NodeCells
+pub mod Imports

@@ -1,34 +1,6 @@
 -- What the statements on messages mean.
-use Rattle.std.proofs.Common.{◌≡◌, ℕ, Bool, true, List, [], ◌∷◌, codes, filter, Option, Some, None, option_map, refl, sym, ◌∙◌, arith}
-use Rattle.std.specs.Cmp.Lexicographic.{bytes_decides}
-use Rattle.std.specs.Option.{option_map_or}
-use Rattle.std.specs.Str.{bytes_eq, IsUtf8}
-use Rattle.sqlite.specs.Command.TheVariants.{Insert}
-use Rattle.sqlite.specs.Listing.{understood}
-use Rattle.sqlite.specs.Order.{Row}
-use Rattle.sqlite.specs.Source.TheVariants.{Values}
-use Rattle.sqlite.specs.Term.{Term, lit, col}
-use Rattle.sqlite.specs.declared.types.Value.TheVariants.{Null, Text, Blob}
-use Rattle.sqlite_tied.specs.Compute.{everything}
-use Rattle.bug_record.specs.Texts.{IfGiven}
-use Rattle.sql_forms.specs.Forms.{passes, equals}
-use Rattle.sql_forms.proofs.ErrorLemmas.{IsCallOf}
-use Rattle.sql_forms.proofs.QueryErrors.{IsQueryOf}
-use Rattle.sql_forms.proofs.RowLemmas.{holds_text, and_true}
-use Rattle.desk_content.specs.Edits.{edited}
-use Rattle.desk_content.specs.Free.{IsFree}
-use Rattle.desk_content.specs.declared.edit.Edit.TheVariants.{PutMessage}
-use Rattle.desk_schema.specs.LastRow.{last_row}
-use Rattle.desk_schema.specs.Tables.{MESSAGES, desk_schema}
-use Rattle.desk_schema.specs.MessageRows.{MessageRow, message_cells, IsMessageRow, sent}
-use Rattle.desk_schema.proofs.CellLemmas.{cast_null, same_text}
-use Rattle.desk_schema.proofs.DeskTables.{messages, keyed_messages}
-use Rattle.desk_schema.proofs.KeyLemmas.{AreApart, rows_apart}
-use Rattle.desk_schema.proofs.LastLists.{said_more, none_said, one_kept, one_alike, last_good}
-use Rattle.desk_schema.proofs.StatementLemmas.{IsWrite, IsRead}
-use Rattle.desk_schema.proofs.TableLemmas.{adds}
-use Rattle.desk_schema.proofs.TableQueries.{asks, one_answer}
-use Rattle.desk_rows.specs.Rows.{message_row, HasUtf8, AreMessageRows}
+use Rattle.desk_rows.proofs.Imports.{message_row, HasUtf8, AreMessageRows}
+use Rattle.desk_schema.proofs.Exports.{◌≡◌, ℕ, Bool, true, List, [], ◌∷◌, codes, filter, Option, Some, None, option_map, refl, sym, ◌∙◌, arith, bytes_decides, option_map_or, bytes_eq, IsUtf8, Insert, understood, Row, Values, Term, lit, col, Null, Text, Blob, everything, IfGiven, passes, equals, IsCallOf, IsQueryOf, holds_text, and_true, edited, IsFree, PutMessage, last_row, MESSAGES, desk_schema, MessageRow, message_cells, IsMessageRow, sent, cast_null, same_text, messages, keyed_messages, AreApart, rows_apart, said_more, none_said, one_kept, one_alike, last_good, IsWrite, IsRead, adds, asks, one_answer}
 
 -- ---- a message comes
 

@@ -1,31 +1,5 @@
 -- What the statements on nearest mean.
-use Rattle.std.proofs.Common.{◌≡◌, ℕ, pos, ◌==◌, Bool, true, false, not, if◌then◌else◌, List, [], ◌∷◌, codes, filter, Option, None, refl, ap, ◌∙◌, arith}
-use Rattle.std.proofs.lemmas.Bool.{eqb-true, and_parts}
-use Rattle.sqlite.specs.Command.TheVariants.{Insert, Delete}
-use Rattle.sqlite.specs.Listing.{understood}
-use Rattle.sqlite.specs.Order.{Row}
-use Rattle.sqlite.specs.Source.TheVariants.{Values}
-use Rattle.sqlite.specs.Term.{Term, lit, col}
-use Rattle.sqlite.specs.declared.types.Value.TheVariants.{Null, Int, Text}
-use Rattle.sqlite_tied.specs.Compute.{everything}
-use Rattle.version_nodes.specs.Nodes.{Node, IsNode, same_node}
-use Rattle.nearest_marks.specs.declared.near.Near.{Near}
-use Rattle.sql_forms.specs.Forms.{passes, equals}
-use Rattle.sql_forms.proofs.DeleteErrors.{rowids_of}
-use Rattle.sql_forms.proofs.ErrorLemmas.{IsCallOf}
-use Rattle.sql_forms.proofs.RowLemmas.{hits, same_number}
-use Rattle.desk_content.specs.Edits.{put_at, edited}
-use Rattle.desk_content.specs.Encodings.{kind_number}
-use Rattle.desk_content.specs.Free.{IsFree}
-use Rattle.desk_content.specs.declared.edit.Edit.TheVariants.{PutNear, DropNear}
-use Rattle.desk_schema.specs.Tables.{NEAREST, desk_schema}
-use Rattle.desk_schema.specs.NearestRows.{NearestRow, nearest_cells, is_of, near_in}
-use Rattle.desk_schema.proofs.CellLemmas.{cast_int, cast_null}
-use Rattle.desk_schema.proofs.DeskTables.{nearest, keyed_nearest}
-use Rattle.desk_schema.proofs.LastLists.{said_more, said_left, none_said}
-use Rattle.desk_schema.proofs.OwnerLists.{turned}
-use Rattle.desk_schema.proofs.StatementLemmas.{IsWrite}
-use Rattle.desk_schema.proofs.TableLemmas.{adds, clears}
+use Rattle.desk_schema.proofs.Exports.{◌≡◌, ℕ, pos, ◌==◌, Bool, true, false, not, if◌then◌else◌, List, [], ◌∷◌, codes, filter, Option, None, refl, ap, ◌∙◌, arith, eqb-true, and_parts, Insert, Delete, understood, Row, Values, Term, lit, col, Null, Int, Text, everything, Node, IsNode, same_node, Near, passes, equals, rowids_of, IsCallOf, hits, same_number, put_at, edited, kind_number, IsFree, PutNear, DropNear, NEAREST, desk_schema, NearestRow, nearest_cells, is_of, near_in, cast_int, cast_null, nearest, keyed_nearest, said_more, said_left, none_said, turned, IsWrite, adds, clears}
 
 -- ---- a nearest mark comes
 

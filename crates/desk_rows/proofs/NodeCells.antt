@@ -1,11 +1,6 @@
 -- The cells of a node that may be missing.
 -- Nothing here speaks of a statement.
-use Rattle.std.proofs.Common.{◌≡◌, ◌≢◌, Option, Some, None, refl}
-use Rattle.sqlite.specs.Values.{or_null}
-use Rattle.sqlite.specs.declared.types.Value.{Value}
-use Rattle.sqlite.specs.declared.types.Value.TheVariants.{Null, Text}
-use Rattle.version_nodes.specs.Nodes.{Node, IsNode}
-use Rattle.bug_record.specs.Texts.{IfGiven}
+use Rattle.desk_schema.proofs.Exports.{◌≡◌, ◌≢◌, Option, Some, None, refl, or_null, Value, Null, Text, Node, IsNode, IfGiven}
 
 pub no_node : (v : Option Node) (source : Value) → source ≡ Null → source ≡ or_null (λ (n : Node). Text n.source) v → None ≡ v
 no_node None source null is = refl

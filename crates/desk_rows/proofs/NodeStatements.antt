@@ -1,46 +1,8 @@
 -- What the statements on nodes mean.
-use Rattle.std.proofs.Common.{◌≡◌, ℕ, ℤ, ◌&&◌, true, List, [], ◌∷◌, codes, map, filter, Option, Some, None, option_map, refl, ap, subst, ◌∙◌, arith}
-use Rattle.std.specs.List.{AllByRecursion}
-use Rattle.std.specs.List.Sorted.{IsPermutation}
-use Rattle.std.specs.Str.{bytes_eq}
-use Rattle.std.proofs.lemmas.List.Elements.{All-from_recursion, recursion_from_All}
-use Rattle.std.proofs.lemmas.List.Sorted.{All-permutation, IsPermutation-trans}
-use Rattle.sqlite.specs.Command.TheVariants.{Insert, Delete}
-use Rattle.sqlite.specs.Edit.{next_rowid}
-use Rattle.sqlite.specs.Listing.{understood}
-use Rattle.sqlite.specs.Order.{Row, column}
-use Rattle.sqlite.specs.Source.TheVariants.{Values}
-use Rattle.sqlite.specs.Term.{Term, lit, col}
-use Rattle.sqlite.specs.Values.{or_null}
-use Rattle.sqlite.specs.declared.types.Value.TheVariants.{Null, Text}
-use Rattle.sqlite_tied.specs.Compute.{everything}
-use Rattle.sqlite_typing.specs.Types.{accepts_terms}
+use Rattle.desk_rows.proofs.Imports.{link_row, IsLink, AreLinksOf}
+use Rattle.desk_schema.proofs.Exports.{◌≡◌, ℕ, ℤ, ◌&&◌, true, List, [], ◌∷◌, codes, map, filter, Option, Some, None, option_map, refl, ap, subst, ◌∙◌, arith, AllByRecursion, IsPermutation, bytes_eq, All-from_recursion, recursion_from_All, All-permutation, IsPermutation-trans, Insert, Delete, next_rowid, understood, Row, column, Values, Term, lit, col, or_null, Null, Text, everything, accepts_terms, Node, IsNode, node, same_node, Ancestry, IfGiven, passes, equals_at, inserted, rowids_of, IsCallOf, IsQueryOf, IsGoodRow, holds_text, and_true, Content, edited, IsFree, PutLink, DropLink, maybe_text, text_in, NODES, nodes_table, desk_schema, NodeRow, node_cells, IsNodeRow, node_between, cast_null, same_text, nodes, keyed_nodes, AreApart, rows_apart, no_row, link_of, links_are, parent_back, IsWrite, IsRead, adds, clears, asks}
 use Rattle.version_nodes.specs.NodeLaws.{same_node_equiv}
-use Rattle.version_nodes.specs.Nodes.{Node, IsNode, node, same_node}
-use Rattle.version_nodes.specs.Trees.{Ancestry}
-use Rattle.bug_record.specs.Texts.{IfGiven}
-use Rattle.sql_forms.specs.Forms.{passes, equals_at, inserted}
-use Rattle.sql_forms.proofs.DeleteErrors.{rowids_of}
-use Rattle.sql_forms.proofs.ErrorLemmas.{IsCallOf}
-use Rattle.sql_forms.proofs.QueryErrors.{IsQueryOf}
-use Rattle.sql_forms.proofs.RefusalLemmas.{IsGoodRow}
-use Rattle.sql_forms.proofs.RowLemmas.{holds_text, and_true}
-use Rattle.desk_content.specs.Content.{Content}
-use Rattle.desk_content.specs.Edits.{edited}
-use Rattle.desk_content.specs.Free.{IsFree}
-use Rattle.desk_content.specs.declared.edit.Edit.TheVariants.{PutLink, DropLink}
-use Rattle.desk_schema.specs.Cells.{maybe_text, text_in}
-use Rattle.desk_schema.specs.Tables.{NODES, nodes_table, desk_schema}
-use Rattle.desk_schema.specs.NodeRows.{NodeRow, node_cells, IsNodeRow, node_between}
-use Rattle.desk_schema.proofs.CellLemmas.{cast_null, same_text}
-use Rattle.desk_schema.proofs.DeskTables.{nodes, keyed_nodes}
-use Rattle.desk_schema.proofs.KeyLemmas.{AreApart, rows_apart}
-use Rattle.desk_schema.proofs.NodeLists.{one_more as one_link, none_left, no_row, link_of, links_are}
-use Rattle.desk_schema.proofs.RowsBack.{parent_back}
-use Rattle.desk_schema.proofs.StatementLemmas.{IsWrite, IsRead}
-use Rattle.desk_schema.proofs.TableLemmas.{adds, clears}
-use Rattle.desk_schema.proofs.TableQueries.{asks}
-use Rattle.desk_rows.specs.Links.{link_row, IsLink, AreLinksOf}
+use Rattle.desk_schema.proofs.NodeLists.{one_more as one_link, none_left}
 
 -- ---- a node comes
 

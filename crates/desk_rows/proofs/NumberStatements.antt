@@ -1,36 +1,8 @@
 -- What the statements on outcome_numbers mean.
-use Rattle.std.proofs.Common.{◌≡◌, ℕ, ℤ, pos, ◌==◌, ◌&&◌, Bool, true, false, eqb, if◌then◌else◌, List, [], ◌∷◌, ◌++◌, codes, map, refl, sym, ap, ◌∙◌, arith}
-use Rattle.std.specs.Cmp.Lexicographic.{bytes_decides}
-use Rattle.std.specs.Str.{bytes_eq, IsUtf8}
+use Rattle.desk_schema.proofs.Exports.{◌≡◌, ℕ, ℤ, pos, ◌==◌, ◌&&◌, Bool, true, false, eqb, if◌then◌else◌, List, [], ◌∷◌, ◌++◌, codes, map, refl, sym, ap, ◌∙◌, arith, bytes_decides, bytes_eq, IsUtf8, Insert, understood, binary, is_true, Row, column, value_cmp, Values, Term, lit, col, holds, Null, Int, Text, everything, Binary, passes, equals_at, number_row, IsCallOf, IsQueryOf, hits, holds_text, same_number, and_true, put_at, put_of, placed, edited, IsFree, PutOutcomeNumber, OUTCOME_NUMBERS, desk_schema, NumberRow, number_cells, outcome_numbers_in, cast_int, cast_null, same_text, outcome_numbers, keyed_outcome_numbers, number_rows, and_assoc, one_more, apart, IsWrite, IsRead, adds, asks_numbers, by_column}
 use Rattle.std.specs.Ordering.{is_eq}
-use Rattle.sqlite.specs.Command.TheVariants.{Insert}
-use Rattle.sqlite.specs.Listing.{understood}
-use Rattle.sqlite.specs.Ops.{binary, is_true}
-use Rattle.sqlite.specs.Order.{Row, column, value_cmp}
-use Rattle.sqlite.specs.Source.TheVariants.{Values}
-use Rattle.sqlite.specs.Term.{Term, lit, col, holds}
-use Rattle.sqlite.specs.declared.types.Value.TheVariants.{Null, Int, Text}
 use Rattle.sqlite_sql.specs.declared.ops.BinaryOp.TheVariants.{Compare}
 use Rattle.sqlite_sql.specs.declared.ops.CompareOp.TheVariants.{Eq}
-use Rattle.sqlite_tied.specs.Compute.{everything}
-use Rattle.sqlite_value.specs.declared.keys.Collation.TheVariants.{Binary}
-use Rattle.sql_forms.specs.Forms.{passes, equals_at}
-use Rattle.sql_forms.specs.Numbers.{number_row}
-use Rattle.sql_forms.proofs.ErrorLemmas.{IsCallOf}
-use Rattle.sql_forms.proofs.QueryErrors.{IsQueryOf}
-use Rattle.sql_forms.proofs.RowLemmas.{hits, holds_text, same_number, and_true}
-use Rattle.desk_content.specs.Edits.{put_at, put_of, placed, edited}
-use Rattle.desk_content.specs.Free.{IsFree}
-use Rattle.desk_content.specs.declared.edit.Edit.TheVariants.{PutOutcomeNumber}
-use Rattle.desk_schema.specs.Tables.{OUTCOME_NUMBERS, desk_schema}
-use Rattle.desk_schema.specs.NumberRows.{NumberRow, number_cells, outcome_numbers_in}
-use Rattle.desk_schema.proofs.CellLemmas.{cast_int, cast_null, same_text}
-use Rattle.desk_schema.proofs.DeskTables.{outcome_numbers, keyed_outcome_numbers}
-use Rattle.desk_schema.proofs.NumberLists.{number_rows}
-use Rattle.desk_schema.proofs.OwnerLists.{and_assoc, one_more, apart}
-use Rattle.desk_schema.proofs.StatementLemmas.{IsWrite, IsRead}
-use Rattle.desk_schema.proofs.TableLemmas.{adds}
-use Rattle.desk_schema.proofs.TableQueries.{asks_numbers, by_column}
 
 -- ---- a number comes
 

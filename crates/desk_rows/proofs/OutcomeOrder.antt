@@ -1,19 +1,8 @@
 -- Outcomes that have places of their own, by place.
 -- Nothing here speaks of a statement.
-use Rattle.std.proofs.Common.{◌≡◌, ℕ, ◌<◌, Bool, true, false, ◌&&◌, eqb, nat_lt, cond, if◌then◌else◌, filter, map, List, [], ◌∷◌, ◌++◌, append-nil, refl, sym, subst, ◌∙◌, arith}
-use Rattle.std.specs.Cmp.Lexicographic.{bytes_decides}
-use Rattle.std.specs.List.{AllByRecursion}
-use Rattle.std.specs.List.Sorted.{IsPermutation}
-use Rattle.std.specs.Str.{bytes_eq}
-use Rattle.std.proofs.lemmas.Bool.Decides.{nat_tests}
-use Rattle.std.proofs.lemmas.List.Sorted.{IsPermutation-refl, IsPermutation-sym, IsPermutation-trans, IsPermutation-cons, IsPermutation-middle, IsPermutation-append_left}
-use Rattle.sqlite_trees.specs.Tree.{IsAscending}
-use Rattle.desk_content.specs.Edits.{placed}
-use Rattle.desk_content.specs.declared.edit.ToldOutcome.{ToldOutcome}
-use Rattle.desk_schema.specs.OutcomeRows.{OutcomeRow, IsOutcomeRow, told_of, placed_each}
-use Rattle.desk_schema.proofs.OutcomeLists.{told}
+use Rattle.desk_rows.proofs.Imports.{IsToldOutcome}
+use Rattle.desk_schema.proofs.Exports.{◌≡◌, ℕ, ◌<◌, Bool, true, false, ◌&&◌, eqb, nat_lt, cond, if◌then◌else◌, filter, map, List, [], ◌∷◌, ◌++◌, append-nil, refl, sym, subst, ◌∙◌, arith, bytes_decides, AllByRecursion, IsPermutation, bytes_eq, nat_tests, IsPermutation-refl, IsPermutation-sym, IsPermutation-trans, IsPermutation-cons, IsPermutation-middle, IsPermutation-append_left, IsAscending, placed, ToldOutcome, OutcomeRow, IsOutcomeRow, told_of, placed_each, told}
 use Rattle.desk_schema.proofs.PlacedLemmas.{all_with}
-use Rattle.desk_rows.specs.Rows.{IsToldOutcome}
 
 abbrev place_in : ToldOutcome → ℕ
 place_in t = t.place

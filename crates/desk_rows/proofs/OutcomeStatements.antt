@@ -1,36 +1,5 @@
 -- What the INSERT of an outcome means.
-use Rattle.std.proofs.Common.{◌≡◌, ℕ, ℤ, pos, true, List, [], ◌∷◌, codes, Option, Some, None, option_map, refl, sym, ap, subst, arith}
-use Rattle.std.specs.Str.{IsUtf8}
-use Rattle.sqlite.specs.Command.TheVariants.{Insert}
-use Rattle.sqlite.specs.Edit.{next_rowid}
-use Rattle.sqlite.specs.Listing.{understood}
-use Rattle.sqlite.specs.Order.{Row}
-use Rattle.sqlite.specs.Source.TheVariants.{Values}
-use Rattle.sqlite.specs.Term.{Term, lit, col}
-use Rattle.sqlite.specs.Values.{or_null, bound_value}
-use Rattle.sqlite.specs.declared.types.Value.{Value}
-use Rattle.sqlite.specs.declared.types.Value.TheVariants.{Null, Int, Text}
-use Rattle.sqlite_tied.specs.Compute.{everything}
-use Rattle.sqlite_typing.specs.Types.{accepts_terms}
-use Rattle.version_nodes.specs.Nodes.{Node, IsNode, node}
-use Rattle.bug_record.specs.Texts.{IfGiven}
-use Rattle.bug_record.specs.declared.outcome.Outcome.{Outcome}
-use Rattle.bug_record.specs.declared.outcome.Outcome.TheVariants.{Changed, Refused, Stopped}
-use Rattle.sql_forms.specs.Forms.{inserted}
-use Rattle.sql_forms.proofs.ErrorLemmas.{IsCallOf}
-use Rattle.sql_forms.proofs.RefusalLemmas.{IsGoodRow}
-use Rattle.desk_content.specs.Edits.{edited}
-use Rattle.desk_content.specs.Free.{IsFree}
-use Rattle.desk_content.specs.Outcomes.{bare, outcome_kind, outcome_number, outcome_field, outcome_node}
-use Rattle.desk_content.specs.declared.edit.Edit.TheVariants.{PutOutcome}
-use Rattle.desk_schema.specs.Tables.{outcomes_table, desk_schema}
-use Rattle.desk_schema.specs.OutcomeRows.{OutcomeRow, outcome_cells}
-use Rattle.desk_schema.proofs.CellLemmas.{cast_int, cast_null}
-use Rattle.desk_schema.proofs.DeskTables.{keyed_outcomes}
-use Rattle.desk_schema.proofs.OutcomeLists.{outcome_rows}
-use Rattle.desk_schema.proofs.OwnerLists.{one_more, apart}
-use Rattle.desk_schema.proofs.StatementLemmas.{IsWrite}
-use Rattle.desk_schema.proofs.TableLemmas.{adds}
+use Rattle.desk_schema.proofs.Exports.{◌≡◌, ℕ, ℤ, pos, true, List, [], ◌∷◌, codes, Option, Some, None, option_map, refl, sym, ap, subst, arith, IsUtf8, Insert, next_rowid, understood, Row, Values, Term, lit, col, or_null, bound_value, Value, Null, Int, Text, everything, accepts_terms, Node, IsNode, node, IfGiven, Outcome, Changed, Refused, Stopped, inserted, IsCallOf, IsGoodRow, edited, IsFree, bare, outcome_kind, outcome_number, outcome_field, outcome_node, PutOutcome, outcomes_table, desk_schema, OutcomeRow, outcome_cells, cast_int, cast_null, keyed_outcomes, outcome_rows, one_more, apart, IsWrite, adds}
 
 abbrev pub add_text : List ℕ
 add_text = codes "INSERT INTO outcomes VALUES (?1, ?2, ?3, ?4, ?5, ?6, ?7)"

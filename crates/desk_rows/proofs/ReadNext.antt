@@ -1,17 +1,5 @@
 -- What the query of the next number answers.
-use Rattle.std.proofs.Common.{◌≡◌, ℕ, List, [], ◌∷◌, codes, map, refl, sym, ap, subst, ◌∙◌, arith}
-use Rattle.std.specs.List.Sorted.{IsPermutation}
-use Rattle.sqlite.specs.Listing.{understood}
-use Rattle.sqlite.specs.Order.{Row}
-use Rattle.sqlite.specs.Term.{col, eval_all}
-use Rattle.sqlite.proofs.Callers.{one_permutation}
-use Rattle.sqlite_tied.specs.Compute.{everything}
-use Rattle.sql_forms.specs.Numbers.{number_row}
-use Rattle.sql_forms.proofs.QueryErrors.{IsQueryOf}
-use Rattle.sql_forms.proofs.QueryLemmas.{found}
-use Rattle.desk_schema.specs.Tables.{META, desk_schema}
-use Rattle.desk_schema.proofs.MetaLemmas.{next_is}
-use Rattle.desk_schema.proofs.StatementLemmas.{IsRead, reads_plain}
+use Rattle.desk_schema.proofs.Exports.{◌≡◌, ℕ, List, [], ◌∷◌, codes, map, refl, sym, ap, subst, ◌∙◌, arith, IsPermutation, understood, Row, col, eval_all, one_permutation, everything, number_row, IsQueryOf, found, META, desk_schema, next_is, IsRead, reads_plain}
 use Rattle.desk_rows.proofs.WriteNext.{first_row, only_first}
 
 abbrev pub read_text : List ℕ

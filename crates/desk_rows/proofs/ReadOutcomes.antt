@@ -1,39 +1,7 @@
 -- What the query of a message's outcomes answers.
-use Rattle.std.proofs.Common.{◌≡◌, ℕ, ◌<◌, pos, false, List, [], ◌∷◌, codes, map, filter, Less, refl, sym, ap, subst, ◌∙◌, arith}
-use Rattle.std.specs.List.Sorted.{IsPermutation, IsSorted}
-use Rattle.std.specs.Str.{bytes_eq}
-use Rattle.std.proofs.lemmas.Bool.Decides.{nat_tests}
-use Rattle.std.proofs.lemmas.Int.{ints}
-use Rattle.std.proofs.lemmas.List.Sorted.{IsPermutation-map, IsPermutation-sym, IsPermutation-trans}
-use Rattle.sqlite.specs.declared.types.Value.TheVariants.{Int, Text}
-use Rattle.sqlite.specs.Listing.{understood}
-use Rattle.sqlite.specs.Order.{Row, value_cmp}
-use Rattle.sqlite.specs.Query.{Query, Output, output, output_cmp}
-use Rattle.sqlite.specs.Term.{Term, col}
-use Rattle.sqlite_keyed.proofs.ListLemmas.{ascending-map, ascending_weaker}
-use Rattle.sqlite_keyed.proofs.SortLemmas.{sorted_unique}
+use Rattle.desk_rows.proofs.Imports.{outcome_row, AreOutcomeRows}
+use Rattle.desk_schema.proofs.Exports.{◌≡◌, ℕ, ◌<◌, pos, false, List, [], ◌∷◌, codes, map, filter, Less, refl, sym, ap, subst, ◌∙◌, arith, IsPermutation, IsSorted, bytes_eq, nat_tests, ints, IsPermutation-map, IsPermutation-sym, IsPermutation-trans, Int, Text, understood, Row, value_cmp, Query, Output, output, output_cmp, Term, col, ascending-map, ascending_weaker, sorted_unique, everything, IsAscending, Key, Binary, value_cmp-Int, then-Equal, query_of, passes, equals, number_row, IsQueryOf, map_map, kept_rows, and_true, holds_text, Content, ToldOutcome, OutcomeRow, outcome_cells, told_of, placed_each, OUTCOMES, desk_schema, same_text, outcomes, keyed_outcomes, rows_apart, told, IsRead, reads_inside, seen_is}
 use Rattle.sqlite_sql.proofs.QueryLemmas.{output_cmp_total}
-use Rattle.sqlite_tied.specs.Compute.{everything}
-use Rattle.sqlite_trees.specs.Tree.{IsAscending}
-use Rattle.sqlite_value.specs.declared.keys.Key.{Key}
-use Rattle.sqlite_value.specs.declared.keys.Collation.TheVariants.{Binary}
-use Rattle.sqlite_value.proofs.OrderLemmas.{value_cmp-Int, then-Equal}
-use Rattle.sql_forms.specs.Forms.{query_of, passes, equals}
-use Rattle.sql_forms.specs.Numbers.{number_row}
-use Rattle.sql_forms.proofs.QueryErrors.{IsQueryOf}
-use Rattle.sql_forms.proofs.QueryLemmas.{map_map}
-use Rattle.sql_forms.proofs.RowLemmas.{kept_rows, and_true, holds_text}
-use Rattle.desk_content.specs.Content.{Content}
-use Rattle.desk_content.specs.declared.edit.ToldOutcome.{ToldOutcome}
-use Rattle.desk_schema.specs.OutcomeRows.{OutcomeRow, outcome_cells, told_of, placed_each}
-use Rattle.desk_schema.specs.Tables.{OUTCOMES, desk_schema}
-use Rattle.desk_schema.proofs.CellLemmas.{same_text}
-use Rattle.desk_schema.proofs.DeskTables.{outcomes, keyed_outcomes}
-use Rattle.desk_schema.proofs.KeyLemmas.{rows_apart}
-use Rattle.desk_schema.proofs.OutcomeLists.{told}
-use Rattle.desk_schema.proofs.StatementLemmas.{IsRead, reads_inside}
-use Rattle.desk_schema.proofs.TableLemmas.{seen_is}
-use Rattle.desk_rows.specs.Rows.{outcome_row, AreOutcomeRows}
 use Rattle.desk_rows.proofs.OutcomeOrder.{Rises, all_in, all_rise, told_apart, outcomes_good}
 
 abbrev pub read_text : List ℕ

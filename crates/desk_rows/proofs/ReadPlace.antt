@@ -1,40 +1,5 @@
 -- What the query of the last place of a message's outcomes answers.
-use Rattle.std.proofs.Common.{◌≡◌, ℕ, ◌+◌, ◌≤◌, pos, true, false, inl, inr, Option, Result, Ok, Err, IfOk, List, [], ◌∷◌, codes, map, filter, take, is_lt, refl, sym, ap, subst, ◌∙◌, arith}
-use Rattle.std.specs.List.Sorted.{IsPermutation}
-use Rattle.std.specs.Option.{option_map_or}
-use Rattle.std.specs.Str.{bytes_eq}
-use Rattle.std.proofs.lemmas.Bool.Decides.{nat_tests}
-use Rattle.std.proofs.lemmas.Int.{ints}
-use Rattle.std.proofs.lemmas.List.Sorted.{IsPermutation-map}
-use Rattle.sqlite.specs.declared.types.Value.TheVariants.{Int, Text}
-use Rattle.sqlite.specs.Listing.{understood}
-use Rattle.sqlite.specs.Order.{Row, value_cmp}
-use Rattle.sqlite.specs.Query.{Query, output, output_cmp}
-use Rattle.sqlite.specs.Term.{Term, col}
-use Rattle.sqlite.proofs.Callers.{IsPlain, reads_as}
-use Rattle.sqlite_tied.specs.Compute.{everything}
-use Rattle.sqlite_value.specs.declared.keys.Key.{Key}
-use Rattle.sqlite_value.specs.declared.keys.Collation.TheVariants.{Binary}
-use Rattle.sqlite_value.proofs.OrderLemmas.{value_cmp-Int, then-Equal}
-use Rattle.bug_record.specs.declared.outcome.StoreFault.{StoreFault}
-use Rattle.sql_forms.specs.Forms.{first_of, passes, equals}
-use Rattle.sql_forms.specs.Numbers.{next_above, AreGreatest}
-use Rattle.sql_forms.proofs.FailLemmas.{stored_free, query_fault_or_same}
-use Rattle.sql_forms.proofs.GreatestLemmas.{greatest_first, same_next}
-use Rattle.sql_forms.proofs.QueryErrors.{IsPageOf, page_free}
-use Rattle.sql_forms.proofs.QueryLemmas.{finds_first, map_map}
-use Rattle.sql_forms.proofs.ReadLemmas.{pair_of, shown_open, shown_same}
-use Rattle.sql_forms.proofs.RowLemmas.{kept_rows, and_true, holds_text}
-use Rattle.desk_content.specs.Content.{Content}
-use Rattle.desk_content.specs.Edits.{places_of}
-use Rattle.desk_content.specs.declared.edit.ToldOutcome.{ToldOutcome}
-use Rattle.desk_schema.specs.OutcomeRows.{OutcomeRow, outcome_cells, told_of, placed_each}
-use Rattle.desk_schema.specs.Tables.{OUTCOMES, desk_schema}
-use Rattle.desk_schema.proofs.CellLemmas.{same_text}
-use Rattle.desk_schema.proofs.DeskTables.{outcomes}
-use Rattle.desk_schema.proofs.OutcomeLists.{told}
-use Rattle.desk_schema.proofs.StatementLemmas.{IsRead}
-use Rattle.desk_schema.proofs.TableLemmas.{seen_is}
+use Rattle.desk_schema.proofs.Exports.{◌≡◌, ℕ, ◌+◌, ◌≤◌, pos, true, false, inl, inr, Option, Result, Ok, Err, IfOk, List, [], ◌∷◌, codes, map, filter, take, is_lt, refl, sym, ap, subst, ◌∙◌, arith, IsPermutation, option_map_or, bytes_eq, nat_tests, ints, IsPermutation-map, Int, Text, understood, Row, value_cmp, Query, output, output_cmp, Term, col, IsPlain, reads_as, everything, Key, Binary, value_cmp-Int, then-Equal, StoreFault, first_of, passes, equals, next_above, AreGreatest, stored_free, query_fault_or_same, greatest_first, same_next, IsPageOf, page_free, finds_first, map_map, pair_of, shown_open, shown_same, kept_rows, and_true, holds_text, Content, places_of, ToldOutcome, OutcomeRow, outcome_cells, told_of, placed_each, OUTCOMES, desk_schema, same_text, outcomes, told, IsRead, seen_is}
 use Rattle.desk_rows.proofs.OutcomeOrder.{all_in}
 
 abbrev pub read_text : List ℕ

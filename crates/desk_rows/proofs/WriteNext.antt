@@ -1,33 +1,8 @@
 -- What the UPDATE of the next number means.
-use Rattle.std.proofs.Common.{◌≡◌, ◌≢◌, ℕ, pos, List, [], ◌∷◌, codes, filter, cond, true, Ok, Err, refl, sym, ap, subst, ◌∙◌, arith}
-use Rattle.std.specs.Prelude.{⊤}
-use Rattle.sqlite.specs.Command.TheVariants.{Update}
+use Rattle.desk_schema.proofs.Exports.{◌≡◌, ◌≢◌, ℕ, pos, List, [], ◌∷◌, codes, filter, cond, true, Ok, Err, refl, sym, ap, subst, ◌∙◌, arith, ⊤, Update, understood, Row, State, ExecutesInside, Term, lit, col, op2, eval_all, Trees, Error, Null, Int, everything, Binary, Foreign, fault_of, Changes, passes, IsCallOf, IsGoodRow, ChangesWell, changed_row, update_free, hits, same_number, UpdatesRows, updating, update_edit, updates_one, META, meta_table, desk_schema, meta_cells, IsInside, cast_int, cast_null, meta_remade, meta_plain, unique_at, Makes, IsWrite}
 use Rattle.sqlite.specs.Edit.{edited}
-use Rattle.sqlite.specs.Listing.{understood}
-use Rattle.sqlite.specs.Order.{Row}
-use Rattle.sqlite.specs.State.{State, ExecutesInside}
-use Rattle.sqlite.specs.Term.{Term, lit, col, op2, eval_all}
-use Rattle.sqlite.specs.Tree.{Trees}
-use Rattle.sqlite.specs.declared.error.Error.{Error}
-use Rattle.sqlite.specs.declared.types.Value.TheVariants.{Null, Int}
 use Rattle.sqlite_sql.specs.declared.ops.BinaryOp.TheVariants.{Compare}
 use Rattle.sqlite_sql.specs.declared.ops.CompareOp.TheVariants.{Eq}
-use Rattle.sqlite_tied.specs.Compute.{everything}
-use Rattle.sqlite_value.specs.declared.keys.Collation.TheVariants.{Binary}
-use Rattle.bug_record.specs.declared.outcome.StoreFault.TheVariants.{Foreign}
-use Rattle.sql_forms.specs.Faults.{fault_of}
-use Rattle.sql_forms.specs.Forms.{Changes, passes}
-use Rattle.sql_forms.proofs.ErrorLemmas.{IsCallOf}
-use Rattle.sql_forms.proofs.RefusalLemmas.{IsGoodRow, ChangesWell, changed_row, update_free}
-use Rattle.sql_forms.proofs.RowLemmas.{hits, same_number}
-use Rattle.sql_forms.proofs.UpdateLemmas.{UpdatesRows, updating, update_edit, updates_one}
-use Rattle.desk_schema.specs.Tables.{META, meta_table, desk_schema}
-use Rattle.desk_schema.specs.Rows.{meta_cells}
-use Rattle.desk_schema.specs.Steps.{IsInside}
-use Rattle.desk_schema.proofs.CellLemmas.{cast_int, cast_null}
-use Rattle.desk_schema.proofs.MetaLemmas.{meta_remade}
-use Rattle.desk_schema.proofs.SchemaLemmas.{meta_plain, unique_at}
-use Rattle.desk_schema.proofs.StatementLemmas.{Makes, IsWrite}
 
 abbrev pub write_text : List ℕ
 write_text = codes "UPDATE meta SET next = ?1 WHERE id = 1"

@@ -1,13 +1,6 @@
 -- Typed rows of an answer, in any order.
 -- Nothing here speaks of a statement.
-use Rattle.std.proofs.Common.{◌≡◌, List, [], ◌∷◌, map, Option, Some, None, arith, refl, sym, ap, subst, ◌∙◌}
-use Rattle.std.specs.List.{AllByRecursion}
-use Rattle.std.specs.List.Sorted.{IsPermutation}
-use Rattle.std.specs.Option.{option_map_or}
-use Rattle.std.proofs.lemmas.List.Elements.{All-from_recursion, recursion_from_All}
-use Rattle.std.proofs.lemmas.List.Sorted.{IsPermutation-map, All-permutation, length_permutation}
-use Rattle.sqlite.proofs.Callers.{one_permutation}
-use Rattle.sqlite.specs.Order.{Row}
+use Rattle.desk_schema.proofs.Imports.{◌≡◌, List, [], ◌∷◌, map, Option, Some, None, arith, refl, sym, ap, subst, ◌∙◌, AllByRecursion, IsPermutation, option_map_or, All-from_recursion, recursion_from_All, IsPermutation-map, All-permutation, length_permutation, one_permutation, Row}
 use Rattle.desk_schema.proofs.ContentLemmas.{read_back}
 
 module _ {T : Type 0} (cells : T → Row) (back : Row → T) (same : (x : T) → back (cells x) ≡ x) where

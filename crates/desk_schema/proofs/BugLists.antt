@@ -1,13 +1,7 @@
 -- What a row that is added or left out makes of the bugs that the rows say.
 -- Nothing here speaks of a statement.
-use Rattle.std.proofs.Common.{◌≡◌, ℕ, ◌<◌, Bool, true, false, not, ◌==◌, eqb, cond, if◌then◌else◌, nat_lt, filter, map, List, [], ◌∷◌, refl, sym, ap, ◌∙◌, arith}
-use Rattle.std.specs.List.{AllByRecursion}
-use Rattle.std.proofs.lemmas.Bool.{eqb-true}
-use Rattle.std.proofs.lemmas.Bool.Decides.{nat_tests}
-use Rattle.sqlite_trees.specs.Tree.{IsAscending}
+use Rattle.desk_schema.proofs.Imports.{◌≡◌, ℕ, ◌<◌, Bool, true, false, not, ◌==◌, eqb, cond, if◌then◌else◌, nat_lt, filter, map, List, [], ◌∷◌, refl, sym, ap, ◌∙◌, arith, AllByRecursion, eqb-true, nat_tests, IsAscending, put_at, placed, BugRow, member_of, members_in}
 use Rattle.bug_record.specs.declared.bug.Member.{Member}
-use Rattle.desk_content.specs.Edits.{put_at, placed}
-use Rattle.desk_schema.specs.BugRows.{BugRow, member_of, members_in}
 use Rattle.desk_schema.proofs.OwnerLists.{turned}
 
 -- functions are equal where their values are

@@ -1,19 +1,8 @@
 -- What a column makes of the cells that a desk writes, and when cells of texts are equal.
-use Rattle.std.proofs.Common.{Bor, Option, Some, None, option_copied, ◌≡◌, ℕ, ℤ, pos, List, Bool, true, false, eqb, cond, refl, sym, ap, ◌∙◌}
-use Rattle.std.specs.Cmp.Lexicographic.{texts_ties}
-use Rattle.std.specs.Ordering.{is_eq}
-use Rattle.std.specs.Str.{bytes_eq}
+use Rattle.desk_schema.proofs.Imports.{Bor, Option, Some, None, option_copied, ◌≡◌, ℕ, ℤ, pos, List, Bool, true, false, eqb, cond, refl, sym, ap, ◌∙◌, texts_ties, is_eq, bytes_eq, unary, binary, value_cmp, or_null, bound_value, Null, Int, Text, equal, plain, first_key, value_cmp-Text, same_number, truth_is}
 use Rattle.sqlite.specs.Cast.{cast}
 use Rattle.sqlite.specs.Kind.TheVariants.{Integer}
-use Rattle.sqlite.specs.Ops.{unary, binary}
-use Rattle.sqlite.specs.Order.{value_cmp}
-use Rattle.sqlite.specs.Values.{or_null, bound_value}
 use Rattle.sqlite.specs.declared.types.Value.{Value}
-use Rattle.sqlite.specs.declared.types.Value.TheVariants.{Null, Int, Text}
-use Rattle.sqlite_schema.specs.Rules.{equal}
-use Rattle.sqlite_value.specs.Keys.{plain, first_key}
-use Rattle.sqlite_value.proofs.OrderLemmas.{value_cmp-Text}
-use Rattle.sql_forms.proofs.RowLemmas.{same_number, truth_is}
 
 either : (b : Bool) (x : Value) → cond b x x ≡ x
 either true x = refl

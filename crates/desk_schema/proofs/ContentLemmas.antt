@@ -1,29 +1,5 @@
 -- What other rows of one table make of all that the tables say.
-use Rattle.std.proofs.Common.{◌≡◌, ℕ, Bool, true, false, eqb, if◌then◌else◌, map, List, [], ◌∷◌, refl, sym, ap, subst, ◌∙◌}
-use Rattle.std.specs.List.{AllByRecursion}
-use Rattle.std.proofs.lemmas.Bool.{eqb-true}
-use Rattle.sqlite.specs.Order.{Row}
-use Rattle.sqlite.specs.State.{State}
-use Rattle.sqlite.specs.Tree.{Trees}
-use Rattle.sqlite_trees.specs.Tree.{with_tree}
-use Rattle.version_nodes.specs.declared.statuses.MarkKind.TheVariants.{Found, Fixed}
-use Rattle.sql_forms.specs.Forms.{Changes}
-use Rattle.sql_forms.specs.TypedRows.{AreRows}
-use Rattle.sql_forms.proofs.ChangeLemmas.{is_index, stays}
-use Rattle.desk_content.specs.Content.{Content}
-use Rattle.desk_schema.specs.Tables.{META, SETS, BUGS, MARKS, BLOCKS, NODES, NEAREST, AFFECTS, MESSAGES, OUTCOMES, OUTCOME_NUMBERS, desk_schema}
-use Rattle.desk_schema.specs.SetRows.{set_cells, set_in, IsSetRow, fields_in}
-use Rattle.desk_schema.specs.BugRows.{bug_cells, bug_in, IsBugRow, key_in, members_in}
-use Rattle.desk_schema.specs.MarkRows.{mark_cells, mark_in, IsMarkRow, marks_in}
-use Rattle.desk_schema.specs.BlockRows.{block_cells, block_in, IsBlockRow, blockers_in}
-use Rattle.desk_schema.specs.NodeRows.{node_cells, node_in, IsNodeRow, nodes_in}
-use Rattle.desk_schema.specs.NearestRows.{nearest_cells, nearest_in, IsNearestRow, near_in}
-use Rattle.desk_schema.specs.TextRows.{text_cells, text_row_in, IsTextRow, texts_in}
-use Rattle.desk_schema.specs.MessageRows.{message_cells, message_in, IsMessageRow, messages_in}
-use Rattle.desk_schema.specs.OutcomeRows.{outcome_cells, outcome_row_in, IsOutcomeRow, outcomes_in}
-use Rattle.desk_schema.specs.NumberRows.{number_cells, number_row_in, IsNumberRow, outcome_numbers_in}
-use Rattle.desk_schema.specs.Rows.{next_in, content_of, AreShown}
-use Rattle.desk_schema.specs.Steps.{seen}
+use Rattle.desk_schema.proofs.Imports.{◌≡◌, ℕ, Bool, true, false, eqb, if◌then◌else◌, map, List, [], ◌∷◌, refl, sym, ap, subst, ◌∙◌, AllByRecursion, eqb-true, Row, State, Trees, with_tree, Found, Fixed, Changes, AreRows, is_index, stays, Content, META, SETS, BUGS, MARKS, BLOCKS, NODES, NEAREST, AFFECTS, MESSAGES, OUTCOMES, OUTCOME_NUMBERS, desk_schema, set_cells, set_in, IsSetRow, fields_in, bug_cells, bug_in, IsBugRow, key_in, members_in, mark_cells, mark_in, IsMarkRow, marks_in, block_cells, block_in, IsBlockRow, blockers_in, node_cells, node_in, IsNodeRow, nodes_in, nearest_cells, nearest_in, IsNearestRow, near_in, text_cells, text_row_in, IsTextRow, texts_in, message_cells, message_in, IsMessageRow, messages_in, outcome_cells, outcome_row_in, IsOutcomeRow, outcomes_in, number_cells, number_row_in, IsNumberRow, outcome_numbers_in, next_in, content_of, AreShown, seen}
 use Rattle.desk_schema.proofs.StatementLemmas.{Makes}
 
 -- the rows of all tables are the same

@@ -1,21 +1,5 @@
 -- The tables of a desk but meta: their rows, what they say, and their keys.
-use Rattle.std.proofs.Common.{◌&&◌, ◌==◌, eqb, refl}
-use Rattle.std.specs.Str.{bytes_eq}
-use Rattle.version_nodes.specs.Nodes.{same_node}
-use Rattle.version_nodes.specs.declared.statuses.MarkKind.TheVariants.{Found, Fixed}
-use Rattle.sql_forms.proofs.RowLemmas.{and_true}
-use Rattle.desk_content.specs.Encodings.{kind_number}
-use Rattle.desk_schema.specs.Tables.{sets_table, bugs_table, marks_table, blocks_table, nodes_table, nearest_table, affects_table, messages_table, outcomes_table, outcome_numbers_table, marks_key, blocks_key, nodes_key, nearest_key, affects_key, messages_key, outcomes_key, outcome_numbers_key}
-use Rattle.desk_schema.specs.SetRows.{SetRow, set_cells, set_in, IsSetRow, fields_in}
-use Rattle.desk_schema.specs.BugRows.{BugRow, bug_cells, bug_in, IsBugRow, key_in, members_in}
-use Rattle.desk_schema.specs.MarkRows.{MarkRow, mark_cells, mark_in, IsMarkRow, marks_in}
-use Rattle.desk_schema.specs.BlockRows.{BlockRow, block_cells, block_in, IsBlockRow, blockers_in}
-use Rattle.desk_schema.specs.NodeRows.{NodeRow, node_cells, node_in, IsNodeRow, nodes_in}
-use Rattle.desk_schema.specs.NearestRows.{NearestRow, nearest_cells, nearest_in, IsNearestRow, near_in}
-use Rattle.desk_schema.specs.TextRows.{TextRow, text_cells, text_row_in, IsTextRow, texts_in}
-use Rattle.desk_schema.specs.MessageRows.{MessageRow, message_cells, message_in, IsMessageRow, messages_in}
-use Rattle.desk_schema.specs.OutcomeRows.{OutcomeRow, outcome_cells, outcome_row_in, IsOutcomeRow, outcomes_in}
-use Rattle.desk_schema.specs.NumberRows.{NumberRow, number_cells, number_row_in, IsNumberRow, outcome_numbers_in}
+use Rattle.desk_schema.proofs.Imports.{◌&&◌, ◌==◌, eqb, refl, bytes_eq, same_node, Found, Fixed, and_true, kind_number, sets_table, bugs_table, marks_table, blocks_table, nodes_table, nearest_table, affects_table, messages_table, outcomes_table, outcome_numbers_table, marks_key, blocks_key, nodes_key, nearest_key, affects_key, messages_key, outcomes_key, outcome_numbers_key, SetRow, set_cells, set_in, IsSetRow, fields_in, BugRow, bug_cells, bug_in, IsBugRow, key_in, members_in, MarkRow, mark_cells, mark_in, IsMarkRow, marks_in, BlockRow, block_cells, block_in, IsBlockRow, blockers_in, NodeRow, node_cells, node_in, IsNodeRow, nodes_in, NearestRow, nearest_cells, nearest_in, IsNearestRow, near_in, TextRow, text_cells, text_row_in, IsTextRow, texts_in, MessageRow, message_cells, message_in, IsMessageRow, messages_in, OutcomeRow, outcome_cells, outcome_row_in, IsOutcomeRow, outcomes_in, NumberRow, number_cells, number_row_in, IsNumberRow, outcome_numbers_in}
 use Rattle.desk_schema.proofs.CellLemmas.{number_key, text_key}
 use Rattle.desk_schema.proofs.RowsBack.{set_back, mark_back, nearest_back, node_back, outcome_row_back}
 use Rattle.desk_schema.proofs.SchemaLemmas.{sets_plain, bugs_plain, marks_plain, blocks_plain, nodes_plain, nearest_plain, affects_plain, messages_plain, outcomes_plain, outcome_numbers_plain}

@@ -1,22 +1,7 @@
 -- No two rows of a table have one key, where the key is unique.
-use Rattle.std.proofs.Common.{◌≡◌, inl, inr, ℤ, List, [], ◌∷◌, map, Bool, true, false, not, ◌&&◌, Less, IsTrue, refl, sym, subst, ◌∙◌, true≢false}
-use Rattle.std.specs.List.{AllByRecursion}
-use Rattle.std.proofs.lemmas.Bool.{false_from_ne_true, and_from}
-use Rattle.sqlite.specs.Ops.{binary}
-use Rattle.sqlite.specs.Order.{Row, value_cmp}
-use Rattle.sqlite.specs.State.{State}
-use Rattle.sqlite.specs.Table.{Table}
-use Rattle.sqlite.specs.Tree.{Trees, IsTable, rowid}
-use Rattle.sqlite.specs.declared.types.Value.TheVariants.{Int}
-use Rattle.sqlite_rules.proofs.ListLemmas.{some_from, all_has}
+use Rattle.desk_schema.proofs.Imports.{◌≡◌, inl, inr, ℤ, List, [], ◌∷◌, map, Bool, true, false, not, ◌&&◌, Less, IsTrue, refl, sym, subst, ◌∙◌, true≢false, AllByRecursion, false_from_ne_true, and_from, binary, Row, value_cmp, State, Table, Trees, IsTable, rowid, Int, some_from, all_has, agree, differ, clashes, Index, Unique, IsAscending, desk_schema, AreShown, IsInside}
 use Rattle.sqlite_rules.specs.Lists.{Has}
-use Rattle.sqlite_schema.specs.Rules.{agree, differ, clashes, passes as keeps_to}
-use Rattle.sqlite_schema.specs.declared.schema.Index.{Index}
-use Rattle.sqlite_schema.specs.declared.schema.Constraint.TheVariants.{Unique}
-use Rattle.sqlite_trees.specs.Tree.{IsAscending}
-use Rattle.desk_schema.specs.Tables.{desk_schema}
-use Rattle.desk_schema.specs.Rows.{AreShown}
-use Rattle.desk_schema.specs.Steps.{IsInside}
+use Rattle.sqlite_schema.specs.Rules.{passes as keeps_to}
 use Rattle.desk_schema.proofs.SchemaLemmas.{unique_at}
 use Rattle.desk_schema.proofs.TableLemmas.{KeyedTable}
 

@@ -1,15 +1,8 @@
 -- The last row that passes a test, where a row is added or left out, and where one alone passes.
 -- Nothing here speaks of a statement.
-use Rattle.std.proofs.Common.{◌≡◌, ℕ, ◌<◌, Bool, true, false, not, ◌&&◌, ◌==◌, if◌then◌else◌, nat_lt, filter, List, [], ◌∷◌, ◌++◌, Option, Some, None, option_map, eqb, refl, sym, ap, subst, ◌∙◌, arith, true≢false}
-use Rattle.std.specs.List.{AllByRecursion}
-use Rattle.std.specs.Option.{option_map_or}
-use Rattle.std.proofs.lemmas.Bool.{eqb-true, and_parts, false_from_ne_true}
-use Rattle.std.proofs.lemmas.Bool.Decides.{nat_tests}
+use Rattle.desk_schema.proofs.Imports.{◌≡◌, ℕ, ◌<◌, Bool, true, false, not, ◌&&◌, ◌==◌, if◌then◌else◌, nat_lt, filter, List, [], ◌∷◌, ◌++◌, Option, Some, None, option_map, eqb, refl, sym, ap, subst, ◌∙◌, arith, true≢false, AllByRecursion, option_map_or, eqb-true, and_parts, false_from_ne_true, nat_tests, IsAscending, placed, or_else, last_row}
 use Rattle.sqlite_keyed.proofs.ListLemmas.{ascending_weaker}
-use Rattle.sqlite_trees.specs.Tree.{IsAscending}
 use Rattle.bug_record.specs.Texts.{IfGiven}
-use Rattle.desk_content.specs.Edits.{placed}
-use Rattle.desk_schema.specs.LastRow.{or_else, last_row}
 use Rattle.desk_schema.proofs.OwnerLists.{turned}
 
 or_none : {A : Type 0} (o : Option A) → or_else o None ≡ o

@@ -21,3 +21,5 @@ pub mod BugLists
 pub mod MetaLemmas
 pub mod NodeLists
 pub mod OutcomeLists
+pub mod Imports
+pub mod Exports

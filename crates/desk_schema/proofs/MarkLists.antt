@@ -1,17 +1,7 @@
 -- The rows of marks give nodes to keys, as found and as fixed.
 -- Nothing here speaks of a statement.
-use Rattle.std.proofs.Common.{◌≡◌, ℕ, Bool, true, false, ◌&&◌, ◌||◌, ◌==◌, List, [], ◌∷◌, ◌++◌, refl, sym, ap, ◌∙◌}
-use Rattle.std.specs.List.Sorted.{IsStrictlySortedBy}
-use Rattle.std.proofs.lemmas.Bool.{eqb-true, and_parts}
-use Rattle.version_nodes.specs.NodeLaws.{same_node_equiv}
-use Rattle.version_nodes.specs.Nodes.{Node, same_node, node_cmp}
-use Rattle.version_nodes.specs.Trees.{has_node}
-use Rattle.version_nodes.specs.declared.statuses.MarkKind.{MarkKind}
-use Rattle.version_nodes.specs.declared.statuses.MarkKind.TheVariants.{Found, Fixed}
+use Rattle.desk_schema.proofs.Imports.{◌≡◌, ℕ, Bool, true, false, ◌&&◌, ◌||◌, ◌==◌, List, [], ◌∷◌, ◌++◌, refl, sym, ap, ◌∙◌, IsStrictlySortedBy, eqb-true, and_parts, same_node_equiv, Node, same_node, node_cmp, has_node, MarkKind, Found, Fixed, has-with_node, sorted-with_node, same-sorted_nodes, kind_number, MarkRow, with_nodes}
 use Rattle.bug_record.specs.Marks.{with_node}
-use Rattle.bug_record.proofs.MarkLemmas.{has-with_node, sorted-with_node, same-sorted_nodes}
-use Rattle.desk_content.specs.Encodings.{kind_number}
-use Rattle.desk_schema.specs.MarkRows.{MarkRow, with_nodes}
 use Rattle.desk_schema.proofs.OwnerLists.{OwnerRows}
 
 pub with_last : (ns vs : List Node) (v : Node) → with_nodes ns (vs ++ v ∷ []) ≡ with_node (with_nodes ns vs) v

@@ -1,10 +1,5 @@
 -- What other rows of meta make of all that the tables say.
-use Rattle.std.proofs.Common.{◌≡◌, ℕ, [], ◌∷◌, refl, ap}
-use Rattle.sqlite.specs.State.{State}
-use Rattle.sql_forms.specs.Forms.{Changes}
-use Rattle.desk_schema.specs.Tables.{META, desk_schema}
-use Rattle.desk_schema.specs.Rows.{meta_cells, next_in, AreShown}
-use Rattle.desk_schema.specs.Steps.{seen}
+use Rattle.desk_schema.proofs.Imports.{◌≡◌, ℕ, [], ◌∷◌, refl, ap, State, Changes, META, desk_schema, meta_cells, next_in, AreShown, seen}
 use Rattle.desk_schema.proofs.ContentLemmas.{remade}
 use Rattle.desk_schema.proofs.StatementLemmas.{Makes}
 

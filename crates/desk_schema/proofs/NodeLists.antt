@@ -1,21 +1,10 @@
 -- What a row that is added or left out makes of the nodes that the rows say, and which links the
 -- rows have.
 -- Nothing here speaks of a statement.
-use Rattle.std.proofs.Common.{◌≡◌, Bool, true, false, not, cond, if◌then◌else◌, filter, map, List, [], ◌∷◌, ◌++◌, append-nil, Option, Some, None, is_some, Ordering, Less, Equal, Greater, refl, sym, ap, subst, ◌∙◌, true≢false}
+use Rattle.desk_schema.proofs.Imports.{◌≡◌, Bool, true, false, not, cond, if◌then◌else◌, filter, map, List, [], ◌∷◌, ◌++◌, append-nil, Option, Some, None, is_some, Ordering, Less, Equal, Greater, refl, sym, ap, subst, ◌∙◌, true≢false, AllByRecursion, IsPermutation, IsStrictlySortedBy, is_eq, IsPermutation-refl, IsPermutation-sym, IsPermutation-cons, IsPermutation-trans, IsPermutation-middle, IsPermutation-append_right, IsAscending, Node, same_node, node_cmp, same_node_equiv, Ancestry, no_nodes, known_at, knows, ascends_put, same_links, same_true, ties_same, ties_node, at_first, past_first, put_step, known_put, known_others, NodeRow, with_links, nodes_in}
 use Rattle.std.specs.BTreeMap.{insert_entry}
-use Rattle.std.specs.List.{AllByRecursion}
-use Rattle.std.specs.List.Sorted.{IsPermutation, IsStrictlySortedBy}
 use Rattle.std.specs.Map.{keys_of}
-use Rattle.std.specs.Ordering.{is_eq}
 use Rattle.std.proofs.lemmas.List.Kept.{IsStrictlySortedBy-filter}
-use Rattle.std.proofs.lemmas.List.Sorted.{IsPermutation-refl, IsPermutation-sym, IsPermutation-cons, IsPermutation-trans, IsPermutation-middle, IsPermutation-append_right}
-use Rattle.sqlite_trees.specs.Tree.{IsAscending}
-use Rattle.version_nodes.specs.Nodes.{Node, same_node, node_cmp}
-use Rattle.version_nodes.specs.NodeLaws.{same_node_equiv}
-use Rattle.version_nodes.specs.Trees.{Ancestry, no_nodes, known_at, knows}
-use Rattle.ancestry.proofs.LinkLemmas.{ascends_put, same_links}
-use Rattle.version_nodes.proofs.NodeLemmas.{same_true, ties_same, ties_node, at_first, past_first, put_step, known_put, known_others}
-use Rattle.desk_schema.specs.NodeRows.{NodeRow, with_links, nodes_in}
 
 -- ---- one more row
 

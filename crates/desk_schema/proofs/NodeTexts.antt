@@ -1,21 +1,11 @@
 -- The texts of a node are read as the node.
-use Rattle.std.proofs.Common.{◌≡◌, ℕ, ◌<◌, lit<, arith, Bool, true, false, ◌||◌, ◌&&◌, eqb, List, [], ◌∷◌, ◌++◌, Option, Some, None, is_none, is_some, if◌then◌else◌, refl, sym, ap, subst, ◌∙◌, true≢false}
-use Rattle.std.specs.List.{list_all, list_any, AllByRecursion}
-use Rattle.std.specs.Prelude.{IsUtf8}
-use Rattle.std.proofs.lemmas.Bool.{eqb-true, and_parts}
-use Rattle.std.proofs.lemmas.Bool.Decides.{nat_tests}
-use Rattle.std.proofs.lemmas.List.Elements.{All-from_recursion}
+use Rattle.desk_schema.proofs.Imports.{◌≡◌, ℕ, ◌<◌, lit<, arith, Bool, true, false, ◌||◌, ◌&&◌, eqb, List, [], ◌∷◌, ◌++◌, Option, Some, None, is_none, is_some, if◌then◌else◌, refl, sym, ap, subst, ◌∙◌, true≢false, list_all, list_any, AllByRecursion, IsUtf8, eqb-true, and_parts, nat_tests, All-from_recursion, IsName, name_fault, in_name, IsVersion, cut, IsEpoch, IsRevision, in_upstream, in_revision, epoch_text, revision_text, written, Node, IsNode, node, is_slash, node_of, node_of_text, node_at, all_append}
 use Rattle.std.proofs.lemmas.Str.{IsUtf8-from_ascii}
 use Rattle.std.proofs.lemmas.Str.Ascii.{IsAscii-from_all}
 use Rattle.std.proofs.lemmas.List.Folds.{list_any-append}
-use Rattle.debver.specs.Names.{IsName, name_fault, in_name}
-use Rattle.debver.specs.Cut.{IsVersion, cut}
 use Rattle.debver.specs.Characters.{is_digit}
 use Rattle.debver.specs.Faults.{text_fault}
-use Rattle.debver.specs.Parts.{IsEpoch, IsRevision, in_upstream, in_revision, epoch_text, revision_text, written}
-use Rattle.version_nodes.specs.Nodes.{Node, IsNode, node, is_slash, node_of, node_of_text, node_at}
 use Rattle.version_nodes.proofs.ReadLemmas.{nodes_exactly}
-use Rattle.sql_forms.proofs.RowLemmas.{all_append}
 
 -- a text of which each byte passes a test that a slash doesn't pass has no slash
 without_slash : (p : ℕ → Bool) → p 47 ≡ false → (s : List ℕ) → list_all p s ≡ true → list_any is_slash s ≡ false

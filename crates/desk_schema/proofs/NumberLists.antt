@@ -1,14 +1,6 @@
 -- The rows of blocks give blockers to keys, and those of outcome_numbers numbers to places of ids.
 -- Nothing here speaks of a statement.
-use Rattle.std.proofs.Common.{◌≡◌, ℕ, Bool, true, false, ◌&&◌, ◌||◌, ◌==◌, eqb, if◌then◌else◌, nat_lt, List, [], ◌∷◌, ◌++◌, refl, ap, ◌∙◌}
-use Rattle.std.specs.Cmp.Lexicographic.{bytes_decides}
-use Rattle.std.specs.Str.{bytes_eq}
-use Rattle.std.proofs.lemmas.Bool.{eqb-true, and_parts}
-use Rattle.bug_record.specs.Sets.{has}
-use Rattle.desk_content.specs.Edits.{placed}
-use Rattle.sql_forms.specs.Numbers.{with_number, with_numbers}
-use Rattle.desk_schema.specs.BlockRows.{BlockRow}
-use Rattle.desk_schema.specs.NumberRows.{NumberRow}
+use Rattle.desk_schema.proofs.Imports.{◌≡◌, ℕ, Bool, true, false, ◌&&◌, ◌||◌, ◌==◌, eqb, if◌then◌else◌, nat_lt, List, [], ◌∷◌, ◌++◌, refl, ap, ◌∙◌, bytes_decides, bytes_eq, eqb-true, and_parts, has, placed, with_number, with_numbers, BlockRow, NumberRow}
 use Rattle.desk_schema.proofs.OwnerLists.{OwnerRows}
 
 -- a number comes into its place

@@ -1,12 +1,7 @@
 -- The rows of outcomes give outcomes, each with its place, to ids.
 -- Nothing here speaks of a statement.
-use Rattle.std.proofs.Common.{◌≡◌, ℕ, Bool, true, false, ◌||◌, ◌==◌, if◌then◌else◌, nat_lt, List, [], ◌∷◌, ◌++◌, refl, ap, ◌∙◌}
-use Rattle.std.specs.Str.{bytes_eq}
-use Rattle.std.specs.Cmp.Lexicographic.{bytes_decides}
-use Rattle.bug_record.specs.Sets.{has}
-use Rattle.desk_content.specs.Edits.{placed, places_of}
+use Rattle.desk_schema.proofs.Imports.{◌≡◌, ℕ, Bool, true, false, ◌||◌, ◌==◌, if◌then◌else◌, nat_lt, List, [], ◌∷◌, ◌++◌, refl, ap, ◌∙◌, bytes_eq, bytes_decides, has, placed, places_of, OutcomeRow, placed_each}
 use Rattle.desk_content.specs.declared.edit.ToldOutcome.{ToldOutcome}
-use Rattle.desk_schema.specs.OutcomeRows.{OutcomeRow, placed_each}
 use Rattle.desk_schema.proofs.NumberLists.{or_swap, or_assoc, or_false}
 use Rattle.desk_schema.proofs.OwnerLists.{OwnerRows}
 

@@ -1,11 +1,7 @@
 -- Rows that are their key: each gives one item to one owner.
 -- What a row that is added or left out makes of the items of each owner, and which are there.
 -- Nothing here speaks of a statement.
-use Rattle.std.proofs.Common.{◌≡◌, ℕ, Bool, true, false, not, ◌&&◌, ◌||◌, cond, if◌then◌else◌, filter, map, List, [], ◌∷◌, ◌++◌, append-nil, refl, sym, ap, ◌∙◌, eqb, arith, true≢false}
-use Rattle.std.specs.List.{AllByRecursion, list_any}
-use Rattle.std.specs.List.Sorted.{IsPermutation}
-use Rattle.std.proofs.lemmas.List.Sorted.{list_any-IsPermutation}
-use Rattle.std.proofs.lemmas.Bool.Decides.{nat_tests}
+use Rattle.desk_schema.proofs.Imports.{◌≡◌, ℕ, Bool, true, false, not, ◌&&◌, ◌||◌, cond, if◌then◌else◌, filter, map, List, [], ◌∷◌, ◌++◌, append-nil, refl, sym, ap, ◌∙◌, eqb, arith, true≢false, AllByRecursion, list_any, IsPermutation, list_any-IsPermutation, nat_tests}
 
 -- what is to be known of such rows
 pub record OwnerRows (T O I : Type 0) : Type 0 where

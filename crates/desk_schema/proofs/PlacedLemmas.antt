@@ -1,20 +1,6 @@
 -- Rows under numbers of their own: a new one comes into its place.
-use Rattle.std.proofs.Common.{◌≡◌, ℕ, pos, ◌<◌, Bool, true, false, ◌||◌, eqb, nat_lt, if◌then◌else◌, map, List, [], ◌∷◌, Less, int_cmp, refl, sym, ap, subst, ◌∙◌, arith, true≢false}
-use Rattle.std.specs.List.{AllByRecursion}
-use Rattle.std.specs.Ordering.{is_eq, match_ordering}
+use Rattle.desk_schema.proofs.Imports.{◌≡◌, ℕ, pos, ◌<◌, Bool, true, false, ◌||◌, eqb, nat_lt, if◌then◌else◌, map, List, [], ◌∷◌, Less, int_cmp, refl, sym, ap, subst, ◌∙◌, arith, true≢false, AllByRecursion, is_eq, match_ordering, nat_tests, ints, Int, is_taken, Row, value_cmp, IsTable, rowid, put_row, IsAscending, IsTable-put_row, all-put_row, value_cmp-Int, AreRows, same_number, placed}
 use Rattle.std.specs.declared.cmp.Ordering.TheVariants.{Greater}
-use Rattle.std.proofs.lemmas.Bool.Decides.{nat_tests}
-use Rattle.std.proofs.lemmas.Int.{ints}
-use Rattle.sqlite.specs.declared.types.Value.TheVariants.{Int}
-use Rattle.sqlite.specs.Edit.{is_taken}
-use Rattle.sqlite.specs.Order.{Row, value_cmp}
-use Rattle.sqlite.specs.Tree.{IsTable, rowid, put_row}
-use Rattle.sqlite_trees.specs.Tree.{IsAscending}
-use Rattle.sqlite_trees.proofs.TreeLemmas.{IsTable-put_row, all-put_row}
-use Rattle.sqlite_value.proofs.OrderLemmas.{value_cmp-Int}
-use Rattle.sql_forms.specs.TypedRows.{AreRows}
-use Rattle.sql_forms.proofs.RowLemmas.{same_number}
-use Rattle.desk_content.specs.Edits.{placed}
 
 pub all_with : {T : Type 0} (P : T → Type 0) (number : T → ℕ) (xs : List T) (x : T) → P x → AllByRecursion P xs → AllByRecursion P (placed number xs x)
 all_with P number [] x fine all = (fine, tt)

@@ -1,12 +1,6 @@
 -- What several questions inside a transaction come to together.
 -- Nothing here speaks of a statement.
-use Rattle.std.proofs.Common.{◌≡◌, ◌≢◌, Result, Ok, Err, IfOk, IfErr, refl, subst, ◌∙◌}
-use Rattle.std.specs.Prelude.{⊤}
-use Rattle.sqlite.specs.State.{State}
-use Rattle.bug_record.specs.declared.outcome.StoreFault.{StoreFault}
-use Rattle.bug_record.specs.declared.outcome.StoreFault.TheVariants.{Foreign}
-use Rattle.desk_content.specs.Content.{Content}
-use Rattle.desk_schema.specs.Steps.{Acts, Reads}
+use Rattle.desk_schema.proofs.Imports.{◌≡◌, ◌≢◌, Result, Ok, Err, IfOk, IfErr, refl, subst, ◌∙◌, ⊤, State, StoreFault, Foreign, Content, Acts, Reads}
 use Rattle.desk_schema.proofs.StepLemmas.{done, none, acts_none, acts_stop, acts_then, acts_work, reads_work}
 
 -- nothing was changed, and this is known of what the tables say

@@ -1,24 +1,11 @@
 -- Rows are read back from their cells.
-use Rattle.std.proofs.Common.{◌≡◌, ℕ, pos, List, Bool, true, false, unwrap_or, Option, Some, None, refl, ap, ◌∙◌}
-use Rattle.sqlite.specs.Values.{or_null}
-use Rattle.sqlite.specs.declared.types.Value.TheVariants.{Int, Text}
-use Rattle.version_nodes.specs.Nodes.{Node}
-use Rattle.version_nodes.specs.declared.statuses.MarkKind.{MarkKind}
-use Rattle.version_nodes.specs.declared.statuses.MarkKind.TheVariants.{Found, Fixed}
+use Rattle.desk_schema.proofs.Imports.{◌≡◌, ℕ, pos, List, Bool, true, false, unwrap_or, Option, Some, None, refl, ap, ◌∙◌, or_null, Int, Text, Node, MarkKind, Found, Fixed, severity_in, flag, flag_in, kind_number, kind_in, outcome_kind, outcome_number, outcome_field, outcome_node, outcome_in, maybe_number, maybe_text, SetRow, set_cells, set_in, MarkRow, mark_cells, mark_in, NodeRow, node_cells, node_in, node_between, NearestRow, nearest_cells, nearest_in, OutcomeRow, outcome_cells, outcome_row_in, IsOutcomeRow}
 use Rattle.nearest_marks.specs.declared.near.Near.{Near}
 use Rattle.bug_record.specs.Severities.{rank}
 use Rattle.bug_record.specs.declared.outcome.Outcome.TheVariants.{Stopped}
 use Rattle.bug_record.specs.declared.severity.Severity.{Severity}
 use Rattle.bug_record.specs.declared.severity.Severity.TheVariants.{Critical}
-use Rattle.desk_content.specs.Encodings.{severity_in, flag, flag_in, kind_number, kind_in}
-use Rattle.desk_content.specs.Outcomes.{outcome_kind, outcome_number, outcome_field, outcome_node, outcome_in}
 use Rattle.desk_content.proofs.OutcomeLemmas.{outcome_back}
-use Rattle.desk_schema.specs.Cells.{maybe_number, maybe_text}
-use Rattle.desk_schema.specs.SetRows.{SetRow, set_cells, set_in}
-use Rattle.desk_schema.specs.MarkRows.{MarkRow, mark_cells, mark_in}
-use Rattle.desk_schema.specs.NodeRows.{NodeRow, node_cells, node_in, node_between}
-use Rattle.desk_schema.specs.NearestRows.{NearestRow, nearest_cells, nearest_in}
-use Rattle.desk_schema.specs.OutcomeRows.{OutcomeRow, outcome_cells, outcome_row_in, IsOutcomeRow}
 
 severity_back : (s : Severity) → severity_in (rank s) ≡ Some s
 severity_back Critical = refl

@@ -1,17 +1,5 @@
 -- The tables of the schema are plain ones.
-use Rattle.std.proofs.Common.{◌≡◌, inl, inr, ℕ, List, [], ◌∷◌, Bool, true, false, not, ◌&&◌, eqb, IsTrue, refl, sym, subst, true≢false}
-use Rattle.std.specs.List.{AllByRecursion}
-use Rattle.std.proofs.lemmas.Bool.{eq-eqb}
-use Rattle.sqlite.specs.Order.{Row}
-use Rattle.sqlite.specs.State.{State}
-use Rattle.sqlite.specs.Table.{Table}
-use Rattle.sqlite_schema.specs.Rules.{Keeps, references_fit}
-use Rattle.sqlite_schema.specs.declared.schema.Constraint.TheVariants.{Unique}
-use Rattle.sqlite_trees.specs.Tree.{IsAscending}
-use Rattle.sql_forms.proofs.ErrorLemmas.{HasNoReferences}
-use Rattle.sql_forms.proofs.RefusalLemmas.{IsPlainTable}
-use Rattle.desk_schema.specs.Tables.{meta_table, sets_table, bugs_table, marks_table, blocks_table, nodes_table, nearest_table, affects_table, messages_table, outcomes_table, outcome_numbers_table, desk_schema}
-use Rattle.desk_schema.specs.Steps.{IsInside}
+use Rattle.desk_schema.proofs.Imports.{◌≡◌, inl, inr, ℕ, List, [], ◌∷◌, Bool, true, false, not, ◌&&◌, eqb, IsTrue, refl, sym, subst, true≢false, AllByRecursion, eq-eqb, Row, State, Table, Keeps, references_fit, Unique, IsAscending, HasNoReferences, IsPlainTable, meta_table, sets_table, bugs_table, marks_table, blocks_table, nodes_table, nearest_table, affects_table, messages_table, outcomes_table, outcome_numbers_table, desk_schema, IsInside}
 
 every : (rows : List Row) → AllByRecursion (λ _. true ≡ true) rows
 every [] = tt

@@ -1,26 +1,9 @@
 -- What the meaning of a statement's text, with its parameters, makes of a call.
-use Rattle.std.proofs.Common.{◌≡◌, ◌≢◌, ◌⊎◌, inl, inr, ℕ, List, Result, Ok, Err, IfOk, IfErr, IsTrue, Option, None, Some, sym, ap, subst, ◌∙◌}
-use Rattle.std.specs.Prelude.{⊤}
-use Rattle.sqlite.specs.Order.{Row}
-use Rattle.sqlite.specs.Effect.{Database, IsDatabase}
-use Rattle.sqlite.specs.declared.error.Error.{Error}
-use Rattle.sqlite.specs.State.{State, HasCleanDisk, KeepsCommit, Survives, ExecutesInside, IsUnchanged, IsRolledBack, Shown, FailsToQuery, FailsToShow, IsTooLate, IsNotRun}
+use Rattle.desk_schema.proofs.Imports.{◌≡◌, ◌≢◌, ◌⊎◌, inl, inr, ℕ, List, Result, Ok, Err, IfOk, IfErr, IsTrue, Option, None, Some, sym, ap, subst, ◌∙◌, ⊤, Row, Database, IsDatabase, Error, State, HasCleanDisk, KeepsCommit, Survives, ExecutesInside, IsUnchanged, IsRolledBack, Shown, FailsToQuery, FailsToShow, IsTooLate, IsNotRun, Foreign, fault_of, told, shown_open, shown_same, stored_free, query_fault_or_same, IsQueryOf, query_free, Finds, finds, Term, IsPlain, reads_as, Key, Content, desk_schema, content_of, AreShown, IsInside, seen, Acts, Serves}
 use Rattle.sqlite_resolve.specs.declared.compiled.Compiled.{Compiled}
 use Rattle.sqlite_schema.specs.declared.command.Returning.{Returning}
-use Rattle.bug_record.specs.declared.outcome.StoreFault.TheVariants.{Foreign}
-use Rattle.sql_forms.specs.Faults.{fault_of, written, told}
-use Rattle.sql_forms.proofs.ReadLemmas.{shown_open, shown_same}
-use Rattle.sql_forms.proofs.FailLemmas.{stored_free, query_fault_or_same}
-use Rattle.sql_forms.proofs.QueryErrors.{IsQueryOf, query_free}
-use Rattle.sql_forms.proofs.QueryLemmas.{Finds, finds}
+use Rattle.sql_forms.specs.Faults.{written}
 use Rattle.sqlite.specs.Listing.{understood}
-use Rattle.sqlite.specs.Term.{Term}
-use Rattle.sqlite.proofs.Callers.{IsPlain, reads_as}
-use Rattle.sqlite_value.specs.declared.keys.Key.{Key}
-use Rattle.desk_content.specs.Content.{Content}
-use Rattle.desk_schema.specs.Tables.{desk_schema}
-use Rattle.desk_schema.specs.Rows.{content_of, AreShown}
-use Rattle.desk_schema.specs.Steps.{IsInside, seen, Acts, Serves}
 
 -- ---- a statement that writes
 

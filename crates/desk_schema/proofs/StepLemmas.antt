@@ -1,19 +1,10 @@
 -- What calls inside a transaction come to together.
 -- Nothing here speaks of a statement.
-use Rattle.std.proofs.Common.{◌≡◌, ◌≢◌, inl, ℕ, ◌+◌, ◌<◌, suc, add-one, length, drop, get_or, drop-cons, ◌≤◌, map, flat_map, List, [], ◌∷◌, ◌++◌, Result, Ok, Err, IfOk, IfErr, arith, refl, sym, ap, subst, ◌∙◌}
+use Rattle.desk_schema.proofs.Imports.{◌≡◌, ◌≢◌, inl, ℕ, ◌+◌, ◌<◌, suc, add-one, length, drop, get_or, drop-cons, ◌≤◌, map, flat_map, List, [], ◌∷◌, ◌++◌, Result, Ok, Err, IfOk, IfErr, arith, refl, sym, ap, subst, ◌∙◌, ⊤, State, HasCleanDisk, Survives, StoreFault, Foreign, Content, edited, edited_all, IsFree, AreFree, Edit, IsInside, seen, Goes, Acts, Serves, Plays, PlaysAll}
 use Rattle.std.proofs.Math.ListN.{drop_of_length-le}
-use Rattle.std.specs.Prelude.{⊤}
-use Rattle.sqlite.specs.State.{State, HasCleanDisk, Survives}
 use Rattle.sqlite.proofs.InsideLemmas.{keeps_then}
 use Rattle.sqlite.proofs.StateLemmas.{survives_then}
-use Rattle.bug_record.specs.declared.outcome.StoreFault.{StoreFault}
-use Rattle.bug_record.specs.declared.outcome.StoreFault.TheVariants.{Foreign}
-use Rattle.desk_content.specs.Content.{Content}
-use Rattle.desk_content.specs.Edits.{edited, edited_all}
-use Rattle.desk_content.specs.Free.{IsFree, AreFree}
-use Rattle.desk_content.specs.declared.edit.Edit.{Edit}
 use Rattle.desk_content.proofs.EditLemmas.{edited_all-append}
-use Rattle.desk_schema.specs.Steps.{IsInside, seen, Goes, Acts, Serves, Plays, PlaysAll}
 
 survives_stay : (s : State) → Survives s s (λ _. ⊥)
 survives_stay s = record { clean = omega arith; shield = λ h. h; counts = omega arith; limit = refl; closes = λ clean o. inl o; crash = λ clean db h. inl h }

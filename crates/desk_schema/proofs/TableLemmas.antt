@@ -1,46 +1,14 @@
 -- One table of a desk, whatever its rows are: what a statement that adds a row or leaves rows out
 -- makes of all that the tables say.
-use Rattle.std.proofs.Common.{◌≡◌, ◌≢◌, ℕ, ℤ, pos, ◌<◌, ◌/◌, List, [], ◌∷◌, ◌++◌, length, map, filter, Bool, true, false, not, ◌&&◌, eqb, if◌then◌else◌, slice_get, Some, Ok, Err, IsTrue, refl, sym, ap, subst, ◌∙◌}
-use Rattle.std.proofs.lemmas.Bool.{eq-eqb}
-use Rattle.std.specs.List.{AllByRecursion, list_any, list_all}
-use Rattle.sqlite.specs.Command.TheVariants.{Insert, Delete}
-use Rattle.sqlite.specs.Edit.{next_rowid, is_taken}
-use Rattle.sqlite.specs.Effect.{value_rows}
-use Rattle.sqlite.specs.Order.{Row}
+use Rattle.desk_schema.proofs.Imports.{◌≡◌, ◌≢◌, ℕ, ℤ, pos, ◌<◌, ◌/◌, List, [], ◌∷◌, ◌++◌, length, map, filter, Bool, true, false, not, ◌&&◌, eqb, if◌then◌else◌, slice_get, Some, Ok, Err, IsTrue, refl, sym, ap, subst, ◌∙◌, eq-eqb, AllByRecursion, list_any, list_all, Insert, Delete, next_rowid, is_taken, value_rows, Row, State, ExecutesInside, Table, Term, col, eval_all, Trees, IsTable, put_row, rowid, Error, Int, agree, clashes, guards, Index, with_tree, IsAscending, accepts_terms, accepts_program, Foreign, fault_of, Changes, inserted, passes, query_of, AreRows, InsertsRow, IsInserted, inserts, DeletesRows, deletes, IsCallOf, IsPlainTable, IsGoodRow, insert_free, delete_free, rows_more, rows_less, same_number, Content, edited, placed, IsFree, Edit, desk_schema, content_of, AreShown, IsInside, seen}
 use Rattle.sqlite.specs.Rowids.TheVariants.{Chosen}
 use Rattle.sqlite.specs.Source.TheVariants.{Values}
-use Rattle.sqlite.specs.State.{State, ExecutesInside}
-use Rattle.sqlite.specs.Table.{Table}
-use Rattle.sqlite.specs.Term.{Term, col, eval_all}
-use Rattle.sqlite.specs.Tree.{Trees, IsTable, put_row, rowid}
-use Rattle.sqlite.specs.declared.error.Error.{Error}
-use Rattle.sqlite.specs.declared.types.Value.TheVariants.{Int}
 use Rattle.sqlite_rules.proofs.PlaceLemmas.{next_is_free}
 use Rattle.sqlite_rules.specs.Action.{works}
 use Rattle.sqlite_rules.specs.Keys.{are_unique}
-use Rattle.sqlite_schema.specs.Rules.{agree, clashes, guards}
-use Rattle.sqlite_schema.specs.declared.schema.Index.{Index}
 use Rattle.sqlite_schema.specs.declared.schema.Keys.TheVariants.{Enforced}
-use Rattle.sqlite_trees.specs.Tree.{with_tree, IsAscending}
-use Rattle.sqlite_typing.specs.Types.{accepts_terms, accepts_program}
-use Rattle.bug_record.specs.declared.outcome.StoreFault.TheVariants.{Foreign}
-use Rattle.sql_forms.specs.Faults.{fault_of}
-use Rattle.sql_forms.specs.Forms.{Changes, inserted, passes, query_of}
-use Rattle.sql_forms.specs.TypedRows.{AreRows}
-use Rattle.sql_forms.proofs.InsertLemmas.{InsertsRow, IsInserted, inserts}
-use Rattle.sql_forms.proofs.DeleteLemmas.{DeletesRows, deletes}
 use Rattle.sql_forms.proofs.DeleteErrors.{rowids_of}
-use Rattle.sql_forms.proofs.ErrorLemmas.{IsCallOf}
-use Rattle.sql_forms.proofs.RefusalLemmas.{IsPlainTable, IsGoodRow, insert_free, delete_free}
-use Rattle.sql_forms.proofs.RowLemmas.{rows_more, rows_less, same_number}
 use Rattle.sql_forms.proofs.UniqueLemmas.{put_apart}
-use Rattle.desk_content.specs.Content.{Content}
-use Rattle.desk_content.specs.Edits.{edited, placed}
-use Rattle.desk_content.specs.Free.{IsFree}
-use Rattle.desk_content.specs.declared.edit.Edit.{Edit}
-use Rattle.desk_schema.specs.Tables.{desk_schema}
-use Rattle.desk_schema.specs.Rows.{content_of, AreShown}
-use Rattle.desk_schema.specs.Steps.{IsInside, seen}
 use Rattle.desk_schema.proofs.ContentLemmas.{remade, good_back}
 use Rattle.desk_schema.proofs.PlacedLemmas.{untaken, numbers_rise, rows_placed}
 use Rattle.desk_schema.proofs.SchemaLemmas.{unique_at}

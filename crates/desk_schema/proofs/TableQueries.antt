@@ -1,29 +1,6 @@
 -- What a query over one table of a desk answers, whatever the table's rows are.
-use Rattle.std.proofs.Common.{◌≡◌, ℕ, ◌<◌, ◌≤◌, ◌+◌, pos, suc, zero, add-one, Bool, false, List, [], ◌∷◌, map, filter, length, drop, get_or, is_lt, Option, Some, None, option_map, Result, Ok, Err, IfOk, IsTrue, refl, sym, ap, subst, ◌∙◌, arith}
-use Rattle.std.specs.List.{AllByRecursion}
-use Rattle.std.specs.List.Sorted.{IsPermutation}
-use Rattle.std.specs.Option.{option_map_or}
-use Rattle.std.proofs.lemmas.Bool.Decides.{nat_tests}
-use Rattle.std.proofs.lemmas.Int.{ints}
-use Rattle.sqlite.specs.Order.{Row, value_cmp}
-use Rattle.sqlite.specs.Query.{Query, Output, output, output_cmp}
-use Rattle.sqlite.specs.State.{State}
-use Rattle.sqlite.specs.Term.{Term, col, eval_all}
-use Rattle.sqlite.specs.declared.types.Value.TheVariants.{Int}
-use Rattle.sqlite_value.proofs.OrderLemmas.{value_cmp-Int, then-Equal}
-use Rattle.sqlite_value.specs.declared.keys.Key.{Key}
+use Rattle.desk_schema.proofs.Imports.{◌≡◌, ℕ, ◌<◌, ◌≤◌, ◌+◌, pos, suc, zero, add-one, Bool, false, List, [], ◌∷◌, map, filter, length, drop, get_or, is_lt, Option, Some, None, option_map, Result, Ok, Err, IfOk, IsTrue, refl, sym, ap, subst, ◌∙◌, arith, AllByRecursion, IsPermutation, option_map_or, nat_tests, ints, Row, value_cmp, Query, Output, output, output_cmp, State, Term, col, eval_all, Int, value_cmp-Int, then-Equal, Key, StoreFault, passes, query_of, number_row, with_numbers, IsQueryOf, found, map_map, numbers_in_order, kept_rows, Content, desk_schema, AreShown, IsInside, seen}
 use Rattle.sqlite_value.specs.declared.keys.Collation.TheVariants.{Binary}
-use Rattle.bug_record.specs.declared.outcome.StoreFault.{StoreFault}
-use Rattle.sql_forms.specs.Forms.{passes, query_of}
-use Rattle.sql_forms.specs.Numbers.{number_row, with_numbers}
-use Rattle.sql_forms.proofs.QueryErrors.{IsQueryOf}
-use Rattle.sql_forms.proofs.QueryLemmas.{found, map_map}
-use Rattle.sql_forms.proofs.ReadLemmas.{numbers_in_order}
-use Rattle.sql_forms.proofs.RowLemmas.{kept_rows}
-use Rattle.desk_content.specs.Content.{Content}
-use Rattle.desk_schema.specs.Tables.{desk_schema}
-use Rattle.desk_schema.specs.Rows.{AreShown}
-use Rattle.desk_schema.specs.Steps.{IsInside, seen}
 use Rattle.desk_schema.proofs.AnyOrder.{in_any, only_order}
 use Rattle.desk_schema.proofs.StatementLemmas.{IsRead, reads_inside}
 use Rattle.desk_schema.proofs.TableLemmas.{DeskTable, seen_is}

@@ -1,16 +1,9 @@
 -- Such rows give texts to keys.
 -- Nothing here speaks of a statement.
-use Rattle.std.proofs.Common.{◌≡◌, ℕ, ◌||◌, ◌==◌, List, [], ◌∷◌, ◌++◌, refl, sym, ap, ◌∙◌}
+use Rattle.desk_schema.proofs.Imports.{◌≡◌, ℕ, ◌||◌, ◌==◌, List, [], ◌∷◌, ◌++◌, refl, sym, ap, ◌∙◌, nat_list_cmp_total, nat_list_eq_equiv, texts_ties, bytes_eq, eqb-true, name_cmp, has_name, with_name, in-each, sorted-each, names-none, same-sorted_names, TextRow}
 use Rattle.std.specs.BTreeSet.{insert_key}
-use Rattle.std.specs.Cmp.Lexicographic.{nat_list_cmp_total, nat_list_eq_equiv, texts_ties}
-use Rattle.std.specs.Str.{bytes_eq}
 use Rattle.std.specs.declared.cmp.Ordering.{Ordering}
-use Rattle.std.proofs.lemmas.Bool.{eqb-true}
 use Rattle.bug_record.specs.Ordered.{with_each}
-use Rattle.bug_record.specs.PackageSets.{name_cmp, has_name, with_name}
-use Rattle.bug_record.proofs.OrderedSetLemmas.{in-each, sorted-each}
-use Rattle.bug_record.proofs.PackageLemmas.{names-none, same-sorted_names}
-use Rattle.desk_schema.specs.TextRows.{TextRow}
 use Rattle.desk_schema.proofs.OwnerLists.{OwnerRows}
 
 pub with_last : {T : Type 0} (cmp : T → T → Ordering) (ys xs : List T) (x : T) → with_each cmp ys (xs ++ x ∷ []) ≡ insert_key cmp (with_each cmp ys xs) x

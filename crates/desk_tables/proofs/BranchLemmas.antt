@@ -1,31 +1,11 @@
 -- What a branch comes to, and leaves of what is remembered.
-use Rattle.std.proofs.Common.{◌≡◌, ◌≢◌, List, Some, Result, Ok, Err, IsTrue, refl, sym, ap, subst, ◌∙◌}
-use Rattle.std.specs.Prelude.{⊤}
-use Rattle.sqlite.specs.Held.{Held, state}
-use Rattle.sqlite.specs.State.{State, HasCleanDisk, Survives}
-use Rattle.sqlite.proofs.StateLemmas.{survives_weaker}
+use Rattle.desk_tables.proofs.Imports.{IsGrown, Branches, IsRefusal, content_seen, desk_seen, keeping_seen, IsKept, IsDesk, HasContent, AreTablesAfter, StillShows, IsChanged, IsTaken}
+use Rattle.desk_schema.proofs.Exports.{◌≡◌, ◌≢◌, List, Some, Result, Ok, Err, IsTrue, refl, sym, ap, subst, ◌∙◌, ⊤, Held, state, State, HasCleanDisk, Survives, survives_weaker, branched, IsBranched, Node, Ancestry, IsForest, StoreFault, Foreign, with_nodes, Content, IsKeptContent, desk_in, keeping_in, seen, none, acts_none}
 use Rattle.sqlite_trees.specs.declared.store.Store as store
-use Rattle.ancestry.specs.Branches.{branched, IsBranched}
-use Rattle.version_nodes.specs.Nodes.{Node}
-use Rattle.version_nodes.specs.Trees.{Ancestry, IsForest}
 use Rattle.ancestry.specs.declared.fault.BranchFault.{BranchFault}
 use Rattle.ancestry.specs.declared.fault.BranchFault.TheVariants.{Memory}
-use Rattle.branch_rows.specs.Grown.{IsGrown}
-use Rattle.bug_record.specs.declared.outcome.StoreFault.{StoreFault}
-use Rattle.bug_record.specs.declared.outcome.StoreFault.TheVariants.{Foreign}
-use Rattle.desk_content.specs.Branches.{with_nodes}
-use Rattle.desk_content.specs.Content.{Content}
-use Rattle.desk_content.specs.Kept.{IsKeptContent}
-use Rattle.desk_content.specs.View.{desk_in, keeping_in}
 use Rattle.desk_content.proofs.QuestionLemmas.{branch_kept}
-use Rattle.desk_schema.specs.Steps.{seen}
-use Rattle.desk_schema.proofs.StepLemmas.{none, acts_none}
-use Rattle.desk_store.specs.Store.{Branches, IsRefusal}
-use Rattle.desk_tables.specs.Kept.{content_seen, desk_seen, keeping_seen, IsKept}
-use Rattle.desk_tables.specs.Shown.{IsDesk, HasContent, AreTablesAfter}
-use Rattle.desk_tables.specs.Still.{StillShows}
 use Rattle.desk_tables.proofs.StillLemmas.{shows_now, still_same}
-use Rattle.desk_tables.specs.Transactions.{IsChanged, IsTaken}
 use Rattle.desk_tables.proofs.KeptLemmas.{content_is, noted_kept}
 
 abbrev pub Answer : Type 0

@@ -1,20 +1,13 @@
 -- What two files that hold a desk are opened as, and what a close leaves in them.
-use Rattle.std.proofs.Common.{◌≡◌, inl, inr, sym, subst}
+use Rattle.desk_tables.proofs.Imports.{HoldDesk, HoldCopy, LeaveDesk, IsFoundIn, HasContent, HoldsContent, HoldTables}
+use Rattle.desk_schema.proofs.Exports.{◌≡◌, inl, inr, sym, subst, HoldsAlone, IsCopied, file_state, HoldsDatabase, Held, State, Opens, IsLive, Content, IsKeptContent}
 use Rattle.std.proofs.Math.Logic.{∥∥₁_elim}
-use Rattle.sqlite.specs.Closing.{HoldsAlone, IsCopied}
-use Rattle.sqlite.specs.Files.{file_state, HoldsDatabase}
-use Rattle.sqlite.specs.Held.{Held}
-use Rattle.sqlite.specs.State.{State, Opens, IsLive}
 use Rattle.sqlite_disk.specs.declared.Disk.{Ghosts}
 use Rattle.sqlite_disk.specs.declared.Files.{Files}
 use Rattle.sqlite_store.specs.declared.store.FileStore.{FileStore}
 use Rattle.sqlite_trees.specs.Props.{Trees-set}
 use Rattle.sqlite_trees.specs.Tree.{Trees}
 use Rattle.sqlite_wal.specs.Recovery.{Image}
-use Rattle.desk_content.specs.Content.{Content}
-use Rattle.desk_content.specs.Kept.{IsKeptContent}
-use Rattle.desk_tables.specs.Files.{HoldDesk, HoldCopy, LeaveDesk, IsFoundIn}
-use Rattle.desk_tables.specs.Shown.{HasContent, HoldsContent, HoldTables}
 use Rattle.desk_tables.proofs.HeldLemmas.{holds_tables, committed_tables, newest_held}
 
 -- ---- files that are opened

@@ -1,22 +1,13 @@
 -- What is shown of trees that hold a desk.
-use Rattle.std.proofs.Common.{◌≡◌, ℕ, List, [], ◌∷◌, inl, inr, ne_eqb, arith, sym, ap, subst, ◌∙◌}
-use Rattle.std.proofs.lemmas.Bool.{cases_eq}
+use Rattle.desk_tables.proofs.Imports.{AreUnder, IsDesk, HasContent, HasContentUnder, HoldsContent, AreTablesOf, AreTablesUnder, HoldTables}
+use Rattle.desk_schema.proofs.Exports.{◌≡◌, ℕ, List, [], ◌∷◌, inl, inr, ne_eqb, arith, sym, ap, subst, ◌∙◌, cases_eq, Database, IsDatabase, Row, State, Opens, IsLive, with_tree, Content, META, desk_schema, meta_cells, next_in, content_of, AreShown, seen}
 use mathlib.Core.Path.{fun_ext}
-use Rattle.sqlite.specs.Effect.{Database, IsDatabase}
-use Rattle.sqlite.specs.Order.{Row}
-use Rattle.sqlite.specs.State.{State, Opens, IsLive}
 use Rattle.sqlite_catalog.proofs.ReadLemmas.{lists_once}
 use Rattle.sqlite_catalog.specs.Listing.{Lists}
 use Rattle.sqlite_trees.specs.Objects.{catalog_tree}
-use Rattle.sqlite_trees.specs.Tree.{Trees, with_tree}
-use Rattle.desk_content.specs.Content.{Content}
+use Rattle.sqlite_trees.specs.Tree.{Trees}
 use Rattle.desk_migrations.specs.History.{schema_at}
-use Rattle.desk_migrations.specs.Making.{AreUnder}
 use Rattle.desk_migrations.specs.declared.history.TheConstants.{NEWEST}
-use Rattle.desk_schema.specs.Tables.{META, desk_schema}
-use Rattle.desk_schema.specs.Rows.{meta_cells, next_in, content_of, AreShown}
-use Rattle.desk_schema.specs.Steps.{seen}
-use Rattle.desk_tables.specs.Shown.{IsDesk, HasContent, HasContentUnder, HoldsContent, AreTablesOf, AreTablesUnder, HoldTables}
 
 -- what was committed of a desk are its tables
 pub committed_tables : (s : State) (c : Content) → IsDesk s × (seen s ≡ c) → AreTablesOf c s.committed.trees

@@ -1,21 +1,7 @@
 -- What an outcome that is kept leaves of what is remembered.
-use Rattle.std.proofs.Common.{◌≡◌, ℕ, List, Option, None, Some, refl, ap, ◌∙◌}
-use Rattle.version_nodes.specs.Trees.{Ancestry}
-use Rattle.bug_record.specs.Texts.{IsText, IfGiven}
-use Rattle.bug_record.specs.Images.{AreApart, HasMember, FitsDesk}
-use Rattle.bug_record.specs.Sets.{Each}
-use Rattle.bug_record.specs.declared.command.Change.{Change}
-use Rattle.bug_record.specs.declared.outcome.Outcome.{Outcome}
-use Rattle.desk_content.specs.Changes.{FitsContent, cleared_for}
-use Rattle.desk_content.specs.Content.{Content}
-use Rattle.desk_content.specs.Keeping.{MayBePut, changed_by, kept_after}
-use Rattle.desk_content.specs.Kept.{IsKeptContent}
-use Rattle.desk_content.specs.View.{desk_in, keeping_in}
-use Rattle.desk_content.proofs.AfterLemmas.{after_keeping, after_kept}
-use Rattle.desk_content.proofs.ChangeLemmas.{change_desk}
-use Rattle.desk_content.proofs.ClosedLemmas.{put_nodes, no_nodes}
-use Rattle.desk_writes.specs.Needs.{HasTreeIfAny}
-use Rattle.desk_store.specs.Store.{Keeps, MayBeKept, with_change}
+use Rattle.desk_tables.proofs.Imports.{HasTreeIfAny, Keeps, MayBeKept, with_change}
+use Rattle.desk_schema.proofs.Exports.{◌≡◌, ℕ, List, Option, None, Some, refl, ap, ◌∙◌, Ancestry, IsText, IfGiven, HasMember, FitsDesk, Each, Change, Outcome, FitsContent, cleared_for, Content, MayBePut, changed_by, kept_after, IsKeptContent, desk_in, keeping_in, after_keeping, after_kept, change_desk, put_nodes, no_nodes}
+use Rattle.bug_record.specs.Images.{AreApart}
 use Rattle.desk_store.proofs.KeepLemmas.{kept_also-good}
 use Rattle.desk_tables.proofs.KeptLemmas.{made}
 

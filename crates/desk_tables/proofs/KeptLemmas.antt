@@ -1,32 +1,12 @@
 -- What a question and a change leave of what is remembered.
-use Rattle.std.proofs.Common.{◌≡◌, ◌≢◌, List, [], ◌∷◌, Option, None, Some, is_some, false, true, true≢false, Result, Ok, Err, OnOk, IfOk, IfErr, IfSome, IsTrue, arith, refl, sym, ap, subst, ◌∙◌, length}
-use Rattle.sqlite.specs.Held.{Held, state}
-use Rattle.sqlite.specs.State.{HasCleanDisk, Survives}
+use Rattle.desk_tables.proofs.Imports.{HasTree, Answers, state_of, content_shown, HasKeptTables, content_seen, desk_seen, IsKept, IsDesk, HasContent, AreTablesOf, StillShows, IsAsked, IsChanged}
+use Rattle.desk_schema.proofs.Exports.{◌≡◌, ◌≢◌, List, [], ◌∷◌, Option, None, Some, is_some, false, true, true≢false, Result, Ok, Err, OnOk, IfOk, IfErr, IfSome, IsTrue, arith, refl, sym, ap, subst, ◌∙◌, length, Held, state, HasCleanDisk, Survives, Ancestry, HasMember, IsSetOf, Change, StoreFault, Foreign, FitsContent, all_stay, changed, cleared_for, Content, IsKeptContent, desk_in, change_kept, put_nodes, no_nodes, seen}
 use Rattle.sqlite_trees.specs.declared.store.Store as store
-use Rattle.version_nodes.specs.Trees.{Ancestry}
 use Rattle.bug_record.specs.Desk.{Desk}
-use Rattle.bug_record.specs.Images.{HasMember, IsSetOf}
 use Rattle.bug_record.specs.declared.bug.SetImage.{SetImage}
-use Rattle.bug_record.specs.declared.command.Change.{Change}
-use Rattle.bug_record.specs.declared.outcome.StoreFault.{StoreFault}
-use Rattle.bug_record.specs.declared.outcome.StoreFault.TheVariants.{Foreign}
-use Rattle.desk_content.specs.Changes.{FitsContent, all_stay, changed, cleared_for}
-use Rattle.desk_content.specs.Content.{Content}
-use Rattle.desk_content.specs.Kept.{IsKeptContent}
-use Rattle.desk_content.specs.View.{desk_in}
-use Rattle.desk_content.proofs.ChangeLemmas.{change_kept}
-use Rattle.desk_content.proofs.ClosedLemmas.{put_nodes, no_nodes}
-use Rattle.desk_schema.specs.Steps.{seen}
 use Rattle.desk_reads.specs.Asked.{IsAskedFor}
-use Rattle.desk_writes.specs.Needs.{HasTree}
-use Rattle.desk_store.specs.Store.{Answers}
-use Rattle.desk_tables.specs.Desk.{state_of, content_shown, HasKeptTables}
-use Rattle.desk_tables.specs.Kept.{content_seen, desk_seen, IsKept}
 use Rattle.desk_tables.specs.declared.desk.TableDesk.{TableDesk}
-use Rattle.desk_tables.specs.Shown.{IsDesk, HasContent, AreTablesOf}
-use Rattle.desk_tables.specs.Still.{StillShows}
 use Rattle.desk_tables.proofs.StillLemmas.{shows_now}
-use Rattle.desk_tables.specs.Transactions.{IsAsked, IsChanged}
 
 -- what a connection shows is what its tables say
 pub content_is : {S : Type 0} (g : store.Ghosts S) (h : Held S) → content_seen g h ≡ seen (state g h)

@@ -6,3 +6,4 @@ pub mod BranchLemmas
 pub mod HeldLemmas
 pub mod KeepLemmas
 pub mod FileLemmas
+pub mod Imports

@@ -1,31 +1,15 @@
 -- What is remembered of a desk that is created or opened, and why there is none.
-use Rattle.std.proofs.Common.{◌≡◌, ◌≢◌, false, ◌<◌, ◌≤◌, ℕ, Option, None, IfSome, Result, Ok, Err, arith, refl, sym, ap, subst, ◌∙◌}
-use Rattle.sqlite.specs.Held.{Held, state}
-use Rattle.sqlite.specs.Effect.{Database, IsDatabase}
-use Rattle.sqlite.specs.State.{State, HasCleanDisk, Survives}
-use Rattle.sqlite.proofs.StateLemmas.{survives_then, survives_weaker}
+use Rattle.desk_tables.proofs.Imports.{AreUnder, Says, content_seen, desk_seen, keeping_seen, IsKept, unlimited, IsLeft, IsReason, SaysEarlier, IsDesk, HasContent, HasContentUnder, HoldsContent, AreTablesOf, StillShows, AsksSchema, IsRecognised, IsCarried, IsFound, NotADesk, NewerSchema, Store, NotEmpty}
+use Rattle.desk_schema.proofs.Exports.{◌≡◌, ◌≢◌, false, ◌<◌, ◌≤◌, ℕ, Option, None, IfSome, Result, Ok, Err, arith, refl, sym, ap, subst, ◌∙◌, Held, state, Database, IsDatabase, State, HasCleanDisk, Survives, survives_then, survives_weaker, Ancestry, Content, no_content, desk_in, keeping_in, StoreFault, seen}
 use Rattle.sqlite_trees.specs.declared.store.Store as store
-use Rattle.version_nodes.specs.Trees.{Ancestry}
 use Rattle.line_words.specs.declared.named.TheConstants.{LARGEST_NUMBER}
 use Rattle.bugs_in_memory.specs.Plain.{empty_desk}
-use Rattle.desk_content.specs.Content.{Content, no_content}
-use Rattle.desk_content.specs.View.{desk_in, keeping_in}
 use Rattle.desk_store.specs.Kept.{none_kept}
 use Rattle.desk_content.proofs.NewLemmas.{new_kept}
-use Rattle.bug_record.specs.declared.outcome.StoreFault.{StoreFault}
-use Rattle.desk_schema.specs.Steps.{seen}
-use Rattle.desk_migrations.specs.Making.{AreUnder}
 use Rattle.desk_migrations.specs.declared.history.TheConstants.{NEWEST}
 use Rattle.desk_migrations.specs.declared.number.SchemaRead.{SchemaRead}
 use Rattle.desk_migrations.specs.declared.number.SchemaRead.TheVariants.{Number, NoNumber}
-use Rattle.desk_migrations.specs.Number.{Says}
-use Rattle.desk_tables.specs.Kept.{content_seen, desk_seen, keeping_seen, IsKept}
-use Rattle.desk_tables.specs.Opening.{unlimited, IsLeft, IsReason, SaysEarlier}
-use Rattle.desk_tables.specs.Shown.{IsDesk, HasContent, HasContentUnder, HoldsContent, AreTablesOf}
-use Rattle.desk_tables.specs.Still.{StillShows}
-use Rattle.desk_tables.specs.Transactions.{AsksSchema, IsRecognised, IsCarried, IsFound}
 use Rattle.desk_tables.specs.declared.open_fault.OpenFault.{OpenFault}
-use Rattle.desk_tables.specs.declared.open_fault.OpenFault.TheVariants.{NotADesk, NewerSchema, Store, NotEmpty}
 use Rattle.desk_tables.proofs.HeldLemmas.{newest_shows, shows_newest}
 use Rattle.desk_tables.proofs.KeptLemmas.{content_is, noted_kept}
 use Rattle.desk_tables.proofs.StillLemmas.{left_still, still_is}

@@ -1,12 +1,6 @@
 -- What a connection goes on to show.
-use Rattle.std.proofs.Common.{◌≡◌, refl, sym, ap, subst, ◌∙◌}
-use Rattle.sqlite.specs.Effect.{Database, IsDatabase}
-use Rattle.sqlite.specs.State.{State}
-use Rattle.desk_content.specs.Content.{Content}
-use Rattle.desk_schema.specs.Rows.{content_of, AreShown}
-use Rattle.desk_tables.specs.Opening.{IsLeft}
-use Rattle.desk_tables.specs.Shown.{HasContent}
-use Rattle.desk_tables.specs.Still.{IsAsBefore, StillShows}
+use Rattle.desk_tables.proofs.Imports.{IsLeft, HasContent, IsAsBefore, StillShows}
+use Rattle.desk_schema.proofs.Exports.{◌≡◌, refl, sym, ap, subst, ◌∙◌, Database, IsDatabase, State, Content, content_of, AreShown}
 
 -- tables that are as they were show the same desk
 pub shows_now : (old new : State) (c : Content) → IsAsBefore old new → HasContent c old → HasContent c new

@@ -1,29 +1,9 @@
 -- What a transaction comes to: a question that is rolled back, and a change that is committed.
-use Rattle.std.proofs.Common.{◌≡◌, ◌≢◌, ℕ, ◌⊎◌, inl, inr, [], Result, Ok, Err, IfOk, IfErr, IsTrue, IsOk, None, false, true, true≢false, arith, refl, sym, ap, subst, ◌∙◌}
-use Rattle.std.specs.Prelude.{⊤}
-use Rattle.sqlite.specs.Effect.{Database, IsDatabase}
-use Rattle.sqlite.specs.Held.{Held, state}
+use Rattle.desk_tables.proofs.Imports.{IsBlank, IsDeskOf, IsUnder, Builds, Says, ReadsSchema, IsLeft, IsDesk, HasContent, HasContentUnder, AreTablesOf, IsAsBefore, StillShows, AsksInside, IsAsked, IsChanged, IsDone, IsMade, IsCarried, AsksSchema, IsCommitFault, Ends}
+use Rattle.desk_schema.proofs.Exports.{◌≡◌, ◌≢◌, ℕ, ◌⊎◌, inl, inr, [], Result, Ok, Err, IfOk, IfErr, IsTrue, IsOk, None, false, true, true≢false, arith, refl, sym, ap, subst, ◌∙◌, ⊤, Database, IsDatabase, Held, state, Ghosts, State, Shows, KeepsCounts, HasCleanDisk, KeepsCommit, Survives, IsUnchanged, IsRolledBack, Error, survives_then, survives_weaker, StoreFault, Foreign, fault_of, commit_free, Content, no_content, content_of, AreShown, IsInside, seen, Goes, Acts, Serves, done, failed, acts_none}
 use Rattle.sqlite.specs.Steps.{FailsToCommit}
-use Rattle.sqlite.specs.Store.{Ghosts}
-use Rattle.sqlite.specs.State.{State, Shows, KeepsCounts, HasCleanDisk, KeepsCommit, Survives, IsUnchanged, IsRolledBack}
-use Rattle.sqlite.specs.declared.error.Error.{Error}
-use Rattle.sqlite.proofs.StateLemmas.{survives_then, survives_weaker}
-use Rattle.bug_record.specs.declared.outcome.StoreFault.{StoreFault}
-use Rattle.bug_record.specs.declared.outcome.StoreFault.TheVariants.{Foreign}
-use Rattle.sql_forms.specs.Faults.{fault_of}
-use Rattle.sql_forms.proofs.FailLemmas.{commit_free}
-use Rattle.desk_content.specs.Content.{Content, no_content}
-use Rattle.desk_schema.specs.Rows.{content_of, AreShown}
-use Rattle.desk_schema.specs.Steps.{IsInside, seen, Goes, Acts, Serves}
-use Rattle.desk_schema.proofs.StepLemmas.{done, failed, acts_none}
-use Rattle.desk_migrations.specs.Making.{IsBlank, IsDeskOf, IsUnder, Builds}
-use Rattle.desk_migrations.specs.Number.{Says, ReadsSchema}
 use Rattle.desk_migrations.specs.declared.number.SchemaRead.{SchemaRead}
-use Rattle.desk_tables.specs.Opening.{IsLeft}
-use Rattle.desk_tables.specs.Shown.{IsDesk, HasContent, HasContentUnder, AreTablesOf}
-use Rattle.desk_tables.specs.Still.{IsAsBefore, StillShows}
 use Rattle.desk_tables.proofs.StillLemmas.{shows_now, left_still}
-use Rattle.desk_tables.specs.Transactions.{AsksInside, IsAsked, IsChanged, IsDone, IsMade, IsCarried, AsksSchema, IsCommitFault, Ends}
 
 -- ---- a question in a transaction that is rolled back
 

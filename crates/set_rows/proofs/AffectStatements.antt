@@ -1,36 +1,7 @@
 -- What the statements on affects mean.
-use Rattle.std.proofs.Common.{◌≡◌, ℕ, pos, ◌==◌, List, [], ◌∷◌, codes, map, refl, ◌∙◌, arith}
-use Rattle.std.specs.Prelude.{⊤}
-use Rattle.std.specs.Str.{bytes_eq, IsUtf8}
-use Rattle.sqlite.specs.Command.TheVariants.{Insert, Delete}
-use Rattle.sqlite.specs.Listing.{understood}
-use Rattle.sqlite.specs.Order.{column}
-use Rattle.sqlite.specs.Source.TheVariants.{Values}
-use Rattle.sqlite.specs.Term.{col}
-use Rattle.sqlite.specs.declared.types.Value.TheVariants.{Int, Text}
-use Rattle.sqlite_tied.specs.Compute.{everything}
-use Rattle.sql_forms.specs.Forms.{passes, equals}
-use Rattle.sql_forms.specs.Numbers.{number_row}
-use Rattle.sql_forms.proofs.AnswerLemmas.{number_at_front}
-use Rattle.sql_forms.proofs.DeleteErrors.{rowids_of}
-use Rattle.sql_forms.proofs.ErrorLemmas.{IsCallOf}
-use Rattle.sql_forms.proofs.QueryErrors.{IsQueryOf}
-use Rattle.sql_forms.proofs.RowLemmas.{hits, holds_text, and_true}
-use Rattle.desk_content.specs.Edits.{edited}
-use Rattle.desk_content.specs.Free.{IsFree}
-use Rattle.desk_content.specs.declared.edit.Edit.TheVariants.{PutAffects, DropAffects}
-use Rattle.desk_schema.specs.Cells.{text_in}
-use Rattle.desk_schema.specs.Tables.{AFFECTS, desk_schema}
-use Rattle.desk_schema.specs.TextRows.{TextRow, text_cells}
-use Rattle.desk_schema.proofs.TextLists.{text_rows}
-use Rattle.desk_schema.proofs.DeskTables.{affects, keyed_affects}
-use Rattle.desk_schema.proofs.CellLemmas.{cast_int, cast_null, same_text}
-use Rattle.desk_schema.proofs.OwnerLists.{turned, one_more, none_left, apart, owners_any}
-use Rattle.desk_schema.proofs.StatementLemmas.{IsWrite, IsRead}
-use Rattle.desk_schema.proofs.TableLemmas.{adds, clears}
-use Rattle.desk_schema.proofs.TableQueries.{asks}
+use Rattle.set_rows.proofs.Imports.{text_row, AreNamesOf}
+use Rattle.desk_schema.proofs.Exports.{◌≡◌, ℕ, pos, ◌==◌, List, [], ◌∷◌, codes, map, refl, ◌∙◌, arith, ⊤, bytes_eq, IsUtf8, Insert, Delete, understood, column, Values, col, Int, Text, everything, passes, equals, number_row, number_at_front, rowids_of, IsCallOf, IsQueryOf, hits, holds_text, and_true, edited, IsFree, PutAffects, DropAffects, text_in, AFFECTS, desk_schema, TextRow, text_cells, text_rows, affects, keyed_affects, cast_int, cast_null, same_text, turned, one_more, none_left, apart, owners_any, IsWrite, IsRead, adds, clears, asks}
 use Rattle.set_rows.specs.Affecting.{AreKeysAffecting}
-use Rattle.set_rows.specs.Names.{text_row, AreNamesOf}
 use Rattle.set_rows.proofs.KeyAnswers.{has_any}
 use Rattle.set_rows.proofs.TextStatements.{terms, add_params, hit_key, are_names}
 

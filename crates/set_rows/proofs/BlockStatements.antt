@@ -1,32 +1,5 @@
 -- What the statements on blocks mean.
-use Rattle.std.proofs.Common.{◌≡◌, ℕ, pos, ◌==◌, List, [], ◌∷◌, codes, map, refl, ◌∙◌, arith}
-use Rattle.std.specs.Prelude.{⊤}
-use Rattle.sqlite.specs.Command.TheVariants.{Insert, Delete}
-use Rattle.sqlite.specs.Listing.{understood}
-use Rattle.sqlite.specs.Order.{Row}
-use Rattle.sqlite.specs.Source.TheVariants.{Values}
-use Rattle.sqlite.specs.Term.{Term, lit, col}
-use Rattle.sqlite.specs.declared.types.Value.TheVariants.{Null, Int}
-use Rattle.sqlite_tied.specs.Compute.{everything}
-use Rattle.sql_forms.specs.Forms.{passes, equals}
-use Rattle.sql_forms.specs.Numbers.{number_row}
-use Rattle.sql_forms.proofs.AnswerLemmas.{number_at_front}
-use Rattle.sql_forms.proofs.DeleteErrors.{rowids_of}
-use Rattle.sql_forms.proofs.ErrorLemmas.{IsCallOf}
-use Rattle.sql_forms.proofs.QueryErrors.{IsQueryOf}
-use Rattle.sql_forms.proofs.RowLemmas.{hits, same_number}
-use Rattle.desk_content.specs.Edits.{edited}
-use Rattle.desk_content.specs.Free.{IsFree}
-use Rattle.desk_content.specs.declared.edit.Edit.TheVariants.{PutBlocker, DropBlockers}
-use Rattle.desk_schema.specs.Tables.{BLOCKS, desk_schema}
-use Rattle.desk_schema.specs.BlockRows.{BlockRow, block_cells}
-use Rattle.desk_schema.proofs.NumberLists.{block_rows}
-use Rattle.desk_schema.proofs.DeskTables.{blocks, keyed_blocks}
-use Rattle.desk_schema.proofs.CellLemmas.{cast_int, cast_null}
-use Rattle.desk_schema.proofs.OwnerLists.{turned, one_more, none_left, apart, owners_any}
-use Rattle.desk_schema.proofs.StatementLemmas.{IsWrite, IsRead}
-use Rattle.desk_schema.proofs.TableLemmas.{adds, clears}
-use Rattle.desk_schema.proofs.TableQueries.{asks, asks_numbers, by_column}
+use Rattle.desk_schema.proofs.Exports.{◌≡◌, ℕ, pos, ◌==◌, List, [], ◌∷◌, codes, map, refl, ◌∙◌, arith, ⊤, Insert, Delete, understood, Row, Values, Term, lit, col, Null, Int, everything, passes, equals, number_row, number_at_front, rowids_of, IsCallOf, IsQueryOf, hits, same_number, edited, IsFree, PutBlocker, DropBlockers, BLOCKS, desk_schema, BlockRow, block_cells, block_rows, blocks, keyed_blocks, cast_int, cast_null, turned, one_more, none_left, apart, owners_any, IsWrite, IsRead, adds, clears, asks, asks_numbers, by_column}
 use Rattle.set_rows.specs.Waiting.{AreKeysOf}
 use Rattle.set_rows.proofs.KeyAnswers.{has_any}
 

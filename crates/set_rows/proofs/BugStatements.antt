@@ -1,50 +1,7 @@
 -- What the statements on bugs mean.
-use Rattle.std.proofs.Common.{◌≡◌, ℕ, pos, ◌==◌, ◌<◌, false, List, [], ◌∷◌, codes, map, filter, Less, refl, sym, ap, subst, ◌∙◌, arith}
-use Rattle.std.specs.List.Sorted.{IsPermutation, IsSorted}
-use Rattle.std.specs.Option.{option_map_or}
-use Rattle.std.specs.Str.{IsUtf8}
-use Rattle.std.proofs.lemmas.Bool.Decides.{nat_tests}
-use Rattle.std.proofs.lemmas.Int.{ints}
-use Rattle.sqlite.specs.Command.TheVariants.{Insert, Delete}
-use Rattle.sqlite.specs.Listing.{understood}
-use Rattle.sqlite.specs.Order.{Row, value_cmp}
-use Rattle.sqlite.specs.Query.{Query, Output, output, output_cmp}
-use Rattle.sqlite.specs.Source.TheVariants.{Values}
-use Rattle.sqlite.specs.Term.{Term, lit, col}
-use Rattle.sqlite.specs.declared.types.Value.TheVariants.{Null, Int, Text}
-use Rattle.sqlite_tied.specs.Compute.{everything}
-use Rattle.sqlite_keyed.proofs.ListLemmas.{all_weaker, ascending-map, ascending-filter, ascending_weaker}
-use Rattle.sqlite_keyed.proofs.SortLemmas.{sorted_unique}
+use Rattle.set_rows.proofs.Imports.{member_row, HasUtf8, AreMemberRows}
+use Rattle.desk_schema.proofs.Exports.{◌≡◌, ℕ, pos, ◌==◌, ◌<◌, false, List, [], ◌∷◌, codes, map, filter, Less, refl, sym, ap, subst, ◌∙◌, arith, IsPermutation, IsSorted, option_map_or, IsUtf8, nat_tests, ints, Insert, Delete, understood, Row, value_cmp, Query, Output, output, output_cmp, Values, Term, lit, col, Null, Int, Text, everything, all_weaker, ascending-map, ascending-filter, ascending_weaker, sorted_unique, IsAscending, Key, Binary, value_cmp-Int, then-Equal, map_map, Member, passes, equals, query_of, number_row, number_at_front, rowids_of, IsCallOf, IsQueryOf, kept_rows, hits, same_number, Content, edited, IsFree, PutMember, DropMember, BUGS, desk_schema, BugRow, bug_cells, IsBugRow, member_of, members_in, Rises, bug_number, member_added, member_dropped, all_members, bugs, last_row, cast_int, cast_null, numbered_more, numbered_left, none_said, one_kept, one_numbered, IsWrite, IsRead, seen_is, clears, adds_numbered, rises, asks, one_answer, reads_plain}
 use Rattle.sqlite_sql.proofs.QueryLemmas.{output_cmp_total}
-use Rattle.sqlite_trees.specs.Tree.{IsAscending}
-use Rattle.sqlite_value.specs.declared.keys.Key.{Key}
-use Rattle.sqlite_value.specs.declared.keys.Collation.TheVariants.{Binary}
-use Rattle.sqlite_value.proofs.OrderLemmas.{value_cmp-Int, then-Equal}
-use Rattle.sql_forms.proofs.QueryLemmas.{map_map}
-use Rattle.bug_record.specs.declared.bug.Member.{Member}
-use Rattle.sql_forms.specs.Forms.{passes, equals, query_of}
-use Rattle.sql_forms.specs.Numbers.{number_row}
-use Rattle.sql_forms.proofs.AnswerLemmas.{number_at_front}
-use Rattle.sql_forms.proofs.DeleteErrors.{rowids_of}
-use Rattle.sql_forms.proofs.ErrorLemmas.{IsCallOf}
-use Rattle.sql_forms.proofs.QueryErrors.{IsQueryOf}
-use Rattle.sql_forms.proofs.RowLemmas.{kept_rows, hits, same_number}
-use Rattle.desk_content.specs.Content.{Content}
-use Rattle.desk_content.specs.Edits.{edited}
-use Rattle.desk_content.specs.Free.{IsFree}
-use Rattle.desk_content.specs.declared.edit.Edit.TheVariants.{PutMember, DropMember}
-use Rattle.desk_schema.specs.Tables.{BUGS, desk_schema}
-use Rattle.desk_schema.specs.BugRows.{BugRow, bug_cells, IsBugRow, member_of, members_in}
-use Rattle.desk_schema.proofs.BugLists.{Rises, bug_number, member_added, member_dropped, all_members}
-use Rattle.desk_schema.proofs.DeskTables.{bugs}
-use Rattle.desk_schema.specs.LastRow.{last_row}
-use Rattle.desk_schema.proofs.CellLemmas.{cast_int, cast_null}
-use Rattle.desk_schema.proofs.LastLists.{numbered_more, numbered_left, none_said, one_kept, one_numbered}
-use Rattle.desk_schema.proofs.StatementLemmas.{IsWrite, IsRead}
-use Rattle.desk_schema.proofs.TableLemmas.{seen_is, clears, adds_numbered, rises}
-use Rattle.desk_schema.proofs.TableQueries.{asks, one_answer}
-use Rattle.desk_schema.proofs.StatementLemmas.{reads_plain}
-use Rattle.set_rows.specs.Members.{member_row, HasUtf8, AreMemberRows}
 
 -- ---- a bug comes
 

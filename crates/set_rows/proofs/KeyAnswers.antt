@@ -1,9 +1,5 @@
 -- Keys as an answer has them, in any order.
-use Rattle.std.proofs.Common.{◌≡◌, ℕ, ◌||◌, ◌==◌, List, [], ◌∷◌, map, refl, sym, ap, ◌∙◌}
-use Rattle.std.specs.List.{list_any}
-use Rattle.std.specs.List.Sorted.{IsPermutation}
-use Rattle.std.proofs.lemmas.List.Sorted.{list_any-IsPermutation}
-use Rattle.bug_record.specs.Sets.{has}
+use Rattle.desk_schema.proofs.Exports.{◌≡◌, ℕ, ◌||◌, ◌==◌, List, [], ◌∷◌, map, refl, sym, ap, ◌∙◌, list_any, IsPermutation, list_any-IsPermutation, has}
 
 pub has_any : (n : ℕ) (xs : List ℕ) → has xs n ≡ list_any (λ y. y == n) xs
 has_any n [] = refl

@@ -8,3 +8,4 @@ pub mod BugStatements
 pub mod SetStatements
 pub mod ListedSets
 pub mod NearStatements
+pub mod Imports

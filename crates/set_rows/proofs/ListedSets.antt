@@ -1,43 +1,9 @@
 -- What the query of a package's sets answers.
-use Rattle.std.proofs.Common.{◌≡◌, ℕ, pos, ◌==◌, ◌&&◌, Bool, true, false, not, List, [], ◌∷◌, codes, map, filter, Option, Some, None, option_map, if◌then◌else◌, refl, sym, ap, subst, ◌∙◌, arith}
-use Rattle.std.specs.Prelude.{unwrap_or}
-use Rattle.std.specs.List.{AllByRecursion, list_any}
-use Rattle.std.specs.List.Sorted.{IsPermutation}
-use Rattle.std.specs.Option.{option_map_or, option_and_then}
-use Rattle.std.specs.Str.{bytes_eq}
-use Rattle.std.proofs.lemmas.Bool.{false≢true, eq-eqb}
-use Rattle.std.proofs.lemmas.List.Elements.{All-from_recursion, recursion_from_All}
-use Rattle.std.proofs.lemmas.List.Sorted.{IsPermutation-map, All-permutation}
-use Rattle.sqlite.specs.Listing.{understood}
-use Rattle.sqlite.specs.Order.{Row, column}
-use Rattle.sqlite.specs.Term.{Term, lit, col, op2}
-use Rattle.sqlite.specs.declared.types.Value.TheVariants.{Int, Text}
+use Rattle.set_rows.proofs.Imports.{is_of, row_fields, AreSetsOf, listed_row, ListedSet}
+use Rattle.desk_schema.proofs.Exports.{◌≡◌, ℕ, pos, ◌==◌, ◌&&◌, Bool, true, false, not, List, [], ◌∷◌, codes, map, filter, Option, Some, None, option_map, if◌then◌else◌, refl, sym, ap, subst, ◌∙◌, arith, unwrap_or, AllByRecursion, list_any, IsPermutation, option_map_or, option_and_then, bytes_eq, false≢true, eq-eqb, All-from_recursion, recursion_from_All, IsPermutation-map, All-permutation, understood, Row, column, Term, lit, col, op2, Int, Text, everything, Binary, rank, Critical, passes, equals_at, number_in, IsQueryOf, map_map, hits, holds_text, same_number, severity_in, flag, flag_in, last_row, SetRow, set_cells, fields_of_row, fields_in, SETS, desk_schema, same_text, sets, one_kept, one_numbered, or_false, IsRead, rises, asks}
 use Rattle.sqlite_sql.specs.declared.ops.BinaryOp.TheVariants.{Compare}
 use Rattle.sqlite_sql.specs.declared.ops.CompareOp.TheVariants.{Eq}
-use Rattle.sqlite_tied.specs.Compute.{everything}
-use Rattle.sqlite_value.specs.declared.keys.Collation.TheVariants.{Binary}
-use Rattle.bug_record.specs.Severities.{rank}
 use Rattle.bug_record.specs.declared.severity.Severity.{Severity}
-use Rattle.bug_record.specs.declared.severity.Severity.TheVariants.{Critical}
-use Rattle.sql_forms.specs.Forms.{passes, equals_at}
-use Rattle.sql_forms.specs.Numbers.{number_in}
-use Rattle.sql_forms.proofs.QueryErrors.{IsQueryOf}
-use Rattle.sql_forms.proofs.QueryLemmas.{map_map}
-use Rattle.sql_forms.proofs.RowLemmas.{hits, holds_text, same_number}
-use Rattle.desk_content.specs.Encodings.{severity_in, flag, flag_in}
-use Rattle.desk_schema.specs.LastRow.{last_row}
-use Rattle.desk_schema.specs.SetRows.{SetRow, set_cells, fields_of_row, fields_in}
-use Rattle.desk_schema.specs.Tables.{SETS, desk_schema}
-use Rattle.desk_schema.proofs.CellLemmas.{same_text}
-use Rattle.desk_schema.proofs.DeskTables.{sets}
-use Rattle.desk_schema.proofs.LastLists.{one_kept, one_numbered}
-use Rattle.desk_schema.proofs.NumberLists.{or_false}
-use Rattle.desk_schema.proofs.StatementLemmas.{IsRead}
-use Rattle.desk_schema.proofs.TableLemmas.{rises}
-use Rattle.desk_schema.proofs.TableQueries.{asks}
-use Rattle.set_rows.specs.Listed.{is_of, row_fields, AreSetsOf}
-use Rattle.set_rows.specs.SetAnswers.{listed_row}
-use Rattle.set_rows.specs.declared.listed.ListedSet.{ListedSet}
 use Rattle.set_rows.proofs.KeyAnswers.{has_key}
 use Rattle.set_rows.proofs.SetStatements.{set_key, Rises}
 

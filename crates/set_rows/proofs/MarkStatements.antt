@@ -1,45 +1,10 @@
 -- What the statements on marks mean.
-use Rattle.std.proofs.Common.{◌≡◌, ℕ, ℤ, pos, ◌==◌, ◌&&◌, ◌||◌, Bool, true, false, not, eqb, if◌then◌else◌, List, [], ◌∷◌, ◌++◌, codes, map, filter, refl, sym, ap, ◌∙◌, arith}
-use Rattle.std.specs.List.{AllByRecursion, list_any}
-use Rattle.std.specs.List.Sorted.{IsPermutation}
-use Rattle.std.specs.Prelude.{⊤, unwrap_or}
-use Rattle.std.proofs.lemmas.List.Elements.{All-from_recursion, recursion_from_All}
-use Rattle.std.proofs.lemmas.List.Sorted.{All-permutation, list_any-IsPermutation}
-use Rattle.sqlite.specs.Command.TheVariants.{Insert, Delete}
-use Rattle.sqlite.specs.Listing.{understood}
-use Rattle.sqlite.specs.Order.{Row, column}
-use Rattle.sqlite.specs.Source.TheVariants.{Values}
-use Rattle.sqlite.specs.Term.{Term, lit, col}
-use Rattle.sqlite.specs.declared.types.Value.TheVariants.{Null, Int, Text}
-use Rattle.sqlite_tied.specs.Compute.{everything}
-use Rattle.version_nodes.specs.Nodes.{Node, IsNode, node, same_node}
-use Rattle.version_nodes.specs.Trees.{has_node}
+use Rattle.set_rows.proofs.Imports.{Mark, IsMark, no_marks, with_marked, all_marked, AreMarksOf}
+use Rattle.desk_schema.proofs.Exports.{◌≡◌, ℕ, ℤ, pos, ◌==◌, ◌&&◌, ◌||◌, Bool, true, false, not, eqb, if◌then◌else◌, List, [], ◌∷◌, ◌++◌, codes, map, filter, refl, sym, ap, ◌∙◌, arith, AllByRecursion, list_any, IsPermutation, ⊤, unwrap_or, All-from_recursion, recursion_from_All, All-permutation, list_any-IsPermutation, Insert, Delete, understood, Row, column, Values, Term, lit, col, Null, Int, Text, everything, Node, IsNode, node, same_node, has_node, Found, Fixed, passes, equals, number_in, rowids_of, IsCallOf, IsQueryOf, all_filter, hits, same_number, and_true, Content, put_at, edited, IsFree, marks_of, kind_number, kind_in, PutMark, DropMarks, text_in, MARKS, desk_schema, MarkRow, mark_cells, IsMarkRow, marked_as, marks_in, mark_rows, same_nodes, marks, keyed_marks, kind_back, cast_int, cast_null, and_assoc, turned, one_more, none_left, apart, IsWrite, IsRead, adds, clears, asks}
 use Rattle.version_nodes.specs.declared.statuses.MarkKind.{MarkKind}
-use Rattle.version_nodes.specs.declared.statuses.MarkKind.TheVariants.{Found, Fixed}
 use Rattle.bug_record.specs.Marks.{with_node}
-use Rattle.sql_forms.specs.Forms.{passes, equals}
-use Rattle.sql_forms.specs.Numbers.{number_in}
-use Rattle.sql_forms.proofs.DeleteErrors.{rowids_of}
-use Rattle.sql_forms.proofs.ErrorLemmas.{IsCallOf}
-use Rattle.sql_forms.proofs.QueryErrors.{IsQueryOf}
-use Rattle.sql_forms.proofs.RowLemmas.{all_filter, hits, same_number, and_true}
-use Rattle.desk_content.specs.Content.{Content}
-use Rattle.desk_content.specs.Edits.{put_at, edited}
-use Rattle.desk_content.specs.Free.{IsFree, marks_of}
-use Rattle.desk_content.specs.Encodings.{kind_number, kind_in}
-use Rattle.desk_content.specs.declared.edit.Edit.TheVariants.{PutMark, DropMarks}
-use Rattle.desk_schema.specs.Cells.{text_in}
-use Rattle.desk_schema.specs.Tables.{MARKS, desk_schema}
-use Rattle.desk_schema.specs.MarkRows.{MarkRow, mark_cells, IsMarkRow, marked_as, with_nodes, marks_in}
-use Rattle.desk_schema.proofs.MarkLists.{mark_rows, same_nodes}
-use Rattle.desk_schema.proofs.DeskTables.{marks, keyed_marks}
-use Rattle.desk_schema.proofs.RowsBack.{kind_back}
-use Rattle.desk_schema.proofs.CellLemmas.{cast_int, cast_null}
-use Rattle.desk_schema.proofs.OwnerLists.{and_assoc, turned, one_more, none_left, apart}
-use Rattle.desk_schema.proofs.StatementLemmas.{IsWrite, IsRead}
-use Rattle.desk_schema.proofs.TableLemmas.{adds, clears}
-use Rattle.desk_schema.proofs.TableQueries.{asks}
-use Rattle.set_rows.specs.Marked.{Mark, mark_row, IsMark, no_marks, with_marked, all_marked, AreMarksOf}
+use Rattle.desk_schema.specs.MarkRows.{with_nodes}
+use Rattle.set_rows.specs.Marked.{mark_row}
 use Rattle.set_rows.specs.declared.marks.Marks.{Marks}
 
 -- ---- a mark comes

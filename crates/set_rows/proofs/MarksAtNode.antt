@@ -1,32 +1,7 @@
 -- What the query of the marks at a node answers.
-use Rattle.std.proofs.Common.{◌≡◌, ℕ, ◌==◌, ◌&&◌, true, List, [], ◌∷◌, codes, map, refl, sym, ap, ◌∙◌, arith}
-use Rattle.std.specs.Prelude.{⊤, unwrap_or}
-use Rattle.std.specs.Str.{bytes_eq}
-use Rattle.sqlite.specs.Listing.{understood}
-use Rattle.sqlite.specs.Order.{Row, column}
-use Rattle.sqlite.specs.Term.{Term, col}
-use Rattle.sqlite.specs.declared.types.Value.TheVariants.{Text}
-use Rattle.sqlite_tied.specs.Compute.{everything}
-use Rattle.version_nodes.specs.Nodes.{Node, same_node}
-use Rattle.version_nodes.specs.Trees.{has_node}
-use Rattle.version_nodes.specs.declared.statuses.MarkKind.TheVariants.{Found}
-use Rattle.sql_forms.specs.Forms.{passes, equals_at}
-use Rattle.sql_forms.specs.Numbers.{number_in}
-use Rattle.sql_forms.proofs.QueryErrors.{IsQueryOf}
-use Rattle.sql_forms.proofs.RowLemmas.{holds_text, and_true}
-use Rattle.desk_content.specs.Encodings.{kind_number, kind_in}
-use Rattle.desk_schema.specs.Tables.{MARKS, desk_schema}
-use Rattle.desk_schema.specs.MarkRows.{MarkRow, mark_cells}
-use Rattle.desk_schema.proofs.MarkLists.{mark_rows}
-use Rattle.desk_schema.proofs.DeskTables.{marks}
-use Rattle.desk_schema.proofs.RowsBack.{kind_back}
-use Rattle.desk_schema.proofs.CellLemmas.{same_text}
-use Rattle.desk_schema.proofs.OwnerLists.{owners_any}
-use Rattle.desk_schema.proofs.StatementLemmas.{IsRead}
-use Rattle.desk_schema.proofs.TableQueries.{asks}
-use Rattle.set_rows.specs.MarkAnswers.{mark_row}
+use Rattle.set_rows.proofs.Imports.{mark_row, SetMark}
+use Rattle.desk_schema.proofs.Exports.{◌≡◌, ℕ, ◌==◌, ◌&&◌, true, List, [], ◌∷◌, codes, map, refl, sym, ap, ◌∙◌, arith, ⊤, unwrap_or, bytes_eq, understood, Row, column, Term, col, Text, everything, Node, same_node, has_node, Found, passes, equals_at, number_in, IsQueryOf, holds_text, and_true, kind_number, kind_in, MARKS, desk_schema, MarkRow, mark_cells, mark_rows, marks, kind_back, same_text, owners_any, IsRead, asks}
 use Rattle.set_rows.specs.MarkedAt.{AreMarksAt}
-use Rattle.set_rows.specs.declared.marks_at.SetMark.{SetMark}
 use Rattle.set_rows.proofs.MarkStatements.{said}
 
 abbrev read_text : List ℕ

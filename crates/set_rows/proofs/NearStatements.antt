@@ -1,30 +1,7 @@
 -- What the query of a nearest mark's kind answers.
-use Rattle.std.proofs.Common.{◌≡◌, ℕ, pos, ◌==◌, ◌&&◌, true, List, [], ◌∷◌, codes, filter, Option, Some, None, option_map, refl, sym, ap, ◌∙◌, arith}
-use Rattle.std.specs.Option.{option_map_or}
-use Rattle.std.specs.Str.{bytes_eq}
-use Rattle.sqlite.specs.Listing.{understood}
-use Rattle.sqlite.specs.Order.{Row}
-use Rattle.sqlite.specs.Term.{Term, col}
-use Rattle.sqlite.specs.declared.types.Value.TheVariants.{Int, Text}
-use Rattle.sqlite_tied.specs.Compute.{everything}
-use Rattle.version_nodes.specs.Nodes.{Node, same_node}
-use Rattle.sql_forms.specs.Forms.{passes, equals, equals_at}
-use Rattle.sql_forms.proofs.QueryErrors.{IsQueryOf}
-use Rattle.sql_forms.proofs.RowLemmas.{hits, holds_text, same_number, and_true}
-use Rattle.desk_schema.specs.LastRow.{last_row}
-use Rattle.desk_schema.proofs.CellLemmas.{same_text}
-use Rattle.desk_schema.proofs.LastLists.{one_kept, one_alike}
-use Rattle.desk_schema.proofs.StatementLemmas.{IsRead}
-use Rattle.desk_schema.proofs.TableQueries.{asks, one_answer}
-use Rattle.nearest_marks.specs.declared.near.Near.{Near}
-use Rattle.std.proofs.lemmas.Bool.{eqb-true, and_parts}
-use Rattle.sqlite.specs.Term.{holds}
+use Rattle.set_rows.proofs.Imports.{kind_row, kind_rows}
+use Rattle.desk_schema.proofs.Exports.{◌≡◌, ℕ, pos, ◌==◌, ◌&&◌, true, List, [], ◌∷◌, codes, filter, Option, Some, None, option_map, refl, sym, ap, ◌∙◌, arith, option_map_or, bytes_eq, understood, Row, Term, col, Int, Text, everything, Node, same_node, passes, equals, equals_at, IsQueryOf, hits, holds_text, same_number, and_true, last_row, same_text, one_kept, one_alike, IsRead, asks, one_answer, Near, eqb-true, and_parts, holds, NEAREST, desk_schema, NearestRow, nearest_cells, is_of, nearest, keyed_nearest, AreApart, rows_apart}
 use Rattle.version_nodes.proofs.NodeLemmas.{same_true}
-use Rattle.desk_schema.specs.Tables.{NEAREST, desk_schema}
-use Rattle.desk_schema.specs.NearestRows.{NearestRow, nearest_cells, is_of}
-use Rattle.desk_schema.proofs.DeskTables.{nearest, keyed_nearest}
-use Rattle.desk_schema.proofs.KeyLemmas.{AreApart, rows_apart}
-use Rattle.set_rows.specs.KindAnswers.{kind_row, kind_rows}
 
 abbrev read_text : List ℕ
 read_text = codes "SELECT kind FROM nearest WHERE set_key = ?1 AND source = ?2 AND version = ?3"

@@ -1,44 +1,10 @@
 -- What the statements on sets mean.
-use Rattle.std.proofs.Common.{◌≡◌, ℕ, pos, ◌==◌, ◌<◌, true, List, [], ◌∷◌, codes, filter, Option, Some, None, option_map, refl, ◌∙◌, arith}
-use Rattle.std.specs.Option.{option_map_or}
-use Rattle.sqlite.specs.Command.TheVariants.{Insert, Delete}
-use Rattle.sqlite.specs.Listing.{understood}
-use Rattle.sqlite.specs.Order.{Row}
-use Rattle.sqlite.specs.Source.TheVariants.{Values}
-use Rattle.sqlite.specs.Term.{Term, lit, col}
-use Rattle.sqlite.specs.declared.types.Value.TheVariants.{Null, Int, Text}
-use Rattle.sqlite_tied.specs.Compute.{everything}
+use Rattle.set_rows.proofs.Imports.{field_row, field_rows, AreFieldsOf}
+use Rattle.desk_schema.proofs.Exports.{◌≡◌, ℕ, pos, ◌==◌, ◌<◌, true, List, [], ◌∷◌, codes, filter, Option, Some, None, option_map, refl, ◌∙◌, arith, option_map_or, Insert, Delete, understood, Row, Values, Term, lit, col, Null, Int, Text, everything, or_null, accepts_terms, rank, IsGoodRow, flag, tags_number, IsAscending, passes, equals, rowids_of, IsCallOf, IsQueryOf, hits, same_number, edited, IsFree, PutFields, DropFields, SETS, sets_table, desk_schema, SetRow, set_cells, IsSetRow, fields_of_row, sets, last_row, cast_int, cast_null, numbered_more, numbered_left, none_said, one_kept, one_numbered, last_good, IsWrite, IsRead, clears, adds_numbered, rises, asks, one_answer}
 use Rattle.sqlite.specs.Cast.{cast}
 use Rattle.sqlite.specs.Kind.TheVariants.{Text as TextKind}
-use Rattle.std.proofs.Common.{◌≡◌, ℕ, pos, List, [], ◌∷◌, codes, true, ◌==◌, Option, Some, None, refl, arith}
 use Rattle.sqlite.specs.Kind.TheVariants.{Text as TextKind}
-use Rattle.sqlite.specs.Values.{or_null}
-use Rattle.sqlite_typing.specs.Types.{accepts_terms}
-use Rattle.bug_record.specs.Severities.{rank}
-use Rattle.sql_forms.proofs.RefusalLemmas.{IsGoodRow}
-use Rattle.desk_content.specs.Encodings.{flag, tags_number}
 use Rattle.desk_content.specs.declared.edit.SetFields.{SetFields}
-use Rattle.sqlite_trees.specs.Tree.{IsAscending}
-use Rattle.sql_forms.specs.Forms.{passes, equals}
-use Rattle.sql_forms.proofs.DeleteErrors.{rowids_of}
-use Rattle.sql_forms.proofs.ErrorLemmas.{IsCallOf}
-use Rattle.sql_forms.proofs.QueryErrors.{IsQueryOf}
-use Rattle.sql_forms.proofs.RowLemmas.{hits, same_number}
-use Rattle.desk_content.specs.Edits.{edited}
-use Rattle.desk_content.specs.Free.{IsFree}
-use Rattle.sqlite.specs.Term.{Term, lit, col}
-use Rattle.desk_content.specs.Encodings.{flag}
-use Rattle.desk_content.specs.declared.edit.Edit.TheVariants.{PutFields, DropFields}
-use Rattle.desk_schema.specs.Tables.{SETS, sets_table, desk_schema}
-use Rattle.desk_schema.specs.SetRows.{SetRow, set_cells, IsSetRow, fields_of_row}
-use Rattle.desk_schema.proofs.DeskTables.{sets}
-use Rattle.desk_schema.specs.LastRow.{last_row}
-use Rattle.desk_schema.proofs.CellLemmas.{cast_int, cast_null}
-use Rattle.desk_schema.proofs.LastLists.{numbered_more, numbered_left, none_said, one_kept, one_numbered, last_good}
-use Rattle.desk_schema.proofs.StatementLemmas.{IsWrite, IsRead}
-use Rattle.desk_schema.proofs.TableLemmas.{clears, adds_numbered, rises}
-use Rattle.desk_schema.proofs.TableQueries.{asks, one_answer}
-use Rattle.set_rows.specs.Fields.{field_row, field_rows, AreFieldsOf}
 
 abbrev pub set_key : SetRow → ℕ
 set_key x = x.key

@@ -1,20 +1,6 @@
 -- What the statements on tables that give texts to sets have in common.
-use Rattle.std.proofs.Common.{◌≡◌, ℕ, pos, ◌==◌, List, [], ◌∷◌, map, sym, ◌∙◌}
-use Rattle.std.specs.List.{AllByRecursion}
-use Rattle.std.specs.List.Sorted.{IsPermutation}
-use Rattle.std.specs.Str.{bytes_eq, IsUtf8}
-use Rattle.std.proofs.lemmas.List.Elements.{All-from_recursion, recursion_from_All}
-use Rattle.std.proofs.lemmas.List.Sorted.{All-permutation, list_any-IsPermutation}
-use Rattle.sqlite.specs.Order.{Row}
-use Rattle.sqlite.specs.Term.{Term, lit, col}
-use Rattle.sqlite.specs.declared.types.Value.TheVariants.{Null, Int, Text}
-use Rattle.bug_record.specs.Ordered.{with_each}
-use Rattle.bug_record.specs.PackageSets.{name_cmp}
-use Rattle.sql_forms.specs.Forms.{passes, equals}
-use Rattle.sql_forms.proofs.RowLemmas.{all_filter, hits, same_number}
-use Rattle.desk_schema.specs.TextRows.{TextRow, text_cells, IsTextRow, texts_of}
-use Rattle.desk_schema.proofs.TextLists.{same_names}
-use Rattle.set_rows.specs.Names.{AreNamesOf}
+use Rattle.set_rows.proofs.Imports.{AreNamesOf}
+use Rattle.desk_schema.proofs.Exports.{◌≡◌, ℕ, pos, ◌==◌, List, [], ◌∷◌, map, sym, ◌∙◌, AllByRecursion, IsPermutation, bytes_eq, IsUtf8, All-from_recursion, recursion_from_All, All-permutation, list_any-IsPermutation, Row, Term, lit, col, Null, Int, Text, with_each, name_cmp, passes, equals, all_filter, hits, same_number, TextRow, text_cells, IsTextRow, texts_of, same_names}
 
 abbrev pub terms : List Term
 terms = lit Null ∷ col 0 0 ∷ col 0 1 ∷ []

@@ -1,6 +1,5 @@
-use Rattle.std.proofs.Common.{◌≡◌, Ok, Err, rules}
-use Rattle.sqlite.specs.Held.{state}
-use Rattle.desk_migrations.specs.Making.{IsDeskOf}
+use Rattle.desk_migrations.proofs.Imports.{IsDeskOf}
+use Rattle.desk_schema.proofs.Exports.{◌≡◌, Ok, Err, rules, state}
 use Rattle.desk_migrations.proofs.CarriedLemmas.{rows_of, later_tables}
 use Rattle.desk_migrations.proofs.making.carry_over.Goals as goal
 

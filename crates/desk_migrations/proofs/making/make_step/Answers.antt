@@ -1,5 +1,5 @@
-use Rattle.std.proofs.Common.{◌≡◌, Err, rules, ◌∙◌}
-use Rattle.desk_migrations.specs.Stages.{RunsText}
+use Rattle.desk_migrations.proofs.Imports.{RunsText}
+use Rattle.desk_schema.proofs.Exports.{◌≡◌, Err, rules, ◌∙◌}
 use Rattle.desk_migrations.proofs.StepLemmas.{turn_done, turn_failed}
 use Rattle.desk_migrations.proofs.making.make_step.Goals as goal
 

@@ -1,5 +1,5 @@
-use Rattle.std.proofs.Common.{◌≡◌, Ok, Err, map, rules, ◌∙◌}
-use Rattle.desk_migrations.specs.Stages.{RunsStep}
+use Rattle.desk_migrations.proofs.Imports.{RunsStep}
+use Rattle.desk_schema.proofs.Exports.{◌≡◌, Ok, Err, map, rules, ◌∙◌}
 use Rattle.desk_migrations.proofs.StepLemmas.{turn_done, turn_failed, turns_end}
 use Rattle.desk_migrations.proofs.making.make_steps.Goals as goal
 

@@ -1,7 +1,5 @@
-use Rattle.std.proofs.Common.{◌≡◌, Result, drop, map}
-use Rattle.sqlite.specs.Held.{Held}
-use Rattle.bug_record.specs.declared.outcome.StoreFault.{StoreFault}
-use Rattle.desk_migrations.specs.Stages.{RunsSteps}
+use Rattle.desk_migrations.proofs.Imports.{RunsSteps}
+use Rattle.desk_schema.proofs.Exports.{◌≡◌, Result, drop, map, Held, StoreFault}
 use Rattle.desk_migrations.proofs.making.make_steps.Given as goal
 
 -- what the steps that are left come to, all come to

@@ -1,7 +1,5 @@
-use Rattle.std.proofs.Common.{◌≡◌, Ok, Err, rules}
-use Rattle.sqlite.specs.Held.{state}
-use Rattle.desk_content.specs.Content.{no_content}
-use Rattle.desk_migrations.specs.Making.{IsDeskOf}
+use Rattle.desk_migrations.proofs.Imports.{IsDeskOf}
+use Rattle.desk_schema.proofs.Exports.{◌≡◌, Ok, Err, rules, state, no_content}
 use Rattle.desk_migrations.proofs.CarriedLemmas.{new_tables}
 use Rattle.desk_migrations.proofs.making.make_tables.Goals as goal
 

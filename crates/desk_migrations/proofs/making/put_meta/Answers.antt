@@ -1,4 +1,4 @@
-use Rattle.sqlite.specs.Held.{state}
+use Rattle.desk_schema.proofs.Exports.{state}
 use Rattle.desk_migrations.proofs.BuildLemmas.{builds_write}
 use Rattle.desk_migrations.proofs.MetaRow.{put_is}
 use Rattle.desk_migrations.proofs.making.put_meta.Goals as goal

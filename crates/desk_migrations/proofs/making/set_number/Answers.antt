@@ -1,4 +1,4 @@
-use Rattle.sqlite.specs.Held.{state}
+use Rattle.desk_schema.proofs.Exports.{state}
 use Rattle.desk_migrations.proofs.BuildLemmas.{builds_run}
 use Rattle.desk_migrations.proofs.MetaRow.{number_set_text, sets_number}
 use Rattle.desk_migrations.proofs.making.set_number.Goals as goal

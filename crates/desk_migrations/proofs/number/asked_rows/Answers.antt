@@ -1,4 +1,4 @@
-use Rattle.sqlite.specs.Held.{state}
+use Rattle.desk_schema.proofs.Exports.{state}
 use Rattle.desk_migrations.proofs.NumberAnswers.{reads_rows}
 use Rattle.desk_migrations.proofs.number.asked_rows.Goals as goal
 

@@ -1,6 +1,5 @@
-use Rattle.std.proofs.Common.{Ok, subst}
-use Rattle.sqlite.specs.Held.{state}
-use Rattle.desk_migrations.specs.Said.{ReadsRows}
+use Rattle.desk_migrations.proofs.Imports.{ReadsRows}
+use Rattle.desk_schema.proofs.Exports.{Ok, subst, state}
 use Rattle.desk_migrations.proofs.SaidLemmas.{from_rows, no_rows}
 use Rattle.desk_migrations.proofs.number.read_schema.Goals as goal
 

@@ -1,4 +1,4 @@
-use Rattle.std.proofs.Common.{◌≡◌, Err, ◌∙◌, rules}
+use Rattle.desk_schema.proofs.Exports.{◌≡◌, Err, ◌∙◌, rules}
 use Rattle.desk_rows.proofs.family.family_of.Goals as goal
 
 pub returns-in_err-tree-clause-sure : goal.returns-in_err-tree-clause-sure

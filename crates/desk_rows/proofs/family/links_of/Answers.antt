@@ -1,7 +1,5 @@
-use Rattle.std.proofs.Common.{◌≡◌, Option, None, Err, get_or, ◌++◌, [], ◌∷◌, sym, ap, ◌∙◌, rules}
-use Rattle.version_nodes.specs.Nodes.{Node}
-use Rattle.desk_rows.specs.Links.{link_row, IsLink}
-use Rattle.sql_forms.proofs.RowsInOrder.{row_at, take_more, good_at}
+use Rattle.desk_rows.proofs.Imports.{link_row, IsLink}
+use Rattle.desk_schema.proofs.Exports.{◌≡◌, Option, None, Err, get_or, ◌++◌, [], ◌∷◌, sym, ap, ◌∙◌, rules, Node, row_at, take_more, good_at}
 use Rattle.desk_rows.proofs.family.links_of.Goals as goal
 
 abbrev none : Node × Option Node

@@ -1,9 +1,5 @@
-use Rattle.std.proofs.Common.{◌≡◌, Err, sym, subst, rules}
-use Rattle.std.specs.Prelude.{⊤}
-use Rattle.sqlite.specs.Held.{state}
-use Rattle.version_nodes.specs.Trees.{IsForest}
-use Rattle.desk_schema.proofs.StepLemmas.{acts_stop}
-use Rattle.desk_rows.specs.Links.{AreLinksOf}
+use Rattle.desk_rows.proofs.Imports.{AreLinksOf}
+use Rattle.desk_schema.proofs.Exports.{◌≡◌, Err, sym, subst, rules, ⊤, state, IsForest, acts_stop}
 use Rattle.desk_rows.proofs.FamilyLemmas.{acts_served, if_ok}
 use Rattle.desk_rows.proofs.family.read_family.Goals as goal
 

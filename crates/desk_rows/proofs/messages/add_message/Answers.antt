@@ -1,5 +1,4 @@
-use Rattle.sqlite.specs.Held.{state}
-use Rattle.desk_schema.proofs.StatementLemmas.{acts_write}
+use Rattle.desk_schema.proofs.Exports.{state, acts_write}
 use Rattle.desk_rows.proofs.MessageStatements.{add_is}
 use Rattle.desk_rows.proofs.messages.add_message.Goals as goal
 

@@ -1,8 +1,5 @@
-use Rattle.std.proofs.Common.{◌≡◌, sym, subst, Err, rules}
-use Rattle.std.specs.Prelude.{⊤}
-use Rattle.sqlite.specs.Held.{state}
-use Rattle.desk_schema.proofs.StepLemmas.{acts_stop, reads_work}
-use Rattle.desk_rows.specs.Rows.{AreMessageRows}
+use Rattle.desk_rows.proofs.Imports.{AreMessageRows}
+use Rattle.desk_schema.proofs.Exports.{◌≡◌, sym, subst, Err, rules, ⊤, state, acts_stop, reads_work}
 use Rattle.desk_rows.proofs.messages.read_message.Goals as goal
 
 pub returns-in_err-rows-clause-reads : goal.returns-in_err-rows-clause-reads

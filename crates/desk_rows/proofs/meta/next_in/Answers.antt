@@ -1,4 +1,4 @@
-use Rattle.std.proofs.Common.{◌≡◌, ℕ, Option, Some, None, Err, sym, ◌∙◌, rules}
+use Rattle.desk_schema.proofs.Exports.{◌≡◌, ℕ, Option, Some, None, Err, sym, ◌∙◌, rules}
 use Rattle.desk_rows.proofs.meta.next_in.Goals as goal
 
 pub returns-in_err-next-clause-sure : goal.returns-in_err-next-clause-sure

@@ -1,5 +1,4 @@
-use Rattle.sqlite.specs.Held.{state}
-use Rattle.desk_schema.proofs.StatementLemmas.{acts_query, serves_query}
+use Rattle.desk_schema.proofs.Exports.{state, acts_query, serves_query}
 use Rattle.desk_rows.proofs.ReadNext.{next_read}
 use Rattle.desk_rows.proofs.meta.next_rows.Goals as goal
 

@@ -1,5 +1,4 @@
-use Rattle.sqlite.specs.Held.{state}
-use Rattle.desk_schema.proofs.StatementLemmas.{acts_write, serves_write}
+use Rattle.desk_schema.proofs.Exports.{state, acts_write, serves_write}
 use Rattle.desk_rows.proofs.WriteNext.{write_is}
 use Rattle.desk_rows.proofs.meta.write_next.Goals as goal
 

@@ -1,5 +1,4 @@
-use Rattle.sqlite.specs.Held.{state}
-use Rattle.desk_schema.proofs.StatementLemmas.{acts_write}
+use Rattle.desk_schema.proofs.Exports.{state, acts_write}
 use Rattle.desk_rows.proofs.NearestStatements.{add_is}
 use Rattle.desk_rows.proofs.nearest.add_near.Goals as goal
 

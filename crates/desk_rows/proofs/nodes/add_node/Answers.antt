@@ -1,6 +1,4 @@
-use Rattle.sqlite.specs.Held.{state}
-use Rattle.desk_schema.proofs.StatementLemmas.{acts_write}
-use Rattle.desk_schema.proofs.CellLemmas.{maybe_bound}
+use Rattle.desk_schema.proofs.Exports.{state, acts_write, maybe_bound}
 use Rattle.desk_rows.proofs.NodeStatements.{add_is}
 use Rattle.desk_rows.proofs.nodes.add_node.Goals as goal
 

@@ -1,10 +1,4 @@
-use Rattle.std.proofs.Common.{option_map, ap, subst, ◌∙◌}
-use Rattle.sqlite.specs.Held.{state}
-use Rattle.version_nodes.specs.Nodes.{Node, IsNode}
-use Rattle.bug_record.specs.Texts.{IfGiven}
-use Rattle.desk_content.specs.Outcomes.{outcome_number, outcome_field, outcome_node}
-use Rattle.desk_schema.proofs.StatementLemmas.{acts_write}
-use Rattle.desk_schema.proofs.CellLemmas.{maybe_bound}
+use Rattle.desk_schema.proofs.Exports.{option_map, ap, subst, ◌∙◌, state, Node, IsNode, IfGiven, outcome_number, outcome_field, outcome_node, acts_write, maybe_bound}
 use Rattle.desk_rows.proofs.OutcomeStatements.{add_is, number_bound}
 use Rattle.desk_rows.proofs.outcomes.add_outcome.Goals as goal
 

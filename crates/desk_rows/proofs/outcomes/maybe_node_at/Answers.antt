@@ -1,5 +1,4 @@
-use Rattle.std.proofs.Common.{◌≡◌, ◌+◌, Some, Err, sym, ap, ◌∙◌, rules, arith}
-use Rattle.sqlite.specs.Order.{column}
+use Rattle.desk_schema.proofs.Exports.{◌≡◌, ◌+◌, Some, Err, sym, ap, ◌∙◌, rules, arith, column}
 use Rattle.desk_rows.proofs.NodeCells.{no_node, node_there}
 use Rattle.desk_rows.proofs.outcomes.maybe_node_at.Goals as goal
 

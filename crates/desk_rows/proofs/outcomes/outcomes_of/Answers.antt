@@ -1,8 +1,5 @@
-use Rattle.std.proofs.Common.{◌≡◌, Err, get_or, ◌++◌, [], ◌∷◌, sym, ap, ◌∙◌, rules}
-use Rattle.bug_record.specs.declared.outcome.Outcome.TheVariants.{Stopped}
-use Rattle.desk_content.specs.declared.edit.ToldOutcome.{ToldOutcome}
-use Rattle.desk_rows.specs.Rows.{outcome_row, IsToldOutcome}
-use Rattle.sql_forms.proofs.RowsInOrder.{row_at, take_more, good_at}
+use Rattle.desk_rows.proofs.Imports.{outcome_row, IsToldOutcome}
+use Rattle.desk_schema.proofs.Exports.{◌≡◌, Err, get_or, ◌++◌, [], ◌∷◌, sym, ap, ◌∙◌, rules, Stopped, ToldOutcome, row_at, take_more, good_at}
 use Rattle.desk_rows.proofs.outcomes.outcomes_of.Goals as goal
 
 abbrev none : ToldOutcome

@@ -1,6 +1,5 @@
-use Rattle.std.proofs.Common.{◌≡◌, List, take}
-use Rattle.desk_content.specs.declared.edit.ToldOutcome.{ToldOutcome}
-use Rattle.desk_rows.specs.Rows.{AreOutcomeRows}
+use Rattle.desk_rows.proofs.Imports.{AreOutcomeRows}
+use Rattle.desk_schema.proofs.Exports.{◌≡◌, List, take, ToldOutcome}
 use Rattle.desk_rows.proofs.outcomes.outcomes_of.Given as goal
 
 abbrev pub invariant-loop-row : goal.invariant-loop-row

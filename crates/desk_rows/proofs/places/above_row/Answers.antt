@@ -1,4 +1,4 @@
-use Rattle.std.proofs.Common.{rules}
+use Rattle.desk_schema.proofs.Exports.{rules}
 use Rattle.desk_rows.proofs.places.above_row.Goals as goal
 
 pub returns-in-Some-checked_add-clause-value : goal.returns-in-Some-checked_add-clause-value

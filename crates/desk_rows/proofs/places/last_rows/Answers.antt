@@ -1,5 +1,4 @@
-use Rattle.sqlite.specs.Held.{state}
-use Rattle.desk_schema.proofs.StatementLemmas.{acts_query, serves_query}
+use Rattle.desk_schema.proofs.Exports.{state, acts_query, serves_query}
 use Rattle.desk_rows.proofs.ReadPlace.{place_read}
 use Rattle.desk_rows.proofs.places.last_rows.Goals as goal
 

@@ -1,9 +1,4 @@
-use Rattle.std.proofs.Common.{◌≡◌, ◌∙◌, Err, rules}
-use Rattle.std.specs.Prelude.{⊤}
-use Rattle.sqlite.specs.Held.{state}
-use Rattle.sql_forms.specs.Numbers.{next_above, AreGreatest}
-use Rattle.desk_content.specs.Edits.{places_of}
-use Rattle.desk_schema.proofs.StepLemmas.{acts_stop, reads_work}
+use Rattle.desk_schema.proofs.Exports.{◌≡◌, ◌∙◌, Err, rules, ⊤, state, next_above, AreGreatest, places_of, acts_stop, reads_work}
 use Rattle.desk_rows.proofs.ReadPlace.{above_it}
 use Rattle.desk_rows.proofs.places.read_next_place.Goals as goal
 

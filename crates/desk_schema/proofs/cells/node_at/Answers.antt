@@ -1,4 +1,4 @@
-use Rattle.std.proofs.Common.{arith}
+use Rattle.desk_schema.proofs.Imports.{arith}
 use Rattle.desk_schema.proofs.NodeTexts.{name_utf8, version_utf8}
 use Rattle.desk_schema.proofs.cells.node_at.Goals as goal
 

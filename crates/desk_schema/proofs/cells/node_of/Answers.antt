@@ -1,5 +1,4 @@
-use Rattle.std.proofs.Common.{◌≡◌, Option, Some, None, Err, sym, subst, subst₂, ◌∙◌}
-use Rattle.version_nodes.specs.Nodes.{Node, node_at, IsRead}
+use Rattle.desk_schema.proofs.Imports.{◌≡◌, Option, Some, None, Err, sym, subst, subst₂, ◌∙◌, Node, node_at, IsRead}
 use Rattle.desk_schema.proofs.NodeTexts.{reads_back}
 use Rattle.desk_schema.proofs.cells.node_of.Goals as goal
 

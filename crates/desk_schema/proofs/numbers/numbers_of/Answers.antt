@@ -1,5 +1,4 @@
-use Rattle.std.proofs.Common.{◌≡◌, Err, get_or, ◌++◌, [], ◌∷◌, sym, ap, ◌∙◌, rules}
-use Rattle.sql_forms.proofs.AnswerLemmas.{number_at, take_next}
+use Rattle.desk_schema.proofs.Imports.{◌≡◌, Err, get_or, ◌++◌, [], ◌∷◌, sym, ap, ◌∙◌, rules, number_at, take_next}
 use Rattle.desk_schema.proofs.numbers.numbers_of.Goals as goal
 
 pub returns-in_err-number-clause-sure : goal.returns-in_err-number-clause-sure

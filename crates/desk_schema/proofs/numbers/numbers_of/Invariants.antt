@@ -1,5 +1,4 @@
-use Rattle.std.proofs.Common.{◌≡◌, ℕ, List, map, take}
-use Rattle.sql_forms.specs.Numbers.{number_row}
+use Rattle.desk_schema.proofs.Imports.{◌≡◌, ℕ, List, map, take, number_row}
 use Rattle.desk_schema.proofs.numbers.numbers_of.Given as goal
 
 abbrev pub invariant-loop-row : goal.invariant-loop-row

@@ -1,8 +1,5 @@
-use Rattle.std.proofs.Common.{◌≡◌, rules, subst, ◌∙◌}
-use Rattle.sqlite.specs.Held.{state}
-use Rattle.desk_content.specs.Content.{no_content}
-use Rattle.desk_tables.specs.Kept.{IsIdle}
-use Rattle.desk_tables.specs.Transactions.{IsCarried}
+use Rattle.desk_tables.proofs.Imports.{IsIdle, IsCarried}
+use Rattle.desk_schema.proofs.Exports.{◌≡◌, rules, subst, ◌∙◌, state, no_content}
 use Rattle.desk_tables.proofs.TransactionLemmas.{carried}
 use Rattle.desk_tables.proofs.calls.carry_desk.Goals as goal
 

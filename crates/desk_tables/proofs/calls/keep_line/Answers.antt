@@ -1,12 +1,5 @@
-use Rattle.std.proofs.Common.{◌≡◌, rules, subst}
-use Rattle.std.specs.Option.{option_copied}
-use Rattle.sqlite.specs.Held.{state}
-use Rattle.desk_content.specs.Content.{Content}
-use Rattle.desk_content.specs.Keeping.{MayBePut, kept_after}
-use Rattle.desk_content.specs.Kept.{IsKeptContent}
-use Rattle.desk_writes.specs.Needs.{HasTreeIfAny}
-use Rattle.desk_schema.proofs.StepLemmas.{acts_weaker}
-use Rattle.desk_tables.specs.Transactions.{IsChanged}
+use Rattle.desk_tables.proofs.Imports.{HasTreeIfAny, IsChanged}
+use Rattle.desk_schema.proofs.Exports.{◌≡◌, rules, subst, option_copied, state, Content, MayBePut, kept_after, IsKeptContent, acts_weaker}
 use Rattle.desk_tables.proofs.KeepLemmas.{FitsLine}
 use Rattle.desk_tables.proofs.TransactionLemmas.{altered}
 use Rattle.desk_tables.proofs.calls.keep_line.Goals as goal

@@ -1,7 +1,6 @@
-use Rattle.std.proofs.Common.{◌≡◌, rules, subst}
-use Rattle.sqlite.specs.Held.{state}
+use Rattle.desk_tables.proofs.Imports.{IsMade}
+use Rattle.desk_schema.proofs.Exports.{◌≡◌, rules, subst, state}
 use Rattle.desk_migrations.proofs.BuildLemmas.{blank_begun}
-use Rattle.desk_tables.specs.Transactions.{IsMade}
 use Rattle.desk_tables.proofs.TransactionLemmas.{made}
 use Rattle.desk_tables.proofs.calls.make_desk.Goals as goal
 

@@ -1,11 +1,5 @@
-use Rattle.std.proofs.Common.{◌≡◌, rules, subst}
-use Rattle.sqlite.specs.Held.{state}
-use Rattle.desk_content.specs.Branches.{with_nodes}
-use Rattle.desk_content.specs.Content.{Content}
-use Rattle.desk_content.specs.Kept.{IsKeptContent}
-use Rattle.desk_schema.proofs.StepLemmas.{acts_weaker}
-use Rattle.branch_rows.specs.Grown.{IsGrown}
-use Rattle.desk_tables.specs.Transactions.{IsChanged}
+use Rattle.desk_tables.proofs.Imports.{IsGrown, IsChanged}
+use Rattle.desk_schema.proofs.Exports.{◌≡◌, rules, subst, state, with_nodes, Content, IsKeptContent, acts_weaker}
 use Rattle.desk_tables.proofs.TransactionLemmas.{altered}
 use Rattle.desk_tables.proofs.calls.put_changed.Goals as goal
 

@@ -1,6 +1,5 @@
-use Rattle.std.proofs.Common.{◌∙◌}
-use Rattle.sqlite.specs.Held.{state}
-use Rattle.branch_rows.specs.Grown.{changed_of}
+use Rattle.desk_tables.proofs.Imports.{changed_of}
+use Rattle.desk_schema.proofs.Exports.{◌∙◌, state}
 use Rattle.desk_tables.proofs.BranchLemmas.{changed_same}
 use Rattle.desk_tables.proofs.calls.put_open.Goals as goal
 

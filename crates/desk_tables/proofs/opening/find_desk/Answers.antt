@@ -1,5 +1,4 @@
-use Rattle.std.proofs.Common.{ap}
-use Rattle.sqlite.specs.Held.{state}
+use Rattle.desk_schema.proofs.Exports.{ap, state}
 use Rattle.desk_tables.proofs.OpeningLemmas.{found_newest, found_earlier, not_earlier}
 use Rattle.desk_tables.proofs.opening.find_desk.Goals as goal
 

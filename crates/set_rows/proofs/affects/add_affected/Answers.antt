@@ -1,5 +1,4 @@
-use Rattle.sqlite.specs.Held.{state}
-use Rattle.desk_schema.proofs.StatementLemmas.{acts_write}
+use Rattle.desk_schema.proofs.Exports.{state, acts_write}
 use Rattle.set_rows.proofs.AffectStatements.{add_is}
 use Rattle.set_rows.proofs.affects.add_affected.Goals as goal
 

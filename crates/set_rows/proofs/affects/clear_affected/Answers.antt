@@ -1,5 +1,4 @@
-use Rattle.sqlite.specs.Held.{state}
-use Rattle.desk_schema.proofs.StatementLemmas.{acts_write, serves_write}
+use Rattle.desk_schema.proofs.Exports.{state, acts_write, serves_write}
 use Rattle.set_rows.proofs.AffectStatements.{clear_is}
 use Rattle.set_rows.proofs.affects.clear_affected.Goals as goal
 

@@ -1,5 +1,4 @@
-use Rattle.sqlite.specs.Held.{state}
-use Rattle.desk_schema.proofs.StatementLemmas.{acts_query, serves_query}
+use Rattle.desk_schema.proofs.Exports.{state, acts_query, serves_query}
 use Rattle.set_rows.proofs.AffectStatements.{keys_read}
 use Rattle.set_rows.proofs.affects.key_rows.Goals as goal
 

@@ -1,9 +1,5 @@
-use Rattle.std.proofs.Common.{◌≡◌, ℕ, List, Err, ◌+◌, drop, sym, ap, ◌∙◌, rules}
-use Rattle.bug_record.specs.Ordered.{with_each}
-use Rattle.bug_record.specs.PackageSets.{name_cmp}
-use Rattle.std.specs.Str.{IsUtf8}
-use Rattle.desk_schema.proofs.TableQueries.{next_at}
-use Rattle.set_rows.specs.Names.{text_row}
+use Rattle.set_rows.proofs.Imports.{text_row}
+use Rattle.desk_schema.proofs.Exports.{◌≡◌, ℕ, List, Err, ◌+◌, drop, sym, ap, ◌∙◌, rules, with_each, name_cmp, IsUtf8, next_at}
 use Rattle.set_rows.proofs.affects.names_of.Goals as goal
 
 pub returns-in_err-add_row-clause-sure : goal.returns-in_err-add_row-clause-sure

@@ -1,10 +1,5 @@
-use Rattle.std.proofs.Common.{◌≡◌, ℕ, List, map, ◌∙◌, Err, rules}
-use Rattle.std.specs.Prelude.{⊤}
-use Rattle.sqlite.specs.Held.{state}
-use Rattle.sql_forms.specs.Numbers.{number_row}
-use Rattle.desk_schema.proofs.StepLemmas.{acts_stop, reads_work}
+use Rattle.desk_schema.proofs.Exports.{◌≡◌, ℕ, List, map, ◌∙◌, Err, rules, ⊤, state, number_row, acts_stop, reads_work, answer_is}
 use Rattle.set_rows.specs.Affecting.{AreKeysAffecting}
-use Rattle.desk_schema.proofs.TableQueries.{answer_is}
 use Rattle.set_rows.proofs.affects.read_affecting.Goals as goal
 
 pub returns-in_err-rows-clause-reads : goal.returns-in_err-rows-clause-reads

@@ -1,7 +1,5 @@
-use Rattle.std.proofs.Common.{◌≡◌, Err, get_or, ◌++◌, [], ◌∷◌, sym, ap, ◌∙◌, rules}
-use Rattle.bug_record.specs.declared.bug.Member.{Member}
-use Rattle.set_rows.specs.Members.{member_row, HasUtf8}
-use Rattle.sql_forms.proofs.RowsInOrder.{row_at, take_more, good_at}
+use Rattle.set_rows.proofs.Imports.{member_row, HasUtf8}
+use Rattle.desk_schema.proofs.Exports.{◌≡◌, Err, get_or, ◌++◌, [], ◌∷◌, sym, ap, ◌∙◌, rules, Member, row_at, take_more, good_at}
 use Rattle.set_rows.proofs.bugs.members_of.Goals as goal
 
 abbrev none : Member

@@ -1,6 +1,5 @@
-use Rattle.std.proofs.Common.{◌≡◌, List, take}
-use Rattle.bug_record.specs.declared.bug.Member.{Member}
-use Rattle.set_rows.specs.Members.{AreMemberRows}
+use Rattle.set_rows.proofs.Imports.{AreMemberRows}
+use Rattle.desk_schema.proofs.Exports.{◌≡◌, List, take, Member}
 use Rattle.set_rows.proofs.bugs.members_of.Given as goal
 
 abbrev pub invariant-loop-row : goal.invariant-loop-row

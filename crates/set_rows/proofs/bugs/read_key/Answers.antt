@@ -1,9 +1,4 @@
-use Rattle.std.proofs.Common.{◌≡◌, [], ◌∷◌, ◌∙◌, Err, rules}
-use Rattle.std.specs.Option.{option_map_or}
-use Rattle.std.specs.Prelude.{⊤}
-use Rattle.sqlite.specs.Held.{state}
-use Rattle.sql_forms.specs.Numbers.{number_row}
-use Rattle.desk_schema.proofs.StepLemmas.{acts_stop, reads_work}
+use Rattle.desk_schema.proofs.Exports.{◌≡◌, [], ◌∷◌, ◌∙◌, Err, rules, option_map_or, ⊤, state, number_row, acts_stop, reads_work}
 use Rattle.set_rows.proofs.bugs.read_key.Goals as goal
 
 pub returns-in_err-rows-clause-reads : goal.returns-in_err-rows-clause-reads

@@ -1,11 +1,5 @@
-use Rattle.std.proofs.Common.{◌≡◌, List, map, ◌∙◌, Err, rules}
-use Rattle.std.specs.Prelude.{⊤}
-use Rattle.sqlite.specs.Held.{state}
-use Rattle.desk_schema.proofs.StepLemmas.{acts_stop, reads_work}
-use Rattle.desk_schema.proofs.TableQueries.{answer_is}
-use Rattle.set_rows.specs.Listed.{AreSetsOf}
-use Rattle.set_rows.specs.SetAnswers.{listed_row}
-use Rattle.set_rows.specs.declared.listed.ListedSet.{ListedSet}
+use Rattle.set_rows.proofs.Imports.{AreSetsOf, listed_row, ListedSet}
+use Rattle.desk_schema.proofs.Exports.{◌≡◌, List, map, ◌∙◌, Err, rules, ⊤, state, acts_stop, reads_work, answer_is}
 use Rattle.set_rows.proofs.listed.read_sets_of.Goals as goal
 
 pub returns-in_err-rows-clause-reads : goal.returns-in_err-rows-clause-reads

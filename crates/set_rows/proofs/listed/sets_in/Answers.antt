@@ -1,8 +1,5 @@
-use Rattle.std.proofs.Common.{◌≡◌, Err, false, get_or, ◌++◌, [], ◌∷◌, sym, ap, ◌∙◌, rules}
-use Rattle.bug_record.specs.declared.severity.Severity.TheVariants.{Critical}
-use Rattle.set_rows.specs.SetAnswers.{listed_row}
-use Rattle.set_rows.specs.declared.listed.ListedSet.{ListedSet}
-use Rattle.sql_forms.proofs.RowsInOrder.{row_at, take_more}
+use Rattle.set_rows.proofs.Imports.{listed_row, ListedSet}
+use Rattle.desk_schema.proofs.Exports.{◌≡◌, Err, false, get_or, ◌++◌, [], ◌∷◌, sym, ap, ◌∙◌, rules, Critical, row_at, take_more}
 use Rattle.set_rows.proofs.listed.sets_in.Goals as goal
 
 abbrev none : ListedSet

@@ -1,6 +1,5 @@
-use Rattle.std.proofs.Common.{◌≡◌, List, map, take}
-use Rattle.set_rows.specs.SetAnswers.{listed_row}
-use Rattle.set_rows.specs.declared.listed.ListedSet.{ListedSet}
+use Rattle.set_rows.proofs.Imports.{listed_row, ListedSet}
+use Rattle.desk_schema.proofs.Exports.{◌≡◌, List, map, take}
 use Rattle.set_rows.proofs.listed.sets_in.Given as goal
 
 abbrev pub invariant-loop-row : goal.invariant-loop-row

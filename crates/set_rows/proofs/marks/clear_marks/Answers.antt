@@ -1,5 +1,4 @@
-use Rattle.sqlite.specs.Held.{state}
-use Rattle.desk_schema.proofs.StatementLemmas.{acts_write, serves_write}
+use Rattle.desk_schema.proofs.Exports.{state, acts_write, serves_write}
 use Rattle.set_rows.proofs.MarkStatements.{clear_is}
 use Rattle.set_rows.proofs.marks.clear_marks.Goals as goal
 

@@ -1,7 +1,7 @@
-use Rattle.std.proofs.Common.{◌≡◌, Err, ◌+◌, drop, sym, ap, ◌∙◌, rules}
-use Rattle.set_rows.specs.Marked.{mark_row, IsMark, all_marked}
+use Rattle.set_rows.proofs.Imports.{IsMark, all_marked}
+use Rattle.desk_schema.proofs.Exports.{◌≡◌, Err, ◌+◌, drop, sym, ap, ◌∙◌, rules, next_at}
+use Rattle.set_rows.specs.Marked.{mark_row}
 use Rattle.set_rows.specs.declared.marks.Marks.{Marks}
-use Rattle.desk_schema.proofs.TableQueries.{next_at}
 use Rattle.set_rows.proofs.marks.marks_of.Goals as goal
 
 pub returns-in_err-add_row-clause-sure : goal.returns-in_err-add_row-clause-sure

@@ -1,6 +1,6 @@
-use Rattle.std.proofs.Common.{◌≡◌, List, map, drop}
-use Rattle.std.specs.List.{AllByRecursion}
-use Rattle.set_rows.specs.Marked.{Mark, mark_row, IsMark, no_marks, all_marked}
+use Rattle.set_rows.proofs.Imports.{Mark, IsMark, no_marks, all_marked}
+use Rattle.desk_schema.proofs.Exports.{◌≡◌, List, map, drop, AllByRecursion}
+use Rattle.set_rows.specs.Marked.{mark_row}
 use Rattle.set_rows.proofs.marks.marks_of.Given as goal
 
 abbrev pub invariant-loop-row : goal.invariant-loop-row

@@ -1,8 +1,5 @@
-use Rattle.std.proofs.Common.{◌≡◌, Err, get_or, ◌++◌, [], ◌∷◌, sym, ap, ◌∙◌, rules}
-use Rattle.version_nodes.specs.declared.statuses.MarkKind.TheVariants.{Found}
-use Rattle.set_rows.specs.MarkAnswers.{mark_row}
-use Rattle.set_rows.specs.declared.marks_at.SetMark.{SetMark}
-use Rattle.sql_forms.proofs.RowsInOrder.{row_at, take_more}
+use Rattle.set_rows.proofs.Imports.{mark_row, SetMark}
+use Rattle.desk_schema.proofs.Exports.{◌≡◌, Err, get_or, ◌++◌, [], ◌∷◌, sym, ap, ◌∙◌, rules, Found, row_at, take_more}
 use Rattle.set_rows.proofs.marks_at.marks_in.Goals as goal
 
 abbrev none : SetMark

@@ -1,6 +1,5 @@
-use Rattle.std.proofs.Common.{◌≡◌, List, map, take}
-use Rattle.set_rows.specs.MarkAnswers.{mark_row}
-use Rattle.set_rows.specs.declared.marks_at.SetMark.{SetMark}
+use Rattle.set_rows.proofs.Imports.{mark_row, SetMark}
+use Rattle.desk_schema.proofs.Exports.{◌≡◌, List, map, take}
 use Rattle.set_rows.proofs.marks_at.marks_in.Given as goal
 
 abbrev pub invariant-loop-row : goal.invariant-loop-row

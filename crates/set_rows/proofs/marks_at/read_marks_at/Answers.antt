@@ -1,11 +1,6 @@
-use Rattle.std.proofs.Common.{◌≡◌, List, map, ◌∙◌, Err, rules}
-use Rattle.std.specs.Prelude.{⊤}
-use Rattle.sqlite.specs.Held.{state}
-use Rattle.desk_schema.proofs.StepLemmas.{acts_stop, reads_work}
+use Rattle.set_rows.proofs.Imports.{mark_row, SetMark}
+use Rattle.desk_schema.proofs.Exports.{◌≡◌, List, map, ◌∙◌, Err, rules, ⊤, state, acts_stop, reads_work, answer_is}
 use Rattle.set_rows.specs.MarkedAt.{AreMarksAt}
-use Rattle.set_rows.specs.MarkAnswers.{mark_row}
-use Rattle.set_rows.specs.declared.marks_at.SetMark.{SetMark}
-use Rattle.desk_schema.proofs.TableQueries.{answer_is}
 use Rattle.set_rows.proofs.marks_at.read_marks_at.Goals as goal
 
 pub returns-in_err-rows-clause-reads : goal.returns-in_err-rows-clause-reads

@@ -1,8 +1,5 @@
-use Rattle.std.proofs.Common.{◌≡◌, option_map, ◌∙◌, Err, rules}
-use Rattle.std.specs.Prelude.{⊤}
-use Rattle.sqlite.specs.Held.{state}
-use Rattle.desk_schema.proofs.StepLemmas.{acts_stop, reads_work}
-use Rattle.set_rows.specs.KindAnswers.{kind_rows}
+use Rattle.set_rows.proofs.Imports.{kind_rows}
+use Rattle.desk_schema.proofs.Exports.{◌≡◌, option_map, ◌∙◌, Err, rules, ⊤, state, acts_stop, reads_work}
 use Rattle.set_rows.proofs.near_kind.read_near_kind.Goals as goal
 
 pub returns-in_err-rows-clause-reads : goal.returns-in_err-rows-clause-reads

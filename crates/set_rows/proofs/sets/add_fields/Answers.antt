@@ -1,10 +1,5 @@
-use Rattle.std.proofs.Common.{subst}
-use Rattle.std.specs.Str.{IsUtf8}
-use Rattle.sqlite.specs.Held.{state}
+use Rattle.desk_schema.proofs.Exports.{subst, IsUtf8, state, IsSetRow, acts_write, maybe_bound}
 use Rattle.desk_content.proofs.TagLemmas.{number_below}
-use Rattle.desk_schema.specs.SetRows.{IsSetRow}
-use Rattle.desk_schema.proofs.StatementLemmas.{acts_write}
-use Rattle.desk_schema.proofs.CellLemmas.{maybe_bound}
 use Rattle.set_rows.proofs.SetStatements.{new_row, add_is}
 use Rattle.set_rows.proofs.sets.add_fields.Goals as goal
 

@@ -1,4 +1,4 @@
-use Rattle.std.proofs.Common.{refl}
+use Rattle.desk_schema.proofs.Exports.{refl}
 use Rattle.desk_tables.proofs.StillLemmas.{still_then}
 use Rattle.desk_tables.proofs.KeptLemmas.{noted}
 use Rattle.desk_tables.proofs.desk.TableDesk.ask.Goals as goal

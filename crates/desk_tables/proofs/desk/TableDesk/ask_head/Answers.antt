@@ -1,5 +1,5 @@
-use Rattle.std.proofs.Common.{◌≡◌, IfSome, refl, subst}
-use Rattle.desk_tables.specs.Kept.{content_seen}
+use Rattle.desk_tables.proofs.Imports.{content_seen}
+use Rattle.desk_schema.proofs.Exports.{◌≡◌, IfSome, refl, subst}
 use Rattle.desk_tables.proofs.StillLemmas.{still_then}
 use Rattle.desk_tables.proofs.KeptLemmas.{noted, is_asked}
 use Rattle.desk_tables.proofs.desk.TableDesk.ask_head.Goals as goal

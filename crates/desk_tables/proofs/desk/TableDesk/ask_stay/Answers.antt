@@ -1,6 +1,5 @@
-use Rattle.std.proofs.Common.{◌≡◌, IfOk, sym, subst}
-use Rattle.desk_content.specs.Changes.{all_stay}
-use Rattle.desk_tables.specs.Kept.{content_seen}
+use Rattle.desk_tables.proofs.Imports.{content_seen}
+use Rattle.desk_schema.proofs.Exports.{◌≡◌, IfOk, sym, subst, all_stay}
 use Rattle.desk_tables.proofs.KeptLemmas.{answered}
 use Rattle.desk_tables.proofs.desk.TableDesk.ask_stay.Goals as goal
 

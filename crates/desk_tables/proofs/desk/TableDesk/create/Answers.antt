@@ -1,6 +1,4 @@
-use Rattle.std.proofs.Common.{ap, subst, ◌∙◌}
-use Rattle.sqlite.specs.Held.{state}
-use Rattle.sqlite.specs.State.{HasCleanDisk}
+use Rattle.desk_schema.proofs.Exports.{ap, subst, ◌∙◌, state, HasCleanDisk}
 use Rattle.desk_tables.proofs.StillLemmas.{still_is}
 use Rattle.desk_tables.proofs.OpeningLemmas.{new_is_kept, new_is_empty, none_is_kept, left_before}
 use Rattle.desk_tables.proofs.desk.TableDesk.create.Goals as goal

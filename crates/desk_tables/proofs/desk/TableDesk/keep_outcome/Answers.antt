@@ -1,10 +1,5 @@
-use Rattle.std.proofs.Common.{◌≡◌, Err, refl, rules}
-use Rattle.std.specs.Option.{option_copied}
-use Rattle.sqlite.specs.Held.{state}
-use Rattle.sqlite.specs.State.{HasCleanDisk}
-use Rattle.desk_content.specs.View.{desk_in, keeping_in}
-use Rattle.desk_store.specs.Store.{MayBeKept}
-use Rattle.desk_tables.specs.Kept.{content_seen, IsKept}
+use Rattle.desk_tables.proofs.Imports.{MayBeKept, content_seen, IsKept}
+use Rattle.desk_schema.proofs.Exports.{◌≡◌, Err, refl, rules, option_copied, state, HasCleanDisk, desk_in, keeping_in}
 use Rattle.desk_tables.proofs.StillLemmas.{still_then}
 use Rattle.desk_tables.proofs.KeptLemmas.{never_foreign, crashed, taken, made, refused}
 use Rattle.desk_tables.proofs.KeepLemmas.{line_is, line_stays, line_fact}

@@ -1,9 +1,5 @@
-use Rattle.std.specs.Option.{option_copied}
-use Rattle.sqlite.specs.Held.{state}
-use Rattle.sqlite.proofs.StateLemmas.{survives_then, survives_weaker}
-use Rattle.desk_content.specs.Keeping.{kept_after}
-use Rattle.desk_tables.specs.Kept.{content_seen}
-use Rattle.desk_tables.specs.Shown.{AreTablesOf}
+use Rattle.desk_tables.proofs.Imports.{content_seen, AreTablesOf}
+use Rattle.desk_schema.proofs.Exports.{option_copied, state, survives_then, survives_weaker, kept_after}
 use Rattle.desk_tables.proofs.desk.TableDesk.load_and_keep.Goals as goal
 
 pub returns-in_err-load_for_line-clause-crash : goal.returns-in_err-load_for_line-clause-crash

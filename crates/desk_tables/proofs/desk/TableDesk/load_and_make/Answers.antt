@@ -1,8 +1,5 @@
-use Rattle.sqlite.specs.Held.{state}
-use Rattle.sqlite.proofs.StateLemmas.{survives_then, survives_weaker}
-use Rattle.desk_content.specs.Changes.{changed}
-use Rattle.desk_tables.specs.Kept.{content_seen}
-use Rattle.desk_tables.specs.Shown.{AreTablesOf}
+use Rattle.desk_tables.proofs.Imports.{content_seen, AreTablesOf}
+use Rattle.desk_schema.proofs.Exports.{state, survives_then, survives_weaker, changed}
 use Rattle.desk_tables.proofs.desk.TableDesk.load_and_make.Goals as goal
 
 pub returns-in_err-load_for-clause-crash : goal.returns-in_err-load_for-clause-crash

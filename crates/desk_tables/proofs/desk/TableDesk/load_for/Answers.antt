@@ -1,5 +1,5 @@
-use Rattle.std.proofs.Common.{◌≡◌, is_some, false, sym, ap, ◌∙◌}
-use Rattle.desk_tables.specs.Kept.{content_seen}
+use Rattle.desk_tables.proofs.Imports.{content_seen}
+use Rattle.desk_schema.proofs.Exports.{◌≡◌, is_some, false, sym, ap, ◌∙◌}
 use Rattle.desk_tables.proofs.KeptLemmas.{tree_there, tree_spared, tree_read}
 use Rattle.desk_tables.proofs.desk.TableDesk.load_for.Goals as goal
 

@@ -1,7 +1,5 @@
-use Rattle.std.proofs.Common.{OnOk, sym, subst}
-use Rattle.std.specs.Option.{option_copied}
-use Rattle.desk_writes.specs.Needs.{HasTreeIfAny}
-use Rattle.desk_tables.specs.Kept.{content_seen}
+use Rattle.desk_tables.proofs.Imports.{HasTreeIfAny, content_seen}
+use Rattle.desk_schema.proofs.Exports.{OnOk, sym, subst, option_copied}
 use Rattle.desk_tables.proofs.desk.TableDesk.load_for_line.Goals as goal
 
 pub returns-in-Some-clause-tree : goal.returns-in-Some-clause-tree

@@ -1,10 +1,6 @@
-use Rattle.std.proofs.Common.{◌≡◌, Err, refl, ap, ◌∙◌, rules}
-use Rattle.sqlite.specs.Held.{state}
-use Rattle.sqlite.specs.State.{HasCleanDisk}
-use Rattle.desk_content.specs.View.{desk_in, keeping_in}
-use Rattle.desk_content.proofs.ChangeLemmas.{change_desk}
+use Rattle.desk_tables.proofs.Imports.{content_seen, IsKept}
+use Rattle.desk_schema.proofs.Exports.{◌≡◌, Err, refl, ap, ◌∙◌, rules, state, HasCleanDisk, desk_in, keeping_in, change_desk}
 use Rattle.desk_content.proofs.KeepLemmas.{change_keeping}
-use Rattle.desk_tables.specs.Kept.{content_seen, IsKept}
 use Rattle.desk_tables.proofs.StillLemmas.{still_then}
 use Rattle.desk_tables.proofs.KeptLemmas.{never_foreign, crashed, taken, change_stays, fits_over, made, refused}
 use Rattle.desk_tables.proofs.desk.TableDesk.make.Goals as goal

@@ -1,6 +1,5 @@
-use Rattle.std.proofs.Common.{◌≡◌, Ok, Err, IfSome, refl, sym, ap, subst, ◌∙◌}
-use Rattle.sqlite.specs.Held.{state}
-use Rattle.desk_tables.specs.Kept.{content_seen}
+use Rattle.desk_tables.proofs.Imports.{content_seen}
+use Rattle.desk_schema.proofs.Exports.{◌≡◌, Ok, Err, IfSome, refl, sym, ap, subst, ◌∙◌, state}
 use Rattle.desk_tables.proofs.KeptLemmas.{content_is, noted_kept}
 use Rattle.desk_tables.proofs.OpeningLemmas.{opened}
 use Rattle.desk_tables.proofs.desk.TableDesk.open.Goals as goal

@@ -1,6 +1,4 @@
-use Rattle.std.proofs.Common.{◌≡◌, true, length, rules}
-use Rattle.desk_content.specs.Changes.{all_stay}
-use Rattle.desk_content.specs.Kept.{IsKeptContent}
+use Rattle.desk_schema.proofs.Exports.{◌≡◌, true, length, rules, all_stay, IsKeptContent}
 use Rattle.desk_tables.proofs.KeptLemmas.{none_change}
 use Rattle.desk_tables.proofs.TransactionLemmas.{asks_known, asks_read}
 use Rattle.desk_tables.proofs.questions.MarksStayQuestion.ask.Goals as goal

@@ -1,8 +1,6 @@
-use Rattle.std.proofs.Common.{◌≤◌, ◌^◌, subst, arith, None}
-use Rattle.desk_content.specs.View.{desk_in}
-use Rattle.desk_content.specs.Kept.{IsKeptContent}
+use Rattle.desk_tables.proofs.Imports.{IsImageOf}
+use Rattle.desk_schema.proofs.Exports.{◌≤◌, ◌^◌, subst, arith, None, desk_in, IsKeptContent}
 use Rattle.desk_reads.proofs.KeyLemmas.{no_bug}
-use Rattle.desk_store.specs.Store.{IsImageOf}
 use Rattle.desk_tables.proofs.TransactionLemmas.{asks_read, asks_known}
 use Rattle.desk_tables.proofs.questions.SetOfQuestion.ask.Goals as goal
 

@@ -1,8 +1,6 @@
-use Rattle.std.proofs.Common.{◌≤◌, ◌^◌, ◌∙◌, subst, arith}
-use Rattle.desk_content.specs.Kept.{IsKeptContent}
-use Rattle.desk_content.specs.View.{desk_in}
+use Rattle.desk_tables.proofs.Imports.{AreWaitingOn}
+use Rattle.desk_schema.proofs.Exports.{◌≤◌, ◌^◌, ◌∙◌, subst, arith, IsKeptContent, desk_in}
 use Rattle.desk_reads.proofs.WaitingLemmas.{none_waits}
-use Rattle.desk_store.specs.Store.{AreWaitingOn}
 use Rattle.desk_tables.proofs.TransactionLemmas.{asks_read, asks_known}
 use Rattle.desk_tables.proofs.questions.WaitingOnQuestion.ask.Goals as goal
 
