@@ -38,7 +38,8 @@ use Rattle.bug_core.specs.Planned.{IsPlanned, IsRecordsPlan}
 use Rattle.bug_core.specs.Refused.{HasName, IsRefusedAs, IsRefusalOfPlan}
 use Rattle.set_images.proofs.ImageLemmas.{same_value, shown, image_with-shows, image_with-none}
 use Rattle.record_changes.proofs.FieldLemmas.{good-shared_after, good-new_title, good-new_submitter}
-use Rattle.record_changes.proofs.BlockerLemmas.{first-none, later-none, good-blockers_after}
+use Rattle.bug_record.proofs.RefusalLemmas.{first-none, later-none}
+use Rattle.record_changes.proofs.BlockerLemmas.{good-blockers_after}
 use Rattle.bug_core.proofs.SoundLemmas.{agree, sound-change_set}
 use Rattle.bug_core.proofs.ListedLemmas.{bugs_refused-known}
 use Rattle.bug_core.proofs.ReplaceLemmas.{TakesPlace, Makes, apart-replaced, members-replaced, covers-replaced, none-replaced}

@@ -5,6 +5,7 @@ pub mod OrderedLemmas
 pub mod OrderedSetLemmas
 pub mod PackageLemmas
 pub mod PlaceLemmas
+pub mod RefusalLemmas
 pub mod SetLemmas
 pub mod SoundProp
 pub mod TagLemmas

@@ -11,3 +11,4 @@ mod waiting;
 
 pub use bug_sets::BugSets;
 pub use heads::open_head;
+pub use lists::by_severity;

@@ -57,8 +57,10 @@ fn add_rows_of(
     Ok(())
 }
 
-// The rows by severity, from critical to wishlist, and of each severity in their order.
-fn by_severity(alloc: Global, rows: &[ListRow]) -> Result<Sequence<ListRow>, AllocError>
+/// The rows by severity, from critical to wishlist, and of each severity in their order.
+/// The only error is that there is no memory for the rows.
+/// This project's own rule.
+pub fn by_severity(alloc: Global, rows: &[ListRow]) -> Result<Sequence<ListRow>, AllocError>
     ensures { IfOk result (λ sorted. sorted ≡ flat_map (λ severity. filter (is_row_of severity) rows.now) all_severities) }
 {
     let mut sorted = Sequence::new(alloc);

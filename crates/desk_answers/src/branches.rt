@@ -15,6 +15,7 @@ ghost use Rattle.desk_requests.specs.Steps.{Gives};
 use crate::refusals::{refuse, refuse_nodes};
 use ancestry::BranchFault;
 use bug_record::StoreFault;
+use desk_directives::add_node;
 use desk_requests::{Body, Reply, store_fault};
 use desk_store::Records;
 use http::StatusCode;
@@ -29,13 +30,7 @@ fn read_nodes(alloc: Global, words: &[String]) -> Result<Vec<Node>, NodeFault>
 {
     let mut nodes = Vec::new(alloc);
     for word in words {
-        match Node::read(alloc, word.as_str()) {
-            Ok(node) => match nodes.push(node) {
-                Ok(()) => {}
-                Err(_) => return Err(NodeFault::Memory),
-            },
-            Err(fault) => return Err(fault),
-        }
+        add_node(alloc, &mut nodes, word.as_str())?;
     }
     Ok(nodes)
 }

@@ -1,5 +1,5 @@
 -- What is read of the words of a branch.
-use Rattle.std.specs.Prelude.{◌≡◌, List, Option, Some, None, Result, Ok, Err, Vec, ⊤}
+use Rattle.std.specs.Prelude.{◌≡◌, List, [], ◌∷◌, ◌++◌, Option, Some, None, Result, Ok, Err, Vec, Unit, ⊤, option_map}
 use Rattle.version_nodes.specs.Nodes.{Node}
 use Rattle.version_nodes.specs.declared.fault.NodeFault.{NodeFault}
 use Rattle.version_nodes.specs.declared.fault.NodeFault.TheVariants.{BadNode as WordIsNoNode, Memory as NoMemory}
@@ -9,3 +9,9 @@ abbrev pub AreRead : {A : Type 0} → Option (List Node) → Result (Vec Node A)
 AreRead nodes (Ok read) = nodes ≡ Some read.items
 AreRead nodes (Err WordIsNoNode) = nodes ≡ None
 AreRead nodes (Err NoMemory) = ⊤
+
+-- what comes of reading one word, which is this node if it is one, after the nodes before it
+abbrev pub IsNodeAdded : Option Node → List Node → List Node → Result (Unit {0}) NodeFault → Type 0
+IsNodeAdded node before after (Ok done) = option_map (λ n. before ++ n ∷ []) node ≡ Some after
+IsNodeAdded node before after (Err WordIsNoNode) = (node ≡ None) × (after ≡ before)
+IsNodeAdded node before after (Err NoMemory) = after ≡ before

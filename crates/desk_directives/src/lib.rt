@@ -2,6 +2,7 @@
 //! of bugs, and the words of branches; and the transcripts of messages.
 #![tactic(auto)]
 
+mod branches;
 mod laws;
 mod lists;
 mod pages;
@@ -9,6 +10,7 @@ mod reporting;
 mod told;
 mod transcript;
 
+pub use branches::add_node;
 pub use bug_record::ReportFault;
 pub use laws::a_list_has_the_bugs_found_there;
 pub use lists::list_of;

@@ -1,6 +1,6 @@
 //! The first head at which the bugs of a set are still found.
 
-ghost use Rattle.std.specs.Prelude.{◌≡◌, ◌≢◌, ◌<◌, ◌^◌, Some, IfOk, IfErr};
+ghost use Rattle.std.specs.Prelude.{◌≡◌, ◌≢◌, Some, IfOk, IfErr};
 ghost use Rattle.std.specs.List.{find};
 ghost use Rattle.sqlite.specs.Held.{state};
 ghost use Rattle.version_nodes.specs.Statuses.{status};
@@ -15,24 +15,13 @@ ghost use Rattle.desk_reads.specs.Asked.{IsSetIn, IsAskedFor, ReadsWhere};
 ghost use Rattle.desk_reads.specs.Found.{is_found_at};
 
 use crate::found::read_found;
-use crate::keys::small_key;
+use crate::keys::{key_asked, small_key};
 use bug_record::{SetImage, StoreFault};
 use desk_content::key_of;
 use nearest_marks::Family;
 use set_rows::read_key;
 use sqlite::{Alter, Transaction};
 use version_nodes::Node;
-
-// The number of the image's first bug, as a statement takes it.
-// One that is no u32 is asked for as the largest u32, and none as 0: no bug of a desk has these.
-fn first_number(image: &SetImage) -> u32
-    ensures { key_of image.now < 2 ^ 32 → result ≡ key_of image.now }
-{
-    match u32::try_from(key_of(image)) {
-        Ok(number) => number,
-        Err(_) => u32::MAX,
-    }
-}
 
 // The key of the image's set, as a statement takes it.
 // `Foreign` where its first bug is in no set, or the key is no u32.
@@ -42,7 +31,7 @@ fn read_set_key<S: Alter>(tx: &mut Transaction<'_, S>, image: &SetImage) -> Resu
         (state S.Store tx.old.conn.now) (state S.Store tx.new.conn.now) result }
     ensures serves { Serves (state S.Store tx.old.conn.now) (state S.Store tx.new.conn.now) result }
 {
-    match read_key(tx, first_number(image))? {
+    match read_key(tx, key_asked(key_of(image)))? {
         Some(key) => small_key(key),
         None => Err(StoreFault::Foreign),
     }

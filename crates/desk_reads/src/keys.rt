@@ -34,8 +34,8 @@ pub(crate) fn small_keys(alloc: Global, keys: &[u64]) -> Result<Vec<u32>, StoreF
     Ok(small)
 }
 
-// A key, as a statement takes it.
-// One that is no u32 is asked for as the largest u32, which no set of a desk has.
+// A key, or the number of a set's first bug, as a statement takes it.
+// One that is no u32 is asked for as the largest u32, which no set and no bug of a desk has.
 pub(crate) fn key_asked(key: u64) -> u32
     ensures { key < 2 ^ 32 → result ≡ key }
 {

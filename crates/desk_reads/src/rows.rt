@@ -1,6 +1,6 @@
 //! Rows of lists, by number and by severity.
 
-ghost use Rattle.std.specs.Prelude.{◌≡◌, ◌++◌, ℕ, ◌==◌, Some, filter, flat_map, IfOk, OnOk, if◌then◌else◌};
+ghost use Rattle.std.specs.Prelude.{◌≡◌, ℕ, ◌==◌, Some, filter, flat_map, IfOk, OnOk, if◌then◌else◌};
 ghost use Rattle.std.specs.BTreeMap.{get};
 ghost use Rattle.std.specs.List.Sorted.{IsStrictlySortedBy};
 ghost use Rattle.std.specs.Map.{keys_of, values_of};
@@ -11,7 +11,8 @@ ghost use Rattle.bugs_in_memory.specs.Passing.{is_row_of};
 ghost use Rattle.set_rows.specs.Listed.{row_fields};
 ghost use Rattle.desk_reads.specs.Rows.{row_with, row_among};
 
-use bug_record::{Member, Sequence, Severity};
+use bug_record::{Member, Sequence};
+use bugs_in_memory::by_severity;
 use desk_content::SetFields;
 use set_images::ListRow;
 use set_rows::RowFields;
@@ -81,34 +82,6 @@ fn by_number(alloc: Global, rows: BTreeMap<u64, ListRow>) -> Result<Sequence<Lis
         listed.push(row)?;
     }
     Ok(listed)
-}
-
-// Adds those of the rows that are of a severity.
-fn add_rows_of(
-    sorted: &mut Sequence<ListRow>,
-    rows: &[ListRow],
-    severity: Severity,
-) -> Result<(), AllocError>
-    ensures { OnOk result (sorted.new ≡ sorted.old ++ filter (is_row_of severity) rows.now) }
-{
-    for row in rows {
-        if row.severity.rank() == severity.rank() {
-            sorted.push(row.copy()?)?;
-        }
-    }
-    Ok(())
-}
-
-// The rows by severity, from critical to wishlist, and of each severity in their order.
-fn by_severity(alloc: Global, rows: &[ListRow]) -> Result<Sequence<ListRow>, AllocError>
-    ensures { IfOk result (λ sorted. sorted ≡ flat_map (λ severity. filter (is_row_of severity) rows.now) all_severities) }
-{
-    let mut sorted = Sequence::new(alloc);
-    let severities = Severity::all();
-    for severity in severities.as_slice() {
-        add_rows_of(&mut sorted, rows, *severity)?;
-    }
-    Ok(sorted)
 }
 
 // The rows of the map by severity, from critical to wishlist, and then by number.

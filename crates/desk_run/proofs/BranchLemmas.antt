@@ -1,13 +1,11 @@
 -- A branch that is carried out in parts.
 use Rattle.std.proofs.Common.{◌≡◌, inl, inr, ℕ, Bool, ◌∷◌, ◌++◌, [], List, Option, Some, None, Result, Ok, Err, true, sym, ◌∙◌}
 use Rattle.std.proofs.Common.{ap, subst, refl, append-nil, false, arith}
-use Rattle.std.specs.Prelude.{option_map, length, ◌==◌, ◌||◌}
+use Rattle.std.specs.Prelude.{length, ◌==◌, ◌||◌}
 use Rattle.std.proofs.lemmas.Bool.{false≢true, eqb-true}
 use Rattle.std.proofs.lemmas.Option.{none-some, same_Some}
 use Rattle.control_text.specs.Words.{words, has_bytes}
-use Rattle.version_nodes.specs.declared.fault.NodeFault.{NodeFault}
-use Rattle.version_nodes.specs.declared.fault.NodeFault.TheVariants.{BadNode as WordIsNoNode, Memory as NoMemory}
-use Rattle.version_nodes.specs.Nodes.{Node, node_of_text, IsRead}
+use Rattle.version_nodes.specs.Nodes.{Node}
 use Rattle.version_nodes.specs.Trees.{Ancestry}
 use Rattle.ancestry.specs.Branches.{branched}
 use Rattle.ancestry.specs.declared.fault.BranchFault.{BranchFault}
@@ -16,9 +14,8 @@ use Rattle.bug_record.specs.declared.outcome.StoreFault.{StoreFault}
 use Rattle.bug_record.specs.declared.outcome.StoreFault.TheVariants as faults
 use Rattle.desk_text.specs.Texts.{fault_text}
 use Rattle.desk_store.specs.Store.{Branches, Faults, counted, faults_after}
-use Rattle.desk_directives.specs.Branches.{BranchRefusal, node_before, nodes_of, or_refused, branched_by, branch_of}
-use Rattle.desk_directives.specs.BranchWords.{AreRead}
-use Rattle.desk_directives.proofs.BranchLemmas.{after_others}
+use Rattle.desk_directives.specs.Branches.{BranchRefusal, nodes_of, or_refused, branched_by, branch_of}
+use Rattle.desk_directives.proofs.BranchLemmas.{after_nodes}
 use Rattle.desk_run.specs.Script.{DirectiveLine, Branch, Standing, standing, part_text, part_after, directive_of, branch_text}
 use Rattle.desk_run.specs.Script.{after_branch}
 use Rattle.desk_run.specs.Running.{AsksStore, FaultsIn}
@@ -100,23 +97,6 @@ branch_count (Err fault) n = (fault, refl)
 
 -- ---- reading the words
 
--- the nodes of words, after others
-pub nodes-more : (word : List ℕ) (words : List (List ℕ)) (n : Node) (before : List Node) → node_of_text word ≡ Some n
-    → option_map (λ nodes. before ++ nodes) (nodes_of (word ∷ words))
-    ≡ option_map (λ nodes. (before ++ n ∷ []) ++ nodes) (nodes_of words)
-nodes-more word words n before e =
-    ap (λ (o : Option Node). option_map (λ nodes. before ++ nodes) (node_before o (nodes_of words))) e
-    ∙ after_others n before (nodes_of words)
-
-pub nodes-none : (word : List ℕ) (words : List (List ℕ)) (before : List Node) → node_of_text word ≡ None
-    → option_map (λ nodes. before ++ nodes) (nodes_of (word ∷ words)) ≡ None
-nodes-none word words before e =
-    ap (λ (o : Option Node). option_map (λ nodes. before ++ nodes) (node_before o (nodes_of words))) e ∙ rest (nodes_of words)
-  where
-    rest : (o : Option (List Node)) → option_map (λ nodes. before ++ nodes) (node_before None o) ≡ None
-    rest None = refl
-    rest (Some nodes) = refl
-
 -- a word of no byte, and one of some
 pub no_bytes : (word : List ℕ) → (length word == 0) ≡ true → has_bytes word ≡ false
 no_bytes [] e = refl
@@ -127,20 +107,6 @@ some_bytes [] e = absurd (false≢true (sym e))
 some_bytes (c ∷ s) e = refl
 
 -- nothing is left to read
-pub nodes-all : (text rest : List ℕ) (before : List Node)
-    → option_map (λ nodes. before ++ nodes) (nodes_of (words rest)) ≡ nodes_of (words text) → words rest ≡ []
-    → nodes_of (words text) ≡ Some before
-nodes-all text rest before h e =
-    sym h ∙ ap (λ ws. option_map (λ nodes. before ++ nodes) (nodes_of ws)) e ∙ ap Some (append-nil before)
-
--- no node is read
-pub unread : (A : Type 0) (text rest word : List ℕ) (more : List (List ℕ)) (before : List Node) (fault : NodeFault)
-    → option_map (λ nodes. before ++ nodes) (nodes_of (words rest)) ≡ nodes_of (words text) → words rest ≡ word ∷ more
-    → IsRead (node_of_text word) (Err fault) → AreRead {A = A} (nodes_of (words text)) (Err fault)
-unread A text rest word more before WordIsNoNode h e r =
-    sym h ∙ ap (λ ws. option_map (λ nodes. before ++ nodes) (nodes_of ws)) e ∙ nodes-none word more before r
-unread A text rest word more before NoMemory h e r = tt
-
-pub map_all : (o : Option (List Node)) → option_map (λ nodes. [] ++ nodes) o ≡ o
-map_all None = refl
-map_all (Some nodes) = refl
+pub nodes-all : (text rest : List ℕ) (before : List Node) → after_nodes before (words rest) ≡ nodes_of (words text)
+    → words rest ≡ [] → nodes_of (words text) ≡ Some before
+nodes-all text rest before h e = sym h ∙ ap (after_nodes before) e ∙ ap Some (append-nil before)

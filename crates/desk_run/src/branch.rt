@@ -6,6 +6,7 @@ ghost use Rattle.desk_directives.specs.Branches.{nodes_of};
 ghost use Rattle.desk_directives.specs.BranchWords.{AreRead};
 
 use control_text::next_word;
+use desk_directives::add_node;
 use std::alloc::Global;
 use version_nodes::{Node, NodeFault};
 
@@ -21,13 +22,7 @@ pub(crate) fn read_nodes(alloc: Global, text: &str) -> Result<Vec<Node>, NodeFau
         if word.is_empty() {
             return Ok(nodes);
         }
-        match Node::read(alloc, word) {
-            Ok(node) => match nodes.push(node) {
-                Ok(()) => {}
-                Err(_) => return Err(NodeFault::Memory),
-            },
-            Err(fault) => return Err(fault),
-        }
+        add_node(alloc, &mut nodes, word)?;
         rest = more;
     }
 }

@@ -13,7 +13,7 @@ use Rattle.bug_record.specs.Desk.{Desk, IsSound}
 use Rattle.bug_record.specs.Words.{Names, number_of_name, meaning, number_by, bug_refusal, word_refusal, first_word_refusal}
 use Rattle.bug_record.specs.Words.{first_bug_refusal, first_may_be_archived, others_may_be_archived, words_refusal}
 use Rattle.bug_record.specs.Commands.{bug_named, other_bugs, bugs_named}
-use Rattle.record_changes.proofs.BlockerLemmas.{first-none, later-none}
+use Rattle.bug_record.proofs.RefusalLemmas.{first-none, later-none}
 use Rattle.bug_record.specs.declared.bug.Bug.{Bug}
 use Rattle.bug_record.specs.declared.command.Command.{Command}
 use Rattle.bug_record.specs.declared.command.Refusal.{Refusal}

@@ -19,16 +19,8 @@ use Rattle.bug_record.specs.declared.command.Command.{Command}
 use Rattle.bug_record.specs.declared.command.Command.TheVariants as commands
 use Rattle.bug_record.specs.declared.command.Refusal.{Refusal}
 use Rattle.bug_record.specs.declared.command.Refusal.TheVariants.{NoBug, OwnSet}
+use Rattle.bug_record.proofs.RefusalLemmas.{first-none, later-none}
 use Rattle.bug_record.proofs.SetLemmas.{has-append, has-number_set, has-filter, IsAscending-number_set, IsAscending-filter}
-
--- where no test refuses, neither of two does
-pub first-none : (o p : Option Refusal) → option_or o p ≡ None → o ≡ None
-first-none None p e = refl
-first-none (Some refusal) p e = absurd (none-some refusal (sym e))
-
-pub later-none : (o p : Option Refusal) → option_or o p ≡ None → p ≡ None
-later-none None p e = e
-later-none (Some refusal) p e = absurd (none-some refusal (sym e))
 
 -- bugs that are not refused are there
 there : (may_be : Bool) (bug : ℕ → Option Bug) (ns : List ℕ) (m : ℕ) → first_bug_refusal may_be bug ns ≡ None → has ns m ≡ true

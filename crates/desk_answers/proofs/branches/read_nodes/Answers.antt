@@ -1,19 +1,21 @@
-use Rattle.std.proofs.Common.{◌≡◌, ◌∙◌, ◌+◌, ap, sym, ℕ, List, string_bytes, subst, arith, Some, Err}
-use Rattle.version_nodes.specs.Nodes.{Node, node_of_text, IsRead}
-use Rattle.desk_answers.proofs.NodesLemmas.{nodes_from, nodes_more, nodes_unread}
+use Rattle.std.proofs.Common.{◌≡◌, ◌∙◌, ap, sym, ℕ, List, string_bytes, subst, arith, rules, Err, Ok}
+use Rattle.version_nodes.specs.Nodes.{node_of_text}
+use Rattle.desk_directives.specs.BranchWords.{IsNodeAdded}
+use Rattle.desk_answers.proofs.NodesLemmas.{nodes_more, nodes_unread}
 use Rattle.desk_answers.proofs.branches.read_nodes.Goals as goal
 
-pub returns-in-Err : goal.returns-in-Err
-returns-in-Err c =
-    nodes_unread c.loop-word.nodes.items c.args.words.now c.loop-word.word-index c.word-item.result c.in-Err.fault
-    c.loop-word.invariant (omega (arith, c.loop-word-test.true))
-    (subst (λ (text : List ℕ). IsRead (node_of_text text) (Err c.in-Err.fault))
-    (c.as_str.ensures.value ∙ ap string_bytes c.word-item.is) c.in-Err.ensures)
+pub returns-in_err-add_node : goal.returns-in_err-add_node
+returns-in_err-add_node c =
+    let told : c.from_residual.result ≡ Err c.in_err-add_node.field-0.0 = search rules in
+    rw told (nodes_unread c.loop-word.nodes.items c.add_node.new.nodes.items c.args.words.now c.loop-word.word-index
+    c.word-item.result c.in_err-add_node.field-0.0 c.loop-word.invariant (omega (arith, c.loop-word-test.true))
+    (subst (λ (text : List ℕ). IsNodeAdded (node_of_text text) c.loop-word.nodes.items c.add_node.new.nodes.items
+    (Err c.in_err-add_node.field-0.0)) (c.as_str.ensures.value ∙ ap string_bytes c.word-item.is) c.in_err-add_node.ensures))
 
 pub loop-word-preserved : goal.loop-word-preserved
 loop-word-preserved c =
     c.loop-word.invariant
-    ∙ nodes_more c.loop-word.nodes.items c.args.words.now c.loop-word.word-index c.word-item.result c.in-Ok.node
-    (omega (arith, c.loop-word-test.true)) (subst (λ (text : List ℕ). node_of_text text ≡ Some c.in-Ok.node) (c.as_str.ensures.value ∙ ap string_bytes c.word-item.is)
-    c.in-Ok.ensures)
-    ∙ ap (λ (ns : List Node). nodes_from ns c.args.words.now (c.loop-word.word-index + 1)) (sym c.in-Ok-push.ensures.items)
+    ∙ nodes_more c.loop-word.nodes.items c.add_node.new.nodes.items c.args.words.now c.loop-word.word-index
+    c.word-item.result (omega (arith, c.loop-word-test.true))
+    (subst (λ (text : List ℕ). IsNodeAdded (node_of_text text) c.loop-word.nodes.items c.add_node.new.nodes.items (Ok ()))
+    (c.as_str.ensures.value ∙ ap string_bytes c.word-item.is) c.in_ok-add_node.ensures)

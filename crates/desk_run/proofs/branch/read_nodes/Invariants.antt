@@ -1,14 +1,14 @@
-use Rattle.std.proofs.Common.{◌≡◌, length, ◌++◌}
-use Rattle.std.specs.Prelude.{option_map}
+use Rattle.std.proofs.Common.{◌≡◌, length}
 use Rattle.std.specs.Str.{IsUtf8}
 use Rattle.control_text.specs.Words.{words}
 use Rattle.desk_directives.specs.Branches.{nodes_of}
+use Rattle.desk_directives.proofs.BranchLemmas.{after_nodes}
 use Rattle.desk_run.proofs.branch.read_nodes.Given as goal
 
 abbrev pub invariant-loop-word : goal.invariant-loop-word
 invariant-loop-word l = record {
   text : IsUtf8 l.rest;
-  nodes : option_map (λ ns. l.nodes.items ++ ns) (nodes_of (words l.rest)) ≡ nodes_of (words l.text);
+  nodes : after_nodes l.nodes.items (words l.rest) ≡ nodes_of (words l.text);
 }
 
 abbrev pub decreases-loop-word : goal.decreases-loop-word
