@@ -1,12 +1,12 @@
 -- What a branch does to an ancestry: it stays one, no proper ancestor is lost, and the nodes are
 -- based on one another.
-use Rattle.std.proofs.Common.{◌≡◌, true, false, List, [], ◌∷◌, ◌++◌, Option, Some, None, is_some, sym, ap, ◌∙◌, subst, ⊎_elim}
+use Rattle.std.proofs.Common.{◌≡◌, true, false, cond, List, [], ◌∷◌, ◌++◌, Option, Some, None, is_some, sym, ap, ◌∙◌, subst, ⊎_elim}
 use Rattle.std.proofs.lemmas.Bool.{cases_Bool, false≢true, or_parts}
 use Rattle.std.specs.BTreeMap.{insert_entry}
 use Rattle.version_nodes.specs.Nodes.{Node, IsNode, same_node, node_cmp}
 use Rattle.std.specs.Option.{option_flatten}
 use Rattle.version_nodes.specs.Trees.{Ancestry, has_node, knows, parent_of, IsLine, line, IsForest}
-use Rattle.ancestry.specs.Branches.{with_parent}
+use Rattle.ancestry.specs.Branches.{learn, with_parent}
 use Rattle.version_nodes.proofs.NodeLemmas.{same_true, known_put, known_others}
 use Rattle.ancestry.proofs.LinkLemmas.{ascends_put}
 use Rattle.ancestry.proofs.LineLemmas.{line_begins, line_cons, unknown_has_none, IsForest-from}
@@ -34,7 +34,7 @@ module _ (t : Ancestry) (n : Node) (v : Option Node) where
   parent_others q other = ap option_flatten (known_others t n v q other)
 
 module _ (t : Ancestry) (n : Node) (unknown : knows t n ≡ false) where
-  pub learnt_parents : (q : Node) → parent_of (insert_entry node_cmp t n None) q ≡ parent_of t q
+  learnt_parents : (q : Node) → parent_of (insert_entry node_cmp t n None) q ≡ parent_of t q
   learnt_parents q =
       ⊎_elim
       (λ yes. let is = same_true q n yes in
@@ -59,6 +59,14 @@ module _ (t : Ancestry) (n : Node) (forest : IsForest t) (unknown : knows t n �
       (λ no. forest.valid q (sym (ap is_some (known_others t n None q no)) ∙ h)) (cases_Bool (same_node q n)))
       (λ q p h. knows_kept t n None p (forest.parents q p (sym (learnt_parents t n unknown q) ∙ h)))
       (λ q. (line t q, learnt_lines t n unknown q (line t q) (forest.lines q)))
+
+-- no node gets a parent where one becomes known
+pub learn_parents : (t : Ancestry) (n q : Node) → parent_of (learn t n) q ≡ parent_of t q
+learn_parents t n q =
+    ⊎_elim
+    (λ yes. ap (λ b. parent_of (cond b t (insert_entry node_cmp t n None)) q) yes)
+    (λ off. ap (λ b. parent_of (cond b t (insert_entry node_cmp t n None)) q) off ∙ learnt_parents t n off q)
+    (cases_Bool (knows t n))
 
 -- ---- a node that gets a parent
 

@@ -10,6 +10,4 @@ pub mod AncestorLemmas
 pub mod ChangeLemmas
 pub mod RepeatLemmas
 pub mod TakeLemmas
-pub mod LinkedLemmas
-pub mod ReplayLemmas
 pub mod WholeLemmas

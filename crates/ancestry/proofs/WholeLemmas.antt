@@ -11,14 +11,44 @@ use Rattle.std.specs.List.{list_any}
 use Rattle.std.specs.List.Sorted.{IsPermutation, IsStrictlySortedBy}
 use Rattle.std.specs.Map.{keys_of, update, update_all}
 use Rattle.std.specs.Option.{IfSome, option_flatten, option_map_or}
-use Rattle.std.specs.Ordering.{eq_by_cmp, is_lt}
+use Rattle.std.specs.Ordering.{eq_by_cmp, is_eq, is_lt}
 use Rattle.version_nodes.specs.Nodes.{Node, IsNode, same_node, node_cmp}
 use Rattle.version_nodes.specs.Trees.{Ancestry, has_node, known_at, knows, parent_of, IsForest}
-use Rattle.version_nodes.proofs.NodeLemmas.{same_true, same_itself, ties_same, at_first, past_first}
+use Rattle.version_nodes.proofs.NodeLemmas.{same_true, same_itself, same_back, ties_same, at_first, past_first}
 use Rattle.ancestry.specs.Whole.{HasLine, Stands}
-use Rattle.ancestry.proofs.LinkLemmas.{above_more, unknown_below, same_links}
+use Rattle.ancestry.proofs.LinkLemmas.{AreAbove, above_more, unknown_below, same_links}
 use Rattle.ancestry.proofs.LineLemmas.{line_cons, unknown_has_none, IsForest-from}
-use Rattle.ancestry.proofs.ReplayLemmas.{none_of, links_known, of_known}
+
+none_of : {A : Type 0} (o : Option A) → is_some o ≡ false → o ≡ None
+none_of None h = refl
+none_of (Some x) h = absurd (cc)
+
+-- ---- the links of a forest
+
+-- what is known in a list is known below a lower link
+still_known : (e : Node × Option Node) (t es : Ancestry) → AreAbove e.0 (keys_of es) → All (λ f. known_at t f.0 ≡ Some f.1) es
+    → All (λ f. known_at (e ∷ t) f.0 ≡ Some f.1) es
+still_known e t [] below all = All-nil (λ f. known_at (e ∷ t) f.0 ≡ Some f.1)
+still_known e t (f ∷ es) below all =
+    All-cons (λ g. known_at (e ∷ t) g.0 ≡ Some g.1) f es
+    (past_first f.0 e.0 e.1 t (same_back e.0 f.0 (sym (ties_same e.0 f.0) ∙ ap is_eq below.0))
+    ∙ All-head (λ g. known_at t g.0 ≡ Some g.1) f es all)
+    (still_known e t es below.1 (All-tail (λ g. known_at t g.0 ≡ Some g.1) f es all))
+
+pub links_known : (t : Ancestry) → IsStrictlySortedBy node_cmp (keys_of t) → All (λ e. known_at t e.0 ≡ Some e.1) t
+links_known [] a = All-nil (λ e. known_at [] e.0 ≡ Some e.1)
+links_known (e ∷ t) a =
+    All-cons (λ f. known_at (e ∷ t) f.0 ≡ Some f.1) e t (at_first e.0 e.1 t)
+    (still_known e t t (sorted_head node_cmp e.0 (keys_of t) a) (links_known t (sorted_tail node_cmp e.0 (keys_of t) a)))
+
+-- what holds of the nodes of all links holds of each known node
+of_known : (P : Node → Type 0) (es : Ancestry) → All (λ e. P e.0) es → (q : Node) → knows es q ≡ true → P q
+of_known P [] all q h = absurd (false≢true h)
+of_known P (e ∷ es) all q h =
+    ⊎_elim
+    (λ yes. subst P (sym (same_true q e.0 yes)) (All-head (λ f. P f.0) e es all))
+    (λ other. of_known P es (All-tail (λ f. P f.0) e es all) q (ap is_some (sym (past_first q e.0 e.1 es other)) ∙ h))
+    (cases_Bool (same_node q e.0))
 
 -- ---- the map of links
 

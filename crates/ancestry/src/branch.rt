@@ -25,7 +25,7 @@ const MOST_NODES: usize = 200;
 
 // What was known of a node before a branch is taken.
 #[derive(Clone, Copy, Drop)]
-pub(crate) enum Past {
+enum Past {
     // It was not known.
     Unknown,
     // It had no parent.
@@ -88,7 +88,7 @@ fn make_root(links: &mut BTreeMap<Node, Option<Node>>, node: &Node)
 }
 
 // Puts back what was known of a node.
-pub(crate) fn put_back_one(links: &mut BTreeMap<Node, Option<Node>>, node: &Node, past: Past)
+fn put_back_one(links: &mut BTreeMap<Node, Option<Node>>, node: &Node, past: Past)
     ensures { (t : Ancestry) (nodes : List Node) → past_of (known_at t node.now) ≡ past
         → Extends t (node.now ∷ nodes) links.old.entries → Extends t nodes links.new.entries }
 {
@@ -127,7 +127,7 @@ fn forget_parents(parents: &mut BTreeSet<Node>, nodes: &[Node], were: &[bool])
 
 impl Tree {
     // What is known of a node, in a word.
-    pub(crate) fn past(&self, node: &Node) -> Past
+    fn past(&self, node: &Node) -> Past
         ensures { result ≡ past_of (known_at self.now node.now) }
     {
         match self.links.get(node) {
@@ -184,7 +184,7 @@ impl Tree {
     }
 
     // Whether a node is in the line of another.
-    pub(crate) fn leads_to<'a>(&'a self, from: &'a Node, node: &Node) -> bool
+    fn leads_to<'a>(&'a self, from: &'a Node, node: &Node) -> bool
         ensures { result ≡ has_node (line self.now from.now) node.now }
     {
         let mut at = from;
@@ -209,7 +209,7 @@ impl Tree {
     }
 
     // Gives a root its parent, and puts that one among the parents.
-    pub(crate) fn set_parent(&mut self, node: &Node, parent: &Node) -> Result<(), AllocError>
+    fn set_parent(&mut self, node: &Node, parent: &Node) -> Result<(), AllocError>
         requires knows_node { knows self.old node.now ≡ true }
         requires knows_parent { knows self.old parent.now ≡ true }
         requires root { parent_of self.old node.now ≡ None }

@@ -6,14 +6,13 @@ mod branch;
 mod fault;
 mod indexed;
 mod laws;
-mod links;
 mod marks;
 mod tree;
 mod whole;
 
 pub use fault::BranchFault;
 pub use indexed::IndexedLine;
-pub use laws::{one_line, replayed, valid_nodes};
+pub use laws::{one_line, valid_nodes};
 pub use marks::{status, status_from};
 pub use tree::Tree;
 pub use version_nodes::{MarkKind, Node, NodeFault, Status, at_first_slash};

@@ -8,7 +8,6 @@ ghost use Rattle.std.specs.Option.{option_copied, option_map_or};
 ghost use Rattle.std.specs.Ordering.{is_lt};
 ghost use Rattle.version_nodes.specs.Nodes.{Node, same_node, node_cmp};
 ghost use Rattle.version_nodes.specs.Trees.{Ancestry, has_node, known_at, knows, parent_of, is_parent, IsForest};
-ghost use Rattle.ancestry.specs.Kept.{AreParents};
 ghost use Rattle.ancestry.specs.Whole.{HasLine, Stands};
 
 use crate::tree::Tree;

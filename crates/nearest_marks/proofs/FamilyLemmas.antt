@@ -1,6 +1,6 @@
--- Which links a branch and a single link bring, and that the children are kept to them.
+-- Which links a branch brings, and that the children are kept to them.
 use Rattle.std.proofs.Common.{◌≡◌, ◌==◌, ℕ, ◌+◌, Bool, true, false, cond, not, ◌||◌, ◌&&◌, nat_lt, List, [], ◌∷◌, length, Option, Some, None}
-use Rattle.std.proofs.Common.{is_some, unwrap_or, Result, Ok, Err, OnOk, OnErr, sym, refl, ap, ◌∙◌, subst, ⊎_elim}
+use Rattle.std.proofs.Common.{is_some, Result, Ok, Err, sym, refl, ap, ◌∙◌, subst, ⊎_elim}
 use Rattle.std.proofs.lemmas.Bool.{cases_Bool, false≢true}
 use Rattle.std.specs.BTreeMap.{BTreeMap}
 use Rattle.std.specs.BTreeSet.{BTreeSet}
@@ -8,11 +8,11 @@ use Rattle.std.specs.Option.{option_flatten, option_map_or}
 use Rattle.version_nodes.specs.Nodes.{Node, same_node}
 use Rattle.version_nodes.specs.Trees.{Ancestry, has_node, parent_of, line, is_ancestor}
 use Rattle.ancestry.specs.Branches.{learn, learn_all, with_parent, base_on, or_conflict, base_all, first_repeat, branched, IsBranched}
-use Rattle.ancestry.specs.Links.{has_parent, linked}
+use Rattle.ancestry.specs.Links.{has_parent}
 use Rattle.ancestry.specs.declared.fault.BranchFault.{BranchFault}
 use Rattle.ancestry.specs.declared.fault.BranchFault.TheVariants.{EmptyBranch, Repeated, Conflict, TooLong, Memory}
 use Rattle.version_nodes.proofs.NodeLemmas.{same_true, known_put, known_others}
-use Rattle.ancestry.proofs.LinkedLemmas.{learn_parents}
+use Rattle.ancestry.proofs.BranchLemmas.{learn_parents}
 use Rattle.nearest_marks.specs.Children.{is_child, is_pair, AreChildren}
 
 -- whether it is a link
@@ -95,46 +95,6 @@ branch_links t u nodes (Err EmptyBranch) h p c off = ap (λ (w : Ancestry). is_l
 branch_links t u nodes (Err TooLong) h p c off = ap (λ (w : Ancestry). is_link w c p) h.1
 branch_links t u nodes (Err (Repeated k)) h p c off = ap (λ (w : Ancestry). is_link w c p) h.1
 branch_links t u nodes (Err (Conflict k)) h p c off = ap (λ (w : Ancestry). is_link w c p) h.1
-
--- ---- a single link
-
-none_of : {A : Type 0} (o : Option A) → is_some o ≡ false → o ≡ None
-none_of None h = refl
-none_of (Some x) h = absurd (false≢true (sym h))
-
-linked_links : (t : Ancestry) (n q p c : Node) → (same_node c n && same_node p q) ≡ false
-    → is_link (unwrap_or (linked t n (Some q)) t) c p ≡ is_link t c p
-linked_links t n q p c off =
-    by_tests (parent_of t n) refl (has_parent t n (Some q)) (has_node (line t q) n)
-  where
-    by_tests : (o : Option Node) → parent_of t n ≡ o → (a b : Bool)
-        → is_link (unwrap_or (cond (is_some o) (cond a (Some t) None) (cond b None (Some (with_parent (learn_all t (n ∷ q ∷ [])) n q)))) t) c p
-        ≡ is_link t c p
-    by_tests (Some m) e true b = refl
-    by_tests (Some m) e false b = refl
-    by_tests None e a true = refl
-    by_tests None e a false =
-        put_link (learn_all t (n ∷ q ∷ [])) n q c p (learn_parents (learn t n) q n ∙ learn_parents t n n ∙ e) off
-        ∙ learn_all_links t (n ∷ q ∷ []) c p
-
-pub link_links : {A E : Type 0} (r : Result A E) (t u : Ancestry) (n q : Node) → OnOk r (u ≡ unwrap_or (linked t n (Some q)) t)
-    → OnErr r (u ≡ t) → (p c : Node) → (same_node c n && same_node p q) ≡ false → is_link u c p ≡ is_link t c p
-link_links (Ok x) t u n q ok err p c off = ap (λ (w : Ancestry). is_link w c p) ok ∙ linked_links t n q p c off
-link_links (Err x) t u n q ok err p c off = ap (λ (w : Ancestry). is_link w c p) err
-
-linked_root : (t : Ancestry) (n p c : Node) → is_link (unwrap_or (linked t n None) t) c p ≡ is_link t c p
-linked_root t n p c = by_tests (is_some (parent_of t n)) (has_parent t n None)
-  where
-    by_tests : (a b : Bool) → is_link (unwrap_or (cond a (cond b (Some t) None) (Some (learn t n))) t) c p ≡ is_link t c p
-    by_tests true true = refl
-    by_tests true false = refl
-    by_tests false b = learn_links t n c p
-
--- a node with no parent brings no link
-pub root_fits : {A E : Type 0} (r : Result A E) (t u : Ancestry) (n : Node) (children : BTreeMap Node (BTreeSet Node))
-    → OnOk r (u ≡ unwrap_or (linked t n None) t) → OnErr r (u ≡ t) → AreChildren t children → AreChildren u children
-root_fits (Ok x) t u n children ok err fits p c = fits p c ∙ sym (ap (λ (w : Ancestry). is_link w c p) ok ∙ linked_root t n p c)
-root_fits (Err x) t u n children ok err fits p c = fits p c ∙ sym (ap (λ (w : Ancestry). is_link w c p) err)
 
 -- ---- the children fit again
 

@@ -47,7 +47,7 @@ fn put_child(
 }
 
 // Adds a child to those of a node.
-pub(crate) fn add_child(
+fn add_child(
     alloc: Global,
     children: &mut BTreeMap<Node, BTreeSet<Node>>,
     child: &Node,
@@ -139,12 +139,7 @@ fn has_parent(tree: &Tree, node: &Node, parent: &Node) -> bool
 }
 
 // Takes a node out of the children of one that isn't its parent.
-pub(crate) fn settle(
-    children: &mut BTreeMap<Node, BTreeSet<Node>>,
-    tree: &Tree,
-    child: &Node,
-    parent: &Node,
-)
+fn settle(children: &mut BTreeMap<Node, BTreeSet<Node>>, tree: &Tree, child: &Node, parent: &Node)
     ensures { (p c : Node) → is_child children.new p c
         ≡ ((not (same_node c child.now && same_node p parent.now) || has_parent tree.now c (Some p)) && is_child children.old p c) }
 {

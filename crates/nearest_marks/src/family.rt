@@ -1,16 +1,16 @@
 //! A tree of versions in which one can go from a node to its children.
 
-ghost use Rattle.std.specs.Prelude.{◌≡◌, ◌&&◌, true, false, Some, None, Err, All, IfOk, OnOk, OnErr, is_some, unwrap_or};
+ghost use Rattle.std.specs.Prelude.{◌≡◌, true, false, Some, Err, All, IfOk, OnOk};
 ghost use Rattle.std.specs.Option.{option_copied, option_map_or};
 ghost use Rattle.std.specs.BTreeSet.{contains};
-ghost use Rattle.version_nodes.specs.Nodes.{Node, same_node, node_cmp};
+ghost use Rattle.version_nodes.specs.Nodes.{Node, node_cmp};
 ghost use Rattle.version_nodes.specs.Trees.{Ancestry, no_nodes, knows, is_ancestor, IsForest};
 ghost use Rattle.ancestry.specs.Branches.{branched, TakesMemory, IsBranched, AreBased, Extends};
-ghost use Rattle.ancestry.specs.Links.{has_parent, linked};
+ghost use Rattle.ancestry.specs.Links.{has_parent};
 ghost use Rattle.ancestry.specs.declared.fault.BranchFault.TheVariants.{Memory};
 ghost use Rattle.nearest_marks.specs.Children.{is_child, is_pair, AreChildren};
 
-use crate::children::{add_child, add_pairs, children_of, settle, settle_pairs};
+use crate::children::{add_pairs, children_of, settle_pairs};
 use crate::refusals::fault_without_memory;
 use ancestry::{BranchFault, Tree};
 use std::alloc::{AllocError, Global};
@@ -63,29 +63,6 @@ fn take_into(
         Ok(()) => tree.take_branch(nodes),
         Err(_) => Err(fault_without_memory(nodes)),
     }
-}
-
-// Puts in a node with its parent, and adds it to the children of that one, whether it is or not.
-fn put_into(
-    alloc: Global,
-    tree: &mut Tree,
-    children: &mut BTreeMap<Node, BTreeSet<Node>>,
-    node: &Node,
-    parent: &Node,
-) -> Result<bool, AllocError>
-    requires was_forest { IsForest tree.old }
-    requires fitted { AreChildren tree.old children.old }
-    ensures answer { IfOk result (λ put. put ≡ is_some (linked tree.old node.now (Some parent.now))) }
-    ensures links { OnOk result (tree.new ≡ unwrap_or (linked tree.old node.now (Some parent.now)) tree.old) }
-    ensures err { OnErr result (tree.new ≡ tree.old) }
-    ensures forest { IsForest tree.new }
-    ensures others { (p c : Node) → (same_node c node.now && same_node p parent.now) ≡ false →
-        is_child children.new p c ≡ has_parent tree.new c (Some p) }
-    ensures pairs { (p c : Node) → (same_node c node.now && same_node p parent.now) ≡ true →
-        has_parent tree.new c (Some p) ≡ true → is_child children.new p c ≡ true }
-{
-    add_child(alloc, children, node, parent)?;
-    tree.put(node, Some(parent))
 }
 
 impl Family {
@@ -146,34 +123,5 @@ impl Family {
         let result = take_into(self.alloc, &mut self.tree, &mut self.children, nodes);
         settle_pairs(&mut self.children, &self.tree, nodes);
         result
-    }
-
-    // Puts in a node with its parent.
-    fn put_under(&mut self, node: &Node, parent: &Node) -> Result<bool, AllocError>
-        ensures answer { IfOk result (λ put. put ≡ is_some (linked self.old node.now (Some parent.now))) }
-        ensures links { OnOk result (self.new ≡ unwrap_or (linked self.old node.now (Some parent.now)) self.old) }
-        ensures err { OnErr result (self.new ≡ self.old) }
-        ensures forest { IsForest self.new }
-    {
-        let result = put_into(self.alloc, &mut self.tree, &mut self.children, node, parent);
-        settle(&mut self.children, &self.tree, node, parent);
-        result
-    }
-
-    /// Puts in a node with its parent, or with none, as `ancestry::Tree::put` does: as it is read
-    /// back from where a tree was kept.
-    /// `false`, and nothing is changed, where the node has another parent, also where it is to have
-    /// none, or where it is in the line of its parent to be.
-    /// The error is that there was no memory, and then the tree is as before.
-    pub fn put(&mut self, node: &Node, parent: Option<&Node>) -> Result<bool, AllocError>
-        ensures answer { IfOk result (λ put. put ≡ is_some (linked self.old node.now (option_copied parent.entry))) }
-        ensures links { OnOk result (self.new ≡ unwrap_or (linked self.old node.now (option_copied parent.entry)) self.old) }
-        ensures err { OnErr result (self.new ≡ self.old) }
-        ensures forest { IsForest self.new }
-    {
-        match parent {
-            Some(parent) => self.put_under(node, parent),
-            None => self.tree.put(node, None),
-        }
     }
 }

@@ -3,7 +3,7 @@ use Rattle.std.proofs.lemmas.List.Elements.{All-head, All-tail}
 use Rattle.std.specs.Option.{option_flatten}
 use Rattle.version_nodes.specs.Nodes.{same_node}
 use Rattle.version_nodes.specs.Trees.{known_at}
-use Rattle.ancestry.proofs.ReplayLemmas.{links_known}
+use Rattle.ancestry.proofs.WholeLemmas.{links_known}
 use Rattle.nearest_marks.specs.Children.{is_child}
 use Rattle.nearest_marks.proofs.RoomLemmas.{leads, leads_is, child_more, child_none, or_none}
 use Rattle.nearest_marks.proofs.children.children_of.Goals as goal
