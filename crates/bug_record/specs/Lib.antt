@@ -23,5 +23,6 @@ pub mod Asked
 pub mod Waiting
 pub mod Lists
 pub mod Kept
+pub mod Faults
 -- definitions that only private functions cite
 pub mod Places

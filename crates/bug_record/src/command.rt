@@ -10,6 +10,8 @@ use crate::severity::Severity;
 use crate::tag::Tag;
 use debver::Text;
 use std::alloc::AllocError;
+use std::fmt;
+use thiserror::Error;
 use version_nodes::Node;
 
 /// A version as a command names it: of this source package, or of the bug's own where there is
@@ -146,26 +148,7 @@ impl Command<u64> {
             Command::Retitle(_, text) | Command::Forwarded(_, text) => text_is_utf8(text),
             Command::Submitter(_, who) | Command::Owner(_, who) => person_is_utf8(who),
             Command::Reopen(_, Some(who)) => person_is_utf8(who),
-            Command::Reopen(_, None)
-            | Command::Found(_, _)
-            | Command::NotFound(_, _)
-            | Command::Fixed(_, _)
-            | Command::NotFixed(_, _)
-            | Command::Close(_, _)
-            | Command::Severity(_, _)
-            | Command::Tags(_, _)
-            | Command::Reassign(_, _, _)
-            | Command::Merge(_, _)
-            | Command::ForceMerge(_, _)
-            | Command::Unmerge(_)
-            | Command::Clone(_, _)
-            | Command::Block(_, _)
-            | Command::Unblock(_, _)
-            | Command::NotForwarded(_)
-            | Command::NoOwner(_)
-            | Command::Archive(_)
-            | Command::Unarchive(_)
-            | Command::Affects(_, _, _) => {}
+            _ => {}
         }
     }
 }
@@ -225,12 +208,20 @@ pub enum Refusal {
 }
 
 /// Why nothing is planned.
-#[derive(Drop)]
+#[derive(Drop, Error)]
 pub enum PlanFault {
     /// The command is refused.
+    #[error("the command is refused")]
     Refused(Refusal),
     /// There was no memory.
+    #[error("out of memory")]
     Memory,
+}
+
+impl fmt::Debug for PlanFault {
+    fn fmt<W: fmt::Write>(&self, f: &mut fmt::Formatter<W>) -> fmt::Result {
+        fmt::Display::fmt(self, f)
+    }
 }
 
 impl From<AllocError> for PlanFault {

@@ -1,7 +1,13 @@
 //! What comes of a line, of a message, and of a report.
 
+ghost use Rattle.std.specs.Prelude.{◌≡◌, Some};
+ghost use Rattle.bug_record.specs.Faults.{fault_word, fault_message};
+
 use crate::command::Refusal;
 use crate::sequence::Numbers;
+use std::alloc::AllocError;
+use std::fmt;
+use thiserror::Error;
 
 /// Why a store did not do what it was asked.
 #[derive(Clone, Copy, Debug, PartialEq, Eq, Drop)]
@@ -14,6 +20,41 @@ pub enum StoreFault {
     Full,
     /// The store holds what is no desk's.
     Foreign,
+}
+
+impl StoreFault {
+    /// The word of this fault, as its message and the answer of a desk have it.
+    pub fn word(self) -> &'static str
+        ensures { result.now ≡ fault_word self }
+    {
+        match self {
+            StoreFault::Memory => "memory",
+            StoreFault::Device => "device",
+            StoreFault::Full => "full",
+            StoreFault::Foreign => "foreign",
+        }
+    }
+}
+
+impl fmt::Display for StoreFault {
+    ghost output = { λ fault. Some (fault_message fault) };
+
+    #[tactic(auto, unfolding(crate::specs::Faults::fault_message))]
+    fn fmt<W: fmt::Write>(&self, f: &mut fmt::Formatter<W>) -> fmt::Result {
+        write!(f, "the store failed: {}", self.word())
+    }
+}
+
+impl std::error::Error for StoreFault {}
+
+impl From<AllocError> for StoreFault {
+    ghost use Rattle.bug_record.specs.declared.outcome.StoreFault.TheVariants.{Memory};
+
+    ghost from_gives = { λ _ e. e ≡ Memory };
+
+    fn from(_error: AllocError) -> StoreFault {
+        StoreFault::Memory
+    }
 }
 
 /// What comes of a line that is neither blank nor a comment.
@@ -43,18 +84,34 @@ pub enum End {
 
 /// Why a report is not taken, in the order in which the causes are tested; a store fault at which
 /// the next number could not be read comes before `Full`.
-#[derive(Clone, Copy, Debug, PartialEq, Eq, Drop)]
+#[derive(Clone, Copy, Debug, PartialEq, Eq, Drop, Error)]
 pub enum ReportFault {
     /// The package is no package name.
+    #[error("bad package name")]
     BadPackage,
     /// The version is no version.
+    #[error("bad version")]
     BadVersion,
     /// The word names no severity.
+    #[error("unknown severity")]
     BadSeverity,
     /// The title is no text of 1 to 200 bytes.
+    #[error("bad title")]
     BadTitle,
     /// No bug number is left.
+    #[error("no bug number is left")]
     Full,
     /// The store failed; nothing is changed.
+    #[error(transparent)]
     Store(StoreFault),
+}
+
+impl From<StoreFault> for ReportFault {
+    ghost use Rattle.bug_record.specs.declared.outcome.ReportFault.TheVariants.{Store};
+
+    ghost from_gives = { λ fault e. e ≡ Store fault };
+
+    fn from(fault: StoreFault) -> ReportFault {
+        ReportFault::Store(fault)
+    }
 }

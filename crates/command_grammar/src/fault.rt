@@ -2,14 +2,24 @@
 
 use bug_record::Refusal;
 use std::alloc::AllocError;
+use std::fmt;
+use thiserror::Error;
 
 /// Why a line gives nothing.
-#[derive(Drop)]
+#[derive(Drop, Error)]
 pub enum LineFault {
     /// The line is refused.
+    #[error("the line is refused")]
     Refused(Refusal),
     /// There was no memory.
+    #[error("out of memory")]
     Memory,
+}
+
+impl fmt::Debug for LineFault {
+    fn fmt<W: fmt::Write>(&self, f: &mut fmt::Formatter<W>) -> fmt::Result {
+        fmt::Display::fmt(self, f)
+    }
 }
 
 impl From<AllocError> for LineFault {

@@ -6,19 +6,26 @@ ghost use Rattle.debver.specs.Characters.{is_digit};
 ghost use Rattle.debver.specs.Parts.{parts_of, written, revision_text, in_upstream, in_revision};
 ghost use Rattle.debver.specs.Faults.{wrong_place, has_bad_epoch, upstream_fault_at, revision_fault_at, fault};
 
+use thiserror::Error;
+
 /// The first fault of a text, in the order in which they stand here.
 /// A place is a byte offset in the whole text.
-#[derive(Clone, Copy, Debug, PartialEq, Eq)]
+#[derive(Clone, Copy, Debug, PartialEq, Eq, Error)]
 pub enum VersionFault {
     /// The text is empty.
+    #[error("the version is empty")]
     Empty,
     /// What precedes the first colon is empty, or holds something that is no digit.
+    #[error("the epoch of the version is no number")]
     BadEpoch,
     /// The first wrong character of the upstream part, or where an empty one would begin.
+    #[error("the upstream part of the version is wrong at byte {0}")]
     BadUpstream(usize),
     /// The first wrong character of the revision, or where an empty one would begin.
+    #[error("the revision of the version is wrong at byte {0}")]
     BadRevision(usize),
     /// More than 100 bytes.
+    #[error("the version has more than 100 bytes")]
     TooLong,
 }
 

@@ -3,14 +3,19 @@
 ghost use Rattle.std.specs.Prelude.{◌≡◌, not, position, Some, None, MatchResult};
 ghost use Rattle.debver.specs.Names.{starts_name, in_name, has_name_start, wrong_in_name, IsName, name_fault};
 
+use thiserror::Error;
+
 /// Why a text is no name of a package: the first fault, in the order in which they stand here.
-#[derive(Clone, Copy, Debug, PartialEq, Eq)]
+#[derive(Clone, Copy, Debug, PartialEq, Eq, Error)]
 pub enum NameFault {
     /// Less than two bytes.
+    #[error("the package name has less than two bytes")]
     Short,
     /// The byte offset of the first wrong byte.
+    #[error("the package name is wrong at byte {0}")]
     BadByte(usize),
     /// More than 100 bytes.
+    #[error("the package name has more than 100 bytes")]
     TooLong,
 }
 

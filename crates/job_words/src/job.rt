@@ -2,6 +2,8 @@
 
 use bug_record::Sequence;
 use debver::Text;
+use std::alloc::AllocError;
+use thiserror::Error;
 
 /// The lines of a message.
 pub type Lines = Sequence<Text>;
@@ -38,12 +40,26 @@ pub enum Job {
 }
 
 /// Why words are no job.
-#[derive(Drop)]
+#[derive(Debug, Drop, Error)]
 pub enum WordsError {
     /// They ask for help, which is this text.
+    #[error("{}", .0.as_str())]
     Help(Text),
     /// They are no good words.
+    #[error("bad words")]
     Bad,
     /// Memory was refused.
+    #[error("out of memory")]
     Memory,
+}
+
+impl From<AllocError> for WordsError {
+    ghost use Rattle.std.specs.Prelude.{◌≡◌};
+    ghost use Rattle.job_words.specs.declared.job.WordsError.TheVariants.{Memory};
+
+    ghost from_gives = { λ _ e. e ≡ Memory };
+
+    fn from(_error: AllocError) -> WordsError {
+        WordsError::Memory
+    }
 }
