@@ -12,6 +12,7 @@ ghost use Rattle.ancestry.specs.Whole.{HasLine, Stands};
 
 use crate::tree::Tree;
 use std::alloc::{AllocError, Global};
+use std::cmp::Ordering;
 use std::collections::{BTreeMap, BTreeSet};
 use version_nodes::Node;
 
@@ -127,6 +128,29 @@ fn set_of(alloc: Global, nodes: Vec<Node>) -> Result<BTreeSet<Node>, AllocError>
     nodes.into_iter().collect(alloc)
 }
 
+// The order of two links by the texts of their nodes alone: by the sources, and then the shorter
+// version comes first.
+fn by_texts(a: &(Node, Option<Node>), b: &(Node, Option<Node>)) -> Ordering {
+    let by_source = a.0.source().as_bytes().cmp(b.0.source().as_bytes());
+    if by_source.is_ne() {
+        return by_source;
+    }
+    let left = a.0.version().as_bytes();
+    let right = b.0.version().as_bytes();
+    left.len().cmp(&right.len()).then(left.cmp(right))
+}
+
+// These links by their texts, which mostly is the order of their nodes: there each is then
+// compared with its neighbours alone.
+fn in_text_order(
+    mut links: Vec<(Node, Option<Node>)>,
+) -> Result<Vec<(Node, Option<Node>)>, AllocError>
+    ensures { IfOk result (λ sorted. IsPermutation links.items sorted.items) }
+{
+    links.sort_by(by_texts)?;
+    Ok(links)
+}
+
 // These links as a map.
 fn map_of(
     alloc: Global,
@@ -152,7 +176,8 @@ impl Tree {
         ensures tree { (t : Ancestry) → IsForest t → IsPermutation t links.items → IfOk result (λ tree. tree ≡ Some t) }
         ensures forest { IfOk result (λ tree. IfSome tree IsForest) }
     {
-        let links = map_of(alloc, links)?;
+        let sorted = in_text_order(links)?;
+        let links = map_of(alloc, sorted)?;
         if !are_forest(&links) {
             return Ok(None);
         }

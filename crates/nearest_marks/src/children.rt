@@ -1,12 +1,10 @@
 //! The children of each node.
 
-ghost use Rattle.std.specs.Prelude.{◌≡◌, ◌+◌, ◌<◌, ◌&&◌, ◌||◌, true, false, not, [], is_some, Some, All, IfOk, OnOk, OnErr, slice_index};
+ghost use Rattle.std.specs.Prelude.{◌≡◌, ◌+◌, ◌<◌, ◌&&◌, ◌||◌, true, false, not, is_some, Some, IfOk, OnOk, OnErr, slice_index};
 ghost use Rattle.std.specs.BTreeMap.{get};
-ghost use Rattle.std.specs.Map.{keys_of};
 ghost use Rattle.version_nodes.specs.Nodes.{Node, same_node, node_cmp};
-ghost use Rattle.version_nodes.specs.Trees.{knows, IsForest};
 ghost use Rattle.ancestry.specs.Links.{has_parent};
-ghost use Rattle.nearest_marks.specs.Children.{is_child, is_pair, AreChildren};
+ghost use Rattle.nearest_marks.specs.Children.{is_child, is_pair};
 
 use ancestry::Tree;
 use std::alloc::{AllocError, Global};
@@ -28,26 +26,28 @@ fn make_room(
     Ok(())
 }
 
-// Puts a child to a node that has room for it.
+// Puts a child to a node, where there is room for it; answers whether there is.
 fn put_child(
     children: &mut BTreeMap<Node, BTreeSet<Node>>,
     parent: &Node,
-    child: Node,
-) -> Result<(), AllocError>
-    requires there { is_some (get node_cmp children.old parent.now) ≡ true }
-    ensures room { (p : Node) → is_some (get node_cmp children.new p) ≡ is_some (get node_cmp children.old p) }
-    ensures ok { OnOk result ((p c : Node) → is_child children.new p c
-        ≡ ((same_node c child && same_node p parent.now) || is_child children.old p c)) }
+    child: &Node,
+) -> Result<bool, AllocError>
+    ensures there { IfOk result (λ there. there ≡ is_some (get node_cmp children.old parent.now)) }
+    ensures ok { IfOk result (λ there. (p c : Node) → is_child children.new p c
+        ≡ ((there && (same_node c child.now && same_node p parent.now)) || is_child children.old p c)) }
     ensures err { OnErr result ((p c : Node) → is_child children.new p c ≡ is_child children.old p c) }
 {
-    if let Some(own) = children.get_mut(parent) {
-        own.insert(child)?;
-    }
-    Ok(())
+    let copy = child.copy()?;
+    let Some(own) = children.get_mut(parent) else {
+        return Ok(false);
+    };
+    own.insert(copy)?;
+    Ok(true)
 }
 
 // Adds a child to those of a node.
-fn add_child(
+// It is one look-up, where there is room.
+pub(crate) fn add_child(
     alloc: Global,
     children: &mut BTreeMap<Node, BTreeSet<Node>>,
     child: &Node,
@@ -57,47 +57,12 @@ fn add_child(
         ≡ ((same_node c child.now && same_node p parent.now) || is_child children.old p c)) }
     ensures err { OnErr result ((p c : Node) → is_child children.new p c ≡ is_child children.old p c) }
 {
+    if put_child(children, parent, child)? {
+        return Ok(());
+    }
     make_room(alloc, children, parent)?;
-    put_child(children, parent, child.copy()?)
-}
-
-// An empty set for each known node.
-fn empty_rooms(alloc: Global, tree: &Tree) -> Result<Vec<(Node, BTreeSet<Node>)>, AllocError>
-    ensures nodes { IfOk result (λ rooms. keys_of rooms.items ≡ keys_of tree.now) }
-    ensures empty { IfOk result (λ rooms. All (λ room. room.1.keys ≡ []) rooms.items) }
-{
-    let mut rooms = Vec::new(alloc);
-    for node in tree.links().keys() {
-        rooms.push((node.copy()?, BTreeSet::new(alloc)))?;
-    }
-    Ok(rooms)
-}
-
-// Room for children of each known node, which has none yet.
-fn rooms_of(alloc: Global, tree: &Tree) -> Result<BTreeMap<Node, BTreeSet<Node>>, AllocError>
-    ensures there { IfOk result (λ children. (p : Node) → is_some (get node_cmp children p) ≡ knows tree.now p) }
-    ensures none { IfOk result (λ children. (p c : Node) → is_child children p c ≡ false) }
-{
-    let rooms = empty_rooms(alloc, tree)?;
-    rooms.into_iter().collect(alloc)
-}
-
-// The children of each node of a tree.
-pub(crate) fn children_of(
-    alloc: Global,
-    tree: &Tree,
-) -> Result<BTreeMap<Node, BTreeSet<Node>>, AllocError>
-    ensures children { IfOk result (AreChildren tree.now) }
-    ensures forest { IsForest tree.now }
-{
-    let links = tree.links();
-    let mut children = rooms_of(alloc, tree)?;
-    for (node, parent) in links {
-        if let Some(parent) = parent {
-            put_child(&mut children, parent, node.copy()?)?;
-        }
-    }
-    Ok(children)
+    put_child(children, parent, child)?;
+    Ok(())
 }
 
 // Takes a child out of those of a node.

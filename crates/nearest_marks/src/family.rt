@@ -10,8 +10,9 @@ ghost use Rattle.ancestry.specs.Links.{has_parent};
 ghost use Rattle.ancestry.specs.declared.fault.BranchFault.TheVariants.{Memory};
 ghost use Rattle.nearest_marks.specs.Children.{is_child, is_pair, AreChildren};
 
-use crate::children::{add_pairs, children_of, settle_pairs};
+use crate::children::{add_pairs, settle_pairs};
 use crate::refusals::fault_without_memory;
+use crate::rooms::children_of;
 use ancestry::{BranchFault, Tree};
 use std::alloc::{AllocError, Global};
 use std::collections::{BTreeMap, BTreeSet};

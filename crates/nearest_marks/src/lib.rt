@@ -6,6 +6,7 @@ mod family;
 mod laws;
 mod near;
 mod refusals;
+mod rooms;
 mod touched;
 
 pub use family::Family;

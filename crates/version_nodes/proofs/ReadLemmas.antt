@@ -1,5 +1,5 @@
 -- Where a text gives a node, and which.
-use Rattle.std.proofs.Common.{◌≡◌, ◌↔◌, ℕ, ◌+◌, ◌<◌, Bool, true, false, not, ◌||◌, List, [], ◌∷◌, length, cond, refl, ap, sym}
+use Rattle.std.proofs.Common.{◌≡◌, ◌↔◌, ℕ, ◌+◌, ◌<◌, Bool, true, false, not, ◌||◌, ◌&&◌, List, [], ◌∷◌, length, cond, refl, ap, sym}
 use Rattle.std.proofs.Common.{◌∙◌, inl, inr, arith, nat_lt, lit<, Bor}
 use Rattle.std.specs.Prelude.{Option, Some, None, is_none, is_some, if◌then◌else◌}
 use Rattle.std.specs.Bool.{then_some}
@@ -30,6 +30,17 @@ pub word_with_slash : (name word s v : List ℕ) → is_none (name_fault name) �
 word_with_slash name word s v named h e f =
     ap (λ b. if b then (if list_any is_slash word then node_of_text word else node_of name word) else None) named
     ∙ ap (λ b. if b then node_of_text word else node_of name word) h ∙ node_at_slash word s v h e f
+
+-- a word without one means the node of the package
+pub word_without_slash : (name word : List ℕ) → list_any is_slash word ≡ false → node_at name word ≡ node_of name word
+word_without_slash name word h =
+    ap (λ b. if is_none (name_fault name) then (if b then node_of_text word else node_of name word) else None) h
+    ∙ named (is_none (name_fault name))
+  where
+    named : (b : Bool) → (if b then (if b && is_none (text_fault word) then Some (node name word) else None) else None)
+        ≡ (if b && is_none (text_fault word) then Some (node name word) else None)
+    named true = refl
+    named false = refl
 
 any_within : (p : ℕ → Bool) (xs : List ℕ) → position_or_len p xs < length xs → list_any p xs ≡ true
 any_within p [] h = absurd (omega arith)

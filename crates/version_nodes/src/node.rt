@@ -105,13 +105,13 @@ impl Node {
     pub fn at(alloc: Global, package: &str, word: &str) -> Result<Node, NodeFault>
         ensures { IsRead (node_at «package».now word.now) result }
     {
+        let Some((own, version)) = at_first_slash(word) else {
+            return node_of(alloc, package, word);
+        };
         if check_name(package).is_err() {
             return Err(NodeFault::BadNode);
         }
-        match at_first_slash(word) {
-            Some((own, version)) => node_of(alloc, own, version),
-            None => node_of(alloc, package, word),
-        }
+        node_of(alloc, own, version)
     }
 
     /// The node of a package that comes before its other nodes, whose version is 100 tildes.
