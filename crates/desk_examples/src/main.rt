@@ -1,11 +1,12 @@
 //! Runs the examples that lie in its folders of data, scripts and exchanges, and prints what comes
-//! of them.
+//! of them, and of the calls that crates' pages begin with.
 #![tactic(auto)]
 
 mod answers;
 mod exchange;
 mod exchange_lines;
 mod exchanges;
+mod first_calls;
 mod header;
 mod requests;
 mod scripts;
@@ -29,5 +30,5 @@ fn main(rt: HostRuntime) -> io::Result<()> {
     for name in fs::read_to_string(&rt, FILES)?.lines() {
         run_file(&rt, name)?;
     }
-    Ok(())
+    first_calls::print_all(&rt)
 }
