@@ -64,13 +64,9 @@ fn push_names(alloc: Global, names: &mut Names, text: &str) -> Result<(), LineFa
 fn all_names(alloc: Global, rest: &str, text: &str) -> Result<Names, LineFault>
     ensures { Reads (each_word read_package (with_rest rest.now (words_with_commas text.now))) result }
 {
-    match first_name(alloc, rest) {
-        Ok(mut names) => {
-            push_names(alloc, &mut names, text)?;
-            Ok(names)
-        }
-        Err(fault) => Err(fault),
-    }
+    let mut names = first_name(alloc, rest)?;
+    push_names(alloc, &mut names, text)?;
+    Ok(names)
 }
 
 /// The command that the text after the word `affects` gives: `affects n [+|-|=] package ..`, a sign

@@ -72,8 +72,5 @@ pub fn read_line(alloc: Global, text: &str) -> Result<Line, LineFault>
     if has_control(text) {
         return Err(LineFault::Refused(Refusal::Malformed));
     }
-    match read_command(alloc, command, rest) {
-        Ok(command) => Ok(Line::Do(command)),
-        Err(fault) => Err(fault),
-    }
+    Ok(Line::Do(read_command(alloc, command, rest)?))
 }

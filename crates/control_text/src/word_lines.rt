@@ -27,15 +27,10 @@ fn lines_of<'a>(alloc: Global, words: &[&'a str]) -> Result<Vec<String>, WordsFa
 {
     let mut writer = Writer::new(alloc);
     for (place, word) in words.iter().enumerate() {
-        match writer.read(alloc, place, word) {
-            Ok(()) => {}
-            Err(fault) => return Err(fault),
-        }
+        writer.read(alloc, place, word)?;
     }
-    match writer.end(alloc) {
-        Ok(()) => Ok(writer.lines),
-        Err(_) => Err(WordsFault::Memory),
-    }
+    writer.end(alloc)?;
+    Ok(writer.lines)
 }
 
 /// The lines of a message that words of a command line stand for, in the manner of bts(1).
@@ -60,10 +55,7 @@ pub fn words_to_lines(alloc: Global, words: &[&str]) -> Result<Vec<String>, Word
         Some(place) => return Err(WordsFault::BadWord(place)),
         None => {}
     }
-    let lines = match lines_of(alloc, words) {
-        Ok(lines) => lines,
-        Err(fault) => return Err(fault),
-    };
+    let lines = lines_of(alloc, words)?;
     if lines.is_empty() {
         return Err(WordsFault::NoCommand);
     }

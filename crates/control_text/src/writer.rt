@@ -53,22 +53,12 @@ impl<'a> Writer<'a> {
         ensures { IfOk result (λ u. state_of self.new ≡ with_line (state_of self.old) word.now) }
     {
         if self.place.is_begun() {
-            match self.line.push_str(" ") {
-                Ok(()) => match self.line.push_str(word) {
-                    Ok(()) => Ok(()),
-                    Err(error) => Err(error),
-                },
-                Err(error) => Err(error),
-            }
+            self.line.push_str(" ")?;
+            self.line.push_str(word)?;
         } else {
-            match String::from_str(alloc, word) {
-                Ok(line) => {
-                    self.line = line;
-                    Ok(())
-                }
-                Err(error) => Err(error),
-            }
+            self.line = String::from_str(alloc, word)?;
         }
+        Ok(())
     }
 
     /// Takes one more word of the command, from this place among all words.

@@ -114,10 +114,7 @@ pub(crate) fn read_values<'a>(alloc: Global, words: &'a [&'a str]) -> Result<Val
     ensures values { IfOk result (λ v. given_of v ≡ given_in (map (λ s. s.now) words.entry.now)) }
     ensures err { IfErr result (IsToldOf (refusals (map (λ s. s.now) words.entry.now))) }
 {
-    let matches = match match_options(alloc, words) {
-        Ok(matches) => matches,
-        Err(error) => return Err(error),
-    };
+    let matches = match_options(alloc, words)?;
     Ok(Values {
         store: matches.get_str("store"),
         from: matches.get_str("from"),

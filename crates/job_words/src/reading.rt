@@ -39,13 +39,9 @@ pub fn read_words<'a>(alloc: Global, words: &'a [&'a str]) -> Result<Job, WordsE
     if has_lone_dash(options) {
         return Err(WordsError::Bad);
     }
-    let values = match read_values(alloc, options) {
-        Ok(values) => values,
-        Err(error) => return Err(error),
-    };
-    match job_of(alloc, &values, command) {
-        Ok(Some(job)) => Ok(job),
-        Ok(None) => Err(WordsError::Bad),
-        Err(_) => Err(WordsError::Memory),
+    let values = read_values(alloc, options)?;
+    match job_of(alloc, &values, command)? {
+        Some(job) => Ok(job),
+        None => Err(WordsError::Bad),
     }
 }

@@ -1,11 +1,15 @@
+use Rattle.std.proofs.lemmas.Result.{err_from_is_err_and}
 use Rattle.line_words.specs.Words.{words_with_commas}
 use Rattle.command_grammar.specs.Commands.{read_package}
 use Rattle.command_grammar.proofs.StepLemmas.{rest-read, rest-refused}
 use Rattle.command_grammar.proofs.affects.all_names.Goals as goal
 
-pub returns-in_ok-push_names-in-Ok : goal.returns-in_ok-push_names-in-Ok
-returns-in_ok-push_names-in-Ok c =
-    rest-read read_package c.args.rest.now (words_with_commas c.args.text.now) c.in-Ok.names c.push_names.new.names c.in-Ok.ensures c.in_ok-push_names-in-Ok.ensures
+pub returns : goal.returns
+returns c =
+    rest-read read_package c.args.rest.now (words_with_commas c.args.text.now) c.in_ok-names.names c.push_names.new.names c.in_ok-names.ensures c.in_ok-push_names.ensures
 
-pub returns-in-Err : goal.returns-in-Err
-returns-in-Err c = rest-refused read_package c.args.rest.now (words_with_commas c.args.text.now) c.in-Err.fault c.in-Err.ensures
+pub returns-in_err-names : goal.returns-in_err-names
+returns-in_err-names c =
+    let p = err_from_is_err_and c.from_residual.result c.from_residual.ensures.1 in
+    rw (p.1, p.2) (rest-refused read_package c.args.rest.now (words_with_commas c.args.text.now)
+    c.in_err-names.field-0.0 c.in_err-names.ensures)

@@ -10,11 +10,11 @@ use Rattle.command_grammar.specs.Lines.{reading}
 use Rattle.control_text.proofs.ReadingLemmas.{command_of-good, clean_after_word}
 use Rattle.control_text.proofs.line.read_line.Goals as goal
 
-pub returns-in-Ok-clause-well_formed : goal.returns-in-Ok-clause-well_formed
-returns-in-Ok-clause-well_formed c =
+pub returns-clause-well_formed : goal.returns-clause-well_formed
+returns-clause-well_formed c =
     let clean = clean_after_word c.args.text.now (sym c.has_control.ensures ∙ c.if-has_control.false) in
     let rest = subst (λ (s : List ℕ). list_any is_control s ≡ false) (sym c.next_word.ensures.rest) clean in
-    subst (λ (r : Result (Command Named) Refusal). IfOk r IsWellFormed) c.in-Ok.ensures
+    subst (λ (r : Result (Command Named) Refusal). IfOk r IsWellFormed) c.in_ok-read_command.ensures
     (command_of-good c.in-Some.command c.next_word.result.1.now rest)
 
 pub returns-then-is_empty-clause-memory : goal.returns-then-is_empty-clause-memory

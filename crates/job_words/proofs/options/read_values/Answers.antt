@@ -9,8 +9,8 @@ pub returns-clause-values : goal.returns-clause-values
 unfolding value_in
 returns-clause-values c =
     let words = map (λ s. s.now) c.args.words.now in
-    let found = found_of c.in-Ok.matches in
-    let rows = c.in-Ok.ensures.rows in
+    let found = found_of c.in_ok-matches.matches in
+    let rows = c.in_ok-matches.ensures.rows in
     same_given _ words
     (c.get_str.ensures ∙ first_value-rows found (codes "store") ∙ ap (first_of (codes "store")) rows)
     (c.get_str-2.ensures ∙ first_value-rows found (codes "from") ∙ ap (first_of (codes "from")) rows)

@@ -1,5 +1,5 @@
-use Rattle.std.proofs.Common.{rules}
 use Rattle.std.proofs.Common.{◌∙◌, map, ap, ap₂, sym, subst, inl}
+use Rattle.std.proofs.lemmas.Result.{err_from_is_err_and}
 use Rattle.job_words.specs.Cut.{option_words}
 use Rattle.job_words.specs.Options.{given_in, refusals}
 use Rattle.job_words.specs.Told.{given_of, IsToldOf}
@@ -15,30 +15,29 @@ returns-then-has_lone_dash-clause-err c =
     inl (lone_dash-map c.has_lone_dash.result c.cut.result.0.now (option_words words) c.has_lone_dash.ensures c.cut.ensures.options
     ∙ c.if-has_lone_dash.true)
 
-pub returns-in-Err-clause-err : goal.returns-in-Err-clause-err
-returns-in-Err-clause-err c =
+pub returns-in_err-values-clause-err : goal.returns-in_err-values-clause-err
+returns-in_err-values-clause-err c =
+    let p = err_from_is_err_and c.from_residual.result c.from_residual.ensures.1 in
     let words = map (λ s. s.now) c.args.words.now in
     let no_dash =
     lone_dash-map c.has_lone_dash.result c.cut.result.0.now (option_words words) c.has_lone_dash.ensures c.cut.ensures.options
     ∙ c.if-has_lone_dash.false in
-    told-of_words words c.in-Err.error no_dash
-    (subst (λ options. IsToldOf (refusals options) c.in-Err.error) c.cut.ensures.options c.in-Err.ensures.err)
+    let error = c.in_err-values.field-0.0 in
+    rw (p.1, p.2) (told-of_words words error no_dash
+    (subst (λ options. IsToldOf (refusals options) error) c.cut.ensures.options c.in_err-values.ensures.err))
 
-pub returns-in-Ok-Some-clause-ok : goal.returns-in-Ok-Some-clause-ok
-returns-in-Ok-Some-clause-ok c =
+pub returns-in-Some-clause-ok : goal.returns-in-Some-clause-ok
+returns-in-Some-clause-ok c =
     let words = map (λ s. s.now) c.args.words.now in
     let no_dash =
     lone_dash-map c.has_lone_dash.result c.cut.result.0.now (option_words words) c.has_lone_dash.ensures c.cut.ensures.options
     ∙ c.if-has_lone_dash.false in
-    let values = c.in-Ok.ensures.values ∙ ap given_in c.cut.ensures.options in (
+    let values = c.in_ok-values.ensures.values ∙ ap given_in c.cut.ensures.options in (
       no_dash,
-      ap refusals (sym c.cut.ensures.options) ∙ c.in-Ok.ensures.taken,
-      sym (ap₂ job_of values c.cut.ensures.command) ∙ sym c.in-Ok-Some.ensures ∙ c.in-Ok-Some.field-0-is,
+      ap refusals (sym c.cut.ensures.options) ∙ c.in_ok-values.ensures.taken,
+      sym (ap₂ job_of values c.cut.ensures.command) ∙ sym c.in_ok-job.ensures ∙ c.in-Some.is,
     )
 
-pub returns-in-Ok-Some-clause-good : goal.returns-in-Ok-Some-clause-good
-returns-in-Ok-Some-clause-good c =
-    job_of-good (given_of c.in-Ok.values) (map (λ s. s.now) c.cut.result.1.now) c.in-Ok-Some.job (sym c.in-Ok-Some.ensures ∙ c.in-Ok-Some.field-0-is)
-
-pub returns-in-Err-job_of-clause-err : goal.returns-in-Err-job_of-clause-err
-returns-in-Err-job_of-clause-err c = search rules
+pub returns-in-Some-clause-good : goal.returns-in-Some-clause-good
+returns-in-Some-clause-good c =
+    job_of-good (given_of c.in_ok-values.values) (map (λ s. s.now) c.cut.result.1.now) c.in-Some.job (sym c.in_ok-job.ensures ∙ c.in-Some.is)
