@@ -1,9 +1,10 @@
 //! Requests that are cut by the end of input.
 
 use crate::exchanges::{BAD_REQUEST, EXCHANGES, answers, desk_after, is_after, status_told};
-use desk_http::{ServeFault, Served, serve_one};
+use desk_http::{ServeFault, Served};
 use desk_in_memory::PlainDesk;
 use std::alloc::Global;
+use test_desks::serve_into;
 
 // Whether an exchange ended as it has to where its request is cut and this was written.
 fn ends_well(told: &Result<Served, ServeFault>, request: &[u8], written: &[u8]) -> bool {
@@ -18,9 +19,8 @@ fn is_cut(alloc: Global, desk: &mut PlainDesk, request: &str, length: usize) -> 
     let Some(front) = request.as_bytes().get(..length) else {
         return false;
     };
-    let mut reader = front;
     let mut written = Vec::new(alloc);
-    let told = serve_one(alloc, desk, &mut reader, &mut written);
+    let told = serve_into(alloc, desk, front, &mut written);
     ends_well(&told, front, &written)
 }
 

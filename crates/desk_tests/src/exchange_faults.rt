@@ -2,10 +2,10 @@
 
 use crate::exchanges::{FIRST_BUG, REPORT, STORE_FAULT, answers, serve, status_told};
 use bug_record::StoreFault;
-use desk_http::serve_one;
 use desk_in_memory::{FailAt, PlainDesk};
 use desk_store::Records;
 use std::alloc::Global;
+use test_desks::serve_into;
 
 const NOT_FOUND: &str = "HTTP/1.1 404 Not Found\r\nConnection: close\r\nContent-Length: 21\r\n\
     Content-Type: application/json\r\n\r\n{\"error\":\"not found\"}";
@@ -23,9 +23,8 @@ fn failing(alloc: Global, bugs: u32, at: u64) -> FailAt<PlainDesk> {
 
 // Whether a request is answered so and told as 500, and the store has failed once then.
 fn fails_at(alloc: Global, store: &mut FailAt<PlainDesk>, request: &str, answer: &str) -> bool {
-    let mut reader = request.as_bytes();
     let mut written = Vec::new(alloc);
-    let told = serve_one(alloc, store, &mut reader, &mut written);
+    let told = serve_into(alloc, store, request.as_bytes(), &mut written);
     status_told(&told) == Some(500)
         && written.as_slice() == answer.as_bytes()
         && store.faults() == 1

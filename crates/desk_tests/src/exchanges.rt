@@ -1,9 +1,10 @@
 //! Exchanges that a new desk has in turn, and what such a desk shows.
 
-use desk_http::{ServeFault, Served, serve_one};
+use desk_http::{ServeFault, Served};
 use desk_in_memory::PlainDesk;
 use desk_store::Records;
 use std::alloc::Global;
+use test_desks::serve_into;
 
 /// The requests and their answers: a report, a message, a list, and a branch that is refused.
 pub(crate) const EXCHANGES: [(&str, &str); 4] = [
@@ -66,8 +67,7 @@ pub(crate) fn serve<S: Records>(
     request: &str,
     written: &mut Vec<u8>,
 ) {
-    let mut reader = request.as_bytes();
-    let _ = serve_one(alloc, store, &mut reader, written);
+    let _ = serve_into(alloc, store, request.as_bytes(), written);
 }
 
 /// The status that is told of an exchange, where an answer is.

@@ -1,9 +1,9 @@
 //! The status that is told of an answer.
 
 use crate::exchanges::{REPORT, status_told};
-use desk_http::serve_one;
 use desk_in_memory::PlainDesk;
 use std::alloc::Global;
+use test_desks::serve_into;
 
 // Requests to a new desk, one for each status, and the first lines of their answers.
 const STATUSES: [(&str, u16, &str); 8] = [
@@ -40,9 +40,8 @@ const STATUSES: [(&str, u16, &str); 8] = [
 // The status that is told of a request to a new desk, where its answer begins with this line.
 fn status_of(alloc: Global, request: &str, line: &str) -> Option<u16> {
     let mut desk = PlainDesk::new(alloc, 1);
-    let mut reader = request.as_bytes();
     let mut written = Vec::new(alloc);
-    let told = serve_one(alloc, &mut desk, &mut reader, &mut written);
+    let told = serve_into(alloc, &mut desk, request.as_bytes(), &mut written);
     if !written.starts_with(line.as_bytes()) {
         return None;
     }

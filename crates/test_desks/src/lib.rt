@@ -7,6 +7,7 @@
 mod desks;
 mod disks;
 mod endless;
+mod exchanges;
 mod failing;
 mod left;
 mod limits;
@@ -20,6 +21,7 @@ mod tasks;
 pub use desks::{Made, create, new_desk, open};
 pub use disks::{Disks, File, connected, copy_of, disks_in, files_with, new_disks, with_room};
 pub use endless::{Pieces, Round};
+pub use exchanges::serve_into;
 pub use failing::{Failure, Feed, Sink};
 pub use left::{BothLeft, both_left};
 pub use limits::limited;
