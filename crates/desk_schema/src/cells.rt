@@ -1,6 +1,6 @@
 //! Cells of a row as numbers, texts and nodes.
 
-ghost use Rattle.std.specs.Prelude.{◌≡◌, ◌≢◌, ◌<◌, ◌+◌, ℕ, pos, List, length, Option, IfOk, IfErr};
+ghost use Rattle.std.specs.Prelude.{◌≡◌, ◌≢◌, ◌<◌, ◌+◌, ℕ, pos, true, List, length, Option, IfOk, IfErr};
 ghost use Rattle.std.specs.Str.{IsUtf8};
 ghost use Rattle.sqlite.specs.Order.{column};
 ghost use Rattle.sqlite.specs.Values.{or_null};
@@ -51,14 +51,29 @@ fn kept(alloc: Global, text: &str) -> Result<Text, StoreFault>
     }
 }
 
+// The text in a cell, counted from 0, where it stands; one that is no UTF-8 can't be read.
+fn str_at(row: &Row, at: usize) -> Result<&str, StoreFault>
+    ensures value { (t : List ℕ) → column row.now at ≡ TextCell t → IfOk result (λ v. v.now ≡ t) }
+    ensures sure { (t : List ℕ) → at < length row.now → column row.now at ≡ TextCell t → IsUtf8 t → IfErr result (λ fault. fault ≢ Foreign) }
+{
+    match row.get_ref(at) {
+        Ok(ValueRef::Text(bytes)) => match std::str::from_utf8(bytes) {
+            Ok(text) => Ok(text),
+            Err(_) => Err(StoreFault::Foreign),
+        },
+        Ok(_) => Err(StoreFault::Foreign),
+        Err(error) => Err(fault_of(&error)),
+    }
+}
+
 /// The text in a cell, counted from 0; one that is no UTF-8 can't be read.
 pub fn text_at(alloc: Global, row: &Row, at: usize) -> Result<Text, StoreFault>
     ensures value { (t : List ℕ) → column row.now at ≡ TextCell t → IfOk result (λ v. v ≡ t) }
     ensures sure { (t : List ℕ) → at < length row.now → column row.now at ≡ TextCell t → IsUtf8 t → IfErr result (λ fault. fault ≢ Foreign) }
 {
-    match row.get::<String>(at) {
-        Ok(text) => kept(alloc, text.as_str()),
-        Err(error) => Err(fault_of(&error)),
+    match str_at(row, at) {
+        Ok(found) => kept(alloc, found),
+        Err(fault) => Err(fault),
     }
 }
 
@@ -100,18 +115,23 @@ pub fn bytes_text_at(alloc: Global, row: &Row, at: usize) -> Result<Text, StoreF
     }
 }
 
-// The text in a cell, counted from 0, where it stands; one that is no UTF-8 can't be read.
-fn str_at(row: &Row, at: usize) -> Result<&str, StoreFault>
-    ensures value { (t : List ℕ) → column row.now at ≡ TextCell t → IfOk result (λ v. v.now ≡ t) }
-    ensures sure { (t : List ℕ) → at < length row.now → column row.now at ≡ TextCell t → IsUtf8 t → IfErr result (λ fault. fault ≢ Foreign) }
+/// Whether a cell, counted from 0, has this number.
+pub fn is_number_at(row: &Row, at: usize, number: u64) -> bool
+    ensures { (n : ℕ) → column row.now at ≡ Int (pos n) → result ≡ true → n ≡ number }
 {
-    match row.get_ref(at) {
-        Ok(ValueRef::Text(bytes)) => match std::str::from_utf8(bytes) {
-            Ok(text) => Ok(text),
-            Err(_) => Err(StoreFault::Foreign),
-        },
-        Ok(_) => Err(StoreFault::Foreign),
-        Err(error) => Err(fault_of(&error)),
+    match number_at(row, at) {
+        Ok(found) => found == number,
+        Err(_) => false,
+    }
+}
+
+/// Whether a cell, counted from 0, has this text.
+pub fn is_text_at(row: &Row, at: usize, text: &str) -> bool
+    ensures { (t : List ℕ) → column row.now at ≡ TextCell t → result ≡ true → t ≡ text.now }
+{
+    match str_at(row, at) {
+        Ok(found) => found == text,
+        Err(_) => false,
     }
 }
 

@@ -8,4 +8,5 @@ pub mod BugStatements
 pub mod SetStatements
 pub mod ListedSets
 pub mod NearStatements
+pub mod MemberLemmas
 pub mod Imports

@@ -1,6 +1,6 @@
 //! The bugs of sets.
 
-ghost use Rattle.std.specs.Prelude.{◌≡◌, ◌≢◌, List, [], ◌∷◌, IfOk, IfErr};
+ghost use Rattle.std.specs.Prelude.{◌≡◌, ◌≢◌, true, List, [], ◌∷◌, IfOk, IfErr};
 ghost use Rattle.std.specs.Option.{option_map_or};
 ghost use Rattle.sqlite.specs.Held.{state};
 ghost use Rattle.bug_record.specs.declared.bug.Member.{Member as SeenMember};
@@ -11,7 +11,7 @@ ghost use Rattle.sql_forms.specs.Numbers.{number_row};
 ghost use Rattle.set_rows.specs.Members.{member_row, HasUtf8, AreMemberRows};
 
 use bug_record::{Member, Members, Sequence, StoreFault};
-use desk_schema::{number_at, number_in, text_at, told, written};
+use desk_schema::{is_number_at, is_text_at, number_at, number_in, text_at, told, written};
 use sqlite::{Alter, Row, Transaction, params};
 use std::alloc::Global;
 
@@ -134,4 +134,45 @@ pub fn read_members<S: Alter>(
 {
     let rows = member_rows(tx, key)?;
     shared_members(alloc, rows.as_slice())
+}
+
+// Whether the row is that of the bug.
+fn is_row_of(row: &Row, member: &Member) -> bool
+    ensures { (m : SeenMember) → row.now ≡ member_row m → result ≡ true → m ≡ member.now }
+{
+    is_number_at(row, 0, member.number)
+        && is_text_at(row, 1, member.title.as_str())
+        && is_text_at(row, 2, member.submitter.as_str())
+}
+
+// Whether the rows are those of the bugs, in their order.
+fn are_rows_of(rows: &[Row], members: &[Member]) -> bool
+    ensures { (ms : List SeenMember) → AreMemberRows rows.now ms → result ≡ true →
+        ms ≡ members.now }
+{
+    if rows.len() != members.len() {
+        return false;
+    }
+    for i in 0..rows.len() {
+        if !is_row_of(&rows[i], &members[i]) {
+            return false;
+        }
+    }
+    true
+}
+
+/// Whether the bugs of the set of the key, by number, are these, with their titles and submitters.
+/// `false` also where a row can't be read.
+pub fn has_members<S: Alter>(
+    tx: &mut Transaction<'_, S>,
+    key: u32,
+    members: &[Member],
+) -> Result<bool, StoreFault>
+    ensures same_reference { tx.new.conn.ghost_name ≡ tx.old.conn.ghost_name }
+    ensures reads { Reads (λ c same. same ≡ true → c.members key ≡ members.now)
+        (state S.Store tx.old.conn.now) (state S.Store tx.new.conn.now) result }
+    ensures serves { Serves (state S.Store tx.old.conn.now) (state S.Store tx.new.conn.now) result }
+{
+    let rows = member_rows(tx, key)?;
+    Ok(are_rows_of(rows.as_slice(), members))
 }

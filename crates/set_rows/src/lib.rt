@@ -13,7 +13,7 @@ mod sets;
 
 pub use affects::{add_affected, clear_affected, read_affected, read_affecting};
 pub use blocks::{add_blocker, clear_blockers, read_blockers, read_waiting};
-pub use bugs::{add_bug, clear_bug, read_key, read_members};
+pub use bugs::{add_bug, clear_bug, has_members, read_key, read_members};
 pub use listed::{ListedSet, RowFields, read_sets_of};
 pub use marks::{Marks, add_mark, clear_marks, read_marks};
 pub use marks_at::{SetMark, read_marks_at};
