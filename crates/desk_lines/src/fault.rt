@@ -1,6 +1,7 @@
 //! How a script ends before its end.
 
 use bug_record::StoreFault;
+use std::alloc::{AllocError, AllocFailed};
 use thiserror::Error;
 
 /// Why a script was not run to its end.
@@ -23,6 +24,39 @@ pub enum ScriptFault {
     #[error("out of memory")]
     Memory,
     /// The store failed.
-    #[error("the store failed: {0:?}")]
+    #[error(transparent)]
     Store(StoreFault),
+}
+
+impl From<AllocError> for ScriptFault {
+    ghost use Rattle.std.specs.Prelude.{◌≡◌};
+    ghost use Rattle.desk_lines.specs.declared.fault.ScriptFault.TheVariants.{Memory};
+
+    ghost from_gives = { λ _ e. e ≡ Memory };
+
+    fn from(_error: AllocError) -> ScriptFault {
+        ScriptFault::Memory
+    }
+}
+
+impl<T: Drop> From<AllocFailed<T>> for ScriptFault {
+    ghost use Rattle.std.specs.Prelude.{◌≡◌};
+    ghost use Rattle.desk_lines.specs.declared.fault.ScriptFault.TheVariants.{Memory};
+
+    ghost from_gives = { λ _ e. e ≡ Memory };
+
+    fn from(_error: AllocFailed<T>) -> ScriptFault {
+        ScriptFault::Memory
+    }
+}
+
+impl From<StoreFault> for ScriptFault {
+    ghost use Rattle.std.specs.Prelude.{◌≡◌};
+    ghost use Rattle.desk_lines.specs.declared.fault.ScriptFault.TheVariants.{Store};
+
+    ghost from_gives = { λ fault e. e ≡ Store fault };
+
+    fn from(fault: StoreFault) -> ScriptFault {
+        ScriptFault::Store(fault)
+    }
 }

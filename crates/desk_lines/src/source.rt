@@ -213,10 +213,7 @@ fn text_of(alloc: Global, bytes: &[u8], number: u64) -> Result<Text, ScriptFault
     let Ok(text) = str::from_utf8(bytes) else {
         return Err(ScriptFault::NotUtf8(number));
     };
-    match Text::of(alloc, without_return(text)) {
-        Ok(text) => Ok(text),
-        Err(_) => Err(ScriptFault::Memory),
-    }
+    Ok(Text::of(alloc, without_return(text))?)
 }
 
 // A piece of text from a piece as it was read.
@@ -228,14 +225,8 @@ fn piece_of(alloc: Global, raw: RawLine, number: u64) -> Result<Piece, ScriptFau
     ensures whole { result ≡ Result.Err ScriptFault.Read → ⊥ }
 {
     match raw {
-        RawLine::Line(bytes) => match text_of(alloc, &bytes, number) {
-            Ok(text) => Ok(Piece::Line(text)),
-            Err(fault) => Err(fault),
-        },
-        RawLine::Last(bytes) => match text_of(alloc, &bytes, number) {
-            Ok(text) => Ok(Piece::Last(text)),
-            Err(fault) => Err(fault),
-        },
+        RawLine::Line(bytes) => Ok(Piece::Line(text_of(alloc, &bytes, number)?)),
+        RawLine::Last(bytes) => Ok(Piece::Last(text_of(alloc, &bytes, number)?)),
         RawLine::End => Ok(Piece::End),
     }
 }
@@ -274,10 +265,8 @@ pub fn next_line<R: Read>(
         source.advance(end + 1);
         return Ok(Piece::Line(text?));
     }
-    match gather(alloc, source, reader, number) {
-        Ok(raw) => piece_of(alloc, raw, number),
-        Err(fault) => Err(fault),
-    }
+    let raw = gather(alloc, source, reader, number)?;
+    piece_of(alloc, raw, number)
 }
 
 /// Writes all bytes.

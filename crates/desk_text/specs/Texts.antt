@@ -10,7 +10,7 @@ use Rattle.bug_record.specs.declared.command.Refusal.TheVariants.{BadPackage, No
 use Rattle.bug_record.specs.declared.command.Refusal.TheVariants.{NotMerged, Merged, NameTaken, OwnSet, NotDone, StillFound, Full}
 use Rattle.version_nodes.specs.Nodes.{Node, node_text}
 use Rattle.bug_record.specs.declared.outcome.StoreFault.{StoreFault}
-use Rattle.bug_record.specs.declared.outcome.StoreFault.TheVariants as faults
+use Rattle.bug_record.specs.Faults.{fault_word}
 use Rattle.bug_record.specs.declared.outcome.Outcome.{Outcome}
 use Rattle.bug_record.specs.declared.outcome.Outcome.TheVariants as outcomes
 use Rattle.bug_record.specs.declared.outcome.End.{End}
@@ -88,12 +88,7 @@ answer_text outcomes.Stopped = codes "Stopped."
 abbrev pub outcome_text : List ℕ → Outcome → List ℕ
 outcome_text line outcome = as_line (echo line) ++ as_line (answer_text outcome)
 
-abbrev pub fault_word : StoreFault → List ℕ
-fault_word faults.Memory = codes "memory"
-fault_word faults.Device = codes "device"
-fault_word faults.Full = codes "full"
-fault_word faults.Foreign = codes "foreign"
-
+-- the answer to a store fault
 unfoldable pub fault_answer : StoreFault → List ℕ
 fault_answer fault = codes "Store fault: " ++ (fault_word fault ++ codes ".")
 

@@ -5,7 +5,7 @@ ghost use Rattle.std.specs.Io.{StartsWith};
 ghost use Rattle.version_nodes.specs.Nodes.{node_text};
 ghost use Rattle.desk_text.specs.Texts.{full_text, said_of_bug, still_found_text};
 ghost use Rattle.desk_text.specs.Texts.{as_line, echo, field_word, refusal_text, numbers_text, changed_text, answer_text};
-ghost use Rattle.desk_text.specs.Texts.{fault_word, fault_text, outcome_text, store_end_text, end_text};
+ghost use Rattle.desk_text.specs.Texts.{fault_text, outcome_text, store_end_text, end_text};
 
 use bug_record::{End, Field, Outcome, Refusal, StoreFault};
 use itoa::Buffer;
@@ -186,17 +186,6 @@ fn append_outcome(out: &mut Vec<u8>, line: &str, outcome: &Outcome) -> Result<()
     append_text(out, "\n")
 }
 
-fn fault_word(fault: StoreFault) -> &'static str
-    ensures { result.now ≡ fault_word fault }
-{
-    match fault {
-        StoreFault::Memory => "memory",
-        StoreFault::Device => "device",
-        StoreFault::Full => "full",
-        StoreFault::Foreign => "foreign",
-    }
-}
-
 #[tactic(auto, unfolding(crate::specs::Texts::fault_answer))]
 fn append_fault(out: &mut Vec<u8>, fault: StoreFault) -> Result<(), AllocError>
     ensures ok { OnOk result (out.new.items ≡ out.old.items ++ fault_text fault) }
@@ -204,7 +193,7 @@ fn append_fault(out: &mut Vec<u8>, fault: StoreFault) -> Result<(), AllocError>
     ensures utf8 { IsUtf8 out.old.items → IsUtf8 out.new.items }
 {
     append_text(out, "Store fault: ")?;
-    append_text(out, fault_word(fault))?;
+    append_text(out, fault.word())?;
     append_text(out, ".\n")
 }
 

@@ -50,47 +50,51 @@ returns-in_err-text-clause-unasked g c = search rules
 pub returns-in_err-text-clause-spent : goal.returns-in_err-text-clause-spent
 returns-in_err-text-clause-spent g c = search rules
 
-pub returns-in-Ok-clause-piece : goal.returns-in-Ok-clause-piece
-returns-in-Ok-clause-piece g c = piece_left c.args.source.now.unread c.gather.new.source.unread c.in-Ok.raw c.piece_of.result c.in-Ok.ensures.raw c.piece_of.ensures.piece
+pub returns-clause-piece : goal.returns-clause-piece
+returns-clause-piece g c = piece_left c.args.source.now.unread c.gather.new.source.unread c.in_ok-raw.raw c.piece_of.result c.in_ok-raw.ensures.raw c.piece_of.ensures.piece
 
-pub returns-in-Ok-clause-fault : goal.returns-in-Ok-clause-fault
-returns-in-Ok-clause-fault g c = fault_left c.args.number c.args.source.now.unread c.gather.new.source.unread c.in-Ok.raw c.piece_of.result c.in-Ok.ensures.raw c.piece_of.ensures.fault
+pub returns-clause-fault : goal.returns-clause-fault
+returns-clause-fault g c = fault_left c.args.number c.args.source.now.unread c.gather.new.source.unread c.in_ok-raw.raw c.piece_of.result c.in_ok-raw.ensures.raw c.piece_of.ensures.fault
 
-pub returns-in-Ok-clause-outside : goal.returns-in-Ok-clause-outside
-returns-in-Ok-clause-outside g c = c.piece_of.ensures.outside
+pub returns-clause-outside : goal.returns-clause-outside
+returns-clause-outside g c = c.piece_of.ensures.outside
 
-pub returns-in-Ok-clause-begun : goal.returns-in-Ok-clause-begun
-returns-in-Ok-clause-begun g c = λ e. absurd (c.piece_of.ensures.whole e)
+pub returns-clause-begun : goal.returns-clause-begun
+returns-clause-begun g c = λ e. absurd (c.piece_of.ensures.whole e)
 
-pub returns-in-Ok-clause-emptied : goal.returns-in-Ok-clause-emptied
-returns-in-Ok-clause-emptied g c = λ e. absurd (c.piece_of.ensures.whole e)
+pub returns-clause-emptied : goal.returns-clause-emptied
+returns-clause-emptied g c = λ e. absurd (c.piece_of.ensures.whole e)
 
-pub returns-in-Ok-clause-reads : goal.returns-in-Ok-clause-reads
-returns-in-Ok-clause-reads g c = c.in-Ok.ensures.reads
+pub returns-clause-reads : goal.returns-clause-reads
+returns-clause-reads g c = c.in_ok-raw.ensures.reads
 
-pub returns-in-Ok-clause-fewer : goal.returns-in-Ok-clause-fewer
-returns-in-Ok-clause-fewer g c = on_ok c.piece_of.result c.in-Ok.ensures.fewer
+pub returns-clause-fewer : goal.returns-clause-fewer
+returns-clause-fewer g c = on_ok c.piece_of.result c.in_ok-raw.ensures.fewer
 
-pub returns-in-Ok-clause-unasked : goal.returns-in-Ok-clause-unasked
-returns-in-Ok-clause-unasked g c = c.in-Ok.ensures.unasked
+pub returns-clause-unasked : goal.returns-clause-unasked
+returns-clause-unasked g c = c.in_ok-raw.ensures.unasked
 
-pub returns-in-Err-clause-fault : goal.returns-in-Err-clause-fault
-returns-in-Err-clause-fault g c = c.in-Err.ensures.fault
+pub returns-in_err-raw-clause-fault : goal.returns-in_err-raw-clause-fault
+returns-in_err-raw-clause-fault g c =
+    let p = err_from_is_err_and c.from_residual-in_err-raw.result c.from_residual-in_err-raw.ensures.1 in
+    rw (p.1, p.2) c.in_err-raw.ensures.fault
 
-pub returns-in-Err-clause-outside : goal.returns-in-Err-clause-outside
-returns-in-Err-clause-outside g c = c.in-Err.ensures.outside
+pub returns-in_err-raw-clause-outside : goal.returns-in_err-raw-clause-outside
+returns-in_err-raw-clause-outside g c =
+    let p = err_from_is_err_and c.from_residual-in_err-raw.result c.from_residual-in_err-raw.ensures.1 in
+    rw (p.1, p.2) c.in_err-raw.ensures.outside
 
-pub returns-in-Err-clause-begun : goal.returns-in-Err-clause-begun
-returns-in-Err-clause-begun g c = search rules
+pub returns-in_err-raw-clause-begun : goal.returns-in_err-raw-clause-begun
+returns-in_err-raw-clause-begun g c = search rules
 
-pub returns-in-Err-clause-emptied : goal.returns-in-Err-clause-emptied
-returns-in-Err-clause-emptied g c = search rules
+pub returns-in_err-raw-clause-emptied : goal.returns-in_err-raw-clause-emptied
+returns-in_err-raw-clause-emptied g c = search rules
 
-pub returns-in-Err-clause-reads : goal.returns-in-Err-clause-reads
-returns-in-Err-clause-reads g c = c.in-Err.ensures.reads
+pub returns-in_err-raw-clause-reads : goal.returns-in_err-raw-clause-reads
+returns-in_err-raw-clause-reads g c = c.in_err-raw.ensures.reads
 
-pub returns-in-Err-clause-unasked : goal.returns-in-Err-clause-unasked
-returns-in-Err-clause-unasked g c = c.in-Err.ensures.unasked
+pub returns-in_err-raw-clause-unasked : goal.returns-in_err-raw-clause-unasked
+returns-in_err-raw-clause-unasked g c = c.in_err-raw.ensures.unasked
 
-pub returns-in-Err-clause-spent : goal.returns-in-Err-clause-spent
-returns-in-Err-clause-spent g c = search rules
+pub returns-in_err-raw-clause-spent : goal.returns-in_err-raw-clause-spent
+returns-in_err-raw-clause-spent g c = search rules
