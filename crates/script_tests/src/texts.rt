@@ -13,7 +13,7 @@ const TEXTS: [(ScriptFault, &str); 6] = [
     (ScriptFault::Memory, "out of memory"),
     (
         ScriptFault::Store(StoreFault::Foreign),
-        "the store failed: Foreign",
+        "the store failed: foreign",
     ),
 ];
 
