@@ -1,8 +1,10 @@
 //! The tree of the known nodes.
 
-ghost use Rattle.std.specs.Prelude.{◌≡◌, ◌≢◌, Option, map, IfOk, IfErr};
+ghost use Rattle.std.specs.Prelude.{◌≡◌, ◌≢◌, ◌+◌, ◌<◌, true, Option, Some, map, IfOk, IfErr};
 ghost use Rattle.std.specs.List.{AllByRecursion};
 ghost use Rattle.sqlite.specs.Held.{state};
+ghost use Rattle.sqlite.specs.Order.{column};
+ghost use Rattle.sqlite.specs.declared.types.Value.TheVariants.{Text as TextCell};
 ghost use Rattle.version_nodes.specs.Nodes.{Node as SeenNode};
 ghost use Rattle.version_nodes.specs.Trees.{Ancestry, IsForest};
 ghost use Rattle.bug_record.specs.declared.outcome.StoreFault.TheVariants.{Foreign};
@@ -14,6 +16,7 @@ use ancestry::Tree;
 use bug_record::StoreFault;
 use desk_schema::{node_at, told};
 use nearest_marks::Family;
+use sqlite::types::ValueRef;
 use sqlite::{Alter, Row, Transaction};
 use std::alloc::Global;
 use version_nodes::Node;
@@ -30,21 +33,107 @@ fn link_rows<S: Alter>(tx: &mut Transaction<'_, S>) -> Result<Vec<Row>, StoreFau
     ))
 }
 
-// The parent in a row, if there is one.
-fn parent_in(alloc: Global, row: &Row) -> Result<Option<Node>, StoreFault>
+// Whether a cell, counted from 0, has this text.
+fn has_text(row: &Row, at: usize, text: &str) -> bool
+    ensures { result ≡ true → column row.now at ≡ TextCell text.now }
+{
+    match row.get_ref(at) {
+        Ok(ValueRef::Text(bytes)) => bytes == text.as_bytes(),
+        _ => false,
+    }
+}
+
+// Whether a node is the one whose source stands in a cell, and its version in the next one.
+fn is_node_at(row: &Row, at: usize, node: &Node) -> bool
+    requires { at < 100 }
+    ensures source { result ≡ true → column row.now at ≡ TextCell node.now.source }
+    ensures version { result ≡ true → column row.now (at + 1) ≡ TextCell node.now.version }
+{
+    if !has_text(row, at, node.source()) {
+        return false;
+    }
+    has_text(row, at + 1, node.version())
+}
+
+// A second such node.
+fn copy_of(node: &Node) -> Result<Node, StoreFault>
+    ensures value { IfOk result (λ n. n ≡ node.now) }
+    ensures sure { IfErr result (λ fault. fault ≢ Foreign) }
+{
+    match node.copy() {
+        Ok(node) => Ok(node),
+        Err(_) => Err(StoreFault::Memory),
+    }
+}
+
+// The same, as one that is there.
+fn some_copy_of(node: &Node) -> Result<Option<Node>, StoreFault>
+    ensures value { IfOk result (λ n. n ≡ Some node.now) }
+    ensures sure { IfErr result (λ fault. fault ≢ Foreign) }
+{
+    match copy_of(node) {
+        Ok(node) => Ok(Some(node)),
+        Err(fault) => Err(fault),
+    }
+}
+
+// The node in a row, which shares the texts of this one, where it is the same.
+fn node_in(alloc: Global, row: &Row, like: Option<&Node>) -> Result<Node, StoreFault>
+    ensures value { (l : SeenNode × Option SeenNode) → IsLink l → row.now ≡ link_row l → IfOk result (λ node. node ≡ l.0) }
+    ensures sure { (l : SeenNode × Option SeenNode) → IsLink l → row.now ≡ link_row l → IfErr result (λ fault. fault ≢ Foreign) }
+{
+    let Some(like) = like else {
+        return node_at(alloc, row, 0);
+    };
+    if is_node_at(row, 0, like) {
+        return copy_of(like);
+    }
+    node_at(alloc, row, 0)
+}
+
+// The parent in a row, if there is one; it shares texts so, too.
+fn parent_in(alloc: Global, row: &Row, like: Option<&Node>) -> Result<Option<Node>, StoreFault>
     ensures value { (l : SeenNode × Option SeenNode) → IsLink l → row.now ≡ link_row l → IfOk result (λ parent. parent ≡ l.1) }
     ensures sure { (l : SeenNode × Option SeenNode) → IsLink l → row.now ≡ link_row l → IfErr result (λ fault. fault ≢ Foreign) }
 {
+    let Some(like) = like else {
+        return maybe_node_at(alloc, row, 2);
+    };
+    if is_node_at(row, 2, like) {
+        return some_copy_of(like);
+    }
     maybe_node_at(alloc, row, 2)
 }
 
+// The node of a link.
+fn node_of(link: Option<&(Node, Option<Node>)>) -> Option<&Node> {
+    match link {
+        Some(link) => Some(&link.0),
+        None => None,
+    }
+}
+
+// The parent of a link.
+fn parent_of(link: Option<&(Node, Option<Node>)>) -> Option<&Node> {
+    match link {
+        Some((_, Some(parent))) => Some(parent),
+        _ => None,
+    }
+}
+
 // The link of a row: a node with its parent, or with none.
-fn link_in(alloc: Global, row: &Row) -> Result<(Node, Option<Node>), StoreFault>
+// Rows come as their branches did: often the parent of the row before is this node, or the node of
+// that row this parent.
+fn link_in(
+    alloc: Global,
+    row: &Row,
+    before: Option<&(Node, Option<Node>)>,
+) -> Result<(Node, Option<Node>), StoreFault>
     ensures value { (l : SeenNode × Option SeenNode) → IsLink l → row.now ≡ link_row l → IfOk result (λ link. link ≡ l) }
     ensures sure { (l : SeenNode × Option SeenNode) → IsLink l → row.now ≡ link_row l → IfErr result (λ fault. fault ≢ Foreign) }
 {
-    let node = node_at(alloc, row, 0)?;
-    let parent = parent_in(alloc, row)?;
+    let node = node_in(alloc, row, parent_of(before))?;
+    let parent = parent_in(alloc, row, node_of(before))?;
     Ok((node, parent))
 }
 
@@ -55,7 +144,7 @@ fn links_of(alloc: Global, rows: &[Row]) -> Result<Vec<(Node, Option<Node>)>, St
 {
     let mut links = Vec::new(alloc);
     for row in rows {
-        let link = link_in(alloc, row)?;
+        let link = link_in(alloc, row, links.last())?;
         match links.push(link) {
             Ok(()) => {}
             Err(_) => return Err(StoreFault::Memory),

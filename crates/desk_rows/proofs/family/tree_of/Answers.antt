@@ -1,4 +1,4 @@
-use Rattle.desk_schema.proofs.Exports.{◌≡◌, Err, sym, subst, ◌∙◌, rules, IsPermutation}
+use Rattle.desk_schema.proofs.Exports.{◌≡◌, Err, sym, subst, rules, IsPermutation}
 use Rattle.desk_rows.proofs.family.tree_of.Goals as goal
 
 pub returns-in_err-links-clause-sure : goal.returns-in_err-links-clause-sure
