@@ -9,5 +9,4 @@ pub mod PlaceLemmas
 pub mod LineSteps
 pub mod OutcomeSteps
 pub mod ReadSteps
-pub mod MemberLemmas
 pub mod StaySteps

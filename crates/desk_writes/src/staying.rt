@@ -1,42 +1,18 @@
 //! The edits of a set whose bugs stay.
 
-ghost use Rattle.std.specs.Prelude.{◌≡◌, true, IfOk, IfErr, IfSome};
+ghost use Rattle.std.specs.Prelude.{◌≡◌, IfOk, IfErr, IfSome};
 ghost use Rattle.sqlite.specs.Held.{state};
 ghost use Rattle.bug_record.specs.declared.outcome.StoreFault.TheVariants.{Memory};
 ghost use Rattle.desk_schema.specs.Steps.{Reads};
 ghost use Rattle.desk_writes.specs.Plans.{IsStay, IsStayOf, IsStayPlan};
 
-use bug_record::{Member, Sequence, SetImage, StoreFault};
+use bug_record::{Sequence, SetImage, StoreFault};
 use desk_content::{Edit, key_of, stay_edits};
 use desk_schema::parameter;
 use nearest_marks::Family;
-use set_rows::{Marks, read_marks, read_members};
+use set_rows::{Marks, has_members, read_marks};
 use sqlite::{Alter, Transaction};
 use std::alloc::Global;
-
-// Whether two bugs are one, with the same title and submitter.
-fn same_member(a: &Member, b: &Member) -> bool
-    ensures { result ≡ true → a.now ≡ b.now }
-{
-    a.number == b.number
-        && a.title.as_str() == b.title.as_str()
-        && a.submitter.as_str() == b.submitter.as_str()
-}
-
-// Whether these bugs are those, in the same order.
-fn same_members(members: &[Member], others: &[Member]) -> bool
-    ensures { result ≡ true → members.now ≡ others.now }
-{
-    if members.len() != others.len() {
-        return false;
-    }
-    for i in 0..members.len() {
-        if !same_member(&members[i], &others[i]) {
-            return false;
-        }
-    }
-    true
-}
 
 // The edits of an image whose bugs stay, where these marks stand under its key.
 fn stay_of(
@@ -83,8 +59,8 @@ pub(crate) fn stay_plan<S: Alter>(
     ensures reads { Reads (λ c plan. IfSome plan (λ edits. IsStayPlan c family.now image.now edits)) (state S.Store tx.old.conn.now) (state S.Store tx.new.conn.now) result }
 {
     let key = parameter(key_of(image))?;
-    let members = read_members(alloc, tx, key)?;
-    if !same_members(members.as_slice(), image.members.as_slice()) {
+    let stays = has_members(tx, key, image.members.as_slice())?;
+    if !stays {
         return Ok(None);
     }
     match stay_image(alloc, tx, family, image) {
