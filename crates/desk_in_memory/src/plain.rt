@@ -100,10 +100,7 @@ impl Records for PlainDesk {
         ensures memory { IfErr result (λ fault. fault ≡ StoreFault.Memory) }
     {
         match self.bugs.image_of(number) {
-            Some(image) => match image.copy() {
-                Ok(image) => Ok(Some(image)),
-                Err(_) => Err(StoreFault::Memory),
-            },
+            Some(image) => Ok(Some(image.copy()?)),
             None => Ok(None),
         }
     }
@@ -120,10 +117,7 @@ impl Records for PlainDesk {
         ensures head { IfOk result (IsOpenHead (desk_of self.old.bugs self.old.tree self.old.next) image.now) }
         ensures memory { IfErr result (λ fault. fault ≡ StoreFault.Memory) }
     {
-        match open_head(&self.tree, image.shared.fields()) {
-            Ok(head) => Ok(head),
-            Err(_) => Err(StoreFault::Memory),
-        }
+        Ok(open_head(&self.tree, image.shared.fields())?)
     }
 
     fn waiting_on(&mut self, number: u64) -> Result<Numbers, StoreFault>
@@ -131,10 +125,7 @@ impl Records for PlainDesk {
         ensures waiting { IfOk result (AreWaitingOn (desk_of self.old.bugs self.old.tree self.old.next) number) }
         ensures memory { IfErr result (λ fault. fault ≡ StoreFault.Memory) }
     {
-        match self.bugs.waiting_on(self.alloc, number) {
-            Ok(numbers) => Ok(numbers),
-            Err(_) => Err(StoreFault::Memory),
-        }
+        Ok(self.bugs.waiting_on(self.alloc, number)?)
     }
 
     fn listed(&mut self, package: &str, node: &Node) -> Result<Sequence<ListRow>, StoreFault>
@@ -143,10 +134,7 @@ impl Records for PlainDesk {
             (AreListed (desk_of self.old.bugs self.old.tree self.old.next) «package».now node.now) }
         ensures memory { IfErr result (λ fault. fault ≡ StoreFault.Memory) }
     {
-        match self.bugs.listed(self.alloc, &self.tree, package, node) {
-            Ok(rows) => Ok(rows),
-            Err(_) => Err(StoreFault::Memory),
-        }
+        Ok(self.bugs.listed(self.alloc, &self.tree, package, node)?)
     }
 
     fn apply(&mut self, change: &Change) -> Result<(), StoreFault>
@@ -160,10 +148,8 @@ impl Records for PlainDesk {
         ensures stays { keeping_of self.new.messages ≡ keeping_of self.old.messages }
         ensures memory { IfErr result (λ fault. fault ≡ StoreFault.Memory) }
     {
-        match make(self.alloc, &mut self.bugs, &mut self.next, Some(change)) {
-            Ok(()) => Ok(()),
-            Err(_) => Err(StoreFault::Memory),
-        }
+        make(self.alloc, &mut self.bugs, &mut self.next, Some(change))?;
+        Ok(())
     }
 
     fn branch(&mut self, nodes: &[Node]) -> Result<Result<(), BranchFault>, StoreFault>
@@ -186,10 +172,7 @@ impl Records for PlainDesk {
         ensures memory { IfErr result (λ fault. fault ≡ StoreFault.Memory) }
     {
         match self.messages.get(id) {
-            Some(kept) => match kept.copy() {
-                Ok(kept) => Ok(Some(kept)),
-                Err(_) => Err(StoreFault::Memory),
-            },
+            Some(kept) => Ok(Some(kept.copy()?)),
             None => Ok(None),
         }
     }

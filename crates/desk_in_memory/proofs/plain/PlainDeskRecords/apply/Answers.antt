@@ -11,5 +11,5 @@ invariant_of-self c =
       good = old.good;
     }
 
-pub returns-in-Ok-clause-done : goal.returns-in-Ok-clause-done
-returns-in-Ok-clause-done c = c.in-Ok.ensures.ok c.args.self.now.tree
+pub returns-clause-done : goal.returns-clause-done
+returns-clause-done c = c.in_ok-make.ensures.ok c.args.self.now.tree
