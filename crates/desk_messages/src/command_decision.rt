@@ -56,19 +56,15 @@ fn decide_change(
     ensures members { IfOk result (λ decision. IfGiven (λ c. Each HasMember c.images) decision.change) }
     ensures memory { OnErr result (result ≡ Result.Err StoreFault.Memory) }
 {
-    let Ok(numbers) = changed(alloc, images, change.images.as_slice()) else {
-        return Err(StoreFault::Memory);
-    };
+    let numbers = changed(alloc, images, change.images.as_slice())?;
     if numbers.as_slice().is_empty() && change.next == next {
         return Ok(without_change(Outcome::Changed(numbers)));
     }
-    match written(alloc, change, numbers.as_slice()) {
-        Ok(change) => Ok(Decision {
-            outcome: Outcome::Changed(numbers),
-            change: Some(change),
-        }),
-        Err(_) => Err(StoreFault::Memory),
-    }
+    let change = written(alloc, change, numbers.as_slice())?;
+    Ok(Decision {
+        outcome: Outcome::Changed(numbers),
+        change: Some(change),
+    })
 }
 
 // Decides one command that was told; `taken` is the refusal of the names that it gives.
@@ -90,14 +86,8 @@ fn decide_told<S: Records>(
     ensures stays { S.keeping store.new ≡ S.keeping store.old }
     ensures count { S.faults store.new ≡ faults_after result (S.faults store.old) }
 {
-    let (images, open_head) = match ask(alloc, store, command) {
-        Ok(answers) => answers,
-        Err(fault) => return Err(fault),
-    };
-    let next = match store.next() {
-        Ok(next) => next,
-        Err(fault) => return Err(fault),
-    };
+    let (images, open_head) = ask(alloc, store, command)?;
+    let next = store.next()?;
     let sets = images.as_slice();
     let planned = plan(alloc, command, from, sets, next, open_head.as_ref());
     match with_names(taken, planned) {
@@ -159,16 +149,10 @@ fn decide_known<S: Records>(
     ensures count { S.faults store.new ≡ faults_after result (S.faults store.old) }
 {
     let names = names_in(command);
-    let Ok(taken) = name_refusal(alloc, known, names) else {
-        return Err(StoreFault::Memory);
-    };
-    match decide_told(alloc, store, from, taken, command) {
-        Ok(decision) => {
-            note_names(known, names, &decision.outcome);
-            Ok(decision)
-        }
-        Err(fault) => Err(fault),
-    }
+    let taken = name_refusal(alloc, known, names)?;
+    let decision = decide_told(alloc, store, from, taken, command)?;
+    note_names(known, names, &decision.outcome);
+    Ok(decision)
 }
 
 /// What one command comes to, which changes nothing yet.

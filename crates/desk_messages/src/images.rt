@@ -80,19 +80,13 @@ fn gather<S: Records>(
     if bugs.contains(&number) {
         return Ok(());
     }
-    match store.set_of(number) {
-        Err(fault) => Err(fault),
-        Ok(None) => Ok(()),
-        Ok(Some(image)) => {
-            if meets(bugs, image.members.as_slice()) {
-                return Ok(());
-            }
-            match add_image(images, bugs, image) {
-                Ok(()) => Ok(()),
-                Err(_) => Err(StoreFault::Memory),
-            }
-        }
+    let Some(image) = store.set_of(number)? else {
+        return Ok(());
+    };
+    if meets(bugs, image.members.as_slice()) {
+        return Ok(());
     }
+    Ok(add_image(images, bugs, image)?)
 }
 
 // Adds the images of the sets that these bugs are in, each once.
@@ -112,10 +106,7 @@ fn gather_all<S: Records>(
     ensures count { S.faults store.new ≡ faults_after result (S.faults store.old) }
 {
     for number in numbers {
-        match gather(store, images, bugs, *number) {
-            Ok(()) => {}
-            Err(fault) => return Err(fault),
-        }
+        gather(store, images, bugs, *number)?;
     }
     Ok(())
 }
@@ -140,14 +131,9 @@ fn first_image<S: Records>(
     ensures stays { S.keeping store.new ≡ S.keeping store.old }
     ensures count { S.faults store.new ≡ faults_after result (S.faults store.old) }
 {
-    let found = store.set_of(number);
-    match found {
-        Err(fault) => Err(fault),
-        Ok(None) => Ok(Sequence::new(alloc)),
-        Ok(Some(image)) => match only_image(alloc, image) {
-            Ok(images) => Ok(images),
-            Err(_) => Err(StoreFault::Memory),
-        },
+    match store.set_of(number)? {
+        Some(image) => Ok(only_image(alloc, image)?),
+        None => Ok(Sequence::new(alloc)),
     }
 }
 
@@ -163,19 +149,12 @@ pub(crate) fn images_of<S: Records>(
     ensures stays { S.keeping store.new ≡ S.keeping store.old }
     ensures count { S.faults store.new ≡ faults_after result (S.faults store.old) }
 {
-    let mut images = match first_image(alloc, store, bug_named(command)) {
-        Ok(images) => images,
-        Err(fault) => return Err(fault),
-    };
+    let mut images = first_image(alloc, store, bug_named(command))?;
     let others = other_bugs(command);
     if others.is_empty() {
         return Ok(images);
     }
-    let Ok(mut bugs) = bugs_of(alloc, images.as_slice()) else {
-        return Err(StoreFault::Memory);
-    };
-    match gather_all(store, &mut images, &mut bugs, others) {
-        Ok(()) => Ok(images),
-        Err(fault) => Err(fault),
-    }
+    let mut bugs = bugs_of(alloc, images.as_slice())?;
+    gather_all(store, &mut images, &mut bugs, others)?;
+    Ok(images)
 }

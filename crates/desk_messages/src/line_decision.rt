@@ -38,10 +38,8 @@ fn decide_plain(
     ensures room { IfOk result (λ decided. IfGiven (λ _. vec_len progress.new.outcomes < vec_capacity progress.new.outcomes) decided) }
     ensures memory { OnErr result (result ≡ Result.Err StoreFault.Memory) }
 {
-    match make_room(&mut progress.outcomes, line) {
-        Ok(text) => Ok(Some((text, without_change(outcome)))),
-        Err(fault) => Err(fault),
-    }
+    let text = make_room(&mut progress.outcomes, line)?;
+    Ok(Some((text, without_change(outcome))))
 }
 
 // Decides a line that is a command.
@@ -81,10 +79,8 @@ fn decide_command_line<S: Records>(
             return Err(fault);
         }
     };
-    match decide_command(alloc, store, from, &mut progress.known, command) {
-        Ok(decision) => Ok(Some((text, decision))),
-        Err(fault) => Err(fault),
-    }
+    let decision = decide_command(alloc, store, from, &mut progress.known, command)?;
+    Ok(Some((text, decision)))
 }
 
 /// Decides one line of a message from this sender: the line with what it comes to, which is what

@@ -60,15 +60,11 @@ fn take_line<S: Records>(
     ensures end { IfOk result (λ end. end_of progress.new.outcomes.items ≡ end) }
     ensures same { OnErr result (progress.new.outcomes.items ≡ progress.old.outcomes.items) }
 {
-    let (text, decision) = match decide_line(alloc, store, from, progress, line) {
-        Ok(Some(decided)) => decided,
-        Ok(None) => return Ok(End::All),
-        Err(fault) => return Err(fault),
+    let Some((text, decision)) = decide_line(alloc, store, from, progress, line)? else {
+        return Ok(End::All);
     };
-    match carry_out(store, &decision.change) {
-        Ok(()) => Ok(settle(progress, text, decision.outcome)),
-        Err(fault) => Err(fault),
-    }
+    carry_out(store, &decision.change)?;
+    Ok(settle(progress, text, decision.outcome))
 }
 
 /// Takes the lines of a message from this sender, as `receive` does: a line stands here without its

@@ -74,13 +74,8 @@ pub fn make_room(outcomes: &mut Vec<(Text, Outcome)>, line: &Text) -> Result<Tex
     ensures text { IfOk result (λ text. text ≡ line.now) }
     ensures memory { OnErr result (result ≡ Result.Err StoreFault.Memory) }
 {
-    if outcomes.reserve(1).is_err() {
-        return Err(StoreFault::Memory);
-    }
-    match line.copy() {
-        Ok(text) => Ok(text),
-        Err(_) => Err(StoreFault::Memory),
-    }
+    outcomes.reserve(1)?;
+    Ok(line.copy()?)
 }
 
 // Adds an outcome where there is room.

@@ -49,12 +49,7 @@ pub(crate) fn ask<S: Records>(
     ensures stays { S.keeping store.new ≡ S.keeping store.old }
     ensures count { S.faults store.new ≡ faults_after result (S.faults store.old) }
 {
-    let images = match images_of(alloc, store, command) {
-        Ok(images) => images,
-        Err(fault) => return Err(fault),
-    };
-    match open_head_for(store, command, images.as_slice()) {
-        Ok(open_head) => Ok((images, open_head)),
-        Err(fault) => Err(fault),
-    }
+    let images = images_of(alloc, store, command)?;
+    let open_head = open_head_for(store, command, images.as_slice())?;
+    Ok((images, open_head))
 }

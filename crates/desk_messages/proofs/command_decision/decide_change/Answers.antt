@@ -11,29 +11,29 @@ use Rattle.desk_messages.proofs.command_decision.decide_change.Goals as goal
 
 pub returns-then-change-next-clause-made : goal.returns-then-change-next-clause-made
 returns-then-change-next-clause-made c = λ d apart p. record {
-  outcome = c.without_change.ensures.outcome ∙ told c.args.images.now _ c.as_slice.ensures c.in-Ok.ensures.desks p;
+  outcome = c.without_change.ensures.outcome ∙ told c.args.images.now _ c.as_slice.ensures c.in_ok-numbers.ensures.desks p;
   desk = ap (λ change. with_change change d) c.without_change.ensures.change
-      ∙ sym (unchanged d c.args.images.now _ c.args.next c.args.change c.in-Ok.numbers c.as_slice.ensures c.in-Ok.ensures.images p
+      ∙ sym (unchanged d c.args.images.now _ c.args.next c.args.change c.in_ok-numbers.numbers c.as_slice.ensures c.in_ok-numbers.ensures.images p
       (nothing _ _ c.as_slice-2.ensures (sym c.is_empty.ensures ∙ c.if-is_empty.true)) c.if-change-next.true);
   fits = no_change d _ c.without_change.ensures.change;
 }
 
-pub returns-in-Ok-written-clause-made : goal.returns-in-Ok-written-clause-made
-returns-in-Ok-written-clause-made c = λ d apart p.
-    let same = c.in-Ok-written.ensures ∙ ap (λ ns. written ns c.args.change) c.as_slice-3.ensures in
-    let are = subst (λ js. AreChanged (bug_in c.args.images.now) (bug_in js) c.in-Ok.numbers) c.as_slice.ensures
-    c.in-Ok.ensures.images in
+pub returns-clause-made : goal.returns-clause-made
+returns-clause-made c = λ d apart p.
+    let same = c.in_ok-change.ensures ∙ ap (λ ns. written ns c.args.change) c.as_slice-3.ensures in
+    let are = subst (λ js. AreChanged (bug_in c.args.images.now) (bug_in js) c.in_ok-numbers.numbers) c.as_slice.ensures
+    c.in_ok-numbers.ensures.images in
     record {
-      outcome = told c.args.images.now _ c.as_slice.ensures c.in-Ok.ensures.desks p;
-      desk = ap (put d) same ∙ put-written d c.args.images.now c.args.next c.in-Ok.numbers c.args.change apart p are;
+      outcome = told c.args.images.now _ c.as_slice.ensures c.in_ok-numbers.ensures.desks p;
+      desk = ap (put d) same ∙ put-written d c.args.images.now c.args.next c.in_ok-numbers.numbers c.args.change apart p are;
       fits = record {
-        apart = subst (λ (z : Change). AreApart z.images) (sym same) (apart-written c.in-Ok.numbers c.args.change apart);
+        apart = subst (λ (z : Change). AreApart z.images) (sym same) (apart-written c.in_ok-numbers.numbers c.args.change apart);
         fits = subst (λ (z : Change). FitsDesk d z) (sym same)
-            (fits-written d c.args.images.now c.args.next c.in-Ok.numbers c.args.change apart p are);
+            (fits-written d c.args.images.now c.args.next c.in_ok-numbers.numbers c.args.change apart p are);
       };
     }
 
-pub returns-in-Ok-written-clause-members : goal.returns-in-Ok-written-clause-members
-returns-in-Ok-written-clause-members c =
-    let same = c.in-Ok-written.ensures ∙ ap (λ ns. written ns c.args.change) c.as_slice-3.ensures in
-    subst (λ (z : Change). Each HasMember z.images) (sym same) (members-written c.in-Ok.numbers c.args.change c.requires)
+pub returns-clause-members : goal.returns-clause-members
+returns-clause-members c =
+    let same = c.in_ok-change.ensures ∙ ap (λ ns. written ns c.args.change) c.as_slice-3.ensures in
+    subst (λ (z : Change). Each HasMember z.images) (sym same) (members-written c.in_ok-numbers.numbers c.args.change c.requires)

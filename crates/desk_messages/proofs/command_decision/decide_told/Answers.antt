@@ -10,37 +10,37 @@ use Rattle.desk_messages.proofs.command_decision.decide_told.Goals as goal
 
 pub decide_change-requires : goal.decide_change-requires
 decide_change-requires g c =
-    if_planned (λ (change : Change). Each HasMember change.images) c.plan-planned.result c.in-Ok-with_names.change
-    c.in-Ok-with_names.ensures.change.1 c.plan-planned.ensures.members
+    if_planned (λ (change : Change). Each HasMember change.images) c.plan-planned.result c.in-Ok.change
+    c.in-Ok.ensures.change.1 c.plan-planned.ensures.members
 
-pub returns-in-Ok-with_names-clause-answer : goal.returns-in-Ok-with_names-clause-answer
-returns-in-Ok-with_names-clause-answer g c =
+pub returns-in-Ok-clause-answer : goal.returns-in-Ok-clause-answer
+returns-in-Ok-clause-answer g c =
     let d = g.S.Records.desk c.args.store.now in
     let images = c.as_slice-sets.result.now in
-    let change = c.in-Ok-with_names.change in
-    let is = c.in-Ok-with_names.ensures.change.1 in
-    asks_where (asks_both c.in-Ok.ensures.answer c.in-Ok-next.ensures.answer)
+    let change = c.in-Ok.change in
+    let is = c.in-Ok.ensures.change.1 in
+    asks_where (asks_both c.in_ok-images.ensures.answer c.in_ok-next.ensures.answer)
     (λ u w h.
     let sh = shown_with d _ c.args.command.now _ _ _ _ c.as_slice-sets.ensures c.as_ref.ensures.value h.0 h.1.0
     (g.met.S.Records.sound _ u) in
     let apart = if_planned (λ (x : Change). AreApart x.images) c.plan-planned.result change is
     (c.plan-planned.ensures.apart d sh.0.sound sh.0.next_is sh.0.sets) in
-    let p = planned d images c.in-Ok-next.next _ change sh.0
+    let p = planned d images c.in_ok-next.next _ change sh.0
     (if_planned (λ (x : Change). FitsDesk d x) c.plan-planned.result change is (c.plan-planned.ensures.fits d sh.0))
     (if_planned (λ (x : Change). CoverImages images x.images) c.plan-planned.result change is c.plan-planned.ensures.covers)
     (if_planned (λ (x : Change). BringNone d images x.images) c.plan-planned.result change is (c.plan-planned.ensures.brings d sh.0))
-    (if_planned (λ (x : Change). c.in-Ok-next.next ≤ x.next) c.plan-planned.result change is c.plan-planned.ensures.later) in
+    (if_planned (λ (x : Change). c.in_ok-next.next ≤ x.next) c.plan-planned.result change is c.plan-planned.ensures.later) in
     answers_where _ _ c.decide_change.result (h.1.1 ∙ h.0.1) c.decide_change.ensures.made
     (λ decision made names free.
     decides_planned c.args.from.now names d c.args.command.now change decision
-    (c.in-Ok-with_names.ensures.right names d c.args.from.now c.args.command.now free (c.plan-planned.ensures.right d sh.0 sh.1)).0
+    (c.in-Ok.ensures.right names d c.args.from.now c.args.command.now free (c.plan-planned.ensures.right d sh.0 sh.1)).0
     (made d apart p)))
 
 pub returns-in-Err-Refused-clause-answer : goal.returns-in-Err-Refused-clause-answer
 returns-in-Err-Refused-clause-answer g c =
     let d = g.S.Records.desk c.args.store.now in
     let plans = rw c.in-Err-Refused.field-0-is at c.in-Err-Refused.ensures.right in
-    asks_where (asks_both c.in-Ok.ensures.answer c.in-Ok-next.ensures.answer)
+    asks_where (asks_both c.in_ok-images.ensures.answer c.in_ok-next.ensures.answer)
     (λ u w h.
     let sh = shown_with d _ c.args.command.now _ _ _ _ c.as_slice-sets.ensures c.as_ref.ensures.value h.0 h.1.0
     (g.met.S.Records.sound _ u) in (

@@ -4,12 +4,12 @@ use Rattle.desk_messages.specs.Images.{Gather}
 use Rattle.desk_messages.proofs.GatherLemmas.{gather-one}
 use Rattle.desk_messages.proofs.images.first_image.Goals as goal
 
-pub returns-in-Ok-clause-answer : goal.returns-in-Ok-clause-answer
-returns-in-Ok-clause-answer g c =
+pub returns-in_ok-only_image-in-Some-clause-answer : goal.returns-in_ok-only_image-in-Some-clause-answer
+returns-in_ok-only_image-in-Some-clause-answer g c =
     let d = g.S.Records.desk c.args.store.now in
-    let a = rw c.in-Ok-Some.field-0-is at c.in-Ok-Some.ensures.answer in
+    let a = rw c.in-Some.is at c.in_ok-image.ensures.answer in
     asks_weaker a (λ p. (
-      subst (λ images. Gather d (c.args.number ∷ []) [] images) (sym c.in-Ok.ensures)
-          (gather-one d [] c.args.number c.in-Ok-Some.image refl p.0),
+      subst (λ images. Gather d (c.args.number ∷ []) [] images) (sym c.in_ok-only_image-in-Some.ensures)
+          (gather-one d [] c.args.number c.in-Some.image refl p.0),
       p.1,
     ))

@@ -5,11 +5,11 @@ use Rattle.desk_messages.proofs.images.gather_all.Goals as goal
 
 pub loop-number-preserved : goal.loop-number-preserved
 loop-number-preserved g c = record {
-  apart = c.in-Ok.ensures.apart;
-  bugs = c.in-Ok.ensures.bugs;
-  stays = c.in-Ok.ensures.stays ∙ c.loop-number.invariant.stays;
-  faults = c.in-Ok.ensures.count ∙ c.loop-number.invariant.faults;
-  gathered = asks_then c.loop-number.invariant.gathered c.in-Ok.ensures.answer
+  apart = c.in_ok-gather.ensures.apart;
+  bugs = c.in_ok-gather.ensures.bugs;
+  stays = c.in_ok-gather.ensures.stays ∙ c.loop-number.invariant.stays;
+  faults = c.in_ok-gather.ensures.count ∙ c.loop-number.invariant.faults;
+  gathered = asks_then c.loop-number.invariant.gathered c.in_ok-gather.ensures.answer
       (λ p q. (
         gather-more (g.S.Records.desk c.args.store.now) _ c.args.numbers.now c.loop-number.number-index c.args.images.now _
             _ c.loop-number-test.true p.1 p.0 q.0,
