@@ -20,7 +20,7 @@ returns-in_err-kept-clause-answer g c =
 pub returns-then-not-goes_on-clause-answer : goal.returns-then-not-goes_on-clause-answer
 returns-then-not-goes_on-clause-answer g c =
     let same = c.is_of_message.ensures.yes c.if-not-is_of_message.false in
-    let lines = c.as_slice-lines.ensures.value ∙ c.in-Ok-split_lines.ensures in
+    let lines = c.as_slice-lines.ensures.value ∙ c.in-Ok.ensures in
     let outs = c.in-Ok-recall.recalled.progress.outcomes.items in
     holds_where c.in_ok-kept.ensures.answer.holds
     (λ u w p. once-ended c.args.id.now c.args.from.now c.args.message.now _ _ (g.S.Records.keeping c.args.store.now) _ c.in_ok-kept.kept
@@ -50,7 +50,7 @@ go_on-requires-clause-all g c =
 pub go_on-requires-clause-begun : goal.go_on-requires-clause-begun
 go_on-requires-clause-begun g c =
     let same = c.is_of_message.ensures.yes c.if-not-is_of_message.false in
-    let lines = c.as_slice-lines.ensures.value ∙ c.in-Ok-split_lines.ensures in
+    let lines = c.as_slice-lines.ensures.value ∙ c.in-Ok.ensures in
     record {
       earlier = c.args.store.now;
       holds = holds_where c.in_ok-kept.ensures.answer.holds
@@ -62,7 +62,7 @@ go_on-requires-clause-begun g c =
 pub returns-in-Ok-recall-clause-answer : goal.returns-in-Ok-recall-clause-answer
 returns-in-Ok-recall-clause-answer g c =
     let same = c.is_of_message.ensures.yes c.if-not-is_of_message.false in
-    let lines = c.as_slice-lines.ensures.value ∙ c.in-Ok-split_lines.ensures in
+    let lines = c.as_slice-lines.ensures.value ∙ c.in-Ok.ensures in
     let outs = c.in-Ok-recall.recalled.progress.outcomes.items in
     let k = g.S.Records.keeping c.args.store.now in
     let a = c.in_ok-kept.ensures.answer.holds in
@@ -82,7 +82,7 @@ returns-in-Ok-recall-clause-answer g c =
 pub returns-in-Err-Mismatch-clause-answer : goal.returns-in-Err-Mismatch-clause-answer
 returns-in-Err-Mismatch-clause-answer g c =
     let same = c.is_of_message.ensures.yes c.if-not-is_of_message.false in
-    let lines = c.as_slice-lines.ensures.value ∙ c.in-Ok-split_lines.ensures in
+    let lines = c.as_slice-lines.ensures.value ∙ c.in-Ok.ensures in
     holds_where c.in_ok-kept.ensures.answer.holds
     (λ u w p. absurd (c.in-Err-Mismatch.ensures.mismatch (ap Err c.in-Err-Mismatch.field-0-is)
     (never_mismatch c.args.id.now c.args.from.now c.args.message.now (g.S.Records.keeping c.args.store.now) c.in_ok-kept.kept _ _
