@@ -27,7 +27,7 @@ pub apply-requires-clause-fits : goal.apply-requires-clause-fits
 apply-requires-clause-fits g c k h =
     let b = c.in_ok-next.ensures.answer in
     let p = b.holds.fact (b.was_kept k h) h in
-    c.in-Ok-report_change.ensures.fits _ (g.met.S.Records.sound _ k) (sym (p.0 ∙ ap (λ (z : Desk). z.next) (sym p.1)))
+    c.in-Ok.ensures.fits _ (g.met.S.Records.sound _ k) (sym (p.0 ∙ ap (λ (z : Desk). z.next) (sym p.1)))
 
 pub returns-clause-answer : goal.returns-clause-answer
 returns-clause-answer g c =
@@ -38,7 +38,7 @@ returns-clause-answer g c =
     let same = sym (p.0.0 ∙ ap (λ (z : Desk). z.next) (sym p.0.1)) in
     report_done c.args.from.now _ _ _ _ _ _ _ c.in_ok-severity.severity c.in_ok-next.next c.in_ok-severity.ensures.value p.0
     c.if-next-ge-AFTER_LARGEST.false
-    (p.1 ∙ c.in-Ok-report_change.ensures.right _ sound same
+    (p.1 ∙ c.in-Ok.ensures.right _ sound same
     ∙ ap (reported _ c.args.from.now c.args.package.now c.in_ok-severity.severity c.args.title.now)
     c.in_ok-node.ensures.node))
 
@@ -52,7 +52,7 @@ returns-in_err-severity-clause-first g c =
 
 pub returns-in_err-next-clause-first : goal.returns-in_err-next-clause-first
 returns-in_err-next-clause-first g c =
-    let p = err_from_is_err_and c.from_residual.result c.from_residual.ensures.1 in
+    let p = err_from_is_err_and c.from_residual-in_err-next.result c.from_residual-in_err-next.ensures.1 in
     rw (p.1, p.2) (asks_first g.S.Records.next_gives _ _ _ c.in_ok-severity.severity (Err c.in_err-next.field-0.0) _ c.in_ok-severity.ensures.value c.in_err-next.ensures.gives refl)
 
 pub returns-then-next-ge-AFTER_LARGEST-clause-first : goal.returns-then-next-ge-AFTER_LARGEST-clause-first
@@ -62,7 +62,7 @@ returns-then-next-ge-AFTER_LARGEST-clause-first g c =
 
 pub returns-in_err-node-clause-first : goal.returns-in_err-node-clause-first
 returns-in_err-node-clause-first g c =
-    let p = err_from_is_err_and c.from_residual.result c.from_residual.ensures.1 in
+    let p = err_from_is_err_and c.from_residual-in_err-node.result c.from_residual-in_err-node.ensures.1 in
     rw (p.1, p.2) (asks_first g.S.Records.next_gives _ _ _ c.in_ok-severity.severity (Ok c.in_ok-next.next) _ c.in_ok-severity.ensures.value c.in_ok-next.ensures.gives (some_left c.in_ok-next.next _ c.if-next-ge-AFTER_LARGEST.false))
 
 pub returns-in_default-clause-first : goal.returns-in_default-clause-first
@@ -77,5 +77,5 @@ returns-clause-first g c =
 
 pub returns-in_err-apply-clause-first : goal.returns-in_err-apply-clause-first
 returns-in_err-apply-clause-first g c =
-    let p = err_from_is_err_and c.from_residual.result c.from_residual.ensures.1 in
+    let p = err_from_is_err_and c.from_residual-in_err-apply.result c.from_residual-in_err-apply.ensures.1 in
     rw (p.1, p.2) (asks_first g.S.Records.next_gives _ _ _ c.in_ok-severity.severity (Ok c.in_ok-next.next) _ c.in_ok-severity.ensures.value c.in_ok-next.ensures.gives (some_left c.in_ok-next.next _ c.if-next-ge-AFTER_LARGEST.false))
