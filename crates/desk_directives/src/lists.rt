@@ -17,13 +17,11 @@ fn refuse(alloc: Global, answer: &str) -> Result<Told, QuestionFault>
     ensures refused { IfOk result (λ told. told.refused ≡ true) }
     ensures memory { IfErr result (λ fault. fault ≡ QuestionFault.Memory) }
 {
-    match Vec::from_slice(alloc, answer.as_bytes()) {
-        Ok(text) => Ok(Told {
-            text,
-            refused: true,
-        }),
-        Err(_) => Err(QuestionFault::Memory),
-    }
+    let text = Vec::from_slice(alloc, answer.as_bytes())?;
+    Ok(Told {
+        text,
+        refused: true,
+    })
 }
 
 // The list of a package at a node.
@@ -38,18 +36,13 @@ fn list_at<S: Records>(
     ensures stays { S.keeping store.new ≡ S.keeping store.old }
     ensures count { S.faults store.new ≡ faults_after_question result (S.faults store.old) }
 {
-    let rows = match store.listed(package, node) {
-        Ok(rows) => rows,
-        Err(fault) => return Err(QuestionFault::Store(fault)),
-    };
+    let rows = store.listed(package, node)?;
     let mut text = Vec::new(alloc);
-    match list_text(&mut text, package, node, rows.as_slice()) {
-        Ok(()) => Ok(Told {
-            text,
-            refused: false,
-        }),
-        Err(_) => Err(QuestionFault::Memory),
-    }
+    list_text(&mut text, package, node, rows.as_slice())?;
+    Ok(Told {
+        text,
+        refused: false,
+    })
 }
 
 /// The list of a package's bugs at a version, which is bare (a version of that package), or

@@ -20,13 +20,11 @@ fn text_of(alloc: Global, page: &BugPage) -> Result<Told, QuestionFault>
     ensures memory { IfErr result (λ fault. fault ≡ QuestionFault.Memory) }
 {
     let mut text = Vec::new(alloc);
-    match bug_text(alloc, &mut text, page) {
-        Ok(()) => Ok(Told {
-            text,
-            refused: false,
-        }),
-        Err(_) => Err(QuestionFault::Memory),
-    }
+    bug_text(alloc, &mut text, page)?;
+    Ok(Told {
+        text,
+        refused: false,
+    })
 }
 
 // The page of a bug of the set that has this image.
@@ -41,10 +39,7 @@ fn page_at<S: Records>(
     ensures stays { S.keeping store.new ≡ S.keeping store.old }
     ensures count { S.faults store.new ≡ faults_after_question result (S.faults store.old) }
 {
-    let waiting = match store.waiting_on(number) {
-        Ok(waiting) => waiting,
-        Err(fault) => return Err(QuestionFault::Store(fault)),
-    };
+    let waiting = store.waiting_on(number)?;
     text_of(
         alloc,
         &BugPage {
@@ -69,15 +64,12 @@ pub fn page_of<S: Records>(alloc: Global, store: &mut S, number: u64) -> Result<
     ensures stays { S.keeping store.new ≡ S.keeping store.old }
     ensures count { S.faults store.new ≡ faults_after_question result (S.faults store.old) }
 {
-    match store.set_of(number) {
-        Ok(Some(image)) => page_at(alloc, store, image, number),
-        Ok(None) => match no_bug_answer(alloc, number) {
-            Ok(text) => Ok(Told {
-                text,
-                refused: true,
-            }),
-            Err(_) => Err(QuestionFault::Memory),
-        },
-        Err(fault) => Err(QuestionFault::Store(fault)),
-    }
+    let Some(image) = store.set_of(number)? else {
+        let text = no_bug_answer(alloc, number)?;
+        return Ok(Told {
+            text,
+            refused: true,
+        });
+    };
+    page_at(alloc, store, image, number)
 }

@@ -114,26 +114,15 @@ pub fn report<S: Records>(
         (AsksForNext S.next_gives store.old result) }
     ensures count { S.faults store.new ≡ faults_after_report result (S.faults store.old) }
 {
-    let severity = match report_severity(package, version, severity, title) {
-        Ok(severity) => severity,
-        Err(fault) => return Err(fault),
-    };
-    let next = match store.next() {
-        Ok(next) => next,
-        Err(fault) => return Err(ReportFault::Store(fault)),
-    };
+    let severity = report_severity(package, version, severity, title)?;
+    let next = store.next()?;
     if next >= AFTER_LARGEST {
         return Err(ReportFault::Full);
     }
-    let node = match node_reported(alloc, package, version) {
-        Ok(node) => node,
-        Err(fault) => return Err(fault),
-    };
+    let node = node_reported(alloc, package, version)?;
     let Ok(change) = report_change(alloc, from, package, severity, title, node, next) else {
         return Err(ReportFault::Store(StoreFault::Memory));
     };
-    match store.apply(&change) {
-        Ok(()) => Ok(next),
-        Err(fault) => Err(ReportFault::Store(fault)),
-    }
+    store.apply(&change)?;
+    Ok(next)
 }

@@ -14,15 +14,19 @@ use std::alloc::Global;
 use std::io::Write;
 use std::net::{Ipv4Addr, Net, TcpListener, TcpStream};
 use std::time::Clock;
+use thiserror::Error;
 
 /// Why a server ended before its time.
-#[derive(Clone, Copy, Debug, Drop, PartialEq, Eq)]
+#[derive(Clone, Copy, Debug, Drop, PartialEq, Eq, Error)]
 pub enum ServerFault {
     /// The port could not be listened on.
+    #[error("the port can't be listened on")]
     Bind,
     /// The line that tells the port could not be written.
+    #[error("the port could not be told")]
     Write,
     /// The store failed.
+    #[error("the store failed while it was served")]
     Store,
 }
 

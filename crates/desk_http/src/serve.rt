@@ -25,6 +25,7 @@ use http::StatusCode;
 use httparse::spans::{EMPTY_HEADER_SPAN, HeaderSpan};
 use std::alloc::Global;
 use std::io::{Read, Write};
+use thiserror::Error;
 
 /// How a connection was served.
 #[derive(Clone, Copy, Drop)]
@@ -36,12 +37,14 @@ pub enum Served {
 }
 
 /// Why a connection was not served.
-#[derive(Clone, Copy, Drop)]
+#[derive(Clone, Copy, Debug, PartialEq, Eq, Drop, Error)]
 pub enum ServeFault {
     /// A read failed, an interrupted one too: nothing was written, and nothing has changed.
+    #[error("the request could not be read")]
     Read,
     /// A write failed, an interrupted one too, or took no byte: the request was carried out as far
     /// as its answer says.
+    #[error("the answer could not be written")]
     Write,
 }
 

@@ -50,21 +50,17 @@ fn take_line<S: Records>(
     ensures end { IfOk result (λ end. end_of progress.new.outcomes.items ≡ end) }
     ensures same { OnErr result (progress.new.outcomes.items ≡ progress.old.outcomes.items) }
 {
-    let (text, decision) = match decide_line(alloc, store, from, progress, line) {
-        Ok(Some(decided)) => decided,
-        Ok(None) => return Ok(End::All),
-        Err(fault) => return Err(fault),
+    let Some((text, decision)) = decide_line(alloc, store, from, progress, line)? else {
+        return Ok(End::All);
     };
-    match store.keep(
+    store.keep(
         id,
         from,
         message,
         &decision.outcome,
         decision.change.as_ref(),
-    ) {
-        Ok(()) => Ok(settle(progress, text, decision.outcome)),
-        Err(fault) => Err(fault),
-    }
+    )?;
+    Ok(settle(progress, text, decision.outcome))
 }
 
 /// Takes the lines of a message that have no kept outcome, where the recalled outcomes don't end

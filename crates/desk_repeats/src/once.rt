@@ -17,16 +17,31 @@ use desk_lines::split_lines;
 use desk_messages::{Received, goes_on};
 use desk_store::{Kept, Records, is_id};
 use std::alloc::Global;
+use thiserror::Error;
 
 /// Why a message that has an id is not taken.
-#[derive(Clone, Copy, Debug, PartialEq, Eq, Drop)]
+#[derive(Clone, Copy, Debug, PartialEq, Eq, Drop, Error)]
 pub enum OnceFault {
     /// The id is none.
+    #[error("bad id")]
     BadId,
     /// The id is known with another sender or another text.
+    #[error("the id is known with another sender or another text")]
     Reused,
     /// The store failed, or there was no memory, before the first line that has no kept outcome.
+    #[error(transparent)]
     Store(StoreFault),
+}
+
+impl From<StoreFault> for OnceFault {
+    ghost use Rattle.std.specs.Prelude.{◌≡◌};
+    ghost use Rattle.desk_repeats.specs.declared.once.OnceFault.TheVariants.{Store};
+
+    ghost from_gives = { λ fault e. e ≡ Store fault };
+
+    fn from(fault: StoreFault) -> OnceFault {
+        OnceFault::Store(fault)
+    }
 }
 
 // Whether what is kept of an id, if it is known, is of this sender and this text.
@@ -86,10 +101,7 @@ pub fn receive_once<S: Records>(
     if !is_id(id) {
         return Err(OnceFault::BadId);
     }
-    let kept = match store.kept(id) {
-        Ok(kept) => kept,
-        Err(fault) => return Err(OnceFault::Store(fault)),
-    };
+    let kept = store.kept(id)?;
     if !is_of_message(&kept, from, message) {
         return Err(OnceFault::Reused);
     }

@@ -15,7 +15,7 @@ use debver::Text;
 use desk_messages::{Progress, goes_on, make_room, settle};
 use desk_store::copy_outcome;
 use message_names::KnownNames;
-use std::alloc::Global;
+use std::alloc::{AllocError, Global};
 
 /// What kept outcomes come to: what has come of the message so far, how many of its lines that is,
 /// and its end.
@@ -33,6 +33,17 @@ pub(crate) enum RecallFault {
     Mismatch,
     /// There was no memory.
     Memory,
+}
+
+impl From<AllocError> for RecallFault {
+    ghost use Rattle.std.specs.Prelude.{◌≡◌};
+    ghost use Rattle.desk_repeats.specs.declared.recalling.RecallFault.TheVariants.{Memory};
+
+    ghost from_gives = { λ _ e. e ≡ Memory };
+
+    fn from(_error: AllocError) -> RecallFault {
+        RecallFault::Memory
+    }
 }
 
 // The names that a command gives.
@@ -80,16 +91,13 @@ fn note(
     if names.is_empty() {
         return Ok(());
     }
-    if known.make_room(names.len()).is_err() {
-        return Err(RecallFault::Memory);
-    }
-    match known.refusal(alloc, names) {
-        Ok(None) => {
+    known.make_room(names.len())?;
+    match known.refusal(alloc, names)? {
+        None => {
             known.bind(names, numbers.as_slice());
             Ok(())
         }
-        Ok(Some(_)) => Err(RecallFault::Mismatch),
-        Err(_) => Err(RecallFault::Memory),
+        Some(_) => Err(RecallFault::Mismatch),
     }
 }
 
@@ -107,10 +115,7 @@ fn copies(
     let Ok(text) = make_room(outcomes, line) else {
         return Err(RecallFault::Memory);
     };
-    match copy_outcome(outcome) {
-        Ok(outcome) => Ok((text, outcome)),
-        Err(_) => Err(RecallFault::Memory),
-    }
+    Ok((text, copy_outcome(outcome)?))
 }
 
 // Recalls the outcome that is kept of a line, if the line has one, and says whether it ends the
@@ -131,19 +136,12 @@ fn recall_line(
         → name_refusal (known_names progress.old.outcomes.items) (new_names (line.now, outcome.now)) ≡ None → ⊥ }
     ensures told { result ≡ Result.Err RecallFault.Mismatch → has_outcome line.now ≡ true }
 {
-    let names = match names_read(alloc, line) {
-        Ok(Some(names)) => names,
-        Ok(None) => return Ok(End::All),
-        Err(fault) => return Err(fault),
+    let Some(names) = names_read(alloc, line)? else {
+        return Ok(End::All);
     };
-    let (text, outcome) = match copies(&mut progress.outcomes, line, outcome) {
-        Ok(entry) => entry,
-        Err(fault) => return Err(fault),
-    };
-    match note(alloc, &mut progress.known, names.as_slice(), &outcome) {
-        Ok(()) => Ok(settle(progress, text, outcome)),
-        Err(fault) => Err(fault),
-    }
+    let (text, outcome) = copies(&mut progress.outcomes, line, outcome)?;
+    note(alloc, &mut progress.known, names.as_slice(), &outcome)?;
+    Ok(settle(progress, text, outcome))
 }
 
 /// Recalls the outcomes that are kept of a message of these lines.
@@ -175,10 +173,7 @@ pub(crate) fn recall(
         if !goes_on(end) {
             return Err(RecallFault::Mismatch);
         }
-        end = match recall_line(alloc, &mut progress, line, outcome) {
-            Ok(end) => end,
-            Err(fault) => return Err(fault),
-        };
+        end = recall_line(alloc, &mut progress, line, outcome)?;
     }
     if progress.outcomes.as_slice().len() < kept.len() {
         return Err(RecallFault::Mismatch);

@@ -72,10 +72,7 @@ pub(crate) fn finish_message<S: Records, W: Write>(
     let Ok(text) = received_bytes(alloc, &received, lines) else {
         return Err(ScriptFault::Memory);
     };
-    match write_out(writer, text.as_slice()) {
-        Ok(()) => {}
-        Err(_) => return Err(ScriptFault::Write),
-    }
+    write_out(writer, text.as_slice())?;
     if let Some(fault) = fault_of_end(received.end) {
         return Err(ScriptFault::Store(fault));
     }
@@ -94,13 +91,9 @@ fn refuse<W: Write>(writer: &mut W, run: &mut Run, answer: &str) -> Result<(), S
     ensures sender { run.new.sender ≡ run.old.sender }
     ensures gathered { run.new.gathered.items ≡ run.old.gathered.items }
 {
-    match write_out(writer, answer.as_bytes()) {
-        Ok(()) => {
-            run.refused = true;
-            Ok(())
-        }
-        Err(fault) => Err(fault),
-    }
+    write_out(writer, answer.as_bytes())?;
+    run.refused = true;
+    Ok(())
 }
 
 // Carries a report out.
@@ -139,10 +132,7 @@ fn carry_report<S: Records, W: Write>(
     let Ok(text) = report_answer(alloc, &answer) else {
         return Err(ScriptFault::Memory);
     };
-    match write_out(writer, text.as_slice()) {
-        Ok(()) => {}
-        Err(_) => return Err(ScriptFault::Write),
-    }
+    write_out(writer, text.as_slice())?;
     match answer {
         Ok(_) => Ok(()),
         Err(fault) => match store_fault(fault) {
@@ -183,10 +173,7 @@ fn carry_nodes<S: Records, W: Write>(
     let Ok(text) = branch_answer(alloc, &answer) else {
         return Err(ScriptFault::Memory);
     };
-    match write_out(writer, text.as_slice()) {
-        Ok(()) => {}
-        Err(_) => return Err(ScriptFault::Write),
-    }
+    write_out(writer, text.as_slice())?;
     if let Some(fault) = fault_of_branch(&answer) {
         return Err(ScriptFault::Store(fault));
     }
@@ -202,13 +189,9 @@ fn write_fault<W: Write>(
 ) -> Result<(), ScriptFault>
     ensures { TellsFault fault (W.contents writer.old) (W.contents writer.new) result }
 {
-    let Ok(text) = fault_answer(alloc, fault) else {
-        return Err(ScriptFault::Memory);
-    };
-    match write_out(writer, text.as_slice()) {
-        Ok(()) => Err(ScriptFault::Store(fault)),
-        Err(_) => Err(ScriptFault::Write),
-    }
+    let text = fault_answer(alloc, fault)?;
+    write_out(writer, text.as_slice())?;
+    Err(ScriptFault::Store(fault))
 }
 
 // Writes what a question is told, and keeps whether it is refused; or tells that the store failed.
@@ -223,13 +206,11 @@ fn answer_question<W: Write>(
     ensures gathered { run.new.gathered.items ≡ run.old.gathered.items }
 {
     match answer {
-        Ok(told) => match write_out(writer, told.text.as_slice()) {
-            Ok(()) => {
-                run.refused = either(run.refused, told.refused);
-                Ok(())
-            }
-            Err(_) => Err(ScriptFault::Write),
-        },
+        Ok(told) => {
+            write_out(writer, told.text.as_slice())?;
+            run.refused = either(run.refused, told.refused);
+            Ok(())
+        }
         Err(QuestionFault::Memory) => Err(ScriptFault::Memory),
         Err(QuestionFault::Store(fault)) => write_fault(alloc, writer, fault),
     }
@@ -258,13 +239,10 @@ pub(crate) fn carry_out<S: Records, W: Write>(
     ensures gathered { run.new.gathered.items ≡ run.old.gathered.items }
 {
     match read_directive(line) {
-        Directive::From(sender) => match Text::of(alloc, sender) {
-            Ok(sender) => {
-                run.sender = sender;
-                Ok(())
-            }
-            Err(_) => Err(ScriptFault::Memory),
-        },
+        Directive::From(sender) => {
+            run.sender = Text::of(alloc, sender)?;
+            Ok(())
+        }
         Directive::Report(words) => carry_report(alloc, store, writer, run, line, words),
         Directive::Branch(words) => match read_nodes(alloc, words) {
             Ok(nodes) => carry_nodes(alloc, store, writer, run, line, nodes.as_slice()),

@@ -54,19 +54,11 @@ fn take_line<S: Records, W: Write>(
     ensures count { IsCounted result (S.faults store.old) (S.faults store.new) }
 {
     if is_directive(line.as_str()) {
-        match finish_message(alloc, store, writer, run) {
-            Ok(()) => {}
-            Err(fault) => return Err(fault),
-        }
-        match carry_out(alloc, store, writer, run, line.as_str()) {
-            Ok(()) => Ok(()),
-            Err(fault) => Err(fault),
-        }
+        finish_message(alloc, store, writer, run)?;
+        carry_out(alloc, store, writer, run, line.as_str())?;
+        Ok(())
     } else {
-        match run.gathered.push(line) {
-            Ok(()) => Ok(()),
-            Err(_) => Err(ScriptFault::Memory),
-        }
+        Ok(run.gathered.push(line)?)
     }
 }
 
@@ -89,10 +81,7 @@ fn finish_script<S: Records, W: Write>(
     ensures own { IfErr result IsOfPart }
     ensures count { IsCounted result (S.faults store.old) (S.faults store.new) }
 {
-    match finish_message(alloc, store, writer, run) {
-        Ok(()) => {}
-        Err(fault) => return Err(fault),
-    }
+    finish_message(alloc, store, writer, run)?;
     if run.refused {
         Ok(ScriptEnd::Refused)
     } else {
@@ -147,20 +136,13 @@ pub fn run_script<S: Records, R: Read, W: Write>(
     };
     let mut source = Source::new();
     for number in 1..u64::MAX {
-        match next_line(alloc, &mut source, reader, number) {
-            Err(fault) => return Err(fault),
-            Ok(Piece::Line(line)) => match take_line(alloc, store, writer, &mut run, line) {
-                Ok(()) => {}
-                Err(fault) => return Err(fault),
-            },
-            Ok(Piece::Last(line)) => {
-                match take_line(alloc, store, writer, &mut run, line) {
-                    Ok(()) => {}
-                    Err(fault) => return Err(fault),
-                }
+        match next_line(alloc, &mut source, reader, number)? {
+            Piece::Line(line) => take_line(alloc, store, writer, &mut run, line)?,
+            Piece::Last(line) => {
+                take_line(alloc, store, writer, &mut run, line)?;
                 return finish_script(alloc, store, writer, &mut run);
             }
-            Ok(Piece::End) => return finish_script(alloc, store, writer, &mut run),
+            Piece::End => return finish_script(alloc, store, writer, &mut run),
         }
     }
     Err(ScriptFault::Read)

@@ -5,16 +5,16 @@ use Rattle.desk_directives.specs.Questions.{Told}
 use Rattle.desk_directives.proofs.QuestionLemmas.{page_of_none}
 use Rattle.desk_directives.proofs.pages.page_of.Goals as goal
 
-pub returns-in-Ok-clause-answer : goal.returns-in-Ok-clause-answer
-returns-in-Ok-clause-answer g c =
-    holds_weaker c.in-Ok-None.ensures.answer.holds
+pub returns-in_default-clause-answer : goal.returns-in_default-clause-answer
+returns-in_default-clause-answer g c =
+    holds_weaker c.in_ok-image.ensures.answer.holds
     (λ h.
-    let none = subst (IsImageOf (g.S.Records.desk c.args.store.now) c.args.number) c.in-Ok-None.field-0-is h.0 in
+    let none = subst (IsImageOf (g.S.Records.desk c.args.store.now) c.args.number) c.in_default.is h.0 in
     let p = page_of_none _ _ none in (
-      c.in-Ok.ensures ∙ sym (ap (λ (x : Told). x.text) p),
+      c.in_ok-text.ensures ∙ sym (ap (λ (x : Told). x.text) p),
       sym (ap (λ (x : Told). x.refused) p),
       h.1,
     ))
 
-pub returns-in-Err-clause-count : goal.returns-in-Err-clause-count
-returns-in-Err-clause-count g c = search rules
+pub returns-in_err-image-clause-count : goal.returns-in_err-image-clause-count
+returns-in_err-image-clause-count g c = search rules

@@ -10,47 +10,47 @@ use Rattle.desk_repeats.proofs.going_on.take_line.Goals as goal
 
 pub keep-requires-clause-members : goal.keep-requires-clause-members
 keep-requires-clause-members g c =
-    let m = rw c.in-Ok-Some.field-0-is at c.in-Ok-Some.ensures.members in
+    let m = rw c.in-Some.is at c.in_ok-text.ensures.members in
     subst (IfGiven (λ (x : Change). Each HasMember x.images)) (sym c.as_ref.ensures.value) m
 
 pub keep-requires-clause-apart : goal.keep-requires-clause-apart
 keep-requires-clause-apart g c = λ k h.
-    let f = rw c.in-Ok-Some.field-0-is at c.in-Ok-Some.ensures.fits in
+    let f = rw c.in-Some.is at c.in_ok-text.ensures.fits in
     subst (IfGiven (λ (x : Change). AreApart x.images)) (sym c.as_ref.ensures.value) (f k h).apart
 
 pub keep-requires-clause-fits : goal.keep-requires-clause-fits
 keep-requires-clause-fits g c = λ k h.
-    let f = rw c.in-Ok-Some.field-0-is at c.in-Ok-Some.ensures.fits in
+    let f = rw c.in-Some.is at c.in_ok-text.ensures.fits in
     subst (IfGiven (FitsDesk _)) (sym c.as_ref.ensures.value) (f k h).fits
 
 pub keep-requires-clause-next : goal.keep-requires-clause-next
 keep-requires-clause-next g c =
-    let a = rw c.in-Ok-Some.field-0-is at c.in-Ok-Some.ensures.answer in
-    let there = rw c.in-Ok-Some.field-0-is at c.in-Ok-Some.ensures.told in
+    let a = rw c.in-Some.is at c.in_ok-text.ensures.answer in
+    let there = rw c.in-Some.is at c.in_ok-text.ensures.told in
     record {
       earlier = c.requires.begun.earlier;
       holds = holds_then c.requires.begun.holds a.holds
           (λ b p. may-keep c.args.id.now c.args.from.now c.args.message.now c.args.line.now _ _ _ _ c.args.progress.now.outcomes.items _ _
-          c.in-Ok-Some.decided.1 _ c.requires.id b c.requires.in_step.goes_on (c.requires.place (sym there)) p c.decide_line.ensures.stays
+          c.in-Some.decision _ c.requires.id b c.requires.in_step.goes_on (c.requires.place (sym there)) p c.decide_line.ensures.stays
           c.as_ref.ensures.value);
     }
 
-pub returns-in-Ok-clause-answer : goal.returns-in-Ok-clause-answer
-returns-in-Ok-clause-answer g c = λ earlier h.
-    let a = rw c.in-Ok-Some.field-0-is at c.in-Ok-Some.ensures.answer in
-    let there = rw c.in-Ok-Some.field-0-is at c.in-Ok-Some.ensures.told in
-    let ready = rw c.in-Ok-Some.field-0-is at c.in-Ok-Some.ensures.ready in
+pub returns-clause-answer : goal.returns-clause-answer
+returns-clause-answer g c = λ earlier h.
+    let a = rw c.in-Some.is at c.in_ok-text.ensures.answer in
+    let there = rw c.in-Some.is at c.in_ok-text.ensures.told in
+    let ready = rw c.in-Some.is at c.in_ok-text.ensures.ready in
     let x = holds_both h a.holds in
     carry x
-    (c.in-Ok.ensures.answer earlier
+    (c.in_ok-keep.ensures.answer earlier
     (holds_weaker x
     (λ p. may-keep c.args.id.now c.args.from.now c.args.message.now c.args.line.now _ _ _ _ c.args.progress.now.outcomes.items _ _
-    c.in-Ok-Some.decided.1 _ c.requires.id p.0 c.requires.in_step.goes_on (c.requires.place (sym there)) p.1 c.decide_line.ensures.stays
+    c.in-Some.decision _ c.requires.id p.0 c.requires.in_step.goes_on (c.requires.place (sym there)) p.1 c.decide_line.ensures.stays
     c.as_ref.ensures.value)))
-    c.in-Ok.ensures.honest
+    c.in_ok-keep.ensures.honest
     (λ p q.
     let r = p.1.0 p.0.numbers in
     takes-on c.args.id.now c.args.from.now c.args.message.now c.args.line.now _ _ _ _ _ _ _ c.args.progress.now.outcomes.items _ _ _ _ _
-    c.in-Ok-Some.decided.1 p.0 (c.requires.place (sym there)) r.0 c.decide_line.ensures.stays p.1.1 r.1 c.settle.ensures.names
+    c.in-Some.decision p.0 (c.requires.place (sym there)) r.0 c.decide_line.ensures.stays p.1.1 r.1 c.settle.ensures.names
     c.decide_line.ensures.outcomes ready.0 c.settle.ensures.added
     (q.0 ∙ ap (λ (o : Option Change). with_change o (g.S.Records.desk c.decide_line.new.store)) c.as_ref.ensures.value) q.1)

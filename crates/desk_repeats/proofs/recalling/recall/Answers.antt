@@ -2,6 +2,7 @@ use Rattle.std.proofs.Common.{◌≡◌, ◌∙◌, ap, sym, refl, arith, Err, l
 use Rattle.std.specs.Prelude.{slice_get}
 use Rattle.std.proofs.lemmas.Bool.{false≢true}
 use Rattle.std.proofs.lemmas.Option.{slice_get_read}
+use Rattle.std.proofs.lemmas.Result.{err_from_is_err_and}
 use Rattle.bug_record.specs.Clones.{name_refusal}
 use Rattle.desk_store.specs.Message.{unreadable_count, known_names, end_of}
 use Rattle.desk_store.specs.Kept.{new_names}
@@ -31,12 +32,12 @@ loop-i-preserved c =
     let at = ap (slice_get c.args.kept.now) (sym size) ∙ slice_get_read c.args.kept.now _ (length c.as_slice.result.now) c.in-Some.outcome.now refl found.3.0 found.1 in
     record {
       outcomes = recall-more lines c.args.kept.now c.loop-i.i c.index-lines-i.result c.in-Some.outcome.now _ _ c.loop-i-test.true
-          c.index-lines-i.is at inv.outcomes c.in-Ok.ensures.added;
+          c.index-lines-i.is at inv.outcomes c.in_ok-end.ensures.added;
       few = few-more lines c.args.kept.now c.loop-i.i c.index-lines-i.result c.in-Some.outcome.now c.loop-i-test.true
           c.index-lines-i.is at;
-      counted = c.in-Ok.ensures.counted;
-      known = c.in-Ok.ensures.known;
-      ends = c.in-Ok.ensures.end;
+      counted = c.in_ok-end.ensures.counted;
+      known = c.in_ok-end.ensures.known;
+      ends = c.in_ok-end.ensures.end;
     }
 
 pub returns-in-None-clause-outcomes : goal.returns-in-None-clause-outcomes
@@ -63,16 +64,17 @@ returns-then-not-goes_on-clause-mismatch c = λ _ are.
     let on = ends-not lines c.args.kept.now c.loop-i.i _ c.loop-i.end c.in-Some.outcome.now are inv.outcomes inv.ends at in
     false≢true (sym c.if-not-goes_on.true ∙ (c.goes_on.ensures ∙ on))
 
-pub returns-in-Err-clause-mismatch : goal.returns-in-Err-clause-mismatch
-returns-in-Err-clause-mismatch c = λ e are.
+pub returns-in_err-end-clause-mismatch : goal.returns-in_err-end-clause-mismatch
+returns-in_err-end-clause-mismatch c = λ e are.
     let inv = c.loop-i.invariant in
     let lines = c.args.lines.now in
     let size = told-length lines c.args.kept.now c.loop-i.i _ (length c.as_slice.result.now) inv.few inv.outcomes (ap length c.as_slice.ensures.value) in
     let found = c.in-Some.ensures.lookup in
     let at = ap (slice_get c.args.kept.now) (sym size) ∙ slice_get_read c.args.kept.now _ (length c.as_slice.result.now) c.in-Some.outcome.now refl found.3.0 found.1 in
-    let fault : c.in-Err.fault ≡ Mismatch = cc e in
-    let there = c.in-Err.ensures.told (ap Err fault) in
-    c.in-Err.ensures.mismatch (ap Err fault)
+    let p = err_from_is_err_and c.from_residual.result c.from_residual.ensures.1 in
+    let fault : c.in_err-end.field-0.0 ≡ Mismatch = cc (e, p) in
+    let there = c.in_err-end.ensures.told (ap Err fault) in
+    c.in_err-end.ensures.mismatch (ap Err fault)
     (ap (λ es. name_refusal (known_names es) (new_names (c.index-lines-i.result, c.in-Some.outcome.now))) inv.outcomes
     ∙ not_taken lines c.args.kept.now c.loop-i.i c.index-lines-i.result c.in-Some.outcome.now are c.loop-i-test.true
     c.index-lines-i.is there at)

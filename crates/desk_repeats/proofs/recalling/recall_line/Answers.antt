@@ -5,19 +5,19 @@ use Rattle.desk_repeats.proofs.recalling.recall_line.Goals as goal
 
 pub settle-requires-clause-ready : goal.settle-requires-clause-ready
 settle-requires-clause-ready c =
-    let names = rw c.in-Ok-Some.field-0-is at c.in-Ok-Some.ensures.names in
-    ready-recalled c.args.progress.now.outcomes.items _ _ c.args.progress.now.known.names _ c.args.line.now c.in-Ok-Some.names
-    c.args.outcome.now _ c.requires.in_step c.copies.ensures.same c.in-Ok.ensures.entry names
-    (c.in-Ok-note.ensures.named
-    ∙ ap (λ ks. c.args.progress.now.known.names ++ names_of ks c.in-Ok.entry.1) c.as_slice.ensures)
+    let names = rw c.in-Some.is at c.in_ok-names.ensures.names in
+    ready-recalled c.args.progress.now.outcomes.items _ _ c.args.progress.now.known.names _ c.args.line.now c.in-Some.names
+    c.args.outcome.now _ c.requires.in_step c.copies.ensures.same c.in_ok-text.ensures.entry names
+    (c.in_ok-note.ensures.named
+    ∙ ap (λ ks. c.args.progress.now.known.names ++ names_of ks c.in_ok-text.outcome) c.as_slice.ensures)
 
-pub returns-in-Ok-note-clause-added : goal.returns-in-Ok-note-clause-added
-returns-in-Ok-note-clause-added c =
-    let names = rw c.in-Ok-Some.field-0-is at c.in-Ok-Some.ensures.names in
-    recalled-some c.args.progress.now.outcomes.items _ _ c.args.line.now c.in-Ok-Some.names c.args.outcome.now c.in-Ok.entry
-    c.copies.ensures.same c.in-Ok.ensures.entry names c.settle.ensures.added
+pub returns-clause-added : goal.returns-clause-added
+returns-clause-added c =
+    let names = rw c.in-Some.is at c.in_ok-names.ensures.names in
+    recalled-some c.args.progress.now.outcomes.items _ _ c.args.line.now c.in-Some.names c.args.outcome.now (c.in_ok-text.text, c.in_ok-text.outcome)
+    c.copies.ensures.same c.in_ok-text.ensures.entry names c.settle.ensures.added
 
-pub returns-in-Ok-None-clause-added : goal.returns-in-Ok-None-clause-added
-returns-in-Ok-None-clause-added c =
-    let none = rw c.in-Ok-None.field-0-is at c.in-Ok-None.ensures.names in
+pub returns-in_default-clause-added : goal.returns-in_default-clause-added
+returns-in_default-clause-added c =
+    let none = rw c.in_default.is at c.in_ok-names.ensures.names in
     recalled-none c.args.progress.now.outcomes.items _ c.args.line.now c.args.outcome.now none refl

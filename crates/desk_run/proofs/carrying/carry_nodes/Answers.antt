@@ -1,6 +1,8 @@
-use Rattle.std.proofs.Common.{ℕ, ◌<◌, length, List, take, ◌∙◌, sym, subst, ap}
+use Rattle.std.proofs.Common.{◌≡◌, Err, ℕ, ◌<◌, length, List, take, ◌∙◌, sym, subst, ap}
 use Rattle.std.specs.Prelude.{◌||◌}
 use Rattle.std.specs.Io.KnownBytes.{Appends}
+use Rattle.std.proofs.lemmas.Result.{err_from_is_err_and}
+use Rattle.desk_lines.specs.declared.fault.ScriptFault.TheVariants.{Write}
 use Rattle.desk_store.proofs.HoldsLemmas.{holds_weaker}
 use Rattle.desk_run.specs.Script.{DirectiveLine, standing}
 use Rattle.desk_text.specs.Answers.{branch_answer}
@@ -16,20 +18,22 @@ returns-in_default-clause-answer g c =
     (branch_carried c.args.line.now c.requires.0 c.args.nodes.now s _ _ _ c.branch-answer.result c.requires.1 c.requires.2
     c.branch-answer.ensures.count r))
 
-pub returns-in-Err-clause-answer : goal.returns-in-Err-clause-answer
-returns-in-Err-clause-answer g c =
+pub returns-in_err-write_out-clause-answer : goal.returns-in_err-write_out-clause-answer
+returns-in_err-write_out-clause-answer g c =
     let s = standing (g.S.Records.desk c.args.store.now) c.args.run.now.sender c.args.run.now.refused in
     let text = c.as_slice.ensures.value ∙ c.in-Ok.ensures in
-    holds_weaker c.branch-answer.ensures.answer
+    let p = err_from_is_err_and c.from_residual.result c.from_residual.ensures.1 in
+    let e : c.from_residual.result ≡ Err Write = cc (p, c.in_err-write_out.ensures.write) in
+    rw e (holds_weaker c.branch-answer.ensures.answer
     (λ r. (
       branch_answer c.branch-answer.result,
-      c.in-Err.ensures.unfinished.0,
-      subst (λ (w : List ℕ). c.in-Err.ensures.unfinished.0 < length w) text c.in-Err.ensures.unfinished.1,
+      c.in_err-write_out.ensures.unfinished.0,
+      subst (λ (w : List ℕ). c.in_err-write_out.ensures.unfinished.0 < length w) text c.in_err-write_out.ensures.unfinished.1,
       branch_carried c.args.line.now c.requires.0 c.args.nodes.now s _ _ _ c.branch-answer.result c.requires.1 c.requires.2
           c.branch-answer.ensures.count r,
       subst (λ (w : List ℕ). Appends (g.W.Write.contents c.args.writer.now) (g.W.Write.contents c.write_out.new.writer)
-          (take c.in-Err.ensures.unfinished.0 w)) text c.in-Err.ensures.unfinished.2,
-    ))
+          (take c.in_err-write_out.ensures.unfinished.0 w)) text c.in_err-write_out.ensures.unfinished.2,
+    )))
 
 pub returns-in-Some-clause-answer : goal.returns-in-Some-clause-answer
 returns-in-Some-clause-answer g c =
@@ -43,7 +47,7 @@ returns-in-Some-clause-answer g c =
           c.requires.2 of_store r,
       c.branch-answer.ensures.count ∙ fault_count c.branch-answer.result c.in-Some.fault _ of_store,
       subst (Appends (g.W.Write.contents c.args.writer.now) (g.W.Write.contents c.write_out.new.writer)) text
-          c.in-Ok-write_out.ensures.all,
+          c.in_ok-write_out.ensures.all,
     ))
 
 pub returns-in-Some-clause-count : goal.returns-in-Some-clause-count
@@ -62,7 +66,7 @@ returns-clause-answer g c =
     c.requires.2 not_of_store (c.either-run.ensures ∙ ap (λ b. s.refused || b) c.refuses_branch.ensures) r in (
       w.0,
       subst (Appends (g.W.Write.contents c.args.writer.now) (g.W.Write.contents c.write_out.new.writer)) (text ∙ w.1)
-          c.in-Ok-write_out.ensures.all,
+          c.in_ok-write_out.ensures.all,
     ))
 
 pub returns-clause-count : goal.returns-clause-count
@@ -75,7 +79,9 @@ returns-in_default-clause-count g c =
     let n = branch_count c.branch-answer.result (g.S.Records.faults c.args.store.now) in
     (n.0, c.branch-answer.ensures.count ∙ n.1)
 
-pub returns-in-Err-clause-count : goal.returns-in-Err-clause-count
-returns-in-Err-clause-count g c =
+pub returns-in_err-write_out-clause-count : goal.returns-in_err-write_out-clause-count
+returns-in_err-write_out-clause-count g c =
     let n = branch_count c.branch-answer.result (g.S.Records.faults c.args.store.now) in
-    (n.0, c.branch-answer.ensures.count ∙ n.1)
+    let p = err_from_is_err_and c.from_residual.result c.from_residual.ensures.1 in
+    let e : c.from_residual.result ≡ Err Write = cc (p, c.in_err-write_out.ensures.write) in
+    rw e (n.0, c.branch-answer.ensures.count ∙ n.1)

@@ -1,5 +1,7 @@
-use Rattle.std.proofs.Common.{ℕ, ◌<◌, length, List, take, ◌∙◌, sym, subst, ap}
+use Rattle.std.proofs.Common.{◌≡◌, Err, ℕ, ◌<◌, length, List, take, ◌∙◌, sym, subst, ap}
 use Rattle.std.specs.Io.KnownBytes.{Appends}
+use Rattle.std.proofs.lemmas.Result.{err_from_is_err_and}
+use Rattle.desk_lines.specs.declared.fault.ScriptFault.TheVariants.{Write}
 use Rattle.desk_store.proofs.HoldsLemmas.{holds_weaker}
 use Rattle.desk_run.specs.Script.{DirectiveLine, standing}
 use Rattle.desk_text.specs.Answers.{report_answer}
@@ -15,20 +17,22 @@ returns-in_default-clause-answer g c =
     (reported_carried c.args.line.now _ _ _ _ s _ _ _ c.report-answer.result c.requires c.report-answer.ensures.count
     (rw c.as_str.ensures at r)))
 
-pub returns-in-Err-clause-answer : goal.returns-in-Err-clause-answer
-returns-in-Err-clause-answer g c =
+pub returns-in_err-write_out-clause-answer : goal.returns-in_err-write_out-clause-answer
+returns-in_err-write_out-clause-answer g c =
     let s = standing (g.S.Records.desk c.args.store.now) c.args.run.now.sender c.args.run.now.refused in
     let text = c.as_slice.ensures.value ∙ c.in-Ok.ensures in
-    holds_weaker c.report-answer.ensures.answer
+    let p = err_from_is_err_and c.from_residual.result c.from_residual.ensures.1 in
+    let e : c.from_residual.result ≡ Err Write = cc (p, c.in_err-write_out.ensures.write) in
+    rw e (holds_weaker c.report-answer.ensures.answer
     (λ r. (
       report_answer c.report-answer.result,
-      c.in-Err.ensures.unfinished.0,
-      subst (λ (w : List ℕ). c.in-Err.ensures.unfinished.0 < length w) text c.in-Err.ensures.unfinished.1,
+      c.in_err-write_out.ensures.unfinished.0,
+      subst (λ (w : List ℕ). c.in_err-write_out.ensures.unfinished.0 < length w) text c.in_err-write_out.ensures.unfinished.1,
       reported_carried c.args.line.now _ _ _ _ s _ _ _ c.report-answer.result c.requires c.report-answer.ensures.count
           (rw c.as_str.ensures at r),
       subst (λ (w : List ℕ). Appends (g.W.Write.contents c.args.writer.now) (g.W.Write.contents c.write_out.new.writer)
-          (take c.in-Err.ensures.unfinished.0 w)) text c.in-Err.ensures.unfinished.2,
-    ))
+          (take c.in_err-write_out.ensures.unfinished.0 w)) text c.in_err-write_out.ensures.unfinished.2,
+    )))
 
 pub returns-in-Ok-answer-clause-answer : goal.returns-in-Ok-answer-clause-answer
 returns-in-Ok-answer-clause-answer g c =
@@ -40,7 +44,7 @@ returns-in-Ok-answer-clause-answer g c =
     (rw (c.as_str.ensures, c.in-Ok-answer.is) at r) in (
       w.0,
       subst (Appends (g.W.Write.contents c.args.writer.now) (g.W.Write.contents c.write_out.new.writer))
-          (text ∙ ap report_answer c.in-Ok-answer.is ∙ w.1) c.in-Ok-write_out.ensures.all,
+          (text ∙ ap report_answer c.in-Ok-answer.is ∙ w.1) c.in_ok-write_out.ensures.all,
     ))
 
 pub returns-in-Some-clause-answer : goal.returns-in-Some-clause-answer
@@ -56,7 +60,7 @@ returns-in-Some-clause-answer g c =
       (f.0, f.1, ap report_answer c.in-Err-answer.is ∙ f.2),
       rw c.in-Err-answer.is at c.report-answer.ensures.count ∙ fault_count c.in-Err-answer.fault c.in-Some.fault _ of_store,
       subst (Appends (g.W.Write.contents c.args.writer.now) (g.W.Write.contents c.write_out.new.writer)) text
-          c.in-Ok-write_out.ensures.all,
+          c.in_ok-write_out.ensures.all,
     ))
 
 pub returns-in-Some-clause-count : goal.returns-in-Some-clause-count
@@ -75,7 +79,7 @@ returns-clause-answer g c =
     (rw (c.as_str.ensures, c.in-Err-answer.is) at r) in (
       w.0,
       subst (Appends (g.W.Write.contents c.args.writer.now) (g.W.Write.contents c.write_out.new.writer))
-          (text ∙ ap report_answer c.in-Err-answer.is ∙ w.1) c.in-Ok-write_out.ensures.all,
+          (text ∙ ap report_answer c.in-Err-answer.is ∙ w.1) c.in_ok-write_out.ensures.all,
     ))
 
 pub returns-clause-count : goal.returns-clause-count
@@ -88,7 +92,9 @@ returns-in_default-clause-count g c =
     let n = report_count c.report-answer.result (g.S.Records.faults c.args.store.now) in
     (n.0, c.report-answer.ensures.count ∙ n.1)
 
-pub returns-in-Err-clause-count : goal.returns-in-Err-clause-count
-returns-in-Err-clause-count g c =
+pub returns-in_err-write_out-clause-count : goal.returns-in_err-write_out-clause-count
+returns-in_err-write_out-clause-count g c =
     let n = report_count c.report-answer.result (g.S.Records.faults c.args.store.now) in
-    (n.0, c.report-answer.ensures.count ∙ n.1)
+    let p = err_from_is_err_and c.from_residual.result c.from_residual.ensures.1 in
+    let e : c.from_residual.result ≡ Err Write = cc (p, c.in_err-write_out.ensures.write) in
+    rw e (n.0, c.report-answer.ensures.count ∙ n.1)

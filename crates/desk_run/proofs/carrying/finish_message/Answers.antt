@@ -1,6 +1,8 @@
-use Rattle.std.proofs.Common.{ℕ, ◌<◌, length, List, take, ◌∙◌, sym, subst, ap}
+use Rattle.std.proofs.Common.{◌≡◌, Err, ℕ, ◌<◌, length, List, take, ◌∙◌, sym, subst, ap}
 use Rattle.std.specs.Prelude.{◌||◌}
 use Rattle.std.specs.Io.KnownBytes.{Appends}
+use Rattle.std.proofs.lemmas.Result.{err_from_is_err_and}
+use Rattle.desk_lines.specs.declared.fault.ScriptFault.TheVariants.{Write}
 use Rattle.desk_store.proofs.HoldsLemmas.{holds_weaker}
 use Rattle.desk_directives.specs.Transcripts.{received_text}
 use Rattle.desk_run.specs.Script.{Message, standing}
@@ -15,25 +17,27 @@ returns-in_default-clause-answer g c =
     (received_carried c.args.run.now.gathered.items s c.receive_lines-received.result.outcomes c.receive_lines-received.result.end
     _ _ _ c.receive_lines-received.ensures.count (rw (c.as_str.ensures, c.as_slice-lines.ensures.value) at r)))
 
-pub returns-in-Err-clause-answer : goal.returns-in-Err-clause-answer
-returns-in-Err-clause-answer g c =
+pub returns-in_err-write_out-clause-answer : goal.returns-in_err-write_out-clause-answer
+returns-in_err-write_out-clause-answer g c =
     let s = standing (g.S.Records.desk c.args.store.now) c.args.run.now.sender c.args.run.now.refused in
     let text = c.as_slice.ensures.value ∙ c.in-Ok.ensures.text in
-    holds_weaker c.receive_lines-received.ensures.answer
+    let p = err_from_is_err_and c.from_residual.result c.from_residual.ensures.1 in
+    let e : c.from_residual.result ≡ Err Write = cc (p, c.in_err-write_out.ensures.write) in
+    rw e (holds_weaker c.receive_lines-received.ensures.answer
     (λ r. (
       _,
-      c.in-Err.ensures.unfinished.0,
-      subst (λ (w : List ℕ). c.in-Err.ensures.unfinished.0 < length w)
+      c.in_err-write_out.ensures.unfinished.0,
+      subst (λ (w : List ℕ). c.in_err-write_out.ensures.unfinished.0 < length w)
           (text ∙ ap (received_text c.receive_lines-received.result.outcomes c.receive_lines-received.result.end)
-          c.as_slice-lines.ensures.value) c.in-Err.ensures.unfinished.1,
+          c.as_slice-lines.ensures.value) c.in_err-write_out.ensures.unfinished.1,
       received_carried c.args.run.now.gathered.items s c.receive_lines-received.result.outcomes
           c.receive_lines-received.result.end _ _ _ c.receive_lines-received.ensures.count
           (rw (c.as_str.ensures, c.as_slice-lines.ensures.value) at r),
       subst (λ (w : List ℕ). Appends (g.W.Write.contents c.args.writer.now) (g.W.Write.contents c.write_out.new.writer)
-          (take c.in-Err.ensures.unfinished.0 w))
+          (take c.in_err-write_out.ensures.unfinished.0 w))
           (text ∙ ap (received_text c.receive_lines-received.result.outcomes c.receive_lines-received.result.end)
-          c.as_slice-lines.ensures.value) c.in-Err.ensures.unfinished.2,
-    ))
+          c.as_slice-lines.ensures.value) c.in_err-write_out.ensures.unfinished.2,
+    )))
 
 pub returns-in-Some-clause-answer : goal.returns-in-Some-clause-answer
 returns-in-Some-clause-answer g c =
@@ -48,7 +52,7 @@ returns-in-Some-clause-answer g c =
           ∙ end_count c.receive_lines-received.result.end c.in-Some.fault _ (sym c.in-Some.ensures),
       subst (Appends (g.W.Write.contents c.args.writer.now) (g.W.Write.contents c.write_out.new.writer))
           (text ∙ ap (received_text c.receive_lines-received.result.outcomes c.receive_lines-received.result.end)
-          c.as_slice-lines.ensures.value) c.in-Ok-write_out.ensures.all,
+          c.as_slice-lines.ensures.value) c.in_ok-write_out.ensures.all,
     ))
 
 pub returns-clause-answer : goal.returns-clause-answer
@@ -65,7 +69,7 @@ returns-clause-answer g c =
       w.0,
       subst (Appends (g.W.Write.contents c.args.writer.now) (g.W.Write.contents c.write_out.new.writer))
           (text ∙ ap (received_text c.receive_lines-received.result.outcomes c.receive_lines-received.result.end)
-          c.as_slice-lines.ensures.value ∙ w.1) c.in-Ok-write_out.ensures.all,
+          c.as_slice-lines.ensures.value ∙ w.1) c.in_ok-write_out.ensures.all,
     ))
 
 pub returns-in_default-clause-count : goal.returns-in_default-clause-count
@@ -73,7 +77,9 @@ returns-in_default-clause-count g c =
     let n = message_count c.receive_lines-received.result.end (g.S.Records.faults c.args.store.now) in
     (n.0, c.receive_lines-received.ensures.count ∙ n.1)
 
-pub returns-in-Err-clause-count : goal.returns-in-Err-clause-count
-returns-in-Err-clause-count g c =
+pub returns-in_err-write_out-clause-count : goal.returns-in_err-write_out-clause-count
+returns-in_err-write_out-clause-count g c =
     let n = message_count c.receive_lines-received.result.end (g.S.Records.faults c.args.store.now) in
-    (n.0, c.receive_lines-received.ensures.count ∙ n.1)
+    let p = err_from_is_err_and c.from_residual.result c.from_residual.ensures.1 in
+    let e : c.from_residual.result ≡ Err Write = cc (p, c.in_err-write_out.ensures.write) in
+    rw e (n.0, c.receive_lines-received.ensures.count ∙ n.1)
