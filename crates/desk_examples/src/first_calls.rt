@@ -3,11 +3,11 @@
 
 use crate::answers::shown;
 use ancestry::{BranchFault, Tree, status};
-use bug_core::{Change, Severity, report_change};
+use bug_core::{Severity, report_change};
 use bug_record::{StoreFault, is_text};
 use control_text::{Line, LineFault, WordsFault, read_line, words_to_lines, write_command};
 use debver::{VersionFault, check, order};
-use desk_http::serve_one;
+use desk_http::{ServeFault, serve_one};
 use desk_in_memory::PlainDesk;
 use desk_messages::receive;
 use desk_run::{ScriptFault, run_script};
@@ -39,6 +39,8 @@ pub(crate) enum Stopped {
     Store(#[from] StoreFault),
     #[error(transparent)]
     Script(#[from] ScriptFault),
+    #[error(transparent)]
+    Serve(#[from] ServeFault),
     #[error(transparent)]
     Memory(#[from(alloc)] AllocError),
 }
@@ -156,7 +158,11 @@ impl ConnectionTask<Vec<u8>> for Script<'_> {
 }
 
 // Prints what a call answers, or why it answers nothing.
-fn print<T: Display + Drop>(rt: &HostRuntime, call: &str, told: Result<T, Stopped>) -> io::Result<()> {
+fn print<T: Display + Drop>(
+    rt: &HostRuntime,
+    call: &str,
+    told: Result<T, Stopped>,
+) -> io::Result<()> {
     match told {
         Ok(answer) => println!(rt; "{call}: {answer}"),
         Err(fault) => println!(rt; "{call}: nothing, {fault}"),
@@ -172,11 +178,7 @@ fn print_bytes(rt: &HostRuntime, call: &str, bytes: &[u8]) -> io::Result<()> {
 }
 
 // Prints a text that was written, or why there is none.
-fn print_text(
-    rt: &HostRuntime,
-    call: &str,
-    told: Result<Vec<u8>, Stopped>,
-) -> io::Result<()> {
+fn print_text(rt: &HostRuntime, call: &str, told: Result<Vec<u8>, Stopped>) -> io::Result<()> {
     match told {
         Ok(text) => print_bytes(rt, call, text.as_slice()),
         Err(fault) => println!(rt; "{call}: nothing, {fault}"),
