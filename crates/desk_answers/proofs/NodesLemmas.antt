@@ -37,5 +37,5 @@ pub nodes_unread : (before after : List Node) (ws : List (String Global)) (i : �
     → IsNodeAdded (node_of_text (string_bytes (get_or ws i d))) before after (Err fault)
     → AreRead {A = Global} (nodes_of (map string_bytes ws)) (Err fault)
 nodes_unread before after ws i d fault e h added =
-    unread (string_bytes (get_or ws i d)) (map string_bytes (drop (suc i) ws)) (nodes_of (map string_bytes ws)) before after
+    unread Global (string_bytes (get_or ws i d)) (map string_bytes (drop (suc i) ws)) (nodes_of (map string_bytes ws)) before after
     fault (sym (from_word before ws i d h) ∙ sym e) added

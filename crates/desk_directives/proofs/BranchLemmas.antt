@@ -1,5 +1,5 @@
 -- Branches by the words of their nodes.
-use Rattle.std.proofs.Common.{◌≡◌, ℕ, List, [], ◌∷◌, ◌++◌, Option, Some, None, Err, refl, sym, ap, append_assoc, option_map}
+use Rattle.std.proofs.Common.{◌≡◌, ℕ, List, [], ◌∷◌, ◌++◌, Option, Some, None, Err, refl, sym, ap, ◌∙◌, append_assoc, option_map}
 use Rattle.std.proofs.lemmas.Option.{none-some, same_Some}
 use Rattle.version_nodes.specs.Nodes.{Node, node_of_text}
 use Rattle.version_nodes.specs.Trees.{Ancestry}
@@ -47,8 +47,8 @@ no_node_added word words before e =
     rest (Some nodes) = refl
 
 -- what is read of all words, where one of them isn't read
-pub unread : {A : Type 0} (word : List ℕ) (words : List (List ℕ)) (all : Option (List Node)) (before after : List Node)
+pub unread : (A : Type 0) (word : List ℕ) (words : List (List ℕ)) (all : Option (List Node)) (before after : List Node)
     (fault : NodeFault) → after_nodes before (word ∷ words) ≡ all
     → IsNodeAdded (node_of_text word) before after (Err fault) → AreRead {A = A} all (Err fault)
-unread word words all before after WordIsNoNode e h = sym e ∙ no_node_added word words before h.0
-unread word words all before after NoMemory e h = tt
+unread A word words all before after WordIsNoNode e h = sym e ∙ no_node_added word words before h.0
+unread A word words all before after NoMemory e h = tt

@@ -1,5 +1,5 @@
 -- What is read of the words of a branch.
-use Rattle.std.specs.Prelude.{◌≡◌, List, [], ◌∷◌, ◌++◌, Option, Some, None, Result, Ok, Err, Vec, Unit, ⊤, option_map}
+use Rattle.std.specs.Prelude.{◌≡◌, List, [], ◌∷◌, ◌++◌, Option, Some, None, Result, Ok, Err, Vec, ⊤, option_map}
 use Rattle.version_nodes.specs.Nodes.{Node}
 use Rattle.version_nodes.specs.declared.fault.NodeFault.{NodeFault}
 use Rattle.version_nodes.specs.declared.fault.NodeFault.TheVariants.{BadNode as WordIsNoNode, Memory as NoMemory}

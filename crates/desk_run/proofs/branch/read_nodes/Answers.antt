@@ -1,4 +1,4 @@
-use Rattle.std.proofs.Common.{rules, ◌≡◌, ◌<◌, ℕ, List, ◌∷◌, length, Err, sym, ap, ◌∙◌, refl, subst, arith}
+use Rattle.std.proofs.Common.{rules, ◌≡◌, ◌<◌, ℕ, List, ◌∷◌, length, Err, Global, sym, ap, ◌∙◌, refl, subst, arith}
 use Rattle.control_text.specs.Words.{words}
 use Rattle.version_nodes.specs.Nodes.{Node, node_of_text}
 use Rattle.desk_directives.specs.Branches.{nodes_of}
@@ -21,7 +21,7 @@ returns-then-is_empty c =
 pub returns-in_err-add_node : goal.returns-in_err-add_node
 returns-in_err-add_node c =
     let told : c.from_residual.result ≡ Err c.in_err-add_node.field-0.0 = search rules in
-    rw told (unread c.next_word.result.0.now (words c.next_word.result.1.now) (nodes_of (words c.args.text.now))
+    rw told (unread Global c.next_word.result.0.now (words c.next_word.result.1.now) (nodes_of (words c.args.text.now))
     c.loop-word.nodes.items c.add_node.new.nodes.items c.in_err-add_node.field-0.0
     (ap (after_nodes c.loop-word.nodes.items)
     (sym (c.next_word.ensures.first (some_bytes c.next_word.result.0.now (sym c.if-is_empty.ensures))))
