@@ -72,7 +72,7 @@ returns-in_err-end-clause-mismatch c = λ e are.
     let found = c.in-Some.ensures.lookup in
     let at = ap (slice_get c.args.kept.now) (sym size) ∙ slice_get_read c.args.kept.now _ (length c.as_slice.result.now) c.in-Some.outcome.now refl found.3.0 found.1 in
     let p = err_from_is_err_and c.from_residual.result c.from_residual.ensures.1 in
-    let fault : c.in_err-end.field-0.0 ≡ Mismatch = cc (e, p) in
+    let fault : c.in_err-end.field-0.0 ≡ Mismatch = cc (e, p.1, p.2) in
     let there = c.in_err-end.ensures.told (ap Err fault) in
     c.in_err-end.ensures.mismatch (ap Err fault)
     (ap (λ es. name_refusal (known_names es) (new_names (c.index-lines-i.result, c.in-Some.outcome.now))) inv.outcomes
