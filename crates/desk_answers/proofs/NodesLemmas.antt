@@ -1,6 +1,6 @@
 -- The nodes of words, from a word on.
 use Rattle.std.proofs.Common.{◌≡◌, ℕ, suc, ◌+◌, ◌<◌, ◌≤◌, List, ◌∷◌, ◌++◌, length, drop, get_or, map, Option, Some}
-use Rattle.std.proofs.Common.{string_bytes, String, Global, Err, sym, ap, ◌∙◌, add-one, append-nil}
+use Rattle.std.proofs.Common.{string_bytes, String, Global, Ok, Err, refl, sym, ap, ◌∙◌, add-one, append-nil}
 use Rattle.std.proofs.Common.{drop-cons, drop_of_length-le}
 use Rattle.version_nodes.specs.Nodes.{Node, node_of_text}
 use Rattle.version_nodes.specs.declared.fault.NodeFault.{NodeFault}
@@ -18,7 +18,7 @@ from_word : (nodes : List Node) (ws : List (String Global)) (i : ℕ) (d : Strin
 from_word nodes ws i d h = ap (λ (l : List (String Global)). after_nodes nodes (map string_bytes l)) (drop-cons ws i d h)
 
 pub nodes_more : (before after : List Node) (ws : List (String Global)) (i : ℕ) (d : String Global) → i < length ws
-    → IsNodeAdded (node_of_text (string_bytes (get_or ws i d))) before after (Ok ())
+    → IsNodeAdded (node_of_text (string_bytes (get_or ws i d))) before after (Ok tt)
     → nodes_from before ws i ≡ nodes_from after ws (i + 1)
 nodes_more before after ws i d h added =
     from_word before ws i d h

@@ -17,5 +17,5 @@ loop-word-preserved c =
     c.loop-word.invariant
     ∙ nodes_more c.loop-word.nodes.items c.add_node.new.nodes.items c.args.words.now c.loop-word.word-index
     c.word-item.result (omega (arith, c.loop-word-test.true))
-    (subst (λ (text : List ℕ). IsNodeAdded (node_of_text text) c.loop-word.nodes.items c.add_node.new.nodes.items (Ok ()))
+    (subst (λ (text : List ℕ). IsNodeAdded (node_of_text text) c.loop-word.nodes.items c.add_node.new.nodes.items (Ok tt))
     (c.as_str.ensures.value ∙ ap string_bytes c.word-item.is) c.in_ok-add_node.ensures)
