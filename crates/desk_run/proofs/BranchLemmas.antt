@@ -1,5 +1,5 @@
 -- A branch that is carried out in parts.
-use Rattle.std.proofs.Common.{◌≡◌, inl, inr, ℕ, Bool, ◌∷◌, ◌++◌, [], List, Option, Some, None, Result, Ok, Err, true, sym, ◌∙◌}
+use Rattle.std.proofs.Common.{◌≡◌, inl, inr, ℕ, Bool, ◌∷◌, [], List, Some, None, Result, Ok, Err, true, sym, ◌∙◌}
 use Rattle.std.proofs.Common.{ap, subst, refl, append-nil, false, arith}
 use Rattle.std.specs.Prelude.{length, ◌==◌, ◌||◌}
 use Rattle.std.proofs.lemmas.Bool.{false≢true, eqb-true}

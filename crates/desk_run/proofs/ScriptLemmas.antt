@@ -4,13 +4,14 @@ use Rattle.std.proofs.Common.{Result, Ok, Err, append_assoc, append-nil, length-
 use Rattle.std.specs.Prelude.{◌≢◌, ⊤}
 use Rattle.std.specs.Result.{IfErr, OnOk}
 use Rattle.bug_record.specs.Desk.{Desk}
+use Rattle.bug_record.specs.declared.outcome.StoreFault.TheVariants as faults
 use Rattle.desk_store.specs.Store.{Faults}
 use Rattle.desk_lines.specs.Lines.{without_return, raw_lines, lines_of}
 use Rattle.desk_lines.specs.Reading.{IsGoodLine, IsLineFault, IsReadingFault, IsBegun, Known, Left}
 use Rattle.desk_run.specs.Script.{Part, Message, Standing, parts_of_lines, script_of, after_parts}
 use Rattle.desk_run.specs.Gathering.{parts_from}
 use Rattle.desk_run.specs.Running.{Stops, StopsIn, IfBegun, Ends, AreGood, IsFirstBad, IsPlace, IsReadInPart, IsFinished}
-use Rattle.desk_run.specs.Running.{StopsInGoodLines}
+use Rattle.desk_run.specs.Running.{StopsInGoodLines, IsCounted}
 use Rattle.desk_run.specs.Carrying.{Runs, EndsParts, IsOfPart}
 use Rattle.desk_lines.specs.declared.fault.ScriptFault.{ScriptFault}
 use Rattle.desk_lines.specs.declared.fault.ScriptFault.TheVariants as stops
@@ -242,6 +243,16 @@ pub stops_at_once : (input : List ℕ) (rest : Option (List ℕ)) (a : Standing)
 stops_at_once input rest a n c =
     stops_reading [] [] [] input input rest 1 a a a.desk n n c c stops.Memory (nothing_read input) (λ lines. refl)
     (runs_none a c) refl refl refl tt tt
+
+-- a fault of the reading is none of the store
+pub reading_counted : (T : Type 0) (number : ℕ) (fault : ScriptFault) (n m : Faults) → IsReadingFault number fault → m ≡ n
+    → IsCounted {T = T} (Err fault) n m
+reading_counted T number stops.Read n m o e = e
+reading_counted T number stops.Memory n m o e = (faults.Memory, e)
+reading_counted T number (stops.NotUtf8 line) n m o e = e
+reading_counted T number (stops.LineTooLong line) n m o e = e
+reading_counted T number stops.Write n m o e = absurd o
+reading_counted T number (stops.Store fault) n m o e = absurd o
 
 pub left_more : {a b c : Option (List ℕ)} {P Q R : List ℕ → List ℕ → Type 0} → Left a b P → Left b c Q
     → ((xs ys zs : List ℕ) → P xs ys → Q ys zs → R xs zs) → Left a c R

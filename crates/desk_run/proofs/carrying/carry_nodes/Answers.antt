@@ -23,7 +23,7 @@ returns-in_err-write_out-clause-answer g c =
     let s = standing (g.S.Records.desk c.args.store.now) c.args.run.now.sender c.args.run.now.refused in
     let text = c.as_slice.ensures.value ∙ c.in-Ok.ensures in
     let p = err_from_is_err_and c.from_residual.result c.from_residual.ensures.1 in
-    let e : c.from_residual.result ≡ Err Write = cc (p, c.in_err-write_out.ensures.write) in
+    let e : c.from_residual.result ≡ Err Write = cc (p.1, p.2, c.in_err-write_out.ensures.write) in
     rw e (holds_weaker c.branch-answer.ensures.answer
     (λ r. (
       branch_answer c.branch-answer.result,
@@ -83,5 +83,5 @@ pub returns-in_err-write_out-clause-count : goal.returns-in_err-write_out-clause
 returns-in_err-write_out-clause-count g c =
     let n = branch_count c.branch-answer.result (g.S.Records.faults c.args.store.now) in
     let p = err_from_is_err_and c.from_residual.result c.from_residual.ensures.1 in
-    let e : c.from_residual.result ≡ Err Write = cc (p, c.in_err-write_out.ensures.write) in
+    let e : c.from_residual.result ≡ Err Write = cc (p.1, p.2, c.in_err-write_out.ensures.write) in
     rw e (n.0, c.branch-answer.ensures.count ∙ n.1)

@@ -11,11 +11,11 @@ use Rattle.desk_directives.proofs.BranchLemmas.{branch_of_none}
 use Rattle.desk_run.proofs.QuestionLemmas.{question_carried}
 use Rattle.desk_run.proofs.carrying.carry_out.Goals as goal
 
-pub returns-in-From-clause-answer : goal.returns-in-From-clause-answer
-returns-in-From-clause-answer g c =
+pub returns-in_ok-run-in-From-clause-answer : goal.returns-in_ok-run-in-From-clause-answer
+returns-in_ok-run-in-From-clause-answer g c =
     let s = standing (g.S.Records.desk c.args.store.now) c.args.run.now.sender c.args.run.now.refused in
-    let e = ap From c.in_ok-of.ensures ∙ c.in-From.ensures.value in
-    holds_none _ _ _ (order_done c.args.line.now s _ _ _ _ (From c.in_ok-of.field-0) e refl refl
+    let e = ap From c.in_ok-run-in-From.ensures ∙ c.in-From.ensures.value in
+    holds_none _ _ _ (order_done c.args.line.now s _ _ _ _ _ e refl refl
     (appends_none (g.W.Write.contents c.args.writer.now)))
 
 pub returns-in-Err-BadNode-clause-answer : goal.returns-in-Err-BadNode-clause-answer

@@ -22,7 +22,7 @@ returns-in_err-write_out-clause-answer g c =
     let s = standing (g.S.Records.desk c.args.store.now) c.args.run.now.sender c.args.run.now.refused in
     let text = c.as_slice.ensures.value ∙ c.in-Ok.ensures in
     let p = err_from_is_err_and c.from_residual.result c.from_residual.ensures.1 in
-    let e : c.from_residual.result ≡ Err Write = cc (p, c.in_err-write_out.ensures.write) in
+    let e : c.from_residual.result ≡ Err Write = cc (p.1, p.2, c.in_err-write_out.ensures.write) in
     rw e (holds_weaker c.report-answer.ensures.answer
     (λ r. (
       report_answer c.report-answer.result,
@@ -54,11 +54,11 @@ returns-in-Some-clause-answer g c =
     let of_store = sym c.store_fault.ensures ∙ c.in-Some.is in
     holds_weaker c.report-answer.ensures.answer
     (λ r.
-    let f = reported_fault c.args.line.now _ _ _ _ s _ c.in-Err-answer.fault c.in-Some.fault of_store c.requires
-    (rw (c.as_str.ensures, c.in-Err-answer.is) at r) in (
+    let f = reported_fault c.args.line.now _ _ _ _ s _ c.in-Err.fault c.in-Some.fault of_store c.requires
+    (rw (c.as_str.ensures, c.in-Err.is) at r) in (
       report_answer c.report-answer.result,
-      (f.0, f.1, ap report_answer c.in-Err-answer.is ∙ f.2),
-      rw c.in-Err-answer.is at c.report-answer.ensures.count ∙ fault_count c.in-Err-answer.fault c.in-Some.fault _ of_store,
+      (f.0, f.1, ap report_answer c.in-Err.is ∙ f.2),
+      rw c.in-Err.is at c.report-answer.ensures.count ∙ fault_count c.in-Err.fault c.in-Some.fault _ of_store,
       subst (Appends (g.W.Write.contents c.args.writer.now) (g.W.Write.contents c.write_out.new.writer)) text
           c.in_ok-write_out.ensures.all,
     ))
@@ -66,7 +66,7 @@ returns-in-Some-clause-answer g c =
 pub returns-in-Some-clause-count : goal.returns-in-Some-clause-count
 returns-in-Some-clause-count g c =
     let of_store = sym c.store_fault.ensures ∙ c.in-Some.is in
-    rw c.in-Err-answer.is at c.report-answer.ensures.count ∙ fault_count c.in-Err-answer.fault c.in-Some.fault _ of_store
+    rw c.in-Err.is at c.report-answer.ensures.count ∙ fault_count c.in-Err.fault c.in-Some.fault _ of_store
 
 pub returns-clause-answer : goal.returns-clause-answer
 returns-clause-answer g c =
@@ -75,17 +75,17 @@ returns-clause-answer g c =
     let not_of_store = sym c.store_fault.ensures ∙ c.in-None.is in
     holds_weaker c.report-answer.ensures.answer
     (λ r.
-    let w = reported_refused c.args.line.now _ _ _ _ s _ c.in-Err-answer.fault not_of_store c.requires
-    (rw (c.as_str.ensures, c.in-Err-answer.is) at r) in (
+    let w = reported_refused c.args.line.now _ _ _ _ s _ c.in-Err.fault not_of_store c.requires
+    (rw (c.as_str.ensures, c.in-Err.is) at r) in (
       w.0,
       subst (Appends (g.W.Write.contents c.args.writer.now) (g.W.Write.contents c.write_out.new.writer))
-          (text ∙ ap report_answer c.in-Err-answer.is ∙ w.1) c.in_ok-write_out.ensures.all,
+          (text ∙ ap report_answer c.in-Err.is ∙ w.1) c.in_ok-write_out.ensures.all,
     ))
 
 pub returns-clause-count : goal.returns-clause-count
 returns-clause-count g c =
     let not_of_store = sym c.store_fault.ensures ∙ c.in-None.is in
-    rw c.in-Err-answer.is at c.report-answer.ensures.count ∙ refused_count c.in-Err-answer.fault _ not_of_store
+    rw c.in-Err.is at c.report-answer.ensures.count ∙ refused_count c.in-Err.fault _ not_of_store
 
 pub returns-in_default-clause-count : goal.returns-in_default-clause-count
 returns-in_default-clause-count g c =
@@ -96,5 +96,5 @@ pub returns-in_err-write_out-clause-count : goal.returns-in_err-write_out-clause
 returns-in_err-write_out-clause-count g c =
     let n = report_count c.report-answer.result (g.S.Records.faults c.args.store.now) in
     let p = err_from_is_err_and c.from_residual.result c.from_residual.ensures.1 in
-    let e : c.from_residual.result ≡ Err Write = cc (p, c.in_err-write_out.ensures.write) in
+    let e : c.from_residual.result ≡ Err Write = cc (p.1, p.2, c.in_err-write_out.ensures.write) in
     rw e (n.0, c.report-answer.ensures.count ∙ n.1)

@@ -7,9 +7,10 @@ use Rattle.desk_run.specs.Gathering.{parts_from}
 use Rattle.desk_lines.specs.Buffered.{Buffered, bytes_left}
 use Rattle.desk_lines.specs.declared.fault.ScriptFault.{ScriptFault}
 use Rattle.desk_lines.specs.declared.fault.ScriptFault.TheVariants.{Read}
+use Rattle.desk_run.specs.declared.script.ScriptEnd.{ScriptEnd}
 use Rattle.desk_run.proofs.RunLemmas.{runs_then, runs_none}
 use Rattle.desk_run.proofs.ScriptLemmas.{ReadTo, nothing_read, read_more, cut_more, stops_reading, stops_at_once}
-use Rattle.desk_run.proofs.ScriptLemmas.{left_more, left_same, read_in_part, known_before, none_right, on_ok}
+use Rattle.desk_run.proofs.ScriptLemmas.{left_more, left_same, reading_counted, read_in_part, known_before, none_right, on_ok}
 use Rattle.desk_run.proofs.ScriptLemmas.{stops_in_line, last_line, ends_at_last, ends_at_end, one_line_more}
 use Rattle.desk_run.proofs.script.run_script.Goals as goal
 
@@ -39,66 +40,72 @@ loop-number-init g c = record {
   stays = holds_none _ _ _ refl;
 }
 
-pub returns-in_err-next_line-clause-answer : goal.returns-in_err-next_line-clause-answer
-returns-in_err-next_line-clause-answer g c =
+pub returns-in_err-line-clause-answer : goal.returns-in_err-line-clause-answer
+returns-in_err-line-clause-answer g c =
     let i = c.loop-number.invariant in
     let p = err_from_is_err_and c.from_residual.result c.from_residual.ensures.1 in
     rw (p.1, p.2) (holds_weaker i.ran
-    (λ ran. known_before i.read c.in_err-next_line.ensures.fault
+    (λ ran. known_before i.read c.in_err-line.ensures.fault
     (λ xs ys r f. stops_reading i.texts i.before c.loop-number.run.gathered.items xs (c.loop-number.source.unread ++ ys) _
-    c.loop-number.number _ _ _ _ _ _ _ c.in_err-next_line.field-0.0 r i.cut ran refl i.faults i.counted c.in_err-next_line.ensures.outside f)))
+    c.loop-number.number _ _ _ _ _ _ _ c.in_err-line.field-0.0 r i.cut ran refl i.faults i.counted c.in_err-line.ensures.outside f)))
 
-pub returns-in_err-next_line-clause-begun : goal.returns-in_err-next_line-clause-begun
-returns-in_err-next_line-clause-begun g c e =
+pub returns-in_err-line-clause-begun : goal.returns-in_err-line-clause-begun
+returns-in_err-line-clause-begun g c e =
     let i = c.loop-number.invariant in
     let p = err_from_is_err_and c.from_residual.result c.from_residual.ensures.1 in
-    let read : c.in_err-next_line.field-0.0 ≡ Read = cc (e, p) in
-    let none = c.in_err-next_line.ensures.emptied (ap (λ (z : ScriptFault). Err z) read) in
+    let read : c.in_err-line.field-0.0 ≡ Read = cc (e, p.1, p.2) in
+    let none = c.in_err-line.ensures.emptied (ap (λ (z : ScriptFault). Err z) read) in
     read_in_part i.texts c.loop-number.source.unread c.next_line.new.source.unread none i.read
-    (c.in_err-next_line.ensures.begun (ap (λ (z : ScriptFault). Err z) read))
+    (c.in_err-line.ensures.begun (ap (λ (z : ScriptFault). Err z) read))
 
-pub returns-in_err-take_line-clause-answer : goal.returns-in_err-take_line-clause-answer
-returns-in_err-take_line-clause-answer g c =
+pub returns-in_err-line-clause-count : goal.returns-in_err-line-clause-count
+returns-in_err-line-clause-count g c =
+    let p = err_from_is_err_and c.from_residual.result c.from_residual.ensures.1 in
+    rw (p.1, p.2) (reading_counted ScriptEnd c.loop-number.number c.in_err-line.field-0.0 _ _ c.in_err-line.ensures.outside
+    c.loop-number.invariant.faults)
+
+pub returns-in_err-take_line-in-Line-clause-answer : goal.returns-in_err-take_line-in-Line-clause-answer
+returns-in_err-take_line-in-Line-clause-answer g c =
     let i = c.loop-number.invariant in
-    let piece = rw c.in-Line.is at c.in_ok-next_line.ensures.piece in
-    let p = err_from_is_err_and c.from_residual-in_err-take_line.result c.from_residual-in_err-take_line.ensures.1 in
-    rw (p.1, p.2) (holds_then i.ran c.in_err-take_line.ensures.err
+    let piece = rw c.in-Line.is at c.in_ok-line.ensures.piece in
+    let p = err_from_is_err_and c.from_residual-in_err-take_line-in-Line.result c.from_residual-in_err-take_line-in-Line.ensures.1 in
+    rw (p.1, p.2) (holds_then i.ran c.in_err-take_line-in-Line.ensures.err
     (λ ran stop. stops_in_line i.texts i.before c.loop-number.run.gathered.items c.loop-number.source.unread
-    c.next_line.new.source.unread c.in-Line.line _ _ _ _ _ _ _ _ _ c.in_err-take_line.field-0.0 i.faults i.read piece i.cut ran
-    c.in_err-take_line.ensures.own stop))
+    c.next_line.new.source.unread c.in-Line.line _ _ _ _ _ _ _ _ _ c.in_err-take_line-in-Line.field-0.0 i.faults i.read piece i.cut ran
+    c.in_err-take_line-in-Line.ensures.own stop))
 
-pub returns-in_err-take_line-2-clause-answer : goal.returns-in_err-take_line-2-clause-answer
-returns-in_err-take_line-2-clause-answer g c =
+pub returns-in_err-take_line-in-Last-clause-answer : goal.returns-in_err-take_line-in-Last-clause-answer
+returns-in_err-take_line-in-Last-clause-answer g c =
     let i = c.loop-number.invariant in
     let piece = last_line c.loop-number.source.unread c.next_line.new.source.unread c.in-Last.line
-    (rw c.in-Last.is at c.in_ok-next_line.ensures.piece) in
-    let p = err_from_is_err_and c.from_residual-in_err-take_line-2.result c.from_residual-in_err-take_line-2.ensures.1 in
-    rw (p.1, p.2) (holds_then i.ran c.in_err-take_line-2.ensures.err
+    (rw c.in-Last.is at c.in_ok-line.ensures.piece) in
+    let p = err_from_is_err_and c.from_residual-in_err-take_line-in-Last.result c.from_residual-in_err-take_line-in-Last.ensures.1 in
+    rw (p.1, p.2) (holds_then i.ran c.in_err-take_line-in-Last.ensures.err
     (λ ran stop. stops_in_line i.texts i.before c.loop-number.run.gathered.items c.loop-number.source.unread
-    c.next_line.new.source.unread c.in-Last.line _ _ _ _ _ _ _ _ _ c.in_err-take_line-2.field-0.0 i.faults i.read piece i.cut
-    ran c.in_err-take_line-2.ensures.own stop))
+    c.next_line.new.source.unread c.in-Last.line _ _ _ _ _ _ _ _ _ c.in_err-take_line-in-Last.field-0.0 i.faults i.read piece i.cut
+    ran c.in_err-take_line-in-Last.ensures.own stop))
 
 pub returns-in-Last-clause-answer : goal.returns-in-Last-clause-answer
 returns-in-Last-clause-answer g c =
     let i = c.loop-number.invariant in
-    let more = c.in_ok-take_line-2.ensures.ok in
-    let piece = rw c.in-Last.is at c.in_ok-next_line.ensures.piece in
+    let more = c.in_ok-take_line-in-Last.ensures.ok in
+    let piece = rw c.in-Last.is at c.in_ok-line.ensures.piece in
     holds_then (holds_both i.ran more.2) c.finish_script.ensures.answer
     (λ p ends. ends_at_last i.texts i.before more.0 c.loop-number.run.gathered.items c.take_line-in-Last.new.run.gathered.items
     c.loop-number.source.unread c.next_line.new.source.unread c.in-Last.line _ _ _ _ _ _ _ _ _ c.finish_script.result
     i.read piece i.cut more.1 (runs_then i.before more.0 _ _ _ _ _ _ p.0 p.1) c.finish_script.ensures.own
-    (c.in_ok-take_line-2.ensures.count ∙ i.faults) ends)
+    (c.in_ok-take_line-in-Last.ensures.count ∙ i.faults) ends)
 
 pub returns-in-Last-clause-read : goal.returns-in-Last-clause-read
 returns-in-Last-clause-read g c =
     let i = c.loop-number.invariant in
-    let piece = rw c.in-Last.is at c.in_ok-next_line.ensures.piece in
+    let piece = rw c.in-Last.is at c.in_ok-line.ensures.piece in
     on_ok c.finish_script.result (left_more i.read piece (λ xs ys zs r p. none_right c.next_line.new.source.unread zs p.4))
 
 pub returns-in-End-clause-answer : goal.returns-in-End-clause-answer
 returns-in-End-clause-answer g c =
     let i = c.loop-number.invariant in
-    let piece = rw c.in-End.is at c.in_ok-next_line.ensures.piece in
+    let piece = rw c.in-End.is at c.in_ok-line.ensures.piece in
     holds_then i.ran c.finish_script-in-End.ensures.answer
     (λ ran ends. ends_at_end i.texts i.before c.loop-number.run.gathered.items c.loop-number.source.unread
     c.next_line.new.source.unread _ _ _ _ _ _ _ _ _ c.finish_script-in-End.result i.read piece i.cut ran
@@ -107,28 +114,28 @@ returns-in-End-clause-answer g c =
 pub returns-in-End-clause-read : goal.returns-in-End-clause-read
 returns-in-End-clause-read g c =
     let i = c.loop-number.invariant in
-    let piece = rw c.in-End.is at c.in_ok-next_line.ensures.piece in
+    let piece = rw c.in-End.is at c.in_ok-line.ensures.piece in
     on_ok c.finish_script-in-End.result
     (left_more i.read piece (λ xs ys zs r p. none_right c.next_line.new.source.unread zs p.1))
 
 pub loop-number-preserved : goal.loop-number-preserved
 loop-number-preserved g c =
     let i = c.loop-number.invariant in
-    let more = c.in_ok-take_line.ensures.ok in
-    let piece = rw c.in-Line.is at c.in_ok-next_line.ensures.piece in
+    let more = c.in_ok-take_line-in-Line.ensures.ok in
+    let piece = rw c.in-Line.is at c.in_ok-line.ensures.piece in
     record {
       before = i.before ++ more.0;
       texts = i.texts ++ c.in-Line.line ∷ [];
       counted = one_line_more i.texts c.in-Line.line c.loop-number.number i.counted;
-      within = omega (arith, i.within, c.in_ok-next_line.ensures.fewer);
+      within = omega (arith, i.within, c.in_ok-line.ensures.fewer);
       cut = cut_more i.texts i.before more.0 c.loop-number.run.gathered.items c.take_line.new.run.gathered.items c.in-Line.line
           i.cut more.1;
-      faults = c.in_ok-take_line.ensures.count ∙ i.faults;
+      faults = c.in_ok-take_line-in-Line.ensures.count ∙ i.faults;
       read = left_more i.read piece
           (λ xs ys zs r p. read_more i.texts xs (c.loop-number.source.unread ++ ys) (c.next_line.new.source.unread ++ zs)
           c.in-Line.line r p);
       ran = holds_then i.ran more.2 (λ p q. runs_then i.before more.0 _ _ _ _ _ _ p q);
-      stays = holds_then i.stays c.in_ok-take_line.ensures.stays (λ p q. q ∙ p);
+      stays = holds_then i.stays c.in_ok-take_line-in-Line.ensures.stays (λ p q. q ∙ p);
     }
 
 pub returns-clause-answer : goal.returns-clause-answer

@@ -15,8 +15,8 @@ returns-in_err-finish_message-clause-err g c =
     rw (p.1, p.2) (holds_weaker c.in_err-finish_message.ensures.answer
     (λ s lines. stops_at_message c.args.run.now.gathered.items c.args.line lines _ _ _ _ _ _ _ e s))
 
-pub returns-then-is_directive-clause-ok : goal.returns-then-is_directive-clause-ok
-returns-then-is_directive-clause-ok g c =
+pub returns-in_ok-carry_out-clause-ok : goal.returns-in_ok-carry_out-clause-ok
+returns-in_ok-carry_out-clause-ok g c =
     let e : is_directive c.args.line ≡ true =
     sym (c.is_directive.ensures ∙ ap is_directive c.as_str.ensures) ∙ c.if-is_directive.true in
     let none : c.carry_out.new.run.gathered.items ≡ [] = c.in_ok-carry_out.ensures.gathered ∙ c.in_ok-finish_message.ensures.cleared in (
@@ -39,8 +39,8 @@ returns-in_err-carry_out-clause-err g c =
     (λ q s lines. stops_at_order c.args.run.now.gathered.items c.args.line lines _ _ _ _ _ _ _ _ _ _ e
     c.in_ok-finish_message.ensures.count q s))
 
-pub returns-else-is_directive-clause-ok : goal.returns-else-is_directive-clause-ok
-returns-else-is_directive-clause-ok g c =
+pub returns-in_ok-push-clause-ok : goal.returns-in_ok-push-clause-ok
+returns-in_ok-push-clause-ok g c =
     let e : is_directive c.args.line ≡ false =
     sym (c.is_directive.ensures ∙ ap is_directive c.as_str.ensures) ∙ c.if-is_directive.false in (
       [],
