@@ -23,7 +23,7 @@ pub nodes_more : (before after : List Node) (ws : List (String Global)) (i : ℕ
 nodes_more before after ws i d h added =
     from_word before ws i d h
     ∙ node_added (node_of_text (string_bytes (get_or ws i d))) (string_bytes (get_or ws i d))
-      (map string_bytes (drop (suc i) ws)) before after refl added
+    (map string_bytes (drop (suc i) ws)) before after refl added
     ∙ ap (nodes_from after ws) (sym (add-one i))
 
 pub nodes_end : (nodes : List Node) (ws : List (String Global)) (i : ℕ) → length ws ≤ i → nodes_from nodes ws i ≡ Some nodes
