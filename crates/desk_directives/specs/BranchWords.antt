@@ -12,6 +12,6 @@ AreRead nodes (Err NoMemory) = ⊤
 
 -- what comes of reading one word, which is this node if it is one, after the nodes before it
 abbrev pub IsNodeAdded : Option Node → List Node → List Node → Result (Unit {0}) NodeFault → Type 0
-IsNodeAdded node before after (Ok done) = option_map (λ n. before ++ n ∷ []) node ≡ Some after
-IsNodeAdded node before after (Err WordIsNoNode) = (node ≡ None) × (after ≡ before)
-IsNodeAdded node before after (Err NoMemory) = after ≡ before
+IsNodeAdded read before after (Ok done) = option_map (λ n. before ++ n ∷ []) read ≡ Some after
+IsNodeAdded read before after (Err WordIsNoNode) = (read ≡ None) × (after ≡ before)
+IsNodeAdded read before after (Err NoMemory) = after ≡ before
