@@ -1,11 +1,13 @@
 //! The first calls of the crates that others may want by themselves.
 //! The page CALLING.md beside each of these crates has its lines of them.
 
+ghost use Rattle.control_text.specs.WellFormed.{IsWellFormed, IsWellFormedLine};
+
 use crate::answers::shown;
 use ancestry::{BranchFault, Tree, status};
 use bug_core::{Severity, report_change};
-use bug_record::{StoreFault, is_text};
-use control_text::{Line, LineFault, WordsFault, read_line, words_to_lines, write_command};
+use bug_record::{Command, StoreFault, is_text};
+use control_text::{Line, LineFault, Named, WordsFault, read_line, words_to_lines, write_command};
 use debver::{VersionFault, check, order};
 use desk_http::{ServeFault, serve_one};
 use desk_in_memory::PlainDesk;
@@ -72,20 +74,38 @@ fn spelled(alloc: Global, words: &[&str]) -> Result<String, Stopped> {
 
 // The same of one line.
 fn add_spelled(alloc: Global, text: &mut String, line: &str) -> Result<(), Stopped> {
-    if let Line::Do(command) = read_line(alloc, line)? {
-        text.push_str(write_command(alloc, &command)?.as_str())?;
-        text.push('\n')?;
+    match read_line(alloc, line) {
+        Ok(line) => add_spelling(alloc, text, &line),
+        Err(fault) => Err(Stopped::Line(fault)),
     }
+}
+
+// The same of a line that was read.
+fn add_spelling(alloc: Global, text: &mut String, line: &Line) -> Result<(), Stopped>
+    requires { IsWellFormedLine line.now }
+{
+    match line {
+        Line::Do(command) => add_command(alloc, text, command),
+        _ => Ok(()),
+    }
+}
+
+// The same of a command.
+fn add_command(alloc: Global, text: &mut String, command: &Command<Named>) -> Result<(), Stopped>
+    requires { IsWellFormed command.now }
+{
+    let spelling = write_command(alloc, command)?;
+    text.push_str(spelling.as_str())?;
+    text.push('\n')?;
     Ok(())
 }
 
-// bug_core: the number after the first report of a desk; none where the title is no text.
-fn next_after_report(alloc: Global, title: &str) -> Result<Option<u64>, Stopped> {
-    if !is_text(title) {
+// bug_core: the number after the first report of a desk; none where one of these is no text.
+fn next_after_report(alloc: Global, from: &str, title: &str) -> Result<Option<u64>, Stopped> {
+    if !is_text(from) || !is_text(title) {
         return Ok(None);
     }
-    let grave = Severity::Grave;
-    let change = report_change(alloc, "ann@example.org", "hello", grave, title, None, 1)?;
+    let change = report_change(alloc, from, "hello", Severity::Grave, title, None, 1)?;
     Ok(Some(change.next))
 }
 
@@ -95,9 +115,12 @@ fn next_number<S: Records>(store: &mut S) -> Result<u64, Stopped> {
     Ok(next)
 }
 
-// desk_messages: how many lines of a message a desk answers.
-fn lines_answered<S: Records>(alloc: Global, desk: &mut S, message: &str) -> usize {
-    let received = receive(alloc, desk, "ann@example.org", message);
+// desk_messages: how many lines of a message a desk answers; none where the sender is no text.
+fn lines_answered<S: Records>(alloc: Global, desk: &mut S, from: &str, message: &str) -> usize {
+    if !is_text(from) {
+        return 0;
+    }
+    let received = receive(alloc, desk, from, message);
     received.outcomes.as_slice().len()
 }
 
@@ -125,6 +148,9 @@ fn written_in_tables<S: Alter>(
     script: &str,
     text: &mut Vec<u8>,
 ) -> Connection<S> {
+    if !conn.is_autocommit() {
+        return conn;
+    }
     match TableDesk::create(alloc, conn, 1) {
         Ok(desk) => {
             let mut desk = desk;
@@ -149,11 +175,7 @@ impl ConnectionTask<Vec<u8>> for Script<'_> {
         conn: Connection<S>,
         written: &mut Vec<u8>,
     ) -> Connection<S> {
-        if conn.is_autocommit() {
-            written_in_tables(alloc, conn, self.text, written)
-        } else {
-            conn
-        }
+        written_in_tables(alloc, conn, self.text, written)
     }
 }
 
@@ -196,7 +218,7 @@ fn print_plain(rt: &HostRuntime) -> io::Result<()> {
     }
     let words = ["severity", "1", "grave,", "owner", "it", "ann@example.org"];
     print(rt, "control_text", spelled(alloc, &words))?;
-    match next_after_report(alloc, "it crashes") {
+    match next_after_report(alloc, "ann@example.org", "it crashes") {
         Ok(next) => println!(rt; "bug_core: {next:?}"),
         Err(fault) => println!(rt; "bug_core: nothing, {fault}"),
     }
@@ -209,7 +231,7 @@ fn print_desks(rt: &HostRuntime) -> io::Result<()> {
     let mut desk = PlainDesk::new(alloc, 1);
     print(rt, "desk_store", next_number(&mut desk))?;
     print_text(rt, "desk_run", written(alloc, &mut desk, script))?;
-    let answered = lines_answered(alloc, &mut desk, "# two lines\nclose 1\nclose 2\n");
+    let answered = lines_answered(alloc, &mut desk, "ann", "# two lines\nclose 1\nclose 2\n");
     println!(rt; "desk_messages: {answered}")?;
     let request = "GET /bugs/1 HTTP/1.1\r\nHost: 127.0.0.1\r\n\r\n";
     print(rt, "desk_http", answer(alloc, &mut desk, request))?;
