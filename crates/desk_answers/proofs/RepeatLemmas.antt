@@ -8,7 +8,7 @@ use Rattle.std.specs.Str.{bytes_eq}
 use Rattle.bug_record.specs.Desk.{Desk}
 use Rattle.routes_and_json.specs.Members.{Control}
 use Rattle.desk_lines.specs.Lines.{lines_of}
-use Rattle.desk_messages.specs.declared.message.Received.{Received}
+use Rattle.message_progress.specs.declared.outcomes_so_far.Received.{Received}
 use Rattle.desk_repeats.specs.Once.{IsOnce}
 use Rattle.bug_record.specs.declared.outcome.StoreFault.{StoreFault}
 use Rattle.bug_record.specs.declared.outcome.End.{End}

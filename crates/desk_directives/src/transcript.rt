@@ -6,7 +6,7 @@ ghost use Rattle.desk_directives.specs.Transcripts.{transcript, line_of_end, rec
 
 use debver::Text;
 use desk_lines::split_lines;
-use desk_messages::Received;
+use message_progress::Received;
 use desk_text::{End, Outcome, end_text, outcome_text};
 use std::alloc::{AllocError, Global};
 

@@ -25,11 +25,13 @@ use Rattle.desk_store.specs.Message.{outcome_of, does}
 use Rattle.message_names.specs.Telling.{refusal_meant, result_meant, step_among}
 use Rattle.bug_record.specs.declared.outcome.StoreFault.{StoreFault}
 use Rattle.desk_store.specs.Store.{Answers, with_change}
-use Rattle.desk_messages.specs.Commands.{HaveNumbers, MayBeMade, Fits, Makes, DecidesTold, Decides}
+use Rattle.message_progress.specs.Progress.{HaveNumbers}
+use Rattle.message_progress.specs.Changes.{MayBeMade, Fits}
+use Rattle.desk_messages.specs.Commands.{Makes, DecidesTold, Decides}
 use Rattle.desk_messages.specs.declared.command_decision.Decision.{Decision}
-use Rattle.desk_messages.proofs.RefusalLemmas.{does-good}
-use Rattle.desk_messages.specs.Images.{ShowBugs}
-use Rattle.desk_messages.specs.PlanInputs.{IsAnswered}
+use Rattle.message_progress.proofs.RefusalLemmas.{does-good}
+use Rattle.message_progress.specs.Images.{ShowBugs}
+use Rattle.message_progress.specs.PlanInputs.{IsAnswered}
 
 -- after the two questions
 pub shown : (d d1 : Desk) (images sets : List SetImage) (next : ℕ) (ns : List ℕ) → sets ≡ images → ShowBugs d ns images → d1 ≡ d

@@ -1,9 +1,3 @@
-pub mod RefusalLemmas
-pub mod GivenLemmas
-pub mod WrittenLemmas
 pub mod CommandLemmas
-pub mod GatherLemmas
-pub mod PlanInputLemmas
-pub mod EndLemmas
 pub mod DecidingLemmas
 pub mod MachineLemmas

@@ -10,11 +10,12 @@ use Rattle.bug_record.specs.declared.outcome.End.TheVariants as ends
 use Rattle.desk_store.specs.Store.{Faults, faults_after_end, with_change}
 use Rattle.desk_store.specs.Message.{Entry, Machine, machine, after_lines, at_start, takes, takes_at, end_of}
 use Rattle.desk_store.specs.Message.{Comes, IsReceived}
-use Rattle.desk_messages.specs.Commands.{HaveNumbers}
-use Rattle.desk_messages.specs.Taking.{goes_on, IsDecision}
+use Rattle.message_progress.specs.Progress.{HaveNumbers}
+use Rattle.message_progress.specs.Progress.{goes_on}
+use Rattle.desk_messages.specs.Taking.{IsDecision}
 use Rattle.desk_messages.specs.declared.command_decision.Decision.{Decision}
 use Rattle.desk_messages.specs.Ends.{IsLineOf}
-use Rattle.desk_messages.proofs.EndLemmas.{never_store, at_start_open}
+use Rattle.message_progress.proofs.EndLemmas.{never_store, at_start_open}
 
 -- a decision carried out
 pub took_decision : (sender line text : List ℕ) (d d1 new : Desk) (before room after : List Entry) (named later : Names)

@@ -1,7 +1,4 @@
 pub mod Ends
 -- definitions that only private functions cite
 pub mod Commands
-pub mod Written
-pub mod Images
-pub mod PlanInputs
 pub mod Taking

@@ -14,28 +14,9 @@ use Rattle.bug_record.specs.declared.outcome.End.TheVariants as ends
 use Rattle.desk_store.specs.Store.{with_change}
 use Rattle.desk_store.specs.Kept.{IsGoodOutcome}
 use Rattle.desk_store.specs.Message.{Entry, machine, takes, end_of, unreadable_count, known_names}
-use Rattle.desk_messages.specs.Commands.{HaveNumbers, Fits}
+use Rattle.message_progress.specs.Progress.{HaveNumbers, IsInStep, IsReady}
+use Rattle.message_progress.specs.Changes.{Fits}
 use Rattle.desk_messages.specs.declared.command_decision.Decision.{Decision}
-
--- a message goes on at `All`
-abbrev pub goes_on : End → Bool
-goes_on ends.All = true
-goes_on ends.Stopped = false
-goes_on ends.TooManyUnreadable = false
-goes_on (ends.Store fault k) = false
-
--- The message goes on after these outcomes, so many of its lines could not be read, and these are
--- the names that it has given.
-pub record IsInStep (outcomes : List Entry) (unreadable : ℕ) (known : Names) : Type 0 where
-  pub counted : unreadable ≡ unreadable_count outcomes
-  pub known_are : known ≡ known_names outcomes
-  pub goes_on : end_of outcomes ≡ ends.All
-
--- The same before this line's outcome is added, where the names are known that the line gives.
-pub record IsReady (outcomes : List Entry) (unreadable : ℕ) (known : Names) (entry : Entry) : Type 0 where
-  pub counted : unreadable ≡ unreadable_count outcomes
-  pub known_are : known ≡ known_names (outcomes ++ entry ∷ [])
-  pub goes_on : end_of outcomes ≡ ends.All
 
 -- after a line was decided, which may have no outcome
 abbrev pub IsReadyFor : List Entry → ℕ → Names → List ℕ → Option (List ℕ × Decision) → Type 0

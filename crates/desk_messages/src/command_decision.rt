@@ -11,16 +11,17 @@ ghost use Rattle.bug_record.specs.Words.{Names};
 ghost use Rattle.line_words.specs.Bugs.{IsGoodBug};
 ghost use Rattle.line_words.specs.Numbers.{IsGoodNumber};
 ghost use Rattle.desk_store.specs.Store.{Asks, Answers, faults_after};
-ghost use Rattle.desk_messages.specs.Commands.{HaveNumbers, MayBeMade, Fits, Makes, DecidesTold, Decides};
+ghost use Rattle.message_progress.specs.Progress.{HaveNumbers};
+ghost use Rattle.message_progress.specs.Changes.{MayBeMade, Fits};
+ghost use Rattle.desk_messages.specs.Commands.{Makes, DecidesTold, Decides};
 ghost use Rattle.desk_store.specs.Message.{names_of};
 
-use crate::plan_inputs::ask;
-use crate::written_images::written;
 use bug_core::{changed, plan};
 use bug_record::{Change, Command, Outcome, PlanFault, Refusal, SetImage, StoreFault};
 use control_text::Named;
 use desk_store::Records;
 use message_names::{KnownNames, command_told, names_in, refusal_meant, with_names};
+use message_progress::{ask, written};
 use std::alloc::{AllocError, Global};
 
 /// What a line comes to that has an outcome: the outcome, and the change that the line makes, if it

@@ -2,14 +2,10 @@
 #![tactic(auto)]
 
 mod command_decision;
-mod images;
 mod line_decision;
 mod message;
-mod outcomes_so_far;
-mod plan_inputs;
-mod written_images;
 
 pub use command_decision::Decision;
 pub use line_decision::decide_line;
-pub use message::{Received, receive, receive_lines};
-pub use outcomes_so_far::{Progress, goes_on, make_room, settle};
+pub use message::{receive, receive_lines};
+pub use message_progress::{Progress, Received, goes_on, make_room, settle};

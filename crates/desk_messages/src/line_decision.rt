@@ -11,15 +11,16 @@ ghost use Rattle.command_grammar.specs.declared.line.Line.TheVariants.{Do};
 ghost use Rattle.desk_store.specs.Store.{Asks, Answers, faults_after};
 ghost use Rattle.desk_store.specs.Message.{names_given};
 ghost use Rattle.desk_store.specs.Kept.{has_outcome};
-ghost use Rattle.desk_messages.specs.Commands.{HaveNumbers};
-ghost use Rattle.desk_messages.specs.Taking.{IsInStep, IsReadyFor, DecidesLine, FitsDecided, HasMembers, plainly};
+ghost use Rattle.message_progress.specs.Progress.{HaveNumbers};
+ghost use Rattle.message_progress.specs.Progress.{IsInStep};
+ghost use Rattle.desk_messages.specs.Taking.{IsReadyFor, DecidesLine, FitsDecided, HasMembers, plainly};
 
 use crate::command_decision::{Decision, decide_command, without_change};
-use crate::outcomes_so_far::{Progress, make_room};
 use bug_record::{Command, Outcome, StoreFault};
 use control_text::{Line, LineFault, Named, read_line};
 use debver::Text;
 use desk_store::Records;
+use message_progress::{Progress, make_room};
 use std::alloc::Global;
 
 // Decides a line with an outcome that makes no change and gives no name.

@@ -4,25 +4,20 @@ ghost use Rattle.std.specs.Prelude.{◌≡◌, IfOk, OnOk, OnErr};
 ghost use Rattle.bug_record.specs.Texts.{IsText};
 ghost use Rattle.desk_store.specs.Store.{Holds, faults_after, faults_after_end};
 ghost use Rattle.desk_store.specs.Message.{unreadable_count, end_of, known_names, IsReceived};
-ghost use Rattle.desk_messages.specs.Commands.{HaveNumbers, Fits};
-ghost use Rattle.desk_messages.specs.Taking.{IsInStep, TakesLine, HasMembers, CarriesOut};
+ghost use Rattle.message_progress.specs.Progress.{HaveNumbers};
+ghost use Rattle.message_progress.specs.Changes.{Fits};
+ghost use Rattle.message_progress.specs.Progress.{IsInStep};
+ghost use Rattle.desk_messages.specs.Taking.{TakesLine, HasMembers, CarriesOut};
 ghost use Rattle.desk_lines.specs.Lines.{lines_of};
 ghost use Rattle.desk_messages.specs.Ends.{IsLineOf};
 
 use crate::line_decision::decide_line;
-use crate::outcomes_so_far::{Progress, goes_on, settle};
 use bug_record::{Change, End, Outcome, Sequence, StoreFault};
 use debver::Text;
 use desk_lines::split_lines;
 use desk_store::Records;
+use message_progress::{Progress, Received, goes_on, settle};
 use std::alloc::Global;
-
-/// The outcomes of a message, each with its line as written, and its end.
-#[derive(Drop)]
-pub struct Received {
-    pub outcomes: Sequence<(Text, Outcome)>,
-    pub end: End,
-}
 
 // Carries a change out, if there is one.
 fn carry_out<S: Records>(store: &mut S, change: &Option<Change>) -> Result<(), StoreFault>

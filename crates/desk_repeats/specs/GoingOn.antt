@@ -4,7 +4,7 @@ use Rattle.bug_record.specs.Desk.{Desk}
 use Rattle.bug_record.specs.Words.{Names}
 use Rattle.command_grammar.specs.Lines.{reading}
 use Rattle.desk_lines.specs.Lines.{lines_of}
-use Rattle.desk_messages.specs.Commands.{HaveNumbers}
+use Rattle.message_progress.specs.Progress.{HaveNumbers}
 use Rattle.bug_record.specs.declared.outcome.End.{End}
 use Rattle.bug_record.specs.declared.outcome.StoreFault.{StoreFault}
 use Rattle.desk_store.specs.Message.{Entry, machine, takes}

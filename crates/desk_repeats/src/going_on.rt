@@ -7,7 +7,7 @@ ghost use Rattle.desk_store.specs.Store.{Holds, Since, faults_after, faults_afte
 ghost use Rattle.line_words.specs.Ids.{IsId};
 ghost use Rattle.desk_store.specs.Kept.{has_outcome, lines_told};
 ghost use Rattle.desk_store.specs.Message.{end_of, unreadable_count, known_names};
-ghost use Rattle.desk_messages.specs.Taking.{IsInStep};
+ghost use Rattle.message_progress.specs.Progress.{IsInStep};
 ghost use Rattle.desk_messages.specs.Ends.{IsLineOf};
 ghost use Rattle.desk_repeats.specs.GoingOn.{IsBegun, TakesOnce, Resumes};
 

@@ -6,7 +6,7 @@ ghost use Rattle.bug_record.specs.Commands.{names_in};
 ghost use Rattle.command_grammar.specs.Lines.{reading};
 ghost use Rattle.desk_store.specs.Message.{end_of, unreadable_count, known_names, names_of};
 ghost use Rattle.desk_store.specs.Kept.{has_outcome, told, new_names};
-ghost use Rattle.desk_messages.specs.Taking.{IsInStep};
+ghost use Rattle.message_progress.specs.Progress.{IsInStep};
 ghost use Rattle.desk_repeats.specs.Recalling.{names_read, names_accepted, AreOfLines, IsTaken};
 
 use bug_record::{Command, End, Outcome, Sequence};

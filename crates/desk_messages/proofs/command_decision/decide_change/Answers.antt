@@ -3,10 +3,10 @@ use Rattle.bug_record.specs.Sets.{Each}
 use Rattle.bug_record.specs.Images.{bug_in, put, AreApart, HasMember, FitsDesk}
 use Rattle.bug_record.specs.Changed.{AreChanged}
 use Rattle.bug_record.specs.declared.command.Change.{Change}
-use Rattle.desk_messages.specs.Written.{written}
+use Rattle.message_progress.specs.Written.{written}
 use Rattle.desk_store.specs.Store.{with_change}
 use Rattle.desk_messages.proofs.CommandLemmas.{nothing, unchanged, told, no_change}
-use Rattle.desk_messages.proofs.WrittenLemmas.{apart-written, members-written, put-written, fits-written}
+use Rattle.message_progress.proofs.WrittenLemmas.{apart-written, members-written, put-written, fits-written}
 use Rattle.desk_messages.proofs.command_decision.decide_change.Goals as goal
 
 pub returns-then-change-next-clause-made : goal.returns-then-change-next-clause-made

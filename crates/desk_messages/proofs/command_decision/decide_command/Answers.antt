@@ -1,9 +1,9 @@
 use Rattle.std.proofs.Common.{◌++◌, ap, ◌∙◌}
 use Rattle.std.proofs.lemmas.Result.{IfOk-weaker}
 use Rattle.desk_store.specs.Message.{names_of}
-use Rattle.desk_messages.proofs.PlanInputLemmas.{asks_where, answers_weaker}
+use Rattle.message_progress.proofs.PlanInputLemmas.{asks_where, answers_weaker}
 use Rattle.desk_messages.proofs.CommandLemmas.{decides_told, fits_now}
-use Rattle.desk_messages.proofs.GivenLemmas.{of_bugs, have-more}
+use Rattle.message_progress.proofs.GivenLemmas.{of_bugs, have-more}
 use Rattle.desk_messages.proofs.command_decision.decide_command.Goals as goal
 
 pub returns-in-Ok-clause-answer : goal.returns-in-Ok-clause-answer

@@ -1,9 +1,9 @@
 use Rattle.std.proofs.Common.{◌∙◌, sym, ap, subst, refl}
 use Rattle.desk_store.proofs.HoldsLemmas.{holds_none, holds_then}
 use Rattle.desk_store.specs.Message.{machine, unreadable_count, end_of, known_names}
-use Rattle.desk_messages.specs.Commands.{HaveNumbers}
-use Rattle.desk_messages.specs.Taking.{goes_on}
-use Rattle.desk_messages.proofs.EndLemmas.{at_start_open}
+use Rattle.message_progress.specs.Progress.{HaveNumbers}
+use Rattle.message_progress.specs.Progress.{goes_on}
+use Rattle.message_progress.proofs.EndLemmas.{at_start_open}
 use Rattle.desk_messages.proofs.MachineLemmas.{line_more, all_ended, received_ended, goes_on-all, settled_faults, settled_line}
 use Rattle.desk_messages.proofs.message.receive_lines.Goals as goal
 

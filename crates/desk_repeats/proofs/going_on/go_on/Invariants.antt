@@ -1,7 +1,7 @@
 use Rattle.std.proofs.Common.{◌≡◌, ◌≤◌, length, take, drop}
 use Rattle.desk_store.specs.Store.{Holds}
 use Rattle.desk_store.specs.Kept.{lines_told}
-use Rattle.desk_messages.specs.Taking.{IsInStep}
+use Rattle.message_progress.specs.Progress.{IsInStep}
 use Rattle.desk_repeats.specs.GoingOn.{IsBegun}
 use Rattle.desk_repeats.proofs.GoingLemmas.{Going}
 use Rattle.desk_repeats.proofs.going_on.go_on.Given as goal

@@ -6,7 +6,7 @@ use Rattle.std.proofs.lemmas.Result.{err_from_is_err_and}
 use Rattle.bug_record.specs.Clones.{name_refusal}
 use Rattle.desk_store.specs.Message.{unreadable_count, known_names, end_of}
 use Rattle.desk_store.specs.Kept.{new_names}
-use Rattle.desk_messages.proofs.EndLemmas.{at_start_open}
+use Rattle.message_progress.proofs.EndLemmas.{at_start_open}
 use Rattle.desk_repeats.specs.declared.recalling.RecallFault.TheVariants.{Mismatch}
 use Rattle.desk_repeats.proofs.ToldLemmas.{told-taken}
 use Rattle.desk_repeats.proofs.RecallLemmas.{not_taken, told-length, recall-more, few-more, taken-at, never-few, ends-not}

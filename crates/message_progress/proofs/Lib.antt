@@ -1,0 +1,6 @@
+pub mod RefusalLemmas
+pub mod GivenLemmas
+pub mod WrittenLemmas
+pub mod GatherLemmas
+pub mod PlanInputLemmas
+pub mod EndLemmas

@@ -1,0 +1,5 @@
+pub mod Progress
+pub mod Images
+pub mod PlanInputs
+pub mod Changes
+pub mod Written

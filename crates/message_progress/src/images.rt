@@ -1,0 +1,160 @@
+//! The images of the sets of the bugs that a command names, asked of a store.
+
+ghost use Rattle.std.specs.Prelude.{◌≡◌, ◌||◌, ◌++◌, ℕ, [], ◌∷◌, IfOk, OnOk};
+ghost use Rattle.std.specs.BTreeSet.{contains};
+ghost use Rattle.std.specs.Ordering.{nat_cmp};
+ghost use Rattle.bug_record.specs.Sets.{has};
+ghost use Rattle.bug_record.specs.Images.{numbers_of, AreApart};
+ghost use Rattle.bug_record.specs.Commands.{bugs_named};
+ghost use Rattle.desk_store.specs.Store.{Asks, Answers, faults_after};
+ghost use Rattle.message_progress.specs.Images.{meets, Lists, Gather, ShowBugs};
+
+use bug_record::{Command, Member, Sequence, SetImage, StoreFault};
+use desk_store::Records;
+use set_images::{bug_named, other_bugs};
+use std::alloc::{AllocError, Global};
+use std::collections::BTreeSet;
+
+/// Whether one of the members is one of the bugs.
+pub(crate) fn meets(bugs: &BTreeSet<u64>, members: &[Member]) -> bool
+    ensures { result ≡ meets (contains nat_cmp bugs.now) members.now }
+{
+    members.iter().any(|member| bugs.contains(&member.number))
+}
+
+// Adds the members' numbers.
+fn add_members(bugs: &mut BTreeSet<u64>, members: &[Member]) -> Result<(), AllocError>
+    ensures { OnOk result
+        ((n : ℕ) → contains nat_cmp bugs.new n ≡ (has (numbers_of members.now) n || contains nat_cmp bugs.old n)) }
+{
+    for member in members {
+        bugs.insert(member.number)?;
+    }
+    Ok(())
+}
+
+// The bugs of the images.
+fn bugs_of(alloc: Global, images: &[SetImage]) -> Result<BTreeSet<u64>, AllocError>
+    ensures { IfOk result (λ bugs. Lists (contains nat_cmp bugs) images.now) }
+{
+    let mut bugs = BTreeSet::new(alloc);
+    for image in images {
+        add_members(&mut bugs, image.members.as_slice())?;
+    }
+    Ok(bugs)
+}
+
+// Adds an image, and its bugs to those of the images.
+fn add_image(
+    images: &mut Sequence<SetImage>,
+    bugs: &mut BTreeSet<u64>,
+    image: SetImage,
+) -> Result<(), AllocError>
+    requires { Lists (contains nat_cmp bugs.old) images.old }
+    ensures images { OnOk result (images.new ≡ images.old ++ image ∷ []) }
+    ensures bugs { OnOk result (Lists (contains nat_cmp bugs.new) images.new) }
+{
+    add_members(bugs, image.members.as_slice())?;
+    images.push(image)
+}
+
+// Adds the image of the set that the bug is in, if there is one, unless the bug is in one of the
+// images, whose bugs these are.
+// One that shares a bug with them is left out: no desk has such sets.
+fn gather<S: Records>(
+    store: &mut S,
+    images: &mut Sequence<SetImage>,
+    bugs: &mut BTreeSet<u64>,
+    number: u64,
+) -> Result<(), StoreFault>
+    requires apart { AreApart images.old }
+    requires bugs { Lists (contains nat_cmp bugs.old) images.old }
+    ensures answer { Asks S.is_kept S.is_honest store.old store.new
+        (Answers (S.desk store.old) (S.desk store.new) result
+        (λ _. Gather (S.desk store.old) (number ∷ []) images.old images.new)) }
+    ensures apart { OnOk result (AreApart images.new) }
+    ensures bugs { OnOk result (Lists (contains nat_cmp bugs.new) images.new) }
+    ensures stays { S.keeping store.new ≡ S.keeping store.old }
+    ensures count { S.faults store.new ≡ faults_after result (S.faults store.old) }
+{
+    if bugs.contains(&number) {
+        return Ok(());
+    }
+    let Some(image) = store.set_of(number)? else {
+        return Ok(());
+    };
+    if meets(bugs, image.members.as_slice()) {
+        return Ok(());
+    }
+    Ok(add_image(images, bugs, image)?)
+}
+
+// Adds the images of the sets that these bugs are in, each once.
+fn gather_all<S: Records>(
+    store: &mut S,
+    images: &mut Sequence<SetImage>,
+    bugs: &mut BTreeSet<u64>,
+    numbers: &[u64],
+) -> Result<(), StoreFault>
+    requires apart { AreApart images.old }
+    requires bugs { Lists (contains nat_cmp bugs.old) images.old }
+    ensures answer { Asks S.is_kept S.is_honest store.old store.new
+        (Answers (S.desk store.old) (S.desk store.new) result
+        (λ _. Gather (S.desk store.old) numbers.now images.old images.new)) }
+    ensures apart { OnOk result (AreApart images.new) }
+    ensures stays { S.keeping store.new ≡ S.keeping store.old }
+    ensures count { S.faults store.new ≡ faults_after result (S.faults store.old) }
+{
+    for number in numbers {
+        gather(store, images, bugs, *number)?;
+    }
+    Ok(())
+}
+
+// The image alone.
+fn only_image(alloc: Global, image: SetImage) -> Result<Sequence<SetImage>, AllocError>
+    ensures { IfOk result (λ images. images ≡ image ∷ []) }
+{
+    let images = Vec::from_array(alloc, [image])?;
+    Ok(Sequence::from_vec(images))
+}
+
+// The image of the set that the bug is in, if there is one.
+fn first_image<S: Records>(
+    alloc: Global,
+    store: &mut S,
+    number: u64,
+) -> Result<Sequence<SetImage>, StoreFault>
+    ensures answer { Asks S.is_kept S.is_honest store.old store.new
+        (Answers (S.desk store.old) (S.desk store.new) result (Gather (S.desk store.old) (number ∷ []) [])) }
+    ensures apart { IfOk result AreApart }
+    ensures stays { S.keeping store.new ≡ S.keeping store.old }
+    ensures count { S.faults store.new ≡ faults_after result (S.faults store.old) }
+{
+    match store.set_of(number)? {
+        Some(image) => Ok(only_image(alloc, image)?),
+        None => Ok(Sequence::new(alloc)),
+    }
+}
+
+/// The images of the sets of the bugs that a command names, each once.
+pub(crate) fn images_of<S: Records>(
+    alloc: Global,
+    store: &mut S,
+    command: &Command<u64>,
+) -> Result<Sequence<SetImage>, StoreFault>
+    ensures answer { Asks S.is_kept S.is_honest store.old store.new
+        (Answers (S.desk store.old) (S.desk store.new) result (ShowBugs (S.desk store.old) (bugs_named command.now))) }
+    ensures apart { IfOk result AreApart }
+    ensures stays { S.keeping store.new ≡ S.keeping store.old }
+    ensures count { S.faults store.new ≡ faults_after result (S.faults store.old) }
+{
+    let mut images = first_image(alloc, store, bug_named(command))?;
+    let others = other_bugs(command);
+    if others.is_empty() {
+        return Ok(images);
+    }
+    let mut bugs = bugs_of(alloc, images.as_slice())?;
+    gather_all(store, &mut images, &mut bugs, others)?;
+    Ok(images)
+}
