@@ -22,7 +22,7 @@ use Rattle.bug_record.specs.declared.command.Refusal.{Refusal}
 use Rattle.line_words.specs.declared.named.Named.{Named}
 use Rattle.bug_record.specs.declared.outcome.Outcome.TheVariants.{Changed, Refused}
 use Rattle.desk_store.specs.Message.{outcome_of, does}
-use Rattle.message_names.specs.Telling.{refusal_meant, result_meant, step_among}
+use Rattle.message_progress.specs.Telling.{refusal_meant, result_meant, step_among}
 use Rattle.bug_record.specs.declared.outcome.StoreFault.{StoreFault}
 use Rattle.desk_store.specs.Store.{Answers, with_change}
 use Rattle.message_progress.specs.Progress.{HaveNumbers}

@@ -1,6 +1,6 @@
 //! What one command of a message comes to, decided by questions to a store.
 
-ghost use Rattle.std.specs.Prelude.{◌≡◌, ◌≤◌, ◌++◌, ℕ, List, length, Ok, None, IfOk, OnOk, OnErr, Result};
+ghost use Rattle.std.specs.Prelude.{◌≡◌, ◌++◌, ℕ, List, None, IfOk, OnErr, Result};
 ghost use Rattle.bug_record.specs.Sets.{Each};
 ghost use Rattle.bug_record.specs.Texts.{IsText, IfGiven};
 ghost use Rattle.bug_record.specs.Desk.{Desk};
@@ -20,9 +20,11 @@ use bug_core::{changed, plan};
 use bug_record::{Change, Command, Outcome, PlanFault, Refusal, SetImage, StoreFault};
 use control_text::Named;
 use desk_store::Records;
-use message_names::{KnownNames, command_told, names_in, refusal_meant, with_names};
-use message_progress::{ask, written};
-use std::alloc::{AllocError, Global};
+use message_progress::{
+    KnownNames, ask, command_told, name_refusal, names_in, note_names, refusal_meant, with_names,
+    written,
+};
+use std::alloc::Global;
 
 /// What a line comes to that has an outcome: the outcome, and the change that the line makes, if it
 /// makes one.
@@ -97,36 +99,6 @@ fn decide_told<S: Records>(
             Ok(without_change(Outcome::Refused(refusal_meant(refusal))))
         }
         Err(PlanFault::Memory) => Err(StoreFault::Memory),
-    }
-}
-
-// The refusal of the first of these names that can't be given.
-// Makes room for them; no names need none.
-fn name_refusal(
-    alloc: Global,
-    known: &mut KnownNames,
-    names: &[u32],
-) -> Result<Option<Refusal>, AllocError>
-    ensures same { known.new.names ≡ known.old.names }
-    ensures refusal { IfOk result (λ refusal. refusal ≡ name_refusal known.old.names names.now) }
-    ensures room { OnOk result (length names.now ≤ known.new.room) }
-{
-    if names.is_empty() {
-        return Ok(None);
-    }
-    known.make_room(names.len())?;
-    known.refusal(alloc, names)
-}
-
-// Makes the names known that a command gives, where it is accepted.
-fn note_names(known: &mut KnownNames, names: &[u32], outcome: &Outcome)
-    requires room { length names.now ≤ known.old.room }
-    requires free { (numbers : List ℕ) → outcome.now ≡ Outcome.Changed numbers
-        → name_refusal known.old.names names.now ≡ None }
-    ensures { known.new.names ≡ known.old.names ++ names_of names.now outcome.now }
-{
-    if let Outcome::Changed(numbers) = outcome {
-        known.bind(names, numbers.as_slice());
     }
 }
 

@@ -14,8 +14,9 @@ ghost use Rattle.desk_repeats.specs.GoingOn.{IsBegun, TakesOnce, Resumes};
 use crate::recalling::Recalled;
 use bug_record::{End, StoreFault};
 use debver::Text;
-use desk_messages::{Progress, Received, decide_line, goes_on, settle};
+use desk_messages::decide_line;
 use desk_store::Records;
+use message_progress::{Progress, Received, goes_on, settle};
 use std::alloc::Global;
 
 // Takes one line of a message that has an id, and says whether it ends the message: its outcome is

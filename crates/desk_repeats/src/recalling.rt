@@ -2,19 +2,17 @@
 
 ghost use Rattle.std.specs.Prelude.{◌≡◌, ◌≤◌, ◌++◌, ◌∷◌, ◌<◌, [], vec_len, vec_capacity, true, None, IfOk, OnOk, OnErr, Result};
 ghost use Rattle.bug_record.specs.Clones.{name_refusal};
-ghost use Rattle.bug_record.specs.Commands.{names_in};
 ghost use Rattle.command_grammar.specs.Lines.{reading};
 ghost use Rattle.desk_store.specs.Message.{end_of, unreadable_count, known_names, names_of};
 ghost use Rattle.desk_store.specs.Kept.{has_outcome, told, new_names};
 ghost use Rattle.message_progress.specs.Progress.{IsInStep};
 ghost use Rattle.desk_repeats.specs.Recalling.{names_read, names_accepted, AreOfLines, IsTaken};
 
-use bug_record::{Command, End, Outcome, Sequence};
-use control_text::{Line, LineFault, Named, read_line};
+use bug_record::{End, Outcome, Sequence};
+use control_text::{Line, LineFault, read_line};
 use debver::Text;
-use desk_messages::{Progress, goes_on, make_room, settle};
 use desk_store::copy_outcome;
-use message_names::KnownNames;
+use message_progress::{KnownNames, Progress, goes_on, into_names, make_room, settle};
 use std::alloc::{AllocError, Global};
 
 /// What kept outcomes come to: what has come of the message so far, how many of its lines that is,
@@ -46,19 +44,6 @@ impl From<AllocError> for RecallFault {
     }
 }
 
-// The names that a command gives.
-fn names_of(alloc: Global, command: Command<Named>) -> Sequence<u32>
-    ensures { result ≡ names_in command }
-{
-    match command {
-        Command::Clone(_, names) => names,
-        other => {
-            drop(other);
-            Sequence::new(alloc)
-        }
-    }
-}
-
 // The names that a line gives where its command is accepted; `None` where it has no outcome.
 fn names_read(alloc: Global, line: &Text) -> Result<Option<Sequence<u32>>, RecallFault>
     ensures names { IfOk result (λ names. names ≡ names_read (reading line.now)) }
@@ -68,7 +53,7 @@ fn names_read(alloc: Global, line: &Text) -> Result<Option<Sequence<u32>>, Recal
         Ok(Line::Blank) => Ok(None),
         Ok(Line::Comment) => Ok(None),
         Ok(Line::Stop) => Ok(Some(Sequence::new(alloc))),
-        Ok(Line::Do(command)) => Ok(Some(names_of(alloc, command))),
+        Ok(Line::Do(command)) => Ok(Some(into_names(alloc, command))),
         Err(LineFault::Refused(_)) => Ok(Some(Sequence::new(alloc))),
         Err(LineFault::Memory) => Err(RecallFault::Memory),
     }

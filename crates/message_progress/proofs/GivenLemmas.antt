@@ -16,7 +16,7 @@ use Rattle.bug_record.specs.declared.outcome.Outcome.{Outcome}
 use Rattle.bug_record.specs.declared.outcome.Outcome.TheVariants.{Changed, Refused, Stopped}
 use Rattle.desk_store.specs.Kept.{IsGoodOutcome}
 use Rattle.desk_store.specs.Message.{Entry, names_with, names_given, known_names, names_of}
-use Rattle.message_names.specs.Known.{AreOfBugs}
+use Rattle.message_progress.specs.Known.{AreOfBugs}
 use Rattle.message_progress.specs.Progress.{HaveNumbers}
 
 -- the names after one line more

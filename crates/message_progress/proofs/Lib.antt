@@ -1,3 +1,7 @@
+pub mod KnownLemmas
+pub mod OverLemmas
+pub mod ToldLemmas
+pub mod StepLemmas
 pub mod RefusalLemmas
 pub mod GivenLemmas
 pub mod WrittenLemmas

@@ -41,7 +41,7 @@ use Rattle.line_words.specs.declared.named.Named.TheVariants.{Number, Name}
 use Rattle.command_grammar.specs.Lines.{IsRefusalOfLine}
 use Rattle.bug_record.specs.declared.outcome.Outcome.{Outcome}
 use Rattle.desk_store.specs.Message.{outcome_of, does}
-use Rattle.message_names.proofs.OverLemmas.{bug-over, others-over, names-over}
+use Rattle.message_progress.proofs.OverLemmas.{bug-over, others-over, names-over}
 use Rattle.desk_store.specs.Kept.{IsGoodRefusal, IsGoodOutcome}
 use Rattle.message_progress.specs.Progress.{HaveNumbers}
 

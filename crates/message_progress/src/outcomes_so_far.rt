@@ -4,9 +4,9 @@ ghost use Rattle.std.specs.Prelude.{◌≡◌, ◌∷◌, ◌++◌, ◌<◌, [],
 ghost use Rattle.desk_store.specs.Message.{is_stop, is_unreadable, unreadable_count, end_of, known_names};
 ghost use Rattle.message_progress.specs.Progress.{goes_on, IsReady};
 
+use crate::known::KnownNames;
 use bug_record::{End, Outcome, Refusal, Sequence, StoreFault};
 use debver::Text;
-use message_names::KnownNames;
 use std::alloc::Global;
 
 /// The outcomes of a message, each with its line as written, and its end.

@@ -1,4 +1,0 @@
-pub mod KnownLemmas
-pub mod OverLemmas
-pub mod ToldLemmas
-pub mod StepLemmas
