@@ -1,5 +1,5 @@
 -- What a crash leaves of what a store holds.
-use Rattle.std.specs.Prelude.{List, Result, Ok, Err}
+use Rattle.std.specs.Prelude.{◌≡◌, ◌⊎◌, List, Result, Ok, Err}
 use Rattle.ancestry.specs.Branches.{branched}
 use Rattle.ancestry.specs.declared.fault.BranchFault.{BranchFault}
 use Rattle.version_nodes.specs.Nodes.{Node}
@@ -11,6 +11,10 @@ use Rattle.desk_store.specs.Kept.{Keeping}
 -- what a store holds: a desk, and what is kept of messages
 abbrev pub Holding : Type 0
 Holding = Desk × Keeping
+
+-- one of these two
+abbrev pub IsEither : Holding → Holding → Holding → Type 0
+IsEither x a b = (x ≡ a) ⊎ (x ≡ b)
 
 -- After a call that was to lead to this holding: where it answered, a crash leaves it and no other;
 -- where it failed, a crash leaves it, or the one that alone could have been left before.

@@ -179,4 +179,7 @@ pub trait Records {
 
     /// What is kept of a message is right.
     ghost good: { (s : Self) → is_kept s → AreGoodKept (keeping s) };
+
+    /// A holding that a crash leaves alone it leaves, or another.
+    ghost either: { (s : Self) (a b : Holding) → leaves s a a → leaves s a b };
 }
