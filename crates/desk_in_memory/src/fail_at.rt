@@ -3,11 +3,13 @@
 ghost use Rattle.std.specs.Prelude.{◌≡◌, ◌≢◌, ◌-◌, ◌||◌, ◌==◌, true, false, Err, IfOk};
 ghost use Rattle.std.specs.Option.{option_copied};
 ghost use Rattle.bug_record.specs.Sets.{Each};
-ghost use Rattle.bug_record.specs.Images.{AreApart, HasMember, IsSetOf, FitsDesk};
+ghost use Rattle.bug_record.specs.Images.{AreApart, HasMember, IsSetOf, FitsDesk, put};
 ghost use Rattle.desk_store.specs.Store.{Holds, Asks, Answers, IsImageOf, IsNext, IsOpenHead, AreWaitingOn, AreListed};
 ghost use Rattle.bug_record.specs.Texts.{IsText, IfGiven};
 ghost use Rattle.line_words.specs.Ids.{IsId};
-ghost use Rattle.desk_store.specs.Store.{Applies, Branches, IsRefusal, Since, MayBeKept, Keeps};
+ghost use Rattle.desk_store.specs.Store.{Applies, Branches, IsRefusal, Since, MayBeKept, Keeps, with_change};
+ghost use Rattle.desk_store.specs.Kept.{kept_also};
+ghost use Rattle.desk_store.specs.Crashes.{LeavesAfter, LeavesBranched, after_branch};
 ghost use Rattle.desk_store.specs.Store.{faults_after};
 ghost use Rattle.desk_in_memory.specs.FailAt.{faults_with};
 
@@ -73,12 +75,14 @@ impl<S: Records> Records for FailAt<S> {
 
     ghost is_honest = { λ s. S.is_honest s.inner };
 
+    ghost leaves = { λ s a b. S.leaves s.inner a b };
+
     ghost faults = { λ s. faults_with s.has_failed s.fault (S.faults s.inner) };
 
     ghost next_gives = { λ old new answer. S.next_gives old.inner new.inner answer };
 
     fn set_of(&mut self, number: u64) -> Result<Option<SetImage>, StoreFault>
-        ensures answer { Asks S.is_kept S.is_honest self.old.inner self.new.inner
+        ensures answer { Asks S.is_kept S.is_honest S.leaves self.old.inner self.new.inner
             (Answers (S.desk self.old.inner) (S.desk self.new.inner) result (IsImageOf (S.desk self.old.inner) number)) }
         ensures stays { S.keeping self.new.inner ≡ S.keeping self.old.inner }
         ensures count { S.faults self.new.inner ≡ faults_after result (S.faults self.old.inner) }
@@ -90,7 +94,7 @@ impl<S: Records> Records for FailAt<S> {
     }
 
     fn next(&mut self) -> Result<u64, StoreFault>
-        ensures answer { Asks S.is_kept S.is_honest self.old.inner self.new.inner
+        ensures answer { Asks S.is_kept S.is_honest S.leaves self.old.inner self.new.inner
             (Answers (S.desk self.old.inner) (S.desk self.new.inner) result (IsNext (S.desk self.old.inner))) }
         ensures gives { S.next_gives self.old.inner self.new.inner result }
         ensures stays { S.keeping self.new.inner ≡ S.keeping self.old.inner }
@@ -105,7 +109,7 @@ impl<S: Records> Records for FailAt<S> {
     fn open_head(&mut self, image: &SetImage) -> Result<Option<Node>, StoreFault>
         requires member { HasMember image.now }
         requires set { S.is_kept self.old.inner → S.is_honest self.old.inner → IsSetOf (S.desk self.old.inner) image.now }
-        ensures answer { Asks S.is_kept S.is_honest self.old.inner self.new.inner
+        ensures answer { Asks S.is_kept S.is_honest S.leaves self.old.inner self.new.inner
             (Answers (S.desk self.old.inner) (S.desk self.new.inner) result (IsOpenHead (S.desk self.old.inner) image.now)) }
         ensures stays { S.keeping self.new.inner ≡ S.keeping self.old.inner }
         ensures count { S.faults self.new.inner ≡ faults_after result (S.faults self.old.inner) }
@@ -117,7 +121,7 @@ impl<S: Records> Records for FailAt<S> {
     }
 
     fn waiting_on(&mut self, number: u64) -> Result<Numbers, StoreFault>
-        ensures answer { Asks S.is_kept S.is_honest self.old.inner self.new.inner
+        ensures answer { Asks S.is_kept S.is_honest S.leaves self.old.inner self.new.inner
             (Answers (S.desk self.old.inner) (S.desk self.new.inner) result (AreWaitingOn (S.desk self.old.inner) number)) }
         ensures stays { S.keeping self.new.inner ≡ S.keeping self.old.inner }
         ensures count { S.faults self.new.inner ≡ faults_after result (S.faults self.old.inner) }
@@ -129,7 +133,7 @@ impl<S: Records> Records for FailAt<S> {
     }
 
     fn listed(&mut self, package: &str, node: &Node) -> Result<Sequence<ListRow>, StoreFault>
-        ensures answer { Asks S.is_kept S.is_honest self.old.inner self.new.inner
+        ensures answer { Asks S.is_kept S.is_honest S.leaves self.old.inner self.new.inner
             (Answers (S.desk self.old.inner) (S.desk self.new.inner) result
             (AreListed (S.desk self.old.inner) «package».now node.now)) }
         ensures stays { S.keeping self.new.inner ≡ S.keeping self.old.inner }
@@ -149,6 +153,9 @@ impl<S: Records> Records for FailAt<S> {
             (Applies (S.desk self.old.inner) (S.desk self.new.inner) result change.now) }
         ensures stays { Holds S.is_kept S.is_honest self.old.inner self.new.inner
             (S.keeping self.new.inner ≡ S.keeping self.old.inner) }
+        ensures crash { Holds S.is_kept S.is_honest self.old.inner self.new.inner
+            (LeavesAfter S.leaves self.old.inner self.new.inner
+            (put (S.desk self.old.inner) change.now, S.keeping self.old.inner) result) }
         ensures count { faults_with self.new.has_failed self.new.fault (S.faults self.new.inner)
             ≡ faults_after result (faults_with self.old.has_failed self.old.fault (S.faults self.old.inner)) }
         ensures countdown { self.new.left ≡ self.old.left - 1 }
@@ -170,6 +177,9 @@ impl<S: Records> Records for FailAt<S> {
         ensures refusal { IfOk result IsRefusal }
         ensures stays { Holds S.is_kept S.is_honest self.old.inner self.new.inner
             (S.keeping self.new.inner ≡ S.keeping self.old.inner) }
+        ensures crash { Holds S.is_kept S.is_honest self.old.inner self.new.inner
+            (LeavesBranched S.leaves self.old.inner self.new.inner
+            (after_branch (S.desk self.old.inner) nodes.now, S.keeping self.old.inner) result) }
         ensures count { faults_with self.new.has_failed self.new.fault (S.faults self.new.inner)
             ≡ faults_after result (faults_with self.old.has_failed self.old.fault (S.faults self.old.inner)) }
         ensures countdown { self.new.left ≡ self.old.left - 1 }
@@ -187,7 +197,7 @@ impl<S: Records> Records for FailAt<S> {
     }
 
     fn kept(&mut self, id: &str) -> Result<Option<Kept>, StoreFault>
-        ensures answer { Asks S.is_kept S.is_honest self.old.inner self.new.inner
+        ensures answer { Asks S.is_kept S.is_honest S.leaves self.old.inner self.new.inner
             (Answers (S.desk self.old.inner) (S.desk self.new.inner) result
             (λ kept. kept ≡ S.keeping self.old.inner id.now)) }
         ensures stays { S.keeping self.new.inner ≡ S.keeping self.old.inner }
@@ -223,6 +233,14 @@ impl<S: Records> Records for FailAt<S> {
             → Holds S.is_kept S.is_honest earlier self.new.inner
             (Keeps id.now from.now message.now outcome.now (option_copied change.entry) (S.desk self.old.inner)
             (S.keeping self.old.inner) result (S.desk self.new.inner) (S.keeping self.new.inner)) }
+        ensures crash { (earlier : S) → Holds S.is_kept S.is_honest earlier self.old.inner
+            (MayBeKept id.now from.now message.now (S.keeping self.old.inner) (S.desk self.old.inner) outcome.now
+            (option_copied change.entry))
+            → Holds S.is_kept S.is_honest earlier self.new.inner
+            (LeavesAfter S.leaves self.old.inner self.new.inner (
+              with_change (option_copied change.entry) (S.desk self.old.inner),
+              kept_also id.now from.now message.now outcome.now (S.keeping self.old.inner),
+            ) result) }
         ensures honest { S.is_honest self.new.inner → S.is_honest self.old.inner }
         ensures count { faults_with self.new.has_failed self.new.fault (S.faults self.new.inner)
             ≡ faults_after result (faults_with self.old.has_failed self.old.fault (S.faults self.old.inner)) }
@@ -251,4 +269,6 @@ impl<S: Records> Records for FailAt<S> {
     ghost sound = { λ s kept. S.sound s.inner kept };
 
     ghost good = { λ s kept. S.good s.inner kept };
+
+    ghost either = { λ s a b alone. S.either s.inner a b alone };
 }

@@ -9,6 +9,8 @@ ghost use Rattle.bug_record.specs.Images.{AreApart, CoverSets, FitsDesk, put};
 ghost use Rattle.bug_record.specs.Texts.{IsText, IfGiven};
 ghost use Rattle.bug_record.proofs.SoundProp.{IsSound-prop};
 ghost use Rattle.desk_store.specs.Kept.{none_kept, AreGoodKept};
+ghost use Rattle.desk_store.specs.Crashes.{IsEither};
+ghost use Rattle.desk_store.proofs.CrashLemmas.{either-is};
 ghost use Rattle.desk_store.proofs.KeptProp.{AreGoodKept-prop};
 ghost use Rattle.desk_store.specs.Store.{IsImageOf, IsOpenHead, AreWaitingOn, AreListed, Branches, IsRefusal, no_faults};
 ghost use Rattle.desk_store.specs.Store.{MayBeKept, Keeps, with_change};
@@ -88,6 +90,8 @@ impl Records for PlainDesk {
     ghost is_kept = { λ _. Unit {0} };
 
     ghost is_honest = { λ _. Unit {0} };
+
+    ghost leaves = { λ s a b. IsEither (desk_of s.bugs s.tree s.next, keeping_of s.messages) a b };
 
     ghost faults = { λ _. no_faults };
 
@@ -221,4 +225,6 @@ impl Records for PlainDesk {
     ghost sound = { λ s _. s.sound };
 
     ghost good = { λ s _. s.good };
+
+    ghost either = { λ s a b alone. either-is (desk_of s.bugs s.tree s.next, keeping_of s.messages) a b alone };
 }

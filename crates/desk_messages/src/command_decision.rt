@@ -80,7 +80,7 @@ fn decide_told<S: Records>(
 ) -> Result<Decision, StoreFault>
     requires sender { IsText from.now }
     requires parts { HasGoodParts command.now }
-    ensures answer { Asks S.is_kept S.is_honest store.old store.new
+    ensures answer { Asks S.is_kept S.is_honest S.leaves store.old store.new
         (Answers (S.desk store.old) (S.desk store.new) result
         (λ decision. (names : Names) → taken ≡ name_refusal names (names_in command.now)
         → DecidesTold from.now names (S.desk store.old) command.now decision)) }
@@ -112,7 +112,7 @@ fn decide_known<S: Records>(
 ) -> Result<Decision, StoreFault>
     requires sender { IsText from.now }
     requires parts { HasGoodParts command.now }
-    ensures answer { Asks S.is_kept S.is_honest store.old store.new
+    ensures answer { Asks S.is_kept S.is_honest S.leaves store.old store.new
         (Answers (S.desk store.old) (S.desk store.new) result
         (DecidesTold from.now known.old.names (S.desk store.old) command.now)) }
     ensures named { IfOk result
@@ -141,7 +141,7 @@ pub(crate) fn decide_command<S: Records>(
     requires bugs { Each IsGoodBug (bugs_named command) }
     requires names { Each IsGoodNumber (names_in command) }
     requires parts { HasGoodParts command }
-    ensures answer { Asks S.is_kept S.is_honest store.old store.new
+    ensures answer { Asks S.is_kept S.is_honest S.leaves store.old store.new
         (Answers (S.desk store.old) (S.desk store.new) result (λ decision. HaveNumbers known.old.names
         → Decides from.now known.old.names (S.desk store.old) command decision × HaveNumbers known.new.names)) }
     ensures fits { S.is_kept store.new → S.is_honest store.new

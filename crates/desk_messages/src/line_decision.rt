@@ -58,7 +58,7 @@ fn decide_command_line<S: Records>(
     requires parts { HasGoodParts command }
     requires reads { reading line.now ≡ Ok (Do command) }
     requires in_step { IsInStep progress.old.outcomes.items progress.old.unreadable progress.old.known.names }
-    ensures answer { Asks S.is_kept S.is_honest store.old store.new
+    ensures answer { Asks S.is_kept S.is_honest S.leaves store.old store.new
         (Answers (S.desk store.old) (S.desk store.new) result (λ decided. HaveNumbers progress.old.known.names
         → DecidesLine from.now (S.desk store.old) progress.old.outcomes.items line.now decided
         × HaveNumbers progress.new.known.names)) }
@@ -99,7 +99,7 @@ pub fn decide_line<S: Records>(
 ) -> Result<Option<(Text, Decision)>, StoreFault>
     requires sender { IsText from.now }
     requires in_step { IsInStep progress.old.outcomes.items progress.old.unreadable progress.old.known.names }
-    ensures answer { Asks S.is_kept S.is_honest store.old store.new
+    ensures answer { Asks S.is_kept S.is_honest S.leaves store.old store.new
         (Answers (S.desk store.old) (S.desk store.new) result (λ decided. HaveNumbers progress.old.known.names
         → DecidesLine from.now (S.desk store.old) progress.old.outcomes.items line.now decided
         × HaveNumbers progress.new.known.names)) }

@@ -94,7 +94,7 @@ pub fn receive_once<S: Records>(
     ensures bad { is_id id.now ≡ false → result ≡ Result.Err OnceFault.BadId }
     ensures good { result ≡ Result.Err OnceFault.BadId → is_id id.now ≡ false }
     ensures same { result ≡ Result.Err OnceFault.BadId → store.new ≡ store.old }
-    ensures asked { IfErr result (λ fault. Asks S.is_kept S.is_honest store.old store.new ⊤) }
+    ensures asked { IfErr result (λ fault. Asks S.is_kept S.is_honest S.leaves store.old store.new ⊤) }
     ensures line { IfOk result (λ r. IsLineOf r.end (lines_of message.now)) }
     ensures count { S.faults store.new ≡ faults_after_once result (S.faults store.old) }
 {

@@ -1,5 +1,6 @@
 -- Calls of a store, one after another.
 use Rattle.desk_store.specs.Store.{Holds, Asks}
+use Rattle.desk_store.specs.Crashes.{Holding}
 
 -- no call
 pub holds_none : {S : Type 0} (k h : S → Type 0) (a : S) {P : Type 0} → P → Holds k h a a P
@@ -27,13 +28,17 @@ pub holds_where : {S : Type 0} {k h : S → Type 0} {a b : S} {P Q : Type 0} →
 holds_where x f = record { honest = x.honest; kept = x.kept; fact = λ u w. f u w (x.fact u w) }
 
 -- the same of questions
-pub asks_none : {S : Type 0} (k h : S → Type 0) (a : S) {P : Type 0} → P → Asks k h a a P
-asks_none k h a p = record { holds = holds_none k h a p; was_kept = λ u w. u }
+pub asks_none : {S : Type 0} (k h : S → Type 0) (l : S → Holding → Holding → Type 0) (a : S) {P : Type 0} → P → Asks k h l a a P
+asks_none k h l a p = record { holds = holds_none k h a p; was_kept = λ u w. u; left = λ w x y u. u }
 
-pub asks_then : {S : Type 0} {k h : S → Type 0} {a b c : S} {P Q R : Type 0} → Asks k h a b P → Asks k h b c Q → (P → Q → R)
-    → Asks k h a c R
-asks_then x y f = record
-    { holds = holds_then x.holds y.holds f; was_kept = λ u w. x.was_kept (y.was_kept u w) (y.holds.honest w) }
+pub asks_then : {S : Type 0} {k h : S → Type 0} {l : S → Holding → Holding → Type 0} {a b c : S} {P Q R : Type 0} → Asks k h l a b P
+    → Asks k h l b c Q → (P → Q → R) → Asks k h l a c R
+asks_then x y f = record {
+  holds = holds_then x.holds y.holds f;
+  was_kept = λ u w. x.was_kept (y.was_kept u w) (y.holds.honest w);
+  left = λ w v z u. y.left w v z (x.left (y.holds.honest w) v z u);
+}
 
-pub asks_weaker : {S : Type 0} {k h : S → Type 0} {a b : S} {P Q : Type 0} → Asks k h a b P → (P → Q) → Asks k h a b Q
-asks_weaker x f = record { holds = holds_weaker x.holds f; was_kept = x.was_kept }
+pub asks_weaker : {S : Type 0} {k h : S → Type 0} {l : S → Holding → Holding → Type 0} {a b : S} {P Q : Type 0} → Asks k h l a b P
+    → (P → Q) → Asks k h l a b Q
+asks_weaker x f = record { holds = holds_weaker x.holds f; was_kept = x.was_kept; left = x.left }

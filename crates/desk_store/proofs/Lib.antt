@@ -1,4 +1,5 @@
 pub mod HoldsLemmas
+pub mod CrashLemmas
 pub mod NameLemmas
 pub mod KeepLemmas
 pub mod KeptProp

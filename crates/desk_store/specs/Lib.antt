@@ -1,4 +1,5 @@
 pub use Rattle.line_words.specs.Ids
 pub mod Message
 pub mod Kept
+pub mod Crashes
 pub mod Store

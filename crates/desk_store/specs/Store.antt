@@ -20,6 +20,7 @@ use Rattle.bug_record.specs.declared.outcome.Outcome.{Outcome}
 use Rattle.bug_record.specs.declared.outcome.End.{End}
 use Rattle.bug_record.specs.declared.outcome.End.TheVariants as ends
 use Rattle.desk_store.specs.Kept.{Keeping, IsGoodOutcome, IsNextOutcome, kept_also}
+use Rattle.desk_store.specs.Crashes.{Holding}
 
 -- A call goes from old to new: honesty isn't won, and where the tables were kept as it began and
 -- the disk was honest up to its end, they are kept again, and P holds.
@@ -28,10 +29,13 @@ pub record Holds {S : Type 0} (is_kept is_honest : S → Type 0) (old new : S) (
   pub kept : is_kept old → is_honest new → is_kept new
   pub fact : is_kept old → is_honest new → P
 
--- A question changes nothing: the tables aren't kept now where they weren't before.
-pub record Asks {S : Type 0} (is_kept is_honest : S → Type 0) (old new : S) (P : Type 0) : Type 0 where
-  pub holds : Holds is_kept is_honest old new P
-  pub was_kept : is_kept new → is_honest new → is_kept old
+-- A question changes nothing: the tables aren't kept now where they weren't before, and a crash
+-- leaves what it could have left before.
+pub record Asks {S : Type 0} (is_kept is_honest : S → Type 0) (leaves : S → Holding → Holding → Type 0) (old new : S) (P : Type 0) : Type 0
+  where
+    pub holds : Holds is_kept is_honest old new P
+    pub was_kept : is_kept new → is_honest new → is_kept old
+    pub left : is_honest new → (a b : Holding) → leaves old a b → leaves new a b
 
 -- What holds now, where the tables were kept at an earlier moment and the disk was honest since.
 pub record Since {S : Type 0} (is_kept is_honest : S → Type 0) (now : S) (P : Type 0) : Type 0 where

@@ -4,14 +4,15 @@ ghost use Rattle.std.specs.Prelude.{◌≡◌, ℕ, Option, Result, IfOk};
 ghost use Rattle.std.specs.Option.{option_copied};
 ghost use Rattle.bug_record.specs.Sets.{Each};
 ghost use Rattle.bug_record.specs.Desk.{Desk, IsSound};
-ghost use Rattle.bug_record.specs.Images.{AreApart, HasMember, IsSetOf, FitsDesk};
+ghost use Rattle.bug_record.specs.Images.{AreApart, HasMember, IsSetOf, FitsDesk, put};
 ghost use Rattle.desk_store.specs.Store.{Holds, Asks, Answers, IsImageOf, IsNext, IsOpenHead, AreWaitingOn, AreListed};
-ghost use Rattle.desk_store.specs.Store.{Applies, Branches, IsRefusal, Since, MayBeKept, Keeps};
+ghost use Rattle.desk_store.specs.Store.{Applies, Branches, IsRefusal, Since, MayBeKept, Keeps, with_change};
 ghost use Rattle.bug_record.specs.declared.outcome.StoreFault.{StoreFault};
 ghost use Rattle.desk_store.specs.Store.{Faults, faults_after, total};
 ghost use Rattle.bug_record.specs.Texts.{IsText, IfGiven};
 ghost use Rattle.line_words.specs.Ids.{IsId};
-ghost use Rattle.desk_store.specs.Kept.{Keeping, AreGoodKept};
+ghost use Rattle.desk_store.specs.Kept.{Keeping, AreGoodKept, kept_also};
+ghost use Rattle.desk_store.specs.Crashes.{Holding, LeavesAfter, LeavesBranched, after_branch};
 
 use crate::kept::Kept;
 use ancestry::BranchFault;
@@ -42,20 +43,24 @@ pub trait Records {
     /// How often the store has answered `Device`, `Full` and `Foreign`, each up to `u64::MAX`.
     ghost faults: { Self → Faults };
 
+    /// A crash at this moment leaves the first holding or the second, and no other.
+    /// A desk in memory has none but its own.
+    ghost leaves: { Self → Holding → Holding → Type 0 };
+
     /// What `next` may answer, and what it leaves of the store.
     ghost next_gives: { Self → Self → Result ℕ StoreFault → Type 0 };
 
     /// The image of the set that the bug is in; `None` exactly where there is no bug of this
     /// number.
     fn set_of(&mut self, number: u64) -> Result<Option<SetImage>, StoreFault>
-        ensures answer { Asks is_kept is_honest self.old self.new
+        ensures answer { Asks is_kept is_honest leaves self.old self.new
             (Answers (desk self.old) (desk self.new) result (IsImageOf (desk self.old) number)) }
         ensures stays { keeping self.new ≡ keeping self.old }
         ensures count { faults self.new ≡ faults_after result (faults self.old) };
 
     /// The number of the next bug: 1,000,000,000 where no number is left.
     fn next(&mut self) -> Result<u64, StoreFault>
-        ensures answer { Asks is_kept is_honest self.old self.new
+        ensures answer { Asks is_kept is_honest leaves self.old self.new
             (Answers (desk self.old) (desk self.new) result (IsNext (desk self.old))) }
         ensures gives { next_gives self.old self.new result }
         ensures stays { keeping self.new ≡ keeping self.old }
@@ -67,7 +72,7 @@ pub trait Records {
     fn open_head(&mut self, image: &SetImage) -> Result<Option<Node>, StoreFault>
         requires member { HasMember image.now }
         requires set { is_kept self.old → is_honest self.old → IsSetOf (desk self.old) image.now }
-        ensures answer { Asks is_kept is_honest self.old self.new
+        ensures answer { Asks is_kept is_honest leaves self.old self.new
             (Answers (desk self.old) (desk self.new) result (IsOpenHead (desk self.old) image.now)) }
         ensures stays { keeping self.new ≡ keeping self.old }
         ensures count { faults self.new ≡ faults_after result (faults self.old) };
@@ -78,7 +83,7 @@ pub trait Records {
     /// This is this project's own rule.
     /// Its errors are the store's faults, and `Memory` where there is none for the numbers.
     fn waiting_on(&mut self, number: u64) -> Result<Numbers, StoreFault>
-        ensures answer { Asks is_kept is_honest self.old self.new
+        ensures answer { Asks is_kept is_honest leaves self.old self.new
             (Answers (desk self.old) (desk self.new) result (AreWaitingOn (desk self.old) number)) }
         ensures stays { keeping self.new ≡ keeping self.old }
         ensures count { faults self.new ≡ faults_after result (faults self.old) };
@@ -90,7 +95,7 @@ pub trait Records {
     /// This is this project's own rule.
     /// Its errors are the store's faults, and `Memory` where there is none for the rows.
     fn listed(&mut self, package: &str, node: &Node) -> Result<Sequence<ListRow>, StoreFault>
-        ensures answer { Asks is_kept is_honest self.old self.new
+        ensures answer { Asks is_kept is_honest leaves self.old self.new
             (Answers (desk self.old) (desk self.new) result (AreListed (desk self.old) «package».now node.now)) }
         ensures stays { keeping self.new ≡ keeping self.old }
         ensures count { faults self.new ≡ faults_after result (faults self.old) };
@@ -104,6 +109,8 @@ pub trait Records {
         requires fits { is_kept self.old → is_honest self.old → FitsDesk (desk self.old) change.now }
         ensures answer { Holds is_kept is_honest self.old self.new (Applies (desk self.old) (desk self.new) result change.now) }
         ensures stays { Holds is_kept is_honest self.old self.new (keeping self.new ≡ keeping self.old) }
+        ensures crash { Holds is_kept is_honest self.old self.new
+            (LeavesAfter leaves self.old self.new (put (desk self.old) change.now, keeping self.old) result) }
         ensures count { faults self.new ≡ faults_after result (faults self.old) };
 
     /// Takes a branch, a list of 1 to 200 nodes of which each is based on the next.
@@ -114,11 +121,13 @@ pub trait Records {
         ensures answer { Holds is_kept is_honest self.old self.new (Branches (desk self.old) (desk self.new) result nodes.now) }
         ensures refusal { IfOk result IsRefusal }
         ensures stays { Holds is_kept is_honest self.old self.new (keeping self.new ≡ keeping self.old) }
+        ensures crash { Holds is_kept is_honest self.old self.new
+            (LeavesBranched leaves self.old self.new (after_branch (desk self.old) nodes.now, keeping self.old) result) }
         ensures count { faults self.new ≡ faults_after result (faults self.old) };
 
     /// What is kept of the message of this id; `None` where the id is not known.
     fn kept(&mut self, id: &str) -> Result<Option<Kept>, StoreFault>
-        ensures answer { Asks is_kept is_honest self.old self.new
+        ensures answer { Asks is_kept is_honest leaves self.old self.new
             (Answers (desk self.old) (desk self.new) result (λ kept. kept ≡ keeping self.old id.now)) }
         ensures stays { keeping self.new ≡ keeping self.old }
         ensures count { faults self.new ≡ faults_after result (faults self.old) };
@@ -151,6 +160,13 @@ pub trait Records {
             → Holds is_kept is_honest earlier self.new
             (Keeps id.now from.now message.now outcome.now (option_copied change.entry) (desk self.old) (keeping self.old) result
             (desk self.new) (keeping self.new)) }
+        ensures crash { (earlier : Self) → Holds is_kept is_honest earlier self.old
+            (MayBeKept id.now from.now message.now (keeping self.old) (desk self.old) outcome.now (option_copied change.entry))
+            → Holds is_kept is_honest earlier self.new
+            (LeavesAfter leaves self.old self.new (
+              with_change (option_copied change.entry) (desk self.old),
+              kept_also id.now from.now message.now outcome.now (keeping self.old),
+            ) result) }
         ensures honest { is_honest self.new → is_honest self.old }
         ensures count { faults self.new ≡ faults_after result (faults self.old) };
 
@@ -163,4 +179,7 @@ pub trait Records {
 
     /// What is kept of a message is right.
     ghost good: { (s : Self) → is_kept s → AreGoodKept (keeping s) };
+
+    /// A holding that a crash leaves alone it leaves, or another.
+    ghost either: { (s : Self) (a b : Holding) → leaves s a a → leaves s a b };
 }

@@ -16,6 +16,7 @@ use Rattle.bug_record.specs.declared.command.Command.TheVariants as commands
 use Rattle.set_images.proofs.ImageLemmas.{image_with-shows, image_with-none, image_with-has}
 use Rattle.bug_record.specs.Commands.{bugs_named}
 use Rattle.bug_record.specs.declared.outcome.StoreFault.{StoreFault}
+use Rattle.desk_store.specs.Crashes.{Holding}
 use Rattle.desk_store.specs.Store.{Asks, Answers, IsOpenHead}
 use Rattle.desk_store.proofs.HoldsLemmas.{holds_where, asks_then}
 use Rattle.message_progress.specs.Images.{ShowBugs}
@@ -62,12 +63,14 @@ answers-none d command n is e s w =
     (head-none d n is None (subst (λ (z : Command ℕ). ShowBugs d (bugs_named z) is) e s) w)
 
 -- where more is known of a kept store as the question begins
-pub asks_where : {S : Type 0} {k h : S → Type 0} {a b : S} {P Q : Type 0} → Asks k h a b P → (k a → h a → P → Q)
-    → Asks k h a b Q
-asks_where x f = record { holds = holds_where x.holds (λ u w p. f u (x.holds.honest w) p); was_kept = x.was_kept }
+pub asks_where : {S : Type 0} {k h : S → Type 0} {l : S → Holding → Holding → Type 0} {a b : S} {P Q : Type 0} → Asks k h l a b P
+    → (k a → h a → P → Q) → Asks k h l a b Q
+asks_where x f = record
+    { holds = holds_where x.holds (λ u w p. f u (x.holds.honest w) p); was_kept = x.was_kept; left = x.left }
 
 -- two questions
-pub asks_both : {S : Type 0} {k h : S → Type 0} {a b c : S} {P Q : Type 0} → Asks k h a b P → Asks k h b c Q → Asks k h a c (P × Q)
+pub asks_both : {S : Type 0} {k h : S → Type 0} {l : S → Holding → Holding → Type 0} {a b c : S} {P Q : Type 0} → Asks k h l a b P
+    → Asks k h l b c Q → Asks k h l a c (P × Q)
 asks_both x y = asks_then x y (λ p q. (p, q))
 
 -- where more is known of what is answered

@@ -69,7 +69,7 @@ fn gather<S: Records>(
 ) -> Result<(), StoreFault>
     requires apart { AreApart images.old }
     requires bugs { Lists (contains nat_cmp bugs.old) images.old }
-    ensures answer { Asks S.is_kept S.is_honest store.old store.new
+    ensures answer { Asks S.is_kept S.is_honest S.leaves store.old store.new
         (Answers (S.desk store.old) (S.desk store.new) result
         (λ _. Gather (S.desk store.old) (number ∷ []) images.old images.new)) }
     ensures apart { OnOk result (AreApart images.new) }
@@ -98,7 +98,7 @@ fn gather_all<S: Records>(
 ) -> Result<(), StoreFault>
     requires apart { AreApart images.old }
     requires bugs { Lists (contains nat_cmp bugs.old) images.old }
-    ensures answer { Asks S.is_kept S.is_honest store.old store.new
+    ensures answer { Asks S.is_kept S.is_honest S.leaves store.old store.new
         (Answers (S.desk store.old) (S.desk store.new) result
         (λ _. Gather (S.desk store.old) numbers.now images.old images.new)) }
     ensures apart { OnOk result (AreApart images.new) }
@@ -125,7 +125,7 @@ fn first_image<S: Records>(
     store: &mut S,
     number: u64,
 ) -> Result<Sequence<SetImage>, StoreFault>
-    ensures answer { Asks S.is_kept S.is_honest store.old store.new
+    ensures answer { Asks S.is_kept S.is_honest S.leaves store.old store.new
         (Answers (S.desk store.old) (S.desk store.new) result (Gather (S.desk store.old) (number ∷ []) [])) }
     ensures apart { IfOk result AreApart }
     ensures stays { S.keeping store.new ≡ S.keeping store.old }
@@ -143,7 +143,7 @@ pub(crate) fn images_of<S: Records>(
     store: &mut S,
     command: &Command<u64>,
 ) -> Result<Sequence<SetImage>, StoreFault>
-    ensures answer { Asks S.is_kept S.is_honest store.old store.new
+    ensures answer { Asks S.is_kept S.is_honest S.leaves store.old store.new
         (Answers (S.desk store.old) (S.desk store.new) result (ShowBugs (S.desk store.old) (bugs_named command.now))) }
     ensures apart { IfOk result AreApart }
     ensures stays { S.keeping store.new ≡ S.keeping store.old }

@@ -23,7 +23,7 @@ fn open_head_for<S: Records>(
 ) -> Result<Option<Node>, StoreFault>
     requires shown { S.is_kept store.old → S.is_honest store.old
         → ShowBugs (S.desk store.old) (bugs_named command.now) images.now }
-    ensures answer { Asks S.is_kept S.is_honest store.old store.new
+    ensures answer { Asks S.is_kept S.is_honest S.leaves store.old store.new
         (Answers (S.desk store.old) (S.desk store.new) result (IsOpenHeadFor (S.desk store.old) command.now)) }
     ensures stays { S.keeping store.new ≡ S.keeping store.old }
     ensures count { S.faults store.new ≡ faults_after result (S.faults store.old) }
@@ -43,7 +43,7 @@ pub fn ask<S: Records>(
     store: &mut S,
     command: &Command<u64>,
 ) -> Result<(Sequence<SetImage>, Option<Node>), StoreFault>
-    ensures answer { Asks S.is_kept S.is_honest store.old store.new
+    ensures answer { Asks S.is_kept S.is_honest S.leaves store.old store.new
         (Answers (S.desk store.old) (S.desk store.new) result (IsAnswered (S.desk store.old) command.now)) }
     ensures apart { IfOk result (λ answers. AreApart answers.0) }
     ensures stays { S.keeping store.new ≡ S.keeping store.old }

@@ -10,7 +10,7 @@ use Rattle.message_progress.proofs.images.gather.Goals as goal
 pub returns-then-contains-clause-answer : goal.returns-then-contains-clause-answer
 returns-then-contains-clause-answer g c =
     let there : contains nat_cmp c.args.bugs.now c.args.number ≡ true = cc in
-    asks_none _ _ _ (
+    asks_none _ _ _ _ (
       gather-there (g.S.Records.desk c.args.store.now) c.args.images.now c.args.number
           (sym (c.requires.bugs c.args.number) ∙ there),
       refl,

@@ -12,7 +12,7 @@ invariant-loop-number g l = record {
   bugs : Lists (contains nat_cmp l.bugs) l.images;
   stays : g.S.Records.keeping l.store ≡ g.S.Records.keeping l.fn.store;
   faults : g.S.Records.faults l.store ≡ g.S.Records.faults l.fn.store;
-  gathered : Asks g.S.Records.is_kept g.S.Records.is_honest l.fn.store l.store
+  gathered : Asks g.S.Records.is_kept g.S.Records.is_honest g.S.Records.leaves l.fn.store l.store
       (Gather (g.S.Records.desk l.fn.store) (take l.number-index l.numbers) l.fn.images l.images
       × (g.S.Records.desk l.store ≡ g.S.Records.desk l.fn.store));
 }

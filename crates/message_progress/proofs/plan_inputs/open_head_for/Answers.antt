@@ -28,4 +28,5 @@ returns-in-None-clause-answer g c = record {
     );
   };
   was_kept = λ u w. u;
+  left = λ w a b u. u;
 }

@@ -6,6 +6,9 @@ keep-tells g c = record {
   answer = λ earlier since.
       let done = c.ensures.answer earlier.inner (record { honest = since.honest; kept = since.kept; fact = since.fact }) in
       record { honest = done.honest; kept = done.kept; fact = done.fact };
+  crash = λ earlier since.
+      let done = c.ensures.crash earlier.inner (record { honest = since.honest; kept = since.kept; fact = since.fact }) in
+      record { honest = done.honest; kept = done.kept; fact = done.fact };
   honest = c.ensures.honest;
   count = c.ensures.count;
 }

@@ -1,0 +1,24 @@
+-- What a crash leaves after calls of a store.
+use Rattle.std.proofs.Common.{inl, inr, ◌≡◌, sym, subst}
+use Rattle.desk_store.specs.Crashes.{Holding, IsEither}
+use Rattle.desk_store.specs.Store.{Holds}
+
+-- what is one alone is that one or another
+pub either-is : (x a b : Holding) → IsEither x a a → IsEither x a b
+either-is x a b (inl is) = inl is
+either-is x a b (inr is) = inl is
+
+module _ {S : Type 0} (k h : S → Type 0) (l : S → Holding → Holding → Type 0) (either : (s : S) (a b : Holding) → l s a a → l s a b) where
+  -- a call that failed, and changed nothing
+  pub failed_none : (old new : S) (after : Holding) → new ≡ old
+      → Holds k h old new ((before : Holding) → l old before before → l new before after)
+  failed_none old new after same =
+      subst (λ s. Holds k h old s ((before : Holding) → l old before before → l s before after)) (sym same)
+      (record { honest = λ w. w; kept = λ u w. u; fact = λ u w before alone. either old before after alone })
+
+  -- the same, where the tables were kept at an earlier moment
+  pub failed_since : (earlier old new : S) (after : Holding) {P : Type 0} → new ≡ old → Holds k h earlier old P
+      → Holds k h earlier new ((before : Holding) → l old before before → l new before after)
+  failed_since earlier old new after same since =
+      subst (λ s. Holds k h earlier s ((before : Holding) → l old before before → l s before after)) (sym same)
+      (record { honest = since.honest; kept = since.kept; fact = λ u w before alone. either old before after alone })
