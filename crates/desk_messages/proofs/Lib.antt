@@ -1,3 +1,4 @@
 pub mod CommandLemmas
 pub mod DecidingLemmas
 pub mod MachineLemmas
+pub mod TriedLemmas

@@ -1,7 +1,7 @@
 -- The machine over lists of lines.
-use Rattle.std.proofs.Common.{◌≡◌, ℕ, ◌<◌, ◌+◌, List, [], ◌∷◌, ◌++◌, length, get_or, take, drop, sym, ◌∙◌, ap, subst, refl, true}
+use Rattle.std.proofs.Common.{◌≡◌, ℕ, ◌<◌, ◌≤◌, ◌+◌, List, [], ◌∷◌, ◌++◌, length, get_or, take, drop, sym, ◌∙◌, ap, subst, refl, true}
 use Rattle.std.proofs.Common.{false}
-use Rattle.std.proofs.lemmas.List.{take_more, take-append-drop}
+use Rattle.std.proofs.lemmas.List.{take_all, take_more, take-append-drop}
 use Rattle.bug_record.specs.Desk.{Desk}
 use Rattle.bug_record.specs.Words.{Names}
 use Rattle.command_grammar.specs.Lines.{reading}
@@ -105,3 +105,12 @@ settled_line es ends.All lines h = tt
 settled_line es ends.Stopped lines h = tt
 settled_line es ends.TooManyUnreadable lines h = tt
 settled_line es (ends.Store fault k) lines h = absurd (never_store es fault k h)
+
+-- all lines were taken
+pub received_all : (sender : List ℕ) (lines : List (List ℕ)) (old new : Desk) (i : ℕ) (items outcomes : List Entry) → length lines ≤ i
+    → end_of items ≡ ends.All → after_lines sender (at_start old) (take i lines) ≡ machine new items → outcomes ≡ items
+    → IsReceived sender lines old outcomes ends.All new
+received_all sender lines old new i items outcomes le on a same = record {
+  after = ap (after_lines sender (at_start old)) (sym (take_all i lines le)) ∙ (a ∙ ap (machine new) (sym same));
+  end_is = ap end_of same ∙ on;
+}

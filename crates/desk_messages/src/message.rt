@@ -2,14 +2,16 @@
 
 ghost use Rattle.std.specs.Prelude.{◌≡◌, IfOk, OnOk, OnErr};
 ghost use Rattle.bug_record.specs.Texts.{IsText};
-ghost use Rattle.desk_store.specs.Store.{Holds, faults_after, faults_after_end};
-ghost use Rattle.desk_store.specs.Message.{unreadable_count, end_of, known_names, IsReceived};
+ghost use Rattle.desk_store.specs.Store.{Holds, with_change, faults_after, faults_after_end};
+ghost use Rattle.desk_store.specs.Message.{unreadable_count, end_of, known_names, machine, takes, IsReceived};
 ghost use Rattle.message_progress.specs.Progress.{HaveNumbers};
 ghost use Rattle.message_progress.specs.Changes.{Fits};
 ghost use Rattle.message_progress.specs.Progress.{IsInStep};
 ghost use Rattle.desk_messages.specs.Taking.{TakesLine, HasMembers, CarriesOut};
 ghost use Rattle.desk_lines.specs.Lines.{lines_of};
 ghost use Rattle.desk_messages.specs.Ends.{IsLineOf};
+ghost use Rattle.desk_messages.specs.Tried.{LeavesTried, tried_by, tried_at};
+ghost use Rattle.command_grammar.specs.Lines.{reading};
 
 use crate::line_decision::decide_line;
 use bug_record::{Change, End, Outcome, Sequence, StoreFault};
@@ -26,6 +28,9 @@ fn carry_out<S: Records>(store: &mut S, change: &Option<Change>) -> Result<(), S
     ensures answer { Holds S.is_kept S.is_honest store.old store.new
         (CarriesOut (S.desk store.old) (S.desk store.new) result change.now) }
     ensures stays { Holds S.is_kept S.is_honest store.old store.new (S.keeping store.new ≡ S.keeping store.old) }
+    ensures crash { Holds S.is_kept S.is_honest store.old store.new
+        (LeavesTried S.leaves store.old store.new (S.keeping store.old) (S.desk store.old) (S.desk store.new)
+        (tried_by result (S.desk store.new) (with_change change.now (S.desk store.old)))) }
     ensures count { S.faults store.new ≡ faults_after result (S.faults store.old) }
 {
     match change {
@@ -49,6 +54,10 @@ fn take_line<S: Records>(
         → TakesLine from.now (S.desk store.old) progress.old.outcomes.items (S.desk store.new)
         progress.new.outcomes.items progress.new.known.names result line.now) }
     ensures stays { Holds S.is_kept S.is_honest store.old store.new (S.keeping store.new ≡ S.keeping store.old) }
+    ensures crash { Holds S.is_kept S.is_honest store.old store.new (HaveNumbers progress.old.known.names
+        → LeavesTried S.leaves store.old store.new (S.keeping store.old) (S.desk store.old) (S.desk store.new)
+        (tried_by result (S.desk store.new)
+        (takes from.now (machine (S.desk store.old) progress.old.outcomes.items) line.now (reading line.now)).desk)) }
     ensures count { S.faults store.new ≡ faults_after result (S.faults store.old) }
     ensures counted { OnOk result (progress.new.unreadable ≡ unreadable_count progress.new.outcomes.items) }
     ensures known { OnOk result (progress.new.known.names ≡ known_names progress.new.outcomes.items) }
@@ -74,6 +83,9 @@ pub fn receive_lines<S: Records>(
     ensures answer { Holds S.is_kept S.is_honest store.old store.new
         (IsReceived from.now lines.now (S.desk store.old) result.outcomes result.end (S.desk store.new)) }
     ensures stays { Holds S.is_kept S.is_honest store.old store.new (S.keeping store.new ≡ S.keeping store.old) }
+    ensures crash { Holds S.is_kept S.is_honest store.old store.new
+        (LeavesTried S.leaves store.old store.new (S.keeping store.old) (S.desk store.old) (S.desk store.new)
+        (tried_at from.now lines.now (S.desk store.old) result.end (S.desk store.new))) }
     ensures line { IsLineOf result.end lines.now }
     ensures count { S.faults store.new ≡ faults_after_end result.end (S.faults store.old) }
 {
@@ -101,6 +113,9 @@ pub fn receive<S: Records>(alloc: Global, store: &mut S, from: &str, message: &s
     ensures answer { Holds S.is_kept S.is_honest store.old store.new
         (IsReceived from.now (lines_of message.now) (S.desk store.old) result.outcomes result.end (S.desk store.new)) }
     ensures stays { Holds S.is_kept S.is_honest store.old store.new (S.keeping store.new ≡ S.keeping store.old) }
+    ensures crash { Holds S.is_kept S.is_honest store.old store.new
+        (LeavesTried S.leaves store.old store.new (S.keeping store.old) (S.desk store.old) (S.desk store.new)
+        (tried_at from.now (lines_of message.now) (S.desk store.old) result.end (S.desk store.new))) }
     ensures line { IsLineOf result.end (lines_of message.now) }
     ensures count { S.faults store.new ≡ faults_after_end result.end (S.faults store.old) }
 {

@@ -1,10 +1,12 @@
-use Rattle.std.proofs.Common.{◌∙◌, sym, ap, subst, refl}
-use Rattle.desk_store.proofs.HoldsLemmas.{holds_none, holds_then}
-use Rattle.desk_store.specs.Message.{machine, unreadable_count, end_of, known_names}
+use Rattle.std.proofs.Common.{arith, ◌∙◌, sym, ap, subst, refl}
+use Rattle.desk_store.proofs.HoldsLemmas.{holds_none, holds_then, holds_weaker}
+use Rattle.desk_store.specs.Message.{machine, takes, unreadable_count, end_of, known_names}
 use Rattle.message_progress.specs.Progress.{HaveNumbers}
 use Rattle.message_progress.specs.Progress.{goes_on}
 use Rattle.message_progress.proofs.EndLemmas.{at_start_open}
-use Rattle.desk_messages.proofs.MachineLemmas.{line_more, all_ended, received_ended, goes_on-all, settled_faults, settled_line}
+use Rattle.desk_messages.proofs.MachineLemmas.{line_more, all_ended, received_all, received_ended, goes_on-all, settled_faults, settled_line}
+use Rattle.command_grammar.specs.Lines.{reading}
+use Rattle.desk_messages.proofs.TriedLemmas.{tried_then, tried_is, tried_settled, holds_three}
 use Rattle.desk_messages.proofs.message.receive_lines.Goals as goal
 
 pub loop-i-init : goal.loop-i-init
@@ -22,6 +24,7 @@ loop-i-init g c =
         ap (machine (g.S.Records.desk c.args.store.now)) none,
         subst HaveNumbers (sym c.new-progress.ensures.names) tt,
       );
+      left = holds_none _ _ _ (λ alone. alone);
     }
 
 pub loop-i-preserved : goal.loop-i-preserved
@@ -42,6 +45,9 @@ loop-i-preserved g c =
                 c.loop-i.invariant.in_step.goes_on p.0 r.0,
             r.1,
           ));
+      left = holds_then
+          (holds_three c.loop-i.invariant.stays c.loop-i.invariant.taken c.loop-i.invariant.left)
+          c.in-Ok.ensures.crash (λ p q. tried_then g.S.Records.leaves _ _ _ _ _ _ _ _ _ p.0 p.1.1 (q p.1.0.1));
     }
 
 pub returns-then-not-goes_on-clause-answer : goal.returns-then-not-goes_on-clause-answer
@@ -71,3 +77,34 @@ pub returns-then-not-goes_on-clause-line : goal.returns-then-not-goes_on-clause-
 returns-then-not-goes_on-clause-line g c =
     settled_line c.take_line.new.progress.outcomes.items c.received.result.end c.args.lines.now
     (c.in-Ok.ensures.end ∙ sym c.received.ensures.end)
+
+pub returns-then-not-goes_on-clause-crash : goal.returns-then-not-goes_on-clause-crash
+returns-then-not-goes_on-clause-crash g c =
+    let ended = c.in-Ok.ensures.end ∙ sym c.received.ensures.end in
+    holds_then
+    (holds_three c.loop-i.invariant.stays c.loop-i.invariant.taken c.loop-i.invariant.left)
+    c.in-Ok.ensures.crash
+    (λ p q. tried_is g.S.Records.leaves _ _ _ _ _ _ _
+    (sym (tried_settled c.args.from.now c.args.lines.now (g.S.Records.desk c.args.store.now) _
+    c.take_line.new.progress.outcomes.items c.received.result.end ended))
+    (tried_then g.S.Records.leaves _ _ _ _ _ _ _ _ _ p.0 p.1.1 (q p.1.0.1)))
+
+pub returns-in-Err-clause-crash : goal.returns-in-Err-clause-crash
+returns-in-Err-clause-crash g c =
+    let is = c.index-lines-i.is in
+    rw c.received-in-Err.ensures.end (holds_then
+    (holds_three c.loop-i.invariant.stays c.loop-i.invariant.taken c.loop-i.invariant.left)
+    c.in-Err.ensures.crash
+    (λ p q. tried_is g.S.Records.leaves _ _ _ _ _ _ _
+    (sym (ap (λ m. m.desk) (line_more c.args.from.now _ c.args.lines.now c.loop-i.i c.index-lines-i.result _ _ c.loop-i-test.true is
+    c.loop-i.invariant.in_step.goes_on p.1.0.0 refl)))
+    (tried_then g.S.Records.leaves _ _ _ _ _ _ _ _ _ p.0 p.1.1 (q p.1.0.1))))
+
+pub returns-clause-answer : goal.returns-clause-answer
+returns-clause-answer g c =
+    rw c.received-2.ensures.end (holds_weaker c.loop-i.invariant.taken
+    (λ p. received_all c.args.from.now c.args.lines.now _ _ c.loop-i.i _ _ (omega (arith, c.loop-i-test.false))
+    c.loop-i.invariant.in_step.goes_on p.0 c.received-2.ensures.outcomes))
+
+pub returns-clause-crash : goal.returns-clause-crash
+returns-clause-crash g c = rw c.received-2.ensures.end c.loop-i.invariant.left

@@ -3,6 +3,7 @@ use Rattle.desk_store.specs.Store.{Holds}
 use Rattle.desk_store.specs.Message.{after_lines, at_start, machine}
 use Rattle.message_progress.specs.Progress.{HaveNumbers}
 use Rattle.message_progress.specs.Progress.{IsInStep}
+use Rattle.desk_messages.specs.Tried.{LeavesTried}
 use Rattle.desk_messages.proofs.message.receive_lines.Given as goal
 
 abbrev pub invariant-loop-i : goal.invariant-loop-i
@@ -14,4 +15,7 @@ invariant-loop-i g l = record {
   taken : Holds g.S.Records.is_kept g.S.Records.is_honest l.fn.store l.store
       ((after_lines l.from (at_start (g.S.Records.desk l.fn.store)) (take l.i l.lines)
       ≡ machine (g.S.Records.desk l.store) l.progress.outcomes.items) × HaveNumbers l.progress.known.names);
+  left : Holds g.S.Records.is_kept g.S.Records.is_honest l.fn.store l.store
+      (LeavesTried g.S.Records.leaves l.fn.store l.store (g.S.Records.keeping l.fn.store) (g.S.Records.desk l.fn.store)
+      (g.S.Records.desk l.store) (g.S.Records.desk l.store));
 }
