@@ -51,6 +51,11 @@ unfoldable pub report_of : Desk → List ℕ → List ℕ → Option (List ℕ) 
 report_of d sender package_name version severity title =
     desk_reported (report_severity package_name version severity title) d sender package_name version title
 
+-- the desk after a report: as it was, where the report is refused
+abbrev pub desk_after : Desk → Result Desk ReportFault → Desk
+desk_after d (Ok new) = new
+desk_after d (Err refusal) = d
+
 -- What is answered, and the desk after it: the number of the new bug; a refusal, and no change; or,
 -- of a report whose words are good, a fault of the store, and no change.
 abbrev pub IsReported : List ℕ → List ℕ → Option (List ℕ) → List ℕ → List ℕ → Desk → Result ℕ ReportFault → Desk → Type 0

@@ -2,6 +2,7 @@
 
 ghost use Rattle.std.specs.Prelude.{◌≡◌, true, Some, IfOk, IfErr, ⊤};
 ghost use Rattle.desk_store.specs.Store.{Holds};
+ghost use Rattle.desk_store.specs.Tried.{LeavesTried};
 ghost use Rattle.desk_directives.specs.Questions.{list_at, list_told, AsksForList, IsTold, faults_after_question};
 
 use crate::told::{QuestionFault, Told};
@@ -34,6 +35,8 @@ fn list_at<S: Records>(
     ensures answer { Holds S.is_kept S.is_honest store.old store.new
         (IsTold (list_at (S.desk store.old) «package».now (Some node.now)) ⊤ (S.desk store.old) result (S.desk store.new)) }
     ensures stays { S.keeping store.new ≡ S.keeping store.old }
+    ensures crash { Holds S.is_kept S.is_honest store.old store.new
+        (LeavesTried S.leaves store.old store.new (S.keeping store.old) (S.desk store.old) (S.desk store.new) (S.desk store.new)) }
     ensures count { S.faults store.new ≡ faults_after_question result (S.faults store.old) }
 {
     let rows = store.listed(package, node)?;
@@ -64,6 +67,8 @@ pub fn list_of<S: Records>(
         (IsTold (list_told (S.desk store.old) «package».now version.now) (AsksForList «package».now version.now)
         (S.desk store.old) result (S.desk store.new)) }
     ensures stays { S.keeping store.new ≡ S.keeping store.old }
+    ensures crash { Holds S.is_kept S.is_honest store.old store.new
+        (LeavesTried S.leaves store.old store.new (S.keeping store.old) (S.desk store.old) (S.desk store.new) (S.desk store.new)) }
     ensures count { S.faults store.new ≡ faults_after_question result (S.faults store.old) }
 {
     match check_name(package) {

@@ -4,6 +4,7 @@ ghost use Rattle.std.specs.Prelude.{◌≡◌, false, Some, IfOk, IfErr, ⊤};
 ghost use Rattle.bug_record.specs.Images.{member_at};
 ghost use Rattle.desk_text.specs.Pages.{page_in};
 ghost use Rattle.desk_store.specs.Store.{Holds, IsImageOf};
+ghost use Rattle.desk_store.specs.Tried.{LeavesTried};
 ghost use Rattle.desk_directives.specs.Questions.{page_told, IsTold, faults_after_question};
 
 use crate::told::{QuestionFault, Told};
@@ -37,6 +38,8 @@ fn page_at<S: Records>(
     ensures answer { Holds S.is_kept S.is_honest store.old store.new (IsImageOf (S.desk store.old) number (Some image)
         → IsTold (page_told (S.desk store.old) number) ⊤ (S.desk store.old) result (S.desk store.new)) }
     ensures stays { S.keeping store.new ≡ S.keeping store.old }
+    ensures crash { Holds S.is_kept S.is_honest store.old store.new
+        (LeavesTried S.leaves store.old store.new (S.keeping store.old) (S.desk store.old) (S.desk store.new) (S.desk store.new)) }
     ensures count { S.faults store.new ≡ faults_after_question result (S.faults store.old) }
 {
     let waiting = store.waiting_on(number)?;
@@ -62,6 +65,8 @@ pub fn page_of<S: Records>(alloc: Global, store: &mut S, number: u64) -> Result<
     ensures answer { Holds S.is_kept S.is_honest store.old store.new
         (IsTold (page_told (S.desk store.old) number) ⊤ (S.desk store.old) result (S.desk store.new)) }
     ensures stays { S.keeping store.new ≡ S.keeping store.old }
+    ensures crash { Holds S.is_kept S.is_honest store.old store.new
+        (LeavesTried S.leaves store.old store.new (S.keeping store.old) (S.desk store.old) (S.desk store.new) (S.desk store.new)) }
     ensures count { S.faults store.new ≡ faults_after_question result (S.faults store.old) }
 {
     let Some(image) = store.set_of(number)? else {

@@ -6,7 +6,8 @@ ghost use Rattle.debver.specs.Names.{IsName, name_fault};
 ghost use Rattle.debver.specs.Cut.{IsVersion};
 ghost use Rattle.bug_record.specs.Texts.{IsText, IfGiven};
 ghost use Rattle.desk_store.specs.Store.{Holds};
-ghost use Rattle.desk_directives.specs.Reports.{has_bad_version, node_reported, report_severity, IsReported};
+ghost use Rattle.desk_store.specs.Tried.{LeavesTried, tried_by};
+ghost use Rattle.desk_directives.specs.Reports.{has_bad_version, node_reported, report_severity, report_of, desk_after, IsReported};
 ghost use Rattle.desk_directives.specs.ReportWords.{IsOfWords};
 ghost use Rattle.desk_directives.specs.Reports.{faults_after_report, AsksForNext};
 
@@ -110,6 +111,10 @@ pub fn report<S: Records>(
         (IsReported from.now «package».now (option_copied version.entry) severity.now title.now (S.desk store.old) result
         (S.desk store.new)) }
     ensures stays { Holds S.is_kept S.is_honest store.old store.new (S.keeping store.new ≡ S.keeping store.old) }
+    ensures crash { Holds S.is_kept S.is_honest store.old store.new
+        (LeavesTried S.leaves store.old store.new (S.keeping store.old) (S.desk store.old) (S.desk store.new)
+        (tried_by result (S.desk store.new) (desk_after (S.desk store.old)
+        (report_of (S.desk store.old) from.now «package».now (option_copied version.entry) severity.now title.now)))) }
     ensures first { OnOk (report_severity «package».now (option_copied version.entry) severity.now title.now)
         (AsksForNext S.next_gives store.old result) }
     ensures count { S.faults store.new ≡ faults_after_report result (S.faults store.old) }

@@ -1,4 +1,3 @@
 pub mod CommandLemmas
 pub mod DecidingLemmas
 pub mod MachineLemmas
-pub mod TriedLemmas

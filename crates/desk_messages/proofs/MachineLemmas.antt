@@ -14,6 +14,7 @@ use Rattle.message_progress.specs.Progress.{HaveNumbers}
 use Rattle.message_progress.specs.Progress.{goes_on}
 use Rattle.desk_messages.specs.Taking.{IsDecision}
 use Rattle.desk_messages.specs.declared.command_decision.Decision.{Decision}
+use Rattle.desk_store.specs.Tried.{tried_at}
 use Rattle.desk_messages.specs.Ends.{IsLineOf}
 use Rattle.message_progress.proofs.EndLemmas.{never_store, at_start_open}
 
@@ -114,3 +115,11 @@ received_all sender lines old new i items outcomes le on a same = record {
   after = ap (after_lines sender (at_start old)) (sym (take_all i lines le)) ∙ (a ∙ ap (machine new) (sym same));
   end_is = ap end_of same ∙ on;
 }
+
+-- a message that the store did not end has tried nothing else
+pub tried_settled : (sender : List ℕ) (lines : List (List ℕ)) (old now : Desk) (es : List Entry) (end : End) → end_of es ≡ end
+    → tried_at sender lines old end now ≡ now
+tried_settled sender lines old now es ends.All h = refl
+tried_settled sender lines old now es ends.Stopped h = refl
+tried_settled sender lines old now es ends.TooManyUnreadable h = refl
+tried_settled sender lines old now es (ends.Store fault k) h = absurd (never_store es fault k h)

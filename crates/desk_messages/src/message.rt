@@ -10,7 +10,7 @@ ghost use Rattle.message_progress.specs.Progress.{IsInStep};
 ghost use Rattle.desk_messages.specs.Taking.{TakesLine, HasMembers, CarriesOut};
 ghost use Rattle.desk_lines.specs.Lines.{lines_of};
 ghost use Rattle.desk_messages.specs.Ends.{IsLineOf};
-ghost use Rattle.desk_messages.specs.Tried.{LeavesTried, tried_by, tried_at};
+ghost use Rattle.desk_store.specs.Tried.{LeavesTried, tried_by, tried_at};
 ghost use Rattle.command_grammar.specs.Lines.{reading};
 
 use crate::line_decision::decide_line;

@@ -3,3 +3,4 @@ pub mod CrashLemmas
 pub mod NameLemmas
 pub mod KeepLemmas
 pub mod KeptProp
+pub mod TriedLemmas

@@ -3,3 +3,4 @@ pub mod Message
 pub mod Kept
 pub mod Crashes
 pub mod Store
+pub mod Tried

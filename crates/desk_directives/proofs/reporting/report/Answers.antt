@@ -4,6 +4,9 @@ use Rattle.bug_record.specs.Desk.{Desk}
 use Rattle.bug_record.specs.Steps.{reported}
 use Rattle.desk_store.proofs.HoldsLemmas.{holds_none, holds_weaker, holds_both, holds_where}
 use Rattle.desk_directives.proofs.ReportLemmas.{words_refused, words_not_counted, report_full, report_done, asks_not, asks_first, some_left}
+use Rattle.bug_record.specs.Images.{put}
+use Rattle.desk_store.proofs.TriedLemmas.{tried_then, tried_is, asked_tried, applied_tried}
+use Rattle.desk_directives.specs.Reports.{desk_after}
 use Rattle.desk_directives.proofs.reporting.report.Goals as goal
 
 pub returns-in_err-severity-clause-answer : goal.returns-in_err-severity-clause-answer
@@ -79,3 +82,21 @@ pub returns-in_err-apply-clause-first : goal.returns-in_err-apply-clause-first
 returns-in_err-apply-clause-first g c =
     let p = err_from_is_err_and c.from_residual-in_err-apply.result c.from_residual-in_err-apply.ensures.1 in
     rw (p.1, p.2) (asks_first g.S.Records.next_gives _ _ _ c.in_ok-severity.severity (Ok c.in_ok-next.next) _ c.in_ok-severity.ensures.value c.in_ok-next.ensures.gives (some_left c.in_ok-next.next _ c.if-next-ge-AFTER_LARGEST.false))
+
+pub returns-in_err-apply-clause-crash : goal.returns-in_err-apply-clause-crash
+returns-in_err-apply-clause-crash g c =
+    let p = err_from_is_err_and c.from_residual-in_err-apply.result c.from_residual-in_err-apply.ensures.1 in
+    let a = c.in_ok-next.ensures.answer in
+    let b = c.in_err-apply.ensures.answer in
+    rw p.1 (holds_where (holds_both a.holds b) (λ u w q.
+    let kept = a.holds.kept u (b.honest w) in
+    let sound = g.met.S.Records.sound _ kept in
+    let same = sym (q.0.0 ∙ ap (λ (z : Desk). z.next) (sym q.0.1)) in
+    let done = report_done c.args.from.now _ _ _ _ _ _ (put (g.S.Records.desk c.next.new.self) c.in-Ok.change) c.in_ok-severity.severity c.in_ok-next.next
+        c.in_ok-severity.ensures.value q.0 c.if-next-ge-AFTER_LARGEST.false
+        (c.in-Ok.ensures.right _ sound same
+        ∙ ap (reported _ c.args.from.now c.args.package.now c.in_ok-severity.severity c.args.title.now) c.in_ok-node.ensures.node) in
+    tried_is g.S.Records.leaves _ _ _ _ _ _ _ (sym (ap (desk_after (g.S.Records.desk c.args.store.now)) done.0))
+    (tried_then g.S.Records.leaves _ _ _ _ _ _ _ _ _ c.in_ok-next.ensures.stays
+    ((asked_tried g.met.S.Records.either _ _ _ _ _ _ _ _ a).fact u (b.honest w))
+    (applied_tried g.S.Records.leaves _ _ _ _ _ _ (Err c.in_err-apply.field-0.0) q.1 (c.in_err-apply.ensures.crash.fact kept w)))))

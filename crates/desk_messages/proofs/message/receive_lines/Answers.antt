@@ -4,9 +4,9 @@ use Rattle.desk_store.specs.Message.{machine, takes, unreadable_count, end_of, k
 use Rattle.message_progress.specs.Progress.{HaveNumbers}
 use Rattle.message_progress.specs.Progress.{goes_on}
 use Rattle.message_progress.proofs.EndLemmas.{at_start_open}
-use Rattle.desk_messages.proofs.MachineLemmas.{line_more, all_ended, received_all, received_ended, goes_on-all, settled_faults, settled_line}
+use Rattle.desk_messages.proofs.MachineLemmas.{line_more, all_ended, received_all, tried_settled, received_ended, goes_on-all, settled_faults, settled_line}
 use Rattle.command_grammar.specs.Lines.{reading}
-use Rattle.desk_messages.proofs.TriedLemmas.{tried_then, tried_is, tried_settled, holds_three}
+use Rattle.desk_store.proofs.TriedLemmas.{tried_then, tried_is, holds_three}
 use Rattle.desk_messages.proofs.message.receive_lines.Goals as goal
 
 pub loop-i-init : goal.loop-i-init
