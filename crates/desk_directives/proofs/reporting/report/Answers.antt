@@ -1,11 +1,11 @@
-use Rattle.std.proofs.Common.{rules, ◌∙◌, sym, ap, refl, Ok, Err}
+use Rattle.std.proofs.Common.{rules, ◌∙◌, sym, ap, subst, refl, Ok, Err}
 use Rattle.std.proofs.lemmas.Result.{err_from_is_err_and}
 use Rattle.bug_record.specs.Desk.{Desk}
 use Rattle.bug_record.specs.Steps.{reported}
 use Rattle.desk_store.proofs.HoldsLemmas.{holds_none, holds_weaker, holds_both, holds_where}
 use Rattle.desk_directives.proofs.ReportLemmas.{words_refused, words_not_counted, report_full, report_done, asks_not, asks_first, some_left}
 use Rattle.bug_record.specs.Images.{put}
-use Rattle.desk_store.proofs.TriedLemmas.{tried_then, tried_is, asked_tried, applied_tried}
+use Rattle.desk_store.proofs.TriedLemmas.{tried_then, tried_is, applied_tried}
 use Rattle.desk_directives.specs.Reports.{desk_after}
 use Rattle.desk_directives.proofs.reporting.report.Goals as goal
 
@@ -98,5 +98,5 @@ returns-in_err-apply-clause-crash g c =
         ∙ ap (reported _ c.args.from.now c.args.package.now c.in_ok-severity.severity c.args.title.now) c.in_ok-node.ensures.node) in
     tried_is g.S.Records.leaves _ _ _ _ _ _ _ (sym (ap (desk_after (g.S.Records.desk c.args.store.now)) done.0))
     (tried_then g.S.Records.leaves _ _ _ _ _ _ _ _ _ c.in_ok-next.ensures.stays
-    ((asked_tried g.met.S.Records.either _ _ _ _ _ _ _ _ a).fact u (b.honest w))
-    (applied_tried g.S.Records.leaves _ _ _ _ _ _ (Err c.in_err-apply.field-0.0) q.1 (c.in_err-apply.ensures.crash.fact kept w)))))
+    (λ alone. subst (λ (z : Desk). g.S.Records.leaves c.next.new.self (z, g.S.Records.keeping c.args.store.now) (z, g.S.Records.keeping c.args.store.now)) (sym q.0.1) (a.left (b.honest w) _ _ alone))
+    (applied_tried {T = Unit {0}} g.S.Records.leaves _ _ _ _ _ c.in-Ok.change (Err c.in_err-apply.field-0.0) q.1 (c.in_err-apply.ensures.crash.fact kept w)))))
