@@ -4,6 +4,7 @@ pub mod BranchLemmas
 pub mod QuestionLemmas
 pub mod RunLemmas
 pub mod ScriptLemmas
+pub mod TriedLemmas
 pub mod ZipLemmas
 pub mod CallLemmas
 pub mod GrownLemmas

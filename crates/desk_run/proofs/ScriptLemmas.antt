@@ -66,7 +66,7 @@ cut_more texts before parts g h line c f lines =
     ∙ sym (append_assoc before parts (parts_from h lines))))
 
 -- the script, where so much is read
-script_cut : (texts : List (List ℕ)) (before : List Part) (g : List (List ℕ)) (input rest : List ℕ) → ReadTo texts input rest
+pub script_cut : (texts : List (List ℕ)) (before : List Part) (g : List (List ℕ)) (input rest : List ℕ) → ReadTo texts input rest
     → IsCut texts before g → script_of input ≡ before ++ parts_from g (map without_return (raw_lines rest))
 unfolding script_of lines_of
 script_cut texts before g input rest r c =

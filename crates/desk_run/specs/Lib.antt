@@ -4,6 +4,7 @@ pub use Rattle.desk_directives.specs.Reports
 pub use Rattle.desk_repeats.specs.Once
 pub mod Script
 pub mod Running
+pub mod Tried
 pub mod Calls
 -- definitions that only private functions cite
 pub mod Directives

@@ -1,6 +1,6 @@
 //! A finished part of a script, message or directive, carried out.
 
-ghost use Rattle.std.specs.Prelude.{◌≡◌, ℕ, ◌<◌, ◌||◌, true, length, take, Some, Result, List, [], OnOk, OnErr};
+ghost use Rattle.std.specs.Prelude.{◌≡◌, ℕ, ◌<◌, ◌||◌, true, length, take, Some, Result, List, [], ◌∷◌, OnOk, OnErr};
 ghost use Rattle.std.specs.Prelude.{IfErr};
 ghost use Rattle.std.specs.Option.{option_copied};
 ghost use Rattle.bug_record.specs.Texts.{IsText};
@@ -11,6 +11,7 @@ ghost use Rattle.desk_directives.specs.Branches.{nodes_of};
 ghost use Rattle.desk_run.specs.RefusedAndFailed.{Tells, TellsFault};
 ghost use Rattle.desk_run.specs.Running.{IsCounted};
 ghost use Rattle.desk_run.specs.Carrying.{Carries, IsOfPart};
+ghost use Rattle.desk_run.specs.Tried.{LeavesParts};
 
 use crate::branch::read_nodes;
 use crate::directive::{Directive, ReportWords, read_directive};
@@ -63,6 +64,9 @@ pub(crate) fn finish_message<S: Records, W: Write>(
           written = W.contents writer.new;
         }) result) }
     ensures stays { Holds S.is_kept S.is_honest store.old store.new (S.keeping store.new ≡ S.keeping store.old) }
+    ensures crash { Holds S.is_kept S.is_honest store.old store.new
+        (LeavesParts S.leaves store.old store.new (S.keeping store.old) (Message run.old.gathered.items ∷ [])
+        (standing (S.desk store.old) run.old.sender run.old.refused) (S.desk store.new) result) }
     ensures own { IfErr result IsOfPart }
     ensures count { IsCounted result (S.faults store.old) (S.faults store.new) }
     ensures cleared { OnOk result (run.new.gathered.items ≡ []) }
@@ -116,6 +120,9 @@ fn carry_report<S: Records, W: Write>(
           written = W.contents writer.new;
         }) result) }
     ensures stays { Holds S.is_kept S.is_honest store.old store.new (S.keeping store.new ≡ S.keeping store.old) }
+    ensures crash { Holds S.is_kept S.is_honest store.old store.new
+        (LeavesParts S.leaves store.old store.new (S.keeping store.old) (DirectiveLine line.now ∷ [])
+        (standing (S.desk store.old) run.old.sender run.old.refused) (S.desk store.new) result) }
     ensures own { IfErr result IsOfPart }
     ensures count { IsCounted result (S.faults store.old) (S.faults store.new) }
     ensures gathered { run.new.gathered.items ≡ run.old.gathered.items }
@@ -165,6 +172,9 @@ fn carry_nodes<S: Records, W: Write>(
           written = W.contents writer.new;
         }) result) }
     ensures stays { Holds S.is_kept S.is_honest store.old store.new (S.keeping store.new ≡ S.keeping store.old) }
+    ensures crash { Holds S.is_kept S.is_honest store.old store.new
+        (LeavesParts S.leaves store.old store.new (S.keeping store.old) (DirectiveLine line.now ∷ [])
+        (standing (S.desk store.old) run.old.sender run.old.refused) (S.desk store.new) result) }
     ensures own { IfErr result IsOfPart }
     ensures count { IsCounted result (S.faults store.old) (S.faults store.new) }
     ensures gathered { run.new.gathered.items ≡ run.old.gathered.items }
@@ -234,6 +244,9 @@ pub(crate) fn carry_out<S: Records, W: Write>(
           written = W.contents writer.new;
         }) result) }
     ensures stays { Holds S.is_kept S.is_honest store.old store.new (S.keeping store.new ≡ S.keeping store.old) }
+    ensures crash { Holds S.is_kept S.is_honest store.old store.new
+        (LeavesParts S.leaves store.old store.new (S.keeping store.old) (DirectiveLine line.now ∷ [])
+        (standing (S.desk store.old) run.old.sender run.old.refused) (S.desk store.new) result) }
     ensures own { IfErr result IsOfPart }
     ensures count { IsCounted result (S.faults store.old) (S.faults store.new) }
     ensures gathered { run.new.gathered.items ≡ run.old.gathered.items }

@@ -3,7 +3,8 @@
 ghost use Rattle.std.specs.Prelude.{◌≡◌, ℕ, ◌<◌, Result, List, [], ◌∷◌, ◌++◌, OnOk, IfOk};
 ghost use Rattle.std.specs.Prelude.{IfErr, ◌≢◌};
 ghost use Rattle.desk_store.specs.Store.{Holds};
-ghost use Rattle.desk_run.specs.Script.{Part, Message, standing, begin};
+ghost use Rattle.desk_run.specs.Script.{Part, Message, standing, begin, script_of};
+ghost use Rattle.desk_run.specs.Tried.{LeavesParts};
 ghost use Rattle.desk_run.specs.Gathering.{parts_from};
 ghost use Rattle.desk_lines.specs.Reading.{Known, Left};
 ghost use Rattle.desk_run.specs.Running.{Stops, IsCounted, IsReadInPart, Ends};
@@ -50,6 +51,9 @@ fn take_line<S: Records, W: Write>(
           written = W.contents writer.new;
         }) fault (λ after. after ≢ []))) }
     ensures stays { Holds S.is_kept S.is_honest store.old store.new (S.keeping store.new ≡ S.keeping store.old) }
+    ensures crash { (lines : List (List ℕ)) → Holds S.is_kept S.is_honest store.old store.new
+        (LeavesParts S.leaves store.old store.new (S.keeping store.old) (parts_from run.old.gathered.items (line ∷ lines))
+        (standing (S.desk store.old) run.old.sender run.old.refused) (S.desk store.new) result) }
     ensures own { IfErr result IsOfPart }
     ensures count { IsCounted result (S.faults store.old) (S.faults store.new) }
 {
@@ -78,6 +82,9 @@ fn finish_script<S: Records, W: Write>(
       written = W.contents writer.new;
     }) result) }
     ensures stays { Holds S.is_kept S.is_honest store.old store.new (S.keeping store.new ≡ S.keeping store.old) }
+    ensures crash { Holds S.is_kept S.is_honest store.old store.new
+        (LeavesParts S.leaves store.old store.new (S.keeping store.old) (Message run.old.gathered.items ∷ [])
+        (standing (S.desk store.old) run.old.sender run.old.refused) (S.desk store.new) result) }
     ensures own { IfErr result IsOfPart }
     ensures count { IsCounted result (S.faults store.old) (S.faults store.new) }
 {
@@ -106,6 +113,9 @@ fn finish_script<S: Records, W: Write>(
 /// `NotUtf8` and `LineTooLong` name the first line of either kind; one that is both is too long.
 /// At `Read` good lines were taken from the reader, and at most 65,536 bytes of the next one.
 /// What is kept of messages that have an id stays.
+/// Where a crash as the call began left the desk alone, a crash at any moment of it leaves the desk
+/// after some of the script's lines, and none that was answered is missing: as it returns, also where
+/// the disk stopped at one of its calls, that is the present desk, or the desk after the next line.
 pub fn run_script<S: Records, R: Read, W: Write>(
     alloc: Global,
     store: &mut S,
@@ -122,6 +132,9 @@ pub fn run_script<S: Records, R: Read, W: Write>(
           written = W.contents writer.new;
         }) result)) }
     ensures stays { Holds S.is_kept S.is_honest store.old store.new (S.keeping store.new ≡ S.keeping store.old) }
+    ensures crash { Holds S.is_kept S.is_honest store.old store.new (Known (R.remaining reader.old) (λ input.
+        LeavesParts S.leaves store.old store.new (S.keeping store.old) (script_of input) (begin (S.desk store.old))
+        (S.desk store.new) result)) }
     ensures read { OnOk result (Left (R.remaining reader.old) (R.remaining reader.new) (λ input rest. rest ≡ [])) }
     ensures begun { result ≡ Result.Err ScriptFault.Read → Left (R.remaining reader.old) (R.remaining reader.new) IsReadInPart }
     ensures count { IsCounted result (S.faults store.old) (S.faults store.new) }

@@ -55,3 +55,7 @@ pub applied_tried : {S T : Type 0} (l : S → Holding → Holding → Type 0) (a
 applied_tried l a b kept d e change (Ok done) is left alone = subst (λ (z : Desk). l b (z, kept) (z, kept)) (sym is) left
 applied_tried l a b kept d e change (Err fault) is left alone =
     subst (λ (z : Desk). l b (z, kept) (put d change, kept)) (sym is) (left (d, kept) alone)
+
+pub holds_both_here : {S : Type 0} {k h : S → Type 0} {a b : S} {P Q : Type 0} → Holds k h a b P → Holds k h a b Q
+    → Holds k h a b (P × Q)
+holds_both_here x y = record { honest = x.honest; kept = x.kept; fact = λ u w. (x.fact u w, y.fact u w) }

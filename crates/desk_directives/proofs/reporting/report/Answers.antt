@@ -93,9 +93,9 @@ returns-in_err-apply-clause-crash g c =
     let sound = g.met.S.Records.sound _ kept in
     let same = sym (q.0.0 ∙ ap (λ (z : Desk). z.next) (sym q.0.1)) in
     let done = report_done c.args.from.now _ _ _ _ _ _ (put (g.S.Records.desk c.next.new.self) c.in-Ok.change) c.in_ok-severity.severity c.in_ok-next.next
-        c.in_ok-severity.ensures.value q.0 c.if-next-ge-AFTER_LARGEST.false
-        (c.in-Ok.ensures.right _ sound same
-        ∙ ap (reported _ c.args.from.now c.args.package.now c.in_ok-severity.severity c.args.title.now) c.in_ok-node.ensures.node) in
+    c.in_ok-severity.ensures.value q.0 c.if-next-ge-AFTER_LARGEST.false
+    (c.in-Ok.ensures.right _ sound same
+    ∙ ap (reported _ c.args.from.now c.args.package.now c.in_ok-severity.severity c.args.title.now) c.in_ok-node.ensures.node) in
     tried_is g.S.Records.leaves _ _ _ _ _ _ _ (sym (ap (desk_after (g.S.Records.desk c.args.store.now)) done.0))
     (tried_then g.S.Records.leaves _ _ _ _ _ _ _ _ _ c.in_ok-next.ensures.stays
     (λ alone. subst (λ (z : Desk). g.S.Records.leaves c.next.new.self (z, g.S.Records.keeping c.args.store.now) (z, g.S.Records.keeping c.args.store.now)) (sym q.0.1) (a.left (b.honest w) _ _ alone))

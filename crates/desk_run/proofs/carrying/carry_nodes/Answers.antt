@@ -8,6 +8,8 @@ use Rattle.desk_run.specs.Script.{DirectiveLine, standing}
 use Rattle.desk_text.specs.Answers.{branch_answer}
 use Rattle.desk_run.proofs.PartLemmas.{untold}
 use Rattle.desk_run.proofs.BranchLemmas.{branch_whole, branch_fault, branch_carried, whole_count, fault_count, branch_count}
+use Rattle.desk_store.proofs.HoldsLemmas.{holds_where}
+use Rattle.desk_run.proofs.TriedLemmas.{branched_failed}
 use Rattle.desk_run.proofs.carrying.carry_nodes.Goals as goal
 
 pub returns-in_default-clause-answer : goal.returns-in_default-clause-answer
@@ -85,3 +87,28 @@ returns-in_err-write_out-clause-count g c =
     let p = err_from_is_err_and c.from_residual.result c.from_residual.ensures.1 in
     let e : c.from_residual.result ≡ Err Write = cc (p.1, p.2, c.in_err-write_out.ensures.write) in
     rw e (n.0, c.branch-answer.ensures.count ∙ n.1)
+
+pub returns-in_default-clause-crash : goal.returns-in_default-clause-crash
+returns-in_default-clause-crash g c =
+    let s = standing (g.S.Records.desk c.args.store.now) c.args.run.now.sender c.args.run.now.refused in
+    let branched = c.branch-answer.ensures.answer in
+    (holds_where c.branch-answer.ensures.crash
+    (λ u w x. branched_failed g.S.Records.leaves _ _ _ c.args.line.now c.requires.0 c.args.nodes.now s _ c.branch-answer.result Write
+    c.requires.1 c.requires.2 (branched.fact u w) x))
+
+pub returns-in_err-write_out-clause-crash : goal.returns-in_err-write_out-clause-crash
+returns-in_err-write_out-clause-crash g c =
+    let s = standing (g.S.Records.desk c.args.store.now) c.args.run.now.sender c.args.run.now.refused in
+    let branched = c.branch-answer.ensures.answer in
+    let p = err_from_is_err_and c.from_residual.result c.from_residual.ensures.1 in
+    rw p.1 (holds_where c.branch-answer.ensures.crash
+    (λ u w x. branched_failed g.S.Records.leaves _ _ _ c.args.line.now c.requires.0 c.args.nodes.now s _ c.branch-answer.result p.0
+    c.requires.1 c.requires.2 (branched.fact u w) x))
+
+pub returns-in-Some-clause-crash : goal.returns-in-Some-clause-crash
+returns-in-Some-clause-crash g c =
+    let s = standing (g.S.Records.desk c.args.store.now) c.args.run.now.sender c.args.run.now.refused in
+    let branched = c.branch-answer.ensures.answer in
+    (holds_where c.branch-answer.ensures.crash
+    (λ u w x. branched_failed g.S.Records.leaves _ _ _ c.args.line.now c.requires.0 c.args.nodes.now s _ c.branch-answer.result Write
+    c.requires.1 c.requires.2 (branched.fact u w) x))

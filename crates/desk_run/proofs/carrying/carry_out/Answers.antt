@@ -1,4 +1,4 @@
-use Rattle.std.proofs.Common.{Global, ◌≡◌, None, Err, Result, refl, sym, ◌∙◌, ap, subst}
+use Rattle.std.proofs.Common.{inl, Global, ◌≡◌, None, Err, Result, refl, sym, ◌∙◌, ap, subst}
 use Rattle.desk_store.proofs.HoldsLemmas.{holds_none, holds_weaker}
 use Rattle.version_nodes.specs.Trees.{Ancestry}
 use Rattle.control_text.specs.Words.{words}
@@ -9,6 +9,7 @@ use Rattle.desk_run.proofs.WrittenLemmas.{appends_none}
 use Rattle.desk_run.proofs.PartLemmas.{order_done, order_refused}
 use Rattle.desk_directives.proofs.BranchLemmas.{branch_of_none}
 use Rattle.desk_run.proofs.QuestionLemmas.{question_carried}
+use Rattle.desk_run.proofs.TriedLemmas.{parts_settled}
 use Rattle.desk_run.proofs.carrying.carry_out.Goals as goal
 
 pub returns-in_ok-run-in-From-clause-answer : goal.returns-in_ok-run-in-From-clause-answer
@@ -56,3 +57,35 @@ returns-in-Show-clause-answer g c =
     (λ h. question_carried c.args.line.now s _ _ _ _ _ _ (Show c.in-Show.number) _ _
     c.page_of-answer.result _ c.answer_question-in-Show.result c.in-Show.ensures.value refl refl (λ a. a)
     c.page_of-answer.ensures.count done.sender h done.answer)
+
+pub returns-in_err-run-in-From-clause-crash : goal.returns-in_err-run-in-From-clause-crash
+returns-in_err-run-in-From-clause-crash g c =
+    let s = standing (g.S.Records.desk c.args.store.now) c.args.run.now.sender c.args.run.now.refused in
+    holds_none _ _ _ (parts_settled g.S.Records.leaves _ _ _ _ s _ _ (λ alone. alone))
+
+pub returns-in-Err-BadNode-clause-crash : goal.returns-in-Err-BadNode-clause-crash
+returns-in-Err-BadNode-clause-crash g c =
+    let s = standing (g.S.Records.desk c.args.store.now) c.args.run.now.sender c.args.run.now.refused in
+    holds_none _ _ _ (parts_settled g.S.Records.leaves _ _ _ _ s _ c.refuse.result (λ alone. alone))
+
+pub returns-in-Err-Memory-clause-crash : goal.returns-in-Err-Memory-clause-crash
+returns-in-Err-Memory-clause-crash g c =
+    let s = standing (g.S.Records.desk c.args.store.now) c.args.run.now.sender c.args.run.now.refused in
+    holds_none _ _ _ (g.S.Records.desk c.args.store.now, inl refl, λ alone. alone)
+
+pub returns-in-Bad-clause-crash : goal.returns-in-Bad-clause-crash
+returns-in-Bad-clause-crash g c =
+    let s = standing (g.S.Records.desk c.args.store.now) c.args.run.now.sender c.args.run.now.refused in
+    holds_none _ _ _ (parts_settled g.S.Records.leaves _ _ _ _ s _ c.refuse-in-Bad.result (λ alone. alone))
+
+pub returns-in-ListOf-clause-crash : goal.returns-in-ListOf-clause-crash
+returns-in-ListOf-clause-crash g c =
+    let s = standing (g.S.Records.desk c.args.store.now) c.args.run.now.sender c.args.run.now.refused in
+    holds_weaker c.list_of-answer.ensures.crash
+    (λ x. parts_settled g.S.Records.leaves _ _ _ _ s _ c.answer_question.result x)
+
+pub returns-in-Show-clause-crash : goal.returns-in-Show-clause-crash
+returns-in-Show-clause-crash g c =
+    let s = standing (g.S.Records.desk c.args.store.now) c.args.run.now.sender c.args.run.now.refused in
+    holds_weaker c.page_of-answer.ensures.crash
+    (λ x. parts_settled g.S.Records.leaves _ _ _ _ s _ c.answer_question-in-Show.result x)

@@ -7,6 +7,8 @@ use Rattle.desk_run.specs.Script.{DirectiveLine, standing}
 use Rattle.desk_text.specs.Answers.{report_answer}
 use Rattle.desk_run.proofs.PartLemmas.{untold, reported_carried, reported_whole, reported_refused, reported_fault, fault_count}
 use Rattle.desk_run.proofs.PartLemmas.{refused_count, report_count}
+use Rattle.desk_store.proofs.HoldsLemmas.{holds_where}
+use Rattle.desk_run.proofs.TriedLemmas.{reported_failed}
 use Rattle.desk_run.proofs.carrying.carry_report.Goals as goal
 
 pub returns-in_default-clause-answer : goal.returns-in_default-clause-answer
@@ -98,3 +100,28 @@ returns-in_err-write_out-clause-count g c =
     let p = err_from_is_err_and c.from_residual.result c.from_residual.ensures.1 in
     let e : c.from_residual.result ≡ Err Write = cc (p.1, p.2, c.in_err-write_out.ensures.write) in
     rw e (n.0, c.report-answer.ensures.count ∙ n.1)
+
+pub returns-in_default-clause-crash : goal.returns-in_default-clause-crash
+returns-in_default-clause-crash g c =
+    let s = standing (g.S.Records.desk c.args.store.now) c.args.run.now.sender c.args.run.now.refused in
+    let reported = c.report-answer.ensures.answer in
+    (holds_where c.report-answer.ensures.crash
+    (λ u w x. reported_failed g.S.Records.leaves _ _ _ c.args.line.now s _ _ _ _ c.report-answer.result _ Write c.requires
+    (rw c.as_str.ensures at (reported.fact u w)) (rw c.as_str.ensures at x)))
+
+pub returns-in_err-write_out-clause-crash : goal.returns-in_err-write_out-clause-crash
+returns-in_err-write_out-clause-crash g c =
+    let s = standing (g.S.Records.desk c.args.store.now) c.args.run.now.sender c.args.run.now.refused in
+    let reported = c.report-answer.ensures.answer in
+    let p = err_from_is_err_and c.from_residual.result c.from_residual.ensures.1 in
+    rw p.1 (holds_where c.report-answer.ensures.crash
+    (λ u w x. reported_failed g.S.Records.leaves _ _ _ c.args.line.now s _ _ _ _ c.report-answer.result _ p.0 c.requires
+    (rw c.as_str.ensures at (reported.fact u w)) (rw c.as_str.ensures at x)))
+
+pub returns-in-Some-clause-crash : goal.returns-in-Some-clause-crash
+returns-in-Some-clause-crash g c =
+    let s = standing (g.S.Records.desk c.args.store.now) c.args.run.now.sender c.args.run.now.refused in
+    let reported = c.report-answer.ensures.answer in
+    (holds_where c.report-answer.ensures.crash
+    (λ u w x. reported_failed g.S.Records.leaves _ _ _ c.args.line.now s _ _ _ _ c.report-answer.result _ Write c.requires
+    (rw c.as_str.ensures at (reported.fact u w)) (rw c.as_str.ensures at x)))

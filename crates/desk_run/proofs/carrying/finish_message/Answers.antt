@@ -7,6 +7,8 @@ use Rattle.desk_store.proofs.HoldsLemmas.{holds_weaker}
 use Rattle.desk_directives.specs.Transcripts.{received_text}
 use Rattle.desk_run.specs.Script.{Message, standing}
 use Rattle.desk_run.proofs.PartLemmas.{untold, received_carried, received_fault, received_whole, end_count, message_count}
+use Rattle.desk_store.proofs.HoldsLemmas.{holds_where}
+use Rattle.desk_run.proofs.TriedLemmas.{received_failed}
 use Rattle.desk_run.proofs.carrying.finish_message.Goals as goal
 
 pub returns-in_default-clause-answer : goal.returns-in_default-clause-answer
@@ -83,3 +85,31 @@ returns-in_err-write_out-clause-count g c =
     let p = err_from_is_err_and c.from_residual.result c.from_residual.ensures.1 in
     let e : c.from_residual.result ≡ Err Write = cc (p.1, p.2, c.in_err-write_out.ensures.write) in
     rw e (n.0, c.receive_lines-received.ensures.count ∙ n.1)
+
+pub returns-in_default-clause-crash : goal.returns-in_default-clause-crash
+returns-in_default-clause-crash g c =
+    let s = standing (g.S.Records.desk c.args.store.now) c.args.run.now.sender c.args.run.now.refused in
+    let received = c.receive_lines-received.ensures.answer in
+    holds_where c.receive_lines-received.ensures.crash
+    (λ u w x. received_failed g.S.Records.leaves _ _ _ c.args.run.now.gathered.items s c.receive_lines-received.result.outcomes
+    c.receive_lines-received.result.end _ Write (rw (c.as_str.ensures, c.as_slice-lines.ensures.value) at (received.fact u w))
+    (rw (c.as_str.ensures, c.as_slice-lines.ensures.value) at x))
+
+pub returns-in_err-write_out-clause-crash : goal.returns-in_err-write_out-clause-crash
+returns-in_err-write_out-clause-crash g c =
+    let s = standing (g.S.Records.desk c.args.store.now) c.args.run.now.sender c.args.run.now.refused in
+    let received = c.receive_lines-received.ensures.answer in
+    let p = err_from_is_err_and c.from_residual.result c.from_residual.ensures.1 in
+    rw p.1 (holds_where c.receive_lines-received.ensures.crash
+    (λ u w x. received_failed g.S.Records.leaves _ _ _ c.args.run.now.gathered.items s c.receive_lines-received.result.outcomes
+    c.receive_lines-received.result.end _ p.0 (rw (c.as_str.ensures, c.as_slice-lines.ensures.value) at (received.fact u w))
+    (rw (c.as_str.ensures, c.as_slice-lines.ensures.value) at x)))
+
+pub returns-in-Some-clause-crash : goal.returns-in-Some-clause-crash
+returns-in-Some-clause-crash g c =
+    let s = standing (g.S.Records.desk c.args.store.now) c.args.run.now.sender c.args.run.now.refused in
+    let received = c.receive_lines-received.ensures.answer in
+    holds_where c.receive_lines-received.ensures.crash
+    (λ u w x. received_failed g.S.Records.leaves _ _ _ c.args.run.now.gathered.items s c.receive_lines-received.result.outcomes
+    c.receive_lines-received.result.end _ Write (rw (c.as_str.ensures, c.as_slice-lines.ensures.value) at (received.fact u w))
+    (rw (c.as_str.ensures, c.as_slice-lines.ensures.value) at x))

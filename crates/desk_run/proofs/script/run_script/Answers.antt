@@ -1,4 +1,4 @@
-use Rattle.std.proofs.Common.{◌≡◌, ℕ, ◌+◌, ◌≤◌, lit≤, arith, Err, List, [], ◌∷◌, ◌++◌, sym, ◌∙◌, ap, subst, refl, false}
+use Rattle.std.proofs.Common.{inl, ◌≡◌, ℕ, ◌+◌, ◌≤◌, lit≤, arith, Err, List, [], ◌∷◌, ◌++◌, sym, ◌∙◌, ap, subst, refl, false}
 use Rattle.std.proofs.lemmas.Result.{err_from_is_err_and}
 use Rattle.bug_record.specs.Texts.{is_text, IsText}
 use Rattle.desk_store.proofs.HoldsLemmas.{holds_weaker, holds_none, holds_then, holds_both}
@@ -12,6 +12,11 @@ use Rattle.desk_run.proofs.RunLemmas.{runs_then, runs_none}
 use Rattle.desk_run.proofs.ScriptLemmas.{ReadTo, nothing_read, read_more, cut_more, stops_reading, stops_at_once}
 use Rattle.desk_run.proofs.ScriptLemmas.{left_more, left_same, reading_counted, read_in_part, known_before, none_right, on_ok}
 use Rattle.desk_run.proofs.ScriptLemmas.{stops_in_line, last_line, ends_at_last, ends_at_end, one_line_more}
+use Rattle.desk_store.proofs.TriedLemmas.{tried_then, holds_three, holds_both_here}
+use Rattle.desk_lines.specs.Lines.{raw_lines}
+use Rattle.desk_run.specs.Script.{script_of}
+use Rattle.desk_run.proofs.ScriptLemmas.{no_lines_left}
+use Rattle.desk_run.proofs.TriedLemmas.{parts_settled, tried_in_line, tried_at_end, holds_all}
 use Rattle.desk_run.proofs.script.run_script.Goals as goal
 
 pub returns-in_default-clause-answer : goal.returns-in_default-clause-answer
@@ -38,6 +43,7 @@ loop-number-init g c = record {
       (let r = runs_none (begin (g.S.Records.desk c.args.store.now)) (g.W.Write.contents c.args.writer.now) in
       (ap (λ (x : List ℕ). standing (g.S.Records.desk c.args.store.now) x false) c.in-Ok.ensures ∙ r.0, r.1));
   stays = holds_none _ _ _ refl;
+  left = holds_none _ _ _ (λ alone. alone);
 }
 
 pub returns-in_err-line-clause-answer : goal.returns-in_err-line-clause-answer
@@ -136,6 +142,8 @@ loop-number-preserved g c =
           c.in-Line.line r p);
       ran = holds_then i.ran more.2 (λ p q. runs_then i.before more.0 _ _ _ _ _ _ p q);
       stays = holds_then i.stays c.in_ok-take_line-in-Line.ensures.stays (λ p q. q ∙ p);
+      left = holds_then (holds_both_here i.stays i.left) (c.in_ok-take_line-in-Line.ensures.crash [])
+          (λ p x. tried_then g.S.Records.leaves _ _ _ _ _ _ _ _ _ p.0 p.1 x);
     }
 
 pub returns-clause-answer : goal.returns-clause-answer
@@ -145,3 +153,63 @@ returns-clause-answer g c =
     (λ ran. known_before i.read (record { known = λ ys e. tt })
     (λ xs ys r (t : Unit {0}). stops_reading i.texts i.before c.loop-number.run.gathered.items xs
     (c.loop-number.source.unread ++ ys) _ c.loop-number.number _ _ _ _ _ _ _ Read r i.cut ran refl i.faults i.counted tt tt))
+
+pub returns-in_default-clause-crash : goal.returns-in_default-clause-crash
+returns-in_default-clause-crash g c =
+    holds_none _ _ _ (record { known = λ xs e. (g.S.Records.desk c.args.store.now, inl refl, λ alone. alone) })
+
+pub returns-in_err-line-clause-crash : goal.returns-in_err-line-clause-crash
+returns-in_err-line-clause-crash g c =
+    let p = err_from_is_err_and c.from_residual.result c.from_residual.ensures.1 in
+    rw p.1 (holds_weaker c.loop-number.invariant.left
+    (λ x. record { known = λ xs e. (g.S.Records.desk c.loop-number.store, inl refl, x) }))
+
+pub returns-in_err-take_line-in-Line-clause-crash : goal.returns-in_err-take_line-in-Line-clause-crash
+returns-in_err-take_line-in-Line-clause-crash g c =
+    let i = c.loop-number.invariant in
+    let piece = rw c.in-Line.is at c.in_ok-line.ensures.piece in
+    let p = err_from_is_err_and c.from_residual-in_err-take_line-in-Line.result c.from_residual-in_err-take_line-in-Line.ensures.1 in
+    rw p.1 (holds_then (holds_three i.stays i.left i.ran) (holds_all [] c.in_err-take_line-in-Line.ensures.crash)
+    (λ q x. tried_in_line g.S.Records.leaves {T = ScriptEnd} _ _ _ _ _ i.texts i.before c.loop-number.run.gathered.items
+    c.loop-number.source.unread c.next_line.new.source.unread c.in-Line.line _ _ _ (Err p.0) q.0 q.1.1.0 q.1.0 i.read piece i.cut x))
+
+pub returns-in_err-take_line-in-Last-clause-crash : goal.returns-in_err-take_line-in-Last-clause-crash
+returns-in_err-take_line-in-Last-clause-crash g c =
+    let i = c.loop-number.invariant in
+    let piece = last_line c.loop-number.source.unread c.next_line.new.source.unread c.in-Last.line
+    (rw c.in-Last.is at c.in_ok-line.ensures.piece) in
+    let p = err_from_is_err_and c.from_residual-in_err-take_line-in-Last.result c.from_residual-in_err-take_line-in-Last.ensures.1 in
+    rw p.1 (holds_then (holds_three i.stays i.left i.ran) (holds_all [] c.in_err-take_line-in-Last.ensures.crash)
+    (λ q x. tried_in_line g.S.Records.leaves {T = ScriptEnd} _ _ _ _ _ i.texts i.before c.loop-number.run.gathered.items
+    c.loop-number.source.unread c.next_line.new.source.unread c.in-Last.line _ _ _ (Err p.0) q.0 q.1.1.0 q.1.0 i.read piece i.cut x))
+
+pub returns-in-Last-clause-crash : goal.returns-in-Last-clause-crash
+returns-in-Last-clause-crash g c =
+    let i = c.loop-number.invariant in
+    let more = c.in_ok-take_line-in-Last.ensures.ok in
+    let piece = rw c.in-Last.is at c.in_ok-line.ensures.piece in
+    let stays = holds_then i.stays c.in_ok-take_line-in-Last.ensures.stays (λ p q. q ∙ p) in
+    let left = holds_then (holds_both_here i.stays i.left) (c.in_ok-take_line-in-Last.ensures.crash [])
+    (λ p x. tried_then g.S.Records.leaves _ _ _ _ _ _ _ _ _ p.0 p.1 x) in
+    let ran = holds_then i.ran more.2 (λ p q. runs_then i.before more.0 _ _ _ _ _ _ p q) in
+    holds_then (holds_three stays left ran) c.finish_script.ensures.crash
+    (λ q x. tried_at_end g.S.Records.leaves _ _ _ _ _ (i.texts ++ c.in-Last.line ∷ []) (i.before ++ more.0)
+    c.take_line-in-Last.new.run.gathered.items _ _ _ c.finish_script.result q.0 q.1.1.0 q.1.0
+    (left_more i.read piece
+    (λ xs ys zs r p. (
+      c.next_line.new.source.unread ++ zs,
+      read_more i.texts xs (c.loop-number.source.unread ++ ys) (c.next_line.new.source.unread ++ zs) c.in-Last.line r
+          (no_lines_left c.in-Last.line (c.loop-number.source.unread ++ ys) (c.next_line.new.source.unread ++ zs) p),
+      ap raw_lines p.4,
+    )))
+    (cut_more i.texts i.before more.0 c.loop-number.run.gathered.items c.take_line-in-Last.new.run.gathered.items c.in-Last.line
+    i.cut more.1) x)
+
+pub returns-in-End-clause-crash : goal.returns-in-End-clause-crash
+returns-in-End-clause-crash g c =
+    let i = c.loop-number.invariant in
+    let piece = rw c.in-End.is at c.in_ok-line.ensures.piece in
+    holds_then (holds_three i.stays i.left i.ran) c.finish_script-in-End.ensures.crash
+    (λ q x. tried_at_end g.S.Records.leaves _ _ _ _ _ i.texts i.before c.loop-number.run.gathered.items _ _ _
+    c.finish_script-in-End.result q.0 q.1.1.0 q.1.0
+    (left_more i.read piece (λ xs ys zs r p. (c.loop-number.source.unread ++ ys, r, p.0))) i.cut x)

@@ -4,6 +4,7 @@ use Rattle.desk_lines.specs.Buffered.{bytes_left}
 use Rattle.desk_lines.specs.Reading.{Left}
 use Rattle.desk_run.specs.Script.{Part, begin, standing}
 use Rattle.desk_run.specs.Carrying.{Runs}
+use Rattle.desk_store.specs.Tried.{LeavesTried}
 use Rattle.desk_run.proofs.ScriptLemmas.{ReadTo, IsCut}
 use Rattle.desk_run.proofs.script.run_script.Given as goal
 
@@ -24,4 +25,7 @@ invariant-loop-number g l =
           (g.W.Write.contents l.fn.writer) (g.W.Write.contents l.writer));
       stays : Holds g.S.Records.is_kept g.S.Records.is_honest l.fn.store l.store
           (g.S.Records.keeping l.store ≡ g.S.Records.keeping l.fn.store);
+      left : Holds g.S.Records.is_kept g.S.Records.is_honest l.fn.store l.store
+          (LeavesTried g.S.Records.leaves l.fn.store l.store (g.S.Records.keeping l.fn.store) (desk l.fn.store) (desk l.store)
+          (desk l.store));
     }

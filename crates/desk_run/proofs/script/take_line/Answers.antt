@@ -1,10 +1,12 @@
-use Rattle.std.proofs.Common.{◌≡◌, ℕ, List, [], ◌∷◌, sym, ◌∙◌, ap, refl, true, false}
+use Rattle.std.proofs.Common.{◌≡◌, ℕ, List, [], ◌∷◌, sym, ◌∙◌, ap, refl, true, false, Err}
 use Rattle.std.proofs.lemmas.Result.{err_from_is_err_and}
 use Rattle.desk_store.proofs.HoldsLemmas.{holds_weaker, holds_none, holds_then}
-use Rattle.desk_run.specs.Script.{Message, DirectiveLine, is_directive}
+use Rattle.desk_run.specs.Script.{Message, DirectiveLine, is_directive, standing}
 use Rattle.desk_run.specs.Gathering.{parts_from}
 use Rattle.desk_run.proofs.RunLemmas.{stops_at_message, stops_at_order, parts_directive, parts_gathered, one_ran, runs_then}
 use Rattle.desk_run.proofs.RunLemmas.{runs_none, gathered_stops}
+use Rattle.desk_store.proofs.TriedLemmas.{holds_three}
+use Rattle.desk_run.proofs.TriedLemmas.{failed_at_message, failed_at_directive, parts_settled}
 use Rattle.desk_run.proofs.script.take_line.Goals as goal
 
 pub returns-in_err-finish_message-clause-err : goal.returns-in_err-finish_message-clause-err
@@ -54,3 +56,30 @@ returns-in_err-push-clause-err g c =
     let p = err_from_is_err_and c.from_residual-in_err-push.result c.from_residual-in_err-push.ensures.1 in
     rw (p.1, p.2)
     (holds_none _ _ _ (λ lines. gathered_stops c.args.run.now.gathered.items (c.args.line ∷ lines) _ _ _ _ _ refl))
+
+pub returns-in_err-finish_message-clause-crash : goal.returns-in_err-finish_message-clause-crash
+returns-in_err-finish_message-clause-crash g c =
+    let p = err_from_is_err_and c.from_residual.result c.from_residual.ensures.1 in
+    let e : is_directive c.args.line ≡ true =
+    sym (c.is_directive.ensures ∙ ap is_directive c.as_str.ensures) ∙ c.if-is_directive.true in
+    let s = standing (g.S.Records.desk c.args.store.now) c.args.run.now.sender c.args.run.now.refused in
+    rw p.1 (λ lines. holds_weaker c.in_err-finish_message.ensures.crash
+    (λ x. failed_at_message g.S.Records.leaves _ _ _ c.args.run.now.gathered.items c.args.line lines s _ p.0 e x))
+
+pub returns-in_err-carry_out-clause-crash : goal.returns-in_err-carry_out-clause-crash
+returns-in_err-carry_out-clause-crash g c =
+    let p = err_from_is_err_and c.from_residual-in_err-carry_out.result c.from_residual-in_err-carry_out.ensures.1 in
+    let e : is_directive c.args.line ≡ true =
+    sym (c.is_directive.ensures ∙ ap is_directive c.as_str.ensures) ∙ c.if-is_directive.true in
+    let s = standing (g.S.Records.desk c.args.store.now) c.args.run.now.sender c.args.run.now.refused in
+    let t = standing (g.S.Records.desk c.finish_message.new.store) c.finish_message.new.run.sender c.finish_message.new.run.refused in
+    rw p.1 (λ lines. holds_then
+    (holds_three c.in_ok-finish_message.ensures.stays c.in_ok-finish_message.ensures.answer c.in_ok-finish_message.ensures.crash)
+    (rw c.as_str-then-is_directive.ensures at c.in_err-carry_out.ensures.crash)
+    (λ q x. failed_at_directive g.S.Records.leaves _ _ _ _ _ c.args.run.now.gathered.items c.args.line lines s t _ p.0 e q.0
+    (one_ran _ _ _ _ _ q.1.0).0 q.1.1 x))
+
+pub returns-in_err-push-clause-crash : goal.returns-in_err-push-clause-crash
+returns-in_err-push-clause-crash g c =
+    let p = err_from_is_err_and c.from_residual-in_err-push.result c.from_residual-in_err-push.ensures.1 in
+    rw p.1 (λ lines. holds_none _ _ _ (parts_settled g.S.Records.leaves {T = Unit {0}} _ _ _ _ _ _ (Err p.0) (λ alone. alone)))
