@@ -7,3 +7,4 @@ pub mod PlanInputLemmas
 pub mod EndLemmas
 pub mod DecidingLemmas
 pub mod MachineLemmas
+pub mod CrashLemmas

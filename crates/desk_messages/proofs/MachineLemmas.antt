@@ -1,7 +1,7 @@
 -- The machine over lists of lines.
-use Rattle.std.proofs.Common.{◌≡◌, ℕ, ◌<◌, ◌+◌, List, [], ◌∷◌, ◌++◌, length, get_or, take, drop, sym, ◌∙◌, ap, subst, refl, true}
+use Rattle.std.proofs.Common.{◌≡◌, ℕ, ◌<◌, ◌≤◌, ◌+◌, List, [], ◌∷◌, ◌++◌, length, get_or, take, drop, sym, ◌∙◌, ap, subst, refl, true}
 use Rattle.std.proofs.Common.{false}
-use Rattle.std.proofs.lemmas.List.{take_more, take-append-drop}
+use Rattle.std.proofs.lemmas.List.{take_all, take_more, take-append-drop}
 use Rattle.bug_record.specs.Desk.{Desk}
 use Rattle.bug_record.specs.Words.{Names}
 use Rattle.command_grammar.specs.Lines.{reading}
@@ -97,6 +97,17 @@ pub received_nothing : (sender : List ℕ) (lines : List (List ℕ)) (d : Desk) 
     → Comes sender lines d outcomes ends.All d
 received_nothing sender lines d outcomes e f =
     subst (λ (w : List (List ℕ)). Comes sender w d outcomes ends.All d) (sym e) (comes_to_nothing sender d outcomes f)
+
+-- all lines taken
+pub received_all : (sender : List ℕ) (lines : List (List ℕ)) (old new : Desk) (i : ℕ) (items outcomes : List Entry) (end : End)
+    → length lines ≤ i → after_lines sender (at_start old) (take i lines) ≡ machine new items → end_of items ≡ ends.All
+    → outcomes ≡ items → end ≡ ends.All → IsReceived sender lines old outcomes end new
+received_all sender lines old new i items outcomes end all taken on same is =
+    subst (λ e. IsReceived sender lines old outcomes e new) (sym is)
+    (record {
+      after = ap (after_lines sender (at_start old)) (sym (take_all i lines all)) ∙ (taken ∙ ap (machine new) (sym same));
+      end_is = ap end_of same ∙ on;
+    })
 
 -- outcomes never end at a line where the store failed
 pub settled_line : (es : List Entry) (end : End) (lines : List (List ℕ)) → end_of es ≡ end → IsLineOf end lines

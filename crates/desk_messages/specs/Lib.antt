@@ -1,4 +1,5 @@
 pub mod Ends
+pub mod Crashes
 -- definitions that only private functions cite
 pub mod Commands
 pub mod Written

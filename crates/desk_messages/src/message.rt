@@ -2,10 +2,11 @@
 
 ghost use Rattle.std.specs.Prelude.{◌≡◌, IfOk, OnOk, OnErr};
 ghost use Rattle.bug_record.specs.Texts.{IsText};
-ghost use Rattle.desk_store.specs.Store.{Holds, faults_after, faults_after_end};
+ghost use Rattle.desk_store.specs.Store.{Holds, faults_after, faults_after_end, with_change};
 ghost use Rattle.desk_store.specs.Message.{unreadable_count, end_of, known_names, IsReceived};
 ghost use Rattle.desk_messages.specs.Commands.{HaveNumbers, Fits};
 ghost use Rattle.desk_messages.specs.Taking.{IsInStep, TakesLine, HasMembers, CarriesOut};
+ghost use Rattle.desk_messages.specs.Crashes.{LeavesAlone, LeavesReceived, LeavesStep, after_line};
 ghost use Rattle.desk_lines.specs.Lines.{lines_of};
 ghost use Rattle.desk_messages.specs.Ends.{IsLineOf};
 
@@ -31,6 +32,10 @@ fn carry_out<S: Records>(store: &mut S, change: &Option<Change>) -> Result<(), S
     ensures answer { Holds S.is_kept S.is_honest store.old store.new
         (CarriesOut (S.desk store.old) (S.desk store.new) result change.now) }
     ensures stays { Holds S.is_kept S.is_honest store.old store.new (S.keeping store.new ≡ S.keeping store.old) }
+    ensures crash { Holds S.is_kept S.is_honest store.old store.new
+        (LeavesAlone S.leaves store.old (S.desk store.old, S.keeping store.old)
+        → LeavesStep S.leaves store.new (S.desk store.old, S.keeping store.old)
+        (with_change change.now (S.desk store.old), S.keeping store.old) result) }
     ensures count { S.faults store.new ≡ faults_after result (S.faults store.old) }
 {
     match change {
@@ -54,6 +59,10 @@ fn take_line<S: Records>(
         → TakesLine from.now (S.desk store.old) progress.old.outcomes.items (S.desk store.new)
         progress.new.outcomes.items progress.new.known.names result line.now) }
     ensures stays { Holds S.is_kept S.is_honest store.old store.new (S.keeping store.new ≡ S.keeping store.old) }
+    ensures crash { Holds S.is_kept S.is_honest store.old store.new (HaveNumbers progress.old.known.names
+        → LeavesAlone S.leaves store.old (S.desk store.old, S.keeping store.old)
+        → LeavesStep S.leaves store.new (S.desk store.old, S.keeping store.old)
+        (after_line from.now progress.old.outcomes.items line.now (S.desk store.old, S.keeping store.old)) result) }
     ensures count { S.faults store.new ≡ faults_after result (S.faults store.old) }
     ensures counted { OnOk result (progress.new.unreadable ≡ unreadable_count progress.new.outcomes.items) }
     ensures known { OnOk result (progress.new.known.names ≡ known_names progress.new.outcomes.items) }
@@ -79,6 +88,9 @@ pub fn receive_lines<S: Records>(
     ensures answer { Holds S.is_kept S.is_honest store.old store.new
         (IsReceived from.now lines.now (S.desk store.old) result.outcomes result.end (S.desk store.new)) }
     ensures stays { Holds S.is_kept S.is_honest store.old store.new (S.keeping store.new ≡ S.keeping store.old) }
+    ensures crash { Holds S.is_kept S.is_honest store.old store.new
+        (LeavesAlone S.leaves store.old (S.desk store.old, S.keeping store.old)
+        → LeavesReceived S.leaves store.new from.now lines.now (S.desk store.old, S.keeping store.old) result.end) }
     ensures line { IsLineOf result.end lines.now }
     ensures count { S.faults store.new ≡ faults_after_end result.end (S.faults store.old) }
 {
@@ -106,6 +118,9 @@ pub fn receive<S: Records>(alloc: Global, store: &mut S, from: &str, message: &s
     ensures answer { Holds S.is_kept S.is_honest store.old store.new
         (IsReceived from.now (lines_of message.now) (S.desk store.old) result.outcomes result.end (S.desk store.new)) }
     ensures stays { Holds S.is_kept S.is_honest store.old store.new (S.keeping store.new ≡ S.keeping store.old) }
+    ensures crash { Holds S.is_kept S.is_honest store.old store.new
+        (LeavesAlone S.leaves store.old (S.desk store.old, S.keeping store.old)
+        → LeavesReceived S.leaves store.new from.now (lines_of message.now) (S.desk store.old, S.keeping store.old) result.end) }
     ensures line { IsLineOf result.end (lines_of message.now) }
     ensures count { S.faults store.new ≡ faults_after_end result.end (S.faults store.old) }
 {

@@ -1,5 +1,6 @@
 use Rattle.std.proofs.Common.{arith, ◌∙◌, sym}
 use Rattle.desk_store.proofs.HoldsLemmas.{holds_none}
+use Rattle.desk_messages.proofs.CrashLemmas.{empty_alone}
 use Rattle.desk_messages.proofs.MachineLemmas.{received_nothing, comes_to_nothing}
 use Rattle.desk_lines.proofs.LineLemmas.{some_line, no_lines}
 use Rattle.desk_messages.proofs.message.receive.Goals as goal
@@ -19,3 +20,8 @@ returns-in-Err-clause-answer g c =
 
 pub returns-in-Err-clause-line : goal.returns-in-Err-clause-line
 returns-in-Err-clause-line g c = (omega arith, some_line c.args.message.now (sym c.is_empty.ensures ∙ c.if-is_empty.false))
+
+pub returns-then-is_empty-clause-crash : goal.returns-then-is_empty-clause-crash
+returns-then-is_empty-clause-crash g c =
+    holds_none _ _ _
+    (λ alone. empty_alone g.S.Records.leaves c.args.from.now _ _ _ (no_lines c.args.message.now (sym c.is_empty.ensures ∙ c.if-is_empty.true)) alone)

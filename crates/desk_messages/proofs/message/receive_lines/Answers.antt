@@ -1,10 +1,12 @@
-use Rattle.std.proofs.Common.{◌∙◌, sym, ap, subst, refl}
-use Rattle.desk_store.proofs.HoldsLemmas.{holds_none, holds_then}
+use Rattle.std.proofs.Common.{◌+◌, Ok, Err, arith, ◌∙◌, sym, ap, subst, refl}
+use Rattle.desk_store.proofs.HoldsLemmas.{holds_none, holds_then, holds_weaker}
+use Rattle.bug_record.specs.declared.outcome.End.{End}
 use Rattle.desk_store.specs.Message.{machine, unreadable_count, end_of, known_names}
 use Rattle.desk_messages.specs.Commands.{HaveNumbers}
 use Rattle.desk_messages.specs.Taking.{goes_on}
 use Rattle.desk_messages.proofs.EndLemmas.{at_start_open}
-use Rattle.desk_messages.proofs.MachineLemmas.{line_more, all_ended, received_ended, goes_on-all, settled_faults, settled_line}
+use Rattle.desk_messages.proofs.CrashLemmas.{line_step, all_alone, stopped_alone, ended_alone, fault_leaves}
+use Rattle.desk_messages.proofs.MachineLemmas.{line_more, all_ended, received_ended, received_all, goes_on-all, settled_faults, settled_line}
 use Rattle.desk_messages.proofs.message.receive_lines.Goals as goal
 
 pub loop-i-init : goal.loop-i-init
@@ -18,6 +20,7 @@ loop-i-init g c =
       };
       faults = refl;
       stays = holds_none _ _ _ refl;
+      crash = holds_none _ _ _ (λ alone. alone);
       taken = holds_none _ _ _ (
         ap (machine (g.S.Records.desk c.args.store.now)) none,
         subst HaveNumbers (sym c.new-progress.ensures.names) tt,
@@ -35,6 +38,9 @@ loop-i-preserved g c =
       };
       faults = c.in-Ok.ensures.count ∙ c.loop-i.invariant.faults;
       stays = holds_then c.loop-i.invariant.stays c.in-Ok.ensures.stays (λ p q. q ∙ p);
+      crash = line_step g.S.Records.leaves _ _ c.args.from.now c.args.lines.now c.loop-i.i c.index-lines-i.result _ _ _ _ _
+          c.loop-i-test.true is c.loop-i.invariant.in_step.goes_on _ _ _ (Ok c.in-Ok.end) c.loop-i.invariant.taken
+          c.loop-i.invariant.stays c.loop-i.invariant.crash c.in-Ok.ensures.crash;
       taken = holds_then c.loop-i.invariant.taken c.in-Ok.ensures.answer
           (λ p q.
           let r = q p.1 in (
@@ -71,3 +77,43 @@ pub returns-then-not-goes_on-clause-line : goal.returns-then-not-goes_on-clause-
 returns-then-not-goes_on-clause-line g c =
     settled_line c.take_line.new.progress.outcomes.items c.received.result.end c.args.lines.now
     (c.in-Ok.ensures.end ∙ sym c.received.ensures.end)
+
+pub returns-clause-answer : goal.returns-clause-answer
+returns-clause-answer g c =
+    holds_weaker c.loop-i.invariant.taken
+    (λ p. received_all c.args.from.now c.args.lines.now _ _ c.loop-i.i _ c.received-2.result.outcomes c.received-2.result.end
+    (omega (arith, c.loop-i-test.false)) p.0 c.loop-i.invariant.in_step.goes_on c.received-2.ensures.outcomes c.received-2.ensures.end)
+
+pub returns-then-not-goes_on-clause-crash : goal.returns-then-not-goes_on-clause-crash
+returns-then-not-goes_on-clause-crash g c =
+    let is = c.index-lines-i.is in
+    let left = line_step g.S.Records.leaves _ _ c.args.from.now c.args.lines.now c.loop-i.i c.index-lines-i.result _ _ _ _ _
+    c.loop-i-test.true is c.loop-i.invariant.in_step.goes_on _ _ _ (Ok c.in-Ok.end) c.loop-i.invariant.taken
+    c.loop-i.invariant.stays c.loop-i.invariant.crash c.in-Ok.ensures.crash in
+    let taken = holds_then c.loop-i.invariant.taken c.in-Ok.ensures.answer
+    (λ p q. line_more c.args.from.now _ c.args.lines.now c.loop-i.i c.index-lines-i.result _ _ c.loop-i-test.true is
+    c.loop-i.invariant.in_step.goes_on p.0 (q p.1).0) in
+    let here = ap goes_on c.in-Ok.ensures.end ∙ (sym c.goes_on.ensures ∙ c.if-not-goes_on.true) in
+    record {
+      honest = left.honest;
+      kept = left.kept;
+      fact = λ u w alone.
+          ended_alone g.S.Records.leaves c.args.from.now c.args.lines.now _ _ c.take_line.new.progress.outcomes.items c.received.result.end
+          (c.in-Ok.ensures.end ∙ sym c.received.ensures.end)
+          (stopped_alone g.S.Records.leaves c.args.from.now c.args.lines.now _ _ (c.loop-i.i + 1) _ here (taken.fact u w) (left.fact u w alone));
+    }
+
+pub returns-in-Err-clause-crash : goal.returns-in-Err-clause-crash
+returns-in-Err-clause-crash g c =
+    holds_weaker (line_step g.S.Records.leaves _ _ c.args.from.now c.args.lines.now c.loop-i.i c.index-lines-i.result _ _ _ _ _
+    c.loop-i-test.true c.index-lines-i.is c.loop-i.invariant.in_step.goes_on {T = End} _ _ _ (Err c.in-Err.fault) c.loop-i.invariant.taken
+    c.loop-i.invariant.stays c.loop-i.invariant.crash c.in-Err.ensures.crash)
+    (λ left alone. fault_leaves g.S.Records.leaves c.args.from.now c.args.lines.now _ _ c.received-in-Err.result.end c.in-Err.fault
+    c.loop-i.i c.received-in-Err.ensures.end (left alone))
+
+pub returns-clause-crash : goal.returns-clause-crash
+returns-clause-crash g c =
+    holds_weaker c.loop-i.invariant.crash
+    (λ left alone. ended_alone g.S.Records.leaves c.args.from.now c.args.lines.now _ _ c.loop-i.progress.outcomes.items c.received-2.result.end
+    (c.loop-i.invariant.in_step.goes_on ∙ sym c.received-2.ensures.end)
+    (all_alone g.S.Records.leaves c.args.from.now c.args.lines.now _ _ c.loop-i.i (omega (arith, c.loop-i-test.false)) (left alone)))

@@ -1,6 +1,7 @@
 use Rattle.std.proofs.Common.{◌≡◌, take}
 use Rattle.desk_store.specs.Store.{Holds}
 use Rattle.desk_store.specs.Message.{after_lines, at_start, machine}
+use Rattle.desk_messages.specs.Crashes.{LeavesAlone, after_message}
 use Rattle.desk_messages.specs.Commands.{HaveNumbers}
 use Rattle.desk_messages.specs.Taking.{IsInStep}
 use Rattle.desk_messages.proofs.message.receive_lines.Given as goal
@@ -11,6 +12,10 @@ invariant-loop-i g l = record {
   faults : g.S.Records.faults l.store ≡ g.S.Records.faults l.fn.store;
   stays : Holds g.S.Records.is_kept g.S.Records.is_honest l.fn.store l.store
       (g.S.Records.keeping l.store ≡ g.S.Records.keeping l.fn.store);
+  crash : Holds g.S.Records.is_kept g.S.Records.is_honest l.fn.store l.store
+      (LeavesAlone g.S.Records.leaves l.fn.store (g.S.Records.desk l.fn.store, g.S.Records.keeping l.fn.store)
+      → LeavesAlone g.S.Records.leaves l.store
+      (after_message l.from (take l.i l.lines) (g.S.Records.desk l.fn.store, g.S.Records.keeping l.fn.store)));
   taken : Holds g.S.Records.is_kept g.S.Records.is_honest l.fn.store l.store
       ((after_lines l.from (at_start (g.S.Records.desk l.fn.store)) (take l.i l.lines)
       ≡ machine (g.S.Records.desk l.store) l.progress.outcomes.items) × HaveNumbers l.progress.known.names);
