@@ -51,10 +51,10 @@ left_alone g settles t kept clean served x same db may = inl (record {
 
 -- ---- what each call leads to
 
-abbrev holding : Desk → Keeping → Holding
+abbrev pub holding : Desk → Keeping → Holding
 holding d k = (d, k)
 
-same_holding : {d e : Desk} {k l : Keeping} → d ≡ e → k ≡ l → holding d k ≡ holding e l
+pub same_holding : {d e : Desk} {k l : Keeping} → d ≡ e → k ≡ l → holding d k ≡ holding e l
 same_holding {d} {e} {k} {l} is also = ap (λ (x : Desk). holding x k) is ∙ ap (holding e) also
 
 -- the tables after a change
