@@ -11,8 +11,8 @@ use Rattle.desk_store.specs.Crashes.{Holding, LeavesAfter}
 use Rattle.desk_store.specs.Kept.{Keeping}
 use Rattle.desk_store.specs.Message.{Entry, Machine, machine, takes, after_lines, at_start, end_of}
 use Rattle.desk_store.specs.Store.{Holds, Asks, with_change}
-use Rattle.desk_messages.specs.Crashes.{LeavesAlone, LeavesReceived, LeavesStep, after_line, after_message}
-use Rattle.desk_messages.specs.Taking.{goes_on}
+use Rattle.desk_messages.specs.Crashes.{LeavesAlone, LeavesReceived, after_message}
+use Rattle.desk_messages.specs.Taking.{LeavesStep, after_line, goes_on}
 use Rattle.desk_messages.proofs.EndLemmas.{never_store}
 use Rattle.desk_messages.proofs.MachineLemmas.{all_ended, line_more}
 

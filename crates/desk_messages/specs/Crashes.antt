@@ -1,11 +1,9 @@
 -- What a crash leaves of a message.
-use Rattle.std.specs.Prelude.{ℕ, ◌-◌, List, take, Result, Ok, Err}
-use Rattle.command_grammar.specs.Lines.{reading}
+use Rattle.std.specs.Prelude.{ℕ, ◌-◌, List, take}
 use Rattle.bug_record.specs.declared.outcome.End.{End}
 use Rattle.bug_record.specs.declared.outcome.End.TheVariants as ends
-use Rattle.bug_record.specs.declared.outcome.StoreFault.{StoreFault}
 use Rattle.desk_store.specs.Crashes.{Holding}
-use Rattle.desk_store.specs.Message.{Entry, machine, takes, after_lines, at_start}
+use Rattle.desk_store.specs.Message.{after_lines, at_start}
 
 -- a crash leaves this and no other
 abbrev pub LeavesAlone : {S : Type 0} → (S → Holding → Holding → Type 0) → S → Holding → Type 0
@@ -21,12 +19,3 @@ abbrev pub LeavesReceived : {S : Type 0} → (S → Holding → Holding → Type
 LeavesReceived leaves s sender lines x (ends.Store fault k) =
     leaves s (after_message sender (take (k - 1) lines) x) (after_message sender (take k lines) x)
 LeavesReceived leaves s sender lines x end = LeavesAlone leaves s (after_message sender lines x)
-
--- the same of one step, which leads from one holding to another
-abbrev pub LeavesStep : {S T : Type 0} → (S → Holding → Holding → Type 0) → S → Holding → Holding → Result T StoreFault → Type 0
-LeavesStep leaves s before after (Ok done) = LeavesAlone leaves s after
-LeavesStep leaves s before after (Err fault) = leaves s before after
-
--- what a store holds after one line more
-abbrev pub after_line : List ℕ → List Entry → List ℕ → Holding → Holding
-after_line sender outcomes line x = ((takes sender (machine x.0 outcomes) line (reading line)).desk, x.1)

@@ -11,9 +11,11 @@ use Rattle.bug_record.specs.declared.outcome.Outcome.{Outcome}
 use Rattle.bug_record.specs.declared.outcome.StoreFault.{StoreFault}
 use Rattle.bug_record.specs.declared.outcome.End.{End}
 use Rattle.bug_record.specs.declared.outcome.End.TheVariants as ends
+use Rattle.desk_store.specs.Crashes.{Holding}
 use Rattle.desk_store.specs.Store.{with_change}
 use Rattle.desk_store.specs.Kept.{IsGoodOutcome}
 use Rattle.desk_store.specs.Message.{Entry, machine, takes, end_of, unreadable_count, known_names}
+use Rattle.desk_messages.specs.Crashes.{LeavesAlone}
 use Rattle.desk_messages.specs.Commands.{HaveNumbers, Fits}
 use Rattle.desk_messages.specs.declared.command_decision.Decision.{Decision}
 
@@ -76,3 +78,13 @@ TakesLine sender d outcomes d' outcomes' known (Err fault) line = d' ≡ d
 abbrev pub CarriesOut : {T : Type 0} → Desk → Desk → Result T StoreFault → Option Change → Type 0
 CarriesOut old new (Ok done) change = new ≡ with_change change old
 CarriesOut old new (Err fault) change = new ≡ old
+
+-- After a step that leads from one holding to another a crash leaves the second; after a fault,
+-- either.
+abbrev pub LeavesStep : {S T : Type 0} → (S → Holding → Holding → Type 0) → S → Holding → Holding → Result T StoreFault → Type 0
+LeavesStep leaves s before after (Ok done) = LeavesAlone leaves s after
+LeavesStep leaves s before after (Err fault) = leaves s before after
+
+-- what a store holds after one line more
+abbrev pub after_line : List ℕ → List Entry → List ℕ → Holding → Holding
+after_line sender outcomes line x = ((takes sender (machine x.0 outcomes) line (reading line)).desk, x.1)

@@ -5,8 +5,8 @@ ghost use Rattle.bug_record.specs.Texts.{IsText};
 ghost use Rattle.desk_store.specs.Store.{Holds, faults_after, faults_after_end, with_change};
 ghost use Rattle.desk_store.specs.Message.{unreadable_count, end_of, known_names, IsReceived};
 ghost use Rattle.desk_messages.specs.Commands.{HaveNumbers, Fits};
-ghost use Rattle.desk_messages.specs.Taking.{IsInStep, TakesLine, HasMembers, CarriesOut};
-ghost use Rattle.desk_messages.specs.Crashes.{LeavesAlone, LeavesReceived, LeavesStep, after_line};
+ghost use Rattle.desk_messages.specs.Taking.{IsInStep, TakesLine, HasMembers, CarriesOut, LeavesStep, after_line};
+ghost use Rattle.desk_messages.specs.Crashes.{LeavesAlone, LeavesReceived};
 ghost use Rattle.desk_lines.specs.Lines.{lines_of};
 ghost use Rattle.desk_messages.specs.Ends.{IsLineOf};
 
@@ -113,6 +113,8 @@ pub fn receive_lines<S: Records>(
 /// later ones were not taken; all growths of a line come before its change.
 /// Lines count from 1.
 /// What is kept of messages that have an id stays.
+/// Where a crash as the call began left its desk alone, one at its end leaves the desk after the
+/// lines that were taken; after a fault at line k maybe the one that line k leads to.
 pub fn receive<S: Records>(alloc: Global, store: &mut S, from: &str, message: &str) -> Received
     requires { IsText from.now }
     ensures answer { Holds S.is_kept S.is_honest store.old store.new
