@@ -14,6 +14,7 @@ use Rattle.bug_record.specs.Images.{put}
 use Rattle.bug_record.specs.Texts.{IsText, IfGiven}
 use Rattle.bug_record.specs.declared.command.Change.{Change}
 use Rattle.bug_record.specs.declared.outcome.Outcome.{Outcome}
+use Rattle.desk_store.specs.Crashes.{Holding}
 use Rattle.desk_store.specs.Kept.{Keeping, kept_also}
 use Rattle.desk_content.specs.Branches.{with_nodes}
 use Rattle.desk_content.specs.Changes.{FitsContent, changed}
@@ -29,12 +30,13 @@ use Rattle.desk_run.proofs.OneLemmas.{took_one}
 use Rattle.desk_store.specs.Store.{Holds, Applies, Branches, Keeps, MayBeKept, with_change}
 use Rattle.desk_store.proofs.HoldsLemmas.{holds_none}
 use Rattle.desk_store.proofs.KeepLemmas.{kept_also-good}
-use Rattle.desk_tables.specs.Desk.{content_shown, desk_of, keeping_of, MayKeep}
-use Rattle.desk_tables.specs.Shown.{AreTablesOf, AreTablesAfter}
+use Rattle.desk_tables.specs.Desk.{content_shown, desk_of, keeping_of, MayKeep, LeavesTables}
+use Rattle.desk_tables.specs.Shown.{AreTablesOf, AreTablesAfter, AreTablesHolding}
 use Rattle.desk_tables.specs.declared.desk.TableDesk.{TableDesk}
 use Rattle.desk_tables.proofs.KeepLemmas.{changed_desk}
 use Rattle.desk_crashes.specs.Settled.{HasHonestDisk, HasKeptTables, IsSettled, IsOpenedOver, HasTakenBranch, HasTakenLine}
-use Rattle.desk_crashes.proofs.OpenLemmas.{Settles, settled_as, serving_settled, opened_newest}
+use Rattle.desk_tables.proofs.CrashLemmas.{Settles, same_holding}
+use Rattle.desk_crashes.proofs.OpenLemmas.{settled_as, serving_settled, opened_newest}
 
 module _ {S : Type 0} (g : store.Ghosts S) where
   -- the crash left what the old desk's could have left
@@ -154,6 +156,26 @@ module _ {S : Type 0} (g : store.Ghosts S) where
       → IfSome o (λ again. HasHonestDisk g again → (d : Desk) (k : Keeping) → IsSettled g d k old → IsSettled g d k again)
   settled_then None old left = tt
   settled_then (Some again) old left = λ h d k was. let l = left h in settled_again d k l.0 old again l.2 l.1 was
+
+  -- what holds one of two is opened as that one
+  opened_holding : (x : Holding) (db : Trees) (t : TableDesk S g) → IsOpenedOver g db t → AreTablesHolding x db → IsSettled g x.0 x.1 t
+  opened_holding x db t opened it = subst (λ (y : Holding). IsSettled g y.0 y.1 t) it.same (opened_newest g db t opened it.content it.tables it.kept)
+
+  pub found_then : (o : Option (TableDesk S g)) (old : TableDesk S g) → IsLeft old o
+      → IfSome o (λ again. HasHonestDisk g again → (a b : Holding) → LeavesTables old a b → IsSettled g a.0 a.1 again ⊎ IsSettled g b.0 b.1 again)
+  found_then None old left = tt
+  found_then (Some again) old left = λ h a b leaves.
+      let l = left h in
+      elim (leaves l.0 l.1) [ | inl one ↦ inl (opened_holding a l.0 again l.2 one) | inr other ↦ inr (opened_holding b l.0 again l.2 other) ]
+
+  -- a settled desk is left alone
+  pub settled_alone : (t : TableDesk S g) (d : Desk) (k : Keeping) → IsSettled g d k t → LeavesTables t (d, k) (d, k)
+  settled_alone t d k was db may = inl (record {
+    content = content_shown t;
+    tables = subst (AreTablesOf (content_shown t)) (sym (was.left db may)) was.tables;
+    kept = was.kept.content;
+    same = same_holding was.desk was.keeping;
+  })
 
   module _ (old new : TableDesk S g) (o : Option (TableDesk S g)) (left : IsLeft new o) (honest : IfSome o (λ again. HasHonestDisk g again → HasHonestDisk g new)) where
     abbrev before : Content

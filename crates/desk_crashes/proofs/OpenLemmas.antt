@@ -17,13 +17,10 @@ use Rattle.desk_tables.specs.Desk.{content_shown, desk_of, keeping_of}
 use Rattle.desk_tables.specs.Opening.{unlimited}
 use Rattle.desk_tables.specs.Shown.{HasContentUnder, HoldsContent, AreTablesOf, AreTablesUnder, HoldTables}
 use Rattle.desk_tables.specs.declared.desk.TableDesk.{TableDesk}
+use Rattle.desk_tables.proofs.CrashLemmas.{Settles}
 use Rattle.desk_tables.proofs.KeptLemmas.{kept_shows}
 use Rattle.desk_tables.proofs.HeldLemmas.{shows_tables, committed_tables, are_newest, newest_held, of_newest}
 use Rattle.desk_crashes.specs.Settled.{HasHonestDisk, HasKeptTables, HoldTablesFrom, IsSettled, IsOpenedOver}
-
--- While a store is open, a crash leaves its last commit.
-abbrev pub Settles : {S : Type 0} → store.Ghosts S → Type 0
-Settles {S} g = (s : S) (db : Trees) → IsTrue (g.view s).is_open → g.recovers s db → db ≡ (g.view s).committed
 
 module _ {S : Type 0} (g : store.Ghosts S) where
   -- a desk that is settled, over another word for what it shows

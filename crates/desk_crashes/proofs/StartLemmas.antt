@@ -16,7 +16,8 @@ use Rattle.desk_tables.specs.Opening.{unlimited}
 use Rattle.desk_tables.specs.Shown.{AreTablesOf, AreTablesUnder}
 use Rattle.desk_tables.specs.declared.desk.TableDesk.{TableDesk}
 use Rattle.desk_crashes.specs.Settled.{HasHonestDisk, HasKeptTables, HoldTablesFrom, IsSettled, IsOpenedOver}
-use Rattle.desk_crashes.proofs.OpenLemmas.{Settles, settled_as, serving_settled, opened_newest}
+use Rattle.desk_tables.proofs.CrashLemmas.{Settles}
+use Rattle.desk_crashes.proofs.OpenLemmas.{settled_as, serving_settled, opened_newest}
 
 module _ {S : Type 0} (g : store.Ghosts S) where
   -- ---- a desk that is created

@@ -9,9 +9,10 @@ ghost use Rattle.bug_record.specs.Sets.{Each};
 ghost use Rattle.bug_record.specs.Images.{AreApart, HasMember, FitsDesk, put};
 ghost use Rattle.bug_record.specs.Texts.{IsText, IfGiven};
 ghost use Rattle.line_words.specs.Ids.{IsId};
+ghost use Rattle.desk_store.specs.Crashes.{Holding};
 ghost use Rattle.desk_store.specs.Kept.{Keeping, kept_also};
 ghost use Rattle.desk_store.specs.Store.{Since, MayBeKept, with_change};
-ghost use Rattle.desk_tables.specs.Desk.{desk_of, MayKeep};
+ghost use Rattle.desk_tables.specs.Desk.{desk_of, MayKeep, LeavesTables};
 ghost use Rattle.desk_crashes.specs.Settled.{HasHonestDisk, HasKeptTables, IsSettled, IsOpenedOver, HasTakenBranch, HasTakenLine};
 
 use crate::left::crash_and_find;
@@ -27,6 +28,7 @@ use version_nodes::Node;
 /// Crashes at this moment, between two calls, and opens what is left.
 /// Where the desk was settled, what is opened is the same desk, with what is kept of messages,
 /// and settled: nothing that was answered is lost.
+/// Where a crash leaves one of two, what is opened is one of them, and settled.
 /// `None` where it is not opened: out of memory, or by a fault of the store.
 pub fn crash_and_open<S: Alter + Reopen + Drop>(
     alloc: Global,
@@ -37,6 +39,8 @@ pub fn crash_and_open<S: Alter + Reopen + Drop>(
         (db : Trees) × (state S.Store desk.conn).may_leave db × IsOpenedOver S.Store db again) }
     ensures settled { IfSome result (λ again. HasHonestDisk S.Store again →
         (d : Desk) (k : Keeping) → IsSettled S.Store d k desk → IsSettled S.Store d k again) }
+    ensures either { IfSome result (λ again. HasHonestDisk S.Store again → (a b : Holding) → LeavesTables desk a b →
+        IsSettled S.Store a.0 a.1 again ⊎ IsSettled S.Store b.0 b.1 again) }
 {
     crash_and_find(alloc, desk.close())
 }

@@ -3,9 +3,11 @@
 ghost use Rattle.std.specs.Prelude.{IsTrue};
 ghost use Rattle.sqlite.specs.Held.{state};
 ghost use Rattle.sqlite_wal.specs.Recovery.{Image};
+ghost use Rattle.bug_record.specs.Desk.{Desk};
+ghost use Rattle.desk_store.specs.Kept.{Keeping};
 ghost use Rattle.desk_content.specs.Content.{Content};
 ghost use Rattle.desk_tables.specs.Files.{HoldDesk, LeaveDesk, IsFoundIn};
-ghost use Rattle.desk_tables.specs.Desk.{desk_of, keeping_of};
+ghost use Rattle.desk_tables.specs.Desk.{desk_of, keeping_of, LeavesTables};
 ghost use Rattle.desk_crashes.specs.Settled.{HasHonestDisk, HasKeptTables, IsSettled};
 
 use desk_tables::TableDesk;
@@ -18,6 +20,11 @@ use sqlite_disk::Disk;
 pub fn serving_desks_are_settled<S: Alter>(_desk: &TableDesk<S>)
     ensures { HasKeptTables S.Store _desk.now → HasHonestDisk S.Store _desk.now → IsTrue (state S.Store _desk.now.conn).is_open →
         IsSettled S.Store (desk_of _desk.now) (keeping_of _desk.now) _desk.now }
+{}
+
+/// A crash leaves a settled desk alone.
+pub fn settled_desks_are_left<S: Alter>(_desk: &TableDesk<S>)
+    ensures { (d : Desk) (k : Keeping) → IsSettled S.Store d k _desk.now → LeavesTables _desk.now (d, k) (d, k) }
 {}
 
 /// What is left in two files is what the next open finds.

@@ -17,5 +17,5 @@ mod starts;
 
 pub use calls::{apply_and_crash, branch_and_crash, crash_and_open, keep_and_crash};
 pub use files::{close_and_crash, close_and_open, close_files, open_files};
-pub use laws::{serving_desks_are_settled, what_is_left_is_found};
+pub use laws::{serving_desks_are_settled, settled_desks_are_left, what_is_left_is_found};
 pub use starts::{crash_in_open, create_and_crash, open_and_crash};

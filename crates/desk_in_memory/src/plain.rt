@@ -10,7 +10,7 @@ ghost use Rattle.bug_record.specs.Texts.{IsText, IfGiven};
 ghost use Rattle.bug_record.proofs.SoundProp.{IsSound-prop};
 ghost use Rattle.desk_store.specs.Kept.{none_kept, AreGoodKept};
 ghost use Rattle.desk_store.specs.Crashes.{IsEither};
-ghost use Rattle.desk_store.proofs.CrashLemmas.{either-is};
+ghost use Rattle.desk_store.proofs.CrashLemmas.{or_other};
 ghost use Rattle.desk_store.proofs.KeptProp.{AreGoodKept-prop};
 ghost use Rattle.desk_store.specs.Store.{IsImageOf, IsOpenHead, AreWaitingOn, AreListed, Branches, IsRefusal, no_faults};
 ghost use Rattle.desk_store.specs.Store.{MayBeKept, Keeps, with_change};
@@ -226,5 +226,5 @@ impl Records for PlainDesk {
 
     ghost good = { λ s _. s.good };
 
-    ghost either = { λ s a b alone. either-is (desk_of s.bugs s.tree s.next, keeping_of s.messages) a b alone };
+    ghost either = { λ s a b alone. or_other alone };
 }

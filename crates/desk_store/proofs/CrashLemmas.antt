@@ -1,12 +1,12 @@
 -- What a crash leaves after calls of a store.
-use Rattle.std.proofs.Common.{inl, inr, ◌≡◌, sym, subst}
-use Rattle.desk_store.specs.Crashes.{Holding, IsEither}
+use Rattle.std.proofs.Common.{◌≡◌, ◌⊎◌, inl, inr, sym, subst}
+use Rattle.desk_store.specs.Crashes.{Holding}
 use Rattle.desk_store.specs.Store.{Holds}
 
--- what is one alone is that one or another
-pub either-is : (x a b : Holding) → IsEither x a a → IsEither x a b
-either-is x a b (inl is) = inl is
-either-is x a b (inr is) = inl is
+-- what is so of one of two that are the same is so of the first
+pub or_other : {A B : Type 0} → A ⊎ A → A ⊎ B
+or_other (inl a) = inl a
+or_other (inr a) = inl a
 
 module _ {S : Type 0} (k h : S → Type 0) (l : S → Holding → Holding → Type 0) (either : (s : S) (a b : Holding) → l s a a → l s a b) where
   -- a call that failed, and changed nothing

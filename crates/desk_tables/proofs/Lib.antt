@@ -4,6 +4,7 @@ pub mod KeptLemmas
 pub mod OpeningLemmas
 pub mod BranchLemmas
 pub mod HeldLemmas
+pub mod CrashLemmas
 pub mod KeepLemmas
 pub mod FileLemmas
 pub mod Imports

@@ -10,9 +10,11 @@ use Rattle.bug_record.specs.declared.outcome.StoreFault.{StoreFault}
 use Rattle.bug_record.specs.declared.outcome.StoreFault.TheVariants.{Foreign}
 use Rattle.desk_content.specs.Content.{Content}
 use Rattle.desk_content.specs.View.{desk_in, keeping_in}
+use Rattle.desk_store.specs.Crashes.{Holding}
 use Rattle.desk_store.specs.Kept.{Keeping}
 use Rattle.desk_store.specs.Store.{Asks, Answers, Faults, MayBeKept, Keeps}
 use Rattle.desk_tables.specs.Kept.{content_seen, IsKept}
+use Rattle.desk_tables.specs.Shown.{LeavesOf}
 use Rattle.desk_tables.specs.declared.desk.TableDesk.{TableDesk}
 
 module _ {S : Type 0} {g : store.Ghosts S} where
@@ -46,11 +48,15 @@ module _ {S : Type 0} {g : store.Ghosts S} where
   abbrev pub HasKeptTables : TableDesk S g → Type 0
   HasKeptTables d = IsKept g d.last.value d.family
 
+  -- a crash at this moment leaves tables that hold the first or the second
+  abbrev pub LeavesTables : TableDesk S g → Holding → Holding → Type 0
+  LeavesTables d a b = LeavesOf (state_of d) a b
+
   -- a question of the desk: nothing changes, and an answer is one of which P holds
   abbrev pub IsAnswered : {T : Type 0} → TableDesk S g → TableDesk S g → Result T StoreFault
       → (T → Type 0) → Type 0
   IsAnswered old new result P =
-      Asks HasKeptTables HasHonestDisk old new (Answers (desk_of old) (desk_of new) result P)
+      Asks HasKeptTables HasHonestDisk LeavesTables old new (Answers (desk_of old) (desk_of new) result P)
 
   -- over kept tables and an honest disk a call fails for memory, the disk or its size alone
   abbrev pub NeverForeign : {T : Type 0} → TableDesk S g → TableDesk S g → Result T StoreFault

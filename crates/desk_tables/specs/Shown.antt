@@ -1,5 +1,5 @@
 -- What a connection shows of a desk, between two calls.
-use Rattle.std.specs.Prelude.{◌≡◌, ℕ, List, Ok, IsTrue}
+use Rattle.std.specs.Prelude.{◌≡◌, ◌⊎◌, ℕ, List, Ok, IsTrue}
 use Rattle.sqlite.specs.Effect.{IsDatabase}
 use Rattle.sqlite.specs.State.{State, HasCleanDisk}
 use Rattle.sqlite.specs.Tree.{Trees}
@@ -8,11 +8,14 @@ use Rattle.version_nodes.specs.Nodes.{Node}
 use Rattle.version_nodes.specs.Trees.{Ancestry, IsForest}
 use Rattle.desk_content.specs.Branches.{with_nodes}
 use Rattle.desk_content.specs.Content.{Content}
+use Rattle.desk_content.specs.Kept.{IsKeptContent}
+use Rattle.desk_content.specs.View.{desk_in, keeping_in}
 use Rattle.desk_migrations.specs.History.{schema_at}
 use Rattle.desk_migrations.specs.Making.{AreUnder}
 use Rattle.desk_schema.specs.Tables.{desk_schema}
 use Rattle.desk_schema.specs.Rows.{content_of, AreShown}
 use Rattle.desk_schema.specs.Steps.{seen}
+use Rattle.desk_store.specs.Crashes.{Holding}
 
 -- the tables of a desk, as the last commit left them
 pub record IsDesk (s : State) : Type 0 where
@@ -63,3 +66,14 @@ pub record AreTablesAfter (c : Content) (nodes : List Node) (db : Trees) : Type 
   pub taken : branched c.nodes nodes ≡ Ok ancestry
   pub forest : IsForest ancestry
   pub tables : AreTablesOf (with_nodes ancestry c) db
+
+-- these trees, with the desk's schema, are a desk that is kept, and that holds this
+pub record AreTablesHolding (x : Holding) (db : Trees) : Type 0 where
+  pub content : Content
+  pub tables : AreTablesOf content db
+  pub kept : IsKeptContent content
+  pub same : (desk_in content, keeping_in content) ≡ x
+
+-- a crash at this moment leaves a desk that holds the first or the second
+abbrev pub LeavesOf : State → Holding → Holding → Type 0
+LeavesOf s a b = (db : Trees) → s.may_leave db → AreTablesHolding a db ⊎ AreTablesHolding b db

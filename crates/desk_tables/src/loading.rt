@@ -8,7 +8,7 @@ ghost use Rattle.desk_content.specs.Changes.{all_stay};
 ghost use Rattle.desk_store.specs.Store.{Asks, IsOpenHead};
 ghost use Rattle.desk_writes.specs.Needs.{HasTree, HasTreeIfAny};
 ghost use Rattle.desk_tables.specs.Desk.{state_of, content_shown, desk_of, faults_of};
-ghost use Rattle.desk_tables.specs.Desk.{HasHonestDisk, HasKeptTables, IsAnswered, NeverForeign};
+ghost use Rattle.desk_tables.specs.Desk.{HasHonestDisk, HasKeptTables, LeavesTables, IsAnswered, NeverForeign};
 
 use crate::calls::ask_within;
 use crate::desk::TableDesk;
@@ -36,7 +36,7 @@ impl<S: Alter> TableDesk<S> {
 
     // Reads the tree, where no call has read it yet.
     pub(crate) fn load(&mut self) -> Result<(), StoreFault>
-        ensures answer { Asks HasKeptTables HasHonestDisk self.old self.new
+        ensures answer { Asks HasKeptTables HasHonestDisk LeavesTables self.old self.new
             (self.new.last.value ≡ self.old.last.value) }
         ensures sure { NeverForeign self.old self.new result }
         ensures some { OnOk result (is_some self.new.family ≡ true) }
@@ -55,7 +55,7 @@ impl<S: Alter> TableDesk<S> {
 
     // Whether the marks of a change's images stand already.
     fn ask_stay(&mut self, change: &Change) -> Result<bool, StoreFault>
-        ensures answer { Asks HasKeptTables HasHonestDisk self.old self.new
+        ensures answer { Asks HasKeptTables HasHonestDisk LeavesTables self.old self.new
             (self.new.last.value ≡ self.old.last.value) }
         ensures sure { NeverForeign self.old self.new result }
         ensures stay { HasKeptTables self.new → HasHonestDisk self.new →
@@ -74,7 +74,7 @@ impl<S: Alter> TableDesk<S> {
 
     // Reads the tree, where no call has read it yet and a mark changes.
     pub(crate) fn load_for(&mut self, change: &Change) -> Result<(), StoreFault>
-        ensures answer { Asks HasKeptTables HasHonestDisk self.old self.new
+        ensures answer { Asks HasKeptTables HasHonestDisk LeavesTables self.old self.new
             (self.new.last.value ≡ self.old.last.value) }
         ensures sure { NeverForeign self.old self.new result }
         ensures tree { HasKeptTables self.new → HasHonestDisk self.new →
@@ -95,7 +95,7 @@ impl<S: Alter> TableDesk<S> {
 
     // Reads the tree for the change of a line, if there is one.
     pub(crate) fn load_for_line(&mut self, change: Option<&Change>) -> Result<(), StoreFault>
-        ensures answer { Asks HasKeptTables HasHonestDisk self.old self.new
+        ensures answer { Asks HasKeptTables HasHonestDisk LeavesTables self.old self.new
             (self.new.last.value ≡ self.old.last.value) }
         ensures sure { NeverForeign self.old self.new result }
         ensures tree { HasKeptTables self.new → HasHonestDisk self.new →

@@ -13,9 +13,10 @@ ghost use Rattle.desk_content.specs.Keeping.{kept_after};
 ghost use Rattle.desk_store.specs.Store.{Holds, Since, Applies, Branches, IsRefusal};
 ghost use Rattle.desk_store.specs.Store.{IsImageOf, IsNext, IsOpenHead, AreWaitingOn, AreListed};
 ghost use Rattle.desk_store.specs.Store.{faults_after, total};
+ghost use Rattle.desk_store.proofs.CrashLemmas.{or_other};
 ghost use Rattle.line_words.specs.Ids.{IsId};
 ghost use Rattle.desk_tables.specs.Desk.{state_of, content_shown, desk_of, keeping_of, faults_of};
-ghost use Rattle.desk_tables.specs.Desk.{HasHonestDisk, HasKeptTables, IsAnswered, NeverForeign};
+ghost use Rattle.desk_tables.specs.Desk.{HasHonestDisk, HasKeptTables, LeavesTables, IsAnswered, NeverForeign};
 ghost use Rattle.desk_tables.specs.Desk.{MayKeep, KeepsOf};
 ghost use Rattle.desk_tables.specs.Shown.{AreTablesOf, AreTablesAfter};
 ghost use Rattle.desk_tables.specs.declared.desk.TableDesk.{TableDesk as SeenDesk};
@@ -37,6 +38,8 @@ impl<S: Alter> Records for TableDesk<S> {
     ghost is_kept = { HasKeptTables };
 
     ghost is_honest = { HasHonestDisk };
+
+    ghost leaves = { LeavesTables };
 
     ghost faults = { faults_of };
 
@@ -256,4 +259,6 @@ impl<S: Alter> Records for TableDesk<S> {
     ghost sound = { λ d kept. kept.content.sound };
 
     ghost good = { λ d kept. kept.content.good };
+
+    ghost either = { λ d a b alone db may. or_other (alone db may) };
 }

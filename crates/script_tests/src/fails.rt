@@ -70,6 +70,8 @@ impl<S: Records> Records for Fails<S> {
 
     ghost is_honest = { λ s. S.is_honest s.inner };
 
+    ghost leaves = { λ s a b. S.leaves s.inner a b };
+
     ghost faults = { λ s. faults_with s.has_failed s.fault (S.faults s.inner) };
 
     ghost next_gives = { λ old new answer. (answer ≡ Err old.fault) ⊎ S.next_gives old.inner new.inner answer };
@@ -161,4 +163,6 @@ impl<S: Records> Records for Fails<S> {
     ghost sound = { λ s kept. S.sound s.inner kept };
 
     ghost good = { λ s kept. S.good s.inner kept };
+
+    ghost either = { λ s a b alone. S.either s.inner a b alone };
 }

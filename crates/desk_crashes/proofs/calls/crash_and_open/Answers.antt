@@ -3,7 +3,7 @@ use Rattle.sqlite.specs.Held.{state}
 use Rattle.sqlite.specs.State.{HasCleanDisk}
 use Rattle.sqlite_trees.specs.Tree.{Trees}
 use Rattle.desk_crashes.specs.Settled.{HasHonestDisk, IsOpenedOver}
-use Rattle.desk_crashes.proofs.CrashLemmas.{settled_then}
+use Rattle.desk_crashes.proofs.CrashLemmas.{settled_then, found_then}
 use Rattle.desk_crashes.proofs.calls.crash_and_open.Goals as goal
 
 pub returns-clause-honest : goal.returns-clause-honest
@@ -17,3 +17,6 @@ returns-clause-left g c =
 
 pub returns-clause-settled : goal.returns-clause-settled
 returns-clause-settled g c = settled_then g.S.Store c.crash_and_find.result c.args.desk (returns-clause-left g c)
+
+pub returns-clause-either : goal.returns-clause-either
+returns-clause-either g c = found_then g.S.Store c.crash_and_find.result c.args.desk (returns-clause-left g c)

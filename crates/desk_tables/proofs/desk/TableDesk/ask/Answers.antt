@@ -1,5 +1,6 @@
 use Rattle.desk_schema.proofs.Exports.{refl}
 use Rattle.desk_tables.proofs.StillLemmas.{still_then}
+use Rattle.desk_tables.proofs.CrashLemmas.{left_as_before}
 use Rattle.desk_tables.proofs.KeptLemmas.{noted}
 use Rattle.desk_tables.proofs.desk.TableDesk.ask.Goals as goal
 
@@ -12,7 +13,7 @@ returns g c =
     let asked = c.ask_within.ensures.asked in
     let it = noted g.S.Store d.last.value d.conn c.ask_within.new.conn d.family c.ask_within.result _ _ asked d.stays c.requires.fits in
     record {
-      answer = record { holds = record { honest = it.honest; kept = λ was clean. was; fact = it.fact }; was_kept = λ now clean. now };
+      answer = record { holds = record { honest = it.honest; kept = λ was clean. was; fact = it.fact }; was_kept = λ now clean. now; left = left_as_before _ _ asked.survives };
       sure = it.never;
       last = refl;
       family = refl;

@@ -6,7 +6,7 @@ use Rattle.desk_tables.proofs.desk.TableDesk.ask_stay.Goals as goal
 pub returns-clause-answer : goal.returns-clause-answer
 returns-clause-answer g c =
     let did = c.ask.ensures in
-    record { holds = record { honest = did.answer.holds.honest; kept = did.answer.holds.kept; fact = λ was clean. did.last }; was_kept = did.answer.was_kept }
+    record { holds = record { honest = did.answer.holds.honest; kept = did.answer.holds.kept; fact = λ was clean. did.last }; was_kept = did.answer.was_kept; left = did.answer.left }
 
 pub returns-clause-stay : goal.returns-clause-stay
 returns-clause-stay g c = λ now clean.

@@ -6,7 +6,7 @@ use Rattle.desk_tables.proofs.desk.TableDesk.load.Goals as goal
 pub returns-in_err-family-clause-answer : goal.returns-in_err-family-clause-answer
 returns-in_err-family-clause-answer g c =
     let did = c.in_err-family.ensures in
-    record { holds = record { honest = did.answer.holds.honest; kept = did.answer.holds.kept; fact = λ was clean. did.last }; was_kept = did.answer.was_kept }
+    record { holds = record { honest = did.answer.holds.honest; kept = did.answer.holds.kept; fact = λ was clean. did.last }; was_kept = did.answer.was_kept; left = did.answer.left }
 
 pub returns-clause-answer : goal.returns-clause-answer
 returns-clause-answer g c =
@@ -21,4 +21,5 @@ returns-clause-answer g c =
       };
       was_kept = λ now clean.
           did.answer.was_kept (record { shown = now.shown; content = now.content; tree = rw did.family (no_tree c.args.self.now.family _ (sym c.is_some.ensures ∙ c.if-is_some.false)) }) clean;
+      left = did.answer.left;
     }
