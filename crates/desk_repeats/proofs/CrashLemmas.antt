@@ -1,5 +1,5 @@
 -- What a crash leaves after a message that has an id.
-use Rattle.std.proofs.Common.{◌≡◌, ◌≤◌, ◌<◌, ◌+◌, ℕ, List, ◌∷◌, [], ◌++◌, Option, Result, Ok, Err, refl, sym, ap, subst, ◌∙◌, take, drop, length, get_or, false}
+use Rattle.std.proofs.Common.{◌≡◌, ◌≤◌, ◌<◌, ◌+◌, ℕ, List, ◌∷◌, [], ◌++◌, Option, refl, sym, ap, subst, ◌∙◌, take, drop, length, get_or}
 use Rattle.bug_record.specs.Desk.{Desk}
 use Rattle.bug_record.specs.Words.{Names}
 use Rattle.bug_record.specs.declared.command.Change.{Change}

@@ -1,17 +1,15 @@
 -- What a crash leaves after a message that has an id, at which the store may have failed.
 -- This project's own rule.
-use Rattle.std.specs.Prelude.{ℕ, ◌≡◌, List, take, drop, length, Result, Ok, Err}
+use Rattle.std.specs.Prelude.{ℕ, List, take, drop, length, Result, Ok, Err}
 use Rattle.bug_record.specs.Desk.{Desk}
 use Rattle.bug_record.specs.declared.outcome.End.{End}
 use Rattle.bug_record.specs.declared.outcome.End.TheVariants.{All, Stopped, TooManyUnreadable, Store}
 use Rattle.bug_record.specs.declared.outcome.Outcome.{Outcome}
-use Rattle.bug_record.specs.declared.outcome.StoreFault.{StoreFault}
-use Rattle.command_grammar.specs.Lines.{reading}
 use Rattle.desk_lines.specs.Lines.{lines_of}
 use Rattle.message_progress.specs.declared.outcomes_so_far.Received.{Received}
 use Rattle.desk_store.specs.Crashes.{Holding}
 use Rattle.desk_store.specs.Kept.{Keeping, lines_told, told, outcomes_in, outcomes_kept, kept_with}
-use Rattle.desk_store.specs.Message.{Entry, Machine, machine, after_lines, takes}
+use Rattle.desk_store.specs.Message.{Machine, machine, after_lines}
 use Rattle.desk_repeats.specs.declared.once.OnceFault.{OnceFault}
 
 -- Where a crash as a call began left the store's holding and no other, a crash as it returns leaves
@@ -29,7 +27,7 @@ resumed_to sender lines kept old k =
     after_lines sender (machine old (told lines kept)) (drop (length kept) (lines_told (take k lines)))
 
 -- What a message tried to leave of a holding as it ended: where the store failed at line k, what is
--- held once line k is taken too, and its outcome is kept.
+-- held once line k is taken too, and its outcome is kept, if it has one.
 abbrev pub tried_once : (id sender message : List ℕ) → Holding → End → Holding → Holding
 tried_once id sender message before All now = now
 tried_once id sender message before Stopped now = now
@@ -44,12 +42,3 @@ abbrev pub LeavesOnce : {S : Type 0} → (S → Holding → Holding → Type 0) 
 LeavesOnce leaves old new id sender message before (Ok r) now =
     LeavesTried leaves old new before now (tried_once id sender message before r.end now)
 LeavesOnce leaves old new id sender message before (Err fault) now = (a b : Holding) → leaves old a b → leaves new a b
-
--- the same of one line, where the outcomes before it were kept beside what was kept at first
-abbrev pub LeavesLine : {S : Type 0} → (S → Holding → Holding → Type 0) → S → S → (id sender message : List ℕ) → Holding
-    → List Entry → List ℕ → Result End StoreFault → Holding → Type 0
-LeavesLine leaves old new id sender message before outcomes line (Ok end) now = LeavesTried leaves old new before now now
-LeavesLine leaves old new id sender message before outcomes line (Err fault) now =
-    (first : Keeping) → before.1 ≡ kept_with id sender message (outcomes_in outcomes) first
-    → LeavesTried leaves old new before now
-      (held_by id sender message first (takes sender (machine before.0 outcomes) line (reading line)))

@@ -9,8 +9,8 @@ ghost use Rattle.desk_store.specs.Kept.{has_outcome, lines_told};
 ghost use Rattle.desk_store.specs.Message.{end_of, unreadable_count, known_names};
 ghost use Rattle.message_progress.specs.Progress.{IsInStep};
 ghost use Rattle.desk_messages.specs.Ends.{IsLineOf};
-ghost use Rattle.desk_repeats.specs.GoingOn.{IsBegun, TakesOnce, Resumes};
-ghost use Rattle.desk_repeats.specs.Crashes.{LeavesTried, LeavesLine, tried_once};
+ghost use Rattle.desk_repeats.specs.GoingOn.{IsBegun, TakesOnce, LeavesLine, Resumes};
+ghost use Rattle.desk_repeats.specs.Crashes.{LeavesTried, tried_once};
 
 use crate::recalling::Recalled;
 use bug_record::{End, StoreFault};
