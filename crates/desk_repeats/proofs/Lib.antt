@@ -3,3 +3,4 @@ pub mod RecallLemmas
 pub mod KeepLemmas
 pub mod GoingLemmas
 pub mod OnceLemmas
+pub mod CrashLemmas

@@ -7,8 +7,10 @@ use Rattle.desk_lines.specs.Lines.{lines_of}
 use Rattle.message_progress.specs.Progress.{HaveNumbers}
 use Rattle.bug_record.specs.declared.outcome.End.{End}
 use Rattle.bug_record.specs.declared.outcome.StoreFault.{StoreFault}
+use Rattle.desk_store.specs.Crashes.{Holding}
 use Rattle.desk_store.specs.Message.{Entry, machine, takes}
 use Rattle.desk_store.specs.Kept.{Keeping, IsOfMessage, IsResumed, outcomes_kept, outcomes_in, told, kept_with}
+use Rattle.desk_repeats.specs.Crashes.{LeavesTried, held_by}
 
 -- These are the message's outcomes so far, which are kept of its id, and its names have numbers.
 pub record IsBegun (id sender message : List ℕ) (kept : Keeping) (outcomes : List Entry) (known : Names) : Type 0 where
@@ -41,3 +43,13 @@ pub record Resumes (id sender message : List ℕ) (old new : Desk) (kept now : K
   where
     pub resumed : IsResumed sender (lines_of message) (outcomes_in before) old after end new
     pub keeps : KeepsOn id sender message kept before now after
+
+-- what a crash leaves after one line: what is held now; or, where it failed, also what the line would
+-- have made, kept beside what was kept at first
+abbrev pub LeavesLine : {S : Type 0} → (S → Holding → Holding → Type 0) → S → S → (id sender message : List ℕ) → Holding
+    → List Entry → List ℕ → Result End StoreFault → Holding → Type 0
+LeavesLine leaves old new id sender message before outcomes line (Ok end) now = LeavesTried leaves old new before now now
+LeavesLine leaves old new id sender message before outcomes line (Err fault) now =
+    (first : Keeping) → before.1 ≡ kept_with id sender message (outcomes_in outcomes) first
+    → LeavesTried leaves old new before now
+    (held_by id sender message first (takes sender (machine before.0 outcomes) line (reading line)))

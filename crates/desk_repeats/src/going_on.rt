@@ -9,7 +9,8 @@ ghost use Rattle.desk_store.specs.Kept.{has_outcome, lines_told};
 ghost use Rattle.desk_store.specs.Message.{end_of, unreadable_count, known_names};
 ghost use Rattle.message_progress.specs.Progress.{IsInStep};
 ghost use Rattle.desk_messages.specs.Ends.{IsLineOf};
-ghost use Rattle.desk_repeats.specs.GoingOn.{IsBegun, TakesOnce, Resumes};
+ghost use Rattle.desk_repeats.specs.GoingOn.{IsBegun, TakesOnce, LeavesLine, Resumes};
+ghost use Rattle.desk_repeats.specs.Crashes.{LeavesTried, tried_once};
 
 use crate::recalling::Recalled;
 use bug_record::{End, StoreFault};
@@ -43,6 +44,11 @@ fn take_line<S: Records>(
         → Holds S.is_kept S.is_honest earlier store.new
         (TakesOnce id.now from.now message.now (S.desk store.old) (S.desk store.new) (S.keeping store.old) (S.keeping store.new)
         progress.old.outcomes.items progress.new.outcomes.items progress.new.known.names result line.now) }
+    ensures crash { (earlier : S) → Holds S.is_kept S.is_honest earlier store.old
+        (IsBegun id.now from.now message.now (S.keeping store.old) progress.old.outcomes.items progress.old.known.names)
+        → Holds S.is_kept S.is_honest earlier store.new
+        (LeavesLine S.leaves store.old store.new id.now from.now message.now (S.desk store.old, S.keeping store.old)
+        progress.old.outcomes.items line.now result (S.desk store.new, S.keeping store.new)) }
     ensures honest { S.is_honest store.new → S.is_honest store.old }
     ensures count { S.faults store.new ≡ faults_after result (S.faults store.old) }
     ensures length { OnOk result (length progress.new.outcomes.items ≡ length progress.old.outcomes.items + length (lines_told (line.now ∷ []))) }
@@ -88,6 +94,12 @@ pub(crate) fn go_on<S: Records>(
         → Holds S.is_kept S.is_honest earlier store.new
         (Resumes id.now from.now message.now (S.desk store.old) (S.desk store.new) (S.keeping store.old) (S.keeping store.new)
         recalled.progress.outcomes.items result.outcomes result.end) }
+    ensures crash { (earlier : S) → Holds S.is_kept S.is_honest earlier store.old
+        (IsBegun id.now from.now message.now (S.keeping store.old) recalled.progress.outcomes.items recalled.progress.known.names)
+        → Holds S.is_kept S.is_honest earlier store.new
+        (LeavesTried S.leaves store.old store.new (S.desk store.old, S.keeping store.old) (S.desk store.new, S.keeping store.new)
+        (tried_once id.now from.now message.now (S.desk store.old, S.keeping store.old) result.end
+        (S.desk store.new, S.keeping store.new))) }
     ensures honest { S.is_honest store.new → S.is_honest store.old }
     ensures line { IsLineOf result.end lines.now }
     ensures count { S.faults store.new ≡ faults_after_end result.end (S.faults store.old) }

@@ -9,6 +9,7 @@ ghost use Rattle.line_words.specs.Ids.{is_id};
 ghost use Rattle.desk_store.specs.Kept.{IsOfMessage, outcomes_kept};
 ghost use Rattle.desk_messages.specs.Ends.{IsLineOf};
 ghost use Rattle.desk_repeats.specs.Once.{IsOnce, faults_after_once};
+ghost use Rattle.desk_repeats.specs.Crashes.{LeavesOnce};
 
 use crate::going_on::go_on;
 use crate::recalling::{RecallFault, recall};
@@ -91,6 +92,9 @@ pub fn receive_once<S: Records>(
     ensures answer { Holds S.is_kept S.is_honest store.old store.new
         (IsOnce id.now from.now message.now (S.desk store.old) (S.keeping store.old) result (S.desk store.new)
         (S.keeping store.new)) }
+    ensures crash { Holds S.is_kept S.is_honest store.old store.new
+        (LeavesOnce S.leaves store.old store.new id.now from.now message.now (S.desk store.old, S.keeping store.old) result
+        (S.desk store.new, S.keeping store.new)) }
     ensures bad { is_id id.now ≡ false → result ≡ Result.Err OnceFault.BadId }
     ensures good { result ≡ Result.Err OnceFault.BadId → is_id id.now ≡ false }
     ensures same { result ≡ Result.Err OnceFault.BadId → store.new ≡ store.old }

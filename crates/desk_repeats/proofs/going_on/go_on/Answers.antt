@@ -1,4 +1,4 @@
-use Rattle.std.proofs.Common.{ℕ, ◌≤◌, ◌+◌, List, [], ◌∷◌, ◌∙◌, sym, ap, refl, arith, length, take, drop, length-append}
+use Rattle.std.proofs.Common.{ℕ, ◌≤◌, ◌+◌, List, [], ◌∷◌, ◌∙◌, sym, ap, subst, refl, arith, length, take, drop, length-append}
 use Rattle.std.specs.Prelude.{slice_get}
 use Rattle.std.proofs.lemmas.List.{take_all}
 use Rattle.message_progress.specs.Progress.{goes_on}
@@ -7,6 +7,7 @@ use Rattle.desk_store.proofs.HoldsLemmas.{holds_weaker}
 use Rattle.desk_store.specs.Kept.{lines_told}
 use Rattle.desk_repeats.proofs.GoingLemmas.{carry, carry_both, going-first, going-more, going-all, resumes-ended, resumes-failed-in}
 use Rattle.desk_repeats.proofs.ToldLemmas.{lines-more, place-of}
+use Rattle.desk_repeats.proofs.CrashLemmas.{own_first, tried_failed, once_settled}
 use Rattle.desk_repeats.proofs.going_on.go_on.Goals as goal
 
 pub loop-i-init : goal.loop-i-init
@@ -18,6 +19,7 @@ loop-i-init g c = record {
   honest = λ w. w;
   taken = λ earlier h. holds_weaker h (λ b. going-first c.args.id.now c.args.from.now c.args.message.now _ _
       c.args.recalled.progress.outcomes.items _ c.args.lines.now c.args.recalled.lines c.requires.all b);
+  left = λ earlier h. holds_weaker h (λ b alone. alone);
 }
 
 pub loop-i-preserved : goal.loop-i-preserved
@@ -46,6 +48,10 @@ loop-i-preserved g c =
           carry x (c.in-Ok.ensures.answer earlier (holds_weaker x (λ p. p.begun))) c.in-Ok.ensures.honest
           (λ p q. going-more c.args.id.now c.args.from.now c.args.message.now line _ _ _ _ _ _ before
           c.loop-i.progress.outcomes.items _ _ _ lines c.loop-i.i c.loop-i-test.true c.index-lines-i.is le inv.in_step.goes_on p q);
+      left = λ earlier h.
+          carry (inv.left earlier h)
+          (c.in-Ok.ensures.crash earlier (holds_weaker (inv.taken earlier h) (λ p. p.begun))) c.in-Ok.ensures.honest
+          (λ p q alone. q (p alone));
     }
 
 pub take_line-requires-clause-place : goal.take_line-requires-clause-place
@@ -123,3 +129,39 @@ returns-then-not-goes_on-clause-count g c =
     let ended = c.in-Ok.ensures.end ∙ sym c.received.ensures.end in
     c.in-Ok.ensures.count
     ∙ (c.loop-i.invariant.faults ∙ sym (settled_faults c.take_line.new.progress.outcomes.items c.received.result.end _ ended))
+
+pub returns-then-not-goes_on-clause-crash : goal.returns-then-not-goes_on-clause-crash
+returns-then-not-goes_on-clause-crash g c = λ earlier h.
+    let inv = c.loop-i.invariant in
+    let ended = c.in-Ok.ensures.end ∙ sym c.received.ensures.end in
+    let store = c.take_line.new.store in
+    let none = once_settled c.args.id.now c.args.from.now c.args.message.now
+    (g.S.Records.desk c.args.store.now, g.S.Records.keeping c.args.store.now)
+    (g.S.Records.desk store, g.S.Records.keeping store) c.take_line.new.progress.outcomes.items c.received.result.end ended in
+    carry (inv.left earlier h)
+    (c.in-Ok.ensures.crash earlier (holds_weaker (inv.taken earlier h) (λ p. p.begun))) c.in-Ok.ensures.honest
+    (λ p q alone. subst (g.S.Records.leaves store (g.S.Records.desk store, g.S.Records.keeping store)) (sym none) (q (p alone)))
+
+pub returns-in-Err-clause-crash : goal.returns-in-Err-clause-crash
+returns-in-Err-clause-crash g c = λ earlier h.
+    let inv = c.loop-i.invariant in
+    let before = c.args.recalled.progress.outcomes.items in
+    let k = g.S.Records.keeping c.args.store.now in
+    let store = c.take_line.new.store in
+    let le : length c.args.recalled.progress.outcomes.items ≤ length (lines_told (take c.loop-i.i c.args.lines.now)) =
+    omega (arith, inv.all, inv.later) in
+    let x = inv.taken earlier h in
+    let y = carry_both x (c.in-Err.ensures.crash earlier (holds_weaker x (λ p. p.begun))) c.in-Err.ensures.honest in
+    let z = carry_both (inv.left earlier h) y c.in-Err.ensures.honest in
+    carry h z (λ w. inv.honest (c.in-Err.ensures.honest w))
+    (λ b p alone.
+    let tried = tried_failed c.args.id.now c.args.from.now c.args.message.now c.index-lines-i.result
+    (g.S.Records.desk c.args.store.now) (g.S.Records.desk c.loop-i.store) k (g.S.Records.keeping c.loop-i.store) before
+    c.loop-i.progress.outcomes.items _ _ c.in-Err.fault c.args.lines.now c.loop-i.i c.received-in-Err.result.end
+    (g.S.Records.desk store, g.S.Records.keeping store) c.requires.lines c.received-in-Err.ensures.end c.loop-i-test.true
+    c.index-lines-i.is le inv.in_step.goes_on b p.1.0 in
+    subst (g.S.Records.leaves store (g.S.Records.desk store, g.S.Records.keeping store)) tried
+    (p.1.1 k (p.1.0.keeps k (own_first c.args.id.now c.args.from.now c.args.message.now k before _ b)) (p.0 alone)))
+
+pub returns-clause-crash : goal.returns-clause-crash
+returns-clause-crash g c = rw c.received-2.ensures.end c.loop-i.invariant.left

@@ -3,6 +3,7 @@ use Rattle.desk_store.specs.Store.{Holds}
 use Rattle.desk_store.specs.Kept.{lines_told}
 use Rattle.message_progress.specs.Progress.{IsInStep}
 use Rattle.desk_repeats.specs.GoingOn.{IsBegun}
+use Rattle.desk_repeats.specs.Crashes.{LeavesTried}
 use Rattle.desk_repeats.proofs.GoingLemmas.{Going}
 use Rattle.desk_repeats.proofs.going_on.go_on.Given as goal
 
@@ -20,4 +21,10 @@ invariant-loop-i g l = record {
       (Going l.id l.from l.message (g.S.Records.desk l.fn.store) (g.S.Records.desk l.store) (g.S.Records.keeping l.fn.store)
       (g.S.Records.keeping l.store) l.fn.recalled.progress.outcomes.items l.progress.outcomes.items l.progress.known.names
       (drop (length l.fn.recalled.progress.outcomes.items) (lines_told (take l.i l.lines))));
+  left : (earlier : g.row.S.Denot) → Holds g.S.Records.is_kept g.S.Records.is_honest earlier l.fn.store
+      (IsBegun l.id l.from l.message (g.S.Records.keeping l.fn.store) l.fn.recalled.progress.outcomes.items
+      l.fn.recalled.progress.known.names)
+      → Holds g.S.Records.is_kept g.S.Records.is_honest earlier l.store
+      (LeavesTried g.S.Records.leaves l.fn.store l.store (g.S.Records.desk l.fn.store, g.S.Records.keeping l.fn.store)
+      (g.S.Records.desk l.store, g.S.Records.keeping l.store) (g.S.Records.desk l.store, g.S.Records.keeping l.store));
 }

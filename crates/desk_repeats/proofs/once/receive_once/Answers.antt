@@ -6,6 +6,7 @@ use Rattle.desk_messages.proofs.MachineLemmas.{settled_faults, settled_line}
 use Rattle.desk_store.proofs.HoldsLemmas.{holds_none, holds_weaker, holds_where}
 use Rattle.desk_repeats.proofs.GoingLemmas.{carry, where_kept}
 use Rattle.desk_repeats.proofs.OnceLemmas.{recalled-begins, never_mismatch, once-ended, once-resumed, all-recalled}
+use Rattle.desk_repeats.proofs.CrashLemmas.{asked_left, left_once}
 use Rattle.desk_repeats.proofs.once.receive_once.Goals as goal
 
 pub returns-then-not-is_id-clause-answer : goal.returns-then-not-is_id-clause-answer
@@ -87,3 +88,21 @@ returns-in-Err-Mismatch-clause-answer g c =
     (λ u w p. absurd (c.in-Err-Mismatch.ensures.mismatch (ap Err c.in-Err-Mismatch.field-0-is)
     (never_mismatch c.args.id.now c.args.from.now c.args.message.now (g.S.Records.keeping c.args.store.now) c.in_ok-kept.kept _ _
     (g.met.S.Records.good _ u) p.0 same lines c.outcomes_kept.ensures)))
+
+pub returns-in-Ok-recall-clause-crash : goal.returns-in-Ok-recall-clause-crash
+returns-in-Ok-recall-clause-crash g c =
+    let same = c.is_of_message.ensures.yes c.if-not-is_of_message.false in
+    let lines = c.as_slice-lines.ensures.value ∙ c.in-Ok.ensures in
+    let outs = c.in-Ok-recall.recalled.progress.outcomes.items in
+    let k = g.S.Records.keeping c.args.store.now in
+    let store = c.go_on.new.store in
+    carry (asked_left c.in_ok-kept.ensures.answer)
+    (c.go_on.ensures.crash c.args.store.now
+    (holds_where c.in_ok-kept.ensures.answer.holds
+    (λ u w p. recalled-begins c.args.id.now c.args.from.now c.args.message.now k _ c.in_ok-kept.kept _ _ outs _
+    (g.met.S.Records.good _ u) p.0 same c.in_ok-kept.ensures.stays lines c.outcomes_kept.ensures c.in-Ok-recall.ensures.outcomes
+    c.in-Ok-recall.ensures.known)))
+    c.go_on.ensures.honest
+    (λ p r. left_once g.S.Records.leaves c.args.store.now c.kept.new.self store c.args.id.now c.args.from.now c.args.message.now
+    (g.S.Records.desk c.args.store.now) (g.S.Records.desk c.kept.new.self) k (g.S.Records.keeping c.kept.new.self) c.go_on.result.end
+    (g.S.Records.desk store, g.S.Records.keeping store) p.0.1 c.in_ok-kept.ensures.stays p.1 r)
