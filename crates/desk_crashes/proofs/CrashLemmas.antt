@@ -166,7 +166,7 @@ module _ {S : Type 0} (g : store.Ghosts S) where
   found_then None old left = tt
   found_then (Some again) old left = λ h a b leaves.
       let l = left h in
-      elim (leaves l.0 l.1) [ | inl one ↦ inl (opened_holding a l.0 again l.2 one) | inr other ↦ inr (opened_holding b l.0 again l.2 other) ]
+      elim (leaves l.0 l.1) [ inl one ↦ inl (opened_holding a l.0 again l.2 one) | inr other ↦ inr (opened_holding b l.0 again l.2 other) ]
 
   -- a settled desk is left alone
   pub settled_alone : (t : TableDesk S g) (d : Desk) (k : Keeping) → IsSettled g d k t → LeavesTables t (d, k) (d, k)
