@@ -20,7 +20,8 @@ use Rattle.desk_content.specs.Content.{Content}
 use Rattle.desk_content.specs.View.{desk_in, keeping_in}
 use Rattle.desk_store.specs.Kept.{Keeping, none_kept}
 use Rattle.desk_tables.specs.Files.{HoldDesk}
-use Rattle.desk_tables.specs.Desk.{desk_of, keeping_of, HasKeptTables}
+use Rattle.desk_store.specs.Crashes.{Holding}
+use Rattle.desk_tables.specs.Desk.{desk_of, keeping_of, HasKeptTables, LeavesTables}
 use Rattle.desk_tables.specs.declared.desk.TableDesk.{TableDesk}
 use Rattle.bts_jobs.specs.declared.ending.Cause.{Cause}
 use Rattle.bts_jobs.specs.declared.ending.Cause.TheVariants.{Store, NoFile, InUse, NotADesk, NewerSchema, NotEmpty, CannotOpen}
@@ -66,6 +67,10 @@ module _ {D : Type 0} {g : disk.Ghosts D} where
   -- so far the disk has returned what was written, and, at first, what the files held
   abbrev pub HasHonestFile : TableDesk (FileStore D g) over_files → Type 0
   HasHonestFile d = HasCleanDisk (file_state d.conn)
+
+  -- a crash at this moment leaves the first holding or the second, and no other
+  abbrev pub leaves_in_file : TableDesk (FileStore D g) over_files → Holding → Holding → Type 0
+  leaves_in_file d a b = LeavesTables d a b
 
   -- how often the store has failed
   abbrev pub faults_in_file : TableDesk (FileStore D g) over_files → Faults

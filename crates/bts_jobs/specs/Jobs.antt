@@ -12,6 +12,7 @@ use Rattle.bug_record.specs.Texts.{IsText}
 use Rattle.bug_record.specs.declared.outcome.End.{End}
 use Rattle.desk_content.specs.Content.{Content}
 use Rattle.desk_tables.specs.Files.{HoldDesk}
+use Rattle.desk_store.specs.Crashes.{Holding}
 use Rattle.desk_store.specs.Store.{Faults, Holds, no_faults, faults_after_end}
 use Rattle.desk_store.specs.Message.{Entry, IsReceived}
 use Rattle.bugs_in_memory.specs.Plain.{empty_desk}
@@ -20,8 +21,9 @@ use Rattle.desk_lines.specs.declared.fault.ScriptFault.{ScriptFault}
 use Rattle.desk_lines.specs.declared.fault.ScriptFault.TheVariants.{Read}
 use Rattle.desk_messages.specs.Ends.{IsLineOf}
 use Rattle.desk_directives.specs.Transcripts.{received_text}
-use Rattle.desk_run.specs.Script.{begin}
+use Rattle.desk_run.specs.Script.{begin, script_of}
 use Rattle.desk_run.specs.Running.{Ends, IsCounted, IsReadInPart}
+use Rattle.desk_run.specs.Tried.{LeavesParts}
 use Rattle.desk_run.specs.declared.script.ScriptEnd.{ScriptEnd}
 use Rattle.desk_http.specs.Port.{Serves, place_line}
 use Rattle.desk_http.specs.declared.port.ServerFault.{ServerFault}
@@ -38,7 +40,7 @@ use Rattle.message_progress.specs.declared.outcomes_so_far.Received.{Received}
 use Rattle.desk_repeats.specs.Once.{IsOnce, faults_after_once}
 use Rattle.desk_repeats.specs.declared.once.OnceFault.{OnceFault}
 use Rattle.desk_repeats.specs.declared.once.OnceFault.TheVariants.{BadId, Reused, Store as StoreFailed}
-use Rattle.bts_jobs.specs.InFile.{FileDesk, desk_in_file, keeping_in_file, IsKeptInFile, HasHonestFile, faults_in_file, IsOpenedInFile, IsNewInFile, IsOpenCause, IsInitCause}
+use Rattle.bts_jobs.specs.InFile.{FileDesk, desk_in_file, keeping_in_file, IsKeptInFile, HasHonestFile, leaves_in_file, faults_in_file, IsOpenedInFile, IsNewInFile, IsOpenCause, IsInitCause}
 use Rattle.bts_jobs.specs.Left.{FilesLeft, IsLeftBy}
 use Rattle.bts_jobs.specs.declared.left.LeftFiles.TheVariants.{Nothing}
 use Rattle.bts_jobs.specs.declared.ending.Cause.{Cause}
@@ -88,24 +90,28 @@ GivesText wanted text c0 c1 end = ((end ≡ wanted) × Appends c0 c1 text)
 
 -- A job over a store, whatever it is, which is old as the job begins and new as it ends.
 module _ {S : Type 0} (is_kept is_honest : S → Type 0) (desk : S → Desk) (keeping : S → Keeping) (faults : S → Faults) where
-  -- The script of what is left to read was run over the store's desk, and ended so.
-  pub record IsRunOver (r0 c0 c1 : Option (List ℕ)) (old new : S) (end : JobEnd) : Type 0 where
-    pub result : Result ScriptEnd ScriptFault
-    pub end_is : end ≡ end_of_script result
-    -- what its reader has left, if that is known
-    pub rest : Option (List ℕ)
-    pub ran : Holds is_kept is_honest old new (Known r0 (λ input. Ends input rest (record {
-      from = begin (desk old);
-      desk = desk new;
-      faults_before = faults old;
-      faults = faults new;
-      written_before = c0;
-      written = c1;
-    }) result))
-    pub stays : Holds is_kept is_honest old new (keeping new ≡ keeping old)
-    pub read : OnOk result (Left r0 rest (λ input left. left ≡ []))
-    pub begun : result ≡ Err Read → Left r0 rest IsReadInPart
-    pub counts : IsCounted result (faults old) (faults new)
+  -- The script of what is left to read was run over the store's desk, and ended so; a crash then
+  -- leaves the desk after some of its lines, and none that was answered is missing.
+  pub record IsRunOver (leaves : S → Holding → Holding → Type 0) (r0 c0 c1 : Option (List ℕ)) (old new : S) (end : JobEnd) : Type 0
+    where
+      pub result : Result ScriptEnd ScriptFault
+      pub end_is : end ≡ end_of_script result
+      -- what its reader has left, if that is known
+      pub rest : Option (List ℕ)
+      pub ran : Holds is_kept is_honest old new (Known r0 (λ input. Ends input rest (record {
+        from = begin (desk old);
+        desk = desk new;
+        faults_before = faults old;
+        faults = faults new;
+        written_before = c0;
+        written = c1;
+      }) result))
+      pub stays : Holds is_kept is_honest old new (keeping new ≡ keeping old)
+      pub left : Holds is_kept is_honest old new (Known r0 (λ input.
+          LeavesParts leaves old new (keeping old) (script_of input) (begin (desk old)) (desk new) result))
+      pub read : OnOk result (Left r0 rest (λ input left. left ≡ []))
+      pub begun : result ≡ Err Read → Left r0 rest IsReadInPart
+      pub counts : IsCounted result (faults old) (faults new)
 
   -- A server was run for the store's desk, and ended so.
   pub record IsServerOver (port count : ℕ) (c0 c1 : Option (List ℕ)) (old new : S) (end : JobEnd) : Type 0 where
@@ -220,7 +226,7 @@ module _ {S : Type 0} (start : Ghosts S) where
   abbrev pub IsJobLeaving : Job → Option (List ℕ) → Option (List ℕ) → Option (List ℕ) → JobEnd → FilesLeft start → Type 0
   IsJobLeaving (Run None) r0 c0 c1 end left = Known r0 (λ input. IsRun input c0 c1 end) × (left ≡ Nothing)
   IsJobLeaving (Run (Some store)) r0 c0 c1 end left = IsOverFile c0 c1 end left (λ old new.
-      IsRunOver IsKeptInFile HasHonestFile desk_in_file keeping_in_file faults_in_file r0 c0 c1 old new end)
+      IsRunOver IsKeptInFile HasHonestFile desk_in_file keeping_in_file faults_in_file leaves_in_file r0 c0 c1 old new end)
   IsJobLeaving (Init store first) r0 c0 c1 end left = IsInit first c0 c1 end left
   IsJobLeaving (Serve None port count) r0 c0 c1 end left = IsServer port count c0 c1 end × (left ≡ Nothing)
   IsJobLeaving (Serve (Some store) port count) r0 c0 c1 end left = IsOverFile c0 c1 end left (λ old new.

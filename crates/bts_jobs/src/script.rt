@@ -4,7 +4,7 @@ ghost use Rattle.std.specs.Prelude.{◌≡◌};
 ghost use Rattle.desk_lines.specs.Reading.{Known};
 ghost use Rattle.bts_jobs.specs.Endings.{cause_of_script, end_of_script};
 ghost use Rattle.bts_jobs.specs.Jobs.{IsRun, IsRunOver, IsOverFile};
-ghost use Rattle.bts_jobs.specs.InFile.{desk_in_file, keeping_in_file, IsKeptInFile, HasHonestFile, faults_in_file};
+ghost use Rattle.bts_jobs.specs.InFile.{desk_in_file, keeping_in_file, IsKeptInFile, HasHonestFile, leaves_in_file, faults_in_file};
 
 use crate::ending::{Cause, JobEnd};
 use crate::file_desk::{close_desk, open_desk};
@@ -43,13 +43,15 @@ fn end_of(end: Result<ScriptEnd, ScriptFault>) -> JobEnd
 }
 
 /// Runs a script over a desk, and answers how it ended.
+/// A crash at any moment of it leaves the desk after some of its lines, and none that was answered
+/// is missing, as `desk_crashes::run_and_crash` says of a desk in tables and the open after it.
 pub fn run_script_over<D: Records, R: Read, W: Write>(
     alloc: Global,
     desk: &mut D,
     reader: &mut R,
     writer: &mut W,
 ) -> JobEnd
-    ensures { IsRunOver D.is_kept D.is_honest D.desk D.keeping D.faults (R.remaining reader.old) (W.contents writer.old)
+    ensures { IsRunOver D.is_kept D.is_honest D.desk D.keeping D.faults D.leaves (R.remaining reader.old) (W.contents writer.old)
         (W.contents writer.new) desk.old desk.new result }
 {
     end_of(run_script(alloc, desk, reader, writer))
@@ -77,7 +79,8 @@ pub(crate) fn run_script_in_file<S: Start, R: Read, W: Write>(
     writer: &mut W,
 ) -> (JobEnd, LeftFiles<FileFrom<S>>)
     ensures { IsOverFile S.Start (W.contents writer.old) (W.contents writer.new) result.0 result.1
-        (λ old new. IsRunOver IsKeptInFile HasHonestFile desk_in_file keeping_in_file faults_in_file (R.remaining reader.old)
+        (λ old new. IsRunOver IsKeptInFile HasHonestFile desk_in_file keeping_in_file faults_in_file leaves_in_file
+        (R.remaining reader.old)
         (W.contents writer.old) (W.contents writer.new) old new result.0) }
 {
     match open_desk(rt, start, path) {

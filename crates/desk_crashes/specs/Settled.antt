@@ -80,9 +80,9 @@ module _ {S : Type 0} (g : store.Ghosts S) where
     pub took : TookOne id sender message outcome (d, k) (desk, keeping)
     pub settled : IsSettled desk keeping t
 
-  -- After a script of these parts, over a desk that was settled: it is settled as the desk after all
-  -- of its lines, where it came to its end; and else as the desk after those that were answered, or
-  -- after one line more.
+  -- After a script of these parts, over a desk that was settled: it is settled as the desk after
+  -- all of its lines, where it came to its end; and else as the desk after those that were
+  -- answered, or after one line more.
   abbrev pub IsFoundAfter : List Part → Standing → Option (List ℕ) → Option (List ℕ) → Keeping → Result ScriptEnd ScriptFault
       → TableDesk S g → Type 0
   IsFoundAfter parts from written_before written k (Ok end) t = IsSettled (after_parts parts from).desk k t

@@ -19,9 +19,9 @@ use std::io::{Read, Write};
 /// Runs a script, and crashes as it returns, whatever it answered; then it opens what is left.
 /// It returns also where the disk stopped at any of its calls, so this is a crash at any moment of
 /// the script.
-/// Where the desk was settled, what is opened is the desk after some of the script's lines, and none
-/// that was answered is missing: the desk as the script left it, or the desk after its next line,
-/// with what is kept of messages, and settled.
+/// Where the desk was settled, what is opened is the desk after some of the script's lines, and
+/// none that was answered is missing: the desk as the script left it, or the desk after its next
+/// line, with what is kept of messages, and settled.
 /// Where the script was answered to its end, it is the desk after all of its lines.
 /// The second answer is `None` where nothing is opened: out of memory, or by a fault of the
 /// store.

@@ -44,8 +44,8 @@ pub record Resumes (id sender message : List ℕ) (old new : Desk) (kept now : K
     pub resumed : IsResumed sender (lines_of message) (outcomes_in before) old after end new
     pub keeps : KeepsOn id sender message kept before now after
 
--- what a crash leaves after one line: what is held now; or, where it failed, also what the line would
--- have made, kept beside what was kept at first
+-- what a crash leaves after one line: what is held now; or, where it failed, also what the line
+-- would have made, kept beside what was kept at first
 abbrev pub LeavesLine : {S : Type 0} → (S → Holding → Holding → Type 0) → S → S → (id sender message : List ℕ) → Holding
     → List Entry → List ℕ → Result End StoreFault → Holding → Type 0
 LeavesLine leaves old new id sender message before outcomes line (Ok end) now = LeavesTried leaves old new before now now

@@ -1,5 +1,5 @@
--- What a crash leaves after a script, or a part of one, at which the store may have failed: the desk
--- after the lines that were answered, or after one line more.
+-- What a crash leaves after a script, or a part of one, at which the store may have failed: the
+-- desk after the lines that were answered, or after one line more.
 -- This project's own rule.
 use Rattle.std.specs.Prelude.{ℕ, ◌≡◌, ◌⊎◌, ◌+◌, List, ◌∷◌, ◌++◌, take, Result, Ok, Err}
 use Rattle.bug_record.specs.Desk.{Desk}
@@ -27,8 +27,8 @@ pub record IsNextOf (parts : List Part) (from : Standing) (now next : Desk) : Ty
   pub split : parts ≡ before ++ part ∷ after
   pub within : IsNextIn part (after_parts before from) now next
 
--- Where a crash as a call began left the desk of a script alone, as it returns it leaves the present
--- desk, or that after the next line, and no other; after `Ok` it leaves the present desk alone.
+-- Where a crash as a call began left the desk of a script alone, as it returns it leaves the
+-- present desk, or that after the next line, and no other; after `Ok` the present desk alone.
 abbrev pub LeavesParts : {S T : Type 0} → (S → Holding → Holding → Type 0) → S → S → Keeping → List Part → Standing → Desk
     → Result T ScriptFault → Type 0
 LeavesParts leaves old new kept parts from now (Ok done) = LeavesTried leaves old new kept from.desk now now

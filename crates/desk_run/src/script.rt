@@ -114,8 +114,9 @@ fn finish_script<S: Records, W: Write>(
 /// At `Read` good lines were taken from the reader, and at most 65,536 bytes of the next one.
 /// What is kept of messages that have an id stays.
 /// Where a crash as the call began left the desk alone, a crash at any moment of it leaves the desk
-/// after some of the script's lines, and none that was answered is missing: as it returns, also where
-/// the disk stopped at one of its calls, that is the present desk, or the desk after the next line.
+/// after some of the script's lines, and none that was answered is missing: as it returns, also
+/// where the disk stopped at one of its calls, that is the present desk, or that after the next
+/// line.
 pub fn run_script<S: Records, R: Read, W: Write>(
     alloc: Global,
     store: &mut S,

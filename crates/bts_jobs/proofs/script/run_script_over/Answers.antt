@@ -7,6 +7,7 @@ returns g c = record {
   rest = g.R.Read.remaining c.run_script.new.reader;
   ran = c.run_script.ensures.answer;
   stays = c.run_script.ensures.stays;
+  left = c.run_script.ensures.crash;
   read = c.run_script.ensures.read;
   begun = c.run_script.ensures.begun;
   counts = c.run_script.ensures.count;
