@@ -6,3 +6,9 @@ returns-clause-answer g c = λ earlier since.
     let answer = rw c.is_due.ensures.inner at c.keep.ensures.answer in
     let done = answer earlier.inner (record { honest = since.honest; kept = since.kept; fact = since.fact }) in
     record { honest = done.honest; kept = done.kept; fact = done.fact }
+
+pub returns-clause-crash : goal.returns-clause-crash
+returns-clause-crash g c = λ earlier since.
+    let crash = rw c.is_due.ensures.inner at c.keep.ensures.crash in
+    let left = crash earlier.inner (record { honest = since.honest; kept = since.kept; fact = since.fact }) in
+    record { honest = left.honest; kept = left.kept; fact = left.fact }
