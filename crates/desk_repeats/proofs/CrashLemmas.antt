@@ -9,17 +9,19 @@ use Rattle.bug_record.specs.declared.outcome.End.TheVariants as ends
 use Rattle.bug_record.specs.declared.outcome.StoreFault.{StoreFault}
 use Rattle.command_grammar.specs.Lines.{reading}
 use Rattle.desk_lines.specs.Lines.{lines_of}
+use Rattle.message_progress.specs.Progress.{HaveNumbers}
 use Rattle.message_progress.proofs.EndLemmas.{never_store}
 use Rattle.desk_messages.specs.Taking.{IsDecision}
 use Rattle.desk_messages.specs.declared.command_decision.Decision.{Decision}
 use Rattle.desk_store.specs.Crashes.{Holding}
 use Rattle.desk_store.specs.Store.{Holds, Asks, with_change}
+use Rattle.desk_store.proofs.HoldsLemmas.{holds_both}
 use Rattle.desk_store.specs.Message.{Entry, Machine, machine, after_lines, takes, end_of}
 use Rattle.desk_store.specs.Kept.{Keeping, lines_told, told, outcomes_in, outcomes_kept, kept_with, kept_also}
 use Rattle.desk_repeats.specs.GoingOn.{IsBegun}
 use Rattle.desk_repeats.specs.Crashes.{LeavesTried, held_by, resumed_to, tried_once}
 use Rattle.desk_repeats.proofs.KeepLemmas.{keeps-also, kept-own}
-use Rattle.desk_repeats.proofs.GoingLemmas.{Going, after-more, length-outcomes}
+use Rattle.desk_repeats.proofs.GoingLemmas.{Going, after-more, length-outcomes, carry}
 
 -- a question, and what a crash leaves after it
 pub asked_left : {S : Type 0} {k h : S → Type 0} {l : S → Holding → Holding → Type 0} {b c : S} {Q : Type 0} → Asks k h l b c Q
@@ -43,6 +45,17 @@ pub left_made : {S : Type 0} (leaves : S → Holding → Holding → Type 0) (a 
     → d ≡ made → k ≡ kept → leaves c (made, kept) (made, kept) → LeavesTried leaves a c before (d, k) (d, k)
 left_made leaves a c before d made k kept is_d is_k x = λ alone.
     subst (λ (z : Holding). leaves c z z) (λ i. (sym is_d i, sym is_k i)) x
+
+-- the same, since an earlier moment
+pub made_since : {S : Type 0} (leaves : S → Holding → Holding → Type 0) (kept honest : S → Type 0) (earlier a c : S)
+    (before : Holding) (d made : Desk) (k also : Keeping) → Holds kept honest earlier c ((d ≡ made) × (k ≡ also))
+    → Holds kept honest earlier c (leaves c (made, also) (made, also))
+    → Holds kept honest earlier c (LeavesTried leaves a c before (d, k) (d, k))
+made_since leaves kept honest earlier a c before d made k also x y = record {
+  honest = x.honest;
+  kept = x.kept;
+  fact = λ u w. left_made leaves a c before d made k also (x.fact u w).0 (x.fact u w).1 (y.fact u w);
+}
 
 -- a question, and then the message
 pub left_once : {S : Type 0} (leaves : S → Holding → Holding → Type 0) (a b c : S) (id sender message : List ℕ) (d d1 : Desk)
@@ -69,6 +82,27 @@ tried_line id sender message line k k1 first d d1 before known decision change b
     ∙ keeps-also id sender message k (kept_also id sender message decision.outcome k) before m.outcomes line decision.outcome b.kept_are
     refl outs first at_first in
     λ i. (desk i, kept i)
+
+-- a line at which the store failed, since an earlier moment
+pub failed_since : {S : Type 0} (leaves : S → Holding → Holding → Type 0) (kept honest : S → Type 0) (earlier a b c : S)
+    (id sender message line : List ℕ) (k k1 now : Keeping) (d d1 new : Desk) (before : List Entry) (known named : Names)
+    (decision : Decision) (change : Option Change) → k1 ≡ k → change ≡ decision.change
+    → Holds kept honest earlier a (IsBegun id sender message k before known)
+    → Asks kept honest leaves a b ((HaveNumbers known → IsDecision sender d before line decision × HaveNumbers named) × (d1 ≡ d))
+    → Holds kept honest earlier c ((new ≡ d1) × (now ≡ k1))
+    → Holds kept honest earlier c ((old : Holding) → leaves b old old
+    → leaves c old (with_change change d1, kept_also id sender message decision.outcome k1))
+    → (honest c → honest b)
+    → Holds kept honest earlier c ((first : Keeping) → k ≡ kept_with id sender message (outcomes_in before) first
+    → LeavesTried leaves a c (d, k) (new, now)
+    (held_by id sender message first (takes sender (machine d before) line (reading line))))
+failed_since leaves kept honest earlier a b c id sender message line k k1 now d d1 new before known named decision change stays is x y z left back =
+    carry (holds_both x (asked_left y)) (holds_pair z left) back
+    (λ p q first at_first.
+    left_failed leaves a b c d d1 new k k1 now (with_change change d1, kept_also id sender message decision.outcome k1)
+    (held_by id sender message first (takes sender (machine d before) line (reading line))) p.1.0.1 stays q.0.0 q.0.1
+    (tried_line id sender message line k k1 first d d1 before known decision change p.0 (p.1.0.0 p.0.numbers).0 stays p.1.0.1 is at_first)
+    p.1.1 q.1)
 
 -- what was kept as the message began
 pub own_first : (id sender message : List ℕ) (k : Keeping) (before : List Entry) (known : Names) → IsBegun id sender message k before known

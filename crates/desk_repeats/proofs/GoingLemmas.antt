@@ -20,6 +20,7 @@ use Rattle.desk_messages.specs.declared.command_decision.Decision.{Decision}
 use Rattle.desk_messages.proofs.MachineLemmas.{after_append, after_ended}
 use Rattle.message_progress.proofs.EndLemmas.{never_store}
 use Rattle.desk_store.specs.Store.{Holds, MayBeKept, with_change}
+use Rattle.desk_store.proofs.HoldsLemmas.{holds_then, holds_both}
 use Rattle.bug_record.specs.declared.outcome.Outcome.{Outcome}
 use Rattle.bug_record.specs.declared.outcome.End.{End}
 use Rattle.bug_record.specs.declared.outcome.End.TheVariants as ends
@@ -267,6 +268,33 @@ may-keep id sender message line k k1 d d1 before known later decision change nam
       good = h.0.good;
       next = next-of id sender message line k k1 d d1 before known decision named b on at h.0 same_kept p.1;
     })
+
+-- the same at a call, since an earlier moment
+pub may-keep-since : {S : Type 0} (kept honest : S → Type 0) (earlier a b : S) (id sender message line : List ℕ) (k k1 : Keeping)
+    (d d1 : Desk) (before : List Entry) (known later : Names) (decision : Decision) (change : Option Change) → IsId id
+    → end_of before ≡ ends.All → slice_get (lines_told (lines_of message)) (length before) ≡ Some line → k1 ≡ k
+    → change ≡ decision.change → Holds kept honest earlier a (IsBegun id sender message k before known)
+    → Holds kept honest a b ((HaveNumbers known → IsDecision sender d before line decision × HaveNumbers later) × (d1 ≡ d))
+    → Holds kept honest earlier b (MayBeKept id sender message k1 d1 decision.outcome change)
+may-keep-since kept honest earlier a b id sender message line k k1 d d1 before known later decision change named on at same_kept is x y =
+    holds_then x y
+    (λ p q. may-keep id sender message line k k1 d d1 before known later decision change named p on at q same_kept is)
+
+-- a line taken, since an earlier moment
+pub takes-since : {S : Type 0} (kept honest : S → Type 0) (earlier a b c : S) (id sender message line text : List ℕ)
+    (k k1 now : Keeping) (d d1 new : Desk) (before room after : List Entry) (known named later : Names) (decision : Decision)
+    (change : Option Change) → slice_get (lines_told (lines_of message)) (length before) ≡ Some line → k1 ≡ k
+    → change ≡ decision.change → later ≡ named → room ≡ before → text ≡ line → after ≡ room ++ (text, decision.outcome) ∷ []
+    → Holds kept honest earlier a (IsBegun id sender message k before known)
+    → Holds kept honest a b ((HaveNumbers known → IsDecision sender d before line decision × HaveNumbers named) × (d1 ≡ d))
+    → Holds kept honest earlier c ((new ≡ with_change change d1) × (now ≡ kept_also id sender message decision.outcome k1))
+    → (honest c → honest b) → Holds kept honest earlier c (TakesOn id sender message d new k now before after later line)
+takes-since kept honest earlier a b c id sender message line text k k1 now d d1 new before room after known named later decision change at same_kept is names r t pushed x y z back =
+    carry (holds_both x y) z back
+    (λ p q.
+    let decided = p.1.0 p.0.numbers in
+    takes-on id sender message line text k k1 now d d1 new before room after known named later decision p.0 at decided.0 same_kept p.1.1
+    decided.1 names r t pushed (q.0 ∙ ap (λ (o : Option Change). with_change o d1) is) q.1)
 
 pub length-some : (before room after : List Entry) (line : List ℕ) (entry : Entry) → true ≡ has_outcome line → room ≡ before
     → after ≡ room ++ entry ∷ [] → length after ≡ length before + length (lines_told (line ∷ []))
