@@ -60,10 +60,7 @@ fn copy_of(node: &Node) -> Result<Node, StoreFault>
     ensures value { IfOk result (λ n. n ≡ node.now) }
     ensures sure { IfErr result (λ fault. fault ≢ Foreign) }
 {
-    match node.copy() {
-        Ok(node) => Ok(node),
-        Err(_) => Err(StoreFault::Memory),
-    }
+    Ok(node.copy()?)
 }
 
 // The same, as one that is there.
@@ -71,10 +68,7 @@ fn some_copy_of(node: &Node) -> Result<Option<Node>, StoreFault>
     ensures value { IfOk result (λ n. n ≡ Some node.now) }
     ensures sure { IfErr result (λ fault. fault ≢ Foreign) }
 {
-    match copy_of(node) {
-        Ok(node) => Ok(Some(node)),
-        Err(fault) => Err(fault),
-    }
+    Ok(Some(copy_of(node)?))
 }
 
 // The node in a row, which shares the texts of this one, where it is the same.

@@ -60,10 +60,7 @@ fn message_of(alloc: Global, rows: &[Row]) -> Result<Option<SentMessage>, StoreF
 {
     match rows {
         [] => Ok(None),
-        [row, ..] => match message_in(alloc, row) {
-            Ok(message) => Ok(Some(message)),
-            Err(fault) => Err(fault),
-        },
+        [row, ..] => Ok(Some(message_in(alloc, row)?)),
     }
 }
 

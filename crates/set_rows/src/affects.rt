@@ -58,10 +58,8 @@ fn add_name(names: &mut Names, name: Text) -> Result<(), StoreFault>
     ensures value { OnOk result (names.new ≡ with_name names.old name) }
     ensures sure { IfErr result (λ fault. fault ≢ Foreign) }
 {
-    match names.add_ordered(name) {
-        Ok(()) => Ok(()),
-        Err(_) => Err(StoreFault::Memory),
-    }
+    names.add_ordered(name)?;
+    Ok(())
 }
 
 // The package of one more row.

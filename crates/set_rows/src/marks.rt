@@ -77,14 +77,11 @@ fn add_marked(marks: &mut Marks, kind: MarkKind, node: Node) -> Result<(), Store
     ensures value { OnOk result (marks.new ≡ with_marked marks.old kind node) }
     ensures sure { IfErr result (λ fault. fault ≢ Foreign) }
 {
-    let added = match kind {
-        MarkKind::Found => marks.found.add_node(node),
-        MarkKind::Fixed => marks.fixed.add_node(node),
-    };
-    match added {
-        Ok(()) => Ok(()),
-        Err(_) => Err(StoreFault::Memory),
+    match kind {
+        MarkKind::Found => marks.found.add_node(node)?,
+        MarkKind::Fixed => marks.fixed.add_node(node)?,
     }
+    Ok(())
 }
 
 // The mark of one more row.

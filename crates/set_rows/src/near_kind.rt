@@ -49,10 +49,7 @@ fn kind_in(rows: &[Row]) -> Result<Option<MarkKind>, StoreFault>
 {
     match rows {
         [] => Ok(None),
-        [row, ..] => match kind_of(row) {
-            Ok(kind) => Ok(Some(kind)),
-            Err(fault) => Err(fault),
-        },
+        [row, ..] => Ok(Some(kind_of(row)?)),
     }
 }
 

@@ -109,10 +109,7 @@ fn tags_at(alloc: Global, row: &Row, at: usize) -> Result<Tags, StoreFault>
     ensures value { (n : ℕ) → column row.now at ≡ Int (pos n) → IfOk result (λ tags. tags ≡ tags_in n) }
     ensures sure { (n : ℕ) → at < length row.now → column row.now at ≡ Int (pos n) → IfErr result (λ fault. fault ≢ Foreign) }
 {
-    match tags_of_number(alloc, number_at(row, at)?) {
-        Ok(tags) => Ok(tags),
-        Err(_) => Err(StoreFault::Memory),
-    }
+    Ok(tags_of_number(alloc, number_at(row, at)?)?)
 }
 
 // The fields in a row.
@@ -145,10 +142,7 @@ fn fields_in(alloc: Global, rows: &[Row]) -> Result<Option<SetFields>, StoreFaul
 {
     match rows {
         [] => Ok(None),
-        [row, ..] => match fields_of(alloc, row) {
-            Ok(fields) => Ok(Some(fields)),
-            Err(fault) => Err(fault),
-        },
+        [row, ..] => Ok(Some(fields_of(alloc, row)?)),
     }
 }
 
