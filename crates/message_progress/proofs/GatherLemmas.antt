@@ -215,6 +215,13 @@ meets-listed bugs images l [] = refl
 meets-listed bugs images l (m ∷ ms) =
     ap (λ t. t || meets bugs ms) (l m.number) ∙ ap (λ t. is_gathered images m.number || t) (meets-listed bugs images l ms)
 
+-- a test of equal lists
+pub meets-equal : (images listed : List SetImage) (ms members : List Member) (t : Bool) → listed ≡ images → members ≡ ms
+    → t ≡ meets (is_gathered listed) members → t ≡ meets (is_gathered images) ms
+meets-equal images listed ms members t e f h =
+    h ∙ ap (λ (z : List SetImage). meets (is_gathered z) members) e
+    ∙ ap (λ (z : List Member). meets (is_gathered images) z) f
+
 -- a number more
 pub number-more : (old new : BTreeSet ℕ) (ms : List Member) (k : ℕ) (m : Member) → k < length ms → m ≡ get_or ms k m
     → ((n : ℕ) → contains nat_cmp new n ≡ cond (is_eq (nat_cmp m.number n)) true (contains nat_cmp old n))

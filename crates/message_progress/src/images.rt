@@ -7,13 +7,32 @@ ghost use Rattle.bug_record.specs.Sets.{has};
 ghost use Rattle.bug_record.specs.Images.{numbers_of, AreApart};
 ghost use Rattle.bug_record.specs.Commands.{bugs_named};
 ghost use Rattle.desk_store.specs.Store.{Asks, Answers, faults_after};
-ghost use Rattle.message_progress.specs.Images.{meets, Lists, Gather, ShowBugs};
+ghost use Rattle.message_progress.specs.Images.{is_gathered, meets, Lists, Gather, ShowBugs};
 
 use bug_record::{Command, Member, Sequence, SetImage, StoreFault};
 use desk_store::Records;
 use set_images::{bug_named, other_bugs};
 use std::alloc::{AllocError, Global};
 use std::collections::BTreeSet;
+
+// Up to so many members are looked for one by one; for more a set of the bugs is made first.
+const FEW: usize = 4;
+
+// Whether one of the images has the bug.
+fn is_gathered(images: &[SetImage], number: u64) -> bool
+    ensures { result ≡ is_gathered images.now number }
+{
+    images.iter().any(|image| image.has(number))
+}
+
+// Whether one of the images has one of the members.
+fn any_is_gathered(images: &[SetImage], members: &[Member]) -> bool
+    ensures { result ≡ meets (is_gathered images.now) members.now }
+{
+    members
+        .iter()
+        .any(|member| is_gathered(images, member.number))
+}
 
 /// Whether one of the members is one of the bugs.
 pub(crate) fn meets(bugs: &BTreeSet<u64>, members: &[Member]) -> bool
@@ -42,6 +61,46 @@ fn bugs_of(alloc: Global, images: &[SetImage]) -> Result<BTreeSet<u64>, AllocErr
         add_members(&mut bugs, image.members.as_slice())?;
     }
     Ok(bugs)
+}
+
+// The same, with a set of the images' bugs where there are more than a few members.
+fn share_a_bug(alloc: Global, images: &[SetImage], members: &[Member]) -> Result<bool, AllocError>
+    ensures { IfOk result (λ share. share ≡ meets (is_gathered images.now) members.now) }
+{
+    if members.len() <= FEW {
+        return Ok(any_is_gathered(images, members));
+    }
+    let bugs = bugs_of(alloc, images)?;
+    Ok(meets(&bugs, members))
+}
+
+// Adds the image of the set that the bug is in, if there is one, unless one of the images has the
+// bug.
+// One that shares a bug with them is left out: no desk has such sets.
+fn gather_one<S: Records>(
+    alloc: Global,
+    store: &mut S,
+    images: &mut Sequence<SetImage>,
+    number: u64,
+) -> Result<(), StoreFault>
+    requires { AreApart images.old }
+    ensures answer { Asks S.is_kept S.is_honest S.leaves store.old store.new
+        (Answers (S.desk store.old) (S.desk store.new) result
+        (λ _. Gather (S.desk store.old) (number ∷ []) images.old images.new)) }
+    ensures apart { OnOk result (AreApart images.new) }
+    ensures stays { S.keeping store.new ≡ S.keeping store.old }
+    ensures count { S.faults store.new ≡ faults_after result (S.faults store.old) }
+{
+    if is_gathered(images.as_slice(), number) {
+        return Ok(());
+    }
+    let Some(other) = store.set_of(number)? else {
+        return Ok(());
+    };
+    if share_a_bug(alloc, images.as_slice(), other.members.as_slice())? {
+        return Ok(());
+    }
+    Ok(images.push(other)?)
 }
 
 // Adds an image, and its bugs to those of the images.
@@ -111,6 +170,28 @@ fn gather_all<S: Records>(
     Ok(())
 }
 
+// The same, of images whose bugs stand in no set; for one bug none is made.
+fn gather_others<S: Records>(
+    alloc: Global,
+    store: &mut S,
+    images: &mut Sequence<SetImage>,
+    numbers: &[u64],
+) -> Result<(), StoreFault>
+    requires { AreApart images.old }
+    ensures answer { Asks S.is_kept S.is_honest S.leaves store.old store.new
+        (Answers (S.desk store.old) (S.desk store.new) result
+        (λ _. Gather (S.desk store.old) numbers.now images.old images.new)) }
+    ensures apart { OnOk result (AreApart images.new) }
+    ensures stays { S.keeping store.new ≡ S.keeping store.old }
+    ensures count { S.faults store.new ≡ faults_after result (S.faults store.old) }
+{
+    if let [number] = numbers {
+        return gather_one(alloc, store, images, *number);
+    }
+    let mut bugs = bugs_of(alloc, images.as_slice())?;
+    gather_all(store, images, &mut bugs, numbers)
+}
+
 // The image alone.
 fn only_image(alloc: Global, image: SetImage) -> Result<Sequence<SetImage>, AllocError>
     ensures { IfOk result (λ images. images ≡ image ∷ []) }
@@ -154,7 +235,6 @@ pub(crate) fn images_of<S: Records>(
     if others.is_empty() {
         return Ok(images);
     }
-    let mut bugs = bugs_of(alloc, images.as_slice())?;
-    gather_all(store, &mut images, &mut bugs, others)?;
+    gather_others(alloc, store, &mut images, others)?;
     Ok(images)
 }
