@@ -5,6 +5,7 @@ pub mod PlanLemmas
 pub mod UnmergeLemmas
 pub mod MemberLemmas
 pub mod EntryLemmas
+pub mod MergedLemmas
 pub mod ListedLemmas
 pub mod NamedLemmas
 pub mod SharedLemmas

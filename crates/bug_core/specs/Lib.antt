@@ -5,5 +5,6 @@ pub mod Others
 pub mod Named
 pub mod Agreements
 pub mod Joins
+pub mod Merged
 pub mod Reports
 pub mod Clones

@@ -14,6 +14,7 @@ ghost use Rattle.bug_record.specs.Marks.{with_node};
 ghost use Rattle.bug_core.specs.Others.{those_meant};
 ghost use Rattle.bug_core.specs.Named.{named_numbers};
 
+use crate::by_number::joined_members;
 use crate::images::{Named, has_any};
 use bug_record::{
     Agreed, Member, Members, Sequence, SetImage, Shared, Tag, Tags, add_names, add_numbers,
@@ -91,30 +92,6 @@ fn add_nodes(set: &mut BTreeSet<Node>, nodes: &[Node]) -> Result<(), AllocError>
     Ok(())
 }
 
-// Adds a copy of the member, unless there is one of its number.
-fn add_member(map: &mut BTreeMap<u64, Member>, member: &Member) -> Result<(), AllocError>
-    requires keyed { AreByNumber map.old.entries }
-    ensures keyed { OnOk result (AreByNumber map.new.entries) }
-    ensures members { OnOk result (values map.new ≡ with_item number_of (values map.old) member.now) }
-{
-    if !map.contains_key(&member.number) {
-        map.insert(member.number, member.copy()?)?;
-    }
-    Ok(())
-}
-
-// Adds copies of the members.
-fn add_members(map: &mut BTreeMap<u64, Member>, members: &[Member]) -> Result<(), AllocError>
-    requires keyed { AreByNumber map.old.entries }
-    ensures keyed { OnOk result (AreByNumber map.new.entries) }
-    ensures members { OnOk result (values map.new ≡ with_items number_of (values map.old) members.now) }
-{
-    for member in members {
-        add_member(map, member)?;
-    }
-    Ok(())
-}
-
 // Puts the affected packages, the marks and the blockers that were gathered into the fields.
 fn put_gathered(
     alloc: Global,
@@ -174,34 +151,6 @@ impl Joined {
         )?;
         Ok(shared)
     }
-}
-
-// The members of all sets of the bugs, by number.
-fn members_by_number(
-    alloc: Global,
-    images: &[SetImage],
-    named: Named,
-) -> Result<BTreeMap<u64, Member>, AllocError>
-    ensures { IfOk result (λ map. values map ≡ with_members [] (those_meant (named_numbers named.entry) images.now)) }
-{
-    let mut map = BTreeMap::new(alloc);
-    for image in images {
-        if has_any(image, named) {
-            add_members(&mut map, image.members.as_slice())?;
-        }
-    }
-    Ok(map)
-}
-
-// The members of all sets of the bugs.
-fn joined_members(alloc: Global, images: &[SetImage], named: Named) -> Result<Members, AllocError>
-    ensures { IfOk result (λ ms. ms ≡ with_members [] (those_meant (named_numbers named.entry) images.now)) }
-{
-    let mut members = Sequence::new(alloc);
-    for member in members_by_number(alloc, images, named)?.into_values() {
-        members.push(member)?;
-    }
-    Members::of(members)
 }
 
 // Adds the tags, affected packages, marks and blockers of all sets of the bugs.

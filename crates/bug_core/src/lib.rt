@@ -4,6 +4,7 @@
 //! The values and definitions are those of `bug_record`, whose names stand here too.
 #![tactic(auto)]
 
+mod by_number;
 mod clones;
 mod images;
 mod joins;
