@@ -6,6 +6,7 @@ pub mod UnmergeLemmas
 pub mod MemberLemmas
 pub mod EntryLemmas
 pub mod MergedLemmas
+pub mod GatheredLemmas
 pub mod ListedLemmas
 pub mod NamedLemmas
 pub mod SharedLemmas

@@ -10,12 +10,12 @@ ghost use Rattle.bug_record.specs.Sets.{has, with_item, with_items};
 ghost use Rattle.bug_record.specs.Tags.{tag_place};
 ghost use Rattle.bug_core.specs.Joins.{with_nodes, with_members, with_shared, with_all_shared, gathered_shared};
 ghost use Rattle.bug_core.specs.Joins.{number_of, without_gathered, without_own, joined_image, AreByNumber};
-ghost use Rattle.bug_record.specs.Marks.{with_node};
 ghost use Rattle.bug_core.specs.Others.{those_meant};
 ghost use Rattle.bug_core.specs.Named.{named_numbers};
 
 use crate::by_number::joined_members;
 use crate::images::{Named, has_any};
+use crate::marks::Marks;
 use bug_record::{
     Agreed, Member, Members, Sequence, SetImage, Shared, Tag, Tags, add_names, add_numbers,
 };
@@ -24,7 +24,6 @@ use set_images::{Index, member_numbers};
 use std::alloc::{AllocError, Global};
 use std::collections::{BTreeMap, BTreeSet};
 use std::marker::Model;
-use version_nodes::Node;
 
 // Fields that are joined, which contracts see as such.
 // The affected packages, the marks and the blockers are kept apart from the others, so that one
@@ -33,8 +32,8 @@ use version_nodes::Node;
 struct Joined {
     shared: Shared,
     affects: BTreeSet<Text>,
-    found: BTreeSet<Node>,
-    fixed: BTreeSet<Node>,
+    found: Marks,
+    fixed: Marks,
     blockers: BTreeSet<u64>,
 }
 
@@ -43,7 +42,7 @@ impl Model for Joined {
 
     ghost Value = { Shared };
 
-    ghost view = { λ j. record j.shared { affects = j.affects.keys; found = j.found.keys; fixed = j.fixed.keys; blockers = j.blockers.keys } };
+    ghost view = { λ j. record j.shared { affects = j.affects.keys; found = j.found; fixed = j.fixed; blockers = j.blockers.keys } };
 }
 
 // The owner of a bug, if it is there and has one.
@@ -75,38 +74,21 @@ fn add_tags(set: &mut Tags, tags: &[Tag]) -> Result<(), AllocError>
     Ok(())
 }
 
-// Adds a copy of the node, unless it is there.
-fn add_node(set: &mut BTreeSet<Node>, node: &Node) -> Result<(), AllocError>
-    ensures { OnOk result (set.new.keys ≡ with_node set.old.keys node.now) }
-{
-    set.insert(node.copy()?)?;
-    Ok(())
-}
-
-fn add_nodes(set: &mut BTreeSet<Node>, nodes: &[Node]) -> Result<(), AllocError>
-    ensures { OnOk result (set.new.keys ≡ with_nodes set.old.keys nodes.now) }
-{
-    for node in nodes {
-        add_node(set, node)?;
-    }
-    Ok(())
-}
-
 // Puts the affected packages, the marks and the blockers that were gathered into the fields.
 fn put_gathered(
     alloc: Global,
     shared: &mut Shared,
     affects: BTreeSet<Text>,
-    found: BTreeSet<Node>,
-    fixed: BTreeSet<Node>,
+    found: Marks,
+    fixed: Marks,
     blockers: &BTreeSet<u64>,
 ) -> Result<(), AllocError>
     ensures { OnOk result
-        (shared.new ≡ record shared.old { affects = affects.keys; found = found.keys; fixed = fixed.keys; blockers = blockers.now.keys }) }
+        (shared.new ≡ record shared.old { affects = affects.keys; found = found; fixed = fixed; blockers = blockers.now.keys }) }
 {
     shared.affects = Sequence::of_set(alloc, affects)?;
-    shared.found = Sequence::of_set(alloc, found)?;
-    shared.fixed = Sequence::of_set(alloc, fixed)?;
+    shared.found = found.into_nodes(alloc)?;
+    shared.fixed = fixed.into_nodes(alloc)?;
     shared.blockers = Sequence::in_order(alloc, blockers)?;
     Ok(())
 }
@@ -119,20 +101,20 @@ impl Joined {
         Ok(Joined {
             shared: first.copy()?,
             affects: BTreeSet::new(alloc),
-            found: BTreeSet::new(alloc),
-            fixed: BTreeSet::new(alloc),
+            found: Marks::new(alloc),
+            fixed: Marks::new(alloc),
             blockers: BTreeSet::new(alloc),
         })
     }
 
     // Adds the tags, affected packages, marks and blockers of another set.
-    fn add_shared(&mut self, other: &Shared) -> Result<(), AllocError>
+    fn add_shared(&mut self, alloc: Global, other: &Shared) -> Result<(), AllocError>
         ensures { OnOk result (self.new ≡ with_shared self.old other.now) }
     {
         add_tags(&mut self.shared.tags, other.tags.as_slice())?;
         add_names(&mut self.affects, other.affects.as_slice())?;
-        add_nodes(&mut self.found, other.found.as_slice())?;
-        add_nodes(&mut self.fixed, other.fixed.as_slice())?;
+        self.found.add(alloc, &other.found)?;
+        self.fixed.add(alloc, &other.fixed)?;
         add_numbers(&mut self.blockers, other.blockers.as_slice())
     }
 
@@ -154,12 +136,17 @@ impl Joined {
 }
 
 // Adds the tags, affected packages, marks and blockers of all sets of the bugs.
-fn add_all_shared(joined: &mut Joined, images: &[SetImage], named: Named) -> Result<(), AllocError>
+fn add_all_shared(
+    alloc: Global,
+    joined: &mut Joined,
+    images: &[SetImage],
+    named: Named,
+) -> Result<(), AllocError>
     ensures { OnOk result (joined.new ≡ with_all_shared joined.old (those_meant (named_numbers named.entry) images.now)) }
 {
     for image in images {
         if has_any(image, named) {
-            joined.add_shared(image.shared.fields())?;
+            joined.add_shared(alloc, image.shared.fields())?;
         }
     }
     Ok(())
@@ -176,7 +163,7 @@ fn joined_shared(
         (λ f. f ≡ with_all_shared (without_gathered first.now) (those_meant (named_numbers named.entry) images.now)) }
 {
     let mut joined = Joined::new(alloc, first)?;
-    add_all_shared(&mut joined, images, named)?;
+    add_all_shared(alloc, &mut joined, images, named)?;
     joined.into_shared(alloc)
 }
 
