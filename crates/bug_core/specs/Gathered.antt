@@ -13,7 +13,7 @@ abbrev pub comes_after : Option Node → Node → Bool
 comes_after None n = true
 comes_after (Some m) n = is_lt (node_cmp m n)
 
--- whether each node stands once, in node order, from after the last one before them, if there is one
+-- whether each node stands once, in node order, and after the last one before them, if there is one
 abbrev pub is_ordered : Option Node → List Node → Bool
 is_ordered last [] = true
 is_ordered last (n ∷ ns) = comes_after last n && is_ordered (Some n) ns

@@ -15,12 +15,13 @@ ghost use Rattle.bug_core.specs.Named.{named_numbers};
 
 use crate::by_number::joined_members;
 use crate::images::{Named, has_any};
+use crate::lookup::Lookup;
 use crate::marks::Marks;
 use bug_record::{
     Agreed, Member, Members, Sequence, SetImage, Shared, Tag, Tags, add_names, add_numbers,
 };
 use debver::Text;
-use set_images::{Index, member_numbers};
+use set_images::member_numbers;
 use std::alloc::{AllocError, Global};
 use std::collections::{BTreeMap, BTreeSet};
 use std::marker::Model;
@@ -46,19 +47,19 @@ impl Model for Joined {
 }
 
 // The owner of a bug, if it is there and has one.
-fn owner_of<'a>(index: &'a Index, number: u64) -> Option<&'a Text>
-    ensures { option_copied result ≡ first_owner (bugs_at (bug_in index.now) (number ∷ [])) }
+fn owner_of<'a>(lookup: &'a Lookup, number: u64) -> Option<&'a Text>
+    ensures { option_copied result ≡ first_owner (bugs_at (bug_in lookup.now) (number ∷ [])) }
 {
-    let (image, _) = index.find_bug(number)?;
+    let (image, _) = lookup.find_bug(number)?;
     image.shared.fields().owner.as_ref()
 }
 
 // A copy of the owner of the first bug that has one.
-fn first_owner(index: &Index, numbers: &[u64]) -> Result<Option<Text>, AllocError>
-    ensures { IfOk result (λ owner. owner ≡ first_owner (bugs_at (bug_in index.now) numbers.now)) }
+fn first_owner(lookup: &Lookup, numbers: &[u64]) -> Result<Option<Text>, AllocError>
+    ensures { IfOk result (λ owner. owner ≡ first_owner (bugs_at (bug_in lookup.now) numbers.now)) }
 {
     for number in numbers {
-        if let Some(owner) = owner_of(index, *number) {
+        if let Some(owner) = owner_of(lookup, *number) {
             return Ok(Some(owner.copy()?));
         }
     }
@@ -168,11 +169,11 @@ fn joined_shared(
 }
 
 // Puts the owner of the first of the bugs that has one into the fields.
-fn put_owner(shared: &mut Shared, index: &Index, numbers: &[u64]) -> Result<(), AllocError>
+fn put_owner(shared: &mut Shared, lookup: &Lookup, numbers: &[u64]) -> Result<(), AllocError>
     ensures { OnOk result
-        (shared.new ≡ record shared.old { owner = first_owner (bugs_at (bug_in index.now) numbers.now) }) }
+        (shared.new ≡ record shared.old { owner = first_owner (bugs_at (bug_in lookup.now) numbers.now) }) }
 {
-    shared.owner = first_owner(index, numbers)?;
+    shared.owner = first_owner(lookup, numbers)?;
     Ok(())
 }
 
@@ -193,14 +194,14 @@ fn drop_own(alloc: Global, shared: &mut Shared, members: &[Member]) -> Result<()
 fn settle(
     alloc: Global,
     shared: &mut Shared,
-    index: &Index,
+    lookup: &Lookup,
     numbers: &[u64],
     members: &[Member],
 ) -> Result<(), AllocError>
     ensures { OnOk result (shared.new
-        ≡ without_own members.now (record shared.old { owner = first_owner (bugs_at (bug_in index.now) numbers.now) })) }
+        ≡ without_own members.now (record shared.old { owner = first_owner (bugs_at (bug_in lookup.now) numbers.now) })) }
 {
-    put_owner(shared, index, numbers)?;
+    put_owner(shared, lookup, numbers)?;
     drop_own(alloc, shared, members)
 }
 
@@ -209,40 +210,40 @@ fn settle(
 fn gathered_shared(
     alloc: Global,
     first: &Shared,
-    index: &Index,
+    lookup: &Lookup,
     images: &[SetImage],
     numbers: &[u64],
     named: Named,
     members: &[Member],
 ) -> Result<Agreed, AllocError>
-    requires images { index.now ≡ images.now }
+    requires images { lookup.now ≡ images.now }
     requires named { (n : ℕ) → has (named_numbers named) n ≡ has numbers.now n }
     ensures { IfOk result (λ f. f ≡ without_own members.now (gathered_shared first.now images.now numbers.now)) }
 {
     let mut shared = joined_shared(alloc, first, images, named)?;
-    settle(alloc, &mut shared, index, numbers, members)?;
+    settle(alloc, &mut shared, lookup, numbers, members)?;
     Agreed::of(alloc, shared)
 }
 
 /// The image of the set that the bugs' sets become: with the fields of the first one, the tags,
 /// affected packages and marks of all, the blockers of all but for those that are in the set, and
 /// the owner of the first bug that has one.
-/// The index is that of the images, and the set is that of the numbers.
+/// The bugs are looked up in the images, and the set is that of the numbers.
 pub(crate) fn joined_image(
     alloc: Global,
     first: &Shared,
-    index: &Index,
+    lookup: &Lookup,
     images: &[SetImage],
     numbers: &[u64],
     set: &BTreeSet<u64>,
 ) -> Result<SetImage, AllocError>
-    requires images { index.now ≡ images.now }
+    requires images { lookup.now ≡ images.now }
     requires set { (n : ℕ) → has set.now.keys n ≡ has numbers.now n }
     ensures { IfOk result (λ i. i ≡ joined_image first.now images.now numbers.now) }
 {
     let named = Named::Several(set);
     let members = joined_members(alloc, images, named)?;
     let own = members.as_slice();
-    let shared = gathered_shared(alloc, first, index, images, numbers, named, own)?;
+    let shared = gathered_shared(alloc, first, lookup, images, numbers, named, own)?;
     Ok(SetImage { shared, members })
 }

@@ -8,6 +8,7 @@ mod by_number;
 mod clones;
 mod images;
 mod joins;
+mod lookup;
 mod marks;
 mod merges;
 mod plans;
