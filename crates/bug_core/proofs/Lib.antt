@@ -5,6 +5,8 @@ pub mod PlanLemmas
 pub mod UnmergeLemmas
 pub mod MemberLemmas
 pub mod EntryLemmas
+pub mod MergedLemmas
+pub mod GatheredLemmas
 pub mod ListedLemmas
 pub mod NamedLemmas
 pub mod SharedLemmas

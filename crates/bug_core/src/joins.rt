@@ -10,20 +10,21 @@ ghost use Rattle.bug_record.specs.Sets.{has, with_item, with_items};
 ghost use Rattle.bug_record.specs.Tags.{tag_place};
 ghost use Rattle.bug_core.specs.Joins.{with_nodes, with_members, with_shared, with_all_shared, gathered_shared};
 ghost use Rattle.bug_core.specs.Joins.{number_of, without_gathered, without_own, joined_image, AreByNumber};
-ghost use Rattle.bug_record.specs.Marks.{with_node};
 ghost use Rattle.bug_core.specs.Others.{those_meant};
 ghost use Rattle.bug_core.specs.Named.{named_numbers};
 
+use crate::by_number::joined_members;
 use crate::images::{Named, has_any};
+use crate::lookup::Lookup;
+use crate::marks::Marks;
 use bug_record::{
     Agreed, Member, Members, Sequence, SetImage, Shared, Tag, Tags, add_names, add_numbers,
 };
 use debver::Text;
-use set_images::{Index, member_numbers};
+use set_images::member_numbers;
 use std::alloc::{AllocError, Global};
 use std::collections::{BTreeMap, BTreeSet};
 use std::marker::Model;
-use version_nodes::Node;
 
 // Fields that are joined, which contracts see as such.
 // The affected packages, the marks and the blockers are kept apart from the others, so that one
@@ -32,8 +33,8 @@ use version_nodes::Node;
 struct Joined {
     shared: Shared,
     affects: BTreeSet<Text>,
-    found: BTreeSet<Node>,
-    fixed: BTreeSet<Node>,
+    found: Marks,
+    fixed: Marks,
     blockers: BTreeSet<u64>,
 }
 
@@ -42,23 +43,23 @@ impl Model for Joined {
 
     ghost Value = { Shared };
 
-    ghost view = { λ j. record j.shared { affects = j.affects.keys; found = j.found.keys; fixed = j.fixed.keys; blockers = j.blockers.keys } };
+    ghost view = { λ j. record j.shared { affects = j.affects.keys; found = j.found; fixed = j.fixed; blockers = j.blockers.keys } };
 }
 
 // The owner of a bug, if it is there and has one.
-fn owner_of<'a>(index: &'a Index, number: u64) -> Option<&'a Text>
-    ensures { option_copied result ≡ first_owner (bugs_at (bug_in index.now) (number ∷ [])) }
+fn owner_of<'a>(lookup: &'a Lookup, number: u64) -> Option<&'a Text>
+    ensures { option_copied result ≡ first_owner (bugs_at (bug_in lookup.now) (number ∷ [])) }
 {
-    let (image, _) = index.find_bug(number)?;
+    let (image, _) = lookup.find_bug(number)?;
     image.shared.fields().owner.as_ref()
 }
 
 // A copy of the owner of the first bug that has one.
-fn first_owner(index: &Index, numbers: &[u64]) -> Result<Option<Text>, AllocError>
-    ensures { IfOk result (λ owner. owner ≡ first_owner (bugs_at (bug_in index.now) numbers.now)) }
+fn first_owner(lookup: &Lookup, numbers: &[u64]) -> Result<Option<Text>, AllocError>
+    ensures { IfOk result (λ owner. owner ≡ first_owner (bugs_at (bug_in lookup.now) numbers.now)) }
 {
     for number in numbers {
-        if let Some(owner) = owner_of(index, *number) {
+        if let Some(owner) = owner_of(lookup, *number) {
             return Ok(Some(owner.copy()?));
         }
     }
@@ -74,62 +75,21 @@ fn add_tags(set: &mut Tags, tags: &[Tag]) -> Result<(), AllocError>
     Ok(())
 }
 
-// Adds a copy of the node, unless it is there.
-fn add_node(set: &mut BTreeSet<Node>, node: &Node) -> Result<(), AllocError>
-    ensures { OnOk result (set.new.keys ≡ with_node set.old.keys node.now) }
-{
-    set.insert(node.copy()?)?;
-    Ok(())
-}
-
-fn add_nodes(set: &mut BTreeSet<Node>, nodes: &[Node]) -> Result<(), AllocError>
-    ensures { OnOk result (set.new.keys ≡ with_nodes set.old.keys nodes.now) }
-{
-    for node in nodes {
-        add_node(set, node)?;
-    }
-    Ok(())
-}
-
-// Adds a copy of the member, unless there is one of its number.
-fn add_member(map: &mut BTreeMap<u64, Member>, member: &Member) -> Result<(), AllocError>
-    requires keyed { AreByNumber map.old.entries }
-    ensures keyed { OnOk result (AreByNumber map.new.entries) }
-    ensures members { OnOk result (values map.new ≡ with_item number_of (values map.old) member.now) }
-{
-    if !map.contains_key(&member.number) {
-        map.insert(member.number, member.copy()?)?;
-    }
-    Ok(())
-}
-
-// Adds copies of the members.
-fn add_members(map: &mut BTreeMap<u64, Member>, members: &[Member]) -> Result<(), AllocError>
-    requires keyed { AreByNumber map.old.entries }
-    ensures keyed { OnOk result (AreByNumber map.new.entries) }
-    ensures members { OnOk result (values map.new ≡ with_items number_of (values map.old) members.now) }
-{
-    for member in members {
-        add_member(map, member)?;
-    }
-    Ok(())
-}
-
 // Puts the affected packages, the marks and the blockers that were gathered into the fields.
 fn put_gathered(
     alloc: Global,
     shared: &mut Shared,
     affects: BTreeSet<Text>,
-    found: BTreeSet<Node>,
-    fixed: BTreeSet<Node>,
+    found: Marks,
+    fixed: Marks,
     blockers: &BTreeSet<u64>,
 ) -> Result<(), AllocError>
     ensures { OnOk result
-        (shared.new ≡ record shared.old { affects = affects.keys; found = found.keys; fixed = fixed.keys; blockers = blockers.now.keys }) }
+        (shared.new ≡ record shared.old { affects = affects.keys; found = found; fixed = fixed; blockers = blockers.now.keys }) }
 {
     shared.affects = Sequence::of_set(alloc, affects)?;
-    shared.found = Sequence::of_set(alloc, found)?;
-    shared.fixed = Sequence::of_set(alloc, fixed)?;
+    shared.found = found.into_nodes(alloc)?;
+    shared.fixed = fixed.into_nodes(alloc)?;
     shared.blockers = Sequence::in_order(alloc, blockers)?;
     Ok(())
 }
@@ -142,20 +102,20 @@ impl Joined {
         Ok(Joined {
             shared: first.copy()?,
             affects: BTreeSet::new(alloc),
-            found: BTreeSet::new(alloc),
-            fixed: BTreeSet::new(alloc),
+            found: Marks::new(alloc),
+            fixed: Marks::new(alloc),
             blockers: BTreeSet::new(alloc),
         })
     }
 
     // Adds the tags, affected packages, marks and blockers of another set.
-    fn add_shared(&mut self, other: &Shared) -> Result<(), AllocError>
+    fn add_shared(&mut self, alloc: Global, other: &Shared) -> Result<(), AllocError>
         ensures { OnOk result (self.new ≡ with_shared self.old other.now) }
     {
         add_tags(&mut self.shared.tags, other.tags.as_slice())?;
         add_names(&mut self.affects, other.affects.as_slice())?;
-        add_nodes(&mut self.found, other.found.as_slice())?;
-        add_nodes(&mut self.fixed, other.fixed.as_slice())?;
+        self.found.add(alloc, &other.found)?;
+        self.fixed.add(alloc, &other.fixed)?;
         add_numbers(&mut self.blockers, other.blockers.as_slice())
     }
 
@@ -176,41 +136,18 @@ impl Joined {
     }
 }
 
-// The members of all sets of the bugs, by number.
-fn members_by_number(
+// Adds the tags, affected packages, marks and blockers of all sets of the bugs.
+fn add_all_shared(
     alloc: Global,
+    joined: &mut Joined,
     images: &[SetImage],
     named: Named,
-) -> Result<BTreeMap<u64, Member>, AllocError>
-    ensures { IfOk result (λ map. values map ≡ with_members [] (those_meant (named_numbers named.entry) images.now)) }
-{
-    let mut map = BTreeMap::new(alloc);
-    for image in images {
-        if has_any(image, named) {
-            add_members(&mut map, image.members.as_slice())?;
-        }
-    }
-    Ok(map)
-}
-
-// The members of all sets of the bugs.
-fn joined_members(alloc: Global, images: &[SetImage], named: Named) -> Result<Members, AllocError>
-    ensures { IfOk result (λ ms. ms ≡ with_members [] (those_meant (named_numbers named.entry) images.now)) }
-{
-    let mut members = Sequence::new(alloc);
-    for member in members_by_number(alloc, images, named)?.into_values() {
-        members.push(member)?;
-    }
-    Members::of(members)
-}
-
-// Adds the tags, affected packages, marks and blockers of all sets of the bugs.
-fn add_all_shared(joined: &mut Joined, images: &[SetImage], named: Named) -> Result<(), AllocError>
+) -> Result<(), AllocError>
     ensures { OnOk result (joined.new ≡ with_all_shared joined.old (those_meant (named_numbers named.entry) images.now)) }
 {
     for image in images {
         if has_any(image, named) {
-            joined.add_shared(image.shared.fields())?;
+            joined.add_shared(alloc, image.shared.fields())?;
         }
     }
     Ok(())
@@ -227,16 +164,16 @@ fn joined_shared(
         (λ f. f ≡ with_all_shared (without_gathered first.now) (those_meant (named_numbers named.entry) images.now)) }
 {
     let mut joined = Joined::new(alloc, first)?;
-    add_all_shared(&mut joined, images, named)?;
+    add_all_shared(alloc, &mut joined, images, named)?;
     joined.into_shared(alloc)
 }
 
 // Puts the owner of the first of the bugs that has one into the fields.
-fn put_owner(shared: &mut Shared, index: &Index, numbers: &[u64]) -> Result<(), AllocError>
+fn put_owner(shared: &mut Shared, lookup: &Lookup, numbers: &[u64]) -> Result<(), AllocError>
     ensures { OnOk result
-        (shared.new ≡ record shared.old { owner = first_owner (bugs_at (bug_in index.now) numbers.now) }) }
+        (shared.new ≡ record shared.old { owner = first_owner (bugs_at (bug_in lookup.now) numbers.now) }) }
 {
-    shared.owner = first_owner(index, numbers)?;
+    shared.owner = first_owner(lookup, numbers)?;
     Ok(())
 }
 
@@ -257,14 +194,14 @@ fn drop_own(alloc: Global, shared: &mut Shared, members: &[Member]) -> Result<()
 fn settle(
     alloc: Global,
     shared: &mut Shared,
-    index: &Index,
+    lookup: &Lookup,
     numbers: &[u64],
     members: &[Member],
 ) -> Result<(), AllocError>
     ensures { OnOk result (shared.new
-        ≡ without_own members.now (record shared.old { owner = first_owner (bugs_at (bug_in index.now) numbers.now) })) }
+        ≡ without_own members.now (record shared.old { owner = first_owner (bugs_at (bug_in lookup.now) numbers.now) })) }
 {
-    put_owner(shared, index, numbers)?;
+    put_owner(shared, lookup, numbers)?;
     drop_own(alloc, shared, members)
 }
 
@@ -273,40 +210,40 @@ fn settle(
 fn gathered_shared(
     alloc: Global,
     first: &Shared,
-    index: &Index,
+    lookup: &Lookup,
     images: &[SetImage],
     numbers: &[u64],
     named: Named,
     members: &[Member],
 ) -> Result<Agreed, AllocError>
-    requires images { index.now ≡ images.now }
+    requires images { lookup.now ≡ images.now }
     requires named { (n : ℕ) → has (named_numbers named) n ≡ has numbers.now n }
     ensures { IfOk result (λ f. f ≡ without_own members.now (gathered_shared first.now images.now numbers.now)) }
 {
     let mut shared = joined_shared(alloc, first, images, named)?;
-    settle(alloc, &mut shared, index, numbers, members)?;
+    settle(alloc, &mut shared, lookup, numbers, members)?;
     Agreed::of(alloc, shared)
 }
 
 /// The image of the set that the bugs' sets become: with the fields of the first one, the tags,
 /// affected packages and marks of all, the blockers of all but for those that are in the set, and
 /// the owner of the first bug that has one.
-/// The index is that of the images, and the set is that of the numbers.
+/// The bugs are looked up in the images, and the set is that of the numbers.
 pub(crate) fn joined_image(
     alloc: Global,
     first: &Shared,
-    index: &Index,
+    lookup: &Lookup,
     images: &[SetImage],
     numbers: &[u64],
     set: &BTreeSet<u64>,
 ) -> Result<SetImage, AllocError>
-    requires images { index.now ≡ images.now }
+    requires images { lookup.now ≡ images.now }
     requires set { (n : ℕ) → has set.now.keys n ≡ has numbers.now n }
     ensures { IfOk result (λ i. i ≡ joined_image first.now images.now numbers.now) }
 {
     let named = Named::Several(set);
     let members = joined_members(alloc, images, named)?;
     let own = members.as_slice();
-    let shared = gathered_shared(alloc, first, index, images, numbers, named, own)?;
+    let shared = gathered_shared(alloc, first, lookup, images, numbers, named, own)?;
     Ok(SetImage { shared, members })
 }

@@ -4,9 +4,12 @@
 //! The values and definitions are those of `bug_record`, whose names stand here too.
 #![tactic(auto)]
 
+mod by_number;
 mod clones;
 mod images;
 mod joins;
+mod lookup;
+mod marks;
 mod merges;
 mod plans;
 mod report;

@@ -10,8 +10,9 @@ ghost use Rattle.bug_core.specs.Planned.{IsPlannedOf};
 
 use crate::images::{Named, replace_by_one};
 use crate::joins::joined_image;
+use crate::lookup::{Lookup, first_refused};
 use bug_record::{Change, Field, Numbers, PlanFault, Refusal, SetImage, Shared, number_set};
-use set_images::{Index, archived_refusal, find_image, first_refused, same_text};
+use set_images::{archived_refusal, find_image, same_text};
 use std::alloc::{AllocError, Global};
 
 /// What has to be equal before bugs are merged.
@@ -43,10 +44,10 @@ fn difference(agreement: Agreement, first: &Shared, shared: &Shared) -> Option<F
 }
 
 // The refusal of a bug, if it is there and differs.
-fn differing(agreement: Agreement, first: &Shared, index: &Index, number: u64) -> Option<Refusal>
-    ensures { result ≡ differing (difference_of agreement first.now) (bug_in index.now number) number }
+fn differing(agreement: Agreement, first: &Shared, lookup: &Lookup, number: u64) -> Option<Refusal>
+    ensures { result ≡ differing (difference_of agreement first.now) (bug_in lookup.now number) number }
 {
-    let (image, _) = index.find_bug(number)?;
+    let (image, _) = lookup.find_bug(number)?;
     let field = difference(agreement, first, image.shared.fields())?;
     Some(Refusal::Differ(field, number))
 }
@@ -55,13 +56,13 @@ fn differing(agreement: Agreement, first: &Shared, index: &Index, number: u64) -
 fn first_differing(
     agreement: Agreement,
     first: &Shared,
-    index: &Index,
+    lookup: &Lookup,
     numbers: &[u64],
 ) -> Option<Refusal>
-    ensures { result ≡ first_refusal (differing (difference_of agreement first.now)) (bug_in index.now) numbers.now }
+    ensures { result ≡ first_refusal (differing (difference_of agreement first.now)) (bug_in lookup.now) numbers.now }
 {
     for number in numbers {
-        if let Some(refusal) = differing(agreement, first, index, *number) {
+        if let Some(refusal) = differing(agreement, first, lookup, *number) {
             return Some(refusal);
         }
     }
@@ -99,17 +100,17 @@ pub(crate) fn plan_merge(
     if let Some(refusal) = archived_refusal(false, first, shared) {
         return Err(PlanFault::Refused(refusal));
     }
-    let index = Index::of(alloc, images)?;
-    if let Some(refusal) = first_refused(&index, false, others) {
+    let lookup = Lookup::of(alloc, images, others.len())?;
+    if let Some(refusal) = first_refused(&lookup, others) {
         return Err(PlanFault::Refused(refusal));
     }
-    if let Some(refusal) = first_differing(agreement, shared, &index, others) {
+    if let Some(refusal) = first_differing(agreement, shared, &lookup, others) {
         return Err(PlanFault::Refused(refusal));
     }
     let numbers = all_numbers(alloc, first, others)?;
     let numbers = numbers.as_slice();
     let set = number_set(alloc, numbers)?;
-    let image = joined_image(alloc, shared, &index, images, numbers, &set)?;
+    let image = joined_image(alloc, shared, &lookup, images, numbers, &set)?;
     let named = Named::Several(&set);
     Ok(replace_by_one(alloc, image, images, named, next)?)
 }

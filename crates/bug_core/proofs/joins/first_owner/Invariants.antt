@@ -6,4 +6,4 @@ use Rattle.bug_core.proofs.joins.first_owner.Given as goal
 
 abbrev pub invariant-loop-number : goal.invariant-loop-number
 invariant-loop-number l =
-    first_owner (bugs_at (bug_in l.index) (drop l.number-index l.numbers)) ≡ first_owner (bugs_at (bug_in l.index) l.numbers)
+    first_owner (bugs_at (bug_in l.lookup) (drop l.number-index l.numbers)) ≡ first_owner (bugs_at (bug_in l.lookup) l.numbers)

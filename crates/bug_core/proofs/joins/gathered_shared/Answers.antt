@@ -17,7 +17,7 @@ returns c =
     = c.in_ok-shared.ensures
     ∙ (λ j. with_all_shared (without_gathered c.args.first.now)
     (those-same (named_numbers c.args.named) c.args.numbers.now c.requires.named c.args.images.now j)) in
-    let owner : first_owner (bugs_at (bug_in c.args.index.now) c.args.numbers.now)
+    let owner : first_owner (bugs_at (bug_in c.args.lookup.now) c.args.numbers.now)
     ≡ first_owner (bugs_at (bug_in c.args.images.now) c.args.numbers.now)
     = ap (λ (is : List SetImage). first_owner (bugs_at (bug_in is) c.args.numbers.now)) c.requires.images in
     subst (λ (f : Shared). IfOk c.of.result (λ (g : Shared). g ≡ f))

@@ -7,5 +7,5 @@ use Rattle.bug_core.proofs.merges.first_differing.Given as goal
 
 abbrev pub invariant-loop-number : goal.invariant-loop-number
 invariant-loop-number l =
-    first_refusal (differing (difference_of l.agreement l.first)) (bug_in l.index) (drop l.number-index l.numbers)
-    ≡ first_refusal (differing (difference_of l.agreement l.first)) (bug_in l.index) l.numbers
+    first_refusal (differing (difference_of l.agreement l.first)) (bug_in l.lookup) (drop l.number-index l.numbers)
+    ≡ first_refusal (differing (difference_of l.agreement l.first)) (bug_in l.lookup) l.numbers

@@ -23,7 +23,7 @@ returns-in-Some-first_refused c =
     merge-refused (difference_of c.args.agreement) c.args.images.now c.args.next c.args.first c.args.others.now
     c.in-Some.image.now c.in-Some-first_refused.refusal c.in-Some.ensures
     (archived-seen c.args.first c.fields-shared.ensures c.archived_refusal.ensures ∙ c.in_default-archived_refusal.is)
-    (ap (λ (is : List SetImage). first_bug_refusal false (bug_in is) c.args.others.now) (sym c.in_ok-index.ensures)
+    (ap (λ (is : List SetImage). first_bug_refusal false (bug_in is) c.args.others.now) (sym c.in_ok-lookup.ensures)
     ∙ sym c.first_refused.ensures ∙ c.in-Some-first_refused.is)
 
 pub returns-in-Some-first_differing : goal.returns-in-Some-first_differing
@@ -31,10 +31,10 @@ returns-in-Some-first_differing c =
     merge-differs (difference_of c.args.agreement) c.args.images.now c.args.next c.args.first c.args.others.now
     c.in-Some.image.now c.in-Some-first_differing.refusal c.in-Some.ensures
     (archived-seen c.args.first c.fields-shared.ensures c.archived_refusal.ensures ∙ c.in_default-archived_refusal.is)
-    (ap (λ (is : List SetImage). first_bug_refusal false (bug_in is) c.args.others.now) (sym c.in_ok-index.ensures)
+    (ap (λ (is : List SetImage). first_bug_refusal false (bug_in is) c.args.others.now) (sym c.in_ok-lookup.ensures)
     ∙ sym c.first_refused.ensures ∙ c.in_default-first_refused.is)
     ((λ j. first_refusal (differing (difference_of c.args.agreement (sym c.fields-shared.ensures j)))
-    (bug_in (sym c.in_ok-index.ensures j)) c.args.others.now) ∙ sym c.first_differing.ensures ∙ c.in-Some-first_differing.is)
+    (bug_in (sym c.in_ok-lookup.ensures j)) c.args.others.now) ∙ sym c.first_differing.ensures ∙ c.in-Some-first_differing.is)
 
 pub joined_image-requires-clause-set : goal.joined_image-requires-clause-set
 joined_image-requires-clause-set c = λ n. has-set c.in_ok-set.set.keys c.as_slice-numbers.result.now c.in_ok-set.ensures n
@@ -52,10 +52,10 @@ returns c =
     merge-done (difference_of c.args.agreement) c.args.images.now c.args.next c.args.first c.args.others.now c.in-Some.image.now
     c.requires.apart c.in-Some.ensures
     (archived-seen c.args.first c.fields-shared.ensures c.archived_refusal.ensures ∙ c.in_default-archived_refusal.is)
-    (ap (λ (is : List SetImage). first_bug_refusal false (bug_in is) c.args.others.now) (sym c.in_ok-index.ensures)
+    (ap (λ (is : List SetImage). first_bug_refusal false (bug_in is) c.args.others.now) (sym c.in_ok-lookup.ensures)
     ∙ sym c.first_refused.ensures ∙ c.in_default-first_refused.is)
     ((λ j. first_refusal (differing (difference_of c.args.agreement (sym c.fields-shared.ensures j)))
-    (bug_in (sym c.in_ok-index.ensures j)) c.args.others.now) ∙ sym c.first_differing.ensures ∙ c.in_default-first_differing.is)
+    (bug_in (sym c.in_ok-lookup.ensures j)) c.args.others.now) ∙ sym c.first_differing.ensures ∙ c.in_default-first_differing.is)
     c.in_ok-replace_by_one.field-0
     (c.in_ok-replace_by_one.ensures.images ∙ (λ j. joined j ∷ rest j))
     c.in_ok-replace_by_one.ensures.next
@@ -66,8 +66,8 @@ returns-in-Some-archived_refusal c =
     c.in-Some.image.now c.in-Some-archived_refusal.refusal c.in-Some.ensures
     (archived-seen c.args.first c.fields-shared.ensures c.archived_refusal.ensures ∙ c.in-Some-archived_refusal.is)
 
-pub returns-in_err-index : goal.returns-in_err-index
-returns-in_err-index c = planned-no_memory _ _ _ _ c.from_residual.result c.from_residual.ensures.1
+pub returns-in_err-lookup : goal.returns-in_err-lookup
+returns-in_err-lookup c = planned-no_memory _ _ _ _ c.from_residual.result c.from_residual.ensures.1
 
 pub returns-in_err-numbers : goal.returns-in_err-numbers
 returns-in_err-numbers c = planned-no_memory _ _ _ _ c.from_residual-in_err-numbers.result c.from_residual-in_err-numbers.ensures.1

@@ -1,7 +1,7 @@
 use Rattle.std.proofs.Common.{arith}
 use Rattle.std.proofs.lemmas.Grind.{common_steps}
 use Rattle.std.proofs.lemmas.Result.{IfOk-from_err}
-use Rattle.bug_core.proofs.joins.members_by_number.Goals as goal
+use Rattle.bug_core.proofs.by_number.members_by_number.Goals as goal
 
 pub returns-in_err-add_members : goal.returns-in_err-add_members
 returns-in_err-add_members c = IfOk-from_err _ _ c.from_residual.ensures.0

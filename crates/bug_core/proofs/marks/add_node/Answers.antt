@@ -1,6 +1,6 @@
 use Rattle.std.proofs.Common.{ap, ◌∙◌}
 use Rattle.bug_record.specs.Marks.{with_node}
-use Rattle.bug_core.proofs.joins.add_node.Goals as goal
+use Rattle.bug_core.proofs.marks.add_node.Goals as goal
 
 pub returns : goal.returns
 returns c =

@@ -3,7 +3,7 @@ use Rattle.std.specs.BTreeMap.{values}
 use Rattle.bug_core.specs.Others.{those_meant}
 use Rattle.bug_core.specs.Named.{named_numbers}
 use Rattle.bug_core.specs.Joins.{with_members, AreByNumber}
-use Rattle.bug_core.proofs.joins.members_by_number.Given as goal
+use Rattle.bug_core.proofs.by_number.members_by_number.Given as goal
 
 abbrev pub invariant-loop-image : goal.invariant-loop-image
 invariant-loop-image l = record {

@@ -5,7 +5,7 @@ use Rattle.std.specs.Ordering.{nat_cmp}
 use Rattle.std.specs.BTreeMap.{is_at, insert_entry}
 use Rattle.bug_core.specs.Joins.{AreByNumber}
 use Rattle.bug_core.proofs.EntryLemmas.{has-lookup, values-new, keyed-new, with_item-there}
-use Rattle.bug_core.proofs.joins.add_member.Goals as goal
+use Rattle.bug_core.proofs.by_number.add_member.Goals as goal
 
 pub returns-in_ok-insert-clause-members : goal.returns-in_ok-insert-clause-members
 returns-in_ok-insert-clause-members c =
