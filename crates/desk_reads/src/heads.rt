@@ -42,10 +42,7 @@ fn some_node(node: &Node) -> Result<Option<Node>, StoreFault>
     ensures value { IfOk result (λ found. found ≡ Some node.now) }
     ensures sure { IfErr result (λ fault. fault ≢ Foreign) }
 {
-    match node.copy() {
-        Ok(node) => Ok(Some(node)),
-        Err(_) => Err(StoreFault::Memory),
-    }
+    Ok(Some(node.copy()?))
 }
 
 // The first of the nodes at which the bugs of the key's set, which has this image, are found.
@@ -88,10 +85,8 @@ fn heads_of(family: &Family, image: &SetImage) -> Result<Vec<Node>, StoreFault>
     ensures value { IfOk result (λ nodes. nodes.items ≡ heads family.now image.now.shared.«package») }
     ensures sure { IfErr result (λ fault. fault ≢ Foreign) }
 {
-    match family.tree().heads(image.shared.fields().package.as_str()) {
-        Ok(nodes) => Ok(nodes),
-        Err(_) => Err(StoreFault::Memory),
-    }
+    let package = image.shared.fields().package.as_str();
+    Ok(family.tree().heads(package)?)
 }
 
 /// The first head of the package of an image's bugs, in node order, at which they are still found,

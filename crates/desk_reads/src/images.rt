@@ -68,10 +68,7 @@ fn agreed(alloc: Global, shared: Shared) -> Result<Agreed, StoreFault>
     ensures value { IfOk result (λ agreed. agreed ≡ shared) }
     ensures sure { IfErr result (λ fault. fault ≢ Foreign) }
 {
-    match Agreed::of(alloc, shared) {
-        Ok(agreed) => Ok(agreed),
-        Err(_) => Err(StoreFault::Memory),
-    }
+    Ok(Agreed::of(alloc, shared)?)
 }
 
 // The shared fields of the set of the key, to be shared by copies of its image.
@@ -132,10 +129,7 @@ fn read_small_key<S: Alter>(
     ensures serves { Serves (state S.Store tx.old.conn.now) (state S.Store tx.new.conn.now) result }
 {
     match read_key(tx, number)? {
-        Some(key) => match small_key(key) {
-            Ok(key) => Ok(Some(key)),
-            Err(fault) => Err(fault),
-        },
+        Some(key) => Ok(Some(small_key(key)?)),
         None => Ok(None),
     }
 }

@@ -5,7 +5,7 @@ ghost use Rattle.bug_record.specs.Sets.{Each};
 ghost use Rattle.bug_record.specs.declared.outcome.StoreFault.TheVariants.{Foreign};
 
 use bug_record::StoreFault;
-use std::alloc::Global;
+use std::alloc::{AllocError, Global};
 
 // A key that was read; no set of a desk has one that is no u32.
 pub(crate) fn small_key(key: u64) -> Result<u32, StoreFault>
@@ -26,10 +26,7 @@ pub(crate) fn small_keys(alloc: Global, keys: &[u64]) -> Result<Vec<u32>, StoreF
     let mut small = Vec::new(alloc);
     for key in keys {
         let key = small_key(*key)?;
-        match small.push(key) {
-            Ok(()) => {}
-            Err(_) => return Err(StoreFault::Memory),
-        }
+        small.push(key).map_err(AllocError::from)?;
     }
     Ok(small)
 }

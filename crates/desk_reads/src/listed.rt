@@ -43,10 +43,8 @@ fn put_bugs(
     ensures value { OnOk result ((n : ℕ) → get nat_cmp rows.new n ≡ option_or (row_among fields members.now n) (get nat_cmp rows.old n)) }
     ensures sure { IfErr result (λ fault. fault ≢ Foreign) }
 {
-    match put_rows(rows, fields, members) {
-        Ok(()) => Ok(()),
-        Err(_) => Err(StoreFault::Memory),
-    }
+    put_rows(rows, fields, members)?;
+    Ok(())
 }
 
 // The rows of the bugs of the key's set, of which they have these fields, come into the map.
@@ -237,10 +235,7 @@ fn sorted(alloc: Global, rows: BTreeMap<u64, ListRow>) -> Result<Sequence<ListRo
     ensures ordered { IsStrictlySortedBy nat_cmp (keys_of rows.entries) }
     ensures sure { IfErr result (λ fault. fault ≢ Foreign) }
 {
-    match sorted_rows(alloc, rows) {
-        Ok(sorted) => Ok(sorted),
-        Err(_) => Err(StoreFault::Memory),
-    }
+    Ok(sorted_rows(alloc, rows)?)
 }
 
 /// The rows of the bugs of a package, and of those that affect it, that are not archived and are

@@ -39,10 +39,7 @@ fn add_members(numbers: &mut BTreeSet<u64>, members: &[Member]) -> Result<(), St
     ensures sure { IfErr result (λ fault. fault ≢ Foreign) }
 {
     for member in members {
-        match add_number(numbers, member.number) {
-            Ok(()) => {}
-            Err(_) => return Err(StoreFault::Memory),
-        }
+        add_number(numbers, member.number)?;
     }
     Ok(())
 }
@@ -83,10 +80,7 @@ fn in_order(alloc: Global, numbers: &BTreeSet<u64>) -> Result<Numbers, StoreFaul
     ensures value { IfOk result (λ listed. listed ≡ numbers.now.keys) }
     ensures sure { IfErr result (λ fault. fault ≢ Foreign) }
 {
-    match Sequence::in_order(alloc, numbers) {
-        Ok(listed) => Ok(listed),
-        Err(_) => Err(StoreFault::Memory),
-    }
+    Ok(Sequence::in_order(alloc, numbers)?)
 }
 
 // The numbers of the bugs of all sets of the keys, ascending.

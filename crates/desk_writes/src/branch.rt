@@ -32,10 +32,7 @@ fn edits_of(
         AreMissing c family.now rows.items → Makes family.now edits c) }
     ensures memory { IfErr result (λ fault. fault ≡ Memory) }
 {
-    match branch_edits(alloc, family.tree(), changed, rows) {
-        Ok(edits) => Ok(edits),
-        Err(_) => Err(StoreFault::Memory),
-    }
+    Ok(branch_edits(alloc, family.tree(), changed, rows)?)
 }
 
 // The edits of a branch, as the tables are now.

@@ -19,7 +19,7 @@ use desk_schema::parameter;
 use nearest_marks::Family;
 use set_rows::{Marks, read_marks};
 use sqlite::{Alter, Transaction};
-use std::alloc::Global;
+use std::alloc::{AllocError, Global};
 
 // The edits of an image, where these marks stand under its key.
 fn plan_of(
@@ -33,10 +33,7 @@ fn plan_of(
 {
     let found = marks.found.as_slice();
     let fixed = marks.fixed.as_slice();
-    match row_edits(alloc, family, image, found, fixed) {
-        Ok(plan) => Ok(plan),
-        Err(_) => Err(StoreFault::Memory),
-    }
+    Ok(row_edits(alloc, family, image, found, fixed)?)
 }
 
 // The edits of an image, as its marks stand now.
@@ -67,10 +64,7 @@ fn plan_images<S: Alter>(
     let mut plans = Vec::new(alloc);
     for image in images {
         let plan = plan_image(alloc, tx, family, image)?;
-        match plans.push(plan) {
-            Ok(()) => {}
-            Err(_) => return Err(StoreFault::Memory),
-        }
+        plans.push(plan).map_err(AllocError::from)?;
     }
     Ok(plans)
 }

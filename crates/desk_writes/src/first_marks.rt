@@ -62,10 +62,8 @@ fn read_marks_of<S: Alter>(
         (state S.Store tx.old.conn.now) (state S.Store tx.new.conn.now) result }
 {
     let marks = read_marks_at(alloc, tx, node)?;
-    match add_marks(alloc, first, node, marks.as_slice()) {
-        Ok(()) => Ok(()),
-        Err(_) => Err(StoreFault::Memory),
-    }
+    add_marks(alloc, first, node, marks.as_slice())?;
+    Ok(())
 }
 
 // The first marks of all sets along a line, by their keys.

@@ -33,10 +33,7 @@ fn edits_at(
     ensures value { IfOk result (AreEditsOf id.now from.now message.now place outcome.now) }
     ensures memory { IfErr result (λ fault. fault ≡ Memory) }
 {
-    match keep_edits(alloc, id, from, message, place, outcome) {
-        Ok(edits) => Ok(edits),
-        Err(_) => Err(StoreFault::Memory),
-    }
+    Ok(keep_edits(alloc, id, from, message, place, outcome)?)
 }
 
 // The edits of an outcome behind those that are kept of its message.

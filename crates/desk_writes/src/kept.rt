@@ -21,10 +21,7 @@ fn copied(outcome: &Outcome) -> Result<Outcome, StoreFault>
     ensures value { IfOk result (λ copy. copy ≡ outcome.now) }
     ensures sure { IfErr result (λ fault. fault ≢ Foreign) }
 {
-    match copy_outcome(outcome) {
-        Ok(copy) => Ok(copy),
-        Err(_) => Err(StoreFault::Memory),
-    }
+    Ok(copy_outcome(outcome)?)
 }
 
 // The outcome of the accepted line at a place.
@@ -73,10 +70,7 @@ fn read_all_numbered<S: Alter>(
     let mut outcomes = Sequence::new(alloc);
     for one in told {
         let outcome = read_numbered(alloc, tx, id, one)?;
-        match outcomes.push(outcome) {
-            Ok(()) => {}
-            Err(_) => return Err(StoreFault::Memory),
-        }
+        outcomes.push(outcome)?;
     }
     Ok(outcomes)
 }

@@ -26,10 +26,7 @@ fn line_of(family: &Family, node: &Node) -> Result<Vec<Node>, StoreFault>
     ensures value { IfOk result (λ nodes. nodes.items ≡ line family.now node.now) }
     ensures sure { IfErr result (λ fault. fault ≢ Foreign) }
 {
-    match family.tree().line(node) {
-        Ok(nodes) => Ok(nodes),
-        Err(_) => Err(StoreFault::Memory),
-    }
+    Ok(family.tree().line(node)?)
 }
 
 // Those rows of a node come behind the others that are not there yet.
@@ -77,10 +74,7 @@ fn affected_nodes(alloc: Global, family: &Family, changed: &[Node]) -> Result<Ve
         has_node nodes.items v ≡ (knows family.now v && meets changed.now (line family.now v))) }
     ensures sure { IfErr result (λ fault. fault ≢ Foreign) }
 {
-    match affected(alloc, family, changed) {
-        Ok(nodes) => Ok(nodes),
-        Err(_) => Err(StoreFault::Memory),
-    }
+    Ok(affected(alloc, family, changed)?)
 }
 
 // The rows of the nodes whose line has a changed node that are not there yet.

@@ -68,10 +68,8 @@ fn push_new_row<S: Alter>(
     if has_row(tx, key, node)? {
         return Ok(());
     }
-    match push_row(rows, node, key, near) {
-        Ok(()) => Ok(()),
-        Err(_) => Err(StoreFault::Memory),
-    }
+    push_row(rows, node, key, near)?;
+    Ok(())
 }
 
 // Those rows of a node come behind the others that are not there yet; the sets see these first

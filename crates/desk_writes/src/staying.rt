@@ -26,10 +26,7 @@ fn stay_of(
 {
     let found = marks.found.as_slice();
     let fixed = marks.fixed.as_slice();
-    match stay_edits(alloc, family, image, found, fixed) {
-        Ok(edits) => Ok(edits),
-        Err(_) => Err(StoreFault::Memory),
-    }
+    Ok(stay_edits(alloc, family, image, found, fixed)?)
 }
 
 // The same, as its marks stand now.
@@ -63,8 +60,5 @@ pub(crate) fn stay_plan<S: Alter>(
     if !stays {
         return Ok(None);
     }
-    match stay_image(alloc, tx, family, image) {
-        Ok(edits) => Ok(Some(edits)),
-        Err(fault) => Err(fault),
-    }
+    Ok(Some(stay_image(alloc, tx, family, image)?))
 }
