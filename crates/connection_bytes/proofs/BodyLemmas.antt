@@ -1,5 +1,5 @@
 -- A body that comes in pieces, of which the first bytes are here.
-use Rattle.std.proofs.Common.{◌≡◌, ℕ, ◌+◌, ◌<◌, ◌≤◌, List, [], ◌++◌, length, take, drop, min, Bool, true, false, nat_lt, Option, Result, Ok, Err, IfOk, refl, sym, ap, ◌∙◌, arith, append-nil, append_assoc, length-append, take-append-drop}
+use Rattle.std.proofs.Common.{◌≡◌, ℕ, ◌+◌, ◌<◌, ◌≤◌, List, [], ◌++◌, length, take, drop, min, Bool, true, false, nat_lt, Option, Result, Ok, Err, IsErrAnd, refl, sym, ap, ◌∙◌, subst, arith, append-nil, append_assoc, length-append, take-append-drop}
 use Rattle.std.proofs.lemmas.List.{take_all, take_at, nil_from_length}
 use Rattle.std.proofs.lemmas.Bool.Decides.{nat_tests}
 use Rattle.std.specs.Io.KnownBytes.{IsAtEnd}
@@ -8,9 +8,11 @@ use Rattle.connection_bytes.specs.Pieces.{Came}
 use Rattle.connection_bytes.proofs.HadLemmas.{left, left-end, had_given, had_then}
 use Rattle.std.specs.Prelude.{Vec}
 use Rattle.std.specs.declared.alloc.Global.{Global}
-use Rattle.connection_bytes.specs.Body.{whole, body_of_length, shown}
+use Rattle.connection_bytes.specs.Body.{whole, body_of_length, IfRead}
 use Rattle.connection_bytes.specs.declared.refusal.BodyRefusal.{BodyRefusal}
 use Rattle.connection_bytes.specs.declared.refusal.BodyRefusal.TheVariants.{BadRequest}
+use Rattle.connection_bytes.specs.declared.refusal.BodyFault.{BodyFault}
+use Rattle.connection_bytes.specs.declared.refusal.BodyFault.TheVariants.{Refused, Memory, Read}
 
 whole-all : (n : ℕ) (rest : List ℕ) → n ≤ length rest → whole n rest ≡ Ok (take n rest)
 unfolding whole
@@ -78,11 +80,25 @@ body-whole old new before after here n start total c l s k t =
     let p = front n all (take start here ++ c.bytes) b.0 b.1 (sym (ap length w) ∙ l) in
     had_given old new c.bytes (λ more. Ok after ≡ whole n (here ++ more)) c.took (ap Ok (w ∙ sym p.1) ∙ sym (whole-all n all p.0))
 
--- the body of the length that the headers say, out of what is here and what comes
-pub body-asked : {E : Type 0} (read : Result (Result (Vec ℕ Global) BodyRefusal) E) (known : Option (List ℕ)) (told : Result ℕ BodyRefusal)
+asked-by : (body : Result (List ℕ) BodyRefusal) (known : Option (List ℕ)) (told : Result ℕ BodyRefusal)
     (n : ℕ) (here rest : List ℕ) → Ok n ≡ told → here ≡ rest
-    → IfOk read (λ body. HadBytes known (λ more. shown body ≡ whole n (here ++ more)))
-    → IfOk read (λ body. HadBytes known (λ more. shown body ≡ body_of_length told (rest ++ more)))
-body-asked (Err fault) known told n here rest is same had = tt
-body-asked (Ok body) known told n here rest is same had = had_then known (λ more. shown body ≡ whole n (here ++ more)) _
+    → HadBytes known (λ more. body ≡ whole n (here ++ more))
+    → HadBytes known (λ more. body ≡ body_of_length told (rest ++ more))
+asked-by body known told n here rest is same had = had_then known (λ more. body ≡ whole n (here ++ more)) _
     (λ more e. e ∙ ap (λ l. whole n (l ++ more)) same ∙ ap (λ t. body_of_length t (rest ++ more)) is) had
+
+-- the body of the length that the headers say, out of what is here and what comes
+pub body-asked : (read : Result (Vec ℕ Global) BodyFault) (known : Option (List ℕ)) (told : Result ℕ BodyRefusal)
+    (n : ℕ) (here rest : List ℕ) → Ok n ≡ told → here ≡ rest
+    → IfRead read (λ body. HadBytes known (λ more. body ≡ whole n (here ++ more)))
+    → IfRead read (λ body. HadBytes known (λ more. body ≡ body_of_length told (rest ++ more)))
+body-asked (Ok body) known told n here rest is same had = asked-by (Ok body.items) known told n here rest is same had
+body-asked (Err (Refused refusal)) known told n here rest is same had = asked-by (Err refusal) known told n here rest is same had
+body-asked (Err Memory) known told n here rest is same had = tt
+body-asked (Err Read) known told n here rest is same had = tt
+
+-- what the headers refuse, as the code reports it
+pub refused-read : (read : Result (Vec ℕ Global) BodyFault) (refusal : BodyRefusal) (Is : Result (List ℕ) BodyRefusal → Type 0)
+    → IsErrAnd read (λ fault. fault ≡ Refused refusal) → Is (Err refusal) → IfRead read Is
+refused-read (Ok body) refusal Is told is = absurd told
+refused-read (Err fault) refusal Is told is = subst (λ (f : BodyFault). IfRead (Err f) Is) (sym told) is

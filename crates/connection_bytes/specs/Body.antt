@@ -1,10 +1,12 @@
 -- The body of a request, out of the bytes after its head (RFC 9112, section 6).
-use Rattle.std.specs.Prelude.{ℕ, ◌-◌, ◌≤◌, if◌then◌else◌, nat_le, List, length, take, Option, Some, None, Result, Ok, Err, Vec}
+use Rattle.std.specs.Prelude.{ℕ, ◌-◌, ◌≤◌, if◌then◌else◌, nat_le, List, length, take, Option, Some, None, Result, Ok, Err, Vec, ⊤}
 use Rattle.std.specs.Io.KnownBytes.{Consumes, Keeps}
 use Rattle.std.specs.declared.alloc.Global.{Global}
 use Rattle.connection_bytes.specs.Headers.{body_length}
 use Rattle.connection_bytes.specs.declared.refusal.BodyRefusal.{BodyRefusal}
 use Rattle.connection_bytes.specs.declared.refusal.BodyRefusal.TheVariants.{BadRequest}
+use Rattle.connection_bytes.specs.declared.refusal.BodyFault.{BodyFault}
+use Rattle.connection_bytes.specs.declared.refusal.BodyFault.TheVariants.{Refused, Memory, Read}
 
 -- the first n bytes, where there are so many; a body that is cut is refused
 unfoldable pub whole : ℕ → List ℕ → Result (List ℕ) BodyRefusal
@@ -19,10 +21,13 @@ body_of_length (Ok n) rest = whole n rest
 abbrev pub body_of : List (List ℕ × List ℕ) → List ℕ → Result (List ℕ) BodyRefusal
 body_of headers rest = body_of_length (body_length headers) rest
 
--- the bytes of a body, or its refusal
-abbrev pub shown : Result (Vec ℕ Global) BodyRefusal → Result (List ℕ) BodyRefusal
-shown (Ok body) = Ok body.items
-shown (Err refusal) = Err refusal
+-- what was read is so: the bytes of the body, or its refusal; nothing is said where there was no
+-- memory or a read failed
+abbrev pub IfRead : Result (Vec ℕ Global) BodyFault → (Result (List ℕ) BodyRefusal → Type 0) → Type 0
+IfRead (Ok body) Is = Is (Ok body.items)
+IfRead (Err (Refused refusal)) Is = Is (Err refusal)
+IfRead (Err Memory) Is = ⊤
+IfRead (Err Read) Is = ⊤
 
 -- the size of the body that is read, by what the headers say of its length
 abbrev pub size_told : Result ℕ BodyRefusal → Option ℕ

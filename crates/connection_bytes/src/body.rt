@@ -6,11 +6,11 @@ ghost use Rattle.httparse.specs.Spans.{IsHeaderWithin, header_bytes};
 ghost use Rattle.connection_bytes.specs.Found.{HadBytes, LosesFewer};
 ghost use Rattle.connection_bytes.specs.Pieces.{Came};
 ghost use Rattle.connection_bytes.specs.Headers.{body_length};
-ghost use Rattle.connection_bytes.specs.Body.{body_of, whole, shown, size_told, TakesBody};
+ghost use Rattle.connection_bytes.specs.Body.{body_of, whole, IfRead, size_told, TakesBody};
 
 use crate::headers::body_length;
 use crate::pieces::read_piece;
-use crate::refusal::{BodyRefusal, ReadFault};
+use crate::refusal::{BodyFault, BodyRefusal};
 use httparse::spans::HeaderSpan;
 use std::alloc::{AllocError, Global};
 use std::io;
@@ -55,27 +55,23 @@ fn read_whole<R: Read>(
     reader: &mut R,
     here: &[u8],
     size: usize,
-) -> Result<Result<Vec<u8>, BodyRefusal>, ReadFault>
-    ensures whole { IfOk result (λ body. HadBytes (R.remaining reader.old)
-        (λ more. shown body ≡ whole size (here.now ++ more))) }
-    ensures taken { IfOk result (λ body. IfOk body (λ bytes.
-        Consumes (R.remaining reader.old) (R.remaining reader.new) (drop (length here.now) bytes.items))) }
-    ensures memory { result ≡ Err ReadFault.Memory → (reader.new ≡ reader.old) × (size ≢ 0) }
-    ensures cut { result ≡ Err ReadFault.Read → LosesFewer (R.remaining reader.old) (R.remaining reader.new)
+) -> Result<Vec<u8>, BodyFault>
+    ensures whole { IfRead result (λ body. HadBytes (R.remaining reader.old)
+        (λ more. body ≡ whole size (here.now ++ more))) }
+    ensures taken { IfOk result (λ body.
+        Consumes (R.remaining reader.old) (R.remaining reader.new) (drop (length here.now) body.items)) }
+    ensures memory { result ≡ Err BodyFault.Memory → (reader.new ≡ reader.old) × (size ≢ 0) }
+    ensures cut { result ≡ Err BodyFault.Read → LosesFewer (R.remaining reader.old) (R.remaining reader.new)
         (size - length here.now) }
     ensures within { TakesBody (Some size) here.now (R.remaining reader.old) (R.remaining reader.new) }
 {
-    let Ok(mut body) = room(alloc, here, size) else {
-        return Err(ReadFault::Memory);
-    };
+    let mut body = room(alloc, here, size)?;
     let known = here.len().min(size);
-    let Ok(total) = fill(reader, &mut body, known) else {
-        return Err(ReadFault::Read);
-    };
+    let total = fill(reader, &mut body, known)?;
     if total < size {
-        return Ok(Err(BodyRefusal::BadRequest));
+        return Err(BodyFault::Refused(BodyRefusal::BadRequest));
     }
-    Ok(Ok(body))
+    Ok(body)
 }
 
 /// Reads the body of a request whose head the buffer has up to `start`, with what else has come:
@@ -85,6 +81,7 @@ fn read_whole<R: Read>(
 ///
 /// # Errors
 ///
+/// `Refused` where the headers refuse the request, or the input ended before the body was whole;
 /// `Memory` where there was none for the body, which is not empty, and then nothing was read;
 /// `Read` where a read failed, an interrupted one too, before the body was whole.
 pub fn read_body<R: Read>(
@@ -93,13 +90,13 @@ pub fn read_body<R: Read>(
     buf: &[u8],
     headers: &[HeaderSpan],
     start: usize,
-) -> Result<Result<Vec<u8>, BodyRefusal>, ReadFault>
+) -> Result<Vec<u8>, BodyFault>
     requires within { All (IsHeaderWithin (length buf.now)) headers.now }
     requires started { start ≤ length buf.now }
-    ensures body { IfOk result (λ body. HadBytes (R.remaining reader.old)
-        (λ more. shown body ≡ body_of (map (header_bytes buf.now) headers.now) (drop start buf.now ++ more))) }
-    ensures taken { IfOk result (λ body. IfOk body (λ bytes.
-        Consumes (R.remaining reader.old) (R.remaining reader.new) (drop (length buf.now - start) bytes.items))) }
+    ensures body { IfRead result (λ body. HadBytes (R.remaining reader.old)
+        (λ more. body ≡ body_of (map (header_bytes buf.now) headers.now) (drop start buf.now ++ more))) }
+    ensures taken { IfOk result (λ body.
+        Consumes (R.remaining reader.old) (R.remaining reader.new) (drop (length buf.now - start) body.items)) }
 
     // However it ends, no byte after the body is taken.
     ensures within { TakesBody (size_told (body_length (map (header_bytes buf.now) headers.now)))
@@ -107,16 +104,14 @@ pub fn read_body<R: Read>(
 
     // What the headers refuse is not read, and takes no memory.
     ensures refused { IfErr (body_length (map (header_bytes buf.now) headers.now))
-        (λ refusal. (result ≡ Ok (Err refusal)) × (reader.new ≡ reader.old)) }
+        (λ refusal. (result ≡ Err (BodyFault.Refused refusal)) × (reader.new ≡ reader.old)) }
 
     // An empty body takes no memory, and a body that is at hand is not read.
-    ensures memory { result ≡ Err ReadFault.Memory → (reader.new ≡ reader.old)
+    ensures memory { result ≡ Err BodyFault.Memory → (reader.new ≡ reader.old)
         × (body_length (map (header_bytes buf.now) headers.now) ≢ Ok 0) }
-    ensures cut { result ≡ Err ReadFault.Read → IfOk (body_length (map (header_bytes buf.now) headers.now))
+    ensures cut { result ≡ Err BodyFault.Read → IfOk (body_length (map (header_bytes buf.now) headers.now))
         (λ size. LosesFewer (R.remaining reader.old) (R.remaining reader.new) (size - (length buf.now - start))) }
 {
-    match body_length(buf, headers) {
-        Ok(size) => read_whole(alloc, reader, &buf[start..], size as usize),
-        Err(refusal) => Ok(Err(refusal)),
-    }
+    let size = body_length(buf, headers)?;
+    read_whole(alloc, reader, &buf[start..], size as usize)
 }

@@ -44,11 +44,11 @@ impl<W: Write> Held<W> {
         ensures none { OnOk result (self.new.bytes.items ≡ []) }
     {
         while self.start < self.bytes.len() {
-            match self.inner.write(&self.bytes[self.start..]) {
-                Ok(0) => return Err(io::Error::from(ErrorKind::WriteZero)),
-                Ok(count) => self.start += count,
-                Err(error) => return Err(error),
+            let count = self.inner.write(&self.bytes[self.start..])?;
+            if count == 0 {
+                return Err(io::Error::from(ErrorKind::WriteZero));
             }
+            self.start += count;
         }
         self.start = 0;
         self.bytes.clear();

@@ -18,5 +18,5 @@ pub use head::{Head, MAX_HEAD, MAX_HEADERS, read_head};
 pub use headers::{MAX_BODY, body_length};
 pub use held::Held;
 pub use laws::an_input_begins_with_one_head;
-pub use refusal::{BodyRefusal, ReadFault};
+pub use refusal::{BodyFault, BodyRefusal};
 pub use timed::{Limits, Timed};

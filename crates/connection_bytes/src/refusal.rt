@@ -1,6 +1,7 @@
 //! Why a request has no body.
 
 use std::alloc::AllocError;
+use std::io;
 use thiserror::Error;
 
 /// Why the body of a request is refused.
@@ -21,24 +22,49 @@ pub enum BodyRefusal {
     TooLarge,
 }
 
-/// Why a body was not read.
+/// Why a body was not given.
 #[derive(Clone, Copy, Debug, PartialEq, Eq, Error)]
-pub enum ReadFault {
-    /// There was no memory for the body.
+pub enum BodyFault {
+    /// It is refused.
+    #[error(transparent)]
+    Refused(BodyRefusal),
+    /// There was no memory for it.
     #[error("out of memory")]
     Memory,
-    /// The reader failed.
+    /// The reader failed before it was whole.
     #[error("the request could not be read")]
     Read,
 }
 
-impl From<AllocError> for ReadFault {
+impl From<BodyRefusal> for BodyFault {
     ghost use Rattle.std.specs.Prelude.{◌≡◌};
-    ghost use Rattle.connection_bytes.specs.declared.refusal.ReadFault.TheVariants.{Memory};
+    ghost use Rattle.connection_bytes.specs.declared.refusal.BodyFault.TheVariants.{Refused};
+
+    ghost from_gives = { λ refusal e. e ≡ Refused refusal };
+
+    fn from(refusal: BodyRefusal) -> BodyFault {
+        BodyFault::Refused(refusal)
+    }
+}
+
+impl From<AllocError> for BodyFault {
+    ghost use Rattle.std.specs.Prelude.{◌≡◌};
+    ghost use Rattle.connection_bytes.specs.declared.refusal.BodyFault.TheVariants.{Memory};
 
     ghost from_gives = { λ _ e. e ≡ Memory };
 
-    fn from(_error: AllocError) -> ReadFault {
-        ReadFault::Memory
+    fn from(_error: AllocError) -> BodyFault {
+        BodyFault::Memory
+    }
+}
+
+impl From<io::Error> for BodyFault {
+    ghost use Rattle.std.specs.Prelude.{◌≡◌};
+    ghost use Rattle.connection_bytes.specs.declared.refusal.BodyFault.TheVariants.{Read};
+
+    ghost from_gives = { λ _ e. e ≡ Read };
+
+    fn from(_error: io::Error) -> BodyFault {
+        BodyFault::Read
     }
 }

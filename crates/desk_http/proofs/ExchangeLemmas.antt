@@ -21,6 +21,10 @@ use Rattle.desk_requests.specs.Steps.{Fails, Gives}
 use Rattle.desk_requests.specs.declared.reply.Reply.{Reply}
 use Rattle.desk_answers.proofs.AnswerLemmas.{wants_memory}
 use Rattle.desk_requests.specs.Asking.{asked_of, bad_request}
+use Rattle.desk_requests.specs.Refused.{refused, IfAsked}
+use Rattle.desk_requests.specs.declared.refusal.Refusal.{Refusal}
+use Rattle.desk_requests.specs.declared.fault.AskFault.{AskFault}
+use Rattle.desk_requests.specs.declared.fault.AskFault.TheVariants.{Refused}
 use Rattle.desk_store.specs.Store.{Faults}
 use Rattle.desk_http.specs.Exchange.{IsReplyTo, Answers, IsRight, IsServed}
 use Rattle.desk_http.specs.Steps.{IsGiven}
@@ -77,6 +81,24 @@ pub memory_right : (new : Option (List ℕ)) (buf : List ℕ) (spans : RequestSp
 memory_right new buf spans d reply f head = had_any new _ (λ more.
     subst (λ (o : Option StoreFault). IsReplyTo (asked_of head (drop spans.len buf ++ more)) d o (shown reply) d) (sym f.1)
     (memory_replies (asked_of head (drop spans.len buf ++ more)) d reply f))
+
+-- a request that is refused
+refused_replies : (refusal : Answer) (d : Stored) (reply : Reply) → Gives refusal reply
+    → IsReplyTo (Err refusal) d reply.fault (shown reply) d
+refused_replies refusal d reply g =
+    subst (λ (o : Option StoreFault). IsReplyTo (Err refusal) d o (shown reply) d) (sym g.1) (g.0, refl)
+
+pub refused_right : (new : Option (List ℕ)) (buf : List ℕ) (headers : List HeaderSpan) (spans : RequestSpans) (fault : AskFault)
+    (refusal : Refusal) (d : Stored) (reply : Reply) → fault ≡ Refused refusal
+    → IfAsked (Err fault) (λ asked. (head : RequestHead) → IsRequestAt buf headers spans head
+    → HadBytes new (λ more. asked ≡ asked_of head (drop spans.len buf ++ more)))
+    → Gives (refused refusal) reply → (head : RequestHead) → IsRequestAt buf headers spans head
+    → HadBytes new (λ more. IsReplyTo (asked_of head (drop spans.len buf ++ more)) d reply.fault (shown reply) d)
+refused_right new buf headers spans fault refusal d reply is asks g =
+    asked_right new buf headers spans (Err (refused refusal)) d d reply.fault (shown reply)
+    (subst (λ (f : AskFault). IfAsked (Err f) (λ asked. (head : RequestHead) → IsRequestAt buf headers spans head
+    → HadBytes new (λ more. asked ≡ asked_of head (drop spans.len buf ++ more)))) is asks)
+    (refused_replies (refused refusal) d reply g)
 
 -- an input with a wrong head
 pub wrong_right : (old : Option (List ℕ)) (d : Stored) (reply : Reply) → HadBytes old IsWrong → Gives bad_request reply

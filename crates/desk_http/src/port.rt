@@ -75,8 +75,6 @@ where
     let Ok(listener) = TcpListener::bind(rt, (Ipv4Addr::LOCALHOST, port)) else {
         return Err(ServerFault::Bind);
     };
-    match write_place(writer, port) {
-        Ok(()) => serve_connections(rt, alloc, store, &listener, count),
-        Err(fault) => Err(fault),
-    }
+    write_place(writer, port)?;
+    serve_connections(rt, alloc, store, &listener, count)
 }

@@ -5,21 +5,17 @@ ghost use Rattle.std.specs.Io.KnownBytes.{Appends};
 ghost use Rattle.connection_bytes.specs.Head.{HasNoHead};
 ghost use Rattle.desk_store.specs.Store.{Holds};
 ghost use Rattle.desk_requests.specs.Answer.{answer_bytes};
-ghost use Rattle.desk_requests.specs.Told.{IsTold};
-ghost use Rattle.desk_answers.specs.Faults.{counted_with};
-ghost use Rattle.desk_requests.specs.Requests.{IsGoodAsked};
-ghost use Rattle.desk_requests.specs.Shown.{asked, shown};
+ghost use Rattle.desk_requests.specs.Shown.{shown};
 ghost use Rattle.desk_answers.specs.Stored.{stored};
 ghost use Rattle.desk_requests.specs.Asking.{bad_request};
-ghost use Rattle.desk_http.specs.Exchange.{IsReplyTo, IsServed, IsCounted, TellsFault};
+ghost use Rattle.desk_http.specs.Exchange.{IsServed, IsCounted, TellsFault};
 ghost use Rattle.desk_http.specs.Steps.{IsExchanged, IsExchangeCounted, IsGiven};
-ghost use Rattle.desk_requests.specs.Refused.{asks};
 ghost use Rattle.desk_requests.specs.Taken.{TakesRequest};
 
 use bug_record::StoreFault;
-use connection_bytes::{Head, MAX_HEAD, MAX_HEADERS, ReadFault, read_head};
+use connection_bytes::{Head, MAX_HEAD, MAX_HEADERS, read_head};
 use desk_answers::answer_request;
-use desk_requests::{Refusal, Reply, Request, ask, refuse, store_fault, write_reply};
+use desk_requests::{AskFault, Refusal, Reply, ask, refuse, store_fault, write_reply};
 use desk_store::Records;
 use http::StatusCode;
 use httparse::spans::{EMPTY_HEADER_SPAN, HeaderSpan};
@@ -46,20 +42,6 @@ pub enum ServeFault {
     /// as its answer says.
     #[error("the answer could not be written")]
     Write,
-}
-
-// Carries out what was asked, and answers it.
-fn carry_out<S: Records>(alloc: Global, store: &mut S, made: Result<Request, Refusal>) -> Reply
-    requires { IfOk made (λ request. IsGoodAsked (asked request)) }
-    ensures answer { Holds S.is_kept S.is_honest store.old store.new (IsReplyTo (asks made)
-        (stored S.desk S.keeping store.old) result.fault (shown result) (stored S.desk S.keeping store.new)) }
-    ensures count { S.faults store.new ≡ counted_with result.fault (S.faults store.old) }
-    ensures told { IsTold result.fault (shown result) }
-{
-    match made {
-        Ok(request) => answer_request(alloc, store, &request),
-        Err(refusal) => refuse(refusal),
-    }
 }
 
 /// Reads one request, carries it out, and makes its answer, which is not written yet; there is none
@@ -95,9 +77,10 @@ pub fn exchange<S: Records, R: Read>(
         Head::Complete { spans, filled } => (spans, filled),
     };
     match ask(alloc, reader, &buf[..filled], &headers, spans) {
-        Ok(made) => Ok(Some(carry_out(alloc, store, made))),
-        Err(ReadFault::Memory) => Ok(Some(store_fault(StoreFault::Memory))),
-        Err(ReadFault::Read) => Err(ServeFault::Read),
+        Ok(request) => Ok(Some(answer_request(alloc, store, &request))),
+        Err(AskFault::Refused(refusal)) => Ok(Some(refuse(refusal))),
+        Err(AskFault::Memory) => Ok(Some(store_fault(StoreFault::Memory))),
+        Err(AskFault::Read) => Err(ServeFault::Read),
     }
 }
 

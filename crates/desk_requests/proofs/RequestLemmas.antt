@@ -1,19 +1,24 @@
--- The route of a path, by whether it is UTF-8.
-use Rattle.std.proofs.Common.{◌≡◌, ℕ, List, Bool, true, false, not, Option, Some, None, Result, Ok, Err, IfOk, refl, sym, ap, ◌∙◌, subst}
+-- What is asked: the route of a path, by whether it is UTF-8, and what there is of a body.
+use Rattle.std.proofs.Common.{◌≡◌, ℕ, List, Bool, true, false, not, Option, Some, None, Result, Ok, Err, IfOk, IsErrAnd, refl, sym, ap, ◌∙◌, subst}
 use Rattle.std.specs.Prelude.{if◌then◌else◌}
 use Rattle.std.specs.Str.{IsUtf8, is_utf8, bytes_eq}
 use Rattle.std.proofs.lemmas.Str.{IsUtf8-from_is_utf8, is_utf8-from_IsUtf8}
 use Rattle.routes_and_json.specs.Routes.{method, route_at}
 use Rattle.routes_and_json.specs.Parts.{path_of}
 use Rattle.routes_and_json.specs.declared.router.Route.{Route}
+use Rattle.connection_bytes.specs.Body.{IfRead}
 use Rattle.connection_bytes.specs.Found.{HadBytes}
-use Rattle.connection_bytes.proofs.HadLemmas.{had_any}
+use Rattle.connection_bytes.specs.declared.refusal.BodyRefusal.{BodyRefusal}
+use Rattle.connection_bytes.specs.declared.refusal.BodyFault.{BodyFault}
+use Rattle.connection_bytes.specs.declared.refusal.BodyFault.TheVariants as bodies
+use Rattle.connection_bytes.proofs.HadLemmas.{had_any, had_then}
 use Rattle.desk_requests.specs.Answer.{Answer, not_found}
 use Rattle.desk_requests.specs.Requests.{Asked}
 use Rattle.desk_requests.specs.declared.request.Request.{Request as RequestMade}
-use Rattle.desk_requests.specs.Asking.{route_of, asked_at, asked_on, asked_by, not_allowed}
-use Rattle.desk_requests.specs.Refused.{asks}
-use Rattle.desk_requests.specs.declared.refusal.Refusal.{Refusal}
+use Rattle.desk_requests.specs.Asking.{route_of, asked_at, asked_on, asked_by, asked_with, not_allowed}
+use Rattle.desk_requests.specs.Refused.{IfAsked, ask_fault}
+use Rattle.desk_requests.specs.declared.fault.AskFault.{AskFault}
+use Rattle.desk_requests.specs.declared.fault.AskFault.TheVariants as faults
 
 -- by the test of the path
 by_test : (path : List ℕ) (b : Bool) → is_utf8 path ≡ b
@@ -39,14 +44,49 @@ route_found path text (Ok route) same h e = route_of-utf8 path route h (e ∙ ap
 route_found path text (Err fault) same h e = tt
 
 -- what is asked without a body doesn't depend on the bytes after the head
-pub any_rest : {E F : Type 0} (told : Result (Result RequestMade Refusal) E) (made : Result (Result RequestMade Refusal) F)
-    (known : Option (List ℕ)) (answer : List ℕ → Result Asked Answer) (found : Result Asked Answer)
-    → IfOk told (λ value. made ≡ Ok value) → IfOk made (λ asked. asks asked ≡ found)
-    → ((more : List ℕ) → found ≡ answer more) → IfOk told (λ asked. HadBytes known (λ more. asks asked ≡ answer more))
-any_rest (Err fault) made known answer found is holds same = tt
-any_rest {F = F} (Ok value) made known answer found is holds same =
-    let asked : asks value ≡ found = subst (λ (m : Result (Result RequestMade Refusal) F). IfOk m (λ asked. asks asked ≡ found)) is holds in
-    had_any known _ (λ more. asked ∙ same more)
+pub any_rest : (told : Result RequestMade AskFault) (known : Option (List ℕ)) (answer : List ℕ → Result Asked Answer)
+    (found : Result Asked Answer) → IfAsked told (λ asked. asked ≡ found) → ((more : List ℕ) → found ≡ answer more)
+    → IfAsked told (λ asked. HadBytes known (λ more. asked ≡ answer more))
+any_rest (Ok request) known answer found is same = had_any known _ (λ more. is ∙ same more)
+any_rest (Err (faults.Refused refusal)) known answer found is same = had_any known _ (λ more. is ∙ same more)
+any_rest (Err faults.Memory) known answer found is same = tt
+any_rest (Err faults.Read) known answer found is same = tt
+
+-- what a body asks that was read
+body_read : (asked : Result Asked Answer) (known : Option (List ℕ)) (route : Route) (body : List ℕ)
+    (read : List ℕ → Result (List ℕ) BodyRefusal) → HadBytes known (λ more. Ok body ≡ read more)
+    → asked ≡ asked_with route (Ok body) → HadBytes known (λ more. asked ≡ asked_with route (read more))
+body_read asked known route body read had is = had_then known (λ more. Ok body ≡ read more) _
+    (λ more e. is ∙ ap (asked_with route) e) had
+
+pub body_asked : (told : Result RequestMade AskFault) (known : Option (List ℕ)) (route : Route) (body slice : List ℕ)
+    (read : List ℕ → Result (List ℕ) BodyRefusal) → HadBytes known (λ more. Ok body ≡ read more) → slice ≡ body
+    → IfAsked told (λ asked. asked ≡ asked_with route (Ok slice))
+    → IfAsked told (λ asked. HadBytes known (λ more. asked ≡ asked_with route (read more)))
+body_asked (Ok request) known route body slice read had same is =
+    body_read _ known route body read had (is ∙ ap (λ (b : List ℕ). asked_with route (Ok b)) same)
+body_asked (Err (faults.Refused refusal)) known route body slice read had same is =
+    body_read _ known route body read had (is ∙ ap (λ (b : List ℕ). asked_with route (Ok b)) same)
+body_asked (Err faults.Memory) known route body slice read had same is = tt
+body_asked (Err faults.Read) known route body slice read had same is = tt
+
+-- a body that was not given
+fault_asked : (fault : BodyFault) (known : Option (List ℕ)) (route : Route) (read : List ℕ → Result (List ℕ) BodyRefusal)
+    → IfRead (Err fault) (λ body. HadBytes known (λ more. body ≡ read more))
+    → IfAsked (Err (ask_fault fault)) (λ asked. HadBytes known (λ more. asked ≡ asked_with route (read more)))
+fault_asked (bodies.Refused refusal) known route read had = had_then known (λ more. Err refusal ≡ read more) _
+    (λ more e. ap (asked_with route) e) had
+fault_asked bodies.Memory known route read had = tt
+fault_asked bodies.Read known route read had = tt
+
+pub body_unasked : (told : Result RequestMade AskFault) (fault : BodyFault) (known : Option (List ℕ)) (route : Route)
+    (read : List ℕ → Result (List ℕ) BodyRefusal) → IsErrAnd told (λ e. e ≡ ask_fault fault)
+    → IfRead (Err fault) (λ body. HadBytes known (λ more. body ≡ read more))
+    → IfAsked told (λ asked. HadBytes known (λ more. asked ≡ asked_with route (read more)))
+body_unasked (Ok request) fault known route read is had = absurd is
+body_unasked (Err e) fault known route read is had =
+    subst (λ (f : AskFault). IfAsked (Err f) (λ asked. HadBytes known (λ more. asked ≡ asked_with route (read more)))) (sym is)
+    (fault_asked fault known route read had)
 
 not_true : (b : Bool) → true ≡ not b → b ≡ false
 not_true true e = cc

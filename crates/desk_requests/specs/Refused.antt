@@ -1,5 +1,9 @@
 -- The answer that a refusal stands for, and what was asked.
-use Rattle.std.specs.Prelude.{Result, Ok, Err}
+use Rattle.std.specs.Prelude.{Result, Ok, Err, ⊤}
+use Rattle.connection_bytes.specs.declared.refusal.BodyFault.{BodyFault}
+use Rattle.connection_bytes.specs.declared.refusal.BodyFault.TheVariants as bodies
+use Rattle.desk_requests.specs.declared.fault.AskFault.{AskFault}
+use Rattle.desk_requests.specs.declared.fault.AskFault.TheVariants as faults
 use Rattle.desk_requests.specs.Answer.{Answer, not_found}
 use Rattle.desk_requests.specs.Requests.{Asked}
 use Rattle.desk_requests.specs.Shown.{asked}
@@ -18,3 +22,17 @@ refused (BodyRefused refusal) = body_refused refusal
 abbrev pub asks : Result RequestMade Refusal → Result Asked Answer
 asks (Ok request) = Ok (asked request)
 asks (Err refusal) = Err (refused refusal)
+
+-- what is so of what was asked, or of the answer that refuses it; nothing is said where there was
+-- no memory or a read failed
+abbrev pub IfAsked : Result RequestMade AskFault → (Result Asked Answer → Type 0) → Type 0
+IfAsked (Ok request) Is = Is (Ok (asked request))
+IfAsked (Err (faults.Refused refusal)) Is = Is (Err (refused refusal))
+IfAsked (Err faults.Memory) Is = ⊤
+IfAsked (Err faults.Read) Is = ⊤
+
+-- a body that was not given, as a fault of asking
+abbrev pub ask_fault : BodyFault → AskFault
+ask_fault (bodies.Refused refusal) = faults.Refused (BodyRefused refusal)
+ask_fault bodies.Memory = faults.Memory
+ask_fault bodies.Read = faults.Read

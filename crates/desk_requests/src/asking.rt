@@ -1,6 +1,6 @@
 //! What a request asks, out of its head and its body.
 
-ghost use Rattle.std.specs.Prelude.{◌≡◌, ◌≤◌, ◌++◌, Ok, length, map, drop, IfOk, IfErr, All};
+ghost use Rattle.std.specs.Prelude.{◌≡◌, ◌≤◌, ◌++◌, length, map, drop, IfOk, All};
 ghost use Rattle.httparse.specs.Grammar.{RequestHead};
 ghost use Rattle.httparse.specs.Spans.{IsHeaderWithin, header_bytes, IsRequestWithin, IsRequestAt};
 ghost use Rattle.desk_requests.specs.Requests.{IsGoodAsked};
@@ -9,29 +9,19 @@ ghost use Rattle.connection_bytes.specs.Body.{body_of, size_told, TakesBody};
 ghost use Rattle.connection_bytes.specs.Found.{HadBytes};
 ghost use Rattle.connection_bytes.specs.Headers.{body_length};
 ghost use Rattle.desk_requests.specs.Asking.{asked_at, asked_by, asked_with, asked_of};
-ghost use Rattle.desk_requests.specs.Refused.{asks};
+ghost use Rattle.desk_requests.specs.Refused.{IfAsked};
 ghost use Rattle.desk_requests.specs.Taken.{size_at, size_by, size_of};
 
 use crate::bodies::ask_body;
+use crate::fault::AskFault;
 use crate::paths::{ask_list, ask_page, route_of};
 use crate::refusal::Refusal;
 use crate::request::Request;
-use connection_bytes::{ReadFault, read_body};
+use connection_bytes::read_body;
 use httparse::spans::{HeaderSpan, RequestSpans};
 use routes_and_json::{Route, bug_part, list_parts, method, path};
-use std::alloc::{AllocError, Global};
+use std::alloc::Global;
 use std::io::Read;
-
-// What was asked, or that there was no memory.
-fn or_memory<T>(made: Result<T, AllocError>) -> Result<T, ReadFault>
-    ensures ok { IfOk result (λ value. made ≡ Ok value) }
-    ensures err { IfErr result (λ fault. fault ≡ ReadFault.Memory) }
-{
-    match made {
-        Ok(value) => Ok(value),
-        Err(_) => Err(ReadFault::Memory),
-    }
-}
 
 // What is asked at a route by its body.
 fn ask_with_body<R: Read>(
@@ -41,19 +31,17 @@ fn ask_with_body<R: Read>(
     headers: &[HeaderSpan],
     start: usize,
     route: Route,
-) -> Result<Result<Request, Refusal>, ReadFault>
+) -> Result<Request, AskFault>
     requires within { All (IsHeaderWithin (length buf.now)) headers.now }
     requires started { start ≤ length buf.now }
-    ensures asks { IfOk result (λ asked. HadBytes (R.remaining reader.old) (λ more. asks asked
+    ensures asks { IfAsked result (λ asked. HadBytes (R.remaining reader.old) (λ more. asked
         ≡ asked_with route (body_of (map (header_bytes buf.now) headers.now) (drop start buf.now ++ more)))) }
-    ensures sender { IfOk result (λ made. IfOk made (λ request. IsGoodAsked (asked request))) }
+    ensures sender { IfOk result (λ request. IsGoodAsked (asked request)) }
     ensures taken { TakesBody (size_told (body_length (map (header_bytes buf.now) headers.now)))
         (drop start buf.now) (R.remaining reader.old) (R.remaining reader.new) }
 {
-    match read_body(alloc, reader, buf, headers, start)? {
-        Ok(body) => or_memory(ask_body(alloc, route, body.as_slice())),
-        Err(refusal) => Ok(Err(Refusal::BodyRefused(refusal))),
-    }
+    let body = read_body(alloc, reader, buf, headers, start)?;
+    ask_body(alloc, route, body.as_slice())
 }
 
 // What is asked at a route by its own method.
@@ -65,18 +53,18 @@ fn ask_at<R: Read>(
     start: usize,
     path: &[u8],
     route: Route,
-) -> Result<Result<Request, Refusal>, ReadFault>
+) -> Result<Request, AskFault>
     requires within { All (IsHeaderWithin (length buf.now)) headers.now }
     requires started { start ≤ length buf.now }
-    ensures asks { IfOk result (λ asked. HadBytes (R.remaining reader.old) (λ more. asks asked
+    ensures asks { IfAsked result (λ asked. HadBytes (R.remaining reader.old) (λ more. asked
         ≡ asked_at route path.now (map (header_bytes buf.now) headers.now) (drop start buf.now ++ more))) }
-    ensures sender { IfOk result (λ made. IfOk made (λ request. IsGoodAsked (asked request))) }
+    ensures sender { IfOk result (λ request. IsGoodAsked (asked request)) }
     ensures taken { TakesBody (size_at route (map (header_bytes buf.now) headers.now))
         (drop start buf.now) (R.remaining reader.old) (R.remaining reader.new) }
 {
     match route {
-        Route::Bug => or_memory(ask_page(alloc, bug_part(path))),
-        Route::List => or_memory(ask_list(alloc, list_parts(path))),
+        Route::Bug => ask_page(alloc, bug_part(path)),
+        Route::List => ask_list(alloc, list_parts(path)),
         Route::Bugs => ask_with_body(alloc, reader, buf, headers, start, Route::Bugs),
         Route::Control => ask_with_body(alloc, reader, buf, headers, start, Route::Control),
         Route::Branches => ask_with_body(alloc, reader, buf, headers, start, Route::Branches),
@@ -92,21 +80,21 @@ fn ask_target<R: Read>(
     start: usize,
     method_asked: &[u8],
     target: &[u8],
-) -> Result<Result<Request, Refusal>, ReadFault>
+) -> Result<Request, AskFault>
     requires within { All (IsHeaderWithin (length buf.now)) headers.now }
     requires started { start ≤ length buf.now }
-    ensures asks { IfOk result (λ asked. HadBytes (R.remaining reader.old) (λ more. asks asked
+    ensures asks { IfAsked result (λ asked. HadBytes (R.remaining reader.old) (λ more. asked
         ≡ asked_by method_asked.now target.now (map (header_bytes buf.now) headers.now) (drop start buf.now ++ more))) }
-    ensures sender { IfOk result (λ made. IfOk made (λ request. IsGoodAsked (asked request))) }
+    ensures sender { IfOk result (λ request. IsGoodAsked (asked request)) }
     ensures taken { TakesBody (size_by method_asked.now target.now (map (header_bytes buf.now) headers.now))
         (drop start buf.now) (R.remaining reader.old) (R.remaining reader.new) }
 {
     let path = path(target);
-    let Some(route) = or_memory(route_of(alloc, path))? else {
-        return Ok(Err(Refusal::NotFound));
+    let Some(route) = route_of(alloc, path)? else {
+        return Err(AskFault::Refused(Refusal::NotFound));
     };
     if method_asked != method(route).as_bytes() {
-        return Ok(Err(Refusal::NotAllowed(route)));
+        return Err(AskFault::Refused(Refusal::NotAllowed(route)));
     }
     ask_at(alloc, reader, buf, headers, start, path, route)
 }
@@ -117,18 +105,19 @@ fn ask_target<R: Read>(
 ///
 /// # Errors
 ///
-/// `Memory` where there was none; `Read` where a read failed before the body was whole.
+/// `Refused` where the request is refused; `Memory` where there was none; `Read` where a read
+/// failed before the body was whole.
 pub fn ask<R: Read>(
     alloc: Global,
     reader: &mut R,
     buf: &[u8],
     headers: &[HeaderSpan],
     spans: RequestSpans,
-) -> Result<Result<Request, Refusal>, ReadFault>
+) -> Result<Request, AskFault>
     requires { IsRequestWithin buf.now headers.now spans }
-    ensures asks { IfOk result (λ asked. (head : RequestHead) → IsRequestAt buf.now headers.now spans head
-        → HadBytes (R.remaining reader.old) (λ more. asks asked ≡ asked_of head (drop spans.len buf.now ++ more))) }
-    ensures sender { IfOk result (λ made. IfOk made (λ request. IsGoodAsked (asked request))) }
+    ensures asks { IfAsked result (λ asked. (head : RequestHead) → IsRequestAt buf.now headers.now spans head
+        → HadBytes (R.remaining reader.old) (λ more. asked ≡ asked_of head (drop spans.len buf.now ++ more))) }
+    ensures sender { IfOk result (λ request. IsGoodAsked (asked request)) }
     ensures taken { (head : RequestHead) → IsRequestAt buf.now headers.now spans head
         → TakesBody (size_of head) (drop spans.len buf.now) (R.remaining reader.old) (R.remaining reader.new) }
 {

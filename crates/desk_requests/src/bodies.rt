@@ -8,8 +8,9 @@ ghost use Rattle.desk_requests.specs.Requests.{IsGoodAsked};
 ghost use Rattle.desk_requests.specs.Shown.{asked, report_asked, message_asked};
 ghost use Rattle.routes_and_json.specs.Members.{control_members, id_member};
 ghost use Rattle.desk_requests.specs.Asking.{is_good_asked, control_asked, posted, members_of, asked_by_body};
-ghost use Rattle.desk_requests.specs.Refused.{asks};
+ghost use Rattle.desk_requests.specs.Refused.{asks, IfAsked};
 
+use crate::fault::AskFault;
 use crate::refusal::Refusal;
 use crate::request::{MessageRequest, OnceRequest, ReportRequest, Request};
 use bug_core::is_text;
@@ -139,18 +140,14 @@ fn posted(request: Option<Request>) -> Result<Request, Refusal>
 ///
 /// # Errors
 ///
-/// Where there is no memory for it.
+/// `Refused` where it asks nothing there; `Memory` where there is none for what it asks.
 #[tactic(auto, unfolding(crate::specs::Asking::asked_by_body))]
-pub(crate) fn ask_body(
-    alloc: Global,
-    route: Route,
-    body: &[u8],
-) -> Result<Result<Request, Refusal>, AllocError>
-    ensures asks { IfOk result (λ asked. asks asked ≡ asked_by_body route body.now) }
-    ensures sender { IfOk result (λ made. IfOk made (λ request. IsGoodAsked (asked request))) }
+pub(crate) fn ask_body(alloc: Global, route: Route, body: &[u8]) -> Result<Request, AskFault>
+    ensures asks { IfAsked result (λ asked. asked ≡ asked_by_body route body.now) }
+    ensures sender { IfOk result (λ request. IsGoodAsked (asked request)) }
 {
     let Some(value) = parse(alloc, body)? else {
-        return Ok(Err(Refusal::BadRequest));
+        return Err(AskFault::Refused(Refusal::BadRequest));
     };
-    Ok(posted(request_of(alloc, route, &value)?))
+    Ok(posted(request_of(alloc, route, &value)?)?)
 }

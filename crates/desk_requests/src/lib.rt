@@ -5,6 +5,7 @@
 
 mod asking;
 mod bodies;
+mod fault;
 mod laws;
 mod paths;
 mod refusal;
@@ -13,6 +14,7 @@ mod request;
 mod writing;
 
 pub use asking::ask;
+pub use fault::AskFault;
 pub use laws::{an_input_has_one_request, nothing_is_taken_after_a_request};
 pub use refusal::{Refusal, refuse};
 pub use reply::{Body, Reply, json_reply, not_found, page_reply, store_fault};

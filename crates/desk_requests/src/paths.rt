@@ -4,8 +4,9 @@ ghost use Rattle.std.specs.Prelude.{◌≡◌, IfOk, option_map, string_bytes};
 ghost use Rattle.desk_requests.specs.Requests.{IsGoodAsked};
 ghost use Rattle.desk_requests.specs.Shown.{asked};
 ghost use Rattle.desk_requests.specs.Asking.{page_by, list_by, route_of};
-ghost use Rattle.desk_requests.specs.Refused.{asks};
+ghost use Rattle.desk_requests.specs.Refused.{IfAsked};
 
+use crate::fault::AskFault;
 use crate::refusal::Refusal;
 use crate::request::{ListRequest, Request};
 use control_text::number_word;
@@ -17,18 +18,18 @@ use std::str;
 ///
 /// # Errors
 ///
-/// Where there is no memory for the text of the part.
+/// `Refused` where the part is no number word; `Memory` where there is none for its text.
 #[tactic(auto, unfolding(crate::specs::Asking::page_by))]
-pub(crate) fn ask_page(alloc: Global, part: &[u8]) -> Result<Result<Request, Refusal>, AllocError>
-    ensures asks { IfOk result (λ asked. asks asked ≡ page_by part.now) }
-    ensures sender { IfOk result (λ made. IfOk made (λ request. IsGoodAsked (asked request))) }
+pub(crate) fn ask_page(alloc: Global, part: &[u8]) -> Result<Request, AskFault>
+    ensures asks { IfAsked result (λ asked. asked ≡ page_by part.now) }
+    ensures sender { IfOk result (λ request. IsGoodAsked (asked request)) }
 {
     let Some(word) = decoded_text(alloc, part)? else {
-        return Ok(Err(Refusal::NotFound));
+        return Err(AskFault::Refused(Refusal::NotFound));
     };
     match number_word(word.as_str()) {
-        Some(number) => Ok(Ok(Request::Page(number))),
-        None => Ok(Err(Refusal::NotFound)),
+        Some(number) => Ok(Request::Page(number)),
+        None => Err(AskFault::Refused(Refusal::NotFound)),
     }
 }
 
@@ -36,22 +37,19 @@ pub(crate) fn ask_page(alloc: Global, part: &[u8]) -> Result<Result<Request, Ref
 ///
 /// # Errors
 ///
-/// Where there is no memory for the texts of the parts.
+/// `Refused` where a part is no text; `Memory` where there is none for the texts.
 #[tactic(auto, unfolding(crate::specs::Asking::list_by))]
-pub(crate) fn ask_list(
-    alloc: Global,
-    parts: ListParts<'_>,
-) -> Result<Result<Request, Refusal>, AllocError>
-    ensures asks { IfOk result (λ asked. asks asked ≡ list_by parts.entry.«package».now parts.entry.version.now) }
-    ensures sender { IfOk result (λ made. IfOk made (λ request. IsGoodAsked (asked request))) }
+pub(crate) fn ask_list(alloc: Global, parts: ListParts<'_>) -> Result<Request, AskFault>
+    ensures asks { IfAsked result (λ asked. asked ≡ list_by parts.entry.«package».now parts.entry.version.now) }
+    ensures sender { IfOk result (λ request. IsGoodAsked (asked request)) }
 {
     let Some(package) = decoded_text(alloc, parts.package)? else {
-        return Ok(Err(Refusal::NotFound));
+        return Err(AskFault::Refused(Refusal::NotFound));
     };
     let Some(version) = decoded_text(alloc, parts.version)? else {
-        return Ok(Err(Refusal::NotFound));
+        return Err(AskFault::Refused(Refusal::NotFound));
     };
-    Ok(Ok(Request::ListOf(ListRequest { package, version })))
+    Ok(Request::ListOf(ListRequest { package, version }))
 }
 
 /// The route of a path, which has none where it is no UTF-8.

@@ -13,17 +13,22 @@ use crate::reply::{Body, Reply, not_found};
 use connection_bytes::BodyRefusal;
 use http::StatusCode;
 use routes_and_json::{Route, method};
+use thiserror::Error;
 
 /// Why a request is refused.
-#[derive(Clone, Copy)]
+#[derive(Clone, Copy, Debug, PartialEq, Eq, Error)]
 pub enum Refusal {
     /// The head is wrong, or the body says nothing that its route asks for.
+    #[error("bad request")]
     BadRequest,
     /// The path has no route, or there is no such bug or list.
+    #[error("not found")]
     NotFound,
     /// The route has another method.
+    #[error("method not allowed")]
     NotAllowed(Route),
     /// There is no body that can be read.
+    #[error(transparent)]
     BodyRefused(BodyRefusal),
 }
 

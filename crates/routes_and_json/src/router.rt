@@ -10,7 +10,7 @@ use matchit::{InsertError, Router};
 use std::alloc::{AllocError, Global};
 
 /// A route of the desk.
-#[derive(Clone, Copy)]
+#[derive(Clone, Copy, Debug, PartialEq, Eq)]
 pub enum Route {
     /// `/bugs`: a report.
     Bugs,
