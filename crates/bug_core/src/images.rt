@@ -9,6 +9,9 @@ use bug_record::{Change, Member, Sequence, SetImage};
 use std::alloc::{AllocError, Global};
 use std::collections::BTreeSet;
 
+/// So many bugs are found sooner by going over members for each than by a tree of numbers.
+pub(crate) const FEW: usize = 4;
+
 /// The bugs whose sets a change replaces.
 #[derive(Clone, Copy)]
 pub(crate) enum Named<'a> {
@@ -25,12 +28,25 @@ fn has_some(members: &[Member], numbers: &BTreeSet<u64>) -> bool
         .any(|member| numbers.contains(&member.number))
 }
 
+// Whether one of the numbers is that of a member.
+fn has_one_of(image: &SetImage, numbers: &BTreeSet<u64>) -> bool
+    ensures { result ≡ has_any (numbers_of image.now.members) numbers.now.keys }
+{
+    for number in numbers {
+        if image.has(*number) {
+            return true;
+        }
+    }
+    false
+}
+
 /// Whether one of the bugs is in the image.
 pub(crate) fn has_any(image: &SetImage, named: Named) -> bool
     ensures { result ≡ has_any (numbers_of image.now.members) (named_numbers named.entry) }
 {
     match named {
         Named::One(number) => image.has(number),
+        Named::Several(numbers) if numbers.len() <= FEW => has_one_of(image, numbers),
         Named::Several(numbers) => has_some(image.members.as_slice(), numbers),
     }
 }

@@ -1,27 +1,27 @@
 //! The image of the set that merged bugs become.
 
-ghost use Rattle.std.specs.Prelude.{◌≡◌, ◌∷◌, [], ℕ, IfOk, OnOk};
+ghost use Rattle.std.specs.Prelude.{◌≡◌, ◌∷◌, [], ℕ, false, IsTrue, IfOk, OnOk};
 ghost use Rattle.std.specs.BTreeMap.{values};
 ghost use Rattle.std.specs.Option.{option_copied};
 ghost use Rattle.bug_record.specs.Bugs.{bugs_at};
-ghost use Rattle.bug_record.specs.Images.{bug_in};
+ghost use Rattle.bug_record.specs.Images.{numbers_of, bug_in};
 ghost use Rattle.bug_record.specs.Merges.{first_owner};
 ghost use Rattle.bug_record.specs.Sets.{has, with_item, with_items};
 ghost use Rattle.bug_record.specs.Tags.{tag_place};
 ghost use Rattle.bug_core.specs.Joins.{with_nodes, with_members, with_shared, with_all_shared, gathered_shared};
 ghost use Rattle.bug_core.specs.Joins.{number_of, without_gathered, without_own, joined_image, AreByNumber};
-ghost use Rattle.bug_core.specs.Others.{those_meant};
+ghost use Rattle.bug_core.specs.Others.{has_any, those_meant};
 ghost use Rattle.bug_core.specs.Named.{named_numbers};
 
 use crate::by_number::joined_members;
-use crate::images::{Named, has_any};
+use crate::images::{FEW, Named, has_any};
 use crate::lookup::Lookup;
 use crate::marks::Marks;
 use bug_record::{
     Agreed, Member, Members, Sequence, SetImage, Shared, Tag, Tags, add_names, add_numbers,
 };
 use debver::Text;
-use set_images::member_numbers;
+use set_images::{member_at, member_numbers};
 use std::alloc::{AllocError, Global};
 use std::collections::{BTreeMap, BTreeSet};
 use std::marker::Model;
@@ -177,11 +177,37 @@ fn put_owner(shared: &mut Shared, lookup: &Lookup, numbers: &[u64]) -> Result<()
     Ok(())
 }
 
+// Whether the number is that of a member.
+fn is_member(members: &[Member], number: u64) -> bool
+    ensures { result ≡ has (numbers_of members.now) number }
+{
+    member_at(members, number).is_some()
+}
+
+// Whether one of the numbers is that of a member.
+fn has_own(members: &[Member], numbers: &[u64]) -> bool
+    ensures { result ≡ has_any (numbers_of members.now) numbers.now }
+{
+    for number in numbers {
+        if is_member(members, *number) {
+            return true;
+        }
+    }
+    false
+}
+
+// Whether the numbers are few, and none is that of a member.
+fn are_few_others(members: &[Member], numbers: &[u64]) -> bool
+    ensures { IsTrue result → has_any (numbers_of members.now) numbers.now ≡ false }
+{
+    numbers.len() <= FEW && !has_own(members, numbers)
+}
+
 // Takes the blockers out that are among these members.
 fn drop_own(alloc: Global, shared: &mut Shared, members: &[Member]) -> Result<(), AllocError>
     ensures { OnOk result (shared.new ≡ without_own members.now shared.old) }
 {
-    if shared.blockers.as_slice().is_empty() {
+    if are_few_others(members, shared.blockers.as_slice()) {
         return Ok(());
     }
     let own = member_numbers(alloc, members)?;

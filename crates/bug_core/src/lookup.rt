@@ -4,13 +4,11 @@ ghost use Rattle.std.specs.Prelude.{◌≡◌, MatchOption, Some, None, false, I
 ghost use Rattle.bug_record.specs.Images.{bug_of, bug_in};
 ghost use Rattle.bug_record.specs.Words.{bug_refusal, first_bug_refusal};
 
+use crate::images::FEW;
 use bug_record::{Member, Refusal, SetImage};
 use set_images::{Index, archived_refusal, member_at};
 use std::alloc::{AllocError, Global};
 use std::marker::Model;
-
-// So many bugs are found sooner by going over the images for each than by making an index.
-const FEW: usize = 4;
 
 /// Images in which bugs are looked up, which contracts see as their list.
 /// Many are looked up by an index, and few by going over the images.

@@ -1,11 +1,13 @@
-use Rattle.std.proofs.Common.{◌≡◌, ℕ, true, List, [], ◌∷◌, length, refl, sym, ap, ◌∙◌, arith}
-use Rattle.std.specs.Prelude.{◌==◌, not, filter}
-use Rattle.std.proofs.lemmas.Bool.{eqb-true}
+use Rattle.std.proofs.Common.{◌≡◌, ℕ, Bool, false, cond, List, [], ◌∷◌, refl, sym, ap, ◌∙◌}
+use Rattle.std.specs.Prelude.{not, filter}
+use Rattle.std.specs.List.{list_any}
+use Rattle.std.proofs.lemmas.Bool.{or_parts}
 use Rattle.bug_record.specs.Sets.{has}
 use Rattle.bug_record.specs.Images.{numbers_of}
 use Rattle.bug_record.specs.declared.bug.Member.{Member}
 use Rattle.bug_record.specs.declared.bug.Shared.{Shared}
 use Rattle.bug_core.specs.Joins.{without_own}
+use Rattle.bug_core.specs.Others.{has_any}
 use Rattle.bug_core.proofs.NamedLemmas.{has-set}
 use Rattle.bug_core.proofs.joins.drop_own.Goals as goal
 
@@ -16,14 +18,20 @@ returns c = λ j. record c.args.shared.now {
       c.args.shared.now.blockers)) j;
 }
 
--- a list with no element
-empty : (ns : List ℕ) → (length ns == 0) ≡ true → ns ≡ []
-empty [] e = refl
-empty (n ∷ ns) e = let none : length (n ∷ ns) ≡ 0 = eqb-true (length (n ∷ ns)) 0 e in absurd (omega arith)
+-- where none of them passes a test, all that fail it
+all_kept : (p : ℕ → Bool) (ns : List ℕ) → list_any p ns ≡ false → filter (λ n. not (p n)) ns ≡ ns
+all_kept p [] e = refl
+all_kept p (n ∷ ns) e =
+    let none = or_parts (p n) (list_any p ns) e in
+    ap (λ t. cond (not t) (n ∷ filter (λ m. not (p m)) ns) (filter (λ m. not (p m)) ns)) none.0
+    ∙ ap (λ ms. n ∷ ms) (all_kept p ns none.1)
 
-no_blockers : (ms : List Member) (f : Shared) → f.blockers ≡ [] → f ≡ without_own ms f
-no_blockers ms f e = λ j. record f { blockers = (e ∙ ap (filter (λ n. not (has (numbers_of ms) n))) (sym e)) j }
+no_blockers : (ms : List Member) (f : Shared) (bs : List ℕ) → bs ≡ f.blockers → has_any (numbers_of ms) bs ≡ false
+    → f ≡ without_own ms f
+no_blockers ms f bs e none =
+    λ j. record f { blockers = sym (all_kept (has (numbers_of ms)) f.blockers (ap (has_any (numbers_of ms)) (sym e) ∙ none)) j }
 
-pub returns-then-is_empty : goal.returns-then-is_empty
-returns-then-is_empty c = no_blockers c.args.members.now c.args.shared.now
-    (sym c.as_slice.ensures ∙ empty c.as_slice.result.now (sym c.is_empty.ensures ∙ c.if-is_empty.true))
+pub returns-then-are_few_others : goal.returns-then-are_few_others
+returns-then-are_few_others c =
+    no_blockers c.args.members.now c.args.shared.now c.as_slice.result.now c.as_slice.ensures
+    (c.are_few_others.ensures c.if-are_few_others.true)
