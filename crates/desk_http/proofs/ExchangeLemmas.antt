@@ -1,6 +1,7 @@
 -- What an input is answered, out of what was read of it.
-use Rattle.std.proofs.Common.{◌≡◌, ◌≢◌, inl, inr, ℕ, ◌++◌, List, [], take, drop, Option, Some, None, IfSome, Result, Ok, Err, refl, sym, ap, subst}
+use Rattle.std.proofs.Common.{◌≡◌, ◌≢◌, inl, inr, ℕ, ◌++◌, List, [], take, drop, Option, Some, None, IfSome, Result, Ok, Err, IsErr, IfOk, OnOk, true, false, refl, sym, ap, subst}
 use Rattle.std.specs.Bool.{⊤}
+use Rattle.std.specs.Result.{is_ok}
 use Rattle.std.specs.Io.KnownBytes.{Appends}
 use Rattle.httparse.specs.Grammar.{RequestHead}
 use Rattle.httparse.specs.Spans.{IsRequestAt}
@@ -106,6 +107,24 @@ pub wrong_right : (old : Option (List ℕ)) (d : Stored) (reply : Reply) → Had
 wrong_right old d reply w g = had_then old IsWrong _
     (λ bytes wrong. inr (record { not_empty = wrong.0; none = wrong.1; no_fault = g.1; is = g.0; same = refl })) w
 
+-- what holds in any case
+pub on_any : {T E : Type 0} (r : Result T E) (P : Type 0) → P → OnOk r P
+on_any (Ok x) P h = h
+on_any (Err fault) P h = tt
+
+true_is_false : true ≡ false → ⊥
+true_is_false e = cc
+
+-- what holds where a call went well holds where its error, if there was one, was put in other words
+on_mapped : {T E F : Type 0} (r : Result T E) (m : Result T F) (P : Type 0) → is_ok m ≡ is_ok r → OnOk r P → OnOk m P
+on_mapped r (Err fault) P e h = tt
+on_mapped (Ok x) (Ok y) P e h = h
+on_mapped (Err fault) (Ok y) P e h = absurd (true_is_false e)
+
+pub went_well : {T E F : Type 0} (r : Result T E) (m : Result T F) (x : T) (P : Type 0) → m ≡ Ok x → is_ok m ≡ is_ok r
+    → OnOk r P → P
+went_well {T} {E} {F} r m x P is e h = subst (λ (q : Result T F). OnOk q P) is (on_mapped r m P e h)
+
 -- an input that begins with a head has no wrong one
 pub not_wrong : (old new : Option (List ℕ)) (buf : List ℕ) (headers : List HeaderSpan) (spans : RequestSpans) (filled : ℕ)
     → IsComplete old new buf headers spans filled → (P : Type 0) → IfSome old (λ input. input ≢ [] → HasNoHead input → P)
@@ -131,11 +150,17 @@ wrong_served (Some x) same made reply c0 c1 is w written = λ some none.
     (found.0, (ap (λ (a : Answer). Answered a.status) g.0, subst (λ (a : Answer). Appends c0 c1 (answer_bytes a)) g.0 written))
 
 -- a wrong head, whatever was written
-pub wrong_unwritten : (input : Option (List ℕ)) (same given : Type 0)
+wrong_unwritten : (input : Option (List ℕ)) (same given : Type 0)
     → IfSome input (λ bytes. bytes ≢ [] → HasNoHead bytes → same × given)
     → IfSome input (λ bytes. bytes ≢ [] → HasNoHead bytes → same × ⊤)
 wrong_unwritten None same given w = tt
 wrong_unwritten (Some x) same given w = λ some none. ((w some none).0, tt)
+
+pub wrong_failed : {T E : Type 0} (input : Option (List ℕ)) (same given : Type 0) (r : Result T E) (Is : T → Type 0) → IsErr r
+    → IfSome input (λ bytes. bytes ≢ [] → HasNoHead bytes → same × given)
+    → IfSome input (λ bytes. bytes ≢ [] → HasNoHead bytes → same × IfOk r Is)
+wrong_failed input same given (Ok x) Is is w = absurd (true_is_false (sym is))
+wrong_failed input same given (Err fault) Is is w = wrong_unwritten input same given w
 
 -- the input of what is right
 right_by : (known : Option (List ℕ)) (old new : Stored) (n0 n1 : Faults) (fault : Option StoreFault) (answer : Answer)

@@ -59,13 +59,9 @@ fn send<W: Write>(writer: &mut Held<W>, reply: &Reply) -> Result<Served, ServeFa
     ensures status { IfOk result (λ served. served ≡ Served.Answered reply.now.status) }
     ensures write { OnErr result (result ≡ Err ServeFault.Write) }
 {
-    if write_reply(writer, reply).is_err() {
-        return Err(ServeFault::Write);
-    }
-    match writer.flush() {
-        Ok(()) => Ok(Served::Answered(reply.status)),
-        Err(_) => Err(ServeFault::Write),
-    }
+    write_reply(writer, reply).map_err(|_| ServeFault::Write)?;
+    writer.flush().map_err(|_| ServeFault::Write)?;
+    Ok(Served::Answered(reply.status))
 }
 
 // Writes an answer within its time.
@@ -78,13 +74,9 @@ fn send_within<C: Clock + Copy + Drop, W: Write + Limits + Drop>(
     ensures write { OnErr result (result ≡ Err ServeFault.Write) }
 {
     let seconds = answer_seconds(reply);
-    match Deadline::after(&clock, seconds) {
-        Ok(deadline) => {
-            let timed = Timed::new(clock, writer, deadline, seconds, seconds);
-            send(&mut Held::new(timed), reply)
-        }
-        Err(_) => Err(ServeFault::Write),
-    }
+    let deadline = Deadline::after(&clock, seconds).map_err(|_| ServeFault::Write)?;
+    let timed = Timed::new(clock, writer, deadline, seconds, seconds);
+    send(&mut Held::new(timed), reply)
 }
 
 // Reads what a client still sends, up to its end, an error or the bound, and lets it go.

@@ -37,13 +37,9 @@ fn write_place<W: Write>(writer: &mut W, port: u16) -> Result<(), ServerFault>
 {
     let mut number = Buffer::new();
     let number = number.format(port);
-    let Ok(()) = write_three(writer, b"Listening on 127.0.0.1:", number.as_bytes(), b"\n") else {
-        return Err(ServerFault::Write);
-    };
-    match writer.flush() {
-        Ok(()) => Ok(()),
-        Err(_) => Err(ServerFault::Write),
-    }
+    let number = number.as_bytes();
+    write_three(writer, b"Listening on 127.0.0.1:", number, b"\n").map_err(|_| ServerFault::Write)?;
+    writer.flush().map_err(|_| ServerFault::Write)
 }
 
 /// Listens on a port of 127.0.0.1, tells so, and serves so many connections, one after another.

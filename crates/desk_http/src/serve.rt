@@ -137,8 +137,6 @@ pub fn serve_one<S: Records, R: Read, W: Write>(
     let Some(reply) = exchange(alloc, store, reader)? else {
         return Ok(Served::Closed);
     };
-    match write_reply(writer, &reply) {
-        Ok(()) => Ok(Served::Answered(reply.status)),
-        Err(_) => Err(ServeFault::Write),
-    }
+    write_reply(writer, &reply).map_err(|_| ServeFault::Write)?;
+    Ok(Served::Answered(reply.status))
 }
