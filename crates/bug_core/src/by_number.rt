@@ -1,6 +1,6 @@
 //! The members of the set that merged bugs become, by number.
 
-ghost use Rattle.std.specs.Prelude.{◌≡◌, ◌∷◌, [], ◌++◌, ℕ, None, IfOk, OnOk, MatchOption};
+ghost use Rattle.std.specs.Prelude.{◌≡◌, ◌∷◌, [], ◌++◌, None, IfOk, OnOk, MatchOption};
 ghost use Rattle.std.specs.BTreeMap.{values};
 ghost use Rattle.bug_record.specs.Images.{numbers_of};
 ghost use Rattle.bug_record.specs.Sets.{with_item, with_items, IsAscending};
