@@ -154,7 +154,8 @@ fn merged(
     requires ascending { IsAscending (numbers_of others.now) }
     ensures { IfOk result (λ ms. ms ≡ with_items number_of members.now others.now) }
 {
-    let mut merged = Sequence::new(alloc);
+    let room = members.len().saturating_add(others.len());
+    let mut merged = Sequence::from_vec(Vec::with_capacity(alloc, room)?);
     let mut rest = members;
     for other in others {
         rest = add_below(&mut merged, rest, other.number)?;
