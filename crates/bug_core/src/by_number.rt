@@ -1,6 +1,6 @@
 //! The members of the set that merged bugs become, by number.
 
-ghost use Rattle.std.specs.Prelude.{◌≡◌, ◌∷◌, [], ◌++◌, ℕ, None, IfOk, OnOk, MatchOption};
+ghost use Rattle.std.specs.Prelude.{◌≡◌, ◌∷◌, [], ◌++◌, None, IfOk, OnOk, MatchOption};
 ghost use Rattle.std.specs.BTreeMap.{values};
 ghost use Rattle.bug_record.specs.Images.{numbers_of};
 ghost use Rattle.bug_record.specs.Sets.{with_item, with_items, IsAscending};
@@ -154,7 +154,8 @@ fn merged(
     requires ascending { IsAscending (numbers_of others.now) }
     ensures { IfOk result (λ ms. ms ≡ with_items number_of members.now others.now) }
 {
-    let mut merged = Sequence::new(alloc);
+    let room = members.len().saturating_add(others.len());
+    let mut merged = Sequence::from_vec(Vec::with_capacity(alloc, room)?);
     let mut rest = members;
     for other in others {
         rest = add_below(&mut merged, rest, other.number)?;

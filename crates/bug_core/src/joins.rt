@@ -1,15 +1,14 @@
 //! The image of the set that merged bugs become.
 
 ghost use Rattle.std.specs.Prelude.{◌≡◌, ◌∷◌, [], ℕ, false, IsTrue, IfOk, OnOk};
-ghost use Rattle.std.specs.BTreeMap.{values};
 ghost use Rattle.std.specs.Option.{option_copied};
 ghost use Rattle.bug_record.specs.Bugs.{bugs_at};
 ghost use Rattle.bug_record.specs.Images.{numbers_of, bug_in};
 ghost use Rattle.bug_record.specs.Merges.{first_owner};
-ghost use Rattle.bug_record.specs.Sets.{has, with_item, with_items};
+ghost use Rattle.bug_record.specs.Sets.{has, with_items};
 ghost use Rattle.bug_record.specs.Tags.{tag_place};
-ghost use Rattle.bug_core.specs.Joins.{with_nodes, with_members, with_shared, with_all_shared, gathered_shared};
-ghost use Rattle.bug_core.specs.Joins.{number_of, without_gathered, without_own, joined_image, AreByNumber};
+ghost use Rattle.bug_core.specs.Joins.{with_shared, with_all_shared, without_gathered, gathered_shared};
+ghost use Rattle.bug_core.specs.Joins.{without_own, joined_image};
 ghost use Rattle.bug_core.specs.Others.{has_any, those_meant};
 ghost use Rattle.bug_core.specs.Named.{named_numbers};
 
@@ -17,13 +16,11 @@ use crate::by_number::joined_members;
 use crate::images::{FEW, Named, has_any};
 use crate::lookup::Lookup;
 use crate::marks::Marks;
-use bug_record::{
-    Agreed, Member, Members, Sequence, SetImage, Shared, Tag, Tags, add_names, add_numbers,
-};
+use bug_record::{Agreed, Member, Sequence, SetImage, Shared, Tag, Tags, add_names, add_numbers};
 use debver::Text;
 use set_images::{member_at, member_numbers};
 use std::alloc::{AllocError, Global};
-use std::collections::{BTreeMap, BTreeSet};
+use std::collections::BTreeSet;
 use std::marker::Model;
 
 // Fields that are joined, which contracts see as such.
