@@ -138,10 +138,8 @@ fn put_open<S: Alter>(
         (changed_of family.now before.unknown.items before.roots.items))
         (λ c. with_nodes family.now c) }
 {
-    match changed_nodes(family.tree(), before) {
-        Ok(changed) => put_changed(alloc, conn, family, changed.as_slice()),
-        Err(_) => Err(StoreFault::Memory),
-    }
+    let changed = changed_nodes(family.tree(), before)?;
+    put_changed(alloc, conn, family, changed.as_slice())
 }
 
 // Takes a branch into the tree, before which these nodes are open to change, and into the tables.
@@ -163,10 +161,10 @@ fn take_open<S: Alter>(
 {
     branches_grow();
     match family.take_branch(nodes) {
-        Ok(()) => match put_open(alloc, conn, family, before) {
-            Ok(()) => Ok(Ok(())),
-            Err(fault) => Err(fault),
-        },
+        Ok(()) => {
+            put_open(alloc, conn, family, before)?;
+            Ok(Ok(()))
+        }
         Err(BranchFault::Memory) => Err(StoreFault::Memory),
         Err(refusal) => Ok(Err(refusal)),
     }
@@ -185,10 +183,8 @@ pub(crate) fn take_nodes<S: Alter>(
         (state S.Store conn.new) result }
     ensures forest { IsForest family.new }
 {
-    match open_nodes(alloc, family.tree(), nodes) {
-        Ok(before) => take_open(alloc, conn, family, nodes, before),
-        Err(_) => Err(StoreFault::Memory),
-    }
+    let before = open_nodes(alloc, family.tree(), nodes)?;
+    take_open(alloc, conn, family, nodes, before)
 }
 
 // Makes the tables of a new desk, which gives `first` to its first bug, in a database with none.

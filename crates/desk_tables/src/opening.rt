@@ -43,10 +43,8 @@ fn create_tables<S: Alter>(conn: &mut Connection<S>, first: u32) -> Result<(), O
     if !is_blank(schema) {
         return Err(OpenFault::Store(StoreFault::Foreign));
     }
-    match make_desk(conn, first) {
-        Ok(()) => Ok(()),
-        Err(fault) => Err(OpenFault::Store(fault)),
-    }
+    make_desk(conn, first)?;
+    Ok(())
 }
 
 // Asks the database whether it is a desk's, and under which schema.
@@ -55,11 +53,10 @@ fn recognise<S: Alter>(conn: &mut Connection<S>) -> Result<u64, OpenFault>
     ensures idle { IsIdle conn.new }
     ensures recognised { IsRecognised (state S.Store conn.old) (state S.Store conn.new) result }
 {
-    match ask_schema(conn) {
-        Ok(SchemaRead::Number(number)) if number <= NEWEST => Ok(number),
-        Ok(SchemaRead::Number(number)) => Err(OpenFault::NewerSchema(number)),
-        Ok(SchemaRead::NoNumber) => Err(OpenFault::NotADesk),
-        Err(fault) => Err(OpenFault::Store(fault)),
+    match ask_schema(conn)? {
+        SchemaRead::Number(number) if number <= NEWEST => Ok(number),
+        SchemaRead::Number(number) => Err(OpenFault::NewerSchema(number)),
+        SchemaRead::NoNumber => Err(OpenFault::NotADesk),
     }
 }
 
@@ -72,14 +69,12 @@ fn find_desk<S: Alter>(conn: &mut Connection<S>) -> Result<Snapshot<Connection<S
         (state S.Store conn.new) result }
 {
     let last = Snapshot::of(conn);
-    match recognise(conn) {
-        Ok(from) if from == NEWEST => Ok(last),
-        Ok(from) => match carry_desk(conn, from) {
-            Ok(()) => Ok(Snapshot::of(conn)),
-            Err(fault) => Err(OpenFault::Store(fault)),
-        },
-        Err(fault) => Err(fault),
+    let from = recognise(conn)?;
+    if from == NEWEST {
+        return Ok(last);
     }
+    carry_desk(conn, from)?;
+    Ok(Snapshot::of(conn))
 }
 
 impl<S: Alter> TableDesk<S> {
