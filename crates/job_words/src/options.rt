@@ -95,9 +95,7 @@ fn match_options<'a>(alloc: Global, words: &'a [&'a str]) -> Result<ArgMatches<'
         rows_of (found_of m) ≡ matches_of options (map (λ s. s.now) words.entry.now)) }
     ensures err { IfErr result (IsToldOf (refusals (map (λ s. s.now) words.entry.now))) }
 {
-    let Ok(command) = option_command(alloc) else {
-        return Err(WordsError::Memory);
-    };
+    let command = option_command(alloc)?;
     match command.try_get_matches_from(words) {
         Ok(matches) => Ok(matches),
         Err(error) => Err(told_of(alloc, &error)),
