@@ -5,7 +5,7 @@ use Rattle.std.specs.Io.KnownBytes.{Appends}
 use Rattle.sqlite.specs.declared.error.Error.{Error}
 use Rattle.sqlite.specs.declared.error.Error.TheVariants.{SqliteFailure}
 use Rattle.sqlite.specs.declared.error.ErrorCode.TheVariants as code
-use Rattle.bug_record.specs.declared.outcome.StoreFault.{StoreFault}
+use Rattle.bug_record.specs.Faults.{fault_message}
 use Rattle.bug_record.specs.declared.outcome.StoreFault.TheVariants as stores
 use Rattle.bug_record.specs.declared.outcome.End.{End}
 use Rattle.bug_record.specs.declared.outcome.End.TheVariants as messages
@@ -78,29 +78,27 @@ cause_of_opening (openings.NewerSchema number) = NewerSchema number
 cause_of_opening (openings.Store fault) = Store fault
 cause_of_opening openings.NotEmpty = NotEmpty
 
-abbrev pub store_line : StoreFault → List ℕ
-store_line stores.Memory = codes "bts: the store failed: memory\n"
-store_line stores.Device = codes "bts: the store failed: device\n"
-store_line stores.Full = codes "bts: the store failed: full\n"
-store_line stores.Foreign = codes "bts: the store failed: foreign\n"
+-- what is said of a cause
+abbrev pub cause_message : Cause → List ℕ
+cause_message Memory = codes "out of memory"
+cause_message Input = codes "standard input can't be read"
+cause_message Output = codes "standard output can't be written"
+cause_message (NotUtf8 line) = codes "line " ++ (decimal line ++ codes ": not UTF-8")
+cause_message (LineTooLong line) = codes "line " ++ (decimal line ++ codes ": longer than 65,536 bytes")
+cause_message (Store fault) = fault_message fault
+cause_message ServedStore = codes "the store failed while it was served"
+cause_message (Port port) = codes "port " ++ (decimal port ++ codes " can't be listened on")
+cause_message NoFile = codes "the store's file is not there"
+cause_message InUse = codes "the store's file is in use by another process"
+cause_message NotADesk = codes "the store's file is no desk"
+cause_message (NewerSchema number) =
+    codes "the store's file has the schema " ++ (decimal number ++ codes " of a later version")
+cause_message NotEmpty = codes "the store's file holds a desk already"
+cause_message CannotOpen = codes "the store's file can't be opened"
 
 -- the line that tells a cause
 abbrev pub cause_line : Cause → List ℕ
-cause_line Memory = codes "bts: out of memory\n"
-cause_line Input = codes "bts: standard input can't be read\n"
-cause_line Output = codes "bts: standard output can't be written\n"
-cause_line (NotUtf8 line) = codes "bts: line " ++ (decimal line ++ codes ": not UTF-8\n")
-cause_line (LineTooLong line) = codes "bts: line " ++ (decimal line ++ codes ": longer than 65,536 bytes\n")
-cause_line (Store fault) = store_line fault
-cause_line ServedStore = codes "bts: the store failed while it was served\n"
-cause_line (Port port) = codes "bts: port " ++ (decimal port ++ codes " can't be listened on\n")
-cause_line NoFile = codes "bts: the store's file is not there\n"
-cause_line InUse = codes "bts: the store's file is in use by another process\n"
-cause_line NotADesk = codes "bts: the store's file is no desk\n"
-cause_line (NewerSchema number) =
-    codes "bts: the store's file has the schema " ++ (decimal number ++ codes " of a later version\n")
-cause_line NotEmpty = codes "bts: the store's file holds a desk already\n"
-cause_line CannotOpen = codes "bts: the store's file can't be opened\n"
+cause_line cause = codes "bts: " ++ (cause_message cause ++ codes "\n")
 
 -- what is said of an end: two lines of bad words and of a fault
 abbrev pub complaint_of : JobEnd → List ℕ

@@ -3,3 +3,5 @@ pub mod InFile
 pub mod Left
 pub mod Jobs
 pub mod Program
+-- definitions that only private functions cite
+pub mod CauseText

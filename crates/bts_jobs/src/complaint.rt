@@ -1,10 +1,9 @@
 //! What is said on the error output.
 
 ghost use Rattle.std.specs.Prelude.{◌≡◌, ◌++◌, decimal};
-ghost use Rattle.bts_jobs.specs.Endings.{store_line, cause_line, IsWritten, IsTold};
+ghost use Rattle.bts_jobs.specs.Endings.{cause_message, cause_line, IsWritten, IsTold};
 
 use crate::ending::{Cause, JobEnd};
-use bug_record::StoreFault;
 use desk_lines::write_out;
 use itoa::Buffer;
 use std::io::Write;
@@ -27,6 +26,16 @@ fn write_number<E: Write>(errors: &mut E, number: u64) -> bool
     write_text(errors, digits.format(number))
 }
 
+// Writes two texts.
+fn write_both<E: Write>(errors: &mut E, first: &str, second: &str) -> bool
+    ensures { IsWritten (first.now ++ second.now) result (E.contents errors.old) (E.contents errors.new) }
+{
+    if !write_text(errors, first) {
+        return false;
+    }
+    write_text(errors, second)
+}
+
 // Writes a number between two texts.
 fn write_numbered<E: Write>(errors: &mut E, before: &str, number: u64, after: &str) -> bool
     ensures { IsWritten (before.now ++ (decimal number ++ after.now)) result (E.contents errors.old) (E.contents errors.new) }
@@ -40,15 +49,14 @@ fn write_numbered<E: Write>(errors: &mut E, before: &str, number: u64, after: &s
     write_text(errors, after)
 }
 
-// The line that tells a fault of the store.
-fn store_line(fault: StoreFault) -> &'static str
-    ensures { result.now ≡ store_line fault }
+// Writes what is said of a cause.
+fn write_message<E: Write>(errors: &mut E, cause: Cause) -> bool
+    ensures { IsWritten (cause_message cause) result (E.contents errors.old) (E.contents errors.new) }
 {
-    match fault {
-        StoreFault::Memory => "bts: the store failed: memory\n",
-        StoreFault::Device => "bts: the store failed: device\n",
-        StoreFault::Full => "bts: the store failed: full\n",
-        StoreFault::Foreign => "bts: the store failed: foreign\n",
+    let parts = cause.parts();
+    match parts.number {
+        Some(number) => write_numbered(errors, parts.before, number, parts.after),
+        None => write_both(errors, parts.before, parts.after),
     }
 }
 
@@ -56,41 +64,13 @@ fn store_line(fault: StoreFault) -> &'static str
 fn write_cause<E: Write>(errors: &mut E, cause: Cause) -> bool
     ensures { IsWritten (cause_line cause) result (E.contents errors.old) (E.contents errors.new) }
 {
-    match cause {
-        Cause::Memory => write_text(errors, "bts: out of memory\n"),
-        Cause::Input => write_text(errors, "bts: standard input can't be read\n"),
-        Cause::Output => write_text(errors, "bts: standard output can't be written\n"),
-        Cause::NotUtf8(line) => write_numbered(errors, "bts: line ", line, ": not UTF-8\n"),
-        Cause::LineTooLong(line) => {
-            write_numbered(errors, "bts: line ", line, ": longer than 65,536 bytes\n")
-        }
-        Cause::Store(fault) => write_text(errors, store_line(fault)),
-        Cause::ServedStore => write_text(errors, "bts: the store failed while it was served\n"),
-        Cause::Port(port) => {
-            write_numbered(
-                errors,
-                "bts: port ",
-                u64::from(port),
-                " can't be listened on\n",
-            )
-        }
-        Cause::NoFile => write_text(errors, "bts: the store's file is not there\n"),
-        Cause::InUse => write_text(
-            errors,
-            "bts: the store's file is in use by another process\n",
-        ),
-        Cause::NotADesk => write_text(errors, "bts: the store's file is no desk\n"),
-        Cause::NewerSchema(number) => {
-            write_numbered(
-                errors,
-                "bts: the store's file has the schema ",
-                number,
-                " of a later version\n",
-            )
-        }
-        Cause::NotEmpty => write_text(errors, "bts: the store's file holds a desk already\n"),
-        Cause::CannotOpen => write_text(errors, "bts: the store's file can't be opened\n"),
+    if !write_text(errors, "bts: ") {
+        return false;
     }
+    if !write_message(errors, cause) {
+        return false;
+    }
+    write_text(errors, "\n")
 }
 
 /// Writes what is said of an end: nothing where there was no fault and the words are good; else the

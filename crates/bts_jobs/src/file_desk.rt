@@ -152,10 +152,8 @@ pub fn create_desk<S: Start>(
     ensures cause { IfErr result IsInitCause }
     ensures made { IfOk result (IsNewInFile first) }
 {
-    match connect(rt, path, start) {
-        Ok(conn) => create_over(rt.alloc(), conn, first),
-        Err(cause) => Err(cause),
-    }
+    let conn = connect(rt, path, start)?;
+    create_over(rt.alloc(), conn, first)
 }
 
 /// Opens the desk in a file.
@@ -174,14 +172,9 @@ pub fn open_desk<S: Start>(rt: &HostRuntime, start: S, path: &str) -> Result<Fil
     ensures cause { IfErr result IsOpenCause }
     ensures opened { IfOk result (IsOpenedInFile (image_at S.Start)) }
 {
-    match look(rt, path) {
-        Ok(()) => {}
-        Err(cause) => return Err(cause),
-    }
-    match connect(rt, path, start) {
-        Ok(conn) => open_over(rt.alloc(), conn),
-        Err(cause) => Err(cause),
-    }
+    look(rt, path)?;
+    let conn = connect(rt, path, start)?;
+    open_over(rt.alloc(), conn)
 }
 
 /// Copies the log into the file, and hands both back, closed once they are dropped.

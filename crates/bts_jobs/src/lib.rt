@@ -2,6 +2,7 @@
 //! handed in.
 #![tactic(auto)]
 
+mod cause_text;
 mod complaint;
 mod ending;
 mod file_desk;
