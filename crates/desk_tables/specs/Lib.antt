@@ -5,4 +5,5 @@ pub mod Desk
 pub mod Opening
 pub mod Files
 -- definitions that only private functions cite
+pub mod Changing
 pub mod Transactions

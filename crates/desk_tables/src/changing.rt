@@ -2,18 +2,17 @@
 //!
 //! After each change it notes anew what the connection shows.
 
-ghost use Rattle.std.specs.Prelude.{◌≡◌, IfOk, OnOk, IsTrue, is_some, true};
+ghost use Rattle.std.specs.Prelude.{◌≡◌, IfOk, is_some, true};
 ghost use Rattle.std.specs.Option.{option_copied};
-ghost use Rattle.sqlite.specs.State.{Survives};
-ghost use Rattle.bug_record.specs.Texts.{IsText, IfGiven};
-ghost use Rattle.desk_content.specs.Changes.{FitsContent, changed};
-ghost use Rattle.desk_content.specs.Keeping.{kept_after};
-ghost use Rattle.desk_store.specs.Store.{Holds, Applies, Branches, IsRefusal};
+ghost use Rattle.bug_record.specs.Texts.{IsText};
+ghost use Rattle.desk_store.specs.Store.{IsRefusal};
 ghost use Rattle.desk_writes.specs.Needs.{HasTree, HasTreeIfAny};
-ghost use Rattle.desk_tables.specs.Desk.{state_of, content_shown, desk_of, keeping_of, faults_of};
-ghost use Rattle.desk_tables.specs.Desk.{HasHonestDisk, HasKeptTables, NeverForeign};
-ghost use Rattle.desk_tables.specs.Desk.{MayKeep, KeepsOf};
-ghost use Rattle.desk_tables.specs.Shown.{AreTablesOf, AreTablesAfter};
+ghost use Rattle.desk_tables.specs.Changing.{FitsTables, FitsTablesIfAny};
+ghost use Rattle.desk_tables.specs.Changing.{MakesChange, TakesBranch, KeepsLine};
+ghost use Rattle.desk_tables.specs.Changing.{LeavesMessages, ServesAfter, ServesAfterBranch};
+ghost use Rattle.desk_tables.specs.Changing.{SurvivesChange, SurvivesBranch, SurvivesLine};
+ghost use Rattle.desk_tables.specs.Desk.{content_shown, faults_of};
+ghost use Rattle.desk_tables.specs.Desk.{HasHonestDisk, HasKeptTables, NeverForeign, MayKeep};
 
 use crate::calls::{change_sets, keep_line, take_nodes};
 use crate::desk::TableDesk;
@@ -28,18 +27,13 @@ impl<S: Alter> TableDesk<S> {
     fn make(&mut self, change: &Change) -> Result<(), StoreFault>
         requires tree { HasKeptTables self.old → HasHonestDisk self.old →
             HasTree self.old.family (content_shown self.old) change.now }
-        requires fits { HasKeptTables self.old → HasHonestDisk self.old →
-            FitsContent (content_shown self.old) change.now }
-        ensures answer { Holds HasKeptTables HasHonestDisk self.old self.new
-            (Applies (desk_of self.old) (desk_of self.new) result change.now) }
-        ensures stays { HasKeptTables self.old → HasHonestDisk self.new →
-            keeping_of self.new ≡ keeping_of self.old }
+        requires fits { FitsTables self.old change.now }
+        ensures answer { MakesChange self.old self.new result change.now }
+        ensures stays { LeavesMessages self.old self.new }
         ensures sure { NeverForeign self.old self.new result }
-        ensures serves { HasKeptTables self.old → HasHonestDisk self.new →
-            OnOk result (IsTrue (state_of self.new).is_open) }
+        ensures serves { ServesAfter self.old self.new result }
         ensures crash { (HasHonestDisk self.new → HasKeptTables self.old) →
-            Survives (state_of self.old) (state_of self.new)
-            (AreTablesOf (changed (content_shown self.old) change.now)) }
+            SurvivesChange self.old self.new change.now }
         ensures counts { faults_of self.new ≡ faults_of self.old }
     {
         change_sets(self.alloc, &mut self.conn, self.family.as_ref(), change)?;
@@ -49,18 +43,12 @@ impl<S: Alter> TableDesk<S> {
 
     // Reads the tree, where that is still to be done, and carries a change out over it.
     pub(crate) fn load_and_make(&mut self, change: &Change) -> Result<(), StoreFault>
-        requires fits { HasKeptTables self.old → HasHonestDisk self.old →
-            FitsContent (content_shown self.old) change.now }
-        ensures answer { Holds HasKeptTables HasHonestDisk self.old self.new
-            (Applies (desk_of self.old) (desk_of self.new) result change.now) }
-        ensures stays { HasKeptTables self.old → HasHonestDisk self.new →
-            keeping_of self.new ≡ keeping_of self.old }
+        requires fits { FitsTables self.old change.now }
+        ensures answer { MakesChange self.old self.new result change.now }
+        ensures stays { LeavesMessages self.old self.new }
         ensures sure { NeverForeign self.old self.new result }
-        ensures serves { HasKeptTables self.old → HasHonestDisk self.new →
-            OnOk result (IsTrue (state_of self.new).is_open) }
-        ensures crash { HasKeptTables self.old →
-            Survives (state_of self.old) (state_of self.new)
-            (AreTablesOf (changed (content_shown self.old) change.now)) }
+        ensures serves { ServesAfter self.old self.new result }
+        ensures crash { HasKeptTables self.old → SurvivesChange self.old self.new change.now }
         ensures counts { faults_of self.new ≡ faults_of self.old }
     {
         self.load_for(change)?;
@@ -79,23 +67,19 @@ impl<S: Alter> TableDesk<S> {
         requires tree { HasKeptTables self.old → HasHonestDisk self.old →
             HasTreeIfAny self.old.family (content_shown self.old) (option_copied change) }
         requires sender { IsText from.now }
-        requires fits { HasKeptTables self.old → HasHonestDisk self.old →
-            IfGiven (FitsContent (content_shown self.old)) (option_copied change) }
+        requires fits { FitsTablesIfAny self.old (option_copied change) }
         ensures honest { HasHonestDisk self.new → HasHonestDisk self.old }
         ensures answer { MayKeep self.old id.now from.now message.now outcome.now
-            (option_copied change.entry) → Holds HasKeptTables HasHonestDisk self.old self.new
-            (KeepsOf self.old self.new id.now from.now message.now outcome.now
-            (option_copied change.entry) result) }
+            (option_copied change.entry) → KeepsLine self.old self.new id.now from.now message.now
+            outcome.now (option_copied change.entry) result }
         ensures sure { MayKeep self.old id.now from.now message.now outcome.now
             (option_copied change.entry) → NeverForeign self.old self.new result }
         ensures serves { MayKeep self.old id.now from.now message.now outcome.now
-            (option_copied change.entry) → HasKeptTables self.old → HasHonestDisk self.new →
-            OnOk result (IsTrue (state_of self.new).is_open) }
+            (option_copied change.entry) → ServesAfter self.old self.new result }
         ensures crash { MayKeep self.old id.now from.now message.now outcome.now
             (option_copied change.entry) → (HasHonestDisk self.new → HasKeptTables self.old) →
-            Survives (state_of self.old) (state_of self.new)
-            (AreTablesOf (kept_after id.now from.now message.now outcome.now
-            (option_copied change.entry) (content_shown self.old))) }
+            SurvivesLine self.old self.new id.now from.now message.now outcome.now
+            (option_copied change.entry) }
         ensures counts { faults_of self.new ≡ faults_of self.old }
     {
         keep_line(
@@ -122,23 +106,19 @@ impl<S: Alter> TableDesk<S> {
         change: Option<&Change>,
     ) -> Result<(), StoreFault>
         requires sender { IsText from.now }
-        requires fits { HasKeptTables self.old → HasHonestDisk self.old →
-            IfGiven (FitsContent (content_shown self.old)) (option_copied change) }
+        requires fits { FitsTablesIfAny self.old (option_copied change) }
         ensures honest { HasHonestDisk self.new → HasHonestDisk self.old }
         ensures answer { MayKeep self.old id.now from.now message.now outcome.now
-            (option_copied change.entry) → Holds HasKeptTables HasHonestDisk self.old self.new
-            (KeepsOf self.old self.new id.now from.now message.now outcome.now
-            (option_copied change.entry) result) }
+            (option_copied change.entry) → KeepsLine self.old self.new id.now from.now message.now
+            outcome.now (option_copied change.entry) result }
         ensures sure { MayKeep self.old id.now from.now message.now outcome.now
             (option_copied change.entry) → NeverForeign self.old self.new result }
         ensures serves { MayKeep self.old id.now from.now message.now outcome.now
-            (option_copied change.entry) → HasKeptTables self.old → HasHonestDisk self.new →
-            OnOk result (IsTrue (state_of self.new).is_open) }
+            (option_copied change.entry) → ServesAfter self.old self.new result }
         ensures crash { MayKeep self.old id.now from.now message.now outcome.now
             (option_copied change.entry) → HasKeptTables self.old →
-            Survives (state_of self.old) (state_of self.new)
-            (AreTablesOf (kept_after id.now from.now message.now outcome.now
-            (option_copied change.entry) (content_shown self.old))) }
+            SurvivesLine self.old self.new id.now from.now message.now outcome.now
+            (option_copied change.entry) }
         ensures counts { faults_of self.new ≡ faults_of self.old }
     {
         self.load_for_line(change)?;
@@ -149,17 +129,13 @@ impl<S: Alter> TableDesk<S> {
     // After a fault the tree is read again when it is needed.
     fn take(&mut self, nodes: &[Node]) -> Result<Result<(), BranchFault>, StoreFault>
         requires loaded { is_some self.old.family ≡ true }
-        ensures answer { Holds HasKeptTables HasHonestDisk self.old self.new
-            (Branches (desk_of self.old) (desk_of self.new) result nodes.now) }
-        ensures stays { HasKeptTables self.old → HasHonestDisk self.new →
-            keeping_of self.new ≡ keeping_of self.old }
+        ensures answer { TakesBranch self.old self.new result nodes.now }
+        ensures stays { LeavesMessages self.old self.new }
         ensures refusal { IfOk result IsRefusal }
         ensures sure { NeverForeign self.old self.new result }
-        ensures serves { HasKeptTables self.old → HasHonestDisk self.new →
-            IfOk result (λ taken. OnOk taken (IsTrue (state_of self.new).is_open)) }
+        ensures serves { ServesAfterBranch self.old self.new result }
         ensures crash { (HasHonestDisk self.new → HasKeptTables self.old) →
-            Survives (state_of self.old) (state_of self.new)
-            (AreTablesAfter (content_shown self.old) nodes.now) }
+            SurvivesBranch self.old self.new nodes.now }
         ensures counts { faults_of self.new ≡ faults_of self.old }
     {
         let Some(mut family) = self.family.take() else {
@@ -181,17 +157,12 @@ impl<S: Alter> TableDesk<S> {
         &mut self,
         nodes: &[Node],
     ) -> Result<Result<(), BranchFault>, StoreFault>
-        ensures answer { Holds HasKeptTables HasHonestDisk self.old self.new
-            (Branches (desk_of self.old) (desk_of self.new) result nodes.now) }
-        ensures stays { HasKeptTables self.old → HasHonestDisk self.new →
-            keeping_of self.new ≡ keeping_of self.old }
+        ensures answer { TakesBranch self.old self.new result nodes.now }
+        ensures stays { LeavesMessages self.old self.new }
         ensures refusal { IfOk result IsRefusal }
         ensures sure { NeverForeign self.old self.new result }
-        ensures serves { HasKeptTables self.old → HasHonestDisk self.new →
-            IfOk result (λ taken. OnOk taken (IsTrue (state_of self.new).is_open)) }
-        ensures crash { HasKeptTables self.old →
-            Survives (state_of self.old) (state_of self.new)
-            (AreTablesAfter (content_shown self.old) nodes.now) }
+        ensures serves { ServesAfterBranch self.old self.new result }
+        ensures crash { HasKeptTables self.old → SurvivesBranch self.old self.new nodes.now }
         ensures counts { faults_of self.new ≡ faults_of self.old }
     {
         self.load()?;
