@@ -1,2 +1,6 @@
 pub mod StepLemmas
 pub mod ShapeLemmas
+pub mod TextLemmas
+pub mod BugReading
+pub mod ReadingLemmas
+pub mod RefusalLemmas

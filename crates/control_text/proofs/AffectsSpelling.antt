@@ -15,7 +15,7 @@ use Rattle.command_grammar.specs.declared.signs.Sign.TheVariants.{Plus, Minus, E
 use Rattle.command_grammar.specs.Commands.{and_read, read_bug, read_package, each_word, affects_step, are_given, affects_command, sign_and_words}
 use Rattle.control_text.specs.Spelling.{bug_text, affects_sign}
 use Rattle.control_text.specs.Spaces.{after_spaces}
-use Rattle.control_text.specs.WellFormed.{HasPackages}
+use Rattle.command_grammar.specs.WellFormed.{HasPackages}
 use Rattle.control_text.proofs.PlainWords.{name-plain, name-whole}
 use Rattle.control_text.proofs.SpacedLemmas.{first_word-is, ArePlain, AreWhole, whole_plain, words-space, after_word-spaces}
 use Rattle.control_text.proofs.SpacedLemmas.{commas-spaces}

@@ -1,7 +1,3 @@
-pub mod TextLemmas
-pub mod BugReading
-pub mod ReadingLemmas
-pub mod RefusalLemmas
 pub mod PlainWords
 pub mod SpacedLemmas
 pub mod SpellingLemmas

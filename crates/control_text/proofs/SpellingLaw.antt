@@ -25,11 +25,11 @@ use Rattle.command_grammar.specs.Commands.{bug_and_optional_version, severity_co
 use Rattle.command_grammar.specs.Commands.{bug_and_some_text, bug_and_some_who, bug_and_others, bug_and_names, bug_by_bugs}
 use Rattle.command_grammar.specs.Commands.{reopen_command, command_of}
 use Rattle.command_grammar.specs.Lines.{reading}
-use Rattle.control_text.specs.WellFormed.{IsPlain, IsAddress, IsWellFormed}
+use Rattle.command_grammar.specs.WellFormed.{IsPlain, IsAddress, IsWellFormed}
 use Rattle.control_text.specs.Spelling.{name_text, bug_text, version_text, who_text, step_words, word_if, spelling, spelled_words, affects_sign}
 use Rattle.control_text.specs.Spelling.{joined_by_blanks}
 use Rattle.control_text.specs.Spaces.{after_spaces}
-use Rattle.control_text.proofs.TextLemmas.{text_parts}
+use Rattle.command_grammar.proofs.TextLemmas.{text_parts}
 use Rattle.control_text.proofs.PlainWords.{graphic-control, name-plain}
 use Rattle.control_text.proofs.SpacedLemmas.{IsCommandWord, reading-command, ArePlain, AreClean, plain_clean, clean-spaces}
 use Rattle.control_text.proofs.SpacedLemmas.{ends-after_spaces, words-space, words-spaces, after_word-spaces, trimmed-space}

@@ -17,10 +17,10 @@ use Rattle.line_words.specs.Bugs.{IsGoodBug}
 use Rattle.line_words.specs.Words.{words, trimmed, after_word}
 use Rattle.command_grammar.specs.Commands.{and_read, read_bug, limited_text, who_of_text, some_text, some_who, optional_who}
 use Rattle.command_grammar.specs.Commands.{bug_and_text, bug_and_some_text, bug_and_some_who}
-use Rattle.control_text.specs.WellFormed.{IsPlain, IsAddress}
+use Rattle.command_grammar.specs.WellFormed.{IsPlain, IsAddress}
 use Rattle.control_text.specs.Spelling.{bug_text, who_text}
 use Rattle.control_text.specs.Spaces.{after_spaces}
-use Rattle.control_text.proofs.TextLemmas.{text_parts, text-trimmed}
+use Rattle.command_grammar.proofs.TextLemmas.{text_parts, text-trimmed}
 use Rattle.control_text.proofs.SpacedLemmas.{words-space, after_word-spaces, trimmed-space, first_word-is}
 use Rattle.control_text.proofs.SpellingLemmas.{bug-back, bug-plain}
 

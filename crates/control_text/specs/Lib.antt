@@ -6,7 +6,7 @@ pub use Rattle.command_grammar.specs.Versions
 pub use Rattle.command_grammar.specs.Commands
 pub use Rattle.command_grammar.specs.Reads
 pub use Rattle.command_grammar.specs.Lines
-pub mod WellFormed
+pub use Rattle.command_grammar.specs.WellFormed
 pub mod Spelling
 pub mod Tokens
 pub mod BugPlaces

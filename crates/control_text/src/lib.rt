@@ -1,6 +1,6 @@
-//! The lines of a control message: what each says, or why it is refused, by the BTS page 'control
-//! and manipulation', and how a command is spelled; and the words of a command line, in the
-//! manner of bts(1), as such lines.
+//! How a command of a control message is spelled, by the BTS page 'control and manipulation', and
+//! read back; and the words of a command line, in the manner of bts(1), as such lines.
+//! What a line says, or why it is refused, is given on from `command_grammar`.
 #![tactic(auto)]
 
 mod bug_places;
@@ -8,17 +8,15 @@ mod cut;
 mod fault;
 mod laws;
 mod limits;
-mod line;
 mod spelling;
 mod word_laws;
 mod word_lines;
 mod writer;
 
-pub use command_grammar::{Line, LineFault};
+pub use command_grammar::{Line, LineFault, read_line, refusals_of_lines};
 pub use fault::WordsFault;
-pub use laws::{refusals_of_lines, spelling_is_read_back};
+pub use laws::spelling_is_read_back;
 pub use limits::well_formed;
-pub use line::read_line;
 pub use line_words::{Named, next_word, number_word, trim};
 pub use spelling::write_command;
 pub use word_laws::a_line_has_the_words_of_its_command;

@@ -7,7 +7,7 @@ ghost use Rattle.bug_record.specs.Sets.{Each};
 ghost use Rattle.bug_record.specs.Texts.{IfGiven};
 ghost use Rattle.line_words.specs.Numbers.{IsGoodNumber};
 ghost use Rattle.line_words.specs.Bugs.{IsGoodBug};
-ghost use Rattle.control_text.specs.WellFormed.{IsPlain, IsAddress, HasPackages, IsWellFormed};
+ghost use Rattle.command_grammar.specs.WellFormed.{IsPlain, IsAddress, HasPackages, IsWellFormed};
 
 use bug_record::{AffectsStep, Command, VersionArg, Who, is_text};
 use debver::{Text, check, check_name};

@@ -1,6 +1,6 @@
 //! The lines of a file of examples.
 
-use control_text::number_word;
+use line_words::number_word;
 
 /// A line of a file of examples, by its sign.
 #[derive(Clone, Copy)]

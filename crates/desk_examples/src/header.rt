@@ -1,6 +1,6 @@
 //! The headers of examples.
 
-use control_text::number_word;
+use line_words::number_word;
 
 /// The line above a script: `== ` and its name, and after that ` from ` and the number of the
 /// desk's first bug, where that is not 1.

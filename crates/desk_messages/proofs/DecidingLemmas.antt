@@ -11,10 +11,10 @@ use Rattle.bug_record.specs.declared.command.Refusal.{Refusal}
 use Rattle.line_words.specs.Numbers.{IsGoodNumber}
 use Rattle.line_words.specs.declared.named.Named.{Named}
 use Rattle.command_grammar.specs.Lines.{reading, IsRefusalOfLine}
-use Rattle.control_text.specs.WellFormed.{IsSpellable}
+use Rattle.command_grammar.specs.WellFormed.{IsSpellable}
 use Rattle.command_grammar.specs.declared.line.Line.{Line}
 use Rattle.command_grammar.specs.declared.line.Line.TheVariants.{Stop, Do}
-use Rattle.control_text.proofs.RefusalLemmas.{reading-of}
+use Rattle.command_grammar.proofs.RefusalLemmas.{reading-of}
 use Rattle.bug_record.specs.declared.outcome.Outcome.{Outcome}
 use Rattle.bug_record.specs.declared.outcome.Outcome.TheVariants.{Refused, Stopped}
 use Rattle.bug_record.specs.declared.outcome.StoreFault.{StoreFault}

@@ -18,8 +18,8 @@ ghost use Rattle.desk_store.specs.Message.{names_of};
 
 use bug_core::{changed, plan};
 use bug_record::{Change, Command, Outcome, PlanFault, Refusal, SetImage, StoreFault};
-use control_text::Named;
 use desk_store::Records;
+use line_words::Named;
 use message_progress::{
     KnownNames, ask, command_told, name_refusal, names_in, note_names, refusal_meant, with_names,
     written,

@@ -17,9 +17,10 @@ ghost use Rattle.desk_messages.specs.Taking.{IsReadyFor, DecidesLine, FitsDecide
 
 use crate::command_decision::{Decision, decide_command, without_change};
 use bug_record::{Command, Outcome, StoreFault};
-use control_text::{Line, LineFault, Named, read_line};
+use command_grammar::{Line, LineFault, read_line};
 use debver::Text;
 use desk_store::Records;
+use line_words::Named;
 use message_progress::{Progress, make_room};
 use std::alloc::Global;
 

@@ -10,7 +10,7 @@ use Rattle.httparse.specs.Grammar.{RequestHead}
 use Rattle.httparse.specs.Spans.{name_and_value}
 use Rattle.serde_json.specs.Data.{Data}
 use Rattle.bug_record.specs.Texts.{is_text}
-use Rattle.control_text.specs.Numbers.{number_of_word}
+use Rattle.line_words.specs.Numbers.{number_of_word}
 use Rattle.routes_and_json.specs.Body.{json_of}
 use Rattle.routes_and_json.specs.Members.{Control as ControlMembers, report_members, control_members, id_member, branch_member}
 use Rattle.routes_and_json.specs.Routes.{method, route_at}

@@ -9,7 +9,7 @@ ghost use Rattle.desk_requests.specs.Refused.{IfAsked};
 use crate::fault::AskFault;
 use crate::refusal::Refusal;
 use crate::request::{ListRequest, Request};
-use control_text::number_word;
+use line_words::number_word;
 use routes_and_json::{ListParts, Route, decoded_text, find_route};
 use std::alloc::{AllocError, Global};
 use std::str;

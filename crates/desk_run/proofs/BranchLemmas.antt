@@ -4,7 +4,7 @@ use Rattle.std.proofs.Common.{ap, subst, refl, append-nil, false, arith}
 use Rattle.std.specs.Prelude.{length, ◌==◌, ◌||◌}
 use Rattle.std.proofs.lemmas.Bool.{false≢true, eqb-true}
 use Rattle.std.proofs.lemmas.Option.{none-some, same_Some}
-use Rattle.control_text.specs.Words.{words, has_bytes}
+use Rattle.line_words.specs.Words.{words, has_bytes}
 use Rattle.version_nodes.specs.Nodes.{Node}
 use Rattle.version_nodes.specs.Trees.{Ancestry}
 use Rattle.ancestry.specs.Branches.{branched}

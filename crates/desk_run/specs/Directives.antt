@@ -1,6 +1,6 @@
 -- The directive that the code's value says.
 use Rattle.std.specs.Option.{option_copied}
-use Rattle.control_text.specs.Words.{words}
+use Rattle.line_words.specs.Words.{words}
 use Rattle.desk_run.specs.Script as script
 use Rattle.desk_run.specs.declared.directive.Directive.{Directive}
 use Rattle.desk_run.specs.declared.directive.Directive.TheVariants.{From, Report, Branch, ListOf, Show, Bad}

@@ -6,8 +6,8 @@ use Rattle.std.specs.List.{list_any}
 use Rattle.std.specs.Str.{bytes_eq}
 use Rattle.bug_record.specs.Texts.{is_text}
 use Rattle.bug_record.specs.Desk.{Desk}
-use Rattle.control_text.specs.Words.{has_bytes, words, trimmed, first_word, after_word}
-use Rattle.control_text.specs.Numbers.{number_of_word}
+use Rattle.line_words.specs.Words.{has_bytes, words, trimmed, first_word, after_word}
+use Rattle.line_words.specs.Numbers.{number_of_word}
 use Rattle.desk_text.specs.Answers.{report_answer, branch_answer, bad_version_answer, bad_directive_answer}
 use Rattle.bug_record.specs.declared.outcome.Outcome.{Outcome}
 use Rattle.bug_record.specs.declared.outcome.Outcome.TheVariants as outcomes

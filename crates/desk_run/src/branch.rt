@@ -1,12 +1,12 @@
 //! The nodes of a branch in a script.
 
 ghost use Rattle.std.specs.Prelude.{◌≡◌, Some, None};
-ghost use Rattle.control_text.specs.Words.{words};
+ghost use Rattle.line_words.specs.Words.{words};
 ghost use Rattle.desk_directives.specs.Branches.{nodes_of};
 ghost use Rattle.desk_directives.specs.BranchWords.{AreRead};
 
-use control_text::next_word;
 use desk_directives::add_node;
+use line_words::next_word;
 use std::alloc::Global;
 use version_nodes::{Node, NodeFault};
 

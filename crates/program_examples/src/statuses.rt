@@ -5,7 +5,7 @@ use crate::help::print_help;
 use crate::ports::{FREE, TAKEN, free_port, words_of};
 use crate::streams::{Caller, Input, Output};
 use bts_jobs::{Ending, close_desk, open_desk, run_program, run_words};
-use control_text::number_word;
+use line_words::number_word;
 use sqlite::Wary;
 use std::alloc::{AllocError, Global};
 use std::io;

@@ -2,8 +2,8 @@
 
 use crate::sending::Sending;
 use bug_record::StoreFault;
-use control_text::number_word;
 use desk_run::Records;
+use line_words::number_word;
 use std::alloc::{AllocError, Global};
 use std::io;
 use test_desks::{DeskTask, in_memory_failing, in_tables_failing, run_into};

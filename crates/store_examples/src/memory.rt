@@ -1,6 +1,6 @@
 //! A script over a desk that is short of memory, with a little more of it in each run.
 
-use control_text::number_word;
+use line_words::number_word;
 use sqlite_pager::Options;
 use std::alloc::Global;
 use std::{fmt, io};

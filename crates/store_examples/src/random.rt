@@ -1,7 +1,7 @@
 //! Random scripts, each over a desk in memory, a desk in tables, and a desk in tables that is
 //! closed and opened before each directive.
 
-use control_text::number_word;
+use line_words::number_word;
 use sqlite::{Alter, Connection};
 use sqlite_pager::Options;
 use std::alloc::{AllocError, Global};

@@ -2,8 +2,8 @@
 
 use crate::desk_calls::take_lines;
 use crate::example::Example;
-use control_text::number_word;
 use desk_tables::TableDesk;
+use line_words::number_word;
 use sqlite::{Alter, Connection};
 use sqlite_pager::Options;
 use std::alloc::Global;

@@ -1,5 +1,5 @@
 use Rattle.std.proofs.Common.{rules, ◌≡◌, ◌<◌, ℕ, List, ◌∷◌, length, Err, Global, sym, ap, ◌∙◌, refl, subst, arith}
-use Rattle.control_text.specs.Words.{words}
+use Rattle.line_words.specs.Words.{words}
 use Rattle.version_nodes.specs.Nodes.{Node, node_of_text}
 use Rattle.desk_directives.specs.Branches.{nodes_of}
 use Rattle.desk_directives.proofs.BranchLemmas.{after_nodes, after_none, node_added, unread}

@@ -1,7 +1,7 @@
 use Rattle.std.proofs.Common.{inl, Global, ◌≡◌, None, Err, Result, refl, sym, ◌∙◌, ap, subst}
 use Rattle.desk_store.proofs.HoldsLemmas.{holds_none, holds_weaker}
 use Rattle.version_nodes.specs.Trees.{Ancestry}
-use Rattle.control_text.specs.Words.{words}
+use Rattle.line_words.specs.Words.{words}
 use Rattle.desk_directives.specs.Branches.{BranchRefusal, nodes_of}
 use Rattle.desk_directives.specs.BranchWords.{AreRead}
 use Rattle.desk_run.specs.Script.{From, Branch, ListOf, Show, Bad, standing, branch_text, after_branch}

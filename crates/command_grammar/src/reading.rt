@@ -4,10 +4,13 @@ ghost use Rattle.std.specs.Prelude.{◌≡◌, ◌∷◌, IfOk, IfErr};
 ghost use Rattle.line_words.specs.Words.{words};
 ghost use Rattle.command_grammar.specs.Reads.{Reads};
 ghost use Rattle.command_grammar.specs.Lines.{begins_hash, is_stop_word, is_stop_line, reading, BeginsWithCommand};
-ghost use Rattle.control_text.specs.WellFormed.{IsWellFormedLine};
+ghost use Rattle.command_grammar.specs.WellFormed.{IsWellFormedLine};
 
+use crate::command_word::CommandWord;
+use crate::commands::read_command;
+use crate::fault::LineFault;
+use crate::line::Line;
 use bug_record::Refusal;
-use command_grammar::{CommandWord, Line, LineFault, read_command};
 use line_words::{has_control, is_word, next_word, split_word};
 use std::alloc::Global;
 
@@ -50,7 +53,7 @@ fn is_stop_line(word: &str, rest: &str) -> bool
 /// `Refused` with the refusal that the line has, of those that need no desk: `Unknown`,
 /// `Malformed`, `TooLong`, `BadSeverity`, `BadTag`, `BadVersion`, `BadPackage`.
 /// `Memory` where there was none, which a line asks for only where its first word is a command.
-#[tactic(auto, unfolding(command_grammar::specs::Lines::reading))]
+#[tactic(auto, unfolding(crate::specs::Lines::reading))]
 pub fn read_line(alloc: Global, text: &str) -> Result<Line, LineFault>
     ensures exact { Reads (reading text.now) result }
     ensures well_formed { IfOk result IsWellFormedLine }

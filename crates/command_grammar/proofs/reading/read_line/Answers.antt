@@ -5,10 +5,10 @@ use Rattle.line_words.specs.Blanks.{is_control}
 use Rattle.bug_record.specs.declared.command.Command.{Command}
 use Rattle.bug_record.specs.declared.command.Refusal.{Refusal}
 use Rattle.line_words.specs.declared.named.Named.{Named}
-use Rattle.control_text.specs.WellFormed.{IsWellFormed}
+use Rattle.command_grammar.specs.WellFormed.{IsWellFormed}
 use Rattle.command_grammar.specs.Lines.{reading}
-use Rattle.control_text.proofs.ReadingLemmas.{command_of-good, clean_after_word}
-use Rattle.control_text.proofs.line.read_line.Goals as goal
+use Rattle.command_grammar.proofs.ReadingLemmas.{command_of-good, clean_after_word}
+use Rattle.command_grammar.proofs.reading.read_line.Goals as goal
 
 pub returns-clause-well_formed : goal.returns-clause-well_formed
 returns-clause-well_formed c =

@@ -41,10 +41,10 @@ use Rattle.command_grammar.specs.declared.signs.Sign.TheVariants.{Plus, Minus, E
 use Rattle.bug_record.specs.declared.command.AffectsStep.{AffectsStep}
 use Rattle.bug_record.specs.declared.command.AffectsStep.TheVariants as affecting
 use Rattle.command_grammar.specs.Commands.{bug_and_others, some_steps, tags_command, reopen_command, command_of}
-use Rattle.control_text.specs.WellFormed.{IsPlain, IsAddress, HasPackages, IsWellFormed}
-use Rattle.control_text.proofs.TextLemmas.{none-drop, trimmed-text}
-use Rattle.control_text.proofs.BugReading.{ok_or-good, and_read-good, read_bug-good, bug_alone-good, bug_and_others-good}
-use Rattle.control_text.proofs.BugReading.{bug_and_names-good, bug_by_bugs-good, each_word-good, some_words-good}
+use Rattle.command_grammar.specs.WellFormed.{IsPlain, IsAddress, HasPackages, IsWellFormed}
+use Rattle.command_grammar.proofs.TextLemmas.{none-drop, trimmed-text}
+use Rattle.command_grammar.proofs.BugReading.{ok_or-good, and_read-good, read_bug-good, bug_alone-good, bug_and_others-good}
+use Rattle.command_grammar.proofs.BugReading.{bug_and_names-good, bug_by_bugs-good, each_word-good, some_words-good}
 
 -- texts that give a node are a package name and a version
 both_good : (s v : List ℕ) → (is_none (name_fault s) && is_none (text_fault v)) ≡ true → IsName s × IsVersion v
