@@ -17,3 +17,4 @@ pub mod OutcomeLemmas
 pub mod AfterLemmas
 pub mod StandLemmas
 pub mod StayLemmas
+pub mod MoveLemmas

@@ -38,11 +38,11 @@ put_keys-is k [] f n = refl
 put_keys-is k (m ∷ ms) f n =
     put_keys-is k ms (put_at m.number (Some k) f) n ∙ first_or_later (m.number == n) (has (numbers_of ms) n) (Some k) (f n)
 
-abbrev put_near : ℕ → List NearRow → (ℕ → Node → Option Near) → ℕ → Node → Option Near
+abbrev pub put_near : ℕ → List NearRow → (ℕ → Node → Option Near) → ℕ → Node → Option Near
 put_near k [] f = f
 put_near k (r ∷ rows) f = put_near k rows (λ j w. cond ((k == j) && same_node r.node w) (Some r.near) (f j w))
 
-put_near-is : (k : ℕ) (rows : List NearRow) (f : ℕ → Node → Option Near) → once rows → (j : ℕ) (w : Node)
+pub put_near-is : (k : ℕ) (rows : List NearRow) (f : ℕ → Node → Option Near) → once rows → (j : ℕ) (w : Node)
     → put_near k rows f j w ≡ cond (k == j) (option_or (row_at rows w) (f j w)) (f j w)
 put_near-is k [] f o j w = elim (k == j) as (λ t. f j w ≡ cond t (f j w) (f j w)) [ true ↦ refl | false ↦ refl ]
 put_near-is k (r ∷ rows) f o j w =
@@ -86,7 +86,7 @@ pub fixed_put : (k : ℕ) (vs : List Node) (c : Content) → edited_all (mark_pu
 fixed_put k [] c = refl
 fixed_put k (v ∷ vs) c = fixed_put k vs (record c { fixed = put_at k (with_node (c.fixed k) v) c.fixed })
 
-near_put : (k : ℕ) (rows : List NearRow) (c : Content) → edited_all (near_puts k rows) c ≡ record c { near = put_near k rows c.near }
+pub near_put : (k : ℕ) (rows : List NearRow) (c : Content) → edited_all (near_puts k rows) c ≡ record c { near = put_near k rows c.near }
 near_put k [] c = refl
 near_put k (r ∷ rows) c =
     near_put k rows (record c { near = λ j w. cond ((k == j) && same_node r.node w) (Some r.near) (c.near j w) })

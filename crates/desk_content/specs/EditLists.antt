@@ -1,5 +1,6 @@
 -- The edits of an image, one after another.
 use Rattle.std.specs.Prelude.{ℕ, ◌==◌, ◌&&◌, List, [], ◌∷◌, ◌++◌, map, flat_map, Bool, if◌then◌else◌}
+use Rattle.desk_content.specs.Moving.{stood}
 use Rattle.version_nodes.specs.Nodes.{Node}
 use Rattle.version_nodes.specs.declared.statuses.MarkKind.{MarkKind}
 use Rattle.version_nodes.specs.declared.statuses.MarkKind.TheVariants.{Found, Fixed}
@@ -9,7 +10,7 @@ use Rattle.bugs_in_memory.specs.Keys.{key_of}
 use Rattle.nearest_marks.specs.declared.near.NearRow.{NearRow}
 use Rattle.desk_content.specs.View.{fields_of}
 use Rattle.desk_content.specs.declared.edit.Edit.{Edit}
-use Rattle.desk_content.specs.declared.edit.Edit.TheVariants.{DropFields, PutFields, DropMember, PutMember, DropMarks, PutMark, DropBlockers, PutBlocker, DropAffects, PutAffects, DropNear, PutNear}
+use Rattle.desk_content.specs.declared.edit.Edit.TheVariants.{DropFields, PutFields, DropMember, PutMember, DropMarks, PutMark, DropBlockers, PutBlocker, DropAffects, PutAffects, DropNear, DropNearAt, PutNear}
 
 -- the marks of a number go, but for those of a key that keeps them
 abbrev pub mark_drops : Bool → ℕ → ℕ → List Edit
@@ -48,6 +49,24 @@ shared_puts i =
 
 abbrev pub set_puts : SetImage → List Edit
 set_puts i = member_puts (key_of i) i.members ++ shared_puts i
+
+-- the rows of nearest marks that did not stand come in the place of what stands at their nodes
+abbrev pub near_moves : ℕ → List Node → List Node → List NearRow → List Edit
+near_moves key found fixed [] = []
+near_moves key found fixed (r ∷ rows) =
+    if stood found fixed r.near then near_moves key found fixed rows
+    else DropNearAt key r.node ∷ PutNear key r.node r.near ∷ near_moves key found fixed rows
+
+-- what stands under a key goes, but for its bugs and its nearest marks
+abbrev pub row_drops : ℕ → List Edit
+row_drops key = DropFields key ∷ DropBlockers key ∷ DropAffects key ∷ DropMarks key ∷ []
+
+-- The image of a set whose bugs stay, and of whose marks none is lost: of the nearest marks those
+-- move that are not what they were.
+abbrev pub moves : SetImage → List Node → List Node → List NearRow → List Edit
+moves i found fixed rows =
+    row_drops (key_of i) ++ (shared_puts i ++ (mark_puts (key_of i) Found i.shared.found
+    ++ (mark_puts (key_of i) Fixed i.shared.fixed ++ near_moves (key_of i) found fixed rows)))
 
 -- what stands under a key goes, and its bugs stay
 abbrev pub key_drops : Bool → ℕ → List Edit

@@ -84,6 +84,9 @@ with_near k v x c = record c { near = λ j w. if (k == j) && same_node v w then 
 abbrev pub without_near : ℕ → Content → Content
 without_near k c = record c { near = put_at k (λ v. None) c.near }
 
+abbrev pub without_near_at : ℕ → Node → Content → Content
+without_near_at k v c = record c { near = λ j w. if (k == j) && same_node v w then None else c.near j w }
+
 abbrev pub with_link : Node → Option Node → Content → Content
 with_link v p c = record c { nodes = insert_entry node_cmp c.nodes v p }
 
@@ -117,6 +120,7 @@ edited (edits.PutBlocker k b) c = with_blocker k b c
 edited (edits.DropAffects k) c = without_affected k c
 edited (edits.PutAffects k n) c = with_affected k n c
 edited (edits.DropNear k) c = without_near k c
+edited (edits.DropNearAt k v) c = without_near_at k v c
 edited (edits.PutNear k v x) c = with_near k v x c
 edited (edits.DropLink v) c = without_link v c
 edited (edits.PutLink v p) c = with_link v p c

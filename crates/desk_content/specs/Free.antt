@@ -30,6 +30,7 @@ IsFree (edits.PutBlocker k b) c = (k ≤ LARGEST_NUMBER) × (b ≤ LARGEST_NUMBE
 IsFree (edits.DropAffects k) c = k ≤ LARGEST_NUMBER
 IsFree (edits.PutAffects k n) c = (k ≤ LARGEST_NUMBER) × (has_name (c.affects k) n ≡ false)
 IsFree (edits.DropNear k) c = k ≤ LARGEST_NUMBER
+IsFree (edits.DropNearAt k v) c = k ≤ LARGEST_NUMBER
 IsFree (edits.PutNear k v x) c = (k ≤ LARGEST_NUMBER) × (c.near k v ≡ None)
 IsFree (edits.DropLink v) c = ⊤
 IsFree (edits.PutLink v p) c = knows c.nodes v ≡ false

@@ -12,6 +12,7 @@ pub mod Branches
 pub mod Keeping
 pub mod KindsAtNodes
 -- definitions that only private functions cite
+pub mod Moving
 pub mod EditLists
 pub mod BranchLists
 pub mod KeepLists

@@ -91,6 +91,11 @@ pub enum Edit {
     DropNear {
         key: u64,
     },
+    /// The set of this key has no nearest mark any more, as seen from a node.
+    DropNearAt {
+        key: u64,
+        node: Node,
+    },
     /// The nearest mark of the set of this key, as seen from a node.
     PutNear {
         key: u64,

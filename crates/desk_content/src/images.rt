@@ -120,7 +120,7 @@ fn put_affects(edits: &mut Sequence<Edit>, key: u64, names: &[Text]) -> Result<(
 }
 
 // Marks of a kind come.
-fn put_marks(
+pub(crate) fn put_marks(
     edits: &mut Sequence<Edit>,
     key: u64,
     kind: MarkKind,

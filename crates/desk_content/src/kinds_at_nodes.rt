@@ -6,7 +6,8 @@ ghost use Rattle.desk_content.specs.KindsAtNodes.{kind_here};
 
 use version_nodes::{MarkKind, Node};
 
-fn has_node(nodes: &[Node], node: &Node) -> bool
+// Whether the node is one of these.
+pub(crate) fn has_node(nodes: &[Node], node: &Node) -> bool
     ensures { result ≡ has_node nodes.now node.now }
 {
     nodes.contains(node)

@@ -10,6 +10,7 @@ mod images;
 mod keeping;
 mod kinds_at_nodes;
 mod laws;
+mod moving;
 mod outcomes;
 mod staying;
 

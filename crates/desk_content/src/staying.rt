@@ -5,11 +5,12 @@ ghost use Rattle.desk_content.specs.Content.{Content};
 ghost use Rattle.desk_content.specs.Edits.{edited_all};
 ghost use Rattle.desk_content.specs.Free.{AreFree};
 ghost use Rattle.desk_content.specs.Images.{same_marks, without_image, with_image, IsCleared, IsGoodImage};
-ghost use Rattle.desk_content.specs.Staying.{Stays};
+ghost use Rattle.desk_content.specs.Staying.{Stays, HasNearest};
 ghost use Rattle.desk_content.specs.EditLists.{key_drops};
 
 use crate::edit::Edit;
 use crate::images::{drop_marks, has_marks, key_of, put_all_marks, put_shared};
+use crate::moving::{loses_none, moving_edits};
 use bug_record::{Sequence, SetImage};
 use nearest_marks::Family;
 use std::alloc::{AllocError, Global};
@@ -27,9 +28,39 @@ fn drop_key(alloc: Global, keeps: bool, key: u64) -> Result<Sequence<Edit>, Allo
     Ok(edits)
 }
 
+// What goes and what comes, where the image keeps these marks, or all its marks are put anew.
+fn kept_or_anew(
+    alloc: Global,
+    family: &Family,
+    keeps: bool,
+    image: &SetImage,
+    found: &[Node],
+    fixed: &[Node],
+) -> Result<Sequence<Edit>, AllocError>
+    requires { keeps ≡ same_marks image.now found.now fixed.now }
+    ensures edits { IfOk result (λ edits. (c : Content) →
+        (same_marks image.now found.now fixed.now ≡ false → c.nodes ≡ family.now) → IsGoodImage image.now → Stays image.now c →
+        IsCleared (same_marks image.now found.now fixed.now) image.now (without_image (same_marks image.now found.now fixed.now) image.now c) →
+        edited_all edits c ≡ with_image image.now (without_image (same_marks image.now found.now fixed.now) image.now c)) }
+    ensures free { IfOk result (λ edits. (c : Content) → IsGoodImage image.now → Stays image.now c →
+        IsCleared (same_marks image.now found.now fixed.now) image.now (without_image (same_marks image.now found.now fixed.now) image.now c) →
+        AreFree edits c) }
+{
+    let key = key_of(image);
+    let mut edits = drop_key(alloc, keeps, key)?;
+    put_shared(&mut edits, key, image)?;
+    if keeps {
+        return Ok(edits);
+    }
+    put_all_marks(alloc, &mut edits, family, key, image)?;
+    Ok(edits)
+}
+
 /// What goes and what comes for the image of a set whose bugs stay as they are, titles and
 /// submitters among it, where these are the marks that stand under its key.
-/// Where they are the image's marks, they and their nearest marks stay too, whatever the tree is.
+/// Where they are the image's marks, they and their nearest marks stay too, whatever the tree is;
+/// where the image has a mark at each of their nodes, of the nearest marks those alone are written
+/// whose mark is new.
 /// The edits make what clearing all rows of the image and putting them again would make, and are
 /// free, where the image is one of a sound desk.
 /// The error is that there was no memory.
@@ -42,20 +73,20 @@ pub fn stay_edits(
     fixed: &[Node],
 ) -> Result<Sequence<Edit>, AllocError>
     ensures edits { IfOk result (λ edits. (c : Content) →
-        (same_marks image.now found.now fixed.now ≡ false → c.nodes ≡ family.now) → IsGoodImage image.now → Stays image.now c →
+        (same_marks image.now found.now fixed.now ≡ false → c.nodes ≡ family.now) → HasNearest image.now found.now fixed.now c →
+        IsGoodImage image.now → Stays image.now c →
         IsCleared (same_marks image.now found.now fixed.now) image.now (without_image (same_marks image.now found.now fixed.now) image.now c) →
         edited_all edits c ≡ with_image image.now (without_image (same_marks image.now found.now fixed.now) image.now c)) }
     ensures free { IfOk result (λ edits. (c : Content) → IsGoodImage image.now → Stays image.now c →
         IsCleared (same_marks image.now found.now fixed.now) image.now (without_image (same_marks image.now found.now fixed.now) image.now c) →
         AreFree edits c) }
 {
-    let key = key_of(image);
     let keeps = has_marks(image, found, fixed);
-    let mut edits = drop_key(alloc, keeps, key)?;
-    put_shared(&mut edits, key, image)?;
     if keeps {
-        return Ok(edits);
+        return Ok(kept_or_anew(alloc, family, keeps, image, found, fixed)?);
     }
-    put_all_marks(alloc, &mut edits, family, key, image)?;
-    Ok(edits)
+    if loses_none(image, found, fixed) {
+        return Ok(moving_edits(alloc, family, image, found, fixed)?);
+    }
+    Ok(kept_or_anew(alloc, family, keeps, image, found, fixed)?)
 }
