@@ -1,5 +1,7 @@
 -- What the statements on nearest mean.
-use Rattle.desk_schema.proofs.Exports.{◌≡◌, ℕ, pos, ◌==◌, Bool, true, false, not, if◌then◌else◌, List, [], ◌∷◌, codes, filter, Option, None, refl, ap, ◌∙◌, arith, eqb-true, and_parts, Insert, Delete, understood, Row, Values, Term, lit, col, Null, Int, Text, everything, Node, IsNode, same_node, Near, passes, equals, rowids_of, IsCallOf, hits, same_number, put_at, edited, kind_number, IsFree, PutNear, DropNear, NEAREST, desk_schema, NearestRow, nearest_cells, is_of, near_in, cast_int, cast_null, nearest, keyed_nearest, said_more, said_left, none_said, turned, IsWrite, adds, clears}
+use Rattle.desk_schema.proofs.Exports.{◌≡◌, ℕ, pos, ◌==◌, Bool, true, false, not, if◌then◌else◌, List, [], ◌∷◌, codes, filter, Option, None, refl, sym, ap, ◌∙◌, arith, ◌&&◌, bytes_eq, eqb-true, and_parts, Insert, Delete, understood, Row, Values, Term, lit, col, Null, Int, Text, everything, Node, IsNode, same_node, Near, passes, equals, equals_at, holds, holds_text, and_true, same_text, rowids_of, IsCallOf, hits, same_number, put_at, edited, kind_number, IsFree, PutNear, DropNear, DropNearAt, NEAREST, desk_schema, NearestRow, nearest_cells, is_of, near_in, cast_int, cast_null, nearest, keyed_nearest, said_more, said_left, none_said, turned, IsWrite, adds, clears}
+use Rattle.version_nodes.specs.NodeLaws.{same_node_equiv}
+use Rattle.version_nodes.proofs.NodeLemmas.{same_true}
 
 -- ---- a nearest mark comes
 
@@ -57,4 +59,47 @@ clear_is k = clears nearest clear_text (Int (pos k) ∷ []) (equals 1 ∷ []) (D
   is_hit = λ x. x.key == k;
   hits = hit_key k;
   less = λ xs c. λ i. record c { near = λ n v. less k n v xs i };
+})
+
+-- ---- the one of a key and a node goes
+
+abbrev clear_at_text : List ℕ
+clear_at_text = codes "DELETE FROM nearest WHERE set_key = ?1 AND source = ?2 AND version = ?3"
+
+abbrev at_place : List Term
+at_place = equals 1 ∷ equals_at 2 1 ∷ equals_at 3 2 ∷ []
+
+abbrev place_params : ℕ → Node → Row
+place_params k v = Int (pos k) ∷ Text v.source ∷ Text v.version ∷ []
+
+clear_at_call : (k : ℕ) (v : Node) → IsCallOf desk_schema clear_at_text (place_params k v) (Delete 6 (rowids_of NEAREST at_place))
+unfolding understood everything
+clear_at_call k v = record { command_is = refl; writes = tt; plain = (refl, refl); whole = omega arith; given = refl }
+
+-- whether a row is of the key and the node
+hit_place : (k : ℕ) (v : Node) (x : NearestRow) → passes at_place (place_params k v) (nearest_cells x) ≡ is_of k v x
+hit_place k v x =
+    let number = sym (and_true (holds (place_params k v ∷ nearest_cells x ∷ []) (equals 1))) ∙ hits 1 (pos k) (nearest_cells x) ∙ same_number x.key k in
+    let source = holds_text 2 1 (place_params k v) (nearest_cells x) v.source refl ∙ same_text x.node.source v.source in
+    let version = holds_text 3 2 (place_params k v) (nearest_cells x) v.version refl ∙ same_text x.node.version v.version in
+    (λ i. number i && (source i && (version i && true))) ∙ ap (λ b. (x.key == k) && (bytes_eq x.node.source v.source && b)) (and_true _)
+
+own_place : (k n : ℕ) (v w : Node) (x : NearestRow) → is_of n w x ≡ true → is_of k v x ≡ ((k == n) && same_node v w)
+own_place k n v w x here =
+    let parts = and_parts (x.key == n) (same_node x.node w) here in
+    let number = eqb-true x.key n parts.0 in
+    let place = same_true x.node w parts.1 in
+    (λ i. is_of k v (record x { key = number i; node = place i })) ∙ (λ i. turned n k i && same_node_equiv.symm w v i)
+
+less_at : (k n : ℕ) (v w : Node) (xs : List NearestRow)
+    → near_in (filter (λ x. not (is_of k v x)) xs) n w ≡ (if (k == n) && same_node v w then None else near_in xs n w)
+less_at k n v w xs = said_left (λ (x : NearestRow). x.near) (is_of n w) (is_of k v) ((k == n) && same_node v w) (own_place k n v w) xs
+
+pub clear_at_is : (k : ℕ) (v : Node) → IsWrite clear_at_text (place_params k v) (IsFree (DropNearAt k v)) (edited (DropNearAt k v))
+clear_at_is k v = clears nearest clear_at_text (place_params k v) at_place (DropNearAt k v) (record {
+  call = clear_at_call k v;
+  typed = refl;
+  is_hit = is_of k v;
+  hits = hit_place k v;
+  less = λ xs c. λ i. record c { near = λ n w. less_at k n v w xs i };
 })

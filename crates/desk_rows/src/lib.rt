@@ -14,7 +14,7 @@ mod places;
 pub use family::read_family;
 pub use messages::{add_message, read_message};
 pub use meta::{read_next, write_next};
-pub use nearest::{add_near, clear_near};
+pub use nearest::{add_near, clear_near, clear_near_at};
 pub use nodes::{add_node, clear_node};
 pub use outcome_numbers::{add_outcome_number, read_outcome_numbers};
 pub use outcomes::{add_outcome, read_outcomes};

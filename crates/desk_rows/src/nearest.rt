@@ -2,7 +2,7 @@
 
 ghost use Rattle.std.specs.Prelude.{◌≡◌};
 ghost use Rattle.sqlite.specs.Held.{state};
-ghost use Rattle.desk_content.specs.declared.edit.Edit.TheVariants.{PutNear, DropNear};
+ghost use Rattle.desk_content.specs.declared.edit.Edit.TheVariants.{PutNear, DropNear, DropNearAt};
 ghost use Rattle.desk_schema.specs.Steps.{Plays, Serves};
 
 use bug_record::StoreFault;
@@ -42,4 +42,20 @@ pub fn clear_near<S: Alter>(tx: &mut Transaction<'_, S>, key: u32) -> Result<(),
     ensures serves { Serves (state S.Store tx.old.conn.now) (state S.Store tx.new.conn.now) result }
 {
     written(tx.execute("DELETE FROM nearest WHERE set_key = ?1", params![key]))
+}
+
+/// The set of the key has no nearest mark any more, as seen from a node.
+pub fn clear_near_at<S: Alter>(
+    tx: &mut Transaction<'_, S>,
+    key: u32,
+    node: &Node,
+) -> Result<(), StoreFault>
+    ensures same_reference { tx.new.conn.ghost_name ≡ tx.old.conn.ghost_name }
+    ensures plays { Plays (DropNearAt key node.now) (state S.Store tx.old.conn.now) (state S.Store tx.new.conn.now) result }
+    ensures serves { Serves (state S.Store tx.old.conn.now) (state S.Store tx.new.conn.now) result }
+{
+    written(tx.execute(
+        "DELETE FROM nearest WHERE set_key = ?1 AND source = ?2 AND version = ?3",
+        params![key, node.source(), node.version()],
+    ))
 }

@@ -27,7 +27,7 @@ pub use Rattle.desk_content.specs.Keeping.{MayBePut, changed_by, kept_after}
 pub use Rattle.desk_content.specs.Kept.{IsKeptContent}
 pub use Rattle.desk_content.specs.Outcomes.{bare, outcome_field, outcome_kind, outcome_node, outcome_number}
 pub use Rattle.desk_content.specs.View.{desk_in, keeping_in}
-pub use Rattle.desk_content.specs.declared.edit.Edit.TheVariants.{DropAffects, DropBlockers, DropFields, DropLink, DropMarks, DropMember, DropNear, PutAffects, PutBlocker, PutFields, PutLink, PutMark, PutMember, PutMessage, PutNear, PutOutcome, PutOutcomeNumber}
+pub use Rattle.desk_content.specs.declared.edit.Edit.TheVariants.{DropAffects, DropBlockers, DropFields, DropLink, DropMarks, DropMember, DropNear, DropNearAt, PutAffects, PutBlocker, PutFields, PutLink, PutMark, PutMember, PutMessage, PutNear, PutOutcome, PutOutcomeNumber}
 pub use Rattle.desk_content.specs.declared.edit.ToldOutcome.{ToldOutcome}
 pub use Rattle.desk_schema.proofs.BugLists.{Rises, all_members, bug_number, member_added, member_dropped}
 pub use Rattle.desk_schema.proofs.CellLemmas.{cast_int, cast_null, maybe_bound, same_text}

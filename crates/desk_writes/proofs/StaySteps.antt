@@ -43,7 +43,7 @@ module _ (c : Content) (change : Change) (kept : IsKeptContent c) (fits : FitsCo
 
   pub stay_made : (t : Ancestry) (edits : List Edit) → IsTreeFor t c change → IsStayPlan c t i edits → edited_all edits c ≡ with_images change.images (cleared_for c change)
   stay_made t edits tree plan =
-      plan.1.made c (λ differs. tree (ap (all_stay c) only ∙ ap (λ b. b && true) differs)) is_good (stays plan.0) is_clear
+      plan.1.made c (λ differs. tree (ap (all_stay c) only ∙ ap (λ b. b && true) differs)) (kept.near (key_of i)) is_good (stays plan.0) is_clear
       ∙ ap (with_image i) (sym cleared_is)
       ∙ sym (ap (λ (is : List SetImage). with_images is (cleared_for c change)) only)
 

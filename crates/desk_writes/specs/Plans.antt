@@ -8,7 +8,7 @@ use Rattle.desk_content.specs.Content.{Content}
 use Rattle.desk_content.specs.Edits.{edited_all}
 use Rattle.desk_content.specs.Free.{AreFree}
 use Rattle.desk_content.specs.Images.{same_marks, without_image, with_image, IsCleared, IsGoodImage}
-use Rattle.desk_content.specs.Staying.{Stays}
+use Rattle.desk_content.specs.Staying.{Stays, HasNearest}
 use Rattle.desk_content.specs.declared.edit.Edit.{Edit}
 use Rattle.desk_content.specs.declared.images.RowEdits.{RowEdits}
 
@@ -39,7 +39,7 @@ put_edits plans = flat_map (λ plan. plan.put) plans
 -- the edits of an image whose bugs stay, where these marks stand under its key: they make what
 -- clearing all its rows and putting them again makes
 pub record IsStay (t : Ancestry) (found fixed : List Node) (i : SetImage) (edits : List Edit) : Type 0 where
-  pub made : (c : Content) → (same_marks i found fixed ≡ false → c.nodes ≡ t) → IsGoodImage i → Stays i c → IsCleared (same_marks i found fixed) i (without_image (same_marks i found fixed) i c)
+  pub made : (c : Content) → (same_marks i found fixed ≡ false → c.nodes ≡ t) → HasNearest i found fixed c → IsGoodImage i → Stays i c → IsCleared (same_marks i found fixed) i (without_image (same_marks i found fixed) i c)
       → edited_all edits c ≡ with_image i (without_image (same_marks i found fixed) i c)
   pub free : (c : Content) → IsGoodImage i → Stays i c → IsCleared (same_marks i found fixed) i (without_image (same_marks i found fixed) i c) → AreFree edits c
 

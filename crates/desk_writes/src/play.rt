@@ -10,7 +10,7 @@ use crate::puts::{
 };
 use bug_record::StoreFault;
 use desk_content::Edit;
-use desk_rows::{add_message, add_node, clear_near, clear_node};
+use desk_rows::{add_message, add_node, clear_near, clear_near_at, clear_node};
 use desk_schema::parameter;
 use set_rows::{clear_affected, clear_blockers, clear_bug, clear_fields, clear_marks};
 use sqlite::{Alter, Transaction};
@@ -32,6 +32,7 @@ fn play<S: Alter>(tx: &mut Transaction<'_, S>, edit: &Edit) -> Result<(), StoreF
         Edit::DropAffects { key } => clear_affected(tx, parameter(*key)?),
         Edit::PutAffects { key, package } => put_affects(tx, *key, package.as_str()),
         Edit::DropNear { key } => clear_near(tx, parameter(*key)?),
+        Edit::DropNearAt { key, node } => clear_near_at(tx, parameter(*key)?, node),
         Edit::PutNear { key, node, near } => put_near(tx, *key, node, near),
         Edit::DropLink { node } => clear_node(tx, node),
         Edit::PutLink { node, parent } => add_node(tx, node, parent),
