@@ -1,12 +1,12 @@
 //! Which bugs a change touches, where no set stays the same bugs.
 
-ghost use Rattle.std.specs.Prelude.{◌≡◌, ◌||◌, ◌++◌, ℕ, IsTrue, IfOk, OnOk};
-ghost use Rattle.bug_record.specs.Sets.{has, IsAscending};
+ghost use Rattle.std.specs.Prelude.{◌≡◌, ◌++◌, IsTrue, IfOk, OnOk};
 ghost use Rattle.bug_record.specs.Images.{numbers_of, bug_in};
 ghost use Rattle.bug_record.specs.Changed.{AreChanged};
 ghost use Rattle.set_images.specs.Parted.{is_unlike, numbers_in, IsParted};
 
 use crate::equal::same_numbers;
+use crate::sorted::in_order;
 use bug_record::{Member, Numbers, Sequence, SetImage};
 use std::alloc::{AllocError, Global};
 
@@ -54,17 +54,6 @@ fn add_numbers(numbers: &mut Vec<u64>, images: &[SetImage]) -> Result<(), AllocE
         add_members(numbers, image.members.as_slice())?;
     }
     Ok(())
-}
-
-// The numbers, each once, ascending.
-fn in_order(mut numbers: Vec<u64>) -> Vec<u64>
-    ensures ascending { IsAscending result.items }
-    ensures numbers { (n : ℕ) → has result.items n ≡ has numbers.items n }
-{
-    numbers.sort_unstable();
-    numbers.dedup();
-    numbers.shrink_to_fit();
-    numbers
 }
 
 /// The numbers of the bugs that differ: all of them.
