@@ -114,7 +114,7 @@ fn add_passing(numbers: &mut Vec<u64>, place: &Place, question: Question) -> Res
 
 impl BugSets {
     /// The bugs of which the answer is yes, ascending.
-    /// Each set is looked at once, not once for each of its bugs, and their numbers are then sorted.
+    /// Each set is looked at once, not once for each of its bugs, and the numbers are sorted once.
     pub(crate) fn passing(&self, alloc: Global, question: Question) -> Result<Numbers, AllocError>
         ensures { (tree : Ancestry) (next : ℕ) → IsSound (desk_of self.now tree next)
             → IfOk result (λ numbers. numbers ≡ numbers_where (test_of question.entry) (desk_of self.now tree next)) }
