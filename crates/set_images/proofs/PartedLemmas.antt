@@ -1,20 +1,14 @@
 -- What differs where no set stays the same bugs.
-use Rattle.std.proofs.Common.{◌≡◌, ◌<◌, ℕ, Bool, true, false, cond, not, ◌||◌, eqb, List, [], ◌∷◌, Option, Some, None, sym, refl}
+use Rattle.std.proofs.Common.{◌≡◌, ◌<◌, ℕ, Bool, true, false, not, ◌||◌, eqb, List, [], ◌∷◌, Option, Some, None, sym, refl}
 use Rattle.std.proofs.Common.{◌++◌, ◌+◌, zero, suc, length, take, drop, get_or, ap, ◌∙◌, subst, arith, inl, inr}
-use Rattle.std.specs.Prelude.{◌≢◌, ◌==◌, nat_lt, is_some, option_map}
+use Rattle.std.specs.Prelude.{◌≢◌, is_some, option_map}
 use Rattle.std.specs.Str.{bytes_eq}
 use Rattle.std.specs.Option.{option_or}
-use Rattle.std.specs.Ordering.{nat_cmp}
-use Rattle.std.specs.declared.cmp.Ordering.TheVariants.{Less, Equal, Greater}
-use Rattle.std.specs.List.{list_any, dedup, dedup_from, AllByRecursion}
-use Rattle.std.specs.List.Sorted.{IsPermutation, IsSorted, IsStrictlySortedBy}
 use Rattle.std.proofs.lemmas.Bool.{false≢true, eqb-true, eq-eqb, not-true, and_parts, or_parts, or_cases, or_left, or_right}
 use Rattle.std.proofs.lemmas.List.{append-nil, map-append, take_more, at_drop_more}
-use Rattle.std.proofs.lemmas.List.Sorted.{list_any-IsPermutation}
-use Rattle.std.proofs.lemmas.Map.Keys.{sorted_from_strictly_increasing, IsStrictlyIncreasing-dedup}
 use Rattle.std.proofs.lemmas.Option.{none-some, same_Some}
 use Rattle.std.proofs.lemmas.Slice.Eq.{bytes_eq-Decides}
-use Rattle.bug_record.specs.Sets.{has, AllAbove, IsAscending, Each}
+use Rattle.bug_record.specs.Sets.{has, IsAscending, Each}
 use Rattle.bug_record.specs.Images.{numbers_of, member_at, bug_of, bug_in}
 use Rattle.bug_record.specs.Changed.{AreChanged}
 use Rattle.bug_record.specs.declared.bug.Bug.{Bug}
