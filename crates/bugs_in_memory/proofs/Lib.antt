@@ -4,3 +4,4 @@ pub mod ListLemmas
 pub mod PlaceLemmas
 pub mod PassingLemmas
 pub mod AfterLemmas
+pub mod FreshLemmas

@@ -1,6 +1,6 @@
 -- The bugs that pass a test of their shared fields, over the places of a map.
 use Rattle.std.proofs.Common.{◌≡◌, ◌<◌, ℕ, suc, Bool, true, false, cond, ◌||◌, ◌&&◌, List, [], ◌∷◌, ◌++◌, Option, Some, None}
-use Rattle.std.proofs.Common.{sym, refl, ap, ◌∙◌, arith, inl, inr}
+use Rattle.std.proofs.Common.{sym, refl, ap, ◌∙◌, append_assoc, arith, inl, inr}
 use Rattle.std.specs.Prelude.{nat_eq, nat_lt, slice_get, option_map}
 use Rattle.std.specs.Option.{option_and_then}
 use Rattle.std.specs.Cmp.{nat_eq_equiv}
@@ -11,7 +11,7 @@ use Rattle.std.proofs.lemmas.Bool.Decides.{nat_tests}
 use Rattle.std.proofs.lemmas.Option.{none-some, same_Some}
 use Rattle.std.proofs.lemmas.Map.Entries.{hash_map_get_place}
 use Rattle.version_nodes.specs.Trees.{Ancestry}
-use Rattle.bug_record.specs.Sets.{has, with_item, with_items, number_set}
+use Rattle.bug_record.specs.Sets.{has, IsAscending}
 use Rattle.bug_record.specs.Desk.{IsSound}
 use Rattle.bug_record.specs.Images.{numbers_of, member_at, bug_of}
 use Rattle.bug_record.specs.Changed.{numbers_below}
@@ -19,8 +19,8 @@ use Rattle.bug_record.specs.Asked.{passes, numbers_where}
 use Rattle.bug_record.specs.declared.bug.Bug.{Bug}
 use Rattle.bug_record.specs.declared.bug.SetImage.{SetImage}
 use Rattle.bug_record.specs.declared.bug.Shared.{Shared}
-use Rattle.bug_record.proofs.SetLemmas.{same_test, has-append, has-filter, has-number_set, has-numbers_below, same-ascending}
-use Rattle.bug_record.proofs.SetLemmas.{IsAscending-filter, IsAscending-number_set, IsAscending-numbers_below}
+use Rattle.bug_record.proofs.SetLemmas.{same_test, has-append, has-filter, has-numbers_below, same-ascending}
+use Rattle.bug_record.proofs.SetLemmas.{IsAscending-filter, IsAscending-numbers_below}
 use Rattle.bugs_in_memory.specs.Keys.{keyed_bug, keyed_desk, IsKeyed}
 use Rattle.bugs_in_memory.specs.Places.{image_at, keys, sets}
 use Rattle.bugs_in_memory.specs.Passing.{passing_there}
@@ -33,22 +33,13 @@ abbrev pub passing_in : (Shared → Bool) → List Place → List ℕ
 passing_in test [] = []
 passing_in test (p ∷ ps) = passing_there test p ++ passing_in test ps
 
--- ---- the sum over the places
-
--- numbers of two lists, added one after another
-with_items-two : (ms ns set : List ℕ)
-    → with_items (λ k. k) set (ms ++ ns) ≡ with_items (λ k. k) (with_items (λ k. k) set ms) ns
-with_items-two [] ns set = refl
-with_items-two (m ∷ ms) ns set = with_items-two ms ns (with_item (λ k. k) set m)
-
 -- one place more
 pub passing-more : (test : Shared → Bool) (left rest : List Place) (p : Place) (old new : List ℕ) → left ≡ p ∷ rest
-    → new ≡ with_items (λ k. k) old (passing_there test p)
-    → with_items (λ k. k) new (passing_in test rest) ≡ with_items (λ k. k) old (passing_in test left)
+    → new ≡ old ++ passing_there test p → new ++ passing_in test rest ≡ old ++ passing_in test left
 passing-more test left rest p old new is added =
-    ap (λ (ks : List ℕ). with_items (λ k. k) ks (passing_in test rest)) added
-    ∙ sym (with_items-two (passing_there test p) (passing_in test rest) old)
-    ∙ ap (λ (ps : List Place). with_items (λ k. k) old (passing_in test ps)) (sym is)
+    ap (λ (ns : List ℕ). ns ++ passing_in test rest) added
+    ∙ append_assoc old (passing_there test p) (passing_in test rest)
+    ∙ ap (λ (ps : List Place). old ++ passing_in test ps) (sym is)
 
 -- ---- what is in it
 
@@ -129,14 +120,14 @@ module _ {S : Type 0} (bugs : HashMap ℕ Place S) (unique : IsUnique nat_eq bug
   pub has-passing : (m : ℕ) → has (passing_in test (values bugs)) m ≡ passes test (bug m)
   has-passing m = same_test _ _ (passing m) (is_there m (keys bugs m) refl)
 
-  -- those are the bugs of the desk that pass
-  pub passing-is : (tree : Ancestry) (next : ℕ) → IsSound (keyed_desk (keys bugs) (sets bugs) tree next)
-      → number_set (passing_in test (values bugs)) ≡ numbers_where test (keyed_desk (keys bugs) (sets bugs) tree next)
-  passing-is tree next sound =
-      same-ascending (number_set (passing_in test (values bugs))) (numbers_where test (keyed_desk (keys bugs) (sets bugs) tree next))
-      (IsAscending-number_set (passing_in test (values bugs)))
+  -- those are the bugs of the desk that pass, in order
+  pub passing-is : (tree : Ancestry) (next : ℕ) → IsSound (keyed_desk (keys bugs) (sets bugs) tree next) → (r : List ℕ)
+      → IsAscending r → ((m : ℕ) → has r m ≡ has (passing_in test (values bugs)) m)
+      → r ≡ numbers_where test (keyed_desk (keys bugs) (sets bugs) tree next)
+  passing-is tree next sound r up same =
+      same-ascending r (numbers_where test (keyed_desk (keys bugs) (sets bugs) tree next)) up
       (IsAscending-filter (λ m. passes test (bug m)) (numbers_below next) (IsAscending-numbers_below next))
-      (λ m. has-number_set (passing_in test (values bugs)) m ∙ has-passing m ∙ below m (bug m) refl
+      (λ m. same m ∙ has-passing m ∙ below m (bug m) refl
       ∙ sym (ap (λ t. t && passes test (bug m)) (has-numbers_below next m))
       ∙ sym (has-filter (λ m. passes test (bug m)) (numbers_below next) m))
     where

@@ -1,5 +1,5 @@
 -- The places that images give to their bugs, and which of these a map has.
-use Rattle.std.specs.Prelude.{ℕ, ◌≡◌, ◌==◌, Bool, not, List, [], ◌∷◌, ◌++◌, Option, Some, None, is_some, if◌then◌else◌}
+use Rattle.std.specs.Prelude.{ℕ, ◌≡◌, ◌==◌, Bool, true, not, List, [], ◌∷◌, ◌++◌, Option, Some, None, is_some, if◌then◌else◌}
 use Rattle.std.specs.Option.{option_or}
 use Rattle.std.specs.Prelude.{nat_eq}
 use Rattle.std.specs.HashMap.{HashMap, get}
@@ -30,6 +30,10 @@ is_there bugs n = is_some (get nat_eq bugs n)
 
 abbrev pub is_fresh : {S : Type 0} → HashMap ℕ Place S → ℕ → Bool
 is_fresh bugs n = not (is_there bugs n)
+
+-- each of these bugs has a place
+abbrev pub HavePlaces : {S : Type 0} → HashMap ℕ Place S → List ℕ → Type 0
+HavePlaces bugs ns = (n : ℕ) → has ns n ≡ true → is_there bugs n ≡ true
 
 -- the image has the bugs of the set whose image is kept under its key, in the same order
 abbrev pub KeepsSet : (ℕ → Option SetImage) → SetImage → Type 0

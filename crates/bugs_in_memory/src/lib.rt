@@ -3,6 +3,7 @@
 #![tactic(auto)]
 
 mod bug_sets;
+mod fresh;
 mod heads;
 mod lists;
 mod passing;

@@ -1,6 +1,6 @@
 //! What is asked of all bugs of a desk in memory: those whose shared fields pass a test.
 
-ghost use Rattle.std.specs.Prelude.{◌≡◌, ℕ, IfOk, OnOk};
+ghost use Rattle.std.specs.Prelude.{◌≡◌, ◌++◌, ℕ, IfOk, OnOk};
 ghost use Rattle.std.specs.Str.{bytes_eq};
 ghost use Rattle.version_nodes.specs.Statuses.{status_on};
 ghost use Rattle.version_nodes.specs.Trees.{Ancestry};
@@ -9,7 +9,7 @@ ghost use Rattle.bug_record.specs.Desk.{IsSound};
 ghost use Rattle.bug_record.specs.Heads.{is_found};
 ghost use Rattle.bug_record.specs.Images.{numbers_of};
 ghost use Rattle.bug_record.specs.PackageSets.{has_name};
-ghost use Rattle.bug_record.specs.Sets.{has, with_items};
+ghost use Rattle.bug_record.specs.Sets.{has};
 ghost use Rattle.bugs_in_memory.specs.Plain.{desk_of};
 ghost use Rattle.bug_record.specs.Lists.{concerns};
 ghost use Rattle.bugs_in_memory.specs.Passing.{is_listed_on, test_of, passing_there};
@@ -18,10 +18,10 @@ use crate::bug_sets::BugSets;
 use crate::heads::is_there;
 use crate::places::Place;
 use ancestry::IndexedLine;
-use bug_record::{Member, Numbers, Sequence, Shared, add_number};
+use bug_record::{Member, Numbers, Sequence, Shared};
 use debver::Text;
+use set_images::in_order;
 use std::alloc::{AllocError, Global};
-use std::collections::BTreeSet;
 
 /// What is asked of a bug.
 #[derive(Clone, Copy)]
@@ -86,24 +86,20 @@ fn holds(question: Question, shared: &Shared) -> bool
     }
 }
 
-// Adds the numbers of these members to a set.
-fn add_members(numbers: &mut BTreeSet<u64>, members: &[Member]) -> Result<(), AllocError>
-    ensures { OnOk result (numbers.new.keys ≡ with_items (λ n. n) numbers.old.keys (numbers_of members.now)) }
+// Adds the numbers of these members.
+fn add_members(numbers: &mut Vec<u64>, members: &[Member]) -> Result<(), AllocError>
+    ensures { OnOk result (numbers.new.items ≡ numbers.old.items ++ numbers_of members.now) }
 {
     for member in members {
-        add_number(numbers, member.number)?;
+        numbers.push(member.number)?;
     }
     Ok(())
 }
 
 // Adds the bugs of the set whose image stands at a place, where the answer is yes.
-fn add_passing(
-    numbers: &mut BTreeSet<u64>,
-    place: &Place,
-    question: Question,
-) -> Result<(), AllocError>
+fn add_passing(numbers: &mut Vec<u64>, place: &Place, question: Question) -> Result<(), AllocError>
     ensures { OnOk result
-        (numbers.new.keys ≡ with_items (λ n. n) numbers.old.keys (passing_there (test_of question.entry) place.now)) }
+        (numbers.new.items ≡ numbers.old.items ++ passing_there (test_of question.entry) place.now) }
 {
     match place {
         Place::First(image) => {
@@ -118,15 +114,15 @@ fn add_passing(
 
 impl BugSets {
     /// The bugs of which the answer is yes, ascending.
-    /// Each set is looked at once, not once for each of its bugs.
+    /// Each set is looked at once, not once for each of its bugs, and the numbers are sorted once.
     pub(crate) fn passing(&self, alloc: Global, question: Question) -> Result<Numbers, AllocError>
         ensures { (tree : Ancestry) (next : ℕ) → IsSound (desk_of self.now tree next)
             → IfOk result (λ numbers. numbers ≡ numbers_where (test_of question.entry) (desk_of self.now tree next)) }
     {
-        let mut numbers = BTreeSet::new(alloc);
+        let mut numbers = Vec::new(alloc);
         for place in self.places.values() {
             add_passing(&mut numbers, place, question)?;
         }
-        Sequence::in_order(alloc, &numbers)
+        Ok(Sequence::from_vec(in_order(numbers)))
     }
 }

@@ -1,7 +1,7 @@
 //! The places of bugs in their sets, and the images of a change, which are put into them.
 //! All of them are put, or none where there is no memory.
 
-ghost use Rattle.std.specs.Prelude.{◌≡◌, ◌++◌, ℕ, Some, None, [], ◌∷◌, false, filter, is_some, IsTrue, IsOk, IfOk, IfSome, OnOk};
+ghost use Rattle.std.specs.Prelude.{◌≡◌, ℕ, Some, None, [], ◌∷◌, false, is_some, IsTrue, IsOk, IfOk, IfSome, OnOk};
 ghost use Rattle.std.specs.Prelude.{OnErr, ◌==◌, nat_eq, if◌then◌else◌};
 ghost use Rattle.std.specs.HashMap.{get};
 ghost use Rattle.std.specs.Option.{option_or, option_and_then, option_copied};
@@ -10,8 +10,9 @@ ghost use Rattle.bug_record.specs.Sets.{has};
 ghost use Rattle.bug_record.specs.Images.{numbers_of};
 ghost use Rattle.bugs_in_memory.specs.Keys.{IsKeyed};
 ghost use Rattle.bugs_in_memory.specs.Places.{keys, sets};
-ghost use Rattle.bugs_in_memory.specs.PlacesOfImages.{place_in, numbers_in, is_there, is_fresh, KeepsSet, IsOnlyPlace};
+ghost use Rattle.bugs_in_memory.specs.PlacesOfImages.{place_in, is_there, KeepsSet, IsOnlyPlace};
 
+use crate::fresh::fresh_numbers;
 use bug_record::{Member, SetImage};
 use std::alloc::{AllocError, Global};
 use std::collections::HashMap;
@@ -78,37 +79,6 @@ fn only_place(bugs: &HashMap<u64, Place>, image: &SetImage) -> Option<u64>
         [first, ..] if keeps_set(bugs, image) => Some(first.number),
         _ => None,
     }
-}
-
-// Adds the numbers of the members that have no place.
-fn add_fresh(
-    fresh: &mut Vec<u64>,
-    bugs: &HashMap<u64, Place>,
-    members: &[Member],
-) -> Result<(), AllocError>
-    ensures { OnOk result (fresh.new.items ≡ fresh.old.items ++ filter (is_fresh bugs.now) (numbers_of members.now)) }
-{
-    for member in members {
-        if !bugs.contains_key(&member.number) {
-            fresh.push(member.number)?;
-        }
-    }
-    Ok(())
-}
-
-// The numbers of the images' members that have no place.
-fn fresh_numbers(
-    alloc: Global,
-    bugs: &HashMap<u64, Place>,
-    images: &[SetImage],
-) -> Result<Vec<u64>, AllocError>
-    ensures { IfOk result (λ fresh. fresh.items ≡ filter (is_fresh bugs.now) (numbers_in images.now)) }
-{
-    let mut fresh = Vec::new(alloc);
-    for image in images {
-        add_fresh(&mut fresh, bugs, image.members.as_slice())?;
-    }
-    Ok(fresh)
 }
 
 // Copies of the images.
@@ -235,6 +205,7 @@ fn put_all(
     bugs: &mut HashMap<u64, Place>,
     images: &[SetImage],
 ) -> Result<(), AllocError>
+    requires { IsKeyed (keys bugs.old) (sets bugs.old) }
     ensures ok { OnOk result ((n : ℕ) → get nat_eq bugs.new n ≡ option_or (place_in images.now n) (get nat_eq bugs.old n)) }
     ensures err { OnErr result ((n : ℕ) → get nat_eq bugs.new n ≡ get nat_eq bugs.old n) }
 {

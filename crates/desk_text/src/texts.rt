@@ -8,7 +8,7 @@ ghost use Rattle.desk_text.specs.Texts.{as_line, echo, field_word, refusal_text,
 ghost use Rattle.desk_text.specs.Texts.{fault_text, outcome_text, store_end_text, end_text};
 
 use bug_record::{End, Field, Outcome, Refusal, StoreFault};
-use itoa::Buffer;
+use itoa::{Buffer, write_digits};
 use std::alloc::{AllocError, Global};
 use version_nodes::Node;
 
@@ -125,6 +125,19 @@ fn append_refusal(out: &mut Vec<u8>, refusal: &Refusal) -> Result<(), AllocError
     }
 }
 
+// Appends a number after a space, both at once.
+fn append_spaced(out: &mut Vec<u8>, number: u64) -> Result<(), AllocError>
+    ensures ok { OnOk result (out.new.items ≡ out.old.items ++ (codes " " ++ decimal number)) }
+    ensures err { OnErr result (out.new.items ≡ out.old.items) }
+    ensures utf8 { IsUtf8 out.old.items → IsUtf8 out.new.items }
+{
+    let mut text = [0; 21];
+    let end = text.len();
+    let start = write_digits(number, &mut text, end) - 1;
+    text[start] = b' ';
+    out.extend_from_slice(&text[start..])
+}
+
 /// Appends each number after a space.
 pub(crate) fn append_numbers(out: &mut Vec<u8>, numbers: &[u64]) -> Result<(), AllocError>
     ensures ok { OnOk result (out.new.items ≡ out.old.items ++ numbers_text numbers.now) }
@@ -132,8 +145,7 @@ pub(crate) fn append_numbers(out: &mut Vec<u8>, numbers: &[u64]) -> Result<(), A
     ensures utf8 { IsUtf8 out.old.items → IsUtf8 out.new.items }
 {
     for number in numbers {
-        append_text(out, " ")?;
-        append_number(out, *number)?;
+        append_spaced(out, *number)?;
     }
     Ok(())
 }

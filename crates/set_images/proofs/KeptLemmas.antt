@@ -26,7 +26,7 @@ all-above k (n ∷ ns) h =
     let l : k < n = ltb-true k n p.0 in
     ((l, AllAbove-below ns k n l r.0), r)
 
-ascending-from : (ns : List ℕ) → ascends None ns ≡ true → IsAscending ns
+pub ascending-from : (ns : List ℕ) → ascends None ns ≡ true → IsAscending ns
 ascending-from [] h = tt
 ascending-from (n ∷ ns) h = all-above n ns h
 

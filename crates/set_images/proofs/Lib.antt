@@ -5,5 +5,6 @@ pub mod JoinLemmas
 pub mod ChangedLemmas
 pub mod NewBugLemmas
 pub mod KeptLemmas
+pub mod SortedLemmas
 pub mod PartedLemmas
 pub mod RefusalLemmas

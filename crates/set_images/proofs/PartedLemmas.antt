@@ -1,79 +1,22 @@
 -- What differs where no set stays the same bugs.
-use Rattle.std.proofs.Common.{◌≡◌, ◌<◌, ℕ, Bool, true, false, cond, not, ◌||◌, eqb, List, [], ◌∷◌, Option, Some, None, sym, refl}
-use Rattle.std.proofs.Common.{◌++◌, length, get_or, ap, ◌∙◌, subst, arith}
-use Rattle.std.specs.Prelude.{◌≢◌, ◌==◌, nat_lt, is_some, option_map}
+use Rattle.std.proofs.Common.{◌≡◌, ◌<◌, ℕ, Bool, true, false, not, ◌||◌, eqb, List, [], ◌∷◌, Option, Some, None, sym, refl}
+use Rattle.std.proofs.Common.{◌++◌, ◌+◌, zero, suc, length, take, drop, get_or, ap, ◌∙◌, subst, arith, inl, inr}
+use Rattle.std.specs.Prelude.{◌≢◌, is_some, option_map}
 use Rattle.std.specs.Str.{bytes_eq}
 use Rattle.std.specs.Option.{option_or}
-use Rattle.std.specs.Ordering.{nat_cmp}
-use Rattle.std.specs.declared.cmp.Ordering.TheVariants.{Less, Equal, Greater}
-use Rattle.std.specs.List.{list_any, dedup, dedup_from, AllByRecursion}
-use Rattle.std.specs.List.Sorted.{IsPermutation, IsSorted, IsStrictlySortedBy}
-use Rattle.std.proofs.lemmas.Bool.{false≢true, eqb-true, ltb-true, not-true, and_parts, or_parts}
-use Rattle.std.proofs.lemmas.List.Sorted.{list_any-IsPermutation}
-use Rattle.std.proofs.lemmas.Map.Keys.{sorted_from_strictly_increasing, IsStrictlyIncreasing-dedup}
+use Rattle.std.proofs.lemmas.Bool.{false≢true, eqb-true, eq-eqb, not-true, and_parts, or_parts, or_cases, or_left, or_right}
+use Rattle.std.proofs.lemmas.List.{append-nil, map-append, take_more, at_drop_more}
 use Rattle.std.proofs.lemmas.Option.{none-some, same_Some}
 use Rattle.std.proofs.lemmas.Slice.Eq.{bytes_eq-Decides}
-use Rattle.bug_record.specs.Sets.{has, AllAbove, IsAscending, Each}
+use Rattle.bug_record.specs.Sets.{has, IsAscending, Each}
 use Rattle.bug_record.specs.Images.{numbers_of, member_at, bug_of, bug_in}
 use Rattle.bug_record.specs.Changed.{AreChanged}
 use Rattle.bug_record.specs.declared.bug.Bug.{Bug}
+use Rattle.bug_record.specs.declared.bug.Member.{Member}
 use Rattle.bug_record.specs.declared.bug.SetImage.{SetImage}
 use Rattle.bug_record.proofs.SetLemmas.{has-append}
-use Rattle.set_images.specs.Parted.{is_unlike, numbers_in, IsParted}
+use Rattle.set_images.specs.Parted.{is_unlike, numbers_in, IsParted, AreAmong, HasAll}
 use Rattle.set_images.proofs.JoinLemmas.{is_some-first}
-
--- ---- numbers that are sorted, each once
-
-any-has : (xs : List ℕ) (n : ℕ) → list_any (λ x. x == n) xs ≡ has xs n
-any-has [] n = refl
-any-has (x ∷ xs) n = ap (λ t. (x == n) || t) (any-has xs n)
-
-has-from : (k : ℕ) (xs : List ℕ) (n : ℕ) → has (dedup_from eqb k xs) n ≡ has (k ∷ xs) n
-has-from k [] n = refl
-has-from k (x ∷ xs) n =
-    elim (eqb x k) as (λ t. eqb x k ≡ t → has (cond t (dedup_from eqb k xs) (k ∷ dedup_from eqb x xs)) n
-    ≡ (eqb k n || (eqb x n || has xs n))) [
-      | true ↦ λ e. has-from k xs n ∙ again (eqb k n) (eqb x n) (has xs n) (ap (λ z. eqb z n) (eqb-true x k e))
-      | false ↦ λ e. ap (λ t. eqb k n || t) (has-from x xs n)
-    ] refl
-  where
-    again : (a b c : Bool) → b ≡ a → (a || c) ≡ (a || (b || c))
-    again true b c e = refl
-    again false true c e = absurd (false≢true (sym e))
-    again false false c e = refl
-
-has-dedup : (xs : List ℕ) (n : ℕ) → has (dedup eqb xs) n ≡ has xs n
-has-dedup [] n = refl
-has-dedup (x ∷ xs) n = has-from x xs n
-
-pub has-sorted : (xs ys zs : List ℕ) → IsPermutation xs ys → zs ≡ dedup eqb ys → (n : ℕ) → has zs n ≡ has xs n
-has-sorted xs ys zs moved is n =
-    ap (λ z. has z n) is ∙ has-dedup ys n ∙ sym (any-has ys n) ∙ sym (list_any-IsPermutation (λ x. x == n) xs ys moved)
-    ∙ any-has xs n
-
-less : (x y : ℕ) → nat_cmp x y ≡ Less → x < y
-less x y e =
-    elim (nat_lt x y) as (λ s. nat_lt x y ≡ s → cond s Less (cond (x == y) Equal Greater) ≡ Less → x < y) [
-      | true ↦ λ l _. ltb-true x y l
-      | false ↦ λ _. elim (x == y) as (λ t. cond t Equal Greater ≡ Less → x < y)
-          [ true ↦ λ q. absurd (cc) | false ↦ λ q. absurd (cc) ]
-    ] refl e
-
-all-above : (x : ℕ) (xs : List ℕ) → AllByRecursion (λ y. nat_cmp x y ≡ Less) xs → AllAbove x xs
-all-above x [] h = tt
-all-above x (y ∷ ys) h = (less x y h.0, all-above x ys h.1)
-
-ascending : (xs : List ℕ) → IsStrictlySortedBy nat_cmp xs → IsAscending xs
-unfolding IsStrictlySortedBy
-ascending [] h = tt
-ascending (x ∷ xs) h = (all-above x xs h.0, ascending xs h.1)
-
-pub ascending-sorted : (ys zs : List ℕ) → IsSorted nat_cmp ys → zs ≡ dedup eqb ys → IsAscending zs
-ascending-sorted ys zs up is =
-    subst IsAscending (sym is)
-    (ascending (dedup eqb ys) (sorted_from_strictly_increasing (dedup eqb ys) (IsStrictlyIncreasing-dedup ys up)))
-
--- ---- bugs of sets of which none stays
 
 -- the tests tell it
 unlike : (i : SetImage) (js : List SetImage) → is_unlike i js ≡ true → Each (λ j. numbers_of i.members ≢ numbers_of j.members) js
@@ -153,6 +96,77 @@ changed-all old new none first both sorted r h empty one two up numbers is =
     (λ n. ap (λ z. has z n) is ∙ numbers n
     ∙ ap (λ z. has z n) (two ∙ ap (λ z. z ++ numbers_in new) (one ∙ ap (λ z. z ++ numbers_in old) empty))
     ∙ has-append (numbers_in old) (numbers_in new) n)
+
+-- ---- a whole set and its parts
+
+-- the number of a member
+pub has-at : (ms : List Member) (k : ℕ) (m : Member) → k < length ms → m ≡ get_or ms k m → has (numbers_of ms) m.number ≡ true
+has-at [] k m l is = absurd (omega (arith, l))
+has-at (x ∷ ms) zero m l is =
+    or_left _ _ (eq-eqb x.number m.number (ap (λ (z : Member). z.number) (sym is)))
+has-at (x ∷ ms) (suc k) m l is = or_right _ _ (has-at ms k m (omega (arith, l)) is)
+
+-- the numbers of the first k members, and one more that is there
+pub among-more : (ms : List Member) (ws : List ℕ) (k w : ℕ) (m : Member) → k < length ms → m ≡ get_or ms k m
+    → m.number ≡ w → has ws w ≡ true → AreAmong (numbers_of (take k ms)) ws
+    → AreAmong (numbers_of (take (k + 1) ms)) ws
+among-more ms ws k w m l is same there h n t =
+    elim (or_cases (has (numbers_of (take k ms)) n) (has (m.number ∷ []) n)
+    (sym (has-append (numbers_of (take k ms)) (m.number ∷ []) n) ∙ ap (λ z. has z n) (sym parts) ∙ t)) [
+      | inl a ↦ h n a
+      | inr b ↦ ap (has ws) (sym (sym same ∙ eqb-true m.number n (one (eqb m.number n) b))) ∙ there
+    ]
+  where
+    parts : numbers_of (take (k + 1) ms) ≡ numbers_of (take k ms) ++ m.number ∷ []
+    parts =
+        ap numbers_of (take_more ms k m l) ∙ map-append (λ (z : Member). z.number) (take k ms) (get_or ms k m ∷ [])
+        ∙ ap (λ (z : Member). numbers_of (take k ms) ++ z.number ∷ []) (sym is)
+
+    one : (t : Bool) → (t || false) ≡ true → t ≡ true
+    one true e = refl
+    one false e = e
+
+-- those of all parts
+pub parts-more : (is : List SetImage) (k : ℕ) (i : SetImage) (ws : List ℕ) → k < length is → i ≡ get_or is k i
+    → AreAmong (numbers_of i.members) ws → AreAmong (numbers_in (drop (k + 1) is)) ws → AreAmong (numbers_in (drop k is)) ws
+parts-more is k i ws l e one others n t =
+    elim (or_cases (has (numbers_of i.members) n) (has (numbers_in (drop (k + 1) is)) n)
+    (sym (has-append (numbers_of i.members) (numbers_in (drop (k + 1) is)) n)
+    ∙ ap (λ (z : SetImage). has (numbers_in (z ∷ drop (k + 1) is)) n) e
+    ∙ sym (at_drop_more (λ (z : List SetImage). has (numbers_in z) n) is k i l) ∙ t))
+    [ inl a ↦ one n a | inr b ↦ others n b ]
+
+none_more : (ws : List ℕ) (n : ℕ) → has (ws ++ []) n ≡ has ws n
+none_more ws n = ap (λ z. has z n) (append-nil ws)
+
+only : (a b : Bool) → (b ≡ true → a ≡ true) → a ≡ (a || b)
+only true b h = refl
+only false true h = h refl
+only false false h = refl
+
+only_right : (a b : Bool) → (b ≡ true → a ≡ true) → a ≡ (b || a)
+only_right true true h = refl
+only_right true false h = refl
+only_right false true h = h refl
+only_right false false h = refl
+
+-- a set that is parted
+pub changed-whole : (old new : List SetImage) (whole : SetImage) (r : List ℕ) → IsParted old new → old ≡ whole ∷ []
+    → HasAll whole new → r ≡ numbers_of whole.members → AreChanged (bug_in old) (bug_in new) r
+changed-whole old new whole r h one all is =
+    changed-parted old new r h (subst IsAscending (sym is) all.ascending)
+    (λ n. ap (λ z. has z n) is ∙ only (has (numbers_of whole.members) n) (has (numbers_in new) n) (all.numbers n)
+    ∙ ap (λ t. t || has (numbers_in new) n)
+    (sym (none_more (numbers_of whole.members) n) ∙ ap (λ (z : List SetImage). has (numbers_in z) n) (sym one)))
+
+-- a set that is merged
+pub changed-into_whole : (old new : List SetImage) (whole : SetImage) (r : List ℕ) → IsParted old new → new ≡ whole ∷ []
+    → HasAll whole old → r ≡ numbers_of whole.members → AreChanged (bug_in old) (bug_in new) r
+changed-into_whole old new whole r h one all is =
+    changed-parted old new r h (subst IsAscending (sym is) all.ascending)
+    (λ n. ap (λ z. has z n) is ∙ only_right (has (numbers_of whole.members) n) (has (numbers_in old) n) (all.numbers n)
+    ∙ ap (λ t. has (numbers_in old) n || t)
+    (sym (none_more (numbers_of whole.members) n) ∙ ap (λ (z : List SetImage). has (numbers_in z) n) (sym one)))
 
 pub one_item : {T : Type 0} (xs : List T) (x : T) → length xs ≡ 1 → x ≡ get_or xs 0 x → xs ≡ x ∷ []
 one_item [] x l e = absurd (omega (arith, l))

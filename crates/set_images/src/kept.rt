@@ -19,8 +19,8 @@ fn is_above(last: Option<u64>, number: u64) -> bool
     }
 }
 
-// Whether the members ascend by number.
-fn is_ascending(members: &[Member]) -> bool
+/// Whether the members ascend by number.
+pub(crate) fn is_ascending(members: &[Member]) -> bool
     ensures { result ≡ ascends None (numbers_of members.now) }
 {
     let mut last = None;
@@ -41,8 +41,8 @@ pub(crate) fn is_kept(old: &SetImage, new: &SetImage) -> bool
     same_numbers(old.members.as_slice(), members) && is_ascending(members)
 }
 
-// The numbers of the members.
-fn numbers_of(alloc: Global, members: &[Member]) -> Result<Numbers, AllocError>
+/// The numbers of the members.
+pub(crate) fn numbers_of(alloc: Global, members: &[Member]) -> Result<Numbers, AllocError>
     ensures { IfOk result (λ numbers. numbers ≡ numbers_of members.now) }
 {
     let numbers = members.iter().map(|member| member.number);

@@ -14,6 +14,7 @@ mod named;
 mod parted;
 mod refusals;
 mod rows;
+mod sorted;
 
 pub use changes::changed;
 pub use equal::same_text;
@@ -23,3 +24,4 @@ pub use laws::{changed_numbers_differ, new_bugs_are_changed};
 pub use named::{bug_named, other_bugs};
 pub use refusals::{archived_refusal, first_refused, records_refusal};
 pub use rows::{ListRow, member_at};
+pub use sorted::in_order;

@@ -1,12 +1,13 @@
 //! Which bugs a change touches, where no set stays the same bugs.
 
-ghost use Rattle.std.specs.Prelude.{◌≡◌, ◌||◌, ◌++◌, ℕ, IsTrue, IfOk, OnOk};
-ghost use Rattle.bug_record.specs.Sets.{has, IsAscending};
+ghost use Rattle.std.specs.Prelude.{◌≡◌, ◌++◌, IsTrue, IfOk, OnOk};
 ghost use Rattle.bug_record.specs.Images.{numbers_of, bug_in};
 ghost use Rattle.bug_record.specs.Changed.{AreChanged};
-ghost use Rattle.set_images.specs.Parted.{is_unlike, numbers_in, IsParted};
+ghost use Rattle.set_images.specs.Parted.{is_unlike, numbers_in, IsParted, AreAmong, HasAll};
 
 use crate::equal::same_numbers;
+use crate::kept::{is_ascending, numbers_of};
+use crate::sorted::in_order;
 use bug_record::{Member, Numbers, Sequence, SetImage};
 use std::alloc::{AllocError, Global};
 
@@ -56,18 +57,53 @@ fn add_numbers(numbers: &mut Vec<u64>, images: &[SetImage]) -> Result<(), AllocE
     Ok(())
 }
 
-// The numbers, each once, ascending.
-fn in_order(mut numbers: Vec<u64>) -> Vec<u64>
-    ensures ascending { IsAscending result.items }
-    ensures numbers { (n : ℕ) → has result.items n ≡ has numbers.items n }
+// Whether all of the members are found in the whole set, one after another.
+fn are_within(members: &[Member], whole: &[Member]) -> bool
+    ensures { IsTrue result → AreAmong (numbers_of members.now) (numbers_of whole.now) }
 {
-    numbers.sort_unstable();
-    numbers.dedup();
-    numbers.shrink_to_fit();
-    numbers
+    let mut found = 0;
+    for other in whole {
+        if found < members.len() && members[found].number == other.number {
+            found += 1;
+        }
+    }
+    found == members.len()
+}
+
+// Whether the members of all parts are found in the whole set.
+fn are_parts(parts: &[SetImage], whole: &[Member]) -> bool
+    ensures { IsTrue result → AreAmong (numbers_in parts.now) (numbers_of whole.now) }
+{
+    for part in parts {
+        if !are_within(part.members.as_slice(), whole) {
+            return false;
+        }
+    }
+    true
+}
+
+// Whether the whole set ascends, and has all bugs of the parts, as where it is parted, or is merged
+// of them.
+fn has_all(whole: &SetImage, parts: &[SetImage]) -> bool
+    ensures { IsTrue result → HasAll whole.now parts.now }
+{
+    let members = whole.members.as_slice();
+    is_ascending(members) && are_parts(parts, members)
+}
+
+// The numbers of all bugs of the images, gathered and then sorted.
+fn all_numbers(alloc: Global, old: &[SetImage], new: &[SetImage]) -> Result<Numbers, AllocError>
+    requires { IsParted old.now new.now }
+    ensures { IfOk result (λ r. AreChanged (bug_in old.now) (bug_in new.now) r) }
+{
+    let mut numbers = Vec::new(alloc);
+    add_numbers(&mut numbers, old)?;
+    add_numbers(&mut numbers, new)?;
+    Ok(Sequence::from_vec(in_order(numbers)))
 }
 
 /// The numbers of the bugs that differ: all of them.
+/// They are those of one set, where it has all.
 pub(crate) fn changed_parted(
     alloc: Global,
     old: &[SetImage],
@@ -76,8 +112,9 @@ pub(crate) fn changed_parted(
     requires { IsParted old.now new.now }
     ensures { IfOk result (λ r. AreChanged (bug_in old.now) (bug_in new.now) r) }
 {
-    let mut numbers = Vec::new(alloc);
-    add_numbers(&mut numbers, old)?;
-    add_numbers(&mut numbers, new)?;
-    Ok(Sequence::from_vec(in_order(numbers)))
+    match (old, new) {
+        ([whole], parts) if has_all(whole, parts) => numbers_of(alloc, whole.members.as_slice()),
+        (parts, [whole]) if has_all(whole, parts) => numbers_of(alloc, whole.members.as_slice()),
+        _ => all_numbers(alloc, old, new),
+    }
 }

@@ -1,10 +1,9 @@
-use Rattle.std.proofs.Common.{◌≡◌, List, [], sym, ap, ◌∙◌}
+use Rattle.std.proofs.Common.{◌≡◌, ◌++◌, List, [], ℕ, sym, ap, ◌∙◌}
 use Rattle.std.specs.HashMap.{values}
 use Rattle.std.specs.Map.Iter.{deref}
+use Rattle.std.proofs.lemmas.List.{append-nil}
 use Rattle.std.proofs.lemmas.Map.Iter.{rest_more, rest_all}
-use Rattle.std.proofs.lemmas.Result.{IfOk-weaker}
-use Rattle.bug_record.specs.Sets.{with_items}
-use Rattle.bug_record.proofs.NumberLemmas.{with_items-set}
+use Rattle.bug_record.specs.Sets.{has}
 use Rattle.bugs_in_memory.specs.declared.places.Place.{Place}
 use Rattle.bugs_in_memory.specs.Passing.{test_of}
 use Rattle.bugs_in_memory.proofs.PassingLemmas.{passing_in, passing-more, passing-is}
@@ -14,7 +13,7 @@ pub loop-place-preserved : goal.loop-place-preserved
 loop-place-preserved c =
     let left = c.loop-place.place-iterator in
     let rest = c.next.new.self in
-    passing-more (test_of c.args.question) left rest c.in-Some.place.now c.loop-place.numbers.keys c.add_passing.new.numbers.keys
+    passing-more (test_of c.args.question) left rest c.in-Some.place.now c.loop-place.numbers.items c.add_passing.new.numbers.items
     (rest_more deref left rest c.next.result c.in-Some.place c.in-Some.is c.next.ensures.steps) c.in_ok-add_passing.ensures
     ∙ c.loop-place.invariant
 
@@ -24,10 +23,10 @@ returns c = λ tree next sound.
     let test = test_of c.args.question in
     let none : c.loop-place.place-iterator ≡ [] =
     rest_all deref c.loop-place.place-iterator c.next.new.self c.next.result c.in-None.is c.next.ensures.steps in
-    let all : c.loop-place.numbers.keys ≡ with_items (λ k. k) [] (passing_in test (values bugs)) =
-    ap (λ (ps : List Place). with_items (λ k. k) c.loop-place.numbers.keys (passing_in test ps)) (sym none)
+    let all : c.loop-place.numbers.items ≡ passing_in test (values bugs) =
+    sym (append-nil c.loop-place.numbers.items)
+    ∙ ap (λ (ps : List Place). c.loop-place.numbers.items ++ passing_in test ps) (sym none)
     ∙ c.loop-place.invariant in
-    IfOk-weaker c.in_order.result _ _
-    (λ ns e. e ∙ all ∙ with_items-set (passing_in test (values bugs))
-    ∙ passing-is bugs c.values-place-items.ensures.unique c.args.self.now.keyed test tree next sound)
-    c.in_order.ensures
+    c.from_vec.ensures
+    ∙ passing-is bugs c.values-place-items.ensures.unique c.args.self.now.keyed test tree next sound c.in_order.result.items
+    c.in_order.ensures.ascending (λ m. c.in_order.ensures.numbers m ∙ ap (λ (ns : List ℕ). has ns m) all)

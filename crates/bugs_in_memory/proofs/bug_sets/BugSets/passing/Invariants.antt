@@ -1,11 +1,10 @@
-use Rattle.std.proofs.Common.{◌≡◌, []}
+use Rattle.std.proofs.Common.{◌≡◌, ◌++◌}
 use Rattle.std.specs.HashMap.{values}
-use Rattle.bug_record.specs.Sets.{with_items}
 use Rattle.bugs_in_memory.specs.Passing.{test_of}
 use Rattle.bugs_in_memory.proofs.PassingLemmas.{passing_in}
 use Rattle.bugs_in_memory.proofs.bug_sets.BugSets.passing.Given as goal
 
 abbrev pub invariant-loop-place : goal.invariant-loop-place
 invariant-loop-place l =
-    with_items (λ n. n) l.numbers.keys (passing_in (test_of l.question) l.place-iterator) ≡ with_items (λ n. n) []
-    (passing_in (test_of l.question) (values l.self.places))
+    l.numbers.items ++ passing_in (test_of l.question) l.place-iterator
+    ≡ passing_in (test_of l.question) (values l.self.places)

@@ -1,9 +1,12 @@
 use Rattle.std.proofs.Common.{rules, arith}
 use Rattle.std.proofs.lemmas.Grind.{common_steps}
-use Rattle.bugs_in_memory.proofs.places.add_fresh.Goals as goal
+use Rattle.bugs_in_memory.proofs.fresh.add_fresh.Goals as goal
 
 pub returns-in_err-push : goal.returns-in_err-push
 returns-in_err-push c = search rules
 
 pub loop-member-preserved : goal.loop-member-preserved
-loop-member-preserved c = grind (arith, common_steps)
+loop-member-preserved c = record {
+  known = λ n h. c.loop-member.invariant.known n (c.from_number-left.ensures n h);
+  numbers = grind (arith, common_steps);
+}

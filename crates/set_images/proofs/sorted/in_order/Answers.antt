@@ -1,7 +1,7 @@
 use Rattle.std.proofs.Common.{◌∙◌}
 use Rattle.std.proofs.lemmas.List.Filters.{dedup_is}
-use Rattle.set_images.proofs.PartedLemmas.{has-sorted, ascending-sorted}
-use Rattle.set_images.proofs.parted.in_order.Goals as goal
+use Rattle.set_images.proofs.SortedLemmas.{has-sorted, ascending-sorted}
+use Rattle.set_images.proofs.sorted.in_order.Goals as goal
 
 pub returns-clause-ascending : goal.returns-clause-ascending
 returns-clause-ascending c =

@@ -1,7 +1,7 @@
 use Rattle.std.proofs.Common.{◌≡◌, ◌++◌, drop}
 use Rattle.std.specs.Prelude.{filter}
 use Rattle.bugs_in_memory.specs.PlacesOfImages.{numbers_in, is_fresh}
-use Rattle.bugs_in_memory.proofs.places.fresh_numbers.Given as goal
+use Rattle.bugs_in_memory.proofs.fresh.fresh_numbers.Given as goal
 
 abbrev pub invariant-loop-image : goal.invariant-loop-image
 invariant-loop-image l =
