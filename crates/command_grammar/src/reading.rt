@@ -35,8 +35,12 @@ fn is_stop_word(word: &str) -> bool
 fn is_stop_line(word: &str, rest: &str) -> bool
     ensures { result ≡ is_stop_line (word.now ∷ words rest.now) }
 {
+    // The first word of most lines tells at once that they are none.
+    if !is_stop_word(word) {
+        return false;
+    }
     let Some((second, rest)) = split_word(rest) else {
-        return is_stop_word(word);
+        return true;
     };
     if split_word(rest).is_some() {
         return false;

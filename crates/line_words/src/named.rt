@@ -1,8 +1,6 @@
 //! Words that stand for bugs.
 
 ghost use Rattle.std.specs.Prelude.{◌≡◌};
-ghost use Rattle.std.specs.List.{list_all};
-ghost use Rattle.std.specs.Char.{is_ascii_digit};
 ghost use Rattle.line_words.specs.Numbers.{without_hash, number_of_digits, number_of_word};
 ghost use Rattle.line_words.specs.Bugs.{bug_of_word, name_of_word};
 
@@ -23,29 +21,30 @@ pub enum Named {
 }
 
 // The word without one `#` at its beginning.
-fn without_hash(word: &str) -> &str
+fn without_hash(word: &[u8]) -> &[u8]
     ensures { result.now ≡ without_hash word.now }
 {
-    word.strip_prefix('#').unwrap_or(word)
-}
-
-fn all_digits(s: &[u8]) -> bool
-    ensures { result ≡ list_all is_ascii_digit s.now }
-{
-    s.iter().all(|c| c.is_ascii_digit())
+    match word.split_first() {
+        Some((first, rest)) if *first == b'#' => rest,
+        _ => word,
+    }
 }
 
 // The value of one to nine digits, of at least 1.
-fn number_of_digits(digits: &str) -> Option<u32>
+fn number_of_digits(digits: &[u8]) -> Option<u32>
     ensures { result ≡ number_of_digits digits.now }
 {
-    if digits.len() > 9 || !all_digits(digits.as_bytes()) {
+    if digits.len() > 9 {
         return None;
     }
-    match digits.parse::<u32>() {
-        Ok(number) if number > 0 => Some(number),
-        _ => None,
+    let mut number = 0;
+    for digit in digits {
+        if !digit.is_ascii_digit() {
+            return None;
+        }
+        number = number * 10 + u32::from(*digit - b'0');
     }
+    if number > 0 { Some(number) } else { None }
 }
 
 /// The number of a number word, an optional `#` and one to nine ASCII digits of a value of at least
@@ -53,7 +52,7 @@ fn number_of_digits(digits: &str) -> Option<u32>
 pub fn number_word(text: &str) -> Option<u64>
     ensures { result ≡ number_of_word text.now }
 {
-    let number = number_of_digits(without_hash(text))?;
+    let number = number_of_digits(without_hash(text.as_bytes()))?;
     Some(u64::from(number))
 }
 
@@ -62,10 +61,10 @@ pub fn number_word(text: &str) -> Option<u64>
 pub fn bug_word(text: &str) -> Option<Named>
     ensures { result ≡ bug_of_word text.now }
 {
-    let word = without_hash(text);
-    match word.strip_prefix('-') {
-        Some(digits) => Some(Named::Name(number_of_digits(digits)?)),
-        None => Some(Named::Number(u64::from(number_of_digits(word)?))),
+    let word = without_hash(text.as_bytes());
+    match word.split_first() {
+        Some((first, digits)) if *first == b'-' => Some(Named::Name(number_of_digits(digits)?)),
+        _ => Some(Named::Number(u64::from(number_of_digits(word)?))),
     }
 }
 

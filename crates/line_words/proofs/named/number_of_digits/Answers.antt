@@ -1,11 +1,21 @@
-use Rattle.std.proofs.Common.{sym, ◌∙◌, ap, arith}
-use Rattle.std.specs.List.{list_all}
-use Rattle.std.specs.Char.{is_ascii_digit}
-use Rattle.line_words.proofs.NumberLemmas.{number_of_digits-unparsed}
+use Rattle.std.proofs.Common.{sym, ap, ◌+◌, ◌*◌, ◌∙◌, arith}
+use Rattle.line_words.proofs.NumberLemmas.{few-digits, digits-more}
 use Rattle.line_words.proofs.named.number_of_digits.Goals as goal
 
-pub returns-in_default-2 : goal.returns-in_default-2
-returns-in_default-2 c =
-    sym (number_of_digits-unparsed c.args.digits.now c.parse.result c.in_default.field-0 c.parse.ensures.value.0 c.in_default.is
-    (sym (c.all_digits.ensures ∙ ap (list_all is_ascii_digit) c.as_bytes.ensures.value) ∙ c.if-not-all_digits.false)
-    (omega arith))
+pub overflow_mul-number : goal.overflow_mul-number
+overflow_mul-number c =
+    let few = few-digits c.args.digits.now c.loop-digit.digit-index c.loop-digit.invariant.0 c.loop-digit-test.true c.loop-digit.invariant.1 in
+    omega (arith, c.loop-digit.invariant.2)
+
+pub overflow_add-number : goal.overflow_add-number
+overflow_add-number c =
+    let few = few-digits c.args.digits.now c.loop-digit.digit-index c.loop-digit.invariant.0 c.loop-digit-test.true c.loop-digit.invariant.1 in
+    let fits = c.type_inv.digits c.loop-digit.digit-index in
+    omega (arith, c.loop-digit.invariant.2)
+
+pub loop-digit-preserved : goal.loop-digit-preserved
+loop-digit-preserved c =
+    let s = c.args.digits.now in
+    let more = digits-more s c.loop-digit.digit-index c.loop-digit.number c.loop-digit-test.true
+    (sym c.is_ascii_digit.ensures.value ∙ c.if-not-is_ascii_digit.false) c.loop-digit.invariant.1 c.loop-digit.invariant.2 in
+    (c.loop-digit.invariant.0, more.0, ap (λ d. c.loop-digit.number * 10 + d) c.from.ensures ∙ more.1)
