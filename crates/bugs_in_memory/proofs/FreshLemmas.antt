@@ -1,5 +1,5 @@
 -- The numbers of members, of some in a row, and of the first one.
-use Rattle.std.proofs.Common.{◌≡◌, ℕ, zero, suc, true, eqb, ◌||◌, List, [], ◌∷◌, take, drop, Some, ap, ◌∙◌}
+use Rattle.std.proofs.Common.{◌≡◌, ℕ, zero, suc, true, eqb, List, [], ◌∷◌, take, drop, Some, ap, ◌∙◌}
 use Rattle.std.proofs.Common.{inl, inr}
 use Rattle.std.specs.Prelude.{slice_get}
 use Rattle.std.proofs.lemmas.Bool.{false≢true, or_cases, or_left, or_right}

@@ -4,7 +4,6 @@ use Rattle.std.specs.Prelude.{ℕ, Option, Some, None, option_map}
 use Rattle.std.specs.Option.{option_and_then}
 use Rattle.std.specs.Prelude.{nat_eq}
 use Rattle.std.specs.HashMap.{HashMap, get}
-use Rattle.bug_record.specs.Sets.{has}
 use Rattle.bug_record.specs.declared.bug.SetImage.{SetImage}
 use Rattle.bugs_in_memory.specs.declared.places.Place.{Place}
 use Rattle.bugs_in_memory.specs.declared.places.Place.TheVariants.{First, After}
