@@ -371,6 +371,17 @@ module _ (i : SetImage) (found fixed : List Node) (rows : List NearRow) (t : Anc
         anew t refl (rows, o, are, refl)) clear in
         let all : AreFree (key_drops false k ++ (rest ++ near_puts k rows)) c = subst (λ (es : List Edit). AreFree es c) anew-is free in
         let later : AreFree rest (record gone { near = no_near }) = free-front rest (near_puts k rows) _ all.1.1.1.1.1 in
-        subst (λ (es : List Edit). AreFree es c) (sym moves-is)
-        (all.0, (all.1.0, (all.1.1.0, (all.1.1.1.0, free-append rest (near_moves k found fixed rows) gone (free_apart no_near rest gone rest_other later)
-        (near_moves_free k found fixed rows _ (good.numbers k (own_key i good.some)))))))
+        subst (λ (es : List Edit). AreFree es c) (sym moves-is) (
+          all.0,
+          (
+            all.1.0,
+            (
+              all.1.1.0,
+              (
+                all.1.1.1.0,
+                free-append rest (near_moves k found fixed rows) gone (free_apart no_near rest gone rest_other later)
+                    (near_moves_free k found fixed rows _ (good.numbers k (own_key i good.some))),
+              ),
+            ),
+          ),
+        )
