@@ -1,9 +1,11 @@
 -- The heads of a package stand among its own nodes, which stand together.
-use Rattle.std.proofs.Common.{◌≡◌, ℕ, Bool, true, false, not, ◌&&◌, cond, List, [], ◌∷◌, Option, Some, None, is_some, refl}
+use Rattle.std.proofs.Common.{◌≡◌, ℕ, Bool, true, false, not, ◌&&◌, ◌||◌, cond, List, [], ◌∷◌, Option, Some, None, is_some, refl}
 use Rattle.std.proofs.Common.{Ordering, Less, Equal, Greater, sym, ap, ◌∙◌, subst, ⊎_elim}
-use Rattle.std.specs.Prelude.{filter}
+use Rattle.std.specs.Prelude.{filter, IfSome}
+use Rattle.std.specs.List.{AllByRecursion}
+use Rattle.std.specs.Option.{option_map_or}
 use Rattle.std.proofs.Common.{◌++◌, append_assoc, append-nil}
-use Rattle.std.proofs.lemmas.Bool.{cases_Bool, false≢true, and_parts, and_right}
+use Rattle.std.proofs.lemmas.Bool.{cases_Bool, false≢true, and_parts, or_right}
 use Rattle.debver.specs.Names.{IsName}
 use Rattle.debver.proofs.CutLaws.{version_is}
 use Rattle.debver.specs.Versions.{total_cmp}
@@ -15,10 +17,11 @@ use Rattle.std.specs.List.Sorted.{IsStrictlySortedBy}
 use Rattle.std.specs.Map.{keys_of}
 use Rattle.std.specs.Ordering.{nat_cmp, ordering_then, ordering_reverse, is_eq, is_le}
 use Rattle.std.specs.Str.{bytes_eq}
-use Rattle.version_nodes.specs.Nodes.{Node, IsNode, node, node_of, node_cmp}
+use Rattle.version_nodes.specs.Nodes.{Node, IsNode, node, node_of, node_cmp, same_node}
 use Rattle.version_nodes.specs.Trees.{Ancestry, has_node, known_at, knows, is_parent, heads, IsForest}
 use Rattle.version_nodes.specs.Lowest.{lowest_version}
-use Rattle.version_nodes.proofs.NodeLemmas.{has_head, has_tail, has_cases, at_first}
+use Rattle.version_nodes.proofs.NodeLemmas.{has_head, has_tail, has_cases, at_first, same_itself, same_true}
+use Rattle.ancestry.specs.Kept.{listed}
 use Rattle.ancestry.proofs.LinkLemmas.{AreAbove}
 use Rattle.ancestry.proofs.LowestLemmas.{lowest_below}
 use Rattle.version_nodes.proofs.ReadLemmas.{nodes_exactly}
@@ -190,63 +193,115 @@ no_source source h n valid =
 
 -- ---- a walk through the nodes of a package
 
--- the heads so far, and those among the links that are left, are all; no link is before the package
-pub record Left (t : Ancestry) (source : List ℕ) (found : List Node) (rest : Ancestry) : Type 0 where
-  pub all : found ++ filter (is_head t source) (keys_of rest) ≡ heads t source
+-- what is some node's parent among the links that are kept is one among all
+either : {a c : Bool} (b : Bool) → (a ≡ true → c ≡ true) → (b || a) ≡ true → (b || c) ≡ true
+either true again k = refl
+either false again k = again k
+
+kept_parent : (r : Node → Bool) (es : Ancestry) (p : Node) → is_parent (filter (λ e. r e.0) es) p ≡ true → is_parent es p ≡ true
+kept_parent r [] p h = h
+kept_parent r (e ∷ es) p h = by_tests (kept_parent r es p) (r e.0) h
+  where
+    by_tests : (is_parent (filter (λ e. r e.0) es) p ≡ true → is_parent es p ≡ true) → (b : Bool)
+        → is_parent (cond b (e ∷ filter (λ e. r e.0) es) (filter (λ e. r e.0) es)) p ≡ true → is_parent (e ∷ es) p ≡ true
+    by_tests again true k = either (option_map_or (same_node p) e.1 false) again k
+    by_tests again false k = or_right (option_map_or (same_node p) e.1 false) (is_parent es p) (again k)
+
+filter-append : (p : Node → Bool) (xs ys : List Node) → filter p (xs ++ ys) ≡ filter p xs ++ filter p ys
+filter-append p [] ys = refl
+filter-append p (x ∷ xs) ys =
+    elim (p x) as (λ b. cond b (x ∷ filter p (xs ++ ys)) (filter p (xs ++ ys)) ≡ cond b (x ∷ filter p xs) (filter p xs) ++ filter p ys)
+    [ true ↦ ap (λ ns. x ∷ ns) (filter-append p xs ys) | false ↦ filter-append p xs ys ]
+
+-- The heads so far, the last node if it is one, and those among the links that are left, are all; no
+-- link is before the package.
+pub record Left (t : Ancestry) (source : List ℕ) (found : List Node) (last : Option Node) (rest : Ancestry) : Type 0 where
+  pub all : found ++ filter (is_head t source) (listed last ++ keys_of rest) ≡ heads t source
+  pub own : AllByRecursion (λ n. bytes_eq n.source source ≡ true) (listed last)
+  pub within : (p : Node) → is_parent rest p ≡ true → is_parent t p ≡ true
   pub ascending : IsStrictlySortedBy node_cmp (keys_of rest)
   pub above : (n : Node) → has_node (keys_of rest) n ≡ true → is_le (node_cmp (node source lowest_version) n) ≡ true
 
 pub at_lowest : (t : Ancestry) (source : List ℕ) (low : Node) (found : List Node) (rest : Ancestry) → IsForest t
     → node_of source lowest_version ≡ Some low → found ≡ []
-    → rest ≡ filter (λ e. is_le (node_cmp low e.0) && not false) t → Left t source found rest
+    → rest ≡ filter (λ e. is_le (node_cmp low e.0) && not false) t → Left t source found None rest
 at_lowest t source low found rest forest h none e =
     let is : low ≡ node source lowest_version = ((nodes_exactly source lowest_version low).0 h).0 in
     let whole : rest ≡ from_lowest t source forest = e ∙ ap (λ m. filter (λ e. is_le (node_cmp m e.0) && not false) t) is in
-    subst (Left t source found) (sym whole) (record {
+    subst (Left t source found None) (sym whole) (record {
       all = ap (λ ns. ns ++ filter (is_head t source) (keys_of (from_lowest t source forest))) none ∙ heads_from t source forest;
+      own = tt;
+      within = kept_parent (in_range t source forest) t;
       ascending = from_ascends t source forest;
       above = from_above t source forest;
     })
 
-module _ (t : Ancestry) (source : List ℕ) (found : List Node) (rest : Ancestry) (n : Node) (v : Option Node) (more : Ancestry)
-    (left : Left t source found rest) (e : rest ≡ (n, v) ∷ more) where
-  abbrev here : Left t source found ((n, v) ∷ more)
-  here = subst (Left t source found) e left
+-- of the last node, what is kept is what is no parent
+last_kept : (t : Ancestry) (source : List ℕ) (last : Option Node) → AllByRecursion (λ n. bytes_eq n.source source ≡ true) (listed last)
+    → filter (is_head t source) (listed last) ≡ filter (λ n. not (is_parent t n)) (listed last)
+last_kept t source None own = refl
+last_kept t source (Some n) own = ap (λ b. cond (b && not (is_parent t n)) (n ∷ []) []) own.0
 
-  -- a node that is a head is found
-  pub one_found : (found' : List Node) (m : Node) → bytes_eq n.source source ≡ true → is_parent t n ≡ false
-      → found' ≡ found ++ m ∷ [] → m ≡ n → Left t source found' more
-  one_found found' m of_source none is same = record {
-    all = ap (λ ns. ns ++ filter (is_head t source) (keys_of more)) (is ∙ ap (λ q. found ++ q ∷ []) same)
-        ∙ append_assoc found (n ∷ []) (filter (is_head t source) (keys_of more))
-        ∙ sym (ap (λ b. found ++ cond b (n ∷ filter (is_head t source) (keys_of more)) (filter (is_head t source) (keys_of more)))
-        (λ i. of_source i && not (none i)))
-        ∙ here.all;
-    ascending = sorted_tail node_cmp n (keys_of more) here.ascending;
-    above = λ q h. here.above q (has_tail q n (keys_of more) h);
-  }
+module _ (t : Ancestry) (source : List ℕ) (found : List Node) (last : Option Node) (rest : Ancestry)
+    (left : Left t source found last rest) where
+  -- the heads so far and the last node, and then those that are left
+  both : (found' : List Node) → found' ≡ found ++ filter (λ n. not (is_parent t n)) (listed last)
+      → found' ++ filter (is_head t source) (keys_of rest) ≡ heads t source
+  both found' e =
+      ap (λ ns. ns ++ filter (is_head t source) (keys_of rest)) (e ∙ ap (λ ns. found ++ ns) (sym (last_kept t source last left.own)))
+      ∙ append_assoc found (filter (is_head t source) (listed last)) (filter (is_head t source) (keys_of rest))
+      ∙ ap (λ ns. found ++ ns) (sym (filter-append (is_head t source) (listed last) (keys_of rest)))
+      ∙ left.all
 
-  -- a parent is not
-  pub none_found : is_parent t n ≡ true → Left t source found more
-  none_found parent = record {
-    all = sym (ap (λ b. found ++ cond b (n ∷ filter (is_head t source) (keys_of more)) (filter (is_head t source) (keys_of more)))
-        (and_right (bytes_eq n.source source) (not (is_parent t n)) (ap not parent)))
-        ∙ here.all;
-    ascending = sorted_tail node_cmp n (keys_of more) here.ascending;
-    above = λ q h. here.above q (has_tail q n (keys_of more) h);
-  }
+  module _ (n : Node) (v : Option Node) (more : Ancestry) (e : rest ≡ (n, v) ∷ more) where
+    abbrev here : Left t source found last ((n, v) ∷ more)
+    here = subst (Left t source found last) e left
 
-  -- a node of another source ends the walk
-  pub found_before : bytes_eq n.source source ≡ false → found ≡ heads t source
-  found_before off =
-      let none = none_after t source (n, v) more here.ascending here.above off in
-      sym (append-nil found) ∙ ap (λ ns. found ++ ns) (sym none) ∙ here.all
+    -- a node that the next one is based on is a parent
+    pub next_parent : IfSome v (λ p. is_parent t p ≡ true)
+    next_parent = cases v here.within
+      where
+        cases : (v : Option Node) → ((p : Node) → is_parent ((n, v) ∷ more) p ≡ true → is_parent t p ≡ true) → IfSome v (λ p. is_parent t p ≡ true)
+        cases None within = tt
+        cases (Some p) within = within p (ap (λ b. b || is_parent more p) (same_itself p))
 
--- and so does the end of the links
-pub found_all : (t : Ancestry) (source : List ℕ) (found : List Node) (rest : Ancestry) → Left t source found rest → rest ≡ []
-    → found ≡ heads t source
-found_all t source found rest left e =
-    sym (append-nil found) ∙ ap (λ es. found ++ filter (is_head t source) (keys_of es)) (sym e) ∙ left.all
+    -- the next node is the last one then
+    pub one_more : (found' : List Node) → bytes_eq n.source source ≡ true
+        → found' ≡ found ++ filter (λ n. not (is_parent t n)) (listed last) → Left t source found' (Some n) more
+    one_more found' of_source is = record {
+      all = ap (λ (es : Ancestry). found' ++ filter (is_head t source) (keys_of es)) (sym e) ∙ both found' is;
+      own = (of_source, tt);
+      within = λ p h. here.within p (or_right (option_map_or (same_node p) v false) (is_parent more p) h);
+      ascending = sorted_tail node_cmp n (keys_of more) here.ascending;
+      above = λ q h. here.above q (has_tail q n (keys_of more) h);
+    }
+
+    -- a node of another source ends the walk
+    pub found_before : (found' : List Node) → bytes_eq n.source source ≡ false
+        → found' ≡ found ++ filter (λ n. not (is_parent t n)) (listed last) → found' ≡ heads t source
+    found_before found' off is =
+        let none = none_after t source (n, v) more here.ascending here.above off in
+        sym (append-nil found') ∙ ap (λ ns. found' ++ ns) (sym none)
+        ∙ ap (λ (es : Ancestry). found' ++ filter (is_head t source) (keys_of es)) (sym e) ∙ both found' is
+
+  -- and so does the end of the links
+  pub found_all : (found' : List Node) → rest ≡ [] → found' ≡ found ++ filter (λ n. not (is_parent t n)) (listed last)
+      → found' ≡ heads t source
+  found_all found' e is =
+      sym (append-nil found') ∙ ap (λ (es : Ancestry). found' ++ filter (is_head t source) (keys_of es)) (sym e) ∙ both found' is
+
+-- a parent is no head
+pub parent_is_none : (t : Ancestry) (heads : List Node) (given : Option Node) (n : Node) → is_parent t n ≡ true → given ≡ Some n
+    → heads ≡ heads ++ filter (λ n. not (is_parent t n)) (listed given)
+parent_is_none t heads given n h is =
+    sym (append-nil heads) ∙ ap (λ ns. heads ++ ns) (sym (ap (λ b. cond (not b) (n ∷ []) []) h)
+    ∙ ap (λ o. filter (λ n. not (is_parent t n)) (listed o)) (sym is))
+
+-- a node that is the given parent is one
+pub given_is_none : (t : Ancestry) (heads : List Node) (parent given : Option Node) (n : Node) → IfSome parent (λ p. is_parent t p ≡ true)
+    → option_map_or (same_node n) parent false ≡ true → given ≡ Some n → heads ≡ heads ++ filter (λ n. not (is_parent t n)) (listed given)
+given_is_none t heads None given n h same is = absurd (false≢true same)
+given_is_none t heads (Some p) given n h same is = parent_is_none t heads given n (ap (is_parent t) (same_true n p same) ∙ h) is
 
 pub heads_ascend : (t : Ancestry) (source : List ℕ) → IsForest t → IsStrictlySortedBy node_cmp (heads t source)
 heads_ascend t source forest = IsStrictlySortedBy-filter node_cmp (is_head t source) (keys_of t) forest.ascending

@@ -1,9 +1,10 @@
 //! Which node is based on which.
 
-ghost use Rattle.std.specs.Prelude.{◌≡◌, IfOk};
+ghost use Rattle.std.specs.Prelude.{◌≡◌, ◌++◌, not, true, false, filter, IfOk, OnOk, IfSome};
 ghost use Rattle.std.specs.List.Sorted.{IsStrictlySortedBy};
-ghost use Rattle.std.specs.Option.{option_copied};
-ghost use Rattle.version_nodes.specs.Nodes.{node_cmp};
+ghost use Rattle.std.specs.Option.{option_copied, option_map_or};
+ghost use Rattle.ancestry.specs.Kept.{listed};
+ghost use Rattle.version_nodes.specs.Nodes.{node_cmp, same_node};
 ghost use Rattle.version_nodes.specs.Trees.{no_nodes, knows, parent_of, IsLine, line, is_parent, heads, IsForest};
 
 use std::alloc::{AllocError, Global};
@@ -32,6 +33,16 @@ impl Model for Tree {
     ghost view = { λ t. t.links.entries };
 
     ghost invariant = { λ t. IsForest t.links.entries × AreParents t.links.entries t.parents };
+}
+
+// Whether this node is the given one.
+fn is_given(given: Option<&Node>, node: &Node) -> bool
+    ensures { result ≡ option_map_or (same_node node.now) (option_copied given.entry) false }
+{
+    match given {
+        Some(given) => node == given,
+        None => false,
+    }
 }
 
 impl Tree {
@@ -98,12 +109,38 @@ impl Tree {
         self.parents.contains(node)
     }
 
+    // Adds the node, if there is one and it is no node's parent, where this is some node's parent.
+    // Most nodes are the parent of the node that follows them, and are not looked up.
+    fn push_head(
+        &self,
+        heads: &mut Vec<Node>,
+        node: Option<&Node>,
+        parent: Option<&Node>,
+    ) -> Result<(), AllocError>
+        requires { IfSome (option_copied parent) (λ p. is_parent self.now p ≡ true) }
+        ensures { OnOk result (heads.new.items ≡ heads.old.items
+            ++ filter (λ n. not (is_parent self.now n)) (listed (option_copied node.entry))) }
+    {
+        let Some(node) = node else {
+            return Ok(());
+        };
+        if is_given(parent, node) {
+            return Ok(());
+        }
+        if self.is_parent(node) {
+            return Ok(());
+        }
+        heads.push(node.copy()?)?;
+        Ok(())
+    }
+
     /// The heads of a source package: copies of its known nodes that are no node's parent, in node
     /// order.
     /// A text that is no package name has none.
     /// The error is that there was no memory.
     /// It goes through the known nodes of that package alone, up to the one after them; to find the
-    /// first, and whether each is a parent, is a look-up in a sorted map.
+    /// first, and whether one is a parent that is not the parent of the next node, is a look-up in
+    /// a sorted map.
     pub fn heads(&self, source: &str) -> Result<Vec<Node>, AllocError>
         ensures value { IfOk result (λ nodes. nodes.items ≡ heads self.now source.now) }
         ensures ascending { IfOk result (λ nodes. IsStrictlySortedBy node_cmp nodes.items) }
@@ -114,14 +151,15 @@ impl Tree {
             Err(NodeFault::BadNode) => return Ok(heads),
             Err(NodeFault::Memory) => return Err(AllocError),
         };
-        for (node, _) in self.links.range(lowest..) {
+        let mut last = None;
+        for (node, parent) in self.links.range(lowest..) {
             if !node.is_of(source) {
                 break;
             }
-            if !self.is_parent(node) {
-                heads.push(node.copy()?)?;
-            }
+            self.push_head(&mut heads, last, parent.as_ref())?;
+            last = Some(node);
         }
+        self.push_head(&mut heads, last, None)?;
         Ok(heads)
     }
 }

@@ -1,12 +1,12 @@
-use Rattle.std.proofs.Common.{◌≡◌, Err, false, sym, ap, ◌∙◌, subst, not, ◌&&◌, arith}
-use Rattle.std.proofs.lemmas.Grind.{common_steps}
-use Rattle.std.specs.Prelude.{filter}
+use Rattle.std.proofs.Common.{◌≡◌, Option, Err, true, false, sym, ap, ◌∙◌, subst, not, ◌&&◌}
+use Rattle.std.specs.Prelude.{filter, IfSome}
+use Rattle.std.specs.Option.{option_copied}
 use Rattle.std.specs.List.Sorted.{IsStrictlySortedBy}
 use Rattle.std.specs.Ordering.{is_le}
-use Rattle.version_nodes.specs.Nodes.{node_cmp, node_of, IsRead}
-use Rattle.version_nodes.specs.Trees.{heads, IsForest}
+use Rattle.version_nodes.specs.Nodes.{Node, node_cmp, node_of, IsRead}
+use Rattle.version_nodes.specs.Trees.{heads, is_parent, IsForest}
 use Rattle.version_nodes.specs.Lowest.{lowest_version}
-use Rattle.ancestry.proofs.HeadLemmas.{no_heads, no_source, at_lowest, one_found, none_found, found_before, found_all}
+use Rattle.ancestry.proofs.HeadLemmas.{no_heads, no_source, at_lowest, one_more, next_parent, found_before, found_all}
 use Rattle.ancestry.proofs.HeadLemmas.{heads_ascend}
 use Rattle.ancestry.proofs.tree.Tree.heads.Goals as goal
 use Rattle.ancestry.proofs.tree.Tree.heads.Goals.{in-None, in-Some+then-not-is_of}
@@ -32,52 +32,45 @@ loop-node-init c =
     (c.into_iter-node-iterator.ensures.into_iter_gives ∙ c.range-node-items.ensures.between tt
     ∙ ap (filter (λ e. is_le (node_cmp low e.0) && not false)) c.self.view_is)
 
-pub loop-node-preserved-in_ok-push : goal.loop-node-preserved-in_ok-push
-loop-node-preserved-in_ok-push c =
-    let n = c.in-Some.node.now in
-    one_found c.args.self.now c.args.source.now c.loop-node.heads.items c.loop-node.node-iterator n
-    c.in-Some.field-0-1.now c.next.new.self c.loop-node.invariant c.in-Some.ensures.steps c.push.new.self.items
-    c.in_ok-copy.field-0 (sym c.is_of.ensures ∙ c.if-not-is_of.false) (sym c.is_parent.ensures ∙ c.if-not-is_parent.true)
-    c.in_ok-push.ensures.items c.in_ok-copy.ensures.value
+pub push_head-requires : goal.push_head-requires
+push_head-requires c =
+    subst (λ (o : Option Node). IfSome o (λ p. is_parent c.args.self.now p ≡ true)) (sym c.as_ref.ensures.value)
+    (next_parent c.args.self.now c.args.source.now c.loop-node.heads.items (option_copied c.loop-node.last) c.loop-node.node-iterator
+    c.loop-node.invariant c.in-Some.node.now c.in-Some.parent.now c.next.new.self c.in-Some.ensures.steps)
 
 pub loop-node-preserved : goal.loop-node-preserved
 loop-node-preserved c =
-    let n = c.in-Some.node.now in
-    none_found c.args.self.now c.args.source.now c.loop-node.heads.items c.loop-node.node-iterator n
-    c.in-Some.field-0-1.now c.next.new.self c.loop-node.invariant c.in-Some.ensures.steps
-    (sym c.is_parent.ensures ∙ c.if-not-is_parent.false)
+    one_more c.args.self.now c.args.source.now c.loop-node.heads.items (option_copied c.loop-node.last) c.loop-node.node-iterator
+    c.loop-node.invariant c.in-Some.node.now c.in-Some.parent.now c.next.new.self c.in-Some.ensures.steps c.push_head.new.heads.items
+    (sym c.is_of.ensures ∙ c.if-not-is_of.false) c.in_ok-push_head.ensures
 
 pub returns-clause-value : goal.returns-clause-value
 returns-clause-value c =
+    let t = c.args.self.now in
     let source = c.args.source.now in
-    let so_far = c.loop-node.invariant in
+    let last = option_copied c.loop-node.last in
+    let found = c.push_head-2.new.heads.items in
     elim c.match-next.branch [
-      | in-None w ↦ found_all c.args.self.now source c.loop-node.heads.items c.loop-node.node-iterator so_far
-          w.in-None.ensures.steps.0
+      | in-None w ↦ found_all t source c.loop-node.heads.items last c.loop-node.node-iterator c.loop-node.invariant found
+          w.in-None.ensures.steps.0 c.in_ok-push_head-2.ensures
       | in-Some+then-not-is_of w ↦
-          let n = w.in-Some.node.now in
-          found_before c.args.self.now source c.loop-node.heads.items c.loop-node.node-iterator n w.in-Some.field-0-1.now
-          c.next.new.self so_far w.in-Some.ensures.steps
-          (sym w.is_of.ensures ∙ w.if-not-is_of.true)
+          found_before t source c.loop-node.heads.items last c.loop-node.node-iterator c.loop-node.invariant w.in-Some.node.now
+          w.in-Some.parent.now c.next.new.self w.in-Some.ensures.steps found (sym w.is_of.ensures ∙ w.if-not-is_of.true)
+          c.in_ok-push_head-2.ensures
     ]
 
 pub returns-clause-ascending : goal.returns-clause-ascending
 returns-clause-ascending c =
     let t = c.args.self.now in
     let source = c.args.source.now in
-    let so_far = c.loop-node.invariant in
-    let all : c.loop-node.heads.items ≡ heads t source = elim c.match-next.branch [
-      | in-None w ↦ found_all t source c.loop-node.heads.items c.loop-node.node-iterator so_far w.in-None.ensures.steps.0
+    let last = option_copied c.loop-node.last in
+    let found = c.push_head-2.new.heads.items in
+    let all : found ≡ heads t source = elim c.match-next.branch [
+      | in-None w ↦ found_all t source c.loop-node.heads.items last c.loop-node.node-iterator c.loop-node.invariant found
+          w.in-None.ensures.steps.0 c.in_ok-push_head-2.ensures
       | in-Some+then-not-is_of w ↦
-          let n = w.in-Some.node.now in
-          found_before t source c.loop-node.heads.items c.loop-node.node-iterator n w.in-Some.field-0-1.now
-          c.next.new.self so_far w.in-Some.ensures.steps
-          (sym w.is_of.ensures ∙ w.if-not-is_of.true)
+          found_before t source c.loop-node.heads.items last c.loop-node.node-iterator c.loop-node.invariant w.in-Some.node.now
+          w.in-Some.parent.now c.next.new.self w.in-Some.ensures.steps found (sym w.is_of.ensures ∙ w.if-not-is_of.true)
+          c.in_ok-push_head-2.ensures
     ] in
     subst (IsStrictlySortedBy node_cmp) (sym all) (heads_ascend t source (subst IsForest c.self.view_is c.self.invariant.0))
-
-pub returns-in_err-push-clause-value : goal.returns-in_err-push-clause-value
-returns-in_err-push-clause-value c = grind (arith, common_steps)
-
-pub returns-in_err-push-clause-ascending : goal.returns-in_err-push-clause-ascending
-returns-in_err-push-clause-ascending c = grind (arith, common_steps)
