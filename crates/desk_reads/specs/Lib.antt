@@ -1,5 +1,6 @@
 pub mod Kept
 pub mod Asked
+pub mod FoundSets
 -- definitions that only private functions cite
 pub mod Bugs
 pub mod Found

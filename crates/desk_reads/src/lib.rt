@@ -11,6 +11,6 @@ mod rows;
 mod waiting;
 
 pub use heads::read_open_head;
-pub use images::read_set_of;
+pub use images::{FoundSet, read_set_of};
 pub use listed::read_listed;
 pub use waiting::read_waiting_on;

@@ -1,0 +1,3 @@
+pub mod Known
+-- definitions that only private functions cite
+pub mod Tests
