@@ -16,6 +16,7 @@ use Rattle.desk_content.specs.Kept.{IsKeptContent}
 use Rattle.desk_content.specs.declared.edit.SetFields.{SetFields}
 use Rattle.desk_store.specs.Store.{IsImageOf}
 use Rattle.desk_reads.specs.Bugs.{image_with, unlinked}
+use Rattle.desk_reads.specs.FoundSets.{IsSetFound, found_under}
 
 small : (n next : ℕ) → n < next → next ≤ AFTER_LARGEST → n < 2 ^ 32
 small n next low limit = omega (arith, low, limit)
@@ -79,3 +80,14 @@ module _ (c : Content) (kept : IsKeptContent c) where
       cases (Some k) e =
           let i = found-image c.key (image c) kept.keyed n k e in
           subst (IsImageOf (desk_in c) n) (sym i.1) (image-of_key c.key (image c) kept.keyed c.nodes c.next kept.sound n k i.0 e i.1)
+
+  -- and it stands under that key
+  pub set_found : (n k : ℕ) → c.key n ≡ Some k → IsSetFound c n (option_map (found_under k) (image c k))
+  set_found n k e = cases (image c k) refl (subst (λ o. IsImageOf (desk_in c) n (option_and_then (image c) o)) e (image_found n))
+    where
+      cases : (o : Option SetImage) → image c k ≡ o → IsImageOf (desk_in c) n o → IsSetFound c n (option_map (found_under k) o)
+      cases None here is = is
+      cases (Some i) here is = (is, here)
+
+  pub none_found : (n : ℕ) → c.key n ≡ None → IsSetFound c n None
+  none_found n e = subst (λ o. IsImageOf (desk_in c) n (option_and_then (image c) o)) e (image_found n)

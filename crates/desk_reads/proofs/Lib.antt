@@ -8,3 +8,4 @@ pub mod MapLemmas
 pub mod FoundLemmas
 pub mod ListedLemmas
 pub mod OpenLemmas
+pub mod KnownLemmas

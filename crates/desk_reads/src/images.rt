@@ -1,13 +1,13 @@
 //! The images of sets.
 
-ghost use Rattle.std.specs.Prelude.{◌≡◌, ◌≢◌, IfOk, IfErr};
+ghost use Rattle.std.specs.Prelude.{◌≡◌, ◌≢◌, IfOk, IfErr, option_map};
 ghost use Rattle.sqlite.specs.Held.{state};
 ghost use Rattle.bug_record.specs.declared.outcome.StoreFault.TheVariants.{Foreign};
-ghost use Rattle.desk_content.specs.View.{desk_in, image, shared_of};
+ghost use Rattle.desk_content.specs.View.{image, shared_of};
 ghost use Rattle.desk_schema.specs.Steps.{Reads, Serves};
-ghost use Rattle.desk_store.specs.Store.{IsImageOf};
 ghost use Rattle.desk_reads.specs.Kept.{ReadsKept};
 ghost use Rattle.desk_reads.specs.Bugs.{image_with, unlinked};
+ghost use Rattle.desk_reads.specs.FoundSets.{IsSetFound, found_under};
 
 use crate::keys::small_key;
 use bug_record::{Agreed, Sequence, SetImage, Shared, StoreFault};
@@ -15,6 +15,14 @@ use desk_content::SetFields;
 use set_rows::{read_affected, read_blockers, read_fields, read_key, read_marks, read_members};
 use sqlite::{Alter, Transaction};
 use std::alloc::Global;
+
+/// A set that was found: its image, and the key under which it stands, the number of one of its
+/// bugs.
+#[derive(Drop)]
+pub struct FoundSet {
+    pub key: u64,
+    pub image: SetImage,
+}
 
 // The shared fields of the set of the key, which has these in its own row, without the packages
 // that it affects and the bugs that block it.
@@ -134,19 +142,38 @@ fn read_small_key<S: Alter>(
     }
 }
 
-/// The image of the set that the bug is in, if there is such a bug.
-/// `Memory` where there is none for the image.
+// The set of the key, if there is one.
+fn read_found_set<S: Alter>(
+    alloc: Global,
+    tx: &mut Transaction<'_, S>,
+    key: u32,
+) -> Result<Option<FoundSet>, StoreFault>
+    ensures same_reference { tx.new.conn.ghost_name ≡ tx.old.conn.ghost_name }
+    ensures reads { Reads (λ c found. found ≡ option_map (found_under key) (image c key)) (state S.Store tx.old.conn.now) (state S.Store tx.new.conn.now) result }
+    ensures serves { Serves (state S.Store tx.old.conn.now) (state S.Store tx.new.conn.now) result }
+{
+    match read_image(alloc, tx, key)? {
+        Some(image) => Ok(Some(FoundSet {
+            key: u64::from(key),
+            image,
+        })),
+        None => Ok(None),
+    }
+}
+
+/// The set that the bug is in, if there is such a bug.
+/// `Memory` where there is none for its image.
 pub fn read_set_of<S: Alter>(
     alloc: Global,
     tx: &mut Transaction<'_, S>,
     number: u32,
-) -> Result<Option<SetImage>, StoreFault>
+) -> Result<Option<FoundSet>, StoreFault>
     ensures same_reference { tx.new.conn.ghost_name ≡ tx.old.conn.ghost_name }
-    ensures reads { ReadsKept (λ c found. IsImageOf (desk_in c) number found) (state S.Store tx.old.conn.now) (state S.Store tx.new.conn.now) result }
+    ensures reads { ReadsKept (λ c found. IsSetFound c number found) (state S.Store tx.old.conn.now) (state S.Store tx.new.conn.now) result }
     ensures serves { Serves (state S.Store tx.old.conn.now) (state S.Store tx.new.conn.now) result }
 {
     match read_small_key(tx, number)? {
-        Some(key) => read_image(alloc, tx, key),
+        Some(key) => read_found_set(alloc, tx, key),
         None => Ok(None),
     }
 }

@@ -1,8 +1,9 @@
 -- What a branch comes to, and leaves of what is remembered.
 use Rattle.desk_tables.proofs.Imports.{IsGrown, Branches, IsRefusal, content_seen, desk_seen, keeping_seen, IsKept, IsDesk, HasContent, AreTablesAfter, StillShows, IsChanged, IsTaken}
-use Rattle.desk_schema.proofs.Exports.{◌≡◌, ◌≢◌, List, Some, Result, Ok, Err, IsTrue, refl, sym, ap, subst, ◌∙◌, ⊤, Held, state, State, HasCleanDisk, Survives, survives_weaker, branched, IsBranched, Node, Ancestry, IsForest, StoreFault, Foreign, with_nodes, Content, IsKeptContent, desk_in, keeping_in, seen, none, acts_none}
+use Rattle.desk_schema.proofs.Exports.{◌≡◌, ◌≢◌, ℕ, List, Option, Some, Result, Ok, Err, IsTrue, refl, sym, ap, subst, ◌∙◌, ⊤, Held, state, State, HasCleanDisk, Survives, survives_weaker, branched, IsBranched, Node, Ancestry, IsForest, StoreFault, Foreign, with_nodes, Content, IsKeptContent, desk_in, keeping_in, seen, none, acts_none}
 use Rattle.sqlite_trees.specs.declared.store.Store as store
 use Rattle.ancestry.specs.declared.fault.BranchFault.{BranchFault}
+use Rattle.bug_record.specs.declared.bug.SetImage.{SetImage}
 use Rattle.ancestry.specs.declared.fault.BranchFault.TheVariants.{Memory}
 use Rattle.desk_content.proofs.QuestionLemmas.{branch_kept}
 use Rattle.desk_tables.proofs.StillLemmas.{shows_now, still_same}
@@ -16,7 +17,7 @@ Answer = Result (Result (Unit {0}) BranchFault) StoreFault
 abbrev pub GrowsTo : Ancestry → List Node → Content → Type 0
 GrowsTo u changed c = IsKeptContent c × IsGrown c.nodes u changed
 
-survives_same : (s : State) → Survives s s (λ _. ⊥)
+pub survives_same : (s : State) → Survives s s (λ _. ⊥)
 survives_same s = (acts_none s none (λ _. ⊤) (λ c d a. ⊤) (λ c. tt)).survives
 
 -- nothing was done
@@ -106,12 +107,12 @@ refused refusal = Ok (Err refusal)
 abbrev pub faulty : StoreFault → Answer
 faulty fault = Err fault
 
-module _ {S : Type 0} (g : store.Ghosts S) (last old new : Held S) (t u : Ancestry) (nodes : List Node) (stays : StillShows (state g last) (state g old)) where
+module _ {S : Type 0} (g : store.Ghosts S) (last old new : Held S) (t u : Ancestry) (known : ℕ → Option SetImage) (nodes : List Node) (stays : StillShows (state g last) (state g old)) where
   abbrev c : Content
   c = content_seen g last
 
   abbrev WasKept : Type 0
-  WasKept = IsKept g last (Some t)
+  WasKept = IsKept g last (Some t) known
 
   now : WasKept → HasContent c (state g old)
   now was = shows_now (state g last) (state g old) c (stays c was.shown) was.shown
@@ -124,7 +125,7 @@ module _ {S : Type 0} (g : store.Ghosts S) (last old new : Held S) (t u : Ancest
 
   -- it was taken, and after it the connection was noted anew
   pub record IsNotedAnew (last' : Held S) : Type 0 where
-    pub kept : WasKept → HasCleanDisk (state g new) → IsKept g last' (Some u)
+    pub kept : WasKept → HasCleanDisk (state g new) → IsKept g last' (Some u) known
     pub desk : WasKept → HasCleanDisk (state g new) → Branches (desk_seen g last) (desk_seen g last') taken nodes
     pub keeping : WasKept → HasCleanDisk (state g new) → keeping_seen g last' ≡ keeping_seen g last
     pub serves : WasKept → HasCleanDisk (state g new) → IsTrue (state g new).is_open
@@ -133,7 +134,7 @@ module _ {S : Type 0} (g : store.Ghosts S) (last old new : Held S) (t u : Ancest
   noted_anew last' h forest is = record {
     kept = λ was clean.
         let d = done was clean in
-        noted_kept g last' new (Some u) (with_nodes u c) is (says was clean) (λ _ o. (d.1, d.2)) (branch_kept c u was.content forest) refl;
+        noted_kept g last' new (Some u) known (with_nodes u c) is (says was clean) (λ _ o. (d.1, d.2)) (branch_kept c u was.content forest) refl was.known;
     desk = λ was clean.
         subst (λ k. Branches (desk_seen g last) (desk_in k) taken nodes) (sym (says was clean))
         (subst (λ n. branched n nodes ≡ Ok u) was.tree h.answer.0, refl);

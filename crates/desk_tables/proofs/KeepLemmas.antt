@@ -1,9 +1,11 @@
 -- What an outcome that is kept leaves of what is remembered.
-use Rattle.desk_tables.proofs.Imports.{HasTreeIfAny, Keeps, MayBeKept, with_change}
+use Rattle.desk_tables.proofs.Imports.{AreKnown, HasTreeIfAny, IsKnownIn, Keeps, MayBeKept, with_change}
 use Rattle.desk_schema.proofs.Exports.{◌≡◌, ℕ, List, Option, None, Some, refl, ap, ◌∙◌, Ancestry, IsText, IfGiven, HasMember, FitsDesk, Each, Change, Outcome, FitsContent, cleared_for, Content, MayBePut, changed_by, kept_after, IsKeptContent, desk_in, keeping_in, after_keeping, after_kept, change_desk, put_nodes, no_nodes}
 use Rattle.bug_record.specs.Images.{AreApart}
+use Rattle.bug_record.specs.declared.bug.SetImage.{SetImage}
 use Rattle.desk_store.proofs.KeepLemmas.{kept_also-good}
-use Rattle.desk_tables.proofs.KeptLemmas.{made}
+use Rattle.desk_reads.specs.Known.{IsPartOf, followed}
+use Rattle.desk_tables.proofs.KeptLemmas.{known_after, made}
 
 -- ---- a change, if there is one
 
@@ -21,19 +23,25 @@ pub line_fits : (change : Option Change) (c : Content) → IfGiven (λ (x : Chan
 line_fits None c members apart fits = tt
 line_fits (Some change) c members apart fits = record { members = members; apart = apart; fits = fits }
 
+-- what is known after it
+pub line_known : (change : Option Change) (c : Content) (known known' : ℕ → Option SetImage) → IsKeptContent c → IfGiven (FitsContent c) change → AreKnown known c
+    → IsPartOf known' (followed change known) → AreKnown known' (changed_by change c)
+line_known None c known known' kept fits was part k i e = was k i (part k i e)
+line_known (Some change) c known known' kept fits was part k i e = known_after change c known known' kept fits was part k i e
+
 -- ---- over what was seen
 
 -- the outcome may be put, over this tree
-abbrev pub FitsLine : Option Ancestry → List ℕ → List ℕ → List ℕ → Outcome → Option Change → Content → Type 0
-FitsLine t id sender message outcome change c = IsKeptContent c × MayBePut id sender message outcome change c × HasTreeIfAny t c change
+abbrev pub FitsLine : Option Ancestry → Option SetImage → List ℕ → List ℕ → List ℕ → Outcome → Option Change → Content → Type 0
+FitsLine t before id sender message outcome change c = IsKeptContent c × MayBePut id sender message outcome change c × HasTreeIfAny t c change × IsKnownIn before c
 
 module _ (c : Content) (id sender message : List ℕ) (outcome : Outcome) (change : Option Change) (may : MayBeKept id sender message (keeping_in c) (desk_in c) outcome change)
     (kept : IsKeptContent c) (fits : IfGiven (FitsContent c) change) where
   abbrev after : Content
   after = kept_after id sender message outcome change c
 
-  pub line_is : (t : Option Ancestry) → HasTreeIfAny t c change → FitsLine t id sender message outcome change c
-  line_is t tree = (kept, record { fits = fits; same = may.next.same; good = may.good }, tree)
+  pub line_is : (t : Option Ancestry) (before : Option SetImage) → HasTreeIfAny t c change → IsKnownIn before c → FitsLine t before id sender message outcome change c
+  line_is t before tree knows = (kept, record { fits = fits; same = may.next.same; good = may.good }, tree, knows)
 
   pub line_stays : IsText sender → IsKeptContent after × (after.nodes ≡ c.nodes)
   line_stays text =

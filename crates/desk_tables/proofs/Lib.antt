@@ -1,5 +1,6 @@
 pub mod StillLemmas
 pub mod TransactionLemmas
+pub mod SetLemmas
 pub mod KeptLemmas
 pub mod OpeningLemmas
 pub mod BranchLemmas

@@ -1,12 +1,14 @@
 -- A desk over a connection, whose content is remembered also once a fault has shut the connection.
-use Rattle.std.specs.Prelude.{◌≡◌, Option, IfSome, None, false}
+use Rattle.std.specs.Prelude.{ℕ, ◌≡◌, Option, Some, IfSome, None, false}
 use Rattle.sqlite.specs.Held.{Held, state}
 use Rattle.sqlite_trees.specs.declared.store.Store as store
 use Rattle.version_nodes.specs.Trees.{Ancestry}
 use Rattle.bug_record.specs.Desk.{Desk}
+use Rattle.bug_record.specs.declared.bug.SetImage.{SetImage}
+use Rattle.bugs_in_memory.specs.Keys.{key_of}
 use Rattle.desk_content.specs.Content.{Content}
 use Rattle.desk_content.specs.Kept.{IsKeptContent}
-use Rattle.desk_content.specs.View.{desk_in, keeping_in}
+use Rattle.desk_content.specs.View.{desk_in, image, keeping_in}
 use Rattle.desk_schema.specs.Steps.{seen}
 use Rattle.desk_store.specs.Kept.{Keeping}
 use Rattle.desk_tables.specs.Shown.{HasContent}
@@ -15,6 +17,11 @@ use Rattle.desk_tables.specs.Shown.{HasContent}
 pub record IsIdle {S : Type 0} (conn : Held S) : Type 0 where
   pub autocommit : conn.in_transaction ≡ false
   pub unlimited : conn.step_limit ≡ None
+
+-- the images that are known of a content are those of its sets, each under the number of its first
+-- bug
+abbrev pub AreKnown : (ℕ → Option SetImage) → Content → Type 0
+AreKnown known c = (k : ℕ) (i : SetImage) → known k ≡ Some i → (image c k ≡ Some i) × (key_of i ≡ k)
 
 module _ {S : Type 0} (g : store.Ghosts S) where
   -- what a connection shows
@@ -29,8 +36,9 @@ module _ {S : Type 0} (g : store.Ghosts S) where
   keeping_seen conn = keeping_in (content_seen conn)
 
   -- A desk was shown by the connection as it was last made or found, and is kept.
-  -- The tree that was read, if it was, is the desk's.
-  pub record IsKept (last : Held S) (family : Option Ancestry) : Type 0 where
+  -- The tree that was read, if it was, is the desk's, and the sets that are known are its sets.
+  pub record IsKept (last : Held S) (family : Option Ancestry) (images : ℕ → Option SetImage) : Type 0 where
     pub shown : HasContent (content_seen last) (state g last)
     pub content : IsKeptContent (content_seen last)
     pub tree : IfSome family (λ t. t ≡ (content_seen last).nodes)
+    pub known : AreKnown images (content_seen last)

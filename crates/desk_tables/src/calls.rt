@@ -11,7 +11,7 @@ ghost use Rattle.desk_content.specs.Changes.{FitsContent, changed};
 ghost use Rattle.desk_content.specs.Keeping.{MayBePut, kept_after};
 ghost use Rattle.desk_content.specs.Kept.{IsKeptContent};
 ghost use Rattle.desk_migrations.specs.Names.{no_tables};
-ghost use Rattle.desk_writes.specs.Needs.{HasTree, HasTreeIfAny};
+ghost use Rattle.desk_writes.specs.Needs.{HasTree, HasTreeIfAny, IsKnownIn};
 ghost use Rattle.desk_tables.specs.Kept.{IsIdle};
 ghost use Rattle.desk_tables.specs.Transactions.{IsAsked, IsChanged, IsTaken, IsMade, IsCarried};
 ghost use Rattle.desk_tables.specs.Transactions.{AsksSchema, Ends};
@@ -19,7 +19,7 @@ ghost use Rattle.desk_tables.specs.Transactions.{AsksSchema, Ends};
 use crate::question::Question;
 use ancestry::BranchFault;
 use branch_rows::{OpenNodes, branches_grow, changed_nodes, open_nodes};
-use bug_record::{Change, Outcome, StoreFault};
+use bug_record::{Change, Outcome, SetImage, StoreFault};
 use desk_migrations::{SchemaRead, carry_over, make_tables, read_schema};
 use desk_schema::fault_of;
 use desk_writes::{put_branch, put_change, put_kept};
@@ -63,7 +63,7 @@ fn finish<S: Alter>(tx: Transaction<'_, S>, done: Result<(), StoreFault>) -> Res
 }
 
 // Keeps an outcome, and carries its change out, if there is one; the tree may be missing where no
-// mark changes.
+// mark changes, and the image of a set may be known as it is before.
 pub(crate) fn keep_line<S: Alter>(
     alloc: Global,
     conn: &mut Connection<S>,
@@ -73,36 +73,43 @@ pub(crate) fn keep_line<S: Alter>(
     message: &str,
     outcome: &Outcome,
     change: Option<&Change>,
+    before: Option<&SetImage>,
 ) -> Result<(), StoreFault>
     requires idle { IsIdle conn.old }
     ensures idle { IsIdle conn.new }
     ensures changed { IsChanged (state S.Store conn.old) (state S.Store conn.new) result
         (λ c. IsKeptContent c
         × MayBePut id.now from.now message.now outcome.now (option_copied change.entry) c
-        × HasTreeIfAny (option_copied family.entry) c (option_copied change.entry))
+        × HasTreeIfAny (option_copied family.entry) c (option_copied change.entry)
+        × IsKnownIn (option_copied before.entry) c)
         (λ c. kept_after id.now from.now message.now outcome.now (option_copied change.entry) c) }
 {
     let mut tx = conn.transaction();
-    let done = put_kept(alloc, &mut tx, family, id, from, message, outcome, change);
+    let done = put_kept(
+        alloc, &mut tx, family, id, from, message, outcome, change, before,
+    );
     finish(tx, done)
 }
 
-// Carries a change out; the tree may be missing where no mark changes.
+// Carries a change out; the tree may be missing where no mark changes, and the image of a set may
+// be known as it is before.
 pub(crate) fn change_sets<S: Alter>(
     alloc: Global,
     conn: &mut Connection<S>,
     family: Option<&Family>,
     change: &Change,
+    before: Option<&SetImage>,
 ) -> Result<(), StoreFault>
     requires idle { IsIdle conn.old }
     ensures idle { IsIdle conn.new }
     ensures changed { IsChanged (state S.Store conn.old) (state S.Store conn.new) result
         (λ c. IsKeptContent c × FitsContent c change.now
-        × HasTree (option_copied family.entry) c change.now)
+        × HasTree (option_copied family.entry) c change.now
+        × IsKnownIn (option_copied before.entry) c)
         (λ c. changed c change.now) }
 {
     let mut tx = conn.transaction();
-    let done = put_change(alloc, &mut tx, family, change);
+    let done = put_change(alloc, &mut tx, family, change, before);
     finish(tx, done)
 }
 

@@ -6,7 +6,7 @@ ghost use Rattle.std.specs.Prelude.{◌≡◌, IfOk, is_some, true};
 ghost use Rattle.std.specs.Option.{option_copied};
 ghost use Rattle.bug_record.specs.Texts.{IsText};
 ghost use Rattle.desk_store.specs.Store.{IsRefusal};
-ghost use Rattle.desk_writes.specs.Needs.{HasTree, HasTreeIfAny};
+ghost use Rattle.desk_writes.specs.Needs.{HasTree, HasTreeIfAny, IsKnownIn};
 ghost use Rattle.desk_tables.specs.Changing.{FitsTables, FitsTablesIfAny};
 ghost use Rattle.desk_tables.specs.Changing.{MakesChange, TakesBranch, KeepsLine};
 ghost use Rattle.desk_tables.specs.Changing.{LeavesMessages, ServesAfter, ServesAfterBranch};
@@ -17,16 +17,18 @@ ghost use Rattle.desk_tables.specs.Desk.{HasHonestDisk, HasKeptTables, NeverFore
 use crate::calls::{change_sets, keep_line, take_nodes};
 use crate::desk::TableDesk;
 use ancestry::BranchFault;
-use bug_record::{Change, Outcome, StoreFault};
+use bug_record::{Change, Outcome, SetImage, StoreFault};
 use sqlite::Alter;
 use std::snapshot::Snapshot;
 use version_nodes::Node;
 
 impl<S: Alter> TableDesk<S> {
     // Carries a change out over the tree that was read, or over none where no mark changes.
-    fn make(&mut self, change: &Change) -> Result<(), StoreFault>
+    fn make(&mut self, change: &Change, before: Option<&SetImage>) -> Result<(), StoreFault>
         requires tree { HasKeptTables self.old → HasHonestDisk self.old →
             HasTree self.old.family (content_shown self.old) change.now }
+        requires before { HasKeptTables self.old → HasHonestDisk self.old →
+            IsKnownIn (option_copied before) (content_shown self.old) }
         requires fits { FitsTables self.old change.now }
         ensures answer { MakesChange self.old self.new result change.now }
         ensures stays { LeavesMessages self.old self.new }
@@ -36,12 +38,20 @@ impl<S: Alter> TableDesk<S> {
             SurvivesChange self.old self.new change.now }
         ensures counts { faults_of self.new ≡ faults_of self.old }
     {
-        change_sets(self.alloc, &mut self.conn, self.family.as_ref(), change)?;
+        change_sets(
+            self.alloc,
+            &mut self.conn,
+            self.family.as_ref(),
+            change,
+            before,
+        )?;
         self.last = Snapshot::of(&self.conn);
+        self.known.follow(self.alloc, change.images.as_slice());
         Ok(())
     }
 
     // Reads the tree, where that is still to be done, and carries a change out over it.
+    // Of a set that is known nothing else is read.
     pub(crate) fn load_and_make(&mut self, change: &Change) -> Result<(), StoreFault>
         requires fits { FitsTables self.old change.now }
         ensures answer { MakesChange self.old self.new result change.now }
@@ -51,8 +61,9 @@ impl<S: Alter> TableDesk<S> {
         ensures crash { HasKeptTables self.old → SurvivesChange self.old self.new change.now }
         ensures counts { faults_of self.new ≡ faults_of self.old }
     {
-        self.load_for(change)?;
-        self.make(change)
+        self.load_for(Some(change))?;
+        let before = self.known.recall_for(Some(change));
+        self.make(change, before.as_ref())
     }
 
     // Keeps an outcome, and carries its change out over the tree that was read, if there is one.
@@ -63,9 +74,12 @@ impl<S: Alter> TableDesk<S> {
         message: &str,
         outcome: &Outcome,
         change: Option<&Change>,
+        before: Option<&SetImage>,
     ) -> Result<(), StoreFault>
         requires tree { HasKeptTables self.old → HasHonestDisk self.old →
             HasTreeIfAny self.old.family (content_shown self.old) (option_copied change) }
+        requires before { HasKeptTables self.old → HasHonestDisk self.old →
+            IsKnownIn (option_copied before) (content_shown self.old) }
         requires sender { IsText from.now }
         requires fits { FitsTablesIfAny self.old (option_copied change) }
         ensures honest { HasHonestDisk self.new → HasHonestDisk self.old }
@@ -91,8 +105,10 @@ impl<S: Alter> TableDesk<S> {
             message,
             outcome,
             change,
+            before,
         )?;
         self.last = Snapshot::of(&self.conn);
+        self.known.follow_line(self.alloc, change);
         Ok(())
     }
 
@@ -121,8 +137,9 @@ impl<S: Alter> TableDesk<S> {
             (option_copied change.entry) }
         ensures counts { faults_of self.new ≡ faults_of self.old }
     {
-        self.load_for_line(change)?;
-        self.keep_outcome(id, from, message, outcome, change)
+        self.load_for(change)?;
+        let before = self.known.recall_for(change);
+        self.keep_outcome(id, from, message, outcome, change, before.as_ref())
     }
 
     // Takes a branch into the tree that was read, and into the tables.

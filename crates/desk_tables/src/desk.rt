@@ -1,12 +1,14 @@
 //! The desk over a connection.
 
-ghost use Rattle.std.specs.Prelude.{◌≡◌, None};
+ghost use Rattle.std.specs.Prelude.{◌≡◌, ℕ, None};
 ghost use Rattle.sqlite.specs.Held.{state};
 ghost use Rattle.desk_store.specs.Store.{no_faults};
+ghost use Rattle.desk_reads.specs.Known.{known_set};
 ghost use Rattle.desk_tables.specs.Kept.{IsIdle};
 ghost use Rattle.desk_tables.specs.Still.{StillShows, StillShows-prop};
 
 use crate::counts::Counts;
+use desk_reads::KnownSets;
 use nearest_marks::Family;
 use sqlite::{Alter, Connection};
 use std::alloc::Global;
@@ -22,6 +24,8 @@ pub struct TableDesk<S: Alter> {
     pub(crate) alloc: Global,
     // The tree, once a call has read it.
     pub(crate) family: Option<Family>,
+    // The sets that calls have read or changed, as they are now.
+    pub(crate) known: KnownSets,
     pub(crate) counts: Counts,
     // The connection as the content was last made or found.
     pub(crate) last: Snapshot<Connection<S>>,
@@ -38,6 +42,7 @@ impl<S: Alter + Drop> Drop for TableDesk<S> {
             conn: _,
             alloc: _,
             family: _,
+            known: _,
             counts: _,
             last: _,
         } = self;
@@ -56,12 +61,14 @@ impl<S: Alter> TableDesk<S> {
         ensures conn { result.conn ≡ conn }
         ensures last { result.last.value ≡ last.value }
         ensures family { result.family ≡ None }
+        ensures known { (k : ℕ) → known_set result.known k ≡ None }
         ensures counts { result.counts ≡ no_faults }
     {
         TableDesk {
             conn,
             alloc,
             family: None,
+            known: KnownSets::new(alloc),
             counts: Counts::new(),
             last,
         }
@@ -76,6 +83,7 @@ impl<S: Alter> TableDesk<S> {
             conn,
             alloc: _,
             family: _,
+            known: _,
             counts: _,
             last: _,
         } = self;

@@ -13,6 +13,7 @@ mod opening;
 mod question;
 mod questions;
 mod records;
+mod remembering;
 
 pub use desk::TableDesk;
 pub use open_fault::OpenFault;

@@ -6,7 +6,7 @@ ghost use Rattle.sqlite.specs.State.{Survives};
 ghost use Rattle.bug_record.specs.Images.{HasMember, IsSetOf};
 ghost use Rattle.desk_content.specs.Changes.{all_stay};
 ghost use Rattle.desk_store.specs.Store.{Asks, IsOpenHead};
-ghost use Rattle.desk_writes.specs.Needs.{HasTree, HasTreeIfAny};
+ghost use Rattle.desk_writes.specs.Needs.{HasTreeIfAny};
 ghost use Rattle.desk_tables.specs.Desk.{state_of, content_shown, desk_of, faults_of};
 ghost use Rattle.desk_tables.specs.Desk.{HasHonestDisk, HasKeptTables, LeavesTables, IsAnswered, NeverForeign};
 
@@ -15,6 +15,7 @@ use crate::desk::TableDesk;
 use crate::question::Question;
 use crate::questions::{MarksStay, OpenHead, Tree};
 use bug_record::{Change, SetImage, StoreFault};
+use desk_writes::known_marks_stay;
 use sqlite::Alter;
 use version_nodes::Node;
 
@@ -28,6 +29,7 @@ impl<S: Alter> TableDesk<S> {
         ensures sure { NeverForeign self.old self.new result }
         ensures last { self.new.last.value ≡ self.old.last.value }
         ensures family { self.new.family ≡ self.old.family }
+        ensures known { self.new.known ≡ self.old.known }
         ensures survives { Survives (state_of self.old) (state_of self.new) (λ _. ⊥) }
         ensures counts { faults_of self.new ≡ faults_of self.old }
     {
@@ -53,8 +55,9 @@ impl<S: Alter> TableDesk<S> {
         Ok(())
     }
 
-    // Whether the marks of a change's images stand already.
-    fn ask_stay(&mut self, change: &Change) -> Result<bool, StoreFault>
+    // Whether the marks of a change's images stand already, which is asked where the image that is
+    // known does not say it.
+    fn find_stay(&mut self, change: &Change) -> Result<bool, StoreFault>
         ensures answer { Asks HasKeptTables HasHonestDisk LeavesTables self.old self.new
             (self.new.last.value ≡ self.old.last.value) }
         ensures sure { NeverForeign self.old self.new result }
@@ -65,6 +68,10 @@ impl<S: Alter> TableDesk<S> {
         ensures survives { Survives (state_of self.old) (state_of self.new) (λ _. ⊥) }
         ensures counts { faults_of self.new ≡ faults_of self.old }
     {
+        let before = self.known.recall_for(Some(change));
+        if let Some(stay) = known_marks_stay(change, before.as_ref()) {
+            return Ok(stay);
+        }
         let question = MarksStay {
             alloc: self.alloc,
             change,
@@ -72,29 +79,8 @@ impl<S: Alter> TableDesk<S> {
         self.ask(&question)
     }
 
-    // Reads the tree, where no call has read it yet and a mark changes.
-    pub(crate) fn load_for(&mut self, change: &Change) -> Result<(), StoreFault>
-        ensures answer { Asks HasKeptTables HasHonestDisk LeavesTables self.old self.new
-            (self.new.last.value ≡ self.old.last.value) }
-        ensures sure { NeverForeign self.old self.new result }
-        ensures tree { HasKeptTables self.new → HasHonestDisk self.new →
-            OnOk result (HasTree self.new.family (content_shown self.new) change.now) }
-        ensures last { self.new.last.value ≡ self.old.last.value }
-        ensures survives { Survives (state_of self.old) (state_of self.new) (λ _. ⊥) }
-        ensures counts { faults_of self.new ≡ faults_of self.old }
-    {
-        if self.family.is_some() {
-            return Ok(());
-        }
-        let stay = self.ask_stay(change)?;
-        if stay {
-            return Ok(());
-        }
-        self.load()
-    }
-
-    // Reads the tree for the change of a line, if there is one.
-    pub(crate) fn load_for_line(&mut self, change: Option<&Change>) -> Result<(), StoreFault>
+    // Reads the tree, where no call has read it yet, there is a change, and a mark changes.
+    pub(crate) fn load_for(&mut self, change: Option<&Change>) -> Result<(), StoreFault>
         ensures answer { Asks HasKeptTables HasHonestDisk LeavesTables self.old self.new
             (self.new.last.value ≡ self.old.last.value) }
         ensures sure { NeverForeign self.old self.new result }
@@ -105,10 +91,17 @@ impl<S: Alter> TableDesk<S> {
         ensures survives { Survives (state_of self.old) (state_of self.new) (λ _. ⊥) }
         ensures counts { faults_of self.new ≡ faults_of self.old }
     {
-        match change {
-            Some(change) => self.load_for(change),
-            None => Ok(()),
+        let Some(change) = change else {
+            return Ok(());
+        };
+        if self.family.is_some() {
+            return Ok(());
         }
+        let stay = self.find_stay(change)?;
+        if stay {
+            return Ok(());
+        }
+        self.load()
     }
 
     // The first head of the package of a set's bugs at which they are still found, in the tree that

@@ -5,11 +5,12 @@ ghost use Rattle.desk_content.specs.Changes.{all_stay};
 ghost use Rattle.desk_content.specs.Kept.{IsKeptContent};
 ghost use Rattle.desk_content.specs.View.{desk_in, keeping_in};
 ghost use Rattle.desk_reads.specs.Asked.{IsAskedFor};
-ghost use Rattle.desk_store.specs.Store.{IsImageOf, IsNext, AreWaitingOn, AreListed, IsOpenHead};
+ghost use Rattle.desk_reads.specs.FoundSets.{IsSetFound};
+ghost use Rattle.desk_store.specs.Store.{IsNext, AreWaitingOn, AreListed, IsOpenHead};
 
 use crate::question::Question;
 use bug_record::{Change, Numbers, Sequence, SetImage, StoreFault};
-use desk_reads::{read_listed, read_open_head, read_set_of, read_waiting_on};
+use desk_reads::{FoundSet, read_listed, read_open_head, read_set_of, read_waiting_on};
 use desk_rows::{read_family, read_next};
 use desk_store::Kept;
 use desk_writes::{read_kept, read_marks_stay};
@@ -19,7 +20,7 @@ use sqlite::{Alter, Transaction};
 use std::alloc::Global;
 use version_nodes::Node;
 
-/// The image of the set that the bug is in, if there is such a bug; none has a number that is no
+/// The set that the bug is in, if there is such a bug; none has a number that is no
 /// u32.
 #[derive(Drop)]
 pub(crate) struct SetOf {
@@ -28,13 +29,13 @@ pub(crate) struct SetOf {
 }
 
 impl Question for SetOf {
-    type Answer = Option<SetImage>;
+    type Answer = Option<FoundSet>;
 
     ghost fits = { λ _. IsKeptContent };
 
-    ghost right = { λ q c found. IsImageOf (desk_in c) q.number found };
+    ghost right = { λ q c found. IsSetFound c q.number found };
 
-    fn ask<S: Alter>(&self, tx: &mut Transaction<'_, S>) -> Result<Option<SetImage>, StoreFault> {
+    fn ask<S: Alter>(&self, tx: &mut Transaction<'_, S>) -> Result<Option<FoundSet>, StoreFault> {
         match u32::try_from(self.number) {
             Ok(number) => read_set_of(self.alloc, tx, number),
             Err(_) => Ok(None),

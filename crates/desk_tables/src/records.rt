@@ -22,7 +22,7 @@ ghost use Rattle.desk_tables.specs.Shown.{AreTablesOf, AreTablesAfter};
 ghost use Rattle.desk_tables.specs.declared.desk.TableDesk.{TableDesk as SeenDesk};
 
 use crate::desk::TableDesk;
-use crate::questions::{KeptOf, Listed, Next, SetOf, WaitingOn};
+use crate::questions::{KeptOf, Listed, Next, WaitingOn};
 use ancestry::BranchFault;
 use bug_record::{Change, Numbers, Outcome, Sequence, SetImage, StoreFault};
 use desk_store::{Kept, Records};
@@ -54,11 +54,7 @@ impl<S: Alter> Records for TableDesk<S> {
         ensures count { faults_of self.new ≡ faults_after result (faults_of self.old) }
         ensures crash { Survives (state_of self.old) (state_of self.new) (λ _. ⊥) }
     {
-        let question = SetOf {
-            alloc: self.alloc,
-            number,
-        };
-        let answer = self.ask(&question);
+        let answer = self.find_set(number);
         self.counts.note(answer)
     }
 

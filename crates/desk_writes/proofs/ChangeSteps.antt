@@ -2,6 +2,7 @@
 use Rattle.std.proofs.Common.{◌≡◌, true≢false, List, Option, Some, None, Result, Ok, sym, ap, subst, ◌∙◌}
 use Rattle.std.specs.Prelude.{⊤}
 use Rattle.version_nodes.specs.Trees.{Ancestry}
+use Rattle.bug_record.specs.declared.bug.SetImage.{SetImage}
 use Rattle.bug_record.specs.declared.command.Change.{Change}
 use Rattle.sqlite.specs.State.{State}
 use Rattle.bug_record.specs.declared.outcome.StoreFault.{StoreFault}
@@ -13,7 +14,7 @@ use Rattle.desk_content.specs.Kept.{IsKeptContent}
 use Rattle.desk_content.specs.declared.images.RowEdits.{RowEdits}
 use Rattle.desk_schema.specs.Steps.{Acts, PlaysAll, Reads}
 use Rattle.desk_schema.proofs.StepLemmas.{done, failed, none, acts_stop, acts_then, acts_weaker}
-use Rattle.desk_writes.specs.Needs.{IsTreeFor, HasTree}
+use Rattle.desk_writes.specs.Needs.{IsTreeFor, HasTree, IsKnownIn}
 use Rattle.desk_writes.specs.Plans.{ArePlans, cleared_edits, put_edits}
 use Rattle.desk_writes.proofs.PlanLemmas.{all_over, first_free, then_free, come_to}
 
@@ -21,9 +22,6 @@ module _ (t : Ancestry) (change : Change) where
   -- the change fits what the tables say, and the tree is theirs
   abbrev pub Fits : Content → Type 0
   Fits c = IsKeptContent c × FitsContent c change × IsTreeFor t c change
-
-  abbrev pub IsMade : Content → Content → Type 0
-  IsMade c d = IsKeptContent c → FitsContent c change → IsTreeFor t c change → d ≡ changed c change
 
   -- the sets of all images are written
   abbrev pub IsWritten : Content → Content → Type 0
@@ -61,32 +59,53 @@ module _ (t : Ancestry) (change : Change) where
     written one = acts_weaker old new r Fits Fits (λ c d _. IsPut plans c d) (λ c d _. IsWritten c d) (λ c fits. fits)
         (λ c d _ p kept fits is. p.1 ∙ come_to c change kept fits plans (over c plans is p.0)) one
 
-  pub then_next : (old mid new : State) (r : Result (Unit {0}) StoreFault) → Acts old mid done Fits (λ c d _. IsWritten c d)
-      → Acts mid new r (λ _. ⊤) (λ c d _. d ≡ record c { next = change.next }) → Acts old new r Fits (λ c d _. IsMade c d)
-  then_next old mid new r one two = acts_then old mid new none Fits (λ _. ⊤) Fits (λ c d _. IsWritten c d) (λ c d _. d ≡ record c { next = change.next }) (λ c d _. IsMade c d) r
-      (λ c fits. fits) (λ c d p fits. tt)
-      (λ c d e _ p q kept fits is. q ∙ ap (λ (k : Content). record k { next = change.next }) (p kept fits is)) one two
-
   -- a step failed
   pub unmade : (old new : State) (fault : StoreFault) (P Q : Content → Content → Type 0) → Acts old new (failed fault) Fits (λ c d _. P c d) → Acts old new (failed fault) Fits (λ c d _. Q c d)
   unmade old new fault P Q one = acts_stop old new fault Fits Fits (λ c d _. P c d) (λ c d _. Q c d) (λ c fits. fits) one
 
+  -- where an image may be known
+  module _ (known : Option SetImage) where
+    abbrev pub FitsKnown : Content → Type 0
+    FitsKnown c = IsKeptContent c × FitsContent c change × IsTreeFor t c change × IsKnownIn known c
+
+    abbrev pub IsMadeKnown : Content → Content → Type 0
+    IsMadeKnown c d = IsKeptContent c → FitsContent c change → IsTreeFor t c change → IsKnownIn known c → d ≡ changed c change
+
+    abbrev pub IsWrittenKnown : Content → Content → Type 0
+    IsWrittenKnown c d = IsKeptContent c → FitsContent c change → IsTreeFor t c change → IsKnownIn known c → d ≡ with_images change.images (cleared_for c change)
+
+    -- it need not be
+    pub written_also : (old new : State) (r : Result (Unit {0}) StoreFault) → Acts old new r Fits (λ c d _. IsWritten c d) → Acts old new r FitsKnown (λ c d _. IsWrittenKnown c d)
+    written_also old new r one = acts_weaker old new r Fits FitsKnown (λ c d _. IsWritten c d) (λ c d _. IsWrittenKnown c d) (λ c fits. (fits.0, fits.1, fits.2)) (λ c d _ p kept fits is _. p kept fits is) one
+
+    pub then_next : (old mid new : State) (r : Result (Unit {0}) StoreFault) → Acts old mid done FitsKnown (λ c d _. IsWrittenKnown c d)
+        → Acts mid new r (λ _. ⊤) (λ c d _. d ≡ record c { next = change.next }) → Acts old new r FitsKnown (λ c d _. IsMadeKnown c d)
+    then_next old mid new r one two = acts_then old mid new none FitsKnown (λ _. ⊤) FitsKnown (λ c d _. IsWrittenKnown c d) (λ c d _. d ≡ record c { next = change.next }) (λ c d _. IsMadeKnown c d) r
+        (λ c fits. fits) (λ c d p fits. tt)
+        (λ c d e _ p q kept fits is knows. q ∙ ap (λ (k : Content). record k { next = change.next }) (p kept fits is knows)) one two
+
+    -- a step failed
+    pub unmade_known : (old new : State) (fault : StoreFault) (P Q : Content → Content → Type 0) → Acts old new (failed fault) FitsKnown (λ c d _. P c d) → Acts old new (failed fault) FitsKnown (λ c d _. Q c d)
+    unmade_known old new fault P Q one = acts_stop old new fault FitsKnown FitsKnown (λ c d _. P c d) (λ c d _. Q c d) (λ c fits. fits) one
+
 -- ---- over a tree, or none
 
-module _ (change : Change) where
+module _ (change : Change) (known : Option SetImage) where
   abbrev pub MayBeMade : Option Ancestry → Content → Type 0
-  MayBeMade tree c = IsKeptContent c × FitsContent c change × HasTree tree c change
+  MayBeMade tree c = IsKeptContent c × FitsContent c change × HasTree tree c change × IsKnownIn known c
 
   abbrev pub IsDone : Option Ancestry → Content → Content → Type 0
-  IsDone tree c d = IsKeptContent c → FitsContent c change → HasTree tree c change → d ≡ changed c change
+  IsDone tree c d = IsKeptContent c → FitsContent c change → HasTree tree c change → IsKnownIn known c → d ≡ changed c change
 
-  pub made_over : (t : Ancestry) (old new : State) (r : Result (Unit {0}) StoreFault) → Acts old new r (Fits t change) (λ c d _. IsMade t change c d) → Acts old new r (MayBeMade (Some t)) (λ c d _. IsDone (Some t) c d)
-  made_over t old new r one = acts_weaker old new r (Fits t change) (MayBeMade (Some t)) (λ c d _. IsMade t change c d) (λ c d _. IsDone (Some t) c d)
-      (λ c fits. (fits.0, fits.1, λ _. fits.2)) (λ c d _ made kept fits is. made kept fits (λ _. is)) one
+  pub made_over : (t : Ancestry) (old new : State) (r : Result (Unit {0}) StoreFault) → Acts old new r (FitsKnown t change known) (λ c d _. IsMadeKnown t change known c d)
+      → Acts old new r (MayBeMade (Some t)) (λ c d _. IsDone (Some t) c d)
+  made_over t old new r one = acts_weaker old new r (FitsKnown t change known) (MayBeMade (Some t)) (λ c d _. IsMadeKnown t change known c d) (λ c d _. IsDone (Some t) c d)
+      (λ c fits. (fits.0, fits.1, (λ _. fits.2), fits.3)) (λ c d _ made kept fits is knows. made kept fits (λ _. is) knows) one
 
   no_need : (t : Ancestry) (c : Content) → HasTree None c change → IsTreeFor t c change
   no_need t c stay differs = absurd (true≢false (sym stay ∙ differs))
 
-  pub made_without : (t : Ancestry) (old new : State) (r : Result (Unit {0}) StoreFault) → Acts old new r (Fits t change) (λ c d _. IsMade t change c d) → Acts old new r (MayBeMade None) (λ c d _. IsDone None c d)
-  made_without t old new r one = acts_weaker old new r (Fits t change) (MayBeMade None) (λ c d _. IsMade t change c d) (λ c d _. IsDone None c d)
-      (λ c fits. (fits.0, fits.1, no_need t c fits.2)) (λ c d _ made kept fits stay. made kept fits (no_need t c stay)) one
+  pub made_without : (t : Ancestry) (old new : State) (r : Result (Unit {0}) StoreFault) → Acts old new r (FitsKnown t change known) (λ c d _. IsMadeKnown t change known c d)
+      → Acts old new r (MayBeMade None) (λ c d _. IsDone None c d)
+  made_without t old new r one = acts_weaker old new r (FitsKnown t change known) (MayBeMade None) (λ c d _. IsMadeKnown t change known c d) (λ c d _. IsDone None c d)
+      (λ c fits. (fits.0, fits.1, no_need t c fits.2, fits.3)) (λ c d _ made kept fits stay knows. made kept fits (no_need t c stay) knows) one

@@ -3,6 +3,7 @@ use Rattle.std.proofs.Common.{◌≡◌, ◌≢◌, ℕ, List, Option, Some, Non
 use Rattle.std.specs.Prelude.{⊤}
 use Rattle.sqlite.specs.State.{State}
 use Rattle.version_nodes.specs.Trees.{Ancestry}
+use Rattle.bug_record.specs.declared.bug.SetImage.{SetImage}
 use Rattle.bug_record.specs.declared.command.Change.{Change}
 use Rattle.bug_record.specs.declared.outcome.Outcome.{Outcome}
 use Rattle.bug_record.specs.declared.outcome.StoreFault.{StoreFault}
@@ -20,7 +21,7 @@ use Rattle.desk_content.proofs.ChangeLemmas.{change_kept}
 use Rattle.desk_content.proofs.KeepLemmas.{change_keeping}
 use Rattle.desk_schema.specs.Steps.{Acts, PlaysAll, Reads}
 use Rattle.desk_schema.proofs.StepLemmas.{none, done, failed, acts_stop, acts_then, acts_weaker, reads_work}
-use Rattle.desk_writes.specs.Needs.{HasTree, HasTreeIfAny}
+use Rattle.desk_writes.specs.Needs.{HasTree, HasTreeIfAny, IsKnownIn}
 use Rattle.desk_writes.specs.Lines.{IsLine, AreEditsOf}
 use Rattle.desk_writes.proofs.PlaceLemmas.{place_is}
 
@@ -63,21 +64,21 @@ module _ (id sender message : List ℕ) (outcome : Outcome) where
 
   -- ---- with a change
 
-  abbrev pub FitsLine : Option Ancestry → Option Change → Content → Type 0
-  FitsLine t change c = IsKeptContent c × MayBePut id sender message outcome change c × HasTreeIfAny t c change
+  abbrev pub FitsLine : Option SetImage → Option Ancestry → Option Change → Content → Type 0
+  FitsLine known t change c = IsKeptContent c × MayBePut id sender message outcome change c × HasTreeIfAny t c change × IsKnownIn known c
 
-  abbrev pub IsAfter : Option Ancestry → Option Change → Content → Content → Type 0
-  IsAfter t change c d = IsKeptContent c → MayBePut id sender message outcome change c → HasTreeIfAny t c change → d ≡ kept_after id sender message outcome change c
+  abbrev pub IsAfter : Option SetImage → Option Ancestry → Option Change → Content → Content → Type 0
+  IsAfter known t change c d = IsKeptContent c → MayBePut id sender message outcome change c → HasTreeIfAny t c change → IsKnownIn known c → d ≡ kept_after id sender message outcome change c
 
   -- without one
-  pub alone : (old new : State) (t : Option Ancestry) (r : Result (Unit {0}) StoreFault) → Acts old new r (IsLine id sender message outcome) (λ c d _. Keeps c d)
-      → Acts old new r (FitsLine t None) (λ c d _. IsAfter t None c d)
-  alone old new t r one =
-      acts_weaker old new r (IsLine id sender message outcome) (FitsLine t None) (λ c d _. Keeps c d) (λ c d _. IsAfter t None c d)
+  pub alone : (old new : State) (known : Option SetImage) (t : Option Ancestry) (r : Result (Unit {0}) StoreFault) → Acts old new r (IsLine id sender message outcome) (λ c d _. Keeps c d)
+      → Acts old new r (FitsLine known t None) (λ c d _. IsAfter known t None c d)
+  alone old new known t r one =
+      acts_weaker old new r (IsLine id sender message outcome) (FitsLine known t None) (λ c d _. Keeps c d) (λ c d _. IsAfter known t None c d)
       (λ c fits. record { kept = fits.0; same = fits.1.same; good = fits.1.good })
-      (λ c d _ keeps kept may nodes. keeps (record { kept = kept; same = may.same; good = may.good })) one
+      (λ c d _ keeps kept may nodes knows. keeps (record { kept = kept; same = may.same; good = may.good })) one
 
-  module _ (t : Option Ancestry) (change : Change) where
+  module _ (known : Option SetImage) (t : Option Ancestry) (change : Change) where
     line_after : (c : Content) → IsKeptContent c → MayBePut id sender message outcome (Some change) c → IsLine id sender message outcome (changed c change)
     line_after c kept may = record {
       kept = change_kept c change kept may.fits;
@@ -86,22 +87,22 @@ module _ (id sender message : List ℕ) (outcome : Outcome) where
     }
 
     abbrev pub IsMade : Content → Content → Type 0
-    IsMade c d = IsKeptContent c → FitsContent c change → HasTree t c change → d ≡ changed c change
+    IsMade c d = IsKeptContent c → FitsContent c change → HasTree t c change → IsKnownIn known c → d ≡ changed c change
 
     abbrev pub FitsChange : Content → Type 0
-    FitsChange c = IsKeptContent c × FitsContent c change × HasTree t c change
+    FitsChange c = IsKeptContent c × FitsContent c change × HasTree t c change × IsKnownIn known c
 
     pub both_put : (old mid new : State) (r : Result (Unit {0}) StoreFault) → Acts old mid done FitsChange (λ c d _. IsMade c d)
-        → Acts mid new r (IsLine id sender message outcome) (λ c d _. Keeps c d) → Acts old new r (FitsLine t (Some change)) (λ c d _. IsAfter t (Some change) c d)
+        → Acts mid new r (IsLine id sender message outcome) (λ c d _. Keeps c d) → Acts old new r (FitsLine known t (Some change)) (λ c d _. IsAfter known t (Some change) c d)
     both_put old mid new r one two =
-        acts_then old mid new none FitsChange (IsLine id sender message outcome) (FitsLine t (Some change))
-        (λ c d _. IsMade c d) (λ d e _. Keeps d e) (λ c d _. IsAfter t (Some change) c d) r
-        (λ c fits. (fits.0, fits.1.fits, fits.2))
-        (λ c d made fits. subst (IsLine id sender message outcome) (sym (made fits.0 fits.1.fits fits.2)) (line_after c fits.0 fits.1))
-        (λ c d e _ made keeps kept may nodes.
-        let is = made kept may.fits nodes in
+        acts_then old mid new none FitsChange (IsLine id sender message outcome) (FitsLine known t (Some change))
+        (λ c d _. IsMade c d) (λ d e _. Keeps d e) (λ c d _. IsAfter known t (Some change) c d) r
+        (λ c fits. (fits.0, fits.1.fits, fits.2, fits.3))
+        (λ c d made fits. subst (IsLine id sender message outcome) (sym (made fits.0 fits.1.fits fits.2 fits.3)) (line_after c fits.0 fits.1))
+        (λ c d e _ made keeps kept may nodes knows.
+        let is = made kept may.fits nodes knows in
         keeps (subst (IsLine id sender message outcome) (sym is) (line_after c kept may)) ∙ ap (with_kept id sender message outcome) is) one two
 
     pub both_failed : (old new : State) (fault : StoreFault) → Acts old new (failed fault) FitsChange (λ c d _. IsMade c d)
-        → Acts old new (failed fault) (FitsLine t (Some change)) (λ c d _. IsAfter t (Some change) c d)
-    both_failed old new fault one = acts_stop old new fault FitsChange (FitsLine t (Some change)) _ (λ c d _. IsAfter t (Some change) c d) (λ c fits. (fits.0, fits.1.fits, fits.2)) one
+        → Acts old new (failed fault) (FitsLine known t (Some change)) (λ c d _. IsAfter known t (Some change) c d)
+    both_failed old new fault one = acts_stop old new fault FitsChange (FitsLine known t (Some change)) _ (λ c d _. IsAfter known t (Some change) c d) (λ c fits. (fits.0, fits.1.fits, fits.2, fits.3)) one

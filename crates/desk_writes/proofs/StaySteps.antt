@@ -1,6 +1,7 @@
 -- What the edits of a set whose bugs stay come to.
-use Rattle.std.proofs.Common.{◌≡◌, [], ◌∷◌, List, Option, Some, Result, Ok, sym, ap, subst, ◌∙◌, true, ◌&&◌}
-use Rattle.std.specs.Prelude.{⊤, IfSome}
+use Rattle.std.proofs.Common.{◌≡◌, ℕ, [], ◌∷◌, List, Option, Some, None, refl, Result, Ok, sym, ap, subst, ◌∙◌, Bool, true, false, ◌&&◌}
+use Rattle.std.specs.Prelude.{⊤, IfSome, option_map}
+use Rattle.std.proofs.lemmas.Option.{same_Some, none-some}
 use Rattle.version_nodes.specs.Trees.{Ancestry}
 use Rattle.bug_record.specs.Sets.{Each}
 use Rattle.bug_record.specs.Images.{HasMember}
@@ -8,22 +9,23 @@ use Rattle.bug_record.specs.declared.bug.SetImage.{SetImage}
 use Rattle.bug_record.specs.declared.command.Change.{Change}
 use Rattle.bug_record.specs.declared.outcome.StoreFault.{StoreFault}
 use Rattle.sqlite.specs.State.{State}
-use Rattle.bugs_in_memory.specs.Keys.{key_of}
+use Rattle.bugs_in_memory.specs.Keys.{first_number, key_of}
 use Rattle.desk_content.specs.Content.{Content}
 use Rattle.desk_content.specs.Changes.{keeps_marks, without_images, with_images, cleared_for, FitsContent, all_stay}
 use Rattle.desk_content.specs.Edits.{edited_all}
 use Rattle.desk_content.specs.Free.{AreFree}
-use Rattle.desk_content.specs.Images.{without_image, with_image, IsCleared, IsGoodImage}
+use Rattle.desk_content.specs.Images.{same_marks, without_image, with_image, IsCleared, IsGoodImage}
 use Rattle.desk_content.specs.Kept.{IsKeptContent}
 use Rattle.desk_content.specs.Staying.{Stays}
+use Rattle.desk_content.specs.View.{image, shared_of}
 use Rattle.desk_content.specs.declared.edit.Edit.{Edit}
 use Rattle.desk_content.proofs.ReadyLemmas.{good, ready}
 use Rattle.desk_content.proofs.StandLemmas.{stand}
 use Rattle.desk_schema.specs.Steps.{Acts, PlaysAll, Reads}
-use Rattle.desk_schema.proofs.StepLemmas.{acts_then}
-use Rattle.desk_writes.specs.Needs.{IsTreeFor}
-use Rattle.desk_writes.specs.Plans.{IsStayPlan}
-use Rattle.desk_writes.proofs.ChangeSteps.{Fits, IsWritten}
+use Rattle.desk_schema.proofs.StepLemmas.{acts_none, acts_then, acts_weaker}
+use Rattle.desk_writes.specs.Needs.{IsTreeFor, IsKnownIn}
+use Rattle.desk_writes.specs.Plans.{IsStay, IsStayPlan}
+use Rattle.desk_writes.proofs.ChangeSteps.{Fits, FitsKnown, IsWritten, IsWrittenKnown}
 
 module _ (c : Content) (change : Change) (kept : IsKeptContent c) (fits : FitsContent c change) (i : SetImage) (only : change.images ≡ i ∷ []) where
   cleared_is : cleared_for c change ≡ without_image (keeps_marks c i) i c
@@ -47,29 +49,77 @@ module _ (c : Content) (change : Change) (kept : IsKeptContent c) (fits : FitsCo
       ∙ ap (with_image i) (sym cleared_is)
       ∙ sym (ap (λ (is : List SetImage). with_images is (cleared_for c change)) only)
 
--- the set of the only image stays, and its edits are played
-pub stayed : (t : Ancestry) (change : Change) (i : SetImage) (only : change.images ≡ i ∷ []) (plan : Option (List Edit)) (edits : List Edit) (old mid new : State) (r : Result (Unit {0}) StoreFault)
-    → plan ≡ Some edits → Reads (λ c p. IfSome p (λ (es : List Edit). IsStayPlan c t i es)) old mid (Ok plan) → PlaysAll edits mid new r
-    → Acts old new r (Fits t change) (λ c d _. IsWritten t change c d)
-stayed t change i only plan edits old mid new r is one two =
-    acts_then old mid new plan (λ _. ⊤) (AreFree edits) (Fits t change) (λ c d p. (d ≡ c) × IfSome p (λ (es : List Edit). IsStayPlan c t i es)) (λ d e _. e ≡ edited_all edits d)
-    (λ c d _. IsWritten t change c d) r
-    (λ c fits. tt)
-    (λ c d p fits. subst (AreFree edits) (sym p.0) (stay_free c change fits.0 fits.1 i only t edits (some c p.1)))
-    (λ c d e _ p q kept fits tree. q ∙ ap (edited_all edits) p.0 ∙ stay_made c change kept fits i only t edits tree (some c p.1))
-    one two
-  where
-    some : (c : Content) → IfSome plan (λ (es : List Edit). IsStayPlan c t i es) → IsStayPlan c t i edits
-    some c p = subst (λ (o : Option (List Edit)). IfSome o (λ (es : List Edit). IsStayPlan c t i es)) is p
+-- what a set says that is the set of its key
+parts_of : (c : Content) (k : ℕ) (i : SetImage) → image c k ≡ Some i → (c.members k ≡ i.members) × (c.found k ≡ i.shared.found) × (c.fixed k ≡ i.shared.fixed)
+parts_of c k i = elim (c.fields k) as (λ o. option_map (λ f. let j : SetImage = record { shared = shared_of c k f; members = c.members k } in j) o ≡ Some i
+    → (c.members k ≡ i.members) × (c.found k ≡ i.shared.found) × (c.fixed k ≡ i.shared.fixed)) [
+      | None ↦ λ e. absurd (none-some i e)
+      | Some f ↦ λ e. let is = same_Some _ _ e in (ap (λ (j : SetImage). j.members) is, ap (λ (j : SetImage). j.shared.found) is, ap (λ (j : SetImage). j.shared.fixed) is)
+    ]
 
--- it does not stay, and is written anew
-pub not_stayed : (t : Ancestry) (change : Change) (i : SetImage) (plan : Option (List Edit)) (old mid new : State) (r : Result (Unit {0}) StoreFault)
-    → Reads (λ c p. IfSome p (λ (es : List Edit). IsStayPlan c t i es)) old mid (Ok plan) → Acts mid new r (Fits t change) (λ c d _. IsWritten t change c d)
-    → Acts old new r (Fits t change) (λ c d _. IsWritten t change c d)
-not_stayed t change i plan old mid new r one two =
-    acts_then old mid new plan (λ _. ⊤) (Fits t change) (Fits t change) (λ c d p. (d ≡ c) × IfSome p (λ (es : List Edit). IsStayPlan c t i es)) (λ c d _. IsWritten t change c d)
-    (λ c d _. IsWritten t change c d) r
-    (λ c fits. tt)
-    (λ c d p fits. subst (Fits t change) (sym p.0) fits)
-    (λ c d e _ p q. subst (λ (x : Content). IsWritten t change x e) p.0 q)
-    one two
+-- an image that is known stands under its key, and so do the bugs and the marks of it
+pub known_stays : (t : Ancestry) (i old : SetImage) (edits : List Edit) → IsStay t old.shared.found old.shared.fixed i edits → old.members ≡ i.members
+    → (c : Content) → image c (key_of old) ≡ Some old → IsStayPlan c t i edits
+known_stays t i old edits stay same c here =
+    let p = parts_of c (key_of old) old here in
+    let k : key_of old ≡ key_of i = ap first_number same in (
+      ap c.members (sym k) ∙ p.0 ∙ same,
+      subst (λ vs. IsStay t vs (c.fixed (key_of i)) i edits) (sym p.1 ∙ ap c.found k)
+          (subst (λ vs. IsStay t old.shared.found vs i edits) (sym p.2 ∙ ap c.fixed k) stay),
+    )
+
+-- and so do the marks, if there is no other image
+pub known_keeps : (i old : SetImage) (is : List SetImage) → is ≡ i ∷ [] → key_of i ≡ key_of old → (c : Content) → image c (key_of old) ≡ Some old
+    → same_marks i old.shared.found old.shared.fixed ≡ all_stay c is
+known_keeps i old is only own c here =
+    let p = parts_of c (key_of old) old here in
+    sym (ap (all_stay c) only
+    ∙ alone (keeps_marks c i)
+    ∙ ap (λ vs. same_marks i vs (c.fixed (key_of i))) (ap c.found own ∙ p.1)
+    ∙ ap (λ vs. same_marks i old.shared.found vs) (ap c.fixed own ∙ p.2))
+  where
+    alone : (b : Bool) → (b && true) ≡ b
+    alone true = refl
+    alone false = refl
+
+module _ (t : Ancestry) (i : SetImage) (known : Option SetImage) where
+  -- the edits where the image that is known has its bugs, or is not asked
+  abbrev pub IsPlanKnown : Content → Option (List Edit) → Type 0
+  IsPlanKnown c p = IsKnownIn known c → IfSome p (λ (es : List Edit). IsStayPlan c t i es)
+
+  -- nothing is read
+  pub plan_known : (s : State) (p : Option (List Edit)) → IfSome p (λ (es : List Edit). (c : Content) → IsKnownIn known c → IsStayPlan c t i es) → Reads IsPlanKnown s s (Ok p)
+  plan_known s p is = acts_none s p (λ _. ⊤) (λ c d q. (d ≡ c) × IsPlanKnown c q) (λ c. (refl, λ knows. at c knows p is))
+    where
+      at : (c : Content) → IsKnownIn known c → (p : Option (List Edit)) → IfSome p (λ (es : List Edit). (c : Content) → IsKnownIn known c → IsStayPlan c t i es) → IfSome p (λ (es : List Edit). IsStayPlan c t i es)
+      at c knows None is = tt
+      at c knows (Some es) is = is c knows
+
+  pub plan_read : (old new : State) (r : Result (Option (List Edit)) StoreFault) → Reads (λ c p. IfSome p (λ (es : List Edit). IsStayPlan c t i es)) old new r → Reads IsPlanKnown old new r
+  plan_read old new r one = acts_weaker old new r (λ _. ⊤) (λ _. ⊤) (λ c d p. (d ≡ c) × IfSome p (λ (es : List Edit). IsStayPlan c t i es)) (λ c d p. (d ≡ c) × IsPlanKnown c p)
+      (λ c _. tt) (λ c d p h. (h.0, λ _. h.1)) one
+
+module _ (t : Ancestry) (change : Change) (i : SetImage) (known : Option SetImage) (plan : Option (List Edit)) (old mid new : State) (r : Result (Unit {0}) StoreFault) (one : Reads (IsPlanKnown t i known) old mid (Ok plan)) where
+  -- the set of the only image stays, and its edits are played
+  pub stayed : (only : change.images ≡ i ∷ []) (edits : List Edit) → plan ≡ Some edits → PlaysAll edits mid new r
+      → Acts old new r (FitsKnown t change known) (λ c d _. IsWrittenKnown t change known c d)
+  stayed only edits is two =
+      acts_then old mid new plan (λ _. ⊤) (AreFree edits) (FitsKnown t change known) (λ c d p. (d ≡ c) × IsPlanKnown t i known c p) (λ d e _. e ≡ edited_all edits d)
+      (λ c d _. IsWrittenKnown t change known c d) r
+      (λ c fits. tt)
+      (λ c d p fits. subst (AreFree edits) (sym p.0) (stay_free c change fits.0 fits.1 i only t edits (some c (p.1 fits.3))))
+      (λ c d e _ p q kept fits tree knows. q ∙ ap (edited_all edits) p.0 ∙ stay_made c change kept fits i only t edits tree (some c (p.1 knows)))
+      one two
+    where
+      some : (c : Content) → IfSome plan (λ (es : List Edit). IsStayPlan c t i es) → IsStayPlan c t i edits
+      some c p = subst (λ (o : Option (List Edit)). IfSome o (λ (es : List Edit). IsStayPlan c t i es)) is p
+
+  -- it does not stay, and is written anew
+  pub not_stayed : Acts mid new r (Fits t change) (λ c d _. IsWritten t change c d) → Acts old new r (FitsKnown t change known) (λ c d _. IsWrittenKnown t change known c d)
+  not_stayed two =
+      acts_then old mid new plan (λ _. ⊤) (Fits t change) (FitsKnown t change known) (λ c d p. (d ≡ c) × IsPlanKnown t i known c p) (λ c d _. IsWritten t change c d)
+      (λ c d _. IsWrittenKnown t change known c d) r
+      (λ c fits. tt)
+      (λ c d p fits. subst (Fits t change) (sym p.0) (fits.0, fits.1, fits.2))
+      (λ c d e _ p q kept fits tree knows. subst (λ (x : Content). IsWritten t change x e) p.0 q kept fits tree)
+      one two

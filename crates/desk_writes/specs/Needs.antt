@@ -1,11 +1,14 @@
--- The tree that a change needs.
+-- The tree that a change needs, and the image that it may know.
 -- This project's own rule.
-use Rattle.std.specs.Prelude.{◌≡◌, true, false, Option, Some, None}
+use Rattle.std.specs.Prelude.{◌≡◌, true, false, Option, Some, None, IfSome}
 use Rattle.version_nodes.specs.Trees.{Ancestry}
 use Rattle.bug_record.specs.Texts.{IfGiven}
+use Rattle.bug_record.specs.declared.bug.SetImage.{SetImage}
 use Rattle.bug_record.specs.declared.command.Change.{Change}
+use Rattle.bugs_in_memory.specs.Keys.{key_of}
 use Rattle.desk_content.specs.Changes.{all_stay}
 use Rattle.desk_content.specs.Content.{Content}
+use Rattle.desk_content.specs.View.{image}
 
 -- the tree is the content's, where a mark changes
 abbrev pub IsTreeFor : Ancestry → Content → Change → Type 0
@@ -19,3 +22,7 @@ HasTree (Some t) c change = c.nodes ≡ t
 -- the same of a change, if there is one
 abbrev pub HasTreeIfAny : Option Ancestry → Content → Option Change → Type 0
 HasTreeIfAny tree c change = IfGiven (HasTree tree c) change
+
+-- an image that is known is the one of its set
+abbrev pub IsKnownIn : Option SetImage → Content → Type 0
+IsKnownIn known c = IfSome known (λ i. image c (key_of i) ≡ Some i)

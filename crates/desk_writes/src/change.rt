@@ -6,7 +6,7 @@ ghost use Rattle.sqlite.specs.Held.{state};
 ghost use Rattle.desk_content.specs.Changes.{FitsContent, changed, with_images, cleared_for};
 ghost use Rattle.desk_content.specs.Kept.{IsKeptContent};
 ghost use Rattle.desk_schema.specs.Steps.{Acts, PlaysAll, Reads, Serves};
-ghost use Rattle.desk_writes.specs.Needs.{IsTreeFor, HasTree};
+ghost use Rattle.desk_writes.specs.Needs.{IsTreeFor, HasTree, IsKnownIn};
 ghost use Rattle.desk_writes.specs.Plans.{IsPlan, IsPlanOf, ArePlans, cleared_edits, put_edits};
 ghost use Rattle.bug_record.specs.declared.outcome.StoreFault.TheVariants.{Memory};
 
@@ -116,14 +116,15 @@ fn put_one<S: Alter>(
     family: &Family,
     change: &Change,
     image: &SetImage,
+    old: Option<&SetImage>,
 ) -> Result<(), StoreFault>
     requires { change.now.images ≡ image.now ∷ [] }
     ensures same_reference { tx.new.conn.ghost_name ≡ tx.old.conn.ghost_name }
     ensures acts { Acts (state S.Store tx.old.conn.now) (state S.Store tx.new.conn.now) result
-        (λ c. IsKeptContent c × FitsContent c change.now × IsTreeFor family.now c change.now)
-        (λ c d _. IsKeptContent c → FitsContent c change.now → IsTreeFor family.now c change.now → d ≡ with_images change.now.images (cleared_for c change.now)) }
+        (λ c. IsKeptContent c × FitsContent c change.now × IsTreeFor family.now c change.now × IsKnownIn (option_copied old.entry) c)
+        (λ c d _. IsKeptContent c → FitsContent c change.now → IsTreeFor family.now c change.now → IsKnownIn (option_copied old.entry) c → d ≡ with_images change.now.images (cleared_for c change.now)) }
 {
-    match stay_plan(alloc, tx, family, image)? {
+    match stay_plan(alloc, tx, family, image, old)? {
         Some(edits) => play_all(tx, edits.as_slice()),
         None => rewrite_sets(alloc, tx, family, change),
     }
@@ -135,14 +136,15 @@ fn put_sets<S: Alter>(
     tx: &mut Transaction<'_, S>,
     family: &Family,
     change: &Change,
+    old: Option<&SetImage>,
 ) -> Result<(), StoreFault>
     ensures same_reference { tx.new.conn.ghost_name ≡ tx.old.conn.ghost_name }
     ensures acts { Acts (state S.Store tx.old.conn.now) (state S.Store tx.new.conn.now) result
-        (λ c. IsKeptContent c × FitsContent c change.now × IsTreeFor family.now c change.now)
-        (λ c d _. IsKeptContent c → FitsContent c change.now → IsTreeFor family.now c change.now → d ≡ with_images change.now.images (cleared_for c change.now)) }
+        (λ c. IsKeptContent c × FitsContent c change.now × IsTreeFor family.now c change.now × IsKnownIn (option_copied old.entry) c)
+        (λ c d _. IsKeptContent c → FitsContent c change.now → IsTreeFor family.now c change.now → IsKnownIn (option_copied old.entry) c → d ≡ with_images change.now.images (cleared_for c change.now)) }
 {
     match change.images.as_slice() {
-        [image] => put_one(alloc, tx, family, change, image),
+        [image] => put_one(alloc, tx, family, change, image, old),
         _ => rewrite_sets(alloc, tx, family, change),
     }
 }
@@ -166,14 +168,15 @@ fn put_over<S: Alter>(
     tx: &mut Transaction<'_, S>,
     family: &Family,
     change: &Change,
+    old: Option<&SetImage>,
 ) -> Result<(), StoreFault>
     ensures same_reference { tx.new.conn.ghost_name ≡ tx.old.conn.ghost_name }
     ensures acts { Acts (state S.Store tx.old.conn.now) (state S.Store tx.new.conn.now) result
-        (λ c. IsKeptContent c × FitsContent c change.now × IsTreeFor family.now c change.now)
-        (λ c d _. IsKeptContent c → FitsContent c change.now → IsTreeFor family.now c change.now → d ≡ changed c change.now) }
+        (λ c. IsKeptContent c × FitsContent c change.now × IsTreeFor family.now c change.now × IsKnownIn (option_copied old.entry) c)
+        (λ c d _. IsKeptContent c → FitsContent c change.now → IsTreeFor family.now c change.now → IsKnownIn (option_copied old.entry) c → d ≡ changed c change.now) }
     ensures serves { Serves (state S.Store tx.old.conn.now) (state S.Store tx.new.conn.now) result }
 {
-    put_sets(alloc, tx, family, change)?;
+    put_sets(alloc, tx, family, change, old)?;
     put_next(tx, change.next)
 }
 
@@ -182,15 +185,16 @@ fn put_without_tree<S: Alter>(
     alloc: Global,
     tx: &mut Transaction<'_, S>,
     change: &Change,
+    old: Option<&SetImage>,
 ) -> Result<(), StoreFault>
     ensures same_reference { tx.new.conn.ghost_name ≡ tx.old.conn.ghost_name }
     ensures acts { Acts (state S.Store tx.old.conn.now) (state S.Store tx.new.conn.now) result
-        (λ c. IsKeptContent c × FitsContent c change.now × HasTree None c change.now)
-        (λ c d _. IsKeptContent c → FitsContent c change.now → HasTree None c change.now → d ≡ changed c change.now) }
+        (λ c. IsKeptContent c × FitsContent c change.now × HasTree None c change.now × IsKnownIn (option_copied old.entry) c)
+        (λ c d _. IsKeptContent c → FitsContent c change.now → HasTree None c change.now → IsKnownIn (option_copied old.entry) c → d ≡ changed c change.now) }
     ensures serves { Serves (state S.Store tx.old.conn.now) (state S.Store tx.new.conn.now) result }
 {
     let family = Family::new(alloc);
-    put_over(alloc, tx, &family, change)
+    put_over(alloc, tx, &family, change, old)
 }
 
 /// Carries a change out: what stands under the numbers of its bugs goes, its sets come, and last
@@ -198,21 +202,24 @@ fn put_without_tree<S: Alter>(
 /// Where it has one image, whose bugs stay, these are not touched, and the next number is written
 /// only where it is another one.
 /// The tree may be missing where no mark changes.
+/// Where the image of a set is known as the tables say it, it is not read: if the only new image
+/// has its bugs, with their titles and submitters.
 /// It fails for memory, the disk or its size alone, where the change fits kept tables.
 pub fn put_change<S: Alter>(
     alloc: Global,
     tx: &mut Transaction<'_, S>,
     family: Option<&Family>,
     change: &Change,
+    old: Option<&SetImage>,
 ) -> Result<(), StoreFault>
     ensures same_reference { tx.new.conn.ghost_name ≡ tx.old.conn.ghost_name }
     ensures acts { Acts (state S.Store tx.old.conn.now) (state S.Store tx.new.conn.now) result
-        (λ c. IsKeptContent c × FitsContent c change.now × HasTree (option_copied family.entry) c change.now)
-        (λ c d _. IsKeptContent c → FitsContent c change.now → HasTree (option_copied family.entry) c change.now → d ≡ changed c change.now) }
+        (λ c. IsKeptContent c × FitsContent c change.now × HasTree (option_copied family.entry) c change.now × IsKnownIn (option_copied old.entry) c)
+        (λ c d _. IsKeptContent c → FitsContent c change.now → HasTree (option_copied family.entry) c change.now → IsKnownIn (option_copied old.entry) c → d ≡ changed c change.now) }
     ensures serves { Serves (state S.Store tx.old.conn.now) (state S.Store tx.new.conn.now) result }
 {
     match family {
-        Some(family) => put_over(alloc, tx, family, change),
-        None => put_without_tree(alloc, tx, change),
+        Some(family) => put_over(alloc, tx, family, change, old),
+        None => put_without_tree(alloc, tx, change, old),
     }
 }

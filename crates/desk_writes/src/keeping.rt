@@ -9,12 +9,12 @@ ghost use Rattle.desk_content.specs.Keeping.{MayBePut, kept_after, with_kept};
 ghost use Rattle.desk_content.specs.Kept.{IsKeptContent};
 ghost use Rattle.desk_schema.specs.Steps.{Acts, Reads, Serves};
 ghost use Rattle.bug_record.specs.declared.outcome.StoreFault.TheVariants.{Memory};
-ghost use Rattle.desk_writes.specs.Needs.{HasTree, HasTreeIfAny};
+ghost use Rattle.desk_writes.specs.Needs.{HasTree, HasTreeIfAny, IsKnownIn};
 ghost use Rattle.desk_writes.specs.Lines.{IsLine, AreEditsOf};
 
 use crate::change::put_change;
 use crate::play::play_all;
-use bug_record::{Change, Outcome, Sequence, StoreFault};
+use bug_record::{Change, Outcome, Sequence, SetImage, StoreFault};
 use desk_content::{Edit, keep_edits};
 use desk_rows::read_next_place;
 use nearest_marks::Family;
@@ -83,21 +83,22 @@ fn put_both<S: Alter>(
     message: &str,
     outcome: &Outcome,
     change: &Change,
+    old: Option<&SetImage>,
 ) -> Result<(), StoreFault>
     ensures same_reference { tx.new.conn.ghost_name ≡ tx.old.conn.ghost_name }
     ensures acts { Acts (state S.Store tx.old.conn.now) (state S.Store tx.new.conn.now) result
-        (λ c. IsKeptContent c × MayBePut id.now from.now message.now outcome.now (Some change.now) c × HasTree (option_copied family.entry) c change.now)
-        (λ c d _. IsKeptContent c → MayBePut id.now from.now message.now outcome.now (Some change.now) c → HasTree (option_copied family.entry) c change.now →
+        (λ c. IsKeptContent c × MayBePut id.now from.now message.now outcome.now (Some change.now) c × HasTree (option_copied family.entry) c change.now × IsKnownIn (option_copied old.entry) c)
+        (λ c d _. IsKeptContent c → MayBePut id.now from.now message.now outcome.now (Some change.now) c → HasTree (option_copied family.entry) c change.now → IsKnownIn (option_copied old.entry) c →
         d ≡ kept_after id.now from.now message.now outcome.now (Some change.now) c) }
     ensures serves { Serves (state S.Store tx.old.conn.now) (state S.Store tx.new.conn.now) result }
 {
-    put_change(alloc, tx, family, change)?;
+    put_change(alloc, tx, family, change, old)?;
     put_outcome(alloc, tx, id, from, message, outcome)
 }
 
 /// Carries a change out, if there is one, and keeps the outcome of its line behind those that are
 /// kept of the message of the id; the message becomes known with its first outcome.
-/// The tree may be missing where no mark changes.
+/// The tree may be missing where no mark changes, and an image that is known is as in `put_change`.
 /// It fails for memory, the disk or its size alone, where the change fits kept tables, and the
 /// outcome and the message may be kept in them.
 pub fn put_kept<S: Alter>(
@@ -109,16 +110,17 @@ pub fn put_kept<S: Alter>(
     message: &str,
     outcome: &Outcome,
     change: Option<&Change>,
+    old: Option<&SetImage>,
 ) -> Result<(), StoreFault>
     ensures same_reference { tx.new.conn.ghost_name ≡ tx.old.conn.ghost_name }
     ensures acts { Acts (state S.Store tx.old.conn.now) (state S.Store tx.new.conn.now) result
-        (λ c. IsKeptContent c × MayBePut id.now from.now message.now outcome.now (option_copied change.entry) c × HasTreeIfAny (option_copied family.entry) c (option_copied change.entry))
-        (λ c d _. IsKeptContent c → MayBePut id.now from.now message.now outcome.now (option_copied change.entry) c → HasTreeIfAny (option_copied family.entry) c (option_copied change.entry) →
+        (λ c. IsKeptContent c × MayBePut id.now from.now message.now outcome.now (option_copied change.entry) c × HasTreeIfAny (option_copied family.entry) c (option_copied change.entry) × IsKnownIn (option_copied old.entry) c)
+        (λ c d _. IsKeptContent c → MayBePut id.now from.now message.now outcome.now (option_copied change.entry) c → HasTreeIfAny (option_copied family.entry) c (option_copied change.entry) → IsKnownIn (option_copied old.entry) c →
         d ≡ kept_after id.now from.now message.now outcome.now (option_copied change.entry) c) }
     ensures serves { Serves (state S.Store tx.old.conn.now) (state S.Store tx.new.conn.now) result }
 {
     match change {
-        Some(change) => put_both(alloc, tx, family, id, from, message, outcome, change),
+        Some(change) => put_both(alloc, tx, family, id, from, message, outcome, change, old),
         None => put_outcome(alloc, tx, id, from, message, outcome),
     }
 }

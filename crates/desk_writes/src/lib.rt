@@ -19,4 +19,4 @@ pub use branch::put_branch;
 pub use change::put_change;
 pub use keeping::put_kept;
 pub use kept::read_kept;
-pub use marks_stay::read_marks_stay;
+pub use marks_stay::{known_marks_stay, read_marks_stay};

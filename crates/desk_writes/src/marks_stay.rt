@@ -1,11 +1,14 @@
 //! Whether the marks of a change's images stand already.
 
-ghost use Rattle.std.specs.Prelude.{◌≡◌, ◌<◌, length};
+ghost use Rattle.std.specs.Prelude.{◌≡◌, ◌<◌, length, IfSome};
+ghost use Rattle.std.specs.Option.{option_copied};
 ghost use Rattle.sqlite.specs.Held.{state};
 ghost use Rattle.desk_content.specs.Changes.{keeps_marks, all_stay};
+ghost use Rattle.desk_content.specs.Content.{Content};
 ghost use Rattle.desk_schema.specs.Steps.{Reads, Serves};
+ghost use Rattle.desk_writes.specs.Needs.{IsKnownIn};
 
-use bug_record::{SetImage, StoreFault};
+use bug_record::{Change, SetImage, StoreFault};
 use desk_content::{has_marks, key_of};
 use desk_schema::parameter;
 use set_rows::read_marks;
@@ -47,4 +50,25 @@ pub fn read_marks_stay<S: Alter>(
         }
     }
     Ok(true)
+}
+
+/// Whether the marks of a change's only image stand already, as the image that is known of its set
+/// says it; `None` where it does not.
+/// It takes no memory, and reads nothing.
+pub fn known_marks_stay(change: &Change, known: Option<&SetImage>) -> Option<bool>
+    ensures { IfSome result (λ stay. (c : Content) → IsKnownIn (option_copied known.entry) c → stay ≡ all_stay c change.now.images) }
+{
+    let Some(old) = known else {
+        return None;
+    };
+    let [image] = change.images.as_slice() else {
+        return None;
+    };
+    if key_of(image) != key_of(old) {
+        return None;
+    }
+    let fields = old.shared.fields();
+    let found = fields.found.as_slice();
+    let fixed = fields.fixed.as_slice();
+    Some(has_marks(image, found, fixed))
 }

@@ -1,31 +1,34 @@
 //! The edits of a set whose bugs stay.
 
-ghost use Rattle.std.specs.Prelude.{◌≡◌, IfOk, IfErr, IfSome};
+ghost use Rattle.std.specs.Prelude.{◌≡◌, IfOk, IfErr, IfSome, IsTrue};
+ghost use Rattle.std.specs.Option.{option_copied};
 ghost use Rattle.sqlite.specs.Held.{state};
 ghost use Rattle.bug_record.specs.declared.outcome.StoreFault.TheVariants.{Memory};
 ghost use Rattle.desk_schema.specs.Steps.{Reads};
+ghost use Rattle.desk_content.specs.Content.{Content};
+ghost use Rattle.desk_writes.specs.Needs.{IsKnownIn};
 ghost use Rattle.desk_writes.specs.Plans.{IsStay, IsStayOf, IsStayPlan};
 
-use bug_record::{Sequence, SetImage, StoreFault};
+use bug_record::{Member, Sequence, SetImage, StoreFault};
 use desk_content::{Edit, key_of, stay_edits};
 use desk_schema::parameter;
 use nearest_marks::Family;
-use set_rows::{Marks, has_members, read_marks};
+use set_rows::{has_members, read_marks};
 use sqlite::{Alter, Transaction};
 use std::alloc::Global;
+use version_nodes::Node;
 
 // The edits of an image whose bugs stay, where these marks stand under its key.
 fn stay_of(
     alloc: Global,
     family: &Family,
     image: &SetImage,
-    marks: &Marks,
+    found: &[Node],
+    fixed: &[Node],
 ) -> Result<Sequence<Edit>, StoreFault>
-    ensures plan { IfOk result (λ edits. IsStay family.now marks.now.found marks.now.fixed image.now edits) }
+    ensures plan { IfOk result (λ edits. IsStay family.now found.now fixed.now image.now edits) }
     ensures memory { IfErr result (λ fault. fault ≡ Memory) }
 {
-    let found = marks.found.as_slice();
-    let fixed = marks.fixed.as_slice();
     Ok(stay_edits(alloc, family, image, found, fixed)?)
 }
 
@@ -41,12 +44,14 @@ fn stay_image<S: Alter>(
 {
     let key = parameter(key_of(image))?;
     let marks = read_marks(alloc, tx, key)?;
-    stay_of(alloc, family, image, &marks)
+    let found = marks.found.as_slice();
+    let fixed = marks.fixed.as_slice();
+    stay_of(alloc, family, image, found, fixed)
 }
 
-/// The edits of an image, if its bugs, with their titles and submitters, are those that stand under
-/// its key.
-pub(crate) fn stay_plan<S: Alter>(
+// The edits of an image, if its bugs, with their titles and submitters, are those that stand under
+// its key.
+fn read_plan<S: Alter>(
     alloc: Global,
     tx: &mut Transaction<'_, S>,
     family: &Family,
@@ -61,4 +66,69 @@ pub(crate) fn stay_plan<S: Alter>(
         return Ok(None);
     }
     Ok(Some(stay_image(alloc, tx, family, image)?))
+}
+
+// Whether two bugs are the same, titles and submitters among it.
+fn same_member(a: &Member, b: &Member) -> bool
+    ensures { IsTrue result → a.now ≡ b.now }
+{
+    a.number == b.number
+        && a.title.as_str() == b.title.as_str()
+        && a.submitter.as_str() == b.submitter.as_str()
+}
+
+// Whether two lists have the same bugs.
+fn same_members(a: &[Member], b: &[Member]) -> bool
+    ensures { IsTrue result → a.now ≡ b.now }
+{
+    if a.len() != b.len() {
+        return false;
+    }
+    for i in 0..a.len() {
+        if !same_member(&a[i], &b[i]) {
+            return false;
+        }
+    }
+    true
+}
+
+// The edits of an image, if an old one is known that has the same bugs.
+fn known_plan(
+    alloc: Global,
+    family: &Family,
+    image: &SetImage,
+    old: Option<&SetImage>,
+) -> Result<Option<Sequence<Edit>>, StoreFault>
+    ensures plan { IfOk result (λ plan. IfSome plan (λ edits. (c : Content) → IsKnownIn (option_copied old.entry) c → IsStayPlan c family.now image.now edits)) }
+    ensures memory { IfErr result (λ fault. fault ≡ Memory) }
+{
+    let Some(old) = old else {
+        return Ok(None);
+    };
+    if !same_members(old.members.as_slice(), image.members.as_slice()) {
+        return Ok(None);
+    }
+    let fields = old.shared.fields();
+    let found = fields.found.as_slice();
+    let fixed = fields.fixed.as_slice();
+    Ok(Some(stay_of(alloc, family, image, found, fixed)?))
+}
+
+/// The edits of an image, if its bugs, with their titles and submitters, are those of the set whose
+/// image is known, or else those that stand under its key.
+/// Where the first is so, nothing is read.
+pub(crate) fn stay_plan<S: Alter>(
+    alloc: Global,
+    tx: &mut Transaction<'_, S>,
+    family: &Family,
+    image: &SetImage,
+    old: Option<&SetImage>,
+) -> Result<Option<Sequence<Edit>>, StoreFault>
+    ensures same_reference { tx.new.conn.ghost_name ≡ tx.old.conn.ghost_name }
+    ensures reads { Reads (λ c plan. IsKnownIn (option_copied old.entry) c → IfSome plan (λ edits. IsStayPlan c family.now image.now edits)) (state S.Store tx.old.conn.now) (state S.Store tx.new.conn.now) result }
+{
+    match known_plan(alloc, family, image, old)? {
+        Some(edits) => Ok(Some(edits)),
+        None => read_plan(alloc, tx, family, image),
+    }
 }

@@ -10,5 +10,6 @@ returns-in-Some-clause-acts g c =
     let old = state g.S.Store c.args.tx.now.conn.now in
     let new = state g.S.Store c.put_over.new.tx.conn.now in
     let change = c.args.change.now in
-    subst (λ f. Acts old new c.put_over.result (MayBeMade change (option_copied f)) (λ k d _. IsDone change (option_copied f) k d)) (sym c.in-Some.is)
-    (made_over change c.in-Some.family.now old new c.put_over.result c.put_over.ensures.acts)
+    let known = option_copied c.args.old in
+    subst (λ f. Acts old new c.put_over.result (MayBeMade change known (option_copied f)) (λ k d _. IsDone change known (option_copied f) k d)) (sym c.in-Some.is)
+    (made_over change known c.in-Some.family.now old new c.put_over.result c.put_over.ensures.acts)

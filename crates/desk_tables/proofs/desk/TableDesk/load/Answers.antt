@@ -16,10 +16,10 @@ returns-clause-answer g c =
         honest = did.answer.holds.honest;
         kept = λ was clean.
             let now = did.answer.holds.kept was clean in
-            record { shown = now.shown; content = now.content; tree = subst (λ h. c.in_ok-family.family ≡ (content_seen g.S.Store h).nodes) (sym did.last) (did.answer.holds.fact was clean).0 };
+            record { shown = now.shown; content = now.content; tree = subst (λ h. c.in_ok-family.family ≡ (content_seen g.S.Store h).nodes) (sym did.last) (did.answer.holds.fact was clean).0; known = now.known };
         fact = λ was clean. did.last;
       };
       was_kept = λ now clean.
-          did.answer.was_kept (record { shown = now.shown; content = now.content; tree = rw did.family (no_tree c.args.self.now.family _ (sym c.is_some.ensures ∙ c.if-is_some.false)) }) clean;
+          did.answer.was_kept (record { shown = now.shown; content = now.content; tree = rw did.family (no_tree c.args.self.now.family _ (sym c.is_some.ensures ∙ c.if-is_some.false)); known = now.known }) clean;
       left = did.answer.left;
     }

@@ -1,15 +1,28 @@
-use Rattle.desk_tables.proofs.Imports.{content_seen, AreTablesOf}
-use Rattle.desk_schema.proofs.Exports.{option_copied, state, survives_then, survives_weaker, kept_after}
+use Rattle.desk_tables.proofs.Imports.{content_seen, desk_seen, keeping_seen, AreTablesOf}
+use Rattle.desk_schema.proofs.Exports.{◌≡◌, Err, ap, rules, option_copied, state, survives_then, survives_weaker, kept_after}
+use Rattle.desk_reads.specs.Known.{known_key, known_set}
+use Rattle.desk_tables.proofs.KeptLemmas.{recalled_in}
 use Rattle.desk_tables.proofs.desk.TableDesk.load_and_keep.Goals as goal
 
-pub returns-in_err-load_for_line-clause-crash : goal.returns-in_err-load_for_line-clause-crash
-returns-in_err-load_for_line-clause-crash g c = λ may was.
-    survives_weaker (state g.S.Store c.args.self.now.conn) (state g.S.Store c.load_for_line.new.self.conn) (λ _. ⊥) _ (λ clean db none. absurd none) c.in_err-load_for_line.ensures.survives
+pub keep_outcome-requires-clause-before : goal.keep_outcome-requires-clause-before
+keep_outcome-requires-clause-before g c = λ was clean.
+    let d = c.load_for.new.self in
+    rw c.as_ref.ensures.value (recalled_in (known_key d.known) (known_set d.known) (content_seen g.S.Store d.last.value) was.known c.recall_for-before.result c.recall_for-before.ensures)
+
+pub returns-in_err-load_for-clause-answer : goal.returns-in_err-load_for-clause-answer
+returns-in_err-load_for-clause-answer g c = λ may.
+    let did = c.in_err-load_for.ensures in
+    let is : c.from_residual.result ≡ Err c.in_err-load_for.field-0.0 = search rules in
+    rw is (record { honest = did.answer.holds.honest; kept = did.answer.holds.kept; fact = λ was clean. (ap (desk_seen g.S.Store) did.last, ap (keeping_seen g.S.Store) did.last) })
+
+pub returns-in_err-load_for-clause-crash : goal.returns-in_err-load_for-clause-crash
+returns-in_err-load_for-clause-crash g c = λ may was.
+    survives_weaker (state g.S.Store c.args.self.now.conn) (state g.S.Store c.load_for.new.self.conn) (λ _. ⊥) _ (λ clean db none. absurd none) c.in_err-load_for.ensures.survives
 
 pub returns-clause-answer : goal.returns-clause-answer
 returns-clause-answer g c = λ may.
-    let last = c.in_ok-load_for_line.ensures.last in
-    let loaded = c.in_ok-load_for_line.ensures.answer.holds in
+    let last = c.in_ok-load_for.ensures.last in
+    let loaded = c.in_ok-load_for.ensures.answer.holds in
     let did = c.keep_outcome.ensures.answer (rw last may) in
     record {
       honest = λ clean. loaded.honest (did.honest clean);
@@ -19,9 +32,9 @@ returns-clause-answer g c = λ may.
 
 pub returns-clause-crash : goal.returns-clause-crash
 returns-clause-crash g c = λ may was.
-    let last = c.in_ok-load_for_line.ensures.last in
+    let last = c.in_ok-load_for.ensures.last in
     let after = kept_after c.args.id.now c.args.from.now c.args.message.now c.args.outcome.now (option_copied c.args.change) (content_seen g.S.Store c.args.self.now.last.value) in
-    survives_then (state g.S.Store c.args.self.now.conn) (state g.S.Store c.load_for_line.new.self.conn) (state g.S.Store c.keep_outcome.new.self.conn) (λ _. ⊥)
+    survives_then (state g.S.Store c.args.self.now.conn) (state g.S.Store c.load_for.new.self.conn) (state g.S.Store c.keep_outcome.new.self.conn) (λ _. ⊥)
     (AreTablesOf after) (AreTablesOf after)
-    (λ clean db none. absurd none) (λ clean db p. p) c.in_ok-load_for_line.ensures.survives
-    (rw last at (c.keep_outcome.ensures.crash (rw last may) (λ clean. c.in_ok-load_for_line.ensures.answer.holds.kept was (c.keep_outcome.ensures.honest clean))))
+    (λ clean db none. absurd none) (λ clean db p. p) c.in_ok-load_for.ensures.survives
+    (rw last at (c.keep_outcome.ensures.crash (rw last may) (λ clean. c.in_ok-load_for.ensures.answer.holds.kept was (c.keep_outcome.ensures.honest clean))))

@@ -1,6 +1,30 @@
-use Rattle.desk_tables.proofs.Imports.{content_seen, AreTablesOf}
-use Rattle.desk_schema.proofs.Exports.{state, survives_then, survives_weaker, changed}
+use Rattle.desk_tables.proofs.Imports.{content_seen, desk_seen, AreTablesOf}
+use Rattle.desk_schema.proofs.Exports.{◌≡◌, Err, ap, rules, state, survives_then, survives_weaker, changed}
+use Rattle.desk_reads.specs.Known.{known_key, known_set}
+use Rattle.desk_tables.proofs.KeptLemmas.{recalled_in}
 use Rattle.desk_tables.proofs.desk.TableDesk.load_and_make.Goals as goal
+
+pub make-requires-clause-before : goal.make-requires-clause-before
+make-requires-clause-before g c = λ was clean.
+    let d = c.load_for.new.self in
+    rw c.as_ref.ensures.value (recalled_in (known_key d.known) (known_set d.known) (content_seen g.S.Store d.last.value) was.known c.recall_for-before.result c.recall_for-before.ensures)
+
+pub returns-in_err-load_for-clause-answer : goal.returns-in_err-load_for-clause-answer
+returns-in_err-load_for-clause-answer g c =
+    let did = c.in_err-load_for.ensures in
+    let is : c.from_residual.result ≡ Err c.in_err-load_for.field-0.0 = search rules in
+    rw is (record { honest = did.answer.holds.honest; kept = did.answer.holds.kept; fact = λ was clean. ap (desk_seen g.S.Store) did.last })
+
+pub returns-clause-answer : goal.returns-clause-answer
+returns-clause-answer g c =
+    let last = c.in_ok-load_for.ensures.last in
+    let loaded = c.in_ok-load_for.ensures.answer.holds in
+    let did = c.make.ensures.answer in
+    record {
+      honest = λ clean. loaded.honest (did.honest clean);
+      kept = λ was clean. did.kept (loaded.kept was (did.honest clean)) clean;
+      fact = λ was clean. rw last at (did.fact (loaded.kept was (did.honest clean)) clean);
+    }
 
 pub returns-in_err-load_for-clause-crash : goal.returns-in_err-load_for-clause-crash
 returns-in_err-load_for-clause-crash g c = λ was.

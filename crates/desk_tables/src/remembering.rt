@@ -1,0 +1,53 @@
+//! The sets that a desk in tables knows, so that it need not read them again.
+
+ghost use Rattle.std.specs.Prelude.{◌≡◌};
+ghost use Rattle.sqlite.specs.State.{Survives};
+ghost use Rattle.desk_store.specs.Store.{IsImageOf};
+ghost use Rattle.desk_tables.specs.Desk.{state_of, desk_of, faults_of};
+ghost use Rattle.desk_tables.specs.Desk.{IsAnswered, NeverForeign};
+
+use crate::desk::TableDesk;
+use crate::questions::SetOf;
+use bug_record::{SetImage, StoreFault};
+use sqlite::Alter;
+
+impl<S: Alter> TableDesk<S> {
+    // Reads the set of a bug, and learns it.
+    fn read_set(&mut self, number: u64) -> Result<Option<SetImage>, StoreFault>
+        ensures answer { IsAnswered self.old self.new result (IsImageOf (desk_of self.old) number) }
+        ensures sure { NeverForeign self.old self.new result }
+        ensures last { self.new.last.value ≡ self.old.last.value }
+        ensures survives { Survives (state_of self.old) (state_of self.new) (λ _. ⊥) }
+        ensures counts { faults_of self.new ≡ faults_of self.old }
+    {
+        let question = SetOf {
+            alloc: self.alloc,
+            number,
+        };
+        match self.ask(&question)? {
+            Some(found) => {
+                self.known.learn(self.alloc, found.key, &found.image);
+                Ok(Some(found.image))
+            }
+            None => Ok(None),
+        }
+    }
+
+    // The image of the set of a bug, which is read where it is not known.
+    // A store that has failed is asked, so that it is not answered for.
+    pub(crate) fn find_set(&mut self, number: u64) -> Result<Option<SetImage>, StoreFault>
+        ensures answer { IsAnswered self.old self.new result (IsImageOf (desk_of self.old) number) }
+        ensures sure { NeverForeign self.old self.new result }
+        ensures last { self.new.last.value ≡ self.old.last.value }
+        ensures survives { Survives (state_of self.old) (state_of self.new) (λ _. ⊥) }
+        ensures counts { faults_of self.new ≡ faults_of self.old }
+    {
+        if self.counts.total() != 0 {
+            return self.read_set(number);
+        }
+        match self.known.recall(number) {
+            Some(image) => Ok(Some(image)),
+            None => self.read_set(number),
+        }
+    }
+}
