@@ -17,6 +17,9 @@ use std::alloc::Global;
 // How many bugs it knows at most.
 const MOST_BUGS: usize = 8192;
 
+// How many images of a change it follows at most: they are followed by a recursion.
+const MOST_IMAGES: usize = 200;
+
 /// The images of some sets of a desk, which need not be read again.
 /// It knows at most 8,192 bugs; its images share the texts and the lists of those that it was told.
 /// Contracts see the key of each bug whose set is known, which is the number of the first of the
@@ -156,21 +159,33 @@ impl KnownSets {
         }
     }
 
-    /// Follows a change of these sets, which was made: what is known then is so after it.
-    /// An image is known then, where it has the bugs of a set that is known, or each of its bugs is
-    /// in none or in one by itself; otherwise, and where there is no room or no memory, all is
-    /// forgotten.
-    pub fn follow(&mut self, alloc: Global, images: &[SetImage])
+    // Follows a change of few sets, the last one first.
+    fn follow_each(&mut self, alloc: Global, images: &[SetImage])
         ensures { IsPartOf (known_set self.new) (set_after images.now (known_set self.old)) }
     {
         match images {
             [] => {}
             [image, others @ ..] => {
-                self.follow(alloc, others);
+                self.follow_each(alloc, others);
                 self.follow_one(alloc, image);
             }
         }
     }
+
+    /// Follows a change of these sets, which was made: what is known then is so after it.
+    /// An image is known then, where it has the bugs of a set that is known, or each of its bugs is
+    /// in none or in one by itself; otherwise, and where there are more than 200 images, or no room
+    /// or no memory, all is forgotten.
+    pub fn follow(&mut self, alloc: Global, images: &[SetImage])
+        ensures { IsPartOf (known_set self.new) (set_after images.now (known_set self.old)) }
+    {
+        if images.len() > MOST_IMAGES {
+            self.forget(alloc);
+        } else {
+            self.follow_each(alloc, images);
+        }
+    }
+
     /// The same of the change of a line, if there is one.
     pub fn follow_line(&mut self, alloc: Global, change: Option<&Change>)
         ensures { IsPartOf (known_set self.new) (followed (option_copied change.entry) (known_set self.old)) }
