@@ -1,6 +1,6 @@
 //! Texts, number words, and lines of messages.
 
-ghost use Rattle.command_grammar.specs.WellFormed.{IsWellFormed, IsWellFormedLine};
+ghost use Rattle.control_text.specs.WellFormed.{IsWellFormed, IsWellFormedLine};
 
 use bug_record::{Command, is_text};
 use control_text::{Line, LineFault, Named, number_word, read_line, write_command};

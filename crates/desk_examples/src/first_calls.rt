@@ -1,7 +1,7 @@
 //! The first calls of the crates that others may want by themselves.
 //! The page CALLING.md beside each of these crates has its lines of them.
 
-ghost use Rattle.command_grammar.specs.WellFormed.{IsWellFormed, IsWellFormedLine};
+ghost use Rattle.control_text.specs.WellFormed.{IsWellFormed, IsWellFormedLine};
 
 use crate::answers::shown;
 use ancestry::{BranchFault, Tree, status};
