@@ -30,11 +30,11 @@ module _ (t : Ancestry) (n : Node) (v : Option Node) where
   pub parent_put : parent_of put n ≡ v
   parent_put = ap option_flatten (known_put t n v)
 
-  parent_others : (q : Node) → same_node q n ≡ false → parent_of put q ≡ parent_of t q
+  pub parent_others : (q : Node) → same_node q n ≡ false → parent_of put q ≡ parent_of t q
   parent_others q other = ap option_flatten (known_others t n v q other)
 
 module _ (t : Ancestry) (n : Node) (unknown : knows t n ≡ false) where
-  learnt_parents : (q : Node) → parent_of (insert_entry node_cmp t n None) q ≡ parent_of t q
+  pub learnt_parents : (q : Node) → parent_of (insert_entry node_cmp t n None) q ≡ parent_of t q
   learnt_parents q =
       ⊎_elim
       (λ yes. let is = same_true q n yes in

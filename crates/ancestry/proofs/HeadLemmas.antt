@@ -213,8 +213,8 @@ filter-append p (x ∷ xs) ys =
     elim (p x) as (λ b. cond b (x ∷ filter p (xs ++ ys)) (filter p (xs ++ ys)) ≡ cond b (x ∷ filter p xs) (filter p xs) ++ filter p ys)
     [ true ↦ ap (λ ns. x ∷ ns) (filter-append p xs ys) | false ↦ filter-append p xs ys ]
 
--- The heads so far, the last node if it is one, and those among the links that are left, are all; no
--- link is before the package.
+-- The heads so far, the last node if it is one, and those among the links that are left, are all.
+-- No link is before the package.
 pub record Left (t : Ancestry) (source : List ℕ) (found : List Node) (last : Option Node) (rest : Ancestry) : Type 0 where
   pub all : found ++ filter (is_head t source) (listed last ++ keys_of rest) ≡ heads t source
   pub own : AllByRecursion (λ n. bytes_eq n.source source ≡ true) (listed last)

@@ -3,6 +3,7 @@ pub mod LineLemmas
 pub mod WalkLemmas
 pub mod BranchLemmas
 pub mod ParentLemmas
+pub mod AboveLemmas
 pub mod LowestLemmas
 pub mod HeadLemmas
 pub mod HeightLemmas

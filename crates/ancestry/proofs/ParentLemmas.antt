@@ -5,14 +5,14 @@ use Rattle.std.proofs.Common.{⊎_elim, arith, ◌≤◌, drop_of_length-le}
 use Rattle.std.proofs.lemmas.Bool.{cases_Bool, and_right}
 use Rattle.std.proofs.lemmas.List.{at_drop_more, get_or-map, length-map}
 use Rattle.std.specs.BTreeMap.{insert_entry}
-use Rattle.std.specs.BTreeSet.{BTreeSet, contains}
+use Rattle.std.specs.HashSet.{HashSet, contains}
 use Rattle.std.specs.Option.{option_flatten, option_map_or}
 use Rattle.std.specs.Ordering.{is_eq}
 use Rattle.version_nodes.specs.Nodes.{Node, same_node, node_cmp}
 use Rattle.version_nodes.specs.Trees.{Ancestry, has_node, known_at, knows, parent_of, line, is_ancestor, is_parent}
 use Rattle.ancestry.specs.Branches.{learn, with_parent, base_on}
 use Rattle.ancestry.specs.Kept.{AreParents, Adds}
-use Rattle.version_nodes.proofs.NodeLemmas.{same_true, same_itself, same_back, ties_same, put_step}
+use Rattle.version_nodes.proofs.NodeLemmas.{same_true, same_itself, same_back, put_step}
 use Rattle.ancestry.proofs.LineLemmas.{unknown_has_none}
 
 -- ---- the parents of the links
@@ -98,26 +98,26 @@ adds_base t u nodes n p here h = by_tests (is_ancestor t p n) (parent_of t n) re
 -- ---- the set of the parents
 
 -- a node that becomes known changes nothing
-pub kept_learnt : (t : Ancestry) (n : Node) (s : BTreeSet Node) → knows t n ≡ false → AreParents t s
+pub kept_learnt : {S : Type 0} (t : Ancestry) (n : Node) (s : HashSet Node S) → knows t n ≡ false → AreParents t s
     → AreParents (insert_entry node_cmp t n None) s
 kept_learnt t n s off are q = are q ∙ sym (parents_put t n None q (unknown_has_none t n off))
 
 -- the parent of a node that had none is put in
-pub kept_based : (t : Ancestry) (n p : Node) (s s' : BTreeSet Node) → parent_of t n ≡ None → AreParents t s
-    → ((q : Node) → contains node_cmp s' q ≡ cond (is_eq (node_cmp p q)) true (contains node_cmp s q))
+pub kept_based : {S : Type 0} (t : Ancestry) (n p : Node) (s s' : HashSet Node S) → parent_of t n ≡ None → AreParents t s
+    → ((q : Node) → contains same_node s' q ≡ cond (same_node p q) true (contains same_node s q))
     → AreParents (with_parent t n p) s'
 kept_based t n p s s' root are made q =
     ⊎_elim
-    (λ yes. made q ∙ ap (λ b. cond b true (contains node_cmp s q)) (ties_same p q ∙ yes)
+    (λ yes. made q ∙ ap (λ b. cond b true (contains same_node s q)) yes
     ∙ sym (parents_put t n (Some p) q root
     ∙ ap (λ b. b || is_parent t q) (ap (λ m. same_node q m) (same_true p q yes) ∙ same_itself q)))
-    (λ other. made q ∙ ap (λ b. cond b true (contains node_cmp s q)) (ties_same p q ∙ other) ∙ are q
+    (λ other. made q ∙ ap (λ b. cond b true (contains same_node s q)) other ∙ are q
     ∙ sym (parents_put t n (Some p) q root ∙ ap (λ b. b || is_parent t q) (same_back p q other)))
     (cases_Bool (same_node p q))
 
 -- what a branch adds to the parents, it adds to the set
-pub adds_kept : (was : Node → Bool) (nodes : List Node) (t : Ancestry) (s : BTreeSet Node) → Adds was nodes (is_parent t)
-    → AreParents t s → Adds was nodes (contains node_cmp s)
+pub adds_kept : {S : Type 0} (was : Node → Bool) (nodes : List Node) (t : Ancestry) (s : HashSet Node S) → Adds was nodes (is_parent t)
+    → AreParents t s → Adds was nodes (contains same_node s)
 adds_kept was nodes t s a are q off = are q ∙ a q off
 
 -- ---- putting back
@@ -133,12 +133,12 @@ stays was n nodes f had a q off =
 
 -- a node that was none is taken out
 goes : (was : Node → Bool) (n : Node) (nodes : List Node) (f g : Node → Bool) → was n ≡ false
-    → ((q : Node) → g q ≡ cond (is_eq (node_cmp n q)) false (f q)) → Adds was (n ∷ nodes) f → Adds was nodes g
+    → ((q : Node) → g q ≡ cond (same_node n q) false (f q)) → Adds was (n ∷ nodes) f → Adds was nodes g
 goes was n nodes f g lacked made a q off =
     ⊎_elim
-    (λ is. made q ∙ ap (λ b. cond b false (f q)) (ties_same n q ∙ ap (same_node n) (same_true q n is) ∙ same_itself n)
+    (λ is. made q ∙ ap (λ b. cond b false (f q)) (ap (same_node n) (same_true q n is) ∙ same_itself n)
     ∙ sym (ap was (same_true q n is) ∙ lacked))
-    (λ other. made q ∙ ap (λ b. cond b false (f q)) (ties_same n q ∙ same_back q n other)
+    (λ other. made q ∙ ap (λ b. cond b false (f q)) (same_back q n other)
     ∙ a q (ap (λ b. (b || has_node nodes q) && not (was q)) other ∙ off))
     (cases_Bool (same_node q n))
 
@@ -156,7 +156,7 @@ module _ (was : Node → Bool) (nodes : List Node) (were : List Bool) (i : ℕ) 
   pub forget_none : (f : Node → Bool) → b ≡ true → Adds was (drop i nodes) f → Adds was (drop (i + 1) nodes) f
   forget_none f had a = stays was n (drop (i + 1) nodes) f (was_so ∙ had) (split f a)
 
-  pub forget_one : (f g : Node → Bool) → b ≡ false → ((q : Node) → g q ≡ cond (is_eq (node_cmp n q)) false (f q))
+  pub forget_one : (f g : Node → Bool) → b ≡ false → ((q : Node) → g q ≡ cond (same_node n q) false (f q))
       → Adds was (drop i nodes) f → Adds was (drop (i + 1) nodes) g
   forget_one f g lacked made a = goes was n (drop (i + 1) nodes) f g (was_so ∙ lacked) made (split f a)
 

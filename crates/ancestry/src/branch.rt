@@ -1,15 +1,15 @@
 //! Branches: lists of nodes, each based on the next.
 
-ghost use Rattle.std.specs.Prelude.{◌≡◌, Bool, true, false, List, [], ◌∷◌, None, Some, Ok, Err, map, option_map, All, IfOk, OnOk};
+ghost use Rattle.std.specs.Prelude.{◌≡◌, Bool, true, false, List, [], ◌∷◌, None, Some, is_some, Ok, Err, map, option_map, All, IfOk, OnOk};
 ghost use Rattle.std.specs.Prelude.{OnErr, if◌then◌else◌};
 ghost use Rattle.std.specs.List.Sorted.{IsStrictlySortedBy};
-ghost use Rattle.std.specs.BTreeSet.{contains};
+ghost use Rattle.std.specs.HashMap.{get};
+ghost use Rattle.std.specs.HashSet.{contains};
 ghost use Rattle.std.specs.Map.{keys_of};
-ghost use Rattle.std.specs.Ordering.{is_eq};
 ghost use Rattle.version_nodes.specs.Nodes.{Node, same_node, node_cmp};
 ghost use Rattle.version_nodes.specs.Trees.{Ancestry, has_node, known_at, knows, parent_of, line, is_ancestor, is_parent, IsForest};
 ghost use Rattle.ancestry.specs.Branches.{learn, learn_all, with_parent, or_conflict, base_on, base_all, is_repeat, first_repeat};
-ghost use Rattle.ancestry.specs.Branches.{branched, IsBranched, TakesMemory, AreBased, Extends};
+ghost use Rattle.ancestry.specs.Branches.{branched, IsBranched, TakesMemory, AreBased, may_change, Extends};
 ghost use Rattle.ancestry.specs.Changes.{Makes, past_of};
 ghost use Rattle.ancestry.specs.Kept.{Adds};
 ghost use Rattle.ancestry.specs.declared.fault.BranchFault.TheVariants.{Memory};
@@ -17,7 +17,7 @@ ghost use Rattle.ancestry.specs.declared.fault.BranchFault.TheVariants.{Memory};
 use crate::fault::BranchFault;
 use crate::tree::Tree;
 use std::alloc::AllocError;
-use std::collections::{BTreeMap, BTreeSet};
+use std::collections::{BTreeMap, HashMap, HashSet};
 use version_nodes::Node;
 
 // How many nodes a branch has at most.
@@ -52,13 +52,53 @@ fn first_repeat(nodes: &[Node]) -> Option<usize>
 }
 
 // Puts a copy of a node among the parents.
-fn mark_parent(parents: &mut BTreeSet<Node>, node: &Node) -> Result<(), AllocError>
-    ensures ok { OnOk result ((n : Node) → contains node_cmp parents.new n
-        ≡ (if is_eq (node_cmp node.now n) then true else contains node_cmp parents.old n)) }
-    ensures err { OnErr result ((n : Node) → contains node_cmp parents.new n ≡ contains node_cmp parents.old n) }
+fn mark_parent(parents: &mut HashSet<Node>, node: &Node) -> Result<(), AllocError>
+    ensures ok { OnOk result ((n : Node) → contains same_node parents.new n
+        ≡ (if same_node node.now n then true else contains same_node parents.old n)) }
+    ensures err { OnErr result ((n : Node) → contains same_node parents.new n ≡ contains same_node parents.old n) }
 {
     parents.insert(node.copy()?)?;
     Ok(())
+}
+
+// Puts a copy of a node's parent where it is found by the node's texts.
+pub(crate) fn put_above(
+    above: &mut HashMap<Node, Node>,
+    node: &Node,
+    parent: &Node,
+) -> Result<(), AllocError>
+    ensures ok { OnOk result ((n : Node) → get same_node above.new n
+        ≡ (if same_node node.now n then Some parent.now else get same_node above.old n)) }
+    ensures err { OnErr result ((n : Node) → get same_node above.new n ≡ get same_node above.old n) }
+{
+    above.insert(node.copy()?, parent.copy()?)?;
+    Ok(())
+}
+
+// Puts the parent of a node that has none where it is found by the node's texts, and among the
+// parents; where there is no memory, both are as before.
+fn note_parent(
+    above: &mut HashMap<Node, Node>,
+    parents: &mut HashSet<Node>,
+    node: &Node,
+    parent: &Node,
+) -> Result<(), AllocError>
+    requires { get same_node above.old node.now ≡ None }
+    ensures above { OnOk result ((n : Node) → get same_node above.new n
+        ≡ (if same_node node.now n then Some parent.now else get same_node above.old n)) }
+    ensures parents { OnOk result ((n : Node) → contains same_node parents.new n
+        ≡ (if same_node parent.now n then true else contains same_node parents.old n)) }
+    ensures no_above { OnErr result ((n : Node) → get same_node above.new n ≡ get same_node above.old n) }
+    ensures no_parents { OnErr result ((n : Node) → contains same_node parents.new n ≡ contains same_node parents.old n) }
+{
+    put_above(above, node, parent)?;
+    match mark_parent(parents, parent) {
+        Ok(()) => Ok(()),
+        Err(error) => {
+            above.remove(node);
+            Err(error)
+        }
+    }
 }
 
 // Gives a node its parent.
@@ -114,13 +154,40 @@ fn put_back(links: &mut BTreeMap<Node, Option<Node>>, nodes: &[Node], pasts: &[P
 
 // Takes out of the parents those nodes that were not among them before a branch.
 // This takes no memory.
-fn forget_parents(parents: &mut BTreeSet<Node>, nodes: &[Node], were: &[bool])
-    ensures { (was : Node → Bool) → were.now ≡ map was nodes.now → Adds was nodes.now (contains node_cmp parents.old)
-        → (n : Node) → contains node_cmp parents.new n ≡ was n }
+fn forget_parents(parents: &mut HashSet<Node>, nodes: &[Node], were: &[bool])
+    ensures { (was : Node → Bool) → were.now ≡ map was nodes.now → Adds was nodes.now (contains same_node parents.old)
+        → (n : Node) → contains same_node parents.new n ≡ was n }
 {
     for (node, was) in nodes.iter().zip(were) {
         if !*was {
             parents.remove(node);
+        }
+    }
+}
+
+// Whether a node has a parent in these links.
+fn has_parent(links: &BTreeMap<Node, Option<Node>>, node: &Node) -> bool
+    ensures { result ≡ is_some (parent_of links.now.entries node.now) }
+{
+    match links.get(node) {
+        Some(parent) => parent.is_some(),
+        None => false,
+    }
+}
+
+// Takes the parents away of those nodes that have none in these links.
+// This takes no memory.
+fn forget_above(
+    above: &mut HashMap<Node, Node>,
+    links: &BTreeMap<Node, Option<Node>>,
+    nodes: &[Node],
+)
+    ensures { ((n : Node) → may_change links.now.entries nodes.now n ≡ false → get same_node above.old n ≡ parent_of links.now.entries n)
+        → (n : Node) → get same_node above.new n ≡ parent_of links.now.entries n }
+{
+    for node in nodes {
+        if !has_parent(links, node) {
+            above.remove(node);
         }
     }
 }
@@ -219,9 +286,9 @@ impl Tree {
         ensures err { OnErr result (self.new ≡ self.old) }
     {
         let child = node.copy()?;
-        let above = parent.copy()?;
-        mark_parent(&mut self.parents, parent)?;
-        link(&mut self.links, child, above)
+        let own = parent.copy()?;
+        note_parent(&mut self.above, &mut self.parents, node, parent)?;
+        link(&mut self.links, child, own)
     }
 
     // Bases a node, which has this place in a branch, on another.
@@ -323,6 +390,7 @@ impl Tree {
             Err(fault) => {
                 put_back(&mut self.links, nodes, pasts.as_slice());
                 forget_parents(&mut self.parents, nodes, were_parents.as_slice());
+                forget_above(&mut self.above, &self.links, nodes);
                 Err(fault)
             }
         }

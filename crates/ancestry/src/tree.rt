@@ -8,7 +8,7 @@ ghost use Rattle.version_nodes.specs.Nodes.{node_cmp, same_node};
 ghost use Rattle.version_nodes.specs.Trees.{no_nodes, knows, parent_of, IsLine, line, is_parent, heads, IsForest};
 
 use std::alloc::{AllocError, Global};
-use std::collections::{BTreeMap, BTreeSet};
+use std::collections::{BTreeMap, HashMap, HashSet};
 use std::marker::Model;
 use version_nodes::{Node, NodeFault};
 
@@ -19,20 +19,23 @@ use version_nodes::{Node, NodeFault};
 #[derive(Drop)]
 pub struct Tree {
     pub(crate) links: BTreeMap<Node, Option<Node>>,
+    // The parents once more: a node is found by its texts, and its version is not compared.
+    pub(crate) above: HashMap<Node, Node>,
     // The nodes that are some node's parent, whatever the source of that one.
-    pub(crate) parents: BTreeSet<Node>,
+    pub(crate) parents: HashSet<Node>,
     pub(crate) alloc: Global,
 }
 
 impl Model for Tree {
     ghost use Rattle.version_nodes.specs.Trees.{Ancestry, IsForest};
-    ghost use Rattle.ancestry.specs.Kept.{AreParents};
+    ghost use Rattle.ancestry.specs.Kept.{AreParents, HasParents};
 
     ghost Value = { Ancestry };
 
     ghost view = { λ t. t.links.entries };
 
-    ghost invariant = { λ t. IsForest t.links.entries × AreParents t.links.entries t.parents };
+    ghost invariant = { λ t. IsForest t.links.entries × AreParents t.links.entries t.parents
+        × HasParents t.links.entries t.above };
 }
 
 // Whether this node is the given one.
@@ -52,7 +55,8 @@ impl Tree {
     {
         Tree {
             links: BTreeMap::new(alloc),
-            parents: BTreeSet::new(alloc),
+            above: HashMap::new(alloc),
+            parents: HashSet::new(alloc),
             alloc,
         }
     }
@@ -79,10 +83,7 @@ impl Tree {
         ensures value { option_copied result ≡ parent_of self.now node.now }
         ensures forest { IsForest self.now }
     {
-        match self.links.get(node) {
-            Some(Some(parent)) => Some(parent),
-            _ => None,
-        }
+        self.above.get(node)
     }
 
     /// The line of a node: copies of the node, its parent, and so on to one that has none.
@@ -139,8 +140,7 @@ impl Tree {
     /// A text that is no package name has none.
     /// The error is that there was no memory.
     /// It goes through the known nodes of that package alone, up to the one after them; to find the
-    /// first, and whether one is a parent that is not the parent of the next node, is a look-up in
-    /// a sorted map.
+    /// first is a look-up in a sorted map.
     pub fn heads(&self, source: &str) -> Result<Vec<Node>, AllocError>
         ensures value { IfOk result (λ nodes. nodes.items ≡ heads self.now source.now) }
         ensures ascending { IfOk result (λ nodes. IsStrictlySortedBy node_cmp nodes.items) }

@@ -2,18 +2,20 @@
 
 ghost use Rattle.std.specs.Prelude.{◌≡◌, true, false, Some, IfOk, IfSome};
 ghost use Rattle.std.specs.BTreeMap.{IsFromIterResult};
-ghost use Rattle.std.specs.BTreeSet.{contains};
+ghost use Rattle.std.specs.HashSet.{contains};
 ghost use Rattle.std.specs.List.Sorted.{IsPermutation};
 ghost use Rattle.std.specs.Option.{option_copied, option_map_or};
 ghost use Rattle.std.specs.Ordering.{is_lt};
 ghost use Rattle.version_nodes.specs.Nodes.{Node, same_node, node_cmp};
 ghost use Rattle.version_nodes.specs.Trees.{Ancestry, has_node, known_at, knows, parent_of, is_parent, IsForest};
+ghost use Rattle.ancestry.specs.Kept.{HasParents};
 ghost use Rattle.ancestry.specs.Whole.{HasLine, Stands};
 
+use crate::branch::put_above;
 use crate::tree::Tree;
 use std::alloc::{AllocError, Global};
 use std::cmp::Ordering;
-use std::collections::{BTreeMap, BTreeSet};
+use std::collections::{BTreeMap, HashMap, HashSet};
 use version_nodes::Node;
 
 // The node's parent in these links, where it is known and has one.
@@ -122,10 +124,26 @@ fn all_parents(alloc: Global, links: &BTreeMap<Node, Option<Node>>) -> Result<Ve
 }
 
 // These nodes as a set.
-fn set_of(alloc: Global, nodes: Vec<Node>) -> Result<BTreeSet<Node>, AllocError>
-    ensures { IfOk result (λ set. (n : Node) → contains node_cmp set n ≡ has_node nodes.items n) }
+fn set_of(alloc: Global, nodes: Vec<Node>) -> Result<HashSet<Node>, AllocError>
+    ensures { IfOk result (λ set. (n : Node) → contains same_node set n ≡ has_node nodes.items n) }
 {
     nodes.into_iter().collect(alloc)
+}
+
+// The parent of each node that has one in links.
+fn parents_above(
+    alloc: Global,
+    links: &BTreeMap<Node, Option<Node>>,
+) -> Result<HashMap<Node, Node>, AllocError>
+    ensures { IfOk result (HasParents links.now.entries) }
+{
+    let mut above = HashMap::new(alloc);
+    for (node, parent) in links {
+        if let Some(parent) = parent {
+            put_above(&mut above, node, parent)?;
+        }
+    }
+    Ok(above)
 }
 
 // The order of two links by the texts of their nodes alone: by the sources, and then the shorter
@@ -181,9 +199,11 @@ impl Tree {
         if !are_forest(&links) {
             return Ok(None);
         }
+        let above = parents_above(alloc, &links)?;
         let parents = set_of(alloc, all_parents(alloc, &links)?)?;
         Ok(Some(Tree {
             links,
+            above,
             parents,
             alloc,
         }))

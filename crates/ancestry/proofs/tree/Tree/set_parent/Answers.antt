@@ -3,7 +3,8 @@ use Rattle.std.proofs.lemmas.Grind.{common_steps}
 use Rattle.version_nodes.specs.Nodes.{Node}
 use Rattle.version_nodes.specs.Trees.{Ancestry, knows, IsForest}
 use Rattle.ancestry.specs.Branches.{with_parent}
-use Rattle.ancestry.specs.Kept.{AreParents}
+use Rattle.ancestry.specs.Kept.{AreParents, HasParents}
+use Rattle.ancestry.proofs.AboveLemmas.{above_based}
 use Rattle.ancestry.proofs.BranchLemmas.{based_forest}
 use Rattle.ancestry.proofs.ParentLemmas.{kept_based}
 use Rattle.ancestry.proofs.tree.Tree.set_parent.Goals as goal
@@ -28,13 +29,20 @@ invariant_of-self-2 c =
     let p = c.args.parent.now in
     let r = c.requires in
     let same = linked c.link.result t _ c.link.new.links.entries n p _ _ c.self.view_is c.in_ok-child.ensures.value
-    c.in_ok-above.ensures.value r.knows_node c.link.ensures.ok c.link.ensures.err in
+    c.in_ok-own.ensures.value r.knows_node c.link.ensures.ok c.link.ensures.err in
     let were = subst (λ u. AreParents u c.self.inside.parents) c.self.view_is c.self.invariant.1 in
-    let based = kept_based t n p c.self.inside.parents c.mark_parent.new.parents r.root were c.in_ok-mark_parent.ensures.ok in (
+    let based = kept_based t n p c.self.inside.parents c.note_parent.new.parents r.root were c.in_ok-note_parent.ensures.parents in
+    let has = above_based t n p c.self.inside.above c.note_parent.new.above (subst (λ u. HasParents u c.self.inside.above) c.self.view_is c.self.invariant.2)
+    c.in_ok-note_parent.ensures.above in (
       subst IsForest (sym same)
           (based_forest t n p (subst IsForest c.self.view_is c.self.invariant.0) r.knows_node r.knows_parent r.root r.apart),
-      subst (λ u. AreParents u c.mark_parent.new.parents) (sym same) based,
+      subst (λ u. AreParents u c.note_parent.new.parents) (sym same) based,
+      subst (λ u. HasParents u c.note_parent.new.above) (sym same) has,
     )
+
+pub note_parent-requires : goal.note_parent-requires
+note_parent-requires c =
+    subst (λ u. HasParents u c.self.inside.above) c.self.view_is c.self.invariant.2 c.args.node.now ∙ c.requires.root
 
 pub returns-clause-forest : goal.returns-clause-forest
 returns-clause-forest c = on_ok _ (invariant_of-self-2 c).0
@@ -48,5 +56,5 @@ returns-clause-err c = grind (arith, common_steps)
 pub returns-clause-ok : goal.returns-clause-ok
 returns-clause-ok c = grind (arith, common_steps)
 
-pub returns-in_err-mark_parent-clause-err : goal.returns-in_err-mark_parent-clause-err
-returns-in_err-mark_parent-clause-err c = grind (arith, common_steps)
+pub returns-in_err-note_parent-clause-err : goal.returns-in_err-note_parent-clause-err
+returns-in_err-note_parent-clause-err c = grind (arith, common_steps)

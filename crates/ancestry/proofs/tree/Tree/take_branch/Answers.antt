@@ -1,7 +1,8 @@
-use Rattle.std.proofs.Common.{refl, sym, ap, ◌∙◌, subst, arith}
+use Rattle.std.proofs.Common.{◌≡◌, false, refl, sym, ap, ◌∙◌, subst, arith}
 use Rattle.std.proofs.lemmas.Grind.{common_steps}
-use Rattle.version_nodes.specs.Trees.{is_parent, IsForest}
-use Rattle.ancestry.specs.Branches.{Extends}
+use Rattle.std.specs.Option.{option_flatten}
+use Rattle.version_nodes.specs.Trees.{parent_of, is_parent, IsForest}
+use Rattle.ancestry.specs.Branches.{may_change, Extends}
 use Rattle.ancestry.specs.Kept.{Adds}
 use Rattle.ancestry.proofs.ParentLemmas.{adds_kept}
 use Rattle.ancestry.proofs.TakeLemmas.{branched_empty, branched_long, branched_repeated, branched_taken, taken_takes, refused}
@@ -41,7 +42,13 @@ invariant_of-self c =
     let added = subst (λ w. Adds (is_parent t) nodes (is_parent w)) (sym c.self-2.view_is) c.take_all.ensures.parents in
     let parents = c.forget_parents.ensures (is_parent t) (c.as_slice-in-Err.ensures.value ∙ c.in-Ok-are_parents.ensures)
     (adds_kept (is_parent t) nodes u c.self-2.inside.parents added c.self-2.invariant.1) in
-    (subst IsForest (sym same) forest, λ n. parents n ∙ ap (λ w. is_parent w n) (sym same))
+    let extends = subst (Extends t nodes) (sym c.self-2.view_is) c.take_all.ensures.extends in (
+      subst IsForest (sym same) forest,
+      λ n. parents n ∙ ap (λ w. is_parent w n) (sym same),
+      c.forget_above.ensures (λ n off. c.self-2.invariant.2 n
+          ∙ ap option_flatten (extends.others n (subst (λ w. may_change w nodes n ≡ false) same off))
+          ∙ ap (λ w. parent_of w n) (sym same)),
+    )
 
 pub returns-clause-exact : goal.returns-clause-exact
 returns-clause-exact c =
