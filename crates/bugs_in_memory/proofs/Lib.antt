@@ -5,3 +5,4 @@ pub mod PlaceLemmas
 pub mod PassingLemmas
 pub mod AfterLemmas
 pub mod FreshLemmas
+pub mod NamedLemmas

@@ -4,3 +4,4 @@ pub mod Plain
 -- definitions that only private functions cite
 pub mod Passing
 pub mod PlacesOfImages
+pub mod Named

@@ -6,6 +6,7 @@ mod bug_sets;
 mod fresh;
 mod heads;
 mod lists;
+mod named;
 mod passing;
 mod places;
 mod waiting;

@@ -5,7 +5,6 @@ ghost use Rattle.std.specs.Prelude.{◌≡◌, ℕ, Some, None, [], ◌∷◌, f
 ghost use Rattle.std.specs.Prelude.{OnErr, ◌==◌, nat_eq, if◌then◌else◌};
 ghost use Rattle.std.specs.HashMap.{get};
 ghost use Rattle.std.specs.Option.{option_or, option_and_then, option_copied};
-ghost use Rattle.std.specs.Str.{bytes_eq};
 ghost use Rattle.bug_record.specs.Sets.{has};
 ghost use Rattle.bug_record.specs.Images.{numbers_of};
 ghost use Rattle.bugs_in_memory.specs.Keys.{IsKeyed};
@@ -14,6 +13,7 @@ ghost use Rattle.bugs_in_memory.specs.PlacesOfImages.{place_in, is_there, KeepsS
 
 use crate::fresh::fresh_numbers;
 use bug_record::{Member, SetImage};
+use set_images::same_numbers;
 use std::alloc::{AllocError, Global};
 use std::collections::HashMap;
 
@@ -37,21 +37,6 @@ pub(crate) fn image_of(bugs: &HashMap<u64, Place>, number: u64) -> Option<&SetIm
             Place::After(_) => None,
         },
     }
-}
-
-// Whether two lists of members have the same numbers.
-fn same_numbers(a: &[Member], b: &[Member]) -> bool
-    ensures { result ≡ bytes_eq (numbers_of a.now) (numbers_of b.now) }
-{
-    if a.len() != b.len() {
-        return false;
-    }
-    for i in 0..a.len() {
-        if a[i].number != b[i].number {
-            return false;
-        }
-    }
-    true
 }
 
 // Whether the image's members are those of the set whose image stands at the first of them.

@@ -8,16 +8,20 @@ ghost use Rattle.bugs_in_memory.specs.Plain.{desk_of};
 
 use crate::bug_sets::BugSets;
 use crate::passing::Question;
-use bug_record::Numbers;
+use bug_record::{Numbers, Sequence};
 use std::alloc::{AllocError, Global};
 
 impl BugSets {
     /// The bugs that wait on the bug of this number, ascending.
-    /// Each set is looked at once, not once for each of its bugs.
+    /// Where the number was never a blocker nothing is looked at, and else each set once, not once for
+    /// each of its bugs.
     pub fn waiting_on(&self, alloc: Global, number: u64) -> Result<Numbers, AllocError>
         ensures { (tree : Ancestry) (next : ℕ) → IsSound (desk_of self.now tree next)
             → IfOk result (λ numbers. numbers ≡ waiting_on (desk_of self.now tree next) number) }
     {
+        if !self.blockers.contains(&number) {
+            return Ok(Sequence::new(alloc));
+        }
         self.passing(alloc, Question::WaitsOn(number))
     }
 }

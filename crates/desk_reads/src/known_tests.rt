@@ -1,13 +1,12 @@
 //! The key of an image, and what is known of its bugs.
 
 ghost use Rattle.std.specs.Prelude.{◌≡◌};
-ghost use Rattle.std.specs.Str.{bytes_eq};
-ghost use Rattle.bug_record.specs.Images.{numbers_of};
 ghost use Rattle.bugs_in_memory.specs.Keys.{key_of};
 ghost use Rattle.desk_reads.specs.KnownTests.{is_unknown, is_alone, are_unknown, are_alone, is_known};
 
 use bug_record::{Member, SetImage};
 use bugs_in_memory::BugSets;
+use set_images::same_numbers;
 
 /// The number of an image's first bug, and 0 where it has none.
 pub(crate) fn key_of(image: &SetImage) -> u64
@@ -48,21 +47,6 @@ pub(crate) fn are_alone(bugs: &BugSets, members: &[Member]) -> bool
     ensures { result ≡ are_alone bugs.now members.now }
 {
     members.iter().all(|member| is_alone(bugs, member.number))
-}
-
-// Whether two lists of members have the same numbers.
-fn same_numbers(a: &[Member], b: &[Member]) -> bool
-    ensures { result ≡ bytes_eq (numbers_of a.now) (numbers_of b.now) }
-{
-    if a.len() != b.len() {
-        return false;
-    }
-    for i in 0..a.len() {
-        if a[i].number != b[i].number {
-            return false;
-        }
-    }
-    true
 }
 
 /// Whether the first of an image's bugs is in a set that is known and has the same bugs.

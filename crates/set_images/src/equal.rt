@@ -72,7 +72,7 @@ pub(crate) fn same_shared(a: &Shared, b: &Shared) -> bool
 }
 
 /// Whether the members are the same bugs, in the same order.
-pub(crate) fn same_numbers(a: &[Member], b: &[Member]) -> bool
+pub fn same_numbers(a: &[Member], b: &[Member]) -> bool
     ensures { result ≡ bytes_eq (numbers_of a.now) (numbers_of b.now) }
 {
     if a.len() != b.len() {

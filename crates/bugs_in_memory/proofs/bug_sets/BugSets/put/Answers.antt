@@ -1,15 +1,35 @@
 use Rattle.std.proofs.lemmas.Result.{on_ok_weaker, on_err_weaker}
 use Rattle.version_nodes.specs.Trees.{no_nodes}
-use Rattle.bugs_in_memory.proofs.AfterLemmas.{same_sets, sets_after, fit-put, bugs-after}
+use Rattle.std.specs.Prelude.{nat_eq}
+use Rattle.std.specs.HashSet.{contains}
+use Rattle.bugs_in_memory.specs.Places.{sets}
+use Rattle.bugs_in_memory.proofs.NamedLemmas.{named_put, named_still}
+use Rattle.bugs_in_memory.proofs.AfterLemmas.{keyed_by, same_sets, sets_after, fit-put, bugs-after}
 use Rattle.bugs_in_memory.proofs.bug_sets.BugSets.put.Goals as goal
 
-pub invariant_of-self : goal.invariant_of-self
-invariant_of-self c =
+pub invariant_of-self-2 : goal.invariant_of-self-2
+invariant_of-self-2 c =
     let old = c.args.self.now in
     record {
       keyed =
           fit-put old.places c.put_images.new.bugs c.args.images.now c.requires.apart (c.requires.whole no_nodes 0) old.keyed
           c.put_images.result c.put_images.ensures.ok c.put_images.ensures.err;
+      named =
+          named_put (keyed_by old.places) (keyed_by c.put_images.new.bugs) c.args.images.now (contains nat_eq old.blockers)
+          (contains nat_eq c.add_blockers.new.named) c.put_images.result old.named c.add_blockers.ensures.keeps
+          c.in_ok-add_blockers.ensures.adds
+          (on_ok_weaker c.put_images.result (sets_after old.places c.put_images.new.bugs c.args.images.now) c.put_images.ensures.ok)
+          (on_err_weaker c.put_images.result (same_sets c.put_images.new.bugs old.places) c.put_images.ensures.err);
+    }
+
+pub invariant_of-self : goal.invariant_of-self
+invariant_of-self c =
+    let old = c.args.self.now in
+    record {
+      keyed = old.keyed;
+      named =
+          named_still (sets old.places) (contains nat_eq old.blockers) (contains nat_eq c.add_blockers.new.named)
+          c.add_blockers.ensures.keeps old.named;
     }
 
 pub returns-clause-ok : goal.returns-clause-ok
