@@ -53,8 +53,8 @@ impl BugSets {
 
     /// Puts images of whole sets: each bug that they have is in the set of its image, and a number
     /// that was a key stays one only where it is the first of its image.
-    /// Where there is no memory, all is as before; only a new number, or one that was no blocker, can
-    /// want memory.
+    /// Where there is no memory, all is as before; only a new number, or one that was no blocker,
+    /// can want memory.
     /// One image that keeps its set, or has one bug alone, is put with one or two look-ups.
     pub fn put(&mut self, alloc: Global, images: &[SetImage]) -> Result<(), AllocError>
         requires apart { AreApart images.now }

@@ -13,8 +13,8 @@ use std::alloc::{AllocError, Global};
 
 impl BugSets {
     /// The bugs that wait on the bug of this number, ascending.
-    /// Where the number was never a blocker nothing is looked at, and else each set once, not once for
-    /// each of its bugs.
+    /// Where the number was never a blocker nothing is looked at, and else each set once, not once
+    /// for each of its bugs.
     pub fn waiting_on(&self, alloc: Global, number: u64) -> Result<Numbers, AllocError>
         ensures { (tree : Ancestry) (next : ℕ) → IsSound (desk_of self.now tree next)
             → IfOk result (λ numbers. numbers ≡ waiting_on (desk_of self.now tree next) number) }
