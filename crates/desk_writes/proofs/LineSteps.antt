@@ -1,6 +1,5 @@
 -- What the steps that keep an outcome come to together.
-use Rattle.std.proofs.Common.{◌≡◌, ◌≢◌, ℕ, List, Option, Some, None, Result, Ok, Err, sym, ap, subst, ◌∙◌}
-use Rattle.std.specs.Prelude.{⊤}
+use Rattle.std.proofs.Common.{◌≡◌, ◌≢◌, ℕ, List, Option, Some, None, Result, sym, ap, subst, ◌∙◌}
 use Rattle.sqlite.specs.State.{State}
 use Rattle.version_nodes.specs.Trees.{Ancestry}
 use Rattle.bug_record.specs.declared.bug.SetImage.{SetImage}

@@ -1,5 +1,5 @@
 -- The place behind the outcomes of a message.
-use Rattle.std.proofs.Common.{◌≡◌, ℕ, ◌+◌, max, suc, zero, Option, Some, None, IfSome, cond, List, [], ◌∷◌, ◌++◌, length, sym, refl, ap, subst, ◌∙◌, arith}
+use Rattle.std.proofs.Common.{◌≡◌, ℕ, ◌+◌, max, suc, zero, Option, Some, None, IfSome, cond, List, [], ◌∷◌, ◌++◌, length, sym, ap, subst, ◌∙◌, arith}
 use Rattle.std.proofs.lemmas.List.{length-append}
 use Rattle.bug_record.specs.Changed.{numbers_below}
 use Rattle.bug_record.specs.declared.command.Change.{Change}

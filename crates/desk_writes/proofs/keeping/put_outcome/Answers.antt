@@ -1,6 +1,5 @@
 use Rattle.sqlite.specs.Held.{state}
-use Rattle.std.proofs.Common.{◌≡◌, ◌≢◌, Err, rules}
-use Rattle.bug_record.specs.declared.outcome.StoreFault.TheVariants.{Foreign}
+use Rattle.std.proofs.Common.{◌≡◌, Err, rules}
 use Rattle.desk_writes.proofs.LineSteps.{line_put, line_failed}
 use Rattle.desk_writes.proofs.keeping.put_outcome.Goals as goal
 
