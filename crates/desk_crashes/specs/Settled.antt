@@ -11,8 +11,7 @@ use Rattle.bug_record.specs.Desk.{Desk}
 use Rattle.desk_content.specs.Content.{Content}
 use Rattle.desk_content.specs.Kept.{IsKeptContent}
 use Rattle.desk_content.specs.View.{desk_in, keeping_in}
-use Rattle.desk_tables.specs.Desk.{content_shown, desk_of, keeping_of}
-use Rattle.desk_reads.specs.Known.{known_set}
+use Rattle.desk_tables.specs.Desk.{content_shown, desk_of, keeping_of, remembered}
 use Rattle.desk_tables.specs.Kept.{IsKept}
 use Rattle.desk_tables.specs.Shown.{AreTablesOf, AreTablesUnder, HoldTables}
 use Rattle.bug_record.specs.declared.outcome.Outcome.{Outcome}
@@ -51,7 +50,7 @@ module _ {S : Type 0} (g : store.Ghosts S) where
 
   -- the tables are kept
   abbrev pub HasKeptTables : TableDesk S g → Type 0
-  HasKeptTables t = IsKept g t.last.value t.family (known_set t.known)
+  HasKeptTables t = IsKept g t.last.value t.family (remembered t)
 
   -- The tables are kept, and show this desk and what is kept of messages, and a crash at this
   -- moment leaves these tables and no others.

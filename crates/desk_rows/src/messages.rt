@@ -23,6 +23,7 @@ pub fn add_message<S: Alter>(
 ) -> Result<(), StoreFault>
     ensures same_reference { tx.new.conn.ghost_name ≡ tx.old.conn.ghost_name }
     ensures plays { Plays (PutMessage id.now from.now message.now) (state S.Store tx.old.conn.now) (state S.Store tx.new.conn.now) result }
+    ensures serves { Serves (state S.Store tx.old.conn.now) (state S.Store tx.new.conn.now) result }
 {
     written(tx.execute(
         "INSERT INTO messages VALUES (?1, ?2, ?3)",

@@ -20,6 +20,7 @@ pub fn add_outcome_number<S: Alter>(
 ) -> Result<(), StoreFault>
     ensures same_reference { tx.new.conn.ghost_name ≡ tx.old.conn.ghost_name }
     ensures plays { Plays (PutOutcomeNumber id.now place number) (state S.Store tx.old.conn.now) (state S.Store tx.new.conn.now) result }
+    ensures serves { Serves (state S.Store tx.old.conn.now) (state S.Store tx.new.conn.now) result }
 {
     written(tx.execute(
         "INSERT INTO outcome_numbers VALUES (?1, ?2, ?3)",

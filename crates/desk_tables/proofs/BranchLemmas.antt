@@ -1,9 +1,8 @@
 -- What a branch comes to, and leaves of what is remembered.
-use Rattle.desk_tables.proofs.Imports.{IsGrown, Branches, IsRefusal, content_seen, desk_seen, keeping_seen, IsKept, IsDesk, HasContent, AreTablesAfter, StillShows, IsChanged, IsTaken}
-use Rattle.desk_schema.proofs.Exports.{◌≡◌, ◌≢◌, ℕ, List, Option, Some, Result, Ok, Err, IsTrue, refl, sym, ap, subst, ◌∙◌, ⊤, Held, state, State, HasCleanDisk, Survives, survives_weaker, branched, IsBranched, Node, Ancestry, IsForest, StoreFault, Foreign, with_nodes, Content, IsKeptContent, desk_in, keeping_in, seen, none, acts_none}
+use Rattle.desk_tables.proofs.Imports.{IsGrown, Branches, IsRefusal, content_seen, desk_seen, keeping_seen, IsKept, Remembered, IsDesk, HasContent, AreTablesAfter, StillShows, IsChanged, IsTaken}
+use Rattle.desk_schema.proofs.Exports.{◌≡◌, ◌≢◌, List, Some, Result, Ok, Err, IsTrue, refl, sym, ap, subst, ◌∙◌, ⊤, Held, state, State, HasCleanDisk, Survives, survives_weaker, branched, IsBranched, Node, Ancestry, IsForest, StoreFault, Foreign, with_nodes, Content, IsKeptContent, desk_in, keeping_in, seen, none, acts_none}
 use Rattle.sqlite_trees.specs.declared.store.Store as store
 use Rattle.ancestry.specs.declared.fault.BranchFault.{BranchFault}
-use Rattle.bug_record.specs.declared.bug.SetImage.{SetImage}
 use Rattle.ancestry.specs.declared.fault.BranchFault.TheVariants.{Memory}
 use Rattle.desk_content.proofs.QuestionLemmas.{branch_kept}
 use Rattle.desk_tables.proofs.StillLemmas.{shows_now, still_same}
@@ -107,7 +106,7 @@ refused refusal = Ok (Err refusal)
 abbrev pub faulty : StoreFault → Answer
 faulty fault = Err fault
 
-module _ {S : Type 0} (g : store.Ghosts S) (last old new : Held S) (t u : Ancestry) (known : ℕ → Option SetImage) (nodes : List Node) (stays : StillShows (state g last) (state g old)) where
+module _ {S : Type 0} (g : store.Ghosts S) (last old new : Held S) (t u : Ancestry) (known : Remembered) (nodes : List Node) (stays : StillShows (state g last) (state g old)) where
   abbrev c : Content
   c = content_seen g last
 
@@ -134,7 +133,7 @@ module _ {S : Type 0} (g : store.Ghosts S) (last old new : Held S) (t u : Ancest
   noted_anew last' h forest is = record {
     kept = λ was clean.
         let d = done was clean in
-        noted_kept g last' new (Some u) known (with_nodes u c) is (says was clean) (λ _ o. (d.1, d.2)) (branch_kept c u was.content forest) refl was.known;
+        noted_kept g last' new (Some u) known (with_nodes u c) is (says was clean) (λ _ o. (d.1, d.2)) (branch_kept c u was.content forest) refl (record { sets = was.known.sets; place = was.known.place });
     desk = λ was clean.
         subst (λ k. Branches (desk_seen g last) (desk_in k) taken nodes) (sym (says was clean))
         (subst (λ n. branched n nodes ≡ Ok u) was.tree h.answer.0, refl);

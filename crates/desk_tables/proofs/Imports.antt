@@ -5,13 +5,13 @@ pub use Rattle.desk_migrations.specs.Making.{AreUnder, Builds, IsBlank, IsDeskOf
 pub use Rattle.desk_migrations.specs.Number.{ReadsSchema, Says}
 pub use Rattle.desk_store.specs.Crashes.{Holding}
 pub use Rattle.desk_store.specs.Store.{Answers, AreWaitingOn, Branches, IsImageOf, IsRefusal, Keeps, MayBeKept, with_change}
-pub use Rattle.desk_tables.specs.Desk.{HasKeptTables, LeavesTables, content_shown, state_of}
+pub use Rattle.desk_tables.specs.Desk.{HasKeptTables, LeavesTables, content_shown, remembered, state_of}
 pub use Rattle.desk_tables.specs.Files.{HoldCopy, HoldDesk, IsFoundIn, LeaveDesk}
-pub use Rattle.desk_tables.specs.Kept.{AreKnown, IsIdle, IsKept, desk_seen, keeping_seen}
+pub use Rattle.desk_tables.specs.Kept.{AreKnown, AreRemembered, IsIdle, IsKept, Remembered, desk_seen, keeping_seen}
 unfoldable pub use Rattle.desk_tables.specs.Kept.{content_seen}
 pub use Rattle.desk_tables.specs.Opening.{IsLeft, IsReason, SaysEarlier, unlimited}
 pub use Rattle.desk_tables.specs.Shown.{AreTablesAfter, AreTablesHolding, AreTablesOf, AreTablesUnder, HasContent, HasContentUnder, HoldTables, HoldsContent, IsDesk, LeavesOf}
 pub use Rattle.desk_tables.specs.Still.{IsAsBefore, StillShows}
 pub use Rattle.desk_tables.specs.Transactions.{AsksInside, AsksSchema, Ends, IsAsked, IsCarried, IsChanged, IsCommitFault, IsDone, IsFound, IsMade, IsRecognised, IsTaken}
 pub use Rattle.desk_tables.specs.declared.open_fault.OpenFault.TheVariants.{NewerSchema, NotADesk, NotEmpty, Store}
-pub use Rattle.desk_writes.specs.Needs.{HasTree, HasTreeIfAny, IsKnownIn}
+pub use Rattle.desk_writes.specs.Needs.{HasTree, HasTreeIfAny, IsKnownIn, IsNextPlace, IsPlaceIn}

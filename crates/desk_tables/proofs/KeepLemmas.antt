@@ -1,5 +1,5 @@
 -- What an outcome that is kept leaves of what is remembered.
-use Rattle.desk_tables.proofs.Imports.{AreKnown, HasTreeIfAny, IsKnownIn, Keeps, MayBeKept, with_change}
+use Rattle.desk_tables.proofs.Imports.{AreKnown, HasTreeIfAny, IsKnownIn, IsNextPlace, Keeps, MayBeKept, with_change}
 use Rattle.desk_schema.proofs.Exports.{◌≡◌, ℕ, List, Option, None, Some, refl, ap, ◌∙◌, Ancestry, IsText, IfGiven, HasMember, FitsDesk, Each, Change, Outcome, FitsContent, cleared_for, Content, MayBePut, changed_by, kept_after, IsKeptContent, desk_in, keeping_in, after_keeping, after_kept, change_desk, put_nodes, no_nodes}
 use Rattle.bug_record.specs.Images.{AreApart}
 use Rattle.bug_record.specs.declared.bug.SetImage.{SetImage}
@@ -32,16 +32,16 @@ line_known (Some change) c known known' kept fits was part k i e = known_after c
 -- ---- over what was seen
 
 -- the outcome may be put, over this tree
-abbrev pub FitsLine : Option Ancestry → Option SetImage → List ℕ → List ℕ → List ℕ → Outcome → Option Change → Content → Type 0
-FitsLine t before id sender message outcome change c = IsKeptContent c × MayBePut id sender message outcome change c × HasTreeIfAny t c change × IsKnownIn before c
+abbrev pub FitsLine : Option Ancestry → Option SetImage → ℕ → List ℕ → List ℕ → List ℕ → Outcome → Option Change → Content → Type 0
+FitsLine t before place id sender message outcome change c = IsKeptContent c × MayBePut id sender message outcome change c × HasTreeIfAny t c change × IsKnownIn before c × IsNextPlace id place c
 
 module _ (c : Content) (id sender message : List ℕ) (outcome : Outcome) (change : Option Change) (may : MayBeKept id sender message (keeping_in c) (desk_in c) outcome change)
     (kept : IsKeptContent c) (fits : IfGiven (FitsContent c) change) where
   abbrev after : Content
   after = kept_after id sender message outcome change c
 
-  pub line_is : (t : Option Ancestry) (before : Option SetImage) → HasTreeIfAny t c change → IsKnownIn before c → FitsLine t before id sender message outcome change c
-  line_is t before tree knows = (kept, record { fits = fits; same = may.next.same; good = may.good }, tree, knows)
+  pub line_is : (t : Option Ancestry) (before : Option SetImage) (place : ℕ) → HasTreeIfAny t c change → IsKnownIn before c → IsNextPlace id place c → FitsLine t before place id sender message outcome change c
+  line_is t before place tree knows is = (kept, record { fits = fits; same = may.next.same; good = may.good }, tree, knows, is)
 
   pub line_stays : IsText sender → IsKeptContent after × (after.nodes ≡ c.nodes)
   line_stays text =

@@ -1,5 +1,5 @@
 -- What a question and a change leave of what is remembered.
-use Rattle.desk_tables.proofs.Imports.{HasTree, IsKnownIn, Answers, state_of, content_shown, HasKeptTables, content_seen, desk_seen, IsKept, AreKnown, IsDesk, HasContent, AreTablesOf, StillShows, IsAsked, IsChanged}
+use Rattle.desk_tables.proofs.Imports.{HasTree, IsKnownIn, IsPlaceIn, Answers, state_of, content_shown, HasKeptTables, content_seen, desk_seen, IsKept, AreKnown, AreRemembered, Remembered, IsDesk, HasContent, AreTablesOf, StillShows, IsAsked, IsChanged}
 use Rattle.desk_schema.proofs.Exports.{◌≡◌, ◌≢◌, inl, inr, ℕ, List, [], ◌∷◌, Option, None, Some, is_some, false, true, true≢false, Result, Ok, Err, OnOk, IfOk, IfErr, IfSome, IsTrue, arith, refl, sym, ap, subst, ◌∙◌, length, Held, state, HasCleanDisk, Survives, Ancestry, HasMember, IsSetOf, Change, StoreFault, Foreign, FitsContent, all_stay, changed, cleared_for, Content, IsKeptContent, desk_in, change_kept, put_nodes, no_nodes, seen}
 use Rattle.sqlite_trees.specs.declared.store.Store as store
 use Rattle.bug_record.specs.Desk.{Desk}
@@ -29,10 +29,10 @@ unfolding content_seen
 content_is g h = refl
 
 -- what is shown of a desk as it is noted anew
-pub noted_kept : {S : Type 0} (g : store.Ghosts S) (last conn : Held S) (family : Option Ancestry) (known : ℕ → Option SetImage) (c : Content) → last ≡ conn → content_seen g last ≡ c → HasContent c (state g conn) → IsKeptContent c
-    → IfSome family (λ t. t ≡ c.nodes) → AreKnown known c → IsKept g last family known
+pub noted_kept : {S : Type 0} (g : store.Ghosts S) (last conn : Held S) (family : Option Ancestry) (known : Remembered) (c : Content) → last ≡ conn → content_seen g last ≡ c → HasContent c (state g conn) → IsKeptContent c
+    → IfSome family (λ t. t ≡ c.nodes) → AreRemembered known c → IsKept g last family known
 noted_kept g last conn family known c is says shows kept tree knows =
-    subst (λ k. HasContent k (state g conn) → IsKeptContent k → IfSome family (λ t. t ≡ k.nodes) → AreKnown known k → IsKept g last family known) says
+    subst (λ k. HasContent k (state g conn) → IsKeptContent k → IfSome family (λ t. t ≡ k.nodes) → AreRemembered known k → IsKept g last family known) says
     (λ shows kept tree knows. record { shown = subst (λ h. HasContent (content_seen g last) (state g h)) (sym is) shows; content = kept; tree = tree; known = knows })
     shows kept tree knows
 
@@ -48,7 +48,7 @@ pub answered : {A : Type 0} (old new : Desk) (r : Result A StoreFault) (P : A �
 answered old new (Ok a) P h = h.0
 answered old new (Err fault) P h = tt
 
-module _ {S A : Type 0} (g : store.Ghosts S) (last old new : Held S) (family : Option Ancestry) (known : ℕ → Option SetImage) (r : Result A StoreFault) (Fits : Content → Type 0) (P : Content → A → Type 0) where
+module _ {S A : Type 0} (g : store.Ghosts S) (last old new : Held S) (family : Option Ancestry) (known : Remembered) (r : Result A StoreFault) (Fits : Content → Type 0) (P : Content → A → Type 0) where
   abbrev c : Content
   c = content_seen g last
 
@@ -79,7 +79,7 @@ made = Ok tt
 abbrev pub refused : StoreFault → Result (Unit {0}) StoreFault
 refused fault = Err fault
 
-module _ {S : Type 0} (g : store.Ghosts S) (last old new : Held S) (family : Option Ancestry) (known : ℕ → Option SetImage) (Fits : Content → Type 0) (after : Content → Content)
+module _ {S : Type 0} (g : store.Ghosts S) (last old new : Held S) (family : Option Ancestry) (known : Remembered) (Fits : Content → Type 0) (after : Content → Content)
     (stays : StillShows (state g last) (state g old)) (fits : IsKept g last family known → HasCleanDisk (state g old) → Fits (content_seen g last)) where
   abbrev WasKept : Type 0
   WasKept = IsKept g last family known
@@ -96,14 +96,14 @@ module _ {S : Type 0} (g : store.Ghosts S) (last old new : Held S) (family : Opt
   never_foreign fault changes was clean = changes.sure (content_seen g last) clean (now was) (fits was (changes.honest clean))
 
   -- it was made, and after it the connection was noted anew
-  pub record IsTaken (last' : Held S) (known' : ℕ → Option SetImage) : Type 0 where
+  pub record IsTaken (last' : Held S) (known' : Remembered) : Type 0 where
     pub kept : WasKept → HasCleanDisk (state g new) → IsKept g last' family known'
     pub says : WasKept → HasCleanDisk (state g new) → content_seen g last' ≡ after (content_seen g last)
     pub serves : WasKept → HasCleanDisk (state g new) → IsTrue (state g new).is_open
 
-  pub taken : (last' : Held S) (known' : ℕ → Option SetImage) → IsChanged (state g old) (state g new) made Fits after → last' ≡ new
+  pub taken : (last' : Held S) (known' : Remembered) → IsChanged (state g old) (state g new) made Fits after → last' ≡ new
       → (WasKept → HasCleanDisk (state g old) → IsKeptContent (after (content_seen g last)) × ((after (content_seen g last)).nodes ≡ (content_seen g last).nodes))
-      → (WasKept → HasCleanDisk (state g old) → AreKnown known' (after (content_seen g last))) → IsTaken last' known'
+      → (WasKept → HasCleanDisk (state g old) → AreRemembered known' (after (content_seen g last))) → IsTaken last' known'
   taken last' known' changes is good knows = record {
     kept = λ was clean.
         let it = good was (changes.honest clean) in
@@ -165,9 +165,12 @@ pub recalled_in : (key : ℕ → Option ℕ) (known : ℕ → Option SetImage) (
 recalled_in key known c was None is = tt
 recalled_in key known c was (Some i) is = known_in key known c was is.0 i is.1
 
--- of none that is known nothing is said
-pub none_known : (known : ℕ → Option SetImage) (c : Content) → ((k : ℕ) → known k ≡ None) → AreKnown known c
-none_known known c none k i e = absurd (none-some i (sym (none k) ∙ e))
+-- of nothing that is remembered nothing is said
+pub none_known : (known : Remembered) (c : Content) → ((k : ℕ) → known.sets k ≡ None) → known.place ≡ None → AreRemembered known c
+none_known known c none nowhere = record {
+  sets = λ k i e. absurd (none-some i (sym (none k) ∙ e));
+  place = subst (λ p. IsPlaceIn p c) (sym nowhere) tt;
+}
 
 -- a set that was found is learnt
 pub known_learnt : (known known' : ℕ → Option SetImage) (c : Content) (found : FoundSet) → image c found.key ≡ Some found.image → AreKnown known c → IsLearnt found.key found.image known known' → AreKnown known' c

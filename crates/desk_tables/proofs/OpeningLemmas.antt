@@ -1,9 +1,8 @@
 -- What is remembered of a desk that is created or opened, and why there is none.
-use Rattle.desk_tables.proofs.Imports.{AreUnder, Says, content_seen, desk_seen, keeping_seen, IsKept, unlimited, IsLeft, IsReason, SaysEarlier, IsDesk, HasContent, HasContentUnder, HoldsContent, AreTablesOf, StillShows, AsksSchema, IsRecognised, IsCarried, IsFound, NotADesk, NewerSchema, Store, NotEmpty}
+use Rattle.desk_tables.proofs.Imports.{AreUnder, Says, content_seen, desk_seen, keeping_seen, IsKept, Remembered, unlimited, IsLeft, IsReason, SaysEarlier, IsDesk, HasContent, HasContentUnder, HoldsContent, AreTablesOf, StillShows, AsksSchema, IsRecognised, IsCarried, IsFound, NotADesk, NewerSchema, Store, NotEmpty}
 use Rattle.desk_schema.proofs.Exports.{◌≡◌, ◌≢◌, false, ◌<◌, ◌≤◌, ℕ, Option, None, IfSome, Result, Ok, Err, arith, refl, sym, ap, subst, ◌∙◌, Held, state, Database, IsDatabase, State, HasCleanDisk, Survives, survives_then, survives_weaker, Ancestry, Content, no_content, desk_in, keeping_in, StoreFault, seen}
 use Rattle.sqlite_trees.specs.declared.store.Store as store
 use Rattle.line_words.specs.declared.named.TheConstants.{LARGEST_NUMBER}
-use Rattle.bug_record.specs.declared.bug.SetImage.{SetImage}
 use Rattle.bugs_in_memory.specs.Plain.{empty_desk}
 use Rattle.desk_store.specs.Kept.{none_kept}
 use Rattle.desk_content.proofs.NewLemmas.{new_kept}
@@ -18,11 +17,11 @@ use Rattle.desk_tables.proofs.StillLemmas.{left_still, still_is}
 -- ---- a new desk
 
 module _ {S : Type 0} (g : store.Ghosts S) (first : ℕ) (last conn : Held S) (is : last ≡ conn) (desk : IsDesk (state g conn) × (seen (state g conn) ≡ no_content first)) where
-  pub new_is_kept : (family : Option Ancestry) → family ≡ None → (known : ℕ → Option SetImage) → ((k : ℕ) → known k ≡ None) → 0 < first → first ≤ LARGEST_NUMBER → IsKept g last family known
-  new_is_kept family none known unknown low high =
+  pub new_is_kept : (family : Option Ancestry) → family ≡ None → (known : Remembered) → ((k : ℕ) → known.sets k ≡ None) → known.place ≡ None → 0 < first → first ≤ LARGEST_NUMBER → IsKept g last family known
+  new_is_kept family none known unknown nowhere low high =
       noted_kept g last conn family known (no_content first) is (ap (content_seen g) is ∙ content_is g conn ∙ desk.1) (λ clean o. desk) (new_kept first low high)
       (subst (λ f. IfSome f (λ t. t ≡ (no_content first).nodes)) (sym none) tt)
-      (none_known known (no_content first) unknown)
+      (none_known known (no_content first) unknown nowhere)
 
   pub new_is_empty : desk_seen g last ≡ empty_desk first
   new_is_empty = ap (desk_seen g) is ∙ ap desk_in (content_is g conn ∙ desk.1)

@@ -14,7 +14,7 @@ use Rattle.desk_store.specs.Crashes.{Holding}
 use Rattle.desk_store.specs.Kept.{Keeping}
 use Rattle.desk_store.specs.Store.{Asks, Answers, Faults, MayBeKept, Keeps}
 use Rattle.desk_reads.specs.Known.{known_set}
-use Rattle.desk_tables.specs.Kept.{content_seen, IsKept}
+use Rattle.desk_tables.specs.Kept.{content_seen, IsKept, Remembered}
 use Rattle.desk_tables.specs.Shown.{LeavesOf}
 use Rattle.desk_tables.specs.declared.desk.TableDesk.{TableDesk}
 
@@ -45,9 +45,13 @@ module _ {S : Type 0} {g : store.Ghosts S} where
   abbrev pub HasHonestDisk : TableDesk S g → Type 0
   HasHonestDisk d = HasCleanDisk (state_of d)
 
+  -- what it remembers
+  abbrev pub remembered : TableDesk S g → Remembered
+  remembered d = record { sets = known_set d.known; place = d.place }
+
   -- its tables are kept
   abbrev pub HasKeptTables : TableDesk S g → Type 0
-  HasKeptTables d = IsKept g d.last.value d.family (known_set d.known)
+  HasKeptTables d = IsKept g d.last.value d.family (remembered d)
 
   -- a crash at this moment leaves tables that hold the first or the second
   abbrev pub LeavesTables : TableDesk S g → Holding → Holding → Type 0

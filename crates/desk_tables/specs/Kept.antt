@@ -1,5 +1,5 @@
 -- A desk over a connection, whose content is remembered also once a fault has shut the connection.
-use Rattle.std.specs.Prelude.{ℕ, ◌≡◌, Option, Some, IfSome, None, false}
+use Rattle.std.specs.Prelude.{ℕ, List, ◌≡◌, Option, Some, IfSome, None, false}
 use Rattle.sqlite.specs.Held.{Held, state}
 use Rattle.sqlite_trees.specs.declared.store.Store as store
 use Rattle.version_nodes.specs.Trees.{Ancestry}
@@ -11,6 +11,7 @@ use Rattle.desk_content.specs.Kept.{IsKeptContent}
 use Rattle.desk_content.specs.View.{desk_in, image, keeping_in}
 use Rattle.desk_schema.specs.Steps.{seen}
 use Rattle.desk_store.specs.Kept.{Keeping}
+use Rattle.desk_writes.specs.Needs.{IsPlaceIn}
 use Rattle.desk_tables.specs.Shown.{HasContent}
 
 -- a connection between two calls: in no transaction, and its statements have no limit of steps
@@ -22,6 +23,16 @@ pub record IsIdle {S : Type 0} (conn : Held S) : Type 0 where
 -- bug
 abbrev pub AreKnown : (ℕ → Option SetImage) → Content → Type 0
 AreKnown known c = (k : ℕ) (i : SetImage) → known k ≡ Some i → (image c k ≡ Some i) × (key_of i ≡ k)
+
+-- What is remembered of a content: the images of sets, and the place that comes next of a message.
+pub record Remembered : Type 0 where
+  pub sets : ℕ → Option SetImage
+  pub place : Option (List ℕ × ℕ)
+
+-- it is right of the content
+pub record AreRemembered (known : Remembered) (c : Content) : Type 0 where
+  pub sets : AreKnown known.sets c
+  pub place : IsPlaceIn known.place c
 
 module _ {S : Type 0} (g : store.Ghosts S) where
   -- what a connection shows
@@ -36,9 +47,9 @@ module _ {S : Type 0} (g : store.Ghosts S) where
   keeping_seen conn = keeping_in (content_seen conn)
 
   -- A desk was shown by the connection as it was last made or found, and is kept.
-  -- The tree that was read, if it was, is the desk's, and the sets that are known are its sets.
-  pub record IsKept (last : Held S) (family : Option Ancestry) (images : ℕ → Option SetImage) : Type 0 where
+  -- The tree that was read, if it was, is the desk's, and what is remembered is right of it.
+  pub record IsKept (last : Held S) (family : Option Ancestry) (facts : Remembered) : Type 0 where
     pub shown : HasContent (content_seen last) (state g last)
     pub content : IsKeptContent (content_seen last)
     pub tree : IfSome family (λ t. t ≡ (content_seen last).nodes)
-    pub known : AreKnown images (content_seen last)
+    pub known : AreRemembered facts (content_seen last)

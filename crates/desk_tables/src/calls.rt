@@ -11,7 +11,7 @@ ghost use Rattle.desk_content.specs.Changes.{FitsContent, changed};
 ghost use Rattle.desk_content.specs.Keeping.{MayBePut, kept_after};
 ghost use Rattle.desk_content.specs.Kept.{IsKeptContent};
 ghost use Rattle.desk_migrations.specs.Names.{no_tables};
-ghost use Rattle.desk_writes.specs.Needs.{HasTree, HasTreeIfAny, IsKnownIn};
+ghost use Rattle.desk_writes.specs.Needs.{HasTree, HasTreeIfAny, IsKnownIn, IsNextPlace};
 ghost use Rattle.desk_tables.specs.Kept.{IsIdle};
 ghost use Rattle.desk_tables.specs.Transactions.{IsAsked, IsChanged, IsTaken, IsMade, IsCarried};
 ghost use Rattle.desk_tables.specs.Transactions.{AsksSchema, Ends};
@@ -62,8 +62,8 @@ fn finish<S: Alter>(tx: Transaction<'_, S>, done: Result<(), StoreFault>) -> Res
     }
 }
 
-// Keeps an outcome, and carries its change out, if there is one; the tree may be missing where no
-// mark changes, and the image of a set may be known as it is before.
+// Keeps an outcome at the place that comes next, and carries its change out, if there is one; the
+// tree may be missing where no mark changes, and the image of a set may be known as it is before.
 pub(crate) fn keep_line<S: Alter>(
     alloc: Global,
     conn: &mut Connection<S>,
@@ -71,6 +71,7 @@ pub(crate) fn keep_line<S: Alter>(
     id: &str,
     from: &str,
     message: &str,
+    place: u64,
     outcome: &Outcome,
     change: Option<&Change>,
     before: Option<&SetImage>,
@@ -81,12 +82,12 @@ pub(crate) fn keep_line<S: Alter>(
         (λ c. IsKeptContent c
         × MayBePut id.now from.now message.now outcome.now (option_copied change.entry) c
         × HasTreeIfAny (option_copied family.entry) c (option_copied change.entry)
-        × IsKnownIn (option_copied before.entry) c)
+        × IsKnownIn (option_copied before.entry) c × IsNextPlace id.now place c)
         (λ c. kept_after id.now from.now message.now outcome.now (option_copied change.entry) c) }
 {
     let mut tx = conn.transaction();
     let done = put_kept(
-        alloc, &mut tx, family, id, from, message, outcome, change, before,
+        alloc, &mut tx, family, id, from, message, place, outcome, change, before,
     );
     finish(tx, done)
 }
@@ -113,24 +114,6 @@ pub(crate) fn change_sets<S: Alter>(
     finish(tx, done)
 }
 
-// The tables follow a branch that was taken, in which these nodes changed.
-fn put_changed<S: Alter>(
-    alloc: Global,
-    conn: &mut Connection<S>,
-    family: &Family,
-    changed: &[Node],
-) -> Result<(), StoreFault>
-    requires idle { IsIdle conn.old }
-    ensures idle { IsIdle conn.new }
-    ensures changed { IsChanged (state S.Store conn.old) (state S.Store conn.new) result
-        (λ c. IsKeptContent c × IsGrown c.nodes family.now changed.now)
-        (λ c. with_nodes family.now c) }
-{
-    let mut tx = conn.transaction();
-    let done = put_branch(alloc, &mut tx, family, changed);
-    finish(tx, done)
-}
-
 // The tables follow a branch that was taken, before which these nodes were open to change.
 fn put_open<S: Alter>(
     alloc: Global,
@@ -146,7 +129,9 @@ fn put_open<S: Alter>(
         (λ c. with_nodes family.now c) }
 {
     let changed = changed_nodes(family.tree(), before)?;
-    put_changed(alloc, conn, family, changed.as_slice())
+    let mut tx = conn.transaction();
+    let done = put_branch(alloc, &mut tx, family, changed.as_slice());
+    finish(tx, done)
 }
 
 // Takes a branch into the tree, before which these nodes are open to change, and into the tables.

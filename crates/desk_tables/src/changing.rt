@@ -6,7 +6,7 @@ ghost use Rattle.std.specs.Prelude.{◌≡◌, IfOk, is_some, true};
 ghost use Rattle.std.specs.Option.{option_copied};
 ghost use Rattle.bug_record.specs.Texts.{IsText};
 ghost use Rattle.desk_store.specs.Store.{IsRefusal};
-ghost use Rattle.desk_writes.specs.Needs.{HasTree, HasTreeIfAny, IsKnownIn};
+ghost use Rattle.desk_writes.specs.Needs.{HasTree, HasTreeIfAny, IsKnownIn, IsNextPlace};
 ghost use Rattle.desk_tables.specs.Changing.{FitsTables, FitsTablesIfAny};
 ghost use Rattle.desk_tables.specs.Changing.{MakesChange, TakesBranch, KeepsLine};
 ghost use Rattle.desk_tables.specs.Changing.{LeavesMessages, ServesAfter, ServesAfterBranch};
@@ -66,12 +66,14 @@ impl<S: Alter> TableDesk<S> {
         self.make(change, before.as_ref())
     }
 
-    // Keeps an outcome, and carries its change out over the tree that was read, if there is one.
+    // Keeps an outcome at the place that comes next, and carries its change out over the tree that
+    // was read, if there is one.
     fn keep_outcome(
         &mut self,
         id: &str,
         from: &str,
         message: &str,
+        place: u64,
         outcome: &Outcome,
         change: Option<&Change>,
         before: Option<&SetImage>,
@@ -80,6 +82,8 @@ impl<S: Alter> TableDesk<S> {
             HasTreeIfAny self.old.family (content_shown self.old) (option_copied change) }
         requires before { HasKeptTables self.old → HasHonestDisk self.old →
             IsKnownIn (option_copied before) (content_shown self.old) }
+        requires place { HasKeptTables self.old → HasHonestDisk self.old →
+            IsNextPlace id.now place (content_shown self.old) }
         requires sender { IsText from.now }
         requires fits { FitsTablesIfAny self.old (option_copied change) }
         ensures honest { HasHonestDisk self.new → HasHonestDisk self.old }
@@ -103,12 +107,14 @@ impl<S: Alter> TableDesk<S> {
             id,
             from,
             message,
+            place,
             outcome,
             change,
             before,
         )?;
         self.last = Snapshot::of(&self.conn);
         self.known.follow_line(self.alloc, change);
+        self.place.follow(self.alloc, id, place);
         Ok(())
     }
 
@@ -137,9 +143,10 @@ impl<S: Alter> TableDesk<S> {
             (option_copied change.entry) }
         ensures counts { faults_of self.new ≡ faults_of self.old }
     {
+        let place = self.find_place(id)?;
         self.load_for(change)?;
         let before = self.known.recall_for(change);
-        self.keep_outcome(id, from, message, outcome, change, before.as_ref())
+        self.keep_outcome(id, from, message, place, outcome, change, before.as_ref())
     }
 
     // Takes a branch into the tree that was read, and into the tables.

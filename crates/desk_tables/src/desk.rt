@@ -9,6 +9,7 @@ ghost use Rattle.desk_tables.specs.Still.{StillShows, StillShows-prop};
 
 use crate::counts::Counts;
 use desk_reads::KnownSets;
+use desk_writes::KnownPlace;
 use nearest_marks::Family;
 use sqlite::{Alter, Connection};
 use std::alloc::Global;
@@ -26,6 +27,8 @@ pub struct TableDesk<S: Alter> {
     pub(crate) family: Option<Family>,
     // The sets that calls have read or changed, as they are now.
     pub(crate) known: KnownSets,
+    // The place that comes next of the message that was kept last.
+    pub(crate) place: KnownPlace,
     pub(crate) counts: Counts,
     // The connection as the content was last made or found.
     pub(crate) last: Snapshot<Connection<S>>,
@@ -43,6 +46,7 @@ impl<S: Alter + Drop> Drop for TableDesk<S> {
             alloc: _,
             family: _,
             known: _,
+            place: _,
             counts: _,
             last: _,
         } = self;
@@ -62,6 +66,7 @@ impl<S: Alter> TableDesk<S> {
         ensures last { result.last.value ≡ last.value }
         ensures family { result.family ≡ None }
         ensures known { (k : ℕ) → known_set result.known k ≡ None }
+        ensures place { result.place ≡ None }
         ensures counts { result.counts ≡ no_faults }
     {
         TableDesk {
@@ -69,6 +74,7 @@ impl<S: Alter> TableDesk<S> {
             alloc,
             family: None,
             known: KnownSets::new(alloc),
+            place: KnownPlace::new(),
             counts: Counts::new(),
             last,
         }
@@ -84,6 +90,7 @@ impl<S: Alter> TableDesk<S> {
             alloc: _,
             family: _,
             known: _,
+            place: _,
             counts: _,
             last: _,
         } = self;

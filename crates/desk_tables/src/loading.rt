@@ -49,8 +49,7 @@ impl<S: Alter> TableDesk<S> {
         if self.family.is_some() {
             return Ok(());
         }
-        let question = Tree { alloc: self.alloc };
-        let family = self.ask(&question)?;
+        let family = self.ask(&Tree { alloc: self.alloc })?;
         self.family = Some(family);
         Ok(())
     }
@@ -72,11 +71,8 @@ impl<S: Alter> TableDesk<S> {
         if let Some(stay) = known_marks_stay(change, before.as_ref()) {
             return Ok(stay);
         }
-        let question = MarksStay {
-            alloc: self.alloc,
-            change,
-        };
-        self.ask(&question)
+        let alloc = self.alloc;
+        self.ask(&MarksStay { alloc, change })
     }
 
     // Reads the tree, where no call has read it yet, there is a change, and a mark changes.

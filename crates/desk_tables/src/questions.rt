@@ -7,11 +7,12 @@ ghost use Rattle.desk_content.specs.View.{desk_in, keeping_in};
 ghost use Rattle.desk_reads.specs.Asked.{IsAskedFor};
 ghost use Rattle.desk_reads.specs.FoundSets.{IsSetFound};
 ghost use Rattle.desk_store.specs.Store.{IsNext, AreWaitingOn, AreListed, IsOpenHead};
+ghost use Rattle.desk_writes.specs.Needs.{IsNextPlace};
 
 use crate::question::Question;
 use bug_record::{Change, Numbers, Sequence, SetImage, StoreFault};
 use desk_reads::{FoundSet, read_listed, read_open_head, read_set_of, read_waiting_on};
-use desk_rows::{read_family, read_next};
+use desk_rows::{read_family, read_next, read_next_place};
 use desk_store::Kept;
 use desk_writes::{read_kept, read_marks_stay};
 use nearest_marks::Family;
@@ -154,6 +155,24 @@ impl Question for KeptOf<'_> {
 
     fn ask<S: Alter>(&self, tx: &mut Transaction<'_, S>) -> Result<Option<Kept>, StoreFault> {
         read_kept(self.alloc, tx, self.id)
+    }
+}
+
+/// The place that comes next of the message of an id.
+#[derive(Drop)]
+pub(crate) struct NextPlace<'a> {
+    pub(crate) id: &'a str,
+}
+
+impl Question for NextPlace<'_> {
+    type Answer = u64;
+
+    ghost fits = { λ _. IsKeptContent };
+
+    ghost right = { λ q c place. IsNextPlace q.id.now place c };
+
+    fn ask<S: Alter>(&self, tx: &mut Transaction<'_, S>) -> Result<u64, StoreFault> {
+        read_next_place(tx, self.id)
     }
 }
 

@@ -81,11 +81,8 @@ impl<S: Alter> Records for TableDesk<S> {
         ensures count { faults_of self.new ≡ faults_after result (faults_of self.old) }
         ensures crash { Survives (state_of self.old) (state_of self.new) (λ _. ⊥) }
     {
-        let question = WaitingOn {
-            alloc: self.alloc,
-            number,
-        };
-        let answer = self.ask(&question);
+        let alloc = self.alloc;
+        let answer = self.ask(&WaitingOn { alloc, number });
         self.counts.note(answer)
     }
 
@@ -191,11 +188,8 @@ impl<S: Alter> Records for TableDesk<S> {
         ensures count { faults_of self.new ≡ faults_after result (faults_of self.old) }
         ensures crash { Survives (state_of self.old) (state_of self.new) (λ _. ⊥) }
     {
-        let question = KeptOf {
-            alloc: self.alloc,
-            id,
-        };
-        let answer = self.ask(&question);
+        let alloc = self.alloc;
+        let answer = self.ask(&KeptOf { alloc, id });
         self.counts.note(answer)
     }
 

@@ -1,13 +1,14 @@
-//! The sets that a desk in tables knows, so that it need not read them again.
+//! What a desk in tables knows of sets and messages, so that it need not read it again.
 
 ghost use Rattle.std.specs.Prelude.{◌≡◌};
 ghost use Rattle.sqlite.specs.State.{Survives};
 ghost use Rattle.desk_store.specs.Store.{IsImageOf};
-ghost use Rattle.desk_tables.specs.Desk.{state_of, desk_of, faults_of};
+ghost use Rattle.desk_writes.specs.Needs.{IsNextPlace};
+ghost use Rattle.desk_tables.specs.Desk.{state_of, content_shown, desk_of, faults_of};
 ghost use Rattle.desk_tables.specs.Desk.{IsAnswered, NeverForeign};
 
 use crate::desk::TableDesk;
-use crate::questions::SetOf;
+use crate::questions::{NextPlace, SetOf};
 use bug_record::{SetImage, StoreFault};
 use sqlite::Alter;
 
@@ -20,13 +21,10 @@ impl<S: Alter> TableDesk<S> {
         ensures survives { Survives (state_of self.old) (state_of self.new) (λ _. ⊥) }
         ensures counts { faults_of self.new ≡ faults_of self.old }
     {
-        let question = SetOf {
-            alloc: self.alloc,
-            number,
-        };
-        match self.ask(&question)? {
+        let alloc = self.alloc;
+        match self.ask(&SetOf { alloc, number })? {
             Some(found) => {
-                self.known.learn(self.alloc, found.key, &found.image);
+                self.known.learn(alloc, found.key, &found.image);
                 Ok(Some(found.image))
             }
             None => Ok(None),
@@ -48,6 +46,21 @@ impl<S: Alter> TableDesk<S> {
         match self.known.recall(number) {
             Some(image) => Ok(Some(image)),
             None => self.read_set(number),
+        }
+    }
+
+    // The place that comes next of a message, which is asked where it is not known.
+    pub(crate) fn find_place(&mut self, id: &str) -> Result<u64, StoreFault>
+        ensures answer { IsAnswered self.old self.new result
+            (λ place. IsNextPlace id.now place (content_shown self.old)) }
+        ensures sure { NeverForeign self.old self.new result }
+        ensures last { self.new.last.value ≡ self.old.last.value }
+        ensures survives { Survives (state_of self.old) (state_of self.new) (λ _. ⊥) }
+        ensures counts { faults_of self.new ≡ faults_of self.old }
+    {
+        match self.place.of(id) {
+            Some(place) => Ok(place),
+            None => self.ask(&NextPlace { id }),
         }
     }
 }

@@ -1,6 +1,6 @@
--- The tree that a change needs, and the image that it may know.
+-- The tree that a change needs, and the image and the place that it may know.
 -- This project's own rule.
-use Rattle.std.specs.Prelude.{◌≡◌, true, false, Option, Some, None, IfSome}
+use Rattle.std.specs.Prelude.{◌≡◌, ℕ, List, length, true, false, Option, Some, None, IfSome}
 use Rattle.version_nodes.specs.Trees.{Ancestry}
 use Rattle.bug_record.specs.Texts.{IfGiven}
 use Rattle.bug_record.specs.declared.bug.SetImage.{SetImage}
@@ -26,3 +26,11 @@ HasTreeIfAny tree c change = IfGiven (HasTree tree c) change
 -- an image that is known is the one of its set
 abbrev pub IsKnownIn : Option SetImage → Content → Type 0
 IsKnownIn known c = IfSome known (λ i. image c (key_of i) ≡ Some i)
+
+-- the place comes next of the message of the id: so many outcomes are kept of it
+abbrev pub IsNextPlace : List ℕ → ℕ → Content → Type 0
+IsNextPlace id place c = place ≡ length (c.outcomes id)
+
+-- a place that is known comes next of its message
+abbrev pub IsPlaceIn : Option (List ℕ × ℕ) → Content → Type 0
+IsPlaceIn known c = IfSome known (λ next. IsNextPlace next.0 next.1 c)

@@ -12,10 +12,9 @@ ghost use Rattle.desk_schema.specs.Steps.{Acts, Reads, Serves};
 ghost use Rattle.desk_writes.specs.Steps.{Makes};
 
 use crate::missing::read_missing;
-use crate::play::play_all;
+use crate::play::play_or_ask;
 use bug_record::{Sequence, StoreFault};
 use desk_content::{Edit, SetNear, branch_edits};
-use desk_rows::read_next;
 use nearest_marks::Family;
 use sqlite::{Alter, Transaction};
 use std::alloc::Global;
@@ -36,8 +35,6 @@ fn edits_of(
 }
 
 // The edits of a branch, as the tables are now.
-// The next number is asked for first, so that a store which a fault has shut is noticed where
-// nothing changes, too.
 fn plan_branch<S: Alter>(
     alloc: Global,
     tx: &mut Transaction<'_, S>,
@@ -47,9 +44,7 @@ fn plan_branch<S: Alter>(
     ensures same_reference { tx.new.conn.ghost_name ≡ tx.old.conn.ghost_name }
     ensures reads { Reads (λ c edits. IsKeptContent c → IsGrown c.nodes family.now changed.now → Makes family.now edits c)
         (state S.Store tx.old.conn.now) (state S.Store tx.new.conn.now) result }
-    ensures serves { Serves (state S.Store tx.old.conn.now) (state S.Store tx.new.conn.now) result }
 {
-    read_next(tx)?;
     let rows = read_missing(alloc, tx, family, changed)?;
     edits_of(alloc, family, changed, rows)
 }
@@ -72,5 +67,5 @@ pub fn put_branch<S: Alter>(
     ensures serves { Serves (state S.Store tx.old.conn.now) (state S.Store tx.new.conn.now) result }
 {
     let edits = plan_branch(alloc, tx, family, changed)?;
-    play_all(tx, edits.as_slice())
+    play_or_ask(tx, edits.as_slice())
 }

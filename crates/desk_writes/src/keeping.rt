@@ -3,20 +3,17 @@
 ghost use Rattle.std.specs.Prelude.{◌≡◌, Some, IfOk, IfErr};
 ghost use Rattle.std.specs.Option.{option_copied};
 ghost use Rattle.sqlite.specs.Held.{state};
-ghost use Rattle.sql_forms.specs.Numbers.{next_above};
-ghost use Rattle.desk_content.specs.Edits.{places_of};
 ghost use Rattle.desk_content.specs.Keeping.{MayBePut, kept_after, with_kept};
 ghost use Rattle.desk_content.specs.Kept.{IsKeptContent};
-ghost use Rattle.desk_schema.specs.Steps.{Acts, Reads, Serves};
+ghost use Rattle.desk_schema.specs.Steps.{Acts, Serves};
 ghost use Rattle.bug_record.specs.declared.outcome.StoreFault.TheVariants.{Memory};
-ghost use Rattle.desk_writes.specs.Needs.{HasTree, HasTreeIfAny, IsKnownIn};
+ghost use Rattle.desk_writes.specs.Needs.{HasTree, HasTreeIfAny, IsKnownIn, IsNextPlace};
 ghost use Rattle.desk_writes.specs.Lines.{IsLine, AreEditsOf};
 
 use crate::change::put_change;
-use crate::play::play_all;
+use crate::play::play_or_ask;
 use bug_record::{Change, Outcome, Sequence, SetImage, StoreFault};
 use desk_content::{Edit, keep_edits};
-use desk_rows::read_next_place;
 use nearest_marks::Family;
 use sqlite::{Alter, Transaction};
 use std::alloc::Global;
@@ -36,41 +33,24 @@ fn edits_at(
     Ok(keep_edits(alloc, id, from, message, place, outcome)?)
 }
 
-// The edits of an outcome behind those that are kept of its message.
-fn edits_of<S: Alter>(
-    alloc: Global,
-    tx: &mut Transaction<'_, S>,
-    id: &str,
-    from: &str,
-    message: &str,
-    outcome: &Outcome,
-) -> Result<Sequence<Edit>, StoreFault>
-    ensures same_reference { tx.new.conn.ghost_name ≡ tx.old.conn.ghost_name }
-    ensures reads { Reads (λ c edits. AreEditsOf id.now from.now message.now (next_above (places_of (c.outcomes id.now))) outcome.now edits)
-        (state S.Store tx.old.conn.now) (state S.Store tx.new.conn.now) result }
-    ensures serves { Serves (state S.Store tx.old.conn.now) (state S.Store tx.new.conn.now) result }
-{
-    let place = read_next_place(tx, id)?;
-    edits_at(alloc, id, from, message, place, outcome)
-}
-
-// Keeps an outcome behind those that are kept of its message.
+// Keeps an outcome behind those that are kept of its message, where this place comes next.
 fn put_outcome<S: Alter>(
     alloc: Global,
     tx: &mut Transaction<'_, S>,
     id: &str,
     from: &str,
     message: &str,
+    place: u64,
     outcome: &Outcome,
 ) -> Result<(), StoreFault>
     ensures same_reference { tx.new.conn.ghost_name ≡ tx.old.conn.ghost_name }
     ensures acts { Acts (state S.Store tx.old.conn.now) (state S.Store tx.new.conn.now) result
-        (IsLine id.now from.now message.now outcome.now)
-        (λ c d _. IsLine id.now from.now message.now outcome.now c → d ≡ with_kept id.now from.now message.now outcome.now c) }
+        (λ c. IsLine id.now from.now message.now outcome.now c × IsNextPlace id.now place c)
+        (λ c d _. IsLine id.now from.now message.now outcome.now c → IsNextPlace id.now place c → d ≡ with_kept id.now from.now message.now outcome.now c) }
     ensures serves { Serves (state S.Store tx.old.conn.now) (state S.Store tx.new.conn.now) result }
 {
-    let edits = edits_of(alloc, tx, id, from, message, outcome)?;
-    play_all(tx, edits.as_slice())
+    let edits = edits_at(alloc, id, from, message, place, outcome)?;
+    play_or_ask(tx, edits.as_slice())
 }
 
 // Carries a change out, and keeps the outcome of its line.
@@ -81,23 +61,25 @@ fn put_both<S: Alter>(
     id: &str,
     from: &str,
     message: &str,
+    place: u64,
     outcome: &Outcome,
     change: &Change,
     old: Option<&SetImage>,
 ) -> Result<(), StoreFault>
     ensures same_reference { tx.new.conn.ghost_name ≡ tx.old.conn.ghost_name }
     ensures acts { Acts (state S.Store tx.old.conn.now) (state S.Store tx.new.conn.now) result
-        (λ c. IsKeptContent c × MayBePut id.now from.now message.now outcome.now (Some change.now) c × HasTree (option_copied family.entry) c change.now × IsKnownIn (option_copied old.entry) c)
-        (λ c d _. IsKeptContent c → MayBePut id.now from.now message.now outcome.now (Some change.now) c → HasTree (option_copied family.entry) c change.now → IsKnownIn (option_copied old.entry) c →
+        (λ c. IsKeptContent c × MayBePut id.now from.now message.now outcome.now (Some change.now) c × HasTree (option_copied family.entry) c change.now × IsKnownIn (option_copied old.entry) c × IsNextPlace id.now place c)
+        (λ c d _. IsKeptContent c → MayBePut id.now from.now message.now outcome.now (Some change.now) c → HasTree (option_copied family.entry) c change.now → IsKnownIn (option_copied old.entry) c → IsNextPlace id.now place c →
         d ≡ kept_after id.now from.now message.now outcome.now (Some change.now) c) }
     ensures serves { Serves (state S.Store tx.old.conn.now) (state S.Store tx.new.conn.now) result }
 {
     put_change(alloc, tx, family, change, old)?;
-    put_outcome(alloc, tx, id, from, message, outcome)
+    put_outcome(alloc, tx, id, from, message, place, outcome)
 }
 
 /// Carries a change out, if there is one, and keeps the outcome of its line behind those that are
-/// kept of the message of the id; the message becomes known with its first outcome.
+/// kept of the message of the id, where this place comes next; the message becomes known with its
+/// first outcome.
 /// The tree may be missing where no mark changes, and an image that is known is as in `put_change`.
 /// It fails for memory, the disk or its size alone, where the change fits kept tables, and the
 /// outcome and the message may be kept in them.
@@ -108,19 +90,22 @@ pub fn put_kept<S: Alter>(
     id: &str,
     from: &str,
     message: &str,
+    place: u64,
     outcome: &Outcome,
     change: Option<&Change>,
     old: Option<&SetImage>,
 ) -> Result<(), StoreFault>
     ensures same_reference { tx.new.conn.ghost_name ≡ tx.old.conn.ghost_name }
     ensures acts { Acts (state S.Store tx.old.conn.now) (state S.Store tx.new.conn.now) result
-        (λ c. IsKeptContent c × MayBePut id.now from.now message.now outcome.now (option_copied change.entry) c × HasTreeIfAny (option_copied family.entry) c (option_copied change.entry) × IsKnownIn (option_copied old.entry) c)
-        (λ c d _. IsKeptContent c → MayBePut id.now from.now message.now outcome.now (option_copied change.entry) c → HasTreeIfAny (option_copied family.entry) c (option_copied change.entry) → IsKnownIn (option_copied old.entry) c →
+        (λ c. IsKeptContent c × MayBePut id.now from.now message.now outcome.now (option_copied change.entry) c × HasTreeIfAny (option_copied family.entry) c (option_copied change.entry) × IsKnownIn (option_copied old.entry) c × IsNextPlace id.now place c)
+        (λ c d _. IsKeptContent c → MayBePut id.now from.now message.now outcome.now (option_copied change.entry) c → HasTreeIfAny (option_copied family.entry) c (option_copied change.entry) → IsKnownIn (option_copied old.entry) c → IsNextPlace id.now place c →
         d ≡ kept_after id.now from.now message.now outcome.now (option_copied change.entry) c) }
     ensures serves { Serves (state S.Store tx.old.conn.now) (state S.Store tx.new.conn.now) result }
 {
     match change {
-        Some(change) => put_both(alloc, tx, family, id, from, message, outcome, change, old),
-        None => put_outcome(alloc, tx, id, from, message, outcome),
+        Some(change) => put_both(
+            alloc, tx, family, id, from, message, place, outcome, change, old,
+        ),
+        None => put_outcome(alloc, tx, id, from, message, place, outcome),
     }
 }

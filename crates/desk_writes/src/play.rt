@@ -2,7 +2,7 @@
 
 ghost use Rattle.std.specs.Prelude.{◌≡◌};
 ghost use Rattle.sqlite.specs.Held.{state};
-ghost use Rattle.desk_schema.specs.Steps.{Plays, PlaysAll};
+ghost use Rattle.desk_schema.specs.Steps.{Plays, PlaysAll, Serves};
 
 use crate::puts::{
     put_affects, put_blocker, put_fields, put_mark, put_member, put_near, put_outcome,
@@ -10,7 +10,7 @@ use crate::puts::{
 };
 use bug_record::StoreFault;
 use desk_content::Edit;
-use desk_rows::{add_message, add_node, clear_near, clear_near_at, clear_node};
+use desk_rows::{add_message, add_node, clear_near, clear_near_at, clear_node, read_next};
 use desk_schema::parameter;
 use set_rows::{clear_affected, clear_blockers, clear_bug, clear_fields, clear_marks};
 use sqlite::{Alter, Transaction};
@@ -19,6 +19,7 @@ use sqlite::{Alter, Transaction};
 fn play<S: Alter>(tx: &mut Transaction<'_, S>, edit: &Edit) -> Result<(), StoreFault>
     ensures same_reference { tx.new.conn.ghost_name ≡ tx.old.conn.ghost_name }
     ensures plays { Plays edit.now (state S.Store tx.old.conn.now) (state S.Store tx.new.conn.now) result }
+    ensures serves { Serves (state S.Store tx.old.conn.now) (state S.Store tx.new.conn.now) result }
 {
     match edit {
         Edit::DropFields { key } => clear_fields(tx, parameter(*key)?),
@@ -56,4 +57,23 @@ pub fn play_all<S: Alter>(tx: &mut Transaction<'_, S>, edits: &[Edit]) -> Result
         play(tx, edit)?;
     }
     Ok(())
+}
+
+/// The same; where there is none, the next number is asked for, so that a store which a fault has
+/// shut is noticed.
+pub fn play_or_ask<S: Alter>(tx: &mut Transaction<'_, S>, edits: &[Edit]) -> Result<(), StoreFault>
+    ensures same_reference { tx.new.conn.ghost_name ≡ tx.old.conn.ghost_name }
+    ensures plays { PlaysAll edits.now (state S.Store tx.old.conn.now) (state S.Store tx.new.conn.now) result }
+    ensures serves { Serves (state S.Store tx.old.conn.now) (state S.Store tx.new.conn.now) result }
+{
+    match edits {
+        [] => {
+            read_next(tx)?;
+            Ok(())
+        }
+        [first, others @ ..] => {
+            play(tx, first)?;
+            play_all(tx, others)
+        }
+    }
 }

@@ -3,7 +3,7 @@
 ghost use Rattle.std.specs.Prelude.{◌≡◌};
 ghost use Rattle.sqlite.specs.Held.{state};
 ghost use Rattle.desk_content.specs.declared.edit.Edit.TheVariants.{PutFields, PutMember, PutMark, PutBlocker, PutAffects, PutNear, PutOutcome, PutOutcomeNumber};
-ghost use Rattle.desk_schema.specs.Steps.{Plays};
+ghost use Rattle.desk_schema.specs.Steps.{Plays, Serves};
 
 use bug_record::{Member, Outcome, StoreFault};
 use desk_content::SetFields;
@@ -22,6 +22,7 @@ pub(crate) fn put_fields<S: Alter>(
 ) -> Result<(), StoreFault>
     ensures same_reference { tx.new.conn.ghost_name ≡ tx.old.conn.ghost_name }
     ensures plays { Plays (PutFields key fields.now) (state S.Store tx.old.conn.now) (state S.Store tx.new.conn.now) result }
+    ensures serves { Serves (state S.Store tx.old.conn.now) (state S.Store tx.new.conn.now) result }
 {
     let key = parameter(key)?;
     add_fields(tx, key, fields)
@@ -35,6 +36,7 @@ pub(crate) fn put_member<S: Alter>(
 ) -> Result<(), StoreFault>
     ensures same_reference { tx.new.conn.ghost_name ≡ tx.old.conn.ghost_name }
     ensures plays { Plays (PutMember key member.now) (state S.Store tx.old.conn.now) (state S.Store tx.new.conn.now) result }
+    ensures serves { Serves (state S.Store tx.old.conn.now) (state S.Store tx.new.conn.now) result }
 {
     let key = parameter(key)?;
     let number = parameter(member.number)?;
@@ -56,6 +58,7 @@ pub(crate) fn put_mark<S: Alter>(
 ) -> Result<(), StoreFault>
     ensures same_reference { tx.new.conn.ghost_name ≡ tx.old.conn.ghost_name }
     ensures plays { Plays (PutMark key kind node.now) (state S.Store tx.old.conn.now) (state S.Store tx.new.conn.now) result }
+    ensures serves { Serves (state S.Store tx.old.conn.now) (state S.Store tx.new.conn.now) result }
 {
     let key = parameter(key)?;
     add_mark(tx, key, kind, node)
@@ -69,6 +72,7 @@ pub(crate) fn put_blocker<S: Alter>(
 ) -> Result<(), StoreFault>
     ensures same_reference { tx.new.conn.ghost_name ≡ tx.old.conn.ghost_name }
     ensures plays { Plays (PutBlocker key blocker) (state S.Store tx.old.conn.now) (state S.Store tx.new.conn.now) result }
+    ensures serves { Serves (state S.Store tx.old.conn.now) (state S.Store tx.new.conn.now) result }
 {
     let key = parameter(key)?;
     let blocker = parameter(blocker)?;
@@ -83,6 +87,7 @@ pub(crate) fn put_affects<S: Alter>(
 ) -> Result<(), StoreFault>
     ensures same_reference { tx.new.conn.ghost_name ≡ tx.old.conn.ghost_name }
     ensures plays { Plays (PutAffects key «package».now) (state S.Store tx.old.conn.now) (state S.Store tx.new.conn.now) result }
+    ensures serves { Serves (state S.Store tx.old.conn.now) (state S.Store tx.new.conn.now) result }
 {
     let key = parameter(key)?;
     add_affected(tx, key, package)
@@ -97,6 +102,7 @@ pub(crate) fn put_near<S: Alter>(
 ) -> Result<(), StoreFault>
     ensures same_reference { tx.new.conn.ghost_name ≡ tx.old.conn.ghost_name }
     ensures plays { Plays (PutNear key node.now near.now) (state S.Store tx.old.conn.now) (state S.Store tx.new.conn.now) result }
+    ensures serves { Serves (state S.Store tx.old.conn.now) (state S.Store tx.new.conn.now) result }
 {
     let key = parameter(key)?;
     add_near(tx, key, node, near)
@@ -111,6 +117,7 @@ pub(crate) fn put_outcome<S: Alter>(
 ) -> Result<(), StoreFault>
     ensures same_reference { tx.new.conn.ghost_name ≡ tx.old.conn.ghost_name }
     ensures plays { Plays (PutOutcome id.now place outcome.now) (state S.Store tx.old.conn.now) (state S.Store tx.new.conn.now) result }
+    ensures serves { Serves (state S.Store tx.old.conn.now) (state S.Store tx.new.conn.now) result }
 {
     let place = parameter(place)?;
     add_outcome(tx, id, place, outcome)
@@ -125,6 +132,7 @@ pub(crate) fn put_outcome_number<S: Alter>(
 ) -> Result<(), StoreFault>
     ensures same_reference { tx.new.conn.ghost_name ≡ tx.old.conn.ghost_name }
     ensures plays { Plays (PutOutcomeNumber id.now place number) (state S.Store tx.old.conn.now) (state S.Store tx.new.conn.now) result }
+    ensures serves { Serves (state S.Store tx.old.conn.now) (state S.Store tx.new.conn.now) result }
 {
     let place = parameter(place)?;
     let number = parameter(number)?;

@@ -21,6 +21,7 @@ pub fn add_blocker<S: Alter>(
 ) -> Result<(), StoreFault>
     ensures same_reference { tx.new.conn.ghost_name ≡ tx.old.conn.ghost_name }
     ensures plays { Plays (PutBlocker key blocker) (state S.Store tx.old.conn.now) (state S.Store tx.new.conn.now) result }
+    ensures serves { Serves (state S.Store tx.old.conn.now) (state S.Store tx.new.conn.now) result }
 {
     written(tx.execute("INSERT INTO blocks VALUES (?1, ?2)", params![key, blocker]))
 }

@@ -26,6 +26,7 @@ pub fn add_bug<S: Alter>(
     ensures same_reference { tx.new.conn.ghost_name ≡ tx.old.conn.ghost_name }
     ensures plays { Plays (PutMember key (record { number = number; title = title.now; submitter = submitter.now }))
         (state S.Store tx.old.conn.now) (state S.Store tx.new.conn.now) result }
+    ensures serves { Serves (state S.Store tx.old.conn.now) (state S.Store tx.new.conn.now) result }
 {
     written(tx.execute(
         "INSERT INTO bugs VALUES (?1, ?2, ?3, ?4)",

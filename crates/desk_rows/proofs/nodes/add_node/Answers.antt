@@ -1,4 +1,4 @@
-use Rattle.desk_schema.proofs.Exports.{state, acts_write, maybe_bound}
+use Rattle.desk_schema.proofs.Exports.{state, acts_write, serves_write, maybe_bound}
 use Rattle.desk_rows.proofs.NodeStatements.{add_is}
 use Rattle.desk_rows.proofs.nodes.add_node.Goals as goal
 
@@ -15,3 +15,7 @@ returns-clause-plays g c =
       maybe_bound c.source_of.result _ c.source_of.ensures.value,
       maybe_bound c.version_of.result _ c.version_of.ensures.value,
     ) at c.execute.ensures.runs))
+
+pub returns-clause-serves : goal.returns-clause-serves
+returns-clause-serves g c =
+    rw c.written.ensures.told (serves_write _ _ (state g.S.Store c.args.tx.now.conn.now) (state g.S.Store c.execute.new.self.conn.now) c.execute.result c.execute.ensures.runs)

@@ -1,4 +1,4 @@
-use Rattle.desk_schema.proofs.Exports.{option_map, ap, subst, ◌∙◌, state, Node, IsNode, IfGiven, outcome_number, outcome_field, outcome_node, acts_write, maybe_bound}
+use Rattle.desk_schema.proofs.Exports.{option_map, ap, subst, ◌∙◌, state, Node, IsNode, IfGiven, outcome_number, outcome_field, outcome_node, acts_write, serves_write, maybe_bound}
 use Rattle.desk_rows.proofs.OutcomeStatements.{add_is, number_bound}
 use Rattle.desk_rows.proofs.outcomes.add_outcome.Goals as goal
 
@@ -22,3 +22,7 @@ returns-clause-plays g c =
       maybe_bound c.source_of.result (option_map (λ (v : Node). v.source) (outcome_node o)) (c.source_of.ensures.value ∙ ap (option_map (λ (v : Node). v.source)) node),
       maybe_bound c.version_of.result (option_map (λ (v : Node). v.version) (outcome_node o)) (c.version_of.ensures.value ∙ ap (option_map (λ (v : Node). v.version)) node),
     ) at c.execute.ensures.runs))
+
+pub returns-clause-serves : goal.returns-clause-serves
+returns-clause-serves g c =
+    rw c.written.ensures.told (serves_write _ _ (state g.S.Store c.args.tx.now.conn.now) (state g.S.Store c.execute.new.self.conn.now) c.execute.result c.execute.ensures.runs)

@@ -1,10 +1,9 @@
-use Rattle.std.proofs.Common.{◌≡◌}
 use Rattle.sqlite.specs.Held.{state}
 use Rattle.desk_content.specs.Content.{Content}
 use Rattle.desk_content.specs.Kept.{IsKeptContent}
 use Rattle.desk_content.specs.Branches.{AreMissing}
 use Rattle.branch_rows.specs.Grown.{IsGrown}
-use Rattle.desk_schema.proofs.ReadSteps.{known_first, known_then, known_answer}
+use Rattle.desk_schema.proofs.ReadSteps.{known_first, known_answer}
 use Rattle.desk_writes.specs.Steps.{Makes}
 use Rattle.desk_writes.proofs.BranchSteps.{says}
 use Rattle.desk_writes.proofs.MemoryLemmas.{memory_only}
@@ -13,17 +12,15 @@ use Rattle.desk_writes.proofs.branch.plan_branch.Goals as goal
 pub returns-clause-reads : goal.returns-clause-reads
 returns-clause-reads g c =
     let old = state g.S.Store c.args.tx.now.conn.now in
-    let mid = state g.S.Store c.read_next.new.tx.conn.now in
     let new = state g.S.Store c.read_missing.new.tx.conn.now in
     let u = c.args.family.now in
     let changed = c.args.changed.now in
     let rows = c.in_ok-rows.rows in
-    known_answer old new c.edits_of.result (λ x. (c.in_ok-read_next.field-0 ≡ x.next) × (IsKeptContent x → IsGrown x.nodes u changed → AreMissing x u rows.items))
+    known_answer old new c.edits_of.result (λ x. IsKeptContent x → IsGrown x.nodes u changed → AreMissing x u rows.items)
     (λ x edits. IsKeptContent x → IsGrown x.nodes u changed → Makes u edits x)
     (λ x p. (
       says c.edits_of.result (λ edits. (y : Content) → IsKeptContent y → IsGrown y.nodes u changed → AreMissing y u rows.items → Makes u edits y)
-          (λ edits. IsKeptContent x → IsGrown x.nodes u changed → Makes u edits x) (λ edits made kept grown. made x kept grown (p.1 kept grown)) c.edits_of.ensures.made,
+          (λ edits. IsKeptContent x → IsGrown x.nodes u changed → Makes u edits x) (λ edits made kept grown. made x kept grown (p kept grown)) c.edits_of.ensures.made,
       memory_only c.edits_of.result c.edits_of.ensures.memory,
     ))
-    (known_then old mid new rows (λ x. c.in_ok-read_next.field-0 ≡ x.next) (λ x rows. IsKeptContent x → IsGrown x.nodes u changed → AreMissing x u rows.items)
-    (known_first old mid c.in_ok-read_next.field-0 (λ x next. next ≡ x.next) c.in_ok-read_next.ensures.reads) c.in_ok-rows.ensures.reads)
+    (known_first old new rows (λ x rows. IsKeptContent x → IsGrown x.nodes u changed → AreMissing x u rows.items) c.in_ok-rows.ensures.reads)

@@ -1,4 +1,4 @@
-use Rattle.desk_schema.proofs.Exports.{subst, IsUtf8, state, IsSetRow, acts_write, maybe_bound}
+use Rattle.desk_schema.proofs.Exports.{subst, IsUtf8, state, IsSetRow, acts_write, serves_write, maybe_bound}
 use Rattle.desk_content.proofs.TagLemmas.{number_below}
 use Rattle.set_rows.proofs.SetStatements.{new_row, add_is}
 use Rattle.set_rows.proofs.sets.add_fields.Goals as goal
@@ -25,3 +25,7 @@ returns-clause-plays g c =
       c.number_of_tags.ensures,
       c.number_of_flag-2.ensures,
     ) at c.execute.ensures.runs))
+
+pub returns-clause-serves : goal.returns-clause-serves
+returns-clause-serves g c =
+    rw c.written.ensures.told (serves_write _ _ (state g.S.Store c.args.tx.now.conn.now) (state g.S.Store c.execute.new.self.conn.now) c.execute.result c.execute.ensures.runs)

@@ -1,5 +1,5 @@
+use Rattle.desk_tables.proofs.Imports.{remembered}
 use Rattle.desk_schema.proofs.Exports.{refl}
-use Rattle.desk_reads.specs.Known.{known_set}
 use Rattle.desk_tables.proofs.StillLemmas.{still_then}
 use Rattle.desk_tables.proofs.CrashLemmas.{left_as_before}
 use Rattle.desk_tables.proofs.KeptLemmas.{noted}
@@ -12,7 +12,7 @@ pub returns : goal.returns
 returns g c =
     let d = c.args.self.now in
     let asked = c.ask_within.ensures.asked in
-    let it = noted g.S.Store d.last.value d.conn c.ask_within.new.conn d.family (known_set d.known) c.ask_within.result _ _ asked d.stays c.requires.fits in
+    let it = noted g.S.Store d.last.value d.conn c.ask_within.new.conn d.family (remembered d) c.ask_within.result _ _ asked d.stays c.requires.fits in
     record {
       answer = record { holds = record { honest = it.honest; kept = λ was clean. was; fact = it.fact }; was_kept = λ now clean. now; left = left_as_before _ _ asked.survives };
       sure = it.never;

@@ -1,6 +1,5 @@
-use Rattle.desk_tables.proofs.Imports.{content_seen}
+use Rattle.desk_tables.proofs.Imports.{content_seen, remembered}
 use Rattle.desk_schema.proofs.Exports.{◌≡◌, IfSome, refl, subst}
-use Rattle.desk_reads.specs.Known.{known_set}
 use Rattle.desk_tables.proofs.StillLemmas.{still_then}
 use Rattle.desk_tables.proofs.CrashLemmas.{left_as_before}
 use Rattle.desk_tables.proofs.KeptLemmas.{noted, is_asked}
@@ -14,7 +13,7 @@ returns-in-Some g c =
     let d = c.args.self.now in
     let content = content_seen g.S.Store d.last.value in
     let asked = c.ask_within.ensures.asked in
-    let it = noted g.S.Store d.last.value d.conn c.ask_within.new.conn d.family (known_set d.known) c.ask_within.result _ _ asked d.stays
+    let it = noted g.S.Store d.last.value d.conn c.ask_within.new.conn d.family (remembered d) c.ask_within.result _ _ asked d.stays
     (λ was clean. is_asked c.in-Some.family c.args.image.now content was.content c.requires.member (c.requires.set was clean) (subst (λ f. IfSome f (λ t. t ≡ content.nodes)) c.in-Some.is was.tree)) in
     record {
       answer = record { holds = record { honest = it.honest; kept = λ was clean. was; fact = it.fact }; was_kept = λ now clean. now; left = left_as_before _ _ asked.survives };

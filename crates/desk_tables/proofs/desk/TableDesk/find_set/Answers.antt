@@ -13,7 +13,7 @@ returns-in-Some g c =
         holds = record {
           honest = λ clean. clean;
           kept = λ was clean. was;
-          fact = λ was clean. (known_image (known_key d.known) (known_set d.known) d.known.bugs.keyed (content_seen g.S.Store d.last.value) was.content was.known c.args.number c.in-Some.image c.in-Some.ensures, refl);
+          fact = λ was clean. (known_image (known_key d.known) (known_set d.known) d.known.bugs.keyed (content_seen g.S.Store d.last.value) was.content was.known.sets c.args.number c.in-Some.image c.in-Some.ensures, refl);
         };
         was_kept = λ now clean. now;
         left = λ clean a b left. left;

@@ -12,7 +12,7 @@ pub returns-in-Some-clause-stay : goal.returns-in-Some-clause-stay
 returns-in-Some-clause-stay g c = λ now clean.
     let d = c.args.self.now in
     c.in-Some.ensures (content_seen g.S.Store d.last.value)
-    (rw c.as_ref.ensures.value (recalled_in (known_key d.known) (known_set d.known) (content_seen g.S.Store d.last.value) now.known c.recall_for-before.result c.recall_for-before.ensures))
+    (rw c.as_ref.ensures.value (recalled_in (known_key d.known) (known_set d.known) (content_seen g.S.Store d.last.value) now.known.sets c.recall_for-before.result c.recall_for-before.ensures))
 
 pub returns-clause-answer : goal.returns-clause-answer
 returns-clause-answer g c =

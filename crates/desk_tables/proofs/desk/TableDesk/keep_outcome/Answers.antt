@@ -1,6 +1,7 @@
-use Rattle.desk_tables.proofs.Imports.{MayBeKept, content_seen, IsKept}
+use Rattle.desk_tables.proofs.Imports.{MayBeKept, content_seen, IsKept, remembered}
 use Rattle.desk_schema.proofs.Exports.{◌≡◌, Err, refl, rules, option_copied, state, HasCleanDisk, desk_in, keeping_in}
 use Rattle.desk_reads.specs.Known.{known_set}
+use Rattle.desk_writes.proofs.PlaceLemmas.{known_place_behind}
 use Rattle.desk_tables.proofs.StillLemmas.{still_then}
 use Rattle.desk_tables.proofs.KeptLemmas.{never_foreign, crashed, taken, made, refused}
 use Rattle.desk_tables.proofs.KeepLemmas.{line_known, line_is, line_stays, line_fact}
@@ -17,14 +18,14 @@ returns-in_err-keep_line g c =
     let k = content_seen g.S.Store d.last.value in
     let change = option_copied c.args.change in
     let changes = rw c.as_ref.ensures.value at c.in_err-keep_line.ensures.changed in
-    let fits = λ (may : MayBeKept c.args.id.now c.args.from.now c.args.message.now (keeping_in k) (desk_in k) c.args.outcome.now change) (was : IsKept g.S.Store d.last.value d.family (known_set d.known)) (clean : HasCleanDisk (state g.S.Store d.conn)).
-    line_is k _ _ _ c.args.outcome.now change may was.content (c.requires.fits was clean) d.family (option_copied c.args.before) (c.requires.tree was clean) (c.requires.before was clean) in
+    let fits = λ (may : MayBeKept c.args.id.now c.args.from.now c.args.message.now (keeping_in k) (desk_in k) c.args.outcome.now change) (was : IsKept g.S.Store d.last.value d.family (remembered d)) (clean : HasCleanDisk (state g.S.Store d.conn)).
+    line_is k _ _ _ c.args.outcome.now change may was.content (c.requires.fits was clean) d.family (option_copied c.args.before) c.args.place (c.requires.tree was clean) (c.requires.before was clean) (c.requires.place was clean) in
     rw is (record {
       honest = changes.honest;
       answer = λ may. record { honest = changes.honest; kept = λ was clean. was; fact = λ was clean. (refl, refl) };
-      sure = λ may. never_foreign g.S.Store d.last.value d.conn c.keep_line.new.conn d.family (known_set d.known) _ _ d.stays (fits may) fault changes;
+      sure = λ may. never_foreign g.S.Store d.last.value d.conn c.keep_line.new.conn d.family (remembered d) _ _ d.stays (fits may) fault changes;
       serves = λ may was clean. tt;
-      crash = λ may. crashed g.S.Store d.last.value d.conn c.keep_line.new.conn d.family (known_set d.known) _ _ d.stays (fits may) (refused fault) changes;
+      crash = λ may. crashed g.S.Store d.last.value d.conn c.keep_line.new.conn d.family (remembered d) _ _ d.stays (fits may) (refused fault) changes;
       counts = refl;
     })
 
@@ -34,12 +35,15 @@ returns g c =
     let k = content_seen g.S.Store d.last.value in
     let change = option_copied c.args.change in
     let changes = rw c.as_ref.ensures.value at c.in_ok-keep_line.ensures.changed in
-    let fits = λ (may : MayBeKept c.args.id.now c.args.from.now c.args.message.now (keeping_in k) (desk_in k) c.args.outcome.now change) (was : IsKept g.S.Store d.last.value d.family (known_set d.known)) (clean : HasCleanDisk (state g.S.Store d.conn)).
-    line_is k _ _ _ c.args.outcome.now change may was.content (c.requires.fits was clean) d.family (option_copied c.args.before) (c.requires.tree was clean) (c.requires.before was clean) in
+    let fits = λ (may : MayBeKept c.args.id.now c.args.from.now c.args.message.now (keeping_in k) (desk_in k) c.args.outcome.now change) (was : IsKept g.S.Store d.last.value d.family (remembered d)) (clean : HasCleanDisk (state g.S.Store d.conn)).
+    line_is k _ _ _ c.args.outcome.now change may was.content (c.requires.fits was clean) d.family (option_copied c.args.before) c.args.place (c.requires.tree was clean) (c.requires.before was clean) (c.requires.place was clean) in
     let it = λ (may : MayBeKept c.args.id.now c.args.from.now c.args.message.now (keeping_in k) (desk_in k) c.args.outcome.now change).
-    taken g.S.Store d.last.value d.conn c.keep_line.new.conn d.family (known_set d.known) _ _ d.stays (fits may) c.of.result.value (known_set c.follow_line.new.self) changes c.of.ensures
+    taken g.S.Store d.last.value d.conn c.keep_line.new.conn d.family (remembered d) _ _ d.stays (fits may) c.of.result.value (record { sets = known_set c.follow_line.new.self; place = c.follow.new.self }) changes c.of.ensures
     (λ was clean. line_stays k _ _ _ c.args.outcome.now change may was.content (c.requires.fits was clean) c.requires.sender)
-    (λ was clean. line_known change k (known_set d.known) (known_set c.follow_line.new.self) was.content (c.requires.fits was clean) was.known c.follow_line.ensures) in
+    (λ was clean. record {
+      sets = line_known change k (known_set d.known) (known_set c.follow_line.new.self) was.content (c.requires.fits was clean) was.known.sets c.follow_line.ensures;
+      place = known_place_behind k c.args.id.now c.args.from.now c.args.message.now c.args.place c.args.outcome.now change (c.requires.place was clean) c.follow.new.self c.follow.ensures;
+    }) in
     record {
       honest = changes.honest;
       answer = λ may. record {
@@ -49,6 +53,6 @@ returns g c =
       };
       sure = λ may was clean. tt;
       serves = λ may. (it may).serves;
-      crash = λ may. crashed g.S.Store d.last.value d.conn c.keep_line.new.conn d.family (known_set d.known) _ _ d.stays (fits may) made changes;
+      crash = λ may. crashed g.S.Store d.last.value d.conn c.keep_line.new.conn d.family (remembered d) _ _ d.stays (fits may) made changes;
       counts = refl;
     }

@@ -7,7 +7,7 @@ use Rattle.desk_tables.proofs.desk.TableDesk.load_and_make.Goals as goal
 pub make-requires-clause-before : goal.make-requires-clause-before
 make-requires-clause-before g c = λ was clean.
     let d = c.load_for.new.self in
-    rw c.as_ref.ensures.value (recalled_in (known_key d.known) (known_set d.known) (content_seen g.S.Store d.last.value) was.known c.recall_for-before.result c.recall_for-before.ensures)
+    rw c.as_ref.ensures.value (recalled_in (known_key d.known) (known_set d.known) (content_seen g.S.Store d.last.value) was.known.sets c.recall_for-before.result c.recall_for-before.ensures)
 
 pub returns-in_err-load_for-clause-answer : goal.returns-in_err-load_for-clause-answer
 returns-in_err-load_for-clause-answer g c =

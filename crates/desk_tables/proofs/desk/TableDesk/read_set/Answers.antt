@@ -21,8 +21,11 @@ returns-in-Some g c =
                 shown = now.shown;
                 content = now.content;
                 tree = now.tree;
-                known = known_learnt (known_set mid.known) (known_set c.learn.new.self) (content_seen g.S.Store mid.last.value) found
-                    (subst (λ h. image (content_seen g.S.Store h) found.key ≡ Some found.image) (sym did.last) said.0.1) now.known c.learn.ensures.learns;
+                known = record {
+                  sets = known_learnt (known_set mid.known) (known_set c.learn.new.self) (content_seen g.S.Store mid.last.value) found
+                      (subst (λ h. image (content_seen g.S.Store h) found.key ≡ Some found.image) (sym did.last) said.0.1) now.known.sets c.learn.ensures.learns;
+                  place = now.known.place;
+                };
               };
           fact = λ was clean. let said = rw c.in-Some.is at (did.answer.holds.fact was clean) in (said.0.0, said.1);
         };
@@ -30,7 +33,10 @@ returns-in-Some g c =
           shown = now.shown;
           content = now.content;
           tree = now.tree;
-          known = known_less (known_set mid.known) (known_set c.learn.new.self) (content_seen g.S.Store mid.last.value) c.learn.ensures.keeps now.known;
+          known = record {
+            sets = known_less (known_set mid.known) (known_set c.learn.new.self) (content_seen g.S.Store mid.last.value) c.learn.ensures.keeps now.known.sets;
+            place = now.known.place;
+          };
         }) clean;
         left = did.answer.left;
       };

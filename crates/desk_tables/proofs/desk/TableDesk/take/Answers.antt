@@ -1,6 +1,5 @@
-use Rattle.desk_tables.proofs.Imports.{IsKept}
+use Rattle.desk_tables.proofs.Imports.{IsKept, remembered}
 use Rattle.desk_schema.proofs.Exports.{◌≡◌, Err, refl, sym, ◌∙◌, rules}
-use Rattle.desk_reads.specs.Known.{known_set}
 use Rattle.desk_tables.proofs.StillLemmas.{still_then}
 use Rattle.desk_tables.proofs.BranchLemmas.{faulty, taken, refused, never_foreign, noted_anew, refused_desk, refusal_is, crashed}
 use Rattle.desk_tables.proofs.desk.TableDesk.take.Goals as goal
@@ -19,7 +18,7 @@ returns-in_err-taken g c =
     let is : c.from_residual.result ≡ Err fault = search rules in
     let did = c.in_err-taken.ensures.taken in
     let d = c.args.self.now in
-    let over = λ (was : IsKept g.S.Store d.last.value d.family (known_set d.known)). rw (sym c.take.ensures.value ∙ c.in-Some.is) at was in
+    let over = λ (was : IsKept g.S.Store d.last.value d.family (remembered d)). rw (sym c.take.ensures.value ∙ c.in-Some.is) at was in
     rw is (record {
       answer = record {
         honest = did.honest;
@@ -28,9 +27,9 @@ returns-in_err-taken g c =
       };
       stays = λ was clean. refl;
       refusal = tt;
-      sure = λ was clean. never_foreign g.S.Store d.last.value d.conn c.take_nodes.new.conn c.in-Some.family c.take_nodes.new.family (known_set d.known) c.args.nodes.now d.stays fault did (over was) clean;
+      sure = λ was clean. never_foreign g.S.Store d.last.value d.conn c.take_nodes.new.conn c.in-Some.family c.take_nodes.new.family (remembered d) c.args.nodes.now d.stays fault did (over was) clean;
       serves = λ was clean. tt;
-      crash = λ was. crashed g.S.Store d.last.value d.conn c.take_nodes.new.conn c.in-Some.family c.take_nodes.new.family (known_set d.known) c.args.nodes.now d.stays (faulty fault) did (λ clean. over (was clean));
+      crash = λ was. crashed g.S.Store d.last.value d.conn c.take_nodes.new.conn c.in-Some.family c.take_nodes.new.family (remembered d) c.args.nodes.now d.stays (faulty fault) did (λ clean. over (was clean));
       counts = refl;
     })
 
@@ -38,15 +37,15 @@ pub returns-in-Ok : goal.returns-in-Ok
 returns-in-Ok g c =
     let did = rw c.in-Ok.is at c.in_ok-taken.ensures.taken in
     let d = c.args.self.now in
-    let over = λ (was : IsKept g.S.Store d.last.value d.family (known_set d.known)). rw (sym c.take.ensures.value ∙ c.in-Some.is) at was in
-    let it = noted_anew g.S.Store d.last.value d.conn c.take_nodes.new.conn c.in-Some.family c.take_nodes.new.family (known_set d.known) c.args.nodes.now d.stays c.of.result.value did c.take_nodes.ensures.forest c.of.ensures in
+    let over = λ (was : IsKept g.S.Store d.last.value d.family (remembered d)). rw (sym c.take.ensures.value ∙ c.in-Some.is) at was in
+    let it = noted_anew g.S.Store d.last.value d.conn c.take_nodes.new.conn c.in-Some.family c.take_nodes.new.family (remembered d) c.args.nodes.now d.stays c.of.result.value did c.take_nodes.ensures.forest c.of.ensures in
     record {
       answer = record { honest = did.honest; kept = λ was. it.kept (over was); fact = λ was. it.desk (over was) };
       stays = λ was. it.keeping (over was);
       refusal = tt;
       sure = λ was clean. tt;
       serves = λ was. it.serves (over was);
-      crash = λ was. crashed g.S.Store d.last.value d.conn c.take_nodes.new.conn c.in-Some.family c.take_nodes.new.family (known_set d.known) c.args.nodes.now d.stays taken did (λ clean. over (was clean));
+      crash = λ was. crashed g.S.Store d.last.value d.conn c.take_nodes.new.conn c.in-Some.family c.take_nodes.new.family (remembered d) c.args.nodes.now d.stays taken did (λ clean. over (was clean));
       counts = refl;
     }
 
@@ -55,17 +54,17 @@ returns-in-Err g c =
     let did = rw c.in-Err.is at c.in_ok-taken.ensures.taken in
     let d = c.args.self.now in
     let why = refusal_is c.in-Some.family c.take_nodes.new.family c.args.nodes.now c.in-Err.refusal did.answer.0 did.answer.1 in
-    let over = λ (was : IsKept g.S.Store d.last.value d.family (known_set d.known)). rw (sym c.take.ensures.value ∙ c.in-Some.is) at was in
+    let over = λ (was : IsKept g.S.Store d.last.value d.family (remembered d)). rw (sym c.take.ensures.value ∙ c.in-Some.is) at was in
     record {
       answer = record {
         honest = did.honest;
         kept = λ was clean. let w = over was in record { shown = w.shown; content = w.content; tree = why.1 ∙ w.tree; known = w.known };
-        fact = λ was clean. refused_desk g.S.Store d.last.value d.conn c.take_nodes.new.conn c.in-Some.family c.take_nodes.new.family (known_set d.known) c.args.nodes.now d.stays c.in-Err.refusal why.0 (over was);
+        fact = λ was clean. refused_desk g.S.Store d.last.value d.conn c.take_nodes.new.conn c.in-Some.family c.take_nodes.new.family (remembered d) c.args.nodes.now d.stays c.in-Err.refusal why.0 (over was);
       };
       stays = λ was clean. refl;
       refusal = did.answer.1;
       sure = λ was clean. tt;
       serves = λ was clean. tt;
-      crash = λ was. crashed g.S.Store d.last.value d.conn c.take_nodes.new.conn c.in-Some.family c.take_nodes.new.family (known_set d.known) c.args.nodes.now d.stays (refused c.in-Err.refusal) did (λ clean. over (was clean));
+      crash = λ was. crashed g.S.Store d.last.value d.conn c.take_nodes.new.conn c.in-Some.family c.take_nodes.new.family (remembered d) c.args.nodes.now d.stays (refused c.in-Err.refusal) did (λ clean. over (was clean));
       counts = refl;
     }
