@@ -17,11 +17,7 @@ use Rattle.ancestry.specs.Kept.{HasParents}
 use Rattle.version_nodes.proofs.NodeLemmas.{same_true, same_itself, same_back, past_first}
 use Rattle.ancestry.proofs.BranchLemmas.{parent_put, parent_others, learnt_parents}
 use Rattle.ancestry.proofs.LineLemmas.{unknown_has_none}
-use Rattle.ancestry.proofs.WholeLemmas.{links_known}
-
-none_of : (o : Option Node) → is_some o ≡ false → o ≡ None
-none_of None h = refl
-none_of (Some n) h = absurd (cc)
+use Rattle.ancestry.proofs.WholeLemmas.{links_known, none_of}
 
 some_of : (o : Option Node) → is_some o ≡ true → is_none o ≡ false
 some_of None h = absurd (cc)

@@ -11,6 +11,7 @@ use Rattle.ancestry.specs.Branches.{learn, learn_all, with_parent, base_on, base
 use Rattle.version_nodes.proofs.NodeLemmas.{has_tail}
 use Rattle.ancestry.proofs.LineLemmas.{line_is, line_begins, rest_from}
 use Rattle.ancestry.proofs.BranchLemmas.{Longer, knows_kept, knows_put, learnt_lines, based_line, longer, based_forest}
+use Rattle.ancestry.proofs.WholeLemmas.{none_of}
 
 -- ---- lists of nodes
 
@@ -85,10 +86,6 @@ step t n p u forest known-n known-p h =
               (line_is (with_parent t n p) n (n ∷ line t p) after (based_line t n p forest known-n known-p root apart))
               (line_begins t p (line t p) (forest.lines p));
         })
-
-    none_of : (o : Option Node) → is_some o ≡ false → o ≡ None
-    none_of None g = refl
-    none_of (Some m) g = absurd (cc)
 
     by_tests : (a b c : Bool) → is_ancestor t p n ≡ a → is_some (parent_of t n) ≡ b → has_node (line t p) n ≡ c
         → cond a (Some t) (cond (b || c) None (Some (with_parent t n p))) ≡ Some u → Step t n p u

@@ -19,7 +19,7 @@ use Rattle.ancestry.specs.Whole.{HasLine, Stands}
 use Rattle.ancestry.proofs.LinkLemmas.{AreAbove, above_more, unknown_below, same_links}
 use Rattle.ancestry.proofs.LineLemmas.{line_cons, unknown_has_none, IsForest-from}
 
-none_of : {A : Type 0} (o : Option A) → is_some o ≡ false → o ≡ None
+pub none_of : {A : Type 0} (o : Option A) → is_some o ≡ false → o ≡ None
 none_of None h = refl
 none_of (Some x) h = absurd (cc)
 

@@ -16,6 +16,7 @@ ghost use Rattle.ancestry.specs.declared.fault.BranchFault.TheVariants.{Memory};
 
 use crate::fault::BranchFault;
 use crate::tree::Tree;
+use crate::whole::parent_in;
 use std::alloc::AllocError;
 use std::collections::{BTreeMap, HashMap, HashSet};
 use version_nodes::Node;
@@ -169,10 +170,7 @@ fn forget_parents(parents: &mut HashSet<Node>, nodes: &[Node], were: &[bool])
 fn has_parent(links: &BTreeMap<Node, Option<Node>>, node: &Node) -> bool
     ensures { result ≡ is_some (parent_of links.now.entries node.now) }
 {
-    match links.get(node) {
-        Some(parent) => parent.is_some(),
-        None => false,
-    }
+    parent_in(links, node).is_some()
 }
 
 // Takes the parents away of those nodes that have none in these links.

@@ -19,7 +19,10 @@ use std::collections::{BTreeMap, HashMap, HashSet};
 use version_nodes::Node;
 
 // The node's parent in these links, where it is known and has one.
-fn parent_in<'a>(links: &'a BTreeMap<Node, Option<Node>>, node: &Node) -> Option<&'a Node>
+pub(crate) fn parent_in<'a>(
+    links: &'a BTreeMap<Node, Option<Node>>,
+    node: &Node,
+) -> Option<&'a Node>
     ensures { option_copied result ≡ parent_of links.now.entries node.now }
 {
     match links.get(node) {
@@ -146,26 +149,17 @@ fn parents_above(
     Ok(above)
 }
 
-// The order of two links by the texts of their nodes alone: by the sources, and then the shorter
-// version comes first.
-fn by_texts(a: &(Node, Option<Node>), b: &(Node, Option<Node>)) -> Ordering {
-    let by_source = a.0.source().as_bytes().cmp(b.0.source().as_bytes());
-    if by_source.is_ne() {
-        return by_source;
-    }
-    let left = a.0.version().as_bytes();
-    let right = b.0.version().as_bytes();
-    left.len().cmp(&right.len()).then(left.cmp(right))
+// The order of two links by the sources of their nodes alone.
+fn by_source(a: &(Node, Option<Node>), b: &(Node, Option<Node>)) -> Ordering {
+    a.0.source().as_bytes().cmp(b.0.source().as_bytes())
 }
 
-// These links by their texts, which mostly is the order of their nodes: there each is then
-// compared with its neighbours alone.
-fn in_text_order(
-    mut links: Vec<(Node, Option<Node>)>,
-) -> Result<Vec<(Node, Option<Node>)>, AllocError>
+// These links by their sources, and those of a source as they come: mostly each is based on the
+// next one or the one before, and so its version is then compared with its neighbours' alone.
+fn by_sources(mut links: Vec<(Node, Option<Node>)>) -> Result<Vec<(Node, Option<Node>)>, AllocError>
     ensures { IfOk result (λ sorted. IsPermutation links.items sorted.items) }
 {
-    links.sort_by(by_texts)?;
+    links.sort_by(by_source)?;
     Ok(links)
 }
 
@@ -194,7 +188,7 @@ impl Tree {
         ensures tree { (t : Ancestry) → IsForest t → IsPermutation t links.items → IfOk result (λ tree. tree ≡ Some t) }
         ensures forest { IfOk result (λ tree. IfSome tree IsForest) }
     {
-        let sorted = in_text_order(links)?;
+        let sorted = by_sources(links)?;
         let links = map_of(alloc, sorted)?;
         if !are_forest(&links) {
             return Ok(None);

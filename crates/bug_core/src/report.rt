@@ -20,11 +20,10 @@ use version_nodes::Node;
 fn found_first(alloc: Global, node: Option<Node>) -> Result<Nodes, AllocError>
     ensures { IfOk result (λ nodes. nodes ≡ found_first node) }
 {
-    let mut nodes = Sequence::new(alloc);
-    if let Some(node) = node {
-        nodes.push(node)?;
+    match node {
+        Some(node) => Ok(Sequence::from_vec(Vec::from_array(alloc, [node])?)),
+        None => Ok(Sequence::new(alloc)),
     }
-    Ok(nodes)
 }
 
 // The new bug, as the only member of its set.

@@ -77,7 +77,7 @@ at_key f k old (Some j) i was new e =
       | false ↦ λ e. absurd (none-some i e)
     ] e
 
-named_within : (set : ℕ → Option SetImage) (f g : ℕ → Bool) → IsWithin f g → AreNamed set f → AreNamed set g
+pub named_within : (set : ℕ → Option SetImage) (f g : ℕ → Bool) → IsWithin f g → AreNamed set f → AreNamed set g
 named_within set f g within are k i e n h = within n (are k i e n h)
 
 -- after images are put, or where there was no memory for them
@@ -88,10 +88,6 @@ named_put old now is f g (Ok x) are within all ok err =
     (λ k i e. at_key g k (old.set k) (image_with is k) i (named_within old.set f g within are k) (λ j h. image_named g is k j all h) e)
 named_put old now is f g (Err x) are within all ok err =
     subst (λ (b : Keyed). AreNamed b.set g) (sym err) (named_within old.set f g within are)
-
--- where there was no memory for the numbers
-pub named_still : (set : ℕ → Option SetImage) (f g : ℕ → Bool) → IsWithin f g → AreNamed set f → AreNamed set g
-named_still set f g within are = named_within set f g within are
 
 -- ---- none waits on a number that is not named
 

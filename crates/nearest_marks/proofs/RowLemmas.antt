@@ -12,6 +12,7 @@ use Rattle.version_nodes.specs.Nodes.{Node, same_node, node_cmp}
 use Rattle.version_nodes.specs.NodeLaws.{same_node_equiv, node_ties}
 use Rattle.version_nodes.specs.Trees.{has_node}
 use Rattle.version_nodes.proofs.NodeLemmas.{same_true, same_itself, ties_same}
+use Rattle.ancestry.proofs.WholeLemmas.{none_of}
 use Rattle.nearest_marks.specs.Nearest.{row_at, once}
 use Rattle.nearest_marks.specs.Walks.{row_of, rows_below}
 use Rattle.nearest_marks.specs.declared.near.Near.{Near}
@@ -20,10 +21,6 @@ use Rattle.nearest_marks.specs.declared.near.NearRow.{NearRow}
 -- whether a node has a row
 abbrev pub has_row : List NearRow → Node → Bool
 has_row rows v = is_some (row_at rows v)
-
-pub none_of : {A : Type 0} (o : Option A) → is_some o ≡ false → o ≡ None
-none_of None h = refl
-none_of (Some x) h = absurd (false≢true (sym h))
 
 pub both_true : (a b : Bool) → (a && b) ≡ true → (a ≡ true) × (b ≡ true)
 both_true true b h = (refl, h)

@@ -1,7 +1,8 @@
 use Rattle.std.proofs.Common.{is_some, sym, ap, ◌∙◌}
 use Rattle.version_nodes.specs.Nodes.{node_cmp}
 use Rattle.std.specs.BTreeMap.{get}
-use Rattle.nearest_marks.proofs.ChildLemmas.{room_same, none_of}
+use Rattle.ancestry.proofs.WholeLemmas.{none_of}
+use Rattle.nearest_marks.proofs.ChildLemmas.{room_same}
 use Rattle.nearest_marks.proofs.children.make_room.Goals as goal
 
 pub returns-in_ok-insert-clause-same : goal.returns-in_ok-insert-clause-same

@@ -3,7 +3,7 @@ use Rattle.version_nodes.specs.Trees.{no_nodes}
 use Rattle.std.specs.Prelude.{nat_eq}
 use Rattle.std.specs.HashSet.{contains}
 use Rattle.bugs_in_memory.specs.Places.{sets}
-use Rattle.bugs_in_memory.proofs.NamedLemmas.{named_put, named_still}
+use Rattle.bugs_in_memory.proofs.NamedLemmas.{named_put, named_within}
 use Rattle.bugs_in_memory.proofs.AfterLemmas.{keyed_by, same_sets, sets_after, fit-put, bugs-after}
 use Rattle.bugs_in_memory.proofs.bug_sets.BugSets.put.Goals as goal
 
@@ -28,7 +28,7 @@ invariant_of-self c =
     record {
       keyed = old.keyed;
       named =
-          named_still (sets old.places) (contains nat_eq old.blockers) (contains nat_eq c.add_blockers.new.named)
+          named_within (sets old.places) (contains nat_eq old.blockers) (contains nat_eq c.add_blockers.new.named)
           c.add_blockers.ensures.keeps old.named;
     }
 
