@@ -274,7 +274,7 @@ module _ (c : Content) (is : List SetImage) (kept : IsKeptContent c) (apart : Ar
   keys_are : after.key ≡ key_after is c.key
   keys_are = λ i. λ n. key_is n i
 
-  images_are : image after ≡ set_after is (image c)
+  pub images_are : image after ≡ set_after is (image c)
   images_are = λ i. λ k. image_is k i
 
   nodes_are : after.nodes ≡ c.nodes

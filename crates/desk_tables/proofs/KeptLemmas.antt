@@ -9,7 +9,7 @@ use Rattle.bug_record.specs.Sets.{has}
 use Rattle.bugs_in_memory.specs.Keys.{key_of, has_bug, IsKeyed, image_at_key, set_after}
 use Rattle.bugs_in_memory.proofs.ImageLemmas.{both_steps}
 use Rattle.bugs_in_memory.proofs.KeyLemmas.{image-of_key}
-use Rattle.desk_tables.proofs.SetLemmas.{images_are}
+use Rattle.desk_content.proofs.ChangeLemmas.{images_are}
 use Rattle.desk_content.specs.View.{image}
 use Rattle.desk_reads.specs.Asked.{IsAskedFor}
 use Rattle.desk_store.specs.Store.{IsImageOf}

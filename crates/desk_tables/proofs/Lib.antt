@@ -1,6 +1,5 @@
 pub mod StillLemmas
 pub mod TransactionLemmas
-pub mod SetLemmas
 pub mod KeptLemmas
 pub mod OpeningLemmas
 pub mod BranchLemmas
