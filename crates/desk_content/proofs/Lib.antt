@@ -18,3 +18,4 @@ pub mod AfterLemmas
 pub mod StandLemmas
 pub mod StayLemmas
 pub mod MoveLemmas
+pub mod SpareLemmas
