@@ -33,8 +33,13 @@ pub record Stays (i : SetImage) (c : Content) : Type 0 where
 abbrev pub HasNearest : SetImage → List Node → List Node → Content → Type 0
 HasNearest i found fixed c = (v : Node) → c.near (key_of i) v ≡ nearest_of c.nodes found fixed v
 
--- what stands under the image's key, but for its bugs and its marks, is what these say
+-- these marks stand under the image's key
+abbrev pub StandThere : SetImage → List Node → List Node → Content → Type 0
+StandThere i found fixed c = (c.found (key_of i) ≡ found) × (c.fixed (key_of i) ≡ fixed)
+
+-- what stands under the image's key, but for its bugs, is what these say
 pub record HasRows (i : SetImage) (before : Shared) (c : Content) : Type 0 where
+  pub marks : StandThere i before.found before.fixed c
   pub fields : c.fields (key_of i) ≡ Some (fields_of before)
   pub blockers : c.blockers (key_of i) ≡ before.blockers
   pub affects : c.affects (key_of i) ≡ before.affects

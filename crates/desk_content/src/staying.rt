@@ -6,7 +6,7 @@ ghost use Rattle.desk_content.specs.Content.{Content};
 ghost use Rattle.desk_content.specs.Edits.{edited_all};
 ghost use Rattle.desk_content.specs.Free.{AreFree};
 ghost use Rattle.desk_content.specs.Images.{same_marks, without_image, with_image, IsCleared, IsGoodImage};
-ghost use Rattle.desk_content.specs.Staying.{Stays, HasNearest, HasRows, IsNeeded};
+ghost use Rattle.desk_content.specs.Staying.{Stays, HasNearest, StandThere, HasRows, IsNeeded};
 ghost use Rattle.desk_content.specs.EditLists.{key_drops};
 
 use crate::edit::Edit;
@@ -68,10 +68,10 @@ fn all_edits(
 ) -> Result<Sequence<Edit>, AllocError>
     ensures edits { IfOk result (λ edits. (c : Content) →
         (same_marks image.now found.now fixed.now ≡ false → c.nodes ≡ family.now) → HasNearest image.now found.now fixed.now c →
-        IsGoodImage image.now → Stays image.now c →
+        StandThere image.now found.now fixed.now c → IsGoodImage image.now → Stays image.now c →
         IsCleared (same_marks image.now found.now fixed.now) image.now (without_image (same_marks image.now found.now fixed.now) image.now c) →
         edited_all edits c ≡ with_image image.now (without_image (same_marks image.now found.now fixed.now) image.now c)) }
-    ensures free { IfOk result (λ edits. (c : Content) → IsGoodImage image.now → Stays image.now c →
+    ensures free { IfOk result (λ edits. (c : Content) → StandThere image.now found.now fixed.now c → IsGoodImage image.now → Stays image.now c →
         IsCleared (same_marks image.now found.now fixed.now) image.now (without_image (same_marks image.now found.now fixed.now) image.now c) →
         AreFree edits c) }
 {
@@ -89,7 +89,7 @@ fn all_edits(
 /// submitters among it, where these are the shared fields that stand under its key.
 /// Where their marks are the image's, they and their nearest marks stay too, whatever the tree is;
 /// where the image has a mark at each of their nodes, of the nearest marks those alone are written
-/// whose mark is new.
+/// whose mark is new; and where it has all of them, each as what it is, the new marks alone are.
 /// The row of fields, the blockers and the affected packages are each written only where they
 /// differ.
 /// The edits make what clearing all rows of the image and putting them again would make, and are
@@ -109,7 +109,7 @@ pub fn stay_edits(
         IsCleared (same_marks image.now before.now.found before.now.fixed) image.now
         (without_image (same_marks image.now before.now.found before.now.fixed) image.now c) →
         edited_all edits c ≡ with_image image.now (without_image (same_marks image.now before.now.found before.now.fixed) image.now c)) }
-    ensures free { IfOk result (λ edits. (c : Content) → IsGoodImage image.now → Stays image.now c →
+    ensures free { IfOk result (λ edits. (c : Content) → HasRows image.now before.now c → IsGoodImage image.now → Stays image.now c →
         IsCleared (same_marks image.now before.now.found before.now.fixed) image.now
         (without_image (same_marks image.now before.now.found before.now.fixed) image.now c) →
         AreFree edits c) }

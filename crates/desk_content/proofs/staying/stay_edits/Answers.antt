@@ -15,14 +15,14 @@ returns-clause-edits c =
     let same = rw c.fields.ensures at c.same_rows-same.ensures in
     ap (λ (es : List Edit). edited_all es x) c.spare.ensures
     ∙ rows_spared c.args.image.now c.args.before.now x (same_marks c.args.image.now c.args.before.now.found c.args.before.now.fixed)
-    c.same_rows-same.result c.in_ok-edits.edits (all x tree near good stays clear) stays has same.fields.0 same.blockers.0 same.affects.0
+    c.same_rows-same.result c.in_ok-edits.edits (all x tree near has.marks good stays clear) stays has same.fields.0 same.blockers.0 same.affects.0
 
 pub returns-clause-free : goal.returns-clause-free
 returns-clause-free c =
-    λ x good stays clear.
+    λ x has good stays clear.
     let all = rw (c.as_slice-found.ensures, c.as_slice-fixed.ensures) at c.in_ok-edits.ensures.free in
     subst (λ (es : List Edit). AreFree es x) (sym c.spare.ensures)
-    (rows_spared_free x c.same_rows-same.result c.in_ok-edits.edits (all x good stays clear))
+    (rows_spared_free x c.same_rows-same.result c.in_ok-edits.edits (all x has.marks good stays clear))
 
 pub returns-clause-needed : goal.returns-clause-needed
 returns-clause-needed c =
