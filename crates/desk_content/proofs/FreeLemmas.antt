@@ -143,7 +143,7 @@ none_of : (a b : Bool) → a ≡ false → b ≡ false → (a || b) ≡ false
 none_of true b e q = absurd (false≢true (sym e))
 none_of false b e q = q
 
-affected_free : (k : ℕ) (ns : List (List ℕ)) (c : Content) → k ≤ LARGEST_NUMBER → IsStrictlySortedBy name_cmp ns
+pub affected_free : (k : ℕ) (ns : List (List ℕ)) (c : Content) → k ≤ LARGEST_NUMBER → IsStrictlySortedBy name_cmp ns
     → ((m : List ℕ) → has_name ns m ≡ true → has_name (c.affects k) m ≡ false) → AreFree (affected_puts k ns) c
 affected_free k [] c l s h = tt
 affected_free k (n ∷ ns) c l s h = (
@@ -178,7 +178,7 @@ sorted_rest v vs s = s.1
 
 -- marks of a kind, where this is the list of them at k
 module _ (k : ℕ) (kind : MarkKind) (l : k ≤ LARGEST_NUMBER) where
-  marks_free : (vs : List Node) (c : Content) → IsStrictlySortedBy node_cmp vs
+  pub marks_free : (vs : List Node) (c : Content) → IsStrictlySortedBy node_cmp vs
       → ((w : Node) → has_node vs w ≡ true → has_node (marks_of kind c k) w ≡ false) → AreFree (mark_puts k kind vs) c
   marks_free [] c s h = tt
   marks_free (v ∷ vs) c s h = (

@@ -18,3 +18,5 @@ pub mod AfterLemmas
 pub mod StandLemmas
 pub mod StayLemmas
 pub mod MoveLemmas
+pub mod MarkMoveLemmas
+pub mod SpareLemmas

@@ -2,7 +2,6 @@
 use Rattle.std.proofs.Common.{◌≡◌, ◌≤◌, ℕ, Bool, true, false, cond, ◌&&◌, ◌||◌, List, [], ◌∷◌, ◌++◌, Option, Some, None, sym, refl, ap, ◌∙◌, subst}
 use Rattle.std.proofs.Common.{append_assoc}
 use Rattle.std.specs.Prelude.{not, ◌==◌, option_map, ⊤}
-use Rattle.std.specs.List.{list_all}
 use Rattle.std.specs.Option.{option_or}
 use Rattle.std.proofs.lemmas.Bool.{eqb-true, eq-eqb, false≢true, and_parts}
 use Rattle.std.proofs.lemmas.Option.{none-some, same_Some}
@@ -19,19 +18,17 @@ use Rattle.nearest_marks.specs.Nearest.{nearest_on, nearest_of, own_mark, row_at
 use Rattle.nearest_marks.specs.declared.near.Near.{Near}
 use Rattle.nearest_marks.specs.declared.near.NearRow.{NearRow}
 use Rattle.desk_content.specs.Content.{Content}
-use Rattle.desk_content.specs.Edits.{put_at, edited, edited_all, without_near_at, with_near, without_marks, without_affected, without_blockers, without_fields}
-use Rattle.desk_content.specs.EditLists.{blocker_puts, affected_puts, mark_puts, near_puts, near_moves, shared_puts, all_mark_puts, key_drops, row_drops, moves}
-use Rattle.desk_content.specs.Free.{IsFree, AreFree}
+use Rattle.desk_content.specs.Edits.{put_at, edited, edited_all, without_marks, without_affected, without_blockers, without_fields}
+use Rattle.desk_content.specs.EditLists.{blocker_puts, affected_puts, mark_puts, near_puts, near_moves, shared_puts, all_mark_puts, key_drops}
+use Rattle.desk_content.specs.Free.{AreFree}
 use Rattle.desk_content.specs.Images.{same_marks, without_image, with_image, IsGoodImage, IsCleared}
 use Rattle.desk_content.specs.Moving.{is_marked, is_marked_as, stood, are_marked, loses_none}
 use Rattle.desk_content.specs.Staying.{Stays}
 use Rattle.desk_content.specs.declared.edit.Edit.{Edit}
 use Rattle.desk_content.specs.declared.edit.Edit.TheVariants as edits
-use Rattle.desk_content.proofs.ClosedLemmas.{own_key}
 use Rattle.desk_content.proofs.EditLemmas.{edited_all-append}
-use Rattle.desk_content.proofs.FreeLemmas.{free-append}
 use Rattle.desk_content.proofs.PutLemmas.{put_near, put_near-is, near_put}
-use Rattle.desk_content.proofs.StayLemmas.{stays_new, stays_new_free}
+use Rattle.desk_content.proofs.StayLemmas.{stays_new}
 
 -- ---- which marks are lost
 
@@ -186,7 +183,7 @@ move_near-is k found fixed (r ∷ rows) f o j w = cases (λ h. move_near-is k fo
           | false ↦ refl
         ]
 
-near_moves_free : (k : ℕ) (found fixed : List Node) (rows : List NearRow) (c : Content) → k ≤ LARGEST_NUMBER → AreFree (near_moves k found fixed rows) c
+pub near_moves_free : (k : ℕ) (found fixed : List Node) (rows : List NearRow) (c : Content) → k ≤ LARGEST_NUMBER → AreFree (near_moves k found fixed rows) c
 near_moves_free k found fixed [] c l = tt
 near_moves_free k found fixed (r ∷ rows) c l =
     elim (stood found fixed r.near) as (λ b.
@@ -233,7 +230,7 @@ marks_other : (k : ℕ) (kind : MarkKind) (vs : List Node) → AreOther (mark_pu
 marks_other k kind [] = tt
 marks_other k kind (v ∷ vs) = (tt, marks_other k kind vs)
 
--- they leave the nearest marks, and need none
+-- they leave the nearest marks
 module _ (f : ℕ → Node → Option Near) where
   abbrev seeing : Content → Content
   seeing c = record c { near = f }
@@ -250,30 +247,18 @@ module _ (f : ℕ → Node → Option Near) where
   edits_apart [] c h = refl
   edits_apart (e ∷ es) c h = ap (edited_all es) (edit_apart e c h.0) ∙ edits_apart es (edited e c) h.1
 
-  free_one : (e : Edit) (c : Content) → IsOther e → IsFree e (seeing c) → IsFree e c
-  free_one (edits.DropNear k) c h free = absurd h
-  free_one (edits.DropNearAt k v) c h free = absurd h
-  free_one (edits.PutNear k v x) c h free = absurd h
-  free_one (edits.PutMark k Found v) c h free = free
-  free_one (edits.PutMark k Fixed v) c h free = free
-  free_one _ c h free = free
-
-  free_apart : (es : List Edit) (c : Content) → AreOther es → AreFree es (seeing c) → AreFree es c
-  free_apart [] c h free = tt
-  free_apart (e ∷ es) c h free = (
-    free_one e c h.0 free.0,
-    free_apart es (edited e c) h.1 (subst (λ (x : Content). AreFree es x) (edit_apart e c h.0) free.1),
-  )
-
-free-front : (xs ys : List Edit) (c : Content) → AreFree (xs ++ ys) c → AreFree xs c
-free-front [] ys c free = tt
-free-front (e ∷ xs) ys c free = (free.0, free-front xs ys (edited e c) free.1)
-
 -- ---- the edits of the image
 
 alone : (o : Option Near) → option_or o None ≡ o
 alone None = refl
 alone (Some x) = refl
+
+-- the edits where all marks go and come again
+abbrev pub all_moves : SetImage → List Node → List Node → List NearRow → List Edit
+all_moves i found fixed rows =
+    (edits.DropFields (key_of i) ∷ edits.DropBlockers (key_of i) ∷ edits.DropAffects (key_of i) ∷ edits.DropMarks (key_of i) ∷ [])
+    ++ (shared_puts i ++ (mark_puts (key_of i) Found i.shared.found
+    ++ (mark_puts (key_of i) Fixed i.shared.fixed ++ near_moves (key_of i) found fixed rows)))
 
 module _ (i : SetImage) (found fixed : List Node) (rows : List NearRow) (t : Ancestry) (o : once rows)
     (are : (v : Node) → row_at rows v ≡ nearest_of t i.shared.found i.shared.fixed v) (new : same_marks i found fixed ≡ false) where
@@ -303,8 +288,11 @@ module _ (i : SetImage) (found fixed : List Node) (rows : List NearRow) (t : Anc
       append_assoc (key_drops false k) (shared_puts i) (all_mark_puts i rows)
       ∙ ap (λ (xs : List Edit). key_drops false k ++ xs) (sym (rest-and (near_puts k rows)))
 
-  moves-is : moves i found fixed rows ≡ row_drops k ++ (rest ++ near_moves k found fixed rows)
-  moves-is = ap (λ (xs : List Edit). row_drops k ++ xs) (sym (rest-and (near_moves k found fixed rows)))
+  abbrev drops : List Edit
+  drops = edits.DropFields k ∷ edits.DropBlockers k ∷ edits.DropAffects k ∷ edits.DropMarks k ∷ []
+
+  moves-is : all_moves i found fixed rows ≡ drops ++ (rest ++ near_moves k found fixed rows)
+  moves-is = ap (λ (xs : List Edit). drops ++ xs) (sym (rest-and (near_moves k found fixed rows)))
 
   module _ (c : Content) where
     -- what stands under the key is gone, but for its bugs and its nearest marks
@@ -317,7 +305,7 @@ module _ (i : SetImage) (found fixed : List Node) (rows : List NearRow) (t : Anc
     near_stays : (edited_all rest gone).near ≡ c.near
     near_stays = ap (λ (x : Content). x.near) (edits_apart c.near rest gone rest_other)
 
-    moved : edited_all (moves i found fixed rows) c ≡ record (edited_all rest gone) { near = move_near k found fixed rows c.near }
+    moved : edited_all (all_moves i found fixed rows) c ≡ record (edited_all rest gone) { near = move_near k found fixed rows c.near }
     moved =
         ap (λ (es : List Edit). edited_all es c) moves-is
         ∙ edited_all-append rest (near_moves k found fixed rows) gone
@@ -350,38 +338,16 @@ module _ (i : SetImage) (found fixed : List Node) (rows : List NearRow) (t : Anc
           [ true ↦ λ q. own j w q | false ↦ λ q. refl ] refl
           ∙ sym (put_near-is k rows no_near o j w)
 
-      as_anew : edited_all (moves i found fixed rows) c ≡ edited_all anew c
+      as_anew : edited_all (all_moves i found fixed rows) c ≡ edited_all anew c
       as_anew =
           moved
           ∙ (λ x. record (edited_all rest gone) { near = λ j w. same_near j w x })
           ∙ sym made_anew
 
-      pub moves_made : IsGoodImage i → Stays i c → IsCleared false i (without_image false i c)
-          → edited_all (moves i found fixed rows) c ≡ with_image i (without_image false i c)
-      moves_made good stays clear =
+      pub all_made : IsGoodImage i → Stays i c → IsCleared false i (without_image false i c)
+          → edited_all (all_moves i found fixed rows) c ≡ with_image i (without_image false i c)
+      all_made good stays clear =
           as_anew
           ∙ subst (λ b. IsCleared b i (without_image b i c) → edited_all anew c ≡ with_image i (without_image b i c)) new
           (λ clear'. stays_new i found fixed k false refl (sym new) (key_drops false k) (key_drops false k ++ shared_puts i) refl refl c good stays clear'
           anew t refl (rows, o, are, refl) tree) clear
-
-    pub moves_free : IsGoodImage i → Stays i c → IsCleared false i (without_image false i c) → AreFree (moves i found fixed rows) c
-    moves_free good stays clear =
-        let free : AreFree anew c = subst (λ b. IsCleared b i (without_image b i c) → AreFree anew c) new
-        (λ clear'. stays_new_free i found fixed k false refl (sym new) (key_drops false k) (key_drops false k ++ shared_puts i) refl refl c good stays clear'
-        anew t refl (rows, o, are, refl)) clear in
-        let all : AreFree (key_drops false k ++ (rest ++ near_puts k rows)) c = subst (λ (es : List Edit). AreFree es c) anew-is free in
-        let later : AreFree rest (record gone { near = no_near }) = free-front rest (near_puts k rows) _ all.1.1.1.1.1 in
-        subst (λ (es : List Edit). AreFree es c) (sym moves-is) (
-          all.0,
-          (
-            all.1.0,
-            (
-              all.1.1.0,
-              (
-                all.1.1.1.0,
-                free-append rest (near_moves k found fixed rows) gone (free_apart no_near rest gone rest_other later)
-                    (near_moves_free k found fixed rows _ (good.numbers k (own_key i good.some))),
-              ),
-            ),
-          ),
-        )

@@ -28,7 +28,7 @@ pub at_same : {A : Type 0} (k : ℕ) (f : ℕ → A) (n : ℕ) → f n ≡ put_a
 at_same k f n = elim (k == n) as (λ t. (k == n) ≡ t → f n ≡ cond t (f k) (f n))
     [ true ↦ λ q. ap f (sym (eqb-true k n q)) | false ↦ λ q. refl ] refl
 
-at_twice : {A : Type 0} (k : ℕ) (x y : A) (f : ℕ → A) (n : ℕ) → put_at k y (put_at k x f) n ≡ put_at k y f n
+pub at_twice : {A : Type 0} (k : ℕ) (x y : A) (f : ℕ → A) (n : ℕ) → put_at k y (put_at k x f) n ≡ put_at k y f n
 at_twice k x y f n = elim (k == n) as (λ t. cond t y (cond t x (f n)) ≡ cond t y (f n)) [ true ↦ refl | false ↦ refl ]
 
 -- each item is put into the list at k

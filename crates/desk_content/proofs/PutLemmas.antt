@@ -71,7 +71,7 @@ pub blockers_put : (k : ℕ) (bs : List ℕ) (c : Content) → edited_all (block
 blockers_put k [] c = refl
 blockers_put k (b ∷ bs) c = blockers_put k bs (record c { blockers = put_at k (placed (λ n. n) (c.blockers k) b) c.blockers })
 
-affected_put : (k : ℕ) (names : List (List ℕ)) (c : Content) → edited_all (affected_puts k names) c
+pub affected_put : (k : ℕ) (names : List (List ℕ)) (c : Content) → edited_all (affected_puts k names) c
     ≡ record c { affects = put_each with_name k names c.affects }
 affected_put k [] c = refl
 affected_put k (n ∷ names) c = affected_put k names (record c { affects = put_at k (with_name (c.affects k) n) c.affects })

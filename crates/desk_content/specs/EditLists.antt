@@ -1,6 +1,6 @@
 -- The edits of an image, one after another.
 use Rattle.std.specs.Prelude.{ℕ, ◌==◌, ◌&&◌, List, [], ◌∷◌, ◌++◌, map, flat_map, Bool, if◌then◌else◌}
-use Rattle.desk_content.specs.Moving.{stood}
+use Rattle.desk_content.specs.Moving.{stood, adds_alone, others}
 use Rattle.version_nodes.specs.Nodes.{Node}
 use Rattle.version_nodes.specs.declared.statuses.MarkKind.{MarkKind}
 use Rattle.version_nodes.specs.declared.statuses.MarkKind.TheVariants.{Found, Fixed}
@@ -57,16 +57,23 @@ near_moves key found fixed (r ∷ rows) =
     if stood found fixed r.near then near_moves key found fixed rows
     else DropNearAt key r.node ∷ PutNear key r.node r.near ∷ near_moves key found fixed rows
 
--- what stands under a key goes, but for its bugs and its nearest marks
+-- what stands under a key goes, but for its bugs and its marks
 abbrev pub row_drops : ℕ → List Edit
-row_drops key = DropFields key ∷ DropBlockers key ∷ DropAffects key ∷ DropMarks key ∷ []
+row_drops key = DropFields key ∷ DropBlockers key ∷ DropAffects key ∷ []
+
+-- the marks of an image come in the place of these, of which those stay that it has, where it has
+-- all of them
+abbrev pub mark_moves : SetImage → List Node → List Node → List Edit
+mark_moves i found fixed =
+    if adds_alone i found fixed
+    then mark_puts (key_of i) Found (others found i.shared.found) ++ mark_puts (key_of i) Fixed (others fixed i.shared.fixed)
+    else DropMarks (key_of i) ∷ (mark_puts (key_of i) Found i.shared.found ++ mark_puts (key_of i) Fixed i.shared.fixed)
 
 -- The image of a set whose bugs stay, and of whose marks none is lost: of the nearest marks those
 -- move that are not what they were.
 abbrev pub moves : SetImage → List Node → List Node → List NearRow → List Edit
 moves i found fixed rows =
-    row_drops (key_of i) ++ (shared_puts i ++ (mark_puts (key_of i) Found i.shared.found
-    ++ (mark_puts (key_of i) Fixed i.shared.fixed ++ near_moves (key_of i) found fixed rows)))
+    row_drops (key_of i) ++ (shared_puts i ++ (mark_moves i found fixed ++ near_moves (key_of i) found fixed rows))
 
 -- what stands under a key goes, and its bugs stay
 abbrev pub key_drops : Bool → ℕ → List Edit

@@ -13,6 +13,7 @@ pub mod Keeping
 pub mod KindsAtNodes
 -- definitions that only private functions cite
 pub mod Moving
+pub mod Sparing
 pub mod EditLists
 pub mod BranchLists
 pub mod KeepLists

@@ -12,6 +12,7 @@ mod kinds_at_nodes;
 mod laws;
 mod moving;
 mod outcomes;
+mod sparing;
 mod staying;
 
 pub use branches::{SetNear, branch_edits};

@@ -6,9 +6,9 @@ ghost use Rattle.version_nodes.specs.Nodes.{Node};
 ghost use Rattle.bugs_in_memory.specs.Keys.{key_of};
 ghost use Rattle.nearest_marks.specs.Nearest.{nearest_of, row_at, once};
 ghost use Rattle.nearest_marks.specs.declared.near.NearRow.{NearRow};
-ghost use Rattle.desk_content.specs.EditLists.{row_drops, near_moves, moves};
+ghost use Rattle.desk_content.specs.EditLists.{row_drops, mark_puts, mark_moves, near_moves, moves};
 ghost use Rattle.desk_content.specs.declared.edit.Edit.TheVariants.{DropNearAt, PutNear};
-ghost use Rattle.desk_content.specs.Moving.{is_marked, are_marked, loses_none, stood};
+ghost use Rattle.desk_content.specs.Moving.{is_marked, are_marked, loses_none, stood, starts_with, is_part, others};
 
 use crate::edit::Edit;
 use crate::images::{key_of, put_marks, put_shared};
@@ -83,7 +83,71 @@ fn move_near(
     Ok(())
 }
 
-// What stands under a key goes, but for its bugs and its nearest marks.
+// Whether the first of these nodes is this one.
+fn starts_with(nodes: &[Node], node: &Node) -> bool
+    ensures { result ≡ starts_with nodes.now node.now }
+{
+    match nodes.first() {
+        Some(first) => first == node,
+        None => false,
+    }
+}
+
+// Whether these nodes are part of others, in the same order.
+fn is_part(part: &[Node], nodes: &[Node]) -> bool
+    ensures { result ≡ is_part part.now nodes.now }
+{
+    let mut left = part;
+    for node in nodes {
+        if starts_with(left, node) {
+            left = &left[1..];
+        }
+    }
+    left.is_empty()
+}
+
+// Marks of a kind come at those nodes that are not among these.
+fn put_others(
+    edits: &mut Sequence<Edit>,
+    key: u64,
+    kind: MarkKind,
+    stood: &[Node],
+    nodes: &[Node],
+) -> Result<(), AllocError>
+    ensures { OnOk result (edits.new ≡ edits.old ++ mark_puts key kind (others stood.now nodes.now)) }
+{
+    for node in nodes {
+        if !has_node(stood, node) {
+            let node = node.copy()?;
+            edits.push(Edit::PutMark { key, kind, node })?;
+        }
+    }
+    Ok(())
+}
+
+// The marks of the image come in the place of these: where it has all of them, they stay.
+fn move_marks(
+    edits: &mut Sequence<Edit>,
+    key: u64,
+    image: &SetImage,
+    found: &[Node],
+    fixed: &[Node],
+) -> Result<(), AllocError>
+    requires { key ≡ key_of image.now }
+    ensures { OnOk result (edits.new ≡ edits.old ++ mark_moves image.now found.now fixed.now) }
+{
+    let shared = image.shared.fields();
+    let (new_found, new_fixed) = (shared.found.as_slice(), shared.fixed.as_slice());
+    if is_part(found, new_found) && is_part(fixed, new_fixed) {
+        put_others(edits, key, MarkKind::Found, found, new_found)?;
+        return put_others(edits, key, MarkKind::Fixed, fixed, new_fixed);
+    }
+    edits.push(Edit::DropMarks { key })?;
+    put_marks(edits, key, MarkKind::Found, new_found)?;
+    put_marks(edits, key, MarkKind::Fixed, new_fixed)
+}
+
+// What stands under a key goes, but for its bugs and its marks.
 fn drop_rows(alloc: Global, key: u64) -> Result<Sequence<Edit>, AllocError>
     ensures { IfOk result (λ edits. edits ≡ row_drops key) }
 {
@@ -91,7 +155,6 @@ fn drop_rows(alloc: Global, key: u64) -> Result<Sequence<Edit>, AllocError>
     edits.push(Edit::DropFields { key })?;
     edits.push(Edit::DropBlockers { key })?;
     edits.push(Edit::DropAffects { key })?;
-    edits.push(Edit::DropMarks { key })?;
     Ok(edits)
 }
 
@@ -114,8 +177,7 @@ pub(crate) fn moving_edits(
     let rows = nearest_rows(alloc, family, new_found, new_fixed)?;
     let mut edits = drop_rows(alloc, key)?;
     put_shared(&mut edits, key, image)?;
-    put_marks(&mut edits, key, MarkKind::Found, new_found)?;
-    put_marks(&mut edits, key, MarkKind::Fixed, new_fixed)?;
+    move_marks(&mut edits, key, image, found, fixed)?;
     move_near(&mut edits, key, found, fixed, rows)?;
     Ok(edits)
 }

@@ -1,17 +1,19 @@
 //! What goes and what comes for the image of a set whose bugs stay.
 
 ghost use Rattle.std.specs.Prelude.{◌≡◌, false, IfOk};
+ghost use Rattle.bug_record.specs.Sets.{Each};
 ghost use Rattle.desk_content.specs.Content.{Content};
 ghost use Rattle.desk_content.specs.Edits.{edited_all};
 ghost use Rattle.desk_content.specs.Free.{AreFree};
 ghost use Rattle.desk_content.specs.Images.{same_marks, without_image, with_image, IsCleared, IsGoodImage};
-ghost use Rattle.desk_content.specs.Staying.{Stays, HasNearest};
+ghost use Rattle.desk_content.specs.Staying.{Stays, HasNearest, StandThere, HasRows, IsNeeded};
 ghost use Rattle.desk_content.specs.EditLists.{key_drops};
 
 use crate::edit::Edit;
 use crate::images::{drop_marks, has_marks, key_of, put_all_marks, put_shared};
 use crate::moving::{loses_none, moving_edits};
-use bug_record::{Sequence, SetImage};
+use crate::sparing::{same_rows, spare};
+use bug_record::{Sequence, SetImage, Shared};
 use nearest_marks::Family;
 use std::alloc::{AllocError, Global};
 use version_nodes::Node;
@@ -56,16 +58,8 @@ fn kept_or_anew(
     Ok(edits)
 }
 
-/// What goes and what comes for the image of a set whose bugs stay as they are, titles and
-/// submitters among it, where these are the marks that stand under its key.
-/// Where they are the image's marks, they and their nearest marks stay too, whatever the tree is;
-/// where the image has a mark at each of their nodes, of the nearest marks those alone are written
-/// whose mark is new.
-/// The edits make what clearing all rows of the image and putting them again would make, and are
-/// free, where the image is one of a sound desk.
-/// The error is that there was no memory.
-/// This project's own rule.
-pub fn stay_edits(
+// What goes and what comes, where these are the marks that stand; all other rows are written anew.
+fn all_edits(
     alloc: Global,
     family: &Family,
     image: &SetImage,
@@ -74,10 +68,10 @@ pub fn stay_edits(
 ) -> Result<Sequence<Edit>, AllocError>
     ensures edits { IfOk result (λ edits. (c : Content) →
         (same_marks image.now found.now fixed.now ≡ false → c.nodes ≡ family.now) → HasNearest image.now found.now fixed.now c →
-        IsGoodImage image.now → Stays image.now c →
+        StandThere image.now found.now fixed.now c → IsGoodImage image.now → Stays image.now c →
         IsCleared (same_marks image.now found.now fixed.now) image.now (without_image (same_marks image.now found.now fixed.now) image.now c) →
         edited_all edits c ≡ with_image image.now (without_image (same_marks image.now found.now fixed.now) image.now c)) }
-    ensures free { IfOk result (λ edits. (c : Content) → IsGoodImage image.now → Stays image.now c →
+    ensures free { IfOk result (λ edits. (c : Content) → StandThere image.now found.now fixed.now c → IsGoodImage image.now → Stays image.now c →
         IsCleared (same_marks image.now found.now fixed.now) image.now (without_image (same_marks image.now found.now fixed.now) image.now c) →
         AreFree edits c) }
 {
@@ -89,4 +83,41 @@ pub fn stay_edits(
         return Ok(moving_edits(alloc, family, image, found, fixed)?);
     }
     Ok(kept_or_anew(alloc, family, keeps, image, found, fixed)?)
+}
+
+/// What goes and what comes for the image of a set whose bugs stay as they are, titles and
+/// submitters among it, where these are the shared fields that stand under its key.
+/// Where their marks are the image's, they and their nearest marks stay too, whatever the tree is;
+/// where the image has a mark at each of their nodes, of the nearest marks those alone are written
+/// whose mark is new; and where it has all of them, each as what it is, the new marks alone are.
+/// The row of fields, the blockers and the affected packages are each written only where they
+/// differ.
+/// The edits make what clearing all rows of the image and putting them again would make, and are
+/// free, where the image is one of a sound desk.
+/// The error is that there was no memory.
+/// This project's own rule.
+pub fn stay_edits(
+    alloc: Global,
+    family: &Family,
+    image: &SetImage,
+    before: &Shared,
+) -> Result<Sequence<Edit>, AllocError>
+    ensures edits { IfOk result (λ edits. (c : Content) →
+        (same_marks image.now before.now.found before.now.fixed ≡ false → c.nodes ≡ family.now) →
+        HasNearest image.now before.now.found before.now.fixed c → HasRows image.now before.now c →
+        IsGoodImage image.now → Stays image.now c →
+        IsCleared (same_marks image.now before.now.found before.now.fixed) image.now
+        (without_image (same_marks image.now before.now.found before.now.fixed) image.now c) →
+        edited_all edits c ≡ with_image image.now (without_image (same_marks image.now before.now.found before.now.fixed) image.now c)) }
+    ensures free { IfOk result (λ edits. (c : Content) → HasRows image.now before.now c → IsGoodImage image.now → Stays image.now c →
+        IsCleared (same_marks image.now before.now.found before.now.fixed) image.now
+        (without_image (same_marks image.now before.now.found before.now.fixed) image.now c) →
+        AreFree edits c) }
+    ensures needed { IfOk result (λ edits. Each (IsNeeded before.now image.now.shared) edits) }
+{
+    let found = before.found.as_slice();
+    let fixed = before.fixed.as_slice();
+    let edits = all_edits(alloc, family, image, found, fixed)?;
+    let same = same_rows(before, image.shared.fields());
+    Ok(spare(edits, same))
 }

@@ -1,29 +1,31 @@
-use Rattle.std.proofs.Common.{◌≡◌, List, sym, ap, subst, ◌∙◌}
+use Rattle.std.proofs.Common.{List, sym, ap, ◌∙◌, subst}
+use Rattle.bug_record.specs.Sets.{Each}
 use Rattle.desk_content.specs.Edits.{edited_all}
 use Rattle.desk_content.specs.Free.{AreFree}
-use Rattle.desk_content.specs.EditLists.{moves}
-use Rattle.desk_content.specs.Images.{without_image, with_image, IsCleared}
+use Rattle.desk_content.specs.Images.{same_marks}
+use Rattle.desk_content.specs.Staying.{IsNeeded}
 use Rattle.desk_content.specs.declared.edit.Edit.{Edit}
-use Rattle.desk_content.proofs.MoveLemmas.{moves_made, moves_free}
+use Rattle.desk_content.proofs.SpareLemmas.{rows_spared, rows_spared_free, all_needed}
 use Rattle.desk_content.proofs.staying.stay_edits.Goals as goal
 
-pub returns-then-loses_none-clause-edits : goal.returns-then-loses_none-clause-edits
-returns-then-loses_none-clause-edits c =
-    λ x tree near good stays clear.
-    let i = c.args.image.now in
-    let new = sym c.has_marks-keeps.ensures ∙ c.if-keeps.false in
-    let r = c.in_ok-moving_edits.ensures in
-    ap (λ (es : List Edit). edited_all es x) r.3
-    ∙ subst (λ b. IsCleared b i (without_image b i x) → edited_all (moves i c.args.found.now c.args.fixed.now r.0) x ≡ with_image i (without_image b i x)) (sym new)
-    (moves_made i c.args.found.now c.args.fixed.now r.0 c.args.family.now r.1 r.2 new x (sym c.loses_none.ensures ∙ c.if-loses_none.true) (tree new) near good stays)
-    clear
+pub returns-clause-edits : goal.returns-clause-edits
+returns-clause-edits c =
+    λ x tree near has good stays clear.
+    let all = rw (c.as_slice-found.ensures, c.as_slice-fixed.ensures) at c.in_ok-edits.ensures.edits in
+    let same = rw c.fields.ensures at c.same_rows-same.ensures in
+    ap (λ (es : List Edit). edited_all es x) c.spare.ensures
+    ∙ rows_spared c.args.image.now c.args.before.now x (same_marks c.args.image.now c.args.before.now.found c.args.before.now.fixed)
+    c.same_rows-same.result c.in_ok-edits.edits (all x tree near has.marks good stays clear) stays has same.fields.0 same.blockers.0 same.affects.0
 
-pub returns-then-loses_none-clause-free : goal.returns-then-loses_none-clause-free
-returns-then-loses_none-clause-free c =
-    λ x good stays clear.
-    let i = c.args.image.now in
-    let new = sym c.has_marks-keeps.ensures ∙ c.if-keeps.false in
-    let r = c.in_ok-moving_edits.ensures in
-    subst (λ (es : List Edit). AreFree es x) (sym r.3)
-    (subst (λ b. IsCleared b i (without_image b i x) → AreFree (moves i c.args.found.now c.args.fixed.now r.0) x) (sym new)
-    (moves_free i c.args.found.now c.args.fixed.now r.0 c.args.family.now r.1 r.2 new x good stays) clear)
+pub returns-clause-free : goal.returns-clause-free
+returns-clause-free c =
+    λ x has good stays clear.
+    let all = rw (c.as_slice-found.ensures, c.as_slice-fixed.ensures) at c.in_ok-edits.ensures.free in
+    subst (λ (es : List Edit). AreFree es x) (sym c.spare.ensures)
+    (rows_spared_free x c.same_rows-same.result c.in_ok-edits.edits (all x has.marks good stays clear))
+
+pub returns-clause-needed : goal.returns-clause-needed
+returns-clause-needed c =
+    let same = rw c.fields.ensures at c.same_rows-same.ensures in
+    subst (Each (IsNeeded c.args.before.now c.args.image.now.shared)) (sym c.spare.ensures)
+    (all_needed c.args.before.now c.args.image.now.shared c.same_rows-same.result same.fields.1 same.blockers.1 same.affects.1 c.in_ok-edits.edits)
