@@ -2,7 +2,6 @@
 use Rattle.std.proofs.Common.{◌≡◌, ◌≤◌, ℕ, Bool, true, false, cond, ◌&&◌, ◌||◌, List, [], ◌∷◌, ◌++◌, Option, Some, None, sym, refl, ap, ◌∙◌, subst}
 use Rattle.std.proofs.Common.{append_assoc}
 use Rattle.std.specs.Prelude.{not, ◌==◌, option_map, ⊤}
-use Rattle.std.specs.List.{list_all}
 use Rattle.std.specs.Option.{option_or}
 use Rattle.std.proofs.lemmas.Bool.{eqb-true, eq-eqb, false≢true, and_parts}
 use Rattle.std.proofs.lemmas.Option.{none-some, same_Some}
@@ -19,7 +18,7 @@ use Rattle.nearest_marks.specs.Nearest.{nearest_on, nearest_of, own_mark, row_at
 use Rattle.nearest_marks.specs.declared.near.Near.{Near}
 use Rattle.nearest_marks.specs.declared.near.NearRow.{NearRow}
 use Rattle.desk_content.specs.Content.{Content}
-use Rattle.desk_content.specs.Edits.{put_at, edited, edited_all, without_near_at, with_near, without_marks, without_affected, without_blockers, without_fields}
+use Rattle.desk_content.specs.Edits.{put_at, edited, edited_all, without_marks, without_affected, without_blockers, without_fields}
 use Rattle.desk_content.specs.EditLists.{blocker_puts, affected_puts, mark_puts, near_puts, near_moves, shared_puts, all_mark_puts, key_drops, row_drops, moves}
 use Rattle.desk_content.specs.Free.{IsFree, AreFree}
 use Rattle.desk_content.specs.Images.{same_marks, without_image, with_image, IsGoodImage, IsCleared}

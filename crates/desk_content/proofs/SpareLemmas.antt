@@ -1,6 +1,6 @@
 -- What edits make of a content without those of rows that are the same.
-use Rattle.std.proofs.Common.{◌≡◌, ℕ, Bool, true, false, cond, List, [], ◌∷◌, Option, Some, None, sym, refl, ap, ◌∙◌, subst}
-use Rattle.std.specs.Prelude.{not, filter, ◌==◌}
+use Rattle.std.proofs.Common.{◌≡◌, ℕ, Bool, true, false, cond, List, [], ◌∷◌, Some, None, sym, refl, ap, ◌∙◌, subst}
+use Rattle.std.specs.Prelude.{not, ◌==◌}
 use Rattle.std.proofs.lemmas.Bool.{eqb-true, false≢true}
 use Rattle.version_nodes.specs.declared.statuses.MarkKind.TheVariants.{Found, Fixed}
 use Rattle.bug_record.specs.Sets.{Each}
@@ -16,7 +16,6 @@ use Rattle.desk_content.specs.Staying.{Stays, HasRows, IsNeeded}
 use Rattle.desk_content.specs.View.{fields_of}
 use Rattle.desk_content.specs.declared.edit.Edit.{Edit}
 use Rattle.desk_content.specs.declared.edit.Edit.TheVariants as edits
-use Rattle.desk_content.specs.declared.edit.SetFields.{SetFields}
 use Rattle.desk_content.specs.declared.sparing.SameRows.{SameRows}
 
 -- rows that are the same stay as they were in this content

@@ -1,6 +1,6 @@
 -- Marks of a set that take the place of others, of which none is lost.
 -- This project's own rule.
-use Rattle.std.specs.Prelude.{ℕ, ◌≡◌, ◌&&◌, ◌||◌, not, Bool, List}
+use Rattle.std.specs.Prelude.{◌&&◌, ◌||◌, not, Bool, List}
 use Rattle.std.specs.List.{list_all}
 use Rattle.version_nodes.specs.Nodes.{Node}
 use Rattle.version_nodes.specs.Trees.{has_node}
