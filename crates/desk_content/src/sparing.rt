@@ -5,7 +5,7 @@ ghost use Rattle.desk_content.specs.View.{fields_of};
 ghost use Rattle.desk_content.specs.Sparing.{is_spared, spared};
 
 use crate::edit::Edit;
-use bug_record::{Sequence, Severity, Shared, Tags};
+use bug_record::{Sequence, Shared, Tags};
 use debver::Text;
 
 /// Which rows of a set are the same before and after a change.
@@ -19,23 +19,9 @@ pub(crate) struct SameRows {
     affects: bool,
 }
 
-// Whether both are none, or equal.
-fn same_text(a: &Option<Text>, b: &Option<Text>) -> bool
-    ensures { IsTrue result ↔ a.now ≡ b.now }
-{
-    a == b
-}
-
 // Whether the tags are the same, in the same order.
 fn same_tags(a: &Tags, b: &Tags) -> bool
     ensures { IsTrue result ↔ a.now ≡ b.now }
-{
-    a == b
-}
-
-// Whether the severities are the same.
-fn same_severity(a: Severity, b: Severity) -> bool
-    ensures { IsTrue result ↔ a ≡ b }
 {
     a == b
 }
@@ -47,20 +33,15 @@ fn same_names(a: &[Text], b: &[Text]) -> bool
     a == b
 }
 
-// Whether the texts of a set's own row are the same.
-fn same_texts(a: &Shared, b: &Shared) -> bool
-    ensures { IsTrue result ↔ (a.now.package ≡ b.now.package) × (a.now.forwarded ≡ b.now.forwarded) × (a.now.owner ≡ b.now.owner) }
-{
-    a.package == b.package && same_text(&a.forwarded, &b.forwarded) && same_text(&a.owner, &b.owner)
-}
-
 // Whether the fields that stand in a set's own row are equal.
 fn same_fields(a: &Shared, b: &Shared) -> bool
     ensures { IsTrue result ↔ fields_of a.now ≡ fields_of b.now }
 {
-    same_texts(a, b)
-        && same_severity(a.severity, b.severity)
+    a.package == b.package
+        && a.severity == b.severity
         && a.closed == b.closed
+        && a.forwarded == b.forwarded
+        && a.owner == b.owner
         && same_tags(&a.tags, &b.tags)
         && a.archived == b.archived
 }

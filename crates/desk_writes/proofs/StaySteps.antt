@@ -1,11 +1,13 @@
 -- What the edits of a set whose bugs stay come to.
-use Rattle.std.proofs.Common.{◌≡◌, ℕ, [], ◌∷◌, List, Option, Some, None, refl, Result, Ok, sym, ap, subst, ◌∙◌, Bool, true, false, ◌&&◌}
+use Rattle.std.proofs.Common.{◌≡◌, ℕ, [], ◌∷◌, List, Option, Some, None, refl, Result, Ok, Err, IfOk, sym, ap, subst, ◌∙◌, Bool, true, false, ◌&&◌}
 use Rattle.std.specs.Prelude.{⊤, IfSome, option_map}
 use Rattle.std.proofs.lemmas.Option.{same_Some, none-some}
+use Rattle.version_nodes.specs.Nodes.{Node}
 use Rattle.version_nodes.specs.Trees.{Ancestry}
 use Rattle.bug_record.specs.Sets.{Each}
 use Rattle.bug_record.specs.Images.{HasMember}
 use Rattle.bug_record.specs.declared.bug.SetImage.{SetImage}
+use Rattle.bug_record.specs.declared.bug.Shared.{Shared}
 use Rattle.bug_record.specs.declared.command.Change.{Change}
 use Rattle.bug_record.specs.declared.outcome.StoreFault.{StoreFault}
 use Rattle.sqlite.specs.State.{State}
@@ -16,15 +18,16 @@ use Rattle.desk_content.specs.Edits.{edited_all}
 use Rattle.desk_content.specs.Free.{AreFree}
 use Rattle.desk_content.specs.Images.{same_marks, without_image, with_image, IsCleared, IsGoodImage}
 use Rattle.desk_content.specs.Kept.{IsKeptContent}
-use Rattle.desk_content.specs.Staying.{Stays}
+use Rattle.desk_content.specs.Staying.{Stays, HasRows}
 use Rattle.desk_content.specs.View.{image, shared_of}
 use Rattle.desk_content.specs.declared.edit.Edit.{Edit}
+use Rattle.desk_content.specs.declared.edit.SetFields.{SetFields}
 use Rattle.desk_content.proofs.ReadyLemmas.{good, ready}
 use Rattle.desk_content.proofs.StandLemmas.{stand}
 use Rattle.desk_schema.specs.Steps.{Acts, PlaysAll, Reads}
 use Rattle.desk_schema.proofs.StepLemmas.{acts_none, acts_then, acts_weaker}
 use Rattle.desk_writes.specs.Needs.{IsTreeFor, IsKnownIn}
-use Rattle.desk_writes.specs.Plans.{IsStay, IsStayPlan}
+use Rattle.desk_writes.specs.Plans.{IsStay, IsStayOf, IsStayPlan}
 use Rattle.desk_writes.proofs.ChangeSteps.{Fits, FitsKnown, IsWritten, IsWrittenKnown}
 
 module _ (c : Content) (change : Change) (kept : IsKeptContent c) (fits : FitsContent c change) (i : SetImage) (only : change.images ≡ i ∷ []) where
@@ -40,33 +43,62 @@ module _ (c : Content) (change : Change) (kept : IsKeptContent c) (fits : FitsCo
   stays : c.members (key_of i) ≡ i.members → Stays i c
   stays are = stand c i kept (subst (λ (is : List SetImage). Each HasMember is) only fits.members).0 are
 
+  rows : (t : Ancestry) (edits : List Edit) (plan : IsStayPlan c t i edits) → HasRows i (shared_of c (key_of i) plan.1.0) c
+  rows t edits plan = record { marks = (refl, refl); fields = plan.1.1; blockers = refl; affects = refl }
+
   pub stay_free : (t : Ancestry) (edits : List Edit) → IsStayPlan c t i edits → AreFree edits c
-  stay_free t edits plan = plan.1.free c is_good (stays plan.0) is_clear
+  stay_free t edits plan = plan.1.2.free c (rows t edits plan) is_good (stays plan.0) is_clear
 
   pub stay_made : (t : Ancestry) (edits : List Edit) → IsTreeFor t c change → IsStayPlan c t i edits → edited_all edits c ≡ with_images change.images (cleared_for c change)
   stay_made t edits tree plan =
-      plan.1.made c (λ differs. tree (ap (all_stay c) only ∙ ap (λ b. b && true) differs)) (kept.near (key_of i)) is_good (stays plan.0) is_clear
+      plan.1.2.made c (λ differs. tree (ap (all_stay c) only ∙ ap (λ b. b && true) differs)) (kept.near (key_of i))
+      (rows t edits plan) is_good (stays plan.0) is_clear
       ∙ ap (with_image i) (sym cleared_is)
       ∙ sym (ap (λ (is : List SetImage). with_images is (cleared_for c change)) only)
 
--- what a set says that is the set of its key
-parts_of : (c : Content) (k : ℕ) (i : SetImage) → image c k ≡ Some i → (c.members k ≡ i.members) × (c.found k ≡ i.shared.found) × (c.fixed k ≡ i.shared.fixed)
+-- the rows of a set that is the set of its key say what its image says
+parts_of : (c : Content) (k : ℕ) (i : SetImage) → image c k ≡ Some i
+    → (f : SetFields) × (c.fields k ≡ Some f) × (shared_of c k f ≡ i.shared) × (c.members k ≡ i.members)
 parts_of c k i = elim (c.fields k) as (λ o. option_map (λ f. let j : SetImage = record { shared = shared_of c k f; members = c.members k } in j) o ≡ Some i
-    → (c.members k ≡ i.members) × (c.found k ≡ i.shared.found) × (c.fixed k ≡ i.shared.fixed)) [
+    → (f : SetFields) × (o ≡ Some f) × (shared_of c k f ≡ i.shared) × (c.members k ≡ i.members)) [
       | None ↦ λ e. absurd (none-some i e)
-      | Some f ↦ λ e. let is = same_Some _ _ e in (ap (λ (j : SetImage). j.members) is, ap (λ (j : SetImage). j.shared.found) is, ap (λ (j : SetImage). j.shared.fixed) is)
+      | Some f ↦ λ e. let is = same_Some _ _ e in (f, refl, ap (λ (j : SetImage). j.shared) is, ap (λ (j : SetImage). j.members) is)
     ]
 
--- an image that is known stands under its key, and so do the bugs and the marks of it
-pub known_stays : (t : Ancestry) (i old : SetImage) (edits : List Edit) → IsStay t old.shared.found old.shared.fixed i edits → old.members ≡ i.members
+-- an image that is known stands under its key, and so do the bugs and the shared fields of it
+pub known_stays : (t : Ancestry) (i old : SetImage) (edits : List Edit) → IsStay t old.shared i edits → old.members ≡ i.members
     → (c : Content) → image c (key_of old) ≡ Some old → IsStayPlan c t i edits
 known_stays t i old edits stay same c here =
     let p = parts_of c (key_of old) old here in
     let k : key_of old ≡ key_of i = ap first_number same in (
-      ap c.members (sym k) ∙ p.0 ∙ same,
-      subst (λ vs. IsStay t vs (c.fixed (key_of i)) i edits) (sym p.1 ∙ ap c.found k)
-          (subst (λ vs. IsStay t old.shared.found vs i edits) (sym p.2 ∙ ap c.fixed k) stay),
+      ap c.members (sym k) ∙ p.3 ∙ same,
+      (
+        p.0,
+        ap c.fields (sym k) ∙ p.1,
+        subst (λ j. IsStay t (shared_of c j p.0) i edits) k (subst (λ (s : Shared). IsStay t s i edits) (sym p.2) stay),
+      ),
     )
+
+-- what was read of a key are its shared fields
+pub read_is : (c : Content) (k : ℕ) (f : SetFields) (found fixed : List Node) (blockers : List ℕ) (affects : List (List ℕ)) → found ≡ c.found k → fixed ≡ c.fixed k → blockers ≡ c.blockers k
+    → affects ≡ c.affects k → record (shared_of c k f) { affects = affects; found = found; fixed = fixed; blockers = blockers } ≡ shared_of c k f
+read_is c k f found fixed blockers affects p q r s = λ j. record (shared_of c k f) { affects = s j; found = p j; fixed = q j; blockers = r j }
+
+-- the shared fields that were read are those that stand
+pub stands_read : (t : Ancestry) (i : SetImage) (before : Shared) (fields : SetFields) (key : ℕ) (r : Result (List Edit) StoreFault) → key ≡ key_of i → IfOk r (λ (es : List Edit). IsStay t before i es)
+    → (c : Content) → before ≡ shared_of c key fields → IfOk r (λ (es : List Edit). c.fields (key_of i) ≡ Some fields → IsStayOf c t i es)
+stands_read t i before fields key (Err fault) is_key stay c are = tt
+stands_read t i before fields key (Ok es) is_key stay c are = λ there. (
+  fields,
+  there,
+  subst (λ j. IsStay t (shared_of c j fields) i es) is_key (subst (λ (s : Shared). IsStay t s i es) are stay),
+)
+
+-- and its bugs stand there
+pub with_bugs : (c : Content) (t : Ancestry) (i : SetImage) (p : Option (List Edit)) → c.members (key_of i) ≡ i.members → IfSome p (λ (es : List Edit). IsStayOf c t i es)
+    → IfSome p (λ (es : List Edit). IsStayPlan c t i es)
+with_bugs c t i None bugs stay = tt
+with_bugs c t i (Some es) bugs stay = (bugs, stay)
 
 -- and so do the marks, if there is no other image
 pub known_keeps : (i old : SetImage) (is : List SetImage) → is ≡ i ∷ [] → key_of i ≡ key_of old → (c : Content) → image c (key_of old) ≡ Some old
@@ -75,8 +107,8 @@ known_keeps i old is only own c here =
     let p = parts_of c (key_of old) old here in
     sym (ap (all_stay c) only
     ∙ alone (keeps_marks c i)
-    ∙ ap (λ vs. same_marks i vs (c.fixed (key_of i))) (ap c.found own ∙ p.1)
-    ∙ ap (λ vs. same_marks i old.shared.found vs) (ap c.fixed own ∙ p.2))
+    ∙ ap (λ vs. same_marks i vs (c.fixed (key_of i))) (ap c.found own ∙ ap (λ (s : Shared). s.found) p.2)
+    ∙ ap (λ vs. same_marks i old.shared.found vs) (ap c.fixed own ∙ ap (λ (s : Shared). s.fixed) p.2))
   where
     alone : (b : Bool) → (b && true) ≡ b
     alone true = refl

@@ -1,15 +1,19 @@
--- The edits of images, as the marks stand before a change.
-use Rattle.std.specs.Prelude.{◌≡◌, false, List, [], ◌∷◌, flat_map, ⊤}
+-- The edits of images, as the rows stand before a change.
+use Rattle.std.specs.Prelude.{◌≡◌, false, List, [], ◌∷◌, Some, flat_map, ⊤}
 use Rattle.version_nodes.specs.Nodes.{Node}
 use Rattle.version_nodes.specs.Trees.{Ancestry}
+use Rattle.bug_record.specs.Sets.{Each}
 use Rattle.bug_record.specs.declared.bug.SetImage.{SetImage}
+use Rattle.bug_record.specs.declared.bug.Shared.{Shared}
 use Rattle.bugs_in_memory.specs.Keys.{key_of}
 use Rattle.desk_content.specs.Content.{Content}
 use Rattle.desk_content.specs.Edits.{edited_all}
 use Rattle.desk_content.specs.Free.{AreFree}
 use Rattle.desk_content.specs.Images.{same_marks, without_image, with_image, IsCleared, IsGoodImage}
-use Rattle.desk_content.specs.Staying.{Stays, HasNearest}
+use Rattle.desk_content.specs.Staying.{Stays, HasNearest, HasRows, IsNeeded}
+use Rattle.desk_content.specs.View.{shared_of}
 use Rattle.desk_content.specs.declared.edit.Edit.{Edit}
+use Rattle.desk_content.specs.declared.edit.SetFields.{SetFields}
 use Rattle.desk_content.specs.declared.images.RowEdits.{RowEdits}
 
 -- the edits that put an image, where these marks stand under its key
@@ -36,16 +40,19 @@ cleared_edits plans = flat_map (λ plan. plan.cleared) plans
 abbrev pub put_edits : List RowEdits → List Edit
 put_edits plans = flat_map (λ plan. plan.put) plans
 
--- the edits of an image whose bugs stay, where these marks stand under its key: they make what
--- clearing all its rows and putting them again makes
-pub record IsStay (t : Ancestry) (found fixed : List Node) (i : SetImage) (edits : List Edit) : Type 0 where
-  pub made : (c : Content) → (same_marks i found fixed ≡ false → c.nodes ≡ t) → HasNearest i found fixed c → IsGoodImage i → Stays i c → IsCleared (same_marks i found fixed) i (without_image (same_marks i found fixed) i c)
-      → edited_all edits c ≡ with_image i (without_image (same_marks i found fixed) i c)
-  pub free : (c : Content) → IsGoodImage i → Stays i c → IsCleared (same_marks i found fixed) i (without_image (same_marks i found fixed) i c) → AreFree edits c
+-- the edits of an image whose bugs stay, where these shared fields stand under its key: they make
+-- what clearing all its rows and putting them again makes, and write no row of fields, blockers or
+-- affected packages that is the same
+pub record IsStay (t : Ancestry) (before : Shared) (i : SetImage) (edits : List Edit) : Type 0 where
+  pub made : (c : Content) → (same_marks i before.found before.fixed ≡ false → c.nodes ≡ t) → HasNearest i before.found before.fixed c → HasRows i before c → IsGoodImage i → Stays i c
+      → IsCleared (same_marks i before.found before.fixed) i (without_image (same_marks i before.found before.fixed) i c)
+      → edited_all edits c ≡ with_image i (without_image (same_marks i before.found before.fixed) i c)
+  pub free : (c : Content) → HasRows i before c → IsGoodImage i → Stays i c → IsCleared (same_marks i before.found before.fixed) i (without_image (same_marks i before.found before.fixed) i c) → AreFree edits c
+  pub needed : Each (IsNeeded before i.shared) edits
 
--- as the marks of the content are
+-- as the rows of the content are
 abbrev pub IsStayOf : Content → Ancestry → SetImage → List Edit → Type 0
-IsStayOf before t i edits = IsStay t (before.found (key_of i)) (before.fixed (key_of i)) i edits
+IsStayOf before t i edits = (fields : SetFields) × (before.fields (key_of i) ≡ Some fields) × IsStay t (shared_of before (key_of i) fields) i edits
 
 -- and its bugs stand under the image's key
 abbrev pub IsStayPlan : Content → Ancestry → SetImage → List Edit → Type 0

@@ -14,6 +14,7 @@ mod missing;
 mod new_rows;
 mod play;
 mod puts;
+mod standing;
 mod staying;
 
 pub use branch::put_branch;

@@ -1,6 +1,7 @@
 //! The edits of a set whose bugs stay.
 
-ghost use Rattle.std.specs.Prelude.{◌≡◌, IfOk, IfErr, IfSome, IsTrue};
+ghost use Rattle.std.specs.Prelude.{◌≡◌, Some, IfOk, IfErr, IfSome, IsTrue};
+ghost use Rattle.bugs_in_memory.specs.Keys.{key_of};
 ghost use Rattle.std.specs.Option.{option_copied};
 ghost use Rattle.sqlite.specs.Held.{state};
 ghost use Rattle.bug_record.specs.declared.outcome.StoreFault.TheVariants.{Memory};
@@ -9,44 +10,60 @@ ghost use Rattle.desk_content.specs.Content.{Content};
 ghost use Rattle.desk_writes.specs.Needs.{IsKnownIn};
 ghost use Rattle.desk_writes.specs.Plans.{IsStay, IsStayOf, IsStayPlan};
 
-use bug_record::{Member, Sequence, SetImage, StoreFault};
-use desk_content::{Edit, key_of, stay_edits};
+use crate::standing::read_shared;
+use bug_record::{Member, Sequence, SetImage, Shared, StoreFault};
+use desk_content::{Edit, SetFields, key_of, stay_edits};
 use desk_schema::parameter;
 use nearest_marks::Family;
-use set_rows::{has_members, read_marks};
+use set_rows::{has_members, read_fields};
 use sqlite::{Alter, Transaction};
 use std::alloc::Global;
-use version_nodes::Node;
 
-// The edits of an image whose bugs stay, where these marks stand under its key.
+// The edits of an image whose bugs stay, where these shared fields stand under its key.
 fn stay_of(
     alloc: Global,
     family: &Family,
     image: &SetImage,
-    found: &[Node],
-    fixed: &[Node],
+    before: &Shared,
 ) -> Result<Sequence<Edit>, StoreFault>
-    ensures plan { IfOk result (λ edits. IsStay family.now found.now fixed.now image.now edits) }
+    ensures plan { IfOk result (λ edits. IsStay family.now before.now image.now edits) }
     ensures memory { IfErr result (λ fault. fault ≡ Memory) }
 {
-    Ok(stay_edits(alloc, family, image, found, fixed)?)
+    Ok(stay_edits(alloc, family, image, before)?)
 }
 
-// The same, as its marks stand now.
+// The same, where its set has these fields in its own row, as its other rows stand now.
 fn stay_image<S: Alter>(
     alloc: Global,
     tx: &mut Transaction<'_, S>,
     family: &Family,
     image: &SetImage,
+    fields: SetFields,
 ) -> Result<Sequence<Edit>, StoreFault>
     ensures same_reference { tx.new.conn.ghost_name ≡ tx.old.conn.ghost_name }
-    ensures reads { Reads (λ c edits. IsStayOf c family.now image.now edits) (state S.Store tx.old.conn.now) (state S.Store tx.new.conn.now) result }
+    ensures reads { Reads (λ c edits. c.fields (key_of image.now) ≡ Some fields → IsStayOf c family.now image.now edits)
+        (state S.Store tx.old.conn.now) (state S.Store tx.new.conn.now) result }
 {
     let key = parameter(key_of(image))?;
-    let marks = read_marks(alloc, tx, key)?;
-    let found = marks.found.as_slice();
-    let fixed = marks.fixed.as_slice();
-    stay_of(alloc, family, image, found, fixed)
+    let before = read_shared(alloc, tx, key, fields)?;
+    stay_of(alloc, family, image, &before)
+}
+
+// The same, if there is such a set, as all its rows stand now.
+fn stay_set<S: Alter>(
+    alloc: Global,
+    tx: &mut Transaction<'_, S>,
+    family: &Family,
+    image: &SetImage,
+) -> Result<Option<Sequence<Edit>>, StoreFault>
+    ensures same_reference { tx.new.conn.ghost_name ≡ tx.old.conn.ghost_name }
+    ensures reads { Reads (λ c plan. IfSome plan (λ edits. IsStayOf c family.now image.now edits)) (state S.Store tx.old.conn.now) (state S.Store tx.new.conn.now) result }
+{
+    let key = parameter(key_of(image))?;
+    let Some(fields) = read_fields(alloc, tx, key)? else {
+        return Ok(None);
+    };
+    Ok(Some(stay_image(alloc, tx, family, image, fields)?))
 }
 
 // The edits of an image, if its bugs, with their titles and submitters, are those that stand under
@@ -65,7 +82,7 @@ fn read_plan<S: Alter>(
     if !stays {
         return Ok(None);
     }
-    Ok(Some(stay_image(alloc, tx, family, image)?))
+    stay_set(alloc, tx, family, image)
 }
 
 // Whether two bugs are the same, titles and submitters among it.
@@ -108,10 +125,8 @@ fn known_plan(
     if !same_members(old.members.as_slice(), image.members.as_slice()) {
         return Ok(None);
     }
-    let fields = old.shared.fields();
-    let found = fields.found.as_slice();
-    let fixed = fields.fixed.as_slice();
-    Ok(Some(stay_of(alloc, family, image, found, fixed)?))
+    let before = old.shared.fields();
+    Ok(Some(stay_of(alloc, family, image, before)?))
 }
 
 /// The edits of an image, if its bugs, with their titles and submitters, are those of the set whose
