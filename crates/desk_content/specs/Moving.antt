@@ -30,11 +30,6 @@ are_marked found fixed nodes = list_all (is_marked found fixed) nodes
 abbrev pub loses_none : SetImage → List Node → List Node → Bool
 loses_none i found fixed = are_marked i.shared.found i.shared.fixed found && are_marked i.shared.found i.shared.fixed fixed
 
--- whether the first of these nodes is this one
-abbrev pub starts_with : List Node → Node → Bool
-starts_with [] v = false
-starts_with (n ∷ nodes) v = same_node n v
-
 -- whether these nodes are part of others, in the same order
 abbrev pub is_part : List Node → List Node → Bool
 is_part [] nodes = true

@@ -85,10 +85,8 @@ fn put_members(edits: &mut Sequence<Edit>, key: u64, members: &[Member]) -> Resu
     ensures { OnOk result (edits.new ≡ edits.old ++ member_puts key members.now) }
 {
     for member in members {
-        edits.push(Edit::PutMember {
-            key,
-            member: member.copy()?,
-        })?;
+        let member = member.copy()?;
+        edits.push(Edit::PutMember { key, member })?;
     }
     Ok(())
 }
@@ -98,10 +96,8 @@ fn put_blockers(edits: &mut Sequence<Edit>, key: u64, blockers: &[u64]) -> Resul
     ensures { OnOk result (edits.new ≡ edits.old ++ blocker_puts key blockers.now) }
 {
     for blocker in blockers {
-        edits.push(Edit::PutBlocker {
-            key,
-            blocker: *blocker,
-        })?;
+        let blocker = *blocker;
+        edits.push(Edit::PutBlocker { key, blocker })?;
     }
     Ok(())
 }
@@ -111,10 +107,8 @@ fn put_affects(edits: &mut Sequence<Edit>, key: u64, names: &[Text]) -> Result<(
     ensures { OnOk result (edits.new ≡ edits.old ++ affected_puts key names.now) }
 {
     for name in names {
-        edits.push(Edit::PutAffects {
-            key,
-            package: name.copy()?,
-        })?;
+        let package = name.copy()?;
+        edits.push(Edit::PutAffects { key, package })?;
     }
     Ok(())
 }
@@ -129,11 +123,8 @@ pub(crate) fn put_marks(
     ensures { OnOk result (edits.new ≡ edits.old ++ mark_puts key kind nodes.now) }
 {
     for node in nodes {
-        edits.push(Edit::PutMark {
-            key,
-            kind,
-            node: node.copy()?,
-        })?;
+        let node = node.copy()?;
+        edits.push(Edit::PutMark { key, kind, node })?;
     }
     Ok(())
 }

@@ -8,7 +8,7 @@ ghost use Rattle.nearest_marks.specs.Nearest.{nearest_of, row_at, once};
 ghost use Rattle.nearest_marks.specs.declared.near.NearRow.{NearRow};
 ghost use Rattle.desk_content.specs.EditLists.{row_drops, mark_puts, mark_moves, near_moves, moves};
 ghost use Rattle.desk_content.specs.declared.edit.Edit.TheVariants.{DropNearAt, PutNear};
-ghost use Rattle.desk_content.specs.Moving.{is_marked, are_marked, loses_none, stood, starts_with, is_part, others};
+ghost use Rattle.desk_content.specs.Moving.{is_marked, are_marked, loses_none, stood, is_part, others};
 
 use crate::edit::Edit;
 use crate::images::{key_of, put_marks, put_shared};
@@ -83,23 +83,13 @@ fn move_near(
     Ok(())
 }
 
-// Whether the first of these nodes is this one.
-fn starts_with(nodes: &[Node], node: &Node) -> bool
-    ensures { result ≡ starts_with nodes.now node.now }
-{
-    match nodes.first() {
-        Some(first) => first == node,
-        None => false,
-    }
-}
-
 // Whether these nodes are part of others, in the same order.
 fn is_part(part: &[Node], nodes: &[Node]) -> bool
     ensures { result ≡ is_part part.now nodes.now }
 {
     let mut left = part;
     for node in nodes {
-        if starts_with(left, node) {
+        if left.first() == Some(node) {
             left = &left[1..];
         }
     }
@@ -148,7 +138,7 @@ fn move_marks(
 }
 
 // What stands under a key goes, but for its bugs and its marks.
-fn drop_rows(alloc: Global, key: u64) -> Result<Sequence<Edit>, AllocError>
+pub(crate) fn drop_rows(alloc: Global, key: u64) -> Result<Sequence<Edit>, AllocError>
     ensures { IfOk result (λ edits. edits ≡ row_drops key) }
 {
     let mut edits = Sequence::new(alloc);

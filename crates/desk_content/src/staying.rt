@@ -11,52 +11,12 @@ ghost use Rattle.desk_content.specs.EditLists.{key_drops};
 
 use crate::edit::Edit;
 use crate::images::{drop_marks, has_marks, key_of, put_all_marks, put_shared};
-use crate::moving::{loses_none, moving_edits};
+use crate::moving::{drop_rows, loses_none, moving_edits};
 use crate::sparing::{same_rows, spare};
 use bug_record::{Sequence, SetImage, Shared};
 use nearest_marks::Family;
 use std::alloc::{AllocError, Global};
 use version_nodes::Node;
-
-// What stands under a key goes, but for its bugs, and for its marks where it keeps them.
-fn drop_key(alloc: Global, keeps: bool, key: u64) -> Result<Sequence<Edit>, AllocError>
-    ensures { IfOk result (λ edits. edits ≡ key_drops keeps key) }
-{
-    let mut edits = Sequence::new(alloc);
-    edits.push(Edit::DropFields { key })?;
-    edits.push(Edit::DropBlockers { key })?;
-    edits.push(Edit::DropAffects { key })?;
-    drop_marks(&mut edits, keeps, key, key)?;
-    Ok(edits)
-}
-
-// What goes and what comes, where the image keeps these marks, or all its marks are put anew.
-fn kept_or_anew(
-    alloc: Global,
-    family: &Family,
-    keeps: bool,
-    image: &SetImage,
-    found: &[Node],
-    fixed: &[Node],
-) -> Result<Sequence<Edit>, AllocError>
-    requires { keeps ≡ same_marks image.now found.now fixed.now }
-    ensures edits { IfOk result (λ edits. (c : Content) →
-        (same_marks image.now found.now fixed.now ≡ false → c.nodes ≡ family.now) → IsGoodImage image.now → Stays image.now c →
-        IsCleared (same_marks image.now found.now fixed.now) image.now (without_image (same_marks image.now found.now fixed.now) image.now c) →
-        edited_all edits c ≡ with_image image.now (without_image (same_marks image.now found.now fixed.now) image.now c)) }
-    ensures free { IfOk result (λ edits. (c : Content) → IsGoodImage image.now → Stays image.now c →
-        IsCleared (same_marks image.now found.now fixed.now) image.now (without_image (same_marks image.now found.now fixed.now) image.now c) →
-        AreFree edits c) }
-{
-    let key = key_of(image);
-    let mut edits = drop_key(alloc, keeps, key)?;
-    put_shared(&mut edits, key, image)?;
-    if keeps {
-        return Ok(edits);
-    }
-    put_all_marks(alloc, &mut edits, family, key, image)?;
-    Ok(edits)
-}
 
 // What goes and what comes, where these are the marks that stand; all other rows are written anew.
 fn all_edits(
@@ -76,13 +36,18 @@ fn all_edits(
         AreFree edits c) }
 {
     let keeps = has_marks(image, found, fixed);
-    if keeps {
-        return Ok(kept_or_anew(alloc, family, keeps, image, found, fixed)?);
-    }
-    if loses_none(image, found, fixed) {
+    if !keeps && loses_none(image, found, fixed) {
         return Ok(moving_edits(alloc, family, image, found, fixed)?);
     }
-    Ok(kept_or_anew(alloc, family, keeps, image, found, fixed)?)
+    let key = key_of(image);
+    let mut edits = drop_rows(alloc, key)?;
+    drop_marks(&mut edits, keeps, key, key)?;
+    put_shared(&mut edits, key, image)?;
+    if keeps {
+        return Ok(edits);
+    }
+    put_all_marks(alloc, &mut edits, family, key, image)?;
+    Ok(edits)
 }
 
 /// What goes and what comes for the image of a set whose bugs stay as they are, titles and
