@@ -82,6 +82,20 @@ class CheckDesk(unittest.TestCase):
             output, _ = run([TOOLS / "check_desk", store], status=1)
             self.assertEqual(output, f"{store}: nearest: 0 rows too many, 1 missing\n")
 
+    def test_no_desk(self):
+        """A file that is missing, and one that is no database, are named before a desk in order."""
+        with folder() as place:
+            store = make_desk(place, desks.DAY)
+            text = written(place, "text", "This is no desk.\n")
+            missing = pathlib.Path(place, "missing")
+            output, _ = run([TOOLS / "check_desk", missing, text, store], status=1)
+            self.assertEqual(
+                output,
+                f"{missing}: unable to open database file\n{text}: file is not a database\n"
+                f"{store}: in order\n",
+            )
+        run([TOOLS / "check_desk"], status=2)
+
 
 class Compare(unittest.TestCase):
     """`compare`, which runs the program and the second reading on random scripts."""
