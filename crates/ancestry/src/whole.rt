@@ -149,17 +149,26 @@ fn parents_above(
     Ok(above)
 }
 
-// The order of two links by the sources of their nodes alone.
-fn by_source(a: &(Node, Option<Node>), b: &(Node, Option<Node>)) -> Ordering {
-    a.0.source().as_bytes().cmp(b.0.source().as_bytes())
+// The order of two links by the texts of their nodes alone: by the sources, and then the shorter
+// version comes first.
+fn by_texts(a: &(Node, Option<Node>), b: &(Node, Option<Node>)) -> Ordering {
+    let by_source = a.0.source().as_bytes().cmp(b.0.source().as_bytes());
+    if by_source.is_ne() {
+        return by_source;
+    }
+    let left = a.0.version().as_bytes();
+    let right = b.0.version().as_bytes();
+    left.len().cmp(&right.len()).then(left.cmp(right))
 }
 
-// These links by their sources, and those of a source as they come: mostly each is based on the
-// next one or the one before, and so its version is then compared with its neighbours' alone.
-fn by_sources(mut links: Vec<(Node, Option<Node>)>) -> Result<Vec<(Node, Option<Node>)>, AllocError>
+// These links by their texts, which mostly is the order of their nodes: there each is then
+// compared with its neighbours alone.
+fn in_text_order(
+    mut links: Vec<(Node, Option<Node>)>,
+) -> Result<Vec<(Node, Option<Node>)>, AllocError>
     ensures { IfOk result (λ sorted. IsPermutation links.items sorted.items) }
 {
-    links.sort_by(by_source)?;
+    links.sort_by(by_texts)?;
     Ok(links)
 }
 
@@ -188,7 +197,7 @@ impl Tree {
         ensures tree { (t : Ancestry) → IsForest t → IsPermutation t links.items → IfOk result (λ tree. tree ≡ Some t) }
         ensures forest { IfOk result (λ tree. IfSome tree IsForest) }
     {
-        let sorted = by_sources(links)?;
+        let sorted = in_text_order(links)?;
         let links = map_of(alloc, sorted)?;
         if !are_forest(&links) {
             return Ok(None);
