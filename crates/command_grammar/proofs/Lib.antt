@@ -1,6 +1,1 @@
-pub mod StepLemmas
-pub mod ShapeLemmas
-pub mod TextLemmas
-pub mod BugReading
-pub mod ReadingLemmas
 pub mod RefusalLemmas

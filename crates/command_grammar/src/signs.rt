@@ -1,8 +1,5 @@
 //! Signs that words begin with.
 
-ghost use Rattle.std.specs.Prelude.{◌≡◌};
-ghost use Rattle.command_grammar.specs.Commands.{sign_and_rest};
-
 /// A sign that a word begins with: that of the tags or packages after it.
 #[derive(Clone, Copy, Debug, PartialEq, Eq, Drop)]
 pub enum Sign {
@@ -12,21 +9,4 @@ pub enum Sign {
     Minus,
     /// `=`: all are taken out, and these are added.
     Equals,
-}
-
-/// The sign that a word begins with, and what follows it.
-pub(crate) fn sign_and_rest(word: &str) -> (Option<Sign>, &str)
-    ensures sign { result.0 ≡ (sign_and_rest word.now).0 }
-    ensures rest { result.1.now ≡ (sign_and_rest word.now).1 }
-{
-    if let Some(rest) = word.strip_prefix('+') {
-        return (Some(Sign::Plus), rest);
-    }
-    if let Some(rest) = word.strip_prefix('-') {
-        return (Some(Sign::Minus), rest);
-    }
-    if let Some(rest) = word.strip_prefix('=') {
-        return (Some(Sign::Equals), rest);
-    }
-    (None, word)
 }

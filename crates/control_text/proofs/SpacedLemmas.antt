@@ -24,7 +24,7 @@ use Rattle.command_grammar.specs.Lines.{begins_hash, is_stop_word, is_stop_line,
 use Rattle.control_text.specs.Spelling.{joined_by_blanks}
 use Rattle.control_text.specs.Spaces.{after_spaces}
 use Rattle.line_words.proofs.WordLemmas.{words-nil, words-separator, words-word, without_first-separator, words-first, words-none}
-use Rattle.command_grammar.proofs.TextLemmas.{unblanked_first}
+use Rattle.command_parser.proofs.TextLemmas.{unblanked_first}
 use Rattle.control_text.proofs.PlainWords.{IsPlainWord, graphic-blank, graphic-control}
 
 -- the first place of a byte that stands after a text without such bytes

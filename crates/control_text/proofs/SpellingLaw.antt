@@ -29,7 +29,7 @@ use Rattle.command_grammar.specs.WellFormed.{IsPlain, IsAddress, IsWellFormed}
 use Rattle.control_text.specs.Spelling.{name_text, bug_text, version_text, who_text, step_words, word_if, spelling, spelled_words, affects_sign}
 use Rattle.control_text.specs.Spelling.{joined_by_blanks}
 use Rattle.control_text.specs.Spaces.{after_spaces}
-use Rattle.command_grammar.proofs.TextLemmas.{text_parts}
+use Rattle.command_parser.proofs.TextLemmas.{text_parts}
 use Rattle.control_text.proofs.PlainWords.{graphic-control, name-plain}
 use Rattle.control_text.proofs.SpacedLemmas.{IsCommandWord, reading-command, ArePlain, AreClean, plain_clean, clean-spaces}
 use Rattle.control_text.proofs.SpacedLemmas.{ends-after_spaces, words-space, words-spaces, after_word-spaces, trimmed-space}

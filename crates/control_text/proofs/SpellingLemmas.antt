@@ -36,8 +36,8 @@ use Rattle.line_words.specs.Words.{has_bytes}
 use Rattle.command_grammar.specs.Versions.{bare_version, sourced_version, version_of_word, without_src, package_of_word}
 use Rattle.command_grammar.specs.Commands.{read_bug, read_version, read_package}
 use Rattle.control_text.specs.Spelling.{bug_text, version_text}
-use Rattle.command_grammar.proofs.TextLemmas.{none-take}
-use Rattle.command_grammar.proofs.ReadingLemmas.{version_good}
+use Rattle.command_parser.proofs.TextLemmas.{none-take}
+use Rattle.command_parser.proofs.ReadingLemmas.{version_good}
 use Rattle.control_text.proofs.PlainWords.{IsPlainWord, graphic-append, name-plain, version-plain, decimal-plain, written_is}
 use Rattle.control_text.proofs.SpacedLemmas.{position-is}
 

@@ -20,7 +20,7 @@ use Rattle.command_grammar.specs.Commands.{bug_and_text, bug_and_some_text, bug_
 use Rattle.command_grammar.specs.WellFormed.{IsPlain, IsAddress}
 use Rattle.control_text.specs.Spelling.{bug_text, who_text}
 use Rattle.control_text.specs.Spaces.{after_spaces}
-use Rattle.command_grammar.proofs.TextLemmas.{text_parts, text-trimmed}
+use Rattle.command_parser.proofs.TextLemmas.{text_parts, text-trimmed}
 use Rattle.control_text.proofs.SpacedLemmas.{words-space, after_word-spaces, trimmed-space, first_word-is}
 use Rattle.control_text.proofs.SpellingLemmas.{bug-back, bug-plain}
 

@@ -4,7 +4,7 @@ pub use Rattle.line_words.specs.Bugs
 pub use Rattle.command_grammar.specs.CommandWords
 pub use Rattle.command_grammar.specs.Versions
 pub use Rattle.command_grammar.specs.Commands
-pub use Rattle.command_grammar.specs.Reads
+pub use Rattle.command_parser.specs.Reads
 pub use Rattle.command_grammar.specs.Lines
 pub use Rattle.command_grammar.specs.WellFormed
 pub mod Spelling

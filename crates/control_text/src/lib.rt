@@ -1,6 +1,7 @@
 //! How a command of a control message is spelled, by the BTS page 'control and manipulation', and
 //! read back; and the words of a command line, in the manner of bts(1), as such lines.
-//! What a line says, or why it is refused, is given on from `command_grammar`.
+//! What a line says, or why it is refused, is given on from `command_grammar` and
+//! `command_parser`.
 #![tactic(auto)]
 
 mod bug_places;
@@ -13,7 +14,8 @@ mod word_laws;
 mod word_lines;
 mod writer;
 
-pub use command_grammar::{Line, LineFault, read_line, refusals_of_lines};
+pub use command_grammar::{Line, refusals_of_lines};
+pub use command_parser::{LineFault, read_line};
 pub use fault::WordsFault;
 pub use laws::spelling_is_read_back;
 pub use limits::well_formed;

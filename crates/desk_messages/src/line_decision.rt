@@ -17,7 +17,8 @@ ghost use Rattle.desk_messages.specs.Taking.{IsReadyFor, DecidesLine, FitsDecide
 
 use crate::command_decision::{Decision, decide_command, without_change};
 use bug_record::{Command, Outcome, StoreFault};
-use command_grammar::{Line, LineFault, read_line};
+use command_grammar::Line;
+use command_parser::{LineFault, read_line};
 use debver::Text;
 use desk_store::Records;
 use line_words::Named;

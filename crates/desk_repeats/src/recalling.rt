@@ -9,7 +9,8 @@ ghost use Rattle.message_progress.specs.Progress.{IsInStep};
 ghost use Rattle.desk_repeats.specs.Recalling.{names_read, names_accepted, AreOfLines, IsTaken};
 
 use bug_record::{End, Outcome, Sequence};
-use command_grammar::{Line, LineFault, read_line};
+use command_grammar::Line;
+use command_parser::{LineFault, read_line};
 use debver::Text;
 use desk_store::copy_outcome;
 use message_progress::{KnownNames, Progress, goes_on, into_names, make_room, settle};

@@ -11,3 +11,8 @@ pub mod ReadPlace
 pub mod NumberStatements
 pub mod NodeCells
 pub mod Imports
+pub mod NodeListLemmas
+pub mod GrownLemmas
+pub mod MissingLemmas
+pub mod FirstMarkLemmas
+pub mod RowLemmas

@@ -1,8 +1,12 @@
 //! The statements on the next number, on the nodes and their nearest marks, and on what is kept of
-//! messages that have an id, each with what it makes or answers of all that the tables say.
+//! messages that have an id, each with what it makes or answers of all that the tables say; and
+//! what a branch of versions changes in the rows of nodes and of nearest marks.
 #![tactic(auto)]
 
 mod family;
+mod first_marks;
+mod grown;
+mod laws;
 mod messages;
 mod meta;
 mod nearest;
@@ -12,6 +16,12 @@ mod outcomes;
 mod places;
 
 pub use family::read_family;
+pub use first_marks::add_first_marks;
+pub use grown::{OpenNodes, changed_nodes, open_nodes};
+pub use laws::{
+    branches_grow, first_marks_go_on, grown_nodes_change, marked_sets_are_there, rows_are_missing,
+    rows_go_on,
+};
 pub use messages::{add_message, read_message};
 pub use meta::{read_next, write_next};
 pub use nearest::{add_near, clear_near, clear_near_at};

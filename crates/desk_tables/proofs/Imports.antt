@@ -1,6 +1,6 @@
 -- The names that this crate's proofs cite, passed on from one place.
 -- It declares nothing.
-pub use Rattle.branch_rows.specs.Grown.{IsGrown, changed_of}
+pub use Rattle.desk_rows.specs.Grown.{IsGrown, changed_of}
 pub use Rattle.desk_migrations.specs.Making.{AreUnder, Builds, IsBlank, IsDeskOf, IsUnder}
 pub use Rattle.desk_migrations.specs.Number.{ReadsSchema, Says}
 pub use Rattle.desk_store.specs.Crashes.{Holding}

@@ -5,7 +5,7 @@ ghost use Rattle.std.specs.Option.{option_copied};
 ghost use Rattle.sqlite.specs.Held.{state};
 ghost use Rattle.sqlite.specs.State.{IsLive};
 ghost use Rattle.version_nodes.specs.Trees.{IsForest};
-ghost use Rattle.branch_rows.specs.Grown.{IsGrown, unknown_of, roots_of, changed_of};
+ghost use Rattle.desk_rows.specs.Grown.{IsGrown, unknown_of, roots_of, changed_of};
 ghost use Rattle.desk_content.specs.Branches.{with_nodes};
 ghost use Rattle.desk_content.specs.Changes.{FitsContent, changed};
 ghost use Rattle.desk_content.specs.Keeping.{MayBePut, kept_after};
@@ -18,7 +18,7 @@ ghost use Rattle.desk_tables.specs.Transactions.{AsksSchema, Ends};
 
 use crate::question::Question;
 use ancestry::BranchFault;
-use branch_rows::{OpenNodes, branches_grow, changed_nodes, open_nodes};
+use desk_rows::{OpenNodes, branches_grow, changed_nodes, open_nodes};
 use bug_record::{Change, Outcome, SetImage, StoreFault};
 use desk_migrations::{SchemaRead, carry_over, make_tables, read_schema};
 use desk_schema::fault_of;

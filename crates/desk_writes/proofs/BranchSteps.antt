@@ -12,7 +12,7 @@ use Rattle.desk_content.specs.Kept.{IsKeptContent}
 use Rattle.desk_content.specs.declared.edit.Edit.{Edit}
 use Rattle.desk_schema.specs.Steps.{Acts, PlaysAll, Reads}
 use Rattle.desk_schema.proofs.StepLemmas.{acts_then}
-use Rattle.branch_rows.specs.Grown.{IsGrown}
+use Rattle.desk_rows.specs.Grown.{IsGrown}
 use Rattle.desk_writes.specs.Steps.{Makes}
 
 -- what holds of an answer that says more

@@ -13,8 +13,8 @@ use Rattle.nearest_marks.specs.declared.near.Near.{Near}
 use Rattle.nearest_marks.proofs.LineLemmas.{longer}
 use Rattle.desk_content.specs.Content.{Content}
 use Rattle.desk_content.specs.Encodings.{kind_number}
-use Rattle.branch_rows.specs.FirstMarks.{mark_at}
-use Rattle.branch_rows.proofs.FirstMarkLemmas.{goes_on}
+use Rattle.desk_rows.specs.FirstMarks.{mark_at}
+use Rattle.desk_rows.proofs.FirstMarkLemmas.{goes_on}
 use Rattle.set_rows.specs.MarkedAt.{has_mark, AreMarksAt}
 use Rattle.set_rows.specs.declared.marks_at.SetMark.{SetMark}
 use Rattle.desk_writes.specs.Marked.{keys_of_kind}

@@ -21,8 +21,8 @@ use Rattle.desk_content.specs.Kept.{IsKeptContent}
 use Rattle.desk_content.specs.declared.branches.SetNear.{SetNear}
 use Rattle.desk_schema.specs.Steps.{Reads}
 use Rattle.desk_schema.proofs.StepLemmas.{acts_then}
-use Rattle.branch_rows.specs.Missing.{AreRowsOn, set_near, new_rows}
-use Rattle.branch_rows.proofs.RowLemmas.{rows_more}
+use Rattle.desk_rows.specs.Missing.{AreRowsOn, set_near, new_rows}
+use Rattle.desk_rows.proofs.RowLemmas.{rows_more}
 use Rattle.desk_writes.specs.Steps.{AddsRows}
 
 -- ---- the nodes

@@ -14,7 +14,7 @@ use Rattle.desk_content.specs.Free.{AreFree}
 use Rattle.desk_content.specs.Branches.{with_nodes}
 use Rattle.desk_content.specs.declared.branches.SetNear.{SetNear}
 use Rattle.desk_content.specs.declared.edit.Edit.{Edit}
-use Rattle.branch_rows.specs.Missing.{new_rows}
+use Rattle.desk_rows.specs.Missing.{new_rows}
 
 -- the rows of one more node come behind the others, by the first marks of its line
 pub record AddsRows (c : Content) (u : Ancestry) (v : Node) (old new : List SetNear) : Type 0 where

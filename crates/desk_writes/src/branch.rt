@@ -7,7 +7,7 @@ ghost use Rattle.bug_record.specs.declared.outcome.StoreFault.TheVariants.{Memor
 ghost use Rattle.desk_content.specs.Content.{Content};
 ghost use Rattle.desk_content.specs.Kept.{IsKeptContent};
 ghost use Rattle.desk_content.specs.Branches.{with_nodes, AreMissing};
-ghost use Rattle.branch_rows.specs.Grown.{IsGrown};
+ghost use Rattle.desk_rows.specs.Grown.{IsGrown};
 ghost use Rattle.desk_schema.specs.Steps.{Acts, Reads, Serves};
 ghost use Rattle.desk_writes.specs.Steps.{Makes};
 

@@ -7,11 +7,11 @@ ghost use Rattle.std.specs.BTreeMap.{get};
 ghost use Rattle.sqlite.specs.Held.{state};
 ghost use Rattle.version_nodes.specs.declared.statuses.MarkKind.TheVariants.{Found, Fixed};
 ghost use Rattle.nearest_marks.specs.Nearest.{nearest_on};
-ghost use Rattle.branch_rows.specs.FirstMarks.{mark_at};
+ghost use Rattle.desk_rows.specs.FirstMarks.{mark_at};
 ghost use Rattle.desk_schema.specs.Steps.{Reads};
 ghost use Rattle.desk_writes.specs.Marked.{keys_of_kind};
 
-use branch_rows::add_first_marks;
+use desk_rows::add_first_marks;
 use bug_record::StoreFault;
 use desk_content::number_of_kind;
 use nearest_marks::Near;

@@ -7,8 +7,8 @@ ghost use Rattle.nearest_marks.specs.Nearest.{meets, is_once};
 ghost use Rattle.bug_record.specs.declared.outcome.StoreFault.TheVariants.{Foreign};
 ghost use Rattle.desk_content.specs.Branches.{AreMissing};
 ghost use Rattle.desk_content.specs.Kept.{IsKeptContent};
-ghost use Rattle.branch_rows.specs.Grown.{IsGrown};
-ghost use Rattle.branch_rows.specs.Missing.{AreRowsOn};
+ghost use Rattle.desk_rows.specs.Grown.{IsGrown};
+ghost use Rattle.desk_rows.specs.Missing.{AreRowsOn};
 ghost use Rattle.desk_schema.specs.Steps.{Reads};
 ghost use Rattle.desk_writes.specs.Steps.{AddsRows};
 

@@ -5,7 +5,7 @@ ghost use Rattle.std.specs.Ordering.{nat_cmp};
 ghost use Rattle.std.specs.List.Sorted.{IsStrictlySortedBy};
 ghost use Rattle.std.specs.Map.{keys_of};
 ghost use Rattle.sqlite.specs.Held.{state};
-ghost use Rattle.branch_rows.specs.Missing.{set_near, new_rows};
+ghost use Rattle.desk_rows.specs.Missing.{set_near, new_rows};
 ghost use Rattle.desk_schema.specs.Steps.{Reads};
 
 use bug_record::StoreFault;

@@ -2,7 +2,7 @@ use Rattle.sqlite.specs.Held.{state}
 use Rattle.desk_content.specs.Content.{Content}
 use Rattle.desk_content.specs.Kept.{IsKeptContent}
 use Rattle.desk_content.specs.Branches.{AreMissing}
-use Rattle.branch_rows.specs.Grown.{IsGrown}
+use Rattle.desk_rows.specs.Grown.{IsGrown}
 use Rattle.desk_schema.proofs.ReadSteps.{known_first, known_answer}
 use Rattle.desk_writes.specs.Steps.{Makes}
 use Rattle.desk_writes.proofs.BranchSteps.{says}

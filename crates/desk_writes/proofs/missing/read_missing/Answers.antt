@@ -3,9 +3,9 @@ use Rattle.std.specs.Prelude.{⊤}
 use Rattle.sqlite.specs.Held.{state}
 use Rattle.desk_content.specs.Kept.{IsKeptContent}
 use Rattle.desk_content.specs.Branches.{AreMissing}
-use Rattle.branch_rows.specs.Grown.{IsGrown}
-use Rattle.branch_rows.specs.Missing.{AreRowsOn}
-use Rattle.branch_rows.proofs.MissingLemmas.{missing}
+use Rattle.desk_rows.specs.Grown.{IsGrown}
+use Rattle.desk_rows.specs.Missing.{AreRowsOn}
+use Rattle.desk_rows.proofs.MissingLemmas.{missing}
 use Rattle.desk_schema.proofs.StepLemmas.{acts_weaker}
 use Rattle.desk_writes.proofs.missing.read_missing.Goals as goal
 

@@ -2,7 +2,7 @@ use Rattle.std.proofs.Common.{◌+◌, take, Ok, subst, ◌∙◌}
 use Rattle.std.proofs.lemmas.List.{take_all}
 use Rattle.sqlite.specs.Held.{state}
 use Rattle.desk_content.specs.Kept.{IsKeptContent}
-use Rattle.branch_rows.specs.Missing.{AreRowsOn}
+use Rattle.desk_rows.specs.Missing.{AreRowsOn}
 use Rattle.desk_schema.proofs.ReadSteps.{known_then, known_weaker, known_answer}
 use Rattle.desk_writes.specs.Steps.{AddsRows}
 use Rattle.desk_writes.proofs.RowSteps.{one_node_more}

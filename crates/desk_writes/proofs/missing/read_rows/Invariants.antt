@@ -1,7 +1,7 @@
 use Rattle.std.proofs.Common.{◌≡◌, take}
 use Rattle.sqlite.specs.Held.{state}
 use Rattle.desk_content.specs.Kept.{IsKeptContent}
-use Rattle.branch_rows.specs.Missing.{AreRowsOn}
+use Rattle.desk_rows.specs.Missing.{AreRowsOn}
 use Rattle.desk_schema.proofs.ReadSteps.{Known}
 use Rattle.desk_writes.proofs.missing.read_rows.Given as goal
 

@@ -1,6 +1,6 @@
 use Rattle.std.proofs.Common.{◌≡◌, ◌++◌, [], ◌∷◌, ◌∙◌}
 use Rattle.sqlite.specs.Held.{state}
-use Rattle.branch_rows.specs.Missing.{new_rows}
+use Rattle.desk_rows.specs.Missing.{new_rows}
 use Rattle.desk_schema.proofs.ReadSteps.{known_then, known_weaker}
 use Rattle.desk_writes.proofs.RowSteps.{one_mark_more}
 use Rattle.desk_writes.proofs.new_rows.push_new_rows.Goals as goal

@@ -1,0 +1,5 @@
+pub mod StepLemmas
+pub mod ShapeLemmas
+pub mod TextLemmas
+pub mod BugReading
+pub mod ReadingLemmas

@@ -1,0 +1,3 @@
+pub mod Reads
+-- definitions that only private functions cite
+pub mod Growing
