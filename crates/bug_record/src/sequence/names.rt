@@ -89,7 +89,7 @@ impl Sequence<Text> {
     pub fn copy(&self) -> Result<Sequence<Text>, AllocError>
         ensures { IfOk result (λ r. r ≡ self.now) }
     {
-        let mut copies = self.empty();
+        let mut copies = self.with_room()?;
         for name in self.as_slice() {
             copies.push(name.copy()?)?;
         }

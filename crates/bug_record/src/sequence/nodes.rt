@@ -34,7 +34,7 @@ impl Sequence<Node> {
     pub fn copy(&self) -> Result<Sequence<Node>, AllocError>
         ensures { IfOk result (λ r. r ≡ self.now) }
     {
-        let mut copies = self.empty();
+        let mut copies = self.with_room()?;
         for node in self.as_slice() {
             copies.push(node.copy()?)?;
         }
