@@ -37,6 +37,18 @@ fn only_member(alloc: Global, number: u64, title: &str, from: &str) -> Result<Me
     }))
 }
 
+// The package's name, which is shared with the first of the nodes where that is of the package.
+fn package_text(alloc: Global, package: &str, found: &[Node]) -> Result<Text, AllocError>
+    ensures { IfOk result (λ text. text ≡ «package».now) }
+{
+    if let Some(node) = found.first() {
+        if node.is_of(package) {
+            return node.copy_source();
+        }
+    }
+    Text::of(alloc, package)
+}
+
 // The shared fields of a new bug, which is open.
 fn shared_of_report(
     alloc: Global,
@@ -47,7 +59,7 @@ fn shared_of_report(
     ensures { IfOk result (λ shared. shared ≡ shared_of_report «package».now severity found) }
 {
     Ok(Shared {
-        package: Text::of(alloc, package)?,
+        package: package_text(alloc, package, found.as_slice())?,
         severity,
         closed: false,
         forwarded: None,

@@ -17,7 +17,6 @@ use Rattle.bug_record.specs.declared.bug.Bug.{Bug}
 use Rattle.bug_record.specs.declared.bug.Shared.{Shared}
 use Rattle.bug_record.specs.declared.command.Command.{Command}
 use Rattle.bug_record.specs.declared.command.Command.TheVariants as commands
-use Rattle.bug_record.specs.declared.command.Refusal.{Refusal}
 use Rattle.bug_record.specs.declared.command.Refusal.TheVariants.{NoBug, OwnSet}
 use Rattle.bug_record.proofs.RefusalLemmas.{first-none, later-none}
 use Rattle.bug_record.proofs.SetLemmas.{has-append, has-number_set, has-filter, IsAscending-number_set, IsAscending-filter}

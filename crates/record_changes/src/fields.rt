@@ -33,11 +33,7 @@ fn open_if_closed(shared: &mut Shared)
 }
 
 // Marks a bug found in the version; without one it is open, and nowhere fixed.
-fn mark_found_in(
-    alloc: Global,
-    shared: &mut Shared,
-    version: &Option<VersionArg>,
-) -> Result<(), PlanFault>
+fn mark_found_in(shared: &mut Shared, version: &Option<VersionArg>) -> Result<(), PlanFault>
     requires { IfGiven IsGoodVersion version.now }
     ensures done { OnOk result (shared.new ≡ found_in version.now shared.old) }
     ensures fault { IfErr result (IsVersionFault shared.old.«package») }
@@ -46,60 +42,56 @@ fn mark_found_in(
         open_bug(shared);
         return Ok(());
     };
-    let node = node_meant(alloc, shared.package.as_str(), version)?;
+    let node = node_meant(&shared.package, version)?;
     mark_found_at(shared, node)?;
     Ok(())
 }
 
 // Takes back the mark that a bug is found in the version.
-fn unmark_found(alloc: Global, shared: &mut Shared, version: &VersionArg) -> Result<(), PlanFault>
+fn unmark_found(shared: &mut Shared, version: &VersionArg) -> Result<(), PlanFault>
     requires { IsGoodVersion version.now }
     ensures done { OnOk result (shared.new ≡ record shared.old {
       found = without_node shared.old.found (node_meant shared.old.«package» version.now);
     }) }
     ensures fault { IfErr result (IsVersionFault shared.old.«package») }
 {
-    let node = node_meant(alloc, shared.package.as_str(), version)?;
+    let node = node_meant(&shared.package, version)?;
     shared.found.remove_node(&node);
     Ok(())
 }
 
 // Marks the version as one that does not have the bug.
-fn mark_fixed_in(alloc: Global, shared: &mut Shared, version: &VersionArg) -> Result<(), PlanFault>
+fn mark_fixed_in(shared: &mut Shared, version: &VersionArg) -> Result<(), PlanFault>
     requires { IsGoodVersion version.now }
     ensures done { OnOk result (shared.new ≡ marked_fixed (node_meant shared.old.«package» version.now) shared.old) }
     ensures fault { IfErr result (IsVersionFault shared.old.«package») }
 {
-    let node = node_meant(alloc, shared.package.as_str(), version)?;
+    let node = node_meant(&shared.package, version)?;
     mark_fixed(shared, node)?;
     Ok(())
 }
 
 // Takes that mark back.
-fn unmark_fixed(alloc: Global, shared: &mut Shared, version: &VersionArg) -> Result<(), PlanFault>
+fn unmark_fixed(shared: &mut Shared, version: &VersionArg) -> Result<(), PlanFault>
     requires { IsGoodVersion version.now }
     ensures done { OnOk result (shared.new ≡ record shared.old {
       fixed = without_node shared.old.fixed (node_meant shared.old.«package» version.now);
     }) }
     ensures fault { IfErr result (IsVersionFault shared.old.«package») }
 {
-    let node = node_meant(alloc, shared.package.as_str(), version)?;
+    let node = node_meant(&shared.package, version)?;
     shared.fixed.remove_node(&node);
     Ok(())
 }
 
 // Closes a bug, as one that the version, if there is one, does not have.
-fn close_in(
-    alloc: Global,
-    shared: &mut Shared,
-    version: &Option<VersionArg>,
-) -> Result<(), PlanFault>
+fn close_in(shared: &mut Shared, version: &Option<VersionArg>) -> Result<(), PlanFault>
     requires { IfGiven IsGoodVersion version.now }
     ensures done { OnOk result (shared.new ≡ closed_in version.now shared.old) }
     ensures fault { IfErr result (IsVersionFault shared.old.«package») }
 {
     if let Some(version) = version {
-        let node = node_meant(alloc, shared.package.as_str(), version)?;
+        let node = node_meant(&shared.package, version)?;
         mark_fixed(shared, node)?;
     }
     shared.closed = true;
@@ -121,7 +113,6 @@ fn move_to(shared: &mut Shared, package: &Text) -> Result<(), AllocError>
 
 // Moves a bug to a package, and marks it found in the version there.
 fn move_and_mark(
-    alloc: Global,
     shared: &mut Shared,
     package: &Text,
     version: &Option<VersionArg>,
@@ -132,7 +123,7 @@ fn move_and_mark(
 {
     move_to(shared, package)?;
     if let Some(version) = version {
-        let node = node_meant(alloc, package.as_str(), version)?;
+        let node = node_meant(package, version)?;
         mark_found(shared, node)?;
     }
     Ok(())
@@ -213,15 +204,15 @@ fn change(
     ensures fault { IfErr result (IsVersionFault shared.old.«package») }
 {
     match command {
-        Command::Found(_, version) => mark_found_in(alloc, shared, version)?,
-        Command::NotFound(_, version) => unmark_found(alloc, shared, version)?,
-        Command::Fixed(_, version) => mark_fixed_in(alloc, shared, version)?,
-        Command::NotFixed(_, version) => unmark_fixed(alloc, shared, version)?,
-        Command::Close(_, version) => close_in(alloc, shared, version)?,
+        Command::Found(_, version) => mark_found_in(shared, version)?,
+        Command::NotFound(_, version) => unmark_found(shared, version)?,
+        Command::Fixed(_, version) => mark_fixed_in(shared, version)?,
+        Command::NotFixed(_, version) => unmark_fixed(shared, version)?,
+        Command::Close(_, version) => close_in(shared, version)?,
         Command::Reopen(_, _) => open_if_closed(shared),
         Command::Severity(_, severity) => set_severity(shared, *severity),
         Command::Tags(_, steps) => take_steps(&mut shared.tags, steps.as_slice())?,
-        Command::Reassign(_, to, version) => move_and_mark(alloc, shared, to, version)?,
+        Command::Reassign(_, to, version) => move_and_mark(shared, to, version)?,
         Command::Forwarded(_, text) => set_forwarded(shared, text)?,
         Command::NotForwarded(_) => clear_forwarded(shared),
         Command::Owner(_, who) => set_owner(alloc, shared, from, who)?,

@@ -10,33 +10,29 @@ ghost use Rattle.bug_record.specs.Steps.{marked_found, marked_fixed, found_at};
 ghost use Rattle.record_changes.specs.Fields.{IsVersionFault};
 
 use bug_record::{PlanFault, Refusal, Shared, VersionArg};
-use debver::{cut, order};
-use std::alloc::{AllocError, Global};
+use debver::{Text, cut, order};
+use std::alloc::AllocError;
 use version_nodes::{Node, NodeFault};
 
 // The source package that a version means.
-fn source_meant<'a>(package: &'a str, version: &'a VersionArg) -> &'a str
+fn source_meant<'a>(package: &'a Text, version: &'a VersionArg) -> &'a Text
     ensures { result.now ≡ unwrap_or version.now.source «package».now }
 {
     match &version.source {
-        Some(source) => source.as_str(),
+        Some(source) => source,
         None => package,
     }
 }
 
-/// The node that a version means for a package.
+/// The node that a version means for a package, which shares their texts.
 /// A package that is no package name, as no bug of a desk has, is refused.
-pub(crate) fn node_meant(
-    alloc: Global,
-    package: &str,
-    version: &VersionArg,
-) -> Result<Node, PlanFault>
+pub(crate) fn node_meant(package: &Text, version: &VersionArg) -> Result<Node, PlanFault>
     requires { IsGoodVersion version.now }
     ensures node { IfOk result (λ node. node ≡ node_meant «package».now version.now) }
     ensures fault { IfErr result (IsVersionFault «package».now) }
 {
     let source = source_meant(package, version);
-    match Node::at(alloc, source, version.version.as_str()) {
+    match Node::of_texts(source, &version.version) {
         Ok(node) => Ok(node),
         Err(NodeFault::BadNode) => Err(PlanFault::Refused(Refusal::BadPackage)),
         Err(NodeFault::Memory) => Err(PlanFault::Memory),

@@ -1,6 +1,6 @@
 //! Nodes: versions of source packages.
 
-ghost use Rattle.std.specs.Prelude.{◌≡◌, ◌++◌, refl, is_some, Some, IfSome, IfOk};
+ghost use Rattle.std.specs.Prelude.{◌≡◌, ◌++◌, refl, true, is_some, is_none, Some, IfSome, IfOk};
 ghost use Rattle.std.specs.List.{list_any, before_first, after_first};
 ghost use Rattle.std.specs.Str.{bytes_eq};
 ghost use Rattle.std.specs.Cmp.{po, partial_equiv_from_equiv};
@@ -8,8 +8,9 @@ ghost use Rattle.std.specs.Ordering.{as_partial_cmp};
 ghost use Rattle.std.specs.Hash as fed;
 ghost use Rattle.std.specs.Cmp.Rules.{hashing};
 ghost use Rattle.std.proofs.Common.{rules};
-ghost use Rattle.debver.specs.Names.{IsName};
+ghost use Rattle.debver.specs.Names.{IsName, name_fault};
 ghost use Rattle.debver.specs.Cut.{IsVersion};
+ghost use Rattle.debver.specs.Faults.{text_fault};
 ghost use Rattle.debver.specs.Versions.{total_cmp};
 ghost use Rattle.version_nodes.specs.Nodes.{node, IsNode, IsRead, is_slash, node_of, node_of_text, node_at, node_text, same_node};
 ghost use Rattle.version_nodes.specs.Nodes.{node_cmp};
@@ -67,6 +68,35 @@ fn node_of(alloc: Global, source: &str, version: &str) -> Result<Node, NodeFault
     }
 }
 
+fn is_name(text: &Text) -> bool
+    ensures exact { result ≡ is_none (name_fault text.now) }
+    ensures name { result ≡ true → IsName text.now }
+{
+    check_name(text.as_str()).is_ok()
+}
+
+fn is_version(text: &Text) -> bool
+    ensures exact { result ≡ is_none (text_fault text.now) }
+    ensures version { result ≡ true → IsVersion text.now }
+{
+    match check(text.as_str()) {
+        Ok(_) => true,
+        Err(_) => false,
+    }
+}
+
+// Keeps a package name and a version, which it shares.
+fn shared(source: &Text, version: &Text) -> Result<Node, AllocError>
+    requires source { IsName source.now }
+    requires version { IsVersion version.now }
+    ensures { IfOk result (λ n. n ≡ node source.now version.now) }
+{
+    Ok(Node {
+        source: source.copy()?,
+        version: version.copy()?,
+    })
+}
+
 // The version that comes first of all in the total order: no version is longer, and a tilde comes
 // before the end of a text and before all other characters.
 const LOWEST: &str =
@@ -114,6 +144,23 @@ impl Node {
         node_of(alloc, own, version)
     }
 
+    /// The node of two texts, which it shares, where the one is a package name and the other a
+    /// version.
+    /// It takes no memory itself.
+    /// Errors: `BadNode` where they are no such texts, and `Memory` where no more copies of one can
+    /// be counted.
+    pub fn of_texts(source: &Text, version: &Text) -> Result<Node, NodeFault>
+        ensures { IsRead (node_of source.now version.now) result }
+    {
+        if !is_name(source) || !is_version(version) {
+            return Err(NodeFault::BadNode);
+        }
+        match shared(source, version) {
+            Ok(node) => Ok(node),
+            Err(_) => Err(NodeFault::Memory),
+        }
+    }
+
     /// The node of a package that comes before its other nodes, whose version is 100 tildes.
     /// Errors: `BadNode` where the text is no package name, and `Memory`.
     pub fn lowest(alloc: Global, source: &str) -> Result<Node, NodeFault>
@@ -128,6 +175,15 @@ impl Node {
         ensures valid { IsNode self.now }
     {
         self.source.as_str()
+    }
+
+    /// The name of the source package, as a text that shares the memory of this one.
+    /// It takes no memory itself, and answers out of memory only where no more copies of the text
+    /// can be counted.
+    pub fn copy_source(&self) -> Result<Text, AllocError>
+        ensures { IfOk result (λ t. t ≡ self.now.source) }
+    {
+        self.source.copy()
     }
 
     /// The version.

@@ -3,7 +3,7 @@ use Rattle.bug_core.proofs.report.shared_of_report.Goals as goal
 
 pub returns : goal.returns
 returns c = λ j. record {
-  «package» = c.in_ok-of.ensures j;
+  «package» = c.in_ok-package_text.ensures j;
   severity = c.args.severity;
   closed = false;
   forwarded = None;

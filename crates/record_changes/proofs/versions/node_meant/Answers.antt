@@ -1,21 +1,19 @@
 use Rattle.std.proofs.Common.{Err, sym, ap, ◌∙◌, subst}
 use Rattle.std.specs.Prelude.{unwrap_or}
-use Rattle.version_nodes.specs.Nodes.{node_at, IsRead}
-use Rattle.record_changes.proofs.NodeLemmas.{at-some, at-none-meant}
+use Rattle.version_nodes.specs.Nodes.{node_of, IsRead}
+use Rattle.record_changes.proofs.NodeLemmas.{of-some, of-none-meant}
 use Rattle.record_changes.proofs.versions.node_meant.Goals as goal
 
 pub returns-in-Ok-clause-node : goal.returns-in-Ok-clause-node
 returns-in-Ok-clause-node c =
     let v = c.args.version.now in
-    at-some (unwrap_or v.source c.args.package.now) v.version c.in-Ok.node c.requires.version
-    (ap (λ s. node_at s v.version) (sym c.source_meant-source.ensures)
-    ∙ ap (λ w. node_at c.source_meant-source.result.now w) (sym c.as_str.ensures) ∙ c.in-Ok.ensures)
+    of-some (unwrap_or v.source c.args.package.now) v.version c.in-Ok.node
+    (ap (λ s. node_of s v.version) (sym c.source_meant-source.ensures) ∙ c.in-Ok.ensures)
 
 pub returns-in-Err-BadNode-clause-fault : goal.returns-in-Err-BadNode-clause-fault
 returns-in-Err-BadNode-clause-fault c =
     let v = c.args.version.now in
-    at-none-meant v.source c.args.package.now v.version c.requires.source c.requires.version
-    (ap (λ s. node_at s v.version) (sym c.source_meant-source.ensures)
-    ∙ ap (λ w. node_at c.source_meant-source.result.now w) (sym c.as_str.ensures)
-    ∙ subst (λ z. IsRead (node_at c.source_meant-source.result.now c.as_str.result.now) (Err z)) c.in-Err-BadNode.field-0-is
+    of-none-meant v.source c.args.package.now v.version c.requires.source c.requires.version
+    (ap (λ s. node_of s v.version) (sym c.source_meant-source.ensures)
+    ∙ subst (λ z. IsRead (node_of c.source_meant-source.result.now v.version) (Err z)) c.in-Err-BadNode.field-0-is
     c.in-Err-BadNode.ensures)
