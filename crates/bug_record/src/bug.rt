@@ -90,8 +90,7 @@ impl Shared {
         ))
     }
 
-    // Copies of the tags, of the packages that it affects, of the found and fixed nodes, and of the
-    // blockers.
+    // Copies of the tags, of the affected packages, of the found and fixed nodes, and of blockers.
     fn copy_sets(&self) -> Result<(Tags, Names, Nodes, Nodes, Numbers), AllocError>
         ensures { IfOk result
             (λ r. r ≡ (self.now.tags, self.now.affects, self.now.found, self.now.fixed, self.now.blockers)) }
@@ -105,19 +104,17 @@ impl Shared {
         ))
     }
 
-    // These texts and sets, with the fields that take no copying.
-    fn with_parts(
-        &self,
-        texts: (Text, Option<Text>, Option<Text>),
-        sets: (Tags, Names, Nodes, Nodes, Numbers),
-    ) -> Shared
-        ensures { texts ≡ (self.now.package, self.now.forwarded, self.now.owner)
-            → sets ≡ (self.now.tags, self.now.affects, self.now.found, self.now.fixed, self.now.blockers)
-            → result ≡ self.now }
+    /// Equal fields, which share their texts with these.
+    /// It answers out of memory where there is none for the lists of tags, names, nodes and
+    /// blockers, or where no more copies of a text can be counted.
+    pub fn copy(&self) -> Result<Shared, AllocError>
+        ensures { IfOk result (λ r. r ≡ self.now) }
     {
+        let texts = self.copy_texts()?;
+        let sets = self.copy_sets()?;
         let (package, forwarded, owner) = texts;
         let (tags, affects, found, fixed, blockers) = sets;
-        Shared {
+        Ok(Shared {
             package,
             severity: self.severity,
             closed: self.closed,
@@ -129,18 +126,7 @@ impl Shared {
             fixed,
             blockers,
             archived: self.archived,
-        }
-    }
-
-    /// Equal fields, which share their texts with these.
-    /// It answers out of memory where there is none for the lists of tags, names, nodes and
-    /// blockers, or where no more copies of a text can be counted.
-    pub fn copy(&self) -> Result<Shared, AllocError>
-        ensures { IfOk result (λ r. r ≡ self.now) }
-    {
-        let texts = self.copy_texts()?;
-        let sets = self.copy_sets()?;
-        Ok(self.with_parts(texts, sets))
+        })
     }
 }
 

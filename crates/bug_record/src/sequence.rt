@@ -66,15 +66,6 @@ impl<T> Sequence<T> {
         }
     }
 
-    // An empty list over the same allocator, with room for as many elements.
-    fn with_room<U>(&self) -> Result<Sequence<U>, AllocError>
-        ensures { IfOk result (λ r. r ≡ []) }
-    {
-        Ok(Sequence {
-            items: Vec::with_capacity(*self.items.allocator(), self.items.len())?,
-        })
-    }
-
     /// The elements.
     pub fn as_slice(&self) -> &[T]
         ensures { result.now ≡ self.now }

@@ -89,10 +89,10 @@ impl Sequence<Text> {
     pub fn copy(&self) -> Result<Sequence<Text>, AllocError>
         ensures { IfOk result (λ r. r ≡ self.now) }
     {
-        let mut copies = self.with_room()?;
+        let mut copies = Vec::with_capacity(*self.items.allocator(), self.items.len())?;
         for name in self.as_slice() {
             copies.push(name.copy()?)?;
         }
-        Ok(copies)
+        Ok(Sequence { items: copies })
     }
 }

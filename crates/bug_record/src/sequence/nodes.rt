@@ -34,10 +34,10 @@ impl Sequence<Node> {
     pub fn copy(&self) -> Result<Sequence<Node>, AllocError>
         ensures { IfOk result (λ r. r ≡ self.now) }
     {
-        let mut copies = self.with_room()?;
+        let mut copies = Vec::with_capacity(*self.items.allocator(), self.items.len())?;
         for node in self.as_slice() {
             copies.push(node.copy()?)?;
         }
-        Ok(copies)
+        Ok(Sequence { items: copies })
     }
 }
