@@ -27,13 +27,13 @@ fn found_first(alloc: Global, node: Option<Node>) -> Result<Nodes, AllocError>
 }
 
 // The new bug, as the only member of its set.
-fn only_member(alloc: Global, number: u64, title: &str, from: &str) -> Result<Members, AllocError>
+fn only_member(alloc: Global, number: u64, title: &str, from: &Text) -> Result<Members, AllocError>
     ensures { IfOk result (λ members. members ≡ only_member number title.now from.now) }
 {
     Ok(Members::one(Member {
         number,
         title: Text::of(alloc, title)?,
-        submitter: Text::of(alloc, from)?,
+        submitter: from.copy()?,
     }))
 }
 
@@ -76,7 +76,7 @@ fn shared_of_report(
 // The image of the new bug, alone in its set.
 fn image_of_report(
     alloc: Global,
-    from: &str,
+    from: &Text,
     package: &str,
     severity: Severity,
     title: &str,
@@ -94,6 +94,7 @@ fn image_of_report(
 
 /// The change that a report makes: the bug of the next number is new, open, merged with none, and
 /// found at the node, if one is given.
+/// It shares the sender's text, and the source of that node where that is the package.
 /// `next` is the desk's next number, from 1 to 999,999,999, so that a number is left.
 ///
 /// # Errors
@@ -101,7 +102,7 @@ fn image_of_report(
 /// Only where there was no memory.
 pub fn report_change(
     alloc: Global,
-    from: &str,
+    from: &Text,
     package: &str,
     severity: Severity,
     title: &str,
@@ -119,6 +120,8 @@ pub fn report_change(
     ensures apart { IfOk result (λ change. AreApart change.images) }
     ensures members { IfOk result (λ change. Each HasMember change.images) }
 {
+    // A look at the sender's text, so that it is known to be UTF-8.
+    let _ = from.as_str();
     let image = image_of_report(alloc, from, package, severity, title, node, next)?;
     Ok(Change {
         images: Sequence::from_vec(Vec::from_array(alloc, [image])?),

@@ -5,6 +5,7 @@ use crate::stops::{fails_until_done, outcome_of};
 use crate::tasks::{Came, CrashTask};
 use bug_core::report_change;
 use bug_record::Severity;
+use debver::Text;
 use desk_crashes::{apply_and_crash, branch_and_crash};
 use desk_store::Records;
 use desk_tables::TableDesk;
@@ -50,7 +51,10 @@ fn report_and_crash<S: Alter + Reopen + Drop>(
     if next >= AFTER_LARGEST {
         return None;
     }
-    let Ok(change) = report_change(alloc, "ann", "foo", Severity::Normal, "b", None, next) else {
+    let Ok(from) = Text::of(alloc, "ann") else {
+        return None;
+    };
+    let Ok(change) = report_change(alloc, &from, "foo", Severity::Normal, "b", None, next) else {
         return None;
     };
     let (done, again) = apply_and_crash(alloc, desk, &change);

@@ -10,6 +10,7 @@ ghost use Rattle.desk_requests.specs.Shown.{shown, report_asked};
 ghost use Rattle.desk_answers.specs.Cases.{RefusesReport};
 
 use crate::refusals::refuse;
+use debver::Text;
 use desk_directives::report;
 use desk_requests::{Reply, ReportRequest, json_reply, store_fault};
 use desk_store::Records;
@@ -60,10 +61,13 @@ pub(crate) fn answer_report<S: Records>(
     let Ok(text) = bug_json(alloc, next) else {
         return store_fault(StoreFault::Memory);
     };
+    let Ok(from) = Text::of(alloc, request.from.as_str()) else {
+        return store_fault(StoreFault::Memory);
+    };
     let taken = report(
         alloc,
         store,
-        request.from.as_str(),
+        &from,
         request.package.as_str(),
         version_of(request),
         request.severity.as_str(),

@@ -13,7 +13,7 @@ ghost use Rattle.desk_directives.specs.Reports.{faults_after_report, AsksForNext
 
 use bug_core::{is_text, report_change};
 use bug_record::{ReportFault, Severity, StoreFault};
-use debver::{check, check_name};
+use debver::{Text, check, check_name};
 use desk_store::Records;
 use line_words::AFTER_LARGEST;
 use std::alloc::Global;
@@ -93,14 +93,14 @@ fn node_reported(
 }
 
 /// Takes a report: a new bug of the next number, open and merged with none, whose submitter is the
-/// sender, and which is found in the version of its package, if one is given.
+/// sender, whose text it shares, and which is found in the version of its package, if one is given.
 /// Answers its number.
 /// Where its words are good, the store is asked for the next number first, so that `Full` is
 /// answered first, also where memory runs out later.
 pub fn report<S: Records>(
     alloc: Global,
     store: &mut S,
-    from: &str,
+    from: &Text,
     package: &str,
     version: Option<&str>,
     severity: &str,

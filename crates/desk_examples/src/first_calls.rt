@@ -8,7 +8,7 @@ use ancestry::{BranchFault, Tree, status};
 use bug_core::{Severity, report_change};
 use bug_record::{Command, StoreFault, is_text};
 use control_text::{Line, LineFault, Named, WordsFault, read_line, words_to_lines, write_command};
-use debver::{VersionFault, check, order};
+use debver::{Text, VersionFault, check, order};
 use desk_http::{ServeFault, serve_one};
 use desk_in_memory::PlainDesk;
 use desk_messages::receive;
@@ -105,7 +105,8 @@ fn next_after_report(alloc: Global, from: &str, title: &str) -> Result<Option<u6
     if !is_text(from) || !is_text(title) {
         return Ok(None);
     }
-    let change = report_change(alloc, from, "hello", Severity::Grave, title, None, 1)?;
+    let from = Text::of(alloc, from)?;
+    let change = report_change(alloc, &from, "hello", Severity::Grave, title, None, 1)?;
     Ok(Some(change.next))
 }
 

@@ -130,7 +130,7 @@ fn carry_report<S: Records, W: Write>(
     let answer = report(
         alloc,
         store,
-        run.sender.as_str(),
+        &run.sender,
         words.package,
         words.version,
         words.severity,

@@ -1,5 +1,6 @@
 use Rattle.std.proofs.Common.{rules, ◌≡◌, ◌+◌, List, ◌∷◌, [], sym, ap, ◌∙◌, subst, arith}
 use Rattle.std.proofs.lemmas.Grind.{common_steps}
+use Rattle.std.specs.Str.{IsUtf8}
 use Rattle.std.proofs.lemmas.Str.{is_utf8-from_IsUtf8}
 use Rattle.bug_record.specs.Images.{put, FitsDesk}
 use Rattle.bug_record.specs.declared.bug.SetImage.{SetImage}
@@ -20,7 +21,7 @@ returns-clause-fits c =
     (fits-report d c.args.from.now c.args.package.now c.args.severity c.args.title.now c.args.node c.args.next sound same
     c.requires.some_left
     (record {
-      sender = (c.requires.sender, is_utf8-from_IsUtf8 c.args.from.now c.utf8.from);
+      sender = (c.requires.sender, is_utf8-from_IsUtf8 c.args.from.now (subst IsUtf8 c.as_str.ensures c.as_str.utf8));
       package_name =
           c.requires.name;
       title = (c.requires.title, is_utf8-from_IsUtf8 c.args.title.now c.utf8.title);

@@ -17,7 +17,7 @@ returns-in_default-clause-answer g c =
     holds_weaker c.report-answer.ensures.answer
     (λ r. untold (DirectiveLine c.args.line.now) s _ _ _ _ (report_answer c.report-answer.result)
     (reported_carried c.args.line.now _ _ _ _ s _ _ _ c.report-answer.result c.requires c.report-answer.ensures.count
-    (rw c.as_str.ensures at r)))
+    r))
 
 pub returns-in_err-write_out-clause-answer : goal.returns-in_err-write_out-clause-answer
 returns-in_err-write_out-clause-answer g c =
@@ -31,7 +31,7 @@ returns-in_err-write_out-clause-answer g c =
       c.in_err-write_out.ensures.unfinished.0,
       subst (λ (w : List ℕ). c.in_err-write_out.ensures.unfinished.0 < length w) text c.in_err-write_out.ensures.unfinished.1,
       reported_carried c.args.line.now _ _ _ _ s _ _ _ c.report-answer.result c.requires c.report-answer.ensures.count
-          (rw c.as_str.ensures at r),
+          r,
       subst (λ (w : List ℕ). Appends (g.W.Write.contents c.args.writer.now) (g.W.Write.contents c.write_out.new.writer)
           (take c.in_err-write_out.ensures.unfinished.0 w)) text c.in_err-write_out.ensures.unfinished.2,
     )))
@@ -43,7 +43,7 @@ returns-in-Ok-answer-clause-answer g c =
     holds_weaker c.report-answer.ensures.answer
     (λ r.
     let w = reported_whole c.args.line.now _ _ _ _ s _ c.in-Ok-answer.field-0 c.requires
-    (rw (c.as_str.ensures, c.in-Ok-answer.is) at r) in (
+    (rw c.in-Ok-answer.is at r) in (
       w.0,
       subst (Appends (g.W.Write.contents c.args.writer.now) (g.W.Write.contents c.write_out.new.writer))
           (text ∙ ap report_answer c.in-Ok-answer.is ∙ w.1) c.in_ok-write_out.ensures.all,
@@ -57,7 +57,7 @@ returns-in-Some-clause-answer g c =
     holds_weaker c.report-answer.ensures.answer
     (λ r.
     let f = reported_fault c.args.line.now _ _ _ _ s _ c.in-Err.fault c.in-Some.fault of_store c.requires
-    (rw (c.as_str.ensures, c.in-Err.is) at r) in (
+    (rw c.in-Err.is at r) in (
       report_answer c.report-answer.result,
       (f.0, f.1, ap report_answer c.in-Err.is ∙ f.2),
       rw c.in-Err.is at c.report-answer.ensures.count ∙ fault_count c.in-Err.fault c.in-Some.fault _ of_store,
@@ -78,7 +78,7 @@ returns-clause-answer g c =
     holds_weaker c.report-answer.ensures.answer
     (λ r.
     let w = reported_refused c.args.line.now _ _ _ _ s _ c.in-Err.fault not_of_store c.requires
-    (rw (c.as_str.ensures, c.in-Err.is) at r) in (
+    (rw c.in-Err.is at r) in (
       w.0,
       subst (Appends (g.W.Write.contents c.args.writer.now) (g.W.Write.contents c.write_out.new.writer))
           (text ∙ ap report_answer c.in-Err.is ∙ w.1) c.in_ok-write_out.ensures.all,
@@ -107,7 +107,7 @@ returns-in_default-clause-crash g c =
     let reported = c.report-answer.ensures.answer in
     (holds_where c.report-answer.ensures.crash
     (λ u w x. reported_failed g.S.Records.leaves _ _ _ c.args.line.now s _ _ _ _ c.report-answer.result _ Write c.requires
-    (rw c.as_str.ensures at (reported.fact u w)) (rw c.as_str.ensures at x)))
+    (reported.fact u w) x))
 
 pub returns-in_err-write_out-clause-crash : goal.returns-in_err-write_out-clause-crash
 returns-in_err-write_out-clause-crash g c =
@@ -116,7 +116,7 @@ returns-in_err-write_out-clause-crash g c =
     let p = err_from_is_err_and c.from_residual.result c.from_residual.ensures.1 in
     rw p.1 (holds_where c.report-answer.ensures.crash
     (λ u w x. reported_failed g.S.Records.leaves _ _ _ c.args.line.now s _ _ _ _ c.report-answer.result _ p.0 c.requires
-    (rw c.as_str.ensures at (reported.fact u w)) (rw c.as_str.ensures at x)))
+    (reported.fact u w) x))
 
 pub returns-in-Some-clause-crash : goal.returns-in-Some-clause-crash
 returns-in-Some-clause-crash g c =
@@ -124,4 +124,4 @@ returns-in-Some-clause-crash g c =
     let reported = c.report-answer.ensures.answer in
     (holds_where c.report-answer.ensures.crash
     (λ u w x. reported_failed g.S.Records.leaves _ _ _ c.args.line.now s _ _ _ _ c.report-answer.result _ Write c.requires
-    (rw c.as_str.ensures at (reported.fact u w)) (rw c.as_str.ensures at x)))
+    (reported.fact u w) x))
