@@ -1,9 +1,8 @@
 -- The numbers of bugs and the keys of sets in a content that a desk keeps, and the set of a bug.
-use Rattle.std.proofs.Common.{◌≡◌, ◌≤◌, ◌<◌, ◌^◌, ℕ, List, [], Option, Some, None, sym, refl, ap, subst, ◌∙◌, arith}
+use Rattle.std.proofs.Common.{◌≡◌, ◌≤◌, ◌<◌, ◌^◌, ℕ, List, Option, Some, None, sym, refl, ap, subst, ◌∙◌, arith}
 use Rattle.std.specs.Prelude.{option_map}
 use Rattle.std.specs.Option.{option_and_then}
 use Rattle.line_words.specs.declared.named.TheConstants.{AFTER_LARGEST}
-use Rattle.version_nodes.specs.Nodes.{Node}
 use Rattle.bug_record.specs.Images.{bug_of, member_at}
 use Rattle.bug_record.specs.declared.bug.Bug.{Bug}
 use Rattle.bug_record.specs.declared.bug.Member.{Member}
@@ -15,7 +14,7 @@ use Rattle.desk_content.specs.View.{image, desk_in, shared_of}
 use Rattle.desk_content.specs.Kept.{IsKeptContent}
 use Rattle.desk_content.specs.declared.edit.SetFields.{SetFields}
 use Rattle.desk_store.specs.Store.{IsImageOf}
-use Rattle.desk_reads.specs.Bugs.{image_with, unlinked}
+use Rattle.desk_reads.specs.Bugs.{image_with}
 use Rattle.desk_reads.specs.FoundSets.{IsSetFound, found_under}
 
 small : (n next : ℕ) → n < next → next ≤ AFTER_LARGEST → n < 2 ^ 32
@@ -24,22 +23,6 @@ small n next low limit = omega (arith, low, limit)
 -- the image of a set that has a row
 pub image_is : (c : Content) (k : ℕ) (f : SetFields) → c.fields k ≡ Some f → image c k ≡ image_with c k f
 image_is c k f e = ap (option_map (λ f. let i : SetImage = record { shared = shared_of c k f; members = c.members k } in i)) e
-
--- the fields of one that are read one after another
-pub marked_is : (c : Content) (k : ℕ) (f : SetFields) (affects : List (List ℕ)) (found fixed : List Node) (blockers : List ℕ) → affects ≡ [] → found ≡ c.found k → fixed ≡ c.fixed k → blockers ≡ []
-    → record (shared_of c k f) { affects = affects; found = found; fixed = fixed; blockers = blockers } ≡ unlinked (shared_of c k f)
-marked_is c k f affects found fixed blockers p q r t =
-    ap (λ x. let s : Shared = record (shared_of c k f) { affects = x; found = found; fixed = fixed; blockers = blockers } in s) p
-    ∙ ap (λ x. let s : Shared = record (shared_of c k f) { affects = []; found = x; fixed = fixed; blockers = blockers } in s) q
-    ∙ ap (λ x. let s : Shared = record (shared_of c k f) { affects = []; fixed = x; blockers = blockers } in s) r
-    ∙ ap (λ x. let s : Shared = record (shared_of c k f) { affects = []; blockers = x } in s) t
-
-pub shared_is : (c : Content) (k : ℕ) (f : SetFields) (marked : Shared) (blockers : List ℕ) (affects : List (List ℕ)) → marked ≡ unlinked (shared_of c k f) → blockers ≡ c.blockers k → affects ≡ c.affects k
-    → record marked { blockers = blockers; affects = affects } ≡ shared_of c k f
-shared_is c k f marked blockers affects p q r =
-    ap (λ (m : Shared). let s : Shared = record m { blockers = blockers; affects = affects } in s) p
-    ∙ ap (λ x. let s : Shared = record (shared_of c k f) { blockers = x; affects = affects } in s) q
-    ∙ ap (λ x. let s : Shared = record (shared_of c k f) { affects = x } in s) r
 
 pub image_of_parts : (c : Content) (k : ℕ) (f : SetFields) (shared : Shared) (members : List Member) → shared ≡ shared_of c k f → members ≡ c.members k
     → Some (record { shared = shared; members = members }) ≡ image_with c k f

@@ -1,8 +1,7 @@
 -- The bugs of several sets, and the image of one that has its own row.
-use Rattle.std.specs.Prelude.{ℕ, List, [], flat_map, Option, Some}
+use Rattle.std.specs.Prelude.{ℕ, List, flat_map, Option, Some}
 use Rattle.bug_record.specs.Images.{numbers_of}
 use Rattle.bug_record.specs.declared.bug.SetImage.{SetImage}
-use Rattle.bug_record.specs.declared.bug.Shared.{Shared}
 use Rattle.desk_content.specs.Content.{Content}
 use Rattle.desk_content.specs.View.{shared_of}
 use Rattle.desk_content.specs.declared.edit.SetFields.{SetFields}
@@ -14,7 +13,3 @@ bugs_of c keys = flat_map (λ k. numbers_of (c.members k)) keys
 -- the image of the set of a key that has these fields
 abbrev pub image_with : Content → ℕ → SetFields → Option SetImage
 image_with c k f = Some (record { shared = shared_of c k f; members = c.members k })
-
--- shared fields without the packages that a set affects and the bugs that block it
-abbrev pub unlinked : Shared → Shared
-unlinked f = record f { affects = []; blockers = [] }

@@ -6,13 +6,13 @@ ghost use Rattle.bug_record.specs.declared.outcome.StoreFault.TheVariants.{Forei
 ghost use Rattle.desk_content.specs.View.{image, shared_of};
 ghost use Rattle.desk_schema.specs.Steps.{Reads, Serves};
 ghost use Rattle.desk_reads.specs.Kept.{ReadsKept};
-ghost use Rattle.desk_reads.specs.Bugs.{image_with, unlinked};
+ghost use Rattle.desk_reads.specs.Bugs.{image_with};
 ghost use Rattle.desk_reads.specs.FoundSets.{IsSetFound, found_under};
 
 use crate::keys::small_key;
-use bug_record::{Agreed, Sequence, SetImage, Shared, StoreFault};
+use bug_record::{Agreed, SetImage, Shared, StoreFault};
 use desk_content::SetFields;
-use set_rows::{read_affected, read_blockers, read_fields, read_key, read_marks, read_members};
+use set_rows::{read_fields, read_key, read_members, read_shared};
 use sqlite::{Alter, Transaction};
 use std::alloc::Global;
 
@@ -22,53 +22,6 @@ use std::alloc::Global;
 pub struct FoundSet {
     pub key: u64,
     pub image: SetImage,
-}
-
-// The shared fields of the set of the key, which has these in its own row, without the packages
-// that it affects and the bugs that block it.
-fn read_marked<S: Alter>(
-    alloc: Global,
-    tx: &mut Transaction<'_, S>,
-    key: u32,
-    fields: SetFields,
-) -> Result<Shared, StoreFault>
-    ensures same_reference { tx.new.conn.ghost_name ≡ tx.old.conn.ghost_name }
-    ensures reads { Reads (λ c shared. shared ≡ unlinked (shared_of c key fields)) (state S.Store tx.old.conn.now) (state S.Store tx.new.conn.now) result }
-    ensures serves { Serves (state S.Store tx.old.conn.now) (state S.Store tx.new.conn.now) result }
-{
-    let marks = read_marks(alloc, tx, key)?;
-    Ok(Shared {
-        package: fields.package,
-        severity: fields.severity,
-        closed: fields.closed,
-        forwarded: fields.forwarded,
-        owner: fields.owner,
-        tags: fields.tags,
-        affects: Sequence::new(alloc),
-        found: marks.found,
-        fixed: marks.fixed,
-        blockers: Sequence::new(alloc),
-        archived: fields.archived,
-    })
-}
-
-// All shared fields of that set.
-fn read_shared<S: Alter>(
-    alloc: Global,
-    tx: &mut Transaction<'_, S>,
-    key: u32,
-    fields: SetFields,
-) -> Result<Shared, StoreFault>
-    ensures same_reference { tx.new.conn.ghost_name ≡ tx.old.conn.ghost_name }
-    ensures reads { Reads (λ c shared. shared ≡ shared_of c key fields) (state S.Store tx.old.conn.now) (state S.Store tx.new.conn.now) result }
-    ensures serves { Serves (state S.Store tx.old.conn.now) (state S.Store tx.new.conn.now) result }
-{
-    let mut shared = read_marked(alloc, tx, key, fields)?;
-    let blockers = read_blockers(alloc, tx, key)?;
-    let affects = read_affected(alloc, tx, key)?;
-    shared.blockers = blockers;
-    shared.affects = affects;
-    Ok(shared)
 }
 
 // The fields, to be shared by copies of an image.

@@ -2,7 +2,6 @@
 use Rattle.std.proofs.Common.{◌≡◌, ℕ, [], ◌∷◌, List, Option, Some, None, refl, Result, Ok, Err, IfOk, sym, ap, subst, ◌∙◌, Bool, true, false, ◌&&◌}
 use Rattle.std.specs.Prelude.{⊤, IfSome, option_map}
 use Rattle.std.proofs.lemmas.Option.{same_Some, none-some}
-use Rattle.version_nodes.specs.Nodes.{Node}
 use Rattle.version_nodes.specs.Trees.{Ancestry}
 use Rattle.bug_record.specs.Sets.{Each}
 use Rattle.bug_record.specs.Images.{HasMember}
@@ -78,11 +77,6 @@ known_stays t i old edits stay same c here =
         subst (λ j. IsStay t (shared_of c j p.0) i edits) k (subst (λ (s : Shared). IsStay t s i edits) (sym p.2) stay),
       ),
     )
-
--- what was read of a key are its shared fields
-pub read_is : (c : Content) (k : ℕ) (f : SetFields) (found fixed : List Node) (blockers : List ℕ) (affects : List (List ℕ)) → found ≡ c.found k → fixed ≡ c.fixed k → blockers ≡ c.blockers k
-    → affects ≡ c.affects k → record (shared_of c k f) { affects = affects; found = found; fixed = fixed; blockers = blockers } ≡ shared_of c k f
-read_is c k f found fixed blockers affects p q r s = λ j. record (shared_of c k f) { affects = s j; found = p j; fixed = q j; blockers = r j }
 
 -- the shared fields that were read are those that stand
 pub stands_read : (t : Ancestry) (i : SetImage) (before : Shared) (fields : SetFields) (key : ℕ) (r : Result (List Edit) StoreFault) → key ≡ key_of i → IfOk r (λ (es : List Edit). IsStay t before i es)

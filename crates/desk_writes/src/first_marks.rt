@@ -11,9 +11,9 @@ ghost use Rattle.desk_rows.specs.FirstMarks.{mark_at};
 ghost use Rattle.desk_schema.specs.Steps.{Reads};
 ghost use Rattle.desk_writes.specs.Marked.{keys_of_kind};
 
-use desk_rows::add_first_marks;
 use bug_record::StoreFault;
 use desk_content::number_of_kind;
+use desk_rows::add_first_marks;
 use nearest_marks::Near;
 use set_rows::{SetMark, read_marks_at};
 use sqlite::{Alter, Transaction};

@@ -14,7 +14,6 @@ mod missing;
 mod new_rows;
 mod play;
 mod puts;
-mod standing;
 mod staying;
 
 pub use branch::put_branch;

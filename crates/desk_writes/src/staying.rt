@@ -10,12 +10,11 @@ ghost use Rattle.desk_content.specs.Content.{Content};
 ghost use Rattle.desk_writes.specs.Needs.{IsKnownIn};
 ghost use Rattle.desk_writes.specs.Plans.{IsStay, IsStayOf, IsStayPlan};
 
-use crate::standing::read_shared;
 use bug_record::{Member, Sequence, SetImage, Shared, StoreFault};
 use desk_content::{Edit, SetFields, key_of, stay_edits};
 use desk_schema::parameter;
 use nearest_marks::Family;
-use set_rows::{has_members, read_fields};
+use set_rows::{has_members, read_fields, read_shared};
 use sqlite::{Alter, Transaction};
 use std::alloc::Global;
 

@@ -9,4 +9,5 @@ pub mod SetStatements
 pub mod ListedSets
 pub mod NearStatements
 pub mod MemberLemmas
+pub mod SharedLemmas
 pub mod Imports

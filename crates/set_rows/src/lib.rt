@@ -10,6 +10,7 @@ mod marks;
 mod marks_at;
 mod near_kind;
 mod sets;
+mod shared;
 
 pub use affects::{add_affected, clear_affected, read_affected, read_affecting};
 pub use blocks::{add_blocker, clear_blockers, read_blockers, read_waiting};
@@ -19,3 +20,4 @@ pub use marks::{Marks, add_mark, clear_marks, read_marks};
 pub use marks_at::{SetMark, read_marks_at};
 pub use near_kind::read_near_kind;
 pub use sets::{add_fields, clear_fields, read_fields};
+pub use shared::read_shared;

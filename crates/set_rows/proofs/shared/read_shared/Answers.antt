@@ -2,8 +2,8 @@ use Rattle.std.proofs.Common.{◌≡◌}
 use Rattle.sqlite.specs.Held.{state}
 use Rattle.desk_content.specs.View.{shared_of}
 use Rattle.desk_schema.proofs.ReadSteps.{known_first, known_then, known_answer}
-use Rattle.desk_writes.proofs.StaySteps.{read_is}
-use Rattle.desk_writes.proofs.standing.read_shared.Goals as goal
+use Rattle.set_rows.proofs.SharedLemmas.{read_is}
+use Rattle.set_rows.proofs.shared.read_shared.Goals as goal
 
 pub returns-clause-reads : goal.returns-clause-reads
 returns-clause-reads g c =

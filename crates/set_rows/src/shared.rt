@@ -3,16 +3,19 @@
 ghost use Rattle.std.specs.Prelude.{◌≡◌};
 ghost use Rattle.sqlite.specs.Held.{state};
 ghost use Rattle.desk_content.specs.View.{shared_of};
-ghost use Rattle.desk_schema.specs.Steps.{Reads};
+ghost use Rattle.desk_schema.specs.Steps.{Reads, Serves};
 
+use crate::affects::read_affected;
+use crate::blocks::read_blockers;
+use crate::marks::read_marks;
 use bug_record::{Shared, StoreFault};
 use desk_content::SetFields;
-use set_rows::{read_affected, read_blockers, read_marks};
 use sqlite::{Alter, Transaction};
 use std::alloc::Global;
 
 /// All shared fields of the set of the key, which has these in its own row.
-pub(crate) fn read_shared<S: Alter>(
+/// `Memory` where there is none for them.
+pub fn read_shared<S: Alter>(
     alloc: Global,
     tx: &mut Transaction<'_, S>,
     key: u32,
@@ -20,6 +23,7 @@ pub(crate) fn read_shared<S: Alter>(
 ) -> Result<Shared, StoreFault>
     ensures same_reference { tx.new.conn.ghost_name ≡ tx.old.conn.ghost_name }
     ensures reads { Reads (λ c shared. shared ≡ shared_of c key fields) (state S.Store tx.old.conn.now) (state S.Store tx.new.conn.now) result }
+    ensures serves { Serves (state S.Store tx.old.conn.now) (state S.Store tx.new.conn.now) result }
 {
     let marks = read_marks(alloc, tx, key)?;
     let blockers = read_blockers(alloc, tx, key)?;
