@@ -1,3 +1,4 @@
+pub mod NodeLemmas
 pub mod QuestionLemmas
 pub mod BranchLemmas
 pub mod ListedLemmas

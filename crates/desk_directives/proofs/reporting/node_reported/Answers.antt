@@ -3,7 +3,7 @@ use Rattle.std.specs.Option.{option_copied}
 use Rattle.debver.specs.Cut.{IsVersion}
 use Rattle.version_nodes.specs.Nodes.{node_at, IsRead}
 use Rattle.bug_record.specs.Texts.{IfGiven}
-use Rattle.record_changes.proofs.NodeLemmas.{at-some, at-none}
+use Rattle.desk_directives.proofs.NodeLemmas.{at-some, at-none}
 use Rattle.desk_directives.specs.Reports.{node_reported}
 use Rattle.desk_directives.proofs.reporting.node_reported.Goals as goal
 
