@@ -18,9 +18,9 @@ ghost use Rattle.desk_tables.specs.Transactions.{AsksSchema, Ends};
 
 use crate::question::Question;
 use ancestry::BranchFault;
-use desk_rows::{OpenNodes, branches_grow, changed_nodes, open_nodes};
 use bug_record::{Change, Outcome, SetImage, StoreFault};
 use desk_migrations::{SchemaRead, carry_over, make_tables, read_schema};
+use desk_rows::{OpenNodes, branches_grow, changed_nodes, open_nodes};
 use desk_schema::fault_of;
 use desk_writes::{put_branch, put_change, put_kept};
 use nearest_marks::Family;
