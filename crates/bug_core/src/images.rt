@@ -102,6 +102,6 @@ pub(crate) fn replace_by_one(
     ensures images { IfOk result (λ change. change.images ≡ image ∷ others (named_numbers named.entry) images.now) }
     ensures next { IfOk result (λ change. change.next ≡ next) }
 {
-    let parts = Sequence::from_vec(Vec::from_array(alloc, [image])?);
+    let parts = Sequence::one(alloc, image);
     replace(parts, images, named, next)
 }

@@ -73,7 +73,7 @@ fn first_differing(
 fn all_numbers(alloc: Global, first: u64, others: &[u64]) -> Result<Numbers, AllocError>
     ensures { IfOk result (λ numbers. numbers ≡ first ∷ others.now) }
 {
-    let mut numbers = Numbers::one(alloc, first)?;
+    let mut numbers = Numbers::one(alloc, first);
     for number in others {
         numbers.push(*number)?;
     }

@@ -17,12 +17,12 @@ use std::alloc::{AllocError, Global};
 use version_nodes::Node;
 
 // The set of the node, if one is given.
-fn found_first(alloc: Global, node: Option<Node>) -> Result<Nodes, AllocError>
-    ensures { IfOk result (λ nodes. nodes ≡ found_first node) }
+fn found_first(alloc: Global, node: Option<Node>) -> Nodes
+    ensures { result ≡ found_first node }
 {
     match node {
-        Some(node) => Ok(Sequence::from_vec(Vec::from_array(alloc, [node])?)),
-        None => Ok(Sequence::new(alloc)),
+        Some(node) => Sequence::one(alloc, node),
+        None => Sequence::new(alloc),
     }
 }
 
@@ -85,7 +85,7 @@ fn image_of_report(
 ) -> Result<SetImage, AllocError>
     ensures { IfOk result (λ i. i ≡ image_of_report from.now «package».now severity title.now node number) }
 {
-    let shared = shared_of_report(alloc, package, severity, found_first(alloc, node)?)?;
+    let shared = shared_of_report(alloc, package, severity, found_first(alloc, node))?;
     Ok(SetImage {
         shared: Agreed::of(alloc, shared)?,
         members: only_member(alloc, number, title, from)?,
@@ -124,7 +124,7 @@ pub fn report_change(
     let _ = from.as_str();
     let image = image_of_report(alloc, from, package, severity, title, node, next)?;
     Ok(Change {
-        images: Sequence::from_vec(Vec::from_array(alloc, [image])?),
+        images: Sequence::one(alloc, image),
         next: next + 1,
     })
 }

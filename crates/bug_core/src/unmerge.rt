@@ -31,13 +31,19 @@ fn part(
 ) -> Result<Sequence<Member>, AllocError>
     ensures { IfOk result (λ ms. ms ≡ filter (is_part own number) members.now) }
 {
-    let mut copies = Vec::with_capacity(alloc, if own { 1 } else { members.len() })?;
+    // One by itself needs no room.
+    let room = if own || members.len() <= 2 {
+        0
+    } else {
+        members.len()
+    };
+    let mut copies = Sequence::from_vec(Vec::with_capacity(alloc, room)?);
     for member in members {
         if is_part(own, number, member) {
             copies.push(member.copy()?)?;
         }
     }
-    Ok(Sequence::from_vec(copies))
+    Ok(copies)
 }
 
 // The image of a set with a copy of the shared fields.

@@ -1,3 +1,4 @@
+mod KeptLemmas
 pub mod MarkLemmas
 pub mod MergeLemmas
 pub mod NumberLemmas

@@ -6,7 +6,6 @@
 mod agreed;
 mod bug;
 mod command;
-mod laws;
 mod members;
 mod outcome;
 mod sequence;
@@ -19,9 +18,8 @@ pub use bug::{Bug, Member, SetImage, Shared};
 pub use command::{
     AffectsStep, Change, Command, Field, PlanFault, Refusal, TagStep, VersionArg, Who,
 };
-pub use laws::{joined_are_sets, joined_by_membership, marks_by_membership};
 pub use members::Members;
-pub use outcome::{End, Outcome, ReportFault, StoreFault};
+pub use outcome::{End, Outcome, StoreFault};
 pub use sequence::{
     Names, Nodes, Numbered, Numbers, Sequence, add_names, add_number, add_numbers, name_set,
     number_set,

@@ -3,7 +3,7 @@
 ghost use Rattle.std.specs.Prelude.{◌≡◌, ◌∷◌, [], IfOk};
 
 use crate::bug::Member;
-use crate::sequence::Sequence;
+use crate::sequence::{self, Sequence, only};
 use std::alloc::AllocError;
 use std::marker::Model;
 use std::rc::RcSlice;
@@ -48,15 +48,12 @@ impl Members {
     pub fn of(members: Sequence<Member>) -> Result<Members, AllocError>
         ensures { IfOk result (λ ms. ms ≡ members) }
     {
-        let mut items = members.into_vec();
-        if items.len() == 1 {
-            if let Some(member) = items.pop() {
-                return Ok(Members::one(member));
-            }
+        match members.kept {
+            sequence::Kept::One(one, _alloc) => Ok(Members::one(only(one))),
+            sequence::Kept::Many(items) => Ok(Members {
+                kept: Kept::Many(RcSlice::from_vec(items)?),
+            }),
         }
-        Ok(Members {
-            kept: Kept::Many(RcSlice::from_vec(items)?),
-        })
     }
 
     /// The members.

@@ -1,4 +1,4 @@
-//! What comes of a line, of a message, and of a report.
+//! What comes of a line and of a message.
 
 ghost use Rattle.std.specs.Prelude.{◌≡◌, Some};
 ghost use Rattle.bug_record.specs.Faults.{fault_word, fault_message};
@@ -7,7 +7,6 @@ use crate::command::Refusal;
 use crate::sequence::Numbers;
 use std::alloc::AllocError;
 use std::fmt;
-use thiserror::Error;
 
 /// Why a store did not do what it was asked.
 #[derive(Clone, Copy, Debug, PartialEq, Eq, Drop)]
@@ -80,38 +79,4 @@ pub enum End {
     /// The store failed at this line, counted from 1: the lines before it were carried out, it and
     /// the later ones not.
     Store(StoreFault, u64),
-}
-
-/// Why a report is not taken, in the order in which the causes are tested; a store fault at which
-/// the next number could not be read comes before `Full`.
-#[derive(Clone, Copy, Debug, PartialEq, Eq, Drop, Error)]
-pub enum ReportFault {
-    /// The package is no package name.
-    #[error("bad package name")]
-    BadPackage,
-    /// The version is no version.
-    #[error("bad version")]
-    BadVersion,
-    /// The word names no severity.
-    #[error("unknown severity")]
-    BadSeverity,
-    /// The title is no text of 1 to 200 bytes.
-    #[error("bad title")]
-    BadTitle,
-    /// No bug number is left.
-    #[error("no bug number is left")]
-    Full,
-    /// The store failed; nothing is changed.
-    #[error(transparent)]
-    Store(StoreFault),
-}
-
-impl From<StoreFault> for ReportFault {
-    ghost use Rattle.bug_record.specs.declared.outcome.ReportFault.TheVariants.{Store};
-
-    ghost from_gives = { λ fault e. e ≡ Store fault };
-
-    fn from(fault: StoreFault) -> ReportFault {
-        ReportFault::Store(fault)
-    }
 }

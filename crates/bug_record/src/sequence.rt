@@ -1,12 +1,16 @@
 //! Lists that contracts see as lists.
 
-ghost use Rattle.std.specs.Prelude.{◌≡◌, ℕ, List, [], ◌∷◌, ◌++◌, IfOk, OnOk, OnErr, slice_get};
+ghost use Rattle.std.specs.Prelude.{◌≡◌, ℕ, List, [], ◌∷◌, ◌++◌, ◌-◌, ◌≤◌, length, take, insert, IfOk, OnOk, OnErr, slice_get};
+ghost use Rattle.std.specs.Fn.{CalledAt};
+ghost use Rattle.std.specs.List.Retain.{IsFiltered};
 ghost use Rattle.std.specs.Cmp.Lexicographic.{pointwise, lists_per, lists_equiv};
+ghost use Rattle.bug_record.specs.Kept.{kept_items};
 ghost use Rattle.bug_record.specs.Sets.{with_item};
 ghost use Rattle.bug_record.specs.Places.{place_for, is_at};
 
 use std::alloc::{AllocError, Global};
 use std::marker::Model;
+use std::mem::replace;
 
 mod names;
 mod nodes;
@@ -19,15 +23,23 @@ pub use nodes::Nodes;
 pub use numbers::{Numbers, add_number, add_numbers, number_set};
 
 /// A list of values, which contracts see as that list.
+/// One that is made alone, or added to an empty list, takes no memory of its own.
 #[derive(Drop)]
 pub struct Sequence<T> {
-    items: Vec<T>,
+    pub(crate) kept: Kept<T>,
+}
+
+// The elements of a list: one by itself, beside the allocator for more, or a `Vec` of them.
+#[derive(Drop)]
+pub(crate) enum Kept<T> {
+    One([T; 1], Global),
+    Many(Vec<T>),
 }
 
 impl<T> Model for Sequence<T> {
     ghost Value = { List T };
 
-    ghost view = { λ s. s.items.items };
+    ghost view = { λ s. kept_items s.kept };
 }
 
 impl<T> Sequence<T> {
@@ -36,24 +48,31 @@ impl<T> Sequence<T> {
     pub fn new(alloc: Global) -> Self
         ensures { result ≡ [] }
     {
-        Sequence {
-            items: Vec::new(alloc),
-        }
+        Sequence::from_vec(Vec::new(alloc))
+    }
+
+    /// The list of one value.
+    /// It takes no memory.
+    pub fn one(alloc: Global, item: T) -> Self
+        ensures { result ≡ item ∷ [] }
+    {
+        let kept = Kept::One([item], alloc);
+        Sequence { kept }
     }
 
     /// The list of a `Vec`'s elements.
     pub fn from_vec(items: Vec<T>) -> Self
         ensures { result ≡ items.items }
     {
-        Sequence { items }
+        let kept = Kept::Many(items);
+        Sequence { kept }
     }
 
-    /// The `Vec` of the elements.
-    /// It takes no memory.
-    pub fn into_vec(self) -> Vec<T>
-        ensures { result.items ≡ self }
-    {
-        self.items
+    fn allocator(&self) -> Global {
+        match &self.kept {
+            Kept::One(_, alloc) => *alloc,
+            Kept::Many(items) => *items.allocator(),
+        }
     }
 
     /// An empty list over the same allocator.
@@ -61,17 +80,64 @@ impl<T> Sequence<T> {
     pub fn empty<U>(&self) -> Sequence<U>
         ensures { result ≡ [] }
     {
-        Sequence {
-            items: Vec::new(*self.items.allocator()),
-        }
+        Sequence::new(self.allocator())
     }
 
     /// The elements.
     pub fn as_slice(&self) -> &[T]
         ensures { result.now ≡ self.now }
     {
-        self.items.as_slice()
+        match &self.kept {
+            Kept::One(one, _) => one.as_slice(),
+            Kept::Many(items) => items.as_slice(),
+        }
     }
+}
+
+// The element of an array of one.
+pub(crate) fn only<T>(one: [T; 1]) -> T
+    ensures { result ∷ [] ≡ one }
+{
+    let [item] = one;
+    item
+}
+
+// The same, lent.
+fn lent<T>(one: &[T; 1]) -> &T
+    ensures { result.now ∷ [] ≡ one.now }
+{
+    let [item] = one;
+    item
+}
+
+// Adds an element at a place; where there is no memory, the list is as before.
+fn put<T: Drop>(kept: &mut Kept<T>, place: usize, item: T) -> Result<(), AllocError>
+    requires { place ≤ length (kept_items kept.old) }
+    ensures ok { OnOk result (kept_items kept.new ≡ insert (kept_items kept.old) place item) }
+    ensures err { OnErr result (kept_items kept.new ≡ kept_items kept.old) }
+{
+    match kept {
+        Kept::Many(items) => {
+            if items.capacity() > 0 {
+                items.insert(place, item)?;
+                return Ok(());
+            }
+            *kept = Kept::One([item], *items.allocator());
+        }
+        Kept::One(_, alloc) => {
+            let alloc = *alloc;
+            let mut items = Vec::with_capacity(alloc, 4)?;
+            match replace(kept, Kept::Many(Vec::new(alloc))) {
+                Kept::One(one, _alloc) => {
+                    let _ = items.push(only(one));
+                    let _ = items.insert(place, item);
+                }
+                Kept::Many(_items) => {}
+            }
+            *kept = Kept::Many(items);
+        }
+    }
+    Ok(())
 }
 
 impl<T: Drop> Sequence<T> {
@@ -81,8 +147,43 @@ impl<T: Drop> Sequence<T> {
         ensures ok { OnOk result (self.new ≡ self.old ++ item ∷ []) }
         ensures err { OnErr result (self.new ≡ self.old) }
     {
-        self.items.push(item)?;
-        Ok(())
+        let place = self.as_slice().len();
+        put(&mut self.kept, place, item)
+    }
+
+    /// Keeps the elements that pass the test.
+    /// It takes no memory.
+    pub fn retain<F: FnMut(&T) -> bool>(&mut self, mut test: F)
+        requires { F.IsAlwaysCallable test }
+        ensures { IsFiltered (CalledAt F.FnMut) test self.old self.new }
+    {
+        let alloc = self.allocator();
+        match replace(&mut self.kept, Kept::Many(Vec::new(alloc))) {
+            Kept::One(one, _alloc) => {
+                if test(lent(&one)) {
+                    self.kept = Kept::One(one, alloc);
+                }
+            }
+            Kept::Many(mut items) => {
+                items.retain(test);
+                self.kept = Kept::Many(items);
+            }
+        }
+    }
+
+    /// Takes the last element away, if there is one.
+    /// It takes no memory.
+    pub fn remove_last(&mut self)
+        ensures { self.new ≡ take (length self.old - 1) self.old }
+    {
+        let alloc = self.allocator();
+        match replace(&mut self.kept, Kept::Many(Vec::new(alloc))) {
+            Kept::One(one, _alloc) => drop(only(one)),
+            Kept::Many(mut items) => {
+                items.pop();
+                self.kept = Kept::Many(items);
+            }
+        }
     }
 }
 
@@ -147,11 +248,11 @@ impl<T: Numbered + Drop> Sequence<T> {
         ensures err { OnErr result (self.new ≡ self.old) }
     {
         let number = item.number();
-        let place = place_for(self.items.as_slice(), number);
-        if is_at(self.items.as_slice(), place, number) {
+        let place = place_for(self.as_slice(), number);
+        if is_at(self.as_slice(), place, number) {
             return Ok(());
         }
-        self.items.insert(place, item)?;
+        put(&mut self.kept, place, item)?;
         Ok(())
     }
 }

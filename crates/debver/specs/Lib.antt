@@ -1,4 +1,5 @@
 pub mod Characters
+pub mod Kept
 pub mod Parts
 pub mod Cut
 pub mod Faults

@@ -5,25 +5,37 @@ ghost use Rattle.std.specs.Ordering.{as_partial_cmp, nat_cmp};
 ghost use Rattle.std.specs.Cmp.{partial_equiv_from_equiv};
 ghost use Rattle.std.specs.Cmp.Lexicographic.{slice_cmp, nat_list_eq_equiv, nat_list_cmp_total, texts_ties, texts_po};
 
+use arrayvec::ArrayString;
 use std::alloc::{AllocError, Global};
 use std::cmp::Ordering;
+use std::fmt;
 use std::marker::Model;
-use std::rc::RcStr;
+use std::rc::Rc;
+
+// A text of at most so many bytes stands beside the count of its copies, in one piece of memory.
+const SHORT: usize = 24;
+
+// The bytes of a text.
+#[derive(Drop)]
+enum Kept {
+    Short(ArrayString<SHORT>),
+    Long(String),
+}
 
 /// A text, which contracts see as its bytes.
-/// Its copies share one piece of memory.
-#[derive(Debug, Drop)]
+/// Its copies share its memory, which for a text of up to 24 bytes is one piece.
+#[derive(Drop)]
 pub struct Text {
-    kept: RcStr,
+    kept: Rc<Kept>,
 }
 
 impl Model for Text {
     ghost use Rattle.std.specs.Prelude.{List, ℕ};
-    ghost use Rattle.std.specs.Rc.{rc_str_bytes};
+    ghost use Rattle.debver.specs.Kept.{kept_bytes};
 
     ghost Value = { List ℕ };
 
-    ghost view = { λ t. rc_str_bytes t.kept };
+    ghost view = { λ t. kept_bytes t.kept.value };
 }
 
 impl Text {
@@ -31,8 +43,12 @@ impl Text {
     pub fn of(alloc: Global, text: &str) -> Result<Text, AllocError>
         ensures { IfOk result (λ t. t ≡ text.now) }
     {
+        let kept = match ArrayString::from(text) {
+            Ok(short) => Kept::Short(short),
+            Err(_) => Kept::Long(String::from_str(alloc, text)?),
+        };
         Ok(Text {
-            kept: RcStr::from_str(alloc, text)?,
+            kept: Rc::new(alloc, kept)?,
         })
     }
 
@@ -40,7 +56,10 @@ impl Text {
     pub fn as_str(&self) -> &str
         ensures { result.now ≡ self.now }
     {
-        self.kept.as_str()
+        match self.kept.as_ref() {
+            Kept::Short(text) => text.as_str(),
+            Kept::Long(text) => text.as_str(),
+        }
     }
 
     /// A second such text, which shares the memory of this one.
@@ -51,6 +70,13 @@ impl Text {
         Ok(Text {
             kept: self.kept.clone()?,
         })
+    }
+}
+
+/// A text is shown in quotes.
+impl fmt::Debug for Text {
+    fn fmt<W: fmt::Write>(&self, f: &mut fmt::Formatter<W>) -> fmt::Result {
+        fmt::Debug::fmt(self.as_str(), f)
     }
 }
 

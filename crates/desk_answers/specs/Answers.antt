@@ -7,7 +7,7 @@ use Rattle.bug_record.specs.Desk.{Desk}
 use Rattle.desk_text.specs.Answers.{report_refusal, nodes_refusal}
 use Rattle.bug_record.specs.declared.outcome.End.{End}
 use Rattle.bug_record.specs.declared.outcome.End.TheVariants as ends
-use Rattle.bug_record.specs.declared.outcome.ReportFault.{ReportFault}
+use Rattle.desk_text.specs.declared.report_fault.ReportFault.{ReportFault}
 use Rattle.desk_lines.specs.Lines.{lines_of}
 use Rattle.desk_store.specs.Message.{Entry, Machine, at_start, after_lines, end_of}
 use Rattle.desk_directives.specs.Questions.{Told, page_told, list_told}

@@ -72,10 +72,9 @@ fn is_spared(same: SameRows, edit: &Edit) -> bool
 }
 
 // The edits but for those of rows that are the same.
-pub(crate) fn spare(edits: Sequence<Edit>, same: SameRows) -> Sequence<Edit>
+pub(crate) fn spare(mut edits: Sequence<Edit>, same: SameRows) -> Sequence<Edit>
     ensures { result ≡ spared same edits }
 {
-    let mut rest = edits.into_vec();
-    rest.retain(|edit| !is_spared(same, edit));
-    Sequence::from_vec(rest)
+    edits.retain(|edit| !is_spared(same, edit));
+    edits
 }

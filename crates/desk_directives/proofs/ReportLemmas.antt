@@ -6,8 +6,8 @@ use Rattle.std.proofs.lemmas.Bool.Decides.{nat_tests}
 use Rattle.bug_record.specs.Desk.{Desk}
 use Rattle.bug_record.specs.Steps.{reported}
 use Rattle.bug_record.specs.declared.severity.Severity.{Severity}
-use Rattle.bug_record.specs.declared.outcome.ReportFault.{ReportFault}
-use Rattle.bug_record.specs.declared.outcome.ReportFault.TheVariants.{BadPackage, BadVersion, BadSeverity, BadTitle, Full, Store}
+use Rattle.desk_text.specs.declared.report_fault.ReportFault.{ReportFault}
+use Rattle.desk_text.specs.declared.report_fault.ReportFault.TheVariants.{BadPackage, BadVersion, BadSeverity, BadTitle, Full, Store}
 use Rattle.desk_store.specs.Store.{Faults}
 use Rattle.desk_directives.specs.Reports.{node_reported, report_severity, desk_reported, report_of, IsReported}
 use Rattle.desk_directives.specs.ReportWords.{IsOfWords}

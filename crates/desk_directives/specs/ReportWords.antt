@@ -1,8 +1,8 @@
 -- The refusals of a report's words.
 -- This project's own rule.
 use Rattle.std.specs.Prelude.{⊤}
-use Rattle.bug_record.specs.declared.outcome.ReportFault.{ReportFault}
-use Rattle.bug_record.specs.declared.outcome.ReportFault.TheVariants.{Full, Store}
+use Rattle.desk_text.specs.declared.report_fault.ReportFault.{ReportFault}
+use Rattle.desk_text.specs.declared.report_fault.ReportFault.TheVariants.{Full, Store}
 
 -- a refusal of a report's words
 abbrev pub IsOfWords : ReportFault → Type 0

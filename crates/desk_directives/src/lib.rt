@@ -11,7 +11,7 @@ mod told;
 mod transcript;
 
 pub use branches::add_node;
-pub use bug_record::ReportFault;
+pub use desk_text::ReportFault;
 pub use laws::a_list_has_the_bugs_found_there;
 pub use lists::list_of;
 pub use pages::page_of;

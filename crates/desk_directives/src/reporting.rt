@@ -12,9 +12,10 @@ ghost use Rattle.desk_directives.specs.ReportWords.{IsOfWords};
 ghost use Rattle.desk_directives.specs.Reports.{faults_after_report, AsksForNext};
 
 use bug_core::{is_text, report_change};
-use bug_record::{ReportFault, Severity, StoreFault};
+use bug_record::{Severity, StoreFault};
 use debver::{Text, check, check_name};
 use desk_store::Records;
+use desk_text::ReportFault;
 use line_words::AFTER_LARGEST;
 use std::alloc::Global;
 use version_nodes::{Node, NodeFault};

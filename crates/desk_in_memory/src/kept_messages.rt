@@ -10,7 +10,6 @@ use debver::Text;
 use desk_store::Kept;
 use std::alloc::{AllocError, Global};
 use std::collections::BTreeMap;
-use std::mem::replace;
 
 /// What a desk in memory keeps of messages, by their ids.
 #[derive(Drop)]
@@ -42,10 +41,7 @@ fn first_kept(
 fn remove_last(outcomes: &mut Sequence<Outcome>)
     ensures { outcomes.new ≡ take (length outcomes.old - 1) outcomes.old }
 {
-    let empty = outcomes.empty();
-    let mut all = replace(outcomes, empty).into_vec();
-    all.pop();
-    *outcomes = Sequence::from_vec(all);
+    outcomes.remove_last();
 }
 
 impl KeptMessages {

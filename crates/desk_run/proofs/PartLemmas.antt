@@ -21,8 +21,8 @@ use Rattle.desk_run.specs.Running.{AsksStore, FaultsIn, StopsIn}
 use Rattle.desk_run.specs.Carrying.{Carries}
 use Rattle.desk_text.specs.Answers.{report_answer}
 use Rattle.desk_run.specs.RefusedAndFailed.{fault_of_end, store_fault}
-use Rattle.bug_record.specs.declared.outcome.ReportFault.{ReportFault}
-use Rattle.bug_record.specs.declared.outcome.ReportFault.TheVariants as reports
+use Rattle.desk_text.specs.declared.report_fault.ReportFault.{ReportFault}
+use Rattle.desk_text.specs.declared.report_fault.ReportFault.TheVariants as reports
 use Rattle.desk_lines.specs.declared.fault.ScriptFault.{ScriptFault}
 use Rattle.desk_lines.specs.declared.fault.ScriptFault.TheVariants as stops
 use Rattle.desk_run.proofs.WrittenLemmas.{appends_none, course, Carried}

@@ -16,8 +16,8 @@ use Rattle.desk_store.proofs.TriedLemmas.{tried_then}
 use Rattle.desk_lines.specs.declared.fault.ScriptFault.{ScriptFault}
 use Rattle.desk_lines.specs.Lines.{without_return, raw_lines}
 use Rattle.desk_lines.specs.Reading.{Known, Left}
-use Rattle.bug_record.specs.declared.outcome.ReportFault.{ReportFault}
-use Rattle.bug_record.specs.declared.outcome.ReportFault.TheVariants as reports
+use Rattle.desk_text.specs.declared.report_fault.ReportFault.{ReportFault}
+use Rattle.desk_text.specs.declared.report_fault.ReportFault.TheVariants as reports
 use Rattle.desk_store.specs.Store.{Holds, Branches}
 use Rattle.desk_store.specs.Crashes.{LeavesBranched, with_tree, after_branch}
 use Rattle.desk_store.specs.Tried.{tried_by}

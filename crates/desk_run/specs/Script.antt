@@ -20,7 +20,7 @@ use Rattle.version_nodes.specs.Trees.{Ancestry}
 use Rattle.desk_directives.specs.Reports.{report_of}
 use Rattle.desk_directives.specs.Questions.{Told, list_told, page_told}
 use Rattle.desk_directives.specs.Branches.{BranchRefusal, BadNode, Refused, branch_of}
-use Rattle.bug_record.specs.declared.outcome.ReportFault.{ReportFault}
+use Rattle.desk_text.specs.declared.report_fault.ReportFault.{ReportFault}
 use Rattle.desk_run.specs.declared.script.ScriptEnd.{ScriptEnd}
 use Rattle.desk_run.specs.declared.script.ScriptEnd.TheVariants as script_ends
 

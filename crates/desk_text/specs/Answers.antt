@@ -5,8 +5,8 @@ use Rattle.std.specs.Fmt.{decimal}
 use Rattle.ancestry.specs.declared.fault.BranchFault.{BranchFault}
 use Rattle.ancestry.specs.declared.fault.BranchFault.TheVariants.{EmptyBranch, Repeated, Conflict, TooLong, Memory}
 use Rattle.desk_text.specs.Texts.{as_line, full_text, fault_text}
-use Rattle.bug_record.specs.declared.outcome.ReportFault.{ReportFault}
-use Rattle.bug_record.specs.declared.outcome.ReportFault.TheVariants.{BadPackage, BadVersion, BadSeverity, BadTitle, Full, Store}
+use Rattle.desk_text.specs.declared.report_fault.ReportFault.{ReportFault}
+use Rattle.desk_text.specs.declared.report_fault.ReportFault.TheVariants.{BadPackage, BadVersion, BadSeverity, BadTitle, Full, Store}
 use Rattle.bug_record.specs.declared.outcome.StoreFault.{StoreFault}
 
 -- the line of a refusal

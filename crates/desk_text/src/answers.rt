@@ -5,9 +5,10 @@ ghost use Rattle.desk_text.specs.Texts.{as_line, fault_text};
 ghost use Rattle.desk_text.specs.Answers.{refused_line, report_answer, branch_answer, bad_version_answer, bad_package_answer};
 ghost use Rattle.desk_text.specs.Answers.{no_bug_answer, bad_directive_answer, report_refusal, nodes_refusal};
 
+use crate::report_fault::ReportFault;
 use crate::texts::{append_number, fault_text, full_text};
 use ancestry::BranchFault;
-use bug_record::{ReportFault, StoreFault};
+use bug_record::StoreFault;
 use itoa::Buffer;
 use std::alloc::{AllocError, Global};
 

@@ -4,14 +4,16 @@
 mod answers;
 mod lists;
 mod pages;
+mod report_fault;
 mod texts;
 
 pub use answers::{
     bad_directive_answer, bad_package_answer, bad_version_answer, branch_answer, fault_answer,
     no_bug_answer, nodes_refusal, report_answer, report_refusal,
 };
-pub use bug_record::{End, Outcome, ReportFault, StoreFault};
+pub use bug_record::{End, Outcome, StoreFault};
 pub use lists::list_text;
 pub use pages::{BugPage, bug_text};
+pub use report_fault::ReportFault;
 pub use set_images::ListRow;
 pub use texts::{end_text, fault_text, outcome_text};

@@ -192,14 +192,6 @@ fn gather_others<S: Records>(
     gather_all(store, images, &mut bugs, numbers)
 }
 
-// The image alone.
-fn only_image(alloc: Global, image: SetImage) -> Result<Sequence<SetImage>, AllocError>
-    ensures { IfOk result (λ images. images ≡ image ∷ []) }
-{
-    let images = Vec::from_array(alloc, [image])?;
-    Ok(Sequence::from_vec(images))
-}
-
 // The image of the set that the bug is in, if there is one.
 fn first_image<S: Records>(
     alloc: Global,
@@ -213,7 +205,7 @@ fn first_image<S: Records>(
     ensures count { S.faults store.new ≡ faults_after result (S.faults store.old) }
 {
     match store.set_of(number)? {
-        Some(image) => Ok(only_image(alloc, image)?),
+        Some(image) => Ok(Sequence::one(alloc, image)),
         None => Ok(Sequence::new(alloc)),
     }
 }

@@ -34,15 +34,14 @@ fn all_begin_with(images: &[SetImage], numbers: &[u64]) -> bool
 // The images that have one of these bugs.
 fn images_with(
     alloc: Global,
-    images: Sequence<SetImage>,
+    mut images: Sequence<SetImage>,
     numbers: &[u64],
 ) -> Result<Sequence<SetImage>, AllocError>
     ensures { IfOk result (λ r. r ≡ images_with numbers.now images) }
 {
     let bugs = number_set(alloc, numbers)?;
-    let mut images = images.into_vec();
     images.retain(|image| meets(&bugs, image.members.as_slice()));
-    Ok(Sequence::from_vec(images))
+    Ok(images)
 }
 
 /// What is written of a change that changes these bugs: where it has more than one image, those

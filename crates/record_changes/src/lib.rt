@@ -5,9 +5,11 @@
 
 mod affects;
 mod fields;
+mod laws;
 mod members;
 mod tags;
 mod versions;
 
 pub use fields::shared_after;
+pub use laws::{joined_are_sets, joined_by_membership, marks_by_membership};
 pub use members::members_with;

@@ -45,6 +45,9 @@ pub(crate) fn is_kept(old: &SetImage, new: &SetImage) -> bool
 pub(crate) fn numbers_of(alloc: Global, members: &[Member]) -> Result<Numbers, AllocError>
     ensures { IfOk result (λ numbers. numbers ≡ numbers_of members.now) }
 {
+    if let [only] = members {
+        return Ok(Sequence::one(alloc, only.number));
+    }
     let numbers = members.iter().map(|member| member.number);
     Ok(Sequence::from_vec(numbers.collect(alloc)?))
 }

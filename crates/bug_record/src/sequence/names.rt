@@ -46,7 +46,7 @@ impl Sequence<Text> {
         ensures ok { OnOk result (self.new ≡ name_set (self.old ++ names.now)) }
         ensures err { OnErr result (self.new ≡ self.old) }
     {
-        let alloc = *self.items.allocator();
+        let alloc = self.allocator();
         let mut set = name_set(alloc, self.as_slice())?;
         add_names(&mut set, names)?;
         *self = Sequence::of_set(alloc, set)?;
@@ -57,7 +57,7 @@ impl Sequence<Text> {
     fn remove_set(&mut self, set: &BTreeSet<Text>)
         ensures { self.new ≡ filter (λ n. not (has_name set.now.keys n)) self.old }
     {
-        self.items.retain(|name| !set.contains(name));
+        self.retain(|name| !set.contains(name));
     }
 
     /// Takes these names out.
@@ -66,7 +66,7 @@ impl Sequence<Text> {
         ensures ok { OnOk result (self.new ≡ filter (λ n. not (has_name names.now n)) self.old) }
         ensures err { OnErr result (self.new ≡ self.old) }
     {
-        let set = name_set(*self.items.allocator(), names)?;
+        let set = name_set(self.allocator(), names)?;
         self.remove_set(&set);
         Ok(())
     }
@@ -77,7 +77,7 @@ impl Sequence<Text> {
         ensures ok { OnOk result (self.new ≡ name_set names.now) }
         ensures err { OnErr result (self.new ≡ self.old) }
     {
-        let alloc = *self.items.allocator();
+        let alloc = self.allocator();
         let set = name_set(alloc, names)?;
         *self = Sequence::of_set(alloc, set)?;
         Ok(())
@@ -89,10 +89,10 @@ impl Sequence<Text> {
     pub fn copy(&self) -> Result<Sequence<Text>, AllocError>
         ensures { IfOk result (λ r. r ≡ self.now) }
     {
-        let mut copies = Vec::with_capacity(*self.items.allocator(), self.items.len())?;
+        let mut copies = Vec::with_capacity(self.allocator(), self.as_slice().len())?;
         for name in self.as_slice() {
             copies.push(name.copy()?)?;
         }
-        Ok(Sequence { items: copies })
+        Ok(Sequence::from_vec(copies))
     }
 }

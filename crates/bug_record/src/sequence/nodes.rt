@@ -25,7 +25,7 @@ impl Sequence<Node> {
     pub fn remove_node(&mut self, node: &Node)
         ensures { self.new ≡ without_node self.old node.now }
     {
-        self.items.retain(|other| node != other);
+        self.retain(|other| node != other);
     }
 
     /// An equal list, whose nodes share their texts with these.
@@ -34,10 +34,14 @@ impl Sequence<Node> {
     pub fn copy(&self) -> Result<Sequence<Node>, AllocError>
         ensures { IfOk result (λ r. r ≡ self.now) }
     {
-        let mut copies = Vec::with_capacity(*self.items.allocator(), self.items.len())?;
-        for node in self.as_slice() {
+        let nodes = self.as_slice();
+        if let [node] = nodes {
+            return Ok(Sequence::one(self.allocator(), node.copy()?));
+        }
+        let mut copies = Vec::with_capacity(self.allocator(), nodes.len())?;
+        for node in nodes {
             copies.push(node.copy()?)?;
         }
-        Ok(Sequence { items: copies })
+        Ok(Sequence::from_vec(copies))
     }
 }

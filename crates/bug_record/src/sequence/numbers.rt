@@ -38,15 +38,6 @@ pub fn number_set(alloc: Global, numbers: &[u64]) -> Result<BTreeSet<u64>, Alloc
 }
 
 impl Sequence<u64> {
-    /// The list of one number.
-    pub fn one(alloc: Global, number: u64) -> Result<Sequence<u64>, AllocError>
-        ensures { IfOk result (λ r. r ≡ number ∷ []) }
-    {
-        let mut items = Vec::new(alloc);
-        items.push(number)?;
-        Ok(Sequence { items })
-    }
-
     /// The numbers of a set, ascending.
     pub fn in_order(alloc: Global, set: &BTreeSet<u64>) -> Result<Sequence<u64>, AllocError>
         ensures { IfOk result (λ numbers. numbers ≡ set.now.keys) }
@@ -64,7 +55,7 @@ impl Sequence<u64> {
         ensures ok { OnOk result (self.new ≡ number_set (self.old ++ numbers.now)) }
         ensures err { OnErr result (self.new ≡ self.old) }
     {
-        let alloc = *self.items.allocator();
+        let alloc = self.allocator();
         let mut set = number_set(alloc, self.as_slice())?;
         add_numbers(&mut set, numbers)?;
         *self = Sequence::in_order(alloc, &set)?;
@@ -75,7 +66,7 @@ impl Sequence<u64> {
     pub fn remove_set(&mut self, set: &BTreeSet<u64>)
         ensures { self.new ≡ filter (λ n. not (has set.now.keys n)) self.old }
     {
-        self.items.retain(|number| !set.contains(number));
+        self.retain(|number| !set.contains(number));
     }
 
     /// Takes these numbers out.
@@ -84,7 +75,7 @@ impl Sequence<u64> {
         ensures ok { OnOk result (self.new ≡ filter (λ n. not (has numbers.now n)) self.old) }
         ensures err { OnErr result (self.new ≡ self.old) }
     {
-        let set = number_set(*self.items.allocator(), numbers)?;
+        let set = number_set(self.allocator(), numbers)?;
         self.remove_set(&set);
         Ok(())
     }
@@ -94,8 +85,6 @@ impl Sequence<u64> {
     pub fn copy(&self) -> Result<Sequence<u64>, AllocError>
         ensures { IfOk result (λ r. r ≡ self.now) }
     {
-        Ok(Sequence {
-            items: Vec::from_slice(*self.items.allocator(), self.items.as_slice())?,
-        })
+        Ok(Sequence::from_vec(Vec::from_slice(self.allocator(), self.as_slice())?))
     }
 }

@@ -4,7 +4,7 @@ ghost use Rattle.std.specs.Prelude.{◌≡◌, slice_get, IfOk, OnOk, OnErr};
 ghost use Rattle.std.specs.BTreeSet.{insert_key};
 ghost use Rattle.bug_record.specs.Places.{place_in, is_this};
 
-use super::Sequence;
+use super::{Sequence, put};
 use std::alloc::{AllocError, Global};
 use std::cmp::Ordering;
 use std::collections::BTreeSet;
@@ -50,11 +50,11 @@ impl<T: Ord + Drop> Sequence<T> {
         ensures ok { OnOk result (self.new ≡ insert_key T.cmp self.old item) }
         ensures err { OnErr result (self.new ≡ self.old) }
     {
-        let place = place_in(self.items.as_slice(), &item);
-        if is_this(self.items.as_slice(), place, &item) {
+        let place = place_in(self.as_slice(), &item);
+        if is_this(self.as_slice(), place, &item) {
             return Ok(());
         }
-        self.items.insert(place, item)?;
+        put(&mut self.kept, place, item)?;
         Ok(())
     }
 }

@@ -12,7 +12,7 @@ impl Sequence<Tag> {
     pub fn remove_tag(&mut self, tag: Tag)
         ensures { self.new ≡ without_tag self.old tag }
     {
-        self.items.retain(|other| tag.place() != other.place());
+        self.retain(|other| tag.place() != other.place());
     }
 
     /// An equal list of its own.
@@ -20,8 +20,6 @@ impl Sequence<Tag> {
     pub fn copy(&self) -> Result<Sequence<Tag>, AllocError>
         ensures { IfOk result (λ r. r ≡ self.now) }
     {
-        Ok(Sequence {
-            items: Vec::from_slice(*self.items.allocator(), self.items.as_slice())?,
-        })
+        Ok(Sequence::from_vec(Vec::from_slice(self.allocator(), self.as_slice())?))
     }
 }

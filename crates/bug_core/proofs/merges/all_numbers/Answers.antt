@@ -4,7 +4,7 @@ use Rattle.std.proofs.lemmas.Result.{IfOk-from_err}
 use Rattle.bug_core.proofs.merges.all_numbers.Goals as goal
 
 pub returns-in_err-push : goal.returns-in_err-push
-returns-in_err-push c = IfOk-from_err _ _ c.from_residual-in_err-push.ensures.0
+returns-in_err-push c = IfOk-from_err _ _ c.from_residual.ensures.0
 
 pub loop-number-preserved : goal.loop-number-preserved
 loop-number-preserved c = grind (arith, common_steps)

@@ -8,16 +8,16 @@ use Rattle.bug_core.proofs.ReportLemmas.{put-report, fits-report}
 use Rattle.bug_core.proofs.report.report_change.Goals as goal
 
 -- the one image
-one : (made items : List SetImage) (i j : SetImage) → made ≡ items → items ≡ i ∷ [] → i ≡ j → made ≡ j ∷ []
-one made items i j p q r = p ∙ q ∙ ap (λ z. z ∷ []) r
+one : (made : List SetImage) (i j : SetImage) → made ≡ i ∷ [] → i ≡ j → made ≡ j ∷ []
+one made i j p q = p ∙ ap (λ z. z ∷ []) q
 
 pub returns-clause-right : goal.returns-clause-right
-returns-clause-right c = λ d sound same. ap (λ (z : List SetImage). put d (record { images = z; next = c.args.next + 1 })) (one _ _ _ _ c.from_vec.ensures c.in_ok-from_array.ensures.items c.in_ok-image.ensures)
+returns-clause-right c = λ d sound same. ap (λ (z : List SetImage). put d (record { images = z; next = c.args.next + 1 })) (one _ _ _ c.one.ensures c.in_ok-image.ensures)
     ∙ put-report d c.args.from.now c.args.package.now c.args.severity c.args.title.now c.args.node c.args.next same
 
 pub returns-clause-fits : goal.returns-clause-fits
 returns-clause-fits c =
-    λ d sound same. subst (λ (z : List SetImage). FitsDesk d (record { images = z; next = c.args.next + 1 })) (sym (one _ _ _ _ c.from_vec.ensures c.in_ok-from_array.ensures.items c.in_ok-image.ensures))
+    λ d sound same. subst (λ (z : List SetImage). FitsDesk d (record { images = z; next = c.args.next + 1 })) (sym (one _ _ _ c.one.ensures c.in_ok-image.ensures))
     (fits-report d c.args.from.now c.args.package.now c.args.severity c.args.title.now c.args.node c.args.next sound same
     c.requires.some_left
     (record {

@@ -4,4 +4,4 @@ use Rattle.bug_core.specs.Joins.{is_part}
 use Rattle.bug_core.proofs.unmerge.part.Given as goal
 
 abbrev pub invariant-loop-member : goal.invariant-loop-member
-invariant-loop-member l = l.copies.items ≡ filter (is_part l.own l.number) (take l.member-index l.members)
+invariant-loop-member l = l.copies ≡ filter (is_part l.own l.number) (take l.member-index l.members)

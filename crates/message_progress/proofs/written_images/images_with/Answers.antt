@@ -8,15 +8,12 @@ use Rattle.bug_record.specs.declared.bug.SetImage.{SetImage}
 use Rattle.bug_record.proofs.OrderedLemmas.{has-key}
 use Rattle.bug_record.proofs.SetLemmas.{has-number_set}
 use Rattle.message_progress.specs.Images.{meets}
-use Rattle.message_progress.specs.Written.{images_with}
 use Rattle.message_progress.proofs.written_images.images_with.Goals as goal
 
 pub returns : goal.returns
 returns c =
     let same : (n : ℕ) → contains nat_cmp c.in_ok-bugs.bugs n ≡ has c.args.numbers.now n
     = λ n. has-key c.in_ok-bugs.bugs.keys n ∙ ap (λ ks. has ks n) c.in_ok-bugs.ensures ∙ has-number_set c.args.numbers.now n in
-    c.from_vec.ensures
-    ∙ filter_same _ (λ (i : SetImage). meets (contains nat_cmp c.in_ok-bugs.bugs) i.members) _ (λ x b f' k. search rules) _ _
-    c.retain.ensures.filtered
-    ∙ (λ j. filter (λ (i : SetImage). meets (λ n. same n j) i.members) c.into_vec-images.result.items)
-    ∙ ap (images_with c.args.numbers.now) c.into_vec-images.ensures
+    filter_same _ (λ (i : SetImage). meets (contains nat_cmp c.in_ok-bugs.bugs) i.members) _ (λ x b f' k. search rules) _ _
+    c.retain.ensures
+    ∙ (λ j. filter (λ (i : SetImage). meets (λ n. same n j) i.members) c.args.images)

@@ -1,6 +1,6 @@
 use Rattle.bug_record.proofs.MergeLemmas.{has-all_merged, has-joined_names, has-joined_nodes, has-joined_blockers}
 use Rattle.bug_record.proofs.TagLemmas.{has-joined_tags}
-use Rattle.bug_record.proofs.laws.joined_by_membership.Goals as goal
+use Rattle.record_changes.proofs.laws.joined_by_membership.Goals as goal
 
 pub returns-clause-merged : goal.returns-clause-merged
 returns-clause-merged c = has-all_merged

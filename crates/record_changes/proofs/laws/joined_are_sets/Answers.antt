@@ -4,7 +4,7 @@ use Rattle.bug_record.proofs.MergeLemmas.{ascending-joined_blockers}
 use Rattle.bug_record.proofs.MarkLemmas.{sorted-node_set}
 use Rattle.bug_record.proofs.PackageLemmas.{sorted-name_set}
 use Rattle.bug_record.proofs.TagLemmas.{set-joined_tags}
-use Rattle.bug_record.proofs.laws.joined_are_sets.Goals as goal
+use Rattle.record_changes.proofs.laws.joined_are_sets.Goals as goal
 
 pub returns-clause-merged : goal.returns-clause-merged
 returns-clause-merged c = λ bugs. IsAscending-number_set (all_of (λ b. b.merged) bugs)

@@ -1,5 +1,5 @@
 use Rattle.bug_record.proofs.MarkLemmas.{has-with_node, has-without_node}
-use Rattle.bug_record.proofs.laws.marks_by_membership.Goals as goal
+use Rattle.record_changes.proofs.laws.marks_by_membership.Goals as goal
 
 pub returns-clause-with : goal.returns-clause-with
 returns-clause-with c = has-with_node

@@ -1,4 +1,4 @@
-//! Laws of the definitions that the contracts of this crate cite.
+//! Laws of the sets of marks, and of what merged bugs have together.
 //! Each body is empty: the contract is the law.
 
 ghost use Rattle.std.specs.Prelude.{◌≡◌, ℕ, List, ◌||◌, ◌&&◌, not};
