@@ -1,6 +1,6 @@
 -- The first marked node of a line is the one that stands highest.
 use Rattle.std.proofs.Common.{◌≡◌, ◌≤◌, ◌<◌, ℕ, true, false, Bool, cond, ◌||◌, List, [], ◌∷◌, length, refl, sym, ap, ◌∙◌, arith}
-use Rattle.std.specs.Prelude.{max, ◌+◌, if◌then◌else◌, Some, option_map}
+use Rattle.std.specs.Prelude.{max, ◌+◌, nat_lt, if◌then◌else◌, Some, None, option_map}
 use Rattle.std.proofs.lemmas.Bool.Decides.{nat_tests}
 use Rattle.ancestry.specs.Heights.{height, greatest_height, kind_by_heights}
 use Rattle.version_nodes.specs.Nodes.{Node, same_node}
@@ -79,3 +79,24 @@ kind-heights found fixed (m ∷ line) =
     (has_node found m) (has_node fixed m) refl
     ∙ ap (λ k. kind_by_heights k (cond (has_node fixed m) high b)) (sym (greatest-first m line found))
     ∙ ap (λ k. kind_by_heights (greatest_height (m ∷ line) found) k) (sym (greatest-first m line fixed))
+
+-- one node more, by whether it stands above a height
+pub above-first : (h a b : ℕ) → h < a → true ≡ nat_lt h (max a b)
+above-first h a b l = grind (arith, nat_tests)
+
+pub above-others : (h a b : ℕ) → a ≤ h → nat_lt h (max a b) ≡ nat_lt h b
+above-others h a b l = grind (arith, nat_tests)
+
+none-fixed : (a : ℕ) → kind_by_heights a 0 ≡ (if nat_lt 0 a then Some Found else None)
+none-fixed a = grind (arith, nat_tests)
+
+-- the kind where nothing is marked as fixed, and where something may be
+pub kind-found : (found fixed line : List Node) → length fixed ≡ 0
+    → first_kind found fixed line ≡ (if nat_lt 0 (greatest_height line found) then Some Found else None)
+kind-found found [] line e = kind-heights found [] line ∙ none-fixed (greatest_height line found)
+kind-found found (n ∷ fixed) line e = absurd (omega (arith, e))
+
+pub kind-above : (found fixed line : List Node) (a : ℕ) → a ≡ greatest_height line found
+    → first_kind found fixed line ≡ (if nat_lt a (greatest_height line fixed) then Some Fixed else if nat_lt 0 a then Some Found else None)
+kind-above found fixed line a e =
+    kind-heights found fixed line ∙ ap (λ k. kind_by_heights k (greatest_height line fixed)) (sym e)

@@ -1,11 +1,12 @@
 //! A line that is asked for the status of many bugs.
 
-ghost use Rattle.std.specs.Prelude.{◌≡◌, ℕ, IfOk, OnOk, if◌then◌else◌};
+ghost use Rattle.std.specs.Prelude.{◌≡◌, ℕ, nat_lt, None, Some, IfOk, OnOk, if◌then◌else◌};
 ghost use Rattle.std.specs.HashMap.{get};
 ghost use Rattle.std.specs.Option.{option_map_or};
-ghost use Rattle.ancestry.specs.Heights.{HasHeights, height, greatest_height, kind_by_heights};
+ghost use Rattle.ancestry.specs.Heights.{HasHeights, height, greatest_height};
 ghost use Rattle.version_nodes.specs.Nodes.{Node, same_node};
 ghost use Rattle.version_nodes.specs.Statuses.{first_kind, status_on};
+ghost use Rattle.version_nodes.specs.declared.statuses.MarkKind.TheVariants.{Found, Fixed};
 
 use crate::marks::status_from;
 use std::alloc::{AllocError, Global};
@@ -61,14 +62,14 @@ fn heights_of(alloc: Global, line: &[Node]) -> Result<HashMap<Node, usize>, Allo
     Ok(heights)
 }
 
-// The kind of the line's first mark, by the greatest heights of the nodes at which a bug is found
-// and fixed.
-fn kind_by_heights(found: usize, fixed: usize) -> Option<MarkKind>
-    ensures { result ≡ kind_by_heights found fixed }
+// The kind of the line's first mark, by whether a bug is found at a node of the line, and whether
+// it is fixed at one that stands above those.
+fn kind_of(found: bool, fixed: bool) -> Option<MarkKind>
+    ensures { result ≡ (if fixed then Some Fixed else if found then Some Found else None) }
 {
-    if fixed > found {
+    if fixed {
         Some(MarkKind::Fixed)
-    } else if found > 0 {
+    } else if found {
         Some(MarkKind::Found)
     } else {
         None
@@ -109,17 +110,33 @@ impl IndexedLine {
         greatest
     }
 
+    // Whether one of these nodes stands above a height.
+    fn any_above(&self, nodes: &[Node], height: usize) -> bool
+        ensures { result ≡ nat_lt height (greatest_height self.now nodes.now) }
+    {
+        for node in nodes {
+            if self.height(node) > height {
+                return true;
+            }
+        }
+        false
+    }
+
     // The kind of the first mark of the line.
     fn first_kind(&self, found: &[Node], fixed: &[Node]) -> Option<MarkKind>
         ensures { result ≡ first_kind found.now fixed.now self.now }
     {
-        kind_by_heights(self.greatest_height(found), self.greatest_height(fixed))
+        if fixed.is_empty() {
+            return kind_of(self.any_above(found, 0), false);
+        }
+        let highest = self.greatest_height(found);
+        kind_of(highest > 0, self.any_above(fixed, highest))
     }
 
     /// The status of a bug that is marked as found and as fixed at these nodes, at the first node
     /// of the line: as the function `status` tells it where this is that node's line.
-    /// It is for one line and many bugs: each of these nodes is looked up once, and the line isn't
-    /// gone through.
+    /// It is for one line and many bugs: each of these nodes is looked up at most once, and the
+    /// line isn't gone through.
     /// Takes no memory.
     /// This project's own rule.
     #[tactic(auto, unfolding(version_nodes::specs::Statuses::status_on))]

@@ -102,14 +102,6 @@ pub(crate) fn only<T>(one: [T; 1]) -> T
     item
 }
 
-// The same, lent.
-fn lent<T>(one: &[T; 1]) -> &T
-    ensures { result.now ∷ [] ≡ one.now }
-{
-    let [item] = one;
-    item
-}
-
 // Adds an element at a place; where there is no memory, the list is as before.
 fn put<T: Drop>(kept: &mut Kept<T>, place: usize, item: T) -> Result<(), AllocError>
     requires { place ≤ length (kept_items kept.old) }
@@ -147,6 +139,12 @@ impl<T: Drop> Sequence<T> {
         ensures ok { OnOk result (self.new ≡ self.old ++ item ∷ []) }
         ensures err { OnErr result (self.new ≡ self.old) }
     {
+        if let Kept::Many(items) = &mut self.kept {
+            if items.capacity() > 0 {
+                items.push(item)?;
+                return Ok(());
+            }
+        }
         let place = self.as_slice().len();
         put(&mut self.kept, place, item)
     }
@@ -160,8 +158,9 @@ impl<T: Drop> Sequence<T> {
         let alloc = self.allocator();
         match replace(&mut self.kept, Kept::Many(Vec::new(alloc))) {
             Kept::One(one, _alloc) => {
-                if test(lent(&one)) {
-                    self.kept = Kept::One(one, alloc);
+                let item = only(one);
+                if test(&item) {
+                    self.kept = Kept::One([item], alloc);
                 }
             }
             Kept::Many(mut items) => {

@@ -5,3 +5,4 @@ pub mod Plain
 pub mod Passing
 pub mod PlacesOfImages
 pub mod Named
+pub mod Sums

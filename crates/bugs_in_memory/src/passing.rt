@@ -1,6 +1,6 @@
 //! What is asked of all bugs of a desk in memory: those whose shared fields pass a test.
 
-ghost use Rattle.std.specs.Prelude.{◌≡◌, ◌++◌, ℕ, IfOk, OnOk};
+ghost use Rattle.std.specs.Prelude.{◌≡◌, ◌++◌, ℕ, false, IfOk, OnOk};
 ghost use Rattle.std.specs.Str.{bytes_eq};
 ghost use Rattle.version_nodes.specs.Statuses.{status_on};
 ghost use Rattle.version_nodes.specs.Trees.{Ancestry};
@@ -9,14 +9,16 @@ ghost use Rattle.bug_record.specs.Desk.{IsSound};
 ghost use Rattle.bug_record.specs.Heads.{is_found};
 ghost use Rattle.bug_record.specs.Images.{numbers_of};
 ghost use Rattle.bug_record.specs.PackageSets.{has_name};
-ghost use Rattle.bug_record.specs.Sets.{has};
 ghost use Rattle.bugs_in_memory.specs.Plain.{desk_of};
 ghost use Rattle.bug_record.specs.Lists.{concerns};
 ghost use Rattle.bugs_in_memory.specs.Passing.{is_listed_on, test_of, passing_there};
+ghost use Rattle.bugs_in_memory.specs.Sums.{IsSumAsked};
+ghost use Rattle.bugs_in_memory.specs.declared.passing.Question.{Question as Asked};
 
 use crate::bug_sets::BugSets;
 use crate::heads::is_there;
 use crate::places::Place;
+use crate::summed_image::{SummedImage, name_sum};
 use ancestry::IndexedLine;
 use bug_record::{Member, Numbers, Sequence, Shared};
 use debver::Text;
@@ -69,20 +71,35 @@ fn is_listed(shared: &Shared, package: &str, line: &IndexedLine) -> bool
     concerns(shared, package) && !shared.archived && is_found_on(shared, line)
 }
 
-// Whether these fields name the bug of this number as a blocker.
-fn waits_on(shared: &Shared, number: u64) -> bool
-    ensures { result ≡ has shared.now.blockers number }
-{
-    shared.blockers.as_slice().contains(&number)
-}
-
-// Whether the answer is yes, of a bug with these fields.
-fn holds(question: Question, shared: &Shared) -> bool
-    ensures { result ≡ test_of question.entry shared.now }
+// Whether the answer is yes, of a bug of this set.
+fn holds(question: Question, image: &SummedImage) -> bool
+    ensures { result ≡ test_of question.entry image.now.shared }
 {
     match question {
-        Question::WaitsOn(number) => waits_on(shared, number),
-        Question::IsListed(package, line) => is_listed(shared, package, line),
+        Question::WaitsOn(number) => image.waits_on(number),
+        Question::IsListed(package, line) => {
+            is_listed(image.image().shared.fields(), package, line)
+        }
+    }
+}
+
+// The sum of the name of the package that is asked for, if one is.
+fn sum_asked(question: Question) -> Option<u32>
+    ensures { IsSumAsked question.entry result }
+{
+    match question {
+        Question::WaitsOn(_) => None,
+        Question::IsListed(package, _) => Some(name_sum(package)),
+    }
+}
+
+// Whether the answer may be yes, by that sum.
+fn may_hold(sum: Option<u32>, image: &SummedImage) -> bool
+    ensures { (q : Asked) → IsSumAsked q sum → result ≡ false → test_of q image.now.shared ≡ false }
+{
+    match sum {
+        Some(sum) => image.may_concern(sum),
+        None => true,
     }
 }
 
@@ -97,14 +114,23 @@ fn add_members(numbers: &mut Vec<u64>, members: &[Member]) -> Result<(), AllocEr
 }
 
 // Adds the bugs of the set whose image stands at a place, where the answer is yes.
-fn add_passing(numbers: &mut Vec<u64>, place: &Place, question: Question) -> Result<(), AllocError>
+fn add_passing(
+    numbers: &mut Vec<u64>,
+    place: &Place,
+    question: Question,
+    sum: Option<u32>,
+) -> Result<(), AllocError>
+    requires { IsSumAsked question sum }
     ensures { OnOk result
         (numbers.new.items ≡ numbers.old.items ++ passing_there (test_of question.entry) place.now) }
 {
     match place {
         Place::First(image) => {
-            if holds(question, image.shared.fields()) {
-                return add_members(numbers, image.members.as_slice());
+            if !may_hold(sum, image) {
+                return Ok(());
+            }
+            if holds(question, image) {
+                return add_members(numbers, image.image().members.as_slice());
             }
             Ok(())
         }
@@ -115,13 +141,15 @@ fn add_passing(numbers: &mut Vec<u64>, place: &Place, question: Question) -> Res
 impl BugSets {
     /// The bugs of which the answer is yes, ascending.
     /// Each set is looked at once, not once for each of its bugs, and the numbers are sorted once.
+    /// The fields of a set are not looked at where the sum of its package's name is another.
     pub(crate) fn passing(&self, alloc: Global, question: Question) -> Result<Numbers, AllocError>
         ensures { (tree : Ancestry) (next : ℕ) → IsSound (desk_of self.now tree next)
             → IfOk result (λ numbers. numbers ≡ numbers_where (test_of question.entry) (desk_of self.now tree next)) }
     {
+        let sum = sum_asked(question);
         let mut numbers = Vec::new(alloc);
         for place in self.places.values() {
-            add_passing(&mut numbers, place, question)?;
+            add_passing(&mut numbers, place, question, sum)?;
         }
         Ok(Sequence::from_vec(in_order(numbers)))
     }

@@ -12,6 +12,7 @@ ghost use Rattle.bugs_in_memory.specs.Places.{keys, sets};
 ghost use Rattle.bugs_in_memory.specs.PlacesOfImages.{place_in, is_there, KeepsSet, IsOnlyPlace};
 
 use crate::fresh::fresh_numbers;
+use crate::summed_image::SummedImage;
 use bug_record::{Member, SetImage};
 use set_images::same_numbers;
 use std::alloc::{AllocError, Global};
@@ -21,7 +22,7 @@ use std::collections::HashMap;
 #[derive(Drop)]
 pub(crate) enum Place {
     /// The first of its members, where the image of the set stands.
-    First(SetImage),
+    First(SummedImage),
     /// Another one, and the number of the first.
     After(u64),
 }
@@ -31,9 +32,9 @@ pub(crate) fn image_of(bugs: &HashMap<u64, Place>, number: u64) -> Option<&SetIm
     ensures { option_copied result ≡ option_and_then (sets bugs.now) (keys bugs.now number) }
 {
     match bugs.get(&number)? {
-        Place::First(image) => Some(image),
+        Place::First(image) => Some(image.image()),
         Place::After(first) => match bugs.get(first)? {
-            Place::First(image) => Some(image),
+            Place::First(image) => Some(image.image()),
             Place::After(_) => None,
         },
     }
@@ -48,7 +49,7 @@ fn keeps_set(bugs: &HashMap<u64, Place>, image: &SetImage) -> bool
         return false;
     };
     match bugs.get(&first.number) {
-        Some(Place::First(old)) => same_numbers(old.members.as_slice(), members),
+        Some(Place::First(old)) => same_numbers(old.image().members.as_slice(), members),
         _ => false,
     }
 }
@@ -164,7 +165,7 @@ fn put_image(bugs: &mut HashMap<u64, Place>, image: SetImage) -> Result<(), Allo
         Some((first, others)) => {
             let key = first.number;
             match put_after(bugs, key, others) {
-                Ok(()) => put(bugs, key, Place::First(image)),
+                Ok(()) => put(bugs, key, Place::First(SummedImage::of(image))),
                 Err(error) => Err(error),
             }
         }
@@ -220,7 +221,8 @@ pub(crate) fn put_images(
 {
     if let [image] = images {
         if let Some(key) = only_place(bugs, image) {
-            put(bugs, key, Place::First(image.copy()?))?;
+            let copy = SummedImage::of(image.copy()?);
+            put(bugs, key, Place::First(copy))?;
             return Ok(());
         }
     }

@@ -14,36 +14,34 @@ use set_images::ListRow;
 use std::alloc::AllocError;
 use version_nodes::Node;
 
-// The places in which a number and a severity stand.
-const PLACES: usize = 9;
+// As many spaces as there are places for a number and for a severity.
+const SPACES: &[u8] = b"         ";
 
-// Appends so many spaces.
-fn append_spaces(out: &mut Vec<u8>, count: usize) -> Result<(), AllocError>
-    ensures ok { OnOk result (out.new.items ≡ out.old.items ++ replicate count 32) }
+// Appends the spaces that a text leaves of its places.
+fn append_spaces(out: &mut Vec<u8>, text: &str) -> Result<(), AllocError>
+    ensures ok { OnOk result (out.new.items ≡ out.old.items ++ replicate (9 - length text.now) 32) }
     ensures err { OnErr result (StartsWith out.new.items out.old.items) }
 {
-    for _ in 0..count {
-        append_text(out, " ")?;
-    }
-    Ok(())
+    let taken = text.len().min(SPACES.len());
+    out.extend_from_slice(&SPACES[taken..])
 }
 
-// Appends a text in so many places, with spaces before it.
-fn append_right(out: &mut Vec<u8>, places: usize, text: &str) -> Result<(), AllocError>
-    ensures ok { OnOk result (out.new.items ≡ out.old.items ++ right_aligned places text.now) }
+// Appends a text in its places, with spaces before it.
+fn append_right(out: &mut Vec<u8>, text: &str) -> Result<(), AllocError>
+    ensures ok { OnOk result (out.new.items ≡ out.old.items ++ right_aligned 9 text.now) }
     ensures err { OnErr result (StartsWith out.new.items out.old.items) }
 {
-    append_spaces(out, places.saturating_sub(text.len()))?;
+    append_spaces(out, text)?;
     append_text(out, text)
 }
 
-// Appends a text in so many places, with spaces after it.
-fn append_left(out: &mut Vec<u8>, places: usize, text: &str) -> Result<(), AllocError>
-    ensures ok { OnOk result (out.new.items ≡ out.old.items ++ left_aligned places text.now) }
+// Appends a text in its places, with spaces after it.
+fn append_left(out: &mut Vec<u8>, text: &str) -> Result<(), AllocError>
+    ensures ok { OnOk result (out.new.items ≡ out.old.items ++ left_aligned 9 text.now) }
     ensures err { OnErr result (StartsWith out.new.items out.old.items) }
 {
     append_text(out, text)?;
-    append_spaces(out, places.saturating_sub(text.len()))
+    append_spaces(out, text)
 }
 
 /// Whether a bug is closed, in a word.
@@ -58,7 +56,7 @@ fn append_number_column(out: &mut Vec<u8>, number: u64) -> Result<(), AllocError
     ensures ok { OnOk result (out.new.items ≡ out.old.items ++ (right_aligned 9 (decimal number) ++ codes "  ")) }
     ensures err { OnErr result (StartsWith out.new.items out.old.items) }
 {
-    append_right(out, PLACES, Buffer::new().format(number))?;
+    append_right(out, Buffer::new().format(number))?;
     append_text(out, "  ")
 }
 
@@ -69,7 +67,7 @@ fn append_columns(out: &mut Vec<u8>, number: u64, severity: Severity) -> Result<
     ensures err { OnErr result (StartsWith out.new.items out.old.items) }
 {
     append_number_column(out, number)?;
-    append_left(out, PLACES, severity.name())
+    append_left(out, severity.name())
 }
 
 // Appends the state and the title of a row.

@@ -100,7 +100,7 @@ abbrev one_place : Shared → Shared → Bool
 one_place s t = bytes_eq s.blockers t.blockers && same_flag s.archived t.archived
 
 -- the tests tell equal records
-same_shared-true : (s t : Shared) → same_shared s t ≡ true → s ≡ t
+pub same_shared-true : (s t : Shared) → same_shared s t ≡ true → s ≡ t
 same_shared-true s t e =
     let l = and_parts (one_package s t && same_state s t && (one_person s t && same_tags s.tags t.tags) && one_history s t)
     (one_place s t) e in
@@ -126,6 +126,12 @@ same_shared-true s t e =
       blockers = bytes s.blockers t.blockers u.0 j;
       archived = same_closed s.archived t.archived u.1 j;
     }
+
+-- others are told apart
+pub others-differ : (s t : Shared) → (s ≡ t → ⊥) → false ≡ same_shared s t
+others-differ s t h =
+    elim (same_shared s t) as (λ b. same_shared s t ≡ b → false ≡ b)
+    [ true ↦ λ e. absurd (h (same_shared-true s t e)) | false ↦ λ e. refl ] refl
 
 same_shared-refl : (s : Shared) → same_shared s s ≡ true
 same_shared-refl s =

@@ -12,10 +12,10 @@ use Rattle.bug_record.specs.Changed.{same_shared, same_at, AreChanged}
 use Rattle.bug_record.specs.declared.bug.Member.{Member}
 use Rattle.bug_record.specs.declared.bug.SetImage.{SetImage}
 use Rattle.bug_record.proofs.SetLemmas.{AllAbove-below, has-above}
-use Rattle.set_images.specs.Changes.{same_texts, differs}
+use Rattle.set_images.specs.Changes.{same_texts, differs, same_member, same_members, same_image, same_images}
 use Rattle.set_images.specs.Kept.{ascends, retold, IsKept}
 use Rattle.set_images.proofs.ImageLemmas.{no_member-has}
-use Rattle.set_images.proofs.ChangedLemmas.{changed-are}
+use Rattle.set_images.proofs.ChangedLemmas.{changed-are, same_shared-true}
 
 -- numbers that ascend by the test ascend
 all-above : (k : ℕ) (ns : List ℕ) → ascends (Some k) ns ≡ true → AllAbove k ns × IsAscending ns
@@ -114,13 +114,74 @@ told (m ∷ ms) (n ∷ ns) e a k h =
           [ true ↦ r.4 | false ↦ ap (λ t. t || has (retold ms ns) k) q ∙ r.4 ],
     )
 
--- a number of no member is no bug
+-- a number of no member is no bug of theirs
+absent-of : (old new : SetImage) (others : List SetImage) → IsKept old new → (n : ℕ) → has (numbers_of new.members) n ≡ false
+    → bug_in (old ∷ others) n ≡ bug_in (new ∷ others) n
+absent-of old new others h n e =
+    ap (λ (o : Option Member). option_or (option_map (bug_of old) o) (bug_in others n))
+    (no_member-has old.members n (ap (λ z. has z n) h.numbers ∙ e))
+    ∙ sym (ap (λ (o : Option Member). option_or (option_map (bug_of new) o) (bug_in others n)) (no_member-has new.members n e))
+
 absent : (old new : SetImage) → IsKept old new → (n : ℕ) → has (numbers_of new.members) n ≡ false
     → bug_in (old ∷ []) n ≡ bug_in (new ∷ []) n
-absent old new h n e =
-    ap (λ (o : Option Member). option_or (option_map (bug_of old) o) None)
-    (no_member-has old.members n (ap (λ z. has z n) h.numbers ∙ e))
-    ∙ sym (ap (λ (o : Option Member). option_or (option_map (bug_of new) o) None) (no_member-has new.members n e))
+absent old new = absent-of old new []
+
+-- a bug of theirs is shown alike, whatever images follow
+shown-of : (old new : SetImage) (before after : List SetImage) → IsKept old new → (n : ℕ)
+    → has (numbers_of new.members) n ≡ true → bug_in (old ∷ before) n ≡ bug_in (new ∷ before) n
+    → bug_in (old ∷ after) n ≡ bug_in (new ∷ after) n
+shown-of old new before after h n q e =
+    let t = told old.members new.members h.numbers h.ascending n q in
+    ap (λ (o : Option Member). option_or (option_map (bug_of old) o) (bug_in after n)) t.2
+    ∙ sym (ap (λ (o : Option Member). option_or (option_map (bug_of old) o) (bug_in before n)) t.2) ∙ e
+    ∙ ap (λ (o : Option Member). option_or (option_map (bug_of new) o) (bug_in before n)) t.3
+    ∙ sym (ap (λ (o : Option Member). option_or (option_map (bug_of new) o) (bug_in after n)) t.3)
+
+-- what differs where images follow that are the same
+pub changed-first : (old new : SetImage) (others : List SetImage) (r : List ℕ) → IsKept old new
+    → AreChanged (bug_in (old ∷ [])) (bug_in (new ∷ [])) r → AreChanged (bug_in (old ∷ others)) (bug_in (new ∷ others)) r
+changed-first old new others r h are = record {
+  ascending = are.ascending;
+  listed = λ n e w. are.listed n e (alone n (has (numbers_of new.members) n) refl w);
+  others = λ n e. along n (has (numbers_of new.members) n) refl (are.others n e);
+}
+  where
+    alone : (n : ℕ) (t : Bool) → has (numbers_of new.members) n ≡ t → bug_in (old ∷ others) n ≡ bug_in (new ∷ others) n
+        → bug_in (old ∷ []) n ≡ bug_in (new ∷ []) n
+    alone n false q w = absent old new h n q
+    alone n true q w = shown-of old new others [] h n q w
+
+    along : (n : ℕ) (t : Bool) → has (numbers_of new.members) n ≡ t → bug_in (old ∷ []) n ≡ bug_in (new ∷ []) n
+        → bug_in (old ∷ others) n ≡ bug_in (new ∷ others) n
+    along n false q w = absent-of old new others h n q
+    along n true q w = shown-of old new [] others h n q w
+
+-- members and images that the tests find equal
+members-same : (ms ns : List Member) → same_members ms ns ≡ true → ms ≡ ns
+members-same [] [] e = refl
+members-same [] (n ∷ ns) e = absurd (false≢true e)
+members-same (m ∷ ms) [] e = absurd (false≢true e)
+members-same (m ∷ ms) (n ∷ ns) e =
+    let p = and_parts (same_member m n) (same_members ms ns) e in
+    let q = and_parts (eqb m.number n.number) (same_texts m n) p.0 in
+    let r = and_parts (bytes_eq m.title n.title) (bytes_eq m.submitter n.submitter) q.1 in
+    λ j. record {
+      number = eqb-true m.number n.number q.0 j;
+      title = (bytes_eq-Decides m.title n.title).0 r.0 j;
+      submitter = (bytes_eq-Decides m.submitter n.submitter).0 r.1 j;
+    } ∷ members-same ms ns p.1 j
+
+pub images-same : (is js : List SetImage) → same_images is js ≡ true → is ≡ js
+images-same [] [] e = refl
+images-same [] (j ∷ js) e = absurd (false≢true e)
+images-same (i ∷ is) [] e = absurd (false≢true e)
+images-same (i ∷ is) (k ∷ ks) e =
+    let p = and_parts (same_image i k) (same_images is ks) e in
+    let q = and_parts (same_shared i.shared k.shared) (same_members i.members k.members) p.0 in
+    λ j. record {
+      shared = same_shared-true i.shared k.shared q.0 j;
+      members = members-same i.members k.members q.1 j;
+    } ∷ images-same is ks p.1 j
 
 -- a bug differs in its texts or in the shared fields
 differ : (old new : SetImage) → IsKept old new → (n : ℕ) (t : Told old.members new.members n)
@@ -168,3 +229,12 @@ changed-retold old new r h alike e =
         let t = told old.members new.members h.numbers h.ascending n q in
         t.4 ∙ only (same_texts t.0 t.1) (same_shared old.shared new.shared) alike ∙ sym (differ old new h n t)
         ∙ sym (ap (λ t. t && differs (old ∷ []) (new ∷ []) n) q)
+
+-- the same of lists whose first images are so, and whose others are found equal
+pub changed-in_first : (olds news : List SetImage) (o n : SetImage) (os ns : List SetImage) → olds ≡ o ∷ os
+    → news ≡ n ∷ ns → IsKept o n → same_images os ns ≡ true → (r : List ℕ)
+    → AreChanged (bug_in (o ∷ [])) (bug_in (n ∷ [])) r → AreChanged (bug_in olds) (bug_in news) r
+changed-in_first olds news o n os ns e f h same r are =
+    subst (λ z. AreChanged (bug_in z) (bug_in news) r) (sym e)
+    (subst (λ z. AreChanged (bug_in (o ∷ os)) (bug_in z) r) (sym f)
+    (subst (λ z. AreChanged (bug_in (o ∷ os)) (bug_in (n ∷ z)) r) (images-same os ns same) (changed-first o n os r h are)))

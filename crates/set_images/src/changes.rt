@@ -9,7 +9,7 @@ ghost use Rattle.bug_record.specs.declared.bug.SetImage.{SetImage};
 ghost use Rattle.set_images.specs.Changes.{differs, same_set, IsRight};
 ghost use Rattle.set_images.specs.Numbers.{IsJoined};
 
-use crate::equal::{same_set, same_texts};
+use crate::equal::{same_images, same_set, same_texts};
 use crate::index::Index;
 use crate::kept::{changed_in_place, is_kept};
 use crate::parted::{changed_parted, is_parted};
@@ -134,11 +134,15 @@ fn changed_between(alloc: Global, old: &[SetImage], new: &[SetImage]) -> Result<
 }
 
 // The numbers of the bugs that differ.
+// Mostly the first image alone differs, which is that of the bug that a line names first.
 fn changed_bugs(alloc: Global, old: &[SetImage], new: &[SetImage]) -> Result<Numbers, AllocError>
     ensures { IfOk result (λ r. AreChanged (bug_in old.now) (bug_in new.now) r) }
 {
-    if let ([before], [after]) = (old, new) {
-        if is_kept(before, after) {
+    if let (Some((before, others)), Some((after, new_others))) = (
+        old.split_first(),
+        new.split_first(),
+    ) {
+        if is_kept(before, after) && same_images(others, new_others) {
             return changed_in_place(alloc, before, after);
         }
     }

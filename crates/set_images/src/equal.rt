@@ -1,11 +1,11 @@
 //! Whether two records are equal, field by field.
 
-ghost use Rattle.std.specs.Prelude.{◌≡◌};
+ghost use Rattle.std.specs.Prelude.{◌≡◌, false};
 ghost use Rattle.std.specs.Str.{bytes_eq};
 ghost use Rattle.bug_record.specs.Images.{numbers_of};
 ghost use Rattle.bug_record.specs.Changed.{same_nodes, same_names, same_tags, same_shared};
 ghost use Rattle.bug_record.specs.Differences.{same_text, same_state};
-ghost use Rattle.set_images.specs.Changes.{same_texts, same_set};
+ghost use Rattle.set_images.specs.Changes.{same_texts, same_set, same_member, same_members, same_image, same_images};
 
 use bug_record::{Member, SetImage, Shared, Tag};
 use debver::Text;
@@ -54,8 +54,20 @@ fn same_state(a: &Shared, b: &Shared) -> bool
     a.closed == b.closed
 }
 
-/// Whether all shared fields are equal.
-pub(crate) fn same_shared(a: &Shared, b: &Shared) -> bool
+// Whether a flag, the severity or the length of a list differs, for which no text is compared.
+fn differ_at_once(a: &Shared, b: &Shared) -> bool
+    ensures { a.now ≡ b.now → result ≡ false }
+{
+    a.closed != b.closed
+        || a.archived != b.archived
+        || a.severity.rank() != b.severity.rank()
+        || a.found.as_slice().len() != b.found.as_slice().len()
+        || a.fixed.as_slice().len() != b.fixed.as_slice().len()
+        || a.tags.as_slice().len() != b.tags.as_slice().len()
+}
+
+// Whether all shared fields are equal, which are compared in their order.
+fn same_fields(a: &Shared, b: &Shared) -> bool
     ensures { result ≡ same_shared a.now b.now }
 {
     a.package.as_str() == b.package.as_str()
@@ -69,6 +81,13 @@ pub(crate) fn same_shared(a: &Shared, b: &Shared) -> bool
         && same_nodes(a.fixed.as_slice(), b.fixed.as_slice())
         && a.blockers == b.blockers
         && a.archived == b.archived
+}
+
+/// Whether all shared fields are equal.
+pub(crate) fn same_shared(a: &Shared, b: &Shared) -> bool
+    ensures { result ≡ same_shared a.now b.now }
+{
+    !differ_at_once(a, b) && same_fields(a, b)
 }
 
 /// Whether the members are the same bugs, in the same order.
@@ -99,4 +118,46 @@ pub(crate) fn same_set(a: &SetImage, b: &SetImage) -> bool
 {
     same_numbers(a.members.as_slice(), b.members.as_slice())
         && same_shared(a.shared.fields(), b.shared.fields())
+}
+
+fn same_member(a: &Member, b: &Member) -> bool
+    ensures { result ≡ same_member a.now b.now }
+{
+    a.number == b.number && same_texts(a, b)
+}
+
+fn same_members(a: &[Member], b: &[Member]) -> bool
+    ensures { result ≡ same_members a.now b.now }
+{
+    if a.len() != b.len() {
+        return false;
+    }
+    for i in 0..a.len() {
+        if !same_member(&a[i], &b[i]) {
+            return false;
+        }
+    }
+    true
+}
+
+fn same_image(a: &SetImage, b: &SetImage) -> bool
+    ensures { result ≡ same_image a.now b.now }
+{
+    same_shared(a.shared.fields(), b.shared.fields())
+        && same_members(a.members.as_slice(), b.members.as_slice())
+}
+
+/// Whether the images are equal, in the same order.
+pub(crate) fn same_images(a: &[SetImage], b: &[SetImage]) -> bool
+    ensures { result ≡ same_images a.now b.now }
+{
+    if a.len() != b.len() {
+        return false;
+    }
+    for i in 0..a.len() {
+        if !same_image(&a[i], &b[i]) {
+            return false;
+        }
+    }
+    true
 }

@@ -77,6 +77,7 @@ impl<'a> Judge<'a> {
     }
 
     /// Whether there is such a desk, whichever of the files loses what was not synced.
+    /// Files are looked at once, where one of them loses nothing.
     pub fn is_always_shown(
         &mut self,
         alloc: Global,
@@ -84,10 +85,18 @@ impl<'a> Judge<'a> {
         reach: Reach,
     ) -> io::Result<bool> {
         let BothLeft { log, db } = left;
-        let is_kept = self.is_shown(alloc, &log.written, &db.written, reach)?;
-        let is_back = self.is_shown(alloc, &log.synced, &db.synced, reach)?;
-        let is_log_kept = self.is_shown(alloc, &log.written, &db.synced, reach)?;
-        let is_log_back = self.is_shown(alloc, &log.synced, &db.written, reach)?;
-        Ok(is_kept && is_back && is_log_kept && is_log_back)
+        let log_loses = log.written != log.synced;
+        let db_loses = db.written != db.synced;
+        let mut is_shown = self.is_shown(alloc, &log.written, &db.written, reach)?;
+        if log_loses {
+            is_shown = self.is_shown(alloc, &log.synced, &db.written, reach)? && is_shown;
+        }
+        if db_loses {
+            is_shown = self.is_shown(alloc, &log.written, &db.synced, reach)? && is_shown;
+        }
+        if log_loses && db_loses {
+            is_shown = self.is_shown(alloc, &log.synced, &db.synced, reach)? && is_shown;
+        }
+        Ok(is_shown)
     }
 }

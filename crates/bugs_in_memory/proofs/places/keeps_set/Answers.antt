@@ -5,6 +5,7 @@ use Rattle.std.specs.Prelude.{nat_eq}
 use Rattle.std.specs.HashMap.{get}
 use Rattle.std.proofs.lemmas.Slice.Eq.{bytes_eq-Decides}
 use Rattle.bug_record.specs.Images.{numbers_of}
+use Rattle.bug_record.specs.declared.bug.SetImage.{SetImage}
 use Rattle.bugs_in_memory.specs.Places.{sets, image_at}
 use Rattle.bugs_in_memory.specs.declared.places.Place.TheVariants.{First}
 use Rattle.bugs_in_memory.proofs.PlaceLemmas.{first-key}
@@ -19,7 +20,7 @@ returns-in-Some-First c = λ h.
       c.in-Some-First.old,
       ap (sets c.args.bugs.now) (first-key c.args.image.now.members c.in-Some.first.now first)
           ∙ ap (option_and_then image_at) there,
-      sym (ap numbers_of c.as_slice.ensures)
+      ap (λ (z : SetImage). numbers_of z.members) (sym c.image.ensures) ∙ sym (ap numbers_of c.as_slice.ensures)
           ∙ ((bytes_eq-Decides (numbers_of c.as_slice.result.now) (numbers_of c.as_slice-members.result.now)).0
           (sym c.same_numbers.ensures ∙ h) ∙ ap numbers_of c.as_slice-members.ensures),
     )

@@ -1,5 +1,10 @@
-use Rattle.std.proofs.Common.{rules}
+use Rattle.std.proofs.Common.{not, sym, ap, ◌∙◌}
+use Rattle.std.proofs.lemmas.Bool.{false≢true}
+use Rattle.set_images.proofs.ChangedLemmas.{others-differ}
 use Rattle.set_images.proofs.equal.same_shared.Goals as goal
 
-pub returns-then-eq-2 : goal.returns-then-eq-2
-returns-then-eq-2 c = search rules
+pub returns-else-not-differ_at_once : goal.returns-else-not-differ_at_once
+returns-else-not-differ_at_once c =
+    ap not c.if-not-differ_at_once.false
+    ∙ others-differ c.args.a.now c.args.b.now
+    (λ e. false≢true (sym (c.differ_at_once.ensures e) ∙ c.if-not-differ_at_once.false))
