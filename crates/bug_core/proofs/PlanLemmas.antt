@@ -20,6 +20,7 @@ use Rattle.bug_record.specs.Texts.{IsGoodText, IfGiven}
 use Rattle.bug_record.specs.Images.{bug_of, bug_in, numbers_of, put, AreApart, AreSetsOf, image_with}
 use Rattle.bug_record.specs.Plans.{AllKnown, IsShownBy}
 use Rattle.bug_record.specs.declared.bug.Bug.{Bug}
+use Rattle.bug_record.specs.declared.bug.Member.{Member}
 use Rattle.bug_record.specs.declared.bug.Shared.{Shared}
 use Rattle.bug_record.specs.declared.bug.SetImage.{SetImage}
 use Rattle.bug_record.specs.declared.command.Change.{Change}
@@ -31,6 +32,7 @@ use Rattle.bug_record.specs.declared.command.Refusal.TheVariants.{NoBug, Archive
 use Rattle.bug_record.specs.declared.command.Command.TheVariants as commands
 use Rattle.version_nodes.specs.Nodes.{Node}
 use Rattle.bug_record.specs.Words.{archived_refusal}
+use Rattle.set_images.specs.Alike.{BeginAlike}
 use Rattle.set_images.specs.Refusals.{records_refusal}
 use Rattle.bug_core.specs.Others.{others}
 use Rattle.set_images.proofs.RefusalLemmas.{shown-refusal}
@@ -327,3 +329,13 @@ planned-nameless named step is next n i refusal own h w = record {
 pub archived-seen : (n : ℕ) {fields shared : Shared} {r : Option Refusal} → fields ≡ shared → r ≡ archived_refusal false n fields
     → archived_refusal false n shared ≡ r
 archived-seen n e q = sym (q ∙ (λ j. archived_refusal false n (e j)))
+
+abbrev first_members : List SetImage → List Member
+first_members [] = []
+first_members (i ∷ is) = i.members
+
+-- images of which the first has the members of this one begin as it does
+pub begins-alike : (i new : SetImage) (others js : List SetImage) → i.members ≡ new.members → js ≡ new ∷ others
+    → BeginAlike (i ∷ []) js
+begins-alike i new others js e f = λ o n os ns p q.
+    ap first_members (sym p) ∙ e ∙ ap first_members (sym f ∙ q)

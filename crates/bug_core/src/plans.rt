@@ -1,6 +1,6 @@
 //! What a command does, planned on the images of the sets of merged bugs that it names.
 
-ghost use Rattle.std.specs.Prelude.{◌≡◌, ◌≤◌, ◌∷◌, [], map, IfOk, IfErr, Option, Some, None};
+ghost use Rattle.std.specs.Prelude.{◌≡◌, ◌≤◌, ◌∷◌, [], true, false, map, IfOk, IfErr, Option, Some, None};
 ghost use Rattle.version_nodes.specs.Nodes.{Node};
 ghost use Rattle.bug_record.specs.Sets.{Each};
 ghost use Rattle.bug_record.specs.Texts.{IsText};
@@ -10,8 +10,10 @@ ghost use Rattle.bug_record.specs.Steps.{step_of_numbers};
 ghost use Rattle.bug_record.specs.Images.{AreApart, HasMember, AreSetsOf, FitsDesk, image_with};
 ghost use Rattle.bug_record.specs.Plans.{AllKnown, IsShownBy, IsOpenHeadFor, IsPlanFor, CoverImages, BringNone};
 ghost use Rattle.std.specs.Option.{option_copied};
-ghost use Rattle.record_changes.specs.Members.{member_after};
+ghost use Rattle.bug_record.specs.declared.bug.SetImage.{SetImage};
+ghost use Rattle.record_changes.specs.Members.{member_after, changes_members, leaves_members};
 ghost use Rattle.bug_core.specs.Others.{others};
+ghost use Rattle.set_images.specs.Alike.{BeginAlike};
 ghost use Rattle.set_images.specs.Refusals.{records_refusal};
 ghost use Rattle.bug_core.specs.Planned.{step_with, IsPlanned, IsRecordsPlan};
 ghost use Rattle.bug_core.specs.Refused.{HasName, IsRefusedAs, IsFaultOfPlan};
@@ -63,7 +65,9 @@ fn change_records(
     requires parts { HasGoodParts command.now }
     requires apart { AreApart images.now }
     requires named { image_with images.now (bug_named command.now) ≡ Some image.now }
-    ensures { (head : Option Node) → records_refusal command.now head images.now image.now ≡ None
+    ensures leaves { changes_members command.now image.now.shared ≡ false
+        → IfOk result (λ change. BeginAlike (image.now ∷ []) change.images) }
+    ensures plan { (head : Option Node) → records_refusal command.now head images.now image.now ≡ None
         → IsRecordsPlan head from.now command.now images.now next result }
 {
     let shared = match shared_after(alloc, command, from, image.shared.fields()) {
@@ -93,7 +97,9 @@ fn plan_records(
     requires sender { IsText from.now }
     requires parts { HasGoodParts command.now }
     requires apart { AreApart images.now }
-    ensures { IsRecordsPlan (option_copied open_head.entry) from.now command.now images.now next result }
+    ensures leaves { (i : SetImage) → image_with images.now (bug_named command.now) ≡ Some i
+        → changes_members command.now i.shared ≡ false → IfOk result (λ change. BeginAlike (i ∷ []) change.images) }
+    ensures plan { IsRecordsPlan (option_copied open_head.entry) from.now command.now images.now next result }
 {
     let number = bug_named(command);
     let Some(image) = find_image(images, number) else {
@@ -117,7 +123,9 @@ fn plan_command(
     requires sender { IsText from.now }
     requires parts { HasGoodParts command.now }
     requires apart { AreApart images.now }
-    ensures { IsPlanned (bugs_named command.now) (step_with (option_copied open_head.entry) from.now command.now) images.now
+    ensures leaves { (i : SetImage) → image_with images.now (bug_named command.now) ≡ Some i
+        → leaves_members command.now i.shared ≡ true → IfOk result (λ change. BeginAlike (i ∷ []) change.images) }
+    ensures plan { IsPlanned (bugs_named command.now) (step_with (option_copied open_head.entry) from.now command.now) images.now
         next result }
 {
     match command {
@@ -147,6 +155,7 @@ fn plan_command(
 ///
 /// The change's images are those handed in that have a member, with what the command does to them:
 /// put on the desk they leave the desk of the command's step.
+/// Where `leaves_members` holds, its first image has the members of that of the bug named first.
 ///
 /// # Errors
 ///
@@ -191,6 +200,8 @@ pub fn plan(
     ensures brings { (d : Desk) → IsShownBy d images.now next (bugs_named command.now)
         → IfOk result (λ change. BringNone d images.now change.images) }
     ensures later { IfOk result (λ change. next ≤ change.next) }
+    ensures leaves { (i : SetImage) → image_with images.now (bug_named command.now) ≡ Some i
+        → leaves_members command.now i.shared ≡ true → IfOk result (λ change. BeginAlike (i ∷ []) change.images) }
 {
     plan_command(alloc, command, from, images, next, open_head)
 }

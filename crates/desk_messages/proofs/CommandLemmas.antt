@@ -1,5 +1,5 @@
 -- A command that is carried out in parts is the machine's step.
-use Rattle.std.proofs.Common.{◌≡◌, ◌≤◌, ℕ, true, List, [], ◌∷◌, Option, Some, None, Result, Ok, Err, sym, ap, ◌∙◌, subst, arith}
+use Rattle.std.proofs.Common.{◌≡◌, ◌≤◌, ℕ, Bool, true, cond, refl, List, [], ◌∷◌, Option, Some, None, Result, Ok, Err, sym, ap, ◌∙◌, subst, arith}
 use Rattle.std.specs.Prelude.{◌==◌, length, IfOk}
 use Rattle.std.proofs.lemmas.Bool.{eqb-true}
 use Rattle.bug_record.specs.Sets.{has, Each}
@@ -7,14 +7,17 @@ use Rattle.bug_record.specs.Texts.{IfGiven}
 use Rattle.bug_record.specs.Desk.{Desk, IsSound}
 use Rattle.bug_record.specs.Steps.{step}
 use Rattle.bug_record.specs.Words.{Names}
-use Rattle.bug_record.specs.Images.{bug_in, put, FitsDesk}
+use Rattle.bug_record.specs.Images.{bug_in, image_with, put, FitsDesk}
 use Rattle.version_nodes.specs.Nodes.{Node}
 use Rattle.bug_record.specs.Plans.{IsShownBy, IsOpenHeadFor, CoverImages, BringNone}
 use Rattle.bug_record.specs.Changed.{changed_numbers, AreChanged, Replaces}
+use Rattle.record_changes.specs.Members.{leaves_members}
+use Rattle.set_images.specs.Alike.{BeginAlike}
 use Rattle.set_images.proofs.ChangedLemmas.{changed-on_desk}
+use Rattle.bug_record.specs.declared.bug.Member.{Member}
 use Rattle.bug_record.specs.declared.bug.SetImage.{SetImage}
 use Rattle.bug_record.specs.declared.command.Change.{Change}
-use Rattle.bug_record.specs.Commands.{bugs_named, names_in}
+use Rattle.bug_record.specs.Commands.{bug_named, bugs_named, names_in}
 use Rattle.line_words.specs.Bugs.{IsGoodBug}
 use Rattle.line_words.specs.Numbers.{IsGoodNumber}
 use Rattle.bug_record.specs.declared.command.Command.{Command}
@@ -27,7 +30,7 @@ use Rattle.bug_record.specs.declared.outcome.StoreFault.{StoreFault}
 use Rattle.desk_store.specs.Store.{Answers, with_change}
 use Rattle.message_progress.specs.Progress.{HaveNumbers}
 use Rattle.message_progress.specs.Changes.{MayBeMade, Fits}
-use Rattle.desk_messages.specs.Commands.{Makes, DecidesTold, Decides}
+use Rattle.desk_messages.specs.Commands.{LeavesFirst, Makes, DecidesTold, Decides}
 use Rattle.desk_messages.specs.declared.command_decision.Decision.{Decision}
 use Rattle.message_progress.proofs.RefusalLemmas.{does-good}
 use Rattle.message_progress.specs.Images.{ShowBugs}
@@ -139,3 +142,18 @@ unchanged d images sets next change numbers e a p none same =
 -- what a plan promises of its change
 pub if_planned : {A E : Type 0} (P : A → Type 0) (r : Result A E) (x : A) → r ≡ Ok x → IfOk r P → P x
 if_planned P r x e h = subst (λ q. IfOk q P) e h
+
+abbrev first_members : List SetImage → List Member
+first_members [] = []
+first_members (i ∷ is) = i.members
+
+-- what is planned of a command that leaves the titles and submitters of the first image begins with
+-- its members
+pub begins-with : (command : Command ℕ) (is js : List SetImage)
+    → ((i : SetImage) → image_with is (bug_named command) ≡ Some i → leaves_members command i.shared ≡ true → BeginAlike (i ∷ []) js)
+    → LeavesFirst command is → BeginAlike is js
+begins-with command is js h l = λ o n os ns p q.
+    let found : image_with is (bug_named command) ≡ Some l.0 =
+    ap (λ (z : List SetImage). image_with z (bug_named command)) l.2
+    ∙ ap (λ (t : Bool). cond t (Some l.0) (image_with l.1 (bug_named command))) l.4 in
+    ap first_members (sym p ∙ l.2) ∙ h l.0 found l.3 l.0 n [] ns refl q

@@ -1,11 +1,15 @@
 -- What the functions that decide a command answer, step by step.
-use Rattle.std.specs.Prelude.{ℕ, ◌≡◌, List}
+use Rattle.std.specs.Prelude.{ℕ, ◌≡◌, true, List, ◌∷◌}
 use Rattle.bug_record.specs.Desk.{Desk}
 use Rattle.bug_record.specs.Words.{Names}
-use Rattle.bug_record.specs.Images.{put}
+use Rattle.bug_record.specs.Commands.{bug_named}
+use Rattle.bug_record.specs.Sets.{has}
+use Rattle.bug_record.specs.Images.{numbers_of, put}
 use Rattle.bug_record.specs.Changed.{changed_numbers}
+use Rattle.bug_record.specs.declared.bug.SetImage.{SetImage}
 use Rattle.bug_record.specs.declared.command.Change.{Change}
 use Rattle.bug_record.specs.declared.command.Command.{Command}
+use Rattle.record_changes.specs.Members.{leaves_members}
 use Rattle.line_words.specs.declared.named.Named.{Named}
 use Rattle.bug_record.specs.declared.outcome.Outcome.TheVariants.{Changed}
 use Rattle.desk_store.specs.Store.{with_change}
@@ -14,6 +18,11 @@ use Rattle.desk_store.specs.Message.{outcome_of, does}
 use Rattle.message_progress.specs.Telling.{result_meant, step_among}
 use Rattle.message_progress.specs.Changes.{Fits}
 use Rattle.desk_messages.specs.declared.command_decision.Decision.{Decision}
+
+-- the first image is that of the bug that a command names, whose titles and submitters it leaves
+abbrev pub LeavesFirst : Command ℕ → List SetImage → Type 0
+LeavesFirst command is = (i : SetImage) × (others : List SetImage) × (is ≡ i ∷ others)
+    × (leaves_members command i.shared ≡ true) × (has (numbers_of i.members) (bug_named command) ≡ true)
 
 -- what is decided of a change: the numbers at which the desks differ, and what leaves the same desk
 pub record Makes (d : Desk) (change : Change) (decision : Decision) : Type 0 where

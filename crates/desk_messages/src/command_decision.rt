@@ -1,10 +1,11 @@
 //! What one command of a message comes to, decided by questions to a store.
 
-ghost use Rattle.std.specs.Prelude.{◌≡◌, ◌++◌, ℕ, List, None, IfOk, OnErr, Result};
+ghost use Rattle.std.specs.Prelude.{◌≡◌, ◌++◌, ℕ, List, None, IsTrue, IfOk, OnErr, Result};
 ghost use Rattle.bug_record.specs.Sets.{Each};
 ghost use Rattle.bug_record.specs.Texts.{IsText, IfGiven};
 ghost use Rattle.bug_record.specs.Desk.{Desk};
-ghost use Rattle.bug_record.specs.Images.{AreApart, HasMember};
+ghost use Rattle.bug_record.specs.Changed.{AreChanged, Replaces, changed_numbers};
+ghost use Rattle.bug_record.specs.Images.{AreApart, HasMember, bug_in, put};
 ghost use Rattle.bug_record.specs.Clones.{name_refusal};
 ghost use Rattle.bug_record.specs.Commands.{HasGoodParts, bugs_named, names_in};
 ghost use Rattle.bug_record.specs.Words.{Names};
@@ -13,18 +14,21 @@ ghost use Rattle.line_words.specs.Numbers.{IsGoodNumber};
 ghost use Rattle.desk_store.specs.Store.{Asks, Answers, faults_after};
 ghost use Rattle.message_progress.specs.Progress.{HaveNumbers};
 ghost use Rattle.message_progress.specs.Changes.{MayBeMade, Fits};
-ghost use Rattle.desk_messages.specs.Commands.{Makes, DecidesTold, Decides};
+ghost use Rattle.desk_messages.specs.Commands.{LeavesFirst, Makes, DecidesTold, Decides};
+ghost use Rattle.set_images.specs.Alike.{BeginAlike};
 ghost use Rattle.desk_store.specs.Message.{names_of};
 
 use bug_core::{changed, plan};
-use bug_record::{Change, Command, Outcome, PlanFault, Refusal, SetImage, StoreFault};
+use bug_record::{Change, Command, Numbers, Outcome, PlanFault, Refusal, SetImage, StoreFault};
 use desk_store::Records;
 use line_words::Named;
 use message_progress::{
     KnownNames, ask, command_told, name_refusal, names_in, note_names, refusal_meant, with_names,
     written,
 };
-use std::alloc::Global;
+use record_changes::leaves_members;
+use set_images::{bug_named, changed_fields};
+use std::alloc::{AllocError, Global};
 
 /// What a line comes to that has an outcome: the outcome, and the change that the line makes, if it
 /// makes one.
@@ -45,21 +49,55 @@ pub(crate) fn without_change(outcome: Outcome) -> Decision
     }
 }
 
+// Whether the first image is that of the bug that a command names, whose titles and submitters it
+// leaves.
+fn leaves_first(command: &Command<u64>, images: &[SetImage]) -> bool
+    ensures { IsTrue result → LeavesFirst command.now images.now }
+{
+    match images.split_first() {
+        Some((first, _others)) => {
+            leaves_members(command, first.shared.fields()) && first.has(bug_named(command))
+        }
+        None => false,
+    }
+}
+
+// The numbers of the bugs that a planned change changes.
+fn numbers_changed(
+    alloc: Global,
+    command: &Command<u64>,
+    images: &[SetImage],
+    new: &[SetImage],
+) -> Result<Numbers, AllocError>
+    requires { LeavesFirst command.now images.now → BeginAlike images.now new.now }
+    ensures images { IfOk result (λ r. AreChanged (bug_in images.now) (bug_in new.now) r) }
+    ensures desks { IfOk result
+        (λ r. (d : Desk) (next : ℕ) → Replaces d images.now new.now next
+        → r ≡ changed_numbers d (put d (record { images = new.now; next = next }))) }
+{
+    if leaves_first(command, images) {
+        return changed_fields(alloc, images, new);
+    }
+    changed(alloc, images, new)
+}
+
 // What is made of a planned change: of several images, those with a changed bug are written.
 // A change of nothing isn't made.
 fn decide_change(
     alloc: Global,
+    command: &Command<u64>,
     images: &[SetImage],
     next: u64,
     change: Change,
 ) -> Result<Decision, StoreFault>
-    requires { Each HasMember change.images }
+    requires members { Each HasMember change.images }
+    requires leaves { LeavesFirst command.now images.now → BeginAlike images.now change.images }
     ensures made { IfOk result (λ decision. (d : Desk) → AreApart change.images → MayBeMade d images.now next change
         → Makes d change decision) }
     ensures members { IfOk result (λ decision. IfGiven (λ c. Each HasMember c.images) decision.change) }
     ensures memory { OnErr result (result ≡ Result.Err StoreFault.Memory) }
 {
-    let numbers = changed(alloc, images, change.images.as_slice())?;
+    let numbers = numbers_changed(alloc, command, images, change.images.as_slice())?;
     if numbers.as_slice().is_empty() && change.next == next {
         return Ok(without_change(Outcome::Changed(numbers)));
     }
@@ -94,7 +132,7 @@ fn decide_told<S: Records>(
     let sets = images.as_slice();
     let planned = plan(alloc, command, from, sets, next, open_head.as_ref());
     match with_names(taken, planned) {
-        Ok(change) => decide_change(alloc, sets, next, change),
+        Ok(change) => decide_change(alloc, command, sets, next, change),
         Err(PlanFault::Refused(refusal)) => {
             Ok(without_change(Outcome::Refused(refusal_meant(refusal))))
         }

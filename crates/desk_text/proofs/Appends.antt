@@ -1,10 +1,13 @@
 -- Texts that are appended one after another, where the memory may end.
-use Rattle.std.proofs.Common.{arith, ◌-◌, ◌∷◌, take, set, length-drop, length-set}
+use Rattle.std.proofs.Common.{arith, ◌∷◌, ◌^◌}
+use Rattle.std.specs.Fmt.{decimal}
+use Rattle.std.proofs.lemmas.Fmt.{IsAscii-decimal}
+use Rattle.std.proofs.lemmas.Str.Ascii.{IsAscii-cons}
 use Rattle.std.proofs.Common.{◌≡◌, ℕ, ◌+◌, ◌<◌, List, [], ◌++◌, length, get_or, drop, flat_map, Result, Ok, Err, sym, ap, ◌∙◌, subst}
 use Rattle.std.specs.Prelude.{OnOk, OnErr, is_ok, if◌then◌else◌, IsUtf8}
-use Rattle.std.proofs.lemmas.Str.{IsUtf8-append}
+use Rattle.std.proofs.lemmas.Str.{IsUtf8-append, IsUtf8-from_ascii}
 use Rattle.std.specs.Io.{StartsWith}
-use Rattle.std.proofs.lemmas.List.{append_assoc, append-nil, at_drop_more, drop-set, take_all}
+use Rattle.std.proofs.lemmas.List.{append_assoc, append-nil, at_drop_more}
 use Rattle.std.proofs.Transfers.{starts_with_of_append, starts_with_trans}
 
 -- a text and one more
@@ -18,13 +21,9 @@ next f xs i d x a b c lt is h e =
     ap (λ w. w ++ rest) e ∙ append_assoc a (f x) rest
     ∙ ap (λ w. a ++ w) (ap (λ y. f y ++ rest) (sym is) ∙ sym (at_drop_more (flat_map f) xs i d lt)) ∙ h
 
--- the digits of a number, which end a buffer of 21 bytes, after a space
-pub after_space : (digits buffer : List ℕ) (start : ℕ) → length buffer ≡ 21 → start < 21 → drop (start + 1) buffer ≡ digits ++ []
-    → take (21 - start) (drop start (set buffer start 32)) ≡ 32 ∷ digits
-after_space digits buffer start l h e =
-    take_all (21 - start) (drop start (set buffer start 32))
-    (omega (arith, length-drop start (set buffer start 32), length-set buffer start 32, l))
-    ∙ drop-set buffer start 32 (omega (arith, l, h)) ∙ ap (λ (w : List ℕ). 32 ∷ w) (e ∙ append-nil digits)
+-- a number after a space is UTF-8
+pub spaced_utf8 : (n : ℕ) → n < 2 ^ 64 → IsUtf8 (32 ∷ decimal n)
+spaced_utf8 n h = IsUtf8-from_ascii (32 ∷ decimal n) (IsAscii-cons 32 (decimal n) (omega arith) (IsAscii-decimal n h))
 
 -- the front stays
 pub front_more : (a b c x : List ℕ) → StartsWith b a → c ≡ b ++ x → StartsWith c a
@@ -51,11 +50,6 @@ module _ {T E : Type 0} where
   pub within_err : (r : Result T E) (a x b c : List ℕ) → b ≡ a ++ x → OnErr r (StartsWith c b) → OnErr r (StartsWith c a)
   within_err (Ok v) a x b c e f = tt
   within_err (Err v) a x b c e f = starts_with_trans c b a f (starts_with_of_append b a x e)
-
-  -- a text, where there was memory
-  pub ok_more : (r : Result T E) (a x b : List ℕ) → b ≡ (if is_ok r then a ++ x else a) → OnOk r (b ≡ a ++ x)
-  ok_more (Ok v) a x b e = e
-  ok_more (Err v) a x b e = tt
 
   -- a text after UTF-8, or nothing
   pub utf8_more : (r : Result T E) (a x b : List ℕ) → b ≡ (if is_ok r then a ++ x else a) → IsUtf8 x → IsUtf8 a → IsUtf8 b

@@ -1,6 +1,6 @@
 //! The texts of outcomes and ends, appended to a transcript.
 
-ghost use Rattle.std.specs.Prelude.{◌≡◌, [], ◌++◌, IsOk, OnOk, OnErr, IsUtf8, codes, decimal};
+ghost use Rattle.std.specs.Prelude.{◌≡◌, ◌+◌, ◌<◌, ◌≤◌, [], ◌∷◌, ◌++◌, length, drop, IsOk, OnOk, OnErr, IsUtf8, codes, decimal};
 ghost use Rattle.std.specs.Io.{StartsWith};
 ghost use Rattle.version_nodes.specs.Nodes.{node_text};
 ghost use Rattle.desk_text.specs.Texts.{full_text, said_of_bug, still_found_text};
@@ -125,29 +125,68 @@ fn append_refusal(out: &mut Vec<u8>, refusal: &Refusal) -> Result<(), AllocError
     }
 }
 
+// Writes a number after a space so that both end at a place, and returns where the space stands.
+fn write_spaced(text: &mut [u8], end: usize, number: u64) -> usize
+    requires room { 21 ≤ end }
+    requires within { end ≤ length text.old }
+    ensures length { length text.new ≡ length text.old }
+    ensures room { end ≤ result + 21 }
+    ensures before { result < end }
+    ensures written { drop result text.new ≡ codes " " ++ (decimal number ++ drop end text.old) }
+{
+    let start = write_digits(number, text, end) - 1;
+    text[start] = b' ';
+    start
+}
+
 // Appends a number after a space, both at once.
 fn append_spaced(out: &mut Vec<u8>, number: u64) -> Result<(), AllocError>
-    ensures ok { OnOk result (out.new.items ≡ out.old.items ++ (codes " " ++ decimal number)) }
+    ensures ok { OnOk result (out.new.items ≡ out.old.items ++ numbers_text (number ∷ [])) }
     ensures err { OnErr result (out.new.items ≡ out.old.items) }
     ensures utf8 { IsUtf8 out.old.items → IsUtf8 out.new.items }
 {
     let mut text = [0; 21];
     let end = text.len();
-    let start = write_digits(number, &mut text, end) - 1;
-    text[start] = b' ';
+    let start = write_spaced(&mut text, end, number);
     out.extend_from_slice(&text[start..])
 }
 
+// Appends four numbers, each after a space, all at once.
+fn append_four(out: &mut Vec<u8>, a: u64, b: u64, c: u64, d: u64) -> Result<(), AllocError>
+    ensures ok { OnOk result (out.new.items ≡ out.old.items ++ numbers_text (a ∷ b ∷ c ∷ d ∷ [])) }
+    ensures err { OnErr result (out.new.items ≡ out.old.items) }
+    ensures utf8 { IsUtf8 out.old.items → IsUtf8 out.new.items }
+{
+    let mut text = [0; 84];
+    let end = text.len();
+    let fourth = write_spaced(&mut text, end, d);
+    let third = write_spaced(&mut text, fourth, c);
+    let second = write_spaced(&mut text, third, b);
+    let first = write_spaced(&mut text, second, a);
+    out.extend_from_slice(&text[first..])
+}
+
 /// Appends each number after a space.
+/// Four go at once, since a list of changed bugs may be long.
 pub(crate) fn append_numbers(out: &mut Vec<u8>, numbers: &[u64]) -> Result<(), AllocError>
     ensures ok { OnOk result (out.new.items ≡ out.old.items ++ numbers_text numbers.now) }
     ensures err { OnErr result (StartsWith out.new.items out.old.items) }
     ensures utf8 { IsUtf8 out.old.items → IsUtf8 out.new.items }
 {
-    for number in numbers {
-        append_spaced(out, *number)?;
+    let mut rest = numbers;
+    loop {
+        match rest {
+            [a, b, c, d, more @ ..] => {
+                append_four(out, *a, *b, *c, *d)?;
+                rest = more;
+            }
+            [only, more @ ..] => {
+                append_spaced(out, *only)?;
+                rest = more;
+            }
+            [] => return Ok(()),
+        }
     }
-    Ok(())
 }
 
 fn append_changed(out: &mut Vec<u8>, numbers: &[u64]) -> Result<(), AllocError>

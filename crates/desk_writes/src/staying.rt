@@ -1,6 +1,6 @@
 //! The edits of a set whose bugs stay.
 
-ghost use Rattle.std.specs.Prelude.{◌≡◌, Some, IfOk, IfErr, IfSome, IsTrue};
+ghost use Rattle.std.specs.Prelude.{◌≡◌, Some, IfOk, IfErr, IfSome};
 ghost use Rattle.bugs_in_memory.specs.Keys.{key_of};
 ghost use Rattle.std.specs.Option.{option_copied};
 ghost use Rattle.sqlite.specs.Held.{state};
@@ -10,10 +10,11 @@ ghost use Rattle.desk_content.specs.Content.{Content};
 ghost use Rattle.desk_writes.specs.Needs.{IsKnownIn};
 ghost use Rattle.desk_writes.specs.Plans.{IsStay, IsStayOf, IsStayPlan};
 
-use bug_record::{Member, Sequence, SetImage, Shared, StoreFault};
+use bug_record::{Sequence, SetImage, Shared, StoreFault};
 use desk_content::{Edit, SetFields, key_of, stay_edits};
 use desk_schema::parameter;
 use nearest_marks::Family;
+use set_images::equal_members;
 use set_rows::{has_members, read_fields, read_shared};
 use sqlite::{Alter, Transaction};
 use std::alloc::Global;
@@ -84,30 +85,6 @@ fn read_plan<S: Alter>(
     stay_set(alloc, tx, family, image)
 }
 
-// Whether two bugs are the same, titles and submitters among it.
-fn same_member(a: &Member, b: &Member) -> bool
-    ensures { IsTrue result → a.now ≡ b.now }
-{
-    a.number == b.number
-        && a.title.as_str() == b.title.as_str()
-        && a.submitter.as_str() == b.submitter.as_str()
-}
-
-// Whether two lists have the same bugs.
-fn same_members(a: &[Member], b: &[Member]) -> bool
-    ensures { IsTrue result → a.now ≡ b.now }
-{
-    if a.len() != b.len() {
-        return false;
-    }
-    for i in 0..a.len() {
-        if !same_member(&a[i], &b[i]) {
-            return false;
-        }
-    }
-    true
-}
-
 // The edits of an image, if an old one is known that has the same bugs.
 fn known_plan(
     alloc: Global,
@@ -121,7 +98,7 @@ fn known_plan(
     let Some(old) = old else {
         return Ok(None);
     };
-    if !same_members(old.members.as_slice(), image.members.as_slice()) {
+    if !equal_members(old.members.as_slice(), image.members.as_slice()) {
         return Ok(None);
     }
     let before = old.shared.fields();

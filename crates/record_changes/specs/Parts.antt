@@ -1,12 +1,10 @@
--- The parts of a change: what commands with a version make of the shared fields, and which commands
--- change members (the BTS page 'control and manipulation').
-use Rattle.std.specs.Prelude.{Option, Some, None, ℕ, Bool, true, false}
+-- The parts of a change: what commands with a version make of the shared fields (the BTS page
+-- 'control and manipulation').
+use Rattle.std.specs.Prelude.{Option, Some, None}
 use Rattle.bug_record.specs.Commands.{node_meant}
 use Rattle.bug_record.specs.Steps.{marked_fixed, found_at, opened, closed}
 use Rattle.bug_record.specs.declared.bug.Shared.{Shared}
 use Rattle.bug_record.specs.declared.command.VersionArg.{VersionArg}
-use Rattle.bug_record.specs.declared.command.Command.{Command}
-use Rattle.bug_record.specs.declared.command.Command.TheVariants as commands
 
 -- found in the version, if there is one, and otherwise open and nowhere fixed
 abbrev pub found_in : Option VersionArg → Shared → Shared
@@ -17,10 +15,3 @@ found_in (Some version) f = found_at (node_meant f.package version) f
 abbrev pub closed_in : Option VersionArg → Shared → Shared
 closed_in None f = closed f
 closed_in (Some version) f = closed (marked_fixed (node_meant f.package version) f)
-
--- whether a command gives a title or a submitter to some bug, of a set with these shared fields
-abbrev pub changes_members : Command ℕ → Shared → Bool
-changes_members (commands.Retitle n text) f = true
-changes_members (commands.Submitter n who) f = true
-changes_members (commands.Reopen n (Some who)) f = f.closed
-changes_members command f = false

@@ -12,4 +12,4 @@ mod versions;
 
 pub use fields::shared_after;
 pub use laws::{joined_are_sets, joined_by_membership, marks_by_membership};
-pub use members::members_with;
+pub use members::{leaves_members, members_with};

@@ -3,8 +3,7 @@
 ghost use Rattle.std.specs.Prelude.{◌≡◌, ℕ, List, false, map, unwrap_or, IfOk};
 ghost use Rattle.std.specs.Option.{option_copied};
 ghost use Rattle.bug_record.specs.Steps.{new_title, new_submitter};
-ghost use Rattle.record_changes.specs.Members.{member_after};
-ghost use Rattle.record_changes.specs.Parts.{changes_members};
+ghost use Rattle.record_changes.specs.Members.{member_after, changes_members, leaves_members};
 
 use crate::fields::person;
 use bug_record::{Command, Member, Members, Sequence, Shared};
@@ -67,7 +66,7 @@ fn member_after(
     })
 }
 
-// Whether the command gives a title or a submitter to a bug of such a set.
+// Whether the command gives a title or a submitter to a bug of a set with these shared fields.
 fn changes_members(command: &Command<u64>, old: &Shared) -> bool
     ensures { result ≡ changes_members command.now old.now }
 {
@@ -75,6 +74,21 @@ fn changes_members(command: &Command<u64>, old: &Shared) -> bool
         Command::Retitle(_, _) | Command::Submitter(_, _) => true,
         Command::Reopen(_, Some(_)) => old.closed,
         _ => false,
+    }
+}
+
+/// Whether a command changes records of the set of the bug that it names, whose shared fields these
+/// are, and no title and no submitter of that set.
+/// Takes no memory.
+pub fn leaves_members(command: &Command<u64>, old: &Shared) -> bool
+    ensures { result ≡ leaves_members command.now old.now }
+{
+    match command {
+        Command::Merge(_, _)
+        | Command::ForceMerge(_, _)
+        | Command::Unmerge(_)
+        | Command::Clone(_, _) => false,
+        _ => !changes_members(command, old),
     }
 }
 

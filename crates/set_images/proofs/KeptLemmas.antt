@@ -4,7 +4,7 @@ use Rattle.std.proofs.Common.{refl, ap, ◌∙◌, subst, arith}
 use Rattle.std.specs.Prelude.{nat_lt, option_map}
 use Rattle.std.specs.Option.{option_or}
 use Rattle.std.specs.Str.{bytes_eq}
-use Rattle.std.proofs.lemmas.Bool.{false≢true, eqb-true, ltb-true, and_parts, or_parts}
+use Rattle.std.proofs.lemmas.Bool.{false≢true, eqb-true, eq-eqb, ltb-true, and_parts, or_parts}
 use Rattle.std.proofs.lemmas.Slice.Eq.{bytes_eq-Decides}
 use Rattle.bug_record.specs.Sets.{has, AllAbove, IsAscending}
 use Rattle.bug_record.specs.Images.{numbers_of, member_at, bug_of, bug_in}
@@ -157,7 +157,7 @@ changed-first old new others r h are = record {
     along n true q w = shown-of old new [] others h n q w
 
 -- members and images that the tests find equal
-members-same : (ms ns : List Member) → same_members ms ns ≡ true → ms ≡ ns
+pub members-same : (ms ns : List Member) → same_members ms ns ≡ true → ms ≡ ns
 members-same [] [] e = refl
 members-same [] (n ∷ ns) e = absurd (false≢true e)
 members-same (m ∷ ms) [] e = absurd (false≢true e)
@@ -170,6 +170,13 @@ members-same (m ∷ ms) (n ∷ ns) e =
       title = (bytes_eq-Decides m.title n.title).0 r.0 j;
       submitter = (bytes_eq-Decides m.submitter n.submitter).0 r.1 j;
     } ∷ members-same ms ns p.1 j
+
+pub same-self : (ms : List Member) → same_members ms ms ≡ true
+same-self [] = refl
+same-self (m ∷ ms) = λ j.
+    (eq-eqb m.number m.number refl j
+    && ((bytes_eq-Decides m.title m.title).1 refl j && (bytes_eq-Decides m.submitter m.submitter).1 refl j))
+    && same-self ms j
 
 pub images-same : (is js : List SetImage) → same_images is js ≡ true → is ≡ js
 images-same [] [] e = refl
@@ -238,3 +245,20 @@ changed-in_first olds news o n os ns e f h same r are =
     subst (λ z. AreChanged (bug_in z) (bug_in news) r) (sym e)
     (subst (λ z. AreChanged (bug_in (o ∷ os)) (bug_in z) r) (sym f)
     (subst (λ z. AreChanged (bug_in (o ∷ os)) (bug_in (n ∷ z)) r) (images-same os ns same) (changed-first o n os r h are)))
+
+-- a text is equal to itself, and so no member differs from itself
+never-retold : (ms : List Member) → [] ≡ retold ms ms
+never-retold [] = refl
+never-retold (m ∷ ms) =
+    never-retold ms
+    ∙ ap (λ t. cond t (retold ms ms) (m.number ∷ retold ms ms))
+    (sym (λ j. (bytes_eq-Decides m.title m.title).1 refl j && (bytes_eq-Decides m.submitter m.submitter).1 refl j))
+
+pub alike-kept : (old new : SetImage) → old.members ≡ new.members → ascends None (numbers_of new.members) ≡ true → IsKept old new
+alike-kept old new e a = record { numbers = ap numbers_of e; ascending = ascending-from (numbers_of new.members) a }
+
+-- what differs where the members are the same
+pub changed-none : (old new : SetImage) → old.members ≡ new.members → ascends None (numbers_of new.members) ≡ true
+    → same_shared old.shared new.shared ≡ true → AreChanged (bug_in (old ∷ [])) (bug_in (new ∷ [])) []
+changed-none old new e a alike =
+    changed-retold old new [] (alike-kept old new e a) alike (never-retold old.members ∙ ap (retold old.members) e)

@@ -7,11 +7,12 @@ ghost use Rattle.bug_record.specs.Images.{numbers_of, bug_in, put};
 ghost use Rattle.bug_record.specs.Changed.{same_at, AreChanged, changed_numbers, Replaces};
 ghost use Rattle.bug_record.specs.declared.bug.SetImage.{SetImage};
 ghost use Rattle.set_images.specs.Changes.{differs, same_set, IsRight};
+ghost use Rattle.set_images.specs.Alike.{BeginAlike};
 ghost use Rattle.set_images.specs.Numbers.{IsJoined};
 
 use crate::equal::{same_images, same_set, same_texts};
 use crate::index::Index;
-use crate::kept::{changed_in_place, is_kept};
+use crate::kept::{changed_in_place, changed_together, is_ascending, is_kept};
 use crate::parted::{changed_parted, is_parted};
 use bug_record::{Member, Numbers, Sequence, SetImage};
 use std::alloc::{AllocError, Global};
@@ -150,6 +151,42 @@ fn changed_bugs(alloc: Global, old: &[SetImage], new: &[SetImage]) -> Result<Num
         return changed_parted(alloc, old, new);
     }
     changed_between(alloc, old, new)
+}
+
+// The numbers of the bugs that differ, where the first images have the same members.
+fn changed_alike(alloc: Global, old: &[SetImage], new: &[SetImage]) -> Result<Numbers, AllocError>
+    requires { BeginAlike old.now new.now }
+    ensures { IfOk result (λ r. AreChanged (bug_in old.now) (bug_in new.now) r) }
+{
+    if let (Some((before, others)), Some((after, new_others))) = (
+        old.split_first(),
+        new.split_first(),
+    ) {
+        if is_ascending(after.members.as_slice()) && same_images(others, new_others) {
+            return changed_together(alloc, before, after);
+        }
+    }
+    changed_bugs(alloc, old, new)
+}
+
+/// The same as `changed`, of images the first of which have the same members: no title or submitter
+/// of theirs is compared.
+///
+/// # Errors
+///
+/// Only where there was no memory.
+pub fn changed_fields(
+    alloc: Global,
+    old: &[SetImage],
+    new: &[SetImage],
+) -> Result<Numbers, AllocError>
+    requires { BeginAlike old.now new.now }
+    ensures images { IfOk result (λ r. AreChanged (bug_in old.now) (bug_in new.now) r) }
+    ensures desks { IfOk result
+        (λ r. (d : Desk) (next : ℕ) → Replaces d old.now new.now next
+        → r ≡ changed_numbers d (put d (record { images = new.now; next = next }))) }
+{
+    changed_alike(alloc, old, new)
 }
 
 /// The numbers of the bugs that the new images show otherwise than the old ones, ascending: those

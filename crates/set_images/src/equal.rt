@@ -1,6 +1,6 @@
 //! Whether two records are equal, field by field.
 
-ghost use Rattle.std.specs.Prelude.{◌≡◌, false};
+ghost use Rattle.std.specs.Prelude.{◌≡◌, ◌≢◌, false, IsTrue};
 ghost use Rattle.std.specs.Str.{bytes_eq};
 ghost use Rattle.bug_record.specs.Images.{numbers_of};
 ghost use Rattle.bug_record.specs.Changed.{same_nodes, same_names, same_tags, same_shared};
@@ -138,6 +138,15 @@ fn same_members(a: &[Member], b: &[Member]) -> bool
         }
     }
     true
+}
+
+/// Whether the members are equal: the same bugs in the same order, with the same texts.
+/// Takes no memory.
+pub fn equal_members(a: &[Member], b: &[Member]) -> bool
+    ensures equal { IsTrue result → a.now ≡ b.now }
+    ensures other { result ≡ false → a.now ≢ b.now }
+{
+    same_members(a, b)
 }
 
 fn same_image(a: &SetImage, b: &SetImage) -> bool

@@ -1,6 +1,6 @@
 //! Which bugs of a set a change touches, where the set stays the same bugs.
 
-ghost use Rattle.std.specs.Prelude.{◌≡◌, ◌∷◌, [], None, length, IsTrue, IfOk};
+ghost use Rattle.std.specs.Prelude.{◌≡◌, ◌∷◌, [], true, None, length, IsTrue, IfOk};
 ghost use Rattle.bug_record.specs.Images.{numbers_of, bug_in};
 ghost use Rattle.bug_record.specs.Changed.{AreChanged};
 ghost use Rattle.set_images.specs.Kept.{is_above, ascends, retold, IsKept};
@@ -64,6 +64,23 @@ fn retold(alloc: Global, old: &[Member], new: &[Member]) -> Result<Numbers, Allo
         }
     }
     Ok(numbers)
+}
+
+/// The numbers of the bugs that differ where the members are the same: all where the shared fields
+/// do.
+pub(crate) fn changed_together(
+    alloc: Global,
+    old: &SetImage,
+    new: &SetImage,
+) -> Result<Numbers, AllocError>
+    requires alike { old.now.members ≡ new.now.members }
+    requires ascending { ascends None (numbers_of new.now.members) ≡ true }
+    ensures { IfOk result (λ r. AreChanged (bug_in (old.now ∷ [])) (bug_in (new.now ∷ [])) r) }
+{
+    if same_shared(old.shared.fields(), new.shared.fields()) {
+        return Ok(Sequence::new(alloc));
+    }
+    numbers_of(alloc, new.members.as_slice())
 }
 
 /// The numbers of the bugs that differ: all where the shared fields do.

@@ -16,8 +16,8 @@ mod refusals;
 mod rows;
 mod sorted;
 
-pub use changes::changed;
-pub use equal::{same_numbers, same_text};
+pub use changes::{changed, changed_fields};
+pub use equal::{equal_members, same_numbers, same_text};
 pub use images::{find_image, member_numbers};
 pub use index::Index;
 pub use laws::{changed_numbers_differ, new_bugs_are_changed};

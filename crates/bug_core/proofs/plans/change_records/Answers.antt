@@ -8,23 +8,24 @@ use Rattle.record_changes.specs.Members.{member_after}
 use Rattle.bug_record.specs.declared.command.Refusal.TheVariants.{NoBug}
 use Rattle.std.proofs.lemmas.Str.{is_utf8-from_IsUtf8}
 use Rattle.bug_core.specs.Others.{others}
-use Rattle.bug_core.proofs.PlanLemmas.{records_step, planned-records, planned-memory, planned-nameless}
+use Rattle.record_changes.proofs.MemberLemmas.{members-unchanged}
+use Rattle.bug_core.proofs.PlanLemmas.{begins-alike, records_step, planned-records, planned-memory, planned-nameless}
 use Rattle.bug_core.proofs.plans.change_records.Goals as goal
 
-pub returns-in-Err-Memory : goal.returns-in-Err-Memory
-returns-in-Err-Memory c = λ head r.
+pub returns-in-Err-Memory-clause-plan : goal.returns-in-Err-Memory-clause-plan
+returns-in-Err-Memory-clause-plan c = λ head r.
     planned-memory (bugs_named c.args.command.now) (records_step head c.args.from.now c.args.command.now) c.args.images.now
     c.args.next
 
-pub returns-in-Err-Refused : goal.returns-in-Err-Refused
-returns-in-Err-Refused c = λ head r.
+pub returns-in-Err-Refused-clause-plan : goal.returns-in-Err-Refused-clause-plan
+returns-in-Err-Refused-clause-plan c = λ head r.
     let nameless = rw c.in-Err-Refused.field-0-is at c.in-Err-Refused.ensures.fault in
     let shown = subst (λ (s : Shared). IsName s.«package» → ⊥) c.fields.ensures nameless in
     planned-nameless (bugs_named c.args.command.now) (records_step head c.args.from.now c.args.command.now) c.args.images.now
     c.args.next (bug_named c.args.command.now) c.args.image.now (NoBug c.bug_named.result) tt c.requires.named shown
 
-pub returns-in-Ok-changed_set : goal.returns-in-Ok-changed_set
-returns-in-Ok-changed_set c = λ head r.
+pub returns-in-Ok-changed_set-clause-plan : goal.returns-in-Ok-changed_set-clause-plan
+returns-in-Ok-changed_set-clause-plan c = λ head r.
     planned-records head c.args.from.now c.args.command.now c.args.images.now c.args.next c.args.image.now
     (c.requires.sender, is_utf8-from_IsUtf8 c.args.from.now c.utf8.from) c.requires.parts c.texts_are_utf8.ensures
     c.requires.apart c.requires.named r
@@ -36,7 +37,12 @@ returns-in-Ok-changed_set c = λ head r.
     } ∷ others (bug_named c.args.command.now ∷ []) c.args.images.now))
     c.in-Ok-changed_set.ensures.next
 
-pub returns-in-Err : goal.returns-in-Err
-returns-in-Err c = λ head r.
+pub returns-in-Err-clause-plan : goal.returns-in-Err-clause-plan
+returns-in-Err-clause-plan c = λ head r.
     planned-memory (bugs_named c.args.command.now) (records_step head c.args.from.now c.args.command.now) c.args.images.now
     c.args.next
+
+pub returns-in-Ok-changed_set-clause-leaves : goal.returns-in-Ok-changed_set-clause-leaves
+returns-in-Ok-changed_set-clause-leaves c = λ h.
+    begins-alike c.args.image.now _ _ _ (members-unchanged c.args.from.now c.args.command.now c.args.image.now.shared h c.args.image.now.members)
+    c.in-Ok-changed_set.ensures.images

@@ -12,10 +12,10 @@ pub returns-clause-right : goal.returns-clause-right
 returns-clause-right c = λ d sh head.
     subst (λ (after : Result Desk Refusal). IsPlanOf d after c.plan_command.result)
     (step-with d (option_copied c.args.open_head) c.args.from.now c.args.command.now head)
-    (c.plan_command.ensures.right d sh)
+    (c.plan_command.ensures.plan.right d sh)
 
 pub returns-clause-refusals : goal.returns-clause-refusals
 returns-clause-refusals c = λ d next known names head.
     subst (λ (after : Result Desk Refusal). IsRefusedAs after c.plan_command.result)
     (step-with d (option_copied c.args.open_head) c.args.from.now c.args.command.now head)
-    (c.plan_command.ensures.refusals d next known names)
+    (c.plan_command.ensures.plan.refusals d next known names)

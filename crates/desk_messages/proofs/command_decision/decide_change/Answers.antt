@@ -1,8 +1,10 @@
-use Rattle.std.proofs.Common.{sym, ap, ◌∙◌, subst}
+use Rattle.std.proofs.Common.{List, sym, ap, ◌∙◌, subst}
 use Rattle.bug_record.specs.Sets.{Each}
 use Rattle.bug_record.specs.Images.{bug_in, put, AreApart, HasMember, FitsDesk}
 use Rattle.bug_record.specs.Changed.{AreChanged}
 use Rattle.bug_record.specs.declared.command.Change.{Change}
+use Rattle.bug_record.specs.declared.bug.SetImage.{SetImage}
+use Rattle.set_images.specs.Alike.{BeginAlike}
 use Rattle.message_progress.specs.Written.{written}
 use Rattle.desk_store.specs.Store.{with_change}
 use Rattle.desk_messages.proofs.CommandLemmas.{nothing, unchanged, told, no_change}
@@ -36,4 +38,8 @@ returns-clause-made c = λ d apart p.
 pub returns-clause-members : goal.returns-clause-members
 returns-clause-members c =
     let same = c.in_ok-change.ensures ∙ ap (λ ns. written ns c.args.change) c.as_slice-3.ensures in
-    subst (λ (z : Change). Each HasMember z.images) (sym same) (members-written c.in_ok-numbers.numbers c.args.change c.requires)
+    subst (λ (z : Change). Each HasMember z.images) (sym same) (members-written c.in_ok-numbers.numbers c.args.change c.requires.members)
+
+pub numbers_changed-requires : goal.numbers_changed-requires
+numbers_changed-requires c = λ l.
+    subst (λ (js : List SetImage). BeginAlike c.args.images.now js) (sym c.as_slice.ensures) (c.requires.leaves l)

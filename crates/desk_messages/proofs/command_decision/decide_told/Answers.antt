@@ -1,17 +1,24 @@
-use Rattle.std.proofs.Common.{◌≤◌, ◌∙◌, ap}
+use Rattle.std.proofs.Common.{◌≤◌, [], ◌∷◌, ◌∙◌, ap}
 use Rattle.bug_record.specs.Sets.{Each}
 use Rattle.bug_record.specs.Images.{AreApart, HasMember, FitsDesk}
 use Rattle.bug_record.specs.Plans.{CoverImages, BringNone}
 use Rattle.bug_record.specs.declared.command.Change.{Change}
 use Rattle.message_progress.specs.Telling.{refusal_meant}
 use Rattle.message_progress.proofs.PlanInputLemmas.{asks_both, asks_where, answers_where}
-use Rattle.desk_messages.proofs.CommandLemmas.{shown_with, planned, if_planned, decides_planned, decides_refused}
+use Rattle.set_images.specs.Alike.{BeginAlike}
+use Rattle.desk_messages.proofs.CommandLemmas.{begins-with, shown_with, planned, if_planned, decides_planned, decides_refused}
 use Rattle.desk_messages.proofs.command_decision.decide_told.Goals as goal
 
-pub decide_change-requires : goal.decide_change-requires
-decide_change-requires g c =
+pub decide_change-requires-clause-members : goal.decide_change-requires-clause-members
+decide_change-requires-clause-members g c =
     if_planned (λ (change : Change). Each HasMember change.images) c.plan-planned.result c.in-Ok.change
     c.in-Ok.ensures.change.1 c.plan-planned.ensures.members
+
+pub decide_change-requires-clause-leaves : goal.decide_change-requires-clause-leaves
+decide_change-requires-clause-leaves g c =
+    begins-with c.args.command.now c.as_slice-sets.result.now c.in-Ok.change.images
+    (λ i e l. if_planned (λ (change : Change). BeginAlike (i ∷ []) change.images) c.plan-planned.result c.in-Ok.change
+    c.in-Ok.ensures.change.1 (c.plan-planned.ensures.leaves i e l))
 
 pub returns-in-Ok-clause-answer : goal.returns-in-Ok-clause-answer
 returns-in-Ok-clause-answer g c =

@@ -6,5 +6,5 @@ pub returns-clause-plan : goal.returns-clause-plan
 returns-clause-plan c =
     λ x here. known_stays c.args.family.now c.args.image.now c.in-Some.old.now c.in_ok-stay_of.field-0
     (rw c.fields-before.ensures at c.in_ok-stay_of.ensures.plan)
-    (sym c.as_slice.ensures ∙ c.same_members.ensures c.if-not-same_members.false ∙ c.as_slice-2.ensures) x
+    (sym c.as_slice.ensures ∙ c.equal_members.ensures.equal c.if-not-equal_members.false ∙ c.as_slice-2.ensures) x
     (rw c.in-Some.is at here)

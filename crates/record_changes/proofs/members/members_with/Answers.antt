@@ -1,7 +1,7 @@
 use Rattle.std.proofs.Common.{◌≡◌, false, ◌∙◌, arith}
 use Rattle.std.proofs.lemmas.Grind.{common_steps}
 use Rattle.std.proofs.lemmas.Result.{IfOk-weaker}
-use Rattle.record_changes.specs.Parts.{changes_members}
+use Rattle.record_changes.specs.Members.{changes_members}
 use Rattle.record_changes.proofs.MemberLemmas.{members-unchanged}
 use Rattle.record_changes.proofs.members.members_with.Goals as goal
 
