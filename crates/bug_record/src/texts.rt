@@ -5,12 +5,12 @@ ghost use Rattle.std.specs.List.{list_all};
 ghost use Rattle.line_words.specs.Blanks.{is_control, begins_blank};
 ghost use Rattle.bug_record.specs.Texts.{ends_blank, is_text};
 
-use line_words::{is_blank, is_control};
+use line_words::{has_control, is_blank};
 
-fn is_clean(bytes: &[u8]) -> bool
-    ensures { result ≡ list_all (λ c. not (is_control c)) bytes.now }
+fn is_clean(text: &str) -> bool
+    ensures { result ≡ list_all (λ c. not (is_control c)) text.now }
 {
-    bytes.iter().all(|byte| !is_control(*byte))
+    !has_control(text)
 }
 
 fn begins_blank(bytes: &[u8]) -> bool
@@ -42,5 +42,5 @@ pub fn is_text(text: &str) -> bool
     if bytes.is_empty() || bytes.len() > 200 {
         return false;
     }
-    is_clean(bytes) && !begins_blank(bytes) && !ends_blank(bytes)
+    is_clean(text) && !begins_blank(bytes) && !ends_blank(bytes)
 }

@@ -1,4 +1,3 @@
-pub mod NodeLemmas
 pub mod QuestionLemmas
 pub mod BranchLemmas
 pub mod ListedLemmas

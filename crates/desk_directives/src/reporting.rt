@@ -18,7 +18,7 @@ use desk_store::Records;
 use desk_text::ReportFault;
 use line_words::AFTER_LARGEST;
 use std::alloc::Global;
-use version_nodes::{Node, NodeFault};
+use version_nodes::Node;
 
 fn has_bad_version(version: Option<&str>) -> bool
     ensures value { result ≡ has_bad_version (option_copied version.entry) }
@@ -86,10 +86,9 @@ fn node_reported(
     let Some(version) = version else {
         return Ok(None);
     };
-    match Node::at(alloc, package, version) {
+    match Node::of_name_and_version(alloc, package, version) {
         Ok(node) => Ok(Some(node)),
-        Err(NodeFault::BadNode) => unreachable!(),
-        Err(NodeFault::Memory) => Err(ReportFault::Store(StoreFault::Memory)),
+        Err(_) => Err(ReportFault::Store(StoreFault::Memory)),
     }
 }
 

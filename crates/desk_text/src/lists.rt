@@ -35,15 +35,6 @@ fn append_right(out: &mut Vec<u8>, text: &str) -> Result<(), AllocError>
     append_text(out, text)
 }
 
-// Appends a text in its places, with spaces after it.
-fn append_left(out: &mut Vec<u8>, text: &str) -> Result<(), AllocError>
-    ensures ok { OnOk result (out.new.items ≡ out.old.items ++ left_aligned 9 text.now) }
-    ensures err { OnErr result (StartsWith out.new.items out.old.items) }
-{
-    append_text(out, text)?;
-    append_spaces(out, text)
-}
-
 /// Whether a bug is closed, in a word.
 pub(crate) fn state_word(closed: bool) -> &'static str
     ensures { result.now ≡ state_word closed }
@@ -51,36 +42,37 @@ pub(crate) fn state_word(closed: bool) -> &'static str
     if closed { "done" } else { "open" }
 }
 
-// Appends the number of a row in its places, and two spaces.
-fn append_number_column(out: &mut Vec<u8>, number: u64) -> Result<(), AllocError>
-    ensures ok { OnOk result (out.new.items ≡ out.old.items ++ (right_aligned 9 (decimal number) ++ codes "  ")) }
-    ensures err { OnErr result (StartsWith out.new.items out.old.items) }
+// The severity of a row in its places, and its state, with two spaces before and after each, so
+// that a row is written in few pieces.
+fn severity_and_state(severity: Severity, closed: bool) -> &'static str
+    ensures { result.now ≡ codes "  " ++ left_aligned 9 (severity_name severity) ++ codes "  " ++ state_word closed ++ codes "  " }
 {
-    append_right(out, Buffer::new().format(number))?;
-    append_text(out, "  ")
+    match (severity, closed) {
+        (Severity::Critical, false) => "  critical   open  ",
+        (Severity::Critical, true) => "  critical   done  ",
+        (Severity::Grave, false) => "  grave      open  ",
+        (Severity::Grave, true) => "  grave      done  ",
+        (Severity::Serious, false) => "  serious    open  ",
+        (Severity::Serious, true) => "  serious    done  ",
+        (Severity::Important, false) => "  important  open  ",
+        (Severity::Important, true) => "  important  done  ",
+        (Severity::Normal, false) => "  normal     open  ",
+        (Severity::Normal, true) => "  normal     done  ",
+        (Severity::Minor, false) => "  minor      open  ",
+        (Severity::Minor, true) => "  minor      done  ",
+        (Severity::Wishlist, false) => "  wishlist   open  ",
+        (Severity::Wishlist, true) => "  wishlist   done  ",
+    }
 }
 
-// Appends the number and the severity of a row, each in its places.
-fn append_columns(out: &mut Vec<u8>, number: u64, severity: Severity) -> Result<(), AllocError>
-    ensures ok { OnOk result (out.new.items ≡ out.old.items
-        ++ (right_aligned 9 (decimal number) ++ codes "  " ++ left_aligned 9 (severity_name severity))) }
+// Appends what precedes the title of a row.
+fn append_columns(out: &mut Vec<u8>, row: &ListRow) -> Result<(), AllocError>
+    ensures ok { OnOk result (out.new.items ≡ out.old.items ++ (right_aligned 9 (decimal row.now.number) ++ codes "  "
+        ++ left_aligned 9 (severity_name row.now.severity) ++ codes "  " ++ state_word row.now.closed ++ codes "  ")) }
     ensures err { OnErr result (StartsWith out.new.items out.old.items) }
 {
-    append_number_column(out, number)?;
-    append_left(out, severity.name())
-}
-
-// Appends the state and the title of a row.
-fn append_rest(out: &mut Vec<u8>, closed: bool, title: &str) -> Result<(), AllocError>
-    ensures ok { OnOk result (out.new.items ≡ out.old.items
-        ++ (codes "  " ++ state_word closed ++ codes "  " ++ title.now ++ codes "\n")) }
-    ensures err { OnErr result (StartsWith out.new.items out.old.items) }
-{
-    append_text(out, "  ")?;
-    append_text(out, state_word(closed))?;
-    append_text(out, "  ")?;
-    append_text(out, title)?;
-    append_text(out, "\n")
+    append_right(out, Buffer::new().format(row.number))?;
+    append_text(out, severity_and_state(row.severity, row.closed))
 }
 
 // Appends the line of a row.
@@ -88,8 +80,9 @@ fn append_row(out: &mut Vec<u8>, row: &ListRow) -> Result<(), AllocError>
     ensures ok { OnOk result (out.new.items ≡ out.old.items ++ row_text row.now) }
     ensures err { OnErr result (StartsWith out.new.items out.old.items) }
 {
-    append_columns(out, row.number, row.severity)?;
-    append_rest(out, row.closed, row.title.as_str())
+    append_columns(out, row)?;
+    append_text(out, row.title.as_str())?;
+    append_text(out, "\n")
 }
 
 // Appends the lines of rows.

@@ -32,7 +32,7 @@ pub(crate) fn node_meant(package: &Text, version: &VersionArg) -> Result<Node, P
     ensures fault { IfErr result (IsVersionFault «package».now) }
 {
     let source = source_meant(package, version);
-    match Node::of_texts(source, &version.version) {
+    match Node::with_version(source, &version.version) {
         Ok(node) => Ok(node),
         Err(NodeFault::BadNode) => Err(PlanFault::Refused(Refusal::BadPackage)),
         Err(NodeFault::Memory) => Err(PlanFault::Memory),

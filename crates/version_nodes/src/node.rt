@@ -43,18 +43,6 @@ impl Model for Node {
     ghost invariant = { λ n. IsNode (node n.source n.version) };
 }
 
-// Keeps a package name and a version.
-fn kept(alloc: Global, source: &str, version: &str) -> Result<Node, AllocError>
-    requires source { IsName source.now }
-    requires version { IsVersion version.now }
-    ensures { IfOk result (λ n. n ≡ node source.now version.now) }
-{
-    Ok(Node {
-        source: Text::of(alloc, source)?,
-        version: Text::of(alloc, version)?,
-    })
-}
-
 // The node of two texts, where the one is a package name and the other a version.
 fn node_of(alloc: Global, source: &str, version: &str) -> Result<Node, NodeFault>
     ensures { IsRead (node_of source.now version.now) result }
@@ -62,7 +50,7 @@ fn node_of(alloc: Global, source: &str, version: &str) -> Result<Node, NodeFault
     if check_name(source).is_err() || check(version).is_err() {
         return Err(NodeFault::BadNode);
     }
-    match kept(alloc, source, version) {
+    match Node::of_name_and_version(alloc, source, version) {
         Ok(node) => Ok(node),
         Err(_) => Err(NodeFault::Memory),
     }
@@ -73,16 +61,6 @@ fn is_name(text: &Text) -> bool
     ensures name { result ≡ true → IsName text.now }
 {
     check_name(text.as_str()).is_ok()
-}
-
-fn is_version(text: &Text) -> bool
-    ensures exact { result ≡ is_none (text_fault text.now) }
-    ensures version { result ≡ true → IsVersion text.now }
-{
-    match check(text.as_str()) {
-        Ok(_) => true,
-        Err(_) => false,
-    }
 }
 
 // Keeps a package name and a version, which it shares.
@@ -144,15 +122,33 @@ impl Node {
         node_of(alloc, own, version)
     }
 
-    /// The node of two texts, which it shares, where the one is a package name and the other a
-    /// version.
+    /// The node of a package name and a version, which are not tested again.
+    /// The error is that there was no memory.
+    pub fn of_name_and_version(
+        alloc: Global,
+        source: &str,
+        version: &str,
+    ) -> Result<Node, AllocError>
+        requires source { IsName source.now }
+        requires version { IsVersion version.now }
+        ensures { IfOk result (λ n. n ≡ node source.now version.now) }
+    {
+        Ok(Node {
+            source: Text::of(alloc, source)?,
+            version: Text::of(alloc, version)?,
+        })
+    }
+
+    /// The node of two texts, which it shares, where the one is a package name; the other is a
+    /// version, which is not tested again.
     /// It takes no memory itself.
-    /// Errors: `BadNode` where they are no such texts, and `Memory` where no more copies of one can
-    /// be counted.
-    pub fn of_texts(source: &Text, version: &Text) -> Result<Node, NodeFault>
+    /// Errors: `BadNode` where the one is no package name, and `Memory` where no more copies of one
+    /// can be counted.
+    pub fn with_version(source: &Text, version: &Text) -> Result<Node, NodeFault>
+        requires { IsVersion version.now }
         ensures { IsRead (node_of source.now version.now) result }
     {
-        if !is_name(source) || !is_version(version) {
+        if !is_name(source) {
             return Err(NodeFault::BadNode);
         }
         match shared(source, version) {
