@@ -12,3 +12,4 @@ pub mod ChangeLemmas
 pub mod RepeatLemmas
 pub mod TakeLemmas
 pub mod WholeLemmas
+pub mod GroupLemmas

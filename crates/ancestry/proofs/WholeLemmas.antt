@@ -1,6 +1,6 @@
 -- Links of which a tree is made at once: the map of a forest's links is that forest, and links that
 -- are seen to one after another in the order of their nodes are a forest.
-use Rattle.std.proofs.Common.{◌≡◌, Bool, true, false, ◌||◌, ◌++◌, cond, List, [], ◌∷◌, Option, Some, None, is_some, Ordering, Less, Equal}
+use Rattle.std.proofs.Common.{◌≡◌, Bool, true, false, cond, List, [], ◌∷◌, Option, Some, None, is_some, Ordering, Less, Equal}
 use Rattle.std.proofs.Common.{Greater, All, refl, sym, ap, ◌∙◌, subst, ⊎_elim}
 use Rattle.std.proofs.lemmas.Bool.{cases_Bool, false≢true}
 use Rattle.std.proofs.lemmas.List.Elements.{All-nil, All-cons, All-head, All-tail}
@@ -13,7 +13,7 @@ use Rattle.std.specs.Map.{keys_of, update, update_all}
 use Rattle.std.specs.Option.{IfSome, option_flatten, option_map_or}
 use Rattle.std.specs.Ordering.{eq_by_cmp, is_eq, is_lt}
 use Rattle.version_nodes.specs.Nodes.{Node, IsNode, same_node, node_cmp}
-use Rattle.version_nodes.specs.Trees.{Ancestry, has_node, known_at, knows, parent_of, IsForest}
+use Rattle.version_nodes.specs.Trees.{Ancestry, known_at, knows, parent_of, IsForest}
 use Rattle.version_nodes.proofs.NodeLemmas.{same_true, same_itself, same_back, ties_same, at_first, past_first}
 use Rattle.ancestry.specs.Whole.{HasLine, Stands}
 use Rattle.ancestry.proofs.LinkLemmas.{AreAbove, above_more, unknown_below, same_links}
@@ -205,22 +205,3 @@ seen_all t up s =
 -- whether one of these is the node
 abbrev pub among : List (Option Node) → Node → Bool
 among parents n = list_any (λ parent. option_map_or (same_node n) parent false) parents
-
-or_none : (b : Bool) → (b || false) ≡ b
-or_none true = refl
-or_none false = refl
-
-or_apart : (a b c : Bool) → ((a || b) || c) ≡ (a || (b || c))
-or_apart true b c = refl
-or_apart false b c = refl
-
-pub parents_more : (n p : Node) (ps : List Node) (left : List (Option Node))
-    → (has_node (ps ++ p ∷ []) n || among left n) ≡ (has_node ps n || (same_node n p || among left n))
-parents_more n p [] left = ap (λ b. b || among left n) (or_none (same_node n p))
-parents_more n p (q ∷ ps) left =
-    or_apart (same_node n q) (has_node (ps ++ p ∷ []) n) (among left n)
-    ∙ ap (λ b. same_node n q || b) (parents_more n p ps left)
-    ∙ sym (or_apart (same_node n q) (has_node ps n) (same_node n p || among left n))
-
-pub parents_all : (n : Node) (ps : List Node) → (has_node ps n || among [] n) ≡ has_node ps n
-parents_all n ps = or_none (has_node ps n)

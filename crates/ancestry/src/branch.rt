@@ -53,7 +53,7 @@ fn first_repeat(nodes: &[Node]) -> Option<usize>
 }
 
 // Puts a copy of a node among the parents.
-fn mark_parent(parents: &mut HashSet<Node>, node: &Node) -> Result<(), AllocError>
+pub(crate) fn mark_parent(parents: &mut HashSet<Node>, node: &Node) -> Result<(), AllocError>
     ensures ok { OnOk result ((n : Node) → contains same_node parents.new n
         ≡ (if same_node node.now n then true else contains same_node parents.old n)) }
     ensures err { OnErr result ((n : Node) → contains same_node parents.new n ≡ contains same_node parents.old n) }

@@ -1,17 +1,16 @@
 //! A tree that is made of all its links at once.
 
-ghost use Rattle.std.specs.Prelude.{◌≡◌, true, false, Some, IfOk, IfSome};
+ghost use Rattle.std.specs.Prelude.{◌≡◌, ◌++◌, true, false, Some, flat_map, vec_items, IfOk, IfSome, OnOk};
 ghost use Rattle.std.specs.BTreeMap.{IsFromIterResult};
-ghost use Rattle.std.specs.HashSet.{contains};
 ghost use Rattle.std.specs.List.Sorted.{IsPermutation};
 ghost use Rattle.std.specs.Option.{option_copied, option_map_or};
 ghost use Rattle.std.specs.Ordering.{is_lt};
 ghost use Rattle.version_nodes.specs.Nodes.{Node, same_node, node_cmp};
-ghost use Rattle.version_nodes.specs.Trees.{Ancestry, has_node, known_at, knows, parent_of, is_parent, IsForest};
-ghost use Rattle.ancestry.specs.Kept.{HasParents};
+ghost use Rattle.version_nodes.specs.Trees.{Ancestry, known_at, knows, parent_of, IsForest};
+ghost use Rattle.ancestry.specs.Kept.{AreParents, HasParents};
 ghost use Rattle.ancestry.specs.Whole.{HasLine, Stands};
 
-use crate::branch::put_above;
+use crate::branch::{mark_parent, put_above};
 use crate::tree::Tree;
 use std::alloc::{AllocError, Global};
 use std::cmp::Ordering;
@@ -113,24 +112,20 @@ fn are_forest(links: &BTreeMap<Node, Option<Node>>) -> bool
     true
 }
 
-// The parents in links, each as often as it is one.
-fn all_parents(alloc: Global, links: &BTreeMap<Node, Option<Node>>) -> Result<Vec<Node>, AllocError>
-    ensures { IfOk result (λ nodes. (n : Node) → has_node nodes.items n ≡ is_parent links.now.entries n) }
+// The parents in links.
+fn parents_of(
+    alloc: Global,
+    links: &BTreeMap<Node, Option<Node>>,
+) -> Result<HashSet<Node>, AllocError>
+    ensures { IfOk result (AreParents links.now.entries) }
 {
-    let mut parents = Vec::new(alloc);
+    let mut parents = HashSet::with_capacity(alloc, links.len())?;
     for parent in links.values() {
         if let Some(parent) = parent {
-            parents.push(parent.copy()?)?;
+            mark_parent(&mut parents, parent)?;
         }
     }
     Ok(parents)
-}
-
-// These nodes as a set.
-fn set_of(alloc: Global, nodes: Vec<Node>) -> Result<HashSet<Node>, AllocError>
-    ensures { IfOk result (λ set. (n : Node) → contains same_node set n ≡ has_node nodes.items n) }
-{
-    nodes.into_iter().collect(alloc)
 }
 
 // The parent of each node that has one in links.
@@ -149,27 +144,95 @@ fn parents_above(
     Ok(above)
 }
 
-// The order of two links by the texts of their nodes alone: by the sources, and then the shorter
-// version comes first.
-fn by_texts(a: &(Node, Option<Node>), b: &(Node, Option<Node>)) -> Ordering {
-    let by_source = a.0.source().as_bytes().cmp(b.0.source().as_bytes());
-    if by_source.is_ne() {
-        return by_source;
-    }
+// The order of two links of one source by the texts of their versions: the shorter comes first.
+fn by_version(a: &(Node, Option<Node>), b: &(Node, Option<Node>)) -> Ordering {
     let left = a.0.version().as_bytes();
     let right = b.0.version().as_bytes();
     left.len().cmp(&right.len()).then(left.cmp(right))
 }
 
+// The order of two groups by the sources of their first links; an empty group stands alone.
+fn by_source(a: &Vec<(Node, Option<Node>)>, b: &Vec<(Node, Option<Node>)>) -> Ordering {
+    match (a.first(), b.first()) {
+        (Some(a), Some(b)) => a.0.source().as_bytes().cmp(b.0.source().as_bytes()),
+        _ => Ordering::Equal,
+    }
+}
+
+// Whether both are there, and of two sources.
+fn are_of_two(a: Option<&(Node, Option<Node>)>, b: Option<&(Node, Option<Node>)>) -> bool {
+    match (a, b) {
+        (Some(a), Some(b)) => !a.0.is_of(b.0.source()),
+        _ => false,
+    }
+}
+
+// These links in groups, each of links that follow one another and are of one source.
+fn in_groups(
+    alloc: Global,
+    links: Vec<(Node, Option<Node>)>,
+) -> Result<Vec<Vec<(Node, Option<Node>)>>, AllocError>
+    ensures { IfOk result (λ groups. flat_map vec_items groups.items ≡ links.items) }
+{
+    let mut groups = Vec::new(alloc);
+    let mut group = Vec::new(alloc);
+    for link in links {
+        if are_of_two(group.last(), Some(&link)) {
+            groups.push(group)?;
+            group = Vec::new(alloc);
+        }
+        group.push(link)?;
+    }
+    groups.push(group)?;
+    Ok(groups)
+}
+
+// Puts the links of a source at the end of others, by their versions.
+// Those that descend, as they mostly do, are sorted in one pass.
+fn put_source(
+    links: &mut Vec<(Node, Option<Node>)>,
+    mut group: Vec<(Node, Option<Node>)>,
+) -> Result<(), AllocError>
+    ensures { OnOk result (IsPermutation (links.old.items ++ group.items) links.new.items) }
+{
+    group.sort_by(by_version)?;
+    links.append(&mut group)?;
+    Ok(())
+}
+
+// The links of these groups, those of each source by their versions.
+fn joined(
+    alloc: Global,
+    groups: Vec<Vec<(Node, Option<Node>)>>,
+) -> Result<Vec<(Node, Option<Node>)>, AllocError>
+    ensures { IfOk result (λ links. IsPermutation (flat_map vec_items groups.items) links.items) }
+{
+    let mut links = Vec::new(alloc);
+    let mut group = Vec::new(alloc);
+    for mut next in groups {
+        if are_of_two(group.last(), next.first()) {
+            put_source(&mut links, group)?;
+            group = next;
+        } else {
+            group.append(&mut next)?;
+        }
+    }
+    put_source(&mut links, group)?;
+    Ok(links)
+}
+
 // These links by their texts, which mostly is the order of their nodes: there each is then
 // compared with its neighbours alone.
+// Links of one source mostly stand together, so that there are few groups to be sorted.
 fn in_text_order(
-    mut links: Vec<(Node, Option<Node>)>,
+    alloc: Global,
+    links: Vec<(Node, Option<Node>)>,
 ) -> Result<Vec<(Node, Option<Node>)>, AllocError>
     ensures { IfOk result (λ sorted. IsPermutation links.items sorted.items) }
 {
-    links.sort_by(by_texts)?;
-    Ok(links)
+    let mut groups = in_groups(alloc, links)?;
+    groups.sort_by(by_source)?;
+    joined(alloc, groups)
 }
 
 // These links as a map.
@@ -197,13 +260,13 @@ impl Tree {
         ensures tree { (t : Ancestry) → IsForest t → IsPermutation t links.items → IfOk result (λ tree. tree ≡ Some t) }
         ensures forest { IfOk result (λ tree. IfSome tree IsForest) }
     {
-        let sorted = in_text_order(links)?;
+        let sorted = in_text_order(alloc, links)?;
         let links = map_of(alloc, sorted)?;
         if !are_forest(&links) {
             return Ok(None);
         }
         let above = parents_above(alloc, &links)?;
-        let parents = set_of(alloc, all_parents(alloc, &links)?)?;
+        let parents = parents_of(alloc, &links)?;
         Ok(Some(Tree {
             links,
             above,
