@@ -135,7 +135,7 @@ fn parents_above(
 ) -> Result<HashMap<Node, Node>, AllocError>
     ensures { IfOk result (HasParents links.now.entries) }
 {
-    let mut above = HashMap::new(alloc);
+    let mut above = HashMap::with_capacity(alloc, links.len())?;
     for (node, parent) in links {
         if let Some(parent) = parent {
             put_above(&mut above, node, parent)?;

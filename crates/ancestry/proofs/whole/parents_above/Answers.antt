@@ -8,11 +8,11 @@ pub loop-node-init : goal.loop-node-init
 loop-node-init c =
     let t = c.args.links.now.entries in
     let given = c.into_iter-node-iterator.ensures.into_iter_gives in
-    let none = none_there c.new-above.result c.new-above.ensures.empty in
-    subst (λ es. SoFar t es (get same_node c.new-above.result)) (sym given.0) (none_reached t (get same_node c.new-above.result) given.5 none)
+    let none = none_there c.in_ok-above.above c.in_ok-above.ensures.empty in
+    subst (λ es. SoFar t es (get same_node c.in_ok-above.above)) (sym given.0) (none_reached t (get same_node c.in_ok-above.above) given.5 none)
 
-pub loop-node-preserved-in-Continue-1 : goal.loop-node-preserved-in-Continue-1
-loop-node-preserved-in-Continue-1 c =
+pub loop-node-preserved-in-Continue-branch-2 : goal.loop-node-preserved-in-Continue-branch-2
+loop-node-preserved-in-Continue-branch-2 c =
     let t = c.args.links.now.entries in
     child_reached t c.next.new.self (c.in-Some.node.now, c.in-Some.parent.now) (get same_node c.loop-node.above) (get same_node c.put_above.new.above)
     (subst (λ es. SoFar t es (get same_node c.loop-node.above)) c.in-Some.ensures.steps c.loop-node.invariant) c.in-Some-parent.parent
