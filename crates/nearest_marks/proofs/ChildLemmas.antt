@@ -2,17 +2,18 @@
 use Rattle.std.proofs.Common.{◌≡◌, Bool, true, false, cond, not, ◌||◌, ◌&&◌, [], Option, Some, None, OnErr, Result, Ok, Err}
 use Rattle.std.proofs.Common.{sym, refl, ap, ◌∙◌, ⊎_elim}
 use Rattle.std.proofs.lemmas.Bool.{cases_Bool}
-use Rattle.std.specs.BTreeMap.{BTreeMap, get, is_at}
+use Rattle.std.specs.BTreeMap.{is_at}
 use Rattle.std.specs.BTreeSet.{BTreeSet, contains}
+use Rattle.std.specs.HashMap.{HashMap, get}
 use Rattle.std.specs.List.{list_any}
-use Rattle.std.specs.Option.{option_map_or}
+use Rattle.std.specs.Option.{option_map_or, unwrap_or}
 use Rattle.version_nodes.specs.Nodes.{Node, same_node, node_cmp}
 use Rattle.version_nodes.specs.NodeLaws.{same_node_equiv}
 use Rattle.version_nodes.proofs.NodeLemmas.{same_true, ties_same}
 use Rattle.nearest_marks.specs.Children.{is_child}
 
-in_set : Option (BTreeSet Node) → Node → Bool
-in_set o c = option_map_or (λ cs. contains node_cmp cs c) o false
+abbrev pub in_set : Node → Option (BTreeSet Node) → Bool
+in_set c o = option_map_or (λ cs. contains node_cmp cs c) o false
 
 turned : (a b : Node) → is_at (node_cmp a) b ≡ same_node b a
 turned a b = ties_same a b ∙ same_node_equiv.symm a b
@@ -21,36 +22,24 @@ pub on_err : {A E : Type 0} {P : Type 0} (r : Result A E) → P → OnErr r P
 on_err (Ok x) h = tt
 on_err (Err x) h = h
 
--- an empty set has no child
-pub room_same : (m m' : BTreeMap Node (BTreeSet Node)) (n : Node) (s : BTreeSet Node) → get node_cmp m n ≡ None → s.keys ≡ []
-    → ((q : Node) → get node_cmp m' q ≡ cond (is_at (node_cmp n) q) (Some s) (get node_cmp m q))
-    → (p c : Node) → is_child m' p c ≡ is_child m p c
-room_same m m' n s none empty made p c =
-    ap (λ o. option_map_or (λ cs. contains node_cmp cs c) o false)
-    (made p ∙ ap (λ b. cond b (Some s) (get node_cmp m p)) (turned n p))
-    ∙ ⊎_elim
-    (λ yes. ap (λ b. option_map_or (λ cs. contains node_cmp cs c) (cond b (Some s) (get node_cmp m p)) false) yes
-    ∙ none_in s empty
-    ∙ sym (ap (λ o. option_map_or (λ cs. contains node_cmp cs c) o false) (ap (get node_cmp m) (same_true p n yes) ∙ none)))
-    (λ no. ap (λ b. option_map_or (λ cs. contains node_cmp cs c) (cond b (Some s) (get node_cmp m p)) false) no)
-    (cases_Bool (same_node p n))
-  where
-    none_in : (s : BTreeSet Node) → s.keys ≡ [] → contains node_cmp s c ≡ false
-    none_in s e = ap (list_any (is_at (node_cmp c))) e
+-- the children that are found, or none
+pub found_or : (o : Option (BTreeSet Node)) (none s : BTreeSet Node) → none.keys ≡ [] → s ≡ unwrap_or o none → (c : Node)
+    → in_set c o ≡ contains node_cmp s c
+found_or (Some t) none s empty is c = sym (ap (λ cs. contains node_cmp cs c) is)
+found_or None none s empty is c = sym (ap (λ cs. contains node_cmp cs c) is ∙ ap (list_any (is_at (node_cmp c))) empty)
 
--- the set of one node is changed at one child
-module _ (m m' : BTreeMap Node (BTreeSet Node)) (n : Node) (s s' : BTreeSet Node) (here : get node_cmp m n ≡ Some s)
-    (made : (q : Node) → get node_cmp m' q ≡ cond (is_at (node_cmp n) q) (Some s') (get node_cmp m q)) where
+-- the children of one node, if it has some, are changed at one of them
+module _ {S : Type 0} (m m' : HashMap Node (BTreeSet Node) S) (n : Node) (s s' : BTreeSet Node)
+    (here : (c : Node) → in_set c (get same_node m n) ≡ contains node_cmp s c)
+    (made : (q : Node) → get same_node m' q ≡ cond (same_node n q) (Some s') (get same_node m q)) where
   set_at : (p c : Node) → is_child m' p c ≡ cond (same_node p n) (contains node_cmp s' c) (is_child m p c)
   set_at p c =
-      ap (λ o. option_map_or (λ cs. contains node_cmp cs c) o false)
-      (made p ∙ ap (λ b. cond b (Some s') (get node_cmp m p)) (turned n p))
-      ∙ elim (same_node p n) as (λ b. option_map_or (λ cs. contains node_cmp cs c) (cond b (Some s') (get node_cmp m p)) false
+      ap (in_set c) (made p ∙ ap (λ b. cond b (Some s') (get same_node m p)) (same_node_equiv.symm n p))
+      ∙ elim (same_node p n) as (λ b. in_set c (cond b (Some s') (get same_node m p))
       ≡ cond b (contains node_cmp s' c) (is_child m p c)) [ true ↦ refl | false ↦ refl ]
 
   was_at : (p c : Node) → same_node p n ≡ true → is_child m p c ≡ contains node_cmp s c
-  was_at p c e =
-      ap (λ o. option_map_or (λ cs. contains node_cmp cs c) o false) (ap (get node_cmp m) (same_true p n e) ∙ here)
+  was_at p c e = ap (λ z. in_set c (get same_node m z)) (same_true p n e) ∙ here c
 
   -- nothing is changed in it
   pub same_set : ((q : Node) → contains node_cmp s' q ≡ contains node_cmp s q) → (p c : Node) → is_child m' p c ≡ is_child m p c

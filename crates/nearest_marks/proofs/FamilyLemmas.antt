@@ -2,8 +2,8 @@
 use Rattle.std.proofs.Common.{◌≡◌, ◌==◌, ℕ, ◌+◌, Bool, true, false, cond, not, ◌||◌, ◌&&◌, nat_lt, List, [], ◌∷◌, length, Option, Some, None}
 use Rattle.std.proofs.Common.{is_some, Result, Ok, Err, sym, refl, ap, ◌∙◌, subst, ⊎_elim}
 use Rattle.std.proofs.lemmas.Bool.{cases_Bool, false≢true}
-use Rattle.std.specs.BTreeMap.{BTreeMap}
 use Rattle.std.specs.BTreeSet.{BTreeSet}
+use Rattle.std.specs.HashMap.{HashMap}
 use Rattle.std.specs.Option.{option_flatten, option_map_or}
 use Rattle.version_nodes.specs.Nodes.{Node, same_node}
 use Rattle.version_nodes.specs.Trees.{Ancestry, has_node, parent_of, line, is_ancestor}
@@ -99,7 +99,7 @@ branch_links t u nodes (Err (Conflict k)) h p c off = ap (λ (w : Ancestry). is_
 -- ---- the children fit again
 
 -- of what was added, the links alone are left
-pub settled : (t : Ancestry) (mid new : BTreeMap Node (BTreeSet Node)) (pair : Node → Node → Bool)
+pub settled : {S : Type 0} (t : Ancestry) (mid new : HashMap Node (BTreeSet Node) S) (pair : Node → Node → Bool)
     → ((p c : Node) → pair c p ≡ false → is_child mid p c ≡ is_link t c p)
     → ((p c : Node) → pair c p ≡ true → is_link t c p ≡ true → is_child mid p c ≡ true)
     → ((p c : Node) → is_child new p c ≡ ((not (pair c p) || is_link t c p) && is_child mid p c))

@@ -6,4 +6,4 @@ pub mod RowLemmas
 pub mod MarkLemmas
 pub mod WalkLemmas
 pub mod TouchedLemmas
-pub mod RoomLemmas
+pub mod LinkLemmas

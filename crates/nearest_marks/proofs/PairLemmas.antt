@@ -2,8 +2,8 @@
 use Rattle.std.proofs.Common.{◌≡◌, ℕ, ◌+◌, ◌-◌, ◌<◌, ◌≤◌, zero, suc, Bool, true, false, not, ◌||◌, ◌&&◌, List, [], ◌∷◌, length}
 use Rattle.std.proofs.Common.{take, get_or, sym, refl, ap, ◌∙◌, ⊎_elim, arith}
 use Rattle.std.proofs.lemmas.Bool.{cases_Bool, false≢true}
-use Rattle.std.specs.BTreeMap.{BTreeMap}
 use Rattle.std.specs.BTreeSet.{BTreeSet}
+use Rattle.std.specs.HashMap.{HashMap}
 use Rattle.version_nodes.specs.Nodes.{Node, same_node}
 use Rattle.version_nodes.proofs.NodeLemmas.{same_true, same_itself}
 use Rattle.nearest_marks.specs.Children.{is_child, is_pair}
@@ -63,7 +63,7 @@ module _ (nodes : List Node) (place : ℕ) (n m : Node) (some : 1 ≤ place) (l 
       (pairs_to n m ∙ ap (λ b. (b && same_node m m) || is_pair (take place nodes) n m) (same_itself n)
       ∙ ap (λ b. b || is_pair (take place nodes) n m) (same_itself m))
 
-  module _ (was old new : BTreeMap Node (BTreeSet Node)) where
+  module _ {S : Type 0} (was old new : HashMap Node (BTreeSet Node) S) where
     -- the pair is added
     module _ (made : (p c : Node) → is_child new p c ≡ ((same_node c n && same_node p m) || is_child old p c)) where
       pub others_after : ((p c : Node) → is_pair nodes c p ≡ false → is_child old p c ≡ is_child was p c)

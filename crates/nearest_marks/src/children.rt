@@ -1,55 +1,21 @@
 //! The children of each node.
 
-ghost use Rattle.std.specs.Prelude.{◌≡◌, ◌+◌, ◌<◌, ◌&&◌, ◌||◌, true, false, not, is_some, Some, IfOk, OnOk, OnErr, slice_index};
-ghost use Rattle.std.specs.BTreeMap.{get};
-ghost use Rattle.version_nodes.specs.Nodes.{Node, same_node, node_cmp};
+ghost use Rattle.std.specs.Prelude.{◌≡◌, ◌+◌, ◌<◌, ◌&&◌, ◌||◌, true, false, not, Some, IfOk, OnOk, OnErr};
+ghost use Rattle.version_nodes.specs.Nodes.{Node, same_node};
+ghost use Rattle.version_nodes.specs.Trees.{IsForest};
 ghost use Rattle.ancestry.specs.Links.{has_parent};
-ghost use Rattle.nearest_marks.specs.Children.{is_child, is_pair};
+ghost use Rattle.nearest_marks.specs.Children.{is_child, is_pair, AreChildren};
 
 use ancestry::Tree;
 use std::alloc::{AllocError, Global};
-use std::collections::{BTreeMap, BTreeSet};
+use std::collections::{BTreeSet, HashMap};
 use version_nodes::Node;
 
-// Makes room for children of a node.
-fn make_room(
-    alloc: Global,
-    children: &mut BTreeMap<Node, BTreeSet<Node>>,
-    parent: &Node,
-) -> Result<(), AllocError>
-    ensures there { OnOk result (is_some (get node_cmp children.new parent.now) ≡ true) }
-    ensures same { (p c : Node) → is_child children.new p c ≡ is_child children.old p c }
-{
-    if !children.contains_key(parent) {
-        children.insert(parent.copy()?, BTreeSet::new(alloc))?;
-    }
-    Ok(())
-}
-
-// Puts a child to a node, where there is room for it; answers whether there is.
-fn put_child(
-    children: &mut BTreeMap<Node, BTreeSet<Node>>,
-    parent: &Node,
-    child: &Node,
-) -> Result<bool, AllocError>
-    ensures there { IfOk result (λ there. there ≡ is_some (get node_cmp children.old parent.now)) }
-    ensures ok { IfOk result (λ there. (p c : Node) → is_child children.new p c
-        ≡ ((there && (same_node c child.now && same_node p parent.now)) || is_child children.old p c)) }
-    ensures err { OnErr result ((p c : Node) → is_child children.new p c ≡ is_child children.old p c) }
-{
-    let copy = child.copy()?;
-    let Some(own) = children.get_mut(parent) else {
-        return Ok(false);
-    };
-    own.insert(copy)?;
-    Ok(true)
-}
-
 // Adds a child to those of a node.
-// It is one look-up, where there is room.
-pub(crate) fn add_child(
+// It is one look-up.
+fn add_child(
     alloc: Global,
-    children: &mut BTreeMap<Node, BTreeSet<Node>>,
+    children: &mut HashMap<Node, BTreeSet<Node>>,
     child: &Node,
     parent: &Node,
 ) -> Result<(), AllocError>
@@ -57,17 +23,35 @@ pub(crate) fn add_child(
         ≡ ((same_node c child.now && same_node p parent.now) || is_child children.old p c)) }
     ensures err { OnErr result ((p c : Node) → is_child children.new p c ≡ is_child children.old p c) }
 {
-    if put_child(children, parent, child)? {
-        return Ok(());
-    }
-    make_room(alloc, children, parent)?;
-    put_child(children, parent, child)?;
+    let copy = child.copy()?;
+    let own = children
+        .entry(parent.copy()?)?
+        .or_insert(BTreeSet::new(alloc));
+    own.insert(copy)?;
     Ok(())
+}
+
+// The children of each node of a tree.
+pub(crate) fn children_of(
+    alloc: Global,
+    tree: &Tree,
+) -> Result<HashMap<Node, BTreeSet<Node>>, AllocError>
+    ensures children { IfOk result (AreChildren tree.now) }
+    ensures forest { IsForest tree.now }
+{
+    let links = tree.links();
+    let mut children = HashMap::with_capacity(alloc, links.len())?;
+    for (node, parent) in links {
+        if let Some(parent) = parent {
+            add_child(alloc, &mut children, node, parent)?;
+        }
+    }
+    Ok(children)
 }
 
 // Takes a child out of those of a node.
 // This takes no memory.
-fn remove_child(children: &mut BTreeMap<Node, BTreeSet<Node>>, child: &Node, parent: &Node)
+fn remove_child(children: &mut HashMap<Node, BTreeSet<Node>>, child: &Node, parent: &Node)
     ensures { (p c : Node) → is_child children.new p c
         ≡ (not (same_node c child.now && same_node p parent.now) && is_child children.old p c) }
 {
@@ -80,7 +64,7 @@ fn remove_child(children: &mut BTreeMap<Node, BTreeSet<Node>>, child: &Node, par
 // After an error some of it may have been done.
 pub(crate) fn add_pairs(
     alloc: Global,
-    children: &mut BTreeMap<Node, BTreeSet<Node>>,
+    children: &mut HashMap<Node, BTreeSet<Node>>,
     nodes: &[Node],
 ) -> Result<(), AllocError>
     ensures others { (p c : Node) → is_pair nodes.now c p ≡ false → is_child children.new p c ≡ is_child children.old p c }
@@ -104,7 +88,7 @@ fn has_parent(tree: &Tree, node: &Node, parent: &Node) -> bool
 }
 
 // Takes a node out of the children of one that isn't its parent.
-fn settle(children: &mut BTreeMap<Node, BTreeSet<Node>>, tree: &Tree, child: &Node, parent: &Node)
+fn settle(children: &mut HashMap<Node, BTreeSet<Node>>, tree: &Tree, child: &Node, parent: &Node)
     ensures { (p c : Node) → is_child children.new p c
         ≡ ((not (same_node c child.now && same_node p parent.now) || has_parent tree.now c (Some p)) && is_child children.old p c) }
 {
@@ -115,7 +99,7 @@ fn settle(children: &mut BTreeMap<Node, BTreeSet<Node>>, tree: &Tree, child: &No
 
 // Takes each node of a branch out of the children of the next one, unless that is its parent.
 pub(crate) fn settle_pairs(
-    children: &mut BTreeMap<Node, BTreeSet<Node>>,
+    children: &mut HashMap<Node, BTreeSet<Node>>,
     tree: &Tree,
     nodes: &[Node],
 )

@@ -10,12 +10,11 @@ ghost use Rattle.ancestry.specs.Links.{has_parent};
 ghost use Rattle.ancestry.specs.declared.fault.BranchFault.TheVariants.{Memory};
 ghost use Rattle.nearest_marks.specs.Children.{is_child, is_pair, AreChildren};
 
-use crate::children::{add_pairs, settle_pairs};
+use crate::children::{add_pairs, children_of, settle_pairs};
 use crate::refusals::fault_without_memory;
-use crate::rooms::children_of;
 use ancestry::{BranchFault, Tree};
 use std::alloc::{AllocError, Global};
-use std::collections::{BTreeMap, BTreeSet};
+use std::collections::{BTreeSet, HashMap};
 use std::marker::Model;
 use version_nodes::Node;
 
@@ -25,7 +24,7 @@ use version_nodes::Node;
 pub struct Family {
     tree: Tree,
     // The children of each node that has some; of others there may be none, too.
-    children: BTreeMap<Node, BTreeSet<Node>>,
+    children: HashMap<Node, BTreeSet<Node>>,
     alloc: Global,
 }
 
@@ -44,7 +43,7 @@ impl Model for Family {
 fn take_into(
     alloc: Global,
     tree: &mut Tree,
-    children: &mut BTreeMap<Node, BTreeSet<Node>>,
+    children: &mut HashMap<Node, BTreeSet<Node>>,
     nodes: &[Node],
 ) -> Result<(), BranchFault>
     requires was_forest { IsForest tree.old }
@@ -74,7 +73,7 @@ impl Family {
     {
         Family {
             tree: Tree::new(alloc),
-            children: BTreeMap::new(alloc),
+            children: HashMap::new(alloc),
             alloc,
         }
     }

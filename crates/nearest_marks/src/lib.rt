@@ -6,7 +6,6 @@ mod family;
 mod laws;
 mod near;
 mod refusals;
-mod rooms;
 mod touched;
 
 pub use family::Family;
