@@ -1,7 +1,8 @@
 //! The words of commands.
 
-ghost use Rattle.std.specs.Prelude.{◌≡◌};
-ghost use Rattle.command_grammar.specs.CommandWords.{command_name, command_word};
+ghost use Rattle.std.specs.Prelude.{◌≡◌, ◌==◌, length};
+ghost use Rattle.std.specs.List.{filter};
+ghost use Rattle.command_grammar.specs.CommandWords.{all_command_words, command_name, command_word};
 
 use line_words::{Spelled, find_spelled};
 
@@ -36,41 +37,31 @@ pub enum CommandWord {
     Affects,
 }
 
-// All words of commands.
-const ALL: [CommandWord; 25] = [
-    CommandWord::Found,
-    CommandWord::NotFound,
-    CommandWord::Fixed,
-    CommandWord::NotFixed,
-    CommandWord::Close,
-    CommandWord::Reopen,
-    CommandWord::Severity,
-    CommandWord::Tags,
-    CommandWord::Tag,
-    CommandWord::Retitle,
-    CommandWord::Submitter,
-    CommandWord::Reassign,
-    CommandWord::Merge,
-    CommandWord::ForceMerge,
-    CommandWord::Unmerge,
-    CommandWord::Clone,
-    CommandWord::Block,
-    CommandWord::Unblock,
-    CommandWord::Forwarded,
-    CommandWord::NotForwarded,
-    CommandWord::Owner,
-    CommandWord::NoOwner,
-    CommandWord::Archive,
-    CommandWord::Unarchive,
-    CommandWord::Affects,
-];
-
 impl CommandWord {
+    // The words of commands that have so many bytes.
+    fn of_size(size: usize) -> &'static [CommandWord]
+        ensures { result.now ≡ filter (λ command. length (command_name command) == size) all_command_words }
+    {
+        use CommandWord::*;
+        match size {
+            3 => &[Tag],
+            4 => &[Tags],
+            5 => &[Found, Fixed, Close, Merge, Clone, Block, Owner],
+            6 => &[Reopen],
+            7 => &[Retitle, Unmerge, Unblock, NoOwner, Archive, Affects],
+            8 => &[NotFound, NotFixed, Severity, Reassign],
+            9 => &[Submitter, Forwarded, Unarchive],
+            10 => &[ForceMerge],
+            12 => &[NotForwarded],
+            _ => &[],
+        }
+    }
+
     /// The command that a word is, in any ASCII case; `None` where it is none.
     pub fn read(word: &str) -> Option<CommandWord>
         ensures { result ≡ command_word word.now }
     {
-        find_spelled(ALL.as_slice(), word)
+        find_spelled(CommandWord::of_size(word.len()), word)
     }
 
     /// The word, in lower case.
