@@ -7,6 +7,7 @@ pub mod AboveLemmas
 pub mod LowestLemmas
 pub mod HeadLemmas
 pub mod HeightLemmas
+pub mod SlotLemmas
 pub mod AncestorLemmas
 pub mod ChangeLemmas
 pub mod RepeatLemmas

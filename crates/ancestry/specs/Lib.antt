@@ -9,3 +9,4 @@ pub mod Changes
 pub mod Kept
 pub mod Heights
 pub mod Whole
+pub mod Slots

@@ -1,9 +1,10 @@
 //! A line that is asked for the status of many bugs.
 
-ghost use Rattle.std.specs.Prelude.{◌≡◌, ℕ, nat_lt, None, Some, IfOk, OnOk, if◌then◌else◌};
+ghost use Rattle.std.specs.Prelude.{◌≡◌, ◌<◌, ℕ, nat_lt, None, Some, IfOk, OnOk, if◌then◌else◌};
 ghost use Rattle.std.specs.HashMap.{get};
 ghost use Rattle.std.specs.Option.{option_map_or};
 ghost use Rattle.ancestry.specs.Heights.{HasHeights, height, greatest_height};
+ghost use Rattle.ancestry.specs.Slots.{HasSlots, slot_of};
 ghost use Rattle.version_nodes.specs.Nodes.{Node, same_node};
 ghost use Rattle.version_nodes.specs.Statuses.{first_kind, status_on};
 ghost use Rattle.version_nodes.specs.declared.statuses.MarkKind.TheVariants.{Found, Fixed};
@@ -11,6 +12,7 @@ ghost use Rattle.version_nodes.specs.declared.statuses.MarkKind.TheVariants.{Fou
 use crate::marks::status_from;
 use std::alloc::{AllocError, Global};
 use std::collections::HashMap;
+use std::hash::{FoldHasher, Hasher};
 use std::marker::Model;
 use version_nodes::{MarkKind, Node, Status};
 
@@ -22,18 +24,22 @@ pub struct IndexedLine {
     nodes: Vec<Node>,
     // How many nodes the line has from each of its nodes on, from its first place.
     heights: HashMap<Node, usize>,
+    // How many nodes the line has from the first one with each slot on; 0 where none has it.
+    // A look-up begins here, since that costs less than one in the map.
+    slots: Vec<usize>,
 }
 
 impl Model for IndexedLine {
     ghost use Rattle.std.specs.Prelude.{List};
     ghost use Rattle.ancestry.specs.Heights.{HasHeights};
+    ghost use Rattle.ancestry.specs.Slots.{HasSlots};
     ghost use Rattle.version_nodes.specs.Nodes.{Node as Seen};
 
     ghost Value = { List Seen };
 
     ghost view = { λ l. l.nodes.items };
 
-    ghost invariant = { λ l. HasHeights l.heights l.nodes.items };
+    ghost invariant = { λ l. HasHeights l.heights l.nodes.items × HasSlots l.slots.items l.nodes.items };
 }
 
 // Keeps the height of a node, where none is kept yet.
@@ -62,6 +68,41 @@ fn heights_of(alloc: Global, line: &[Node]) -> Result<HashMap<Node, usize>, Allo
     Ok(heights)
 }
 
+// The slot of a version, of so many slots.
+#[tactic(auto, unfolding(crate::specs::Slots::slot_of))]
+fn slot_of(version: &str, count: usize) -> usize
+    requires { 0 < count }
+    ensures value { result ≡ slot_of count version.now }
+    ensures within { result < count }
+{
+    let mut hasher = FoldHasher::default();
+    hasher.write(version.as_bytes());
+    (hasher.finish() % count as u64) as usize
+}
+
+// The slots of the nodes of a line, about twice as many as it has nodes.
+// The first node of those with one slot is written last, and so keeps it.
+fn slots_of(alloc: Global, line: &[Node]) -> Result<Vec<usize>, AllocError>
+    ensures { IfOk result (λ slots. HasSlots slots.items line.now) }
+{
+    let count = line.len().saturating_mul(2).saturating_add(1);
+    let mut slots = vec![in alloc; 0; count]?;
+    let mut place = line.len();
+    while place > 0 {
+        place -= 1;
+        slots[slot_of(line[place].version(), count)] = line.len() - place;
+    }
+    Ok(slots)
+}
+
+// Whether two nodes are equal.
+// Their versions are compared first, since these differ more often than the sources.
+fn is_same(node: &Node, other: &Node) -> bool
+    ensures { result ≡ same_node node.now other.now }
+{
+    node.version() == other.version() && node.source() == other.source()
+}
+
 // The kind of the line's first mark, by whether a bug is found at a node of the line, and whether
 // it is fixed at one that stands above those.
 fn kind_of(found: bool, fixed: bool) -> Option<MarkKind>
@@ -83,9 +124,11 @@ impl IndexedLine {
         ensures { IfOk result (λ indexed. indexed ≡ line.items) }
     {
         let heights = heights_of(alloc, line.as_slice())?;
+        let slots = slots_of(alloc, line.as_slice())?;
         Ok(IndexedLine {
             nodes: line,
             heights,
+            slots,
         })
     }
 
@@ -93,6 +136,14 @@ impl IndexedLine {
     fn height(&self, node: &Node) -> usize
         ensures { result ≡ height self.now node.now }
     {
+        let height = self.slots[slot_of(node.version(), self.slots.len())];
+        if height == 0 {
+            return 0;
+        }
+        let first = &self.nodes[self.nodes.len() - height];
+        if is_same(first, node) {
+            return height;
+        }
         match self.heights.get(node) {
             Some(height) => *height,
             None => 0,
