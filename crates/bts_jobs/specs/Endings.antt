@@ -47,6 +47,12 @@ end_of_script (Ok ends.Accepted) = Done
 end_of_script (Ok ends.Refused) = Refused
 end_of_script (Err fault) = Fault (cause_of_script fault)
 
+-- how a job ends whose output is handed on at last, or can't be
+abbrev pub end_by_output : Bool → JobEnd → JobEnd
+end_by_output false Done = Fault Output
+end_by_output false Refused = Fault Output
+end_by_output is_written end = end
+
 -- how the job of a server on a port ends
 abbrev pub end_of_server : ℕ → Result (Unit {0}) ServerFault → JobEnd
 end_of_server port (Ok done) = Done

@@ -16,7 +16,7 @@ mod script;
 mod sending;
 mod server;
 
-pub use ending::{Cause, Ending, JobEnd};
+pub use ending::{Cause, Ending, JobEnd, end_output};
 pub use file_desk::{FileDesk, close_desk, create_desk, open_desk};
 pub use jobs::{do_job, do_job_from, run_job, run_job_from};
 pub use laws::{a_job_leaves_a_desk, sent_lines_are_cut_again, the_next_job_finds_the_desk};

@@ -14,7 +14,7 @@ use set_images::ListRow;
 use std::alloc::AllocError;
 use version_nodes::Node;
 
-// As many spaces as there are places for a number and for a severity.
+// As many spaces as there are places for a number.
 const SPACES: &[u8] = b"         ";
 
 // Appends the spaces that a text leaves of its places.
