@@ -6,7 +6,7 @@ use connection_bytes::Held;
 use std::cell::RefCell;
 use std::io::{self, ErrorKind, Read, Write};
 
-/// An output before another, which holds up to 8,192 bytes, if it is asked to.
+/// An output before another, which holds up to 16,384 bytes, if it is asked to.
 /// What is held is handed on before more input is asked for, before an error is told, and at the
 /// end, so nobody waits for an answer that is held.
 /// What stands in a cell is not told to a contract, so what is handed on is tested.

@@ -8,9 +8,9 @@ use arrayvec::ArrayVec;
 use std::io::{self, ErrorKind, Write};
 
 /// The most bytes that are held.
-const CAPACITY: usize = 8_192;
+const CAPACITY: usize = 16_384;
 
-/// A writer before another, which holds up to 8,192 bytes until they are handed on in one write.
+/// A writer before another, which holds up to 16,384 bytes until they are handed on in one write.
 /// Its contents are those of the other writer and, after them, what is held.
 /// So what it was given is what it hands on, in that order, each byte once.
 #[derive(Drop)]
