@@ -1,8 +1,8 @@
-"""Tests of the program's output: what is held is seen before more input is waited for, and whether
-it could be written is told."""
+"""Tests of the program's streams: held output is seen before more input is waited for, and what
+can't be written or read is told."""
 
 import contextlib
-import pathlib
+import http.client
 import subprocess
 import threading
 import unittest
@@ -105,6 +105,46 @@ class Unwritten(unittest.TestCase):
             output, _errors = run([program(), *words], "@show 1\n@show 2\n", 1)
             self.assertTrue(output.startswith("Bug 1\nTitle: foo crashes\n"), output)
             self.assertTrue(output.endswith("NO no such bug 2\n"), output)
+
+
+class Unread(unittest.TestCase):
+    """Words and input that can't be read are told."""
+
+    def test_words(self):
+        """Words that are not UTF-8 are bad words."""
+        for words in ([b"\xff"], ["run", b"\xc3"], [b"\xff", "run"]):
+            ran = subprocess.run(
+                [program(), *words], input=REPORT.encode(), capture_output=True,
+                timeout=desks.TIME_LIMIT)
+            self.assertEqual((ran.returncode, ran.stdout), (2, b""))
+            self.assertEqual(ran.stderr, b"bts: bad words\nbts: try --help\n")
+
+    def test_input(self):
+        """Input that is closed, or a folder, is a fault."""
+        for redirection in ("<&-", "</"):
+            ran = subprocess.run(
+                ["sh", "-c", f'exec "$@" {redirection}', "", program()], capture_output=True,
+                timeout=desks.TIME_LIMIT)
+            self.assertEqual((ran.returncode, ran.stdout), (3, b""))
+            self.assertEqual(ran.stderr, b"bts: fault\nbts: standard input can't be read\n")
+
+
+class Served(unittest.TestCase):
+    """A server ends after the count that its words name."""
+
+    def test_count(self):
+        """It answers so many connections, and its status is 0."""
+        port = desks.free_port()
+        words = [program(), f"--port={port}", "--count=2", "serve"]
+        with subprocess.Popen(words, stdout=subprocess.PIPE) as server:
+            self.assertEqual(server.stdout.readline(), f"Listening on 127.0.0.1:{port}\n".encode())
+            for _ in range(2):
+                self.assertIsNone(server.poll())
+                connection = http.client.HTTPConnection("127.0.0.1", port, timeout=10)
+                connection.request("GET", "/bugs/1")
+                self.assertEqual(connection.getresponse().status, 404)
+                connection.close()
+            self.assertEqual(server.wait(timeout=desks.TIME_LIMIT), 0)
 
 
 if __name__ == "__main__":
