@@ -5,6 +5,7 @@ ghost use Rattle.std.specs.HashMap.{get};
 ghost use Rattle.std.specs.Option.{option_map_or};
 ghost use Rattle.ancestry.specs.Heights.{HasHeights, height, greatest_height};
 ghost use Rattle.ancestry.specs.Slots.{HasSlots, slot_of};
+ghost use Rattle.ancestry.specs.declared.indexed.TheConstants.{SLOTS};
 ghost use Rattle.version_nodes.specs.Nodes.{Node, same_node};
 ghost use Rattle.version_nodes.specs.Statuses.{first_kind, status_on};
 ghost use Rattle.version_nodes.specs.declared.statuses.MarkKind.TheVariants.{Found, Fixed};
@@ -68,29 +69,31 @@ fn heights_of(alloc: Global, line: &[Node]) -> Result<HashMap<Node, usize>, Allo
     Ok(heights)
 }
 
-// The slot of a version, of so many slots.
+// How many slots there are: many more than most lines have nodes.
+// A number that is known as the program is built costs no division.
+const SLOTS: usize = 1_024;
+
+// The slot of a version.
 #[tactic(auto, unfolding(crate::specs::Slots::slot_of))]
-fn slot_of(version: &str, count: usize) -> usize
-    requires { 0 < count }
-    ensures value { result ≡ slot_of count version.now }
-    ensures within { result < count }
+fn slot_of(version: &str) -> usize
+    ensures value { result ≡ slot_of version.now }
+    ensures within { result < SLOTS }
 {
     let mut hasher = FoldHasher::default();
     hasher.write(version.as_bytes());
-    (hasher.finish() % count as u64) as usize
+    (hasher.finish() % SLOTS as u64) as usize
 }
 
-// The slots of the nodes of a line, about twice as many as it has nodes.
+// The slots of the nodes of a line.
 // The first node of those with one slot is written last, and so keeps it.
 fn slots_of(alloc: Global, line: &[Node]) -> Result<Vec<usize>, AllocError>
     ensures { IfOk result (λ slots. HasSlots slots.items line.now) }
 {
-    let count = line.len().saturating_mul(2).saturating_add(1);
-    let mut slots = vec![in alloc; 0; count]?;
+    let mut slots = vec![in alloc; 0; SLOTS]?;
     let mut place = line.len();
     while place > 0 {
         place -= 1;
-        slots[slot_of(line[place].version(), count)] = line.len() - place;
+        slots[slot_of(line[place].version())] = line.len() - place;
     }
     Ok(slots)
 }
@@ -136,7 +139,7 @@ impl IndexedLine {
     fn height(&self, node: &Node) -> usize
         ensures { result ≡ height self.now node.now }
     {
-        let height = self.slots[slot_of(node.version(), self.slots.len())];
+        let height = self.slots[slot_of(node.version())];
         if height == 0 {
             return 0;
         }

@@ -12,11 +12,10 @@ returns-then-height-eq0 c =
     let slots = c.self.inside.slots.items in
     let n = c.args.node.now in
     let h = c.index-height.result.now in
-    let count : c.len.result ≡ length slots = omega arith in
-    let read = slot-read slots line n c.version.result.now c.len.result c.slot_of.result h c.self.invariant.1
-    c.version.ensures.value count c.slot_of.ensures.value c.slot_of.ensures.within c.index-height.ensures in
+    let read = slot-read slots line n c.version.result.now c.slot_of.result h c.self.invariant.1
+    c.version.ensures.value c.slot_of.ensures.value c.slot_of.ensures.within c.index-height.ensures in
     sym (ap (λ (l : List Node). height l n) (sym c.self.view_is)
-    ∙ free-slot (slot_of (length slots)) line n (read ∙ c.if-height-eq0.true))
+    ∙ free-slot line n (read ∙ c.if-height-eq0.true))
 
 pub overflow_sub-len : goal.overflow_sub-len
 overflow_sub-len c =
@@ -24,10 +23,9 @@ overflow_sub-len c =
     let slots = c.self.inside.slots.items in
     let n = c.args.node.now in
     let h = c.index-height.result.now in
-    let count : c.len.result ≡ length slots = omega arith in
-    let read = slot-read slots line n c.version.result.now c.len.result c.slot_of.result h c.self.invariant.1
-    c.version.ensures.value count c.slot_of.ensures.value c.slot_of.ensures.within c.index-height.ensures in
-    let low : h ≤ length line = omega (arith, read, slot-le (slot_of (length slots)) line (slot_of (length slots) n.version)) in
+    let read = slot-read slots line n c.version.result.now c.slot_of.result h c.self.invariant.1
+    c.version.ensures.value c.slot_of.ensures.value c.slot_of.ensures.within c.index-height.ensures in
+    let low : h ≤ length line = omega (arith, read, slot-le line (slot_of n.version)) in
     omega arith
 
 pub index-first-requires : goal.index-first-requires
@@ -36,10 +34,9 @@ index-first-requires c =
     let slots = c.self.inside.slots.items in
     let n = c.args.node.now in
     let h = c.index-height.result.now in
-    let count : c.len.result ≡ length slots = omega arith in
-    let read = slot-read slots line n c.version.result.now c.len.result c.slot_of.result h c.self.invariant.1
-    c.version.ensures.value count c.slot_of.ensures.value c.slot_of.ensures.within c.index-height.ensures in
-    let low : h ≤ length line = omega (arith, read, slot-le (slot_of (length slots)) line (slot_of (length slots) n.version)) in
+    let read = slot-read slots line n c.version.result.now c.slot_of.result h c.self.invariant.1
+    c.version.ensures.value c.slot_of.ensures.value c.slot_of.ensures.within c.index-height.ensures in
+    let low : h ≤ length line = omega (arith, read, slot-le line (slot_of n.version)) in
     let more : 0 < h = grind (arith, nat_tests) in
     omega arith
 
@@ -50,12 +47,11 @@ returns-then-is_same c =
     let n = c.args.node.now in
     let h = c.index-height.result.now in
     let m = c.index-first.result.now in
-    let count : c.len.result ≡ length slots = omega arith in
-    let read = slot-read slots line n c.version.result.now c.len.result c.slot_of.result h c.self.invariant.1
-    c.version.ensures.value count c.slot_of.ensures.value c.slot_of.ensures.within c.index-height.ensures in
+    let read = slot-read slots line n c.version.result.now c.slot_of.result h c.self.invariant.1
+    c.version.ensures.value c.slot_of.ensures.value c.slot_of.ensures.within c.index-height.ensures in
     let more : 0 < h = grind (arith, nat_tests) in
-    let all : c.len-2.result ≡ length line = omega arith in
+    let all : c.len.result ≡ length line = omega arith in
     let here : get_or line (length line - h) m ≡ m = ap (λ i. get_or line (i - h) m) (sym all) ∙ sym c.index-first.ensures in
     sym (ap (λ (l : List Node). height l n) (sym c.self.view_is)
-    ∙ first-in-slot (slot_of (length slots)) line m n h read more
+    ∙ first-in-slot line m n h read more
     (ap (λ (q : Node). same_node q n) here ∙ sym c.is_same.ensures ∙ c.if-is_same.true))
