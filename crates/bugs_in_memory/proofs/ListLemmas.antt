@@ -93,14 +93,13 @@ module _ (d : Desk) (package_name : List ℕ) (v : Node) where
       ap (λ t. t && is_of severity b.shared) (sym (listed_on-line d.tree package_name v b.shared))
 
   -- the bugs that are listed, severity by severity, are all the bugs that are listed
-  pub rows-listed : (numbers : List ℕ) (rows sorted : List ListRow) → numbers ≡ numbers_where listed_here d
-      → rows ≡ rows_of d.bug numbers
+  pub rows-listed : (rows sorted : List ListRow) → rows ≡ rows_of d.bug (numbers_where listed_here d)
       → sorted ≡ flat_map (λ severity. filter (is_row_of severity) rows) all_severities
       → sorted ≡ rows_of d.bug (listed d package_name v)
-  rows-listed numbers rows sorted are shown is =
+  rows-listed rows sorted shown is =
       is ∙ rows_of-each d.bug (λ severity. filter (is_row_of severity) rows)
       (λ severity. numbers_where (is_listed_as d.tree package_name v severity) d)
-      (λ severity. ap (filter (is_row_of severity)) (shown ∙ ap (rows_of d.bug) are)
+      (λ severity. ap (filter (is_row_of severity)) shown
       ∙ rows_of-severity d.bug severity (numbers_where listed_here d)
       ∙ ap (rows_of d.bug) (filter-both (λ n. passes listed_here (d.bug n)) (λ n. passes (is_of severity) (d.bug n))
       (λ n. passes (is_listed_as d.tree package_name v severity) (d.bug n)) (λ n. both_tests severity (d.bug n))

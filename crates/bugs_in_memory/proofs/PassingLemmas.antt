@@ -1,7 +1,7 @@
 -- The bugs that pass a test of their shared fields, over the places of a map.
 use Rattle.std.proofs.Common.{◌≡◌, ◌<◌, ℕ, suc, Bool, true, false, cond, ◌||◌, ◌&&◌, List, [], ◌∷◌, ◌++◌, Option, Some, None}
 use Rattle.std.proofs.Common.{sym, refl, ap, ◌∙◌, append_assoc, arith, inl, inr}
-use Rattle.std.specs.Prelude.{nat_eq, nat_lt, slice_get, option_map}
+use Rattle.std.specs.Prelude.{nat_eq, nat_lt, slice_get, option_map, flat_map}
 use Rattle.std.specs.Option.{option_and_then}
 use Rattle.std.specs.Cmp.{nat_eq_equiv}
 use Rattle.std.specs.Map.{lookup, values_of}
@@ -23,23 +23,22 @@ use Rattle.bug_record.proofs.SetLemmas.{same_test, has-append, has-filter, has-n
 use Rattle.bug_record.proofs.SetLemmas.{IsAscending-filter, IsAscending-numbers_below}
 use Rattle.bugs_in_memory.specs.Keys.{keyed_bug, keyed_desk, IsKeyed}
 use Rattle.bugs_in_memory.specs.Places.{image_at, keys, sets}
-use Rattle.bugs_in_memory.specs.Passing.{passing_there}
+use Rattle.bugs_in_memory.specs.Passing.{bugs_of, passing_there}
 use Rattle.bugs_in_memory.specs.declared.places.Place.{Place}
 use Rattle.bugs_in_memory.specs.declared.places.Place.TheVariants.{First, After}
 use Rattle.bugs_in_memory.proofs.KeyLemmas.{found-image, shown-some}
 
 -- the bugs of the sets whose images stand at these places, where they pass
 abbrev pub passing_in : (Shared → Bool) → List Place → List ℕ
-passing_in test [] = []
-passing_in test (p ∷ ps) = passing_there test p ++ passing_in test ps
+passing_in test ps = flat_map (passing_there test) ps
 
--- one place more
-pub passing-more : (test : Shared → Bool) (left rest : List Place) (p : Place) (old new : List ℕ) → left ≡ p ∷ rest
-    → new ≡ old ++ passing_there test p → new ++ passing_in test rest ≡ old ++ passing_in test left
-passing-more test left rest p old new is added =
-    ap (λ (ns : List ℕ). ns ++ passing_in test rest) added
-    ∙ append_assoc old (passing_there test p) (passing_in test rest)
-    ∙ ap (λ (ps : List Place). old ++ passing_in test ps) (sym is)
+-- one place more, of what places give
+pub place-more : {X : Type 0} (f : Place → List X) (left rest : List Place) (p : Place) (old new : List X) → left ≡ p ∷ rest
+    → new ≡ old ++ f p → new ++ flat_map f rest ≡ old ++ flat_map f left
+place-more f left rest p old new is added =
+    ap (λ (xs : List _). xs ++ flat_map f rest) added
+    ∙ append_assoc old (f p) (flat_map f rest)
+    ∙ ap (λ (ps : List Place). old ++ flat_map f ps) (sym is)
 
 -- ---- what is in it
 
@@ -52,7 +51,7 @@ IsFrom es test m =
 from_here : (k : ℕ) (p : Place) (es : List (ℕ × Place)) (test : Shared → Bool) (m : ℕ) → has (passing_there test p) m ≡ true → IsFrom ((k, p) ∷ es) test m
 from_here k (After l) es test m h = absurd (false≢true h)
 from_here k (First j) es test m h =
-    elim (test j.shared) as (λ t. test j.shared ≡ t → has (cond t (numbers_of j.members) []) m ≡ true
+    elim (test j.shared) as (λ t. test j.shared ≡ t → has (bugs_of (cond t (Some j) None)) m ≡ true
     → IsFrom ((k, First j) ∷ es) test m)
     [ true ↦ λ b h. (0, k, j, refl, b, h) | false ↦ λ b h. absurd (false≢true h) ] refl h
 
@@ -70,7 +69,7 @@ passing-from (e ∷ es) test m h =
 there-passing : (p : Place) (j : SetImage) (test : Shared → Bool) (m : ℕ) → p ≡ First j → test j.shared ≡ true
     → has (numbers_of j.members) m ≡ true → has (passing_there test p) m ≡ true
 there-passing p j test m e b h =
-    ap (λ (q : Place). has (passing_there test q) m) e ∙ ap (λ t. has (cond t (numbers_of j.members) []) m) b ∙ h
+    ap (λ (q : Place). has (passing_there test q) m) e ∙ ap (λ t. has (bugs_of (cond t (Some j) None)) m) b ∙ h
 
 from-passing : (es : List (ℕ × Place)) (is_key : ℕ → Bool) (j : SetImage) (test : Shared → Bool) (m : ℕ) → lookup is_key es ≡ Some (First j)
     → test j.shared ≡ true → has (numbers_of j.members) m ≡ true → has (passing_in test (values_of es)) m ≡ true

@@ -9,6 +9,7 @@ mod lists;
 mod named;
 mod passing;
 mod places;
+mod rows;
 mod summed_image;
 mod waiting;
 

@@ -1,13 +1,13 @@
 //! The bugs of a desk in memory that are listed for a package at a node.
 
-ghost use Rattle.std.specs.Prelude.{◌≡◌, ◌++◌, ℕ, [], filter, flat_map, IfOk, OnOk};
+ghost use Rattle.std.specs.Prelude.{◌≡◌, ◌++◌, ℕ, [], ◌∷◌, filter, flat_map, IfOk, OnOk};
 ghost use Rattle.bug_record.specs.Desk.{IsSound};
 ghost use Rattle.bug_record.specs.Lists.{listed};
 ghost use Rattle.bug_record.specs.Severities.{all_severities};
-ghost use Rattle.bugs_in_memory.specs.Keys.{keyed_bug};
-ghost use Rattle.bugs_in_memory.specs.Plain.{keyed_of, desk_of};
-ghost use Rattle.bugs_in_memory.specs.Passing.{is_row_of};
-ghost use Rattle.set_images.specs.Rows.{rows_of, with_row};
+ghost use Rattle.bug_record.specs.declared.severity.Severity.{Severity as SeenSeverity};
+ghost use Rattle.bugs_in_memory.specs.Plain.{desk_of};
+ghost use Rattle.bugs_in_memory.specs.Passing.{is_row_of, rows_under};
+ghost use Rattle.set_images.specs.Rows.{rows_of};
 
 use crate::bug_sets::BugSets;
 use crate::passing::Question;
@@ -17,58 +17,87 @@ use set_images::ListRow;
 use std::alloc::{AllocError, Global};
 use version_nodes::Node;
 
-// Adds the row of a bug, if there is one.
-fn add_row(rows: &mut Sequence<ListRow>, bugs: &BugSets, number: u64) -> Result<(), AllocError>
-    ensures { OnOk result (rows.new ≡ rows.old ++ with_row number (keyed_bug (keyed_of bugs.now).key (keyed_of bugs.now).set number) []) }
-{
-    let Some(image) = bugs.image_of(number) else {
-        return Ok(());
-    };
-    let Some(row) = ListRow::of(image, number)? else {
-        return Ok(());
-    };
-    rows.push(row)
+// Rows, kept by their severities.
+#[derive(Drop)]
+struct RowsBySeverity {
+    critical: Vec<ListRow>,
+    grave: Vec<ListRow>,
+    serious: Vec<ListRow>,
+    important: Vec<ListRow>,
+    normal: Vec<ListRow>,
+    minor: Vec<ListRow>,
+    wishlist: Vec<ListRow>,
 }
 
-// The rows of the bugs of these numbers.
-fn rows_of(alloc: Global, bugs: &BugSets, numbers: &[u64]) -> Result<Sequence<ListRow>, AllocError>
-    ensures { IfOk result (λ rows. rows ≡ rows_of (keyed_bug (keyed_of bugs.now).key (keyed_of bugs.now).set) numbers.now) }
-{
-    let mut rows = Sequence::new(alloc);
-    for number in numbers {
-        add_row(&mut rows, bugs, *number)?;
-    }
-    Ok(rows)
-}
-
-// Adds those of the rows that are of a severity.
-fn add_rows_of(
-    sorted: &mut Sequence<ListRow>,
-    rows: &[ListRow],
-    severity: Severity,
-) -> Result<(), AllocError>
-    ensures { OnOk result (sorted.new ≡ sorted.old ++ filter (is_row_of severity) rows.now) }
-{
-    for row in rows {
-        if row.severity.rank() == severity.rank() {
-            sorted.push(row.copy()?)?;
+impl RowsBySeverity {
+    // No rows.
+    fn new(alloc: Global) -> RowsBySeverity
+        ensures { (severity : SeenSeverity) → rows_under result severity ≡ [] }
+    {
+        RowsBySeverity {
+            critical: Vec::new(alloc),
+            grave: Vec::new(alloc),
+            serious: Vec::new(alloc),
+            important: Vec::new(alloc),
+            normal: Vec::new(alloc),
+            minor: Vec::new(alloc),
+            wishlist: Vec::new(alloc),
         }
     }
-    Ok(())
+
+    // Puts a row at the end of those of its severity.
+    fn add(&mut self, row: ListRow) -> Result<(), AllocError>
+        ensures { OnOk result ((severity : SeenSeverity)
+            → rows_under self.new severity ≡ rows_under self.old severity ++ filter (is_row_of severity) (row ∷ [])) }
+    {
+        match row.severity {
+            Severity::Critical => self.critical.push(row)?,
+            Severity::Grave => self.grave.push(row)?,
+            Severity::Serious => self.serious.push(row)?,
+            Severity::Important => self.important.push(row)?,
+            Severity::Normal => self.normal.push(row)?,
+            Severity::Minor => self.minor.push(row)?,
+            Severity::Wishlist => self.wishlist.push(row)?,
+        }
+        Ok(())
+    }
+
+    // The rows, from critical to wishlist.
+    fn joined(self) -> Result<Vec<ListRow>, AllocError>
+        ensures { IfOk result (λ rows. rows.items ≡ flat_map (rows_under self) all_severities) }
+    {
+        let RowsBySeverity {
+            critical: mut rows,
+            mut grave,
+            mut serious,
+            mut important,
+            mut normal,
+            mut minor,
+            mut wishlist,
+        } = self;
+        rows.append(&mut grave)?;
+        rows.append(&mut serious)?;
+        rows.append(&mut important)?;
+        rows.append(&mut normal)?;
+        rows.append(&mut minor)?;
+        rows.append(&mut wishlist)?;
+        Ok(rows)
+    }
 }
 
 /// The rows by severity, from critical to wishlist, and of each severity in their order.
 /// The only error is that there is no memory for the rows.
+/// The rows are moved, not copied.
 /// This project's own rule.
-pub fn by_severity(alloc: Global, rows: &[ListRow]) -> Result<Sequence<ListRow>, AllocError>
-    ensures { IfOk result (λ sorted. sorted ≡ flat_map (λ severity. filter (is_row_of severity) rows.now) all_severities) }
+pub fn by_severity(alloc: Global, rows: Vec<ListRow>) -> Result<Sequence<ListRow>, AllocError>
+    ensures { IfOk result (λ sorted. sorted ≡ flat_map (λ severity. filter (is_row_of severity) rows.items) all_severities) }
 {
-    let mut sorted = Sequence::new(alloc);
-    let severities = Severity::all();
-    for severity in severities.as_slice() {
-        add_rows_of(&mut sorted, rows, *severity)?;
+    let mut kept = RowsBySeverity::new(alloc);
+    for row in rows {
+        kept.add(row)?;
     }
-    Ok(sorted)
+    let sorted = kept.joined()?;
+    Ok(Sequence::from_vec(sorted))
 }
 
 impl BugSets {
@@ -91,8 +120,7 @@ impl BugSets {
     {
         let nodes = tree.line(node)?;
         let line = IndexedLine::of(alloc, nodes)?;
-        let numbers = self.passing(alloc, Question::IsListed(package, &line))?;
-        let rows = rows_of(alloc, self, numbers.as_slice())?;
-        by_severity(alloc, rows.as_slice())
+        let rows = self.rows_passing(alloc, Question::IsListed(package, &line))?;
+        by_severity(alloc, rows)
     }
 }

@@ -1,6 +1,7 @@
 //! What is asked of all bugs of a desk in memory: those whose shared fields pass a test.
 
 ghost use Rattle.std.specs.Prelude.{◌≡◌, ◌++◌, ℕ, false, IfOk, OnOk};
+ghost use Rattle.std.specs.Option.{option_copied};
 ghost use Rattle.std.specs.Str.{bytes_eq};
 ghost use Rattle.version_nodes.specs.Statuses.{status_on};
 ghost use Rattle.version_nodes.specs.Trees.{Ancestry};
@@ -11,7 +12,7 @@ ghost use Rattle.bug_record.specs.Images.{numbers_of};
 ghost use Rattle.bug_record.specs.PackageSets.{has_name};
 ghost use Rattle.bugs_in_memory.specs.Plain.{desk_of};
 ghost use Rattle.bug_record.specs.Lists.{concerns};
-ghost use Rattle.bugs_in_memory.specs.Passing.{is_listed_on, test_of, passing_there};
+ghost use Rattle.bugs_in_memory.specs.Passing.{is_listed_on, test_of, image_passing, passing_there};
 ghost use Rattle.bugs_in_memory.specs.Sums.{IsSumAsked};
 ghost use Rattle.bugs_in_memory.specs.declared.passing.Question.{Question as Asked};
 
@@ -20,7 +21,7 @@ use crate::heads::is_there;
 use crate::places::Place;
 use crate::summed_image::{SummedImage, name_sum};
 use ancestry::IndexedLine;
-use bug_record::{Member, Numbers, Sequence, Shared};
+use bug_record::{Member, Numbers, Sequence, SetImage, Shared};
 use debver::Text;
 use set_images::in_order;
 use std::alloc::{AllocError, Global};
@@ -84,7 +85,7 @@ fn holds(question: Question, image: &SummedImage) -> bool
 }
 
 // The sum of the name of the package that is asked for, if one is.
-fn sum_asked(question: Question) -> Option<u32>
+pub(crate) fn sum_asked(question: Question) -> Option<u32>
     ensures { IsSumAsked question.entry result }
 {
     match question {
@@ -113,6 +114,25 @@ fn add_members(numbers: &mut Vec<u64>, members: &[Member]) -> Result<(), AllocEr
     Ok(())
 }
 
+// The image that stands at a place, where the answer is yes of the bugs of its set.
+// The fields of a set are not looked at where the sum of its package's name is another.
+pub(crate) fn image_passing<'a>(
+    place: &'a Place,
+    question: Question,
+    sum: Option<u32>,
+) -> Option<&'a SetImage>
+    requires { IsSumAsked question sum }
+    ensures { option_copied result ≡ image_passing (test_of question.entry) place.now }
+{
+    let Place::First(image) = place else {
+        return None;
+    };
+    if may_hold(sum, image) && holds(question, image) {
+        return Some(image.image());
+    }
+    None
+}
+
 // Adds the bugs of the set whose image stands at a place, where the answer is yes.
 fn add_passing(
     numbers: &mut Vec<u64>,
@@ -124,24 +144,15 @@ fn add_passing(
     ensures { OnOk result
         (numbers.new.items ≡ numbers.old.items ++ passing_there (test_of question.entry) place.now) }
 {
-    match place {
-        Place::First(image) => {
-            if !may_hold(sum, image) {
-                return Ok(());
-            }
-            if holds(question, image) {
-                return add_members(numbers, image.image().members.as_slice());
-            }
-            Ok(())
-        }
-        Place::After(_) => Ok(()),
+    match image_passing(place, question, sum) {
+        Some(image) => add_members(numbers, image.members.as_slice()),
+        None => Ok(()),
     }
 }
 
 impl BugSets {
     /// The bugs of which the answer is yes, ascending.
     /// Each set is looked at once, not once for each of its bugs, and the numbers are sorted once.
-    /// The fields of a set are not looked at where the sum of its package's name is another.
     pub(crate) fn passing(&self, alloc: Global, question: Question) -> Result<Numbers, AllocError>
         ensures { (tree : Ancestry) (next : ℕ) → IsSound (desk_of self.now tree next)
             → IfOk result (λ numbers. numbers ≡ numbers_where (test_of question.entry) (desk_of self.now tree next)) }

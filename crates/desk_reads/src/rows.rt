@@ -73,11 +73,11 @@ pub(crate) fn put_rows(
 }
 
 // The rows of the map, by number.
-fn by_number(alloc: Global, rows: BTreeMap<u64, ListRow>) -> Result<Sequence<ListRow>, AllocError>
-    ensures value { IfOk result (λ listed. listed ≡ values_of rows.entries) }
+fn by_number(alloc: Global, rows: BTreeMap<u64, ListRow>) -> Result<Vec<ListRow>, AllocError>
+    ensures value { IfOk result (λ listed. listed.items ≡ values_of rows.entries) }
     ensures ordered { IsStrictlySortedBy nat_cmp (keys_of rows.entries) }
 {
-    let mut listed = Sequence::new(alloc);
+    let mut listed = Vec::new(alloc);
     for (_, row) in rows {
         listed.push(row)?;
     }
@@ -93,5 +93,5 @@ pub(crate) fn sorted_rows(
     ensures ordered { IsStrictlySortedBy nat_cmp (keys_of rows.entries) }
 {
     let rows = by_number(alloc, rows)?;
-    by_severity(alloc, rows.as_slice())
+    by_severity(alloc, rows)
 }

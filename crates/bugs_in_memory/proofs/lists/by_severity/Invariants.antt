@@ -1,12 +1,12 @@
-use Rattle.std.proofs.Common.{◌≡◌, ◌++◌, drop, List}
-use Rattle.std.specs.Prelude.{filter, flat_map}
-use Rattle.bug_record.specs.Severities.{all_severities}
+use Rattle.std.proofs.Common.{◌≡◌, ◌++◌}
+use Rattle.std.specs.Prelude.{filter}
+use Rattle.std.specs.Vec.Iter.{into_iter_items}
 use Rattle.bug_record.specs.declared.severity.Severity.{Severity}
-use Rattle.set_images.specs.declared.rows.ListRow.{ListRow}
-use Rattle.bugs_in_memory.specs.Passing.{is_row_of}
+use Rattle.bugs_in_memory.specs.Passing.{is_row_of, rows_under}
 use Rattle.bugs_in_memory.proofs.lists.by_severity.Given as goal
 
-abbrev pub invariant-loop-severity : goal.invariant-loop-severity
-invariant-loop-severity l =
-    let rows_as : Severity → List ListRow = λ severity. filter (is_row_of severity) l.rows in
-    l.sorted ++ flat_map rows_as (drop l.severity-index l.severity-items) ≡ flat_map rows_as all_severities
+-- under each severity, the rows so far and those that are left are all of that severity
+abbrev pub invariant-loop-row : goal.invariant-loop-row
+invariant-loop-row l =
+    (severity : Severity) → rows_under l.kept severity ++ filter (is_row_of severity) (into_iter_items l.row-iterator)
+    ≡ filter (is_row_of severity) l.fn.rows.items

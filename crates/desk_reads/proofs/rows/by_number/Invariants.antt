@@ -3,4 +3,4 @@ use Rattle.std.specs.Map.{values_of}
 use Rattle.desk_reads.proofs.rows.by_number.Given as goal
 
 abbrev pub invariant-loop-row : goal.invariant-loop-row
-invariant-loop-row l = l.listed ++ values_of l.row-iterator ≡ values_of l.fn.rows.entries
+invariant-loop-row l = l.listed.items ++ values_of l.row-iterator ≡ values_of l.fn.rows.entries

@@ -1,13 +1,10 @@
 use Rattle.std.proofs.Common.{List, ap, ◌∙◌}
-use Rattle.std.specs.Prelude.{filter, flat_map}
 use Rattle.std.proofs.lemmas.Result.{IfOk-weaker}
 use Rattle.version_nodes.specs.Nodes.{Node}
 use Rattle.bug_record.specs.Asked.{numbers_where}
-use Rattle.bug_record.specs.Severities.{all_severities}
 use Rattle.set_images.specs.Rows.{rows_of}
-use Rattle.set_images.specs.declared.rows.ListRow.{ListRow}
 use Rattle.bugs_in_memory.specs.Plain.{desk_of}
-use Rattle.bugs_in_memory.specs.Passing.{is_listed_on, is_row_of}
+use Rattle.bugs_in_memory.specs.Passing.{is_listed_on}
 use Rattle.bugs_in_memory.proofs.ListLemmas.{rows-listed}
 use Rattle.bugs_in_memory.proofs.bug_sets.BugSets.listed.Goals as goal
 
@@ -15,11 +12,9 @@ pub returns : goal.returns
 returns c = λ next sound.
     let d = desk_of c.args.self.now c.args.tree.now next in
     let package_name = c.args.package.now in
-    let are = c.in_ok-numbers.ensures c.args.tree.now next sound
-    ∙ ap (λ (nodes : List Node). numbers_where (is_listed_on nodes package_name) d)
+    let shown = c.in_ok-rows.ensures c.args.tree.now next sound
+    ∙ ap (λ (nodes : List Node). rows_of d.bug (numbers_where (is_listed_on nodes package_name) d))
     (c.in_ok-line.ensures ∙ c.in_ok-nodes.ensures.value) in
-    let shown = c.in_ok-rows.ensures ∙ ap (rows_of d.bug) c.as_slice.ensures in
     IfOk-weaker c.by_severity.result _ _
-    (λ sorted e. rows-listed d package_name c.args.node.now c.in_ok-numbers.numbers c.in_ok-rows.rows sorted are shown
-    (e ∙ ap (λ (rows : List ListRow). flat_map (λ severity. filter (is_row_of severity) rows) all_severities) c.as_slice-2.ensures))
+    (λ sorted e. rows-listed d package_name c.args.node.now c.in_ok-rows.rows.items sorted shown e)
     c.by_severity.ensures

@@ -5,15 +5,15 @@ use Rattle.std.proofs.lemmas.List.{append-nil}
 use Rattle.std.proofs.lemmas.Map.Iter.{rest_more, rest_all}
 use Rattle.bug_record.specs.Sets.{has}
 use Rattle.bugs_in_memory.specs.declared.places.Place.{Place}
-use Rattle.bugs_in_memory.specs.Passing.{test_of}
-use Rattle.bugs_in_memory.proofs.PassingLemmas.{passing_in, passing-more, passing-is}
+use Rattle.bugs_in_memory.specs.Passing.{test_of, passing_there}
+use Rattle.bugs_in_memory.proofs.PassingLemmas.{passing_in, place-more, passing-is}
 use Rattle.bugs_in_memory.proofs.bug_sets.BugSets.passing.Goals as goal
 
 pub loop-place-preserved : goal.loop-place-preserved
 loop-place-preserved c =
     let left = c.loop-place.place-iterator in
     let rest = c.next.new.self in
-    passing-more (test_of c.args.question) left rest c.in-Some.place.now c.loop-place.numbers.items c.add_passing.new.numbers.items
+    place-more (passing_there (test_of c.args.question)) left rest c.in-Some.place.now c.loop-place.numbers.items c.add_passing.new.numbers.items
     (rest_more deref left rest c.next.result c.in-Some.place c.in-Some.is c.next.ensures.steps) c.in_ok-add_passing.ensures
     ∙ c.loop-place.invariant
 
