@@ -1,8 +1,11 @@
 -- A report that is carried out in parts.
 use Rattle.std.proofs.Common.{◌≡◌, ◌≤◌, ◌<◌, ℕ, Bool, true, false, List, Option, Result, Ok, Err, sym, ◌∙◌, ap, refl, arith}
 use Rattle.std.proofs.Common.{subst}
-use Rattle.std.specs.Prelude.{nat_lt, if◌then◌else◌, OnOk}
+use Rattle.std.specs.Prelude.{nat_lt, if◌then◌else◌, IfOk, OnOk}
 use Rattle.std.proofs.lemmas.Bool.Decides.{nat_tests}
+use Rattle.version_nodes.specs.Nodes.{Node, node, node_of, IsRead}
+use Rattle.version_nodes.specs.declared.fault.NodeFault.{NodeFault}
+use Rattle.version_nodes.proofs.ReadLemmas.{nodes_exactly}
 use Rattle.bug_record.specs.Desk.{Desk}
 use Rattle.bug_record.specs.Steps.{reported}
 use Rattle.bug_record.specs.declared.severity.Severity.{Severity}
@@ -79,3 +82,9 @@ asks_first gives old asked words severity next answer e given follows =
 -- where a number is left
 pub some_left : (next : ℕ) (answer : Result ℕ ReportFault) → next < 1000000000 → FollowsNext (Ok next) answer
 some_left next answer few many = absurd (omega (arith, few, many))
+
+-- the node that is read of two texts has these
+pub of-two-texts : (source version : List ℕ) (r : Result Node NodeFault) → IsRead (node_of source version) r
+    → IfOk r (λ n. n ≡ node source version)
+of-two-texts source version (Ok n) read = ((nodes_exactly source version n).0 read).0
+of-two-texts source version (Err fault) read = tt

@@ -4,6 +4,7 @@ ghost use Rattle.std.specs.Prelude.{◌≡◌, false, is_some, OnOk, IfOk, IfErr
 ghost use Rattle.std.specs.Option.{option_copied};
 ghost use Rattle.debver.specs.Names.{IsName, name_fault};
 ghost use Rattle.debver.specs.Cut.{IsVersion};
+ghost use Rattle.version_nodes.specs.Nodes.{node};
 ghost use Rattle.bug_record.specs.Texts.{IsText, IfGiven};
 ghost use Rattle.desk_store.specs.Store.{Holds};
 ghost use Rattle.desk_store.specs.Tried.{LeavesTried, tried_by};
@@ -17,8 +18,8 @@ use debver::{Text, check, check_name};
 use desk_store::Records;
 use desk_text::ReportFault;
 use line_words::AFTER_LARGEST;
-use std::alloc::Global;
-use version_nodes::Node;
+use std::alloc::{AllocError, Global};
+use version_nodes::{Node, NodeFault};
 
 fn has_bad_version(version: Option<&str>) -> bool
     ensures value { result ≡ has_bad_version (option_copied version.entry) }
@@ -72,9 +73,36 @@ fn report_severity(
     }
 }
 
-// The node of a report: the version of the package, if one is given.
-fn node_reported(
+// A text of a report: the one of the store, where it has an equal one.
+fn text_of<S: Records>(alloc: Global, store: &S, text: &str) -> Result<Text, AllocError>
+    ensures { IfOk result (λ kept. kept ≡ text.now) }
+{
+    match store.shared_text(text) {
+        Some(shared) => Ok(shared),
+        None => Text::of(alloc, text),
+    }
+}
+
+// The node of a package name and a version.
+fn node_of<S: Records>(
     alloc: Global,
+    store: &S,
+    package: &str,
+    version: &str,
+) -> Result<Node, NodeFault>
+    requires name { IsName «package».now }
+    requires version { IsVersion version.now }
+    ensures { IfOk result (λ n. n ≡ node «package».now version.now) }
+{
+    let source = text_of(alloc, store, package)?;
+    let version = text_of(alloc, store, version)?;
+    Node::with_version(&source, &version)
+}
+
+// The node of a report: the version of the package, if one is given.
+fn node_reported<S: Records>(
+    alloc: Global,
+    store: &S,
     package: &str,
     version: Option<&str>,
 ) -> Result<Option<Node>, ReportFault>
@@ -86,7 +114,7 @@ fn node_reported(
     let Some(version) = version else {
         return Ok(None);
     };
-    match Node::of_name_and_version(alloc, package, version) {
+    match node_of(alloc, store, package, version) {
         Ok(node) => Ok(Some(node)),
         Err(_) => Err(ReportFault::Store(StoreFault::Memory)),
     }
@@ -124,7 +152,7 @@ pub fn report<S: Records>(
     if next >= AFTER_LARGEST {
         return Err(ReportFault::Full);
     }
-    let node = node_reported(alloc, package, version)?;
+    let node = node_reported(alloc, store, package, version)?;
     let Ok(change) = report_change(alloc, from, package, severity, title, node, next) else {
         return Err(ReportFault::Store(StoreFault::Memory));
     };

@@ -4,6 +4,7 @@
 mod fail_at;
 mod kept_messages;
 mod plain;
+mod shared_texts;
 
 pub use fail_at::FailAt;
 pub use plain::PlainDesk;

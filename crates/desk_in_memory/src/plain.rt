@@ -1,6 +1,6 @@
 //! A desk in memory.
 
-ghost use Rattle.std.specs.Prelude.{◌≡◌, ◌≤◌, None, Ok, IfOk, IfErr, OnOk, OnErr};
+ghost use Rattle.std.specs.Prelude.{◌≡◌, ◌≤◌, None, Ok, IfOk, IfErr, IfSome, OnOk, OnErr};
 ghost use Rattle.std.specs.Option.{option_and_then, option_copied};
 ghost use Rattle.line_words.specs.declared.named.TheConstants.{LARGEST_NUMBER};
 ghost use Rattle.version_nodes.specs.Trees.{Ancestry};
@@ -18,9 +18,11 @@ ghost use Rattle.desk_in_memory.specs.KeptMessages.{keeping_of};
 ghost use Rattle.bugs_in_memory.specs.Plain.{keyed_of, desk_of, empty_desk};
 
 use crate::kept_messages::KeptMessages;
+use crate::shared_texts::SharedTexts;
 use ancestry::{BranchFault, Tree};
 use bug_record::{Change, Numbers, Outcome, Sequence, SetImage, StoreFault};
 use bugs_in_memory::{BugSets, open_head};
+use debver::Text;
 use desk_store::{Kept, Records, copy_outcome};
 use set_images::ListRow;
 use std::alloc::{AllocError, Global};
@@ -33,6 +35,7 @@ pub struct PlainDesk {
     tree: Tree,
     next: u64,
     messages: KeptMessages,
+    texts: SharedTexts,
     alloc: Global,
     ghost sound: { IsSound (desk_of bugs tree next) } by { IsSound-prop (desk_of bugs tree next) },
     ghost good: { AreGoodKept (keeping_of messages) } by { AreGoodKept-prop (keeping_of messages) },
@@ -77,6 +80,7 @@ impl PlainDesk {
             tree: Tree::new(alloc),
             next: first,
             messages: KeptMessages::new(alloc),
+            texts: SharedTexts::new(alloc),
             alloc,
         }
     }
@@ -164,7 +168,11 @@ impl Records for PlainDesk {
         ensures memory { IfErr result (λ fault. fault ≡ StoreFault.Memory) }
     {
         match self.tree.take_branch(nodes) {
-            Ok(()) => Ok(Ok(())),
+            Ok(()) => {
+                // Without memory for it less is shared, and nothing else.
+                let _ = self.texts.keep_all(self.alloc, nodes);
+                Ok(Ok(()))
+            }
             Err(BranchFault::Memory) => Err(StoreFault::Memory),
             Err(refusal) => Ok(Err(refusal)),
         }
@@ -216,6 +224,12 @@ impl Records for PlainDesk {
                 Err(StoreFault::Memory)
             }
         }
+    }
+
+    fn shared_text(&self, text: &str) -> Option<Text>
+        ensures { IfSome result (λ shared. shared ≡ text.now) }
+    {
+        self.texts.find(text)
     }
 
     fn faults(&self) -> u64 {

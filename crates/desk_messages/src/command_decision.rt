@@ -3,7 +3,8 @@
 ghost use Rattle.std.specs.Prelude.{◌≡◌, ◌++◌, ℕ, List, None, IsTrue, IfOk, OnErr, Result};
 ghost use Rattle.bug_record.specs.Sets.{Each};
 ghost use Rattle.bug_record.specs.Texts.{IsText, IfGiven};
-ghost use Rattle.bug_record.specs.Desk.{Desk};
+ghost use Rattle.bug_record.specs.Desk.{Desk, IsSound};
+ghost use Rattle.bug_record.specs.Steps.{step};
 ghost use Rattle.bug_record.specs.Changed.{AreChanged, Replaces, changed_numbers};
 ghost use Rattle.bug_record.specs.Images.{AreApart, HasMember, bug_in, put};
 ghost use Rattle.bug_record.specs.Clones.{name_refusal};
@@ -12,6 +13,8 @@ ghost use Rattle.bug_record.specs.Words.{Names};
 ghost use Rattle.line_words.specs.Bugs.{IsGoodBug};
 ghost use Rattle.line_words.specs.Numbers.{IsGoodNumber};
 ghost use Rattle.desk_store.specs.Store.{Asks, Answers, faults_after};
+ghost use Rattle.message_progress.specs.Known.{AreOfBugs};
+ghost use Rattle.message_progress.specs.Telling.{result_meant, step_among};
 ghost use Rattle.message_progress.specs.Progress.{HaveNumbers};
 ghost use Rattle.message_progress.specs.Changes.{MayBeMade, Fits};
 ghost use Rattle.desk_messages.specs.Commands.{LeavesFirst, Makes, DecidesTold, Decides};
@@ -19,7 +22,9 @@ ghost use Rattle.set_images.specs.Alike.{BeginAlike};
 ghost use Rattle.desk_store.specs.Message.{names_of};
 
 use bug_core::{changed, plan};
-use bug_record::{Change, Command, Numbers, Outcome, PlanFault, Refusal, SetImage, StoreFault};
+use bug_record::{
+    Change, Command, Numbers, Outcome, PlanFault, Refusal, SetImage, StoreFault, VersionArg,
+};
 use desk_store::Records;
 use line_words::Named;
 use message_progress::{
@@ -166,6 +171,56 @@ fn decide_known<S: Records>(
     Ok(decision)
 }
 
+// The text of the version becomes the store's, where it has an equal one.
+fn share_version<S: Records>(store: &S, version: &mut VersionArg)
+    ensures { version.new ≡ version.old }
+{
+    if let Some(shared) = store.shared_text(version.version.as_str()) {
+        version.version = shared;
+    }
+}
+
+// The same of a version that may be left out.
+fn share_given_version<S: Records>(store: &S, version: &mut Option<VersionArg>)
+    ensures { version.new ≡ version.old }
+{
+    if let Some(version) = version {
+        share_version(store, version);
+    }
+}
+
+// The text of a version that a command marks becomes the store's, where it has an equal one, so
+// that marks of one version share memory.
+fn share_texts<S: Records>(store: &S, command: &mut Command<u64>)
+    ensures { command.new ≡ command.old }
+{
+    match command {
+        Command::Found(_, version) => share_given_version(store, version),
+        Command::Fixed(_, version) => share_version(store, version),
+        Command::Close(_, version) => share_given_version(store, version),
+        Command::Reassign(_, _, version) => share_given_version(store, version),
+        _ => {}
+    }
+}
+
+// The command over numbers, as `command_told` makes it, with texts of the store.
+fn shared_command<S: Records>(
+    alloc: Global,
+    store: &S,
+    known: &KnownNames,
+    command: Command<Named>,
+) -> Result<Command<u64>, AllocError>
+    ensures meant { IfOk result (λ told. AreOfBugs known.now.names → Each IsGoodBug (bugs_named command)
+        → (d : Desk) (sender : List ℕ) → IsSound d
+        → result_meant (step_among known.now.names d sender told) ≡ step known.now.names d sender command) }
+    ensures parts { IfOk result (λ told. HasGoodParts command → HasGoodParts told) }
+    ensures names { IfOk result (λ told. names_in told ≡ names_in command) }
+{
+    let mut told = command_told(alloc, known, command)?;
+    share_texts(store, &mut told);
+    Ok(told)
+}
+
 /// What one command comes to, which changes nothing yet.
 /// The names that are known are then those that an accepted `clone` gives too.
 pub(crate) fn decide_command<S: Records>(
@@ -190,7 +245,7 @@ pub(crate) fn decide_command<S: Records>(
     ensures stays { S.keeping store.new ≡ S.keeping store.old }
     ensures count { S.faults store.new ≡ faults_after result (S.faults store.old) }
 {
-    match command_told(alloc, known, command) {
+    match shared_command(alloc, store, known, command) {
         Ok(command) => decide_known(alloc, store, from, known, &command),
         Err(_) => Err(StoreFault::Memory),
     }

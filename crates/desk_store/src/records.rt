@@ -1,6 +1,6 @@
 //! What a store of a desk does, whatever keeps the desk.
 
-ghost use Rattle.std.specs.Prelude.{◌≡◌, ℕ, Option, Result, IfOk};
+ghost use Rattle.std.specs.Prelude.{◌≡◌, ℕ, Option, Result, IfOk, IfSome};
 ghost use Rattle.std.specs.Option.{option_copied};
 ghost use Rattle.bug_record.specs.Sets.{Each};
 ghost use Rattle.bug_record.specs.Desk.{Desk, IsSound};
@@ -17,6 +17,7 @@ ghost use Rattle.desk_store.specs.Crashes.{Holding, LeavesAfter, LeavesBranched,
 use crate::kept::Kept;
 use ancestry::BranchFault;
 use bug_record::{Change, Numbers, Outcome, Sequence, SetImage, StoreFault};
+use debver::Text;
 use set_images::ListRow;
 use version_nodes::Node;
 
@@ -169,6 +170,14 @@ pub trait Records {
             ) result) }
         ensures honest { is_honest self.new → is_honest self.old }
         ensures count { faults self.new ≡ faults_after result (faults self.old) };
+
+    /// This text, where the store has one whose memory it can share.
+    /// It takes no memory, and no answer of the store depends on it.
+    fn shared_text(&self, text: &str) -> Option<Text>
+        ensures { IfSome result (λ shared. shared ≡ text.now) }
+    {
+        None
+    }
 
     /// How often the store has answered `Device`, `Full` or `Foreign` in all, up to `u64::MAX`.
     fn faults(&self) -> u64

@@ -4,6 +4,6 @@ use Rattle.debver.specs.Cut.{IsVersion}
 use Rattle.bug_record.specs.Texts.{IfGiven}
 use Rattle.desk_directives.proofs.reporting.node_reported.Goals as goal
 
-pub of_name_and_version-requires-clause-version : goal.of_name_and_version-requires-clause-version
-of_name_and_version-requires-clause-version c =
+pub node_of-requires-clause-version : goal.node_of-requires-clause-version
+node_of-requires-clause-version g c =
     subst (λ (v : Option (Bor (List ℕ))). IfGiven IsVersion (option_copied v)) c.in-Some.is c.requires.version
