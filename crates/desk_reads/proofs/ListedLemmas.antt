@@ -305,5 +305,6 @@ module _ (c : Content) (kept : IsKeptContent c) (p : List ℕ) (v : Node) where
 
       pub are_listed : (sorted : List ListRow) → sorted ≡ flat_map (λ severity. filter (is_row_of severity) (values_of m.entries)) all_severities → AreListed (desk_in c) p v sorted
       are_listed sorted is =
-          rows-listed (desk_in c) p v (keys_of m.entries) (values_of m.entries) sorted numbers_are
-          (rows_are m.entries (recursion_from_All (λ e. get nat_cmp m e.0 ≡ Some e.1) m.entries (All-found nat_cmp_total m up))) is
+          rows-listed (desk_in c) p v (values_of m.entries) sorted
+          (rows_are m.entries (recursion_from_All (λ e. get nat_cmp m e.0 ≡ Some e.1) m.entries (All-found nat_cmp_total m up))
+          ∙ ap (rows_of (desk_in c).bug) numbers_are) is
