@@ -5,10 +5,10 @@ use Rattle.std.specs.Io.KnownBytes.{Appends}
 use Rattle.sqlite.specs.declared.error.Error.{Error}
 use Rattle.sqlite.specs.declared.error.Error.TheVariants.{SqliteFailure}
 use Rattle.sqlite.specs.declared.error.ErrorCode.TheVariants as code
-use Rattle.bug_record.specs.Faults.{fault_message}
-use Rattle.bug_record.specs.declared.outcome.StoreFault.TheVariants as stores
-use Rattle.bug_record.specs.declared.outcome.End.{End}
-use Rattle.bug_record.specs.declared.outcome.End.TheVariants as messages
+use Rattle.desk_lines.specs.Faults.{fault_message}
+use Rattle.desk_lines.specs.declared.store_fault.StoreFault.TheVariants as stores
+use Rattle.desk_lines.specs.declared.store_fault.End.{End}
+use Rattle.desk_lines.specs.declared.store_fault.End.TheVariants as messages
 use Rattle.desk_store.specs.Message.{Entry}
 use Rattle.desk_lines.specs.declared.fault.ScriptFault.{ScriptFault}
 use Rattle.desk_lines.specs.declared.fault.ScriptFault.TheVariants as scripts

@@ -8,8 +8,8 @@ use Rattle.sqlite_wal.specs.Files.{image_at}
 use Rattle.sqlite_wal.specs.Recovery.{Image}
 use Rattle.line_words.specs.declared.named.TheConstants.{LARGEST_NUMBER}
 use Rattle.bug_record.specs.Desk.{Desk}
-use Rattle.bug_record.specs.Texts.{IsText}
-use Rattle.bug_record.specs.declared.outcome.End.{End}
+use Rattle.line_words.specs.Texts.{IsText}
+use Rattle.desk_lines.specs.declared.store_fault.End.{End}
 use Rattle.desk_content.specs.Content.{Content}
 use Rattle.desk_tables.specs.Files.{HoldDesk}
 use Rattle.desk_store.specs.Crashes.{Holding}
@@ -31,15 +31,15 @@ use Rattle.desk_http.specs.declared.port.ServerFault.TheVariants.{Bind, Write}
 use Rattle.job_words.specs.declared.job.Job.{Job}
 use Rattle.job_words.specs.declared.job.Job.TheVariants.{Run, Init, Serve, Send}
 use Rattle.desk_http.specs.Serving.{State, IsInTurn, IsServing}
-use Rattle.desk_answers.specs.Stored.{stored}
+use Rattle.desk_http.specs.Stored.{stored}
 use Rattle.desk_store.specs.Kept.{Keeping, none_kept}
 use Rattle.bts_jobs.specs.Endings.{end_of_script, end_of_server, end_of_message}
 use Rattle.desk_lines.specs.Lines.{lines_of, is_feed}
 use Rattle.line_words.specs.Ids.{IsId}
 use Rattle.message_progress.specs.declared.outcomes_so_far.Received.{Received}
-use Rattle.desk_repeats.specs.Once.{IsOnce, faults_after_once}
-use Rattle.desk_repeats.specs.declared.once.OnceFault.{OnceFault}
-use Rattle.desk_repeats.specs.declared.once.OnceFault.TheVariants.{BadId, Reused, Store as StoreFailed}
+use Rattle.desk_messages.specs.Once.{IsOnce, faults_after_once}
+use Rattle.desk_messages.specs.declared.once.OnceFault.{OnceFault}
+use Rattle.desk_messages.specs.declared.once.OnceFault.TheVariants.{BadId, Reused, Store as StoreFailed}
 use Rattle.bts_jobs.specs.InFile.{FileDesk, desk_in_file, keeping_in_file, IsKeptInFile, HasHonestFile, leaves_in_file, faults_in_file, IsOpenedInFile, IsNewInFile, IsOpenCause, IsInitCause}
 use Rattle.bts_jobs.specs.Left.{FilesLeft, IsLeftBy}
 use Rattle.bts_jobs.specs.declared.left.LeftFiles.TheVariants.{Nothing}

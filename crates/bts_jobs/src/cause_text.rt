@@ -40,7 +40,7 @@ fn numbered(before: &'static str, number: u64, after: &'static str) -> Parts
 
 impl Cause {
     /// What is said of this cause.
-    #[tactic(auto, unfolding(bug_record::specs::Faults::fault_message))]
+    #[tactic(auto, unfolding(desk_lines::specs::Faults::fault_message))]
     pub(crate) fn parts(self) -> Parts
         ensures { parts_text result ≡ cause_message self }
     {

@@ -4,7 +4,7 @@ ghost use Rattle.std.specs.Prelude.{◌≡◌, ◌⊎◌};
 ghost use Rattle.bts_jobs.specs.Endings.{status_of, IsTold, end_by_output};
 
 use crate::complaint::write_complaint;
-use bug_record::StoreFault;
+use desk_lines::StoreFault;
 use std::io::Write;
 
 /// Why the program did not do all that its words ask.

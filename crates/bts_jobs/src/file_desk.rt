@@ -13,7 +13,7 @@ ghost use Rattle.bts_jobs.specs.Left.{IsLeftBy};
 
 use crate::ending::Cause;
 use crate::left::LeftFiles;
-use bug_record::StoreFault;
+use desk_lines::StoreFault;
 use desk_tables::{OpenFault, TableDesk};
 use sqlite::{Connection, Error, ErrorCode, FileFrom, FileStore, Start};
 use std::alloc::Global;

@@ -2,7 +2,7 @@
 
 ghost use Rattle.std.specs.Prelude.{◌≡◌, ◌++◌, IfOk, OnOk};
 ghost use Rattle.std.specs.String.{string_bytes};
-ghost use Rattle.bug_record.specs.Texts.{IsText};
+ghost use Rattle.line_words.specs.Texts.{IsText};
 ghost use Rattle.desk_lines.specs.Lines.{lines_of};
 ghost use Rattle.bts_jobs.specs.Jobs.{with_feeds, message_text, TellsMessage, IsSentOnceOver, IsSentOnceToFile};
 
@@ -11,12 +11,11 @@ use crate::file_desk::{close_desk, open_desk};
 use crate::left::LeftFiles;
 use crate::making::give_text;
 use crate::sending::tell;
-use bug_record::is_text;
 use debver::Text;
 use desk_lines::split_lines;
-use desk_messages::Received;
-use desk_repeats::{OnceFault, receive_once};
+use desk_messages::{OnceFault, Received, receive_once};
 use desk_store::{Records, is_id};
+use line_words::is_text;
 use sqlite::{FileFrom, Start};
 use std::alloc::{AllocError, Global};
 use std::io::Write;

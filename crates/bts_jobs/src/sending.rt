@@ -1,20 +1,20 @@
 //! The job of a message.
 
 ghost use Rattle.std.specs.Prelude.{◌≡◌};
-ghost use Rattle.bug_record.specs.Texts.{IsText};
+ghost use Rattle.line_words.specs.Texts.{IsText};
 ghost use Rattle.bts_jobs.specs.Endings.{end_of_message};
 ghost use Rattle.bts_jobs.specs.Jobs.{IsSentOver, IsSentToFile, TellsMessage};
 
 use crate::ending::{Cause, JobEnd};
 use crate::file_desk::{close_desk, open_desk};
 use crate::left::LeftFiles;
-use bug_record::{End, is_text};
 use debver::Text;
 use desk_directives::received_bytes;
-use desk_lines::write_out;
+use desk_lines::{End, write_out};
 use desk_messages::{Received, receive_lines};
 use desk_run::refuses;
 use desk_store::Records;
+use line_words::is_text;
 use sqlite::{FileFrom, Start};
 use std::alloc::Global;
 use std::io::Write;

@@ -9,7 +9,7 @@ use Rattle.bug_record.specs.Desk.{Desk, IsSound, IsMergedWith, HasGoodTexts, Are
 use Rattle.bug_record.specs.Bugs.{with_new_bugs}
 use Rattle.bug_record.specs.declared.bug.Bug.{Bug}
 use Rattle.bug_record.proofs.SetLemmas.{one_number}
-use Rattle.set_images.proofs.ChangedLemmas.{none-from_next}
+use Rattle.bug_record.proofs.EqualLemmas.{none-from_next}
 use Rattle.bug_core.proofs.SoundLemmas.{agree, merged-from, blockers-there}
 
 -- whether m is one of so many numbers from the next one on

@@ -8,7 +8,7 @@ use Rattle.std.proofs.lemmas.Option.{none-some}
 use Rattle.std.proofs.lemmas.Bool.{false≢true, eqb-true, eq-eqb, and_parts, false_from_ne_true}
 use Rattle.version_nodes.specs.Nodes.{Node, IsNode}
 use Rattle.bug_record.specs.Sets.{has, IsAscending, Each}
-use Rattle.bug_record.specs.Texts.{IsGoodText, IfGiven}
+use Rattle.line_words.specs.Texts.{IsGoodText, IfGiven}
 use Rattle.bug_record.specs.Desk.{Desk, IsSound, IsGoodShared, AreGoodBlockers}
 use Rattle.bug_record.specs.Bugs.{at_bug, unless, first_refusal, bugs_at, all_of}
 use Rattle.bug_record.specs.Differences.{differing}

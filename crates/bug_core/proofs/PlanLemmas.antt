@@ -16,7 +16,7 @@ use Rattle.bug_record.specs.Words.{archived_refusal}
 use Rattle.bug_record.specs.Commands.{bug_named, other_bugs, bugs_named, HasGoodParts, HasUtf8Texts}
 use Rattle.bug_record.specs.Steps.{own_tests, records_changed, change_set, shared_after, new_title, new_submitter}
 use Rattle.bug_record.specs.Sets.{has, Each}
-use Rattle.bug_record.specs.Texts.{IsGoodText, IfGiven}
+use Rattle.line_words.specs.Texts.{IsGoodText, IfGiven}
 use Rattle.bug_record.specs.Images.{bug_of, bug_in, numbers_of, put, AreApart, AreSetsOf, image_with}
 use Rattle.bug_record.specs.Plans.{AllKnown, IsShownBy}
 use Rattle.bug_record.specs.declared.bug.Bug.{Bug}
@@ -330,7 +330,8 @@ pub archived-seen : (n : ℕ) {fields shared : Shared} {r : Option Refusal} → 
     → archived_refusal false n shared ≡ r
 archived-seen n e q = sym (q ∙ (λ j. archived_refusal false n (e j)))
 
-abbrev first_members : List SetImage → List Member
+-- the members of the first image
+abbrev pub first_members : List SetImage → List Member
 first_members [] = []
 first_members (i ∷ is) = i.members
 

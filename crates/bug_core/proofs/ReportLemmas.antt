@@ -7,7 +7,7 @@ use Rattle.std.specs.List.Sorted.{IsStrictlySortedBy}
 use Rattle.debver.specs.Names.{IsName}
 use Rattle.version_nodes.specs.Nodes.{Node, IsNode}
 use Rattle.bug_record.specs.Marks.{IsNodeSet}
-use Rattle.bug_record.specs.Texts.{IsGoodText, IfGiven}
+use Rattle.line_words.specs.Texts.{IsGoodText, IfGiven}
 use Rattle.bug_record.specs.Desk.{Desk, IsSound}
 use Rattle.bug_record.specs.Steps.{found_first, reported, new_bug}
 use Rattle.bug_record.specs.Images.{put, bug_of, CoverSets, FitsDesk}

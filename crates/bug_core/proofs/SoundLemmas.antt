@@ -6,7 +6,7 @@ use Rattle.bug_record.specs.Sets.{has, IsAscending}
 use Rattle.bug_record.specs.Desk.{Desk, IsSound, IsMergedWith, IsGoodShared, HasGoodTexts, AreGoodBlockers}
 use Rattle.bug_record.specs.Steps.{change_set}
 use Rattle.bug_record.specs.Bugs.{each_bug}
-use Rattle.bug_record.specs.Texts.{IsGoodText, IfGiven}
+use Rattle.line_words.specs.Texts.{IsGoodText, IfGiven}
 use Rattle.bug_record.specs.declared.bug.Bug.{Bug}
 use Rattle.bug_record.specs.declared.bug.Shared.{Shared}
 

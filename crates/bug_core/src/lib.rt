@@ -17,8 +17,9 @@ mod unmerge;
 
 pub use bug_record::{
     Bug, Change, Command, Field, Member, Members, Nodes, Numbered, Numbers, PlanFault, Refusal,
-    Sequence, SetImage, Severity, Shared, Tag, TagStep, Tags, VersionArg, Who, is_text,
+    Sequence, SetImage, Severity, Shared, Tag, TagStep, Tags, VersionArg, Who,
 };
+pub use line_words::is_text;
 pub use plans::plan;
 pub use report::report_change;
 pub use set_images::{bug_named, changed, changed_numbers_differ, find_image, other_bugs};

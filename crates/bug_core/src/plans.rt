@@ -3,7 +3,7 @@
 ghost use Rattle.std.specs.Prelude.{◌≡◌, ◌≤◌, ◌∷◌, [], true, false, map, IfOk, IfErr, Option, Some, None};
 ghost use Rattle.version_nodes.specs.Nodes.{Node};
 ghost use Rattle.bug_record.specs.Sets.{Each};
-ghost use Rattle.bug_record.specs.Texts.{IsText};
+ghost use Rattle.line_words.specs.Texts.{IsText};
 ghost use Rattle.bug_record.specs.Desk.{Desk, IsSound};
 ghost use Rattle.bug_record.specs.Commands.{HasGoodParts, bug_named, bugs_named};
 ghost use Rattle.bug_record.specs.Steps.{step_of_numbers};

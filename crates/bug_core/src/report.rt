@@ -3,7 +3,7 @@
 ghost use Rattle.std.specs.Prelude.{◌≡◌, ◌<◌, IfOk};
 ghost use Rattle.debver.specs.Names.{IsName};
 ghost use Rattle.bug_record.specs.Sets.{Each};
-ghost use Rattle.bug_record.specs.Texts.{IsText, IfGiven};
+ghost use Rattle.line_words.specs.Texts.{IsText, IfGiven};
 ghost use Rattle.bug_record.specs.Desk.{Desk, IsSound};
 ghost use Rattle.version_nodes.specs.Nodes.{IsNode};
 ghost use Rattle.bug_record.specs.Steps.{found_first, reported};

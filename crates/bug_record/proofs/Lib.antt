@@ -1,6 +1,8 @@
+pub mod EqualLemmas
 mod KeptLemmas
 pub mod MarkLemmas
 pub mod MergeLemmas
+pub mod NewBugLemmas
 pub mod NumberLemmas
 pub mod OrderedLemmas
 pub mod OrderedSetLemmas

@@ -6,7 +6,7 @@ use Rattle.debver.specs.Names.{IsName}
 use Rattle.debver.specs.Cut.{IsVersion}
 use Rattle.version_nodes.specs.Nodes.{Node, node}
 use Rattle.bug_record.specs.Sets.{Each}
-use Rattle.bug_record.specs.Texts.{IsText, IfGiven}
+use Rattle.line_words.specs.Texts.{IsText, IfGiven}
 use Rattle.bug_record.specs.declared.command.Command.{Command}
 use Rattle.bug_record.specs.declared.command.Command.TheVariants as commands
 use Rattle.bug_record.specs.declared.command.VersionArg.{VersionArg}

@@ -4,7 +4,7 @@ use Rattle.debver.specs.Names.{IsName}
 use Rattle.version_nodes.specs.Trees.{Ancestry, IsForest}
 use Rattle.line_words.specs.declared.named.TheConstants.{AFTER_LARGEST}
 use Rattle.bug_record.specs.Sets.{has, IsAscending}
-use Rattle.bug_record.specs.Texts.{IsGoodText, IfGiven}
+use Rattle.line_words.specs.Texts.{IsGoodText, IfGiven}
 use Rattle.bug_record.specs.Tags.{IsTagSet}
 use Rattle.bug_record.specs.Marks.{IsNodeSet}
 use Rattle.bug_record.specs.PackageSets.{IsNameSet}

@@ -1,7 +1,6 @@
 pub use Rattle.line_words.specs.Blanks
 pub use Rattle.line_words.specs.AnyCase
 pub mod Sets
-pub mod Texts
 pub mod Severities
 pub mod Tags
 pub mod Ordered
@@ -22,7 +21,7 @@ pub mod Changed
 pub mod Asked
 pub mod Waiting
 pub mod Lists
+pub mod Rows
 pub mod Kept
-pub mod Faults
 -- definitions that only private functions cite
 pub mod Places

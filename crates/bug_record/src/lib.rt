@@ -8,10 +8,10 @@ mod bug;
 mod command;
 mod members;
 mod outcome;
+mod row;
 mod sequence;
 mod severity;
 mod tag;
-mod texts;
 
 pub use agreed::Agreed;
 pub use bug::{Bug, Member, SetImage, Shared};
@@ -19,11 +19,11 @@ pub use command::{
     AffectsStep, Change, Command, Field, PlanFault, Refusal, TagStep, VersionArg, Who,
 };
 pub use members::Members;
-pub use outcome::{End, Outcome, StoreFault};
+pub use outcome::Outcome;
+pub use row::ListRow;
 pub use sequence::{
     Names, Nodes, Numbered, Numbers, Sequence, add_names, add_number, add_numbers, name_set,
     number_set,
 };
 pub use severity::Severity;
 pub use tag::{Tag, Tags};
-pub use texts::is_text;

@@ -12,8 +12,8 @@ use Rattle.bug_record.specs.Severities.{all_severities, rank}
 use Rattle.bug_record.specs.declared.bug.Bug.{Bug}
 use Rattle.bug_record.specs.declared.bug.Shared.{Shared}
 use Rattle.bug_record.specs.declared.severity.Severity.{Severity}
-use Rattle.set_images.specs.Rows.{row_of, rows_of, with_row}
-use Rattle.set_images.specs.declared.rows.ListRow.{ListRow}
+use Rattle.bug_record.specs.Rows.{row_of, rows_of, with_row}
+use Rattle.bug_record.specs.declared.row.ListRow.{ListRow}
 use Rattle.bugs_in_memory.specs.Passing.{is_listed_on, is_row_of}
 
 -- the test of the line is the test of the node

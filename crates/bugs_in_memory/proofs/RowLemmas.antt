@@ -22,8 +22,8 @@ use Rattle.bug_record.specs.declared.bug.Bug.{Bug}
 use Rattle.bug_record.specs.declared.bug.Member.{Member}
 use Rattle.bug_record.specs.declared.bug.SetImage.{SetImage}
 use Rattle.bug_record.specs.declared.bug.Shared.{Shared}
-use Rattle.set_images.specs.Rows.{row_of, rows_of, with_row}
-use Rattle.set_images.specs.declared.rows.ListRow.{ListRow}
+use Rattle.bug_record.specs.Rows.{row_of, rows_of, with_row}
+use Rattle.bug_record.specs.declared.row.ListRow.{ListRow}
 use Rattle.bugs_in_memory.specs.Keys.{keyed_bug, keyed_desk, IsKeyed}
 use Rattle.bugs_in_memory.specs.Places.{image_at, keys, sets}
 use Rattle.bugs_in_memory.specs.Passing.{image_passing, bugs_of, passing_there, member_row, set_rows, rows_there, row_numbers}

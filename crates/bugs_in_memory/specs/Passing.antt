@@ -12,8 +12,8 @@ use Rattle.bug_record.specs.declared.bug.SetImage.{SetImage}
 use Rattle.bug_record.specs.declared.bug.Shared.{Shared}
 use Rattle.bug_record.specs.declared.severity.Severity.{Severity}
 use Rattle.bug_record.specs.declared.severity.Severity.TheVariants.{Critical, Grave, Serious, Important, Normal, Minor, Wishlist}
-use Rattle.set_images.specs.Rows.{row_of}
-use Rattle.set_images.specs.declared.rows.ListRow.{ListRow}
+use Rattle.bug_record.specs.Rows.{row_of}
+use Rattle.bug_record.specs.declared.row.ListRow.{ListRow}
 use Rattle.bugs_in_memory.specs.declared.lists.RowsBySeverity.{RowsBySeverity}
 use Rattle.bugs_in_memory.specs.declared.places.Place.{Place}
 use Rattle.bugs_in_memory.specs.declared.places.Place.TheVariants.{First, After}

@@ -7,13 +7,12 @@ ghost use Rattle.bug_record.specs.Severities.{all_severities};
 ghost use Rattle.bug_record.specs.declared.severity.Severity.{Severity as SeenSeverity};
 ghost use Rattle.bugs_in_memory.specs.Plain.{desk_of};
 ghost use Rattle.bugs_in_memory.specs.Passing.{is_row_of, rows_under};
-ghost use Rattle.set_images.specs.Rows.{rows_of};
+ghost use Rattle.bug_record.specs.Rows.{rows_of};
 
 use crate::bug_sets::BugSets;
 use crate::passing::Question;
 use ancestry::{IndexedLine, Tree};
-use bug_record::{Sequence, Severity};
-use set_images::ListRow;
+use bug_record::{ListRow, Sequence, Severity};
 use std::alloc::{AllocError, Global};
 use version_nodes::Node;
 

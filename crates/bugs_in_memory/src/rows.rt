@@ -7,8 +7,8 @@ ghost use Rattle.version_nodes.specs.Trees.{Ancestry};
 ghost use Rattle.bug_record.specs.Asked.{numbers_where};
 ghost use Rattle.bug_record.specs.Desk.{IsSound};
 ghost use Rattle.bug_record.specs.Sets.{has, IsAscending};
-ghost use Rattle.set_images.specs.Rows.{rows_of};
-ghost use Rattle.set_images.specs.declared.rows.ListRow.{ListRow as SeenRow};
+ghost use Rattle.bug_record.specs.Rows.{rows_of};
+ghost use Rattle.bug_record.specs.declared.row.ListRow.{ListRow as SeenRow};
 ghost use Rattle.bugs_in_memory.specs.Plain.{desk_of};
 ghost use Rattle.bugs_in_memory.specs.Passing.{test_of, member_row, set_rows, rows_there, row_numbers};
 ghost use Rattle.bugs_in_memory.specs.Sums.{IsSumAsked};
@@ -16,8 +16,7 @@ ghost use Rattle.bugs_in_memory.specs.Sums.{IsSumAsked};
 use crate::bug_sets::BugSets;
 use crate::passing::{Question, image_passing, sum_asked};
 use crate::places::Place;
-use bug_record::{Member, SetImage};
-use set_images::ListRow;
+use bug_record::{ListRow, Member, SetImage};
 use std::alloc::{AllocError, Global};
 
 // The row of a bug of a set, whose title shares the memory of the bug's.

@@ -2,9 +2,10 @@
 
 ghost use Rattle.control_text.specs.WellFormed.{IsWellFormed, IsWellFormedLine};
 
-use bug_record::{Command, is_text};
+use bug_record::Command;
 use control_text::{Line, LineFault, Named, number_word, read_line, write_command};
 use desk_text::{Outcome, outcome_text};
+use line_words::is_text;
 use std::alloc::{AllocError, Global};
 
 /// Adds whether it is a text of 1 to 200 bytes.

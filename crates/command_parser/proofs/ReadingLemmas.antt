@@ -14,7 +14,7 @@ use Rattle.version_nodes.specs.Nodes.{node, is_slash, node_of}
 use Rattle.version_nodes.proofs.ReadLemmas.{nodes_exactly}
 use Rattle.line_words.specs.Blanks.{is_blank, is_control}
 use Rattle.bug_record.specs.Sets.{Each}
-use Rattle.bug_record.specs.Texts.{IsText, IfGiven}
+use Rattle.line_words.specs.Texts.{IsText, IfGiven}
 use Rattle.bug_record.specs.Severities.{severity_of}
 use Rattle.bug_record.specs.Commands.{IsGoodVersion, IsGoodPerson}
 use Rattle.bug_record.specs.declared.severity.Severity.{Severity}

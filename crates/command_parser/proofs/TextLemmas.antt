@@ -8,7 +8,7 @@ use Rattle.std.proofs.lemmas.List.Folds.{list_any-append}
 use Rattle.std.proofs.lemmas.List.Sums.{suffix_len-le-length}
 use Rattle.std.proofs.Math.Seq.{drop-append_seam}
 use Rattle.line_words.specs.Blanks.{is_blank, is_control, begins_blank}
-use Rattle.bug_record.specs.Texts.{ends_blank, is_text, IsText}
+use Rattle.line_words.specs.Texts.{ends_blank, is_text, IsText}
 use Rattle.line_words.specs.Words.{without_first, without_last_blanks, trimmed}
 use Rattle.line_words.proofs.WordLemmas.{begins_blank-without_first}
 

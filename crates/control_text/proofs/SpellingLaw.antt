@@ -4,7 +4,7 @@ use Rattle.std.proofs.Common.{append-nil}
 use Rattle.debver.specs.Names.{IsName}
 use Rattle.std.specs.Option.{ok_or}
 use Rattle.bug_record.specs.Sets.{Each}
-use Rattle.bug_record.specs.Texts.{IsText, IfGiven}
+use Rattle.line_words.specs.Texts.{IsText, IfGiven}
 use Rattle.bug_record.specs.Severities.{severity_name, severity_of}
 use Rattle.bug_record.specs.Commands.{IsGoodVersion, IsGoodPerson}
 use Rattle.bug_record.specs.declared.severity.Severity.{Severity}

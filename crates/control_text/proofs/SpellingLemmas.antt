@@ -23,7 +23,7 @@ use Rattle.version_nodes.specs.Nodes.{Node, node, is_slash}
 use Rattle.version_nodes.proofs.ReadLemmas.{nodes_exactly}
 use Rattle.bug_record.specs.Severities.{severity_name, severity_of}
 use Rattle.bug_record.specs.Commands.{IsGoodVersion}
-use Rattle.bug_record.specs.Texts.{IfGiven}
+use Rattle.line_words.specs.Texts.{IfGiven}
 use Rattle.bug_record.specs.declared.severity.Severity.{Severity}
 use Rattle.bug_record.specs.declared.severity.Severity.TheVariants as severities
 use Rattle.bug_record.specs.declared.command.VersionArg.{VersionArg}

@@ -38,7 +38,7 @@ fn nodes_of_a_branch(alloc: Global) -> Result<Vec<Node>, NodeFault> {
 
 // The report of a second bug, and a crash right after it: whether it was answered, and the desk
 // that is opened; `None` where it is not reported.
-#[tactic(auto, unfolding(bug_record::specs::Texts::is_text))]
+#[tactic(auto, unfolding(line_words::specs::Texts::is_text))]
 fn report_and_crash<S: Alter + Reopen + Drop>(
     alloc: Global,
     desk: TableDesk<S>,

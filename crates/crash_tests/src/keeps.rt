@@ -16,7 +16,7 @@ struct Keep;
 
 /// Keeps that the only line of a message stopped it, and crashes right after it: whether it was
 /// answered, and the desk that is opened; `None` where something may be kept of the id already.
-#[tactic(auto, unfolding(bug_record::specs::Texts::is_text, line_words::specs::Ids::is_id))]
+#[tactic(auto, unfolding(line_words::specs::Texts::is_text, line_words::specs::Ids::is_id))]
 fn stop_and_crash<S: Alter + Reopen + Drop>(
     alloc: Global,
     desk: TableDesk<S>,

@@ -1,7 +1,7 @@
 -- What an outcome that is kept makes of a content.
 -- This project's own rule.
 use Rattle.std.specs.Prelude.{ℕ, List, [], ◌∷◌, ◌++◌, length, Option, Some, None}
-use Rattle.bug_record.specs.Texts.{IfGiven}
+use Rattle.line_words.specs.Texts.{IfGiven}
 use Rattle.bug_record.specs.declared.command.Change.{Change}
 use Rattle.bug_record.specs.declared.outcome.Outcome.{Outcome}
 use Rattle.desk_store.specs.Kept.{IsGoodOutcome, IsOfMessage}

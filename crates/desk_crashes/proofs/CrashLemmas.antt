@@ -11,7 +11,7 @@ use Rattle.version_nodes.specs.Nodes.{Node}
 use Rattle.ancestry.specs.declared.fault.BranchFault.{BranchFault}
 use Rattle.bug_record.specs.Desk.{Desk}
 use Rattle.bug_record.specs.Images.{put}
-use Rattle.bug_record.specs.Texts.{IsText, IfGiven}
+use Rattle.line_words.specs.Texts.{IsText, IfGiven}
 use Rattle.bug_record.specs.declared.command.Change.{Change}
 use Rattle.bug_record.specs.declared.outcome.Outcome.{Outcome}
 use Rattle.desk_store.specs.Crashes.{Holding}
@@ -25,7 +25,7 @@ use Rattle.desk_content.proofs.AfterLemmas.{after_keeping, after_kept}
 use Rattle.desk_content.proofs.ChangeLemmas.{change_desk, change_kept}
 use Rattle.desk_content.proofs.KeepLemmas.{change_keeping}
 use Rattle.desk_content.proofs.QuestionLemmas.{branch_kept}
-use Rattle.bug_record.specs.declared.outcome.StoreFault.{StoreFault}
+use Rattle.desk_lines.specs.declared.store_fault.StoreFault.{StoreFault}
 use Rattle.desk_run.proofs.OneLemmas.{took_one}
 use Rattle.desk_store.specs.Store.{Holds, Applies, Branches, Keeps, MayBeKept, with_change}
 use Rattle.desk_store.proofs.HoldsLemmas.{holds_none}

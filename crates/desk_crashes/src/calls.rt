@@ -7,7 +7,7 @@ ghost use Rattle.sqlite_trees.specs.Tree.{Trees};
 ghost use Rattle.bug_record.specs.Desk.{Desk};
 ghost use Rattle.bug_record.specs.Sets.{Each};
 ghost use Rattle.bug_record.specs.Images.{AreApart, HasMember, FitsDesk, put};
-ghost use Rattle.bug_record.specs.Texts.{IsText, IfGiven};
+ghost use Rattle.line_words.specs.Texts.{IsText, IfGiven};
 ghost use Rattle.line_words.specs.Ids.{IsId};
 ghost use Rattle.desk_store.specs.Crashes.{Holding};
 ghost use Rattle.desk_store.specs.Kept.{Keeping, kept_also};
@@ -17,7 +17,8 @@ ghost use Rattle.desk_crashes.specs.Settled.{HasHonestDisk, HasKeptTables, IsSet
 
 use crate::left::crash_and_find;
 use ancestry::BranchFault;
-use bug_record::{Change, Outcome, StoreFault};
+use bug_record::{Change, Outcome};
+use desk_lines::StoreFault;
 use desk_store::Records;
 use desk_tables::TableDesk;
 use sqlite::Alter;

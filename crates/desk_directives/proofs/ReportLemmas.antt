@@ -15,7 +15,7 @@ use Rattle.desk_store.specs.Store.{Faults}
 use Rattle.desk_directives.specs.Reports.{node_reported, report_severity, desk_reported, report_of, IsReported}
 use Rattle.desk_directives.specs.ReportWords.{IsOfWords}
 use Rattle.desk_directives.specs.Reports.{faults_after_report, FollowsNext, AsksForNext}
-use Rattle.bug_record.specs.declared.outcome.StoreFault.{StoreFault}
+use Rattle.desk_lines.specs.declared.store_fault.StoreFault.{StoreFault}
 
 -- words that are refused
 words_of : (sender p : List ℕ) (v : Option (List ℕ)) (s t : List ℕ) (d : Desk) (fault : ReportFault)

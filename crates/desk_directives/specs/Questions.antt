@@ -9,7 +9,7 @@ use Rattle.bug_record.specs.Waiting.{waiting_on}
 use Rattle.bug_record.specs.declared.bug.Bug.{Bug}
 use Rattle.desk_text.specs.Answers.{bad_package_answer, bad_version_answer, no_bug_answer}
 use Rattle.desk_text.specs.Lists.{list_text}
-use Rattle.set_images.specs.Rows.{rows_of}
+use Rattle.bug_record.specs.Rows.{rows_of}
 use Rattle.desk_text.specs.Pages.{page_text}
 use Rattle.desk_store.specs.Store.{Faults, counted}
 use Rattle.desk_directives.specs.declared.told.Told.{Told as ToldBytes}

@@ -6,12 +6,12 @@ use Rattle.debver.specs.Names.{name_fault}
 use Rattle.debver.specs.Faults.{text_fault}
 use Rattle.version_nodes.specs.Nodes.{Node, node}
 use Rattle.line_words.specs.declared.named.TheConstants.{AFTER_LARGEST}
-use Rattle.bug_record.specs.Texts.{is_text}
+use Rattle.line_words.specs.Texts.{is_text}
 use Rattle.bug_record.specs.Severities.{severity_of}
 use Rattle.bug_record.specs.Desk.{Desk}
 use Rattle.bug_record.specs.Steps.{reported}
 use Rattle.bug_record.specs.declared.severity.Severity.{Severity}
-use Rattle.bug_record.specs.declared.outcome.StoreFault.{StoreFault}
+use Rattle.desk_lines.specs.declared.store_fault.StoreFault.{StoreFault}
 use Rattle.desk_text.specs.declared.report_fault.ReportFault.{ReportFault}
 use Rattle.desk_text.specs.declared.report_fault.ReportFault.TheVariants.{BadPackage, BadVersion, BadSeverity, BadTitle, Full, Store}
 use Rattle.desk_store.specs.Store.{Faults, counted}

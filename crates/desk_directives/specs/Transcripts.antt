@@ -1,8 +1,8 @@
 -- The transcript of a message.
 -- This project's own rule.
 use Rattle.std.specs.Prelude.{ℕ, ◌-◌, List, [], ◌∷◌, ◌++◌, length, slice_index_or}
-use Rattle.bug_record.specs.declared.outcome.End.{End}
-use Rattle.bug_record.specs.declared.outcome.End.TheVariants.{All, Stopped, TooManyUnreadable, Store}
+use Rattle.desk_lines.specs.declared.store_fault.End.{End}
+use Rattle.desk_lines.specs.declared.store_fault.End.TheVariants.{All, Stopped, TooManyUnreadable, Store}
 use Rattle.desk_text.specs.Texts.{outcome_text, end_text}
 use Rattle.desk_store.specs.Message.{Entry}
 

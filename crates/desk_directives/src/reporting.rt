@@ -5,19 +5,20 @@ ghost use Rattle.std.specs.Option.{option_copied};
 ghost use Rattle.debver.specs.Names.{IsName, name_fault};
 ghost use Rattle.debver.specs.Cut.{IsVersion};
 ghost use Rattle.version_nodes.specs.Nodes.{node};
-ghost use Rattle.bug_record.specs.Texts.{IsText, IfGiven};
+ghost use Rattle.line_words.specs.Texts.{IsText, IfGiven};
 ghost use Rattle.desk_store.specs.Store.{Holds};
 ghost use Rattle.desk_store.specs.Tried.{LeavesTried, tried_by};
 ghost use Rattle.desk_directives.specs.Reports.{has_bad_version, node_reported, report_severity, report_of, desk_after, IsReported};
 ghost use Rattle.desk_directives.specs.ReportWords.{IsOfWords};
 ghost use Rattle.desk_directives.specs.Reports.{faults_after_report, AsksForNext};
 
-use bug_core::{is_text, report_change};
-use bug_record::{Severity, StoreFault};
+use bug_core::report_change;
+use bug_record::Severity;
 use debver::{Text, check, check_name};
+use desk_lines::StoreFault;
 use desk_store::Records;
 use desk_text::ReportFault;
-use line_words::AFTER_LARGEST;
+use line_words::{AFTER_LARGEST, is_text};
 use std::alloc::{AllocError, Global};
 use version_nodes::{Node, NodeFault};
 

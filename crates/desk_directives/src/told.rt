@@ -1,6 +1,6 @@
 //! What a question is told.
 
-use bug_record::StoreFault;
+use desk_lines::StoreFault;
 use std::alloc::AllocError;
 use thiserror::Error;
 

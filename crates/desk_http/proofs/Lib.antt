@@ -1,3 +1,8 @@
+pub mod AnswerLemmas
+pub mod AskedLemmas
+pub mod MessageLemmas
+pub mod NodesLemmas
+pub mod RepeatLemmas
 pub mod ExchangeLemmas
 pub mod ServingLemmas
 mod CountLemmas

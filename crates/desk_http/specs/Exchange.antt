@@ -3,17 +3,17 @@
 use Rattle.std.specs.Prelude.{ℕ, ◌≡◌, ◌≢◌, ◌⊎◌, List, [], Option, Some, None, Result, Ok, Err, IfSome, ⊤}
 use Rattle.std.specs.Io.KnownBytes.{Appends}
 use Rattle.httparse.specs.Grammar.{RequestHead}
-use Rattle.bug_record.specs.declared.outcome.StoreFault.{StoreFault}
-use Rattle.bug_record.specs.declared.outcome.StoreFault.TheVariants.{Memory}
+use Rattle.desk_lines.specs.declared.store_fault.StoreFault.{StoreFault}
+use Rattle.desk_lines.specs.declared.store_fault.StoreFault.TheVariants.{Memory}
 use Rattle.connection_bytes.specs.Head.{BeginsWithHead, HasNoHead}
 use Rattle.connection_bytes.specs.Found.{HadBytes}
 use Rattle.desk_store.specs.Store.{Faults}
 use Rattle.desk_requests.specs.Answer.{Answer, answer_bytes, store_fault}
 use Rattle.desk_requests.specs.Requests.{Asked}
 use Rattle.desk_requests.specs.Told.{IsTold}
-use Rattle.desk_answers.specs.Faults.{counted_with}
-use Rattle.desk_answers.specs.Repeats.{IsAskedAnswer}
-use Rattle.desk_answers.specs.Stored.{Stored}
+use Rattle.desk_http.specs.Faults.{counted_with}
+use Rattle.desk_http.specs.Repeats.{IsAskedAnswer}
+use Rattle.desk_http.specs.Stored.{Stored}
 use Rattle.desk_requests.specs.Asking.{asked_of, bad_request}
 use Rattle.desk_http.specs.declared.serve.Served.{Served}
 use Rattle.desk_http.specs.declared.serve.Served.TheVariants.{Answered, Closed}

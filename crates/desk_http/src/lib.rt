@@ -1,13 +1,21 @@
-//! The desk over HTTP, over any store: one exchange with any reader and writer, and a port of this
-//! machine, with connections one after another, each with its limits.
+//! The desk over HTTP, over any store: a request carried out, one exchange with any reader and
+//! writer, and a port of this machine, with connections one after another, each with its limits.
 #![tactic(auto)]
 
+mod answering;
+mod branches;
 mod connection;
 mod connections;
 mod laws;
+mod lists_and_pages;
+mod messages;
+mod once;
 mod port;
+mod refusals;
+mod reports;
 mod serve;
 
+pub use answering::answer_request;
 pub use connection::serve_within;
 pub use connection_bytes::Limits;
 pub use connections::serve_connections;

@@ -6,15 +6,15 @@ ghost use Rattle.connection_bytes.specs.Head.{HasNoHead};
 ghost use Rattle.desk_store.specs.Store.{Holds};
 ghost use Rattle.desk_requests.specs.Answer.{answer_bytes};
 ghost use Rattle.desk_requests.specs.Shown.{shown};
-ghost use Rattle.desk_answers.specs.Stored.{stored};
+ghost use Rattle.desk_http.specs.Stored.{stored};
 ghost use Rattle.desk_requests.specs.Asking.{bad_request};
 ghost use Rattle.desk_http.specs.Exchange.{IsServed, IsCounted, TellsFault};
 ghost use Rattle.desk_http.specs.Steps.{IsExchanged, IsExchangeCounted, IsGiven};
 ghost use Rattle.desk_requests.specs.Taken.{TakesRequest};
 
-use bug_record::StoreFault;
+use crate::answering::answer_request;
 use connection_bytes::{Head, MAX_HEAD, MAX_HEADERS, read_head};
-use desk_answers::answer_request;
+use desk_lines::StoreFault;
 use desk_requests::{AskFault, Refusal, Reply, ask, refuse, store_fault, write_reply};
 use desk_store::Records;
 use http::StatusCode;

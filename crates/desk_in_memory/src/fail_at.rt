@@ -5,7 +5,7 @@ ghost use Rattle.std.specs.Option.{option_copied};
 ghost use Rattle.bug_record.specs.Sets.{Each};
 ghost use Rattle.bug_record.specs.Images.{AreApart, HasMember, IsSetOf, FitsDesk, put};
 ghost use Rattle.desk_store.specs.Store.{Holds, Asks, Answers, IsImageOf, IsNext, IsOpenHead, AreWaitingOn, AreListed};
-ghost use Rattle.bug_record.specs.Texts.{IsText, IfGiven};
+ghost use Rattle.line_words.specs.Texts.{IsText, IfGiven};
 ghost use Rattle.line_words.specs.Ids.{IsId};
 ghost use Rattle.desk_store.specs.Store.{Applies, Branches, IsRefusal, Since, MayBeKept, Keeps, with_change};
 ghost use Rattle.desk_store.specs.Kept.{kept_also};
@@ -14,9 +14,9 @@ ghost use Rattle.desk_store.specs.Store.{faults_after};
 ghost use Rattle.desk_in_memory.specs.FailAt.{faults_with};
 
 use ancestry::BranchFault;
-use bug_record::{Change, Numbers, Outcome, Sequence, SetImage, StoreFault};
+use bug_record::{Change, ListRow, Numbers, Outcome, Sequence, SetImage};
+use desk_lines::StoreFault;
 use desk_store::{Kept, Records};
-use set_images::ListRow;
 use version_nodes::Node;
 
 /// A store round another.

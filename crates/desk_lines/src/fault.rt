@@ -1,6 +1,6 @@
 //! How a script ends before its end.
 
-use bug_record::StoreFault;
+use crate::store_fault::StoreFault;
 use std::alloc::{AllocError, AllocFailed};
 use thiserror::Error;
 

@@ -3,7 +3,7 @@ use Rattle.std.proofs.Common.{◌≡◌, ◌≤◌, ℕ, Bool, true, cond, refl,
 use Rattle.std.specs.Prelude.{◌==◌, length, IfOk}
 use Rattle.std.proofs.lemmas.Bool.{eqb-true}
 use Rattle.bug_record.specs.Sets.{has, Each}
-use Rattle.bug_record.specs.Texts.{IfGiven}
+use Rattle.line_words.specs.Texts.{IfGiven}
 use Rattle.bug_record.specs.Desk.{Desk, IsSound}
 use Rattle.bug_record.specs.Steps.{step}
 use Rattle.bug_record.specs.Words.{Names}
@@ -14,7 +14,7 @@ use Rattle.bug_record.specs.Changed.{changed_numbers, AreChanged, Replaces}
 use Rattle.record_changes.specs.Members.{leaves_members}
 use Rattle.set_images.specs.Alike.{BeginAlike}
 use Rattle.set_images.proofs.ChangedLemmas.{changed-on_desk}
-use Rattle.bug_record.specs.declared.bug.Member.{Member}
+use Rattle.bug_core.proofs.PlanLemmas.{first_members}
 use Rattle.bug_record.specs.declared.bug.SetImage.{SetImage}
 use Rattle.bug_record.specs.declared.command.Change.{Change}
 use Rattle.bug_record.specs.Commands.{bug_named, bugs_named, names_in}
@@ -26,7 +26,7 @@ use Rattle.line_words.specs.declared.named.Named.{Named}
 use Rattle.bug_record.specs.declared.outcome.Outcome.TheVariants.{Changed, Refused}
 use Rattle.desk_store.specs.Message.{outcome_of, does}
 use Rattle.message_progress.specs.Telling.{refusal_meant, result_meant, step_among}
-use Rattle.bug_record.specs.declared.outcome.StoreFault.{StoreFault}
+use Rattle.desk_lines.specs.declared.store_fault.StoreFault.{StoreFault}
 use Rattle.desk_store.specs.Store.{Answers, with_change}
 use Rattle.message_progress.specs.Progress.{HaveNumbers}
 use Rattle.message_progress.specs.Changes.{MayBeMade, Fits}
@@ -142,10 +142,6 @@ unchanged d images sets next change numbers e a p none same =
 -- what a plan promises of its change
 pub if_planned : {A E : Type 0} (P : A → Type 0) (r : Result A E) (x : A) → r ≡ Ok x → IfOk r P → P x
 if_planned P r x e h = subst (λ q. IfOk q P) e h
-
-abbrev first_members : List SetImage → List Member
-first_members [] = []
-first_members (i ∷ is) = i.members
 
 -- what is planned of a command that leaves the titles and submitters of the first image begins with
 -- its members

@@ -1,8 +1,8 @@
 -- The end of a message.
 -- This project's own rule.
 use Rattle.std.specs.Prelude.{ℕ, ◌<◌, ◌≤◌, List, length, ⊤}
-use Rattle.bug_record.specs.declared.outcome.End.{End}
-use Rattle.bug_record.specs.declared.outcome.End.TheVariants.{All, Stopped, TooManyUnreadable, Store}
+use Rattle.desk_lines.specs.declared.store_fault.End.{End}
+use Rattle.desk_lines.specs.declared.store_fault.End.TheVariants.{All, Stopped, TooManyUnreadable, Store}
 
 -- where the store failed, it failed at one of the lines
 abbrev pub IsLineOf : End → List (List ℕ) → Type 0

@@ -2,7 +2,7 @@
 
 ghost use Rattle.std.specs.Prelude.{◌≡◌, ◌++◌, ℕ, List, None, IsTrue, IfOk, OnErr, Result};
 ghost use Rattle.bug_record.specs.Sets.{Each};
-ghost use Rattle.bug_record.specs.Texts.{IsText, IfGiven};
+ghost use Rattle.line_words.specs.Texts.{IsText, IfGiven};
 ghost use Rattle.bug_record.specs.Desk.{Desk, IsSound};
 ghost use Rattle.bug_record.specs.Steps.{step};
 ghost use Rattle.bug_record.specs.Changed.{AreChanged, Replaces, changed_numbers};
@@ -22,9 +22,8 @@ ghost use Rattle.set_images.specs.Alike.{BeginAlike};
 ghost use Rattle.desk_store.specs.Message.{names_of};
 
 use bug_core::{changed, plan};
-use bug_record::{
-    Change, Command, Numbers, Outcome, PlanFault, Refusal, SetImage, StoreFault, VersionArg,
-};
+use bug_record::{Change, Command, Numbers, Outcome, PlanFault, Refusal, SetImage, VersionArg};
+use desk_lines::StoreFault;
 use desk_store::Records;
 use line_words::Named;
 use message_progress::{

@@ -1,11 +1,17 @@
 //! Messages, over any store of a desk.
+//! Those that have an id act once per line: what is kept of them is recalled, and the message goes
+//! on at the first line that has an outcome and has none kept; this is the project's own rule.
 #![tactic(auto)]
 
 mod command_decision;
+mod going_on;
 mod line_decision;
 mod message;
+mod once;
+mod recalling;
 
 pub use command_decision::Decision;
 pub use line_decision::decide_line;
 pub use message::{receive, receive_lines};
 pub use message_progress::{Progress, Received, goes_on, make_room, settle};
+pub use once::{OnceFault, receive_once};

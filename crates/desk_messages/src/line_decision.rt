@@ -1,7 +1,7 @@
 //! One line of a message, decided.
 
 ghost use Rattle.std.specs.Prelude.{◌≡◌, ◌<◌, [], vec_len, vec_capacity, is_some, true, IfOk, OnErr, Ok, Some, Result};
-ghost use Rattle.bug_record.specs.Texts.{IsText, IfGiven};
+ghost use Rattle.line_words.specs.Texts.{IsText, IfGiven};
 ghost use Rattle.bug_record.specs.Commands.{HasGoodParts, bugs_named, names_in};
 ghost use Rattle.bug_record.specs.Sets.{Each};
 ghost use Rattle.line_words.specs.Bugs.{IsGoodBug};
@@ -16,10 +16,11 @@ ghost use Rattle.message_progress.specs.Progress.{IsInStep};
 ghost use Rattle.desk_messages.specs.Taking.{IsReadyFor, DecidesLine, FitsDecided, HasMembers, plainly};
 
 use crate::command_decision::{Decision, decide_command, without_change};
-use bug_record::{Command, Outcome, StoreFault};
+use bug_record::{Command, Outcome};
 use command_grammar::Line;
 use command_parser::{LineFault, read_line};
 use debver::Text;
+use desk_lines::StoreFault;
 use desk_store::Records;
 use line_words::Named;
 use message_progress::{Progress, make_room};

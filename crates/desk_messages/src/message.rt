@@ -1,7 +1,7 @@
 //! A message: its lines, taken one at a time.
 
 ghost use Rattle.std.specs.Prelude.{◌≡◌, IfOk, OnOk, OnErr};
-ghost use Rattle.bug_record.specs.Texts.{IsText};
+ghost use Rattle.line_words.specs.Texts.{IsText};
 ghost use Rattle.desk_store.specs.Store.{Holds, with_change, faults_after, faults_after_end};
 ghost use Rattle.desk_store.specs.Message.{unreadable_count, end_of, known_names, machine, takes, IsReceived};
 ghost use Rattle.message_progress.specs.Progress.{HaveNumbers};
@@ -14,9 +14,9 @@ ghost use Rattle.desk_store.specs.Tried.{LeavesTried, tried_by, tried_at};
 ghost use Rattle.command_grammar.specs.Lines.{reading};
 
 use crate::line_decision::decide_line;
-use bug_record::{Change, End, Outcome, Sequence, StoreFault};
+use bug_record::{Change, Outcome, Sequence};
 use debver::Text;
-use desk_lines::split_lines;
+use desk_lines::{End, StoreFault, split_lines};
 use desk_store::Records;
 use message_progress::{Progress, Received, goes_on, settle};
 use std::alloc::Global;

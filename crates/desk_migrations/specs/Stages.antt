@@ -9,7 +9,7 @@ use Rattle.sqlite.specs.Tree.{Trees}
 use Rattle.sqlite.specs.declared.error.Error.{Error}
 use Rattle.sqlite_catalog.specs.Change.{KeepsRows}
 use Rattle.sqlite_trees.specs.Tree.{with_tree}
-use Rattle.bug_record.specs.declared.outcome.StoreFault.{StoreFault}
+use Rattle.desk_lines.specs.declared.store_fault.StoreFault.{StoreFault}
 use Rattle.sql_forms.specs.Faults.{written}
 use Rattle.desk_content.specs.Content.{Content}
 use Rattle.desk_schema.specs.Rows.{meta_cells, content_of, AreShown}

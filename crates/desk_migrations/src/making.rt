@@ -9,7 +9,7 @@ ghost use Rattle.desk_migrations.specs.Making.{no_rows, IsBlank, IsDeskOf, IsUnd
 ghost use Rattle.desk_migrations.specs.Stages.{HasRun, RunsStep, RunsSteps, IsBuilt, AreNumbered};
 
 use crate::history::STEPS;
-use bug_record::StoreFault;
+use desk_lines::StoreFault;
 use desk_schema::written;
 use sqlite::{Alter, Transaction, params};
 

@@ -2,11 +2,11 @@
 
 ghost use Rattle.std.specs.Prelude.{◌≡◌, ◌≢◌, [], ◌∷◌, length, IfOk, IfErr};
 ghost use Rattle.sqlite.specs.Held.{state};
-ghost use Rattle.bug_record.specs.declared.outcome.StoreFault.TheVariants.{Foreign};
+ghost use Rattle.desk_lines.specs.declared.store_fault.StoreFault.TheVariants.{Foreign};
 ghost use Rattle.desk_migrations.specs.Number as spec;
 ghost use Rattle.desk_migrations.specs.Said as said;
 
-use bug_record::StoreFault;
+use desk_lines::StoreFault;
 use desk_schema::{fault_of, told};
 use sqlite::{Alter, Row, Transaction};
 

@@ -27,8 +27,8 @@ use Rattle.bug_record.specs.declared.bug.Bug.{Bug}
 use Rattle.bug_record.specs.declared.bug.Member.{Member}
 use Rattle.bug_record.specs.declared.bug.Shared.{Shared}
 use Rattle.bug_record.specs.declared.bug.SetImage.{SetImage}
-use Rattle.set_images.specs.Rows.{row_of, rows_of, with_row}
-use Rattle.set_images.specs.declared.rows.ListRow.{ListRow}
+use Rattle.bug_record.specs.Rows.{row_of, rows_of, with_row}
+use Rattle.bug_record.specs.declared.row.ListRow.{ListRow}
 use Rattle.bugs_in_memory.specs.Passing.{is_listed_on, is_row_of}
 use Rattle.bugs_in_memory.proofs.ImageLemmas.{has-member_some, member-has}
 use Rattle.bugs_in_memory.proofs.KeyLemmas.{found-image, shown, shown-some}

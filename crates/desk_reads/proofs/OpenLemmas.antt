@@ -14,7 +14,7 @@ use Rattle.bug_record.specs.declared.bug.Bug.{Bug}
 use Rattle.bug_record.specs.declared.bug.Member.{Member}
 use Rattle.bug_record.specs.declared.bug.Shared.{Shared}
 use Rattle.bug_record.specs.declared.bug.SetImage.{SetImage}
-use Rattle.bug_record.specs.declared.outcome.StoreFault.{StoreFault}
+use Rattle.desk_lines.specs.declared.store_fault.StoreFault.{StoreFault}
 use Rattle.bugs_in_memory.specs.Keys.{key_of, first_number}
 use Rattle.bugs_in_memory.proofs.KeyLemmas.{found-image, shown-some}
 use Rattle.desk_content.specs.Content.{Content}

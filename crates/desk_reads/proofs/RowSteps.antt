@@ -9,8 +9,8 @@ use Rattle.bug_record.specs.Sets.{AllAbove, IsAscending}
 use Rattle.bug_record.specs.declared.bug.Member.{Member}
 use Rattle.bug_record.specs.declared.bug.SetImage.{SetImage}
 use Rattle.bug_record.proofs.SetLemmas.{has-above}
-use Rattle.set_images.specs.Rows.{row_of}
-use Rattle.set_images.specs.declared.rows.ListRow.{ListRow}
+use Rattle.bug_record.specs.Rows.{row_of}
+use Rattle.bug_record.specs.declared.row.ListRow.{ListRow}
 use Rattle.bugs_in_memory.proofs.ImageLemmas.{none_from, has-member_some}
 use Rattle.desk_reads.proofs.LoopLemmas.{here}
 use Rattle.desk_reads.specs.Rows.{row_at, row_with, row_among}

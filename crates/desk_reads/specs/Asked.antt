@@ -4,7 +4,7 @@ use Rattle.sqlite.specs.State.{State}
 use Rattle.version_nodes.specs.Trees.{Ancestry}
 use Rattle.bug_record.specs.Images.{HasMember, IsSetOf}
 use Rattle.bug_record.specs.declared.bug.SetImage.{SetImage}
-use Rattle.bug_record.specs.declared.outcome.StoreFault.{StoreFault}
+use Rattle.desk_lines.specs.declared.store_fault.StoreFault.{StoreFault}
 use Rattle.desk_content.specs.Content.{Content}
 use Rattle.desk_content.specs.Kept.{IsKeptContent}
 use Rattle.desk_content.specs.View.{desk_in}

@@ -1,7 +1,7 @@
 -- What a question says where the tables say what a desk keeps.
 use Rattle.std.specs.Prelude.{◌≡◌, Result}
 use Rattle.sqlite.specs.State.{State}
-use Rattle.bug_record.specs.declared.outcome.StoreFault.{StoreFault}
+use Rattle.desk_lines.specs.declared.store_fault.StoreFault.{StoreFault}
 use Rattle.desk_content.specs.Content.{Content}
 use Rattle.desk_content.specs.Kept.{IsKeptContent}
 use Rattle.desk_schema.specs.Steps.{Acts}

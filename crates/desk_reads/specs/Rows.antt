@@ -5,8 +5,8 @@ use Rattle.version_nodes.specs.Nodes.{Node}
 use Rattle.bug_record.specs.Images.{bug_of, member_at}
 use Rattle.bug_record.specs.declared.bug.Member.{Member}
 use Rattle.bug_record.specs.declared.bug.SetImage.{SetImage}
-use Rattle.set_images.specs.Rows.{row_of}
-use Rattle.set_images.specs.declared.rows.ListRow.{ListRow}
+use Rattle.bug_record.specs.Rows.{row_of}
+use Rattle.bug_record.specs.declared.row.ListRow.{ListRow}
 use Rattle.desk_content.specs.Content.{Content}
 use Rattle.desk_content.specs.View.{image}
 use Rattle.desk_reads.specs.Found.{is_shown_at}

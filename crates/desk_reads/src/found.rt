@@ -8,8 +8,9 @@ ghost use Rattle.desk_schema.specs.Steps.{Reads, Serves};
 ghost use Rattle.desk_reads.specs.Found.{decided, is_found_by, is_found_at, is_found_in};
 
 use ancestry::status_from;
-use bug_record::{SetImage, Shared, StoreFault};
+use bug_record::{SetImage, Shared};
 use desk_content::kind_here;
+use desk_lines::StoreFault;
 use set_rows::{Marks, read_marks, read_near_kind};
 use sqlite::{Alter, Transaction};
 use std::alloc::Global;

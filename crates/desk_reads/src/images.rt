@@ -2,7 +2,7 @@
 
 ghost use Rattle.std.specs.Prelude.{◌≡◌, ◌≢◌, IfOk, IfErr, option_map};
 ghost use Rattle.sqlite.specs.Held.{state};
-ghost use Rattle.bug_record.specs.declared.outcome.StoreFault.TheVariants.{Foreign};
+ghost use Rattle.desk_lines.specs.declared.store_fault.StoreFault.TheVariants.{Foreign};
 ghost use Rattle.desk_content.specs.View.{image, shared_of};
 ghost use Rattle.desk_schema.specs.Steps.{Reads, Serves};
 ghost use Rattle.desk_reads.specs.Kept.{ReadsKept};
@@ -10,8 +10,9 @@ ghost use Rattle.desk_reads.specs.Bugs.{image_with};
 ghost use Rattle.desk_reads.specs.FoundSets.{IsSetFound, found_under};
 
 use crate::keys::small_key;
-use bug_record::{Agreed, SetImage, Shared, StoreFault};
+use bug_record::{Agreed, SetImage, Shared};
 use desk_content::SetFields;
+use desk_lines::StoreFault;
 use set_rows::{read_fields, read_key, read_members, read_shared};
 use sqlite::{Alter, Transaction};
 use std::alloc::Global;

@@ -11,10 +11,9 @@ ghost use Rattle.bugs_in_memory.specs.Passing.{is_row_of};
 ghost use Rattle.set_rows.specs.Listed.{row_fields};
 ghost use Rattle.desk_reads.specs.Rows.{row_with, row_among};
 
-use bug_record::{Member, Sequence};
+use bug_record::{ListRow, Member, Sequence};
 use bugs_in_memory::by_severity;
 use desk_content::SetFields;
-use set_images::ListRow;
 use set_rows::RowFields;
 use std::alloc::{AllocError, Global};
 use std::collections::BTreeMap;

@@ -4,7 +4,7 @@ ghost use Rattle.std.specs.Prelude.{◌≡◌, ◌≢◌, [], IfOk, IfErr, OnOk}
 ghost use Rattle.sqlite.specs.Held.{state};
 ghost use Rattle.bug_record.specs.Images.{numbers_of};
 ghost use Rattle.bug_record.specs.Sets.{with_items};
-ghost use Rattle.bug_record.specs.declared.outcome.StoreFault.TheVariants.{Foreign};
+ghost use Rattle.desk_lines.specs.declared.store_fault.StoreFault.TheVariants.{Foreign};
 ghost use Rattle.desk_content.specs.View.{desk_in};
 ghost use Rattle.desk_schema.specs.Steps.{Reads, Serves};
 ghost use Rattle.set_rows.specs.Waiting.{AreKeysOf};
@@ -13,7 +13,8 @@ ghost use Rattle.desk_reads.specs.Kept.{ReadsKept};
 ghost use Rattle.desk_reads.specs.Bugs.{bugs_of};
 
 use crate::keys::small_keys;
-use bug_record::{Member, Numbers, Sequence, StoreFault, add_number};
+use bug_record::{Member, Numbers, Sequence, add_number};
+use desk_lines::StoreFault;
 use set_rows::{read_members, read_waiting};
 use sqlite::{Alter, Transaction};
 use std::alloc::Global;

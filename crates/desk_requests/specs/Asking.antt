@@ -9,7 +9,7 @@ use Rattle.std.specs.Str.{is_utf8, bytes_eq}
 use Rattle.httparse.specs.Grammar.{RequestHead}
 use Rattle.httparse.specs.Spans.{name_and_value}
 use Rattle.serde_json.specs.Data.{Data}
-use Rattle.bug_record.specs.Texts.{is_text}
+use Rattle.line_words.specs.Texts.{is_text}
 use Rattle.line_words.specs.Numbers.{number_of_word}
 use Rattle.routes_and_json.specs.Body.{json_of}
 use Rattle.routes_and_json.specs.Members.{Control as ControlMembers, report_members, control_members, id_member, branch_member}

@@ -1,7 +1,7 @@
 -- What a request asks of a desk, once it is read.
 -- This project's own rule.
 use Rattle.std.specs.Prelude.{ℕ, List, ⊤}
-use Rattle.bug_record.specs.Texts.{IsText}
+use Rattle.line_words.specs.Texts.{IsText}
 use Rattle.line_words.specs.Ids.{IsId}
 use Rattle.routes_and_json.specs.Members.{Report, Control}
 

@@ -1,6 +1,6 @@
 -- What the functions that carry requests out answer.
 use Rattle.std.specs.Prelude.{◌≡◌, Some, None}
-use Rattle.bug_record.specs.declared.outcome.StoreFault.{StoreFault}
+use Rattle.desk_lines.specs.declared.store_fault.StoreFault.{StoreFault}
 use Rattle.desk_requests.specs.Answer.{Answer, store_fault}
 use Rattle.desk_requests.specs.Shown.{shown}
 use Rattle.desk_requests.specs.declared.reply.Reply.{Reply}

@@ -1,8 +1,8 @@
 -- Which answers tell of a fault.
 -- This project's own rule.
 use Rattle.std.specs.Prelude.{◌≡◌, ◌≢◌, Option, Some, None}
-use Rattle.bug_record.specs.declared.outcome.StoreFault.{StoreFault}
-use Rattle.bug_record.specs.declared.outcome.StoreFault.TheVariants.{Memory}
+use Rattle.desk_lines.specs.declared.store_fault.StoreFault.{StoreFault}
+use Rattle.desk_lines.specs.declared.store_fault.StoreFault.TheVariants.{Memory}
 use Rattle.desk_requests.specs.Answer.{Answer, store_fault}
 
 -- Whatever the store is: a 500 comes only where a fault was met; out of memory is told by the

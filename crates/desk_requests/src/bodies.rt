@@ -2,7 +2,7 @@
 
 ghost use Rattle.std.specs.Prelude.{◌≡◌, IfOk, map, option_map, string_bytes};
 ghost use Rattle.serde_json.specs.View.{view};
-ghost use Rattle.bug_record.specs.Texts.{IsText};
+ghost use Rattle.line_words.specs.Texts.{IsText};
 ghost use Rattle.routes_and_json.specs.Shown.{report_shown, control_shown, texts_shown};
 ghost use Rattle.desk_requests.specs.Requests.{IsGoodAsked};
 ghost use Rattle.desk_requests.specs.Shown.{asked, report_asked, message_asked};
@@ -13,8 +13,7 @@ ghost use Rattle.desk_requests.specs.Refused.{asks, IfAsked};
 use crate::fault::AskFault;
 use crate::refusal::Refusal;
 use crate::request::{MessageRequest, OnceRequest, ReportRequest, Request};
-use bug_core::is_text;
-use line_words::is_id;
+use line_words::{is_id, is_text};
 use routes_and_json::{
     ControlMembers, ReportMembers, Route, branch_member, control_members, id_member, parse,
     report_members,

@@ -7,7 +7,7 @@ ghost use Rattle.desk_requests.specs.Told.{IsTold};
 ghost use Rattle.desk_requests.specs.Shown.{media_of, body_of, shown};
 ghost use Rattle.desk_requests.specs.Steps.{Fails, Gives};
 
-use bug_record::StoreFault;
+use desk_lines::StoreFault;
 use http::StatusCode;
 
 /// What stands in an answer.

@@ -8,7 +8,7 @@ use Rattle.sqlite.specs.Values.{or_null}
 use Rattle.sqlite.specs.declared.types.Value.TheVariants.{Text}
 use Rattle.version_nodes.specs.Nodes.{Node, IsNode}
 use Rattle.version_nodes.specs.Trees.{Ancestry}
-use Rattle.bug_record.specs.Texts.{IfGiven}
+use Rattle.line_words.specs.Texts.{IfGiven}
 
 -- a row of a node with its parent, or with none, as an answer has it
 abbrev pub link_row : Node × Option Node → Row

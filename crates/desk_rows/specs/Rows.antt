@@ -8,7 +8,7 @@ use Rattle.sqlite.specs.Order.{Row}
 use Rattle.sqlite.specs.Values.{or_null}
 use Rattle.sqlite.specs.declared.types.Value.TheVariants.{Int, Text, Blob}
 use Rattle.version_nodes.specs.Nodes.{Node, IsNode}
-use Rattle.bug_record.specs.Texts.{IfGiven}
+use Rattle.line_words.specs.Texts.{IfGiven}
 use Rattle.desk_content.specs.Outcomes.{bare, outcome_kind, outcome_number, outcome_field, outcome_node}
 use Rattle.desk_content.specs.declared.edit.SentMessage.{SentMessage}
 use Rattle.desk_content.specs.declared.edit.ToldOutcome.{ToldOutcome}

@@ -7,13 +7,13 @@ ghost use Rattle.sqlite.specs.Order.{column};
 ghost use Rattle.sqlite.specs.declared.types.Value.TheVariants.{Text as TextCell};
 ghost use Rattle.version_nodes.specs.Nodes.{Node as SeenNode};
 ghost use Rattle.version_nodes.specs.Trees.{Ancestry, IsForest};
-ghost use Rattle.bug_record.specs.declared.outcome.StoreFault.TheVariants.{Foreign};
+ghost use Rattle.desk_lines.specs.declared.store_fault.StoreFault.TheVariants.{Foreign};
 ghost use Rattle.desk_schema.specs.Steps.{Acts, Reads, Serves};
 ghost use Rattle.desk_rows.specs.Links.{link_row, IsLink, AreLinksOf};
 
 use crate::outcomes::maybe_node_at;
 use ancestry::Tree;
-use bug_record::StoreFault;
+use desk_lines::StoreFault;
 use desk_schema::{node_at, told};
 use nearest_marks::Family;
 use sqlite::types::ValueRef;

@@ -2,14 +2,14 @@
 
 ghost use Rattle.std.specs.Prelude.{◌≡◌, ◌≢◌, Option, IfOk, IfErr};
 ghost use Rattle.sqlite.specs.Held.{state};
-ghost use Rattle.bug_record.specs.declared.outcome.StoreFault.TheVariants.{Foreign};
+ghost use Rattle.desk_lines.specs.declared.store_fault.StoreFault.TheVariants.{Foreign};
 ghost use Rattle.desk_content.specs.declared.edit.Edit.TheVariants.{PutMessage};
 ghost use Rattle.desk_content.specs.declared.edit.SentMessage.{SentMessage as SeenMessage};
 ghost use Rattle.desk_schema.specs.Steps.{Plays, Reads, Serves};
 ghost use Rattle.desk_rows.specs.Rows.{message_row, HasUtf8, AreMessageRows};
 
-use bug_record::StoreFault;
 use desk_content::SentMessage;
+use desk_lines::StoreFault;
 use desk_schema::{bytes_text_at, text_at, told, written};
 use sqlite::{Alter, Row, Transaction, params};
 use std::alloc::Global;

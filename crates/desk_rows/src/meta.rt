@@ -3,10 +3,10 @@
 ghost use Rattle.std.specs.Prelude.{◌≡◌, ◌≢◌, ℕ, [], ◌∷◌, IfOk, IfErr, ⊤};
 ghost use Rattle.sqlite.specs.Held.{state};
 ghost use Rattle.sql_forms.specs.Numbers.{number_row};
-ghost use Rattle.bug_record.specs.declared.outcome.StoreFault.TheVariants.{Foreign};
+ghost use Rattle.desk_lines.specs.declared.store_fault.StoreFault.TheVariants.{Foreign};
 ghost use Rattle.desk_schema.specs.Steps.{Acts, Reads, Serves};
 
-use bug_record::StoreFault;
+use desk_lines::StoreFault;
 use desk_schema::{number_in, told, written};
 use sqlite::{Alter, Row, Transaction, params};
 

@@ -5,8 +5,8 @@ ghost use Rattle.sqlite.specs.Held.{state};
 ghost use Rattle.desk_content.specs.declared.edit.Edit.TheVariants.{PutNear, DropNear, DropNearAt};
 ghost use Rattle.desk_schema.specs.Steps.{Plays, Serves};
 
-use bug_record::StoreFault;
 use desk_content::number_of_kind;
+use desk_lines::StoreFault;
 use desk_schema::written;
 use nearest_marks::Near;
 use sqlite::{Alter, Transaction, params};

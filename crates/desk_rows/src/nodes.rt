@@ -3,11 +3,11 @@
 ghost use Rattle.std.specs.Prelude.{◌≡◌, option_map, option_copied};
 ghost use Rattle.sqlite.specs.Held.{state};
 ghost use Rattle.version_nodes.specs.Nodes.{IsNode};
-ghost use Rattle.bug_record.specs.Texts.{IfGiven};
+ghost use Rattle.line_words.specs.Texts.{IfGiven};
 ghost use Rattle.desk_content.specs.declared.edit.Edit.TheVariants.{PutLink, DropLink};
 ghost use Rattle.desk_schema.specs.Steps.{Plays, Serves};
 
-use bug_record::StoreFault;
+use desk_lines::StoreFault;
 use desk_schema::written;
 use sqlite::{Alter, Transaction, params};
 use version_nodes::Node;

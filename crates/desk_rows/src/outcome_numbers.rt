@@ -6,7 +6,8 @@ ghost use Rattle.desk_content.specs.declared.edit.Edit.TheVariants.{PutOutcomeNu
 ghost use Rattle.desk_schema.specs.Steps.{Plays, Reads, Serves};
 ghost use Rattle.sql_forms.specs.Numbers.{number_row};
 
-use bug_record::{Numbers, StoreFault};
+use bug_record::Numbers;
+use desk_lines::StoreFault;
 use desk_schema::{numbers_of, told, written};
 use sqlite::{Alter, Row, Transaction, params};
 use std::alloc::Global;

@@ -6,18 +6,19 @@ ghost use Rattle.sqlite.specs.Order.{column};
 ghost use Rattle.sqlite.specs.Values.{or_null};
 ghost use Rattle.sqlite.specs.declared.types.Value.TheVariants.{Null, Text as TextCell};
 ghost use Rattle.version_nodes.specs.Nodes.{Node as SeenNode, IsNode};
-ghost use Rattle.bug_record.specs.Texts.{IfGiven};
-ghost use Rattle.bug_record.specs.declared.outcome.StoreFault.TheVariants.{Foreign};
+ghost use Rattle.line_words.specs.Texts.{IfGiven};
+ghost use Rattle.desk_lines.specs.declared.store_fault.StoreFault.TheVariants.{Foreign};
 ghost use Rattle.desk_content.specs.declared.edit.Edit.TheVariants.{PutOutcome};
 ghost use Rattle.desk_content.specs.declared.edit.ToldOutcome.{ToldOutcome as SeenOutcome};
 ghost use Rattle.desk_schema.specs.Steps.{Plays, Reads, Serves};
 ghost use Rattle.desk_rows.specs.Rows.{outcome_row, IsToldOutcome, AreOutcomeRows};
 
-use bug_record::{Outcome, Sequence, StoreFault};
+use bug_record::{Outcome, Sequence};
 use desk_content::{
     ToldOutcome, field_of_outcome, kind_of_outcome, node_of_outcome, number_of_outcome,
     outcome_of_numbers,
 };
+use desk_lines::StoreFault;
 use desk_schema::{fault_of, maybe_number_at, maybe_parameter, node_at, number_at, told, written};
 use sqlite::types::ValueRef;
 use sqlite::{Alter, Row, Transaction, params};

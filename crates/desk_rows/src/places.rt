@@ -4,11 +4,11 @@ ghost use Rattle.std.specs.Prelude.{◌≡◌, ◌≢◌, ◌+◌, ℕ, Option, 
 ghost use Rattle.std.specs.Option.{option_map_or};
 ghost use Rattle.sqlite.specs.Held.{state};
 ghost use Rattle.sql_forms.specs.Numbers.{number_row, next_above, AreGreatest};
-ghost use Rattle.bug_record.specs.declared.outcome.StoreFault.TheVariants.{Foreign};
+ghost use Rattle.desk_lines.specs.declared.store_fault.StoreFault.TheVariants.{Foreign};
 ghost use Rattle.desk_content.specs.Edits.{places_of};
 ghost use Rattle.desk_schema.specs.Steps.{Reads, Serves};
 
-use bug_record::StoreFault;
+use desk_lines::StoreFault;
 use desk_schema::{number_in, told};
 use sqlite::{Alter, Row, Transaction, params};
 

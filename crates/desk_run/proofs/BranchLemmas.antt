@@ -10,8 +10,8 @@ use Rattle.version_nodes.specs.Trees.{Ancestry}
 use Rattle.ancestry.specs.Branches.{branched}
 use Rattle.ancestry.specs.declared.fault.BranchFault.{BranchFault}
 use Rattle.bug_record.specs.Desk.{Desk}
-use Rattle.bug_record.specs.declared.outcome.StoreFault.{StoreFault}
-use Rattle.bug_record.specs.declared.outcome.StoreFault.TheVariants as faults
+use Rattle.desk_lines.specs.declared.store_fault.StoreFault.{StoreFault}
+use Rattle.desk_lines.specs.declared.store_fault.StoreFault.TheVariants as faults
 use Rattle.desk_text.specs.Texts.{fault_text}
 use Rattle.desk_store.specs.Store.{Branches, Faults, counted, faults_after}
 use Rattle.desk_directives.specs.Branches.{BranchRefusal, nodes_of, or_refused, branched_by, branch_of}

@@ -6,10 +6,10 @@ use Rattle.std.proofs.lemmas.Option.{none-some, same_Some}
 use Rattle.std.specs.Io.KnownBytes.{Appends}
 use Rattle.bug_record.specs.Desk.{Desk}
 use Rattle.desk_text.specs.Texts.{fault_text}
-use Rattle.bug_record.specs.declared.outcome.StoreFault.{StoreFault}
-use Rattle.bug_record.specs.declared.outcome.StoreFault.TheVariants as faults
-use Rattle.bug_record.specs.declared.outcome.End.{End}
-use Rattle.bug_record.specs.declared.outcome.End.TheVariants as ends
+use Rattle.desk_lines.specs.declared.store_fault.StoreFault.{StoreFault}
+use Rattle.desk_lines.specs.declared.store_fault.StoreFault.TheVariants as faults
+use Rattle.desk_lines.specs.declared.store_fault.End.{End}
+use Rattle.desk_lines.specs.declared.store_fault.End.TheVariants as ends
 use Rattle.desk_store.specs.Store.{Faults, counted, faults_after_end}
 use Rattle.desk_store.specs.Message.{Entry, Machine, machine, after_lines, at_start, IsReceived, Comes}
 use Rattle.desk_directives.specs.Transcripts.{received_text}

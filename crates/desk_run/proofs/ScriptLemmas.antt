@@ -4,7 +4,7 @@ use Rattle.std.proofs.Common.{Result, Ok, Err, append_assoc, append-nil, length-
 use Rattle.std.specs.Prelude.{◌≢◌, ⊤}
 use Rattle.std.specs.Result.{IfErr, OnOk}
 use Rattle.bug_record.specs.Desk.{Desk}
-use Rattle.bug_record.specs.declared.outcome.StoreFault.TheVariants as faults
+use Rattle.desk_lines.specs.declared.store_fault.StoreFault.TheVariants as faults
 use Rattle.desk_store.specs.Store.{Faults}
 use Rattle.desk_lines.specs.Lines.{without_return, raw_lines, lines_of}
 use Rattle.desk_lines.specs.Reading.{IsGoodLine, IsLineFault, IsReadingFault, IsBegun, Known, Left}

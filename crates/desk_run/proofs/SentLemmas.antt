@@ -7,8 +7,8 @@ use Rattle.bug_record.specs.Desk.{Desk}
 use Rattle.bug_record.specs.Sets.{Each}
 use Rattle.desk_lines.specs.Lines.{lines_of}
 use Rattle.bug_record.specs.declared.outcome.Outcome.{Outcome}
-use Rattle.bug_record.specs.declared.outcome.End.{End}
-use Rattle.bug_record.specs.declared.outcome.End.TheVariants as ends
+use Rattle.desk_lines.specs.declared.store_fault.End.{End}
+use Rattle.desk_lines.specs.declared.store_fault.End.TheVariants as ends
 use Rattle.desk_store.specs.Message.{Entry, Machine, machine, after_lines, end_of}
 use Rattle.desk_store.specs.Kept.{Keeping, has_outcome, outcomes_kept, outcomes_in, lines_told, told, kept_with, IsOfMessage, IsResumed, GoesOn}
 use Rattle.desk_store.specs.Kept.{AreGoodKept}

@@ -4,8 +4,8 @@ use Rattle.std.specs.Prelude.{ℕ, ◌≡◌, List, [], ◌∷◌, ◌++◌, len
 use Rattle.std.specs.Str.{bytes_eq}
 use Rattle.bug_record.specs.Desk.{Desk}
 use Rattle.desk_lines.specs.Lines.{lines_of}
-use Rattle.bug_record.specs.declared.outcome.End.{End}
-use Rattle.bug_record.specs.declared.outcome.End.TheVariants.{All}
+use Rattle.desk_lines.specs.declared.store_fault.End.{End}
+use Rattle.desk_lines.specs.declared.store_fault.End.TheVariants.{All}
 use Rattle.bug_record.specs.declared.outcome.Outcome.{Outcome}
 use Rattle.desk_store.specs.Message.{Entry, machine, after_lines}
 use Rattle.desk_store.specs.Kept.{Keeping, outcomes_kept, outcomes_in, lines_told, told, kept_with, IsOfMessage}

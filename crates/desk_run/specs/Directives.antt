@@ -5,7 +5,7 @@ use Rattle.desk_run.specs.Script as script
 use Rattle.desk_run.specs.declared.directive.Directive.{Directive}
 use Rattle.desk_run.specs.declared.directive.Directive.TheVariants.{From, Report, Branch, ListOf, Show, Bad}
 use Rattle.std.specs.Prelude.{⊤}
-use Rattle.bug_record.specs.Texts.{IsText}
+use Rattle.line_words.specs.Texts.{IsText}
 
 abbrev pub said : Directive → script.Directive
 said (From sender) = script.From sender.now

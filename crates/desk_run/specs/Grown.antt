@@ -1,6 +1,6 @@
 -- What a machine makes of lines that have an outcome.
 use Rattle.std.specs.Prelude.{ℕ, ◌≡◌, List, ◌++◌, length, map, take}
-use Rattle.bug_record.specs.declared.outcome.End.TheVariants as ends
+use Rattle.desk_lines.specs.declared.store_fault.End.TheVariants as ends
 use Rattle.desk_store.specs.Message.{Entry, Machine, after_lines, end_of}
 
 -- From one machine to another in these lines: of some of the first ones an outcome is added, and

@@ -1,7 +1,7 @@
 pub use Rattle.desk_directives.specs.Branches
 pub use Rattle.desk_directives.specs.Transcripts
 pub use Rattle.desk_directives.specs.Reports
-pub use Rattle.desk_repeats.specs.Once
+pub use Rattle.desk_messages.specs.Once
 pub mod Script
 pub mod Running
 pub mod Tried

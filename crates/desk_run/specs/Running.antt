@@ -7,8 +7,8 @@ use Rattle.std.specs.Str.{IsUtf8}
 use Rattle.bug_record.specs.Sets.{Each}
 use Rattle.bug_record.specs.Desk.{Desk}
 use Rattle.desk_text.specs.Texts.{fault_text}
-use Rattle.bug_record.specs.declared.outcome.StoreFault.{StoreFault}
-use Rattle.bug_record.specs.declared.outcome.End.TheVariants as ends
+use Rattle.desk_lines.specs.declared.store_fault.StoreFault.{StoreFault}
+use Rattle.desk_lines.specs.declared.store_fault.End.TheVariants as ends
 use Rattle.desk_store.specs.Store.{Faults, counted}
 use Rattle.desk_store.specs.Message.{Entry, IsReceived}
 use Rattle.desk_lines.specs.Lines.{raw_lines, without_return}

@@ -3,7 +3,7 @@
 ghost use Rattle.std.specs.Prelude.{◌≡◌, ℕ, ◌<◌, ◌||◌, true, length, take, Some, Result, List, [], ◌∷◌, OnOk, OnErr};
 ghost use Rattle.std.specs.Prelude.{IfErr};
 ghost use Rattle.std.specs.Option.{option_copied};
-ghost use Rattle.bug_record.specs.Texts.{IsText};
+ghost use Rattle.line_words.specs.Texts.{IsText};
 ghost use Rattle.desk_store.specs.Store.{Holds};
 ghost use Rattle.desk_run.specs.Script.{Report, Branch, Message, DirectiveLine, standing, directive_of};
 ghost use Rattle.std.specs.Io.KnownBytes.{Appends};

@@ -8,8 +8,7 @@ ghost use Rattle.desk_run.specs.Script.{is_directive, given_version, from_direct
 ghost use Rattle.desk_run.specs.Script.{show_directive_of, show_directive, directive_of};
 ghost use Rattle.desk_run.specs.Directives.{HasGoodSender, said};
 
-use bug_core::is_text;
-use line_words::{next_word, number_word, split_word, trim};
+use line_words::{is_text, next_word, number_word, split_word, trim};
 
 /// What a directive's line says.
 #[derive(Clone, Copy)]

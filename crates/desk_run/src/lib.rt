@@ -13,8 +13,7 @@ mod script;
 pub use desk_directives::{ReportFault, received_text, report};
 pub use desk_in_memory::{FailAt, PlainDesk};
 pub use desk_lines::ScriptFault;
-pub use desk_messages::{Received, receive};
-pub use desk_repeats::{OnceFault, receive_once};
+pub use desk_messages::{OnceFault, Received, receive, receive_once};
 pub use desk_store::{Kept, Records, is_id};
 pub use desk_text::End;
 pub use laws::{

@@ -6,13 +6,13 @@ pub use Rattle.bug_record.specs.Ordered.{with_each}
 pub use Rattle.bug_record.specs.PackageSets.{name_cmp}
 pub use Rattle.bug_record.specs.Sets.{Each, has}
 pub use Rattle.bug_record.specs.Severities.{rank}
-pub use Rattle.bug_record.specs.Texts.{IfGiven, IsText}
+pub use Rattle.line_words.specs.Texts.{IfGiven, IsText}
 pub use Rattle.bug_record.specs.declared.bug.Member.{Member}
 pub use Rattle.bug_record.specs.declared.command.Change.{Change}
 pub use Rattle.bug_record.specs.declared.outcome.Outcome.{Outcome}
 pub use Rattle.bug_record.specs.declared.outcome.Outcome.TheVariants.{Changed, Refused, Stopped}
-pub use Rattle.bug_record.specs.declared.outcome.StoreFault.{StoreFault}
-pub use Rattle.bug_record.specs.declared.outcome.StoreFault.TheVariants.{Device, Foreign, Full, Memory}
+pub use Rattle.desk_lines.specs.declared.store_fault.StoreFault.{StoreFault}
+pub use Rattle.desk_lines.specs.declared.store_fault.StoreFault.TheVariants.{Device, Foreign, Full, Memory}
 pub use Rattle.bug_record.specs.declared.severity.Severity.TheVariants.{Critical}
 pub use Rattle.desk_content.proofs.AfterLemmas.{after_keeping, after_kept}
 pub use Rattle.desk_content.proofs.ChangeLemmas.{change_desk, change_kept}

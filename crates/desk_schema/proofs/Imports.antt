@@ -6,8 +6,8 @@ pub use Rattle.bug_record.proofs.OrderedSetLemmas.{in-each, sorted-each}
 pub use Rattle.bug_record.proofs.PackageLemmas.{names-none, same-sorted_names}
 pub use Rattle.bug_record.specs.PackageSets.{has_name, name_cmp, with_name}
 pub use Rattle.bug_record.specs.Sets.{has}
-pub use Rattle.bug_record.specs.declared.outcome.StoreFault.{StoreFault}
-pub use Rattle.bug_record.specs.declared.outcome.StoreFault.TheVariants.{Foreign}
+pub use Rattle.desk_lines.specs.declared.store_fault.StoreFault.{StoreFault}
+pub use Rattle.desk_lines.specs.declared.store_fault.StoreFault.TheVariants.{Foreign}
 pub use Rattle.debver.specs.Cut.{IsVersion, cut}
 pub use Rattle.debver.specs.Names.{IsName, in_name, name_fault}
 pub use Rattle.debver.specs.Parts.{IsEpoch, IsRevision, epoch_text, in_revision, in_upstream, revision_text, written}

@@ -2,7 +2,7 @@
 -- Nothing here speaks of a statement.
 use Rattle.desk_schema.proofs.Imports.{◌≡◌, ℕ, ◌<◌, Bool, true, false, not, ◌&&◌, ◌==◌, if◌then◌else◌, nat_lt, filter, List, [], ◌∷◌, ◌++◌, Option, Some, None, option_map, eqb, refl, sym, ap, subst, ◌∙◌, arith, true≢false, AllByRecursion, option_map_or, eqb-true, and_parts, false_from_ne_true, nat_tests, IsAscending, placed, or_else, last_row}
 use Rattle.sqlite_keyed.proofs.ListLemmas.{ascending_weaker}
-use Rattle.bug_record.specs.Texts.{IfGiven}
+use Rattle.line_words.specs.Texts.{IfGiven}
 use Rattle.desk_schema.proofs.OwnerLists.{turned}
 
 or_none : {A : Type 0} (o : Option A) → or_else o None ≡ o

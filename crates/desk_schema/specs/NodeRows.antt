@@ -9,7 +9,7 @@ use Rattle.sqlite.specs.Values.{or_null}
 use Rattle.sqlite.specs.declared.types.Value.TheVariants.{Int, Text}
 use Rattle.version_nodes.specs.Nodes.{Node, IsNode, node, node_cmp}
 use Rattle.version_nodes.specs.Trees.{Ancestry, no_nodes}
-use Rattle.bug_record.specs.Texts.{IfGiven}
+use Rattle.line_words.specs.Texts.{IfGiven}
 use Rattle.desk_schema.specs.Cells.{maybe_text, text_in}
 
 pub record NodeRow : Type 0 where

@@ -6,12 +6,12 @@ ghost use Rattle.sqlite.specs.Order.{column};
 ghost use Rattle.sqlite.specs.Values.{or_null};
 ghost use Rattle.sqlite.specs.declared.types.Value.TheVariants.{Int, Text as TextCell, Blob};
 ghost use Rattle.version_nodes.specs.Nodes.{Node as SeenNode, IsNode};
-ghost use Rattle.bug_record.specs.Texts.{IfGiven};
-ghost use Rattle.bug_record.specs.declared.outcome.StoreFault.TheVariants.{Foreign};
+ghost use Rattle.line_words.specs.Texts.{IfGiven};
+ghost use Rattle.desk_lines.specs.declared.store_fault.StoreFault.TheVariants.{Foreign};
 
 use crate::faults::fault_of;
-use bug_record::StoreFault;
 use debver::Text;
+use desk_lines::StoreFault;
 use sqlite::Row;
 use sqlite::types::ValueRef;
 use std::alloc::Global;

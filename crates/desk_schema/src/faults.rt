@@ -3,7 +3,7 @@
 ghost use Rattle.std.specs.Prelude.{◌≡◌};
 ghost use Rattle.sql_forms.specs.Faults as faults;
 
-use bug_record::StoreFault;
+use desk_lines::StoreFault;
 use sqlite::{Error, ErrorCode};
 
 /// The fault that an error of the database is told as: no memory, a device that failed or holds

@@ -2,11 +2,12 @@
 
 ghost use Rattle.std.specs.Prelude.{◌≡◌, ◌≢◌, ℕ, List, [], ◌∷◌, Option, IfOk, IfErr, map};
 ghost use Rattle.std.specs.Option.{option_map_or};
-ghost use Rattle.bug_record.specs.declared.outcome.StoreFault.TheVariants.{Foreign};
+ghost use Rattle.desk_lines.specs.declared.store_fault.StoreFault.TheVariants.{Foreign};
 ghost use Rattle.sql_forms.specs.Numbers.{number_row};
 
 use crate::cells::number_at;
-use bug_record::{Numbers, Sequence, StoreFault};
+use bug_record::{Numbers, Sequence};
+use desk_lines::StoreFault;
 use sqlite::Row;
 use std::alloc::Global;
 

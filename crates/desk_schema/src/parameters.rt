@@ -1,9 +1,9 @@
 //! Numbers as parameters of statements.
 
 ghost use Rattle.std.specs.Prelude.{◌≡◌, ◌≤◌, ◌^◌, ℕ, Some, IfOk, IfErr};
-ghost use Rattle.bug_record.specs.declared.outcome.StoreFault.TheVariants.{Full};
+ghost use Rattle.desk_lines.specs.declared.store_fault.StoreFault.TheVariants.{Full};
 
-use bug_record::StoreFault;
+use desk_lines::StoreFault;
 
 /// A number as a statement takes it: there is no room for a larger one in the tables, and no bug
 /// has one.

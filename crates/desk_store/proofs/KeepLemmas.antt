@@ -16,7 +16,7 @@ use Rattle.bug_record.specs.Commands.{names_in}
 use Rattle.bug_record.specs.Desk.{Desk, IsSound}
 use Rattle.bug_record.specs.Sets.{Each}
 use Rattle.bug_record.specs.Steps.{step}
-use Rattle.bug_record.specs.Texts.{IsText}
+use Rattle.line_words.specs.Texts.{IsText}
 use Rattle.bug_record.specs.Words.{Names, meaning, words_refusal, number_by}
 use Rattle.bug_record.specs.declared.bug.Bug.{Bug}
 use Rattle.bug_record.specs.declared.command.Command.{Command}

@@ -15,8 +15,8 @@ use Rattle.desk_store.specs.Message.{Entry, names_given}
 use Rattle.desk_store.specs.Kept.{IsGoodRefusal, IsGoodOutcome, GiveNames, IsGoodKept, Keeping, AreGoodKept}
 use Rattle.desk_store.specs.declared.kept.Kept.{Kept}
 use Rattle.std.specs.Coded.{Coded-set}
-use Rattle.bug_record.specs.declared.outcome.End.{End}
-use Rattle.bug_record.specs.contracts.End as the_end
+use Rattle.desk_lines.specs.declared.store_fault.End.{End}
+use Rattle.desk_lines.specs.contracts.End as the_end
 use Rattle.bug_record.specs.contracts.Refusal as the_refusal
 
 Each-prop : {T : Type 0} (P : T → Type 0) → ((x : T) → IsProp (P x)) → (xs : List T) → IsProp (Each P xs)

@@ -13,7 +13,7 @@ use Rattle.bug_record.specs.Words.{Names, meaning, words_refusal, number_by}
 use Rattle.bug_record.specs.declared.bug.Bug.{Bug}
 use Rattle.bug_record.specs.declared.command.Command.TheVariants.{Clone}
 use Rattle.bug_record.specs.declared.command.Refusal.{Refusal}
-use Rattle.set_images.proofs.NewBugLemmas.{changed-new}
+use Rattle.bug_record.proofs.NewBugLemmas.{changed-new}
 
 -- a desk that comes of a test, which refused nothing
 pub passed : (o : Option Refusal) (r : Result Desk Refusal) (new : Desk) → unless o r ≡ Ok new → r ≡ Ok new

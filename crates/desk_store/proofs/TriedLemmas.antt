@@ -3,7 +3,7 @@ use Rattle.std.proofs.Common.{◌≡◌, List, Result, Ok, Err, ◌∙◌, sym, 
 use Rattle.bug_record.specs.Desk.{Desk}
 use Rattle.bug_record.specs.Images.{put}
 use Rattle.bug_record.specs.declared.command.Change.{Change}
-use Rattle.bug_record.specs.declared.outcome.StoreFault.{StoreFault}
+use Rattle.desk_lines.specs.declared.store_fault.StoreFault.{StoreFault}
 use Rattle.desk_store.specs.Crashes.{Holding, LeavesAfter}
 use Rattle.desk_store.specs.Kept.{Keeping}
 use Rattle.desk_store.specs.Store.{Holds, Asks, Answers, Applies}

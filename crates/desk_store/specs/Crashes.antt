@@ -5,7 +5,7 @@ use Rattle.ancestry.specs.declared.fault.BranchFault.{BranchFault}
 use Rattle.version_nodes.specs.Nodes.{Node}
 use Rattle.version_nodes.specs.Trees.{Ancestry}
 use Rattle.bug_record.specs.Desk.{Desk}
-use Rattle.bug_record.specs.declared.outcome.StoreFault.{StoreFault}
+use Rattle.desk_lines.specs.declared.store_fault.StoreFault.{StoreFault}
 use Rattle.desk_store.specs.Kept.{Keeping}
 
 -- what a store holds: a desk, and what is kept of messages

@@ -9,7 +9,7 @@ use Rattle.bug_record.specs.Clones.{name_refusal}
 use Rattle.bug_record.specs.Commands.{names_in}
 use Rattle.bug_record.specs.Desk.{Desk}
 use Rattle.bug_record.specs.Sets.{Each, IsAscending}
-use Rattle.bug_record.specs.Texts.{IsText}
+use Rattle.line_words.specs.Texts.{IsText}
 use Rattle.bug_record.specs.Words.{Names}
 use Rattle.bug_record.specs.declared.command.Command.{Command}
 use Rattle.bug_record.specs.declared.command.Command.TheVariants as commands
@@ -21,8 +21,8 @@ use Rattle.command_grammar.specs.declared.line.Line.TheVariants.{Blank, Comment,
 use Rattle.desk_lines.specs.Lines.{lines_of}
 use Rattle.bug_record.specs.declared.outcome.Outcome.{Outcome}
 use Rattle.bug_record.specs.declared.outcome.Outcome.TheVariants.{Changed, Refused, Stopped}
-use Rattle.bug_record.specs.declared.outcome.End.{End}
-use Rattle.bug_record.specs.declared.outcome.End.TheVariants as ends
+use Rattle.desk_lines.specs.declared.store_fault.End.{End}
+use Rattle.desk_lines.specs.declared.store_fault.End.TheVariants as ends
 use Rattle.line_words.specs.Ids.{IsId}
 use Rattle.line_words.specs.Numbers.{IsGoodNumber}
 use Rattle.line_words.specs.declared.named.Named.{Named}

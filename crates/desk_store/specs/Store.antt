@@ -10,15 +10,15 @@ use Rattle.bug_record.specs.Heads.{open_head}
 use Rattle.bug_record.specs.Images.{numbers_of, IsSetOf, put}
 use Rattle.bug_record.specs.Waiting.{waiting_on}
 use Rattle.bug_record.specs.Lists.{listed}
-use Rattle.set_images.specs.Rows.{rows_of}
-use Rattle.set_images.specs.declared.rows.ListRow.{ListRow}
+use Rattle.bug_record.specs.Rows.{rows_of}
+use Rattle.bug_record.specs.declared.row.ListRow.{ListRow}
 use Rattle.bug_record.specs.declared.bug.SetImage.{SetImage}
 use Rattle.bug_record.specs.declared.command.Change.{Change}
-use Rattle.bug_record.specs.declared.outcome.StoreFault.{StoreFault}
-use Rattle.bug_record.specs.declared.outcome.StoreFault.TheVariants.{Memory, Device, Full, Foreign}
+use Rattle.desk_lines.specs.declared.store_fault.StoreFault.{StoreFault}
+use Rattle.desk_lines.specs.declared.store_fault.StoreFault.TheVariants.{Memory, Device, Full, Foreign}
 use Rattle.bug_record.specs.declared.outcome.Outcome.{Outcome}
-use Rattle.bug_record.specs.declared.outcome.End.{End}
-use Rattle.bug_record.specs.declared.outcome.End.TheVariants as ends
+use Rattle.desk_lines.specs.declared.store_fault.End.{End}
+use Rattle.desk_lines.specs.declared.store_fault.End.TheVariants as ends
 use Rattle.desk_store.specs.Kept.{Keeping, IsGoodOutcome, IsNextOutcome, kept_also}
 use Rattle.desk_store.specs.Crashes.{Holding}
 

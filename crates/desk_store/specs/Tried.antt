@@ -2,8 +2,8 @@
 -- This project's own rule.
 use Rattle.std.specs.Prelude.{ℕ, List, take, Result, Ok, Err}
 use Rattle.bug_record.specs.Desk.{Desk}
-use Rattle.bug_record.specs.declared.outcome.End.{End}
-use Rattle.bug_record.specs.declared.outcome.End.TheVariants.{All, Stopped, TooManyUnreadable, Store}
+use Rattle.desk_lines.specs.declared.store_fault.End.{End}
+use Rattle.desk_lines.specs.declared.store_fault.End.TheVariants.{All, Stopped, TooManyUnreadable, Store}
 use Rattle.desk_store.specs.Crashes.{Holding}
 use Rattle.desk_store.specs.Kept.{Keeping}
 use Rattle.desk_store.specs.Message.{after_lines, at_start}

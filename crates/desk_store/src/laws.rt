@@ -13,7 +13,7 @@ ghost use Rattle.desk_store.specs.Store.{Faults, counted, one_more, total};
 ghost use Rattle.bug_record.specs.declared.outcome.Outcome.TheVariants.{Changed};
 ghost use Rattle.line_words.specs.declared.named.Named.{Named};
 
-use bug_record::StoreFault;
+use desk_lines::StoreFault;
 
 /// A fault of the store but out of memory raises the number of all faults by one, up to the largest
 /// `u64`.

@@ -7,18 +7,18 @@ ghost use Rattle.bug_record.specs.Desk.{Desk, IsSound};
 ghost use Rattle.bug_record.specs.Images.{AreApart, HasMember, IsSetOf, FitsDesk, put};
 ghost use Rattle.desk_store.specs.Store.{Holds, Asks, Answers, IsImageOf, IsNext, IsOpenHead, AreWaitingOn, AreListed};
 ghost use Rattle.desk_store.specs.Store.{Applies, Branches, IsRefusal, Since, MayBeKept, Keeps, with_change};
-ghost use Rattle.bug_record.specs.declared.outcome.StoreFault.{StoreFault};
+ghost use Rattle.desk_lines.specs.declared.store_fault.StoreFault.{StoreFault};
 ghost use Rattle.desk_store.specs.Store.{Faults, faults_after, total};
-ghost use Rattle.bug_record.specs.Texts.{IsText, IfGiven};
+ghost use Rattle.line_words.specs.Texts.{IsText, IfGiven};
 ghost use Rattle.line_words.specs.Ids.{IsId};
 ghost use Rattle.desk_store.specs.Kept.{Keeping, AreGoodKept, kept_also};
 ghost use Rattle.desk_store.specs.Crashes.{Holding, LeavesAfter, LeavesBranched, after_branch};
 
 use crate::kept::Kept;
 use ancestry::BranchFault;
-use bug_record::{Change, Numbers, Outcome, Sequence, SetImage, StoreFault};
+use bug_record::{Change, ListRow, Numbers, Outcome, Sequence, SetImage};
 use debver::Text;
-use set_images::ListRow;
+use desk_lines::StoreFault;
 use version_nodes::Node;
 
 /// A store of a desk, in memory or in tables, and of what is kept of messages that have an id.

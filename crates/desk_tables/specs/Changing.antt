@@ -5,10 +5,10 @@ use Rattle.sqlite.specs.State.{Survives}
 use Rattle.sqlite_trees.specs.declared.store.Store as store
 use Rattle.ancestry.specs.declared.fault.BranchFault.{BranchFault}
 use Rattle.version_nodes.specs.Nodes.{Node}
-use Rattle.bug_record.specs.Texts.{IfGiven}
+use Rattle.line_words.specs.Texts.{IfGiven}
 use Rattle.bug_record.specs.declared.command.Change.{Change}
 use Rattle.bug_record.specs.declared.outcome.Outcome.{Outcome}
-use Rattle.bug_record.specs.declared.outcome.StoreFault.{StoreFault}
+use Rattle.desk_lines.specs.declared.store_fault.StoreFault.{StoreFault}
 use Rattle.desk_content.specs.Changes.{FitsContent, changed}
 use Rattle.desk_content.specs.Keeping.{kept_after}
 use Rattle.desk_store.specs.Store.{Holds, Applies, Branches}

@@ -4,8 +4,8 @@ use Rattle.sqlite.specs.State.{State, HasCleanDisk, KeepsCommit, Survives, IsRol
 use Rattle.sqlite_trees.specs.View.{Tells}
 use Rattle.sqlite_trees.specs.declared.error.StoreError.{StoreError}
 use Rattle.sql_forms.specs.Faults.{fault_of}
-use Rattle.bug_record.specs.declared.outcome.StoreFault.{StoreFault}
-use Rattle.bug_record.specs.declared.outcome.StoreFault.TheVariants.{Foreign}
+use Rattle.desk_lines.specs.declared.store_fault.StoreFault.{StoreFault}
+use Rattle.desk_lines.specs.declared.store_fault.StoreFault.TheVariants.{Foreign}
 use Rattle.ancestry.specs.Branches.{IsBranched}
 use Rattle.version_nodes.specs.Nodes.{Node}
 use Rattle.version_nodes.specs.Trees.{Ancestry}

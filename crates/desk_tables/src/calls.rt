@@ -13,12 +13,12 @@ ghost use Rattle.desk_content.specs.Kept.{IsKeptContent};
 ghost use Rattle.desk_migrations.specs.Names.{no_tables};
 ghost use Rattle.desk_writes.specs.Needs.{HasTree, HasTreeIfAny, IsKnownIn, IsNextPlace};
 ghost use Rattle.desk_tables.specs.Kept.{IsIdle};
-ghost use Rattle.desk_tables.specs.Transactions.{IsAsked, IsChanged, IsTaken, IsMade, IsCarried};
-ghost use Rattle.desk_tables.specs.Transactions.{AsksSchema, Ends};
+ghost use Rattle.desk_tables.specs.Transactions.{IsAsked, IsChanged, IsTaken, IsMade, IsCarried, AsksSchema, Ends};
 
 use crate::question::Question;
 use ancestry::BranchFault;
-use bug_record::{Change, Outcome, SetImage, StoreFault};
+use bug_record::{Change, Outcome, SetImage};
+use desk_lines::StoreFault;
 use desk_migrations::{SchemaRead, carry_over, make_tables, read_schema};
 use desk_rows::{OpenNodes, branches_grow, changed_nodes, open_nodes};
 use desk_schema::fault_of;

@@ -4,20 +4,19 @@
 
 ghost use Rattle.std.specs.Prelude.{◌≡◌, IfOk, is_some, true};
 ghost use Rattle.std.specs.Option.{option_copied};
-ghost use Rattle.bug_record.specs.Texts.{IsText};
+ghost use Rattle.line_words.specs.Texts.{IsText};
 ghost use Rattle.desk_store.specs.Store.{IsRefusal};
 ghost use Rattle.desk_writes.specs.Needs.{HasTree, HasTreeIfAny, IsKnownIn, IsNextPlace};
-ghost use Rattle.desk_tables.specs.Changing.{FitsTables, FitsTablesIfAny};
-ghost use Rattle.desk_tables.specs.Changing.{MakesChange, TakesBranch, KeepsLine};
+ghost use Rattle.desk_tables.specs.Changing.{FitsTables, FitsTablesIfAny, MakesChange, TakesBranch, KeepsLine};
 ghost use Rattle.desk_tables.specs.Changing.{LeavesMessages, ServesAfter, ServesAfterBranch};
 ghost use Rattle.desk_tables.specs.Changing.{SurvivesChange, SurvivesBranch, SurvivesLine};
-ghost use Rattle.desk_tables.specs.Desk.{content_shown, faults_of};
-ghost use Rattle.desk_tables.specs.Desk.{HasHonestDisk, HasKeptTables, NeverForeign, MayKeep};
+ghost use Rattle.desk_tables.specs.Desk.{content_shown, faults_of, HasHonestDisk, HasKeptTables, NeverForeign, MayKeep};
 
 use crate::calls::{change_sets, keep_line, take_nodes};
 use crate::desk::TableDesk;
 use ancestry::BranchFault;
-use bug_record::{Change, Outcome, SetImage, StoreFault};
+use bug_record::{Change, Outcome, SetImage};
+use desk_lines::StoreFault;
 use sqlite::Alter;
 use std::snapshot::Snapshot;
 use version_nodes::Node;

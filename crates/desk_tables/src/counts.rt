@@ -3,7 +3,7 @@
 ghost use Rattle.std.specs.Prelude.{◌≡◌};
 ghost use Rattle.desk_store.specs.Store.{faults_after, no_faults, total};
 
-use bug_record::StoreFault;
+use desk_lines::StoreFault;
 use std::marker::Model;
 
 /// How often a store has answered each kind of fault, up to `u64::MAX`; out of memory is not

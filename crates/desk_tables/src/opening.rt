@@ -5,7 +5,7 @@ ghost use Rattle.std.specs.Prelude.{IfOk, IfErr, IsErrAnd, IsTrue, MatchResult};
 ghost use Rattle.sqlite.specs.Held.{state};
 ghost use Rattle.sqlite.specs.State.{HasCleanDisk, Survives};
 ghost use Rattle.line_words.specs.declared.named.TheConstants.{LARGEST_NUMBER};
-ghost use Rattle.bug_record.specs.declared.outcome.StoreFault.TheVariants.{Foreign};
+ghost use Rattle.desk_lines.specs.declared.store_fault.StoreFault.TheVariants.{Foreign};
 ghost use Rattle.bugs_in_memory.specs.Plain.{empty_desk};
 ghost use Rattle.desk_content.specs.Content.{Content, no_content};
 ghost use Rattle.desk_content.specs.Kept.{IsKeptContent};
@@ -24,7 +24,7 @@ ghost use Rattle.desk_tables.specs.declared.open_fault.OpenFault.TheVariants as 
 use crate::calls::{ask_schema, carry_desk, make_desk};
 use crate::desk::TableDesk;
 use crate::open_fault::OpenFault;
-use bug_record::StoreFault;
+use desk_lines::StoreFault;
 use desk_migrations::{NEWEST, SchemaRead, is_blank, names_a_desk_table};
 use sqlite::{Alter, Connection};
 use std::alloc::Global;

@@ -5,7 +5,7 @@ ghost use Rattle.sqlite.specs.Held.{state};
 ghost use Rattle.desk_content.specs.Content.{Content};
 ghost use Rattle.desk_tables.specs.Transactions.{AsksInside};
 
-use bug_record::StoreFault;
+use desk_lines::StoreFault;
 use sqlite::{Alter, Transaction};
 
 /// A question of what the tables of a desk say.

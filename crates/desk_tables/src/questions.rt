@@ -10,13 +10,13 @@ ghost use Rattle.desk_store.specs.Store.{IsNext, AreWaitingOn, AreListed, IsOpen
 ghost use Rattle.desk_writes.specs.Needs.{IsNextPlace};
 
 use crate::question::Question;
-use bug_record::{Change, Numbers, Sequence, SetImage, StoreFault};
+use bug_record::{Change, ListRow, Numbers, Sequence, SetImage};
+use desk_lines::StoreFault;
 use desk_reads::{FoundSet, read_listed, read_open_head, read_set_of, read_waiting_on};
 use desk_rows::{read_family, read_next, read_next_place};
 use desk_store::Kept;
 use desk_writes::{read_kept, read_marks_stay};
 use nearest_marks::Family;
-use set_images::ListRow;
 use sqlite::{Alter, Transaction};
 use std::alloc::Global;
 use version_nodes::Node;

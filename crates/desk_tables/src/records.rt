@@ -7,7 +7,7 @@ ghost use Rattle.std.specs.Option.{option_copied};
 ghost use Rattle.sqlite.specs.State.{Survives};
 ghost use Rattle.bug_record.specs.Images.{AreApart, HasMember, IsSetOf, FitsDesk};
 ghost use Rattle.bug_record.specs.Sets.{Each};
-ghost use Rattle.bug_record.specs.Texts.{IsText, IfGiven};
+ghost use Rattle.line_words.specs.Texts.{IsText, IfGiven};
 ghost use Rattle.desk_content.specs.Changes.{changed};
 ghost use Rattle.desk_content.specs.Keeping.{kept_after};
 ghost use Rattle.desk_store.specs.Store.{Holds, Since, Applies, Branches, IsRefusal};
@@ -24,9 +24,9 @@ ghost use Rattle.desk_tables.specs.declared.desk.TableDesk.{TableDesk as SeenDes
 use crate::desk::TableDesk;
 use crate::questions::{KeptOf, Listed, Next, WaitingOn};
 use ancestry::BranchFault;
-use bug_record::{Change, Numbers, Outcome, Sequence, SetImage, StoreFault};
+use bug_record::{Change, ListRow, Numbers, Outcome, Sequence, SetImage};
+use desk_lines::StoreFault;
 use desk_store::{Kept, Records};
-use set_images::ListRow;
 use sqlite::Alter;
 use version_nodes::Node;
 

@@ -2,9 +2,9 @@
 
 use crate::clients::{ask, connect, gets, listen};
 use crate::exchanges::{FIRST_BUG, REPORT, STORE_FAULT};
-use bug_record::StoreFault;
 use desk_http::{ServerFault, serve_connections};
 use desk_in_memory::{FailAt, PlainDesk};
+use desk_lines::StoreFault;
 use std::io::{self, Write};
 use std::net::{TcpListener, TcpStream};
 use std::test::Fail;

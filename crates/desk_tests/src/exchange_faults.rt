@@ -1,8 +1,8 @@
 //! Exchanges with a store that fails.
 
 use crate::exchanges::{FIRST_BUG, REPORT, STORE_FAULT, answers, serve, status_told};
-use bug_record::StoreFault;
 use desk_in_memory::{FailAt, PlainDesk};
+use desk_lines::StoreFault;
 use desk_store::Records;
 use std::alloc::Global;
 use test_desks::serve_into;

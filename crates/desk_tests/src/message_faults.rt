@@ -2,7 +2,7 @@
 //! told, with the fault, and the same message goes on after it.
 
 use crate::exchanges::{REPORT, serve};
-use bug_record::StoreFault;
+use desk_lines::StoreFault;
 use desk_store::Records;
 use std::alloc::{AllocError, Global};
 use test_desks::{DeskTask, in_memory_failing, in_tables_failing};

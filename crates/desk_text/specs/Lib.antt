@@ -1,4 +1,4 @@
-pub use Rattle.set_images.specs.Rows
+pub use Rattle.bug_record.specs.Rows
 pub mod Texts
 pub mod Answers
 pub mod Lists

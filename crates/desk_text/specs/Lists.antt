@@ -6,7 +6,7 @@ use Rattle.std.specs.Fmt.{decimal}
 use Rattle.version_nodes.specs.Nodes.{Node, node_text}
 use Rattle.bug_record.specs.Severities.{severity_name}
 use Rattle.desk_text.specs.Texts.{as_line}
-use Rattle.set_images.specs.declared.rows.ListRow.{ListRow}
+use Rattle.bug_record.specs.declared.row.ListRow.{ListRow}
 
 -- a text in so many places, with spaces before it, or after it; a longer one stands by itself
 abbrev pub right_aligned : ℕ → List ℕ → List ℕ

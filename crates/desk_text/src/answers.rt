@@ -8,7 +8,7 @@ ghost use Rattle.desk_text.specs.Answers.{no_bug_answer, bad_directive_answer, r
 use crate::report_fault::ReportFault;
 use crate::texts::{append_number, fault_text, full_text};
 use ancestry::BranchFault;
-use bug_record::StoreFault;
+use desk_lines::StoreFault;
 use itoa::Buffer;
 use std::alloc::{AllocError, Global};
 

@@ -11,9 +11,9 @@ pub use answers::{
     bad_directive_answer, bad_package_answer, bad_version_answer, branch_answer, fault_answer,
     no_bug_answer, nodes_refusal, report_answer, report_refusal,
 };
-pub use bug_record::{End, Outcome, StoreFault};
+pub use bug_record::{ListRow, Outcome};
+pub use desk_lines::{End, StoreFault};
 pub use lists::list_text;
 pub use pages::{BugPage, bug_text};
 pub use report_fault::ReportFault;
-pub use set_images::ListRow;
 pub use texts::{end_text, fault_text, outcome_text};

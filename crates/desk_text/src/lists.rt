@@ -8,9 +8,8 @@ ghost use Rattle.bug_record.specs.Severities.{severity_name};
 ghost use Rattle.desk_text.specs.Lists.{right_aligned, left_aligned, state_word, row_text, list_head, list_text};
 
 use crate::texts::{append_node, append_number, append_text};
-use bug_record::Severity;
+use bug_record::{ListRow, Severity};
 use itoa::Buffer;
-use set_images::ListRow;
 use std::alloc::AllocError;
 use version_nodes::Node;
 

@@ -5,7 +5,7 @@ use Rattle.version_nodes.specs.Trees.{Ancestry}
 use Rattle.bug_record.specs.declared.bug.SetImage.{SetImage}
 use Rattle.bug_record.specs.declared.command.Change.{Change}
 use Rattle.sqlite.specs.State.{State}
-use Rattle.bug_record.specs.declared.outcome.StoreFault.{StoreFault}
+use Rattle.desk_lines.specs.declared.store_fault.StoreFault.{StoreFault}
 use Rattle.desk_content.specs.Content.{Content}
 use Rattle.desk_content.specs.Changes.{FitsContent, changed, with_images, cleared_for}
 use Rattle.desk_content.specs.Edits.{edited_all}

@@ -5,8 +5,8 @@ use Rattle.version_nodes.specs.Trees.{Ancestry}
 use Rattle.bug_record.specs.declared.bug.SetImage.{SetImage}
 use Rattle.bug_record.specs.declared.command.Change.{Change}
 use Rattle.bug_record.specs.declared.outcome.Outcome.{Outcome}
-use Rattle.bug_record.specs.declared.outcome.StoreFault.{StoreFault}
-use Rattle.bug_record.specs.declared.outcome.StoreFault.TheVariants.{Foreign}
+use Rattle.desk_lines.specs.declared.store_fault.StoreFault.{StoreFault}
+use Rattle.desk_lines.specs.declared.store_fault.StoreFault.TheVariants.{Foreign}
 use Rattle.desk_store.specs.Kept.{Keeping, IsOfMessage}
 use Rattle.desk_content.specs.Changes.{FitsContent, changed}
 use Rattle.desk_content.specs.Content.{Content}

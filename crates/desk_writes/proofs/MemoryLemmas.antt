@@ -1,7 +1,7 @@
 -- Out of memory is no foreign fault.
 use Rattle.std.proofs.Common.{◌≡◌, ◌≢◌, Result, Ok, Err, IfErr}
-use Rattle.bug_record.specs.declared.outcome.StoreFault.{StoreFault}
-use Rattle.bug_record.specs.declared.outcome.StoreFault.TheVariants.{Memory, Foreign}
+use Rattle.desk_lines.specs.declared.store_fault.StoreFault.{StoreFault}
+use Rattle.desk_lines.specs.declared.store_fault.StoreFault.TheVariants.{Memory, Foreign}
 
 pub memory_only : {A : Type 0} (r : Result A StoreFault) → IfErr r (λ fault. fault ≡ Memory) → IfErr r (λ fault. fault ≢ Foreign)
 memory_only (Ok a) memory = tt

@@ -15,7 +15,7 @@ use Rattle.version_nodes.proofs.NodeLemmas.{same_true, has_head, has_tail}
 use Rattle.sqlite.specs.State.{State}
 use Rattle.nearest_marks.specs.Nearest.{nearest_on, meets, is_once}
 use Rattle.nearest_marks.specs.declared.near.Near.{Near}
-use Rattle.bug_record.specs.declared.outcome.StoreFault.{StoreFault}
+use Rattle.desk_lines.specs.declared.store_fault.StoreFault.{StoreFault}
 use Rattle.desk_content.specs.Content.{Content}
 use Rattle.desk_content.specs.Kept.{IsKeptContent}
 use Rattle.desk_content.specs.declared.branches.SetNear.{SetNear}

@@ -8,7 +8,7 @@ use Rattle.bug_record.specs.Images.{HasMember}
 use Rattle.bug_record.specs.declared.bug.SetImage.{SetImage}
 use Rattle.bug_record.specs.declared.bug.Shared.{Shared}
 use Rattle.bug_record.specs.declared.command.Change.{Change}
-use Rattle.bug_record.specs.declared.outcome.StoreFault.{StoreFault}
+use Rattle.desk_lines.specs.declared.store_fault.StoreFault.{StoreFault}
 use Rattle.sqlite.specs.State.{State}
 use Rattle.bugs_in_memory.specs.Keys.{first_number, key_of}
 use Rattle.desk_content.specs.Content.{Content}

@@ -2,7 +2,7 @@
 -- This project's own rule.
 use Rattle.std.specs.Prelude.{◌≡◌, ℕ, List, length, true, false, Option, Some, None, IfSome}
 use Rattle.version_nodes.specs.Trees.{Ancestry}
-use Rattle.bug_record.specs.Texts.{IfGiven}
+use Rattle.line_words.specs.Texts.{IfGiven}
 use Rattle.bug_record.specs.declared.bug.SetImage.{SetImage}
 use Rattle.bug_record.specs.declared.command.Change.{Change}
 use Rattle.bugs_in_memory.specs.Keys.{key_of}

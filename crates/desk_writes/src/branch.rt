@@ -3,7 +3,7 @@
 ghost use Rattle.std.specs.Prelude.{◌≡◌, IfOk, IfErr};
 ghost use Rattle.sqlite.specs.Held.{state};
 ghost use Rattle.version_nodes.specs.Trees.{IsForest};
-ghost use Rattle.bug_record.specs.declared.outcome.StoreFault.TheVariants.{Memory};
+ghost use Rattle.desk_lines.specs.declared.store_fault.StoreFault.TheVariants.{Memory};
 ghost use Rattle.desk_content.specs.Content.{Content};
 ghost use Rattle.desk_content.specs.Kept.{IsKeptContent};
 ghost use Rattle.desk_content.specs.Branches.{with_nodes, AreMissing};
@@ -13,8 +13,9 @@ ghost use Rattle.desk_writes.specs.Steps.{Makes};
 
 use crate::missing::read_missing;
 use crate::play::play_or_ask;
-use bug_record::{Sequence, StoreFault};
+use bug_record::Sequence;
 use desk_content::{Edit, SetNear, branch_edits};
+use desk_lines::StoreFault;
 use nearest_marks::Family;
 use sqlite::{Alter, Transaction};
 use std::alloc::Global;

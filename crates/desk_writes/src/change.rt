@@ -8,12 +8,13 @@ ghost use Rattle.desk_content.specs.Kept.{IsKeptContent};
 ghost use Rattle.desk_schema.specs.Steps.{Acts, PlaysAll, Reads, Serves};
 ghost use Rattle.desk_writes.specs.Needs.{IsTreeFor, HasTree, IsKnownIn};
 ghost use Rattle.desk_writes.specs.Plans.{IsPlan, IsPlanOf, ArePlans, cleared_edits, put_edits};
-ghost use Rattle.bug_record.specs.declared.outcome.StoreFault.TheVariants.{Memory};
+ghost use Rattle.desk_lines.specs.declared.store_fault.StoreFault.TheVariants.{Memory};
 
 use crate::play::play_all;
 use crate::staying::stay_plan;
-use bug_record::{Change, SetImage, StoreFault};
+use bug_record::{Change, SetImage};
 use desk_content::{RowEdits, key_of, row_edits};
+use desk_lines::StoreFault;
 use desk_rows::{read_next, write_next};
 use desk_schema::parameter;
 use nearest_marks::Family;

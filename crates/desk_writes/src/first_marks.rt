@@ -11,8 +11,8 @@ ghost use Rattle.desk_rows.specs.FirstMarks.{mark_at};
 ghost use Rattle.desk_schema.specs.Steps.{Reads};
 ghost use Rattle.desk_writes.specs.Marked.{keys_of_kind};
 
-use bug_record::StoreFault;
 use desk_content::number_of_kind;
+use desk_lines::StoreFault;
 use desk_rows::add_first_marks;
 use nearest_marks::Near;
 use set_rows::{SetMark, read_marks_at};

@@ -6,14 +6,15 @@ ghost use Rattle.sqlite.specs.Held.{state};
 ghost use Rattle.desk_content.specs.Keeping.{MayBePut, kept_after, with_kept};
 ghost use Rattle.desk_content.specs.Kept.{IsKeptContent};
 ghost use Rattle.desk_schema.specs.Steps.{Acts, Serves};
-ghost use Rattle.bug_record.specs.declared.outcome.StoreFault.TheVariants.{Memory};
+ghost use Rattle.desk_lines.specs.declared.store_fault.StoreFault.TheVariants.{Memory};
 ghost use Rattle.desk_writes.specs.Needs.{HasTree, HasTreeIfAny, IsKnownIn, IsNextPlace};
 ghost use Rattle.desk_writes.specs.Lines.{IsLine, AreEditsOf};
 
 use crate::change::put_change;
 use crate::play::play_or_ask;
-use bug_record::{Change, Outcome, Sequence, SetImage, StoreFault};
+use bug_record::{Change, Outcome, Sequence, SetImage};
 use desk_content::{Edit, keep_edits};
+use desk_lines::StoreFault;
 use nearest_marks::Family;
 use sqlite::{Alter, Transaction};
 use std::alloc::Global;

@@ -6,10 +6,11 @@ ghost use Rattle.desk_content.specs.Outcomes.{numbered};
 ghost use Rattle.desk_content.specs.View.{with_their_numbers, outcomes_of, keeping_in};
 ghost use Rattle.desk_schema.specs.Steps.{Reads, Serves};
 ghost use Rattle.bug_record.specs.declared.outcome.Outcome.TheVariants.{Changed};
-ghost use Rattle.bug_record.specs.declared.outcome.StoreFault.TheVariants.{Foreign};
+ghost use Rattle.desk_lines.specs.declared.store_fault.StoreFault.TheVariants.{Foreign};
 
-use bug_record::{Outcome, Sequence, StoreFault};
+use bug_record::{Outcome, Sequence};
 use desk_content::{SentMessage, ToldOutcome};
+use desk_lines::StoreFault;
 use desk_rows::{read_message, read_outcome_numbers, read_outcomes};
 use desk_schema::parameter;
 use desk_store::{Kept, copy_outcome};

@@ -8,8 +8,9 @@ ghost use Rattle.desk_content.specs.Content.{Content};
 ghost use Rattle.desk_schema.specs.Steps.{Reads, Serves};
 ghost use Rattle.desk_writes.specs.Needs.{IsKnownIn};
 
-use bug_record::{Change, SetImage, StoreFault};
+use bug_record::{Change, SetImage};
 use desk_content::{has_marks, key_of};
+use desk_lines::StoreFault;
 use desk_schema::parameter;
 use set_rows::read_marks;
 use sqlite::{Alter, Transaction};

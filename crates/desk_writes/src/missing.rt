@@ -4,7 +4,7 @@ ghost use Rattle.std.specs.Prelude.{◌≡◌, ◌≢◌, ◌&&◌, true, All, I
 ghost use Rattle.sqlite.specs.Held.{state};
 ghost use Rattle.version_nodes.specs.Trees.{has_node, knows, line};
 ghost use Rattle.nearest_marks.specs.Nearest.{meets, is_once};
-ghost use Rattle.bug_record.specs.declared.outcome.StoreFault.TheVariants.{Foreign};
+ghost use Rattle.desk_lines.specs.declared.store_fault.StoreFault.TheVariants.{Foreign};
 ghost use Rattle.desk_content.specs.Branches.{AreMissing};
 ghost use Rattle.desk_content.specs.Kept.{IsKeptContent};
 ghost use Rattle.desk_rows.specs.Grown.{IsGrown};
@@ -14,8 +14,8 @@ ghost use Rattle.desk_writes.specs.Steps.{AddsRows};
 
 use crate::first_marks::read_first_marks;
 use crate::new_rows::push_new_rows;
-use bug_record::StoreFault;
 use desk_content::SetNear;
+use desk_lines::StoreFault;
 use nearest_marks::{Family, affected};
 use sqlite::{Alter, Transaction};
 use std::alloc::Global;

@@ -8,8 +8,8 @@ ghost use Rattle.sqlite.specs.Held.{state};
 ghost use Rattle.desk_rows.specs.Missing.{set_near, new_rows};
 ghost use Rattle.desk_schema.specs.Steps.{Reads};
 
-use bug_record::StoreFault;
 use desk_content::SetNear;
+use desk_lines::StoreFault;
 use desk_schema::parameter;
 use nearest_marks::{Near, NearRow};
 use set_rows::read_near_kind;

@@ -8,8 +8,8 @@ use crate::puts::{
     put_affects, put_blocker, put_fields, put_mark, put_member, put_near, put_outcome,
     put_outcome_number,
 };
-use bug_record::StoreFault;
 use desk_content::Edit;
+use desk_lines::StoreFault;
 use desk_rows::{add_message, add_node, clear_near, clear_near_at, clear_node, read_next};
 use desk_schema::parameter;
 use set_rows::{clear_affected, clear_blockers, clear_bug, clear_fields, clear_marks};

@@ -5,8 +5,9 @@ ghost use Rattle.sqlite.specs.Held.{state};
 ghost use Rattle.desk_content.specs.declared.edit.Edit.TheVariants.{PutFields, PutMember, PutMark, PutBlocker, PutAffects, PutNear, PutOutcome, PutOutcomeNumber};
 ghost use Rattle.desk_schema.specs.Steps.{Plays, Serves};
 
-use bug_record::{Member, Outcome, StoreFault};
+use bug_record::{Member, Outcome};
 use desk_content::SetFields;
+use desk_lines::StoreFault;
 use desk_rows::{add_near, add_outcome, add_outcome_number};
 use desk_schema::parameter;
 use nearest_marks::Near;

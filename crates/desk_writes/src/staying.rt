@@ -4,14 +4,15 @@ ghost use Rattle.std.specs.Prelude.{◌≡◌, Some, IfOk, IfErr, IfSome};
 ghost use Rattle.bugs_in_memory.specs.Keys.{key_of};
 ghost use Rattle.std.specs.Option.{option_copied};
 ghost use Rattle.sqlite.specs.Held.{state};
-ghost use Rattle.bug_record.specs.declared.outcome.StoreFault.TheVariants.{Memory};
+ghost use Rattle.desk_lines.specs.declared.store_fault.StoreFault.TheVariants.{Memory};
 ghost use Rattle.desk_schema.specs.Steps.{Reads};
 ghost use Rattle.desk_content.specs.Content.{Content};
 ghost use Rattle.desk_writes.specs.Needs.{IsKnownIn};
 ghost use Rattle.desk_writes.specs.Plans.{IsStay, IsStayOf, IsStayPlan};
 
-use bug_record::{Sequence, SetImage, Shared, StoreFault};
+use bug_record::{Sequence, SetImage, Shared};
 use desk_content::{Edit, SetFields, key_of, stay_edits};
+use desk_lines::StoreFault;
 use desk_schema::parameter;
 use nearest_marks::Family;
 use set_images::equal_members;

@@ -3,7 +3,7 @@ use Rattle.std.proofs.Common.{◌≡◌, ℕ, ◌&&◌, List, [], ◌∷◌, Boo
 use Rattle.std.specs.Prelude.{if◌then◌else◌, is_none}
 use Rattle.std.specs.Str.{bytes_eq}
 use Rattle.std.proofs.lemmas.Bool.{cases_Bool, cond-true, cond-false}
-use Rattle.bug_record.specs.Texts.{is_text, IsText, IfGiven}
+use Rattle.line_words.specs.Texts.{is_text, IsText, IfGiven}
 use Rattle.line_words.specs.Ids.{is_id, IsId}
 use Rattle.job_words.specs.Cut.{Text}
 use Rattle.job_words.specs.Options.{Given}

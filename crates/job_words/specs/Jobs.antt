@@ -3,7 +3,7 @@
 use Rattle.std.specs.Prelude.{◌≡◌, ◌⊎◌, ⊤, ℕ, ◌&&◌, if◌then◌else◌, false, IsTrue, codes}
 use Rattle.std.specs.Prelude.{List, [], ◌∷◌, Option, Some, None, is_none}
 use Rattle.std.specs.Str.{bytes_eq}
-use Rattle.bug_record.specs.Texts.{is_text, IsText, IfGiven}
+use Rattle.line_words.specs.Texts.{is_text, IsText, IfGiven}
 use Rattle.line_words.specs.Ids.{is_id, IsId}
 use Rattle.control_text.specs.WordLines.{first_fault, lines}
 use Rattle.line_words.specs.declared.named.TheConstants.{LARGEST_NUMBER}

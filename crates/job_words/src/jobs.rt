@@ -10,9 +10,8 @@ use crate::job::Job;
 use crate::message::message_lines;
 use crate::numbers::{number_in, number_or};
 use crate::options::Values;
-use bug_record::is_text;
 use debver::Text;
-use line_words::{LARGEST_NUMBER, is_id};
+use line_words::{LARGEST_NUMBER, is_id, is_text};
 use std::alloc::{AllocError, Global};
 
 /// The highest port.

@@ -4,3 +4,4 @@ pub mod Words
 pub mod Numbers
 pub mod Bugs
 pub mod Ids
+pub mod Texts

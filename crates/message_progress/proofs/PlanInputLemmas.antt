@@ -15,7 +15,7 @@ use Rattle.bug_record.specs.declared.command.Command.{Command}
 use Rattle.bug_record.specs.declared.command.Command.TheVariants as commands
 use Rattle.set_images.proofs.ImageLemmas.{image_with-shows, image_with-none, image_with-has}
 use Rattle.bug_record.specs.Commands.{bugs_named}
-use Rattle.bug_record.specs.declared.outcome.StoreFault.{StoreFault}
+use Rattle.desk_lines.specs.declared.store_fault.StoreFault.{StoreFault}
 use Rattle.desk_store.specs.Crashes.{Holding}
 use Rattle.desk_store.specs.Store.{Asks, Answers, IsOpenHead}
 use Rattle.desk_store.proofs.HoldsLemmas.{holds_where, asks_then}

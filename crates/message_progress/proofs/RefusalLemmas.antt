@@ -14,7 +14,7 @@ use Rattle.version_nodes.specs.Trees.{Ancestry, has_node, IsForest, heads}
 use Rattle.version_nodes.proofs.NodeLemmas.{has_head, has_tail}
 use Rattle.ancestry.proofs.HeadLemmas.{listed_valid}
 use Rattle.bug_record.specs.Sets.{has, Each, IsAscending}
-use Rattle.bug_record.specs.Texts.{IfGiven}
+use Rattle.line_words.specs.Texts.{IfGiven}
 use Rattle.bug_record.specs.Desk.{Desk, IsSound}
 use Rattle.bug_record.specs.Heads.{open_head}
 use Rattle.bug_record.specs.Changed.{same_at, numbers_below, changed_numbers}

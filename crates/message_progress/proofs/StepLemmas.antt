@@ -9,7 +9,7 @@ use Rattle.line_words.specs.Bugs.{IsGoodBug}
 use Rattle.line_words.specs.declared.named.Named.{Named}
 use Rattle.version_nodes.specs.Nodes.{Node}
 use Rattle.bug_record.specs.Sets.{has, Each}
-use Rattle.bug_record.specs.Texts.{IfGiven}
+use Rattle.line_words.specs.Texts.{IfGiven}
 use Rattle.bug_record.specs.Desk.{Desk, IsSound}
 use Rattle.bug_record.specs.Bugs.{with_new_bugs, at_bug, unless, first_of, first_refusal, bugs_at}
 use Rattle.bug_record.specs.Words.{Names, meaning, bug_refusal, number_by, first_bug_refusal, words_refusal}

@@ -1,7 +1,7 @@
 -- When a change may be made on a desk.
 use Rattle.std.specs.Prelude.{ℕ, ◌≡◌, List, Option}
 use Rattle.bug_record.specs.Desk.{Desk}
-use Rattle.bug_record.specs.Texts.{IfGiven}
+use Rattle.line_words.specs.Texts.{IfGiven}
 use Rattle.bug_record.specs.Images.{AreApart, FitsDesk}
 use Rattle.bug_record.specs.Changed.{Replaces}
 use Rattle.bug_record.specs.declared.bug.SetImage.{SetImage}

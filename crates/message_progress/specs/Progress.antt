@@ -3,8 +3,8 @@ use Rattle.std.specs.Prelude.{ℕ, ◌≡◌, List, [], ◌∷◌, ◌++◌, Boo
 use Rattle.bug_record.specs.Sets.{Each}
 use Rattle.bug_record.specs.Words.{Names}
 use Rattle.line_words.specs.Numbers.{IsGoodNumber}
-use Rattle.bug_record.specs.declared.outcome.End.{End}
-use Rattle.bug_record.specs.declared.outcome.End.TheVariants as ends
+use Rattle.desk_lines.specs.declared.store_fault.End.{End}
+use Rattle.desk_lines.specs.declared.store_fault.End.TheVariants as ends
 use Rattle.desk_store.specs.Message.{Entry, end_of, unreadable_count, known_names}
 
 -- the names stand for numbers from 1 to 999,999,999

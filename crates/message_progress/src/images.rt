@@ -9,7 +9,8 @@ ghost use Rattle.bug_record.specs.Commands.{bugs_named};
 ghost use Rattle.desk_store.specs.Store.{Asks, Answers, faults_after};
 ghost use Rattle.message_progress.specs.Images.{is_gathered, meets, Lists, Gather, ShowBugs};
 
-use bug_record::{Command, Member, Sequence, SetImage, StoreFault};
+use bug_record::{Command, Member, Sequence, SetImage};
+use desk_lines::StoreFault;
 use desk_store::Records;
 use set_images::{bug_named, other_bugs};
 use std::alloc::{AllocError, Global};

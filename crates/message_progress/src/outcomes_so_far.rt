@@ -5,8 +5,9 @@ ghost use Rattle.desk_store.specs.Message.{is_stop, is_unreadable, unreadable_co
 ghost use Rattle.message_progress.specs.Progress.{goes_on, IsReady};
 
 use crate::known::KnownNames;
-use bug_record::{End, Outcome, Refusal, Sequence, StoreFault};
+use bug_record::{Outcome, Refusal, Sequence};
 use debver::Text;
+use desk_lines::{End, StoreFault};
 use std::alloc::Global;
 
 /// The outcomes of a message, each with its line as written, and its end.

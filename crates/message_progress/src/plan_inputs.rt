@@ -9,7 +9,8 @@ ghost use Rattle.message_progress.specs.Images.{ShowBugs};
 ghost use Rattle.message_progress.specs.PlanInputs.{IsAnswered};
 
 use crate::images::images_of;
-use bug_record::{Command, Sequence, SetImage, StoreFault};
+use bug_record::{Command, Sequence, SetImage};
+use desk_lines::StoreFault;
 use desk_store::Records;
 use set_images::find_image;
 use std::alloc::Global;

@@ -5,7 +5,7 @@ use Rattle.std.specs.Str.{bytes_eq}
 use Rattle.debver.specs.Names.{IsName}
 use Rattle.version_nodes.specs.Nodes.{Node, IsNode}
 use Rattle.bug_record.specs.Sets.{has, Each, number_set}
-use Rattle.bug_record.specs.Texts.{IsGoodText, IfGiven}
+use Rattle.line_words.specs.Texts.{IsGoodText, IfGiven}
 use Rattle.bug_record.specs.Marks.{IsNodeSet, with_node, without_node}
 use Rattle.bug_record.specs.Tags.{IsTagSet, with_tag, without_tag}
 use Rattle.bug_record.specs.PackageSets.{has_name, IsNameSet}

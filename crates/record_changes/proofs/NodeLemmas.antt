@@ -4,7 +4,7 @@ use Rattle.std.specs.Prelude.{unwrap_or}
 use Rattle.std.proofs.lemmas.Option.{none-some}
 use Rattle.debver.specs.Names.{IsName}
 use Rattle.debver.specs.Cut.{IsVersion}
-use Rattle.bug_record.specs.Texts.{IfGiven}
+use Rattle.line_words.specs.Texts.{IfGiven}
 use Rattle.version_nodes.specs.Nodes.{Node, node, node_of}
 use Rattle.version_nodes.proofs.ReadLemmas.{nodes_exactly}
 

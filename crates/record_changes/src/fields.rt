@@ -3,7 +3,7 @@
 ghost use Rattle.std.specs.Prelude.{◌≡◌, if◌then◌else◌, Some, None, IfOk, IfErr, OnOk};
 ghost use Rattle.bug_record.specs.Commands.{node_meant, person, IsGoodVersion, HasGoodParts};
 ghost use Rattle.bug_record.specs.Marks.{without_node};
-ghost use Rattle.bug_record.specs.Texts.{IfGiven};
+ghost use Rattle.line_words.specs.Texts.{IfGiven};
 ghost use Rattle.bug_record.specs.Steps.{marked_fixed, opened, moved_to, reassigned, blocked_by, unblocked_by, shared_after};
 ghost use Rattle.record_changes.specs.Fields.{IsVersionFault};
 ghost use Rattle.record_changes.specs.Parts.{found_in, closed_in};

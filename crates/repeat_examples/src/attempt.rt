@@ -1,7 +1,7 @@
 //! A message that is sent to the desk in files, whatever becomes of them.
 
 use crate::sending::{Ended, Sending};
-use bug_record::StoreFault;
+use desk_lines::StoreFault;
 use desk_run::{End, OnceFault, Records};
 use sqlite::{Alter, Connection};
 use std::alloc::Global;

@@ -1,7 +1,8 @@
 //! A message that has an id, and what comes of it on a desk.
 
-use bug_record::{StoreFault, is_text};
+use desk_lines::StoreFault;
 use desk_run::{End, OnceFault, Received, Records, receive_once, received_text};
+use line_words::is_text;
 use std::alloc::{AllocError, Global};
 
 /// A message that has an id.

@@ -1,7 +1,7 @@
 //! Messages that are sent to a desk in memory, and to one in tables, again and again.
 
 use crate::sending::Sending;
-use bug_record::StoreFault;
+use desk_lines::StoreFault;
 use desk_run::Records;
 use line_words::number_word;
 use std::alloc::{AllocError, Global};

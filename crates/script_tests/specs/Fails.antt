@@ -1,6 +1,6 @@
 -- The faults of a store that fails once, in any way.
 use Rattle.std.specs.Prelude.{Bool, if◌then◌else◌}
-use Rattle.bug_record.specs.declared.outcome.StoreFault.{StoreFault}
+use Rattle.desk_lines.specs.declared.store_fault.StoreFault.{StoreFault}
 use Rattle.desk_store.specs.Store.{Faults, counted}
 
 -- the other store's, and its own where it has failed

@@ -4,9 +4,9 @@ ghost use Rattle.std.specs.Prelude.{◌≡◌, ◌⊎◌, ◌||◌, true, false,
 ghost use Rattle.script_tests.specs.Fails.{faults_with};
 
 use ancestry::BranchFault;
-use bug_record::{Change, Numbers, Outcome, Sequence, SetImage, StoreFault};
+use bug_record::{Change, ListRow, Numbers, Outcome, Sequence, SetImage};
+use desk_lines::StoreFault;
 use desk_store::{Kept, Records};
-use set_images::ListRow;
 use version_nodes::Node;
 
 /// A store round another.

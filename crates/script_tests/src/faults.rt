@@ -2,8 +2,8 @@
 
 use crate::fails::Fails;
 use crate::scripts::writes;
-use bug_record::StoreFault;
 use desk_in_memory::PlainDesk;
+use desk_lines::StoreFault;
 use desk_run::{ScriptEnd, ScriptFault, run_script};
 use std::alloc::Global;
 use std::process::Abort;

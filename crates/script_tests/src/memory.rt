@@ -1,7 +1,7 @@
 //! A message with an id for whose lines there is no memory.
 
-use bug_record::StoreFault;
 use desk_in_memory::PlainDesk;
+use desk_lines::StoreFault;
 use desk_run::{OnceFault, Received, receive_once};
 use desk_store::Records;
 use std::alloc::{AllocError, Global};
@@ -18,7 +18,7 @@ const BLOCKS: usize = 16;
 const SIZE: usize = 4096;
 
 // Takes a message with an id, that ann sent.
-#[tactic(auto, unfolding(bug_record::specs::Texts::is_text))]
+#[tactic(auto, unfolding(line_words::specs::Texts::is_text))]
 fn take<S: Records>(
     alloc: Global,
     store: &mut S,

@@ -1,15 +1,15 @@
 //! Messages and their transcripts, as calls.
 
 use crate::stores::failing;
-use bug_record::{End, StoreFault};
 use desk_in_memory::PlainDesk;
+use desk_lines::{End, StoreFault};
 use desk_run::{Received, receive, received_text};
 use desk_store::Records;
 use std::alloc::{AllocError, Global};
 use std::test::Fail;
 
 // Takes a message that ann sent.
-#[tactic(auto, unfolding(bug_record::specs::Texts::is_text))]
+#[tactic(auto, unfolding(line_words::specs::Texts::is_text))]
 fn take_message<S: Records>(alloc: Global, store: &mut S, message: &str) -> Received {
     receive(alloc, store, "ann", message)
 }

@@ -1,8 +1,8 @@
 //! Stores that fail once.
 
 use crate::scripts::writes;
-use bug_record::StoreFault;
 use desk_in_memory::{FailAt, PlainDesk};
+use desk_lines::StoreFault;
 use desk_run::{ScriptEnd, ScriptFault, run_script};
 use desk_store::Records;
 use std::alloc::Global;

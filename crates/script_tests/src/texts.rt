@@ -1,7 +1,6 @@
 //! The texts of the faults of scripts, which no script in data comes to.
 
-use bug_record::StoreFault;
-use desk_lines::ScriptFault;
+use desk_lines::{ScriptFault, StoreFault};
 use std::alloc::{AllocError, Global};
 use std::test::Fail;
 

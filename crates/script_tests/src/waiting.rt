@@ -2,8 +2,8 @@
 
 use crate::fails::Fails;
 use crate::stores::{REPORTS, written};
-use bug_record::StoreFault;
 use desk_in_memory::PlainDesk;
+use desk_lines::StoreFault;
 use desk_store::Records;
 use std::alloc::Global;
 

@@ -15,7 +15,8 @@ use Rattle.bug_record.proofs.SetLemmas.{AllAbove-below, has-above}
 use Rattle.set_images.specs.Changes.{same_texts, differs, same_member, same_members, same_image, same_images}
 use Rattle.set_images.specs.Kept.{ascends, retold, IsKept}
 use Rattle.set_images.proofs.ImageLemmas.{no_member-has}
-use Rattle.set_images.proofs.ChangedLemmas.{changed-are, same_shared-true}
+use Rattle.bug_record.proofs.EqualLemmas.{same_shared-true}
+use Rattle.set_images.proofs.ChangedLemmas.{changed-are}
 
 -- numbers that ascend by the test ascend
 all-above : (k : ℕ) (ns : List ℕ) → ascends (Some k) ns ≡ true → AllAbove k ns × IsAscending ns

@@ -3,7 +3,6 @@ pub mod ImageLemmas
 pub mod IndexLemmas
 pub mod JoinLemmas
 pub mod ChangedLemmas
-pub mod NewBugLemmas
 pub mod KeptLemmas
 pub mod SortedLemmas
 pub mod PartedLemmas

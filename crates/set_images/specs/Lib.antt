@@ -1,5 +1,4 @@
 pub mod Refusals
-pub mod Rows
 pub mod Alike
 -- definitions that only private functions and fields cite
 pub mod Index

@@ -1,6 +1,5 @@
 //! Images of sets of merged bugs: the one that has a bug, where each bug stands, which bugs two
-//! lists of images show otherwise, the rows of lists, and why a command is refused for a bug before
-//! it is planned.
+//! lists of images show otherwise, and why a command is refused for a bug before it is planned.
 //! The values and definitions are those of `bug_record`.
 #![tactic(auto)]
 
@@ -13,15 +12,13 @@ mod laws;
 mod named;
 mod parted;
 mod refusals;
-mod rows;
 mod sorted;
 
 pub use changes::{changed, changed_fields};
 pub use equal::{equal_members, same_numbers, same_text};
-pub use images::{find_image, member_numbers};
+pub use images::{find_image, member_at, member_numbers};
 pub use index::Index;
 pub use laws::{changed_numbers_differ, new_bugs_are_changed};
 pub use named::{bug_named, other_bugs};
 pub use refusals::{archived_refusal, first_refused, records_refusal};
-pub use rows::{ListRow, member_at};
 pub use sorted::in_order;

@@ -5,7 +5,7 @@ use Rattle.sqlite.specs.Order.{Row}
 use Rattle.sqlite.specs.Values.{or_null}
 use Rattle.sqlite.specs.declared.types.Value.TheVariants.{Int, Text}
 use Rattle.bug_record.specs.Severities.{rank}
-use Rattle.bug_record.specs.Texts.{IfGiven}
+use Rattle.line_words.specs.Texts.{IfGiven}
 use Rattle.desk_content.specs.Content.{Content}
 use Rattle.desk_content.specs.Encodings.{flag}
 use Rattle.desk_schema.specs.SetRows.{SetRow, IsSetRow, fields_of_row}

@@ -6,15 +6,16 @@ ghost use Rattle.std.specs.Str.{IsUtf8};
 ghost use Rattle.sqlite.specs.Held.{state};
 ghost use Rattle.bug_record.specs.Ordered.{with_each};
 ghost use Rattle.bug_record.specs.PackageSets.{name_cmp, with_name};
-ghost use Rattle.bug_record.specs.declared.outcome.StoreFault.TheVariants.{Foreign};
+ghost use Rattle.desk_lines.specs.declared.store_fault.StoreFault.TheVariants.{Foreign};
 ghost use Rattle.desk_content.specs.declared.edit.Edit.TheVariants.{PutAffects, DropAffects};
 ghost use Rattle.desk_schema.specs.Steps.{Plays, Reads, Serves};
 ghost use Rattle.sql_forms.specs.Numbers.{number_row};
 ghost use Rattle.set_rows.specs.Affecting.{AreKeysAffecting};
 ghost use Rattle.set_rows.specs.Names.{text_row, AreNamesOf};
 
-use bug_record::{Names, Numbers, Sequence, StoreFault};
+use bug_record::{Names, Numbers, Sequence};
 use debver::Text;
+use desk_lines::StoreFault;
 use desk_schema::{numbers_of, text_at, told, written};
 use sqlite::{Alter, Row, Transaction, params};
 use std::alloc::Global;

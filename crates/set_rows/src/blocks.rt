@@ -8,7 +8,8 @@ ghost use Rattle.desk_schema.specs.Steps.{Plays, Reads, Serves};
 ghost use Rattle.sql_forms.specs.Numbers.{number_row};
 ghost use Rattle.set_rows.specs.Waiting.{AreKeysOf};
 
-use bug_record::{Numbers, StoreFault};
+use bug_record::Numbers;
+use desk_lines::StoreFault;
 use desk_schema::{numbers_of, told, written};
 use sqlite::{Alter, Row, Transaction, params};
 use std::alloc::Global;

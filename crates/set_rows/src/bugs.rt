@@ -4,13 +4,14 @@ ghost use Rattle.std.specs.Prelude.{◌≡◌, ◌≢◌, true, List, [], ◌∷
 ghost use Rattle.std.specs.Option.{option_map_or};
 ghost use Rattle.sqlite.specs.Held.{state};
 ghost use Rattle.bug_record.specs.declared.bug.Member.{Member as SeenMember};
-ghost use Rattle.bug_record.specs.declared.outcome.StoreFault.TheVariants.{Foreign};
+ghost use Rattle.desk_lines.specs.declared.store_fault.StoreFault.TheVariants.{Foreign};
 ghost use Rattle.desk_content.specs.declared.edit.Edit.TheVariants.{PutMember, DropMember};
 ghost use Rattle.desk_schema.specs.Steps.{Plays, Reads, Serves};
 ghost use Rattle.sql_forms.specs.Numbers.{number_row};
 ghost use Rattle.set_rows.specs.Members.{member_row, HasUtf8, AreMemberRows};
 
-use bug_record::{Member, Members, Sequence, StoreFault};
+use bug_record::{Member, Members, Sequence};
+use desk_lines::StoreFault;
 use desk_schema::{is_number_at, is_text_at, number_at, number_in, text_at, told, written};
 use sqlite::{Alter, Row, Transaction, params};
 use std::alloc::Global;

@@ -2,14 +2,15 @@
 
 ghost use Rattle.std.specs.Prelude.{◌≡◌, ◌≢◌, List, map, IfOk, IfErr};
 ghost use Rattle.sqlite.specs.Held.{state};
-ghost use Rattle.bug_record.specs.declared.outcome.StoreFault.TheVariants.{Foreign};
+ghost use Rattle.desk_lines.specs.declared.store_fault.StoreFault.TheVariants.{Foreign};
 ghost use Rattle.desk_schema.specs.Steps.{Reads, Serves};
 ghost use Rattle.set_rows.specs.Listed.{AreSetsOf};
 ghost use Rattle.set_rows.specs.SetAnswers.{listed_row};
 ghost use Rattle.set_rows.specs.declared.listed.ListedSet.{ListedSet as SeenSet};
 
 use crate::sets::{flag_at, severity_at};
-use bug_record::{Severity, StoreFault};
+use bug_record::Severity;
+use desk_lines::StoreFault;
 use desk_schema::{number_at, told};
 use sqlite::{Alter, Row, Transaction, params};
 use std::alloc::Global;

@@ -3,13 +3,14 @@
 ghost use Rattle.std.specs.Prelude.{◌≡◌, ◌≢◌, IfOk, IfErr, OnOk, List, map};
 ghost use Rattle.std.specs.List.{AllByRecursion};
 ghost use Rattle.sqlite.specs.Held.{state};
-ghost use Rattle.bug_record.specs.declared.outcome.StoreFault.TheVariants.{Foreign};
+ghost use Rattle.desk_lines.specs.declared.store_fault.StoreFault.TheVariants.{Foreign};
 ghost use Rattle.desk_content.specs.declared.edit.Edit.TheVariants.{PutMark, DropMarks};
 ghost use Rattle.desk_schema.specs.Steps.{Plays, Reads, Serves};
 ghost use Rattle.set_rows.specs.Marked.{Mark, mark_row, IsMark, no_marks, with_marked, all_marked, AreMarksOf};
 
-use bug_record::{Nodes, Sequence, StoreFault};
+use bug_record::{Nodes, Sequence};
 use desk_content::{kind_of_number, number_of_kind};
+use desk_lines::StoreFault;
 use desk_schema::{node_at, number_at, told, written};
 use sqlite::{Alter, Row, Transaction, params};
 use std::alloc::Global;

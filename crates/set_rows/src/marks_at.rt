@@ -2,14 +2,14 @@
 
 ghost use Rattle.std.specs.Prelude.{◌≡◌, ◌≢◌, IfOk, IfErr, List, map};
 ghost use Rattle.sqlite.specs.Held.{state};
-ghost use Rattle.bug_record.specs.declared.outcome.StoreFault.TheVariants.{Foreign};
+ghost use Rattle.desk_lines.specs.declared.store_fault.StoreFault.TheVariants.{Foreign};
 ghost use Rattle.desk_schema.specs.Steps.{Reads, Serves};
 ghost use Rattle.set_rows.specs.MarkedAt.{AreMarksAt};
 ghost use Rattle.set_rows.specs.MarkAnswers.{mark_row};
 ghost use Rattle.set_rows.specs.declared.marks_at.SetMark.{SetMark as SeenMark};
 
-use bug_record::StoreFault;
 use desk_content::kind_of_number;
+use desk_lines::StoreFault;
 use desk_schema::{number_at, told};
 use sqlite::{Alter, Row, Transaction, params};
 use std::alloc::Global;

@@ -3,12 +3,12 @@
 ghost use Rattle.std.specs.Prelude.{◌≡◌, ◌≢◌, Option, IfOk, IfErr, option_map};
 ghost use Rattle.sqlite.specs.Held.{state};
 ghost use Rattle.version_nodes.specs.declared.statuses.MarkKind.{MarkKind as SeenKind};
-ghost use Rattle.bug_record.specs.declared.outcome.StoreFault.TheVariants.{Foreign};
+ghost use Rattle.desk_lines.specs.declared.store_fault.StoreFault.TheVariants.{Foreign};
 ghost use Rattle.desk_schema.specs.Steps.{Reads, Serves};
 ghost use Rattle.set_rows.specs.KindAnswers.{kind_row, kind_rows};
 
-use bug_record::StoreFault;
 use desk_content::kind_of_number;
+use desk_lines::StoreFault;
 use desk_schema::{number_at, told};
 use sqlite::{Alter, Row, Transaction, params};
 use version_nodes::{MarkKind, Node};

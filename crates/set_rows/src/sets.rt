@@ -6,20 +6,21 @@ ghost use Rattle.sqlite.specs.Held.{state};
 ghost use Rattle.sqlite.specs.Order.{column};
 ghost use Rattle.sqlite.specs.declared.types.Value.TheVariants.{Int};
 ghost use Rattle.bug_record.specs.Severities.{rank};
-ghost use Rattle.bug_record.specs.Texts.{IfGiven};
+ghost use Rattle.line_words.specs.Texts.{IfGiven};
 ghost use Rattle.bug_record.specs.declared.severity.Severity.{Severity as SeenSeverity};
-ghost use Rattle.bug_record.specs.declared.outcome.StoreFault.TheVariants.{Foreign};
+ghost use Rattle.desk_lines.specs.declared.store_fault.StoreFault.TheVariants.{Foreign};
 ghost use Rattle.desk_content.specs.Encodings.{flag, tags_in};
 ghost use Rattle.desk_content.specs.declared.edit.Edit.TheVariants.{PutFields, DropFields};
 ghost use Rattle.desk_schema.specs.SetRows.{SetRow, IsSetRow, fields_of_row};
 ghost use Rattle.desk_schema.specs.Steps.{Plays, Reads, Serves};
 ghost use Rattle.set_rows.specs.Fields.{field_row, field_rows, AreFieldsOf};
 
-use bug_record::{Severity, StoreFault, Tags};
+use bug_record::{Severity, Tags};
 use debver::Text;
 use desk_content::{
     SetFields, flag_of_number, number_of_flag, number_of_tags, severity_of_number, tags_of_number,
 };
+use desk_lines::StoreFault;
 use desk_schema::{maybe_text_at, number_at, text_at, told, written};
 use sqlite::{Alter, Row, Transaction, params};
 use std::alloc::Global;

@@ -8,8 +8,9 @@ ghost use Rattle.desk_schema.specs.Steps.{Reads, Serves};
 use crate::affects::read_affected;
 use crate::blocks::read_blockers;
 use crate::marks::read_marks;
-use bug_record::{Shared, StoreFault};
+use bug_record::Shared;
 use desk_content::SetFields;
+use desk_lines::StoreFault;
 use sqlite::{Alter, Transaction};
 use std::alloc::Global;
 

@@ -31,7 +31,7 @@ use Rattle.sqlite.specs.Rows.{Then}
 use Rattle.sqlite.specs.State.{State, mode_of, ExecutesInside}
 use Rattle.sqlite.proofs.Callers.{statement_of}
 use Rattle.sql_forms.specs.Faults.{fault_of}
-use Rattle.bug_record.specs.declared.outcome.StoreFault.TheVariants.{Foreign}
+use Rattle.desk_lines.specs.declared.store_fault.StoreFault.TheVariants.{Foreign}
 use Rattle.sql_forms.proofs.InsertLemmas.{same_value, off}
 use Rattle.sql_forms.proofs.CreateLemmas.{CreatesTable, CreatesIndex}
 use Rattle.sql_forms.proofs.ErrorLemmas.{IsStoreError, IsCallOf, fails_as, same_stop}

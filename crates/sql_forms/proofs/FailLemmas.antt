@@ -11,7 +11,7 @@ use Rattle.sqlite.specs.Steps.{FailsToCommit}
 use Rattle.sqlite_trees.specs.declared.error.StoreError.{StoreError}
 use Rattle.sqlite_trees.specs.declared.error.StoreError.TheVariants.{OutOfMemory}
 use Rattle.sql_forms.specs.Faults.{fault_of}
-use Rattle.bug_record.specs.declared.outcome.StoreFault.TheVariants.{Foreign}
+use Rattle.desk_lines.specs.declared.store_fault.StoreFault.TheVariants.{Foreign}
 use Rattle.sql_forms.proofs.ErrorLemmas.{IsStoreError}
 
 store_not_foreign : (cause : StoreError) → fault_of (store_error cause) ≢ Foreign

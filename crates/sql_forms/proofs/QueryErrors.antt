@@ -19,7 +19,7 @@ use Rattle.sqlite.specs.State.{State, FailsToQuery, FailsToShow, IsTooLate, IsNo
 use Rattle.sqlite.proofs.Callers.{IsPlain, command_of}
 use Rattle.sql_forms.specs.Forms.{page_of}
 use Rattle.sql_forms.specs.Faults.{fault_of}
-use Rattle.bug_record.specs.declared.outcome.StoreFault.TheVariants.{Foreign}
+use Rattle.desk_lines.specs.declared.store_fault.StoreFault.TheVariants.{Foreign}
 use Rattle.sql_forms.proofs.ErrorLemmas.{IsStoreError, tail_of, width_of}
 use Rattle.sql_forms.proofs.FailLemmas.{stored_free}
 

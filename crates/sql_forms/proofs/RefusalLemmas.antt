@@ -26,7 +26,7 @@ use Rattle.sqlite_rules.specs.declared.error.Refusal.{Refusal}
 use Rattle.sqlite_rules.specs.declared.error.Refusal.TheVariants.{Violates, Mismatch, NoRowid, BadReference, TooDeep}
 use Rattle.sqlite_trees.specs.Tree.{with_tree, IsAscending}
 use Rattle.sqlite_typing.specs.Types.{accepts_terms, accepts_program}
-use Rattle.bug_record.specs.declared.outcome.StoreFault.TheVariants.{Foreign}
+use Rattle.desk_lines.specs.declared.store_fault.StoreFault.TheVariants.{Foreign}
 use Rattle.sql_forms.specs.Faults.{fault_of}
 use Rattle.sql_forms.specs.Forms.{inserted, query_of, passes as is_hit}
 use Rattle.sql_forms.proofs.InsertLemmas.{InsertsRow}

@@ -1,7 +1,7 @@
 //! A file of examples while it is run.
 
 use crate::questions::Answers;
-use bug_record::StoreFault;
+use desk_lines::StoreFault;
 use desk_tables::OpenFault;
 use std::alloc::{AllocError, Global};
 use store_trials::Report;

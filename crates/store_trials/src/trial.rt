@@ -2,7 +2,7 @@
 
 use crate::fronts::{DEVICE, Fronts, MEMORY, Reach};
 use crate::held::Held;
-use bug_record::StoreFault;
+use desk_lines::StoreFault;
 use desk_run::{Records, ScriptEnd, ScriptFault};
 use sqlite::{Alter, Connection};
 use sqlite_disk::{Disk, Files};

@@ -4,7 +4,7 @@
 
 use crate::desks::{Made, new_desk, open};
 use crate::disks::{connected, files_with};
-use bug_record::StoreFault;
+use desk_lines::StoreFault;
 use desk_run::{FailAt, PlainDesk, Records};
 use sqlite::{Alter, Connection};
 use sqlite_disk::{Disk, Files};

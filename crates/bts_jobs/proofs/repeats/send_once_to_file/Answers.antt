@@ -1,5 +1,5 @@
 use Rattle.std.proofs.Common.{◌∙◌, ℕ, List, inr, rules, subst}
-use Rattle.bug_record.specs.Texts.{IsText}
+use Rattle.line_words.specs.Texts.{IsText}
 use Rattle.line_words.specs.Ids.{IsId}
 use Rattle.bts_jobs.specs.InFile.{IsKeptInFile, HasHonestFile, desk_in_file, keeping_in_file, faults_in_file}
 use Rattle.bts_jobs.specs.Jobs.{IsSentOnceOver}

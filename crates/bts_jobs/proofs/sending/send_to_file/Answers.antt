@@ -1,5 +1,5 @@
 use Rattle.std.proofs.Common.{inr, rules}
-use Rattle.bug_record.specs.Texts.{IsText}
+use Rattle.line_words.specs.Texts.{IsText}
 use Rattle.bts_jobs.proofs.sending.send_to_file.Goals as goal
 
 pub returns-in-Ok : goal.returns-in-Ok

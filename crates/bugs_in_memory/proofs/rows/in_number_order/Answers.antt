@@ -4,7 +4,7 @@ use Rattle.std.proofs.lemmas.Fn.{dedup_same, always_returns_same}
 use Rattle.std.proofs.lemmas.List.Kept.{Contains-from_dedup}
 use Rattle.std.proofs.lemmas.List.Sorted.{IsPermutation-map, IsPermutation-sym, Contains-permutation}
 use Rattle.set_images.proofs.SortedLemmas.{has-sorted, ascending-sorted}
-use Rattle.set_images.specs.declared.rows.ListRow.{ListRow}
+use Rattle.bug_record.specs.declared.row.ListRow.{ListRow}
 use Rattle.bugs_in_memory.specs.Passing.{row_numbers}
 use Rattle.bugs_in_memory.proofs.RowLemmas.{same_number, dedup-numbers, sorted-numbers}
 use Rattle.bugs_in_memory.proofs.rows.in_number_order.Goals as goal

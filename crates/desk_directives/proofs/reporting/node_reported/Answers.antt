@@ -1,7 +1,7 @@
 use Rattle.std.proofs.Common.{List, ℕ, Bor, Option, subst}
 use Rattle.std.specs.Option.{option_copied}
 use Rattle.debver.specs.Cut.{IsVersion}
-use Rattle.bug_record.specs.Texts.{IfGiven}
+use Rattle.line_words.specs.Texts.{IfGiven}
 use Rattle.desk_directives.proofs.reporting.node_reported.Goals as goal
 
 pub node_of-requires-clause-version : goal.node_of-requires-clause-version

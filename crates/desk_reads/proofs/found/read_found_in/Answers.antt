@@ -1,7 +1,7 @@
 use Rattle.std.proofs.Common.{◌≡◌, Bool, Result, Ok, sym, ap, ◌∙◌}
 use Rattle.std.specs.Prelude.{⊤}
 use Rattle.sqlite.specs.Held.{state}
-use Rattle.bug_record.specs.declared.outcome.StoreFault.{StoreFault}
+use Rattle.desk_lines.specs.declared.store_fault.StoreFault.{StoreFault}
 use Rattle.desk_content.specs.Kept.{IsKeptContent}
 use Rattle.desk_schema.proofs.StepLemmas.{reads_work}
 use Rattle.desk_reads.specs.Found.{decided, near_kind, is_found_by, is_found_in}

@@ -1,6 +1,6 @@
 use Rattle.std.proofs.Common.{◌≡◌, ℕ, Option, Result, Ok, Err, sym, ◌∙◌, rules}
 use Rattle.sqlite.specs.Held.{state}
-use Rattle.bug_record.specs.declared.outcome.StoreFault.{StoreFault}
+use Rattle.desk_lines.specs.declared.store_fault.StoreFault.{StoreFault}
 use Rattle.desk_reads.proofs.KeptSteps.{kept_any, kept_work}
 use Rattle.desk_reads.proofs.KeyLemmas.{key_small}
 use Rattle.desk_reads.proofs.images.read_small_key.Goals as goal

@@ -2,7 +2,7 @@ use Rattle.std.proofs.Common.{◌≡◌, Option, Result, Ok, sym, ap, ◌∙◌}
 use Rattle.std.specs.Option.{option_and_then}
 use Rattle.std.specs.Prelude.{⊤}
 use Rattle.sqlite.specs.Held.{state}
-use Rattle.bug_record.specs.declared.outcome.StoreFault.{StoreFault}
+use Rattle.desk_lines.specs.declared.store_fault.StoreFault.{StoreFault}
 use Rattle.desk_schema.proofs.StepLemmas.{reads_work}
 use Rattle.set_rows.specs.Listed.{row_fields}
 use Rattle.set_rows.specs.declared.listed.RowFields.{RowFields}

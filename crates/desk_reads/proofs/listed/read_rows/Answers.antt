@@ -4,11 +4,11 @@ use Rattle.std.specs.Map.{lookup}
 use Rattle.std.specs.Option.{option_or}
 use Rattle.std.specs.Ordering.{nat_cmp}
 use Rattle.sqlite.specs.Held.{state}
-use Rattle.bug_record.specs.declared.outcome.StoreFault.{StoreFault}
+use Rattle.desk_lines.specs.declared.store_fault.StoreFault.{StoreFault}
 use Rattle.desk_content.specs.Content.{Content}
 use Rattle.desk_content.specs.Kept.{IsKeptContent}
 use Rattle.desk_schema.proofs.ReadSteps.{known_first, known_then, known_answer}
-use Rattle.set_images.specs.declared.rows.ListRow.{ListRow}
+use Rattle.bug_record.specs.declared.row.ListRow.{ListRow}
 use Rattle.set_rows.specs.Affecting.{AreKeysAffecting}
 use Rattle.set_rows.specs.Listed.{AreKeysFor}
 use Rattle.desk_reads.specs.Keys.{AreKeysToList}

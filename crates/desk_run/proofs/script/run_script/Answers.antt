@@ -1,6 +1,6 @@
 use Rattle.std.proofs.Common.{inl, ◌≡◌, ℕ, ◌+◌, ◌≤◌, lit≤, arith, Err, List, [], ◌∷◌, ◌++◌, sym, ◌∙◌, ap, subst, refl, false}
 use Rattle.std.proofs.lemmas.Result.{err_from_is_err_and}
-use Rattle.bug_record.specs.Texts.{is_text, IsText}
+use Rattle.line_words.specs.Texts.{is_text, IsText}
 use Rattle.desk_store.proofs.HoldsLemmas.{holds_weaker, holds_none, holds_then, holds_both}
 use Rattle.desk_run.specs.Script.{standing, begin}
 use Rattle.desk_run.specs.Gathering.{parts_from}

@@ -1,6 +1,6 @@
 use Rattle.std.proofs.Common.{◌≡◌, refl, arith}
-use Rattle.bug_record.specs.declared.outcome.StoreFault.{StoreFault}
-use Rattle.bug_record.specs.declared.outcome.StoreFault.TheVariants.{Memory, Device, Full, Foreign}
+use Rattle.desk_lines.specs.declared.store_fault.StoreFault.{StoreFault}
+use Rattle.desk_lines.specs.declared.store_fault.StoreFault.TheVariants.{Memory, Device, Full, Foreign}
 use Rattle.desk_store.specs.Store.{Faults, counted, one_more, total}
 use Rattle.desk_store.proofs.laws.faults_rise_by_one.Goals as goal
 

@@ -1,6 +1,6 @@
 use Rattle.std.proofs.Common.{not, sym, ap, ◌∙◌}
 use Rattle.std.proofs.lemmas.Bool.{false≢true}
-use Rattle.set_images.proofs.ChangedLemmas.{others-differ}
+use Rattle.bug_record.proofs.EqualLemmas.{others-differ}
 use Rattle.set_images.proofs.equal.same_shared.Goals as goal
 
 pub returns-else-not-differ_at_once : goal.returns-else-not-differ_at_once

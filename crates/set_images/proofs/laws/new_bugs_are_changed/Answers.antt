@@ -1,4 +1,4 @@
-use Rattle.set_images.proofs.NewBugLemmas.{changed-new}
+use Rattle.bug_record.proofs.NewBugLemmas.{changed-new}
 use Rattle.set_images.proofs.laws.new_bugs_are_changed.Goals as goal
 
 pub returns : goal.returns

@@ -2,7 +2,7 @@ use Rattle.std.proofs.Common.{List, ap, ◌∙◌}
 use Rattle.std.proofs.lemmas.Result.{IfOk-weaker}
 use Rattle.version_nodes.specs.Nodes.{Node}
 use Rattle.bug_record.specs.Asked.{numbers_where}
-use Rattle.set_images.specs.Rows.{rows_of}
+use Rattle.bug_record.specs.Rows.{rows_of}
 use Rattle.bugs_in_memory.specs.Plain.{desk_of}
 use Rattle.bugs_in_memory.specs.Passing.{is_listed_on}
 use Rattle.bugs_in_memory.proofs.ListLemmas.{rows-listed}

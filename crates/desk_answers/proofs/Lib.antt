@@ -1,5 +1,0 @@
-pub mod AnswerLemmas
-pub mod AskedLemmas
-pub mod MessageLemmas
-pub mod NodesLemmas
-pub mod RepeatLemmas

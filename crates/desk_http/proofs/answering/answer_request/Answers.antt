@@ -1,0 +1,26 @@
+use Rattle.std.proofs.Common.{List, String, Global, map, string_bytes, sym, ap, ◌∙◌}
+use Rattle.desk_requests.specs.Requests.{Always, PostBranch}
+use Rattle.desk_requests.specs.Shown.{asked}
+use Rattle.desk_http.proofs.AskedLemmas.{always_right}
+use Rattle.desk_http.proofs.answering.answer_request.Goals as goal
+
+pub returns-in-Report-clause-answer : goal.returns-in-Report-clause-answer
+returns-in-Report-clause-answer g c =
+    always_right _ _ _ _ _ _ (ap asked c.in-Report.is) c.answer_report.ensures.answer c.answer_report.ensures.stays
+
+pub returns-in-Message-clause-answer : goal.returns-in-Message-clause-answer
+returns-in-Message-clause-answer g c =
+    always_right _ _ _ _ _ _ (ap asked c.in-Message.is) c.answer_message.ensures.answer c.answer_message.ensures.stays
+
+pub returns-in-Branch-clause-answer : goal.returns-in-Branch-clause-answer
+returns-in-Branch-clause-answer g c =
+    always_right _ _ _ _ _ _ (ap asked c.in-Branch.is ∙ ap (λ (words : List (String Global)). Always (PostBranch (map string_bytes words)))
+    (sym c.as_slice.ensures.value)) c.answer_branch.ensures.answer c.answer_branch.ensures.stays
+
+pub returns-in-Page-clause-answer : goal.returns-in-Page-clause-answer
+returns-in-Page-clause-answer g c =
+    always_right _ _ _ _ _ _ (ap asked c.in-Page.is) c.answer_page.ensures.answer c.answer_page.ensures.stays
+
+pub returns-in-ListOf-clause-answer : goal.returns-in-ListOf-clause-answer
+returns-in-ListOf-clause-answer g c =
+    always_right _ _ _ _ _ _ (ap asked c.in-ListOf.is) c.answer_list.ensures.answer c.answer_list.ensures.stays

@@ -1,0 +1,36 @@
+use Rattle.std.proofs.Common.{◌≡◌, sym, List, ℕ, Ok, subst, string_bytes}
+use Rattle.desk_lines.specs.Lines.{lines_of}
+use Rattle.desk_store.specs.Store.{Holds}
+use Rattle.desk_store.proofs.HoldsLemmas.{holds_weaker}
+use Rattle.desk_messages.specs.Once.{IsOnce}
+use Rattle.desk_http.specs.Cases.{AnswersEnd}
+use Rattle.desk_requests.specs.Shown.{message_asked}
+use Rattle.desk_http.specs.Stored.{stored}
+use Rattle.desk_http.proofs.RepeatLemmas.{once_right}
+use Rattle.desk_http.proofs.once.answer_once.Goals as goal
+
+pub returns-in-Ok-clause-answer : goal.returns-in-Ok-clause-answer
+returns-in-Ok-clause-answer g c =
+    let desk = g.S.Records.desk in
+    let keeping = g.S.Records.keeping in
+    let before = c.args.store.now in
+    let after = c.receive_once-received.new.store in
+    let received = c.in-Ok.received in
+    let reply = c.tell_lines.result in
+    let id = c.as_str.result.now in
+    let from = c.as_str-2.result.now in
+    let asked = message_asked c.args.request.now.message in
+    let told = subst (λ (m : List ℕ). AnswersEnd received.outcomes received.end (lines_of m) reply) c.as_str-in-Ok.ensures.value
+    c.tell_lines.ensures.is in
+    let once = c.in-Ok.ensures.answer in
+    let of_message = subst (λ (m : List ℕ). Holds g.S.Records.is_kept g.S.Records.is_honest before after
+    (IsOnce id from m (desk before) (keeping before) (Ok received) (desk after) (keeping after))) c.as_str-3.ensures.value once in
+    let of_sender = subst (λ (f : List ℕ). Holds g.S.Records.is_kept g.S.Records.is_honest before after
+    (IsOnce id f asked.message (desk before) (keeping before) (Ok received) (desk after) (keeping after))) c.as_str-2.ensures.value
+    of_message in
+    let of_id = subst (λ (i : List ℕ). Holds g.S.Records.is_kept g.S.Records.is_honest before after
+    (IsOnce i asked.from asked.message (desk before) (keeping before) (Ok received) (desk after) (keeping after)))
+    c.as_str.ensures.value of_sender in
+    holds_weaker of_id
+    (λ h. once_right (string_bytes c.args.request.now.id) asked (stored desk keeping before) (stored desk keeping after) received
+    reply h told)

@@ -1,0 +1,126 @@
+//! Messages that act once per line.
+
+ghost use Rattle.std.specs.Prelude.{◌≡◌, false, true, IfOk, IfErr, Result, ⊤};
+ghost use Rattle.std.specs.Str.{bytes_eq};
+ghost use Rattle.line_words.specs.Texts.{IsText};
+ghost use Rattle.desk_lines.specs.Lines.{lines_of};
+ghost use Rattle.desk_store.specs.Store.{Holds, Asks};
+ghost use Rattle.line_words.specs.Ids.{is_id};
+ghost use Rattle.desk_store.specs.Kept.{IsOfMessage, outcomes_kept};
+ghost use Rattle.desk_messages.specs.Ends.{IsLineOf};
+ghost use Rattle.desk_messages.specs.Once.{IsOnce, faults_after_once};
+ghost use Rattle.desk_messages.specs.Crashes.{LeavesOnce};
+
+use crate::going_on::go_on;
+use crate::recalling::{RecallFault, recall};
+use bug_record::Outcome;
+use desk_lines::{StoreFault, split_lines};
+use desk_store::{Kept, Records, is_id};
+use message_progress::{Received, goes_on};
+use std::alloc::Global;
+use thiserror::Error;
+
+/// Why a message that has an id is not taken.
+#[derive(Clone, Copy, Debug, PartialEq, Eq, Drop, Error)]
+pub enum OnceFault {
+    /// The id is none.
+    #[error("bad id")]
+    BadId,
+    /// The id is known with another sender or another text.
+    #[error("the id is known with another sender or another text")]
+    Reused,
+    /// The store failed, or there was no memory, before the first line that has no kept outcome.
+    #[error(transparent)]
+    Store(StoreFault),
+}
+
+impl From<StoreFault> for OnceFault {
+    ghost use Rattle.std.specs.Prelude.{◌≡◌};
+    ghost use Rattle.desk_messages.specs.declared.once.OnceFault.TheVariants.{Store};
+
+    ghost from_gives = { λ fault e. e ≡ Store fault };
+
+    fn from(fault: StoreFault) -> OnceFault {
+        OnceFault::Store(fault)
+    }
+}
+
+// Whether what is kept of an id, if it is known, is of this sender and this text.
+fn is_of_message(kept: &Option<Kept>, from: &str, message: &str) -> bool
+    ensures yes { result ≡ true → IsOfMessage from.now message.now kept.now }
+    ensures no { result ≡ false → IsOfMessage from.now message.now kept.now → ⊥ }
+{
+    match kept {
+        Some(kept) => kept.from.as_str() == from && kept.message.as_str() == message,
+        None => true,
+    }
+}
+
+// The outcomes that are kept of an id, if it is known.
+fn outcomes_kept(kept: &Option<Kept>) -> &[Outcome]
+    ensures { result.now ≡ outcomes_kept kept.now }
+{
+    match kept {
+        Some(kept) => kept.outcomes.as_slice(),
+        None => &[],
+    }
+}
+
+/// Takes a message that has an id from this sender, as `receive` does, but each of its lines that
+/// has an outcome acts once: the outcomes that are kept of the message are answered again, and it
+/// goes on at the first line that has an outcome and has none kept.
+/// Where the kept ones end the message, no line is taken.
+/// Each line's outcome is kept and its change is carried out in one step.
+/// An id becomes known with its first kept outcome.
+/// A fault of the store at line k is told as the end, as `receive` does.
+///
+/// # Errors
+///
+/// `BadId` where the id is none, `Reused` where it is known with another sender or text, and
+/// `Store` for a fault, or where memory ran out, before the first line that has no kept outcome is
+/// begun, in this order, except that a fault as what is kept is read comes before `Reused`.
+/// Then nothing has changed, and the store was asked questions and no more: a fault at the first
+/// new line is told as the end.
+pub fn receive_once<S: Records>(
+    alloc: Global,
+    store: &mut S,
+    id: &str,
+    from: &str,
+    message: &str,
+) -> Result<Received, OnceFault>
+    requires { IsText from.now }
+    ensures answer { Holds S.is_kept S.is_honest store.old store.new
+        (IsOnce id.now from.now message.now (S.desk store.old) (S.keeping store.old) result (S.desk store.new)
+        (S.keeping store.new)) }
+    ensures crash { Holds S.is_kept S.is_honest store.old store.new
+        (LeavesOnce S.leaves store.old store.new id.now from.now message.now (S.desk store.old, S.keeping store.old) result
+        (S.desk store.new, S.keeping store.new)) }
+    ensures bad { is_id id.now ≡ false → result ≡ Result.Err OnceFault.BadId }
+    ensures good { result ≡ Result.Err OnceFault.BadId → is_id id.now ≡ false }
+    ensures same { result ≡ Result.Err OnceFault.BadId → store.new ≡ store.old }
+    ensures asked { IfErr result (λ fault. Asks S.is_kept S.is_honest S.leaves store.old store.new ⊤) }
+    ensures line { IfOk result (λ r. IsLineOf r.end (lines_of message.now)) }
+    ensures count { S.faults store.new ≡ faults_after_once result (S.faults store.old) }
+{
+    if !is_id(id) {
+        return Err(OnceFault::BadId);
+    }
+    let kept = store.kept(id)?;
+    if !is_of_message(&kept, from, message) {
+        return Err(OnceFault::Reused);
+    }
+    let Ok(lines) = split_lines(alloc, message) else {
+        return Err(OnceFault::Store(StoreFault::Memory));
+    };
+    let lines = lines.as_slice();
+    match recall(alloc, lines, outcomes_kept(&kept)) {
+        Ok(recalled) => {
+            if !goes_on(recalled.end) {
+                return Ok(recalled.progress.received(recalled.end));
+            }
+            Ok(go_on(alloc, store, id, from, message, lines, recalled))
+        }
+        Err(RecallFault::Mismatch) => Err(OnceFault::Reused),
+        Err(RecallFault::Memory) => Err(OnceFault::Store(StoreFault::Memory)),
+    }
+}
