@@ -1,9 +1,11 @@
 """Tests of tools that have no file of tests of their own: each passes what is right and no more."""
 
 import gzip
+import os
 import pathlib
 import re
 import sqlite3
+import subprocess
 import unittest
 
 import desks
@@ -126,6 +128,34 @@ class KillDesk(unittest.TestCase):
         """Some rounds of the program."""
         output, _ = run([TOOLS / "kill_desk", f"--program={desks.program()}", "--rounds=3"])
         self.assertRegex(output, "between lines|with a line kept|ended before")
+
+
+class Gate(unittest.TestCase):
+    """`with_minutes` and `checks_at_once`, which the gate runs."""
+
+    def test_minutes(self):
+        """All lines but that of the status are handed on, and what is proved has its minutes."""
+        said = b"rt: foo proved\nrt: foo: its tests are proved\nrt: bar NOT PROVED\n\xff\n"
+        for status in (0, 2):
+            given = said + b"1 passed, 1 failed\nstatus %d\n" % status
+            command = [TOOLS / "with_minutes"]
+            ran = subprocess.run(command, input=given, capture_output=True, check=False)
+            self.assertEqual(ran.returncode, status)
+            told = [line for line in ran.stdout.splitlines() if line.startswith(b"gate: ")]
+            self.assertEqual(told, [
+                b"gate: foo after 0.0 minutes", b"gate: foo's tests after 0.0 minutes",
+                b"gate: all after 0.0 minutes"])
+            handed = [line for line in ran.stdout.splitlines() if line not in told]
+            self.assertEqual(handed, given.splitlines()[:-1])
+
+    def test_cut(self):
+        """Where no status comes, the gate fails."""
+        self.assertEqual(run([TOOLS / "with_minutes"], "rt: foo proved\n", 1)[0].count("gate: "), 2)
+
+    def test_checks(self):
+        """At least one check runs, and at most one a processor."""
+        output, _ = run([TOOLS / "checks_at_once"])
+        self.assertIn(int(output), range(1, os.cpu_count() + 1))
 
 
 class CheckOptions(unittest.TestCase):
