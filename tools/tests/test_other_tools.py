@@ -144,13 +144,14 @@ class Gate(unittest.TestCase):
             told = [line for line in ran.stdout.splitlines() if line.startswith(b"gate: ")]
             self.assertEqual(told, [
                 b"gate: foo after 0.0 minutes", b"gate: foo's tests after 0.0 minutes",
-                b"gate: all after 0.0 minutes"])
+                b"gate: all after 0.0 minutes",
+                b"gate: minutes: foo 0.0, foo's tests 0.0, all 0.0"])
             handed = [line for line in ran.stdout.splitlines() if line not in told]
             self.assertEqual(handed, given.splitlines()[:-1])
 
     def test_cut(self):
         """Where no status comes, the gate fails."""
-        self.assertEqual(run([TOOLS / "with_minutes"], "rt: foo proved\n", 1)[0].count("gate: "), 2)
+        self.assertEqual(run([TOOLS / "with_minutes"], "rt: foo proved\n", 1)[0].count("gate: "), 3)
 
     def test_checks(self):
         """At least one check runs, and at most one a processor."""
