@@ -8,7 +8,7 @@ use Rattle.bug_record.specs.Sets.{has, IsAscending}
 use Rattle.bug_record.specs.Desk.{Desk, IsSound, IsMergedWith, HasGoodTexts, AreGoodBlockers}
 use Rattle.bug_record.specs.Bugs.{with_new_bugs}
 use Rattle.bug_record.specs.declared.bug.Bug.{Bug}
-use Rattle.bug_record.proofs.SetLemmas.{one_number}
+use Rattle.sequences.proofs.SetLemmas.{one_number}
 use Rattle.bug_record.proofs.EqualLemmas.{none-from_next}
 use Rattle.bug_core.proofs.SoundLemmas.{agree, merged-from, blockers-there}
 

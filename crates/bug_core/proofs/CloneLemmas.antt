@@ -6,11 +6,10 @@ use Rattle.std.specs.Option.{option_or}
 use Rattle.std.proofs.lemmas.Option.{none-some, same_Some}
 use Rattle.std.proofs.lemmas.List.{map-append}
 use Rattle.std.proofs.lemmas.Bool.{false≢true, eqb-true, eqb-false, ne_eqb, le-ltb, lt-ltb, false_from_ne_true}
-use Rattle.bug_record.specs.Sets.{has, Each}
+use Rattle.bug_record.specs.Sets.{has, Each, numbers_below}
 use Rattle.bug_record.specs.Desk.{Desk, IsSound}
 use Rattle.bug_record.specs.Bugs.{with_new_bugs, at_bug, unless, first_of}
 use Rattle.bug_record.specs.Words.{archived_refusal, bug_refusal, first_bug_refusal}
-use Rattle.bug_record.specs.Changed.{numbers_below}
 use Rattle.bug_record.specs.Clones.{merged_refusal, full_refusal, clone_of, cloned}
 use Rattle.bug_record.specs.Images.{numbers_of, member_at, bug_of, bug_in, put, AreApart, HasMember, AreSetsOf, CoverSets, image_with}
 use Rattle.bug_record.specs.Plans.{IsShownBy, CoverImages}

@@ -18,7 +18,7 @@ use Rattle.bug_record.specs.declared.bug.SetImage.{SetImage}
 use Rattle.bug_record.specs.declared.command.Refusal.{Refusal}
 use Rattle.bug_core.specs.Others.{has_any, is_meant, those_meant}
 use Rattle.set_images.proofs.ImageLemmas.{has-member_some, member-has, same_value}
-use Rattle.bug_record.proofs.SetLemmas.{same_test}
+use Rattle.sequences.proofs.SetLemmas.{same_test}
 use Rattle.bug_core.proofs.SoundLemmas.{agree}
 
 -- one of two lists of numbers has a number of the other

@@ -11,7 +11,7 @@ use Rattle.bug_record.specs.Images.{numbers_of, member_at, bug_of, bug_in, AreAp
 use Rattle.bug_record.specs.declared.bug.Bug.{Bug}
 use Rattle.bug_record.specs.declared.bug.Member.{Member}
 use Rattle.bug_record.specs.declared.bug.SetImage.{SetImage}
-use Rattle.bug_record.proofs.SetLemmas.{IsAscending-with_item, has-above, AllAbove-below}
+use Rattle.sequences.proofs.SetLemmas.{IsAscending-with_item, has-above, AllAbove-below}
 use Rattle.bug_core.specs.Others.{has_any, is_meant, those_meant}
 use Rattle.bug_record.specs.Sets.{with_items}
 use Rattle.bug_core.specs.Joins.{with_members, number_of}

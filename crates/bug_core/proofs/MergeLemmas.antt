@@ -26,7 +26,7 @@ use Rattle.bug_record.specs.declared.command.Field.{Field}
 use Rattle.bug_record.specs.declared.command.PlanFault.TheVariants.{Refused}
 use Rattle.bug_record.specs.declared.command.Refusal.{Refusal}
 use Rattle.bug_record.specs.declared.command.Refusal.TheVariants.{NoBug}
-use Rattle.bug_record.proofs.SetLemmas.{IsAscending-number_set, same-ascending}
+use Rattle.sequences.proofs.SetLemmas.{IsAscending-number_set, same-ascending}
 use Rattle.bug_record.proofs.MarkLemmas.{set-node_set}
 use Rattle.bug_record.proofs.PackageLemmas.{names-set}
 use Rattle.bug_record.proofs.TagLemmas.{set-joined_tags}

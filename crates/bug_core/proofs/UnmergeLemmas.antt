@@ -18,7 +18,7 @@ use Rattle.bug_record.specs.declared.command.Change.{Change}
 use Rattle.bug_record.specs.declared.command.PlanFault.TheVariants.{Refused}
 use Rattle.bug_record.specs.declared.command.Refusal.{Refusal}
 use Rattle.bug_record.specs.declared.command.Refusal.TheVariants.{NoBug, NotMerged}
-use Rattle.bug_record.proofs.SetLemmas.{has-filter, IsAscending-filter, same-ascending, one_number}
+use Rattle.sequences.proofs.SetLemmas.{has-filter, IsAscending-filter, same-ascending, one_number}
 use Rattle.bug_core.specs.Others.{others}
 use Rattle.bug_core.specs.Joins.{is_part}
 use Rattle.bug_record.specs.Words.{archived_refusal}

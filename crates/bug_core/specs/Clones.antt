@@ -1,6 +1,6 @@
 -- The images of copies of a bug.
 use Rattle.std.specs.Prelude.{ℕ, ◌+◌, List, [], ◌∷◌, map}
-use Rattle.bug_record.specs.Changed.{numbers_below}
+use Rattle.bug_record.specs.Sets.{numbers_below}
 use Rattle.bug_record.specs.declared.bug.Member.{Member}
 use Rattle.bug_record.specs.declared.bug.SetImage.{SetImage}
 use Rattle.bug_record.specs.declared.bug.Shared.{Shared}

@@ -6,7 +6,7 @@ ghost use Rattle.bug_record.specs.Marks.{with_node};
 ghost use Rattle.bug_core.specs.Gathered.{comes_after, is_ordered};
 ghost use Rattle.bug_core.specs.Joins.{with_nodes};
 
-use bug_record::{Nodes, Sequence};
+use bug_record::{Nodes, Sequence, copy_nodes};
 use std::alloc::{AllocError, Global};
 use std::collections::BTreeSet;
 use std::marker::Model;
@@ -112,7 +112,7 @@ impl Marks {
             return Ok(());
         }
         if self.list.as_slice().is_empty() && is_ordered(nodes.as_slice()) {
-            self.list = nodes.copy()?;
+            self.list = copy_nodes(nodes)?;
             return Ok(());
         }
         self.tree = Some(both(alloc, self.list.as_slice(), nodes.as_slice())?);

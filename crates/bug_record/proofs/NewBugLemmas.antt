@@ -7,7 +7,8 @@ use Rattle.std.proofs.lemmas.Bool.{and_from, le-leb, le-ltb, lt-ltb, lt-leb}
 use Rattle.std.proofs.lemmas.List.{map-append}
 use Rattle.std.proofs.lemmas.List.Elements.{filter-append}
 use Rattle.bug_record.specs.Bugs.{with_new_bugs}
-use Rattle.bug_record.specs.Changed.{same_at, numbers_below, changed_numbers}
+use Rattle.bug_record.specs.Changed.{same_at, changed_numbers}
+use Rattle.sequences.specs.Sets.{numbers_below}
 use Rattle.bug_record.specs.Desk.{Desk, IsSound}
 use Rattle.bug_record.specs.declared.bug.Bug.{Bug}
 use Rattle.bug_record.proofs.EqualLemmas.{same_at-refl, none-from_next}

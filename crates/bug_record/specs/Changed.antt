@@ -1,5 +1,5 @@
 -- The numbers at which two desks differ.
-use Rattle.std.specs.Prelude.{ℕ, suc, zero, ◌≡◌, ◌≤◌, Bool, true, false, not, ◌&&◌, ◌==◌, List, [], ◌∷◌, ◌++◌, Option, Some, None}
+use Rattle.std.specs.Prelude.{ℕ, ◌≡◌, ◌≤◌, Bool, true, false, not, ◌&&◌, ◌==◌, List, Option, Some, None}
 use Rattle.std.specs.Prelude.{filter}
 use Rattle.std.specs.Str.{bytes_eq}
 use Rattle.std.specs.Cmp.Lexicographic.{pointwise}
@@ -7,7 +7,7 @@ use Rattle.version_nodes.specs.Nodes.{Node, same_node}
 use Rattle.bug_record.specs.Severities.{rank}
 use Rattle.bug_record.specs.Tags.{same_tag}
 use Rattle.bug_record.specs.Differences.{same_flag, same_text, same_state}
-use Rattle.bug_record.specs.Sets.{has, IsAscending}
+use Rattle.sequences.specs.Sets.{has, IsAscending, numbers_below}
 use Rattle.bug_record.specs.Desk.{Desk, IsSound}
 use Rattle.bug_record.specs.Images.{AreSetsOf, put}
 use Rattle.bug_record.specs.Plans.{CoverImages, BringNone}
@@ -49,11 +49,6 @@ pub record AreChanged (old new : ℕ → Option Bug) (numbers : List ℕ) : Type
   pub ascending : IsAscending numbers
   pub listed : (n : ℕ) → has numbers n ≡ true → old n ≡ new n → ⊥
   pub others : (n : ℕ) → has numbers n ≡ false → old n ≡ new n
-
--- the numbers below n, ascending
-unfoldable pub numbers_below : ℕ → List ℕ
-numbers_below zero = []
-numbers_below (suc n) = numbers_below n ++ (n ∷ [])
 
 -- That list, of two sound desks of which the later one's next number is no lower: its numbers are
 -- all below that.

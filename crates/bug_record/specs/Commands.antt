@@ -5,7 +5,7 @@ use Rattle.std.specs.Str.{is_utf8}
 use Rattle.debver.specs.Names.{IsName}
 use Rattle.debver.specs.Cut.{IsVersion}
 use Rattle.version_nodes.specs.Nodes.{Node, node}
-use Rattle.bug_record.specs.Sets.{Each}
+use Rattle.sequences.specs.Sets.{Each}
 use Rattle.line_words.specs.Texts.{IsText, IfGiven}
 use Rattle.bug_record.specs.declared.command.Command.{Command}
 use Rattle.bug_record.specs.declared.command.Command.TheVariants as commands

@@ -3,7 +3,7 @@ use Rattle.std.specs.Prelude.{ℕ, ◌≡◌, ◌≢◌, ◌<◌, ◌≤◌, tru
 use Rattle.debver.specs.Names.{IsName}
 use Rattle.version_nodes.specs.Trees.{Ancestry, IsForest}
 use Rattle.line_words.specs.declared.named.TheConstants.{AFTER_LARGEST}
-use Rattle.bug_record.specs.Sets.{has, IsAscending}
+use Rattle.sequences.specs.Sets.{has, IsAscending}
 use Rattle.line_words.specs.Texts.{IsGoodText, IfGiven}
 use Rattle.bug_record.specs.Tags.{IsTagSet}
 use Rattle.bug_record.specs.Marks.{IsNodeSet}

@@ -1,9 +1,9 @@
 pub use Rattle.line_words.specs.Blanks
 pub use Rattle.line_words.specs.AnyCase
-pub mod Sets
+pub use Rattle.sequences.specs.Sets
+pub use Rattle.sequences.specs.Ordered
 pub mod Severities
 pub mod Tags
-pub mod Ordered
 pub mod Marks
 pub mod PackageSets
 pub mod Desk
@@ -23,5 +23,3 @@ pub mod Waiting
 pub mod Lists
 pub mod Rows
 pub mod Kept
--- definitions that only private functions cite
-pub mod Places

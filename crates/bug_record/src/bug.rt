@@ -1,15 +1,17 @@
 //! Bugs, and the images of sets of merged bugs.
 
 ghost use Rattle.std.specs.Prelude.{◌≡◌, IfOk};
-ghost use Rattle.bug_record.specs.Sets.{has};
+ghost use Rattle.sequences.specs.Sets.{has};
 ghost use Rattle.bug_record.specs.Images.{numbers_of};
 
 use crate::agreed::Agreed;
 use crate::members::Members;
-use crate::sequence::{Names, Nodes, Numbered, Numbers};
+use crate::names::{Names, copy_names};
+use crate::nodes::{Nodes, copy_nodes};
 use crate::severity::Severity;
-use crate::tag::Tags;
+use crate::tags::{Tags, copy_tags};
 use debver::Text;
+use sequences::{Numbered, Numbers};
 use std::alloc::AllocError;
 
 /// The fields on which merged bugs agree.
@@ -96,10 +98,10 @@ impl Shared {
             (λ r. r ≡ (self.now.tags, self.now.affects, self.now.found, self.now.fixed, self.now.blockers)) }
     {
         Ok((
-            self.tags.copy()?,
-            self.affects.copy()?,
-            self.found.copy()?,
-            self.fixed.copy()?,
+            copy_tags(&self.tags)?,
+            copy_names(&self.affects)?,
+            copy_nodes(&self.found)?,
+            copy_nodes(&self.fixed)?,
             self.blockers.copy()?,
         ))
     }

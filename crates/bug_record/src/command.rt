@@ -5,10 +5,10 @@ ghost use Rattle.std.specs.Str.{is_utf8};
 ghost use Rattle.bug_record.specs.Commands.{IsUtf8Person, HasUtf8Texts};
 
 use crate::bug::SetImage;
-use crate::sequence::Sequence;
 use crate::severity::Severity;
 use crate::tag::Tag;
 use debver::Text;
+use sequences::Sequence;
 use std::alloc::AllocError;
 use std::fmt;
 use thiserror::Error;

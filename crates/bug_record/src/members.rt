@@ -3,7 +3,7 @@
 ghost use Rattle.std.specs.Prelude.{◌≡◌, ◌∷◌, [], IfOk};
 
 use crate::bug::Member;
-use crate::sequence::{self, Sequence, only};
+use sequences::Sequence;
 use std::alloc::AllocError;
 use std::marker::Model;
 use std::rc::RcSlice;
@@ -48,9 +48,9 @@ impl Members {
     pub fn of(members: Sequence<Member>) -> Result<Members, AllocError>
         ensures { IfOk result (λ ms. ms ≡ members) }
     {
-        match members.kept {
-            sequence::Kept::One(one, _alloc) => Ok(Members::one(only(one))),
-            sequence::Kept::Many(items) => Ok(Members {
+        match members.into_kept() {
+            Ok(member) => Ok(Members::one(member)),
+            Err(items) => Ok(Members {
                 kept: Kept::Many(RcSlice::from_vec(items)?),
             }),
         }

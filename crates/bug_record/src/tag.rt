@@ -3,8 +3,8 @@
 ghost use Rattle.std.specs.Prelude.{◌≡◌};
 ghost use Rattle.bug_record.specs.Tags.{tag_place, tag_name, tag_of};
 
-use crate::sequence::{Numbered, Sequence};
 use line_words::{Spelled, find_spelled};
+use sequences::Numbered;
 
 /// A tag of a bug (the tags of the BTS without those that name a distribution or a version).
 #[derive(Clone, Copy, PartialEq, Eq, Drop)]
@@ -27,9 +27,6 @@ pub enum Tag {
     Upstream,
     Wontfix,
 }
-
-/// A set of tags, kept in their order.
-pub type Tags = Sequence<Tag>;
 
 // All tags, in their order.
 const ALL: [Tag; 17] = [

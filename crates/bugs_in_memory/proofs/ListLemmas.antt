@@ -5,7 +5,7 @@ use Rattle.version_nodes.specs.Nodes.{Node}
 use Rattle.version_nodes.specs.Trees.{Ancestry, line}
 use Rattle.version_nodes.specs.Statuses.{status}
 use Rattle.bug_record.specs.Asked.{passes, numbers_where}
-use Rattle.bug_record.specs.Changed.{numbers_below}
+use Rattle.bug_record.specs.Sets.{numbers_below}
 use Rattle.bug_record.specs.Desk.{Desk}
 use Rattle.bug_record.specs.Lists.{is_listed, is_listed_as, listed}
 use Rattle.bug_record.specs.Severities.{all_severities, rank}

@@ -9,8 +9,7 @@ use Rattle.std.proofs.lemmas.List.{at_drop_more, at_drop_all}
 use Rattle.std.proofs.lemmas.Option.{none-some, same_Some}
 use Rattle.version_nodes.specs.Trees.{Ancestry}
 use Rattle.bug_record.specs.Asked.{passes}
-use Rattle.bug_record.specs.Changed.{numbers_below}
-use Rattle.bug_record.specs.Sets.{has, Each}
+use Rattle.bug_record.specs.Sets.{has, Each, numbers_below}
 use Rattle.bug_record.specs.Images.{numbers_of, member_at, bug_of, image_with}
 use Rattle.bug_record.specs.Waiting.{waiting_on}
 use Rattle.bug_record.specs.declared.bug.Member.{Member}

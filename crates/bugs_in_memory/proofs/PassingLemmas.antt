@@ -11,16 +11,15 @@ use Rattle.std.proofs.lemmas.Bool.Decides.{nat_tests}
 use Rattle.std.proofs.lemmas.Option.{none-some, same_Some}
 use Rattle.std.proofs.lemmas.Map.Entries.{hash_map_get_place}
 use Rattle.version_nodes.specs.Trees.{Ancestry}
-use Rattle.bug_record.specs.Sets.{has, IsAscending}
+use Rattle.bug_record.specs.Sets.{has, IsAscending, numbers_below}
 use Rattle.bug_record.specs.Desk.{IsSound}
 use Rattle.bug_record.specs.Images.{numbers_of, member_at, bug_of}
-use Rattle.bug_record.specs.Changed.{numbers_below}
 use Rattle.bug_record.specs.Asked.{passes, numbers_where}
 use Rattle.bug_record.specs.declared.bug.Bug.{Bug}
 use Rattle.bug_record.specs.declared.bug.SetImage.{SetImage}
 use Rattle.bug_record.specs.declared.bug.Shared.{Shared}
-use Rattle.bug_record.proofs.SetLemmas.{same_test, has-append, has-filter, has-numbers_below, same-ascending}
-use Rattle.bug_record.proofs.SetLemmas.{IsAscending-filter, IsAscending-numbers_below}
+use Rattle.sequences.proofs.SetLemmas.{same_test, has-append, has-filter, has-numbers_below, same-ascending}
+use Rattle.sequences.proofs.SetLemmas.{IsAscending-filter, IsAscending-numbers_below}
 use Rattle.bugs_in_memory.specs.Keys.{keyed_bug, keyed_desk, IsKeyed}
 use Rattle.bugs_in_memory.specs.Places.{image_at, keys, sets}
 use Rattle.bugs_in_memory.specs.Passing.{bugs_of, passing_there}

@@ -2,7 +2,9 @@
 
 use crate::rows::{MarkSets, kind_word, no_marks, read_marks};
 use crate::words::{EditWords, MarkWords, edit_words};
-use bug_record::{Agreed, Member, Members, Numbers, Sequence, SetImage, Severity, Shared, Tags};
+use bug_record::{
+    Agreed, Member, Members, Numbers, Sequence, SetImage, Severity, Shared, Tags, copy_nodes,
+};
 use debver::Text;
 use desk_content::{Edit, RowEdits, row_edits};
 use nearest_marks::Family;
@@ -87,8 +89,8 @@ fn read_parts(
 // The shared fields of a set of the package `foo`, with these marks and blockers.
 fn fields_of(alloc: Global, marks: &MarkSets, blockers: &Numbers) -> Result<Shared, AllocError> {
     let package = Text::of(alloc, "foo")?;
-    let found = marks.found.copy()?;
-    let fixed = marks.fixed.copy()?;
+    let found = copy_nodes(&marks.found)?;
+    let fixed = copy_nodes(&marks.fixed)?;
     let blockers = blockers.copy()?;
     Ok(Shared {
         package,

@@ -80,7 +80,7 @@ fn add_nodes(out: &mut String, nodes: &[Node]) -> Result<(), AllocError> {
 // Puts copies of the nodes into their order, each once.
 pub(crate) fn sort(sorted: &mut Nodes, nodes: &[Node]) -> Result<(), AllocError> {
     for node in nodes {
-        sorted.add_node(node.copy()?)?;
+        bug_record::add_node(sorted, node.copy()?)?;
     }
     Ok(())
 }

@@ -24,7 +24,7 @@ use Rattle.bug_record.specs.PackageSets.{name_cmp, has_name, with_name}
 use Rattle.bug_record.proofs.PackageLemmas.{same_name, has-with_name}
 use Rattle.bug_record.specs.Marks.{with_node}
 use Rattle.bug_record.proofs.MarkLemmas.{has-with_node}
-use Rattle.bug_record.proofs.SetLemmas.{has-above}
+use Rattle.sequences.proofs.SetLemmas.{has-above}
 use Rattle.bugs_in_memory.specs.Keys.{key_of}
 use Rattle.nearest_marks.specs.Nearest.{row_at, once}
 use Rattle.nearest_marks.specs.declared.near.Near.{Near}

@@ -4,9 +4,8 @@ use Rattle.std.specs.Prelude.{fold, nat_lt, ◌==◌}
 use Rattle.std.specs.Str.{bytes_eq}
 use Rattle.std.proofs.lemmas.Bool.Decides.{nat_tests}
 use Rattle.line_words.specs.Numbers.{IsGoodNumber}
-use Rattle.bug_record.specs.Changed.{numbers_below}
-use Rattle.bug_record.specs.Sets.{has, IsAscending, Each}
-use Rattle.bug_record.proofs.SetLemmas.{has-numbers_below}
+use Rattle.bug_record.specs.Sets.{has, IsAscending, Each, numbers_below}
+use Rattle.sequences.proofs.SetLemmas.{has-numbers_below}
 use Rattle.bug_record.specs.declared.outcome.Outcome.{Outcome}
 use Rattle.bug_record.specs.declared.outcome.Outcome.TheVariants.{Changed, Refused, Stopped}
 use Rattle.desk_store.specs.Kept.{IsGoodOutcome, IsOfMessage}
@@ -27,7 +26,7 @@ use Rattle.desk_content.proofs.EditLemmas.{edited_all-append}
 use Rattle.desk_content.proofs.FreeLemmas.{free-append, apart, here, there, has-placed}
 use Rattle.desk_content.proofs.KeepLemmas.{same_id, own_id, next_is_free, or_parts}
 use Rattle.desk_content.proofs.PlaceLemmas.{at_itself, placed_all, same_numbers}
-use Rattle.bug_record.proofs.SetLemmas.{has-above}
+use Rattle.sequences.proofs.SetLemmas.{has-above}
 
 -- ---- numbers that come at a place
 

@@ -7,11 +7,10 @@ use Rattle.std.proofs.lemmas.Bool.{eq-eqb, false≢true}
 use Rattle.std.proofs.lemmas.Bool.Decides.{nat_tests}
 use Rattle.std.proofs.lemmas.List.{map-append, length-append}
 use Rattle.std.proofs.lemmas.Option.{none-some}
-use Rattle.bug_record.specs.Changed.{numbers_below}
-use Rattle.bug_record.specs.Sets.{has}
+use Rattle.bug_record.specs.Sets.{has, numbers_below}
 use Rattle.bug_record.specs.declared.bug.SetImage.{SetImage}
 use Rattle.bug_record.specs.declared.command.Change.{Change}
-use Rattle.bug_record.proofs.SetLemmas.{has-numbers_below}
+use Rattle.sequences.proofs.SetLemmas.{has-numbers_below}
 use Rattle.bug_record.specs.declared.outcome.Outcome.{Outcome}
 use Rattle.bug_record.specs.declared.outcome.Outcome.TheVariants.{Changed, Refused, Stopped}
 use Rattle.desk_store.specs.Kept.{Keeping, outcomes_kept, kept_with, kept_also, AreGoodKept}

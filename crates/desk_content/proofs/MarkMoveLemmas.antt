@@ -21,7 +21,7 @@ use Rattle.bug_record.specs.PackageSets.{with_name, has_name}
 use Rattle.bug_record.specs.Sets.{has}
 use Rattle.bug_record.specs.declared.bug.SetImage.{SetImage}
 use Rattle.bug_record.proofs.MarkLemmas.{same-sorted_nodes}
-use Rattle.bug_record.proofs.OrderedSetLemmas.{sorted-each, in-each}
+use Rattle.sequences.proofs.OrderedSetLemmas.{sorted-each, in-each}
 use Rattle.bugs_in_memory.specs.Keys.{key_of}
 use Rattle.nearest_marks.specs.Nearest.{nearest_of, row_at, once}
 use Rattle.nearest_marks.specs.declared.near.NearRow.{NearRow}

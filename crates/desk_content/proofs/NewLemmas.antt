@@ -3,7 +3,7 @@ use Rattle.std.proofs.Common.{◌≡◌, ◌<◌, ◌≤◌, ℕ, List, [], refl
 use Rattle.std.proofs.lemmas.Option.{none-some}
 use Rattle.line_words.specs.declared.named.TheConstants.{AFTER_LARGEST, LARGEST_NUMBER}
 use Rattle.version_nodes.proofs.ForestProp.{no_nodes-forest}
-use Rattle.bug_record.specs.Changed.{numbers_below}
+use Rattle.bug_record.specs.Sets.{numbers_below}
 use Rattle.desk_content.specs.Content.{no_content}
 use Rattle.desk_content.specs.Kept.{IsKeptContent}
 

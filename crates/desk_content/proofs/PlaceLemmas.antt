@@ -13,7 +13,7 @@ use Rattle.bug_record.specs.Sets.{AllAbove, IsAscending}
 use Rattle.bug_record.specs.Marks.{IsNodeSet, with_node}
 use Rattle.bug_record.specs.Ordered.{with_each}
 use Rattle.bug_record.specs.PackageSets.{name_cmp, IsNameSet, with_name}
-use Rattle.bug_record.proofs.OrderedSetLemmas.{sorted-each, in-each}
+use Rattle.sequences.proofs.OrderedSetLemmas.{sorted-each, in-each}
 use Rattle.bug_record.proofs.MarkLemmas.{set-none, same-sorted_nodes}
 use Rattle.bug_record.proofs.PackageLemmas.{names-none, same-sorted_names}
 use Rattle.desk_content.specs.Edits.{put_at, placed}

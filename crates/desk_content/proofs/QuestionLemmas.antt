@@ -11,12 +11,11 @@ use Rattle.version_nodes.specs.declared.statuses.MarkKind.{MarkKind}
 use Rattle.version_nodes.specs.declared.statuses.MarkKind.TheVariants.{Found, Fixed}
 use Rattle.ancestry.proofs.LineLemmas.{line_step, line_above, unknown_has_none}
 use Rattle.bug_record.specs.Asked.{passes, numbers_where}
-use Rattle.bug_record.specs.Changed.{numbers_below}
-use Rattle.bug_record.specs.Sets.{has, IsAscending}
+use Rattle.bug_record.specs.Sets.{has, IsAscending, numbers_below}
 use Rattle.bug_record.specs.Images.{bug_of, member_at}
 use Rattle.bug_record.specs.declared.bug.Shared.{Shared}
 use Rattle.bug_record.specs.declared.bug.SetImage.{SetImage}
-use Rattle.bug_record.proofs.SetLemmas.{has-filter, has-numbers_below, IsAscending-filter, IsAscending-numbers_below, same-ascending}
+use Rattle.sequences.proofs.SetLemmas.{has-filter, has-numbers_below, IsAscending-filter, IsAscending-numbers_below, same-ascending}
 use Rattle.bugs_in_memory.proofs.KeyLemmas.{found-image, shown-some}
 use Rattle.nearest_marks.specs.Nearest.{nearest_on, nearest_of, own_mark}
 use Rattle.nearest_marks.specs.declared.near.Near.{Near}

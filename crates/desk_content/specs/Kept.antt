@@ -3,7 +3,7 @@
 use Rattle.std.specs.Prelude.{ℕ, ◌≡◌, ◌==◌, ◌&&◌, ◌||◌, Bool, true, false, List, [], ◌∷◌, length, None}
 use Rattle.version_nodes.specs.Nodes.{Node}
 use Rattle.bug_record.specs.Desk.{IsSound}
-use Rattle.bug_record.specs.Changed.{numbers_below}
+use Rattle.bug_record.specs.Sets.{numbers_below}
 use Rattle.bugs_in_memory.specs.Keys.{IsKeyed}
 use Rattle.bug_record.specs.declared.outcome.Outcome.{Outcome}
 use Rattle.bug_record.specs.declared.outcome.Outcome.TheVariants.{Changed, Refused, Stopped}

@@ -12,11 +12,10 @@ use Rattle.version_nodes.specs.Statuses.{first_marked, kind_at, status_by, statu
 use Rattle.version_nodes.specs.declared.statuses.MarkKind.TheVariants.{Found as MarkedFound, Fixed as MarkedFixed}
 use Rattle.version_nodes.specs.declared.statuses.Status.{Status}
 use Rattle.version_nodes.specs.declared.statuses.Status.TheVariants.{Found, Absent, Done}
-use Rattle.bug_record.specs.Sets.{Each, has}
+use Rattle.bug_record.specs.Sets.{Each, has, numbers_below}
 use Rattle.bug_record.specs.Heads.{is_found}
 use Rattle.bug_record.specs.Desk.{Desk}
 use Rattle.bug_record.specs.Asked.{passes, numbers_where}
-use Rattle.bug_record.specs.Changed.{numbers_below}
 use Rattle.bug_record.specs.PackageSets.{has_name}
 use Rattle.bug_record.specs.Lists.{concerns, is_listed, is_listed_as, listed}
 use Rattle.bug_record.specs.Severities.{all_severities, rank}
@@ -24,7 +23,7 @@ use Rattle.bug_record.specs.declared.bug.Bug.{Bug}
 use Rattle.bug_record.specs.declared.bug.Shared.{Shared}
 use Rattle.bug_record.specs.declared.severity.Severity.{Severity}
 use Rattle.bug_record.specs.declared.severity.Severity.TheVariants.{Critical, Grave, Serious, Important, Normal, Minor, Wishlist}
-use Rattle.bug_record.proofs.SetLemmas.{has-append, has-filter, has-numbers_below}
+use Rattle.sequences.proofs.SetLemmas.{has-append, has-filter, has-numbers_below}
 use Rattle.desk_directives.specs.Readable.{IsUnmarked, IsFoundFirst, IsFoundUnmarked, IsIn}
 
 -- whether a version is marked

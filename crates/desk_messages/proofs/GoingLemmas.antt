@@ -30,7 +30,7 @@ use Rattle.desk_store.specs.Kept.{Keeping, has_outcome, reads_as_command, lines_
 use Rattle.desk_store.specs.Kept.{IsNextOutcome, IsResumed, IsOfMessage}
 use Rattle.desk_messages.specs.GoingOn.{IsBegun, KeepsOn, TakesOn, Resumes}
 use Rattle.desk_messages.proofs.KeepLemmas.{also-same, also-outcomes, keeps-also, outcomes-push, told-place}
-use Rattle.desk_messages.proofs.ToldLemmas.{lines-more, lines-split, line-told, line-untold}
+use Rattle.message_recall.proofs.ToldLemmas.{lines-more, lines-split, line-told, line-untold}
 
 pub length-outcomes : (es : List Entry) → length (outcomes_in es) ≡ length es
 length-outcomes [] = refl

@@ -21,8 +21,9 @@ use Rattle.message_progress.specs.Progress.{HaveNumbers}
 use Rattle.message_progress.proofs.EndLemmas.{at_start_open}
 use Rattle.message_progress.proofs.GivenLemmas.{append-each, given-numbers}
 use Rattle.desk_messages.specs.GoingOn.{IsBegun, KeepsOn}
-use Rattle.desk_messages.specs.Recalling.{AreOfLines}
-use Rattle.desk_messages.proofs.ToldLemmas.{zip-none, zip-seconds}
+use Rattle.message_recall.specs.Recalling.{AreOfLines}
+use Rattle.message_recall.proofs.ToldLemmas.{zip-none}
+use Rattle.desk_messages.proofs.ToldLemmas.{zip-seconds}
 
 -- ---- one id
 

@@ -2,7 +2,6 @@ pub mod CommandLemmas
 pub mod DecidingLemmas
 pub mod MachineLemmas
 pub mod ToldLemmas
-pub mod RecallLemmas
 pub mod KeepLemmas
 pub mod GoingLemmas
 pub mod OnceLemmas

@@ -12,10 +12,11 @@ use Rattle.desk_store.specs.Message.{Entry, machine, end_of, known_names}
 use Rattle.desk_store.specs.Kept.{Keeping, lines_told, told, outcomes_in, outcomes_kept, kept_with, IsOfMessage, IsResumed, AreGoodKept}
 use Rattle.desk_store.specs.declared.kept.Kept.{Kept}
 use Rattle.desk_messages.specs.GoingOn.{IsBegun, Resumes}
-use Rattle.desk_messages.specs.Recalling.{AreOfLines, IsTaken}
+use Rattle.message_recall.specs.Recalling.{AreOfLines, IsTaken}
 use Rattle.desk_messages.proofs.KeepLemmas.{begins, kept-own, of_lines}
 use Rattle.desk_messages.proofs.GoingLemmas.{resumed-ended, length-outcomes}
-use Rattle.desk_messages.proofs.ToldLemmas.{lines-split, zip-seconds}
+use Rattle.message_recall.proofs.ToldLemmas.{lines-split}
+use Rattle.desk_messages.proofs.ToldLemmas.{zip-seconds}
 
 -- the outcomes that were recalled are those of the message, as it begins
 pub recalled-begins : (id sender message : List ℕ) (k k1 : Keeping) (known : Option Kept) (lines : List (List ℕ)) (shown : List Outcome)

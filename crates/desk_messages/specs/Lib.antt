@@ -4,5 +4,4 @@ pub mod Crashes
 -- definitions that only private functions cite
 pub mod Commands
 pub mod Taking
-pub mod Recalling
 pub mod GoingOn

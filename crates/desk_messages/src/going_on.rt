@@ -13,11 +13,11 @@ ghost use Rattle.desk_messages.specs.GoingOn.{IsBegun, TakesOnce, LeavesLine, Re
 ghost use Rattle.desk_messages.specs.Crashes.{LeavesTried, tried_once};
 
 use crate::line_decision::decide_line;
-use crate::recalling::Recalled;
 use debver::Text;
 use desk_lines::{End, StoreFault};
 use desk_store::Records;
 use message_progress::{Progress, Received, goes_on, settle};
+use message_recall::Recalled;
 use std::alloc::Global;
 
 // Takes one line of a message that has an id, and says whether it ends the message: its outcome is

@@ -8,7 +8,6 @@ mod going_on;
 mod line_decision;
 mod message;
 mod once;
-mod recalling;
 
 pub use command_decision::Decision;
 pub use line_decision::decide_line;

@@ -12,11 +12,11 @@ ghost use Rattle.desk_messages.specs.Once.{IsOnce, faults_after_once};
 ghost use Rattle.desk_messages.specs.Crashes.{LeavesOnce};
 
 use crate::going_on::go_on;
-use crate::recalling::{RecallFault, recall};
 use bug_record::Outcome;
 use desk_lines::{StoreFault, split_lines};
 use desk_store::{Kept, Records, is_id};
 use message_progress::{Received, goes_on};
+use message_recall::{RecallFault, recall};
 use std::alloc::Global;
 use thiserror::Error;
 

@@ -21,7 +21,7 @@ use Rattle.bug_record.specs.Heads.{is_found}
 use Rattle.bug_record.specs.Images.{numbers_of, bug_of, member_at}
 use Rattle.bug_record.specs.PackageSets.{has_name}
 use Rattle.bug_record.specs.Sets.{has, Each, IsAscending}
-use Rattle.bug_record.proofs.SetLemmas.{has-append}
+use Rattle.sequences.proofs.SetLemmas.{has-append}
 use Rattle.bug_record.specs.Severities.{all_severities}
 use Rattle.bug_record.specs.declared.bug.Bug.{Bug}
 use Rattle.bug_record.specs.declared.bug.Member.{Member}

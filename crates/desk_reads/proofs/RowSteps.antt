@@ -8,7 +8,7 @@ use Rattle.bug_record.specs.Images.{numbers_of, bug_of, member_at}
 use Rattle.bug_record.specs.Sets.{AllAbove, IsAscending}
 use Rattle.bug_record.specs.declared.bug.Member.{Member}
 use Rattle.bug_record.specs.declared.bug.SetImage.{SetImage}
-use Rattle.bug_record.proofs.SetLemmas.{has-above}
+use Rattle.sequences.proofs.SetLemmas.{has-above}
 use Rattle.bug_record.specs.Rows.{row_of}
 use Rattle.bug_record.specs.declared.row.ListRow.{ListRow}
 use Rattle.bugs_in_memory.proofs.ImageLemmas.{none_from, has-member_some}

@@ -7,8 +7,8 @@ use Rattle.bug_record.specs.Images.{numbers_of, bug_of}
 use Rattle.bug_record.specs.Waiting.{waiting_on}
 use Rattle.bug_record.specs.declared.bug.Shared.{Shared}
 use Rattle.bug_record.specs.declared.bug.SetImage.{SetImage}
-use Rattle.bug_record.proofs.SetLemmas.{same_test, has-append}
-use Rattle.bug_record.proofs.NumberLemmas.{has-with_items, IsAscending-with_items}
+use Rattle.sequences.proofs.SetLemmas.{same_test, has-append}
+use Rattle.sequences.proofs.NumberLemmas.{has-with_items, IsAscending-with_items}
 use Rattle.bugs_in_memory.proofs.KeyLemmas.{found-image, shown-some}
 use Rattle.desk_content.specs.Content.{Content}
 use Rattle.desk_content.specs.View.{image, desk_in, shared_of}

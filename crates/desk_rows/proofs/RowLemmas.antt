@@ -14,7 +14,7 @@ use Rattle.version_nodes.specs.NodeLaws.{same_node_equiv}
 use Rattle.version_nodes.specs.Trees.{Ancestry, has_node, knows, line}
 use Rattle.version_nodes.proofs.NodeLemmas.{same_true, same_itself}
 use Rattle.bug_record.specs.Sets.{Each}
-use Rattle.bug_record.proofs.OrderedLemmas.{eq_cmp}
+use Rattle.sequences.proofs.OrderedLemmas.{eq_cmp}
 use Rattle.nearest_marks.specs.Nearest.{nearest_on, nearest_of}
 use Rattle.nearest_marks.specs.declared.near.Near.{Near}
 use Rattle.desk_content.specs.Content.{Content}

@@ -2,7 +2,7 @@
 -- It declares nothing.
 pub use Rattle.ancestry.proofs.LinkLemmas.{ascends_put, same_links}
 pub use Rattle.bug_record.proofs.MarkLemmas.{has-with_node, same-sorted_nodes, sorted-with_node}
-pub use Rattle.bug_record.proofs.OrderedSetLemmas.{in-each, sorted-each}
+pub use Rattle.sequences.proofs.OrderedSetLemmas.{in-each, sorted-each}
 pub use Rattle.bug_record.proofs.PackageLemmas.{names-none, same-sorted_names}
 pub use Rattle.bug_record.specs.PackageSets.{has_name, name_cmp, with_name}
 pub use Rattle.bug_record.specs.Sets.{has}

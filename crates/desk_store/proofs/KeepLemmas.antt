@@ -10,11 +10,11 @@ use Rattle.std.specs.Result.{is_ok}
 use Rattle.std.specs.Cmp.Lexicographic.{bytes_decides}
 use Rattle.std.specs.Str.{bytes_eq}
 use Rattle.bug_record.specs.Bugs.{with_new_bugs, at_bug, unless, first_of}
-use Rattle.bug_record.specs.Changed.{numbers_below, changed_numbers}
+use Rattle.bug_record.specs.Changed.{changed_numbers}
 use Rattle.bug_record.specs.Clones.{clone_of, merged_refusal, full_refusal, name_refusal, cloned}
 use Rattle.bug_record.specs.Commands.{names_in}
 use Rattle.bug_record.specs.Desk.{Desk, IsSound}
-use Rattle.bug_record.specs.Sets.{Each}
+use Rattle.bug_record.specs.Sets.{Each, numbers_below}
 use Rattle.bug_record.specs.Steps.{step}
 use Rattle.line_words.specs.Texts.{IsText}
 use Rattle.bug_record.specs.Words.{Names, meaning, words_refusal, number_by}

@@ -5,7 +5,8 @@ use Rattle.std.specs.Result.{is_ok, result_unwrap_or}
 use Rattle.std.proofs.lemmas.Bool.{false≢true}
 use Rattle.line_words.specs.declared.named.Named.{Named}
 use Rattle.bug_record.specs.Bugs.{with_new_bugs, at_bug, unless, first_of}
-use Rattle.bug_record.specs.Changed.{numbers_below, changed_numbers}
+use Rattle.bug_record.specs.Changed.{changed_numbers}
+use Rattle.bug_record.specs.Sets.{numbers_below}
 use Rattle.bug_record.specs.Clones.{clone_of, merged_refusal, full_refusal, name_refusal, cloned}
 use Rattle.bug_record.specs.Desk.{Desk, IsSound}
 use Rattle.bug_record.specs.Steps.{step}

@@ -2,7 +2,8 @@
 //! Each body is empty: the contract is the law.
 
 ghost use Rattle.std.specs.Prelude.{◌≡◌, ◌≢◌, ◌+◌, ℕ, List, length, map, zip, Ok};
-ghost use Rattle.bug_record.specs.Changed.{changed_numbers, numbers_below};
+ghost use Rattle.bug_record.specs.Changed.{changed_numbers};
+ghost use Rattle.bug_record.specs.Sets.{numbers_below};
 ghost use Rattle.bug_record.specs.Desk.{Desk, IsSound};
 ghost use Rattle.bug_record.specs.Steps.{step};
 ghost use Rattle.bug_record.specs.Words.{Names};

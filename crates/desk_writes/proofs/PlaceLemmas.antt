@@ -1,7 +1,7 @@
 -- The place behind the outcomes of a message.
 use Rattle.std.proofs.Common.{◌≡◌, ℕ, ◌+◌, max, suc, zero, Option, Some, None, IfSome, cond, List, [], ◌∷◌, ◌++◌, length, sym, ap, subst, ◌∙◌, arith}
 use Rattle.std.proofs.lemmas.List.{length-append}
-use Rattle.bug_record.specs.Changed.{numbers_below}
+use Rattle.bug_record.specs.Sets.{numbers_below}
 use Rattle.bug_record.specs.declared.command.Change.{Change}
 use Rattle.bug_record.specs.declared.outcome.Outcome.{Outcome}
 use Rattle.sql_forms.specs.Numbers.{next_above}

@@ -13,11 +13,11 @@ use Rattle.version_nodes.specs.Nodes.{Node, IsNode}
 use Rattle.version_nodes.specs.Trees.{Ancestry, has_node, IsForest, heads}
 use Rattle.version_nodes.proofs.NodeLemmas.{has_head, has_tail}
 use Rattle.ancestry.proofs.HeadLemmas.{listed_valid}
-use Rattle.bug_record.specs.Sets.{has, Each, IsAscending}
+use Rattle.bug_record.specs.Sets.{has, Each, IsAscending, numbers_below}
 use Rattle.line_words.specs.Texts.{IfGiven}
 use Rattle.bug_record.specs.Desk.{Desk, IsSound}
 use Rattle.bug_record.specs.Heads.{open_head}
-use Rattle.bug_record.specs.Changed.{same_at, numbers_below, changed_numbers}
+use Rattle.bug_record.specs.Changed.{same_at, changed_numbers}
 use Rattle.bug_record.specs.Commands.{bug_named, other_bugs, bugs_named, names_in, command_over}
 use Rattle.bug_record.specs.Bugs.{at_bug, unless, first_of, first_refusal}
 use Rattle.bug_record.specs.Clones.{is_taken, name_refusal, merged_refusal, full_refusal, cloned}
@@ -26,7 +26,7 @@ use Rattle.bug_record.specs.Merges.{sets_joined, others_merged, taken_out}
 use Rattle.bug_record.specs.Steps.{own_tests, records_changed, carried_out, step}
 use Rattle.bug_record.specs.Words.{Names, number_of_name, meaning, bug_refusal, word_refusal, first_word_refusal, words_refusal, number_by}
 use Rattle.bug_record.specs.Words.{first_may_be_archived, others_may_be_archived}
-use Rattle.bug_record.proofs.SetLemmas.{has-filter, has-numbers_below, IsAscending-filter, IsAscending-numbers_below}
+use Rattle.sequences.proofs.SetLemmas.{has-filter, has-numbers_below, IsAscending-filter, IsAscending-numbers_below}
 use Rattle.bug_record.specs.declared.bug.Bug.{Bug}
 use Rattle.bug_record.specs.declared.bug.Shared.{Shared}
 use Rattle.bug_record.specs.declared.command.Command.{Command}

@@ -19,7 +19,7 @@ use Rattle.bug_record.specs.declared.command.Command.{Command}
 use Rattle.bug_record.specs.declared.command.Command.TheVariants as commands
 use Rattle.bug_record.specs.declared.command.Refusal.TheVariants.{NoBug, OwnSet}
 use Rattle.bug_record.proofs.RefusalLemmas.{first-none, later-none}
-use Rattle.bug_record.proofs.SetLemmas.{has-append, has-number_set, has-filter, IsAscending-number_set, IsAscending-filter}
+use Rattle.sequences.proofs.SetLemmas.{has-append, has-number_set, has-filter, IsAscending-number_set, IsAscending-filter}
 
 -- bugs that are not refused are there
 there : (may_be : Bool) (bug : ℕ → Option Bug) (ns : List ℕ) (m : ℕ) → first_bug_refusal may_be bug ns ≡ None → has ns m ≡ true

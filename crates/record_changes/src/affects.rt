@@ -3,7 +3,7 @@
 ghost use Rattle.std.specs.Prelude.{◌≡◌, OnOk};
 ghost use Rattle.bug_record.specs.Steps.{affects_after};
 
-use bug_record::{AffectsStep, Names};
+use bug_record::{AffectsStep, Names, add_all_names, remove_names, replace_names};
 use debver::Text;
 use std::alloc::AllocError;
 
@@ -16,8 +16,8 @@ pub(crate) fn affect(
     ensures { OnOk result (affects.new ≡ affects_after step names.now affects.old) }
 {
     match step {
-        AffectsStep::Add => affects.add_all(names),
-        AffectsStep::Remove => affects.remove_all(names),
-        AffectsStep::Replace => affects.replace(names),
+        AffectsStep::Add => add_all_names(affects, names),
+        AffectsStep::Remove => remove_names(affects, names),
+        AffectsStep::Replace => replace_names(affects, names),
     }
 }

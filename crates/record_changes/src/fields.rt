@@ -11,7 +11,7 @@ ghost use Rattle.record_changes.specs.Parts.{found_in, closed_in};
 use crate::affects::affect;
 use crate::tags::take_steps;
 use crate::versions::{mark_fixed, mark_found, mark_found_at, node_meant};
-use bug_record::{Command, PlanFault, Severity, Shared, VersionArg, Who};
+use bug_record::{Command, PlanFault, Severity, Shared, VersionArg, Who, remove_node};
 use debver::Text;
 use std::alloc::{AllocError, Global};
 
@@ -56,7 +56,7 @@ fn unmark_found(shared: &mut Shared, version: &VersionArg) -> Result<(), PlanFau
     ensures fault { IfErr result (IsVersionFault shared.old.«package») }
 {
     let node = node_meant(&shared.package, version)?;
-    shared.found.remove_node(&node);
+    remove_node(&mut shared.found, &node);
     Ok(())
 }
 
@@ -80,7 +80,7 @@ fn unmark_fixed(shared: &mut Shared, version: &VersionArg) -> Result<(), PlanFau
     ensures fault { IfErr result (IsVersionFault shared.old.«package») }
 {
     let node = node_meant(&shared.package, version)?;
-    shared.fixed.remove_node(&node);
+    remove_node(&mut shared.fixed, &node);
     Ok(())
 }
 

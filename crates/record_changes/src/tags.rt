@@ -3,7 +3,7 @@
 ghost use Rattle.std.specs.Prelude.{◌≡◌, OnOk};
 ghost use Rattle.bug_record.specs.Steps.{tags_after};
 
-use bug_record::{TagStep, Tags};
+use bug_record::{TagStep, Tags, remove_tag};
 use std::alloc::AllocError;
 
 /// Takes these steps with the tags, in the order written.
@@ -13,7 +13,7 @@ pub(crate) fn take_steps(tags: &mut Tags, steps: &[TagStep]) -> Result<(), Alloc
     for step in steps {
         match step {
             TagStep::Add(tag) => tags.add(*tag)?,
-            TagStep::Remove(tag) => tags.remove_tag(*tag),
+            TagStep::Remove(tag) => remove_tag(tags, *tag),
             TagStep::Clear => *tags = tags.empty(),
         }
     }

@@ -9,7 +9,7 @@ ghost use Rattle.bug_record.specs.Commands.{node_meant, IsGoodVersion};
 ghost use Rattle.bug_record.specs.Steps.{marked_found, marked_fixed, found_at};
 ghost use Rattle.record_changes.specs.Fields.{IsVersionFault};
 
-use bug_record::{PlanFault, Refusal, Shared, VersionArg};
+use bug_record::{PlanFault, Refusal, Shared, VersionArg, add_node, remove_node};
 use debver::{Text, cut, order};
 use std::alloc::AllocError;
 use version_nodes::{Node, NodeFault};
@@ -56,16 +56,16 @@ fn is_below_some(node: &Node, nodes: &[Node]) -> bool
 pub(crate) fn mark_found(shared: &mut Shared, node: Node) -> Result<(), AllocError>
     ensures { OnOk result (shared.new ≡ marked_found node shared.old) }
 {
-    shared.fixed.remove_node(&node);
-    shared.found.add_node(node)
+    remove_node(&mut shared.fixed, &node);
+    add_node(&mut shared.found, node)
 }
 
 /// Marks the node as fixed, and no longer as found.
 pub(crate) fn mark_fixed(shared: &mut Shared, node: Node) -> Result<(), AllocError>
     ensures { OnOk result (shared.new ≡ marked_fixed node shared.old) }
 {
-    shared.found.remove_node(&node);
-    shared.fixed.add_node(node)
+    remove_node(&mut shared.found, &node);
+    add_node(&mut shared.fixed, node)
 }
 
 /// Marks the node as found.

@@ -5,19 +5,19 @@ use Rattle.std.specs.Prelude.{filter, is_some}
 use Rattle.std.proofs.lemmas.Option.{none-some}
 use Rattle.std.proofs.lemmas.Bool.{false≢true, not-true, not-false, and_parts, and_cases}
 use Rattle.std.proofs.lemmas.Bool.{or_parts}
-use Rattle.bug_record.specs.Sets.{has, IsAscending}
+use Rattle.bug_record.specs.Sets.{has, IsAscending, numbers_below}
 use Rattle.bug_record.specs.Desk.{Desk, IsSound}
 use Rattle.bug_record.specs.Images.{bug_in, put}
 use Rattle.std.specs.Option.{option_or}
-use Rattle.bug_record.specs.Changed.{AreChanged, same_at, numbers_below}
+use Rattle.bug_record.specs.Changed.{AreChanged, same_at}
 use Rattle.bug_record.specs.Changed.{changed_numbers, Replaces}
 use Rattle.bug_record.specs.declared.bug.Bug.{Bug}
 use Rattle.bug_record.specs.declared.bug.SetImage.{SetImage}
 use Rattle.set_images.specs.Changes.{differs}
 use Rattle.set_images.specs.Numbers.{IsJoined}
 use Rattle.bug_record.proofs.EqualLemmas.{same_at-true, same_at-refl, none-from_next}
-use Rattle.bug_record.proofs.SetLemmas.{IsAscending-filter, has-filter, same-ascending, has-numbers_below}
-use Rattle.bug_record.proofs.SetLemmas.{IsAscending-numbers_below}
+use Rattle.sequences.proofs.SetLemmas.{IsAscending-filter, has-filter, same-ascending, has-numbers_below}
+use Rattle.sequences.proofs.SetLemmas.{IsAscending-numbers_below}
 use Rattle.set_images.proofs.ImageLemmas.{shown}
 
 -- the test of difference, of equal and of other bugs

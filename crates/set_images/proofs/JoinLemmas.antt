@@ -10,7 +10,7 @@ use Rattle.std.specs.Option.{option_or}
 use Rattle.bug_record.specs.declared.bug.Member.{Member}
 use Rattle.bug_record.specs.declared.bug.SetImage.{SetImage}
 use Rattle.set_images.specs.Numbers.{IsJoined}
-use Rattle.bug_record.proofs.SetLemmas.{has-with_item, IsAscending-with_item}
+use Rattle.sequences.proofs.SetLemmas.{has-with_item, IsAscending-with_item}
 use Rattle.set_images.proofs.ImageLemmas.{has-member_some, has-member_none}
 
 -- what an image shows, and what those after it show

@@ -11,7 +11,7 @@ use Rattle.bug_record.specs.Images.{numbers_of, member_at, bug_of, bug_in}
 use Rattle.bug_record.specs.Changed.{same_shared, same_at, AreChanged}
 use Rattle.bug_record.specs.declared.bug.Member.{Member}
 use Rattle.bug_record.specs.declared.bug.SetImage.{SetImage}
-use Rattle.bug_record.proofs.SetLemmas.{AllAbove-below, has-above}
+use Rattle.sequences.proofs.SetLemmas.{AllAbove-below, has-above}
 use Rattle.set_images.specs.Changes.{same_texts, differs, same_member, same_members, same_image, same_images}
 use Rattle.set_images.specs.Kept.{ascends, retold, IsKept}
 use Rattle.set_images.proofs.ImageLemmas.{no_member-has}

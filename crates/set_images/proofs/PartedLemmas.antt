@@ -14,7 +14,7 @@ use Rattle.bug_record.specs.Changed.{AreChanged}
 use Rattle.bug_record.specs.declared.bug.Bug.{Bug}
 use Rattle.bug_record.specs.declared.bug.Member.{Member}
 use Rattle.bug_record.specs.declared.bug.SetImage.{SetImage}
-use Rattle.bug_record.proofs.SetLemmas.{has-append}
+use Rattle.sequences.proofs.SetLemmas.{has-append}
 use Rattle.set_images.specs.Parted.{is_unlike, numbers_in, IsParted, AreAmong, HasAll}
 use Rattle.set_images.proofs.JoinLemmas.{is_some-first}
 

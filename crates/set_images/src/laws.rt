@@ -4,7 +4,8 @@
 ghost use Rattle.std.specs.Prelude.{◌≡◌, ◌+◌, ◌≤◌, ℕ, map};
 ghost use Rattle.bug_record.specs.Bugs.{with_new_bugs};
 ghost use Rattle.bug_record.specs.Desk.{Desk, IsSound};
-ghost use Rattle.bug_record.specs.Changed.{AreChanged, changed_numbers, numbers_below};
+ghost use Rattle.bug_record.specs.Changed.{AreChanged, changed_numbers};
+ghost use Rattle.bug_record.specs.Sets.{numbers_below};
 ghost use Rattle.bug_record.specs.declared.bug.Bug.{Bug};
 
 /// The changed numbers of two sound desks, of which the second has the same next number or a higher

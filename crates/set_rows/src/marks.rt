@@ -8,7 +8,7 @@ ghost use Rattle.desk_content.specs.declared.edit.Edit.TheVariants.{PutMark, Dro
 ghost use Rattle.desk_schema.specs.Steps.{Plays, Reads, Serves};
 ghost use Rattle.set_rows.specs.Marked.{Mark, mark_row, IsMark, no_marks, with_marked, all_marked, AreMarksOf};
 
-use bug_record::{Nodes, Sequence};
+use bug_record::{Nodes, Sequence, add_node};
 use desk_content::{kind_of_number, number_of_kind};
 use desk_lines::StoreFault;
 use desk_schema::{node_at, number_at, told, written};
@@ -80,8 +80,8 @@ fn add_marked(marks: &mut Marks, kind: MarkKind, node: Node) -> Result<(), Store
     ensures sure { IfErr result (λ fault. fault ≢ Foreign) }
 {
     match kind {
-        MarkKind::Found => marks.found.add_node(node)?,
-        MarkKind::Fixed => marks.fixed.add_node(node)?,
+        MarkKind::Found => add_node(&mut marks.found, node)?,
+        MarkKind::Fixed => add_node(&mut marks.fixed, node)?,
     }
     Ok(())
 }

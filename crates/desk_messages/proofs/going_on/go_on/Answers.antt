@@ -6,7 +6,8 @@ use Rattle.desk_messages.proofs.MachineLemmas.{goes_on-all, settled_faults, sett
 use Rattle.desk_store.proofs.HoldsLemmas.{holds_weaker}
 use Rattle.desk_store.specs.Kept.{lines_told}
 use Rattle.desk_messages.proofs.GoingLemmas.{carry, carry_both, going-first, going-more, going-all, resumes-ended, resumes-failed-in}
-use Rattle.desk_messages.proofs.ToldLemmas.{lines-more, place-of}
+use Rattle.message_recall.proofs.ToldLemmas.{lines-more}
+use Rattle.desk_messages.proofs.ToldLemmas.{place-of}
 use Rattle.desk_messages.proofs.CrashLemmas.{own_first, tried_failed, once_settled}
 use Rattle.desk_messages.proofs.going_on.go_on.Goals as goal
 

@@ -6,7 +6,7 @@ use Rattle.std.proofs.lemmas.Option.{none-some, same_Some}
 use Rattle.bug_record.specs.Sets.{has}
 use Rattle.bug_record.specs.declared.bug.Member.{Member}
 use Rattle.message_progress.specs.Images.{meets}
-use Rattle.bug_record.proofs.SetLemmas.{contains-has}
+use Rattle.sequences.proofs.SetLemmas.{contains-has}
 use Rattle.message_progress.proofs.written_images.begins_with.Goals as goal
 
 first-meets : (P : ℕ → Bool) (ms : List Member) (m : Member) → slice_get ms 0 ≡ Some m → IsTrue (P m.number) → IsTrue (meets P ms)

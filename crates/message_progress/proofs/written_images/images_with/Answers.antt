@@ -5,8 +5,8 @@ use Rattle.std.specs.Ordering.{nat_cmp}
 use Rattle.std.proofs.lemmas.Fn.{filter_same}
 use Rattle.bug_record.specs.Sets.{has}
 use Rattle.bug_record.specs.declared.bug.SetImage.{SetImage}
-use Rattle.bug_record.proofs.OrderedLemmas.{has-key}
-use Rattle.bug_record.proofs.SetLemmas.{has-number_set}
+use Rattle.sequences.proofs.OrderedLemmas.{has-key}
+use Rattle.sequences.proofs.SetLemmas.{has-number_set}
 use Rattle.message_progress.specs.Images.{meets}
 use Rattle.message_progress.proofs.written_images.images_with.Goals as goal
 

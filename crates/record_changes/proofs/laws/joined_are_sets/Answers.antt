@@ -1,5 +1,5 @@
 use Rattle.bug_record.specs.Bugs.{all_of}
-use Rattle.bug_record.proofs.SetLemmas.{IsAscending-number_set}
+use Rattle.sequences.proofs.SetLemmas.{IsAscending-number_set}
 use Rattle.bug_record.proofs.MergeLemmas.{ascending-joined_blockers}
 use Rattle.bug_record.proofs.MarkLemmas.{sorted-node_set}
 use Rattle.bug_record.proofs.PackageLemmas.{sorted-name_set}

@@ -1,6 +1,6 @@
 use Rattle.std.proofs.Common.{◌≡◌, true, not, sym, ap, ◌∙◌}
 use Rattle.set_images.specs.Changes.{differs}
-use Rattle.bug_record.proofs.OrderedLemmas.{with_key}
+use Rattle.sequences.proofs.OrderedLemmas.{with_key}
 use Rattle.set_images.proofs.JoinLemmas.{join-number}
 use Rattle.set_images.proofs.changes.add_number.Goals as goal
 

@@ -2,7 +2,7 @@ use Rattle.std.proofs.Common.{ℕ, List, ap, ◌∙◌, arith}
 use Rattle.std.proofs.lemmas.Grind.{common_steps}
 use Rattle.bug_record.specs.Images.{numbers_of}
 use Rattle.bug_record.specs.Sets.{with_items}
-use Rattle.bug_record.proofs.NumberLemmas.{with_items-set}
+use Rattle.sequences.proofs.NumberLemmas.{with_items-set}
 use Rattle.set_images.proofs.images.member_numbers.Goals as goal
 
 pub loop-member-init : goal.loop-member-init

@@ -1,5 +1,5 @@
 use Rattle.std.proofs.Common.{◌∙◌}
-use Rattle.bug_record.proofs.OrderedLemmas.{has-key}
+use Rattle.sequences.proofs.OrderedLemmas.{has-key}
 use Rattle.set_images.proofs.refusals.is_in.Goals as goal
 
 pub returns : goal.returns

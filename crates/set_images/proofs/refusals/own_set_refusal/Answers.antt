@@ -5,7 +5,7 @@ use Rattle.bug_record.specs.Images.{numbers_of}
 use Rattle.bug_record.specs.Sets.{has, number_set}
 use Rattle.bug_record.specs.declared.bug.Member.{Member}
 use Rattle.bug_record.specs.declared.command.Refusal.TheVariants.{OwnSet}
-use Rattle.bug_record.proofs.SetLemmas.{has-number_set}
+use Rattle.sequences.proofs.SetLemmas.{has-number_set}
 use Rattle.set_images.proofs.refusals.own_set_refusal.Goals as goal
 
 -- the numbers of the set are the members'

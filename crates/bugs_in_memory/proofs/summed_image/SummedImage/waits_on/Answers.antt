@@ -2,7 +2,7 @@ use Rattle.std.proofs.Common.{List, ℕ, ap, ◌∙◌}
 use Rattle.bug_record.specs.Sets.{has}
 use Rattle.bug_record.specs.declared.bug.SetImage.{SetImage}
 use Rattle.bug_record.specs.declared.bug.Shared.{Shared}
-use Rattle.bug_record.proofs.SetLemmas.{contains-has}
+use Rattle.sequences.proofs.SetLemmas.{contains-has}
 use Rattle.bugs_in_memory.proofs.summed_image.SummedImage.waits_on.Goals as goal
 
 pub returns-in-OnSome : goal.returns-in-OnSome

@@ -1,0 +1,3 @@
+pub mod Recalling
+-- definitions that only private functions cite
+pub mod NamesRead
