@@ -1,6 +1,8 @@
 """Tests of tools that have no file of tests of their own: each passes what is right and no more."""
 
 import gzip
+import importlib.machinery
+import importlib.util
 import os
 import pathlib
 import re
@@ -143,15 +145,32 @@ class Gate(unittest.TestCase):
             self.assertEqual(ran.returncode, status)
             told = [line for line in ran.stdout.splitlines() if line.startswith(b"gate: ")]
             self.assertEqual(told, [
-                b"gate: foo after 0.0 minutes", b"gate: foo's tests after 0.0 minutes",
-                b"gate: all after 0.0 minutes",
-                b"gate: minutes: foo 0.0, foo's tests 0.0, all 0.0"])
+                b"gate: foo after 0.0 minutes (0.0 without stolen time)",
+                b"gate: foo's tests after 0.0 minutes (0.0 without stolen time)",
+                b"gate: all after 0.0 minutes (0.0 without stolen time)",
+                b"gate: minutes (without stolen time): "
+                b"foo 0.0 (0.0), foo's tests 0.0 (0.0), all 0.0 (0.0)"])
             handed = [line for line in ran.stdout.splitlines() if line not in told]
             self.assertEqual(handed, given.splitlines()[:-1])
 
     def test_cut(self):
         """Where no status comes, the gate fails."""
         self.assertEqual(run([TOOLS / "with_minutes"], "rt: foo proved\n", 1)[0].count("gate: "), 3)
+
+    def test_stolen_time(self):
+        """Of a minute in which the host took a third of the wanted time, 40 seconds are left."""
+        loader = importlib.machinery.SourceFileLoader("with_minutes", str(TOOLS / "with_minutes"))
+        spec = importlib.util.spec_from_loader(loader.name, loader)
+        module = importlib.util.module_from_spec(spec)
+        loader.exec_module(module)
+        self.assertEqual(module.processor_times("cpu  1 2 3 100 200 4 5 6 0 0\ncpu0 1\n"), (21, 6))
+        clock = module.Clock()
+        clock.last = clock.began = clock.last - 60
+        clock.times = (0, 0)
+        clock.read = lambda: (300, 100)
+        minutes, own = clock.minutes()
+        self.assertAlmostEqual(minutes, 1.0, 2)
+        self.assertAlmostEqual(own, 2 / 3, 2)
 
     def test_checks(self):
         """At least one check runs, and at most one a processor."""
