@@ -12,7 +12,7 @@ use Rattle.std.specs.Map.{keys_of, lookup}
 use Rattle.std.specs.Option.{option_flatten}
 use Rattle.version_nodes.specs.Nodes.{Node, same_node, node_cmp}
 use Rattle.version_nodes.specs.Trees.{Ancestry, has_node, known_at, knows, parent_of}
-use Rattle.ancestry.specs.Branches.{with_parent, may_change}
+use Rattle.version_nodes.specs.Branches.{with_parent, may_change}
 use Rattle.ancestry.specs.Kept.{HasParents}
 use Rattle.version_nodes.proofs.NodeLemmas.{same_true, same_itself, same_back, past_first}
 use Rattle.ancestry.proofs.BranchLemmas.{parent_put, parent_others, learnt_parents}

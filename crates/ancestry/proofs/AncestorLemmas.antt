@@ -7,7 +7,7 @@ use Rattle.std.proofs.lemmas.List.Elements.{All-nil, All-cons, All-head, All-tai
 use Rattle.std.specs.BTreeMap.{insert_entry}
 use Rattle.version_nodes.specs.Nodes.{Node, same_node, node_cmp}
 use Rattle.version_nodes.specs.Trees.{Ancestry, has_node, knows, parent_of, IsLine, line, is_ancestor, IsForest}
-use Rattle.ancestry.specs.Branches.{learn, learn_all, with_parent, base_on, base_all, or_conflict, AreBased}
+use Rattle.version_nodes.specs.Branches.{learn, learn_all, with_parent, base_on, base_all, or_conflict, AreBased}
 use Rattle.version_nodes.proofs.NodeLemmas.{has_tail}
 use Rattle.ancestry.proofs.LineLemmas.{line_is, line_begins, rest_from}
 use Rattle.ancestry.proofs.BranchLemmas.{Longer, knows_kept, knows_put, learnt_lines, based_line, longer, based_forest}

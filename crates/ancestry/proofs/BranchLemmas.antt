@@ -6,7 +6,7 @@ use Rattle.std.specs.BTreeMap.{insert_entry}
 use Rattle.version_nodes.specs.Nodes.{Node, IsNode, same_node, node_cmp}
 use Rattle.std.specs.Option.{option_flatten}
 use Rattle.version_nodes.specs.Trees.{Ancestry, has_node, knows, parent_of, IsLine, line, IsForest}
-use Rattle.ancestry.specs.Branches.{learn, with_parent}
+use Rattle.version_nodes.specs.Branches.{learn, with_parent}
 use Rattle.version_nodes.proofs.NodeLemmas.{same_true, known_put, known_others}
 use Rattle.ancestry.proofs.LinkLemmas.{ascends_put}
 use Rattle.ancestry.proofs.LineLemmas.{line_begins, line_cons, unknown_has_none, IsForest-from}

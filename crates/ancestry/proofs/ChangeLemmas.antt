@@ -12,8 +12,8 @@ use Rattle.std.specs.Ordering.{is_eq}
 use Rattle.version_nodes.specs.Nodes.{Node, same_node, node_cmp}
 use Rattle.std.specs.Option.{option_flatten}
 use Rattle.version_nodes.specs.Trees.{Ancestry, has_node, known_at, knows, parent_of, line, is_ancestor, IsForest}
-use Rattle.ancestry.specs.Branches.{learn, with_parent, base_on}
-use Rattle.ancestry.specs.Branches.{Extends}
+use Rattle.version_nodes.specs.Branches.{learn, with_parent, base_on}
+use Rattle.version_nodes.specs.Branches.{Extends}
 use Rattle.ancestry.specs.Changes.{past_of}
 use Rattle.ancestry.specs.declared.branch.Past.{Past}
 use Rattle.ancestry.specs.declared.branch.Past.TheVariants.{Unknown, Root, Based}

@@ -20,7 +20,7 @@ use Rattle.std.specs.Str.{bytes_eq}
 use Rattle.version_nodes.specs.Nodes.{Node, IsNode, node, node_of, node_cmp, same_node}
 use Rattle.version_nodes.specs.Trees.{Ancestry, has_node, known_at, knows, is_parent, heads, IsForest}
 use Rattle.version_nodes.specs.Lowest.{lowest_version}
-use Rattle.version_nodes.proofs.NodeLemmas.{has_head, has_tail, has_cases, at_first, same_itself, same_true}
+use Rattle.version_nodes.proofs.NodeLemmas.{has_head, has_tail, has_cases, same_itself, same_true, listed_valid}
 use Rattle.ancestry.specs.Kept.{listed}
 use Rattle.ancestry.proofs.LinkLemmas.{AreAbove}
 use Rattle.ancestry.proofs.LowestLemmas.{lowest_below}
@@ -80,19 +80,6 @@ keys_kept r (e ∷ es) =
     (λ off. ap (λ b. keys_of (cond b (e ∷ filter (λ e. r e.0) es) (filter (λ e. r e.0) es))) off
     ∙ keys_kept r es ∙ sym (ap (λ b. cond b (e.0 ∷ filter r (keys_of es)) (filter r (keys_of es))) off))
     (cases_Bool (r e.0))
-
--- a node of the list is known
-listed_known : (t : Ancestry) (q : Node) → has_node (keys_of t) q ≡ true → knows t q ≡ true
-listed_known [] q h = absurd (false≢true h)
-listed_known (e ∷ t) q h =
-    has_cases q e.0 (keys_of t) h
-    (λ is. subst (λ m. knows (e ∷ t) m ≡ true) (sym is) (ap is_some (at_first e.0 e.1 t)))
-    (λ more. ⊎_elim (λ yes. ap (λ b. is_some (cond b (Some e.1) (known_at t q))) yes)
-    (λ off. ap (λ b. is_some (cond b (Some e.1) (known_at t q))) off ∙ listed_known t q more)
-    (cases_Bool (is_eq (node_cmp q e.0))))
-
-pub listed_valid : (t : Ancestry) (q : Node) → IsForest t → has_node (keys_of t) q ≡ true → IsNode q
-listed_valid t q forest h = forest.valid q (listed_known t q h)
 
 -- ---- where the nodes of a package begin and end
 

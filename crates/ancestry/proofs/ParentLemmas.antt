@@ -10,7 +10,7 @@ use Rattle.std.specs.Option.{option_flatten, option_map_or}
 use Rattle.std.specs.Ordering.{is_eq}
 use Rattle.version_nodes.specs.Nodes.{Node, same_node, node_cmp}
 use Rattle.version_nodes.specs.Trees.{Ancestry, has_node, known_at, knows, parent_of, line, is_ancestor, is_parent}
-use Rattle.ancestry.specs.Branches.{learn, with_parent, base_on}
+use Rattle.version_nodes.specs.Branches.{learn, with_parent, base_on}
 use Rattle.ancestry.specs.Kept.{AreParents, Adds}
 use Rattle.version_nodes.proofs.NodeLemmas.{same_true, same_itself, same_back, put_step}
 use Rattle.ancestry.proofs.LineLemmas.{unknown_has_none}

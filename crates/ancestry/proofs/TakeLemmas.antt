@@ -5,10 +5,10 @@ use Rattle.std.proofs.lemmas.List.{at_drop_more}
 use Rattle.std.specs.Option.{option_map_or}
 use Rattle.version_nodes.specs.Nodes.{Node}
 use Rattle.version_nodes.specs.Trees.{Ancestry, knows, IsForest}
-use Rattle.ancestry.specs.Branches.{learn_all, or_conflict, base_on, base_all, first_repeat, branched, IsBranched, TakesMemory}
+use Rattle.version_nodes.specs.Branches.{learn_all, or_conflict, base_on, base_all, first_repeat, branched, IsBranched, TakesMemory}
 use Rattle.ancestry.specs.Changes.{Makes}
-use Rattle.ancestry.specs.declared.fault.BranchFault.{BranchFault}
-use Rattle.ancestry.specs.declared.fault.BranchFault.TheVariants.{EmptyBranch, Repeated, Conflict, TooLong, Memory}
+use Rattle.version_nodes.specs.declared.fault.BranchFault.{BranchFault}
+use Rattle.version_nodes.specs.declared.fault.BranchFault.TheVariants.{EmptyBranch, Repeated, Conflict, TooLong, Memory}
 use Rattle.ancestry.proofs.AncestorLemmas.{Course, course}
 
 -- a refusal at a pair is the branch's

@@ -5,8 +5,8 @@ use Rattle.version_nodes.specs.Nodes.{Node}
 use Rattle.version_nodes.specs.Trees.{Ancestry}
 use Rattle.ancestry.specs.declared.branch.Past.{Past}
 use Rattle.ancestry.specs.declared.branch.Past.TheVariants.{Unknown, Root, Based}
-use Rattle.ancestry.specs.declared.fault.BranchFault.{BranchFault}
-use Rattle.ancestry.specs.declared.fault.BranchFault.TheVariants.{Memory}
+use Rattle.version_nodes.specs.declared.fault.BranchFault.{BranchFault}
+use Rattle.version_nodes.specs.declared.fault.BranchFault.TheVariants.{Memory}
 
 -- a part of the work gives what it is to give, or refuses as it is to; out of memory leaves this
 -- open

@@ -8,18 +8,17 @@ ghost use Rattle.std.specs.HashSet.{contains};
 ghost use Rattle.std.specs.Map.{keys_of};
 ghost use Rattle.version_nodes.specs.Nodes.{Node, same_node, node_cmp};
 ghost use Rattle.version_nodes.specs.Trees.{Ancestry, has_node, known_at, knows, parent_of, line, is_ancestor, is_parent, IsForest};
-ghost use Rattle.ancestry.specs.Branches.{learn, learn_all, with_parent, or_conflict, base_on, base_all, is_repeat, first_repeat};
-ghost use Rattle.ancestry.specs.Branches.{branched, IsBranched, TakesMemory, AreBased, may_change, Extends};
+ghost use Rattle.version_nodes.specs.Branches.{learn, learn_all, with_parent, or_conflict, base_on, base_all, is_repeat, first_repeat};
+ghost use Rattle.version_nodes.specs.Branches.{branched, IsBranched, TakesMemory, AreBased, may_change, Extends};
 ghost use Rattle.ancestry.specs.Changes.{Makes, past_of};
 ghost use Rattle.ancestry.specs.Kept.{Adds};
-ghost use Rattle.ancestry.specs.declared.fault.BranchFault.TheVariants.{Memory};
+ghost use Rattle.version_nodes.specs.declared.fault.BranchFault.TheVariants.{Memory};
 
-use crate::fault::BranchFault;
 use crate::tree::Tree;
 use crate::whole::parent_in;
 use std::alloc::AllocError;
 use std::collections::{BTreeMap, HashMap, HashSet};
-use version_nodes::Node;
+use version_nodes::{BranchFault, Node};
 
 // How many nodes a branch has at most.
 const MOST_NODES: usize = 200;

@@ -3,16 +3,14 @@
 #![tactic(auto)]
 
 mod branch;
-mod fault;
 mod indexed;
 mod laws;
 mod marks;
 mod tree;
 mod whole;
 
-pub use fault::BranchFault;
 pub use indexed::IndexedLine;
 pub use laws::{one_line, valid_nodes};
 pub use marks::{status, status_from};
 pub use tree::Tree;
-pub use version_nodes::{MarkKind, Node, NodeFault, Status, at_first_slash};
+pub use version_nodes::{BranchFault, MarkKind, Node, NodeFault, Status, at_first_slash};

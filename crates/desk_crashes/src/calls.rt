@@ -16,7 +16,6 @@ ghost use Rattle.desk_tables.specs.Desk.{desk_of, MayKeep, LeavesTables};
 ghost use Rattle.desk_crashes.specs.Settled.{HasHonestDisk, HasKeptTables, IsSettled, IsOpenedOver, HasTakenBranch, HasTakenLine};
 
 use crate::left::crash_and_find;
-use ancestry::BranchFault;
 use bug_record::{Change, Outcome};
 use desk_lines::StoreFault;
 use desk_store::Records;
@@ -24,7 +23,7 @@ use desk_tables::TableDesk;
 use sqlite::Alter;
 use sqlite_trees::store::Reopen;
 use std::alloc::Global;
-use version_nodes::Node;
+use version_nodes::{BranchFault, Node};
 
 /// Crashes at this moment, between two calls, and opens what is left.
 /// Where the desk was settled, what is opened is the same desk, with what is kept of messages,

@@ -3,8 +3,8 @@
 use Rattle.std.specs.Prelude.{ℕ, List, [], ◌∷◌, Option, Some, None, Result, Ok, Err}
 use Rattle.version_nodes.specs.Nodes.{Node, node_of_text}
 use Rattle.version_nodes.specs.Trees.{Ancestry}
-use Rattle.ancestry.specs.Branches.{branched}
-use Rattle.ancestry.specs.declared.fault.BranchFault.{BranchFault}
+use Rattle.version_nodes.specs.Branches.{branched}
+use Rattle.version_nodes.specs.declared.fault.BranchFault.{BranchFault}
 
 -- a node before others, if all are nodes
 abbrev pub node_before : Option Node → Option (List Node) → Option (List Node)

@@ -3,8 +3,8 @@ use Rattle.std.proofs.Common.{◌≡◌, inl, inr, ℕ, List, Option, Some, None
 use Rattle.std.specs.Prelude.{if◌then◌else◌}
 use Rattle.version_nodes.specs.Nodes.{Node}
 use Rattle.version_nodes.specs.Trees.{Ancestry}
-use Rattle.ancestry.specs.Branches.{branched}
-use Rattle.ancestry.specs.declared.fault.BranchFault.{BranchFault}
+use Rattle.version_nodes.specs.Branches.{branched}
+use Rattle.version_nodes.specs.declared.fault.BranchFault.{BranchFault}
 use Rattle.bug_record.specs.Desk.{Desk}
 use Rattle.desk_lines.specs.declared.store_fault.StoreFault.{StoreFault}
 use Rattle.desk_lines.specs.declared.store_fault.StoreFault.TheVariants.{Memory}

@@ -13,7 +13,6 @@ ghost use Rattle.desk_requests.specs.Shown.{shown};
 ghost use Rattle.desk_requests.specs.Steps.{Gives};
 
 use crate::refusals::{refuse, refuse_nodes};
-use ancestry::BranchFault;
 use desk_directives::add_node;
 use desk_lines::StoreFault;
 use desk_requests::{Body, Reply, store_fault};
@@ -21,7 +20,7 @@ use desk_store::Records;
 use http::StatusCode;
 use routes_and_json::ok_json;
 use std::alloc::Global;
-use version_nodes::{Node, NodeFault};
+use version_nodes::{BranchFault, Node, NodeFault};
 
 // The nodes of these words.
 // `BadNode` where a word is no node, `Memory` where there was none.

@@ -6,12 +6,12 @@ ghost use Rattle.desk_requests.specs.Told.{IsTold};
 ghost use Rattle.desk_requests.specs.Shown.{shown};
 ghost use Rattle.desk_http.specs.Cases.{GivesOrFails};
 
-use ancestry::BranchFault;
 use desk_requests::{Reply, json_reply, store_fault};
 use desk_text::{StoreFault, nodes_refusal};
 use http::StatusCode;
 use routes_and_json::error_json;
 use std::alloc::Global;
+use version_nodes::BranchFault;
 
 /// A refusal of a request that was read: 400, and why.
 pub(crate) fn refuse(alloc: Global, why: &str) -> Reply

@@ -13,11 +13,10 @@ ghost use Rattle.desk_store.specs.Crashes.{LeavesAfter, LeavesBranched, after_br
 ghost use Rattle.desk_store.specs.Store.{faults_after};
 ghost use Rattle.desk_in_memory.specs.FailAt.{faults_with};
 
-use ancestry::BranchFault;
 use bug_record::{Change, ListRow, Numbers, Outcome, Sequence, SetImage};
 use desk_lines::StoreFault;
 use desk_store::{Kept, Records};
-use version_nodes::Node;
+use version_nodes::{BranchFault, Node};
 
 /// A store round another.
 /// One call of `apply`, `branch` or `keep` answers the fault that it was made with, changes nothing

@@ -19,14 +19,14 @@ ghost use Rattle.bugs_in_memory.specs.Plain.{keyed_of, desk_of, empty_desk};
 
 use crate::kept_messages::KeptMessages;
 use crate::shared_texts::SharedTexts;
-use ancestry::{BranchFault, Tree};
+use ancestry::Tree;
 use bug_record::{Change, ListRow, Numbers, Outcome, Sequence, SetImage};
 use bugs_in_memory::{BugSets, open_head};
 use debver::Text;
 use desk_lines::StoreFault;
 use desk_store::{Kept, Records, copy_outcome};
 use std::alloc::{AllocError, Global};
-use version_nodes::Node;
+use version_nodes::{BranchFault, Node};
 
 /// A desk in memory: its bugs by sets, the tree of nodes, and what is kept of messages.
 #[derive(Drop)]

@@ -7,7 +7,7 @@ use Rattle.std.proofs.lemmas.Bool.{false≢true}
 use Rattle.std.proofs.lemmas.List.Elements.{recursion_from_All}
 use Rattle.version_nodes.specs.Nodes.{Node}
 use Rattle.version_nodes.specs.Trees.{Ancestry, IsForest, has_node, known_at, knows, parent_of}
-use Rattle.ancestry.specs.Branches.{Extends}
+use Rattle.version_nodes.specs.Branches.{Extends}
 use Rattle.version_nodes.proofs.NodeLemmas.{has_cases}
 use Rattle.nearest_marks.proofs.LineLemmas.{sees_still}
 use Rattle.desk_rows.specs.Grown.{unknown_of, roots_of, changed_of, IsGrown}

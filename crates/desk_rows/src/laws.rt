@@ -10,7 +10,7 @@ ghost use Rattle.std.specs.List.Sorted.{IsStrictlySortedBy};
 ghost use Rattle.line_words.specs.declared.named.TheConstants.{LARGEST_NUMBER};
 ghost use Rattle.version_nodes.specs.Nodes.{Node};
 ghost use Rattle.version_nodes.specs.Trees.{Ancestry, IsForest, has_node, knows, line};
-ghost use Rattle.ancestry.specs.Branches.{Extends};
+ghost use Rattle.version_nodes.specs.Branches.{Extends};
 ghost use Rattle.bug_record.specs.Sets.{has};
 ghost use Rattle.nearest_marks.specs.Nearest.{nearest_on, meets};
 ghost use Rattle.nearest_marks.specs.declared.near.Near.{Near};

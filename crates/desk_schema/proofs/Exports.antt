@@ -1,6 +1,6 @@
 -- The names that the proofs of the crates above cite, passed on from one place.
 -- It declares nothing.
-pub use Rattle.ancestry.specs.Branches.{IsBranched, branched}
+pub use Rattle.version_nodes.specs.Branches.{IsBranched, branched}
 pub use Rattle.bug_record.specs.Images.{FitsDesk, HasMember, IsSetOf}
 pub use Rattle.bug_record.specs.Ordered.{with_each}
 pub use Rattle.bug_record.specs.PackageSets.{name_cmp}

@@ -1,7 +1,7 @@
 -- What a crash leaves of what a store holds.
 use Rattle.std.specs.Prelude.{◌≡◌, ◌⊎◌, List, Result, Ok, Err}
-use Rattle.ancestry.specs.Branches.{branched}
-use Rattle.ancestry.specs.declared.fault.BranchFault.{BranchFault}
+use Rattle.version_nodes.specs.Branches.{branched}
+use Rattle.version_nodes.specs.declared.fault.BranchFault.{BranchFault}
 use Rattle.version_nodes.specs.Nodes.{Node}
 use Rattle.version_nodes.specs.Trees.{Ancestry}
 use Rattle.bug_record.specs.Desk.{Desk}

@@ -1,9 +1,9 @@
 -- What a call of a store says of its content.
 use Rattle.std.specs.Prelude.{ℕ, ◌≡◌, ◌+◌, ◌-◌, ◌^◌, min, true, List, Option, Some, None, Result, Ok, Err, ⊤}
 use Rattle.version_nodes.specs.Nodes.{Node}
-use Rattle.ancestry.specs.Branches.{branched}
-use Rattle.ancestry.specs.declared.fault.BranchFault.{BranchFault}
-use Rattle.ancestry.specs.declared.fault.BranchFault.TheVariants.{Memory as WantOfMemory}
+use Rattle.version_nodes.specs.Branches.{branched}
+use Rattle.version_nodes.specs.declared.fault.BranchFault.{BranchFault}
+use Rattle.version_nodes.specs.declared.fault.BranchFault.TheVariants.{Memory as WantOfMemory}
 use Rattle.bug_record.specs.Sets.{has}
 use Rattle.bug_record.specs.Desk.{Desk}
 use Rattle.bug_record.specs.Heads.{open_head}

@@ -15,11 +15,10 @@ ghost use Rattle.desk_store.specs.Kept.{Keeping, AreGoodKept, kept_also};
 ghost use Rattle.desk_store.specs.Crashes.{Holding, LeavesAfter, LeavesBranched, after_branch};
 
 use crate::kept::Kept;
-use ancestry::BranchFault;
 use bug_record::{Change, ListRow, Numbers, Outcome, Sequence, SetImage};
 use debver::Text;
 use desk_lines::StoreFault;
-use version_nodes::Node;
+use version_nodes::{BranchFault, Node};
 
 /// A store of a desk, in memory or in tables, and of what is kept of messages that have an id.
 ///

@@ -1,7 +1,7 @@
 -- What a crash leaves of a desk in tables.
 use Rattle.desk_tables.proofs.Imports.{HasKeptTables, content_shown, state_of, AreTablesOf, AreTablesAfter, AreTablesHolding, LeavesOf, LeavesTables, Holding, Branches, with_change, MayBeKept}
 use Rattle.desk_schema.proofs.Exports.{◌≡◌, ◌∙◌, inl, inr, List, ℕ, Result, Ok, Err, OnOk, IfOk, Option, IsTrue, refl, sym, ap, subst, IsText, IfGiven, Node, branched, Change, Outcome, StoreFault, state, State, HasCleanDisk, Survives, FitsContent, Content, IsKeptContent, changed, kept_after, change_desk, change_kept, after_keeping, after_kept, with_nodes, desk_in, keeping_in}
-use Rattle.ancestry.specs.declared.fault.BranchFault.{BranchFault}
+use Rattle.version_nodes.specs.declared.fault.BranchFault.{BranchFault}
 use Rattle.bug_record.specs.Desk.{Desk}
 use Rattle.bug_record.specs.Images.{put}
 use Rattle.desk_content.proofs.KeepLemmas.{change_keeping}

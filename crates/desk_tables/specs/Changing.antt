@@ -3,7 +3,7 @@
 use Rattle.std.specs.Prelude.{◌≡◌, ℕ, List, Option, Result, IfOk, OnOk, IsTrue}
 use Rattle.sqlite.specs.State.{Survives}
 use Rattle.sqlite_trees.specs.declared.store.Store as store
-use Rattle.ancestry.specs.declared.fault.BranchFault.{BranchFault}
+use Rattle.version_nodes.specs.declared.fault.BranchFault.{BranchFault}
 use Rattle.version_nodes.specs.Nodes.{Node}
 use Rattle.line_words.specs.Texts.{IfGiven}
 use Rattle.bug_record.specs.declared.command.Change.{Change}

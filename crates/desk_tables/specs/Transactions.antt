@@ -6,10 +6,10 @@ use Rattle.sqlite_trees.specs.declared.error.StoreError.{StoreError}
 use Rattle.sql_forms.specs.Faults.{fault_of}
 use Rattle.desk_lines.specs.declared.store_fault.StoreFault.{StoreFault}
 use Rattle.desk_lines.specs.declared.store_fault.StoreFault.TheVariants.{Foreign}
-use Rattle.ancestry.specs.Branches.{IsBranched}
+use Rattle.version_nodes.specs.Branches.{IsBranched}
 use Rattle.version_nodes.specs.Nodes.{Node}
 use Rattle.version_nodes.specs.Trees.{Ancestry}
-use Rattle.ancestry.specs.declared.fault.BranchFault.{BranchFault}
+use Rattle.version_nodes.specs.declared.fault.BranchFault.{BranchFault}
 use Rattle.desk_content.specs.Branches.{with_nodes}
 use Rattle.desk_content.specs.Content.{Content, no_content}
 use Rattle.desk_content.specs.Kept.{IsKeptContent}

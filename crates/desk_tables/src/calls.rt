@@ -16,7 +16,6 @@ ghost use Rattle.desk_tables.specs.Kept.{IsIdle};
 ghost use Rattle.desk_tables.specs.Transactions.{IsAsked, IsChanged, IsTaken, IsMade, IsCarried, AsksSchema, Ends};
 
 use crate::question::Question;
-use ancestry::BranchFault;
 use bug_record::{Change, Outcome, SetImage};
 use desk_lines::StoreFault;
 use desk_migrations::{SchemaRead, carry_over, make_tables, read_schema};
@@ -26,7 +25,7 @@ use desk_writes::{put_branch, put_change, put_kept};
 use nearest_marks::Family;
 use sqlite::{Alter, Connection, Transaction};
 use std::alloc::Global;
-use version_nodes::Node;
+use version_nodes::{BranchFault, Node};
 
 // Asks a question in a transaction of its own, which is rolled back.
 pub(crate) fn ask_within<S: Alter, Q: Question>(

@@ -14,12 +14,11 @@ ghost use Rattle.desk_tables.specs.Desk.{content_shown, faults_of, HasHonestDisk
 
 use crate::calls::{change_sets, keep_line, take_nodes};
 use crate::desk::TableDesk;
-use ancestry::BranchFault;
 use bug_record::{Change, Outcome, SetImage};
 use desk_lines::StoreFault;
 use sqlite::Alter;
 use std::snapshot::Snapshot;
-use version_nodes::Node;
+use version_nodes::{BranchFault, Node};
 
 impl<S: Alter> TableDesk<S> {
     // Carries a change out over the tree that was read, or over none where no mark changes.

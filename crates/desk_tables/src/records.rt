@@ -23,12 +23,11 @@ ghost use Rattle.desk_tables.specs.declared.desk.TableDesk.{TableDesk as SeenDes
 
 use crate::desk::TableDesk;
 use crate::questions::{KeptOf, Listed, Next, WaitingOn};
-use ancestry::BranchFault;
 use bug_record::{Change, ListRow, Numbers, Outcome, Sequence, SetImage};
 use desk_lines::StoreFault;
 use desk_store::{Kept, Records};
 use sqlite::Alter;
-use version_nodes::Node;
+use version_nodes::{BranchFault, Node};
 
 impl<S: Alter> Records for TableDesk<S> {
     ghost desk = { desk_of };

@@ -2,8 +2,8 @@
 -- This project's own rule.
 use Rattle.std.specs.Prelude.{ℕ, List, [], ◌++◌, Result, Ok, Err, codes}
 use Rattle.std.specs.Fmt.{decimal}
-use Rattle.ancestry.specs.declared.fault.BranchFault.{BranchFault}
-use Rattle.ancestry.specs.declared.fault.BranchFault.TheVariants.{EmptyBranch, Repeated, Conflict, TooLong, Memory}
+use Rattle.version_nodes.specs.declared.fault.BranchFault.{BranchFault}
+use Rattle.version_nodes.specs.declared.fault.BranchFault.TheVariants.{EmptyBranch, Repeated, Conflict, TooLong, Memory}
 use Rattle.desk_text.specs.Texts.{as_line, full_text, fault_text}
 use Rattle.desk_text.specs.declared.report_fault.ReportFault.{ReportFault}
 use Rattle.desk_text.specs.declared.report_fault.ReportFault.TheVariants.{BadPackage, BadVersion, BadSeverity, BadTitle, Full, Store}

@@ -7,10 +7,10 @@ ghost use Rattle.desk_text.specs.Answers.{no_bug_answer, bad_directive_answer, r
 
 use crate::report_fault::ReportFault;
 use crate::texts::{append_number, fault_text, full_text};
-use ancestry::BranchFault;
 use desk_lines::StoreFault;
 use itoa::Buffer;
 use std::alloc::{AllocError, Global};
+use version_nodes::BranchFault;
 
 // The bytes that a short answer has room for at once.
 const ANSWER: usize = 64;

@@ -11,8 +11,7 @@ use Rattle.std.proofs.lemmas.Bool.Decides.{nat_tests}
 use Rattle.std.specs.Map.{keys_of}
 use Rattle.version_nodes.specs.Nodes.{Node, IsNode}
 use Rattle.version_nodes.specs.Trees.{Ancestry, has_node, IsForest, heads}
-use Rattle.version_nodes.proofs.NodeLemmas.{has_head, has_tail}
-use Rattle.ancestry.proofs.HeadLemmas.{listed_valid}
+use Rattle.version_nodes.proofs.NodeLemmas.{has_head, has_tail, listed_valid}
 use Rattle.bug_record.specs.Sets.{has, Each, IsAscending, numbers_below}
 use Rattle.line_words.specs.Texts.{IfGiven}
 use Rattle.bug_record.specs.Desk.{Desk, IsSound}

@@ -7,10 +7,10 @@ use Rattle.std.specs.HashMap.{HashMap}
 use Rattle.std.specs.Option.{option_flatten, option_map_or}
 use Rattle.version_nodes.specs.Nodes.{Node, same_node}
 use Rattle.version_nodes.specs.Trees.{Ancestry, has_node, parent_of, line, is_ancestor}
-use Rattle.ancestry.specs.Branches.{learn, learn_all, with_parent, base_on, or_conflict, base_all, first_repeat, branched, IsBranched}
+use Rattle.version_nodes.specs.Branches.{learn, learn_all, with_parent, base_on, or_conflict, base_all, first_repeat, branched, IsBranched}
 use Rattle.ancestry.specs.Links.{has_parent}
-use Rattle.ancestry.specs.declared.fault.BranchFault.{BranchFault}
-use Rattle.ancestry.specs.declared.fault.BranchFault.TheVariants.{EmptyBranch, Repeated, Conflict, TooLong, Memory}
+use Rattle.version_nodes.specs.declared.fault.BranchFault.{BranchFault}
+use Rattle.version_nodes.specs.declared.fault.BranchFault.TheVariants.{EmptyBranch, Repeated, Conflict, TooLong, Memory}
 use Rattle.version_nodes.proofs.NodeLemmas.{same_true, known_put, known_others}
 use Rattle.ancestry.proofs.BranchLemmas.{learn_parents}
 use Rattle.nearest_marks.specs.Children.{is_child, is_pair, AreChildren}

@@ -6,7 +6,7 @@ use Rattle.std.proofs.lemmas.Bool.{false≢true}
 use Rattle.std.proofs.lemmas.Option.{none-some}
 use Rattle.version_nodes.specs.Nodes.{Node}
 use Rattle.version_nodes.specs.Trees.{Ancestry, IsForest, IsLine, has_node, knows, known_at, parent_of, line}
-use Rattle.ancestry.specs.Branches.{Extends}
+use Rattle.version_nodes.specs.Branches.{Extends}
 use Rattle.version_nodes.specs.Statuses.{first_marked}
 use Rattle.ancestry.proofs.LineLemmas.{line_is, line_up}
 use Rattle.nearest_marks.specs.Nearest.{nearest_on, nearest_of, own_mark, meets}

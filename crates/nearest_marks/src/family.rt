@@ -5,18 +5,18 @@ ghost use Rattle.std.specs.Option.{option_copied, option_map_or};
 ghost use Rattle.std.specs.BTreeSet.{contains};
 ghost use Rattle.version_nodes.specs.Nodes.{Node, node_cmp};
 ghost use Rattle.version_nodes.specs.Trees.{Ancestry, no_nodes, knows, is_ancestor, IsForest};
-ghost use Rattle.ancestry.specs.Branches.{branched, TakesMemory, IsBranched, AreBased, Extends};
+ghost use Rattle.version_nodes.specs.Branches.{branched, TakesMemory, IsBranched, AreBased, Extends};
 ghost use Rattle.ancestry.specs.Links.{has_parent};
-ghost use Rattle.ancestry.specs.declared.fault.BranchFault.TheVariants.{Memory};
+ghost use Rattle.version_nodes.specs.declared.fault.BranchFault.TheVariants.{Memory};
 ghost use Rattle.nearest_marks.specs.Children.{is_child, is_pair, AreChildren};
 
 use crate::children::{add_pairs, children_of, settle_pairs};
 use crate::refusals::fault_without_memory;
-use ancestry::{BranchFault, Tree};
+use ancestry::Tree;
 use std::alloc::{AllocError, Global};
 use std::collections::{BTreeSet, HashMap};
 use std::marker::Model;
-use version_nodes::Node;
+use version_nodes::{BranchFault, Node};
 
 /// A tree of versions in which one can go from a node to those that are based on it.
 /// Contracts see its ancestry.

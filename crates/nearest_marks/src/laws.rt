@@ -5,7 +5,7 @@ ghost use Rattle.std.specs.Prelude.{◌≡◌, ◌++◌, ◌||◌, true, false, 
 ghost use Rattle.std.specs.Option.{option_or, option_and_then};
 ghost use Rattle.version_nodes.specs.Nodes.{Node};
 ghost use Rattle.version_nodes.specs.Trees.{Ancestry, IsForest, has_node, knows, known_at, parent_of, line};
-ghost use Rattle.ancestry.specs.Branches.{Extends};
+ghost use Rattle.version_nodes.specs.Branches.{Extends};
 ghost use Rattle.nearest_marks.specs.Nearest.{nearest_on, nearest_of, own_mark, meets};
 ghost use Rattle.nearest_marks.specs.declared.near.Near.{Near};
 

@@ -2,11 +2,10 @@
 
 ghost use Rattle.std.specs.Prelude.{◌≡◌, Err};
 ghost use Rattle.version_nodes.specs.Trees.{Ancestry};
-ghost use Rattle.ancestry.specs.Branches.{is_repeat, first_repeat, branched, IsBranched, TakesMemory};
-ghost use Rattle.ancestry.specs.declared.fault.BranchFault.TheVariants.{Memory};
+ghost use Rattle.version_nodes.specs.Branches.{is_repeat, first_repeat, branched, IsBranched, TakesMemory};
+ghost use Rattle.version_nodes.specs.declared.fault.BranchFault.TheVariants.{Memory};
 
-use ancestry::BranchFault;
-use version_nodes::Node;
+use version_nodes::{BranchFault, Node};
 
 // How many nodes a branch has at most.
 const MOST_NODES: usize = 200;

@@ -3,11 +3,10 @@
 ghost use Rattle.std.specs.Prelude.{◌≡◌, ◌⊎◌, ◌||◌, true, false, Err};
 ghost use Rattle.script_tests.specs.Fails.{faults_with};
 
-use ancestry::BranchFault;
 use bug_record::{Change, ListRow, Numbers, Outcome, Sequence, SetImage};
 use desk_lines::StoreFault;
 use desk_store::{Kept, Records};
-use version_nodes::Node;
+use version_nodes::{BranchFault, Node};
 
 /// A store round another.
 /// One call of `set_of`, `next`, `open_head`, `waiting_on`, `listed`, `kept`, `apply`, `branch` or

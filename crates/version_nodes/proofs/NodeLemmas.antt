@@ -1,14 +1,15 @@
 -- Nodes are told apart by their texts, in lists of nodes and in an ancestry.
-use Rattle.std.proofs.Common.{◌≡◌, true, false, cond, List, [], ◌∷◌, Option, Some, Decides, Ordering, Less, Equal, Greater, refl}
-use Rattle.std.proofs.Common.{sym, ap, ◌∙◌, subst, ⊎_elim}
-use Rattle.std.proofs.lemmas.Bool.{or_left, or_right, or_cases}
+use Rattle.std.proofs.Common.{◌≡◌, true, false, cond, List, [], ◌∷◌, Option, Some, is_some, Decides, Ordering, Less, Equal, Greater}
+use Rattle.std.proofs.Common.{refl, sym, ap, ◌∙◌, subst, ⊎_elim}
+use Rattle.std.proofs.lemmas.Bool.{cases_Bool, false≢true, or_left, or_right, or_cases}
 use Rattle.std.proofs.lemmas.Bool.Decides.{Decides-and, Decides-like}
 use Rattle.std.specs.BTreeMap.{insert_entry}
 use Rattle.std.specs.Cmp.Lexicographic.{bytes_decides}
+use Rattle.std.specs.Map.{keys_of}
 use Rattle.std.specs.Ordering.{is_eq, match_ordering}
-use Rattle.version_nodes.specs.Nodes.{Node, same_node, node_cmp}
+use Rattle.version_nodes.specs.Nodes.{Node, IsNode, same_node, node_cmp}
 use Rattle.version_nodes.specs.NodeLaws.{same_node_equiv, node_ties}
-use Rattle.version_nodes.specs.Trees.{Ancestry, has_node, known_at}
+use Rattle.version_nodes.specs.Trees.{Ancestry, has_node, known_at, knows, IsForest}
 
 same_decides : (a b : Node) → Decides (same_node a b) (a ≡ b)
 same_decides a b =
@@ -85,3 +86,18 @@ known_others (e ∷ t) n v q apart = by_order n v q e t apart (node_cmp n e.0) r
         ap (λ u. known_at u q) (put_step n v e t Equal h) ∙ past_first q e.0 v t apart-e ∙ sym (past_first q e.0 e.1 t apart-e)
     by_order n v q e t apart Greater h again =
         ap (λ u. known_at u q) (put_step n v e t Greater h) ∙ ap (λ x. cond (is_eq (node_cmp q e.0)) (Some e.1) x) again
+
+-- ---- the nodes that an ancestry lists
+
+-- a node of the list is known
+listed_known : (t : Ancestry) (q : Node) → has_node (keys_of t) q ≡ true → knows t q ≡ true
+listed_known [] q h = absurd (false≢true h)
+listed_known (e ∷ t) q h =
+    has_cases q e.0 (keys_of t) h
+    (λ is. subst (λ m. knows (e ∷ t) m ≡ true) (sym is) (ap is_some (at_first e.0 e.1 t)))
+    (λ more. ⊎_elim (λ yes. ap (λ b. is_some (cond b (Some e.1) (known_at t q))) yes)
+    (λ off. ap (λ b. is_some (cond b (Some e.1) (known_at t q))) off ∙ listed_known t q more)
+    (cases_Bool (is_eq (node_cmp q e.0))))
+
+pub listed_valid : (t : Ancestry) (q : Node) → IsForest t → has_node (keys_of t) q ≡ true → IsNode q
+listed_valid t q forest h = forest.valid q (listed_known t q h)

@@ -1,7 +1,7 @@
 use Rattle.std.proofs.Common.{length, drop, rules, sym, subst}
 use Rattle.std.proofs.lemmas.List.{length_push}
 use Rattle.std.proofs.lemmas.Slice.Zip.{zip_turn, zip_end}
-use Rattle.ancestry.specs.Branches.{Extends}
+use Rattle.version_nodes.specs.Branches.{Extends}
 use Rattle.ancestry.proofs.ChangeLemmas.{put_back_more, put_back_done}
 use Rattle.ancestry.proofs.branch.put_back.Goals as goal
 

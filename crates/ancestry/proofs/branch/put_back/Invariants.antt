@@ -1,6 +1,6 @@
 use Rattle.std.proofs.Common.{◌≡◌, length, map, drop}
 use Rattle.version_nodes.specs.Trees.{Ancestry, known_at, IsForest}
-use Rattle.ancestry.specs.Branches.{Extends}
+use Rattle.version_nodes.specs.Branches.{Extends}
 use Rattle.ancestry.specs.Changes.{past_of}
 use Rattle.ancestry.proofs.branch.put_back.Given as goal
 

@@ -1,5 +1,5 @@
 use Rattle.std.proofs.Common.{map, string_bytes, Result, Ok, Err, subst}
-use Rattle.ancestry.specs.declared.fault.BranchFault.{BranchFault}
+use Rattle.version_nodes.specs.declared.fault.BranchFault.{BranchFault}
 use Rattle.desk_store.specs.Store.{Holds, Branches}
 use Rattle.desk_store.proofs.HoldsLemmas.{holds_weaker}
 use Rattle.desk_http.proofs.AnswerLemmas.{branch_taken, branch_refused}

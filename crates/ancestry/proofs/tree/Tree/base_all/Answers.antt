@@ -3,7 +3,7 @@ use Rattle.std.proofs.lemmas.Grind.{common_steps}
 use Rattle.std.proofs.lemmas.List.{at_drop_all}
 use Rattle.std.proofs.lemmas.Result.{err_from_is_err_and}
 use Rattle.version_nodes.specs.Trees.{has_node, is_parent, IsForest}
-use Rattle.ancestry.specs.Branches.{base_on, base_all}
+use Rattle.version_nodes.specs.Branches.{base_on, base_all}
 use Rattle.version_nodes.proofs.NodeLemmas.{has_head, has_tail}
 use Rattle.ancestry.proofs.ChangeLemmas.{has_at, known_each, extends_same, extends_also, extends_base}
 use Rattle.ancestry.proofs.ParentLemmas.{adds_also, adds_base}

@@ -1,8 +1,8 @@
 use Rattle.std.proofs.Common.{◌≡◌, ◌∷◌, true, drop}
 use Rattle.version_nodes.specs.Nodes.{Node}
 use Rattle.version_nodes.specs.Trees.{has_node, knows, is_parent, IsForest}
-use Rattle.ancestry.specs.Branches.{base_all}
-use Rattle.ancestry.specs.Branches.{Extends}
+use Rattle.version_nodes.specs.Branches.{base_all}
+use Rattle.version_nodes.specs.Branches.{Extends}
 use Rattle.ancestry.specs.Kept.{Adds}
 use Rattle.ancestry.proofs.tree.Tree.base_all.Given as goal
 

@@ -1,7 +1,7 @@
 use Rattle.std.proofs.Common.{◌+◌, sym, ap, ◌∙◌, drop, subst}
 use Rattle.std.proofs.lemmas.List.{at_drop_more}
-use Rattle.ancestry.specs.Branches.{learn, learn_all}
-use Rattle.ancestry.specs.Branches.{Extends}
+use Rattle.version_nodes.specs.Branches.{learn, learn_all}
+use Rattle.version_nodes.specs.Branches.{Extends}
 use Rattle.ancestry.specs.Kept.{Adds}
 use Rattle.version_nodes.specs.Trees.{is_parent}
 use Rattle.ancestry.proofs.ChangeLemmas.{has_at, extends_also, extends_learn}

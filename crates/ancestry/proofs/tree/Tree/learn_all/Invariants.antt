@@ -1,7 +1,7 @@
 use Rattle.std.proofs.Common.{◌≡◌, drop}
 use Rattle.version_nodes.specs.Trees.{is_parent, IsForest}
-use Rattle.ancestry.specs.Branches.{learn_all}
-use Rattle.ancestry.specs.Branches.{Extends}
+use Rattle.version_nodes.specs.Branches.{learn_all}
+use Rattle.version_nodes.specs.Branches.{Extends}
 use Rattle.ancestry.specs.Kept.{Adds}
 use Rattle.ancestry.proofs.tree.Tree.learn_all.Given as goal
 

@@ -2,7 +2,7 @@ use Rattle.std.proofs.Common.{◌≡◌, true, false, Result, Ok, Err, OnOk, OnE
 use Rattle.std.proofs.lemmas.Grind.{common_steps}
 use Rattle.version_nodes.specs.Nodes.{Node}
 use Rattle.version_nodes.specs.Trees.{Ancestry, knows, IsForest}
-use Rattle.ancestry.specs.Branches.{with_parent}
+use Rattle.version_nodes.specs.Branches.{with_parent}
 use Rattle.ancestry.specs.Kept.{AreParents, HasParents}
 use Rattle.ancestry.proofs.AboveLemmas.{above_based}
 use Rattle.ancestry.proofs.BranchLemmas.{based_forest}

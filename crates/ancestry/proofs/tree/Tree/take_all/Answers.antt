@@ -4,7 +4,7 @@ use Rattle.std.proofs.lemmas.List.Elements.{All-weaker}
 use Rattle.std.proofs.lemmas.Result.{on_ok_weaker}
 use Rattle.version_nodes.specs.Nodes.{Node}
 use Rattle.version_nodes.specs.Trees.{Ancestry, knows, IsForest}
-use Rattle.ancestry.specs.Branches.{learn_all, AreBased}
+use Rattle.version_nodes.specs.Branches.{learn_all, AreBased}
 use Rattle.ancestry.proofs.AncestorLemmas.{Keeps, Course, learn_all_known, learn_all_keeps}
 use Rattle.ancestry.proofs.TakeLemmas.{course_made}
 use Rattle.ancestry.proofs.tree.Tree.take_all.Goals as goal

@@ -2,7 +2,7 @@ use Rattle.std.proofs.Common.{◌≡◌, false, refl, sym, ap, ◌∙◌, subst,
 use Rattle.std.proofs.lemmas.Grind.{common_steps}
 use Rattle.std.specs.Option.{option_flatten}
 use Rattle.version_nodes.specs.Trees.{parent_of, is_parent, IsForest}
-use Rattle.ancestry.specs.Branches.{may_change, Extends}
+use Rattle.version_nodes.specs.Branches.{may_change, Extends}
 use Rattle.ancestry.specs.Kept.{Adds}
 use Rattle.ancestry.proofs.ParentLemmas.{adds_kept}
 use Rattle.ancestry.proofs.TakeLemmas.{branched_empty, branched_long, branched_repeated, branched_taken, taken_takes, refused}

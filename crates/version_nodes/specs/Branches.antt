@@ -9,8 +9,8 @@ use Rattle.std.specs.Option.{option_map_or}
 use Rattle.std.specs.BTreeMap.{insert_entry}
 use Rattle.version_nodes.specs.Nodes.{Node, node_cmp}
 use Rattle.version_nodes.specs.Trees.{Ancestry, has_node, known_at, knows, parent_of, line, is_ancestor}
-use Rattle.ancestry.specs.declared.fault.BranchFault.{BranchFault}
-use Rattle.ancestry.specs.declared.fault.BranchFault.TheVariants.{EmptyBranch, Repeated, Conflict, TooLong, Memory}
+use Rattle.version_nodes.specs.declared.fault.BranchFault.{BranchFault}
+use Rattle.version_nodes.specs.declared.fault.BranchFault.TheVariants.{EmptyBranch, Repeated, Conflict, TooLong, Memory}
 
 -- a node that becomes known has no parent
 abbrev pub learn : Ancestry → Node → Ancestry
