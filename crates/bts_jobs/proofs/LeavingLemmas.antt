@@ -10,7 +10,7 @@ use Rattle.sqlite_std_file.specs.declared.host.Host.{Host}
 use Rattle.sqlite_wal.specs.Files.{image_at}
 use Rattle.sqlite_wal.specs.Reads.{AreClean}
 use Rattle.sqlite_wal.specs.Recovery.{Image}
-use Rattle.desk_http.specs.Stored.{stored}
+use Rattle.desk_answers.specs.Stored.{stored}
 use Rattle.desk_content.specs.Content.{Content}
 use Rattle.desk_tables.specs.Files.{HoldDesk, LeaveDesk}
 use Rattle.desk_tables.specs.declared.desk.TableDesk.{TableDesk}

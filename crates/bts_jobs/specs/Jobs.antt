@@ -31,7 +31,7 @@ use Rattle.desk_http.specs.declared.port.ServerFault.TheVariants.{Bind, Write}
 use Rattle.job_words.specs.declared.job.Job.{Job}
 use Rattle.job_words.specs.declared.job.Job.TheVariants.{Run, Init, Serve, Send}
 use Rattle.desk_http.specs.Serving.{State, IsInTurn, IsServing}
-use Rattle.desk_http.specs.Stored.{stored}
+use Rattle.desk_answers.specs.Stored.{stored}
 use Rattle.desk_store.specs.Kept.{Keeping, none_kept}
 use Rattle.bts_jobs.specs.Endings.{end_of_script, end_of_server, end_of_message}
 use Rattle.desk_lines.specs.Lines.{lines_of, is_feed}

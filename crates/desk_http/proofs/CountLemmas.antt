@@ -3,7 +3,7 @@ use Rattle.std.proofs.Common.{◌≡◌, ℕ, ◌+◌, ◌<◌, ◌≤◌, List,
 use Rattle.desk_lines.specs.declared.store_fault.StoreFault.{StoreFault}
 use Rattle.desk_lines.specs.declared.store_fault.StoreFault.TheVariants.{Memory, Device, Full, Foreign}
 use Rattle.desk_store.specs.Store.{Faults, counted, total}
-use Rattle.desk_http.specs.Faults.{counted_with}
+use Rattle.desk_answers.specs.Faults.{counted_with}
 use Rattle.desk_http.specs.declared.serve.Served.TheVariants.{Answered, Closed}
 use Rattle.desk_http.specs.declared.serve.ServeFault.TheVariants.{Read, Write}
 use Rattle.desk_http.specs.Serving.{Connection, Counts}

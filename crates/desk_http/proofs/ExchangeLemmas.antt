@@ -15,12 +15,12 @@ use Rattle.connection_bytes.proofs.HeadLemmas.{begins-more}
 use Rattle.connection_bytes.proofs.HadLemmas.{had_any, had_then, had_before}
 use Rattle.desk_requests.specs.Answer.{Answer, answer_bytes}
 use Rattle.desk_requests.specs.Requests.{Asked, Always, Once, PostBug, PostControl, PostBranch, GetBug, GetList}
-use Rattle.desk_http.specs.Stored.{Stored}
-use Rattle.desk_http.specs.Repeats.{IsAskedAnswer}
+use Rattle.desk_answers.specs.Stored.{Stored}
+use Rattle.desk_answers.specs.Repeats.{IsAskedAnswer}
 use Rattle.desk_requests.specs.Shown.{shown}
 use Rattle.desk_requests.specs.Steps.{Fails, Gives}
 use Rattle.desk_requests.specs.declared.reply.Reply.{Reply}
-use Rattle.desk_http.proofs.AnswerLemmas.{wants_memory}
+use Rattle.desk_answers.proofs.AnswerLemmas.{wants_memory}
 use Rattle.desk_requests.specs.Asking.{asked_of, bad_request}
 use Rattle.desk_requests.specs.Refused.{refused, IfAsked}
 use Rattle.desk_requests.specs.declared.refusal.Refusal.{Refusal}

@@ -18,14 +18,14 @@ use Rattle.desk_store.specs.Kept.{Keeping, outcomes_kept, outcomes_in, told, lin
 use Rattle.desk_store.specs.Kept.{GoesOn}
 use Rattle.desk_store.specs.declared.kept.Kept.{Kept}
 use Rattle.desk_requests.specs.Answer.{Answer, json_answer}
-use Rattle.desk_http.specs.Answers.{message_json}
-use Rattle.desk_http.specs.Repeats.{id_in_use, is_of_message, answered_resumed, answered_once, IsOnceAnswer}
-use Rattle.desk_http.specs.Stored.{Stored}
+use Rattle.desk_answers.specs.Answers.{message_json}
+use Rattle.desk_answers.specs.Repeats.{id_in_use, is_of_message, answered_resumed, answered_once, IsOnceAnswer}
+use Rattle.desk_answers.specs.Stored.{Stored}
 use Rattle.desk_requests.specs.Shown.{shown}
-use Rattle.desk_http.specs.Cases.{GivesOrFails, AnswersEnd}
+use Rattle.desk_answers.specs.Cases.{GivesOrFails, AnswersEnd}
 use Rattle.desk_requests.specs.Steps.{Fails, Gives}
 use Rattle.desk_requests.specs.declared.reply.Reply.{Reply}
-use Rattle.desk_http.proofs.AnswerLemmas.{pair}
+use Rattle.desk_answers.proofs.AnswerLemmas.{pair}
 
 both : {P Q : Type 0} (a b : Bool) → Decides a P → Decides b Q → Decides (a && b) (P × Q)
 both true true p q = (λ e. (p.0 refl, q.0 refl), λ t. refl)

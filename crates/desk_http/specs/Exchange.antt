@@ -11,9 +11,9 @@ use Rattle.desk_store.specs.Store.{Faults}
 use Rattle.desk_requests.specs.Answer.{Answer, answer_bytes, store_fault}
 use Rattle.desk_requests.specs.Requests.{Asked}
 use Rattle.desk_requests.specs.Told.{IsTold}
-use Rattle.desk_http.specs.Faults.{counted_with}
-use Rattle.desk_http.specs.Repeats.{IsAskedAnswer}
-use Rattle.desk_http.specs.Stored.{Stored}
+use Rattle.desk_answers.specs.Faults.{counted_with}
+use Rattle.desk_answers.specs.Repeats.{IsAskedAnswer}
+use Rattle.desk_answers.specs.Stored.{Stored}
 use Rattle.desk_requests.specs.Asking.{asked_of, bad_request}
 use Rattle.desk_http.specs.declared.serve.Served.{Served}
 use Rattle.desk_http.specs.declared.serve.Served.TheVariants.{Answered, Closed}

@@ -3,10 +3,10 @@ use Rattle.std.specs.Prelude.{ℕ, ◌≡◌, List, [], Option, Some, None, Resu
 use Rattle.desk_store.specs.Store.{Faults}
 use Rattle.desk_requests.specs.Answer.{Answer}
 use Rattle.desk_requests.specs.Told.{IsTold}
-use Rattle.desk_http.specs.Faults.{counted_with}
+use Rattle.desk_answers.specs.Faults.{counted_with}
 use Rattle.desk_requests.specs.Shown.{shown}
 use Rattle.desk_requests.specs.Steps.{Gives}
-use Rattle.desk_http.specs.Stored.{Stored}
+use Rattle.desk_answers.specs.Stored.{Stored}
 use Rattle.desk_requests.specs.declared.reply.Reply.{Reply}
 use Rattle.desk_http.specs.Exchange.{IsRight}
 use Rattle.desk_http.specs.declared.serve.ServeFault.{ServeFault}

@@ -6,7 +6,7 @@ ghost use Rattle.desk_store.specs.Store.{Holds};
 ghost use Rattle.desk_requests.specs.Answer.{answer_bytes};
 ghost use Rattle.desk_requests.specs.Shown.{shown};
 ghost use Rattle.desk_http.specs.Exchange.{IsServed, IsCounted};
-ghost use Rattle.desk_http.specs.Stored.{stored};
+ghost use Rattle.desk_answers.specs.Stored.{stored};
 ghost use Rattle.connection_bytes.specs.Held.{given};
 
 use crate::serve::{ServeFault, Served, exchange};

@@ -1,7 +1,7 @@
 //! Connections, one after another.
 
 ghost use Rattle.desk_store.specs.Store.{Holds};
-ghost use Rattle.desk_http.specs.Stored.{stored};
+ghost use Rattle.desk_answers.specs.Stored.{stored};
 ghost use Rattle.desk_http.specs.Serving.{Leaves, Counts, IsServing};
 
 use crate::connection::serve_within;

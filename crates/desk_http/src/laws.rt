@@ -3,7 +3,7 @@
 
 ghost use Rattle.std.specs.Prelude.{ℕ, List, Option, Some, Result};
 ghost use Rattle.connection_bytes.specs.Found.{HadBytes};
-ghost use Rattle.desk_http.specs.Stored.{Stored};
+ghost use Rattle.desk_answers.specs.Stored.{Stored};
 ghost use Rattle.desk_store.specs.Store.{Faults};
 ghost use Rattle.desk_http.specs.Exchange.{IsServed};
 ghost use Rattle.desk_http.specs.declared.serve.Served.{Served};

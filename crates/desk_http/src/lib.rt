@@ -3,16 +3,12 @@
 #![tactic(auto)]
 
 mod answering;
-mod branches;
 mod connection;
 mod connections;
 mod laws;
-mod lists_and_pages;
 mod messages;
 mod once;
 mod port;
-mod refusals;
-mod reports;
 mod serve;
 
 pub use answering::answer_request;

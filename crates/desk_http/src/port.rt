@@ -2,7 +2,7 @@
 
 ghost use Rattle.std.specs.Prelude.{◌≡◌, Err, OnOk, OnErr};
 ghost use Rattle.std.specs.Io.KnownBytes.{Appends};
-ghost use Rattle.desk_http.specs.Stored.{stored};
+ghost use Rattle.desk_answers.specs.Stored.{stored};
 ghost use Rattle.desk_http.specs.Port.{Serves, place_line};
 ghost use Rattle.desk_http.specs.Serving.{IsServing};
 

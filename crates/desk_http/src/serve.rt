@@ -6,7 +6,7 @@ ghost use Rattle.connection_bytes.specs.Head.{HasNoHead};
 ghost use Rattle.desk_store.specs.Store.{Holds};
 ghost use Rattle.desk_requests.specs.Answer.{answer_bytes};
 ghost use Rattle.desk_requests.specs.Shown.{shown};
-ghost use Rattle.desk_http.specs.Stored.{stored};
+ghost use Rattle.desk_answers.specs.Stored.{stored};
 ghost use Rattle.desk_requests.specs.Asking.{bad_request};
 ghost use Rattle.desk_http.specs.Exchange.{IsServed, IsCounted, TellsFault};
 ghost use Rattle.desk_http.specs.Steps.{IsExchanged, IsExchangeCounted, IsGiven};

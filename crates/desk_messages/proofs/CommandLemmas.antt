@@ -29,12 +29,12 @@ use Rattle.message_progress.specs.Telling.{refusal_meant, result_meant, step_amo
 use Rattle.desk_lines.specs.declared.store_fault.StoreFault.{StoreFault}
 use Rattle.desk_store.specs.Store.{Answers, with_change}
 use Rattle.message_progress.specs.Progress.{HaveNumbers}
-use Rattle.message_progress.specs.Changes.{MayBeMade, Fits}
+use Rattle.plan_images.specs.Changes.{MayBeMade, Fits}
 use Rattle.desk_messages.specs.Commands.{LeavesFirst, Makes, DecidesTold, Decides}
 use Rattle.desk_messages.specs.declared.command_decision.Decision.{Decision}
 use Rattle.message_progress.proofs.RefusalLemmas.{does-good}
-use Rattle.message_progress.specs.Images.{ShowBugs}
-use Rattle.message_progress.specs.PlanInputs.{IsAnswered}
+use Rattle.plan_images.specs.Images.{ShowBugs}
+use Rattle.plan_images.specs.PlanInputs.{IsAnswered}
 
 -- after the two questions
 pub shown : (d d1 : Desk) (images sets : List SetImage) (next : ℕ) (ns : List ℕ) → sets ≡ images → ShowBugs d ns images → d1 ≡ d

@@ -16,7 +16,7 @@ use Rattle.desk_store.specs.Store.{with_change}
 use Rattle.desk_store.specs.Kept.{IsGoodOutcome}
 use Rattle.desk_store.specs.Message.{outcome_of, does}
 use Rattle.message_progress.specs.Telling.{result_meant, step_among}
-use Rattle.message_progress.specs.Changes.{Fits}
+use Rattle.plan_images.specs.Changes.{Fits}
 use Rattle.desk_messages.specs.declared.command_decision.Decision.{Decision}
 
 -- the first image is that of the bug that a command names, whose titles and submitters it leaves

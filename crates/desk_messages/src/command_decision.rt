@@ -16,7 +16,7 @@ ghost use Rattle.desk_store.specs.Store.{Asks, Answers, faults_after};
 ghost use Rattle.message_progress.specs.Known.{AreOfBugs};
 ghost use Rattle.message_progress.specs.Telling.{result_meant, step_among};
 ghost use Rattle.message_progress.specs.Progress.{HaveNumbers};
-ghost use Rattle.message_progress.specs.Changes.{MayBeMade, Fits};
+ghost use Rattle.plan_images.specs.Changes.{MayBeMade, Fits};
 ghost use Rattle.desk_messages.specs.Commands.{LeavesFirst, Makes, DecidesTold, Decides};
 ghost use Rattle.set_images.specs.Alike.{BeginAlike};
 ghost use Rattle.desk_store.specs.Message.{names_of};
@@ -27,9 +27,9 @@ use desk_lines::StoreFault;
 use desk_store::Records;
 use line_words::Named;
 use message_progress::{
-    KnownNames, ask, command_told, name_refusal, names_in, note_names, refusal_meant, with_names,
-    written,
+    KnownNames, command_told, name_refusal, names_in, note_names, refusal_meant, with_names,
 };
+use plan_images::{ask, written};
 use record_changes::leaves_members;
 use set_images::{bug_named, changed_fields};
 use std::alloc::{AllocError, Global};

@@ -5,7 +5,7 @@ ghost use Rattle.line_words.specs.Texts.{IsText};
 ghost use Rattle.desk_store.specs.Store.{Holds, with_change, faults_after, faults_after_end};
 ghost use Rattle.desk_store.specs.Message.{unreadable_count, end_of, known_names, machine, takes, IsReceived};
 ghost use Rattle.message_progress.specs.Progress.{HaveNumbers};
-ghost use Rattle.message_progress.specs.Changes.{Fits};
+ghost use Rattle.plan_images.specs.Changes.{Fits};
 ghost use Rattle.message_progress.specs.Progress.{IsInStep};
 ghost use Rattle.desk_messages.specs.Taking.{TakesLine, HasMembers, CarriesOut};
 ghost use Rattle.desk_lines.specs.Lines.{lines_of};

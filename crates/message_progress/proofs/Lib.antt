@@ -4,7 +4,4 @@ pub mod ToldLemmas
 pub mod StepLemmas
 pub mod RefusalLemmas
 pub mod GivenLemmas
-pub mod WrittenLemmas
-pub mod GatherLemmas
-pub mod PlanInputLemmas
 pub mod EndLemmas

@@ -1,6 +1,6 @@
 use Rattle.std.proofs.Common.{subst}
 use Rattle.desk_http.proofs.RepeatLemmas.{stored_same}
-use Rattle.desk_http.specs.Stored.{Stored}
+use Rattle.desk_answers.specs.Stored.{Stored}
 use Rattle.desk_in_memory.specs.KeptMessages.{keeping_of}
 use Rattle.desk_store.specs.Store.{no_faults}
 use Rattle.bugs_in_memory.specs.Plain.{desk_of}

@@ -1,7 +1,7 @@
 use Rattle.std.proofs.Common.{[], ◌∷◌, ◌++◌, refl}
 use Rattle.desk_store.specs.Store.{total}
 use Rattle.desk_store.proofs.HoldsLemmas.{holds_none, holds_then}
-use Rattle.desk_http.specs.Stored.{stored}
+use Rattle.desk_answers.specs.Stored.{stored}
 use Rattle.desk_http.specs.Serving.{InTurn, Leaves, Counts}
 use Rattle.desk_http.proofs.CountLemmas.{connection_grows, stays_same, has_risen, one_longer, within_count, all_served}
 use Rattle.desk_http.proofs.ServingLemmas.{one_more}

@@ -1,6 +1,6 @@
 use Rattle.std.proofs.Common.{◌≡◌, List, length}
 use Rattle.desk_store.specs.Store.{Holds, total}
-use Rattle.desk_http.specs.Stored.{stored}
+use Rattle.desk_answers.specs.Stored.{stored}
 use Rattle.desk_http.specs.Serving.{Connection, Leaves, Counts, InTurn}
 use Rattle.desk_http.proofs.connections.serve_connections.Given as goal
 

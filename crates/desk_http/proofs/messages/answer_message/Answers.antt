@@ -3,10 +3,10 @@ use Rattle.desk_lines.specs.Lines.{lines_of}
 use Rattle.desk_store.specs.Message.{IsReceived}
 use Rattle.desk_store.proofs.HoldsLemmas.{holds_weaker}
 use Rattle.desk_requests.specs.Requests.{PostControl}
-use Rattle.desk_http.specs.Faults.{IsAnswer}
+use Rattle.desk_answers.specs.Faults.{IsAnswer}
 use Rattle.desk_requests.specs.Shown.{shown}
-use Rattle.desk_http.specs.Cases.{AnswersEnd}
-use Rattle.desk_http.proofs.MessageLemmas.{message_right}
+use Rattle.desk_answers.specs.Cases.{AnswersEnd}
+use Rattle.desk_answers.proofs.MessageLemmas.{message_right}
 use Rattle.desk_http.proofs.messages.answer_message.Goals as goal
 
 pub returns-clause-answer : goal.returns-clause-answer

@@ -3,9 +3,9 @@ use Rattle.desk_lines.specs.Lines.{lines_of}
 use Rattle.desk_store.specs.Store.{Holds}
 use Rattle.desk_store.proofs.HoldsLemmas.{holds_weaker}
 use Rattle.desk_messages.specs.Once.{IsOnce}
-use Rattle.desk_http.specs.Cases.{AnswersEnd}
+use Rattle.desk_answers.specs.Cases.{AnswersEnd}
 use Rattle.desk_requests.specs.Shown.{message_asked}
-use Rattle.desk_http.specs.Stored.{stored}
+use Rattle.desk_answers.specs.Stored.{stored}
 use Rattle.desk_http.proofs.RepeatLemmas.{once_right}
 use Rattle.desk_http.proofs.once.answer_once.Goals as goal
 

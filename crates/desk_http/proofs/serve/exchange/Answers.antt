@@ -4,9 +4,9 @@ use Rattle.desk_lines.specs.declared.store_fault.StoreFault.TheVariants.{Memory}
 use Rattle.connection_bytes.specs.Found.{IsFound}
 use Rattle.connection_bytes.specs.declared.head.Head.{Head}
 use Rattle.desk_store.proofs.HoldsLemmas.{holds_none, holds_weaker}
-use Rattle.desk_http.specs.Faults.{counted_with}
+use Rattle.desk_answers.specs.Faults.{counted_with}
 use Rattle.desk_requests.specs.Shown.{asked, shown}
-use Rattle.desk_http.specs.Stored.{stored}
+use Rattle.desk_answers.specs.Stored.{stored}
 use Rattle.desk_requests.specs.Refused.{refused}
 use Rattle.desk_requests.specs.Steps.{Gives}
 use Rattle.desk_requests.specs.declared.refusal.Refusal.{Refusal}

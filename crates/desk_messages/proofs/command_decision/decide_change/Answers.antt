@@ -5,10 +5,10 @@ use Rattle.bug_record.specs.Changed.{AreChanged}
 use Rattle.bug_record.specs.declared.command.Change.{Change}
 use Rattle.bug_record.specs.declared.bug.SetImage.{SetImage}
 use Rattle.set_images.specs.Alike.{BeginAlike}
-use Rattle.message_progress.specs.Written.{written}
+use Rattle.plan_images.specs.Written.{written}
 use Rattle.desk_store.specs.Store.{with_change}
 use Rattle.desk_messages.proofs.CommandLemmas.{nothing, unchanged, told, no_change}
-use Rattle.message_progress.proofs.WrittenLemmas.{apart-written, members-written, put-written, fits-written}
+use Rattle.plan_images.proofs.WrittenLemmas.{apart-written, members-written, put-written, fits-written}
 use Rattle.desk_messages.proofs.command_decision.decide_change.Goals as goal
 
 pub returns-then-change-next-clause-made : goal.returns-then-change-next-clause-made

@@ -1,7 +1,7 @@
 use Rattle.std.proofs.Common.{◌++◌, ap, ◌∙◌}
 use Rattle.std.proofs.lemmas.Result.{IfOk-weaker}
 use Rattle.desk_store.specs.Message.{names_of}
-use Rattle.message_progress.proofs.PlanInputLemmas.{asks_where, answers_weaker}
+use Rattle.plan_images.proofs.PlanInputLemmas.{asks_where, answers_weaker}
 use Rattle.desk_messages.proofs.CommandLemmas.{decides_told, fits_now}
 use Rattle.message_progress.proofs.GivenLemmas.{of_bugs, have-more}
 use Rattle.desk_messages.proofs.command_decision.decide_command.Goals as goal

@@ -4,7 +4,7 @@ use Rattle.bug_record.specs.Images.{AreApart, HasMember, FitsDesk}
 use Rattle.bug_record.specs.Plans.{CoverImages, BringNone}
 use Rattle.bug_record.specs.declared.command.Change.{Change}
 use Rattle.message_progress.specs.Telling.{refusal_meant}
-use Rattle.message_progress.proofs.PlanInputLemmas.{asks_both, asks_where, answers_where}
+use Rattle.plan_images.proofs.PlanInputLemmas.{asks_both, asks_where, answers_where}
 use Rattle.set_images.specs.Alike.{BeginAlike}
 use Rattle.desk_messages.proofs.CommandLemmas.{begins-with, shown_with, planned, if_planned, decides_planned, decides_refused}
 use Rattle.desk_messages.proofs.command_decision.decide_told.Goals as goal

@@ -1,0 +1,4 @@
+pub mod AnswerLemmas
+pub mod AskedLemmas
+pub mod MessageLemmas
+pub mod NodesLemmas

@@ -1,0 +1,3 @@
+pub mod WrittenLemmas
+pub mod GatherLemmas
+pub mod PlanInputLemmas

@@ -1,0 +1,4 @@
+pub mod Images
+pub mod PlanInputs
+pub mod Changes
+pub mod Written
