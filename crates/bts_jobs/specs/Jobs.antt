@@ -36,7 +36,7 @@ use Rattle.desk_store.specs.Kept.{Keeping, none_kept}
 use Rattle.bts_jobs.specs.Endings.{end_of_script, end_of_server, end_of_message}
 use Rattle.desk_lines.specs.Lines.{lines_of, is_feed}
 use Rattle.line_words.specs.Ids.{IsId}
-use Rattle.message_progress.specs.declared.outcomes_so_far.Received.{Received}
+use Rattle.desk_store.specs.declared.outcomes_so_far.Received.{Received}
 use Rattle.desk_messages.specs.Once.{IsOnce, faults_after_once}
 use Rattle.desk_messages.specs.declared.once.OnceFault.{OnceFault}
 use Rattle.desk_messages.specs.declared.once.OnceFault.TheVariants.{BadId, Reused, Store as StoreFailed}

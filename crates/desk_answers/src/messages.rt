@@ -16,7 +16,7 @@ use desk_directives::received_bytes;
 use desk_lines::{End, StoreFault, split_lines};
 use desk_requests::{Body, Reply, json_reply, store_fault};
 use http::StatusCode;
-use message_progress::Received;
+use desk_store::Received;
 use routes_and_json::control_json;
 use std::alloc::{AllocError, Global};
 

@@ -1,15 +1,20 @@
-//! Runs the examples that lie in its folders of data, scripts and exchanges, and prints what comes
-//! of them, and of the calls that crates' pages begin with.
+//! Runs the examples that lie in its folders of data: scripts, exchanges, and messages that are sent
+//! again; and prints what comes of them, and of the calls that crates' pages begin with.
 #![tactic(auto)]
 
 mod answers;
+mod attempt;
 mod exchange;
 mod exchange_lines;
 mod exchanges;
 mod first_calls;
 mod header;
+mod plan;
 mod requests;
 mod scripts;
+mod sending;
+mod sends;
+mod stops;
 
 use std::{fs, io};
 
@@ -22,6 +27,8 @@ fn run_file(rt: &HostRuntime, name: &str) -> io::Result<()> {
     match folder {
         "exchanges" => exchanges::run_file(rt, fs::read_to_string(rt, name)?.as_str()),
         "scripts" => scripts::run_file(rt, &fs::read(rt, name)?),
+        "sends" => sends::run_file(rt, fs::read_to_string(rt, name)?.as_str()),
+        "stops" => stops::run_file(rt, fs::read_to_string(rt, name)?.as_str()),
         _ => println!(rt; "-- no folder of examples"),
     }
 }

@@ -8,7 +8,7 @@ use Rattle.std.specs.Str.{bytes_eq}
 use Rattle.bug_record.specs.Desk.{Desk}
 use Rattle.routes_and_json.specs.Members.{Control}
 use Rattle.desk_lines.specs.Lines.{lines_of}
-use Rattle.message_progress.specs.declared.outcomes_so_far.Received.{Received}
+use Rattle.desk_store.specs.declared.outcomes_so_far.Received.{Received}
 use Rattle.desk_messages.specs.Once.{IsOnce}
 use Rattle.desk_lines.specs.declared.store_fault.StoreFault.{StoreFault}
 use Rattle.desk_lines.specs.declared.store_fault.End.{End}

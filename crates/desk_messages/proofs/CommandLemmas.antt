@@ -25,14 +25,14 @@ use Rattle.bug_record.specs.declared.command.Refusal.{Refusal}
 use Rattle.line_words.specs.declared.named.Named.{Named}
 use Rattle.bug_record.specs.declared.outcome.Outcome.TheVariants.{Changed, Refused}
 use Rattle.desk_store.specs.Message.{outcome_of, does}
-use Rattle.message_progress.specs.Telling.{refusal_meant, result_meant, step_among}
+use Rattle.desk_store.specs.Telling.{refusal_meant, result_meant, step_among}
 use Rattle.desk_lines.specs.declared.store_fault.StoreFault.{StoreFault}
 use Rattle.desk_store.specs.Store.{Answers, with_change}
-use Rattle.message_progress.specs.Progress.{HaveNumbers}
+use Rattle.desk_store.specs.Progress.{HaveNumbers}
 use Rattle.plan_images.specs.Changes.{MayBeMade, Fits}
 use Rattle.desk_messages.specs.Commands.{LeavesFirst, Makes, DecidesTold, Decides}
 use Rattle.desk_messages.specs.declared.command_decision.Decision.{Decision}
-use Rattle.message_progress.proofs.RefusalLemmas.{does-good}
+use Rattle.desk_store.proofs.RefusalLemmas.{does-good}
 use Rattle.plan_images.specs.Images.{ShowBugs}
 use Rattle.plan_images.specs.PlanInputs.{IsAnswered}
 

@@ -9,8 +9,8 @@ use Rattle.desk_lines.specs.declared.store_fault.End.TheVariants as ends
 use Rattle.desk_lines.specs.declared.store_fault.StoreFault.{StoreFault}
 use Rattle.command_grammar.specs.Lines.{reading}
 use Rattle.desk_lines.specs.Lines.{lines_of}
-use Rattle.message_progress.specs.Progress.{HaveNumbers}
-use Rattle.message_progress.proofs.EndLemmas.{never_store}
+use Rattle.desk_store.specs.Progress.{HaveNumbers}
+use Rattle.desk_store.proofs.EndLemmas.{never_store}
 use Rattle.desk_messages.specs.Taking.{IsDecision}
 use Rattle.desk_messages.specs.declared.command_decision.Decision.{Decision}
 use Rattle.desk_store.specs.Crashes.{Holding}

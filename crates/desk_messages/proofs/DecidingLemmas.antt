@@ -21,13 +21,13 @@ use Rattle.desk_lines.specs.declared.store_fault.StoreFault.{StoreFault}
 use Rattle.desk_store.specs.Store.{Answers}
 use Rattle.desk_store.specs.Kept.{IsGoodOutcome}
 use Rattle.desk_store.specs.Message.{Entry, machine, takes, does, with_outcome, names_given, names_of, known_names, unreadable_count, end_of}
-use Rattle.message_progress.specs.Progress.{HaveNumbers}
+use Rattle.desk_store.specs.Progress.{HaveNumbers}
 use Rattle.desk_messages.specs.Commands.{Decides}
-use Rattle.message_progress.specs.Progress.{IsInStep, IsReady}
+use Rattle.desk_store.specs.Progress.{IsInStep, IsReady}
 use Rattle.desk_messages.specs.Taking.{IsDecision, DecidesLine, FitsDecided, plainly}
 use Rattle.desk_messages.specs.declared.command_decision.Decision.{Decision}
-use Rattle.message_progress.proofs.GivenLemmas.{known-push, known-same, given-of}
-use Rattle.message_progress.proofs.RefusalLemmas.{line-good}
+use Rattle.desk_store.proofs.GivenLemmas.{known-push, known-same, given-of}
+use Rattle.desk_store.proofs.RefusalLemmas.{line-good}
 
 -- ---- what is ready for an outcome
 

@@ -13,12 +13,12 @@ use Rattle.command_grammar.specs.declared.line.Line.{Line}
 use Rattle.command_grammar.specs.declared.line.Line.TheVariants.{Blank, Comment, Stop, Do}
 use Rattle.desk_lines.specs.Lines.{lines_of}
 use Rattle.line_words.specs.Ids.{IsId}
-use Rattle.message_progress.specs.Progress.{HaveNumbers}
-use Rattle.message_progress.specs.Progress.{goes_on}
+use Rattle.desk_store.specs.Progress.{HaveNumbers}
+use Rattle.desk_store.specs.Progress.{goes_on}
 use Rattle.desk_messages.specs.Taking.{IsDecision}
 use Rattle.desk_messages.specs.declared.command_decision.Decision.{Decision}
 use Rattle.desk_messages.proofs.MachineLemmas.{after_append, after_ended}
-use Rattle.message_progress.proofs.EndLemmas.{never_store}
+use Rattle.desk_store.proofs.EndLemmas.{never_store}
 use Rattle.desk_store.specs.Store.{Holds, MayBeKept, with_change}
 use Rattle.desk_store.proofs.HoldsLemmas.{holds_then, holds_both}
 use Rattle.bug_record.specs.declared.outcome.Outcome.{Outcome}

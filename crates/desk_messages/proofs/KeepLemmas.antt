@@ -17,9 +17,9 @@ use Rattle.desk_store.specs.Message.{Entry, end_of, names_with, names_given, kno
 use Rattle.desk_store.specs.Kept.{Keeping, lines_told, told, outcomes_in, outcomes_kept, IsOfMessage, kept_with, kept_also}
 use Rattle.desk_store.specs.Kept.{IsGoodKept, IsGoodOutcome, GiveNames}
 use Rattle.desk_store.specs.declared.kept.Kept.{Kept}
-use Rattle.message_progress.specs.Progress.{HaveNumbers}
-use Rattle.message_progress.proofs.EndLemmas.{at_start_open}
-use Rattle.message_progress.proofs.GivenLemmas.{append-each, given-numbers}
+use Rattle.desk_store.specs.Progress.{HaveNumbers}
+use Rattle.desk_store.proofs.EndLemmas.{at_start_open}
+use Rattle.desk_store.proofs.GivenLemmas.{append-each, given-numbers}
 use Rattle.desk_messages.specs.GoingOn.{IsBegun, KeepsOn}
 use Rattle.message_recall.specs.Recalling.{AreOfLines}
 use Rattle.message_recall.proofs.ToldLemmas.{zip-none}

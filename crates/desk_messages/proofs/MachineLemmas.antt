@@ -10,13 +10,13 @@ use Rattle.desk_lines.specs.declared.store_fault.End.TheVariants as ends
 use Rattle.desk_store.specs.Store.{Faults, faults_after_end, with_change}
 use Rattle.desk_store.specs.Message.{Entry, Machine, machine, after_lines, at_start, takes, takes_at, end_of}
 use Rattle.desk_store.specs.Message.{Comes, IsReceived}
-use Rattle.message_progress.specs.Progress.{HaveNumbers}
-use Rattle.message_progress.specs.Progress.{goes_on}
+use Rattle.desk_store.specs.Progress.{HaveNumbers}
+use Rattle.desk_store.specs.Progress.{goes_on}
 use Rattle.desk_messages.specs.Taking.{IsDecision}
 use Rattle.desk_messages.specs.declared.command_decision.Decision.{Decision}
 use Rattle.desk_store.specs.Tried.{tried_at}
 use Rattle.desk_messages.specs.Ends.{IsLineOf}
-use Rattle.message_progress.proofs.EndLemmas.{never_store, at_start_open}
+use Rattle.desk_store.proofs.EndLemmas.{never_store, at_start_open}
 
 -- a decision carried out
 pub took_decision : (sender line text : List ℕ) (d d1 new : Desk) (before room after : List Entry) (named later : Names)

@@ -3,7 +3,7 @@ use Rattle.std.proofs.Common.{◌≡◌, ℕ, false, List, Option, sym, ap, subs
 use Rattle.bug_record.specs.Desk.{Desk}
 use Rattle.bug_record.specs.Words.{Names}
 use Rattle.desk_lines.specs.Lines.{lines_of}
-use Rattle.message_progress.specs.Progress.{goes_on}
+use Rattle.desk_store.specs.Progress.{goes_on}
 use Rattle.desk_messages.proofs.MachineLemmas.{after_ended}
 use Rattle.bug_record.specs.declared.outcome.Outcome.{Outcome}
 use Rattle.desk_lines.specs.declared.store_fault.End.{End}

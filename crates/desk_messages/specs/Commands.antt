@@ -15,7 +15,7 @@ use Rattle.bug_record.specs.declared.outcome.Outcome.TheVariants.{Changed}
 use Rattle.desk_store.specs.Store.{with_change}
 use Rattle.desk_store.specs.Kept.{IsGoodOutcome}
 use Rattle.desk_store.specs.Message.{outcome_of, does}
-use Rattle.message_progress.specs.Telling.{result_meant, step_among}
+use Rattle.desk_store.specs.Telling.{result_meant, step_among}
 use Rattle.plan_images.specs.Changes.{Fits}
 use Rattle.desk_messages.specs.declared.command_decision.Decision.{Decision}
 

@@ -6,7 +6,7 @@ use Rattle.desk_lines.specs.declared.store_fault.End.{End}
 use Rattle.desk_lines.specs.declared.store_fault.End.TheVariants.{All, Stopped, TooManyUnreadable, Store}
 use Rattle.bug_record.specs.declared.outcome.Outcome.{Outcome}
 use Rattle.desk_lines.specs.Lines.{lines_of}
-use Rattle.message_progress.specs.declared.outcomes_so_far.Received.{Received}
+use Rattle.desk_store.specs.declared.outcomes_so_far.Received.{Received}
 use Rattle.desk_store.specs.Crashes.{Holding}
 use Rattle.desk_store.specs.Kept.{Keeping, lines_told, told, outcomes_in, outcomes_kept, kept_with}
 use Rattle.desk_store.specs.Message.{Machine, machine, after_lines}

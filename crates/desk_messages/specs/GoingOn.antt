@@ -4,7 +4,7 @@ use Rattle.bug_record.specs.Desk.{Desk}
 use Rattle.bug_record.specs.Words.{Names}
 use Rattle.command_grammar.specs.Lines.{reading}
 use Rattle.desk_lines.specs.Lines.{lines_of}
-use Rattle.message_progress.specs.Progress.{HaveNumbers}
+use Rattle.desk_store.specs.Progress.{HaveNumbers}
 use Rattle.desk_lines.specs.declared.store_fault.End.{End}
 use Rattle.desk_lines.specs.declared.store_fault.StoreFault.{StoreFault}
 use Rattle.desk_store.specs.Crashes.{Holding}

@@ -4,7 +4,7 @@
 use Rattle.std.specs.Prelude.{ℕ, ◌≡◌, false, List, Result, Ok, Err}
 use Rattle.bug_record.specs.Desk.{Desk}
 use Rattle.desk_lines.specs.Lines.{lines_of}
-use Rattle.message_progress.specs.declared.outcomes_so_far.Received.{Received}
+use Rattle.desk_store.specs.declared.outcomes_so_far.Received.{Received}
 use Rattle.desk_store.specs.Store.{Faults, counted, faults_after_end}
 use Rattle.line_words.specs.Ids.{is_id, IsId}
 use Rattle.desk_store.specs.Kept.{Keeping, IsOfMessage, IsResumed, outcomes_kept, outcomes_in, kept_with}

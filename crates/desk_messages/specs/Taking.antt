@@ -14,7 +14,7 @@ use Rattle.desk_lines.specs.declared.store_fault.End.TheVariants as ends
 use Rattle.desk_store.specs.Store.{with_change}
 use Rattle.desk_store.specs.Kept.{IsGoodOutcome}
 use Rattle.desk_store.specs.Message.{Entry, machine, takes, end_of, unreadable_count, known_names}
-use Rattle.message_progress.specs.Progress.{HaveNumbers, IsInStep, IsReady}
+use Rattle.desk_store.specs.Progress.{HaveNumbers, IsInStep, IsReady}
 use Rattle.plan_images.specs.Changes.{Fits}
 use Rattle.desk_messages.specs.declared.command_decision.Decision.{Decision}
 

@@ -13,9 +13,9 @@ ghost use Rattle.bug_record.specs.Words.{Names};
 ghost use Rattle.line_words.specs.Bugs.{IsGoodBug};
 ghost use Rattle.line_words.specs.Numbers.{IsGoodNumber};
 ghost use Rattle.desk_store.specs.Store.{Asks, Answers, faults_after};
-ghost use Rattle.message_progress.specs.Known.{AreOfBugs};
-ghost use Rattle.message_progress.specs.Telling.{result_meant, step_among};
-ghost use Rattle.message_progress.specs.Progress.{HaveNumbers};
+ghost use Rattle.desk_store.specs.Known.{AreOfBugs};
+ghost use Rattle.desk_store.specs.Telling.{result_meant, step_among};
+ghost use Rattle.desk_store.specs.Progress.{HaveNumbers};
 ghost use Rattle.plan_images.specs.Changes.{MayBeMade, Fits};
 ghost use Rattle.desk_messages.specs.Commands.{LeavesFirst, Makes, DecidesTold, Decides};
 ghost use Rattle.set_images.specs.Alike.{BeginAlike};
@@ -24,11 +24,8 @@ ghost use Rattle.desk_store.specs.Message.{names_of};
 use bug_core::{changed, plan};
 use bug_record::{Change, Command, Numbers, Outcome, PlanFault, Refusal, SetImage, VersionArg};
 use desk_lines::StoreFault;
-use desk_store::Records;
+use desk_store::{KnownNames, Records, command_told, name_refusal, names_in, note_names, refusal_meant, with_names};
 use line_words::Named;
-use message_progress::{
-    KnownNames, command_told, name_refusal, names_in, note_names, refusal_meant, with_names,
-};
 use plan_images::{ask, written};
 use record_changes::leaves_members;
 use set_images::{bug_named, changed_fields};

@@ -7,7 +7,7 @@ ghost use Rattle.desk_store.specs.Store.{Holds, Since, faults_after, faults_afte
 ghost use Rattle.line_words.specs.Ids.{IsId};
 ghost use Rattle.desk_store.specs.Kept.{has_outcome, lines_told};
 ghost use Rattle.desk_store.specs.Message.{end_of, unreadable_count, known_names};
-ghost use Rattle.message_progress.specs.Progress.{IsInStep};
+ghost use Rattle.desk_store.specs.Progress.{IsInStep};
 ghost use Rattle.desk_messages.specs.Ends.{IsLineOf};
 ghost use Rattle.desk_messages.specs.GoingOn.{IsBegun, TakesOnce, LeavesLine, Resumes};
 ghost use Rattle.desk_messages.specs.Crashes.{LeavesTried, tried_once};
@@ -15,8 +15,7 @@ ghost use Rattle.desk_messages.specs.Crashes.{LeavesTried, tried_once};
 use crate::line_decision::decide_line;
 use debver::Text;
 use desk_lines::{End, StoreFault};
-use desk_store::Records;
-use message_progress::{Progress, Received, goes_on, settle};
+use desk_store::{Progress, Received, Records, goes_on, settle};
 use message_recall::Recalled;
 use std::alloc::Global;
 

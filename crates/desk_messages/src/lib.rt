@@ -12,5 +12,5 @@ mod once;
 pub use command_decision::Decision;
 pub use line_decision::decide_line;
 pub use message::{receive, receive_lines};
-pub use message_progress::{Progress, Received, goes_on, make_room, settle};
+pub use desk_store::{Progress, Received, goes_on, make_room, settle};
 pub use once::{OnceFault, receive_once};

@@ -11,8 +11,8 @@ ghost use Rattle.command_grammar.specs.declared.line.Line.TheVariants.{Do};
 ghost use Rattle.desk_store.specs.Store.{Asks, Answers, faults_after};
 ghost use Rattle.desk_store.specs.Message.{names_given};
 ghost use Rattle.desk_store.specs.Kept.{has_outcome};
-ghost use Rattle.message_progress.specs.Progress.{HaveNumbers};
-ghost use Rattle.message_progress.specs.Progress.{IsInStep};
+ghost use Rattle.desk_store.specs.Progress.{HaveNumbers};
+ghost use Rattle.desk_store.specs.Progress.{IsInStep};
 ghost use Rattle.desk_messages.specs.Taking.{IsReadyFor, DecidesLine, FitsDecided, HasMembers, plainly};
 
 use crate::command_decision::{Decision, decide_command, without_change};
@@ -21,9 +21,8 @@ use command_grammar::Line;
 use command_parser::{LineFault, read_line};
 use debver::Text;
 use desk_lines::StoreFault;
-use desk_store::Records;
+use desk_store::{Progress, Records, make_room};
 use line_words::Named;
-use message_progress::{Progress, make_room};
 use std::alloc::Global;
 
 // Decides a line with an outcome that makes no change and gives no name.

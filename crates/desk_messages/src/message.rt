@@ -4,9 +4,9 @@ ghost use Rattle.std.specs.Prelude.{◌≡◌, IfOk, OnOk, OnErr};
 ghost use Rattle.line_words.specs.Texts.{IsText};
 ghost use Rattle.desk_store.specs.Store.{Holds, with_change, faults_after, faults_after_end};
 ghost use Rattle.desk_store.specs.Message.{unreadable_count, end_of, known_names, machine, takes, IsReceived};
-ghost use Rattle.message_progress.specs.Progress.{HaveNumbers};
+ghost use Rattle.desk_store.specs.Progress.{HaveNumbers};
 ghost use Rattle.plan_images.specs.Changes.{Fits};
-ghost use Rattle.message_progress.specs.Progress.{IsInStep};
+ghost use Rattle.desk_store.specs.Progress.{IsInStep};
 ghost use Rattle.desk_messages.specs.Taking.{TakesLine, HasMembers, CarriesOut};
 ghost use Rattle.desk_lines.specs.Lines.{lines_of};
 ghost use Rattle.desk_messages.specs.Ends.{IsLineOf};
@@ -17,8 +17,7 @@ use crate::line_decision::decide_line;
 use bug_record::{Change, Outcome, Sequence};
 use debver::Text;
 use desk_lines::{End, StoreFault, split_lines};
-use desk_store::Records;
-use message_progress::{Progress, Received, goes_on, settle};
+use desk_store::{Progress, Received, Records, goes_on, settle};
 use std::alloc::Global;
 
 // Carries a change out, if there is one.

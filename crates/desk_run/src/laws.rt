@@ -5,7 +5,7 @@ ghost use Rattle.std.specs.Prelude.{Ok, Err};
 ghost use Rattle.bug_record.specs.Desk.{Desk};
 ghost use Rattle.bug_record.specs.declared.command.Change.{Change};
 ghost use Rattle.bug_record.specs.declared.outcome.Outcome.{Outcome};
-ghost use Rattle.message_progress.specs.declared.outcomes_so_far.Received.{Received};
+ghost use Rattle.desk_store.specs.declared.outcomes_so_far.Received.{Received};
 ghost use Rattle.desk_messages.specs.Once.{IsOnce};
 ghost use Rattle.desk_messages.specs.declared.once.OnceFault.{OnceFault};
 ghost use Rattle.desk_store.specs.Store.{MayBeKept, with_change};

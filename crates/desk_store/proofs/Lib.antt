@@ -4,3 +4,10 @@ pub mod NameLemmas
 pub mod KeepLemmas
 pub mod KeptProp
 pub mod TriedLemmas
+pub mod KnownLemmas
+pub mod OverLemmas
+pub mod ToldLemmas
+pub mod StepLemmas
+pub mod RefusalLemmas
+pub mod GivenLemmas
+pub mod EndLemmas

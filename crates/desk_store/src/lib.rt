@@ -1,12 +1,24 @@
 //! A store of a desk: the machine that takes a message's lines one at a time, what is kept of
 //! messages that have an id, and what every store says of its content.
+//! And what has come of a message so far, with the names that it gives to copies of bugs; commands
+//! over names as commands over numbers.
 #![tactic(auto)]
 
+mod giving;
 mod kept;
+mod known;
 mod laws;
+mod outcomes_so_far;
 mod records;
+mod refusals;
+mod telling;
 
+pub use giving::{into_names, name_refusal, note_names};
 pub use kept::{Kept, copy_outcome};
+pub use known::KnownNames;
 pub use laws::{faults_rise_by_one, names_stand_for_copies};
 pub use line_words::is_id;
+pub use outcomes_so_far::{Progress, Received, goes_on, make_room, settle};
 pub use records::Records;
+pub use refusals::{refusal_meant, with_names};
+pub use telling::{command_told, names_in};

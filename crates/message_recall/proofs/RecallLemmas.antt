@@ -20,9 +20,9 @@ use Rattle.desk_lines.specs.declared.store_fault.End.{End}
 use Rattle.desk_lines.specs.declared.store_fault.End.TheVariants as ends
 use Rattle.desk_store.specs.Message.{Entry, is_stop, is_unreadable, unreadable_count, end_of, names_of, names_with, names_given, known_names}
 use Rattle.desk_store.specs.Kept.{has_outcome, reads_as_command, lines_told, told, names_by, new_names, GiveNames}
-use Rattle.message_progress.proofs.EndLemmas.{stops, open_tests, end_is}
-use Rattle.message_progress.specs.Progress.{goes_on, IsInStep, IsReady}
-use Rattle.message_progress.proofs.GivenLemmas.{known-push}
+use Rattle.desk_store.proofs.EndLemmas.{stops, open_tests, end_is}
+use Rattle.desk_store.specs.Progress.{goes_on, IsInStep, IsReady}
+use Rattle.desk_store.proofs.GivenLemmas.{known-push}
 use Rattle.message_recall.specs.NamesRead.{names_read, names_accepted}
 use Rattle.message_recall.specs.Recalling.{AreOfLines, IsTaken}
 use Rattle.message_recall.proofs.ToldLemmas.{zip-append, zip-take, zip-push, zip-length, line-told, line-untold, one_told, lines-split, lines-more, told-more}

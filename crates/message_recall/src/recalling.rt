@@ -5,7 +5,7 @@ ghost use Rattle.bug_record.specs.Clones.{name_refusal};
 ghost use Rattle.command_grammar.specs.Lines.{reading};
 ghost use Rattle.desk_store.specs.Message.{end_of, unreadable_count, known_names, names_of};
 ghost use Rattle.desk_store.specs.Kept.{has_outcome, told, new_names};
-ghost use Rattle.message_progress.specs.Progress.{IsInStep};
+ghost use Rattle.desk_store.specs.Progress.{IsInStep};
 ghost use Rattle.message_recall.specs.NamesRead.{names_read, names_accepted};
 ghost use Rattle.message_recall.specs.Recalling.{AreOfLines, IsTaken};
 
@@ -14,8 +14,7 @@ use command_grammar::Line;
 use command_parser::{LineFault, read_line};
 use debver::Text;
 use desk_lines::End;
-use desk_store::copy_outcome;
-use message_progress::{KnownNames, Progress, goes_on, into_names, make_room, settle};
+use desk_store::{KnownNames, Progress, copy_outcome, goes_on, into_names, make_room, settle};
 use std::alloc::{AllocError, Global};
 use thiserror::Error;
 

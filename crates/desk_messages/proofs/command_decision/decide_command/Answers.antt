@@ -3,7 +3,7 @@ use Rattle.std.proofs.lemmas.Result.{IfOk-weaker}
 use Rattle.desk_store.specs.Message.{names_of}
 use Rattle.plan_images.proofs.PlanInputLemmas.{asks_where, answers_weaker}
 use Rattle.desk_messages.proofs.CommandLemmas.{decides_told, fits_now}
-use Rattle.message_progress.proofs.GivenLemmas.{of_bugs, have-more}
+use Rattle.desk_store.proofs.GivenLemmas.{of_bugs, have-more}
 use Rattle.desk_messages.proofs.command_decision.decide_command.Goals as goal
 
 pub returns-in-Ok-clause-answer : goal.returns-in-Ok-clause-answer

@@ -3,7 +3,7 @@ use Rattle.bug_record.specs.Sets.{Each}
 use Rattle.bug_record.specs.Images.{AreApart, HasMember, FitsDesk}
 use Rattle.bug_record.specs.Plans.{CoverImages, BringNone}
 use Rattle.bug_record.specs.declared.command.Change.{Change}
-use Rattle.message_progress.specs.Telling.{refusal_meant}
+use Rattle.desk_store.specs.Telling.{refusal_meant}
 use Rattle.plan_images.proofs.PlanInputLemmas.{asks_both, asks_where, answers_where}
 use Rattle.set_images.specs.Alike.{BeginAlike}
 use Rattle.desk_messages.proofs.CommandLemmas.{begins-with, shown_with, planned, if_planned, decides_planned, decides_refused}

@@ -1,7 +1,7 @@
 use Rattle.std.proofs.Common.{ℕ, ◌≤◌, ◌+◌, List, [], ◌∷◌, ◌∙◌, sym, ap, subst, refl, arith, length, take, drop, length-append}
 use Rattle.std.specs.Prelude.{slice_get}
 use Rattle.std.proofs.lemmas.List.{take_all}
-use Rattle.message_progress.specs.Progress.{goes_on}
+use Rattle.desk_store.specs.Progress.{goes_on}
 use Rattle.desk_messages.proofs.MachineLemmas.{goes_on-all, settled_faults, settled_line}
 use Rattle.desk_store.proofs.HoldsLemmas.{holds_weaker}
 use Rattle.desk_store.specs.Kept.{lines_told}

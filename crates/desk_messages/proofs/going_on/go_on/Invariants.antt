@@ -1,7 +1,7 @@
 use Rattle.std.proofs.Common.{◌≡◌, ◌≤◌, length, take, drop}
 use Rattle.desk_store.specs.Store.{Holds}
 use Rattle.desk_store.specs.Kept.{lines_told}
-use Rattle.message_progress.specs.Progress.{IsInStep}
+use Rattle.desk_store.specs.Progress.{IsInStep}
 use Rattle.desk_messages.specs.GoingOn.{IsBegun}
 use Rattle.desk_messages.specs.Crashes.{LeavesTried}
 use Rattle.desk_messages.proofs.GoingLemmas.{Going}

@@ -1,9 +1,9 @@
 use Rattle.std.proofs.Common.{arith, ◌∙◌, sym, ap, subst, refl}
 use Rattle.desk_store.proofs.HoldsLemmas.{holds_none, holds_then, holds_weaker}
 use Rattle.desk_store.specs.Message.{machine, takes, unreadable_count, end_of, known_names}
-use Rattle.message_progress.specs.Progress.{HaveNumbers}
-use Rattle.message_progress.specs.Progress.{goes_on}
-use Rattle.message_progress.proofs.EndLemmas.{at_start_open}
+use Rattle.desk_store.specs.Progress.{HaveNumbers}
+use Rattle.desk_store.specs.Progress.{goes_on}
+use Rattle.desk_store.proofs.EndLemmas.{at_start_open}
 use Rattle.desk_messages.proofs.MachineLemmas.{line_more, all_ended, received_all, tried_settled, received_ended, goes_on-all, settled_faults, settled_line}
 use Rattle.command_grammar.specs.Lines.{reading}
 use Rattle.desk_store.proofs.TriedLemmas.{tried_then, tried_is, holds_three}

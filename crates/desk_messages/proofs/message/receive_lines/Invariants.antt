@@ -1,8 +1,8 @@
 use Rattle.std.proofs.Common.{◌≡◌, take}
 use Rattle.desk_store.specs.Store.{Holds}
 use Rattle.desk_store.specs.Message.{after_lines, at_start, machine}
-use Rattle.message_progress.specs.Progress.{HaveNumbers}
-use Rattle.message_progress.specs.Progress.{IsInStep}
+use Rattle.desk_store.specs.Progress.{HaveNumbers}
+use Rattle.desk_store.specs.Progress.{IsInStep}
 use Rattle.desk_store.specs.Tried.{LeavesTried}
 use Rattle.desk_messages.proofs.message.receive_lines.Given as goal
 

@@ -1,7 +1,7 @@
 use Rattle.std.proofs.Common.{◌∙◌, sym, ap, refl, Err}
 use Rattle.std.proofs.lemmas.Result.{err_from_is_err_and}
 use Rattle.desk_lines.specs.Lines.{lines_of}
-use Rattle.message_progress.specs.Progress.{goes_on}
+use Rattle.desk_store.specs.Progress.{goes_on}
 use Rattle.desk_messages.proofs.MachineLemmas.{settled_faults, settled_line}
 use Rattle.desk_store.proofs.HoldsLemmas.{holds_none, holds_weaker, holds_where}
 use Rattle.desk_messages.proofs.GoingLemmas.{carry, where_kept}

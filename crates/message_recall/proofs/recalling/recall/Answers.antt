@@ -6,7 +6,7 @@ use Rattle.std.proofs.lemmas.Result.{err_from_is_err_and}
 use Rattle.bug_record.specs.Clones.{name_refusal}
 use Rattle.desk_store.specs.Message.{unreadable_count, known_names, end_of}
 use Rattle.desk_store.specs.Kept.{new_names}
-use Rattle.message_progress.proofs.EndLemmas.{at_start_open}
+use Rattle.desk_store.proofs.EndLemmas.{at_start_open}
 use Rattle.message_recall.specs.declared.recalling.RecallFault.TheVariants.{Mismatch}
 use Rattle.message_recall.proofs.ToldLemmas.{told-taken}
 use Rattle.message_recall.proofs.RecallLemmas.{not_taken, told-length, recall-more, few-more, taken-at, never-few, ends-not}
