@@ -1,5 +1,5 @@
-//! Runs the examples that lie in its folders of data: scripts, exchanges, and messages that are sent
-//! again; and prints what comes of them, and of the calls that crates' pages begin with.
+//! Runs the examples that lie in its folders of data: scripts, exchanges, and messages that are
+//! sent again; and prints what comes of them, and of the calls that crates' pages begin with.
 #![tactic(auto)]
 
 mod answers;

@@ -1,6 +1,5 @@
 //! A message that has an id, and what comes of it on a desk.
 
-use desk_lines::StoreFault;
 use desk_run::{End, OnceFault, Received, Records, receive_once, received_text};
 use line_words::is_text;
 use std::alloc::{AllocError, Global};
@@ -18,16 +17,6 @@ pub(crate) struct Sending {
 /// How a message was answered; nothing where its sender is none.
 pub(crate) type Ended = Option<Result<End, OnceFault>>;
 
-// The name of a fault of the store.
-fn fault_name(fault: StoreFault) -> &'static str {
-    match fault {
-        StoreFault::Memory => "memory",
-        StoreFault::Device => "device",
-        StoreFault::Full => "full",
-        StoreFault::Foreign => "foreign",
-    }
-}
-
 // Tells how a message ended.
 fn end_text(alloc: Global, end: End) -> Result<String, AllocError> {
     match end {
@@ -35,7 +24,7 @@ fn end_text(alloc: Global, end: End) -> Result<String, AllocError> {
         End::Stopped => String::from_str(alloc, "-> stopped\n"),
         End::TooManyUnreadable => String::from_str(alloc, "-> too many unreadable\n"),
         End::Store(fault, line) => {
-            format!(in alloc; "-> store {} at line {line}\n", fault_name(fault))
+            format!(in alloc; "-> store {} at line {line}\n", fault.word())
         }
     }
 }
@@ -45,7 +34,7 @@ fn fault_text(alloc: Global, fault: OnceFault) -> Result<String, AllocError> {
     match fault {
         OnceFault::BadId => String::from_str(alloc, "-> bad id\n"),
         OnceFault::Reused => String::from_str(alloc, "-> reused\n"),
-        OnceFault::Store(fault) => format!(in alloc; "-> store {}\n", fault_name(fault)),
+        OnceFault::Store(fault) => format!(in alloc; "-> store {}\n", fault.word()),
     }
 }
 

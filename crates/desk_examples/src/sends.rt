@@ -171,17 +171,11 @@ fn add_line(rt: &HostRuntime, example: &mut String, line: &str) -> io::Result<()
     Ok(())
 }
 
-// Runs the examples of a file but the last, which is left.
-fn run_all(rt: &HostRuntime, example: &mut String, text: &str) -> io::Result<()> {
-    for line in text.lines() {
-        add_line(rt, example, line)?;
-    }
-    Ok(())
-}
-
 /// Runs the examples of a file, each on new desks; each begins with a line `==` and its name.
 pub(crate) fn run_file(rt: &HostRuntime, text: &str) -> io::Result<()> {
     let mut example = String::new(rt.alloc());
-    run_all(rt, &mut example, text)?;
+    for line in text.lines() {
+        add_line(rt, &mut example, line)?;
+    }
     run_example(rt, example.as_str())
 }
