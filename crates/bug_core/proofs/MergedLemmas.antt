@@ -57,11 +57,11 @@ merge-step (y ∷ ys) xs x h =
     ] refl
 
 -- the same where what is merged so far is known
-pub merge-on : (all others so_far ms left xs : List Member) (x : Member) (more rest most : List Member) → left ≡ x ∷ xs
-    → AllAbove x.number (numbers_of xs) → so_far ++ with_items number_of ms left ≡ with_items number_of all others
+pub merge-on : (whole so_far ms left xs : List Member) (x : Member) (more rest most : List Member) → left ≡ x ∷ xs
+    → AllAbove x.number (numbers_of xs) → so_far ++ with_items number_of ms left ≡ whole
     → more ≡ so_far ++ front_below x.number ms → rest ≡ rest_from x.number ms → most ≡ more ++ unless_first rest x
-    → most ++ with_items number_of rest xs ≡ with_items number_of all others
-merge-on all others so_far ms left xs x more rest most split h so e r w =
+    → most ++ with_items number_of rest xs ≡ whole
+merge-on whole so_far ms left xs x more rest most split h so e r w =
     (λ j. (w ∙ (λ k. e k ++ unless_first (r k) x)) j ++ with_items number_of (r j) xs)
     ∙ (simp append_assoc)
     ∙ ap (λ zs. so_far ++ zs) (sym (merge-step ms xs x h))

@@ -144,8 +144,25 @@ fn add_copies(merged: &mut Sequence<Member>, members: &[Member]) -> Result<(), A
     Ok(())
 }
 
-// Copies of the members and of the others, which ascend: in one pass, and of two with one number
-// that of the members.
+// Adds copies of the members and of the others, which ascend: in one pass, and of two with one
+// number that of the members.
+fn add_merged(
+    merged: &mut Sequence<Member>,
+    members: &[Member],
+    others: &[Member],
+) -> Result<(), AllocError>
+    requires ascending { IsAscending (numbers_of others.now) }
+    ensures { OnOk result (merged.new ≡ merged.old ++ with_items number_of members.now others.now) }
+{
+    let mut rest = members;
+    for other in others {
+        rest = add_below(merged, rest, other.number)?;
+        add_unless_first(merged, rest, other)?;
+    }
+    add_copies(merged, rest)
+}
+
+// Copies of the members and of the others, which ascend.
 fn merged(
     alloc: Global,
     members: &[Member],
@@ -156,12 +173,7 @@ fn merged(
 {
     let room = members.len().saturating_add(others.len());
     let mut merged = Sequence::from_vec(Vec::with_capacity(alloc, room)?);
-    let mut rest = members;
-    for other in others {
-        rest = add_below(&mut merged, rest, other.number)?;
-        add_unless_first(&mut merged, rest, other)?;
-    }
-    add_copies(&mut merged, rest)?;
+    add_merged(&mut merged, members, others)?;
     Ok(merged)
 }
 

@@ -121,15 +121,22 @@ impl Joined {
         ensures { IfOk result (λ shared. shared ≡ self) }
     {
         let mut shared = self.shared;
-        put_gathered(
+        let put = put_gathered(
             alloc,
             &mut shared,
             self.affects,
             self.found,
             self.fixed,
             &self.blockers,
-        )?;
-        Ok(shared)
+        );
+        match put {
+            Ok(()) => Ok(shared),
+            Err(error) => {
+                // In one call, for the proof's sake: the parts are many.
+                drop(shared);
+                Err(error)
+            }
+        }
     }
 }
 
@@ -161,8 +168,14 @@ fn joined_shared(
         (λ f. f ≡ with_all_shared (without_gathered first.now) (those_meant (named_numbers named.entry) images.now)) }
 {
     let mut joined = Joined::new(alloc, first)?;
-    add_all_shared(alloc, &mut joined, images, named)?;
-    joined.into_shared(alloc)
+    match add_all_shared(alloc, &mut joined, images, named) {
+        Ok(()) => joined.into_shared(alloc),
+        Err(error) => {
+            // In one call, for the proof's sake: the parts are many.
+            drop(joined);
+            Err(error)
+        }
+    }
 }
 
 // Puts the owner of the first of the bugs that has one into the fields.
@@ -244,8 +257,14 @@ fn gathered_shared(
     ensures { IfOk result (λ f. f ≡ without_own members.now (gathered_shared first.now images.now numbers.now)) }
 {
     let mut shared = joined_shared(alloc, first, images, named)?;
-    settle(alloc, &mut shared, lookup, numbers, members)?;
-    Agreed::of(alloc, shared)
+    match settle(alloc, &mut shared, lookup, numbers, members) {
+        Ok(()) => Agreed::of(alloc, shared),
+        Err(error) => {
+            // In one call, for the proof's sake: the parts are many.
+            drop(shared);
+            Err(error)
+        }
+    }
 }
 
 /// The image of the set that the bugs' sets become: with the fields of the first one, the tags,

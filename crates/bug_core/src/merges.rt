@@ -6,6 +6,8 @@ ghost use Rattle.bug_record.specs.Differences.{differing};
 ghost use Rattle.bug_record.specs.Images.{bug_in, AreApart};
 ghost use Rattle.bug_record.specs.Merges.{sets_joined};
 ghost use Rattle.bug_core.specs.Agreements.{difference_of};
+ghost use Rattle.bug_core.specs.Joins.{joined_image};
+ghost use Rattle.bug_core.specs.Others.{others};
 ghost use Rattle.bug_core.specs.Planned.{IsPlannedOf};
 
 use crate::images::{Named, replace_by_one};
@@ -80,6 +82,45 @@ fn all_numbers(alloc: Global, first: u64, others: &[u64]) -> Result<Numbers, All
     Ok(numbers)
 }
 
+// The change that makes one set of those of the bugs, with the fields of the first one's.
+// The bugs are looked up in the images.
+fn join_sets(
+    alloc: Global,
+    first: &Shared,
+    lookup: &Lookup,
+    images: &[SetImage],
+    numbers: &[u64],
+    next: u64,
+) -> Result<Change, AllocError>
+    requires images { lookup.now ≡ images.now }
+    ensures images { IfOk result (λ change. change.images
+        ≡ joined_image first.now images.now numbers.now ∷ others numbers.now images.now) }
+    ensures next { IfOk result (λ change. change.next ≡ next) }
+{
+    let set = number_set(alloc, numbers)?;
+    let image = joined_image(alloc, first, lookup, images, numbers, &set)?;
+    replace_by_one(alloc, image, images, Named::Several(&set), next)
+}
+
+// The change that makes one set of those of a bug with these fields and of the others.
+fn join_all(
+    alloc: Global,
+    shared: &Shared,
+    lookup: &Lookup,
+    images: &[SetImage],
+    first: u64,
+    more: &[u64],
+    next: u64,
+) -> Result<Change, AllocError>
+    requires images { lookup.now ≡ images.now }
+    ensures images { IfOk result (λ change. change.images
+        ≡ joined_image shared.now images.now (first ∷ more.now) ∷ others (first ∷ more.now) images.now) }
+    ensures next { IfOk result (λ change. change.next ≡ next) }
+{
+    let numbers = all_numbers(alloc, first, more)?;
+    join_sets(alloc, shared, lookup, images, numbers.as_slice(), next)
+}
+
 /// Merges bugs: their sets become one.
 pub(crate) fn plan_merge(
     alloc: Global,
@@ -107,10 +148,5 @@ pub(crate) fn plan_merge(
     if let Some(refusal) = first_differing(agreement, shared, &lookup, others) {
         return Err(PlanFault::Refused(refusal));
     }
-    let numbers = all_numbers(alloc, first, others)?;
-    let numbers = numbers.as_slice();
-    let set = number_set(alloc, numbers)?;
-    let image = joined_image(alloc, shared, &lookup, images, numbers, &set)?;
-    let named = Named::Several(&set);
-    Ok(replace_by_one(alloc, image, images, named, next)?)
+    Ok(join_all(alloc, shared, &lookup, images, first, others, next)?)
 }

@@ -1,9 +1,10 @@
 //! The command `unmerge`.
 
-ghost use Rattle.std.specs.Prelude.{◌≡◌, ◌∷◌, [], filter, false, IfOk};
+ghost use Rattle.std.specs.Prelude.{◌≡◌, ◌∷◌, ◌++◌, [], filter, true, false, IfOk, OnOk};
 ghost use Rattle.bug_record.specs.Images.{AreApart};
 ghost use Rattle.bug_record.specs.Merges.{unmerged};
 ghost use Rattle.bug_core.specs.Joins.{is_part};
+ghost use Rattle.bug_core.specs.Others.{others};
 ghost use Rattle.bug_core.specs.Planned.{IsPlannedOf};
 
 use crate::images::{Named, replace};
@@ -22,6 +23,23 @@ fn is_part(own: bool, number: u64, member: &Member) -> bool
     }
 }
 
+// Adds copies of the members of the number, or of the rest.
+fn add_part(
+    copies: &mut Sequence<Member>,
+    own: bool,
+    number: u64,
+    members: &[Member],
+) -> Result<(), AllocError>
+    ensures { OnOk result (copies.new ≡ copies.old ++ filter (is_part own number) members.now) }
+{
+    for member in members {
+        if is_part(own, number, member) {
+            copies.push(member.copy()?)?;
+        }
+    }
+    Ok(())
+}
+
 // Copies of the members of the number, or of the rest.
 fn part(
     alloc: Global,
@@ -38,11 +56,7 @@ fn part(
         members.len()
     };
     let mut copies = Sequence::from_vec(Vec::with_capacity(alloc, room)?);
-    for member in members {
-        if is_part(own, number, member) {
-            copies.push(member.copy()?)?;
-        }
-    }
+    add_part(&mut copies, own, number, members)?;
     Ok(copies)
 }
 
@@ -71,6 +85,26 @@ fn two_images(
     Ok(Sequence::from_vec(Vec::from_array(alloc, [own, rest])?))
 }
 
+// The change that puts both parts in the place of the set: the members of the number, and the rest.
+fn part_set(
+    alloc: Global,
+    shared: &Agreed,
+    members: &[Member],
+    rest: Sequence<Member>,
+    number: u64,
+    images: &[SetImage],
+    next: u64,
+) -> Result<Change, AllocError>
+    ensures images { IfOk result (λ change. change.images
+        ≡ record { shared = shared.now; members = filter (is_part true number) members.now }
+        ∷ record { shared = shared.now; members = rest } ∷ others (number ∷ []) images.now) }
+    ensures next { IfOk result (λ change. change.next ≡ next) }
+{
+    let own = part(alloc, true, number, members)?;
+    let parts = two_images(alloc, shared, own, rest)?;
+    replace(parts, images, Named::One(number), next)
+}
+
 /// Takes a bug out of its set.
 /// Both parts keep the shared fields.
 /// No number is new, so the images stay disjoint.
@@ -95,7 +129,6 @@ pub(crate) fn plan_unmerge(
     if rest.as_slice().is_empty() {
         return Err(PlanFault::Refused(Refusal::NotMerged(number)));
     }
-    let own = part(alloc, true, number, members)?;
-    let parts = two_images(alloc, &image.shared, own, rest)?;
-    Ok(replace(parts, images, Named::One(number), next)?)
+    let shared = &image.shared;
+    Ok(part_set(alloc, shared, members, rest, number, images, next)?)
 }

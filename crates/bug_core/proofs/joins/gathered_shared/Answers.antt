@@ -10,8 +10,8 @@ use Rattle.bug_core.specs.Others.{those_meant}
 use Rattle.bug_core.proofs.NamedLemmas.{those-same}
 use Rattle.bug_core.proofs.joins.gathered_shared.Goals as goal
 
-pub returns : goal.returns
-returns c =
+pub returns-in-Ok : goal.returns-in-Ok
+returns-in-Ok c =
     let fields : c.in_ok-shared.shared
     ≡ with_all_shared (without_gathered c.args.first.now) (those_meant c.args.numbers.now c.args.images.now)
     = c.in_ok-shared.ensures
@@ -21,5 +21,5 @@ returns c =
     ≡ first_owner (bugs_at (bug_in c.args.images.now) c.args.numbers.now)
     = ap (λ (is : List SetImage). first_owner (bugs_at (bug_in is) c.args.numbers.now)) c.requires.images in
     subst (λ (f : Shared). IfOk c.of.result (λ (g : Shared). g ≡ f))
-    (c.in_ok-settle.ensures ∙ (λ j. without_own c.args.members.now (record (fields j) { owner = owner j })))
+    (c.in-Ok.ensures ∙ (λ j. without_own c.args.members.now (record (fields j) { owner = owner j })))
     c.of.ensures

@@ -5,10 +5,10 @@ use Rattle.bug_core.specs.Named.{named_numbers}
 use Rattle.bug_core.specs.Others.{those_meant}
 use Rattle.bug_core.proofs.joins.joined_shared.Goals as goal
 
-pub returns : goal.returns
-returns c =
+pub returns-in-Ok : goal.returns-in-Ok
+returns-in-Ok c =
     subst (λ (joined : Shared). IfOk c.into_shared.result (λ (shared : Shared). shared ≡ joined))
-    (c.in_ok-add_all_shared.ensures
+    (c.in-Ok.ensures
     ∙ ap (λ (joined : Shared). with_all_shared joined (those_meant (named_numbers c.args.named) c.args.images.now))
     c.in_ok-joined.ensures)
     c.into_shared.ensures

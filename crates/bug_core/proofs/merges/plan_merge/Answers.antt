@@ -1,15 +1,13 @@
-use Rattle.std.proofs.Common.{◌≡◌, ℕ, false, List, ◌∷◌, sym, ap, ◌∙◌}
+use Rattle.std.proofs.Common.{false, List, ◌∷◌, sym, ap, ◌∙◌}
 use Rattle.bug_record.specs.Bugs.{first_refusal}
 use Rattle.bug_record.specs.Differences.{differing}
 use Rattle.bug_record.specs.Images.{bug_in}
-use Rattle.bug_record.specs.Sets.{has}
 use Rattle.bug_record.specs.Words.{first_bug_refusal}
 use Rattle.bug_record.specs.declared.bug.SetImage.{SetImage}
 use Rattle.bug_core.specs.Agreements.{difference_of}
 use Rattle.bug_core.specs.Joins.{joined_image}
 use Rattle.bug_core.specs.Others.{others}
-use Rattle.bug_core.proofs.MergeLemmas.{image_joined, merge-no_bug, merge-archived, merge-refused, merge-differs, merge-done}
-use Rattle.bug_core.proofs.NamedLemmas.{others-same, has-set}
+use Rattle.bug_core.proofs.MergeLemmas.{merge-no_bug, merge-archived, merge-refused, merge-differs, merge-done}
 use Rattle.bug_core.proofs.PlanLemmas.{planned-no_memory, archived-seen}
 use Rattle.bug_core.proofs.merges.plan_merge.Goals as goal
 
@@ -36,19 +34,8 @@ returns-in-Some-first_differing c =
     ((λ j. first_refusal (differing (difference_of c.args.agreement (sym c.fields-shared.ensures j)))
     (bug_in (sym c.in_ok-lookup.ensures j)) c.args.others.now) ∙ sym c.first_differing.ensures ∙ c.in-Some-first_differing.is)
 
-pub joined_image-requires-clause-set : goal.joined_image-requires-clause-set
-joined_image-requires-clause-set c = λ n. has-set c.in_ok-set.set.keys c.as_slice-numbers.result.now c.in_ok-set.ensures n
-
 pub returns : goal.returns
 returns c =
-    let numbers : c.as_slice-numbers.result.now ≡ c.args.first ∷ c.args.others.now =
-    c.as_slice-numbers.ensures ∙ c.in_ok-numbers.ensures in
-    let joined : c.in_ok-image.image ≡ image_joined c.args.images.now (c.args.first ∷ c.args.others.now) c.in-Some.image.now
-    = c.in_ok-image.ensures ∙ (λ j. joined_image (c.fields-shared.ensures j) c.args.images.now (numbers j)) in
-    let rest : others c.in_ok-set.set.keys c.args.images.now ≡ others (c.args.first ∷ c.args.others.now) c.args.images.now
-    = others-same c.in_ok-set.set.keys (c.args.first ∷ c.args.others.now)
-    (λ n. has-set c.in_ok-set.set.keys c.as_slice-numbers.result.now c.in_ok-set.ensures n
-    ∙ ap (λ (ns : List ℕ). has ns n) numbers) c.args.images.now in
     merge-done (difference_of c.args.agreement) c.args.images.now c.args.next c.args.first c.args.others.now c.in-Some.image.now
     c.requires.apart c.in-Some.ensures
     (archived-seen c.args.first c.fields-shared.ensures c.archived_refusal.ensures ∙ c.in_default-archived_refusal.is)
@@ -56,9 +43,11 @@ returns c =
     ∙ sym c.first_refused.ensures ∙ c.in_default-first_refused.is)
     ((λ j. first_refusal (differing (difference_of c.args.agreement (sym c.fields-shared.ensures j)))
     (bug_in (sym c.in_ok-lookup.ensures j)) c.args.others.now) ∙ sym c.first_differing.ensures ∙ c.in_default-first_differing.is)
-    c.in_ok-replace_by_one.field-0
-    (c.in_ok-replace_by_one.ensures.images ∙ (λ j. joined j ∷ rest j))
-    c.in_ok-replace_by_one.ensures.next
+    c.in_ok-join_all.field-0
+    (c.in_ok-join_all.ensures.images
+    ∙ (λ j. joined_image (c.fields-shared.ensures j) c.args.images.now (c.args.first ∷ c.args.others.now)
+    ∷ others (c.args.first ∷ c.args.others.now) c.args.images.now))
+    c.in_ok-join_all.ensures.next
 
 pub returns-in-Some-archived_refusal : goal.returns-in-Some-archived_refusal
 returns-in-Some-archived_refusal c =
@@ -69,14 +58,5 @@ returns-in-Some-archived_refusal c =
 pub returns-in_err-lookup : goal.returns-in_err-lookup
 returns-in_err-lookup c = planned-no_memory _ _ _ _ c.from_residual.result c.from_residual.ensures.1
 
-pub returns-in_err-numbers : goal.returns-in_err-numbers
-returns-in_err-numbers c = planned-no_memory _ _ _ _ c.from_residual-in_err-numbers.result c.from_residual-in_err-numbers.ensures.1
-
-pub returns-in_err-set : goal.returns-in_err-set
-returns-in_err-set c = planned-no_memory _ _ _ _ c.from_residual-in_err-set.result c.from_residual-in_err-set.ensures.1
-
-pub returns-in_err-image : goal.returns-in_err-image
-returns-in_err-image c = planned-no_memory _ _ _ _ c.from_residual-in_err-image.result c.from_residual-in_err-image.ensures.1
-
-pub returns-in_err-replace_by_one : goal.returns-in_err-replace_by_one
-returns-in_err-replace_by_one c = planned-no_memory _ _ _ _ c.from_residual-in_err-replace_by_one.result c.from_residual-in_err-replace_by_one.ensures.1
+pub returns-in_err-join_all : goal.returns-in_err-join_all
+returns-in_err-join_all c = planned-no_memory _ _ _ _ c.from_residual-in_err-join_all.result c.from_residual-in_err-join_all.ensures.1

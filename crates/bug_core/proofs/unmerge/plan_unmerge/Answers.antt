@@ -27,7 +27,7 @@ returns-then-is_empty-clause-planned c =
     (sym (c.as_slice.ensures ∙ rest) ∙ empty c.as_slice.result.now (sym c.is_empty.ensures ∙ c.if-is_empty.true))
 
 -- the rest has a member
-some_left : (c : goal.In_ok-replace) → (part_of c.in-Some.image.now false c.args.number).members ≡ [] → ⊥
+some_left : (c : goal.In_ok-part_set) → (part_of c.in-Some.image.now false c.args.number).members ≡ [] → ⊥
 some_left c none =
     let rest : c.in_ok-rest.rest ≡ filter (is_part false c.args.number) c.in-Some.image.now.members =
     c.in_ok-rest.ensures ∙ ap (filter (is_part false c.args.number)) c.as_slice-members.ensures in
@@ -35,24 +35,23 @@ some_left c none =
     ∙ ap (λ (ms : List Member). length ms == 0) (c.as_slice.ensures ∙ rest ∙ none))
 
 -- the images of the change
-images : (c : goal.In_ok-replace)
-    → c.in_ok-replace.field-0.images ≡ parts c.in-Some.image.now c.args.number ++ others (c.args.number ∷ []) c.args.images.now
+images : (c : goal.In_ok-part_set)
+    → c.in_ok-part_set.field-0.images ≡ parts c.in-Some.image.now c.args.number ++ others (c.args.number ∷ []) c.args.images.now
 images c =
     let rest : c.in_ok-rest.rest ≡ filter (is_part false c.args.number) c.in-Some.image.now.members =
     c.in_ok-rest.ensures ∙ ap (filter (is_part false c.args.number)) c.as_slice-members.ensures in
-    let own : c.in_ok-own.own ≡ filter (is_part true c.args.number) c.in-Some.image.now.members =
-    c.in_ok-own.ensures ∙ ap (filter (is_part true c.args.number)) c.as_slice-members.ensures in
-    let two : c.in_ok-parts.parts ≡ parts c.in-Some.image.now c.args.number
-    = c.in_ok-parts.ensures
+    let own : filter (is_part true c.args.number) c.as_slice-members.result.now
+    ≡ filter (is_part true c.args.number) c.in-Some.image.now.members =
+    ap (filter (is_part true c.args.number)) c.as_slice-members.ensures in
+    c.in_ok-part_set.ensures.images
     ∙ (λ j. record { shared = c.in-Some.image.now.shared; members = own j } ∷ record
-    { shared = c.in-Some.image.now.shared; members = rest j } ∷ []) in
-    c.in_ok-replace.ensures.images ∙ (λ j. two j ++ others (c.args.number ∷ []) c.args.images.now)
+    { shared = c.in-Some.image.now.shared; members = rest j } ∷ others (c.args.number ∷ []) c.args.images.now)
 
 pub returns-clause-planned : goal.returns-clause-planned
 returns-clause-planned c =
     unmerge-done c.args.images.now c.args.next c.args.number c.in-Some.image.now c.requires.apart c.in-Some.ensures
     (archived-seen c.args.number c.fields.ensures c.archived_refusal.ensures ∙ c.in_default-archived_refusal.is)
-    (some_left c) c.in_ok-replace.field-0 (images c) c.in_ok-replace.ensures.next
+    (some_left c) c.in_ok-part_set.field-0 (images c) c.in_ok-part_set.ensures.next
 
 pub returns-clause-apart : goal.returns-clause-apart
 returns-clause-apart c =
@@ -67,11 +66,5 @@ returns-in-Some-archived_refusal-clause-planned c =
 pub returns-in_err-rest-clause-planned : goal.returns-in_err-rest-clause-planned
 returns-in_err-rest-clause-planned c = planned-no_memory _ _ _ _ c.from_residual.result c.from_residual.ensures.1
 
-pub returns-in_err-own-clause-planned : goal.returns-in_err-own-clause-planned
-returns-in_err-own-clause-planned c = planned-no_memory _ _ _ _ c.from_residual-in_err-own.result c.from_residual-in_err-own.ensures.1
-
-pub returns-in_err-parts-clause-planned : goal.returns-in_err-parts-clause-planned
-returns-in_err-parts-clause-planned c = planned-no_memory _ _ _ _ c.from_residual-in_err-parts.result c.from_residual-in_err-parts.ensures.1
-
-pub returns-in_err-replace-clause-planned : goal.returns-in_err-replace-clause-planned
-returns-in_err-replace-clause-planned c = planned-no_memory _ _ _ _ c.from_residual-in_err-replace.result c.from_residual-in_err-replace.ensures.1
+pub returns-in_err-part_set-clause-planned : goal.returns-in_err-part_set-clause-planned
+returns-in_err-part_set-clause-planned c = planned-no_memory _ _ _ _ c.from_residual-in_err-part_set.result c.from_residual-in_err-part_set.ensures.1

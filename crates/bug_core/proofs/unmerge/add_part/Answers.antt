@@ -1,16 +1,13 @@
 use Rattle.std.proofs.Common.{arith}
 use Rattle.std.proofs.lemmas.Grind.{common_steps}
 use Rattle.std.proofs.lemmas.Result.{IfOk-from_err}
-use Rattle.bug_core.proofs.unmerge.part.Goals as goal
+use Rattle.bug_core.proofs.unmerge.add_part.Goals as goal
 
 pub returns-in_err-push : goal.returns-in_err-push
 returns-in_err-push c = IfOk-from_err _ _ c.from_residual-in_err-push.ensures.0
 
 pub returns-in_err-copy : goal.returns-in_err-copy
-returns-in_err-copy c = IfOk-from_err _ _ c.from_residual-in_err-copy.ensures.0
+returns-in_err-copy c = IfOk-from_err _ _ c.from_residual.ensures.0
 
 pub loop-member-preserved : goal.loop-member-preserved
 loop-member-preserved c = grind (arith, common_steps)
-
-pub returns : goal.returns
-returns c = grind (arith, common_steps)

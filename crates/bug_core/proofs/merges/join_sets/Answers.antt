@@ -1,0 +1,18 @@
+use Rattle.std.proofs.Common.{◌≡◌, List, ◌∷◌, subst, IfOk}
+use Rattle.bug_record.specs.declared.bug.SetImage.{SetImage}
+use Rattle.bug_record.specs.declared.command.Change.{Change}
+use Rattle.bug_core.specs.Others.{others}
+use Rattle.bug_core.proofs.NamedLemmas.{others-same, has-set}
+use Rattle.bug_core.proofs.merges.join_sets.Goals as goal
+
+pub joined_image-requires-clause-set : goal.joined_image-requires-clause-set
+joined_image-requires-clause-set c = has-set c.in_ok-set.set.keys c.args.numbers.now c.in_ok-set.ensures
+
+pub returns-clause-images : goal.returns-clause-images
+returns-clause-images c =
+    let rest : others c.in_ok-set.set.keys c.args.images.now ≡ others c.args.numbers.now c.args.images.now
+    = others-same c.in_ok-set.set.keys c.args.numbers.now
+    (has-set c.in_ok-set.set.keys c.args.numbers.now c.in_ok-set.ensures) c.args.images.now in
+    subst (λ (is : List SetImage). IfOk c.replace_by_one.result (λ (change : Change). change.images ≡ is))
+    (λ j. c.in_ok-image.ensures j ∷ rest j)
+    c.replace_by_one.ensures.images
