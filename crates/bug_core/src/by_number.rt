@@ -56,15 +56,30 @@ fn members_by_number(
     Ok(map)
 }
 
+// Adds the members of the map at the end.
+fn add_values(members: &mut Sequence<Member>, map: BTreeMap<u64, Member>) -> Result<(), AllocError>
+    ensures { OnOk result (members.new ≡ members.old ++ values map) }
+{
+    for member in map.into_values() {
+        members.push(member)?;
+    }
+    Ok(())
+}
+
 // The members of all sets of the bugs, sorted one by one.
 fn sorted_members(alloc: Global, images: &[SetImage], named: Named) -> Result<Members, AllocError>
     ensures { IfOk result (λ ms. ms ≡ with_members [] (those_meant (named_numbers named.entry) images.now)) }
 {
+    let map = members_by_number(alloc, images, named)?;
     let mut members = Sequence::new(alloc);
-    for member in members_by_number(alloc, images, named)?.into_values() {
-        members.push(member)?;
+    match add_values(&mut members, map) {
+        Ok(()) => Members::of(members),
+        Err(error) => {
+            // In one call, for the proof's sake: the parts are many.
+            drop(members);
+            Err(error)
+        }
     }
-    Members::of(members)
 }
 
 // Whether the number is above the last one, if there is one.
@@ -173,8 +188,14 @@ fn merged(
 {
     let room = members.len().saturating_add(others.len());
     let mut merged = Sequence::from_vec(Vec::with_capacity(alloc, room)?);
-    add_merged(&mut merged, members, others)?;
-    Ok(merged)
+    match add_merged(&mut merged, members, others) {
+        Ok(()) => Ok(merged),
+        Err(error) => {
+            // In one call, for the proof's sake: the parts are many.
+            drop(merged);
+            Err(error)
+        }
+    }
 }
 
 // The first image that has one of the bugs, and the images after it.

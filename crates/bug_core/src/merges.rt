@@ -142,11 +142,16 @@ pub(crate) fn plan_merge(
         return Err(PlanFault::Refused(refusal));
     }
     let lookup = Lookup::of(alloc, images, others.len())?;
+    // In one call wherever it is given up, for the proof's sake: the parts are many.
     if let Some(refusal) = first_refused(&lookup, others) {
+        drop(lookup);
         return Err(PlanFault::Refused(refusal));
     }
     if let Some(refusal) = first_differing(agreement, shared, &lookup, others) {
+        drop(lookup);
         return Err(PlanFault::Refused(refusal));
     }
-    Ok(join_all(alloc, shared, &lookup, images, first, others, next)?)
+    let joined = join_all(alloc, shared, &lookup, images, first, others, next);
+    drop(lookup);
+    Ok(joined?)
 }

@@ -74,7 +74,9 @@ fn change_records(
         Ok(shared) => shared,
         Err(PlanFault::Memory) => return Err(PlanFault::Memory),
         // The image's package is no package name: no desk has such a bug.
-        Err(PlanFault::Refused(_)) => {
+        Err(PlanFault::Refused(refusal)) => {
+            // In one call, for the proof's sake: its kinds are many.
+            drop(refusal);
             return Err(PlanFault::Refused(Refusal::NoBug(bug_named(command))));
         }
     };

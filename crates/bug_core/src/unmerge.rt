@@ -80,8 +80,21 @@ fn two_images(
     ensures { IfOk result
         (λ is. is ≡ record { shared = shared.now; members = own } ∷ record { shared = shared.now; members = rest } ∷ []) }
 {
-    let own = part_image(shared, own)?;
-    let rest = part_image(shared, rest)?;
+    // In one call where they are given up, for the proof's sake: the parts are many.
+    let own = match part_image(shared, own) {
+        Ok(own) => own,
+        Err(error) => {
+            drop(rest);
+            return Err(error);
+        }
+    };
+    let rest = match part_image(shared, rest) {
+        Ok(rest) => rest,
+        Err(error) => {
+            drop(own);
+            return Err(error);
+        }
+    };
     Ok(Sequence::from_vec(Vec::from_array(alloc, [own, rest])?))
 }
 
@@ -127,6 +140,8 @@ pub(crate) fn plan_unmerge(
     let members = image.members.as_slice();
     let rest = part(alloc, false, number, members)?;
     if rest.as_slice().is_empty() {
+        // In one call, for the proof's sake: the parts are many.
+        drop(rest);
         return Err(PlanFault::Refused(Refusal::NotMerged(number)));
     }
     let shared = &image.shared;

@@ -1,16 +1,5 @@
-use Rattle.std.proofs.Common.{arith}
-use Rattle.std.proofs.lemmas.Grind.{common_steps}
 use Rattle.std.proofs.lemmas.Result.{IfOk-from_err}
 use Rattle.bug_core.proofs.by_number.sorted_members.Goals as goal
 
-pub returns-in_err-push : goal.returns-in_err-push
-returns-in_err-push c = IfOk-from_err _ _ c.from_residual-in_err-push.ensures.0
-
-pub returns-in_err-members_by_number : goal.returns-in_err-members_by_number
-returns-in_err-members_by_number c = IfOk-from_err _ _ c.from_residual.ensures.0
-
-pub loop-member-preserved : goal.loop-member-preserved
-loop-member-preserved c = grind (arith, common_steps)
-
-pub returns : goal.returns
-returns c = grind (arith, common_steps)
+pub returns-in_err-map : goal.returns-in_err-map
+returns-in_err-map c = IfOk-from_err _ _ c.from_residual.ensures.0

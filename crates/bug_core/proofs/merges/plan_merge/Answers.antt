@@ -43,11 +43,11 @@ returns c =
     ∙ sym c.first_refused.ensures ∙ c.in_default-first_refused.is)
     ((λ j. first_refusal (differing (difference_of c.args.agreement (sym c.fields-shared.ensures j)))
     (bug_in (sym c.in_ok-lookup.ensures j)) c.args.others.now) ∙ sym c.first_differing.ensures ∙ c.in_default-first_differing.is)
-    c.in_ok-join_all.field-0
-    (c.in_ok-join_all.ensures.images
+    c.in_ok-joined.field-0
+    (c.in_ok-joined.ensures.images
     ∙ (λ j. joined_image (c.fields-shared.ensures j) c.args.images.now (c.args.first ∷ c.args.others.now)
     ∷ others (c.args.first ∷ c.args.others.now) c.args.images.now))
-    c.in_ok-join_all.ensures.next
+    c.in_ok-joined.ensures.next
 
 pub returns-in-Some-archived_refusal : goal.returns-in-Some-archived_refusal
 returns-in-Some-archived_refusal c =
@@ -58,5 +58,5 @@ returns-in-Some-archived_refusal c =
 pub returns-in_err-lookup : goal.returns-in_err-lookup
 returns-in_err-lookup c = planned-no_memory _ _ _ _ c.from_residual.result c.from_residual.ensures.1
 
-pub returns-in_err-join_all : goal.returns-in_err-join_all
-returns-in_err-join_all c = planned-no_memory _ _ _ _ c.from_residual-in_err-join_all.result c.from_residual-in_err-join_all.ensures.1
+pub returns-in_err-joined : goal.returns-in_err-joined
+returns-in_err-joined c = planned-no_memory _ _ _ _ c.from_residual-in_err-joined.result c.from_residual-in_err-joined.ensures.1
