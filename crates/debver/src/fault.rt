@@ -3,7 +3,7 @@
 ghost use Rattle.std.specs.Prelude.{◌≡◌, ◌+◌, ◌^◌, ◌<◌, ◌≤◌, length, not, position, IfSome};
 ghost use Rattle.std.specs.Option.{option_copied};
 ghost use Rattle.debver.specs.Characters.{is_digit};
-ghost use Rattle.debver.specs.Parts.{parts_of, written, revision_text, in_upstream, in_revision};
+ghost use Rattle.debver.specs.Parts.{parts_of, written, epoch_text, revision_text, in_upstream, in_revision};
 ghost use Rattle.debver.specs.Faults.{wrong_place, has_bad_epoch, upstream_fault_at, revision_fault_at, fault};
 
 use thiserror::Error;
@@ -127,6 +127,17 @@ fn revision_fault(start: usize, revision: Option<&str>) -> Option<VersionFault>
     }
 }
 
+// How many bytes the epoch and its colon have.
+fn epoch_length(epoch: Option<&str>) -> usize
+    requires { length (epoch_text (option_copied epoch)) < 2 ^ 64 }
+    ensures { result ≡ length (epoch_text (option_copied epoch.entry)) }
+{
+    match epoch {
+        Some(epoch) => epoch.len() + 1,
+        None => 0,
+    }
+}
+
 // The first fault of a text that is cut into these parts.
 pub(crate) fn first_fault(
     text: &str,
@@ -144,10 +155,7 @@ pub(crate) fn first_fault(
     if has_bad_epoch(epoch) {
         return Some(VersionFault::BadEpoch);
     }
-    let start = match epoch {
-        Some(epoch) => epoch.len() + 1,
-        None => 0,
-    };
+    let start = epoch_length(epoch);
     if let Some(fault) = upstream_fault(start, epoch.is_some(), upstream) {
         return Some(fault);
     }
