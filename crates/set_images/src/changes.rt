@@ -117,21 +117,36 @@ fn add_images(
     Ok(())
 }
 
-// The numbers of the bugs that differ, of any images.
-fn changed_between(alloc: Global, old: &[SetImage], new: &[SetImage]) -> Result<Numbers, AllocError>
+// The numbers of the bugs that differ, of images with where their bugs stand.
+fn changed_among(
+    alloc: Global,
+    before: &Index,
+    after: &Index,
+    old: &[SetImage],
+    new: &[SetImage],
+) -> Result<Numbers, AllocError>
+    requires before { before.now ≡ old.now }
+    requires after { after.now ≡ new.now }
     ensures { IfOk result (λ r. AreChanged (bug_in old.now) (bug_in new.now) r) }
 {
-    let before = Index::of(alloc, old)?;
-    let after = Index::of(alloc, new)?;
     let mut set = BTreeSet::new(alloc);
     let mut last = Compared {
         before: old.len(),
         after: 0,
         same: false,
     };
-    add_images(&mut set, &mut last, &before, &after, new)?;
-    add_images(&mut set, &mut last, &before, &after, old)?;
+    add_images(&mut set, &mut last, before, after, new)?;
+    add_images(&mut set, &mut last, before, after, old)?;
     Sequence::in_order(alloc, &set)
+}
+
+// The numbers of the bugs that differ, of any images.
+fn changed_between(alloc: Global, old: &[SetImage], new: &[SetImage]) -> Result<Numbers, AllocError>
+    ensures { IfOk result (λ r. AreChanged (bug_in old.now) (bug_in new.now) r) }
+{
+    let before = Index::of(alloc, old)?;
+    let after = Index::of(alloc, new)?;
+    changed_among(alloc, &before, &after, old, new)
 }
 
 // The numbers of the bugs that differ.

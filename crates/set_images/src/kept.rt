@@ -1,6 +1,6 @@
 //! Which bugs of a set a change touches, where the set stays the same bugs.
 
-ghost use Rattle.std.specs.Prelude.{◌≡◌, ◌∷◌, [], true, None, length, IsTrue, IfOk};
+ghost use Rattle.std.specs.Prelude.{◌≡◌, ◌∷◌, ◌++◌, [], true, None, length, IsTrue, IfOk, OnOk};
 ghost use Rattle.bug_record.specs.Images.{numbers_of, bug_in};
 ghost use Rattle.bug_record.specs.Changed.{AreChanged};
 ghost use Rattle.set_images.specs.Kept.{is_above, ascends, retold, IsKept};
@@ -41,6 +41,17 @@ pub(crate) fn is_kept(old: &SetImage, new: &SetImage) -> bool
     same_numbers(old.members.as_slice(), members) && is_ascending(members)
 }
 
+/// Adds the numbers of the members.
+pub(crate) fn add_members(numbers: &mut Vec<u64>, members: &[Member]) -> Result<(), AllocError>
+    ensures { OnOk result (numbers.new.items ≡ numbers.old.items ++ numbers_of members.now) }
+{
+    numbers.reserve(members.len())?;
+    for member in members {
+        numbers.push(member.number)?;
+    }
+    Ok(())
+}
+
 /// The numbers of the members.
 pub(crate) fn numbers_of(alloc: Global, members: &[Member]) -> Result<Numbers, AllocError>
     ensures { IfOk result (λ numbers. numbers ≡ numbers_of members.now) }
@@ -48,8 +59,9 @@ pub(crate) fn numbers_of(alloc: Global, members: &[Member]) -> Result<Numbers, A
     if let [only] = members {
         return Ok(Sequence::one(alloc, only.number));
     }
-    let numbers = members.iter().map(|member| member.number);
-    Ok(Sequence::from_vec(numbers.collect(alloc)?))
+    let mut numbers = Vec::new(alloc);
+    add_members(&mut numbers, members)?;
+    Ok(Sequence::from_vec(numbers))
 }
 
 // The numbers of the members whose titles or submitters differ.

@@ -6,7 +6,7 @@ ghost use Rattle.bug_record.specs.Changed.{AreChanged};
 ghost use Rattle.set_images.specs.Parted.{is_unlike, numbers_in, IsParted, AreAmong, HasAll};
 
 use crate::equal::same_numbers;
-use crate::kept::{is_ascending, numbers_of};
+use crate::kept::{add_members, is_ascending, numbers_of};
 use crate::sorted::in_order;
 use bug_record::{Member, Numbers, Sequence, SetImage};
 use std::alloc::{AllocError, Global};
@@ -34,17 +34,6 @@ pub(crate) fn is_parted(old: &[SetImage], new: &[SetImage]) -> bool
         (images, [image]) => is_unlike(image, images),
         _ => false,
     }
-}
-
-// Adds the numbers of the members.
-fn add_members(numbers: &mut Vec<u64>, members: &[Member]) -> Result<(), AllocError>
-    ensures { OnOk result (numbers.new.items ≡ numbers.old.items ++ numbers_of members.now) }
-{
-    numbers.reserve(members.len())?;
-    for member in members {
-        numbers.push(member.number)?;
-    }
-    Ok(())
 }
 
 // Adds the numbers of all bugs of the images.

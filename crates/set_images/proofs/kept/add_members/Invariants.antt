@@ -1,6 +1,6 @@
 use Rattle.std.proofs.Common.{◌≡◌, ◌++◌, drop}
 use Rattle.bug_record.specs.Images.{numbers_of}
-use Rattle.set_images.proofs.parted.add_members.Given as goal
+use Rattle.set_images.proofs.kept.add_members.Given as goal
 
 abbrev pub invariant-loop-member : goal.invariant-loop-member
 invariant-loop-member l =
