@@ -242,7 +242,12 @@ pub(crate) fn decide_command<S: Records>(
     ensures count { S.faults store.new ≡ faults_after result (S.faults store.old) }
 {
     match shared_command(alloc, store, known, command) {
-        Ok(command) => decide_known(alloc, store, from, known, &command),
+        Ok(command) => {
+            let decided = decide_known(alloc, store, from, known, &command);
+            // In one call, so that what is promised is not proved for each kind of command.
+            drop(command);
+            decided
+        }
         Err(_) => Err(StoreFault::Memory),
     }
 }
