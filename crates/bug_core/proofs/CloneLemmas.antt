@@ -29,7 +29,7 @@ use Rattle.set_images.proofs.ImageLemmas.{same_value, shown, bug_in-append, bug_
 use Rattle.set_images.proofs.ImageLemmas.{image_with-shows, image_with-none, image_with-has, image_with-member}
 use Rattle.bug_core.proofs.OtherLemmas.{others-none, others-kept, others-apart, others-members}
 use Rattle.bug_core.proofs.ReplaceLemmas.{apart-append, each-append}
-use Rattle.bug_core.proofs.AddedLemmas.{is_new, new-parts, new-from, new-below, new-above, none-beyond, AreGoodNew, sound-added}
+use Rattle.record_changes.proofs.AddedLemmas.{is_new, new-parts, new-from, new-below, new-above, none-beyond, AreGoodNew, sound-added}
 use Rattle.bug_core.proofs.PlanLemmas.{Steps, planned-refused, own-archived}
 
 -- the bug that a copy shows

@@ -1,5 +1,4 @@
 pub mod OtherLemmas
-pub mod SoundLemmas
 pub mod ReplaceLemmas
 pub mod PlanLemmas
 pub mod UnmergeLemmas
@@ -12,6 +11,4 @@ pub mod NamedLemmas
 pub mod SharedLemmas
 pub mod MergeLemmas
 pub mod StepLemmas
-pub mod AddedLemmas
-pub mod ReportLemmas
 pub mod CloneLemmas

@@ -19,7 +19,7 @@ use Rattle.bug_record.specs.declared.command.Refusal.{Refusal}
 use Rattle.bug_core.specs.Others.{has_any, is_meant, those_meant}
 use Rattle.set_images.proofs.ImageLemmas.{has-member_some, member-has, same_value}
 use Rattle.sequences.proofs.SetLemmas.{same_test}
-use Rattle.bug_core.proofs.SoundLemmas.{agree}
+use Rattle.record_changes.proofs.SoundLemmas.{agree}
 
 -- one of two lists of numbers has a number of the other
 pub any-from : (xs ns : List ℕ) (k : ℕ) → has xs k ≡ true → has ns k ≡ true → has_any xs ns ≡ true

@@ -38,7 +38,7 @@ use Rattle.bug_core.specs.Planned.{IsPlannedOf}
 use Rattle.bug_core.specs.Refused.{IsRefusalOfPlan}
 use Rattle.set_images.proofs.ImageLemmas.{has-member_some, has-member_none, bug_in-merged, shown, image_with-has, image_with-shows}
 use Rattle.set_images.proofs.ImageLemmas.{image_with-none}
-use Rattle.bug_core.proofs.SoundLemmas.{agree, sound-each_bug}
+use Rattle.record_changes.proofs.SoundLemmas.{agree, sound-each_bug}
 use Rattle.bug_core.proofs.ReplaceLemmas.{TakesPlace, Makes, each-append}
 use Rattle.bug_core.proofs.PlanLemmas.{Steps, planned-refused, planned-replaced, own-archived, own-refused}
 use Rattle.bug_core.proofs.MemberLemmas.{first_member, ascending-with_members, member-with_members, meant-nowhere, meant-inside}

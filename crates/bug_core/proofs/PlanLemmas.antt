@@ -42,7 +42,7 @@ use Rattle.set_images.proofs.ImageLemmas.{same_value, shown, image_with-shows, i
 use Rattle.record_changes.proofs.FieldLemmas.{good-shared_after, good-new_title, good-new_submitter}
 use Rattle.bug_record.proofs.RefusalLemmas.{first-none, later-none}
 use Rattle.record_changes.proofs.BlockerLemmas.{good-blockers_after}
-use Rattle.bug_core.proofs.SoundLemmas.{agree, sound-change_set}
+use Rattle.record_changes.proofs.SoundLemmas.{agree, sound-change_set}
 use Rattle.bug_core.proofs.ListedLemmas.{bugs_refused-known}
 use Rattle.bug_core.proofs.ReplaceLemmas.{TakesPlace, Makes, apart-replaced, members-replaced, covers-replaced, none-replaced}
 use Rattle.bug_core.proofs.ReplaceLemmas.{whole-sets, put-replaced, image_after, bug_after, set-takes_place, set-makes}

@@ -18,7 +18,7 @@ use Rattle.bug_core.specs.Others.{has_any, others}
 use Rattle.set_images.proofs.ImageLemmas.{none_left, none_right, none_both, same_value, member-has, bug_in-append, bug_in-merged}
 use Rattle.set_images.proofs.ImageLemmas.{shown, image_with-has, image_with-lacks, image_with-bug, image_with-member, number-member}
 use Rattle.bug_core.proofs.OtherLemmas.{others-none, others-gone, others-kept, others-apart, others-members}
-use Rattle.bug_core.proofs.SoundLemmas.{agree}
+use Rattle.record_changes.proofs.SoundLemmas.{agree}
 
 -- The images `new` have the bugs of those images that have one of the bugs ns, and no others.
 pub record TakesPlace (is : List SetImage) (ns : List ℕ) (new : List SetImage) : Type 0 where

@@ -7,5 +7,4 @@ pub mod Agreements
 pub mod Joins
 pub mod Gathered
 pub mod Merged
-pub mod Reports
 pub mod Clones

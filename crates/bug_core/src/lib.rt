@@ -1,5 +1,4 @@
-//! What the commands of a desk do, planned on images of sets of merged bugs; and the change that a
-//! new report makes.
+//! What the commands of a desk do, planned on images of sets of merged bugs.
 //! Which numbers a change touches is told by `set_images`.
 //! The values and definitions are those of `bug_record`, whose names stand here too.
 #![tactic(auto)]
@@ -12,7 +11,6 @@ mod lookup;
 mod marks;
 mod merges;
 mod plans;
-mod report;
 mod unmerge;
 
 pub use bug_record::{
@@ -21,5 +19,5 @@ pub use bug_record::{
 };
 pub use line_words::is_text;
 pub use plans::plan;
-pub use report::report_change;
+pub use record_changes::report_change;
 pub use set_images::{bug_named, changed, changed_numbers_differ, find_image, other_bugs};

@@ -80,21 +80,8 @@ fn two_images(
     ensures { IfOk result
         (λ is. is ≡ record { shared = shared.now; members = own } ∷ record { shared = shared.now; members = rest } ∷ []) }
 {
-    // In one call where they are given up, for the proof's sake: the parts are many.
-    let own = match part_image(shared, own) {
-        Ok(own) => own,
-        Err(error) => {
-            drop(rest);
-            return Err(error);
-        }
-    };
-    let rest = match part_image(shared, rest) {
-        Ok(rest) => rest,
-        Err(error) => {
-            drop(own);
-            return Err(error);
-        }
-    };
+    let own = part_image(shared, own)?;
+    let rest = part_image(shared, rest)?;
     Ok(Sequence::from_vec(Vec::from_array(alloc, [own, rest])?))
 }
 

@@ -12,13 +12,13 @@ ghost use Rattle.desk_directives.specs.Reports.{has_bad_version, node_reported, 
 ghost use Rattle.desk_directives.specs.ReportWords.{IsOfWords};
 ghost use Rattle.desk_directives.specs.Reports.{faults_after_report, AsksForNext};
 
-use bug_core::report_change;
 use bug_record::Severity;
 use debver::{Text, check, check_name};
 use desk_lines::StoreFault;
 use desk_store::Records;
 use desk_text::ReportFault;
 use line_words::{AFTER_LARGEST, is_text};
+use record_changes::report_change;
 use std::alloc::{AllocError, Global};
 use version_nodes::{Node, NodeFault};
 

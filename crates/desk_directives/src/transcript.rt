@@ -6,8 +6,8 @@ ghost use Rattle.desk_directives.specs.Transcripts.{transcript, line_of_end, rec
 
 use debver::Text;
 use desk_lines::split_lines;
-use desk_text::{End, Outcome, end_text, outcome_text};
 use desk_store::Received;
+use desk_text::{End, Outcome, end_text, outcome_text};
 use std::alloc::{AllocError, Global};
 
 /// The bytes that room is made for at once for each outcome.

@@ -24,7 +24,10 @@ ghost use Rattle.desk_store.specs.Message.{names_of};
 use bug_core::{changed, plan};
 use bug_record::{Change, Command, Numbers, Outcome, PlanFault, Refusal, SetImage, VersionArg};
 use desk_lines::StoreFault;
-use desk_store::{KnownNames, Records, command_told, name_refusal, names_in, note_names, refusal_meant, with_names};
+use desk_store::{
+    KnownNames, Records, command_told, name_refusal, names_in, note_names, refusal_meant,
+    with_names,
+};
 use line_words::Named;
 use plan_images::{ask, written};
 use record_changes::leaves_members;

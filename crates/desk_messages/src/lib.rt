@@ -10,7 +10,7 @@ mod message;
 mod once;
 
 pub use command_decision::Decision;
+pub use desk_store::{Progress, Received, goes_on, make_room, settle};
 pub use line_decision::decide_line;
 pub use message::{receive, receive_lines};
-pub use desk_store::{Progress, Received, goes_on, make_room, settle};
 pub use once::{OnceFault, receive_once};

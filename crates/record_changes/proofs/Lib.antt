@@ -2,3 +2,6 @@ pub mod BlockerLemmas
 pub mod NodeLemmas
 pub mod FieldLemmas
 pub mod MemberLemmas
+pub mod SoundLemmas
+pub mod AddedLemmas
+pub mod ReportLemmas

@@ -1,5 +1,5 @@
 //! What a command makes of the records of a set of merged bugs: of the fields that they share, and
-//! of the title and submitter of each.
+//! of the title and submitter of each; and the change that a new report makes.
 //! The values and definitions are those of `bug_record`.
 #![tactic(auto)]
 
@@ -7,9 +7,11 @@ mod affects;
 mod fields;
 mod laws;
 mod members;
+mod report;
 mod tags;
 mod versions;
 
 pub use fields::shared_after;
 pub use laws::{joined_are_sets, joined_by_membership, marks_by_membership};
 pub use members::{leaves_members, members_with};
+pub use report::report_change;

@@ -4,8 +4,8 @@ use Rattle.std.specs.Str.{IsUtf8}
 use Rattle.std.proofs.lemmas.Str.{is_utf8-from_IsUtf8}
 use Rattle.bug_record.specs.Images.{put, FitsDesk}
 use Rattle.bug_record.specs.declared.bug.SetImage.{SetImage}
-use Rattle.bug_core.proofs.ReportLemmas.{put-report, fits-report}
-use Rattle.bug_core.proofs.report.report_change.Goals as goal
+use Rattle.record_changes.proofs.ReportLemmas.{put-report, fits-report}
+use Rattle.record_changes.proofs.report.report_change.Goals as goal
 
 -- the one image
 one : (made : List SetImage) (i j : SetImage) → made ≡ i ∷ [] → i ≡ j → made ≡ j ∷ []

@@ -8,7 +8,7 @@ ghost use Rattle.bug_record.specs.Desk.{Desk, IsSound};
 ghost use Rattle.version_nodes.specs.Nodes.{IsNode};
 ghost use Rattle.bug_record.specs.Steps.{found_first, reported};
 ghost use Rattle.bug_record.specs.Images.{put, AreApart, HasMember, FitsDesk};
-ghost use Rattle.bug_core.specs.Reports.{only_member, shared_of_report, image_of_report};
+ghost use Rattle.record_changes.specs.Reports.{only_member, shared_of_report, image_of_report};
 ghost use Rattle.line_words.specs.declared.named.TheConstants.{AFTER_LARGEST};
 
 use bug_record::{Agreed, Change, Member, Members, Nodes, Sequence, SetImage, Severity, Shared};

@@ -15,10 +15,10 @@ use Rattle.std.specs.Option.{option_or}
 use Rattle.bug_record.specs.declared.bug.Bug.{Bug}
 use Rattle.bug_record.specs.declared.bug.Member.{Member}
 use Rattle.bug_record.specs.declared.severity.Severity.{Severity}
-use Rattle.bug_core.specs.Reports.{image_of_report}
+use Rattle.record_changes.specs.Reports.{image_of_report}
 use Rattle.bug_record.proofs.MarkLemmas.{set-none}
 use Rattle.bug_record.proofs.PackageLemmas.{names-none}
-use Rattle.bug_core.proofs.AddedLemmas.{is_new, new-parts, new-from, AreGoodNew, sound-added}
+use Rattle.record_changes.proofs.AddedLemmas.{is_new, new-parts, new-from, AreGoodNew, sound-added}
 
 -- the texts of a report
 pub record IsReport (a p t : List ℕ) (v : Option Node) : Type 0 where

@@ -10,7 +10,7 @@ use Rattle.bug_record.specs.Bugs.{with_new_bugs}
 use Rattle.bug_record.specs.declared.bug.Bug.{Bug}
 use Rattle.sequences.proofs.SetLemmas.{one_number}
 use Rattle.bug_record.proofs.EqualLemmas.{none-from_next}
-use Rattle.bug_core.proofs.SoundLemmas.{agree, merged-from, blockers-there}
+use Rattle.record_changes.proofs.SoundLemmas.{agree, merged-from, blockers-there}
 
 -- whether m is one of so many numbers from the next one on
 abbrev pub is_new : ℕ → ℕ → ℕ → Bool

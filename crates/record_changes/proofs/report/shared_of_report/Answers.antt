@@ -1,5 +1,5 @@
 use Rattle.std.proofs.Common.{false, None}
-use Rattle.bug_core.proofs.report.shared_of_report.Goals as goal
+use Rattle.record_changes.proofs.report.shared_of_report.Goals as goal
 
 pub returns : goal.returns
 returns c = λ j. record {
