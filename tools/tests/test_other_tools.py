@@ -172,6 +172,17 @@ class Gate(unittest.TestCase):
         self.assertAlmostEqual(minutes, 1.0, 2)
         self.assertAlmostEqual(own, 2 / 3, 2)
 
+    def test_copy(self):
+        """A copy has the crates named and all below them, no others, and no wrong bodies."""
+        with folder() as place:
+            run([TOOLS / "copy_crates", place, "version_nodes", "line_words"])
+            copied = sorted(path.name for path in pathlib.Path(place, "crates").iterdir())
+            self.assertEqual(copied, ["debver", "line_words", "version_nodes"])
+            listed = pathlib.Path(place, "crates.txt").read_text(encoding="utf-8").splitlines()
+            self.assertEqual(sorted(line.split(":")[0] for line in listed), copied)
+            parts = {path.name for path in pathlib.Path(place, "crates", "debver").iterdir()}
+            self.assertEqual(parts & {"src", "must-fail", "wrong-bodies", "out"}, {"src"})
+
     def test_checks(self):
         """At least one check runs, and at most one a processor."""
         output, _ = run([TOOLS / "checks_at_once"])

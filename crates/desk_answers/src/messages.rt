@@ -15,8 +15,8 @@ use debver::Text;
 use desk_directives::received_bytes;
 use desk_lines::{End, StoreFault, split_lines};
 use desk_requests::{Body, Reply, json_reply, store_fault};
-use http::StatusCode;
 use desk_store::Received;
+use http::StatusCode;
 use routes_and_json::control_json;
 use std::alloc::{AllocError, Global};
 
