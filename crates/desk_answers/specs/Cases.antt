@@ -1,4 +1,4 @@
--- What they answer in each case.
+-- What requests are answered in each case.
 use Rattle.std.specs.Prelude.{ℕ, ◌≡◌, ◌≢◌, ◌⊎◌, List, Some, Result, Ok, Err, if◌then◌else◌}
 use Rattle.desk_lines.specs.declared.store_fault.End.{End}
 use Rattle.desk_lines.specs.declared.store_fault.End.TheVariants as ends
