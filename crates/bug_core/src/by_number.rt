@@ -106,6 +106,13 @@ fn is_ascending(members: &[Member]) -> bool
     true
 }
 
+/// Adds a copy of the member at the end.
+pub(crate) fn add_copy(members: &mut Sequence<Member>, member: &Member) -> Result<(), AllocError>
+    ensures { OnOk result (members.new ≡ members.old ++ member.now ∷ []) }
+{
+    members.push(member.copy()?)
+}
+
 // Adds copies of the members up to the first one that is not below the number, and answers that
 // one and those after it.
 fn add_below<'a>(
@@ -120,7 +127,7 @@ fn add_below<'a>(
         if member.number >= number {
             return Ok(&members[i..]);
         }
-        merged.push(member.copy()?)?;
+        add_copy(merged, member)?;
     }
     Ok(&[])
 }
@@ -143,10 +150,10 @@ fn add_unless_first(
 ) -> Result<(), AllocError>
     ensures { OnOk result (merged.new ≡ merged.old ++ unless_first rest.now member.now) }
 {
-    if !starts_with(rest, member.number) {
-        merged.push(member.copy()?)?;
+    if starts_with(rest, member.number) {
+        return Ok(());
     }
-    Ok(())
+    add_copy(merged, member)
 }
 
 // Adds copies of the members at the end.
@@ -154,7 +161,7 @@ fn add_copies(merged: &mut Sequence<Member>, members: &[Member]) -> Result<(), A
     ensures { OnOk result (merged.new ≡ merged.old ++ members.now) }
 {
     for member in members {
-        merged.push(member.copy()?)?;
+        add_copy(merged, member)?;
     }
     Ok(())
 }

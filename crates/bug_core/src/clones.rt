@@ -14,25 +14,15 @@ use set_images::{archived_refusal, find_image};
 use std::alloc::{AllocError, Global};
 use std::collections::BTreeSet;
 
-// A copy of a bug's own fields under a number.
-fn clone_member(member: &Member, number: u64) -> Result<Member, AllocError>
-    ensures { IfOk result (λ m. m ≡ record member.now { number = number }) }
-{
-    Ok(Member {
-        number,
-        title: member.title.copy()?,
-        submitter: member.submitter.copy()?,
-    })
-}
-
 // A copy of a bug under a number, alone in its set.
 fn clone_image(shared: &Agreed, member: &Member, number: u64) -> Result<SetImage, AllocError>
     ensures { IfOk result (λ i. i ≡ clone_image shared.now member.now number) }
 {
-    let members = Members::one(clone_member(member, number)?);
+    let mut member = member.copy()?;
+    member.number = number;
     Ok(SetImage {
         shared: shared.copy()?,
-        members,
+        members: Members::one(member),
     })
 }
 

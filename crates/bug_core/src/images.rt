@@ -1,12 +1,12 @@
 //! Images of sets: the change that puts some in the place of those of named bugs.
 
-ghost use Rattle.std.specs.Prelude.{◌≡◌, [], ◌∷◌, ◌++◌, IfOk, OnOk};
+ghost use Rattle.std.specs.Prelude.{◌≡◌, ◌++◌, IfOk, OnOk};
 ghost use Rattle.bug_record.specs.Images.{numbers_of};
 ghost use Rattle.bug_core.specs.Others.{has_any, is_other, others};
 ghost use Rattle.bug_core.specs.Named.{named_numbers};
 
 use bug_record::{Change, Member, Sequence, SetImage};
-use std::alloc::{AllocError, Global};
+use std::alloc::AllocError;
 use std::collections::BTreeSet;
 
 /// So many bugs are found sooner by going over members for each than by a tree of numbers.
@@ -23,9 +23,12 @@ pub(crate) enum Named<'a> {
 fn has_some(members: &[Member], numbers: &BTreeSet<u64>) -> bool
     ensures { result ≡ has_any (numbers_of members.now) numbers.now.keys }
 {
-    members
-        .iter()
-        .any(|member| numbers.contains(&member.number))
+    for member in members {
+        if numbers.contains(&member.number) {
+            return true;
+        }
+    }
+    false
 }
 
 // Whether one of the numbers is that of a member.
@@ -89,19 +92,4 @@ pub(crate) fn replace(
         images: parts,
         next,
     })
-}
-
-/// The change that puts this image in the place of those of the bugs' sets, and keeps the others.
-pub(crate) fn replace_by_one(
-    alloc: Global,
-    image: SetImage,
-    images: &[SetImage],
-    named: Named,
-    next: u64,
-) -> Result<Change, AllocError>
-    ensures images { IfOk result (λ change. change.images ≡ image ∷ others (named_numbers named.entry) images.now) }
-    ensures next { IfOk result (λ change. change.next ≡ next) }
-{
-    let parts = Sequence::one(alloc, image);
-    replace(parts, images, named, next)
 }

@@ -16,12 +16,15 @@ use crate::by_number::joined_members;
 use crate::images::{FEW, Named, has_any};
 use crate::lookup::Lookup;
 use crate::marks::Marks;
-use bug_record::{Agreed, Member, Sequence, SetImage, Shared, Tag, Tags, add_names, add_numbers};
+use bug_record::{
+    Agreed, Member, Nodes, Sequence, SetImage, Shared, Tag, Tags, add_names, add_numbers, member_at,
+};
 use debver::Text;
-use set_images::{member_at, member_numbers};
+use set_images::member_numbers;
 use std::alloc::{AllocError, Global};
 use std::collections::BTreeSet;
 use std::marker::Model;
+use std::mem::replace;
 
 // Fields that are joined, which contracts see as such.
 // The affected packages, the marks and the blockers are kept apart from the others, so that one
@@ -47,8 +50,10 @@ impl Model for Joined {
 fn owner_of<'a>(lookup: &'a Lookup, number: u64) -> Option<&'a Text>
     ensures { option_copied result ≡ first_owner (bugs_at (bug_in lookup.now) (number ∷ [])) }
 {
-    let (image, _) = lookup.find_bug(number)?;
-    image.shared.fields().owner.as_ref()
+    match lookup.find_bug(number) {
+        Some((image, _)) => image.shared.fields().owner.as_ref(),
+        None => None,
+    }
 }
 
 // A copy of the owner of the first bug that has one.
@@ -72,21 +77,29 @@ fn add_tags(set: &mut Tags, tags: &[Tag]) -> Result<(), AllocError>
     Ok(())
 }
 
+// Puts the nodes that were gathered in the place of these.
+fn put_nodes(alloc: Global, nodes: &mut Nodes, marks: &mut Marks) -> Result<(), AllocError>
+    ensures { OnOk result (nodes.new ≡ marks.old) }
+{
+    *nodes = replace(marks, Marks::new(alloc)).into_nodes(alloc)?;
+    Ok(())
+}
+
 // Puts the affected packages, the marks and the blockers that were gathered into the fields.
 fn put_gathered(
     alloc: Global,
     shared: &mut Shared,
-    affects: BTreeSet<Text>,
-    found: Marks,
-    fixed: Marks,
+    affects: &mut BTreeSet<Text>,
+    found: &mut Marks,
+    fixed: &mut Marks,
     blockers: &BTreeSet<u64>,
 ) -> Result<(), AllocError>
     ensures { OnOk result
-        (shared.new ≡ record shared.old { affects = affects.keys; found = found; fixed = fixed; blockers = blockers.now.keys }) }
+        (shared.new ≡ record shared.old { affects = affects.old.keys; found = found.old; fixed = fixed.old; blockers = blockers.now.keys }) }
 {
-    shared.affects = Sequence::of_set(alloc, affects)?;
-    shared.found = found.into_nodes(alloc)?;
-    shared.fixed = fixed.into_nodes(alloc)?;
+    shared.affects = Sequence::of_set(alloc, replace(affects, BTreeSet::new(alloc)))?;
+    put_nodes(alloc, &mut shared.found, found)?;
+    put_nodes(alloc, &mut shared.fixed, fixed)?;
     shared.blockers = Sequence::in_order(alloc, blockers)?;
     Ok(())
 }
@@ -117,23 +130,22 @@ impl Joined {
     }
 
     // The fields.
-    fn into_shared(self, alloc: Global) -> Result<Shared, AllocError>
+    fn into_shared(mut self, alloc: Global) -> Result<Shared, AllocError>
         ensures { IfOk result (λ shared. shared ≡ self) }
     {
-        let mut shared = self.shared;
         let put = put_gathered(
             alloc,
-            &mut shared,
-            self.affects,
-            self.found,
-            self.fixed,
+            &mut self.shared,
+            &mut self.affects,
+            &mut self.found,
+            &mut self.fixed,
             &self.blockers,
         );
         match put {
-            Ok(()) => Ok(shared),
+            Ok(()) => Ok(self.shared),
             Err(error) => {
                 // In one call, for the proof's sake: the parts are many.
-                drop(shared);
+                drop(self);
                 Err(error)
             }
         }
@@ -176,15 +188,6 @@ fn joined_shared(
             Err(error)
         }
     }
-}
-
-// Puts the owner of the first of the bugs that has one into the fields.
-fn put_owner(shared: &mut Shared, lookup: &Lookup, numbers: &[u64]) -> Result<(), AllocError>
-    ensures { OnOk result
-        (shared.new ≡ record shared.old { owner = first_owner (bugs_at (bug_in lookup.now) numbers.now) }) }
-{
-    shared.owner = first_owner(lookup, numbers)?;
-    Ok(())
 }
 
 // Whether the number is that of a member.
@@ -237,7 +240,7 @@ fn settle(
     ensures { OnOk result (shared.new
         ≡ without_own members.now (record shared.old { owner = first_owner (bugs_at (bug_in lookup.now) numbers.now) })) }
 {
-    put_owner(shared, lookup, numbers)?;
+    shared.owner = first_owner(lookup, numbers)?;
     drop_own(alloc, shared, members)
 }
 

@@ -5,8 +5,8 @@ ghost use Rattle.bug_record.specs.Images.{bug_of, bug_in};
 ghost use Rattle.bug_record.specs.Words.{bug_refusal, first_bug_refusal};
 
 use crate::images::FEW;
-use bug_record::{Member, Refusal, SetImage};
-use set_images::{Index, archived_refusal, member_at};
+use bug_record::{Member, Refusal, SetImage, member_at};
+use set_images::{Index, archived_refusal};
 use std::alloc::{AllocError, Global};
 use std::marker::Model;
 

@@ -10,15 +10,17 @@ ghost use Rattle.bug_core.specs.Joins.{joined_image};
 ghost use Rattle.bug_core.specs.Others.{others};
 ghost use Rattle.bug_core.specs.Planned.{IsPlannedOf};
 
-use crate::images::{Named, replace_by_one};
+use crate::images::{Named, replace};
 use crate::joins::joined_image;
 use crate::lookup::{Lookup, first_refused};
-use bug_record::{Change, Field, Numbers, PlanFault, Refusal, SetImage, Shared, number_set};
+use bug_record::{
+    Change, Field, Numbers, PlanFault, Refusal, Sequence, SetImage, Shared, number_set,
+};
 use set_images::{archived_refusal, find_image, same_text};
 use std::alloc::{AllocError, Global};
 
 /// What has to be equal before bugs are merged.
-#[derive(Clone, Copy, Debug, PartialEq, Eq, Drop)]
+#[derive(Clone, Copy)]
 pub(crate) enum Agreement {
     /// Package, state, forwarded and severity.
     FourFields,
@@ -29,7 +31,7 @@ pub(crate) enum Agreement {
 fn difference(agreement: Agreement, first: &Shared, shared: &Shared) -> Option<Field>
     ensures { result ≡ difference_of agreement first.now shared.now }
 {
-    if first.package.as_str() != shared.package.as_str() {
+    if first.package != shared.package {
         return Some(Field::Package);
     }
     match agreement {
@@ -49,9 +51,13 @@ fn difference(agreement: Agreement, first: &Shared, shared: &Shared) -> Option<F
 fn differing(agreement: Agreement, first: &Shared, lookup: &Lookup, number: u64) -> Option<Refusal>
     ensures { result ≡ differing (difference_of agreement first.now) (bug_in lookup.now number) number }
 {
-    let (image, _) = lookup.find_bug(number)?;
-    let field = difference(agreement, first, image.shared.fields())?;
-    Some(Refusal::Differ(field, number))
+    let Some((image, _)) = lookup.find_bug(number) else {
+        return None;
+    };
+    match difference(agreement, first, image.shared.fields()) {
+        Some(field) => Some(Refusal::Differ(field, number)),
+        None => None,
+    }
 }
 
 // The refusal of the first bug that differs.
@@ -99,7 +105,8 @@ fn join_sets(
 {
     let set = number_set(alloc, numbers)?;
     let image = joined_image(alloc, first, lookup, images, numbers, &set)?;
-    replace_by_one(alloc, image, images, Named::Several(&set), next)
+    let parts = Sequence::one(alloc, image);
+    replace(parts, images, Named::Several(&set), next)
 }
 
 // The change that makes one set of those of a bug with these fields and of the others.

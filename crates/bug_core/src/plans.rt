@@ -19,10 +19,10 @@ ghost use Rattle.bug_core.specs.Planned.{step_with, IsPlanned, IsRecordsPlan};
 ghost use Rattle.bug_core.specs.Refused.{HasName, IsRefusedAs, IsFaultOfPlan};
 
 use crate::clones::plan_clone;
-use crate::images::{Named, replace_by_one};
+use crate::images::{Named, replace};
 use crate::merges::{Agreement, plan_merge};
 use crate::unmerge::plan_unmerge;
-use bug_record::{Agreed, Change, Command, PlanFault, Refusal, SetImage, Shared};
+use bug_record::{Agreed, Change, Command, PlanFault, Refusal, Sequence, SetImage, Shared};
 use record_changes::{members_with, shared_after};
 use set_images::{bug_named, find_image, records_refusal};
 use std::alloc::{AllocError, Global};
@@ -48,7 +48,7 @@ fn changed_set(
     let members = members_with(alloc, command, from, image.shared.fields(), &image.members)?;
     let image = SetImage { shared, members };
     let named = Named::One(bug_named(command));
-    replace_by_one(alloc, image, images, named, next)
+    replace(Sequence::one(alloc, image), images, named, next)
 }
 
 // What a command does to the records of the set of the bug that it names, where no test refuses it.

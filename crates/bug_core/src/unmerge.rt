@@ -7,6 +7,7 @@ ghost use Rattle.bug_core.specs.Joins.{is_part};
 ghost use Rattle.bug_core.specs.Others.{others};
 ghost use Rattle.bug_core.specs.Planned.{IsPlannedOf};
 
+use crate::by_number::add_copy;
 use crate::images::{Named, replace};
 use bug_record::{Agreed, Change, Member, Members, PlanFault, Refusal, Sequence, SetImage};
 use set_images::{archived_refusal, find_image};
@@ -34,7 +35,7 @@ fn add_part(
 {
     for member in members {
         if is_part(own, number, member) {
-            copies.push(member.copy()?)?;
+            add_copy(copies, member)?;
         }
     }
     Ok(())
@@ -80,9 +81,9 @@ fn two_images(
     ensures { IfOk result
         (λ is. is ≡ record { shared = shared.now; members = own } ∷ record { shared = shared.now; members = rest } ∷ []) }
 {
-    let own = part_image(shared, own)?;
-    let rest = part_image(shared, rest)?;
-    Ok(Sequence::from_vec(Vec::from_array(alloc, [own, rest])?))
+    let mut images = Sequence::one(alloc, part_image(shared, own)?);
+    images.push(part_image(shared, rest)?)?;
+    Ok(images)
 }
 
 // The change that puts both parts in the place of the set: the members of the number, and the rest.

@@ -1,8 +1,9 @@
 //! Bugs, and the images of sets of merged bugs.
 
 ghost use Rattle.std.specs.Prelude.{◌≡◌, IfOk};
+ghost use Rattle.std.specs.Option.{option_copied};
 ghost use Rattle.sequences.specs.Sets.{has};
-ghost use Rattle.bug_record.specs.Images.{numbers_of};
+ghost use Rattle.bug_record.specs.Images.{member_at, numbers_of};
 
 use crate::agreed::Agreed;
 use crate::members::Members;
@@ -92,18 +93,22 @@ impl Shared {
         ))
     }
 
-    // Copies of the tags, of the affected packages, of the found and fixed nodes, and of blockers.
-    fn copy_sets(&self) -> Result<(Tags, Names, Nodes, Nodes, Numbers), AllocError>
-        ensures { IfOk result
-            (λ r. r ≡ (self.now.tags, self.now.affects, self.now.found, self.now.fixed, self.now.blockers)) }
+    // Copies of the tags, of the affected packages, and of the blockers.
+    fn copy_sets(&self) -> Result<(Tags, Names, Numbers), AllocError>
+        ensures { IfOk result (λ r. r ≡ (self.now.tags, self.now.affects, self.now.blockers)) }
     {
         Ok((
             copy_tags(&self.tags)?,
             copy_names(&self.affects)?,
-            copy_nodes(&self.found)?,
-            copy_nodes(&self.fixed)?,
             self.blockers.copy()?,
         ))
+    }
+
+    // Copies of the found and of the fixed nodes.
+    fn copy_marks(&self) -> Result<(Nodes, Nodes), AllocError>
+        ensures { IfOk result (λ r. r ≡ (self.now.found, self.now.fixed)) }
+    {
+        Ok((copy_nodes(&self.found)?, copy_nodes(&self.fixed)?))
     }
 
     /// Equal fields, which share their texts with these.
@@ -114,8 +119,9 @@ impl Shared {
     {
         let texts = self.copy_texts()?;
         let sets = self.copy_sets()?;
+        let (found, fixed) = self.copy_marks()?;
         let (package, forwarded, owner) = texts;
-        let (tags, affects, found, fixed, blockers) = sets;
+        let (tags, affects, blockers) = sets;
         Ok(Shared {
             package,
             severity: self.severity,
@@ -169,4 +175,17 @@ impl SetImage {
             shared: self.shared.copy()?,
         })
     }
+}
+
+/// The member of the number; `None` where there is none.
+/// It takes no memory.
+pub fn member_at(members: &[Member], number: u64) -> Option<&Member>
+    ensures { option_copied result ≡ member_at members.now number }
+{
+    for member in members {
+        if member.number == number {
+            return Some(member);
+        }
+    }
+    None
 }

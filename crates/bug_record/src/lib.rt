@@ -16,7 +16,7 @@ mod tag;
 mod tags;
 
 pub use agreed::Agreed;
-pub use bug::{Bug, Member, SetImage, Shared};
+pub use bug::{Bug, Member, SetImage, Shared, member_at};
 pub use command::{
     AffectsStep, Change, Command, Field, PlanFault, Refusal, TagStep, VersionArg, Who,
 };

@@ -4,11 +4,13 @@
 #![tactic(auto)]
 
 mod command_word;
+mod dropping;
 mod laws;
 mod line;
 mod signs;
 
 pub use command_word::CommandWord;
+pub use dropping::drop_command;
 pub use laws::refusals_of_lines;
 pub use line::Line;
 pub use signs::Sign;

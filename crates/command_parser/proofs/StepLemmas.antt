@@ -9,6 +9,7 @@ use Rattle.command_grammar.specs.declared.signs.Sign.TheVariants.{Plus, Minus, E
 use Rattle.line_words.specs.Words.{words_with_commas}
 use Rattle.command_grammar.specs.Commands.{and_read, each_word, with_rest, sign_and_rest, adds_after, word_steps, all_steps}
 use Rattle.command_parser.specs.Reads.{Reads}
+use Rattle.command_parser.specs.Growing.{ReadsMore}
 use Rattle.command_parser.specs.declared.fault.LineFault.{LineFault}
 use Rattle.command_parser.specs.declared.fault.LineFault.TheVariants.{Refused, Memory}
 
@@ -83,3 +84,12 @@ pub rest-refused : {A : Type 0} (read : List ℕ → Result A Refusal) (rest : L
 rest-refused read rest words (Refused refusal) one =
     each_rest read rest words ∙ ap (λ r. and_read r (λ first. and_read (each_word read words) (λ more. Ok (first ++ more)))) one
 rest-refused read rest words Memory one = tt
+
+-- the words after it are refused
+pub rest-behind : {A : Type 0} (U : Type 0) (read : List ℕ → Result A Refusal) (rest : List ℕ) (words : List (List ℕ)) (first after : List A)
+    (fault : LineFault) → each_word read (with_rest rest []) ≡ Ok first
+    → ReadsMore {A = A} {U = U} (each_word read words) first after (Err fault) → Reads (each_word read (with_rest rest words)) (Err fault)
+rest-behind U read rest words first after (Refused refusal) one refused =
+    each_rest read rest words ∙ ap (λ r. and_read r (λ first. and_read (each_word read words) (λ more. Ok (first ++ more)))) one
+    ∙ ap (λ w. and_read w (λ more. Ok (first ++ more))) refused
+rest-behind U read rest words first after Memory one refused = tt

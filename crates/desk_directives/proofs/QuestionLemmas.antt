@@ -12,8 +12,8 @@ use Rattle.bug_record.specs.declared.bug.Member.{Member}
 use Rattle.bug_record.specs.declared.bug.SetImage.{SetImage}
 use Rattle.desk_text.specs.Answers.{bad_package_answer, no_bug_answer}
 use Rattle.desk_text.specs.Pages.{page_in}
-use Rattle.desk_store.specs.Store.{IsImageOf, Answers, AreWaitingOn}
-use Rattle.desk_directives.specs.Questions.{Told, refusal, list_at, list_told, page_at, page_told, IsTold}
+use Rattle.desk_store.specs.Store.{IsImageOf, Answers, AreWaitingOn, Faults}
+use Rattle.desk_directives.specs.Questions.{Told, refusal, list_at, list_told, page_at, page_told, IsTold, faults_after_question}
 use Rattle.desk_directives.specs.declared.told.Told.{Told as ToldBytes}
 use Rattle.desk_directives.specs.declared.told.QuestionFault.{QuestionFault}
 use Rattle.desk_directives.specs.declared.told.QuestionFault.TheVariants.{Memory, Store}
@@ -87,3 +87,9 @@ page_answered d e i n waiting asked (Err (Store fault)) h w is sure none = cc
 pub page_of_none : (d : Desk) (n : ℕ) → d.bug n ≡ None → page_told d n ≡ refusal (no_bug_answer n)
 unfolding page_told
 page_of_none d n h = ap (page_at d n) h
+
+-- want of memory is not counted
+pub not_counted : (r : Result ToldBytes QuestionFault) (faults : Faults) → IfErr r (λ f. f ≡ Memory) → faults ≡ faults_after_question r faults
+not_counted (Ok t) faults none = refl
+not_counted (Err Memory) faults none = refl
+not_counted (Err (Store fault)) faults none = cc

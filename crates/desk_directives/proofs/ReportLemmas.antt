@@ -1,7 +1,8 @@
 -- A report that is carried out in parts.
 use Rattle.std.proofs.Common.{◌≡◌, ◌≤◌, ◌<◌, ℕ, Bool, true, false, List, Option, Result, Ok, Err, sym, ◌∙◌, ap, refl, arith}
 use Rattle.std.proofs.Common.{subst}
-use Rattle.std.specs.Prelude.{nat_lt, if◌then◌else◌, IfOk, OnOk}
+use Rattle.std.specs.Prelude.{nat_lt, if◌then◌else◌, IfOk, OnOk, IfSome}
+use Rattle.std.specs.Result.{result_ok}
 use Rattle.std.proofs.lemmas.Bool.Decides.{nat_tests}
 use Rattle.version_nodes.specs.Nodes.{Node, node, node_of, IsRead}
 use Rattle.version_nodes.specs.declared.fault.NodeFault.{NodeFault}
@@ -88,3 +89,8 @@ pub of-two-texts : (source version : List ℕ) (r : Result Node NodeFault) → I
     → IfOk r (λ n. n ≡ node source version)
 of-two-texts source version (Ok n) read = ((nodes_exactly source version n).0 read).0
 of-two-texts source version (Err fault) read = tt
+
+-- what is known of a value where there is one
+pub of_ok : {T E : Type 0} (r : Result T E) (o : Option T) (P : T → Type 0) → o ≡ result_ok r → IfOk r P → IfSome o P
+of_ok (Ok v) o P e h = subst (λ z. IfSome z P) (sym e) h
+of_ok (Err fault) o P e h = subst (λ z. IfSome z P) (sym e) tt

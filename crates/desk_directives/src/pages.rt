@@ -42,15 +42,17 @@ fn page_at<S: Records>(
         (LeavesTried S.leaves store.old store.new (S.keeping store.old) (S.desk store.old) (S.desk store.new) (S.desk store.new)) }
     ensures count { S.faults store.new ≡ faults_after_question result (S.faults store.old) }
 {
-    let waiting = store.waiting_on(number)?;
-    text_of(
-        alloc,
-        &BugPage {
-            image,
-            number,
-            waiting,
-        },
-    )
+    match store.waiting_on(number) {
+        Ok(waiting) => text_of(
+            alloc,
+            &BugPage {
+                image,
+                number,
+                waiting,
+            },
+        ),
+        Err(fault) => Err(QuestionFault::Store(fault)),
+    }
 }
 
 /// The page of the bug of this number.

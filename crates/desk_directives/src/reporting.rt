@@ -1,18 +1,23 @@
 //! Reports of bugs.
 
-ghost use Rattle.std.specs.Prelude.{◌≡◌, false, is_some, OnOk, IfOk, IfErr};
+ghost use Rattle.std.specs.Prelude.{◌≡◌, ◌<◌, false, is_some, OnOk, IfOk, IfErr, IfSome};
 ghost use Rattle.std.specs.Option.{option_copied};
 ghost use Rattle.debver.specs.Names.{IsName, name_fault};
 ghost use Rattle.debver.specs.Cut.{IsVersion};
 ghost use Rattle.version_nodes.specs.Nodes.{node};
 ghost use Rattle.line_words.specs.Texts.{IsText, IfGiven};
+ghost use Rattle.line_words.specs.declared.named.TheConstants.{AFTER_LARGEST};
+ghost use Rattle.bug_record.specs.Sets.{Each};
+ghost use Rattle.bug_record.specs.Desk.{Desk, IsSound};
+ghost use Rattle.bug_record.specs.Images.{put, AreApart, HasMember, FitsDesk};
+ghost use Rattle.bug_record.specs.Steps.{reported};
 ghost use Rattle.desk_store.specs.Store.{Holds};
 ghost use Rattle.desk_store.specs.Tried.{LeavesTried, tried_by};
 ghost use Rattle.desk_directives.specs.Reports.{has_bad_version, node_reported, report_severity, report_of, desk_after, IsReported};
 ghost use Rattle.desk_directives.specs.ReportWords.{IsOfWords};
 ghost use Rattle.desk_directives.specs.Reports.{faults_after_report, AsksForNext};
 
-use bug_record::Severity;
+use bug_record::{Change, Severity};
 use debver::{Text, check, check_name};
 use desk_lines::StoreFault;
 use desk_store::Records;
@@ -121,6 +126,35 @@ fn node_reported<S: Records>(
     }
 }
 
+// The change of a report whose words are good: the new bug of the next number.
+// `None` where there was no memory.
+fn change_of<S: Records>(
+    alloc: Global,
+    store: &S,
+    from: &Text,
+    package: &str,
+    version: Option<&str>,
+    severity: Severity,
+    title: &str,
+    next: u64,
+) -> Option<Change>
+    requires sender { IsText from.now }
+    requires name { IsName «package».now }
+    requires version { IfGiven IsVersion (option_copied version) }
+    requires title { IsText title.now }
+    requires some_left { next < AFTER_LARGEST }
+    ensures right { (d : Desk) → IsSound d → d.next ≡ next → IfSome result (λ change. put d change
+        ≡ reported d from.now «package».now severity title.now (node_reported «package».now (option_copied version.entry))) }
+    ensures fits { (d : Desk) → IsSound d → d.next ≡ next → IfSome result (λ change. FitsDesk d change) }
+    ensures apart { IfSome result (λ change. AreApart change.images) }
+    ensures members { IfSome result (λ change. Each HasMember change.images) }
+{
+    match node_reported(alloc, store, package, version) {
+        Ok(node) => report_change(alloc, from, package, severity, title, node, next).ok(),
+        Err(_) => None,
+    }
+}
+
 /// Takes a report: a new bug of the next number, open and merged with none, whose submitter is the
 /// sender, whose text it shares, and which is found in the version of its package, if one is given.
 /// Answers its number.
@@ -153,8 +187,7 @@ pub fn report<S: Records>(
     if next >= AFTER_LARGEST {
         return Err(ReportFault::Full);
     }
-    let node = node_reported(alloc, store, package, version)?;
-    let Ok(change) = report_change(alloc, from, package, severity, title, node, next) else {
+    let Some(change) = change_of(alloc, store, from, package, version, severity, title, next) else {
         return Err(ReportFault::Store(StoreFault::Memory));
     };
     store.apply(&change)?;

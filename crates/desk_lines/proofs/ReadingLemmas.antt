@@ -228,3 +228,8 @@ fault_at_hand number fault unread at first short h = record {
   known = λ xs e. text_fault number fault (unread ++ xs) (take at unread) (raw_lines (drop (at + 1) unread ++ xs))
       (first_line [] unread xs at refl first) (omega (arith, short, length-take at unread)) h;
 }
+
+-- a line of which all that was unread is taken goes on with what is read next
+pub goes_on : {a b c : Option (List ℕ)} (s line piece : List ℕ) → Left a b (λ xs ys. s ++ xs ≡ line ++ ys) → Left b c (GivesBytes piece)
+    → Left a c (λ xs zs. s ++ xs ≡ line ++ (piece ++ zs))
+goes_on s line piece p q = left_then p q (λ xs ys zs is given. is ∙ ap (λ (w : List ℕ). line ++ w) given.0)

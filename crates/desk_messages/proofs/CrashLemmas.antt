@@ -32,6 +32,13 @@ asked_left y = record { honest = y.holds.honest; kept = y.holds.kept; fact = λ 
 pub holds_pair : {S : Type 0} {k h : S → Type 0} {a b : S} {P Q : Type 0} → Holds k h a b P → Holds k h a b Q → Holds k h a b (P × Q)
 holds_pair x y = record { honest = x.honest; kept = x.kept; fact = λ u w. (x.fact u w, y.fact u w) }
 
+-- a question, whatever is tried after it
+pub asked_once : {S : Type 0} (leaves : S → Holding → Holding → Type 0) → ((s : S) (x y : Holding) → leaves s x x → leaves s x y)
+    → (a b : S) (d d1 : Desk) (k k1 : Keeping) (tried : Holding) → d1 ≡ d → k1 ≡ k → ((x y : Holding) → leaves a x y → leaves b x y)
+    → LeavesTried leaves a b (d, k) (d1, k1) tried
+asked_once leaves either a b d d1 k k1 tried asked_d asked_k left = λ alone.
+    either b (d1, k1) tried (subst (λ (z : Holding). leaves b z z) (λ i. (sym asked_d i, sym asked_k i)) (left (d, k) (d, k) alone))
+
 -- a question, and then a step that failed
 pub left_failed : {S : Type 0} (leaves : S → Holding → Holding → Type 0) (a b c : S) (d d1 d2 : Desk) (k k1 k2 : Keeping)
     (after tried : Holding) → d1 ≡ d → k1 ≡ k → d2 ≡ d1 → k2 ≡ k1 → after ≡ tried → ((x y : Holding) → leaves a x y → leaves b x y)

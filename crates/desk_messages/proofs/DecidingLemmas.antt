@@ -1,6 +1,6 @@
 -- A line that is decided.
 use Rattle.std.proofs.Common.{◌≡◌, ℕ, List, [], ◌∷◌, ◌++◌, Option, Some, Result, Ok, Err, sym, ap, subst, refl, ◌∙◌}
-use Rattle.std.specs.Prelude.{IfOk, IfErr}
+use Rattle.std.specs.Prelude.{IfOk, IfErr, OnErr}
 use Rattle.bug_record.specs.Sets.{Each}
 use Rattle.bug_record.specs.Desk.{Desk}
 use Rattle.bug_record.specs.Commands.{names_in}
@@ -18,13 +18,15 @@ use Rattle.command_grammar.proofs.RefusalLemmas.{reading-of}
 use Rattle.bug_record.specs.declared.outcome.Outcome.{Outcome}
 use Rattle.bug_record.specs.declared.outcome.Outcome.TheVariants.{Refused, Stopped}
 use Rattle.desk_lines.specs.declared.store_fault.StoreFault.{StoreFault}
-use Rattle.desk_store.specs.Store.{Answers}
+use Rattle.desk_lines.specs.declared.store_fault.StoreFault.TheVariants.{Memory}
+use Rattle.desk_store.specs.Store.{Answers, Faults, faults_after}
+use Rattle.line_words.specs.Texts.{IfGiven}
 use Rattle.desk_store.specs.Kept.{IsGoodOutcome}
 use Rattle.desk_store.specs.Message.{Entry, machine, takes, does, with_outcome, names_given, names_of, known_names, unreadable_count, end_of}
 use Rattle.desk_store.specs.Progress.{HaveNumbers}
 use Rattle.desk_messages.specs.Commands.{Decides}
 use Rattle.desk_store.specs.Progress.{IsInStep, IsReady}
-use Rattle.desk_messages.specs.Taking.{IsDecision, DecidesLine, FitsDecided, plainly}
+use Rattle.desk_messages.specs.Taking.{IsDecision, DecidesLine, FitsDecided, HasMembers, plainly}
 use Rattle.desk_messages.specs.declared.command_decision.Decision.{Decision}
 use Rattle.desk_store.proofs.GivenLemmas.{known-push, known-same, given-of}
 use Rattle.desk_store.proofs.RefusalLemmas.{line-good}
@@ -95,6 +97,18 @@ pub fits_plainly : (d : Desk) (line : List ℕ) (outcome : Outcome) (result : Re
     → IfOk result (λ decided. decided ≡ Some (plainly line outcome)) → IfOk result (FitsDecided d)
 fits_plainly d line outcome (Err fault) h = tt
 fits_plainly d line outcome (Ok decided) h = subst (FitsDecided d) (sym h) (record { apart = tt; fits = tt })
+
+pub members_plainly : (line : List ℕ) (outcome : Outcome) (result : Result (Option (List ℕ × Decision)) StoreFault)
+    → IfOk result (λ decided. decided ≡ Some (plainly line outcome))
+    → IfOk result (λ decided. IfGiven (λ p. HasMembers p.1.change) decided)
+members_plainly line outcome (Err fault) h = tt
+members_plainly line outcome (Ok decided) h = subst (IfGiven (λ (p : List ℕ × Decision). HasMembers p.1.change)) (sym h) tt
+
+-- where memory alone may fail no fault is counted
+pub counts_memory : {T : Type 0} (result : Result T StoreFault) (faults : Faults) → OnErr result (result ≡ Err Memory)
+    → faults ≡ faults_after result faults
+counts_memory (Ok answer) faults h = refl
+counts_memory (Err fault) faults h = sym (ap (λ r. faults_after r faults) h)
 
 pub takes_stop : (sender line : List ℕ) (d : Desk) (before : List Entry) → reading line ≡ Ok Stop
     → takes sender (machine d before) line (reading line) ≡ machine d (before ++ (line, Stopped) ∷ [])

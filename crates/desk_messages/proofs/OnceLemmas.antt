@@ -1,5 +1,5 @@
 -- What a message that has an id is answered.
-use Rattle.std.proofs.Common.{◌≡◌, ℕ, false, List, Option, sym, ap, subst, ◌∙◌, ◌≤◌, ◌+◌, arith, take, drop, length, length-append}
+use Rattle.std.proofs.Common.{◌≡◌, ℕ, false, List, Option, refl, sym, ap, subst, ◌∙◌, ◌≤◌, ◌+◌, arith, take, drop, length, length-append}
 use Rattle.bug_record.specs.Desk.{Desk}
 use Rattle.bug_record.specs.Words.{Names}
 use Rattle.desk_lines.specs.Lines.{lines_of}
@@ -36,6 +36,14 @@ never_mismatch id sender message k known lines shown good is same ls os =
     subst (λ (w : List (List ℕ)). AreOfLines w shown) (sym ls)
     (subst (AreOfLines (lines_of message)) (sym (os ∙ ap outcomes_kept is))
     (of_lines sender message (k id) (subst (IsOfMessage sender message) is same) (λ kk e. (good id kk e).1)))
+
+-- what is kept of an id, and can't be this message's, is of another sender or another text
+pub reused : (id sender message : List ℕ) (k : Keeping) (known : Option Kept) → AreGoodKept k → known ≡ k id
+    → (IsOfMessage sender message known → AreOfLines (lines_of message) (outcomes_kept known) → ⊥)
+    → ¬ IsOfMessage sender message (k id)
+reused id sender message k known good is none = λ same.
+    let here = subst (IsOfMessage sender message) (sym is) same in
+    none here (never_mismatch id sender message k known (lines_of message) (outcomes_kept known) good is here refl refl)
 
 -- where the recalled outcomes end the message
 pub once-ended : (id sender message : List ℕ) (d d1 : Desk) (k k1 : Keeping) (known : Option Kept) (outs outcomes : List Entry)

@@ -1,5 +1,6 @@
 //! What one command of a message comes to, decided by questions to a store.
 
+ghost use Rattle.std.specs.Option.{option_copied};
 ghost use Rattle.std.specs.Prelude.{◌≡◌, ◌++◌, ℕ, List, None, IsTrue, IfOk, OnErr, Result};
 ghost use Rattle.bug_record.specs.Sets.{Each};
 ghost use Rattle.line_words.specs.Texts.{IsText, IfGiven};
@@ -7,6 +8,7 @@ ghost use Rattle.bug_record.specs.Desk.{Desk, IsSound};
 ghost use Rattle.bug_record.specs.Steps.{step};
 ghost use Rattle.bug_record.specs.Changed.{AreChanged, Replaces, changed_numbers};
 ghost use Rattle.bug_record.specs.Images.{AreApart, HasMember, bug_in, put};
+ghost use Rattle.bug_record.specs.Plans.{IsShownBy, IsOpenHeadFor};
 ghost use Rattle.bug_record.specs.Clones.{name_refusal};
 ghost use Rattle.bug_record.specs.Commands.{HasGoodParts, bugs_named, names_in};
 ghost use Rattle.bug_record.specs.Words.{Names};
@@ -23,6 +25,7 @@ ghost use Rattle.desk_store.specs.Message.{names_of};
 
 use bug_core::{changed, plan};
 use bug_record::{Change, Command, Numbers, Outcome, PlanFault, Refusal, SetImage, VersionArg};
+use command_grammar::drop_command;
 use desk_lines::StoreFault;
 use desk_store::{
     KnownNames, Records, command_told, name_refusal, names_in, note_names, refusal_meant,
@@ -33,6 +36,7 @@ use plan_images::{ask, written};
 use record_changes::leaves_members;
 use set_images::{bug_named, changed_fields};
 use std::alloc::{AllocError, Global};
+use version_nodes::Node;
 
 /// What a line comes to that has an outcome: the outcome, and the change that the line makes, if it
 /// makes one.
@@ -112,6 +116,37 @@ fn decide_change(
     })
 }
 
+// Decides one command that was told, of what a store showed of it; `taken` is the refusal of the
+// names that it gives.
+fn decide_shown(
+    alloc: Global,
+    from: &str,
+    taken: Option<Refusal>,
+    command: &Command<u64>,
+    images: &[SetImage],
+    next: u64,
+    open_head: Option<&Node>,
+) -> Result<Decision, StoreFault>
+    requires sender { IsText from.now }
+    requires parts { HasGoodParts command.now }
+    requires apart { AreApart images.now }
+    ensures decided { IfOk result (λ decision. (d : Desk) (names : Names) → IsShownBy d images.now next (bugs_named command.now)
+        → IsOpenHeadFor d command.now (option_copied open_head.entry) → taken ≡ name_refusal names (names_in command.now)
+        → DecidesTold from.now names d command.now decision) }
+    ensures free { IfOk result (λ decision. (numbers : List ℕ) → decision.outcome ≡ Outcome.Changed numbers → taken ≡ None) }
+    ensures members { IfOk result (λ decision. IfGiven (λ c. Each HasMember c.images) decision.change) }
+    ensures memory { OnErr result (result ≡ Result.Err StoreFault.Memory) }
+{
+    let planned = plan(alloc, command, from, images, next, open_head);
+    match with_names(taken, planned) {
+        Ok(change) => decide_change(alloc, command, images, next, change),
+        Err(PlanFault::Refused(refusal)) => {
+            Ok(without_change(Outcome::Refused(refusal_meant(refusal))))
+        }
+        Err(PlanFault::Memory) => Err(StoreFault::Memory),
+    }
+}
+
 // Decides one command that was told; `taken` is the refusal of the names that it gives.
 fn decide_told<S: Records>(
     alloc: Global,
@@ -134,14 +169,7 @@ fn decide_told<S: Records>(
     let (images, open_head) = ask(alloc, store, command)?;
     let next = store.next()?;
     let sets = images.as_slice();
-    let planned = plan(alloc, command, from, sets, next, open_head.as_ref());
-    match with_names(taken, planned) {
-        Ok(change) => decide_change(alloc, command, sets, next, change),
-        Err(PlanFault::Refused(refusal)) => {
-            Ok(without_change(Outcome::Refused(refusal_meant(refusal))))
-        }
-        Err(PlanFault::Memory) => Err(StoreFault::Memory),
-    }
+    decide_shown(alloc, from, taken, command, sets, next, open_head.as_ref())
 }
 
 // Decides one command that was told where these names are known, and notes those that it gives.
@@ -248,7 +276,7 @@ pub(crate) fn decide_command<S: Records>(
         Ok(command) => {
             let decided = decide_known(alloc, store, from, known, &command);
             // In one call, so that what is promised is not proved for each kind of command.
-            drop(command);
+            drop_command(command);
             decided
         }
         Err(_) => Err(StoreFault::Memory),

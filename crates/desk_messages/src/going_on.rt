@@ -56,17 +56,20 @@ fn take_line<S: Records>(
     ensures end { IfOk result (λ end. end_of progress.new.outcomes.items ≡ end) }
     ensures same { OnErr result (progress.new.outcomes.items ≡ progress.old.outcomes.items) }
 {
-    let Some((text, decision)) = decide_line(alloc, store, from, progress, line)? else {
-        return Ok(End::All);
-    };
-    store.keep(
-        id,
-        from,
-        message,
-        &decision.outcome,
-        decision.change.as_ref(),
-    )?;
-    Ok(settle(progress, text, decision.outcome))
+    match decide_line(alloc, store, from, progress, line) {
+        Ok(Some((text, decision))) => {
+            store.keep(
+                id,
+                from,
+                message,
+                &decision.outcome,
+                decision.change.as_ref(),
+            )?;
+            Ok(settle(progress, text, decision.outcome))
+        }
+        Ok(None) => Ok(End::All),
+        Err(fault) => Err(fault),
+    }
 }
 
 /// Takes the lines of a message that have no kept outcome, where the recalled outcomes don't end

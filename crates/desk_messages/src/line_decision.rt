@@ -17,7 +17,7 @@ ghost use Rattle.desk_messages.specs.Taking.{IsReadyFor, DecidesLine, FitsDecide
 
 use crate::command_decision::{Decision, decide_command, without_change};
 use bug_record::{Command, Outcome};
-use command_grammar::Line;
+use command_grammar::{Line, drop_command};
 use command_parser::{LineFault, read_line};
 use debver::Text;
 use desk_lines::StoreFault;
@@ -78,7 +78,7 @@ fn decide_command_line<S: Records>(
         Ok(text) => text,
         Err(fault) => {
             // In one call, so that what is promised is not proved for each kind of command.
-            drop(command);
+            drop_command(command);
             return Err(fault);
         }
     };

@@ -63,11 +63,14 @@ fn take_line<S: Records>(
     ensures end { IfOk result (λ end. end_of progress.new.outcomes.items ≡ end) }
     ensures same { OnErr result (progress.new.outcomes.items ≡ progress.old.outcomes.items) }
 {
-    let Some((text, decision)) = decide_line(alloc, store, from, progress, line)? else {
-        return Ok(End::All);
-    };
-    carry_out(store, &decision.change)?;
-    Ok(settle(progress, text, decision.outcome))
+    match decide_line(alloc, store, from, progress, line) {
+        Ok(Some((text, decision))) => {
+            carry_out(store, &decision.change)?;
+            Ok(settle(progress, text, decision.outcome))
+        }
+        Ok(None) => Ok(End::All),
+        Err(fault) => Err(fault),
+    }
 }
 
 /// Takes the lines of a message from this sender, as `receive` does: a line stands here without its

@@ -6,16 +6,19 @@ ghost use Rattle.line_words.specs.Texts.{IsText};
 ghost use Rattle.desk_lines.specs.Lines.{lines_of};
 ghost use Rattle.desk_store.specs.Store.{Holds, Asks};
 ghost use Rattle.line_words.specs.Ids.{is_id};
-ghost use Rattle.desk_store.specs.Kept.{IsOfMessage, outcomes_kept};
+ghost use Rattle.desk_store.specs.Kept.{IsOfMessage, outcomes_kept, told};
+ghost use Rattle.desk_store.specs.Message.{known_names, unreadable_count, end_of};
+ghost use Rattle.message_recall.specs.Recalling.{AreOfLines, IsTaken};
 ghost use Rattle.desk_messages.specs.Ends.{IsLineOf};
 ghost use Rattle.desk_messages.specs.Once.{IsOnce, faults_after_once};
 ghost use Rattle.desk_messages.specs.Crashes.{LeavesOnce};
 
 use crate::going_on::go_on;
 use bug_record::Outcome;
+use debver::Text;
 use desk_lines::{StoreFault, split_lines};
 use desk_store::{Kept, Received, Records, goes_on, is_id};
-use message_recall::{RecallFault, recall};
+use message_recall::{RecallFault, Recalled, recall};
 use std::alloc::Global;
 use thiserror::Error;
 
@@ -65,6 +68,59 @@ fn outcomes_kept(kept: &Option<Kept>) -> &[Outcome]
     }
 }
 
+// The lines of a message, and what is recalled of them where what is kept of its id is of this
+// sender and this text; else that is a mismatch too.
+fn recall_kept(
+    alloc: Global,
+    from: &str,
+    message: &str,
+    kept: &Option<Kept>,
+) -> Result<(Vec<Text>, Recalled), RecallFault>
+    ensures same { IfOk result (λ r. IsOfMessage from.now message.now kept.now) }
+    ensures split { IfOk result (λ r. r.0.items ≡ lines_of message.now) }
+    ensures outcomes { IfOk result (λ r. r.1.progress.outcomes.items ≡ told (lines_of message.now) (outcomes_kept kept.now)) }
+    ensures lines { IfOk result (λ r. IsTaken (lines_of message.now) (outcomes_kept kept.now) r.1.lines) }
+    ensures counted { IfOk result (λ r. r.1.progress.unreadable ≡ unreadable_count r.1.progress.outcomes.items) }
+    ensures known { IfOk result (λ r. r.1.progress.known.names ≡ known_names r.1.progress.outcomes.items) }
+    ensures end { IfOk result (λ r. end_of r.1.progress.outcomes.items ≡ r.1.end) }
+    ensures mismatch { result ≡ Result.Err RecallFault.Mismatch → IsOfMessage from.now message.now kept.now
+        → AreOfLines (lines_of message.now) (outcomes_kept kept.now) → ⊥ }
+{
+    if !is_of_message(kept, from, message) {
+        return Err(RecallFault::Mismatch);
+    }
+    let Ok(lines) = split_lines(alloc, message) else {
+        return Err(RecallFault::Memory);
+    };
+    match recall(alloc, lines.as_slice(), outcomes_kept(kept)) {
+        Ok(recalled) => Ok((lines, recalled)),
+        Err(fault) => Err(fault),
+    }
+}
+
+// The same, and what is kept is given up.
+// This is one call, so that what is promised is not proved beside it at each return.
+fn recall_given(
+    alloc: Global,
+    from: &str,
+    message: &str,
+    kept: Option<Kept>,
+) -> Result<(Vec<Text>, Recalled), RecallFault>
+    ensures same { IfOk result (λ r. IsOfMessage from.now message.now kept) }
+    ensures split { IfOk result (λ r. r.0.items ≡ lines_of message.now) }
+    ensures outcomes { IfOk result (λ r. r.1.progress.outcomes.items ≡ told (lines_of message.now) (outcomes_kept kept)) }
+    ensures lines { IfOk result (λ r. IsTaken (lines_of message.now) (outcomes_kept kept) r.1.lines) }
+    ensures counted { IfOk result (λ r. r.1.progress.unreadable ≡ unreadable_count r.1.progress.outcomes.items) }
+    ensures known { IfOk result (λ r. r.1.progress.known.names ≡ known_names r.1.progress.outcomes.items) }
+    ensures end { IfOk result (λ r. end_of r.1.progress.outcomes.items ≡ r.1.end) }
+    ensures mismatch { result ≡ Result.Err RecallFault.Mismatch → IsOfMessage from.now message.now kept
+        → AreOfLines (lines_of message.now) (outcomes_kept kept) → ⊥ }
+{
+    let recalled = recall_kept(alloc, from, message, &kept);
+    drop(kept);
+    recalled
+}
+
 /// Takes a message that has an id from this sender, as `receive` does, but each of its lines that
 /// has an outcome acts once: the outcomes that are kept of the message are answered again, and it
 /// goes on at the first line that has an outcome and has none kept.
@@ -105,18 +161,12 @@ pub fn receive_once<S: Records>(
         return Err(OnceFault::BadId);
     }
     let kept = store.kept(id)?;
-    if !is_of_message(&kept, from, message) {
-        return Err(OnceFault::Reused);
-    }
-    let Ok(lines) = split_lines(alloc, message) else {
-        return Err(OnceFault::Store(StoreFault::Memory));
-    };
-    let lines = lines.as_slice();
-    match recall(alloc, lines, outcomes_kept(&kept)) {
-        Ok(recalled) => {
+    match recall_given(alloc, from, message, kept) {
+        Ok((lines, recalled)) => {
             if !goes_on(recalled.end) {
                 return Ok(recalled.progress.received(recalled.end));
             }
+            let lines = lines.as_slice();
             Ok(go_on(alloc, store, id, from, message, lines, recalled))
         }
         Err(RecallFault::Mismatch) => Err(OnceFault::Reused),

@@ -7,6 +7,7 @@ ghost use Rattle.desk_store.specs.Message.{names_of};
 
 use crate::known::KnownNames;
 use bug_record::{Command, Outcome, Refusal, Sequence};
+use command_grammar::drop_command;
 use line_words::Named;
 use std::alloc::{AllocError, Global};
 
@@ -48,7 +49,7 @@ pub fn into_names(alloc: Global, command: Command<Named>) -> Sequence<u32>
     match command {
         Command::Clone(_, names) => names,
         other => {
-            drop(other);
+            drop_command(other);
             Sequence::new(alloc)
         }
     }

@@ -31,12 +31,13 @@ fn number_told(known: &KnownNames, bug: Named) -> u64
 fn numbers_told(
     alloc: Global,
     known: &KnownNames,
-    bugs: &[Named],
+    bugs: Sequence<Named>,
 ) -> Result<Sequence<u64>, AllocError>
-    ensures { IfOk result (λ numbers. numbers ≡ map (number_told known.now.names) bugs.now) }
+    ensures { IfOk result (λ numbers. numbers ≡ map (number_told known.now.names) bugs) }
 {
     let mut numbers = Sequence::new(alloc);
-    for bug in bugs {
+    let words = bugs.as_slice();
+    for bug in words {
         numbers.push(number_told(known, *bug))?;
     }
     Ok(numbers)
@@ -66,21 +67,21 @@ fn numbered(
         }
         Command::Merge(bug, bugs) => Command::Merge(
             number_told(known, bug),
-            numbers_told(alloc, known, bugs.as_slice())?,
+            numbers_told(alloc, known, bugs)?,
         ),
         Command::ForceMerge(bug, bugs) => Command::ForceMerge(
             number_told(known, bug),
-            numbers_told(alloc, known, bugs.as_slice())?,
+            numbers_told(alloc, known, bugs)?,
         ),
         Command::Unmerge(bug) => Command::Unmerge(number_told(known, bug)),
         Command::Clone(bug, names) => Command::Clone(number_told(known, bug), names),
         Command::Block(bug, bugs) => Command::Block(
             number_told(known, bug),
-            numbers_told(alloc, known, bugs.as_slice())?,
+            numbers_told(alloc, known, bugs)?,
         ),
         Command::Unblock(bug, bugs) => Command::Unblock(
             number_told(known, bug),
-            numbers_told(alloc, known, bugs.as_slice())?,
+            numbers_told(alloc, known, bugs)?,
         ),
         Command::Forwarded(bug, address) => Command::Forwarded(number_told(known, bug), address),
         Command::NotForwarded(bug) => Command::NotForwarded(number_told(known, bug)),

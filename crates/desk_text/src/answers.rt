@@ -6,7 +6,7 @@ ghost use Rattle.desk_text.specs.Answers.{refused_line, report_answer, branch_an
 ghost use Rattle.desk_text.specs.Answers.{no_bug_answer, bad_directive_answer, report_refusal, nodes_refusal};
 
 use crate::report_fault::ReportFault;
-use crate::texts::{append_number, fault_text, full_text};
+use crate::texts::{append_between, append_three, fault_text, full_text};
 use desk_lines::StoreFault;
 use itoa::Buffer;
 use std::alloc::{AllocError, Global};
@@ -19,32 +19,21 @@ fn refused_line(alloc: Global, why: &str) -> Result<Vec<u8>, AllocError>
     ensures { IfOk result (λ line. line.items ≡ refused_line why.now) }
 {
     let mut line = Vec::with_capacity(alloc, ANSWER)?;
-    line.extend_from_slice(b"NO ")?;
-    line.extend_from_slice(why.as_bytes())?;
-    line.push(b'\n')?;
-    Ok(line)
+    match append_three(&mut line, "NO ", why, "\n") {
+        Ok(()) => Ok(line),
+        Err(fault) => Err(fault),
+    }
 }
 
-// The refusal of a bug, by its number.
-fn refused_at(alloc: Global, why: &str, number: u64) -> Result<Vec<u8>, AllocError>
-    ensures { IfOk result (λ line. line.items ≡ refused_line (why.now ++ decimal number)) }
+// A number after a text, as a line.
+fn number_line(alloc: Global, before: &str, number: u64) -> Result<Vec<u8>, AllocError>
+    ensures { IfOk result (λ line. line.items ≡ as_line (before.now ++ decimal number)) }
 {
     let mut line = Vec::with_capacity(alloc, ANSWER)?;
-    line.extend_from_slice(b"NO ")?;
-    line.extend_from_slice(why.as_bytes())?;
-    append_number(&mut line, number)?;
-    line.push(b'\n')?;
-    Ok(line)
-}
-
-fn number_line(alloc: Global, number: u64) -> Result<Vec<u8>, AllocError>
-    ensures { IfOk result (λ line. line.items ≡ as_line (codes "OK " ++ decimal number)) }
-{
-    let mut line = Vec::with_capacity(alloc, ANSWER)?;
-    line.extend_from_slice(b"OK ")?;
-    append_number(&mut line, number)?;
-    line.push(b'\n')?;
-    Ok(line)
+    match append_between(&mut line, before, number, "\n") {
+        Ok(()) => Ok(line),
+        Err(fault) => Err(fault),
+    }
 }
 
 /// The line that answers a directive at which the store failed.
@@ -86,7 +75,7 @@ pub fn report_answer(
     ensures { IfOk result (λ line. line.items ≡ report_answer answer.now) }
 {
     match answer {
-        Ok(number) => number_line(alloc, *number),
+        Ok(number) => number_line(alloc, "OK ", *number),
         Err(ReportFault::Store(fault)) => fault_answer(alloc, *fault),
         Err(refusal) => refused_line(alloc, report_refusal(*refusal)),
     }
@@ -168,7 +157,7 @@ pub fn bad_package_answer() -> &'static str
 pub fn no_bug_answer(alloc: Global, number: u64) -> Result<Vec<u8>, AllocError>
     ensures { IfOk result (λ line. line.items ≡ no_bug_answer number) }
 {
-    refused_at(alloc, "no such bug ", number)
+    number_line(alloc, "NO no such bug ", number)
 }
 
 /// The line that answers a line that begins with `@` and is no directive.

@@ -7,7 +7,7 @@ ghost use Rattle.version_nodes.specs.Nodes.{node_text};
 ghost use Rattle.bug_record.specs.Severities.{severity_name};
 ghost use Rattle.desk_text.specs.Lists.{right_aligned, left_aligned, state_word, row_text, list_head, list_text};
 
-use crate::texts::{append_node, append_number, append_text};
+use crate::texts::{append_between, append_node, append_text, append_three};
 use bug_record::{ListRow, Severity};
 use itoa::Buffer;
 use std::alloc::AllocError;
@@ -64,24 +64,18 @@ fn severity_and_state(severity: Severity, closed: bool) -> &'static str
     }
 }
 
-// Appends what precedes the title of a row.
-fn append_columns(out: &mut Vec<u8>, row: &ListRow) -> Result<(), AllocError>
-    ensures ok { OnOk result (out.new.items ≡ out.old.items ++ (right_aligned 9 (decimal row.now.number) ++ codes "  "
-        ++ left_aligned 9 (severity_name row.now.severity) ++ codes "  " ++ state_word row.now.closed ++ codes "  ")) }
-    ensures err { OnErr result (StartsWith out.new.items out.old.items) }
-{
-    append_right(out, Buffer::new().format(row.number))?;
-    append_text(out, severity_and_state(row.severity, row.closed))
-}
-
 // Appends the line of a row.
 fn append_row(out: &mut Vec<u8>, row: &ListRow) -> Result<(), AllocError>
     ensures ok { OnOk result (out.new.items ≡ out.old.items ++ row_text row.now) }
     ensures err { OnErr result (StartsWith out.new.items out.old.items) }
 {
-    append_columns(out, row)?;
-    append_text(out, row.title.as_str())?;
-    append_text(out, "\n")
+    append_right(out, Buffer::new().format(row.number))?;
+    append_three(
+        out,
+        severity_and_state(row.severity, row.closed),
+        row.title.as_str(),
+        "\n",
+    )
 }
 
 // Appends the lines of rows.
@@ -101,9 +95,7 @@ fn append_subject(out: &mut Vec<u8>, package: &str, node: &Node) -> Result<(), A
         ++ (codes "Bugs in " ++ «package».now ++ codes " at " ++ node_text node.now)) }
     ensures err { OnErr result (StartsWith out.new.items out.old.items) }
 {
-    append_text(out, "Bugs in ")?;
-    append_text(out, package)?;
-    append_text(out, " at ")?;
+    append_three(out, "Bugs in ", package, " at ")?;
     append_node(out, node)
 }
 
@@ -118,9 +110,7 @@ fn append_head(
     ensures err { OnErr result (StartsWith out.new.items out.old.items) }
 {
     append_subject(out, package, node)?;
-    append_text(out, ": ")?;
-    append_number(out, count as u64)?;
-    append_text(out, "\n")
+    append_between(out, ": ", count as u64, "\n")
 }
 
 fn append_list(

@@ -10,11 +10,10 @@ ghost use Rattle.desk_text.specs.Pages.{page_line, text_or_dash, yes_or_no, name
 ghost use Rattle.desk_text.specs.Pages.{bug_lines, people_lines, mark_lines, relation_lines, page_text, page_in};
 
 use crate::lists::state_word;
-use crate::texts::{append_node, append_numbers, append_text};
-use bug_record::{Member, Numbers, Sequence, SetImage, Shared, Tag};
+use crate::texts::{append_node, append_numbers, append_text, append_three};
+use bug_record::{Member, Numbers, Sequence, SetImage, Shared, Tag, member_at};
 use debver::Text;
 use itoa::Buffer;
-use set_images::member_at;
 use std::alloc::{AllocError, Global};
 use version_nodes::Node;
 
@@ -32,9 +31,7 @@ pub struct BugPage {
 fn append_line(out: &mut Vec<u8>, label: &str, text: &str) -> Result<(), AllocError>
     ensures { OnOk result (out.new.items ≡ out.old.items ++ page_line label.now text.now) }
 {
-    append_text(out, label)?;
-    append_text(out, text)?;
-    append_text(out, "\n")
+    append_three(out, label, text, "\n")
 }
 
 fn yes_or_no(answer: bool) -> &'static str
@@ -93,7 +90,6 @@ fn append_each_tag(out: &mut Vec<u8>, tags: &[Tag]) -> Result<(), AllocError>
 }
 
 // Appends the line of the tags.
-#[tactic(auto, unfolding(crate::specs::Pages::page_line))]
 fn append_tags(out: &mut Vec<u8>, tags: &[Tag]) -> Result<(), AllocError>
     ensures { OnOk result (out.new.items ≡ out.old.items ++ page_line (codes "Tags:") (names_or_dash tag_name tags.now)) }
 {
@@ -117,7 +113,6 @@ fn append_each_name(out: &mut Vec<u8>, names: &[Text]) -> Result<(), AllocError>
 }
 
 // Appends the line of the packages that a bug affects.
-#[tactic(auto, unfolding(crate::specs::Pages::page_line))]
 fn append_affects(out: &mut Vec<u8>, names: &[Text]) -> Result<(), AllocError>
     ensures { OnOk result (out.new.items ≡ out.old.items ++ page_line (codes "Affects:") (names_or_dash (λ name. name) names.now)) }
 {
@@ -141,7 +136,6 @@ fn append_each_node(out: &mut Vec<u8>, nodes: &[Node]) -> Result<(), AllocError>
 }
 
 // Appends a line of nodes.
-#[tactic(auto, unfolding(crate::specs::Pages::page_line))]
 fn append_nodes(out: &mut Vec<u8>, label: &str, nodes: &[Node]) -> Result<(), AllocError>
     ensures { OnOk result (out.new.items ≡ out.old.items ++ page_line label.now (names_or_dash node_text nodes.now)) }
 {
@@ -164,7 +158,6 @@ fn append_marks(out: &mut Vec<u8>, shared: &Shared) -> Result<(), AllocError>
 }
 
 // Appends a line of numbers.
-#[tactic(auto, unfolding(crate::specs::Pages::page_line))]
 fn append_number_line(out: &mut Vec<u8>, label: &str, numbers: &[u64]) -> Result<(), AllocError>
     ensures { OnOk result (out.new.items ≡ out.old.items ++ page_line label.now (names_or_dash decimal numbers.now)) }
 {
@@ -204,25 +197,41 @@ fn append_relations(
     Ok(())
 }
 
+// Appends the page of a bug that is this member of the image, and is merged with these others.
+fn append_page(
+    out: &mut Vec<u8>,
+    page: &BugPage,
+    member: &Member,
+    others: &[u64],
+) -> Result<(), AllocError>
+    ensures { OnOk result (out.new.items ≡ out.old.items ++ (bug_lines page.now.number (bug_of page.now.image member.now)
+        ++ people_lines (bug_of page.now.image member.now) ++ mark_lines page.now.image.shared
+        ++ relation_lines page.now.image.shared.blockers page.now.waiting others.now)) }
+{
+    let image = &page.image;
+    append_bug(out, page.number, member, image)?;
+    append_people(out, member, image)?;
+    let shared = image.shared.fields();
+    append_marks(out, shared)?;
+    append_relations(
+        out,
+        shared.blockers.as_slice(),
+        page.waiting.as_slice(),
+        others,
+    )
+}
+
 // The page of a bug that is this member of the image.
 fn page_of(alloc: Global, page: &BugPage, member: &Member) -> Result<Vec<u8>, AllocError>
     ensures { IfOk result (λ text. text.items
         ≡ page_text page.now.number (bug_of page.now.image member.now) page.now.waiting) }
 {
-    let image = &page.image;
-    let others = other_numbers(alloc, image.members.as_slice(), page.number)?;
-    let blockers = image.shared.fields().blockers.as_slice();
+    let others = other_numbers(alloc, page.image.members.as_slice(), page.number)?;
     let mut text = Vec::new(alloc);
-    append_bug(&mut text, page.number, member, image)?;
-    append_people(&mut text, member, image)?;
-    append_marks(&mut text, image.shared.fields())?;
-    append_relations(
-        &mut text,
-        blockers,
-        page.waiting.as_slice(),
-        others.as_slice(),
-    )?;
-    Ok(text)
+    match append_page(&mut text, page, member, others.as_slice()) {
+        Ok(()) => Ok(text),
+        Err(fault) => Err(fault),
+    }
 }
 
 /// Appends the page of a bug, which is a member of the page's image: sixteen lines that tell its

@@ -41,16 +41,24 @@ pub(crate) fn append_text(out: &mut Vec<u8>, text: &str) -> Result<(), AllocErro
     out.extend_from_slice(text.as_bytes())
 }
 
-pub(crate) fn append_number(out: &mut Vec<u8>, number: u64) -> Result<(), AllocError>
-    ensures ok { OnOk result (out.new.items ≡ out.old.items ++ decimal number) }
-    ensures err { OnErr result (out.new.items ≡ out.old.items) }
+/// Appends three texts.
+pub(crate) fn append_three(
+    out: &mut Vec<u8>,
+    first: &str,
+    second: &str,
+    third: &str,
+) -> Result<(), AllocError>
+    ensures ok { OnOk result (out.new.items ≡ out.old.items ++ (first.now ++ (second.now ++ third.now))) }
+    ensures err { OnErr result (StartsWith out.new.items out.old.items) }
     ensures utf8 { IsUtf8 out.old.items → IsUtf8 out.new.items }
 {
-    append_text(out, Buffer::new().format(number))
+    append_text(out, first)?;
+    append_text(out, second)?;
+    append_text(out, third)
 }
 
-// Appends a number between two texts.
-fn append_between(
+/// Appends a number between two texts.
+pub(crate) fn append_between(
     out: &mut Vec<u8>,
     before: &str,
     number: u64,
@@ -60,9 +68,7 @@ fn append_between(
     ensures err { OnErr result (StartsWith out.new.items out.old.items) }
     ensures utf8 { IsUtf8 out.old.items → IsUtf8 out.new.items }
 {
-    append_text(out, before)?;
-    append_number(out, number)?;
-    append_text(out, after)
+    append_three(out, before, Buffer::new().format(number), after)
 }
 
 // Appends what is said of a bug.
@@ -81,13 +87,10 @@ pub(crate) fn append_node(out: &mut Vec<u8>, node: &Node) -> Result<(), AllocErr
     ensures err { OnErr result (StartsWith out.new.items out.old.items) }
     ensures utf8 { IsUtf8 out.old.items → IsUtf8 out.new.items }
 {
-    append_text(out, node.source())?;
-    append_text(out, "/")?;
-    append_text(out, node.version())
+    append_three(out, node.source(), "/", node.version())
 }
 
 // Appends that a bug is still found at a node.
-#[tactic(auto, unfolding(crate::specs::Texts::still_found_text))]
 fn append_still_found(out: &mut Vec<u8>, node: &Node) -> Result<(), AllocError>
     ensures ok { OnOk result (out.new.items ≡ out.old.items ++ still_found_text node.now) }
     ensures err { OnErr result (StartsWith out.new.items out.old.items) }
@@ -97,7 +100,6 @@ fn append_still_found(out: &mut Vec<u8>, node: &Node) -> Result<(), AllocError>
     append_node(out, node)
 }
 
-#[tactic(auto, unfolding(crate::specs::Texts::difference_text))]
 fn append_refusal(out: &mut Vec<u8>, refusal: &Refusal) -> Result<(), AllocError>
     ensures ok { OnOk result (out.new.items ≡ out.old.items ++ refusal_text refusal.now) }
     ensures err { OnErr result (StartsWith out.new.items out.old.items) }
@@ -223,9 +225,7 @@ fn append_echo(out: &mut Vec<u8>, line: &str) -> Result<(), AllocError>
     ensures err { OnErr result (StartsWith out.new.items out.old.items) }
     ensures utf8 { IsUtf8 out.old.items → IsUtf8 out.new.items }
 {
-    append_text(out, "> ")?;
-    append_text(out, line)?;
-    append_text(out, "\n")
+    append_three(out, "> ", line, "\n")
 }
 
 fn append_outcome(out: &mut Vec<u8>, line: &str, outcome: &Outcome) -> Result<(), AllocError>
@@ -238,15 +238,12 @@ fn append_outcome(out: &mut Vec<u8>, line: &str, outcome: &Outcome) -> Result<()
     append_text(out, "\n")
 }
 
-#[tactic(auto, unfolding(crate::specs::Texts::fault_answer))]
 fn append_fault(out: &mut Vec<u8>, fault: StoreFault) -> Result<(), AllocError>
     ensures ok { OnOk result (out.new.items ≡ out.old.items ++ fault_text fault) }
     ensures err { OnErr result (StartsWith out.new.items out.old.items) }
     ensures utf8 { IsUtf8 out.old.items → IsUtf8 out.new.items }
 {
-    append_text(out, "Store fault: ")?;
-    append_text(out, fault.word())?;
-    append_text(out, ".\n")
+    append_three(out, "Store fault: ", fault.word(), ".\n")
 }
 
 // The line at which the store failed, and the fault's line.

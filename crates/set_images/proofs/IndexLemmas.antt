@@ -1,9 +1,10 @@
 -- The position of a bug is that of the bug that the images show.
-use Rattle.std.proofs.Common.{◌≡◌, ◌+◌, ℕ, suc, true, false, cond, eqb, List, [], ◌∷◌, Option, Some, None, sym, refl, ap, ◌∙◌}
+use Rattle.std.proofs.Common.{◌≡◌, ◌+◌, ℕ, suc, true, false, cond, eqb, List, [], ◌∷◌, Option, Some, None, Bor, length, sym, refl, ap, ◌∙◌, subst}
 use Rattle.std.proofs.Common.{arith}
 use Rattle.std.specs.Prelude.{option_map, slice_get}
-use Rattle.std.specs.Option.{option_or, option_and_then}
-use Rattle.std.proofs.lemmas.Option.{none-some}
+use Rattle.std.specs.Option.{option_or, option_and_then, option_copied}
+use Rattle.std.specs.Slice.{IsItemAt}
+use Rattle.std.proofs.lemmas.Option.{none-some, slice_get_read, slice_get_past}
 use Rattle.bug_record.specs.Images.{member_at, bug_of, bug_in}
 use Rattle.bug_record.specs.declared.bug.Member.{Member}
 use Rattle.bug_record.specs.declared.bug.SetImage.{SetImage}
@@ -81,3 +82,30 @@ positions-right is n = positions-show is 0 is (λ k. ap (slice_get is) (from_zer
   where
     from_zero : (k : ℕ) → 0 + k ≡ k
     from_zero k = omega arith
+
+-- what a look-up by index gives, of a list that is shown
+pub looked-up : {X : Type 0} (all shown : List X) (k : ℕ) (r : Option (Bor X)) → IsItemAt all k r → all ≡ shown
+    → slice_get shown k ≡ option_copied r
+looked-up {X} all shown k r h v = ap (λ (xs : List X). slice_get xs k) (sym v) ∙ got r h
+  where
+    got : (r : Option (Bor X)) → IsItemAt all k r → slice_get all k ≡ option_copied r
+    got None h = slice_get_past all k h.3
+    got (Some x) h = slice_get_read all (length all) k x.now refl h.3.0 h.1
+
+-- the bug at the position that a look-up gives, or none
+pub bug-there : (all shown : List SetImage) (n : ℕ) (r : Option (Bor Position)) (p : Option Position) → option_copied r ≡ p
+    → bug_at all p ≡ bug_in all n → all ≡ shown → (s : Option (Bor Position)) → r ≡ s
+    → bug_at shown (option_copied s) ≡ bug_in shown n
+bug-there all shown n r p e h v s q =
+    ap (λ (z : Option (Bor Position)). bug_at shown (option_copied z)) (sym q) ∙ ap (bug_at shown) e
+    ∙ subst (λ (js : List SetImage). bug_at js p ≡ bug_in js n) v h
+
+-- it is of an image that is there, and of a member of that
+pub bug-of_image : (is : List SetImage) (n : ℕ) (p : Position) → bug_at is (Some p) ≡ bug_in is n → (o : Option SetImage)
+    → slice_get is p.image ≡ o → bug_in is n ≡ option_and_then (λ i. option_map (bug_of i) (slice_get i.members p.member)) o
+bug-of_image is n p h o e = sym h ∙ ap (option_and_then (λ i. option_map (bug_of i) (slice_get i.members p.member))) e
+
+pub bug-of_member : (is : List SetImage) (n : ℕ) (p : Position) → bug_at is (Some p) ≡ bug_in is n → (i : SetImage)
+    → slice_get is p.image ≡ Some i → (o : Option Member) → slice_get i.members p.member ≡ o
+    → bug_in is n ≡ option_map (bug_of i) o
+bug-of_member is n p h i e o f = bug-of_image is n p h (Some i) e ∙ ap (option_map (bug_of i)) f

@@ -14,12 +14,12 @@ use crate::equal::{same_images, same_set, same_texts};
 use crate::index::Index;
 use crate::kept::{changed_in_place, changed_together, is_ascending, is_kept};
 use crate::parted::{changed_parted, is_parted};
-use bug_record::{Member, Numbers, Sequence, SetImage};
+use bug_record::{Member, Numbers, Sequence, SetImage, add_number as insert_number};
 use std::alloc::{AllocError, Global};
 use std::collections::BTreeSet;
 
 // The positions of the two sets that were compared last, and whether they are the same.
-#[derive(Clone, Copy, Debug, PartialEq, Eq, Drop)]
+#[derive(Clone, Copy)]
 struct Compared {
     before: usize,
     after: usize,
@@ -73,10 +73,10 @@ fn add_number(
     ensures right { OnOk result (IsRight before.now after.now last.new) }
     ensures numbers { OnOk result (IsJoined set.old.keys (λ n. (number == n) && differs before.now after.now n) set.new.keys) }
 {
-    if !same_bug(last, before, after, number) {
-        set.insert(number)?;
+    if same_bug(last, before, after, number) {
+        return Ok(());
     }
-    Ok(())
+    insert_number(set, number)
 }
 
 // Adds the numbers of the members that differ.

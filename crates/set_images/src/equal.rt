@@ -3,25 +3,12 @@
 ghost use Rattle.std.specs.Prelude.{◌≡◌, ◌≢◌, false, IsTrue};
 ghost use Rattle.std.specs.Str.{bytes_eq};
 ghost use Rattle.bug_record.specs.Images.{numbers_of};
-ghost use Rattle.bug_record.specs.Changed.{same_nodes, same_names, same_tags, same_shared};
-ghost use Rattle.bug_record.specs.Differences.{same_text, same_state};
+ghost use Rattle.bug_record.specs.Changed.{same_tags, same_shared};
+ghost use Rattle.bug_record.specs.Differences.{same_text};
 ghost use Rattle.set_images.specs.Changes.{same_texts, same_set, same_member, same_members, same_image, same_images};
 
 use bug_record::{Member, SetImage, Shared, Tag};
 use debver::Text;
-use version_nodes::Node;
-
-fn same_nodes(a: &[Node], b: &[Node]) -> bool
-    ensures { result ≡ same_nodes a.now b.now }
-{
-    a == b
-}
-
-fn same_names(a: &[Text], b: &[Text]) -> bool
-    ensures { result ≡ same_names a.now b.now }
-{
-    a == b
-}
 
 fn same_tags(a: &[Tag], b: &[Tag]) -> bool
     ensures { result ≡ same_tags a.now b.now }
@@ -42,16 +29,10 @@ pub fn same_text(a: &Option<Text>, b: &Option<Text>) -> bool
     ensures { result ≡ same_text a.now b.now }
 {
     match (a, b) {
-        (Some(text), Some(other)) => text.as_str() == other.as_str(),
+        (Some(text), Some(other)) => *text == *other,
         (None, None) => true,
         (Some(_), None) | (None, Some(_)) => false,
     }
-}
-
-fn same_state(a: &Shared, b: &Shared) -> bool
-    ensures { result ≡ same_state a.now b.now }
-{
-    a.closed == b.closed
 }
 
 // Whether a flag, the severity or the length of a list differs, for which no text is compared.
@@ -70,15 +51,15 @@ fn differ_at_once(a: &Shared, b: &Shared) -> bool
 fn same_fields(a: &Shared, b: &Shared) -> bool
     ensures { result ≡ same_shared a.now b.now }
 {
-    a.package.as_str() == b.package.as_str()
+    a.package == b.package
         && a.severity.rank() == b.severity.rank()
-        && same_state(a, b)
+        && a.closed == b.closed
         && same_text(&a.forwarded, &b.forwarded)
         && same_text(&a.owner, &b.owner)
         && same_tags(a.tags.as_slice(), b.tags.as_slice())
-        && same_names(a.affects.as_slice(), b.affects.as_slice())
-        && same_nodes(a.found.as_slice(), b.found.as_slice())
-        && same_nodes(a.fixed.as_slice(), b.fixed.as_slice())
+        && a.affects == b.affects
+        && a.found == b.found
+        && a.fixed == b.fixed
         && a.blockers == b.blockers
         && a.archived == b.archived
 }
@@ -109,7 +90,7 @@ pub fn same_numbers(a: &[Member], b: &[Member]) -> bool
 pub(crate) fn same_texts(a: &Member, b: &Member) -> bool
     ensures { result ≡ same_texts a.now b.now }
 {
-    a.title.as_str() == b.title.as_str() && a.submitter.as_str() == b.submitter.as_str()
+    a.title == b.title && a.submitter == b.submitter
 }
 
 /// Whether the sets of two images are the same bugs, with equal shared fields.

@@ -1,8 +1,7 @@
-//! The image of a bug's set, a bug in it, and the numbers of its bugs.
+//! The image of a bug's set, and the numbers of its bugs.
 
 ghost use Rattle.std.specs.Prelude.{◌≡◌, MatchOption, Some, None, IfOk};
-ghost use Rattle.std.specs.Option.{option_copied};
-ghost use Rattle.bug_record.specs.Images.{image_with, member_at, numbers_of};
+ghost use Rattle.bug_record.specs.Images.{image_with, numbers_of};
 ghost use Rattle.bug_record.specs.Sets.{number_set};
 
 use bug_record::{Member, SetImage, add_number};
@@ -13,17 +12,9 @@ use std::collections::BTreeSet;
 pub fn find_image(images: &[SetImage], number: u64) -> Option<&SetImage>
     ensures { MatchOption result (image_with images.now number ≡ None) (λ i. image_with images.now number ≡ Some i.now) }
 {
-    images.iter().find(|image| image.has(number))
-}
-
-/// The member of the number; `None` where there is none.
-/// It takes no memory.
-pub fn member_at(members: &[Member], number: u64) -> Option<&Member>
-    ensures { option_copied result ≡ member_at members.now number }
-{
-    for member in members {
-        if member.number == number {
-            return Some(member);
+    for image in images {
+        if image.has(number) {
+            return Some(image);
         }
     }
     None

@@ -13,7 +13,7 @@ use std::collections::BTreeMap;
 use std::marker::Model;
 
 /// Where a bug stands: the position of its image, and its position among the members.
-#[derive(Clone, Copy, Debug, PartialEq, Eq, Drop)]
+#[derive(Clone, Copy)]
 pub(crate) struct Position {
     image: usize,
     member: usize,
@@ -102,10 +102,16 @@ impl<'a> Index<'a> {
         ensures { MatchOption result (bug_in self.now number ≡ None)
             (λ p. (bug_in self.now number ≡ Some (bug_of p.1.now p.2.now)) × (slice_get self.now p.0 ≡ Some p.1.now)) }
     {
-        let position = self.positions.get(&number)?;
-        let image = self.images.get(position.image)?;
-        let member = image.members.as_slice().get(position.member)?;
-        Some((position.image, image, member))
+        let Some(position) = self.positions.get(&number) else {
+            return None;
+        };
+        let Some(image) = self.images.get(position.image) else {
+            return None;
+        };
+        match image.members.as_slice().get(position.member) {
+            Some(member) => Some((position.image, image, member)),
+            None => None,
+        }
     }
 
     /// The image and the member of a bug.
@@ -113,7 +119,9 @@ impl<'a> Index<'a> {
         ensures { MatchOption result (bug_in self.now number ≡ None)
             (λ p. bug_in self.now number ≡ Some (bug_of p.0.now p.1.now)) }
     {
-        let (_, image, member) = self.find(number)?;
-        Some((image, member))
+        match self.find(number) {
+            Some((_, image, member)) => Some((image, member)),
+            None => None,
+        }
     }
 }

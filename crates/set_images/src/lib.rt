@@ -16,7 +16,7 @@ mod sorted;
 
 pub use changes::{changed, changed_fields};
 pub use equal::{equal_members, same_numbers, same_text};
-pub use images::{find_image, member_at, member_numbers};
+pub use images::{find_image, member_numbers};
 pub use index::Index;
 pub use laws::{changed_numbers_differ, new_bugs_are_changed};
 pub use named::{bug_named, other_bugs};

@@ -46,3 +46,12 @@ pub returns-in-Ok-changed_set-clause-leaves : goal.returns-in-Ok-changed_set-cla
 returns-in-Ok-changed_set-clause-leaves c = λ h.
     begins-alike c.args.image.now _ _ _ (members-unchanged c.args.from.now c.args.command.now c.args.image.now.shared h c.args.image.now.members)
     c.in-Ok-changed_set.ensures.images
+
+pub returns-in-Err-Memory-clause-leaves : goal.returns-in-Err-Memory-clause-leaves
+returns-in-Err-Memory-clause-leaves c = λ k. tt
+
+pub returns-in-Err-Refused-clause-leaves : goal.returns-in-Err-Refused-clause-leaves
+returns-in-Err-Refused-clause-leaves c = λ k. tt
+
+pub returns-in-Err-clause-leaves : goal.returns-in-Err-clause-leaves
+returns-in-Err-clause-leaves c = λ k. tt

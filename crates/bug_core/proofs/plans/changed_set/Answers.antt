@@ -1,5 +1,6 @@
-use Rattle.std.proofs.Common.{◌≡◌, [], ◌∷◌, ◌∙◌, List, subst, IfOk}
+use Rattle.std.proofs.Common.{◌≡◌, [], ◌∷◌, ◌++◌, ◌∙◌, List, subst, IfOk}
 use Rattle.std.specs.Prelude.{map}
+use Rattle.std.proofs.lemmas.Result.{IfOk-from_err}
 use Rattle.record_changes.specs.Members.{member_after}
 use Rattle.bug_record.specs.declared.command.Change.{Change}
 use Rattle.bug_record.specs.declared.bug.SetImage.{SetImage}
@@ -12,6 +13,22 @@ returns-clause-images c =
     ≡ map (member_after c.args.from.now c.args.command.now c.args.image.now.shared) c.args.image.now.members
     = c.in_ok-members.ensures
     ∙ (λ j. map (member_after c.args.from.now c.args.command.now (c.fields.ensures j)) c.args.image.now.members) in
-    subst (λ (is : List SetImage). IfOk c.replace_by_one.result (λ (change : Change). change.images ≡ is))
-    (λ j. record { shared = c.in_ok-shared.ensures j; members = members j } ∷ others (c.bug_named.ensures j ∷ []) c.args.images.now)
-    c.replace_by_one.ensures.images
+    subst (λ (is : List SetImage). IfOk c.replace.result (λ (change : Change). change.images ≡ is))
+    (λ j. (c.one.ensures ∙ (λ k. record { shared = c.in_ok-shared.ensures k; members = members k } ∷ [])) j
+    ++ others (c.bug_named.ensures j ∷ []) c.args.images.now)
+    c.replace.ensures.images
+
+pub returns-in_err-shared-clause-images : goal.returns-in_err-shared-clause-images
+returns-in_err-shared-clause-images c = IfOk-from_err _ _ c.from_residual.ensures.0
+
+pub returns-in_err-shared-clause-next : goal.returns-in_err-shared-clause-next
+returns-in_err-shared-clause-next c = IfOk-from_err _ _ c.from_residual.ensures.0
+
+pub returns-in_err-members-clause-images : goal.returns-in_err-members-clause-images
+returns-in_err-members-clause-images c = IfOk-from_err _ _ c.from_residual-in_err-members.ensures.0
+
+pub returns-in_err-members-clause-next : goal.returns-in_err-members-clause-next
+returns-in_err-members-clause-next c = IfOk-from_err _ _ c.from_residual-in_err-members.ensures.0
+
+pub returns-clause-next : goal.returns-clause-next
+returns-clause-next c = c.replace.ensures.next

@@ -1,6 +1,7 @@
 use Rattle.std.proofs.Common.{◌≡◌, ℕ, false, [], ◌∷◌, Err, sym, ap, ◌∙◌, subst, IfOk}
 use Rattle.std.proofs.lemmas.Option.{same_Some}
 use Rattle.std.specs.Option.{option_copied}
+use Rattle.std.proofs.lemmas.Result.{IfOk-from_err}
 use Rattle.bug_record.specs.Images.{image_with}
 use Rattle.bug_record.specs.declared.command.PlanFault.TheVariants.{Refused}
 use Rattle.bug_record.specs.declared.command.Refusal.TheVariants.{NoBug}
@@ -47,3 +48,12 @@ returns-clause-leaves c = λ i h k.
     subst (λ (j : SetImage). IfOk c.change_records.result (λ (change : Change). BeginAlike (j ∷ []) change.images)) e
     (c.change_records.ensures.leaves
     (subst (λ (j : SetImage). changes_members c.args.command.now j.shared ≡ false) (sym e) k))
+
+pub returns-in_default-clause-leaves : goal.returns-in_default-clause-leaves
+returns-in_default-clause-leaves c = λ i h k. tt
+
+pub returns-in-Some-2-clause-leaves : goal.returns-in-Some-2-clause-leaves
+returns-in-Some-2-clause-leaves c = λ i h k. tt
+
+pub returns-in_err-refusal-clause-leaves : goal.returns-in_err-refusal-clause-leaves
+returns-in_err-refusal-clause-leaves c = λ i h k. IfOk-from_err _ _ c.from_residual.ensures.0

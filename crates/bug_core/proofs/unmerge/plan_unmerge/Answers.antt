@@ -1,6 +1,7 @@
 use Rattle.std.proofs.Common.{◌≡◌, false, true, [], ◌∷◌, ◌++◌, List, length, refl, sym, ap, ◌∙◌, subst, arith}
 use Rattle.std.specs.Prelude.{filter, ◌==◌}
 use Rattle.std.proofs.lemmas.Bool.{false≢true, eqb-true}
+use Rattle.std.proofs.lemmas.Result.{IfOk-from_err}
 use Rattle.bug_record.specs.declared.bug.Member.{Member}
 use Rattle.bug_record.specs.Images.{AreApart}
 use Rattle.bug_core.specs.Joins.{is_part}
@@ -68,3 +69,18 @@ returns-in_err-rest-clause-planned c = planned-no_memory _ _ _ _ c.from_residual
 
 pub returns-in_err-part_set-clause-planned : goal.returns-in_err-part_set-clause-planned
 returns-in_err-part_set-clause-planned c = planned-no_memory _ _ _ _ c.from_residual-in_err-part_set.result c.from_residual-in_err-part_set.ensures.1
+
+pub returns-in_default-clause-apart : goal.returns-in_default-clause-apart
+returns-in_default-clause-apart c = tt
+
+pub returns-then-is_empty-clause-apart : goal.returns-then-is_empty-clause-apart
+returns-then-is_empty-clause-apart c = tt
+
+pub returns-in-Some-archived_refusal-clause-apart : goal.returns-in-Some-archived_refusal-clause-apart
+returns-in-Some-archived_refusal-clause-apart c = tt
+
+pub returns-in_err-rest-clause-apart : goal.returns-in_err-rest-clause-apart
+returns-in_err-rest-clause-apart c = IfOk-from_err _ _ c.from_residual.ensures.0
+
+pub returns-in_err-part_set-clause-apart : goal.returns-in_err-part_set-clause-apart
+returns-in_err-part_set-clause-apart c = IfOk-from_err _ _ c.from_residual-in_err-part_set.ensures.0

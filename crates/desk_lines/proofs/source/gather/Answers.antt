@@ -5,7 +5,7 @@ use Rattle.std.proofs.lemmas.List.{drop-drop}
 use Rattle.std.proofs.lemmas.Result.{err_from_is_err_and}
 use Rattle.desk_lines.specs.Buffered.{Buffered}
 use Rattle.desk_lines.specs.Pieces.{IsFirstFeed}
-use Rattle.desk_lines.proofs.ReadingLemmas.{line_ended, last_ended, all_taken, all_free, rest_too_long, piece_too_long}
+use Rattle.desk_lines.proofs.ReadingLemmas.{line_ended, last_ended, all_taken, all_free, rest_too_long, piece_too_long, goes_on}
 use Rattle.desk_lines.proofs.source.gather.Goals as goal
 
 pub returns-in_err-take_bytes-clause-fault : goal.returns-in_err-take_bytes-clause-fault
@@ -138,3 +138,21 @@ returns-in_err-take_bytes-2-clause-unasked g c = search rules
 
 pub returns-in_err-take_bytes-2-clause-spent : goal.returns-in_err-take_bytes-2-clause-spent
 returns-in_err-take_bytes-2-clause-spent g c = search rules
+
+pub loop-line-preserved : goal.loop-line-preserved
+loop-line-preserved g c =
+    let all = ap length c.unread-count.ensures.bytes in
+    let is = c.in_ok-take_bytes.ensures.line in
+    record {
+      short = c.in_ok-take_bytes.ensures.short;
+      no_feed = all_free c.loop-line.line.items c.loop-line.source.unread c.take_bytes.new.line.items (length c.unread-count.result.now)
+          all is c.loop-line.invariant.no_feed c.loop-line.invariant.no_end;
+      no_end = search rules;
+      read = goes_on c.args.source.now.unread c.take_bytes.new.line.items c.refill.new.source.unread
+          (all_taken c.args.source.now.unread c.loop-line.line.items c.loop-line.source.unread c.take_bytes.new.line.items
+          (length c.unread-count.result.now) all is c.loop-line.invariant.read) c.in_ok-refill.ensures.read;
+      reads = search rules;
+      no_more = search rules;
+      unasked = search rules;
+      spent = search rules;
+    }

@@ -1,24 +1,16 @@
 use Rattle.std.proofs.Common.{◌++◌, codes}
 use Rattle.version_nodes.specs.Nodes.{node_text}
-use Rattle.desk_text.proofs.Appends.{and_then, last_ok, within_err}
+use Rattle.desk_text.proofs.Appends.{stopped_within, then_written}
 use Rattle.desk_text.proofs.lists.append_subject.Goals as goal
 
-pub returns-clause-ok : goal.returns-clause-ok
-returns-clause-ok c =
-    let a = c.args.out.now.items in
-    let p = c.args.«package».now in
-    last_ok c.append_node.result a ((codes "Bugs in " ++ p) ++ codes " at ") (node_text c.args.node.now) _ _
-    (and_then a (codes "Bugs in " ++ p) (codes " at ")
-    (and_then a (codes "Bugs in ") p c.in_ok-append_text.ensures.ok c.in_ok-append_text-2.ensures.ok)
-    c.in_ok-append_text-3.ensures.ok)
-    c.append_node.ensures.ok
+pub returns-in_err-append_three : goal.returns-in_err-append_three
+returns-in_err-append_three c =
+    stopped_within c.from_residual.result c.args.out.now.items
+    (codes "Bugs in " ++ c.args.«package».now ++ codes " at " ++ node_text c.args.node.now) c.append_three.new.out.items
+    c.from_residual.ensures.0 c.in_err-append_three.ensures.err
 
-pub returns-clause-err : goal.returns-clause-err
-returns-clause-err c =
-    let a = c.args.out.now.items in
-    let p = c.args.«package».now in
-    within_err c.append_node.result a ((codes "Bugs in " ++ p) ++ codes " at ") _ _
-    (and_then a (codes "Bugs in " ++ p) (codes " at ")
-    (and_then a (codes "Bugs in ") p c.in_ok-append_text.ensures.ok c.in_ok-append_text-2.ensures.ok)
-    c.in_ok-append_text-3.ensures.ok)
-    c.append_node.ensures.err
+pub returns : goal.returns
+returns c =
+    then_written c.append_node.result c.args.out.now.items (codes "Bugs in " ++ c.args.«package».now ++ codes " at ")
+    c.append_three.new.out.items (node_text c.args.node.now) c.append_node.new.out.items c.in_ok-append_three.ensures.ok
+    c.append_node.ensures.ok c.append_node.ensures.err

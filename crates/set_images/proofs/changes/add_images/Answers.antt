@@ -1,4 +1,6 @@
-use Rattle.std.proofs.Common.{List, ◌&&◌, ◌∙◌, subst}
+use Rattle.std.proofs.Common.{List, ◌&&◌, ◌∙◌, subst, arith}
+use Rattle.std.proofs.lemmas.Result.{IfOk-from_err}
+use Rattle.std.proofs.lemmas.Grind.{common_steps}
 use Rattle.bug_record.specs.Sets.{has}
 use Rattle.bug_record.specs.Images.{numbers_of}
 use Rattle.bug_record.specs.declared.bug.Member.{Member}
@@ -24,3 +26,15 @@ loop-image-preserved c = record {
       c.args.images.now c.loop-image.image-index c.image-item.result c.loop-image-test.true c.image-item.is (joined c) n
       ∙ c.loop-image.invariant.numbers n;
 }
+
+pub returns-in_err-add_members-clause-numbers : goal.returns-in_err-add_members-clause-numbers
+returns-in_err-add_members-clause-numbers c = IfOk-from_err _ _ c.from_residual.ensures.0
+
+pub returns-in_err-add_members-clause-right : goal.returns-in_err-add_members-clause-right
+returns-in_err-add_members-clause-right c = IfOk-from_err _ _ c.from_residual.ensures.0
+
+pub returns-clause-numbers : goal.returns-clause-numbers
+returns-clause-numbers c = grind (arith, common_steps)
+
+pub returns-clause-right : goal.returns-clause-right
+returns-clause-right c = grind (arith, common_steps)

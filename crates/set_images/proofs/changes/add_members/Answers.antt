@@ -1,4 +1,6 @@
-use Rattle.std.proofs.Common.{◌∙◌}
+use Rattle.std.proofs.Common.{◌∙◌, arith}
+use Rattle.std.proofs.lemmas.Result.{IfOk-from_err}
+use Rattle.std.proofs.lemmas.Grind.{common_steps}
 use Rattle.set_images.specs.Changes.{differs}
 use Rattle.set_images.proofs.JoinLemmas.{join-member}
 use Rattle.set_images.proofs.changes.add_members.Goals as goal
@@ -11,3 +13,15 @@ loop-member-preserved c = record {
       c.args.members.now c.loop-member.member-index c.member-item.result c.loop-member-test.true c.member-item.is
       c.in_ok-add_number.ensures.numbers n ∙ c.loop-member.invariant.numbers n;
 }
+
+pub returns-in_err-add_number-clause-numbers : goal.returns-in_err-add_number-clause-numbers
+returns-in_err-add_number-clause-numbers c = IfOk-from_err _ _ c.from_residual.ensures.0
+
+pub returns-in_err-add_number-clause-right : goal.returns-in_err-add_number-clause-right
+returns-in_err-add_number-clause-right c = IfOk-from_err _ _ c.from_residual.ensures.0
+
+pub returns-clause-numbers : goal.returns-clause-numbers
+returns-clause-numbers c = grind (arith, common_steps)
+
+pub returns-clause-right : goal.returns-clause-right
+returns-clause-right c = grind (arith, common_steps)

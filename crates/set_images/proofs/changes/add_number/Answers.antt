@@ -1,12 +1,15 @@
-use Rattle.std.proofs.Common.{◌≡◌, true, not, sym, ap, ◌∙◌}
+use Rattle.std.proofs.Common.{◌≡◌, true, not, refl, sym, ap, ◌∙◌}
+use Rattle.std.proofs.lemmas.Result.{on_ok_weaker}
 use Rattle.set_images.specs.Changes.{differs}
-use Rattle.sequences.proofs.OrderedLemmas.{with_key}
-use Rattle.set_images.proofs.JoinLemmas.{join-number}
+use Rattle.set_images.proofs.JoinLemmas.{join-number, join-none}
 use Rattle.set_images.proofs.changes.add_number.Goals as goal
 
-pub returns-in_ok-insert-clause-numbers : goal.returns-in_ok-insert-clause-numbers
-returns-in_ok-insert-clause-numbers c =
+pub returns-clause-numbers : goal.returns-clause-numbers
+returns-clause-numbers c =
     let differ : differs c.args.before.now c.args.after.now c.args.number ≡ true =
-    ap not (sym c.same_bug.ensures.value ∙ c.if-not-same_bug.true) in
-    join-number (differs c.args.before.now c.args.after.now) c.args.set.now.keys c.insert.new.self.keys c.args.number differ
-    (c.in_ok-insert.ensures.keys ∙ with_key c.args.set.now.keys c.args.number)
+    ap not (sym c.same_bug.ensures.value ∙ c.if-same_bug.false) in
+    on_ok_weaker c.add_number.result (λ e. join-number (differs c.args.before.now c.args.after.now) c.args.set.now.keys
+    c.add_number.new.set.keys c.args.number differ e) c.add_number.ensures
+
+pub returns-then-same_bug-clause-numbers : goal.returns-then-same_bug-clause-numbers
+returns-then-same_bug-clause-numbers c = join-none (differs c.args.before.now c.args.after.now) c.args.set.now.keys c.args.set.now.keys c.args.number (ap not (sym c.same_bug.ensures.value ∙ c.if-same_bug.true)) refl

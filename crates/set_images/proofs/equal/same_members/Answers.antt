@@ -10,3 +10,6 @@ returns-then-not-same_member c = grind (arith, common_steps)
 
 pub returns : goal.returns
 returns c = grind (arith, common_steps)
+
+pub returns-then-a-b : goal.returns-then-a-b
+returns-then-a-b c = grind (arith, common_steps)

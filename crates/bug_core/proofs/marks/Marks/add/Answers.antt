@@ -1,6 +1,8 @@
-use Rattle.std.proofs.Common.{◌≡◌, [], None, true, sym, ap, ◌∙◌, subst, length}
+use Rattle.std.proofs.Common.{◌≡◌, [], None, true, sym, ap, ◌∙◌, subst, length, arith}
 use Rattle.std.specs.Prelude.{◌==◌}
 use Rattle.std.specs.List.Sorted.{IsStrictlySortedBy}
+use Rattle.std.proofs.lemmas.Result.{IfOk-from_err}
+use Rattle.std.proofs.lemmas.Grind.{common_steps}
 use Rattle.version_nodes.specs.Nodes.{node_cmp}
 use Rattle.bug_core.specs.Gathered.{is_ordered}
 use Rattle.bug_core.specs.Joins.{with_nodes}
@@ -32,3 +34,15 @@ returns c =
     both-added c.self.inside.list c.args.self.now c.args.nodes.now c.in_ok-both.field-0.keys c.self.inside.tree
     c.self.view_is c.in_default.is c.self.invariant
     (c.in_ok-both.ensures ∙ (λ j. with_nodes (with_nodes [] (c.as_slice-4.ensures j)) (c.as_slice-5.ensures j)))
+
+pub returns-in-Some : goal.returns-in-Some
+returns-in-Some c = grind (arith, common_steps)
+
+pub returns-then-is_empty : goal.returns-then-is_empty
+returns-then-is_empty c = grind (arith, common_steps)
+
+pub returns-in_err-self-inside : goal.returns-in_err-self-inside
+returns-in_err-self-inside c = IfOk-from_err _ _ c.from_residual.ensures.0
+
+pub returns-in_err-both : goal.returns-in_err-both
+returns-in_err-both c = IfOk-from_err _ _ c.from_residual-in_err-both.ensures.0

@@ -1,6 +1,6 @@
 use Rattle.std.proofs.Common.{arith}
 use Rattle.std.proofs.lemmas.Grind.{common_steps}
-use Rattle.set_images.proofs.images.member_at.Goals as goal
+use Rattle.bug_core.proofs.by_number.add_copies.Goals as goal
 
 pub loop-member-preserved : goal.loop-member-preserved
 loop-member-preserved c = grind (arith, common_steps)

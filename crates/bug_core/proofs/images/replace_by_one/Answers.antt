@@ -1,6 +1,0 @@
-use Rattle.std.proofs.Common.{arith}
-use Rattle.std.proofs.lemmas.Grind.{common_steps}
-use Rattle.bug_core.proofs.images.replace_by_one.Goals as goal
-
-pub returns-clause-images : goal.returns-clause-images
-returns-clause-images c = grind (arith, common_steps)

@@ -1,0 +1,12 @@
+use Rattle.std.proofs.Common.{arith}
+use Rattle.std.proofs.lemmas.Grind.{common_steps}
+use Rattle.bug_record.proofs.bug.member_at.Goals as goal
+
+pub loop-member-preserved : goal.loop-member-preserved
+loop-member-preserved c = grind (arith, common_steps)
+
+pub returns-then-member-number : goal.returns-then-member-number
+returns-then-member-number c = grind (arith, common_steps)
+
+pub returns : goal.returns
+returns c = grind (arith, common_steps)

@@ -1,0 +1,14 @@
+use Rattle.std.proofs.Common.{codes}
+use Rattle.desk_text.proofs.PageLemmas.{dash_line, names_line}
+use Rattle.desk_text.proofs.pages.append_affects.Goals as goal
+
+pub returns-then-is_empty : goal.returns-then-is_empty
+returns-then-is_empty c =
+    dash_line c.append_line.result (λ name. name) c.args.names.now (codes "Affects:") c.args.out.now.items
+    c.append_line.new.out.items c.if-is_empty.ensures c.append_line.ensures
+
+pub returns : goal.returns
+returns c =
+    names_line c.append_text-2.result (λ name. name) c.args.names.now (codes "Affects:") c.args.out.now.items
+    c.append_text.new.out.items c.append_each_name.new.out.items c.append_text-2.new.out.items c.if-is_empty.ensures
+    c.in_ok-append_text.ensures.ok c.in_ok-append_each_name.ensures c.append_text-2.ensures.ok
