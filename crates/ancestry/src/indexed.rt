@@ -10,7 +10,7 @@ ghost use Rattle.version_nodes.specs.Nodes.{Node, same_node};
 ghost use Rattle.version_nodes.specs.Statuses.{first_kind, status_on};
 ghost use Rattle.version_nodes.specs.declared.statuses.MarkKind.TheVariants.{Found, Fixed};
 
-use crate::marks::status_from;
+use crate::node_status::status_from;
 use std::alloc::{AllocError, Global};
 use std::collections::HashMap;
 use std::hash::{FoldHasher, Hasher};

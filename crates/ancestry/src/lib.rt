@@ -1,16 +1,15 @@
-//! The tree that says which version of a source package is based on which, branches of versions,
-//! and the status of a bug at a node.
+//! The tree of versions, each based on another: branches taken into it, the status at a version.
 #![tactic(auto)]
 
 mod branch;
 mod indexed;
 mod laws;
-mod marks;
+mod node_status;
 mod tree;
 mod whole;
 
 pub use indexed::IndexedLine;
 pub use laws::{one_line, valid_nodes};
-pub use marks::{status, status_from};
+pub use node_status::{status, status_from};
 pub use tree::Tree;
 pub use version_nodes::{BranchFault, MarkKind, Node, NodeFault, Status, at_first_slash};

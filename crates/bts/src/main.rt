@@ -3,8 +3,8 @@
 
 mod output;
 
-use bts_jobs::{end_output, run_program_from};
 use output::{Answers, Errors, Input, Output};
+use program_jobs::{end_output, run_program_from};
 use sqlite::Wary;
 use std::io;
 use std::process::ExitCode;

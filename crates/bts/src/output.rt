@@ -2,7 +2,7 @@
 
 ghost use Rattle.std.specs.Io.{WritesAtMost};
 
-use connection_bytes::Held;
+use base_output::HeldOutput;
 use std::cell::RefCell;
 use std::io::{self, ErrorKind, Read, Write};
 
@@ -12,7 +12,7 @@ use std::io::{self, ErrorKind, Read, Write};
 /// What stands in a cell is not told to a contract, so what is handed on is tested.
 #[derive(Drop)]
 pub struct Output<W> {
-    held: RefCell<Held<W>>,
+    held: RefCell<HeldOutput<W>>,
     holds: bool,
 }
 
@@ -25,7 +25,7 @@ impl<W: Write> Output<W> {
     /// Nothing is held yet; where `holds` is false, nothing will be.
     pub fn new(writer: W, holds: bool) -> Output<W> {
         Output {
-            held: RefCell::new(Held::new(writer)),
+            held: RefCell::new(HeldOutput::new(writer)),
             holds,
         }
     }

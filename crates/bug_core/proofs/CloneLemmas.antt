@@ -25,11 +25,11 @@ use Rattle.bug_core.specs.Others.{others}
 use Rattle.bug_core.specs.Clones.{clone_image, clone_images}
 use Rattle.bug_core.specs.Planned.{IsPlanned, IsPlannedOf}
 use Rattle.bug_core.specs.Refused.{IsRefusedAs, IsRefusalOfPlan}
-use Rattle.set_images.proofs.ImageLemmas.{same_value, shown, bug_in-append, bug_in-merged}
-use Rattle.set_images.proofs.ImageLemmas.{image_with-shows, image_with-none, image_with-has, image_with-member}
+use Rattle.bug_images.proofs.ImageLemmas.{same_value, shown, bug_in-append, bug_in-merged}
+use Rattle.bug_images.proofs.ImageLemmas.{image_with-shows, image_with-none, image_with-has, image_with-member}
 use Rattle.bug_core.proofs.OtherLemmas.{others-none, others-kept, others-apart, others-members}
 use Rattle.bug_core.proofs.ReplaceLemmas.{apart-append, each-append}
-use Rattle.record_changes.proofs.AddedLemmas.{is_new, new-parts, new-from, new-below, new-above, none-beyond, AreGoodNew, sound-added}
+use Rattle.bug_fields.proofs.AddedLemmas.{is_new, new-parts, new-from, new-below, new-above, none-beyond, AreGoodNew, sound-added}
 use Rattle.bug_core.proofs.PlanLemmas.{Steps, planned-refused, own-archived}
 
 -- the bug that a copy shows

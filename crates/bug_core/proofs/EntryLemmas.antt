@@ -11,8 +11,8 @@ use Rattle.std.proofs.lemmas.Bool.Decides.{nat_tests}
 use Rattle.bug_record.specs.Sets.{has, Each, IsAscending, with_item}
 use Rattle.bug_record.specs.Images.{numbers_of}
 use Rattle.bug_record.specs.declared.bug.Member.{Member}
-use Rattle.sequences.proofs.SetLemmas.{has-above}
-use Rattle.sequences.proofs.OrderedLemmas.{eq_cmp, chosen}
+use Rattle.base_sequences.proofs.SetLemmas.{has-above}
+use Rattle.base_sequences.proofs.OrderedLemmas.{eq_cmp, chosen}
 use Rattle.bug_core.specs.Joins.{number_of, IsEntry, AreByNumber}
 use Rattle.bug_core.proofs.MemberLemmas.{ascending-with_item}
 

@@ -5,7 +5,6 @@ pub mod UnmergeLemmas
 pub mod MemberLemmas
 pub mod EntryLemmas
 pub mod MergedLemmas
-pub mod GatheredLemmas
 pub mod ListedLemmas
 pub mod NamedLemmas
 pub mod SharedLemmas

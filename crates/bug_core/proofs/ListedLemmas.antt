@@ -17,9 +17,9 @@ use Rattle.bug_record.specs.declared.bug.Member.{Member}
 use Rattle.bug_record.specs.declared.bug.SetImage.{SetImage}
 use Rattle.bug_record.specs.declared.command.Refusal.{Refusal}
 use Rattle.bug_core.specs.Others.{has_any, is_meant, those_meant}
-use Rattle.set_images.proofs.ImageLemmas.{has-member_some, member-has, same_value}
-use Rattle.sequences.proofs.SetLemmas.{same_test}
-use Rattle.record_changes.proofs.SoundLemmas.{agree}
+use Rattle.bug_images.proofs.ImageLemmas.{has-member_some, member-has, same_value}
+use Rattle.base_sequences.proofs.SetLemmas.{same_test}
+use Rattle.bug_fields.proofs.SoundLemmas.{agree}
 
 -- one of two lists of numbers has a number of the other
 pub any-from : (xs ns : List ℕ) (k : ℕ) → has xs k ≡ true → has ns k ≡ true → has_any xs ns ≡ true

@@ -11,11 +11,11 @@ use Rattle.bug_record.specs.Images.{numbers_of, member_at, bug_of, bug_in, AreAp
 use Rattle.bug_record.specs.declared.bug.Bug.{Bug}
 use Rattle.bug_record.specs.declared.bug.Member.{Member}
 use Rattle.bug_record.specs.declared.bug.SetImage.{SetImage}
-use Rattle.sequences.proofs.SetLemmas.{IsAscending-with_item, has-above, AllAbove-below}
+use Rattle.base_sequences.proofs.SetLemmas.{IsAscending-with_item, has-above, AllAbove-below}
 use Rattle.bug_core.specs.Others.{has_any, is_meant, those_meant}
 use Rattle.bug_record.specs.Sets.{with_items}
 use Rattle.bug_core.specs.Joins.{with_members, number_of}
-use Rattle.set_images.proofs.ImageLemmas.{none_left, none_right, none_map, has-member_some, no_member-has}
+use Rattle.bug_images.proofs.ImageLemmas.{none_left, none_right, none_map, has-member_some, no_member-has}
 
 -- the numbers of members with one more
 numbers-with_item : (set : List Member) (x : Member)

@@ -8,7 +8,7 @@ use Rattle.std.proofs.lemmas.Option.{none-some}
 use Rattle.std.proofs.lemmas.Bool.{false≢true, eqb-true, eq-eqb, and_parts, false_from_ne_true}
 use Rattle.version_nodes.specs.Nodes.{Node, IsNode}
 use Rattle.bug_record.specs.Sets.{has, IsAscending, Each}
-use Rattle.line_words.specs.Texts.{IsGoodText, IfGiven}
+use Rattle.base_words.specs.Texts.{IsGoodText, IfGiven}
 use Rattle.bug_record.specs.Desk.{Desk, IsSound, IsGoodShared, AreGoodBlockers}
 use Rattle.bug_record.specs.Bugs.{at_bug, unless, first_refusal, bugs_at, all_of}
 use Rattle.bug_record.specs.Differences.{differing}
@@ -26,7 +26,7 @@ use Rattle.bug_record.specs.declared.command.Field.{Field}
 use Rattle.bug_record.specs.declared.command.PlanFault.TheVariants.{Refused}
 use Rattle.bug_record.specs.declared.command.Refusal.{Refusal}
 use Rattle.bug_record.specs.declared.command.Refusal.TheVariants.{NoBug}
-use Rattle.sequences.proofs.SetLemmas.{IsAscending-number_set, same-ascending}
+use Rattle.base_sequences.proofs.SetLemmas.{IsAscending-number_set, same-ascending}
 use Rattle.bug_record.proofs.MarkLemmas.{set-node_set}
 use Rattle.bug_record.proofs.PackageLemmas.{names-set}
 use Rattle.bug_record.proofs.TagLemmas.{set-joined_tags}
@@ -36,9 +36,9 @@ use Rattle.bug_core.specs.Joins.{with_members, joined_image}
 use Rattle.bug_record.specs.Words.{archived_refusal}
 use Rattle.bug_core.specs.Planned.{IsPlannedOf}
 use Rattle.bug_core.specs.Refused.{IsRefusalOfPlan}
-use Rattle.set_images.proofs.ImageLemmas.{has-member_some, has-member_none, bug_in-merged, shown, image_with-has, image_with-shows}
-use Rattle.set_images.proofs.ImageLemmas.{image_with-none}
-use Rattle.record_changes.proofs.SoundLemmas.{agree, sound-each_bug}
+use Rattle.bug_images.proofs.ImageLemmas.{has-member_some, has-member_none, bug_in-merged, shown, image_with-has, image_with-shows}
+use Rattle.bug_images.proofs.ImageLemmas.{image_with-none}
+use Rattle.bug_fields.proofs.SoundLemmas.{agree, sound-each_bug}
 use Rattle.bug_core.proofs.ReplaceLemmas.{TakesPlace, Makes, each-append}
 use Rattle.bug_core.proofs.PlanLemmas.{Steps, planned-refused, planned-replaced, own-archived, own-refused}
 use Rattle.bug_core.proofs.MemberLemmas.{first_member, ascending-with_members, member-with_members, meant-nowhere, meant-inside}

@@ -6,8 +6,8 @@ use Rattle.bug_record.specs.Sets.{AllAbove, IsAscending, with_item, with_items}
 use Rattle.bug_record.specs.Images.{numbers_of}
 use Rattle.bug_record.specs.declared.bug.Member.{Member}
 use Rattle.bug_record.specs.declared.bug.SetImage.{SetImage}
-use Rattle.sequences.proofs.SetLemmas.{AllAbove-below}
-use Rattle.set_images.specs.Kept.{ascends}
+use Rattle.base_sequences.proofs.SetLemmas.{AllAbove-below}
+use Rattle.bug_images.specs.Kept.{ascends}
 use Rattle.bug_core.specs.Joins.{number_of, with_members}
 use Rattle.bug_core.specs.Merged.{front_below, rest_from, unless_first}
 

@@ -9,10 +9,10 @@ use Rattle.bug_record.specs.Images.{numbers_of}
 use Rattle.bug_record.specs.declared.bug.Member.{Member}
 use Rattle.bug_record.specs.declared.bug.SetImage.{SetImage}
 use Rattle.bug_core.specs.Others.{is_any, has_any, is_meant, those_meant, others}
-use Rattle.sequences.proofs.SetLemmas.{same_test}
+use Rattle.base_sequences.proofs.SetLemmas.{same_test}
 use Rattle.bug_core.proofs.ListedLemmas.{any-from, any-of}
-use Rattle.sequences.proofs.SetLemmas.{has-number_set}
-use Rattle.sequences.proofs.OrderedLemmas.{has-key}
+use Rattle.base_sequences.proofs.SetLemmas.{has-number_set}
+use Rattle.base_sequences.proofs.OrderedLemmas.{has-key}
 
 -- the same numbers name the same images
 meant-same : (ns ks : List ℕ) → ((n : ℕ) → has ns n ≡ has ks n) → (i : SetImage) → is_meant ns i ≡ is_meant ks i

@@ -10,7 +10,7 @@ use Rattle.bug_record.specs.declared.bug.Bug.{Bug}
 use Rattle.bug_record.specs.declared.bug.Member.{Member}
 use Rattle.bug_record.specs.declared.bug.SetImage.{SetImage}
 use Rattle.bug_core.specs.Others.{is_any, has_any, is_meant, is_other, others}
-use Rattle.set_images.proofs.ImageLemmas.{none_left, none_right, none_both, has-member_some}
+use Rattle.bug_images.proofs.ImageLemmas.{none_left, none_right, none_both, has-member_some}
 
 -- the first image: one of the bugs' is left out, and of another each bug is shown
 others-own : (ns : List ℕ) (j : SetImage) (is : List SetImage) → is_meant ns j ≡ true → others ns (j ∷ is) ≡ others ns is

@@ -16,7 +16,7 @@ use Rattle.bug_record.specs.Words.{archived_refusal}
 use Rattle.bug_record.specs.Commands.{bug_named, other_bugs, bugs_named, HasGoodParts, HasUtf8Texts}
 use Rattle.bug_record.specs.Steps.{own_tests, records_changed, change_set, shared_after, new_title, new_submitter}
 use Rattle.bug_record.specs.Sets.{has, Each}
-use Rattle.line_words.specs.Texts.{IsGoodText, IfGiven}
+use Rattle.base_words.specs.Texts.{IsGoodText, IfGiven}
 use Rattle.bug_record.specs.Images.{bug_of, bug_in, numbers_of, put, AreApart, AreSetsOf, image_with}
 use Rattle.bug_record.specs.Plans.{AllKnown, IsShownBy}
 use Rattle.bug_record.specs.declared.bug.Bug.{Bug}
@@ -32,17 +32,17 @@ use Rattle.bug_record.specs.declared.command.Refusal.TheVariants.{NoBug, Archive
 use Rattle.bug_record.specs.declared.command.Command.TheVariants as commands
 use Rattle.version_nodes.specs.Nodes.{Node}
 use Rattle.bug_record.specs.Words.{archived_refusal}
-use Rattle.set_images.specs.Alike.{BeginAlike}
-use Rattle.set_images.specs.Refusals.{records_refusal}
+use Rattle.bug_images.specs.Alike.{BeginAlike}
+use Rattle.bug_images.specs.Refusals.{records_refusal}
 use Rattle.bug_core.specs.Others.{others}
-use Rattle.set_images.proofs.RefusalLemmas.{shown-refusal}
+use Rattle.bug_images.proofs.RefusalLemmas.{shown-refusal}
 use Rattle.bug_core.specs.Planned.{IsPlanned, IsRecordsPlan}
 use Rattle.bug_core.specs.Refused.{HasName, IsRefusedAs, IsRefusalOfPlan}
-use Rattle.set_images.proofs.ImageLemmas.{same_value, shown, image_with-shows, image_with-none}
-use Rattle.record_changes.proofs.FieldLemmas.{good-shared_after, good-new_title, good-new_submitter}
+use Rattle.bug_images.proofs.ImageLemmas.{same_value, shown, image_with-shows, image_with-none}
+use Rattle.bug_fields.proofs.FieldLemmas.{good-shared_after, good-new_title, good-new_submitter}
 use Rattle.bug_record.proofs.RefusalLemmas.{first-none, later-none}
-use Rattle.record_changes.proofs.BlockerLemmas.{good-blockers_after}
-use Rattle.record_changes.proofs.SoundLemmas.{agree, sound-change_set}
+use Rattle.bug_fields.proofs.BlockerLemmas.{good-blockers_after}
+use Rattle.bug_fields.proofs.SoundLemmas.{agree, sound-change_set}
 use Rattle.bug_core.proofs.ListedLemmas.{bugs_refused-known}
 use Rattle.bug_core.proofs.ReplaceLemmas.{TakesPlace, Makes, apart-replaced, members-replaced, covers-replaced, none-replaced}
 use Rattle.bug_core.proofs.ReplaceLemmas.{whole-sets, put-replaced, image_after, bug_after, set-takes_place, set-makes}

@@ -15,10 +15,10 @@ use Rattle.bug_record.specs.declared.bug.Shared.{Shared}
 use Rattle.bug_record.specs.declared.bug.Member.{Member}
 use Rattle.bug_record.specs.declared.bug.SetImage.{SetImage}
 use Rattle.bug_core.specs.Others.{has_any, others}
-use Rattle.set_images.proofs.ImageLemmas.{none_left, none_right, none_both, same_value, member-has, bug_in-append, bug_in-merged}
-use Rattle.set_images.proofs.ImageLemmas.{shown, image_with-has, image_with-lacks, image_with-bug, image_with-member, number-member}
+use Rattle.bug_images.proofs.ImageLemmas.{none_left, none_right, none_both, same_value, member-has, bug_in-append, bug_in-merged}
+use Rattle.bug_images.proofs.ImageLemmas.{shown, image_with-has, image_with-lacks, image_with-bug, image_with-member, number-member}
 use Rattle.bug_core.proofs.OtherLemmas.{others-none, others-gone, others-kept, others-apart, others-members}
-use Rattle.record_changes.proofs.SoundLemmas.{agree}
+use Rattle.bug_fields.proofs.SoundLemmas.{agree}
 
 -- The images `new` have the bugs of those images that have one of the bugs ns, and no others.
 pub record TakesPlace (is : List SetImage) (ns : List ℕ) (new : List SetImage) : Type 0 where

@@ -21,16 +21,17 @@ use Rattle.bug_record.specs.declared.bug.Member.{Member}
 use Rattle.bug_record.specs.declared.bug.SetImage.{SetImage}
 use Rattle.bug_record.specs.declared.tag.Tag.{Tag}
 use Rattle.bug_record.proofs.TagLemmas.{has-with_tag, set-with_tag, has-joined_tags, set-joined_tags, same-tag_sets}
-use Rattle.sequences.proofs.OrderedSetLemmas.{in-each, sorted-each}
+use Rattle.base_sequences.proofs.OrderedSetLemmas.{in-each, sorted-each}
 use Rattle.bug_record.proofs.MarkLemmas.{sorted-node_set, same-sorted_nodes}
 use Rattle.bug_record.proofs.PackageLemmas.{sorted-name_set, same-sorted_names}
 use Rattle.bug_record.proofs.MergeLemmas.{has-all_of, has-joined_nodes, has-joined_names}
-use Rattle.sequences.proofs.NumberLemmas.{has-with_items, IsAscending-with_items}
-use Rattle.sequences.proofs.SetLemmas.{has-number_set, IsAscending-number_set, same-ascending}
+use Rattle.base_sequences.proofs.NumberLemmas.{has-with_items, IsAscending-with_items}
+use Rattle.base_sequences.proofs.SetLemmas.{has-number_set, IsAscending-number_set, same-ascending}
 use Rattle.bug_core.specs.Others.{those_meant}
 use Rattle.bug_record.specs.Sets.{with_items}
-use Rattle.bug_core.specs.Joins.{with_nodes, with_names, without_gathered, without_own, with_shared, with_all_shared}
-use Rattle.sequences.proofs.SetLemmas.{same_test}
+use Rattle.bug_fields.specs.Gathered.{with_nodes}
+use Rattle.bug_core.specs.Joins.{with_names, without_gathered, without_own, with_shared, with_all_shared}
+use Rattle.base_sequences.proofs.SetLemmas.{same_test}
 use Rattle.bug_core.proofs.ListedLemmas.{listed-from, meant-listed}
 
 or_group : (a b c : Bool) → ((a || b) || c) ≡ (a || (b || c))

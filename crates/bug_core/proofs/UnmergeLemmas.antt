@@ -18,14 +18,14 @@ use Rattle.bug_record.specs.declared.command.Change.{Change}
 use Rattle.bug_record.specs.declared.command.PlanFault.TheVariants.{Refused}
 use Rattle.bug_record.specs.declared.command.Refusal.{Refusal}
 use Rattle.bug_record.specs.declared.command.Refusal.TheVariants.{NoBug, NotMerged}
-use Rattle.sequences.proofs.SetLemmas.{has-filter, IsAscending-filter, same-ascending, one_number}
+use Rattle.base_sequences.proofs.SetLemmas.{has-filter, IsAscending-filter, same-ascending, one_number}
 use Rattle.bug_core.specs.Others.{others}
 use Rattle.bug_core.specs.Joins.{is_part}
 use Rattle.bug_record.specs.Words.{archived_refusal}
 use Rattle.bug_core.specs.Planned.{IsPlannedOf}
-use Rattle.set_images.proofs.ImageLemmas.{same_value, member-has, has-member_some, shown, image_with-has, image_with-shows}
-use Rattle.set_images.proofs.ImageLemmas.{image_with-none, image_with-lacks, image_with-bug, image_with-member}
-use Rattle.record_changes.proofs.SoundLemmas.{agree, merged-back, sound-each_bug}
+use Rattle.bug_images.proofs.ImageLemmas.{same_value, member-has, has-member_some, shown, image_with-has, image_with-shows}
+use Rattle.bug_images.proofs.ImageLemmas.{image_with-none, image_with-lacks, image_with-bug, image_with-member}
+use Rattle.bug_fields.proofs.SoundLemmas.{agree, merged-back, sound-each_bug}
 use Rattle.bug_core.proofs.ReplaceLemmas.{TakesPlace, Makes, one_of, apart-replaced}
 use Rattle.bug_core.proofs.PlanLemmas.{Steps, planned-refused, planned-replaced, own-archived}
 

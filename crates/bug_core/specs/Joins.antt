@@ -1,10 +1,10 @@
 -- What joined sets have, one image after another.
 use Rattle.std.specs.Prelude.{ℕ, ◌≡◌, Bool, not, ◌==◌, List, [], ◌∷◌, filter, if◌then◌else◌}
 use Rattle.std.specs.Map.{values_of}
-use Rattle.version_nodes.specs.Nodes.{Node, node_cmp}
 use Rattle.bug_record.specs.Sets.{has, Each, IsAscending, with_items}
 use Rattle.bug_record.specs.Tags.{tag_place}
 use Rattle.bug_record.specs.Ordered.{with_each}
+use Rattle.bug_fields.specs.Gathered.{with_nodes}
 use Rattle.bug_record.specs.PackageSets.{name_cmp}
 use Rattle.bug_record.specs.Bugs.{bugs_at}
 use Rattle.bug_record.specs.Images.{numbers_of, bug_in}
@@ -14,10 +14,7 @@ use Rattle.bug_record.specs.declared.bug.Member.{Member}
 use Rattle.bug_record.specs.declared.bug.SetImage.{SetImage}
 use Rattle.bug_record.specs.declared.bug.Shared.{Shared}
 
--- a set with all nodes of a list, and one with all names
-abbrev pub with_nodes : List Node → List Node → List Node
-with_nodes set nodes = with_each node_cmp set nodes
-
+-- a set with all names of a list
 abbrev pub with_names : List (List ℕ) → List (List ℕ) → List (List ℕ)
 with_names set names = with_each name_cmp set names
 

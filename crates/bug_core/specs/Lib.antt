@@ -5,6 +5,5 @@ pub mod Others
 pub mod Named
 pub mod Agreements
 pub mod Joins
-pub mod Gathered
 pub mod Merged
 pub mod Clones

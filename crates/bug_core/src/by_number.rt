@@ -4,13 +4,13 @@ ghost use Rattle.std.specs.Prelude.{◌≡◌, ◌∷◌, [], ◌++◌, None, If
 ghost use Rattle.std.specs.BTreeMap.{values};
 ghost use Rattle.bug_record.specs.Images.{numbers_of};
 ghost use Rattle.bug_record.specs.Sets.{with_item, with_items, IsAscending};
-ghost use Rattle.set_images.specs.Kept.{is_above, ascends};
+ghost use Rattle.bug_images.specs.Kept.{is_above, ascends};
 ghost use Rattle.bug_core.specs.Joins.{with_members, number_of, AreByNumber};
 ghost use Rattle.bug_core.specs.Merged.{front_below, rest_from, starts_with, unless_first};
 ghost use Rattle.bug_core.specs.Others.{those_meant};
 ghost use Rattle.bug_core.specs.Named.{named_numbers};
 
-use crate::images::{Named, has_any};
+use crate::images::{Replaced, has_any};
 use bug_record::{Member, Members, Sequence, SetImage};
 use std::alloc::{AllocError, Global};
 use std::collections::BTreeMap;
@@ -43,7 +43,7 @@ fn add_members(map: &mut BTreeMap<u64, Member>, members: &[Member]) -> Result<()
 fn members_by_number(
     alloc: Global,
     images: &[SetImage],
-    named: Named,
+    named: Replaced,
 ) -> Result<BTreeMap<u64, Member>, AllocError>
     ensures { IfOk result (λ map. values map ≡ with_members [] (those_meant (named_numbers named.entry) images.now)) }
 {
@@ -67,7 +67,11 @@ fn add_values(members: &mut Sequence<Member>, map: BTreeMap<u64, Member>) -> Res
 }
 
 // The members of all sets of the bugs, sorted one by one.
-fn sorted_members(alloc: Global, images: &[SetImage], named: Named) -> Result<Members, AllocError>
+fn sorted_members(
+    alloc: Global,
+    images: &[SetImage],
+    named: Replaced,
+) -> Result<Members, AllocError>
     ensures { IfOk result (λ ms. ms ≡ with_members [] (those_meant (named_numbers named.entry) images.now)) }
 {
     let map = members_by_number(alloc, images, named)?;
@@ -206,7 +210,10 @@ fn merged(
 }
 
 // The first image that has one of the bugs, and the images after it.
-fn first_meant<'a>(images: &'a [SetImage], named: Named) -> Option<(&'a SetImage, &'a [SetImage])>
+fn first_meant<'a>(
+    images: &'a [SetImage],
+    named: Replaced,
+) -> Option<(&'a SetImage, &'a [SetImage])>
     ensures { MatchOption result (those_meant (named_numbers named.entry) images.now ≡ [])
         (λ p. those_meant (named_numbers named.entry) images.now ≡ p.0.now ∷ those_meant (named_numbers named.entry) p.1.now) }
 {
@@ -223,7 +230,7 @@ fn first_meant<'a>(images: &'a [SetImage], named: Named) -> Option<(&'a SetImage
 pub(crate) fn joined_members(
     alloc: Global,
     images: &[SetImage],
-    named: Named,
+    named: Replaced,
 ) -> Result<Members, AllocError>
     ensures { IfOk result (λ ms. ms ≡ with_members [] (those_meant (named_numbers named.entry) images.now)) }
 {

@@ -7,10 +7,10 @@ ghost use Rattle.bug_core.specs.Clones.{clone_image, clone_images};
 ghost use Rattle.bug_core.specs.Others.{others};
 ghost use Rattle.bug_core.specs.Planned.{IsPlannedOf};
 
-use crate::images::{Named, replace};
+use crate::images::{Replaced, replace};
+use base_words::AFTER_LARGEST;
+use bug_images::{archived_refusal, find_image};
 use bug_record::{Agreed, Change, Member, Members, PlanFault, Refusal, Sequence, SetImage};
-use line_words::AFTER_LARGEST;
-use set_images::{archived_refusal, find_image};
 use std::alloc::{AllocError, Global};
 use std::collections::BTreeSet;
 
@@ -66,7 +66,7 @@ fn add_clones(
 {
     let clones = clone_images(alloc, shared, member, next, many)?;
     let replaced = BTreeSet::new(alloc);
-    replace(clones, images, Named::Several(&replaced), next + many)
+    replace(clones, images, Replaced::Several(&replaced), next + many)
 }
 
 /// Copies a bug that is merged with no other, once for each name, whatever the names.

@@ -5,16 +5,14 @@ ghost use Rattle.bug_record.specs.Images.{numbers_of};
 ghost use Rattle.bug_core.specs.Others.{has_any, is_other, others};
 ghost use Rattle.bug_core.specs.Named.{named_numbers};
 
+use bug_images::FEW;
 use bug_record::{Change, Member, Sequence, SetImage};
 use std::alloc::AllocError;
 use std::collections::BTreeSet;
 
-/// So many bugs are found sooner by going over members for each than by a tree of numbers.
-pub(crate) const FEW: usize = 4;
-
 /// The bugs whose sets a change replaces.
 #[derive(Clone, Copy)]
-pub(crate) enum Named<'a> {
+pub(crate) enum Replaced<'a> {
     One(u64),
     Several(&'a BTreeSet<u64>),
 }
@@ -44,18 +42,18 @@ fn has_one_of(image: &SetImage, numbers: &BTreeSet<u64>) -> bool
 }
 
 /// Whether one of the bugs is in the image.
-pub(crate) fn has_any(image: &SetImage, named: Named) -> bool
+pub(crate) fn has_any(image: &SetImage, named: Replaced) -> bool
     ensures { result ≡ has_any (numbers_of image.now.members) (named_numbers named.entry) }
 {
     match named {
-        Named::One(number) => image.has(number),
-        Named::Several(numbers) if numbers.len() <= FEW => has_one_of(image, numbers),
-        Named::Several(numbers) => has_some(image.members.as_slice(), numbers),
+        Replaced::One(number) => image.has(number),
+        Replaced::Several(numbers) if numbers.len() <= FEW => has_one_of(image, numbers),
+        Replaced::Several(numbers) => has_some(image.members.as_slice(), numbers),
     }
 }
 
 // Whether the image has a member, and none of the bugs.
-fn is_other(image: &SetImage, named: Named) -> bool
+fn is_other(image: &SetImage, named: Replaced) -> bool
     ensures { result ≡ is_other (named_numbers named.entry) image.now }
 {
     !image.members.as_slice().is_empty() && !has_any(image, named)
@@ -65,7 +63,7 @@ fn is_other(image: &SetImage, named: Named) -> bool
 fn add_others(
     kept: &mut Sequence<SetImage>,
     images: &[SetImage],
-    named: Named,
+    named: Replaced,
 ) -> Result<(), AllocError>
     ensures { OnOk result (kept.new ≡ kept.old ++ others (named_numbers named.entry) images.now) }
 {
@@ -81,7 +79,7 @@ fn add_others(
 pub(crate) fn replace(
     mut parts: Sequence<SetImage>,
     images: &[SetImage],
-    named: Named,
+    named: Replaced,
     next: u64,
 ) -> Result<Change, AllocError>
     ensures images { IfOk result (λ change. change.images ≡ parts ++ others (named_numbers named.entry) images.now) }

@@ -13,14 +13,13 @@ ghost use Rattle.bug_core.specs.Others.{has_any, those_meant};
 ghost use Rattle.bug_core.specs.Named.{named_numbers};
 
 use crate::by_number::joined_members;
-use crate::images::{FEW, Named, has_any};
-use crate::lookup::Lookup;
-use crate::marks::Marks;
+use crate::images::{Replaced, has_any};
+use bug_fields::GatheredNodes;
+use bug_images::{FEW, Lookup, member_numbers};
 use bug_record::{
     Agreed, Member, Nodes, Sequence, SetImage, Shared, Tag, Tags, add_names, add_numbers, member_at,
 };
 use debver::Text;
-use set_images::member_numbers;
 use std::alloc::{AllocError, Global};
 use std::collections::BTreeSet;
 use std::marker::Model;
@@ -33,8 +32,8 @@ use std::mem::replace;
 struct Joined {
     shared: Shared,
     affects: BTreeSet<Text>,
-    found: Marks,
-    fixed: Marks,
+    found: GatheredNodes,
+    fixed: GatheredNodes,
     blockers: BTreeSet<u64>,
 }
 
@@ -78,10 +77,10 @@ fn add_tags(set: &mut Tags, tags: &[Tag]) -> Result<(), AllocError>
 }
 
 // Puts the nodes that were gathered in the place of these.
-fn put_nodes(alloc: Global, nodes: &mut Nodes, marks: &mut Marks) -> Result<(), AllocError>
+fn put_nodes(alloc: Global, nodes: &mut Nodes, marks: &mut GatheredNodes) -> Result<(), AllocError>
     ensures { OnOk result (nodes.new ≡ marks.old) }
 {
-    *nodes = replace(marks, Marks::new(alloc)).into_nodes(alloc)?;
+    *nodes = replace(marks, GatheredNodes::new(alloc)).into_nodes(alloc)?;
     Ok(())
 }
 
@@ -90,8 +89,8 @@ fn put_gathered(
     alloc: Global,
     shared: &mut Shared,
     affects: &mut BTreeSet<Text>,
-    found: &mut Marks,
-    fixed: &mut Marks,
+    found: &mut GatheredNodes,
+    fixed: &mut GatheredNodes,
     blockers: &BTreeSet<u64>,
 ) -> Result<(), AllocError>
     ensures { OnOk result
@@ -112,8 +111,8 @@ impl Joined {
         Ok(Joined {
             shared: first.copy()?,
             affects: BTreeSet::new(alloc),
-            found: Marks::new(alloc),
-            fixed: Marks::new(alloc),
+            found: GatheredNodes::new(alloc),
+            fixed: GatheredNodes::new(alloc),
             blockers: BTreeSet::new(alloc),
         })
     }
@@ -157,7 +156,7 @@ fn add_all_shared(
     alloc: Global,
     joined: &mut Joined,
     images: &[SetImage],
-    named: Named,
+    named: Replaced,
 ) -> Result<(), AllocError>
     ensures { OnOk result (joined.new ≡ with_all_shared joined.old (those_meant (named_numbers named.entry) images.now)) }
 {
@@ -174,7 +173,7 @@ fn joined_shared(
     alloc: Global,
     first: &Shared,
     images: &[SetImage],
-    named: Named,
+    named: Replaced,
 ) -> Result<Shared, AllocError>
     ensures { IfOk result
         (λ f. f ≡ with_all_shared (without_gathered first.now) (those_meant (named_numbers named.entry) images.now)) }
@@ -252,7 +251,7 @@ fn gathered_shared(
     lookup: &Lookup,
     images: &[SetImage],
     numbers: &[u64],
-    named: Named,
+    named: Replaced,
     members: &[Member],
 ) -> Result<Agreed, AllocError>
     requires images { lookup.now ≡ images.now }
@@ -286,7 +285,7 @@ pub(crate) fn joined_image(
     requires set { (n : ℕ) → has set.now.keys n ≡ has numbers.now n }
     ensures { IfOk result (λ i. i ≡ joined_image first.now images.now numbers.now) }
 {
-    let named = Named::Several(set);
+    let named = Replaced::Several(set);
     let members = joined_members(alloc, images, named)?;
     let own = members.as_slice();
     let shared = gathered_shared(alloc, first, lookup, images, numbers, named, own)?;

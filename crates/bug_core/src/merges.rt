@@ -10,13 +10,12 @@ ghost use Rattle.bug_core.specs.Joins.{joined_image};
 ghost use Rattle.bug_core.specs.Others.{others};
 ghost use Rattle.bug_core.specs.Planned.{IsPlannedOf};
 
-use crate::images::{Named, replace};
+use crate::images::{Replaced, replace};
 use crate::joins::joined_image;
-use crate::lookup::{Lookup, first_refused};
+use bug_images::{Lookup, archived_refusal, find_image, first_bug_refused, same_text};
 use bug_record::{
     Change, Field, Numbers, PlanFault, Refusal, Sequence, SetImage, Shared, number_set,
 };
-use set_images::{archived_refusal, find_image, same_text};
 use std::alloc::{AllocError, Global};
 
 /// What has to be equal before bugs are merged.
@@ -106,7 +105,7 @@ fn join_sets(
     let set = number_set(alloc, numbers)?;
     let image = joined_image(alloc, first, lookup, images, numbers, &set)?;
     let parts = Sequence::one(alloc, image);
-    replace(parts, images, Named::Several(&set), next)
+    replace(parts, images, Replaced::Several(&set), next)
 }
 
 // The change that makes one set of those of a bug with these fields and of the others.
@@ -150,7 +149,7 @@ pub(crate) fn plan_merge(
     }
     let lookup = Lookup::of(alloc, images, others.len())?;
     // In one call wherever it is given up, for the proof's sake: the parts are many.
-    if let Some(refusal) = first_refused(&lookup, others) {
+    if let Some(refusal) = first_bug_refused(&lookup, others) {
         drop(lookup);
         return Err(PlanFault::Refused(refusal));
     }

@@ -3,7 +3,7 @@
 ghost use Rattle.std.specs.Prelude.{◌≡◌, ◌≤◌, ◌∷◌, [], true, false, map, IfOk, IfErr, Option, Some, None};
 ghost use Rattle.version_nodes.specs.Nodes.{Node};
 ghost use Rattle.bug_record.specs.Sets.{Each};
-ghost use Rattle.line_words.specs.Texts.{IsText};
+ghost use Rattle.base_words.specs.Texts.{IsText};
 ghost use Rattle.bug_record.specs.Desk.{Desk, IsSound};
 ghost use Rattle.bug_record.specs.Commands.{HasGoodParts, bug_named, bugs_named};
 ghost use Rattle.bug_record.specs.Steps.{step_of_numbers};
@@ -11,20 +11,20 @@ ghost use Rattle.bug_record.specs.Images.{AreApart, HasMember, AreSetsOf, FitsDe
 ghost use Rattle.bug_record.specs.Plans.{AllKnown, IsShownBy, IsOpenHeadFor, IsPlanFor, CoverImages, BringNone};
 ghost use Rattle.std.specs.Option.{option_copied};
 ghost use Rattle.bug_record.specs.declared.bug.SetImage.{SetImage};
-ghost use Rattle.record_changes.specs.Members.{member_after, changes_members, leaves_members};
+ghost use Rattle.bug_fields.specs.Members.{member_after, changes_members, leaves_members};
 ghost use Rattle.bug_core.specs.Others.{others};
-ghost use Rattle.set_images.specs.Alike.{BeginAlike};
-ghost use Rattle.set_images.specs.Refusals.{records_refusal};
+ghost use Rattle.bug_images.specs.Alike.{BeginAlike};
+ghost use Rattle.bug_images.specs.Refusals.{records_refusal};
 ghost use Rattle.bug_core.specs.Planned.{step_with, IsPlanned, IsRecordsPlan};
 ghost use Rattle.bug_core.specs.Refused.{HasName, IsRefusedAs, IsFaultOfPlan};
 
 use crate::clones::plan_clone;
-use crate::images::{Named, replace};
+use crate::images::{Replaced, replace};
 use crate::merges::{Agreement, plan_merge};
 use crate::unmerge::plan_unmerge;
+use bug_fields::{members_with, shared_after};
+use bug_images::{bug_named, find_image, records_refusal};
 use bug_record::{Agreed, Change, Command, PlanFault, Refusal, Sequence, SetImage, Shared};
-use record_changes::{members_with, shared_after};
-use set_images::{bug_named, find_image, records_refusal};
 use std::alloc::{AllocError, Global};
 use version_nodes::Node;
 
@@ -47,7 +47,7 @@ fn changed_set(
     let shared = Agreed::of(alloc, shared)?;
     let members = members_with(alloc, command, from, image.shared.fields(), &image.members)?;
     let image = SetImage { shared, members };
-    let named = Named::One(bug_named(command));
+    let named = Replaced::One(bug_named(command));
     replace(Sequence::one(alloc, image), images, named, next)
 }
 

@@ -8,9 +8,9 @@ ghost use Rattle.bug_core.specs.Others.{others};
 ghost use Rattle.bug_core.specs.Planned.{IsPlannedOf};
 
 use crate::by_number::add_copy;
-use crate::images::{Named, replace};
+use crate::images::{Replaced, replace};
+use bug_images::{archived_refusal, find_image};
 use bug_record::{Agreed, Change, Member, Members, PlanFault, Refusal, Sequence, SetImage};
-use set_images::{archived_refusal, find_image};
 use std::alloc::{AllocError, Global};
 
 // Whether this is the member of the number, or, of the rest, whether it is another.
@@ -103,7 +103,7 @@ fn part_set(
 {
     let own = part(alloc, true, number, members)?;
     let parts = two_images(alloc, shared, own, rest)?;
-    replace(parts, images, Named::One(number), next)
+    replace(parts, images, Replaced::One(number), next)
 }
 
 /// Takes a bug out of its set.

@@ -7,10 +7,10 @@ use Rattle.version_nodes.specs.Nodes.{Node, IsNode, same_node, node_cmp}
 use Rattle.version_nodes.specs.NodeLaws.{same_node_equiv, node_cmp_total, node_ties}
 use Rattle.version_nodes.proofs.NodeLemmas.{same_true}
 use Rattle.version_nodes.specs.Trees.{has_node}
-use Rattle.sequences.specs.Sets.{Each}
+use Rattle.base_sequences.specs.Sets.{Each}
 use Rattle.bug_record.specs.Marks.{IsNodeSet, with_node, node_set, without_node}
-use Rattle.sequences.proofs.OrderedSetLemmas.{sorted-insert, sorted-set, each-insert, each-set, each-filter}
-use Rattle.sequences.proofs.OrderedSetLemmas.{in-insert, in-set, in-without, in-append, same-sorted}
+use Rattle.base_sequences.proofs.OrderedSetLemmas.{sorted-insert, sorted-set, each-insert, each-set, each-filter}
+use Rattle.base_sequences.proofs.OrderedSetLemmas.{in-insert, in-set, in-without, in-append, same-sorted}
 
 pub sorted-with_node : (nodes : List Node) (n : Node) → IsStrictlySortedBy node_cmp nodes
     → IsStrictlySortedBy node_cmp (with_node nodes n)

@@ -2,14 +2,14 @@
 use Rattle.std.proofs.Common.{◌≡◌, ℕ, ◌||◌, ◌&&◌, not, List, [], ◌∷◌, refl, ap, ◌∙◌}
 use Rattle.std.specs.List.{list_any}
 use Rattle.version_nodes.specs.Nodes.{Node}
-use Rattle.sequences.specs.Sets.{has, IsAscending, number_set}
+use Rattle.base_sequences.specs.Sets.{has, IsAscending, number_set}
 use Rattle.bug_record.specs.Marks.{node_set}
 use Rattle.bug_record.specs.PackageSets.{has_name, name_set}
 use Rattle.version_nodes.specs.Trees.{has_node}
 use Rattle.bug_record.specs.Bugs.{all_of}
 use Rattle.bug_record.specs.Merges.{all_merged, joined_blockers}
 use Rattle.bug_record.specs.declared.bug.Bug.{Bug}
-use Rattle.sequences.proofs.SetLemmas.{has-append, has-filter, has-number_set, IsAscending-filter, IsAscending-number_set}
+use Rattle.base_sequences.proofs.SetLemmas.{has-append, has-filter, has-number_set, IsAscending-filter, IsAscending-number_set}
 use Rattle.bug_record.proofs.MarkLemmas.{has_node-append, has-node_set}
 use Rattle.bug_record.proofs.PackageLemmas.{has_name-append, has-name_set}
 

@@ -8,7 +8,7 @@ use Rattle.std.proofs.lemmas.List.{map-append}
 use Rattle.std.proofs.lemmas.List.Elements.{filter-append}
 use Rattle.bug_record.specs.Bugs.{with_new_bugs}
 use Rattle.bug_record.specs.Changed.{same_at, changed_numbers}
-use Rattle.sequences.specs.Sets.{numbers_below}
+use Rattle.base_sequences.specs.Sets.{numbers_below}
 use Rattle.bug_record.specs.Desk.{Desk, IsSound}
 use Rattle.bug_record.specs.declared.bug.Bug.{Bug}
 use Rattle.bug_record.proofs.EqualLemmas.{same_at-refl, none-from_next}

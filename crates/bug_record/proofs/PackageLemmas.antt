@@ -8,11 +8,11 @@ use Rattle.std.specs.List.Sorted.{IsStrictlySortedBy}
 use Rattle.std.proofs.lemmas.List.Kept.{IsStrictlySortedBy-filter}
 use Rattle.debver.specs.Names.{IsName}
 use Rattle.std.specs.BTreeMap.{is_at}
-use Rattle.sequences.specs.Ordered.{with_each}
-use Rattle.sequences.specs.Sets.{Each}
+use Rattle.base_sequences.specs.Ordered.{with_each}
+use Rattle.base_sequences.specs.Sets.{Each}
 use Rattle.bug_record.specs.PackageSets.{name_cmp, has_name, IsNameSet, with_name, name_set}
-use Rattle.sequences.proofs.OrderedSetLemmas.{sorted-insert, sorted-set, each-insert, each-set, each-filter}
-use Rattle.sequences.proofs.OrderedSetLemmas.{in-insert, in-set, in-append, same-sorted, each-is_set, each-append}
+use Rattle.base_sequences.proofs.OrderedSetLemmas.{sorted-insert, sorted-set, each-insert, each-set, each-filter}
+use Rattle.base_sequences.proofs.OrderedSetLemmas.{in-insert, in-set, in-append, same-sorted, each-is_set, each-append}
 
 pub same_name : (a b : List ℕ) → bytes_eq a b ≡ true → a ≡ b
 same_name a b = (bytes_decides a b).0

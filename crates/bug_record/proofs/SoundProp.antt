@@ -6,8 +6,8 @@ use Rattle.std.specs.List.Sorted.{IsStrictlySortedBy-prop}
 use Rattle.version_nodes.specs.Nodes.{Node, IsNode, node_cmp}
 use Rattle.debver.specs.Names.{IsName}
 use Rattle.version_nodes.proofs.ForestProp.{IsNode-prop, IsForest-prop}
-use Rattle.sequences.specs.Sets.{AllAbove, IsAscending, Each}
-use Rattle.line_words.specs.Texts.{IsGoodText, IfGiven}
+use Rattle.base_sequences.specs.Sets.{AllAbove, IsAscending, Each}
+use Rattle.base_words.specs.Texts.{IsGoodText, IfGiven}
 use Rattle.bug_record.specs.Tags.{tag_place}
 use Rattle.bug_record.specs.Marks.{IsNodeSet}
 use Rattle.bug_record.specs.PackageSets.{name_cmp, IsNameSet}

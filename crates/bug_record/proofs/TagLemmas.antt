@@ -5,13 +5,13 @@ use Rattle.std.specs.Prelude.{not, map, filter, ◌==◌, nat_lt}
 use Rattle.std.specs.List.{list_any}
 use Rattle.std.proofs.lemmas.Bool.{false≢true, eqb-true, eq-eqb}
 use Rattle.std.proofs.lemmas.Bool.Decides.{nat_tests}
-use Rattle.sequences.specs.Sets.{has, AllAbove, IsAscending, with_item}
+use Rattle.base_sequences.specs.Sets.{has, AllAbove, IsAscending, with_item}
 use Rattle.bug_record.specs.Tags.{all_tags, tag_place, same_tag, has_tag, with_tag, without_tag, IsTagSet}
 use Rattle.bug_record.specs.Merges.{joined_tags}
 use Rattle.bug_record.specs.declared.bug.Bug.{Bug}
 use Rattle.bug_record.specs.declared.tag.Tag.{Tag}
 use Rattle.bug_record.specs.declared.tag.Tag.TheVariants as tags
-use Rattle.sequences.proofs.SetLemmas.{has-with_item, IsAscending-with_item, same-ascending}
+use Rattle.base_sequences.proofs.SetLemmas.{has-with_item, IsAscending-with_item, same-ascending}
 
 -- the tag of a place
 abbrev tag_at : ℕ → Tag

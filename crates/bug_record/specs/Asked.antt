@@ -1,7 +1,7 @@
 -- The bugs of a desk that pass a test of their shared fields.
 use Rattle.std.specs.Prelude.{ℕ, Bool, false, List, filter, Option, Some, None}
 use Rattle.bug_record.specs.Desk.{Desk}
-use Rattle.sequences.specs.Sets.{numbers_below}
+use Rattle.base_sequences.specs.Sets.{numbers_below}
 use Rattle.bug_record.specs.declared.bug.Bug.{Bug}
 use Rattle.bug_record.specs.declared.bug.Shared.{Shared}
 

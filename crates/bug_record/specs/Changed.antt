@@ -7,7 +7,7 @@ use Rattle.version_nodes.specs.Nodes.{Node, same_node}
 use Rattle.bug_record.specs.Severities.{rank}
 use Rattle.bug_record.specs.Tags.{same_tag}
 use Rattle.bug_record.specs.Differences.{same_flag, same_text, same_state}
-use Rattle.sequences.specs.Sets.{has, IsAscending, numbers_below}
+use Rattle.base_sequences.specs.Sets.{has, IsAscending, numbers_below}
 use Rattle.bug_record.specs.Desk.{Desk, IsSound}
 use Rattle.bug_record.specs.Images.{AreSetsOf, put}
 use Rattle.bug_record.specs.Plans.{CoverImages, BringNone}

@@ -4,7 +4,7 @@
 use Rattle.std.specs.Prelude.{ℕ, ◌+◌, ◌==◌, ◌||◌, nat_lt, Bool, List, [], ◌∷◌, length, count_by}
 use Rattle.std.specs.Prelude.{Option, Some, None, is_some, option_map, Result, Ok, if◌then◌else◌}
 use Rattle.std.specs.List.{find}
-use Rattle.line_words.specs.declared.named.TheConstants.{AFTER_LARGEST}
+use Rattle.base_words.specs.declared.named.TheConstants.{AFTER_LARGEST}
 use Rattle.bug_record.specs.Desk.{Desk}
 use Rattle.bug_record.specs.Bugs.{with_new_bugs, at_bug, unless, first_of}
 use Rattle.bug_record.specs.Words.{Names, number_of_name}

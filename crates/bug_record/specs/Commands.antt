@@ -5,8 +5,8 @@ use Rattle.std.specs.Str.{is_utf8}
 use Rattle.debver.specs.Names.{IsName}
 use Rattle.debver.specs.Cut.{IsVersion}
 use Rattle.version_nodes.specs.Nodes.{Node, node}
-use Rattle.sequences.specs.Sets.{Each}
-use Rattle.line_words.specs.Texts.{IsText, IfGiven}
+use Rattle.base_sequences.specs.Sets.{Each}
+use Rattle.base_words.specs.Texts.{IsText, IfGiven}
 use Rattle.bug_record.specs.declared.command.Command.{Command}
 use Rattle.bug_record.specs.declared.command.Command.TheVariants as commands
 use Rattle.bug_record.specs.declared.command.VersionArg.{VersionArg}

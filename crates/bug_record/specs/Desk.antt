@@ -2,9 +2,9 @@
 use Rattle.std.specs.Prelude.{ℕ, ◌≡◌, ◌≢◌, ◌<◌, ◌≤◌, true, false, List, Option, Some, None}
 use Rattle.debver.specs.Names.{IsName}
 use Rattle.version_nodes.specs.Trees.{Ancestry, IsForest}
-use Rattle.line_words.specs.declared.named.TheConstants.{AFTER_LARGEST}
-use Rattle.sequences.specs.Sets.{has, IsAscending}
-use Rattle.line_words.specs.Texts.{IsGoodText, IfGiven}
+use Rattle.base_words.specs.declared.named.TheConstants.{AFTER_LARGEST}
+use Rattle.base_sequences.specs.Sets.{has, IsAscending}
+use Rattle.base_words.specs.Texts.{IsGoodText, IfGiven}
 use Rattle.bug_record.specs.Tags.{IsTagSet}
 use Rattle.bug_record.specs.Marks.{IsNodeSet}
 use Rattle.bug_record.specs.PackageSets.{IsNameSet}

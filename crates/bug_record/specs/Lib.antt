@@ -1,7 +1,7 @@
-pub use Rattle.line_words.specs.Blanks
-pub use Rattle.line_words.specs.AnyCase
-pub use Rattle.sequences.specs.Sets
-pub use Rattle.sequences.specs.Ordered
+pub use Rattle.base_words.specs.Blanks
+pub use Rattle.base_words.specs.AnyCase
+pub use Rattle.base_sequences.specs.Sets
+pub use Rattle.base_sequences.specs.Ordered
 pub mod Severities
 pub mod Tags
 pub mod Marks

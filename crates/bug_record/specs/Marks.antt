@@ -7,8 +7,8 @@ use Rattle.std.specs.Ordering.{is_lt}
 use Rattle.std.specs.List.{list_any}
 use Rattle.debver.specs.Versions.{text_cmp}
 use Rattle.version_nodes.specs.Nodes.{Node, IsNode, same_node, node_cmp}
-use Rattle.sequences.specs.Ordered.{ordered_set}
-use Rattle.sequences.specs.Sets.{Each}
+use Rattle.base_sequences.specs.Ordered.{ordered_set}
+use Rattle.base_sequences.specs.Sets.{Each}
 
 -- each node stands once, in node order, and is a package name and a version
 pub record IsNodeSet (nodes : List Node) : Type 0 where

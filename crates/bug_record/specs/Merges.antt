@@ -3,7 +3,7 @@
 use Rattle.std.specs.Prelude.{ℕ, ◌==◌, not, List, [], ◌∷◌, filter, Option, None, Result, Ok, Err, if◌then◌else◌}
 use Rattle.std.specs.List.{list_any}
 use Rattle.std.specs.Option.{option_or}
-use Rattle.sequences.specs.Sets.{has, number_set}
+use Rattle.base_sequences.specs.Sets.{has, number_set}
 use Rattle.bug_record.specs.Tags.{all_tags, has_tag}
 use Rattle.bug_record.specs.Marks.{node_set}
 use Rattle.bug_record.specs.PackageSets.{name_set}

@@ -9,8 +9,8 @@ use Rattle.std.specs.Ordering.{nat_cmp}
 use Rattle.std.specs.Str.{bytes_eq}
 use Rattle.std.specs.declared.cmp.Ordering.{Ordering}
 use Rattle.debver.specs.Names.{IsName}
-use Rattle.sequences.specs.Ordered.{ordered_set}
-use Rattle.sequences.specs.Sets.{Each}
+use Rattle.base_sequences.specs.Ordered.{ordered_set}
+use Rattle.base_sequences.specs.Sets.{Each}
 
 -- the order of bytes
 abbrev pub name_cmp : List ℕ → List ℕ → Ordering

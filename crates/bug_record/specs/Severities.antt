@@ -1,7 +1,7 @@
 -- Severities (the BTS page 'control and manipulation').
 use Rattle.std.specs.Prelude.{ℕ, List, [], ◌∷◌, Option, codes}
 use Rattle.std.specs.List.{find}
-use Rattle.line_words.specs.AnyCase.{is_word}
+use Rattle.base_words.specs.AnyCase.{is_word}
 use Rattle.bug_record.specs.declared.severity.Severity.{Severity}
 use Rattle.bug_record.specs.declared.severity.Severity.TheVariants.{Critical, Grave, Serious, Important, Normal, Minor, Wishlist}
 

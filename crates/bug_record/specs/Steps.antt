@@ -4,10 +4,10 @@
 use Rattle.std.specs.Prelude.{ℕ, ◌==◌, ◌&&◌, false, true, List, [], ◌∷◌, Option, Some, None, Result, Ok, unwrap_or}
 use Rattle.std.specs.Prelude.{◌++◌, not, filter, option_map, if◌then◌else◌}
 use Rattle.std.specs.Str.{bytes_eq}
-use Rattle.line_words.specs.declared.named.Named.{Named}
+use Rattle.base_words.specs.declared.named.Named.{Named}
 use Rattle.version_nodes.specs.Nodes.{Node}
 use Rattle.std.specs.List.{find}
-use Rattle.sequences.specs.Sets.{has, number_set}
+use Rattle.base_sequences.specs.Sets.{has, number_set}
 use Rattle.bug_record.specs.Marks.{with_node, without_node, is_below_some}
 use Rattle.bug_record.specs.Tags.{with_tag, without_tag}
 use Rattle.bug_record.specs.PackageSets.{has_name, name_set}

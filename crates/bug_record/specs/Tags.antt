@@ -2,8 +2,8 @@
 -- rule).
 use Rattle.std.specs.Prelude.{ℕ, Bool, not, ◌==◌, codes, List, [], ◌∷◌, map, filter, Option}
 use Rattle.std.specs.List.{list_any, find}
-use Rattle.line_words.specs.AnyCase.{is_word}
-use Rattle.sequences.specs.Sets.{IsAscending, with_item}
+use Rattle.base_words.specs.AnyCase.{is_word}
+use Rattle.base_sequences.specs.Sets.{IsAscending, with_item}
 use Rattle.bug_record.specs.declared.tag.Tag.{Tag}
 use Rattle.bug_record.specs.declared.tag.Tag.TheVariants as tags
 

@@ -1,7 +1,7 @@
 -- Bugs that wait on another.
 -- This project's own rule.
 use Rattle.std.specs.Prelude.{ℕ, List}
-use Rattle.sequences.specs.Sets.{has}
+use Rattle.base_sequences.specs.Sets.{has}
 use Rattle.bug_record.specs.Desk.{Desk}
 use Rattle.bug_record.specs.Asked.{numbers_where}
 

@@ -5,8 +5,8 @@ use Rattle.std.specs.Prelude.{ℕ, ◌==◌, ◌&&◌, Bool, true, false, not, L
 use Rattle.std.specs.Prelude.{if◌then◌else◌}
 use Rattle.std.specs.Option.{option_or}
 use Rattle.std.specs.Result.{result_unwrap_or}
-use Rattle.line_words.specs.declared.named.Named.{Named}
-use Rattle.line_words.specs.declared.named.Named.TheVariants.{Number, Name}
+use Rattle.base_words.specs.declared.named.Named.{Named}
+use Rattle.base_words.specs.declared.named.Named.TheVariants.{Number, Name}
 use Rattle.bug_record.specs.Commands.{bug_named, other_bugs}
 use Rattle.bug_record.specs.declared.bug.Bug.{Bug}
 use Rattle.bug_record.specs.declared.bug.Shared.{Shared}

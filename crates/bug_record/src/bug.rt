@@ -2,7 +2,7 @@
 
 ghost use Rattle.std.specs.Prelude.{◌≡◌, IfOk};
 ghost use Rattle.std.specs.Option.{option_copied};
-ghost use Rattle.sequences.specs.Sets.{has};
+ghost use Rattle.base_sequences.specs.Sets.{has};
 ghost use Rattle.bug_record.specs.Images.{member_at, numbers_of};
 
 use crate::agreed::Agreed;
@@ -10,9 +10,9 @@ use crate::members::Members;
 use crate::names::{Names, copy_names};
 use crate::nodes::{Nodes, copy_nodes};
 use crate::severity::Severity;
-use crate::tags::{Tags, copy_tags};
+use crate::tag_sets::{Tags, copy_tags};
+use base_sequences::{Numbered, Numbers};
 use debver::Text;
-use sequences::{Numbered, Numbers};
 use std::alloc::AllocError;
 
 /// The fields on which merged bugs agree.

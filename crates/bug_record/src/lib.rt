@@ -1,6 +1,5 @@
-//! Bugs and commands as values: a bug's whole record, the image of a set of merged bugs, commands
-//! and refusals, outcomes and faults; and the definitions (`specs/`) of a desk of bugs, of what
-//! keeps it sound, and of what each command does to it.
+//! A bug's whole record, commands and refusals as values, and what each command does to a desk.
+//! The definitions (`specs/`) are the model: a desk of bugs, what keeps it sound, and each step.
 #![tactic(auto)]
 
 mod agreed;
@@ -13,9 +12,10 @@ mod outcome;
 mod row;
 mod severity;
 mod tag;
-mod tags;
+mod tag_sets;
 
 pub use agreed::Agreed;
+pub use base_sequences::{Numbered, Numbers, Sequence, add_number, add_numbers, number_set};
 pub use bug::{Bug, Member, SetImage, Shared, member_at};
 pub use command::{
     AffectsStep, Change, Command, Field, PlanFault, Refusal, TagStep, VersionArg, Who,
@@ -27,7 +27,6 @@ pub use names::{
 pub use nodes::{Nodes, add_node, copy_nodes, remove_node};
 pub use outcome::Outcome;
 pub use row::ListRow;
-pub use sequences::{Numbered, Numbers, Sequence, add_number, add_numbers, number_set};
 pub use severity::Severity;
 pub use tag::Tag;
-pub use tags::{Tags, copy_tags, remove_tag};
+pub use tag_sets::{Tags, copy_tags, remove_tag};

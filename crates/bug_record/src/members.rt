@@ -3,7 +3,7 @@
 ghost use Rattle.std.specs.Prelude.{◌≡◌, ◌∷◌, [], IfOk};
 
 use crate::bug::Member;
-use sequences::Sequence;
+use base_sequences::Sequence;
 use std::alloc::AllocError;
 use std::marker::Model;
 use std::rc::RcSlice;

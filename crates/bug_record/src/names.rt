@@ -1,11 +1,11 @@
 //! Sets of package names, in the order of their bytes, as those that a bug affects.
 
 ghost use Rattle.std.specs.Prelude.{◌≡◌, ◌++◌, not, filter, IfOk, OnOk, OnErr};
-ghost use Rattle.sequences.specs.Ordered.{with_each};
+ghost use Rattle.base_sequences.specs.Ordered.{with_each};
 ghost use Rattle.bug_record.specs.PackageSets.{name_cmp, has_name, with_name, name_set};
 
+use base_sequences::Sequence;
 use debver::Text;
-use sequences::Sequence;
 use std::alloc::{AllocError, Global};
 use std::collections::BTreeSet;
 

@@ -4,7 +4,7 @@ ghost use Rattle.std.specs.Prelude.{◌≡◌, not, filter, IfOk, OnOk, OnErr};
 ghost use Rattle.version_nodes.specs.Nodes.{same_node};
 ghost use Rattle.bug_record.specs.Marks.{with_node, without_node};
 
-use sequences::Sequence;
+use base_sequences::Sequence;
 use std::alloc::AllocError;
 use version_nodes::Node;
 

@@ -1,7 +1,7 @@
 //! What comes of a line.
 
 use crate::command::Refusal;
-use sequences::Numbers;
+use base_sequences::Numbers;
 
 /// What comes of a line that is neither blank nor a comment.
 #[derive(Drop)]

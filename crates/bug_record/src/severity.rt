@@ -3,7 +3,7 @@
 ghost use Rattle.std.specs.Prelude.{◌≡◌};
 ghost use Rattle.bug_record.specs.Severities.{all_severities, severity_of, severity_name, rank};
 
-use line_words::{Spelled, find_spelled};
+use base_words::{Spelled, find_spelled};
 
 /// How severe a bug is, from `critical` down to `wishlist` (the severities of the BTS).
 #[derive(Clone, Copy, Debug, PartialEq, Eq, Drop)]

@@ -3,8 +3,8 @@
 ghost use Rattle.std.specs.Prelude.{◌≡◌};
 ghost use Rattle.bug_record.specs.Tags.{tag_place, tag_name, tag_of};
 
-use line_words::{Spelled, find_spelled};
-use sequences::Numbered;
+use base_sequences::Numbered;
+use base_words::{Spelled, find_spelled};
 
 /// A tag of a bug (the tags of the BTS without those that name a distribution or a version).
 #[derive(Clone, Copy, PartialEq, Eq, Drop)]

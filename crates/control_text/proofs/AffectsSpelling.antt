@@ -7,15 +7,15 @@ use Rattle.bug_record.specs.declared.command.AffectsStep.TheVariants as affectin
 use Rattle.bug_record.specs.declared.command.Command.{Command}
 use Rattle.bug_record.specs.declared.command.Command.TheVariants as commands
 use Rattle.bug_record.specs.declared.command.Refusal.{Refusal}
-use Rattle.line_words.specs.declared.named.Named.{Named}
-use Rattle.line_words.specs.Bugs.{IsGoodBug}
-use Rattle.line_words.specs.Words.{words, words_with_commas, after_word}
-use Rattle.command_grammar.specs.declared.signs.Sign.{Sign}
-use Rattle.command_grammar.specs.declared.signs.Sign.TheVariants.{Plus, Minus, Equals}
-use Rattle.command_grammar.specs.Commands.{and_read, read_bug, read_package, each_word, affects_step, are_given, affects_command, sign_and_words}
+use Rattle.base_words.specs.declared.named.Named.{Named}
+use Rattle.base_words.specs.Bugs.{IsGoodBug}
+use Rattle.base_words.specs.Words.{words, words_with_commas, after_word}
+use Rattle.control_grammar.specs.declared.signs.Sign.{Sign}
+use Rattle.control_grammar.specs.declared.signs.Sign.TheVariants.{Plus, Minus, Equals}
+use Rattle.control_grammar.specs.Commands.{and_read, read_bug, read_package, each_word, affects_step, are_given, affects_command, sign_and_words}
 use Rattle.control_text.specs.Spelling.{bug_text, affects_sign}
 use Rattle.control_text.specs.Spaces.{after_spaces}
-use Rattle.command_grammar.specs.WellFormed.{HasPackages}
+use Rattle.control_grammar.specs.WellFormed.{HasPackages}
 use Rattle.control_text.proofs.PlainWords.{name-plain, name-whole}
 use Rattle.control_text.proofs.SpacedLemmas.{first_word-is, ArePlain, AreWhole, whole_plain, words-space, after_word-spaces}
 use Rattle.control_text.proofs.SpacedLemmas.{commas-spaces}

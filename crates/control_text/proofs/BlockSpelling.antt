@@ -5,11 +5,11 @@ use Rattle.std.proofs.lemmas.Bool.{cond-true}
 use Rattle.bug_record.specs.Sets.{Each}
 use Rattle.bug_record.specs.declared.command.Refusal.{Refusal}
 use Rattle.bug_record.specs.declared.command.Refusal.TheVariants.{Malformed}
-use Rattle.line_words.specs.declared.named.Named.{Named}
-use Rattle.line_words.specs.declared.named.Named.TheVariants.{Number, Name}
-use Rattle.line_words.specs.Bugs.{IsGoodBug}
-use Rattle.line_words.specs.Words.{is_blank_or_comma, words, words_with_commas, first_word, after_word}
-use Rattle.command_grammar.specs.Commands.{and_read, read_bug, some_bugs, is_by, by_bugs, bug_by_bugs}
+use Rattle.base_words.specs.declared.named.Named.{Named}
+use Rattle.base_words.specs.declared.named.Named.TheVariants.{Number, Name}
+use Rattle.base_words.specs.Bugs.{IsGoodBug}
+use Rattle.base_words.specs.Words.{is_blank_or_comma, words, words_with_commas, first_word, after_word}
+use Rattle.control_grammar.specs.Commands.{and_read, read_bug, some_bugs, is_by, by_bugs, bug_by_bugs}
 use Rattle.control_text.specs.Spelling.{bug_text}
 use Rattle.control_text.specs.Spaces.{after_spaces}
 use Rattle.control_text.proofs.PlainWords.{IsPlainWord, decimal-whole}

@@ -3,11 +3,11 @@ use Rattle.std.proofs.Common.{◌≡◌, ℕ, ◌<◌, List, [], ◌∷◌, leng
 use Rattle.std.specs.Option.{ok_or}
 use Rattle.bug_record.specs.Sets.{Each}
 use Rattle.bug_record.specs.declared.command.Refusal.TheVariants.{Malformed}
-use Rattle.line_words.specs.declared.named.Named.{Named}
-use Rattle.line_words.specs.declared.named.Named.TheVariants.{Name}
-use Rattle.line_words.specs.Numbers.{IsGoodNumber}
-use Rattle.line_words.specs.Bugs.{name_of_bug, IsGoodBug}
-use Rattle.command_grammar.specs.Commands.{and_read, read_name, some_names, bug_and_names}
+use Rattle.base_words.specs.declared.named.Named.{Named}
+use Rattle.base_words.specs.declared.named.Named.TheVariants.{Name}
+use Rattle.base_words.specs.Numbers.{IsGoodNumber}
+use Rattle.base_words.specs.Bugs.{name_of_bug, IsGoodBug}
+use Rattle.control_grammar.specs.Commands.{and_read, read_name, some_names, bug_and_names}
 use Rattle.control_text.specs.Spelling.{name_text, bug_text}
 use Rattle.control_text.proofs.SpacedLemmas.{ArePlain}
 use Rattle.control_text.proofs.SpellingLemmas.{bug_word-back, bug-back, bug-plain}

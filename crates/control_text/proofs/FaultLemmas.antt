@@ -3,7 +3,7 @@ use Rattle.std.proofs.Common.{◌≡◌, ◌≢◌, ℕ, List, [], ◌∷◌, Op
 use Rattle.std.proofs.lemmas.Bool.{eqb-true}
 use Rattle.std.specs.Prelude.{◌==◌, option_map}
 use Rattle.std.specs.List.{flat_map, position, list_any}
-use Rattle.line_words.specs.Blanks.{is_control}
+use Rattle.base_words.specs.Blanks.{is_control}
 use Rattle.control_text.specs.Tokens.{Text, Word, commands}
 use Rattle.control_text.specs.BugPlaces.{marked}
 use Rattle.control_text.specs.WordLines.{bad_word, bad_word_or, command_fault, first_fault, lines, lines_after, unset_it, IsFaultOf}

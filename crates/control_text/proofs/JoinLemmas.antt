@@ -2,9 +2,9 @@
 use Rattle.std.proofs.Common.{◌≡◌, ℕ, Bool, true, false, List, [], ◌∷◌, ◌++◌, refl, ap, sym, ◌∙◌, inl, inr, append-nil}
 use Rattle.std.specs.List.{flat_map, join_with_byte, onto_first, list_any}
 use Rattle.std.proofs.lemmas.Bool.{cases_Bool, false≢true}
-use Rattle.line_words.specs.Blanks.{is_blank}
-use Rattle.line_words.specs.Words.{words, words_between, has_bytes}
-use Rattle.line_words.proofs.WordLemmas.{words-nil, words-separator, words-last, words-more, words-word}
+use Rattle.base_words.specs.Blanks.{is_blank}
+use Rattle.base_words.specs.Words.{words, words_between, has_bytes}
+use Rattle.base_words.proofs.WordLemmas.{words-nil, words-separator, words-last, words-more, words-word}
 
 abbrev has_word : List (List ℕ) → Bool
 has_word [] = false

@@ -2,9 +2,9 @@
 use Rattle.std.proofs.Common.{◌≡◌, ℕ, ◌<◌, List, [], ◌∷◌, length, map, Result, Ok, refl, ap, ◌∙◌, arith}
 use Rattle.bug_record.specs.Sets.{Each}
 use Rattle.bug_record.specs.declared.command.Refusal.{Refusal}
-use Rattle.line_words.specs.declared.named.Named.{Named}
-use Rattle.line_words.specs.Bugs.{IsGoodBug}
-use Rattle.command_grammar.specs.Commands.{and_read, read_bug, each_word, some_bugs, bug_and_others}
+use Rattle.base_words.specs.declared.named.Named.{Named}
+use Rattle.base_words.specs.Bugs.{IsGoodBug}
+use Rattle.control_grammar.specs.Commands.{and_read, read_bug, each_word, some_bugs, bug_and_others}
 use Rattle.control_text.specs.Spelling.{bug_text}
 use Rattle.control_text.proofs.SpacedLemmas.{ArePlain}
 use Rattle.control_text.proofs.SpellingLemmas.{bug-back, bug-plain}

@@ -14,9 +14,9 @@ use Rattle.debver.specs.Characters.{is_digit, is_letter, is_colon, is_hyphen}
 use Rattle.debver.specs.Names.{IsName, in_name, starts_name}
 use Rattle.debver.specs.Parts.{in_upstream, in_revision, epoch_text, revision_text, IsEpoch, IsRevision}
 use Rattle.debver.specs.Cut.{cut, IsVersion}
-use Rattle.line_words.specs.Blanks.{is_blank, is_control}
-use Rattle.line_words.specs.Words.{has_bytes, is_blank_or_comma}
-use Rattle.line_words.proofs.NumberLemmas.{own}
+use Rattle.base_words.specs.Blanks.{is_blank, is_control}
+use Rattle.base_words.specs.Words.{has_bytes, is_blank_or_comma}
+use Rattle.base_words.proofs.NumberLemmas.{own}
 
 abbrev pub is_graphic : ℕ → Bool
 is_graphic c = nat_le 33 c && nat_le c 126

@@ -7,24 +7,24 @@ use Rattle.std.specs.List.{list_any, position_or_len}
 use Rattle.std.proofs.lemmas.Bool.{cond-true, cond-false, or_parts, and_left, or_from, not_from_true, not_from_false, false≢true}
 use Rattle.std.proofs.lemmas.List.Folds.{list_any-append}
 use Rattle.std.proofs.Math.Seq.{drop-append_seam}
-use Rattle.line_words.specs.Blanks.{is_blank, is_control, begins_blank}
-use Rattle.line_words.specs.AnyCase.{is_word}
+use Rattle.base_words.specs.Blanks.{is_blank, is_control, begins_blank}
+use Rattle.base_words.specs.AnyCase.{is_word}
 use Rattle.bug_record.specs.declared.command.Command.{Command}
 use Rattle.bug_record.specs.declared.command.Refusal.{Refusal}
 use Rattle.bug_record.specs.declared.command.Refusal.TheVariants.{Unknown, Malformed}
-use Rattle.line_words.specs.declared.named.Named.{Named}
-use Rattle.command_grammar.specs.declared.command_word.CommandWord.{CommandWord}
-use Rattle.command_grammar.specs.declared.line.Line.{Line}
-use Rattle.command_grammar.specs.declared.line.Line.TheVariants.{Comment, Stop, Do}
-use Rattle.line_words.specs.Words.{is_blank_or_comma, words_with_commas}
-use Rattle.line_words.specs.Words.{has_bytes, words, EndsWord, trimmed, first_word, after_word, without_last_blanks}
-use Rattle.command_grammar.specs.CommandWords.{command_word}
-use Rattle.command_grammar.specs.Commands.{and_read, command_of}
-use Rattle.command_grammar.specs.Lines.{begins_hash, is_stop_word, is_stop_line, command_reading, reading_of_words, reading}
+use Rattle.base_words.specs.declared.named.Named.{Named}
+use Rattle.control_grammar.specs.declared.command_word.CommandWord.{CommandWord}
+use Rattle.control_grammar.specs.declared.line.Line.{Line}
+use Rattle.control_grammar.specs.declared.line.Line.TheVariants.{Comment, Stop, Do}
+use Rattle.base_words.specs.Words.{is_blank_or_comma, words_with_commas}
+use Rattle.base_words.specs.Words.{has_bytes, words, EndsWord, trimmed, first_word, after_word, without_last_blanks}
+use Rattle.control_grammar.specs.CommandWords.{command_word}
+use Rattle.control_grammar.specs.Commands.{and_read, command_of}
+use Rattle.control_grammar.specs.Lines.{begins_hash, is_stop_word, is_stop_line, command_reading, reading_of_words, reading}
 use Rattle.control_text.specs.Spelling.{joined_by_blanks}
 use Rattle.control_text.specs.Spaces.{after_spaces}
-use Rattle.line_words.proofs.WordLemmas.{words-nil, words-separator, words-word, without_first-separator, words-first, words-none}
-use Rattle.command_parser.proofs.TextLemmas.{unblanked_first}
+use Rattle.base_words.proofs.WordLemmas.{words-nil, words-separator, words-word, without_first-separator, words-first, words-none}
+use Rattle.control_parser.proofs.TextLemmas.{unblanked_first}
 use Rattle.control_text.proofs.PlainWords.{IsPlainWord, graphic-blank, graphic-control}
 
 -- the first place of a byte that stands after a text without such bytes

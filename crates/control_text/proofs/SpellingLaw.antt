@@ -4,7 +4,7 @@ use Rattle.std.proofs.Common.{append-nil}
 use Rattle.debver.specs.Names.{IsName}
 use Rattle.std.specs.Option.{ok_or}
 use Rattle.bug_record.specs.Sets.{Each}
-use Rattle.line_words.specs.Texts.{IsText, IfGiven}
+use Rattle.base_words.specs.Texts.{IsText, IfGiven}
 use Rattle.bug_record.specs.Severities.{severity_name, severity_of}
 use Rattle.bug_record.specs.Commands.{IsGoodVersion, IsGoodPerson}
 use Rattle.bug_record.specs.declared.severity.Severity.{Severity}
@@ -14,22 +14,22 @@ use Rattle.bug_record.specs.declared.command.VersionArg.{VersionArg}
 use Rattle.bug_record.specs.declared.command.Who.{Who}
 use Rattle.bug_record.specs.declared.command.Refusal.{Refusal}
 use Rattle.bug_record.specs.declared.command.Refusal.TheVariants.{BadSeverity}
-use Rattle.line_words.specs.declared.named.Named.{Named}
-use Rattle.command_grammar.specs.declared.command_word.CommandWord.{CommandWord}
-use Rattle.command_grammar.specs.declared.command_word.CommandWord.TheVariants as command_words
-use Rattle.command_grammar.specs.declared.line.Line.TheVariants.{Do}
-use Rattle.line_words.specs.Bugs.{IsGoodBug}
-use Rattle.line_words.specs.Words.{words, trimmed, after_word}
-use Rattle.command_grammar.specs.Commands.{and_read, read_version, read_package, bug_alone, bug_and_version}
-use Rattle.command_grammar.specs.Commands.{bug_and_optional_version, severity_command, reassign_command, optional_who}
-use Rattle.command_grammar.specs.Commands.{bug_and_some_text, bug_and_some_who, bug_and_others, bug_and_names, bug_by_bugs}
-use Rattle.command_grammar.specs.Commands.{reopen_command, command_of}
-use Rattle.command_grammar.specs.Lines.{reading}
-use Rattle.command_grammar.specs.WellFormed.{IsPlain, IsAddress, IsWellFormed}
+use Rattle.base_words.specs.declared.named.Named.{Named}
+use Rattle.control_grammar.specs.declared.command_word.CommandWord.{CommandWord}
+use Rattle.control_grammar.specs.declared.command_word.CommandWord.TheVariants as command_words
+use Rattle.control_grammar.specs.declared.line.Line.TheVariants.{Do}
+use Rattle.base_words.specs.Bugs.{IsGoodBug}
+use Rattle.base_words.specs.Words.{words, trimmed, after_word}
+use Rattle.control_grammar.specs.Commands.{and_read, read_version, read_package, bug_alone, bug_and_version}
+use Rattle.control_grammar.specs.Commands.{bug_and_optional_version, severity_command, reassign_command, optional_who}
+use Rattle.control_grammar.specs.Commands.{bug_and_some_text, bug_and_some_who, bug_and_others, bug_and_names, bug_by_bugs}
+use Rattle.control_grammar.specs.Commands.{reopen_command, command_of}
+use Rattle.control_grammar.specs.Lines.{reading}
+use Rattle.control_grammar.specs.WellFormed.{IsPlain, IsAddress, IsWellFormed}
 use Rattle.control_text.specs.Spelling.{name_text, bug_text, version_text, who_text, step_words, word_if, spelling, spelled_words, affects_sign}
 use Rattle.control_text.specs.Spelling.{joined_by_blanks}
 use Rattle.control_text.specs.Spaces.{after_spaces}
-use Rattle.command_parser.proofs.TextLemmas.{text_parts}
+use Rattle.control_parser.proofs.TextLemmas.{text_parts}
 use Rattle.control_text.proofs.PlainWords.{graphic-control, name-plain}
 use Rattle.control_text.proofs.SpacedLemmas.{IsCommandWord, reading-command, ArePlain, AreClean, plain_clean, clean-spaces}
 use Rattle.control_text.proofs.SpacedLemmas.{ends-after_spaces, words-space, words-spaces, after_word-spaces, trimmed-space}

@@ -23,21 +23,21 @@ use Rattle.version_nodes.specs.Nodes.{Node, node, is_slash}
 use Rattle.version_nodes.proofs.ReadLemmas.{nodes_exactly}
 use Rattle.bug_record.specs.Severities.{severity_name, severity_of}
 use Rattle.bug_record.specs.Commands.{IsGoodVersion}
-use Rattle.line_words.specs.Texts.{IfGiven}
+use Rattle.base_words.specs.Texts.{IfGiven}
 use Rattle.bug_record.specs.declared.severity.Severity.{Severity}
 use Rattle.bug_record.specs.declared.severity.Severity.TheVariants as severities
 use Rattle.bug_record.specs.declared.command.VersionArg.{VersionArg}
 use Rattle.bug_record.specs.declared.command.Refusal.TheVariants.{Malformed, BadVersion, BadPackage}
-use Rattle.line_words.specs.declared.named.Named.{Named}
-use Rattle.line_words.specs.declared.named.Named.TheVariants.{Number, Name}
-use Rattle.line_words.specs.Numbers.{number_of_digits, IsGoodNumber}
-use Rattle.line_words.specs.Bugs.{bug_of_word, bug_of_text, IsGoodBug}
-use Rattle.line_words.specs.Words.{has_bytes}
-use Rattle.command_grammar.specs.Versions.{bare_version, sourced_version, version_of_word, without_src, package_of_word}
-use Rattle.command_grammar.specs.Commands.{read_bug, read_version, read_package}
+use Rattle.base_words.specs.declared.named.Named.{Named}
+use Rattle.base_words.specs.declared.named.Named.TheVariants.{Number, Name}
+use Rattle.base_words.specs.Numbers.{number_of_digits, IsGoodNumber}
+use Rattle.base_words.specs.Bugs.{bug_of_word, bug_of_text, IsGoodBug}
+use Rattle.base_words.specs.Words.{has_bytes}
+use Rattle.control_grammar.specs.Versions.{bare_version, sourced_version, version_of_word, without_src, package_of_word}
+use Rattle.control_grammar.specs.Commands.{read_bug, read_version, read_package}
 use Rattle.control_text.specs.Spelling.{bug_text, version_text}
-use Rattle.command_parser.proofs.TextLemmas.{none-take}
-use Rattle.command_parser.proofs.ReadingLemmas.{version_good}
+use Rattle.control_parser.proofs.TextLemmas.{none-take}
+use Rattle.control_parser.proofs.ReadingLemmas.{version_good}
 use Rattle.control_text.proofs.PlainWords.{IsPlainWord, graphic-append, name-plain, version-plain, decimal-plain, written_is}
 use Rattle.control_text.proofs.SpacedLemmas.{position-is}
 

@@ -9,10 +9,10 @@ use Rattle.bug_record.specs.declared.command.Command.TheVariants as commands
 use Rattle.bug_record.specs.declared.command.TagStep.{TagStep}
 use Rattle.bug_record.specs.declared.command.TagStep.TheVariants.{Add, Remove, Clear}
 use Rattle.bug_record.specs.declared.command.Refusal.{Refusal}
-use Rattle.line_words.specs.declared.named.Named.{Named}
-use Rattle.line_words.specs.Bugs.{IsGoodBug}
-use Rattle.line_words.specs.Words.{is_blank_or_comma, words, words_with_commas, after_word}
-use Rattle.command_grammar.specs.Commands.{and_read, read_bug, tag_step, tag_steps, all_steps, some_steps, tags_command}
+use Rattle.base_words.specs.declared.named.Named.{Named}
+use Rattle.base_words.specs.Bugs.{IsGoodBug}
+use Rattle.base_words.specs.Words.{is_blank_or_comma, words, words_with_commas, after_word}
+use Rattle.control_grammar.specs.Commands.{and_read, read_bug, tag_step, tag_steps, all_steps, some_steps, tags_command}
 use Rattle.control_text.specs.Spelling.{bug_text, step_text, step_words}
 use Rattle.control_text.specs.Spaces.{after_spaces}
 use Rattle.control_text.proofs.PlainWords.{IsGraphic, IsPlainWord}

@@ -5,22 +5,22 @@ use Rattle.std.specs.List.{list_any}
 use Rattle.std.specs.Str.{bytes_eq}
 use Rattle.std.proofs.lemmas.Bool.{cond-false, le-ltb, false_from_ne_true}
 use Rattle.std.proofs.lemmas.Slice.Eq.{bytes_eq-Decides}
-use Rattle.line_words.specs.Blanks.{is_control}
-use Rattle.line_words.specs.Texts.{IsText}
+use Rattle.base_words.specs.Blanks.{is_control}
+use Rattle.base_words.specs.Texts.{IsText}
 use Rattle.bug_record.specs.Commands.{IsGoodPerson}
 use Rattle.bug_record.specs.declared.command.Who.{Who}
 use Rattle.bug_record.specs.declared.command.Who.TheVariants.{Sender, Given}
 use Rattle.bug_record.specs.declared.command.Refusal.{Refusal}
 use Rattle.bug_record.specs.declared.command.Refusal.TheVariants.{TooLong}
-use Rattle.line_words.specs.declared.named.Named.{Named}
-use Rattle.line_words.specs.Bugs.{IsGoodBug}
-use Rattle.line_words.specs.Words.{words, trimmed, after_word}
-use Rattle.command_grammar.specs.Commands.{and_read, read_bug, limited_text, who_of_text, some_text, some_who, optional_who}
-use Rattle.command_grammar.specs.Commands.{bug_and_text, bug_and_some_text, bug_and_some_who}
-use Rattle.command_grammar.specs.WellFormed.{IsPlain, IsAddress}
+use Rattle.base_words.specs.declared.named.Named.{Named}
+use Rattle.base_words.specs.Bugs.{IsGoodBug}
+use Rattle.base_words.specs.Words.{words, trimmed, after_word}
+use Rattle.control_grammar.specs.Commands.{and_read, read_bug, limited_text, who_of_text, some_text, some_who, optional_who}
+use Rattle.control_grammar.specs.Commands.{bug_and_text, bug_and_some_text, bug_and_some_who}
+use Rattle.control_grammar.specs.WellFormed.{IsPlain, IsAddress}
 use Rattle.control_text.specs.Spelling.{bug_text, who_text}
 use Rattle.control_text.specs.Spaces.{after_spaces}
-use Rattle.command_parser.proofs.TextLemmas.{text_parts, text-trimmed}
+use Rattle.control_parser.proofs.TextLemmas.{text_parts, text-trimmed}
 use Rattle.control_text.proofs.SpacedLemmas.{words-space, after_word-spaces, trimmed-space, first_word-is}
 use Rattle.control_text.proofs.SpellingLemmas.{bug-back, bug-plain}
 

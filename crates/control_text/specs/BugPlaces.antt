@@ -2,8 +2,8 @@
 -- The commands are those of the BTS page 'control and manipulation'; which places are bug places is
 -- this project's own rule.
 use Rattle.std.specs.Prelude.{◌||◌, ◌&&◌, Bool, true, false, List, [], ◌∷◌, map, codes, is_some}
-use Rattle.line_words.specs.AnyCase.{is_word}
-use Rattle.line_words.specs.Bugs.{bug_of_word}
+use Rattle.base_words.specs.AnyCase.{is_word}
+use Rattle.base_words.specs.Bugs.{bug_of_word}
 use Rattle.control_text.specs.Tokens.{Text, Word}
 
 -- the commands all of whose words after the first are at bug places

@@ -16,8 +16,8 @@ use Rattle.bug_record.specs.declared.command.AffectsStep.TheVariants as affectin
 use Rattle.bug_record.specs.declared.command.VersionArg.{VersionArg}
 use Rattle.bug_record.specs.declared.command.Who.{Who}
 use Rattle.bug_record.specs.declared.command.Who.TheVariants.{Sender, Given}
-use Rattle.line_words.specs.declared.named.Named.{Named}
-use Rattle.line_words.specs.declared.named.Named.TheVariants.{Number, Name}
+use Rattle.base_words.specs.declared.named.Named.{Named}
+use Rattle.base_words.specs.declared.named.Named.TheVariants.{Number, Name}
 
 -- a name with its `-`, and without leading zeros
 abbrev pub name_text : ℕ → List ℕ

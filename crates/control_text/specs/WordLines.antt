@@ -3,7 +3,7 @@
 use Rattle.std.specs.Prelude.{ℕ, ◌≡◌, ⊤, if◌then◌else◌, List, [], ◌∷◌, map, fold, unwrap_or}
 use Rattle.std.specs.Prelude.{Option, Some, None, option_map}
 use Rattle.std.specs.List.{flat_map, join_with_byte, list_any, position}
-use Rattle.line_words.specs.Blanks.{is_control}
+use Rattle.base_words.specs.Blanks.{is_control}
 use Rattle.control_text.specs.Tokens.{Text, Word, commands}
 use Rattle.control_text.specs.BugPlaces.{Marked, marked, stands_for_last, names_bug}
 use Rattle.control_text.specs.declared.fault.WordsFault.{WordsFault}

@@ -4,7 +4,7 @@ ghost use Rattle.std.specs.Prelude.{◌≡◌, is_some};
 ghost use Rattle.control_text.specs.BugPlaces.{takes_bugs, is_it, is_bug_word};
 ghost use Rattle.control_text.specs.Writer.{place_after, stands_for_bug, is_begun};
 
-use line_words::{bug_word, is_word};
+use base_words::{bug_word, is_word};
 
 /// Where the next word of a command stands.
 #[derive(Clone, Copy, Drop)]

@@ -1,7 +1,6 @@
-//! How a command of a control message is spelled, by the BTS page 'control and manipulation', and
-//! read back; and the words of a command line, in the manner of bts(1), as such lines.
-//! What a line says, or why it is refused, is given on from `command_grammar` and
-//! `command_parser`.
+//! The spelling of commands, read back; and words in the manner of bts(1) as such lines.
+//! Commands are spelled as the BTS page 'control and manipulation' has them.
+//! What a line says, or why it is refused, is given on from `control_grammar` and `control_parser`.
 #![tactic(auto)]
 
 mod bug_places;
@@ -14,12 +13,12 @@ mod word_laws;
 mod word_lines;
 mod writer;
 
-pub use command_grammar::{Line, refusals_of_lines};
-pub use command_parser::{LineFault, read_line};
+pub use base_words::{Named, next_word, number_word, trim};
+pub use control_grammar::{Line, refusals_of_lines};
+pub use control_parser::{LineFault, read_line};
 pub use fault::WordsFault;
 pub use laws::spelling_is_read_back;
 pub use limits::well_formed;
-pub use line_words::{Named, next_word, number_word, trim};
 pub use spelling::write_command;
 pub use word_laws::a_line_has_the_words_of_its_command;
 pub use word_lines::words_to_lines;

@@ -4,14 +4,14 @@ ghost use Rattle.std.specs.Prelude.{◌≡◌, ◌<◌, ◌∷◌, length, IsTru
 ghost use Rattle.debver.specs.Names.{IsName};
 ghost use Rattle.bug_record.specs.Commands.{IsGoodVersion, IsGoodPerson};
 ghost use Rattle.bug_record.specs.Sets.{Each};
-ghost use Rattle.line_words.specs.Texts.{IfGiven};
-ghost use Rattle.line_words.specs.Numbers.{IsGoodNumber};
-ghost use Rattle.line_words.specs.Bugs.{IsGoodBug};
-ghost use Rattle.command_grammar.specs.WellFormed.{IsPlain, IsAddress, HasPackages, IsWellFormed};
+ghost use Rattle.base_words.specs.Texts.{IfGiven};
+ghost use Rattle.base_words.specs.Numbers.{IsGoodNumber};
+ghost use Rattle.base_words.specs.Bugs.{IsGoodBug};
+ghost use Rattle.control_grammar.specs.WellFormed.{IsPlain, IsAddress, HasPackages, IsWellFormed};
 
+use base_words::{LARGEST_NUMBER, Named, is_text};
 use bug_record::{AffectsStep, Command, VersionArg, Who};
 use debver::{Text, check, check_name};
-use line_words::{LARGEST_NUMBER, Named, is_text};
 
 fn is_good_number(number: u64) -> bool
     ensures { Decides result (IsGoodNumber number) }

@@ -4,11 +4,11 @@ ghost use Rattle.std.specs.Prelude.{◌≡◌, ◌∷◌, [], ◌++◌, map, IfO
 ghost use Rattle.control_text.specs.Spelling.{name_text, bug_text, version_text, who_text, step_text, step_words, word_if, affects_sign};
 ghost use Rattle.control_text.specs.Spaces.{after_spaces};
 ghost use Rattle.control_text.specs.Spelling.{joined_by_blanks, spelling};
-ghost use Rattle.command_grammar.specs.WellFormed.{IsWellFormed};
+ghost use Rattle.control_grammar.specs.WellFormed.{IsWellFormed};
 
+use base_words::Named;
 use bug_record::{AffectsStep, Command, TagStep, VersionArg, Who};
 use debver::Text;
-use line_words::Named;
 use std::alloc::{AllocError, Global};
 
 fn who_text(who: &Who) -> &str

@@ -3,8 +3,8 @@
 
 ghost use Rattle.std.specs.Prelude.{◌≡◌, List, Option, [], ◌∷◌, IsTrue, IsFalse};
 ghost use Rattle.std.specs.List.{flat_map, list_any};
-ghost use Rattle.line_words.specs.Blanks.{is_blank};
-ghost use Rattle.line_words.specs.Words.{words, has_bytes};
+ghost use Rattle.base_words.specs.Blanks.{is_blank};
+ghost use Rattle.base_words.specs.Words.{words, has_bytes};
 ghost use Rattle.control_text.specs.Tokens.{Text};
 ghost use Rattle.control_text.specs.BugPlaces.{Marked};
 ghost use Rattle.control_text.specs.WordLines.{line_of, meant_words};

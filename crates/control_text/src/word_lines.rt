@@ -3,13 +3,13 @@
 ghost use Rattle.std.specs.Prelude.{◌≡◌, IfOk, IfErr, map};
 ghost use Rattle.std.specs.List.{list_any, position};
 ghost use Rattle.std.specs.String.{string_bytes};
-ghost use Rattle.line_words.specs.Blanks.{is_control};
+ghost use Rattle.base_words.specs.Blanks.{is_control};
 ghost use Rattle.control_text.specs.WordLines.{first_fault, lines, IsFaultOf};
 ghost use Rattle.control_text.specs.Unset.{unset, IsUnsetIn};
 
 use crate::fault::WordsFault;
 use crate::writer::Writer;
-use line_words::has_control;
+use base_words::has_control;
 use std::alloc::Global;
 
 /// The place of the first word with a control character other than tab.

@@ -1,9 +1,9 @@
 -- The count of a store's faults never falls.
 use Rattle.std.proofs.Common.{◌≡◌, ℕ, ◌+◌, ◌<◌, ◌≤◌, List, [], ◌∷◌, ◌++◌, length, length-append, Option, Some, None, Ok, Err, arith, sym, subst}
-use Rattle.desk_lines.specs.declared.store_fault.StoreFault.{StoreFault}
-use Rattle.desk_lines.specs.declared.store_fault.StoreFault.TheVariants.{Memory, Device, Full, Foreign}
-use Rattle.desk_store.specs.Store.{Faults, counted, total}
-use Rattle.desk_answers.specs.Faults.{counted_with}
+use Rattle.base_faults.specs.declared.store_fault.StoreFault.{StoreFault}
+use Rattle.base_faults.specs.declared.store_fault.StoreFault.TheVariants.{Memory, Device, Full, Foreign}
+use Rattle.store_contract.specs.Store.{Faults, counted, total}
+use Rattle.http_answers.specs.Faults.{counted_with}
 use Rattle.desk_http.specs.declared.serve.Served.TheVariants.{Answered, Closed}
 use Rattle.desk_http.specs.declared.serve.ServeFault.TheVariants.{Read, Write}
 use Rattle.desk_http.specs.Serving.{Connection, Counts}

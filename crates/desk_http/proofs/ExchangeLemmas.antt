@@ -7,26 +7,26 @@ use Rattle.httparse.specs.Grammar.{RequestHead}
 use Rattle.httparse.specs.Spans.{IsRequestAt}
 use Rattle.httparse.specs.declared.spans.HeaderSpan.{HeaderSpan}
 use Rattle.httparse.specs.declared.spans.RequestSpans.{RequestSpans}
-use Rattle.desk_lines.specs.declared.store_fault.StoreFault.{StoreFault}
-use Rattle.desk_lines.specs.declared.store_fault.StoreFault.TheVariants.{Memory}
-use Rattle.connection_bytes.specs.Head.{BeginsWithHead, HasNoHead}
-use Rattle.connection_bytes.specs.Found.{HadBytes, IsWrong, IsComplete}
-use Rattle.connection_bytes.proofs.HeadLemmas.{begins-more}
-use Rattle.connection_bytes.proofs.HadLemmas.{had_any, had_then, had_before}
-use Rattle.desk_requests.specs.Answer.{Answer, answer_bytes}
-use Rattle.desk_requests.specs.Requests.{Asked, Always, Once, PostBug, PostControl, PostBranch, GetBug, GetList}
-use Rattle.desk_answers.specs.Stored.{Stored}
-use Rattle.desk_answers.specs.Repeats.{IsAskedAnswer}
-use Rattle.desk_requests.specs.Shown.{shown}
-use Rattle.desk_requests.specs.Steps.{Fails, Gives}
-use Rattle.desk_requests.specs.declared.reply.Reply.{Reply}
-use Rattle.desk_answers.proofs.AnswerLemmas.{wants_memory}
-use Rattle.desk_requests.specs.Asking.{asked_of, bad_request}
-use Rattle.desk_requests.specs.Refused.{refused, IfAsked}
-use Rattle.desk_requests.specs.declared.refusal.Refusal.{Refusal}
-use Rattle.desk_requests.specs.declared.fault.AskFault.{AskFault}
-use Rattle.desk_requests.specs.declared.fault.AskFault.TheVariants.{Refused}
-use Rattle.desk_store.specs.Store.{Faults}
+use Rattle.base_faults.specs.declared.store_fault.StoreFault.{StoreFault}
+use Rattle.base_faults.specs.declared.store_fault.StoreFault.TheVariants.{Memory}
+use Rattle.http_bytes.specs.Head.{BeginsWithHead, HasNoHead}
+use Rattle.http_bytes.specs.Found.{HadBytes, IsWrong, IsComplete}
+use Rattle.http_bytes.proofs.HeadLemmas.{begins-more}
+use Rattle.http_bytes.proofs.HadLemmas.{had_any, had_then, had_before}
+use Rattle.http_requests.specs.Answer.{Answer, answer_bytes}
+use Rattle.http_requests.specs.Requests.{Asked, Always, Once, PostBug, PostControl, PostBranch, GetBug, GetList}
+use Rattle.http_answers.specs.Stored.{Stored}
+use Rattle.http_answers.specs.Repeats.{IsAskedAnswer}
+use Rattle.http_requests.specs.Shown.{shown}
+use Rattle.http_requests.specs.Steps.{Fails, Gives}
+use Rattle.http_requests.specs.declared.reply.Reply.{Reply}
+use Rattle.http_answers.proofs.AnswerLemmas.{wants_memory}
+use Rattle.http_requests.specs.Asking.{asked_of, bad_request}
+use Rattle.http_requests.specs.Refused.{refused, IfAsked}
+use Rattle.http_requests.specs.declared.refusal.RequestRefusal.{RequestRefusal}
+use Rattle.http_requests.specs.declared.fault.AskFault.{AskFault}
+use Rattle.http_requests.specs.declared.fault.AskFault.TheVariants.{Refused}
+use Rattle.store_contract.specs.Store.{Faults}
 use Rattle.desk_http.specs.Exchange.{IsReplyTo, Answers, IsRight, IsServed}
 use Rattle.desk_http.specs.Steps.{IsGiven}
 use Rattle.desk_http.specs.declared.serve.Served.{Served}
@@ -90,7 +90,7 @@ refused_replies refusal d reply g =
     subst (λ (o : Option StoreFault). IsReplyTo (Err refusal) d o (shown reply) d) (sym g.1) (g.0, refl)
 
 pub refused_right : (new : Option (List ℕ)) (buf : List ℕ) (headers : List HeaderSpan) (spans : RequestSpans) (fault : AskFault)
-    (refusal : Refusal) (d : Stored) (reply : Reply) → fault ≡ Refused refusal
+    (refusal : RequestRefusal) (d : Stored) (reply : Reply) → fault ≡ Refused refusal
     → IfAsked (Err fault) (λ asked. (head : RequestHead) → IsRequestAt buf headers spans head
     → HadBytes new (λ more. asked ≡ asked_of head (drop spans.len buf ++ more)))
     → Gives (refused refusal) reply → (head : RequestHead) → IsRequestAt buf headers spans head

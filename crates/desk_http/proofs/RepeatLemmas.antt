@@ -6,26 +6,26 @@ use Rattle.std.proofs.lemmas.List.{take_all}
 use Rattle.std.proofs.lemmas.Slice.Eq.{bytes_eq-Decides}
 use Rattle.std.specs.Str.{bytes_eq}
 use Rattle.bug_record.specs.Desk.{Desk}
-use Rattle.routes_and_json.specs.Members.{Control}
-use Rattle.desk_lines.specs.Lines.{lines_of}
-use Rattle.desk_store.specs.declared.outcomes_so_far.Received.{Received}
-use Rattle.desk_messages.specs.Once.{IsOnce}
-use Rattle.desk_lines.specs.declared.store_fault.StoreFault.{StoreFault}
-use Rattle.desk_lines.specs.declared.store_fault.End.{End}
-use Rattle.desk_lines.specs.declared.store_fault.End.TheVariants as ends
-use Rattle.desk_store.specs.Message.{Entry, Machine}
-use Rattle.desk_store.specs.Kept.{Keeping, outcomes_kept, outcomes_in, told, lines_told, kept_with, IsOfMessage, IsResumed}
-use Rattle.desk_store.specs.Kept.{GoesOn}
-use Rattle.desk_store.specs.declared.kept.Kept.{Kept}
-use Rattle.desk_requests.specs.Answer.{Answer, json_answer}
-use Rattle.desk_answers.specs.Answers.{message_json}
-use Rattle.desk_answers.specs.Repeats.{id_in_use, is_of_message, answered_resumed, answered_once, IsOnceAnswer}
-use Rattle.desk_answers.specs.Stored.{Stored}
-use Rattle.desk_requests.specs.Shown.{shown}
-use Rattle.desk_answers.specs.Cases.{GivesOrFails, AnswersEnd}
-use Rattle.desk_requests.specs.Steps.{Fails, Gives}
-use Rattle.desk_requests.specs.declared.reply.Reply.{Reply}
-use Rattle.desk_answers.proofs.AnswerLemmas.{pair}
+use Rattle.http_routes.specs.Members.{Control}
+use Rattle.control_lines.specs.Lines.{lines_of}
+use Rattle.store_contract.specs.declared.outcomes_so_far.Received.{Received}
+use Rattle.message_receiving.specs.Once.{IsOnce}
+use Rattle.base_faults.specs.declared.store_fault.StoreFault.{StoreFault}
+use Rattle.base_faults.specs.declared.store_fault.End.{End}
+use Rattle.base_faults.specs.declared.store_fault.End.TheVariants as ends
+use Rattle.store_contract.specs.Message.{Entry, Machine}
+use Rattle.store_contract.specs.Kept.{Keeping, outcomes_kept, outcomes_in, told, lines_told, kept_with, IsOfMessage, IsResumed}
+use Rattle.store_contract.specs.Kept.{GoesOn}
+use Rattle.store_contract.specs.declared.kept.Kept.{Kept}
+use Rattle.http_requests.specs.Answer.{Answer, json_answer}
+use Rattle.http_answers.specs.Answers.{message_json}
+use Rattle.http_answers.specs.Repeats.{id_in_use, is_of_message, answered_resumed, answered_once, IsOnceAnswer}
+use Rattle.http_answers.specs.Stored.{Stored}
+use Rattle.http_requests.specs.Shown.{shown}
+use Rattle.http_answers.specs.Cases.{GivesOrFails, AnswersEnd}
+use Rattle.http_requests.specs.Steps.{Fails, Gives}
+use Rattle.http_requests.specs.declared.reply.Reply.{Reply}
+use Rattle.http_answers.proofs.AnswerLemmas.{pair}
 
 both : {P Q : Type 0} (a b : Bool) → Decides a P → Decides b Q → Decides (a && b) (P × Q)
 both true true p q = (λ e. (p.0 refl, q.0 refl), λ t. refl)

@@ -1,10 +1,10 @@
 -- Connections, one after another, and one of them.
 use Rattle.std.proofs.Common.{◌≡◌, ℕ, List, [], ◌∷◌, ◌++◌, Option, None, Result, Ok, Err, IfOk, OnErr, refl, sym, subst}
-use Rattle.desk_answers.specs.Stored.{Stored}
-use Rattle.desk_store.specs.Store.{Faults}
-use Rattle.desk_answers.specs.Faults.{counted_with}
-use Rattle.desk_requests.specs.Shown.{shown}
-use Rattle.desk_requests.specs.declared.reply.Reply.{Reply}
+use Rattle.http_answers.specs.Stored.{Stored}
+use Rattle.store_contract.specs.Store.{Faults}
+use Rattle.http_answers.specs.Faults.{counted_with}
+use Rattle.http_requests.specs.Shown.{shown}
+use Rattle.http_requests.specs.declared.reply.Reply.{Reply}
 use Rattle.desk_http.specs.Exchange.{IsServed, IsCounted, IsRight}
 use Rattle.desk_http.specs.declared.serve.Served.{Served}
 use Rattle.desk_http.specs.declared.serve.Served.TheVariants.{Answered}

@@ -3,18 +3,18 @@
 use Rattle.std.specs.Prelude.{ℕ, ◌≡◌, ◌≢◌, ◌⊎◌, List, [], Option, Some, None, Result, Ok, Err, IfSome, ⊤}
 use Rattle.std.specs.Io.KnownBytes.{Appends}
 use Rattle.httparse.specs.Grammar.{RequestHead}
-use Rattle.desk_lines.specs.declared.store_fault.StoreFault.{StoreFault}
-use Rattle.desk_lines.specs.declared.store_fault.StoreFault.TheVariants.{Memory}
-use Rattle.connection_bytes.specs.Head.{BeginsWithHead, HasNoHead}
-use Rattle.connection_bytes.specs.Found.{HadBytes}
-use Rattle.desk_store.specs.Store.{Faults}
-use Rattle.desk_requests.specs.Answer.{Answer, answer_bytes, store_fault}
-use Rattle.desk_requests.specs.Requests.{Asked}
-use Rattle.desk_requests.specs.Told.{IsTold}
-use Rattle.desk_answers.specs.Faults.{counted_with}
-use Rattle.desk_answers.specs.Repeats.{IsAskedAnswer}
-use Rattle.desk_answers.specs.Stored.{Stored}
-use Rattle.desk_requests.specs.Asking.{asked_of, bad_request}
+use Rattle.base_faults.specs.declared.store_fault.StoreFault.{StoreFault}
+use Rattle.base_faults.specs.declared.store_fault.StoreFault.TheVariants.{Memory}
+use Rattle.http_bytes.specs.Head.{BeginsWithHead, HasNoHead}
+use Rattle.http_bytes.specs.Found.{HadBytes}
+use Rattle.store_contract.specs.Store.{Faults}
+use Rattle.http_requests.specs.Answer.{Answer, answer_bytes, store_fault}
+use Rattle.http_requests.specs.Requests.{Asked}
+use Rattle.http_requests.specs.Told.{IsTold}
+use Rattle.http_answers.specs.Faults.{counted_with}
+use Rattle.http_answers.specs.Repeats.{IsAskedAnswer}
+use Rattle.http_answers.specs.Stored.{Stored}
+use Rattle.http_requests.specs.Asking.{asked_of, bad_request}
 use Rattle.desk_http.specs.declared.serve.Served.{Served}
 use Rattle.desk_http.specs.declared.serve.Served.TheVariants.{Answered, Closed}
 use Rattle.desk_http.specs.declared.serve.ServeFault.{ServeFault}

@@ -1,8 +1,8 @@
 -- What a server leaves of a store: its connections, one after another.
 -- This project's own rule.
 use Rattle.std.specs.Prelude.{ℕ, ◌≡◌, ◌<◌, ◌≤◌, List, [], ◌∷◌, ◌++◌, length, Option, Some, None, Result, Ok, Err}
-use Rattle.desk_answers.specs.Stored.{Stored}
-use Rattle.desk_store.specs.Store.{Faults, Holds, total}
+use Rattle.http_answers.specs.Stored.{Stored}
+use Rattle.store_contract.specs.Store.{Faults, Holds, total}
 use Rattle.desk_http.specs.Exchange.{IsServed, IsCounted}
 use Rattle.desk_http.specs.declared.serve.Served.{Served}
 use Rattle.desk_http.specs.declared.serve.ServeFault.{ServeFault}

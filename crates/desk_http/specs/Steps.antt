@@ -1,13 +1,13 @@
 -- What reading and carrying out a request leaves, before its answer is written.
 use Rattle.std.specs.Prelude.{ℕ, ◌≡◌, List, [], Option, Some, None, Result, Ok, Err, IfSome}
-use Rattle.desk_store.specs.Store.{Faults}
-use Rattle.desk_requests.specs.Answer.{Answer}
-use Rattle.desk_requests.specs.Told.{IsTold}
-use Rattle.desk_answers.specs.Faults.{counted_with}
-use Rattle.desk_requests.specs.Shown.{shown}
-use Rattle.desk_requests.specs.Steps.{Gives}
-use Rattle.desk_answers.specs.Stored.{Stored}
-use Rattle.desk_requests.specs.declared.reply.Reply.{Reply}
+use Rattle.store_contract.specs.Store.{Faults}
+use Rattle.http_requests.specs.Answer.{Answer}
+use Rattle.http_requests.specs.Told.{IsTold}
+use Rattle.http_answers.specs.Faults.{counted_with}
+use Rattle.http_requests.specs.Shown.{shown}
+use Rattle.http_requests.specs.Steps.{Gives}
+use Rattle.http_answers.specs.Stored.{Stored}
+use Rattle.http_requests.specs.declared.reply.Reply.{Reply}
 use Rattle.desk_http.specs.Exchange.{IsRight}
 use Rattle.desk_http.specs.declared.serve.ServeFault.{ServeFault}
 

@@ -1,20 +1,20 @@
 //! What a request is answered.
 
 ghost use Rattle.std.specs.Prelude.{◌≡◌};
-ghost use Rattle.desk_store.specs.Store.{Holds};
-ghost use Rattle.desk_requests.specs.Requests.{IsGoodAsked};
-ghost use Rattle.desk_requests.specs.Told.{IsTold};
-ghost use Rattle.desk_answers.specs.Faults.{counted_with};
-ghost use Rattle.desk_answers.specs.Repeats.{IsAskedAnswer};
-ghost use Rattle.desk_answers.specs.Stored.{stored};
-ghost use Rattle.desk_requests.specs.Shown.{shown, asked};
+ghost use Rattle.store_contract.specs.Store.{Holds};
+ghost use Rattle.http_requests.specs.Requests.{IsGoodAsked};
+ghost use Rattle.http_requests.specs.Told.{IsTold};
+ghost use Rattle.http_answers.specs.Faults.{counted_with};
+ghost use Rattle.http_answers.specs.Repeats.{IsAskedAnswer};
+ghost use Rattle.http_answers.specs.Stored.{stored};
+ghost use Rattle.http_requests.specs.Shown.{shown, asked};
 
 use crate::messages::answer_message;
 use crate::once::answer_once;
-use desk_answers::{answer_branch, answer_list, answer_page, answer_report};
-use desk_requests::{Reply, Request};
-use desk_store::Records;
+use http_answers::{answer_branch, answer_list, answer_page, answer_report};
+use http_requests::{Reply, Request};
 use std::alloc::Global;
+use store_contract::Records;
 
 /// Carries a request out, and answers it.
 ///

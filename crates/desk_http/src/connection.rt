@@ -2,20 +2,21 @@
 
 ghost use Rattle.std.specs.Prelude.{◌≡◌, [], None, Ok, Err, IfOk, OnErr};
 ghost use Rattle.std.specs.Io.KnownBytes.{Appends};
-ghost use Rattle.desk_store.specs.Store.{Holds};
-ghost use Rattle.desk_requests.specs.Answer.{answer_bytes};
-ghost use Rattle.desk_requests.specs.Shown.{shown};
+ghost use Rattle.store_contract.specs.Store.{Holds};
+ghost use Rattle.http_requests.specs.Answer.{answer_bytes};
+ghost use Rattle.http_requests.specs.Shown.{shown};
 ghost use Rattle.desk_http.specs.Exchange.{IsServed, IsCounted};
-ghost use Rattle.desk_answers.specs.Stored.{stored};
-ghost use Rattle.connection_bytes.specs.Held.{given};
+ghost use Rattle.http_answers.specs.Stored.{stored};
+ghost use Rattle.base_output.specs.Held.{given};
 
 use crate::serve::{ServeFault, Served, exchange};
-use connection_bytes::{Deadline, Held, Limits, Timed};
-use desk_requests::{Reply, write_reply};
-use desk_store::Records;
+use base_output::HeldOutput;
+use http_bytes::{Deadline, Limits, Timed};
+use http_requests::{Reply, write_reply};
 use std::alloc::Global;
 use std::io::{Read, Write};
 use std::time::Clock;
+use store_contract::Records;
 
 /// How long a client may be silent before its first byte, in seconds.
 /// A browser opens further connections on which it says nothing.
@@ -50,7 +51,7 @@ fn answer_seconds(reply: &Reply) -> u64 {
 }
 
 // Writes an answer, and hands it on whole.
-fn send<W: Write>(writer: &mut Held<W>, reply: &Reply) -> Result<Served, ServeFault>
+fn send<W: Write>(writer: &mut HeldOutput<W>, reply: &Reply) -> Result<Served, ServeFault>
     ensures bytes { IfOk result (λ served. Appends
         (given (W.contents writer.old.inner) writer.old.start writer.old.bytes.items)
         (given (W.contents writer.new.inner) writer.new.start writer.new.bytes.items)
@@ -76,7 +77,7 @@ fn send_within<C: Clock + Copy + Drop, W: Write + Limits + Drop>(
     let seconds = answer_seconds(reply);
     let deadline = Deadline::after(&clock, seconds).map_err(|_| ServeFault::Write)?;
     let timed = Timed::new(clock, writer, deadline, seconds, seconds);
-    send(&mut Held::new(timed), reply)
+    send(&mut HeldOutput::new(timed), reply)
 }
 
 // Reads what a client still sends, up to its end, an error or the bound, and lets it go.

@@ -2,9 +2,9 @@
 //! Its body is empty: the contract is the law.
 
 ghost use Rattle.std.specs.Prelude.{ℕ, List, Option, Some, Result};
-ghost use Rattle.connection_bytes.specs.Found.{HadBytes};
-ghost use Rattle.desk_answers.specs.Stored.{Stored};
-ghost use Rattle.desk_store.specs.Store.{Faults};
+ghost use Rattle.http_bytes.specs.Found.{HadBytes};
+ghost use Rattle.http_answers.specs.Stored.{Stored};
+ghost use Rattle.store_contract.specs.Store.{Faults};
 ghost use Rattle.desk_http.specs.Exchange.{IsServed};
 ghost use Rattle.desk_http.specs.declared.serve.Served.{Served};
 ghost use Rattle.desk_http.specs.declared.serve.ServeFault.{ServeFault};

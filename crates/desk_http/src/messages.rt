@@ -1,19 +1,20 @@
 //! Control messages.
 
 ghost use Rattle.std.specs.Prelude.{◌≡◌, string_bytes};
-ghost use Rattle.line_words.specs.Texts.{IsText};
-ghost use Rattle.desk_store.specs.Store.{Holds};
-ghost use Rattle.desk_requests.specs.Requests.{PostControl};
-ghost use Rattle.desk_requests.specs.Told.{IsTold};
-ghost use Rattle.desk_answers.specs.Faults.{IsAnswer, counted_with};
-ghost use Rattle.desk_requests.specs.Shown.{shown, message_asked};
+ghost use Rattle.base_words.specs.Texts.{IsText};
+ghost use Rattle.store_contract.specs.Store.{Holds};
+ghost use Rattle.http_requests.specs.Requests.{PostControl};
+ghost use Rattle.http_requests.specs.Told.{IsTold};
+ghost use Rattle.http_answers.specs.Faults.{IsAnswer, counted_with};
+ghost use Rattle.http_requests.specs.Shown.{shown, message_asked};
 
-use desk_answers::tell;
-use desk_lines::{StoreFault, split_lines};
-use desk_messages::receive_lines;
-use desk_requests::{MessageRequest, Reply, store_fault};
-use desk_store::Records;
+use base_faults::StoreFault;
+use control_lines::split_lines;
+use http_answers::tell;
+use http_requests::{MessageRequest, Reply, store_fault};
+use message_receiving::receive_lines;
 use std::alloc::Global;
+use store_contract::Records;
 
 /// Takes a control message.
 pub(crate) fn answer_message<S: Records>(

@@ -1,20 +1,20 @@
 //! Control messages that have an id.
 
 ghost use Rattle.std.specs.Prelude.{◌≡◌, string_bytes};
-ghost use Rattle.line_words.specs.Texts.{IsText};
-ghost use Rattle.line_words.specs.Ids.{IsId};
-ghost use Rattle.desk_store.specs.Store.{Holds};
-ghost use Rattle.desk_requests.specs.Told.{IsTold};
-ghost use Rattle.desk_answers.specs.Faults.{counted_with};
-ghost use Rattle.desk_answers.specs.Repeats.{IsOnceAnswer};
-ghost use Rattle.desk_requests.specs.Shown.{shown, message_asked};
-ghost use Rattle.desk_answers.specs.Stored.{stored};
+ghost use Rattle.base_words.specs.Texts.{IsText};
+ghost use Rattle.base_words.specs.Ids.{IsId};
+ghost use Rattle.store_contract.specs.Store.{Holds};
+ghost use Rattle.http_requests.specs.Told.{IsTold};
+ghost use Rattle.http_answers.specs.Faults.{counted_with};
+ghost use Rattle.http_answers.specs.Repeats.{IsOnceAnswer};
+ghost use Rattle.http_requests.specs.Shown.{shown, message_asked};
+ghost use Rattle.http_answers.specs.Stored.{stored};
 
-use desk_answers::{id_in_use, tell_lines};
-use desk_messages::{OnceFault, receive_once};
-use desk_requests::{OnceRequest, Reply, store_fault};
-use desk_store::Records;
+use http_answers::{id_in_use, tell_lines};
+use http_requests::{OnceRequest, Reply, store_fault};
+use message_receiving::{OnceFault, receive_once};
 use std::alloc::Global;
+use store_contract::Records;
 
 /// Takes a control message that has an id: lines that were taken before are not taken again.
 /// That the id is in use is told before its lines are cut, so also where there is no memory for

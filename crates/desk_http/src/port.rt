@@ -2,18 +2,18 @@
 
 ghost use Rattle.std.specs.Prelude.{◌≡◌, Err, OnOk, OnErr};
 ghost use Rattle.std.specs.Io.KnownBytes.{Appends};
-ghost use Rattle.desk_answers.specs.Stored.{stored};
+ghost use Rattle.http_answers.specs.Stored.{stored};
 ghost use Rattle.desk_http.specs.Port.{Serves, place_line};
 ghost use Rattle.desk_http.specs.Serving.{IsServing};
 
-use crate::connections::serve_connections;
-use desk_requests::write_three;
-use desk_store::Records;
+use crate::accepting::serve_connections;
+use http_requests::write_three;
 use itoa::Buffer;
 use std::alloc::Global;
 use std::io::Write;
 use std::net::{Ipv4Addr, Net, TcpListener, TcpStream};
 use std::time::Clock;
+use store_contract::Records;
 use thiserror::Error;
 
 /// Why a server ended before its time.

@@ -2,25 +2,25 @@
 
 ghost use Rattle.std.specs.Prelude.{◌≡◌, ◌≢◌, [], None, Ok, Err, IfOk, IfErr, IfSome};
 ghost use Rattle.std.specs.Io.KnownBytes.{Appends};
-ghost use Rattle.connection_bytes.specs.Head.{HasNoHead};
-ghost use Rattle.desk_store.specs.Store.{Holds};
-ghost use Rattle.desk_requests.specs.Answer.{answer_bytes};
-ghost use Rattle.desk_requests.specs.Shown.{shown};
-ghost use Rattle.desk_answers.specs.Stored.{stored};
-ghost use Rattle.desk_requests.specs.Asking.{bad_request};
+ghost use Rattle.http_bytes.specs.Head.{HasNoHead};
+ghost use Rattle.store_contract.specs.Store.{Holds};
+ghost use Rattle.http_requests.specs.Answer.{answer_bytes};
+ghost use Rattle.http_requests.specs.Shown.{shown};
+ghost use Rattle.http_answers.specs.Stored.{stored};
+ghost use Rattle.http_requests.specs.Asking.{bad_request};
 ghost use Rattle.desk_http.specs.Exchange.{IsServed, IsCounted, TellsFault};
 ghost use Rattle.desk_http.specs.Steps.{IsExchanged, IsExchangeCounted, IsGiven};
-ghost use Rattle.desk_requests.specs.Taken.{TakesRequest};
+ghost use Rattle.http_requests.specs.Taken.{TakesRequest};
 
 use crate::answering::answer_request;
-use connection_bytes::{Head, MAX_HEAD, MAX_HEADERS, read_head};
-use desk_lines::StoreFault;
-use desk_requests::{AskFault, Refusal, Reply, ask, refuse, store_fault, write_reply};
-use desk_store::Records;
+use base_faults::StoreFault;
 use http::StatusCode;
+use http_bytes::{Head, MAX_HEAD, MAX_HEADERS, read_head};
+use http_requests::{AskFault, Reply, RequestRefusal, ask, refuse, store_fault, write_reply};
 use httparse::spans::{EMPTY_HEADER_SPAN, HeaderSpan};
 use std::alloc::Global;
 use std::io::{Read, Write};
+use store_contract::Records;
 use thiserror::Error;
 
 /// How a connection was served.
@@ -73,7 +73,7 @@ pub fn exchange<S: Records, R: Read>(
     };
     let (spans, filled) = match head {
         Head::Nothing => return Ok(None),
-        Head::Wrong => return Ok(Some(refuse(Refusal::BadRequest))),
+        Head::Wrong => return Ok(Some(refuse(RequestRefusal::BadRequest))),
         Head::Complete { spans, filled } => (spans, filled),
     };
     match ask(alloc, reader, &buf[..filled], &headers, spans) {

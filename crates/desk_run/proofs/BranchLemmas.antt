@@ -4,18 +4,18 @@ use Rattle.std.proofs.Common.{ap, subst, refl, append-nil, false, arith}
 use Rattle.std.specs.Prelude.{length, ◌==◌, ◌||◌}
 use Rattle.std.proofs.lemmas.Bool.{false≢true, eqb-true}
 use Rattle.std.proofs.lemmas.Option.{none-some, same_Some}
-use Rattle.line_words.specs.Words.{words, has_bytes}
+use Rattle.base_words.specs.Words.{words, has_bytes}
 use Rattle.version_nodes.specs.Nodes.{Node}
 use Rattle.version_nodes.specs.Trees.{Ancestry}
 use Rattle.version_nodes.specs.Branches.{branched}
 use Rattle.version_nodes.specs.declared.fault.BranchFault.{BranchFault}
 use Rattle.bug_record.specs.Desk.{Desk}
-use Rattle.desk_lines.specs.declared.store_fault.StoreFault.{StoreFault}
-use Rattle.desk_lines.specs.declared.store_fault.StoreFault.TheVariants as faults
+use Rattle.base_faults.specs.declared.store_fault.StoreFault.{StoreFault}
+use Rattle.base_faults.specs.declared.store_fault.StoreFault.TheVariants as faults
 use Rattle.desk_text.specs.Texts.{fault_text}
-use Rattle.desk_store.specs.Store.{Branches, Faults, counted, faults_after}
-use Rattle.desk_directives.specs.Branches.{BranchRefusal, nodes_of, or_refused, branched_by, branch_of}
-use Rattle.desk_directives.proofs.BranchLemmas.{after_nodes}
+use Rattle.store_contract.specs.Store.{Branches, Faults, counted, faults_after}
+use Rattle.message_directives.specs.Branches.{BranchRefusal, nodes_of, or_refused, branched_by, branch_of}
+use Rattle.message_directives.proofs.BranchLemmas.{after_nodes}
 use Rattle.desk_run.specs.Script.{DirectiveLine, Branch, Standing, standing, part_text, part_after, directive_of, branch_text}
 use Rattle.desk_run.specs.Script.{after_branch}
 use Rattle.desk_run.specs.Running.{AsksStore, FaultsIn}

@@ -4,11 +4,11 @@ use Rattle.std.proofs.Common.{refl, ap, sym, ◌∙◌, subst, inl, inr, append-
 use Rattle.std.specs.Str.{bytes_eq}
 use Rattle.std.proofs.lemmas.Bool.{cases_Bool, cond-true, cond-false}
 use Rattle.bug_record.proofs.PackageLemmas.{same_name}
-use Rattle.desk_lines.specs.Lines.{lines_of}
+use Rattle.control_lines.specs.Lines.{lines_of}
 use Rattle.bug_record.specs.declared.outcome.Outcome.{Outcome}
-use Rattle.desk_store.specs.Message.{Entry}
-use Rattle.desk_store.specs.Kept.{Keeping, outcomes_kept, outcomes_in, lines_told, told, kept_with, IsOfMessage}
-use Rattle.desk_store.specs.declared.kept.Kept.{Kept}
+use Rattle.store_contract.specs.Message.{Entry}
+use Rattle.store_contract.specs.Kept.{Keeping, outcomes_kept, outcomes_in, lines_told, told, kept_with, IsOfMessage}
+use Rattle.store_contract.specs.declared.kept.Kept.{Kept}
 use Rattle.desk_run.specs.Calls.{State, Call, Other, Sent, Took, Does, InTurn, taken_by, taken_in, told_of, IsSameMessage}
 use Rattle.desk_run.proofs.ZipLemmas.{zip-none, zip-append, zip-parts}
 

@@ -4,15 +4,15 @@ use Rattle.std.proofs.Common.{refl, ap, sym, ◌∙◌, append-nil, append_assoc
 use Rattle.std.proofs.lemmas.Bool.{false≢true}
 use Rattle.bug_record.specs.Sets.{Each}
 use Rattle.bug_record.specs.declared.command.Refusal.{Refusal}
-use Rattle.command_grammar.specs.Lines.{reading}
-use Rattle.command_grammar.specs.declared.line.Line.{Line}
-use Rattle.command_grammar.specs.declared.line.Line.TheVariants.{Blank, Comment, Stop, Do}
+use Rattle.control_grammar.specs.Lines.{reading}
+use Rattle.control_grammar.specs.declared.line.Line.{Line}
+use Rattle.control_grammar.specs.declared.line.Line.TheVariants.{Blank, Comment, Stop, Do}
 use Rattle.bug_record.specs.declared.outcome.Outcome.{Outcome}
 use Rattle.bug_record.specs.declared.outcome.Outcome.TheVariants.{Refused, Stopped}
-use Rattle.desk_lines.specs.declared.store_fault.End.{End}
-use Rattle.desk_lines.specs.declared.store_fault.End.TheVariants as ends
-use Rattle.desk_store.specs.Message.{Machine, takes, takes_at, after_lines, end_of, does, known_names}
-use Rattle.desk_store.specs.Kept.{reads_as_command, has_outcome}
+use Rattle.base_faults.specs.declared.store_fault.End.{End}
+use Rattle.base_faults.specs.declared.store_fault.End.TheVariants as ends
+use Rattle.store_contract.specs.Message.{Machine, takes, takes_at, after_lines, end_of, does, known_names}
+use Rattle.store_contract.specs.Kept.{reads_as_command, has_outcome}
 use Rattle.desk_run.specs.Grown.{Grown}
 
 -- after its end the machine stays

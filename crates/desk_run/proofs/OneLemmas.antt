@@ -5,13 +5,13 @@ use Rattle.std.specs.Prelude.{slice_get}
 use Rattle.bug_record.specs.Desk.{Desk}
 use Rattle.bug_record.specs.declared.command.Change.{Change}
 use Rattle.bug_record.specs.declared.outcome.Outcome.{Outcome}
-use Rattle.desk_lines.specs.declared.store_fault.End.{End}
-use Rattle.desk_lines.specs.declared.store_fault.End.TheVariants as ends
-use Rattle.command_grammar.specs.Lines.{reading}
-use Rattle.desk_lines.specs.Lines.{lines_of}
-use Rattle.desk_store.specs.Store.{MayBeKept, with_change}
-use Rattle.desk_store.specs.Message.{Machine, takes, takes_at, machine, end_of}
-use Rattle.desk_store.specs.Kept.{Keeping, kept_also, lines_told, told, outcomes_kept}
+use Rattle.base_faults.specs.declared.store_fault.End.{End}
+use Rattle.base_faults.specs.declared.store_fault.End.TheVariants as ends
+use Rattle.control_grammar.specs.Lines.{reading}
+use Rattle.control_lines.specs.Lines.{lines_of}
+use Rattle.store_contract.specs.Store.{MayBeKept, with_change}
+use Rattle.store_contract.specs.Message.{Machine, takes, takes_at, machine, end_of}
+use Rattle.store_contract.specs.Kept.{Keeping, kept_also, lines_told, told, outcomes_kept}
 use Rattle.desk_run.specs.Calls.{TookOne}
 
 -- the item at a place is the first of those from there on

@@ -6,14 +6,14 @@ use Rattle.std.proofs.lemmas.Option.{none-some, same_Some}
 use Rattle.std.specs.Io.KnownBytes.{Appends}
 use Rattle.bug_record.specs.Desk.{Desk}
 use Rattle.desk_text.specs.Texts.{fault_text}
-use Rattle.desk_lines.specs.declared.store_fault.StoreFault.{StoreFault}
-use Rattle.desk_lines.specs.declared.store_fault.StoreFault.TheVariants as faults
-use Rattle.desk_lines.specs.declared.store_fault.End.{End}
-use Rattle.desk_lines.specs.declared.store_fault.End.TheVariants as ends
-use Rattle.desk_store.specs.Store.{Faults, counted, faults_after_end}
-use Rattle.desk_store.specs.Message.{Entry, Machine, machine, after_lines, at_start, IsReceived, Comes}
-use Rattle.desk_directives.specs.Transcripts.{received_text}
-use Rattle.desk_directives.specs.Reports.{report_of, IsReported, faults_after_report}
+use Rattle.base_faults.specs.declared.store_fault.StoreFault.{StoreFault}
+use Rattle.base_faults.specs.declared.store_fault.StoreFault.TheVariants as faults
+use Rattle.base_faults.specs.declared.store_fault.End.{End}
+use Rattle.base_faults.specs.declared.store_fault.End.TheVariants as ends
+use Rattle.store_contract.specs.Store.{Faults, counted, faults_after_end}
+use Rattle.store_contract.specs.Message.{Entry, Machine, machine, after_lines, at_start, IsReceived, Comes}
+use Rattle.message_directives.specs.Transcripts.{received_text}
+use Rattle.message_directives.specs.Reports.{report_of, IsReported, faults_after_report}
 use Rattle.desk_run.specs.Script.{Part, Message, DirectiveLine, Directive, Report, Standing, standing, part_text, part_after}
 use Rattle.desk_run.specs.Script.{message_text, after_message, refuses, directive_of, directive_text, after_directive}
 use Rattle.desk_run.specs.Script.{report_text, after_report}
@@ -23,8 +23,8 @@ use Rattle.desk_text.specs.Answers.{report_answer}
 use Rattle.desk_run.specs.RefusedAndFailed.{fault_of_end, store_fault}
 use Rattle.desk_text.specs.declared.report_fault.ReportFault.{ReportFault}
 use Rattle.desk_text.specs.declared.report_fault.ReportFault.TheVariants as reports
-use Rattle.desk_lines.specs.declared.fault.ScriptFault.{ScriptFault}
-use Rattle.desk_lines.specs.declared.fault.ScriptFault.TheVariants as stops
+use Rattle.control_lines.specs.declared.fault.ScriptFault.{ScriptFault}
+use Rattle.control_lines.specs.declared.fault.ScriptFault.TheVariants as stops
 use Rattle.desk_run.proofs.WrittenLemmas.{appends_none, course, Carried}
 
 -- what a message comes to

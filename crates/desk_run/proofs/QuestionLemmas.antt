@@ -3,14 +3,14 @@ use Rattle.std.proofs.Common.{◌≡◌, inl, inr, ℕ, Bool, List, sym, ◌∙�
 use Rattle.std.specs.Prelude.{◌||◌}
 use Rattle.bug_record.specs.Desk.{Desk}
 use Rattle.desk_text.specs.Texts.{fault_text}
-use Rattle.desk_lines.specs.declared.store_fault.StoreFault.{StoreFault}
-use Rattle.desk_store.specs.Store.{Faults, counted}
-use Rattle.desk_lines.specs.declared.fault.ScriptFault.{ScriptFault}
-use Rattle.desk_lines.specs.declared.fault.ScriptFault.TheVariants as stops
-use Rattle.desk_directives.specs.Questions.{Told, IsTold, faults_after_question}
-use Rattle.desk_directives.specs.declared.told.Told.{Told as ToldBytes}
-use Rattle.desk_directives.specs.declared.told.QuestionFault.{QuestionFault}
-use Rattle.desk_directives.specs.declared.told.QuestionFault.TheVariants as questions
+use Rattle.base_faults.specs.declared.store_fault.StoreFault.{StoreFault}
+use Rattle.store_contract.specs.Store.{Faults, counted}
+use Rattle.control_lines.specs.declared.fault.ScriptFault.{ScriptFault}
+use Rattle.control_lines.specs.declared.fault.ScriptFault.TheVariants as stops
+use Rattle.message_directives.specs.Questions.{Told, IsTold, faults_after_question}
+use Rattle.message_directives.specs.declared.told.Told.{Told as ToldBytes}
+use Rattle.message_directives.specs.declared.told.QuestionFault.{QuestionFault}
+use Rattle.message_directives.specs.declared.told.QuestionFault.TheVariants as questions
 use Rattle.desk_run.specs.Script.{DirectiveLine, Directive, Standing, standing, directive_of, directive_text, after_directive}
 use Rattle.desk_run.specs.Script.{after_question}
 use Rattle.desk_run.specs.Running.{AsksStore, FaultsIn, StopsIn}

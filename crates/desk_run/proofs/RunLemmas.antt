@@ -4,14 +4,14 @@ use Rattle.std.proofs.Common.{Option, Result, Ok, Err}
 use Rattle.std.specs.Prelude.{◌≢◌, ⊤}
 use Rattle.std.specs.Io.KnownBytes.{Appends}
 use Rattle.bug_record.specs.Desk.{Desk}
-use Rattle.desk_store.specs.Store.{Faults}
+use Rattle.store_contract.specs.Store.{Faults}
 use Rattle.desk_run.specs.Script.{Part, Message, DirectiveLine, Standing, part_text, part_after, text_of, after_parts}
 use Rattle.desk_run.specs.Script.{parts_of_lines, with_line, is_directive, end_of_script}
 use Rattle.desk_run.specs.Gathering.{parts_from}
 use Rattle.desk_run.specs.Running.{Course, StopsIn, Stops, IfBegun, part_course}
 use Rattle.desk_run.specs.Carrying.{Runs, EndsParts}
-use Rattle.desk_lines.specs.declared.fault.ScriptFault.{ScriptFault}
-use Rattle.desk_lines.specs.declared.fault.ScriptFault.TheVariants as stops
+use Rattle.control_lines.specs.declared.fault.ScriptFault.{ScriptFault}
+use Rattle.control_lines.specs.declared.fault.ScriptFault.TheVariants as stops
 use Rattle.desk_run.specs.declared.script.ScriptEnd.{ScriptEnd}
 use Rattle.std.proofs.KnownBytes.{Appends-trans}
 use Rattle.desk_run.proofs.WrittenLemmas.{appends_none, course}

@@ -4,17 +4,17 @@ use Rattle.std.proofs.Common.{Result, Ok, Err, append_assoc, append-nil, length-
 use Rattle.std.specs.Prelude.{◌≢◌, ⊤}
 use Rattle.std.specs.Result.{IfErr, OnOk}
 use Rattle.bug_record.specs.Desk.{Desk}
-use Rattle.desk_lines.specs.declared.store_fault.StoreFault.TheVariants as faults
-use Rattle.desk_store.specs.Store.{Faults}
-use Rattle.desk_lines.specs.Lines.{without_return, raw_lines, lines_of}
-use Rattle.desk_lines.specs.Reading.{IsGoodLine, IsLineFault, IsReadingFault, IsBegun, Known, Left}
+use Rattle.base_faults.specs.declared.store_fault.StoreFault.TheVariants as faults
+use Rattle.store_contract.specs.Store.{Faults}
+use Rattle.control_lines.specs.Lines.{without_return, raw_lines, lines_of}
+use Rattle.control_lines.specs.Reading.{IsGoodLine, IsLineFault, IsReadingFault, IsBegun, Known, Left}
 use Rattle.desk_run.specs.Script.{Part, Message, Standing, parts_of_lines, script_of, after_parts}
 use Rattle.desk_run.specs.Gathering.{parts_from}
 use Rattle.desk_run.specs.Running.{Stops, StopsIn, IfBegun, Ends, AreGood, IsFirstBad, IsPlace, IsReadInPart, IsFinished}
 use Rattle.desk_run.specs.Running.{StopsInGoodLines, IsCounted}
 use Rattle.desk_run.specs.Carrying.{Runs, EndsParts, IsOfPart}
-use Rattle.desk_lines.specs.declared.fault.ScriptFault.{ScriptFault}
-use Rattle.desk_lines.specs.declared.fault.ScriptFault.TheVariants as stops
+use Rattle.control_lines.specs.declared.fault.ScriptFault.{ScriptFault}
+use Rattle.control_lines.specs.declared.fault.ScriptFault.TheVariants as stops
 use Rattle.desk_run.specs.declared.script.ScriptEnd.{ScriptEnd}
 use Rattle.desk_run.proofs.WrittenLemmas.{appends_none, course}
 use Rattle.desk_run.proofs.RunLemmas.{runs_then_stops, runs_then_ends, one_stops, parts_begin, runs_none, from_start, stops_so}

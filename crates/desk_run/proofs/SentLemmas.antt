@@ -5,14 +5,14 @@ use Rattle.std.specs.Prelude.{if◌then◌else◌}
 use Rattle.std.proofs.lemmas.List.{take-append-drop, drop-append-le, length-append}
 use Rattle.bug_record.specs.Desk.{Desk}
 use Rattle.bug_record.specs.Sets.{Each}
-use Rattle.desk_lines.specs.Lines.{lines_of}
+use Rattle.control_lines.specs.Lines.{lines_of}
 use Rattle.bug_record.specs.declared.outcome.Outcome.{Outcome}
-use Rattle.desk_lines.specs.declared.store_fault.End.{End}
-use Rattle.desk_lines.specs.declared.store_fault.End.TheVariants as ends
-use Rattle.desk_store.specs.Message.{Entry, Machine, machine, after_lines, end_of}
-use Rattle.desk_store.specs.Kept.{Keeping, has_outcome, outcomes_kept, outcomes_in, lines_told, told, kept_with, IsOfMessage, IsResumed, GoesOn}
-use Rattle.desk_store.specs.Kept.{AreGoodKept}
-use Rattle.desk_store.specs.declared.kept.Kept.{Kept}
+use Rattle.base_faults.specs.declared.store_fault.End.{End}
+use Rattle.base_faults.specs.declared.store_fault.End.TheVariants as ends
+use Rattle.store_contract.specs.Message.{Entry, Machine, machine, after_lines, end_of}
+use Rattle.store_contract.specs.Kept.{Keeping, has_outcome, outcomes_kept, outcomes_in, lines_told, told, kept_with, IsOfMessage, IsResumed, GoesOn}
+use Rattle.store_contract.specs.Kept.{AreGoodKept}
+use Rattle.store_contract.specs.declared.kept.Kept.{Kept}
 use Rattle.desk_run.specs.Calls.{IsSent}
 use Rattle.desk_run.specs.Grown.{Grown}
 use Rattle.desk_run.proofs.GrownLemmas.{grows}

@@ -5,24 +5,24 @@ use Rattle.version_nodes.specs.Branches.{branched}
 use Rattle.version_nodes.specs.declared.fault.BranchFault.{BranchFault}
 use Rattle.version_nodes.specs.Nodes.{Node}
 use Rattle.bug_record.specs.Desk.{Desk}
-use Rattle.desk_lines.specs.declared.store_fault.End.{End}
-use Rattle.desk_lines.specs.declared.store_fault.End.TheVariants as ends
-use Rattle.desk_lines.specs.declared.store_fault.StoreFault.{StoreFault}
-use Rattle.desk_store.specs.Crashes.{Holding}
-use Rattle.desk_store.specs.Kept.{Keeping}
-use Rattle.desk_store.specs.Message.{Entry, after_lines, at_start, IsReceived}
-use Rattle.desk_store.specs.Tried.{LeavesTried, tried_at}
-use Rattle.desk_store.proofs.TriedLemmas.{tried_then}
-use Rattle.desk_lines.specs.declared.fault.ScriptFault.{ScriptFault}
-use Rattle.desk_lines.specs.Lines.{without_return, raw_lines}
-use Rattle.desk_lines.specs.Reading.{Known, Left}
+use Rattle.base_faults.specs.declared.store_fault.End.{End}
+use Rattle.base_faults.specs.declared.store_fault.End.TheVariants as ends
+use Rattle.base_faults.specs.declared.store_fault.StoreFault.{StoreFault}
+use Rattle.store_contract.specs.Crashes.{Holding}
+use Rattle.store_contract.specs.Kept.{Keeping}
+use Rattle.store_contract.specs.Message.{Entry, after_lines, at_start, IsReceived}
+use Rattle.store_contract.specs.Tried.{LeavesTried, tried_at}
+use Rattle.store_contract.proofs.TriedLemmas.{tried_then}
+use Rattle.control_lines.specs.declared.fault.ScriptFault.{ScriptFault}
+use Rattle.control_lines.specs.Lines.{without_return, raw_lines}
+use Rattle.control_lines.specs.Reading.{Known, Left}
 use Rattle.desk_text.specs.declared.report_fault.ReportFault.{ReportFault}
 use Rattle.desk_text.specs.declared.report_fault.ReportFault.TheVariants as reports
-use Rattle.desk_store.specs.Store.{Holds, Branches}
-use Rattle.desk_store.specs.Crashes.{LeavesBranched, with_tree, after_branch}
-use Rattle.desk_store.specs.Tried.{tried_by}
-use Rattle.desk_directives.specs.Reports.{report_of, desk_after, IsReported}
-use Rattle.desk_directives.specs.Branches.{nodes_of, or_refused, branched_by, branch_of}
+use Rattle.store_contract.specs.Store.{Holds, Branches}
+use Rattle.store_contract.specs.Crashes.{LeavesBranched, with_tree, after_branch}
+use Rattle.store_contract.specs.Tried.{tried_by}
+use Rattle.message_directives.specs.Reports.{report_of, desk_after, IsReported}
+use Rattle.message_directives.specs.Branches.{nodes_of, or_refused, branched_by, branch_of}
 use Rattle.desk_run.specs.Script.{Part, Message, DirectiveLine, Report, Branch, Standing, directive_of, part_after, after_parts, script_of}
 use Rattle.desk_run.specs.Script.{after_report, after_directive}
 use Rattle.desk_run.specs.Script.{after_branch as branch_taken}

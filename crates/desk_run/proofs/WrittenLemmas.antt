@@ -3,7 +3,7 @@ use Rattle.std.proofs.Common.{ℕ, List, [], arith, Option, Some, None}
 use Rattle.std.specs.Io.KnownBytes.{Appends}
 use Rattle.std.proofs.lemmas.Grind.{common_steps}
 use Rattle.bug_record.specs.Desk.{Desk}
-use Rattle.desk_store.specs.Store.{Faults}
+use Rattle.store_contract.specs.Store.{Faults}
 use Rattle.desk_run.specs.Script.{Part, Standing}
 use Rattle.desk_run.specs.Running.{Course, IsCarried}
 

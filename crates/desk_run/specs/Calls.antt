@@ -3,13 +3,13 @@
 use Rattle.std.specs.Prelude.{ℕ, ◌≡◌, List, [], ◌∷◌, ◌++◌, length, map, take, drop, Option, Some, None, if◌then◌else◌}
 use Rattle.std.specs.Str.{bytes_eq}
 use Rattle.bug_record.specs.Desk.{Desk}
-use Rattle.desk_lines.specs.Lines.{lines_of}
-use Rattle.desk_lines.specs.declared.store_fault.End.{End}
-use Rattle.desk_lines.specs.declared.store_fault.End.TheVariants.{All}
+use Rattle.control_lines.specs.Lines.{lines_of}
+use Rattle.base_faults.specs.declared.store_fault.End.{End}
+use Rattle.base_faults.specs.declared.store_fault.End.TheVariants.{All}
 use Rattle.bug_record.specs.declared.outcome.Outcome.{Outcome}
-use Rattle.desk_store.specs.Message.{Entry, machine, after_lines}
-use Rattle.desk_store.specs.Kept.{Keeping, outcomes_kept, outcomes_in, lines_told, told, kept_with, IsOfMessage}
-use Rattle.desk_store.specs.declared.kept.Kept.{Kept}
+use Rattle.store_contract.specs.Message.{Entry, machine, after_lines}
+use Rattle.store_contract.specs.Kept.{Keeping, outcomes_kept, outcomes_in, lines_told, told, kept_with, IsOfMessage}
+use Rattle.store_contract.specs.declared.kept.Kept.{Kept}
 
 -- what a store holds: a desk, and what is kept of messages
 abbrev pub State : Type 0

@@ -1,8 +1,8 @@
 -- What the functions that carry parts of a script out answer, step by step.
 use Rattle.std.specs.Prelude.{ℕ, ◌≡◌, Bool, ⊤, List, Option, Result, Ok, Err}
 use Rattle.std.specs.Io.KnownBytes.{Appends}
-use Rattle.desk_lines.specs.declared.fault.ScriptFault.{ScriptFault}
-use Rattle.desk_lines.specs.declared.fault.ScriptFault.TheVariants.{Write, Memory, Store}
+use Rattle.control_lines.specs.declared.fault.ScriptFault.{ScriptFault}
+use Rattle.control_lines.specs.declared.fault.ScriptFault.TheVariants.{Write, Memory, Store}
 use Rattle.desk_run.specs.Script.{Part, Standing, standing, part_text, part_after, text_of, after_parts, end_of_script}
 use Rattle.desk_run.specs.Running.{Course, Writes, StopsIn, Stops}
 use Rattle.desk_run.specs.declared.script.ScriptEnd.{ScriptEnd}

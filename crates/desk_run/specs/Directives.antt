@@ -1,11 +1,11 @@
 -- The directive that the code's value says.
 use Rattle.std.specs.Option.{option_copied}
-use Rattle.line_words.specs.Words.{words}
+use Rattle.base_words.specs.Words.{words}
 use Rattle.desk_run.specs.Script as script
 use Rattle.desk_run.specs.declared.directive.Directive.{Directive}
 use Rattle.desk_run.specs.declared.directive.Directive.TheVariants.{From, Report, Branch, ListOf, Show, Bad}
 use Rattle.std.specs.Prelude.{⊤}
-use Rattle.line_words.specs.Texts.{IsText}
+use Rattle.base_words.specs.Texts.{IsText}
 
 abbrev pub said : Directive → script.Directive
 said (From sender) = script.From sender.now

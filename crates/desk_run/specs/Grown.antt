@@ -1,7 +1,7 @@
 -- What a machine makes of lines that have an outcome.
 use Rattle.std.specs.Prelude.{ℕ, ◌≡◌, List, ◌++◌, length, map, take}
-use Rattle.desk_lines.specs.declared.store_fault.End.TheVariants as ends
-use Rattle.desk_store.specs.Message.{Entry, Machine, after_lines, end_of}
+use Rattle.base_faults.specs.declared.store_fault.End.TheVariants as ends
+use Rattle.store_contract.specs.Message.{Entry, Machine, after_lines, end_of}
 
 -- From one machine to another in these lines: of some of the first ones an outcome is added, and
 -- these lead to the same machine; of all of them, where the message is not at its end.

@@ -1,7 +1,7 @@
-pub use Rattle.desk_directives.specs.Branches
-pub use Rattle.desk_directives.specs.Transcripts
-pub use Rattle.desk_directives.specs.Reports
-pub use Rattle.desk_messages.specs.Once
+pub use Rattle.message_directives.specs.Branches
+pub use Rattle.message_directives.specs.Transcripts
+pub use Rattle.message_directives.specs.Reports
+pub use Rattle.message_receiving.specs.Once
 pub mod Script
 pub mod Running
 pub mod Tried

@@ -2,17 +2,17 @@
 use Rattle.std.specs.Prelude.{ℕ, ◌≡◌, ◌<◌, ◌||◌, Bool, true, false, List, [], length, take, Option, Some, None, Result, Ok, Err}
 use Rattle.std.specs.Io.KnownBytes.{Appends}
 use Rattle.version_nodes.specs.declared.fault.BranchFault.{BranchFault}
-use Rattle.desk_lines.specs.declared.store_fault.StoreFault.{StoreFault}
-use Rattle.desk_lines.specs.declared.store_fault.End.{End}
-use Rattle.desk_lines.specs.declared.store_fault.End.TheVariants as ends
+use Rattle.base_faults.specs.declared.store_fault.StoreFault.{StoreFault}
+use Rattle.base_faults.specs.declared.store_fault.End.{End}
+use Rattle.base_faults.specs.declared.store_fault.End.TheVariants as ends
 use Rattle.desk_text.specs.declared.report_fault.ReportFault.{ReportFault}
 use Rattle.desk_text.specs.declared.report_fault.ReportFault.TheVariants.{Store}
 use Rattle.desk_text.specs.Texts.{fault_text}
-use Rattle.desk_lines.specs.declared.fault.ScriptFault.{ScriptFault}
-use Rattle.desk_lines.specs.declared.fault.ScriptFault.TheVariants as stops
-use Rattle.desk_directives.specs.declared.told.Told.{Told}
-use Rattle.desk_directives.specs.declared.told.QuestionFault.{QuestionFault}
-use Rattle.desk_directives.specs.declared.told.QuestionFault.TheVariants as questions
+use Rattle.control_lines.specs.declared.fault.ScriptFault.{ScriptFault}
+use Rattle.control_lines.specs.declared.fault.ScriptFault.TheVariants as stops
+use Rattle.message_directives.specs.declared.told.Told.{Told}
+use Rattle.message_directives.specs.declared.told.QuestionFault.{QuestionFault}
+use Rattle.message_directives.specs.declared.told.QuestionFault.TheVariants as questions
 
 abbrev pub refuses_branch : Result (Result (Unit {0}) BranchFault) StoreFault → Bool
 refuses_branch (Ok (Ok done)) = false

@@ -7,22 +7,22 @@ use Rattle.std.specs.Str.{IsUtf8}
 use Rattle.bug_record.specs.Sets.{Each}
 use Rattle.bug_record.specs.Desk.{Desk}
 use Rattle.desk_text.specs.Texts.{fault_text}
-use Rattle.desk_lines.specs.declared.store_fault.StoreFault.{StoreFault}
-use Rattle.desk_lines.specs.declared.store_fault.End.TheVariants as ends
-use Rattle.desk_store.specs.Store.{Faults, counted}
-use Rattle.desk_store.specs.Message.{Entry, IsReceived}
-use Rattle.desk_lines.specs.Lines.{raw_lines, without_return}
-use Rattle.desk_lines.specs.Reading.{IsGoodLine, IsBegun}
-use Rattle.desk_directives.specs.Transcripts.{received_text}
+use Rattle.base_faults.specs.declared.store_fault.StoreFault.{StoreFault}
+use Rattle.base_faults.specs.declared.store_fault.End.TheVariants as ends
+use Rattle.store_contract.specs.Store.{Faults, counted}
+use Rattle.store_contract.specs.Message.{Entry, IsReceived}
+use Rattle.control_lines.specs.Lines.{raw_lines, without_return}
+use Rattle.control_lines.specs.Reading.{IsGoodLine, IsBegun}
+use Rattle.message_directives.specs.Transcripts.{received_text}
 use Rattle.desk_run.specs.Script.{Part, Message, DirectiveLine, Directive, From, Report, Branch, ListOf, Show, Bad, directive_of}
 use Rattle.desk_run.specs.Script.{Standing, parts_of_lines, script_of, part_text, part_after, text_of, after_parts, end_of_script}
 use Rattle.bug_record.specs.declared.severity.Severity.{Severity}
 use Rattle.version_nodes.specs.Nodes.{Node}
-use Rattle.desk_directives.specs.Reports.{report_severity}
-use Rattle.desk_directives.specs.Questions.{AsksForList}
-use Rattle.desk_directives.specs.Branches.{nodes_of}
-use Rattle.desk_lines.specs.declared.fault.ScriptFault.{ScriptFault}
-use Rattle.desk_lines.specs.declared.fault.ScriptFault.TheVariants.{Read, Write, NotUtf8, LineTooLong, Memory, Store}
+use Rattle.message_directives.specs.Reports.{report_severity}
+use Rattle.message_directives.specs.Questions.{AsksForList}
+use Rattle.message_directives.specs.Branches.{nodes_of}
+use Rattle.control_lines.specs.declared.fault.ScriptFault.{ScriptFault}
+use Rattle.control_lines.specs.declared.fault.ScriptFault.TheVariants.{Read, Write, NotUtf8, LineTooLong, Memory, Store}
 use Rattle.desk_run.specs.declared.script.ScriptEnd.{ScriptEnd}
 
 -- a directive that asks the store: a report whose words are good, a branch whose words are nodes, a

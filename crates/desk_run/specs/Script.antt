@@ -4,22 +4,22 @@ use Rattle.std.specs.Prelude.{ℕ, ◌==◌, Bool, true, false, ◌||◌, List, 
 use Rattle.std.specs.Prelude.{if◌then◌else◌}
 use Rattle.std.specs.List.{list_any}
 use Rattle.std.specs.Str.{bytes_eq}
-use Rattle.line_words.specs.Texts.{is_text}
+use Rattle.base_words.specs.Texts.{is_text}
 use Rattle.bug_record.specs.Desk.{Desk}
-use Rattle.line_words.specs.Words.{has_bytes, words, trimmed, first_word, after_word}
-use Rattle.line_words.specs.Numbers.{number_of_word}
+use Rattle.base_words.specs.Words.{has_bytes, words, trimmed, first_word, after_word}
+use Rattle.base_words.specs.Numbers.{number_of_word}
 use Rattle.desk_text.specs.Answers.{report_answer, branch_answer, bad_version_answer, bad_directive_answer}
 use Rattle.bug_record.specs.declared.outcome.Outcome.{Outcome}
 use Rattle.bug_record.specs.declared.outcome.Outcome.TheVariants as outcomes
-use Rattle.desk_lines.specs.declared.store_fault.End.{End}
-use Rattle.desk_lines.specs.declared.store_fault.End.TheVariants as ends
-use Rattle.desk_store.specs.Message.{Entry, Machine, after_lines, at_start, end_of}
-use Rattle.desk_lines.specs.Lines.{lines_of}
-use Rattle.desk_directives.specs.Transcripts.{received_text}
+use Rattle.base_faults.specs.declared.store_fault.End.{End}
+use Rattle.base_faults.specs.declared.store_fault.End.TheVariants as ends
+use Rattle.store_contract.specs.Message.{Entry, Machine, after_lines, at_start, end_of}
+use Rattle.control_lines.specs.Lines.{lines_of}
+use Rattle.message_directives.specs.Transcripts.{received_text}
 use Rattle.version_nodes.specs.Trees.{Ancestry}
-use Rattle.desk_directives.specs.Reports.{report_of}
-use Rattle.desk_directives.specs.Questions.{Told, list_told, page_told}
-use Rattle.desk_directives.specs.Branches.{BranchRefusal, BadNode, Refused, branch_of}
+use Rattle.message_directives.specs.Reports.{report_of}
+use Rattle.message_directives.specs.Questions.{Told, list_told, page_told}
+use Rattle.message_directives.specs.Branches.{BranchRefusal, BadNode, Refused, branch_of}
 use Rattle.desk_text.specs.declared.report_fault.ReportFault.{ReportFault}
 use Rattle.desk_run.specs.declared.script.ScriptEnd.{ScriptEnd}
 use Rattle.desk_run.specs.declared.script.ScriptEnd.TheVariants as script_ends

@@ -3,11 +3,11 @@
 -- This project's own rule.
 use Rattle.std.specs.Prelude.{ℕ, ◌≡◌, ◌⊎◌, ◌+◌, List, ◌∷◌, ◌++◌, take, Result, Ok, Err}
 use Rattle.bug_record.specs.Desk.{Desk}
-use Rattle.desk_store.specs.Crashes.{Holding}
-use Rattle.desk_store.specs.Kept.{Keeping}
-use Rattle.desk_store.specs.Message.{after_lines, at_start}
-use Rattle.desk_store.specs.Tried.{LeavesTried}
-use Rattle.desk_lines.specs.declared.fault.ScriptFault.{ScriptFault}
+use Rattle.store_contract.specs.Crashes.{Holding}
+use Rattle.store_contract.specs.Kept.{Keeping}
+use Rattle.store_contract.specs.Message.{after_lines, at_start}
+use Rattle.store_contract.specs.Tried.{LeavesTried}
+use Rattle.control_lines.specs.declared.fault.ScriptFault.{ScriptFault}
 use Rattle.desk_run.specs.Script.{Part, Message, DirectiveLine, Standing, directive_of, after_directive, after_parts}
 
 -- the desk after so many lines of a message

@@ -1,12 +1,12 @@
 //! The nodes of a branch in a script.
 
 ghost use Rattle.std.specs.Prelude.{◌≡◌, Some, None};
-ghost use Rattle.line_words.specs.Words.{words};
-ghost use Rattle.desk_directives.specs.Branches.{nodes_of};
-ghost use Rattle.desk_directives.specs.BranchWords.{AreRead};
+ghost use Rattle.base_words.specs.Words.{words};
+ghost use Rattle.message_directives.specs.Branches.{nodes_of};
+ghost use Rattle.message_directives.specs.BranchWords.{AreRead};
 
-use desk_directives::add_node;
-use line_words::next_word;
+use base_words::next_word;
+use message_directives::add_node;
 use std::alloc::Global;
 use version_nodes::{Node, NodeFault};
 

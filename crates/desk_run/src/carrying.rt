@@ -3,11 +3,11 @@
 ghost use Rattle.std.specs.Prelude.{◌≡◌, ℕ, ◌<◌, ◌||◌, true, length, take, Some, Result, List, [], ◌∷◌, OnOk, OnErr};
 ghost use Rattle.std.specs.Prelude.{IfErr};
 ghost use Rattle.std.specs.Option.{option_copied};
-ghost use Rattle.line_words.specs.Texts.{IsText};
-ghost use Rattle.desk_store.specs.Store.{Holds};
+ghost use Rattle.base_words.specs.Texts.{IsText};
+ghost use Rattle.store_contract.specs.Store.{Holds};
 ghost use Rattle.desk_run.specs.Script.{Report, Branch, Message, DirectiveLine, standing, directive_of};
 ghost use Rattle.std.specs.Io.KnownBytes.{Appends};
-ghost use Rattle.desk_directives.specs.Branches.{nodes_of};
+ghost use Rattle.message_directives.specs.Branches.{nodes_of};
 ghost use Rattle.desk_run.specs.RefusedAndFailed.{Tells, TellsFault};
 ghost use Rattle.desk_run.specs.Running.{IsCounted};
 ghost use Rattle.desk_run.specs.Carrying.{Carries, IsOfPart};
@@ -18,17 +18,17 @@ use crate::directive::{Directive, ReportWords, read_directive};
 use crate::refused_and_failed::{
     fault_of_branch, fault_of_end, refuses, refuses_branch, store_fault,
 };
+use control_lines::{ScriptFault, write_out};
 use debver::Text;
-use desk_directives::{QuestionFault, Told, list_of, page_of, received_bytes, report};
-use desk_lines::{ScriptFault, write_out};
-use desk_messages::receive_lines;
-use desk_store::Records;
 use desk_text::{
     StoreFault, bad_directive_answer, bad_version_answer, branch_answer, fault_answer,
     report_answer,
 };
+use message_directives::{QuestionFault, Told, list_of, page_of, received_bytes, report};
+use message_receiving::receive_lines;
 use std::alloc::Global;
 use std::io::Write;
+use store_contract::Records;
 use version_nodes::{Node, NodeFault};
 
 // A script in its course: the current sender, whether anything was refused, and the lines of the

@@ -2,13 +2,13 @@
 
 ghost use Rattle.std.specs.Prelude.{◌≡◌};
 ghost use Rattle.std.specs.Option.{option_copied};
-ghost use Rattle.line_words.specs.Words.{has_bytes, words};
-ghost use Rattle.line_words.specs.Numbers.{number_of_word};
+ghost use Rattle.base_words.specs.Words.{has_bytes, words};
+ghost use Rattle.base_words.specs.Numbers.{number_of_word};
 ghost use Rattle.desk_run.specs.Script.{is_directive, given_version, from_directive, report_directive, list_directive};
 ghost use Rattle.desk_run.specs.Script.{show_directive_of, show_directive, directive_of};
 ghost use Rattle.desk_run.specs.Directives.{HasGoodSender, said};
 
-use line_words::{is_text, next_word, number_word, split_word, trim};
+use base_words::{is_text, next_word, number_word, split_word, trim};
 
 /// What a directive's line says.
 #[derive(Clone, Copy)]

@@ -5,11 +5,11 @@ ghost use Rattle.std.specs.Prelude.{Ok, Err};
 ghost use Rattle.bug_record.specs.Desk.{Desk};
 ghost use Rattle.bug_record.specs.declared.command.Change.{Change};
 ghost use Rattle.bug_record.specs.declared.outcome.Outcome.{Outcome};
-ghost use Rattle.desk_store.specs.declared.outcomes_so_far.Received.{Received};
-ghost use Rattle.desk_messages.specs.Once.{IsOnce};
-ghost use Rattle.desk_messages.specs.declared.once.OnceFault.{OnceFault};
-ghost use Rattle.desk_store.specs.Store.{MayBeKept, with_change};
-ghost use Rattle.desk_store.specs.Kept.{Keeping, AreGoodKept, kept_also};
+ghost use Rattle.store_contract.specs.declared.outcomes_so_far.Received.{Received};
+ghost use Rattle.message_receiving.specs.Once.{IsOnce};
+ghost use Rattle.message_receiving.specs.declared.once.OnceFault.{OnceFault};
+ghost use Rattle.store_contract.specs.Store.{MayBeKept, with_change};
+ghost use Rattle.store_contract.specs.Kept.{Keeping, AreGoodKept, kept_also};
 ghost use Rattle.desk_run.specs.Calls.{State, Call, Does, Other, InTurn, TookOne};
 ghost use Rattle.desk_run.specs.Calls.{taken_in, told_of, IsSameMessage, IsSent};
 

@@ -10,14 +10,15 @@ mod laws;
 mod refused_and_failed;
 mod script;
 
-pub use desk_directives::{ReportFault, received_text, report};
-pub use desk_in_memory::{FailAt, PlainDesk};
-pub use desk_lines::ScriptFault;
-pub use desk_messages::{OnceFault, Received, receive, receive_once};
-pub use desk_store::{Kept, Records, is_id};
+pub use control_lines::ScriptFault;
 pub use desk_text::End;
 pub use laws::{
     a_kept_outcome_takes_its_line, a_sent_message_takes_its_next_lines, each_line_acts_once,
 };
+pub use memory_desk::PlainDesk;
+pub use message_directives::{ReportFault, received_text, report};
+pub use message_receiving::{OnceFault, Received, receive, receive_once};
 pub use refused_and_failed::refuses;
 pub use script::{ScriptEnd, run_script};
+pub use store_contract::{Kept, Records, is_id};
+pub use store_failing::FailAt;

@@ -5,11 +5,11 @@ ghost use Rattle.std.specs.List.{list_any};
 ghost use Rattle.desk_run.specs.Script.{is_refused, is_too_many, refuses};
 ghost use Rattle.desk_run.specs.RefusedAndFailed.{refuses_branch, fault_of_branch, fault_of_end, store_fault};
 
+use base_faults::{End, StoreFault};
 use bug_record::Outcome;
 use debver::Text;
-use desk_directives::ReportFault;
-use desk_lines::{End, StoreFault};
-use desk_messages::Received;
+use message_directives::ReportFault;
+use message_receiving::Received;
 use version_nodes::BranchFault;
 
 fn is_refused(outcome: &Outcome) -> bool

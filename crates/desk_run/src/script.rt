@@ -2,21 +2,21 @@
 
 ghost use Rattle.std.specs.Prelude.{◌≡◌, ℕ, ◌<◌, Result, List, [], ◌∷◌, ◌++◌, OnOk, IfOk};
 ghost use Rattle.std.specs.Prelude.{IfErr, ◌≢◌};
-ghost use Rattle.desk_store.specs.Store.{Holds};
+ghost use Rattle.store_contract.specs.Store.{Holds};
 ghost use Rattle.desk_run.specs.Script.{Part, Message, standing, begin, script_of};
 ghost use Rattle.desk_run.specs.Tried.{LeavesParts};
 ghost use Rattle.desk_run.specs.Gathering.{parts_from};
-ghost use Rattle.desk_lines.specs.Reading.{Known, Left};
+ghost use Rattle.control_lines.specs.Reading.{Known, Left};
 ghost use Rattle.desk_run.specs.Running.{Stops, IsCounted, IsReadInPart, Ends};
 ghost use Rattle.desk_run.specs.Carrying.{Runs, Carries, IsOfPart, EndsParts};
 
 use crate::carrying::{Run, carry_out, finish_message};
 use crate::directive::is_directive;
+use control_lines::{Piece, ScriptFault, Source, next_line};
 use debver::Text;
-use desk_lines::{Piece, ScriptFault, Source, next_line};
-use desk_store::Records;
 use std::alloc::Global;
 use std::io::{Read, Write};
+use store_contract::Records;
 
 /// How a script that was run to its end went.
 #[derive(Clone, Copy, Debug, PartialEq, Eq, Drop)]

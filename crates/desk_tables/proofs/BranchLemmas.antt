@@ -1,10 +1,10 @@
 -- What a branch comes to, and leaves of what is remembered.
 use Rattle.desk_tables.proofs.Imports.{IsGrown, Branches, IsRefusal, content_seen, desk_seen, keeping_seen, IsKept, Remembered, IsDesk, HasContent, AreTablesAfter, StillShows, IsChanged, IsTaken}
-use Rattle.desk_schema.proofs.Exports.{◌≡◌, ◌≢◌, List, Some, Result, Ok, Err, IsTrue, refl, sym, ap, subst, ◌∙◌, ⊤, Held, state, State, HasCleanDisk, Survives, survives_weaker, branched, IsBranched, Node, Ancestry, IsForest, StoreFault, Foreign, with_nodes, Content, IsKeptContent, desk_in, keeping_in, seen, none, acts_none}
+use Rattle.table_schema.proofs.Exports.{◌≡◌, ◌≢◌, List, Some, Result, Ok, Err, IsTrue, refl, sym, ap, subst, ◌∙◌, ⊤, Held, state, State, HasCleanDisk, Survives, survives_weaker, branched, IsBranched, Node, Ancestry, IsForest, StoreFault, Foreign, with_nodes, Content, IsKeptContent, desk_in, keeping_in, seen, none, acts_none}
 use Rattle.sqlite_trees.specs.declared.store.Store as store
 use Rattle.version_nodes.specs.declared.fault.BranchFault.{BranchFault}
 use Rattle.version_nodes.specs.declared.fault.BranchFault.TheVariants.{Memory}
-use Rattle.desk_content.proofs.QuestionLemmas.{branch_kept}
+use Rattle.table_content.proofs.QuestionLemmas.{branch_kept}
 use Rattle.desk_tables.proofs.StillLemmas.{shows_now, still_same}
 use Rattle.desk_tables.proofs.KeptLemmas.{content_is, noted_kept}
 

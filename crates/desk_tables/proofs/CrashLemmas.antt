@@ -1,18 +1,18 @@
 -- What a crash leaves of a desk in tables.
 use Rattle.desk_tables.proofs.Imports.{HasKeptTables, content_shown, state_of, AreTablesOf, AreTablesAfter, AreTablesHolding, LeavesOf, LeavesTables, Holding, Branches, with_change, MayBeKept}
-use Rattle.desk_schema.proofs.Exports.{◌≡◌, ◌∙◌, inl, inr, List, ℕ, Result, Ok, Err, OnOk, IfOk, Option, IsTrue, refl, sym, ap, subst, IsText, IfGiven, Node, branched, Change, Outcome, StoreFault, state, State, HasCleanDisk, Survives, FitsContent, Content, IsKeptContent, changed, kept_after, change_desk, change_kept, after_keeping, after_kept, with_nodes, desk_in, keeping_in}
+use Rattle.table_schema.proofs.Exports.{◌≡◌, ◌∙◌, inl, inr, List, ℕ, Result, Ok, Err, OnOk, IfOk, Option, IsTrue, refl, sym, ap, subst, IsText, IfGiven, Node, branched, Change, Outcome, StoreFault, state, State, HasCleanDisk, Survives, FitsContent, Content, IsKeptContent, changed, kept_after, change_desk, change_kept, after_keeping, after_kept, with_nodes, desk_in, keeping_in}
 use Rattle.version_nodes.specs.declared.fault.BranchFault.{BranchFault}
 use Rattle.bug_record.specs.Desk.{Desk}
 use Rattle.bug_record.specs.Images.{put}
-use Rattle.desk_content.proofs.KeepLemmas.{change_keeping}
-use Rattle.desk_content.proofs.QuestionLemmas.{branch_kept}
-use Rattle.desk_store.specs.Crashes.{LeavesAfter, LeavesBranched, after_branch, with_tree}
-use Rattle.desk_store.specs.Kept.{Keeping, kept_also}
-use Rattle.desk_store.specs.Store.{Applies, Holds}
-use Rattle.desk_store.proofs.KeepLemmas.{kept_also-good}
+use Rattle.table_content.proofs.KeepLemmas.{change_keeping}
+use Rattle.table_content.proofs.QuestionLemmas.{branch_kept}
+use Rattle.store_contract.specs.Crashes.{LeavesAfter, LeavesBranched, after_branch, with_tree}
+use Rattle.store_contract.specs.Kept.{Keeping, kept_also}
+use Rattle.store_contract.specs.Store.{Applies, Holds}
+use Rattle.store_contract.proofs.KeepLemmas.{kept_also-good}
 use Rattle.sqlite_trees.specs.Tree.{Trees}
 use Rattle.sqlite_trees.specs.declared.store.Store as store
-use Rattle.desk_store.proofs.CrashLemmas.{or_other}
+use Rattle.store_contract.proofs.CrashLemmas.{or_other}
 use Rattle.desk_tables.specs.Desk.{desk_of, keeping_of, HasHonestDisk, MayKeep, KeepsOf}
 use Rattle.desk_tables.specs.declared.desk.TableDesk.{TableDesk}
 use Rattle.desk_tables.proofs.KeptLemmas.{kept_shows}

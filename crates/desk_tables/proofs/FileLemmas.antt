@@ -1,6 +1,6 @@
 -- What two files that hold a desk are opened as, and what a close leaves in them.
 use Rattle.desk_tables.proofs.Imports.{HoldDesk, HoldCopy, LeaveDesk, IsFoundIn, HasContent, HoldsContent, HoldTables}
-use Rattle.desk_schema.proofs.Exports.{◌≡◌, inl, inr, sym, subst, HoldsAlone, IsCopied, file_state, HoldsDatabase, Held, State, Opens, IsLive, Content, IsKeptContent}
+use Rattle.table_schema.proofs.Exports.{◌≡◌, inl, inr, sym, subst, HoldsAlone, IsCopied, file_state, HoldsDatabase, Held, State, Opens, IsLive, Content, IsKeptContent}
 use Rattle.std.proofs.Math.Logic.{∥∥₁_elim}
 use Rattle.sqlite_disk.specs.declared.Disk.{Ghosts}
 use Rattle.sqlite_disk.specs.declared.Files.{Files}

@@ -1,13 +1,13 @@
 -- What is shown of trees that hold a desk.
 use Rattle.desk_tables.proofs.Imports.{AreUnder, IsDesk, HasContent, HasContentUnder, HoldsContent, AreTablesOf, AreTablesUnder, HoldTables}
-use Rattle.desk_schema.proofs.Exports.{◌≡◌, ℕ, List, [], ◌∷◌, inl, inr, ne_eqb, arith, sym, ap, subst, ◌∙◌, cases_eq, Database, IsDatabase, Row, State, Opens, IsLive, with_tree, Content, META, desk_schema, meta_cells, next_in, content_of, AreShown, seen}
+use Rattle.table_schema.proofs.Exports.{◌≡◌, ℕ, List, [], ◌∷◌, inl, inr, ne_eqb, arith, sym, ap, subst, ◌∙◌, cases_eq, Database, IsDatabase, Row, State, Opens, IsLive, with_tree, Content, META, desk_schema, meta_cells, next_in, content_of, AreShown, seen}
 use mathlib.Core.Path.{fun_ext}
 use Rattle.sqlite_catalog.proofs.ReadLemmas.{lists_once}
 use Rattle.sqlite_catalog.specs.Listing.{Lists}
 use Rattle.sqlite_trees.specs.Objects.{catalog_tree}
 use Rattle.sqlite_trees.specs.Tree.{Trees}
-use Rattle.desk_migrations.specs.History.{schema_at}
-use Rattle.desk_migrations.specs.declared.history.TheConstants.{NEWEST}
+use Rattle.table_history.specs.History.{schema_at}
+use Rattle.table_history.specs.declared.history.TheConstants.{NEWEST}
 
 -- what was committed of a desk are its tables
 pub committed_tables : (s : State) (c : Content) → IsDesk s × (seen s ≡ c) → AreTablesOf c s.committed.trees

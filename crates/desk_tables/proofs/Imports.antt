@@ -1,10 +1,10 @@
 -- The names that this crate's proofs cite, passed on from one place.
 -- It declares nothing.
-pub use Rattle.desk_rows.specs.Grown.{IsGrown, changed_of}
-pub use Rattle.desk_migrations.specs.Making.{AreUnder, Builds, IsBlank, IsDeskOf, IsUnder}
-pub use Rattle.desk_migrations.specs.Number.{ReadsSchema, Says}
-pub use Rattle.desk_store.specs.Crashes.{Holding}
-pub use Rattle.desk_store.specs.Store.{Answers, AreWaitingOn, Branches, IsImageOf, IsRefusal, Keeps, MayBeKept, with_change}
+pub use Rattle.table_nodes.specs.Grown.{IsGrown, changed_of}
+pub use Rattle.table_history.specs.Making.{AreUnder, Builds, IsBlank, IsDeskOf, IsUnder}
+pub use Rattle.table_history.specs.Number.{ReadsSchema, Says}
+pub use Rattle.store_contract.specs.Crashes.{Holding}
+pub use Rattle.store_contract.specs.Store.{Answers, AreWaitingOn, Branches, IsImageOf, IsRefusal, Keeps, MayBeKept, with_change}
 pub use Rattle.desk_tables.specs.Desk.{HasKeptTables, LeavesTables, content_shown, remembered, state_of}
 pub use Rattle.desk_tables.specs.Files.{HoldCopy, HoldDesk, IsFoundIn, LeaveDesk}
 pub use Rattle.desk_tables.specs.Kept.{AreKnown, AreRemembered, IsIdle, IsKept, Remembered, desk_seen, keeping_seen}
@@ -14,4 +14,4 @@ pub use Rattle.desk_tables.specs.Shown.{AreTablesAfter, AreTablesHolding, AreTab
 pub use Rattle.desk_tables.specs.Still.{IsAsBefore, StillShows}
 pub use Rattle.desk_tables.specs.Transactions.{AsksInside, AsksSchema, Ends, IsAsked, IsCarried, IsChanged, IsCommitFault, IsDone, IsFound, IsMade, IsRecognised, IsTaken}
 pub use Rattle.desk_tables.specs.declared.open_fault.OpenFault.TheVariants.{NewerSchema, NotADesk, NotEmpty, Store}
-pub use Rattle.desk_writes.specs.Needs.{HasTree, HasTreeIfAny, IsKnownIn, IsNextPlace, IsPlaceIn}
+pub use Rattle.table_writes.specs.Needs.{HasTree, HasTreeIfAny, IsKnownIn, IsNextPlace, IsPlaceIn}

@@ -1,10 +1,10 @@
 -- What an outcome that is kept leaves of what is remembered.
 use Rattle.desk_tables.proofs.Imports.{AreKnown, HasTreeIfAny, IsKnownIn, IsNextPlace, Keeps, MayBeKept, with_change}
-use Rattle.desk_schema.proofs.Exports.{◌≡◌, ℕ, List, Option, None, Some, refl, ap, ◌∙◌, Ancestry, IsText, IfGiven, HasMember, FitsDesk, Each, Change, Outcome, FitsContent, cleared_for, Content, MayBePut, changed_by, kept_after, IsKeptContent, desk_in, keeping_in, after_keeping, after_kept, change_desk, put_nodes, no_nodes}
+use Rattle.table_schema.proofs.Exports.{◌≡◌, ℕ, List, Option, None, Some, refl, ap, ◌∙◌, Ancestry, IsText, IfGiven, HasMember, FitsDesk, Each, Change, Outcome, FitsContent, cleared_for, Content, MayBePut, changed_by, kept_after, IsKeptContent, desk_in, keeping_in, after_keeping, after_kept, change_desk, put_nodes, no_nodes}
 use Rattle.bug_record.specs.Images.{AreApart}
 use Rattle.bug_record.specs.declared.bug.SetImage.{SetImage}
-use Rattle.desk_store.proofs.KeepLemmas.{kept_also-good}
-use Rattle.desk_reads.specs.Known.{IsPartOf, followed}
+use Rattle.store_contract.proofs.KeepLemmas.{kept_also-good}
+use Rattle.table_reads.specs.Known.{IsPartOf, followed}
 use Rattle.desk_tables.proofs.KeptLemmas.{known_after, made}
 
 -- ---- a change, if there is one

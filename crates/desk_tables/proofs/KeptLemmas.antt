@@ -1,25 +1,25 @@
 -- What a question and a change leave of what is remembered.
 use Rattle.desk_tables.proofs.Imports.{HasTree, IsKnownIn, IsPlaceIn, Answers, state_of, content_shown, HasKeptTables, content_seen, desk_seen, IsKept, AreKnown, AreRemembered, Remembered, IsDesk, HasContent, AreTablesOf, StillShows, IsAsked, IsChanged}
-use Rattle.desk_schema.proofs.Exports.{◌≡◌, ◌≢◌, inl, inr, ℕ, List, [], ◌∷◌, Option, None, Some, is_some, false, true, true≢false, Result, Ok, Err, OnOk, IfOk, IfErr, IfSome, IsTrue, arith, refl, sym, ap, subst, ◌∙◌, length, Held, state, HasCleanDisk, Survives, Ancestry, HasMember, IsSetOf, Change, StoreFault, Foreign, FitsContent, all_stay, changed, cleared_for, Content, IsKeptContent, desk_in, change_kept, put_nodes, no_nodes, seen}
+use Rattle.table_schema.proofs.Exports.{◌≡◌, ◌≢◌, inl, inr, ℕ, List, [], ◌∷◌, Option, None, Some, is_some, false, true, true≢false, Result, Ok, Err, OnOk, IfOk, IfErr, IfSome, IsTrue, arith, refl, sym, ap, subst, ◌∙◌, length, Held, state, HasCleanDisk, Survives, Ancestry, HasMember, IsSetOf, Change, StoreFault, Foreign, FitsContent, all_stay, changed, cleared_for, Content, IsKeptContent, desk_in, change_kept, put_nodes, no_nodes, seen}
 use Rattle.sqlite_trees.specs.declared.store.Store as store
 use Rattle.bug_record.specs.Desk.{Desk}
 use Rattle.bug_record.specs.declared.bug.SetImage.{SetImage}
 use Rattle.bug_record.specs.Images.{numbers_of, image_with}
 use Rattle.bug_record.specs.Sets.{has}
-use Rattle.bugs_in_memory.specs.Keys.{key_of, has_bug, IsKeyed, image_at_key, set_after}
-use Rattle.bugs_in_memory.proofs.ImageLemmas.{both_steps}
-use Rattle.bugs_in_memory.proofs.KeyLemmas.{image-of_key}
-use Rattle.desk_content.proofs.ChangeLemmas.{images_are}
-use Rattle.desk_content.specs.View.{image}
-use Rattle.desk_reads.specs.Asked.{IsAskedFor}
-use Rattle.desk_store.specs.Store.{IsImageOf}
-use Rattle.desk_reads.specs.Known.{IsPartOf, IsLearnt}
+use Rattle.store_keys.specs.Keys.{key_of, has_bug, IsKeyed, image_at_key, set_after}
+use Rattle.store_keys.proofs.ImageLemmas.{both_steps}
+use Rattle.store_keys.proofs.KeyLemmas.{image-of_key}
+use Rattle.table_content.proofs.ChangeLemmas.{images_are}
+use Rattle.table_content.specs.View.{image}
+use Rattle.table_reads.specs.Asked.{IsAskedFor}
+use Rattle.store_contract.specs.Store.{IsImageOf}
+use Rattle.table_reads.specs.Known.{IsPartOf, IsLearnt}
 use Rattle.std.proofs.Common.{cond, Bool}
 use Rattle.std.proofs.lemmas.Bool.{eqb-true}
 use Rattle.std.proofs.lemmas.Option.{same_Some, none-some}
 use Rattle.std.specs.Option.{option_and_then}
 use Rattle.std.specs.Prelude.{◌==◌}
-use Rattle.desk_reads.specs.declared.images.FoundSet.{FoundSet}
+use Rattle.table_reads.specs.declared.images.FoundSet.{FoundSet}
 use Rattle.desk_tables.specs.declared.desk.TableDesk.{TableDesk}
 use Rattle.desk_tables.proofs.StillLemmas.{shows_now}
 

@@ -1,14 +1,14 @@
 -- What is remembered of a desk that is created or opened, and why there is none.
 use Rattle.desk_tables.proofs.Imports.{AreUnder, Says, content_seen, desk_seen, keeping_seen, IsKept, Remembered, unlimited, IsLeft, IsReason, SaysEarlier, IsDesk, HasContent, HasContentUnder, HoldsContent, AreTablesOf, StillShows, AsksSchema, IsRecognised, IsCarried, IsFound, NotADesk, NewerSchema, Store, NotEmpty}
-use Rattle.desk_schema.proofs.Exports.{◌≡◌, ◌≢◌, false, ◌<◌, ◌≤◌, ℕ, Option, None, IfSome, Result, Ok, Err, arith, refl, sym, ap, subst, ◌∙◌, Held, state, Database, IsDatabase, State, HasCleanDisk, Survives, survives_then, survives_weaker, Ancestry, Content, no_content, desk_in, keeping_in, StoreFault, seen}
+use Rattle.table_schema.proofs.Exports.{◌≡◌, ◌≢◌, false, ◌<◌, ◌≤◌, ℕ, Option, None, IfSome, Result, Ok, Err, arith, refl, sym, ap, subst, ◌∙◌, Held, state, Database, IsDatabase, State, HasCleanDisk, Survives, survives_then, survives_weaker, Ancestry, Content, no_content, desk_in, keeping_in, StoreFault, seen}
 use Rattle.sqlite_trees.specs.declared.store.Store as store
-use Rattle.line_words.specs.declared.named.TheConstants.{LARGEST_NUMBER}
-use Rattle.bugs_in_memory.specs.Plain.{empty_desk}
-use Rattle.desk_store.specs.Kept.{none_kept}
-use Rattle.desk_content.proofs.NewLemmas.{new_kept}
-use Rattle.desk_migrations.specs.declared.history.TheConstants.{NEWEST}
-use Rattle.desk_migrations.specs.declared.number.SchemaRead.{SchemaRead}
-use Rattle.desk_migrations.specs.declared.number.SchemaRead.TheVariants.{Number, NoNumber}
+use Rattle.base_words.specs.declared.named.TheConstants.{LARGEST_NUMBER}
+use Rattle.store_keys.specs.Keys.{empty_desk}
+use Rattle.store_contract.specs.Kept.{none_kept}
+use Rattle.table_content.proofs.NewLemmas.{new_kept}
+use Rattle.table_history.specs.declared.history.TheConstants.{NEWEST}
+use Rattle.table_history.specs.declared.number.SchemaRead.{SchemaRead}
+use Rattle.table_history.specs.declared.number.SchemaRead.TheVariants.{Number, NoNumber}
 use Rattle.desk_tables.specs.declared.open_fault.OpenFault.{OpenFault}
 use Rattle.desk_tables.proofs.HeldLemmas.{newest_shows, shows_newest}
 use Rattle.desk_tables.proofs.KeptLemmas.{content_is, noted_kept, none_known}

@@ -1,6 +1,6 @@
 -- What a connection goes on to show.
 use Rattle.desk_tables.proofs.Imports.{IsLeft, HasContent, IsAsBefore, StillShows}
-use Rattle.desk_schema.proofs.Exports.{◌≡◌, refl, sym, ap, subst, ◌∙◌, Database, IsDatabase, State, Content, content_of, AreShown}
+use Rattle.table_schema.proofs.Exports.{◌≡◌, refl, sym, ap, subst, ◌∙◌, Database, IsDatabase, State, Content, content_of, AreShown}
 
 -- tables that are as they were show the same desk
 pub shows_now : (old new : State) (c : Content) → IsAsBefore old new → HasContent c old → HasContent c new

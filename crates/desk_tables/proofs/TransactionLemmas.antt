@@ -1,8 +1,8 @@
 -- What a transaction comes to: a question that is rolled back, and a change that is committed.
 use Rattle.desk_tables.proofs.Imports.{IsBlank, IsDeskOf, IsUnder, Builds, Says, ReadsSchema, IsLeft, IsDesk, HasContent, HasContentUnder, AreTablesOf, IsAsBefore, StillShows, AsksInside, IsAsked, IsChanged, IsDone, IsMade, IsCarried, AsksSchema, IsCommitFault, Ends}
-use Rattle.desk_schema.proofs.Exports.{◌≡◌, ◌≢◌, ℕ, ◌⊎◌, inl, inr, [], Result, Ok, Err, IfOk, IfErr, IsTrue, IsOk, None, false, true, true≢false, arith, refl, sym, ap, subst, ◌∙◌, ⊤, Database, IsDatabase, Held, state, Ghosts, State, Shows, KeepsCounts, HasCleanDisk, KeepsCommit, Survives, IsUnchanged, IsRolledBack, Error, survives_then, survives_weaker, StoreFault, Foreign, fault_of, commit_free, Content, no_content, content_of, AreShown, IsInside, seen, Goes, Acts, Serves, done, failed, acts_none}
+use Rattle.table_schema.proofs.Exports.{◌≡◌, ◌≢◌, ℕ, ◌⊎◌, inl, inr, [], Result, Ok, Err, IfOk, IfErr, IsTrue, IsOk, None, false, true, true≢false, arith, refl, sym, ap, subst, ◌∙◌, ⊤, Database, IsDatabase, Held, state, Ghosts, State, Shows, KeepsCounts, HasCleanDisk, KeepsCommit, Survives, IsUnchanged, IsRolledBack, Error, survives_then, survives_weaker, StoreFault, Foreign, fault_of, commit_free, Content, no_content, content_of, AreShown, IsInside, seen, Goes, Acts, Serves, done, failed, acts_none}
 use Rattle.sqlite.specs.Steps.{FailsToCommit}
-use Rattle.desk_migrations.specs.declared.number.SchemaRead.{SchemaRead}
+use Rattle.table_history.specs.declared.number.SchemaRead.{SchemaRead}
 use Rattle.desk_tables.proofs.StillLemmas.{shows_now, left_still}
 
 -- ---- a question in a transaction that is rolled back

@@ -5,13 +5,13 @@ use Rattle.sqlite.specs.State.{Survives}
 use Rattle.sqlite_trees.specs.declared.store.Store as store
 use Rattle.version_nodes.specs.declared.fault.BranchFault.{BranchFault}
 use Rattle.version_nodes.specs.Nodes.{Node}
-use Rattle.line_words.specs.Texts.{IfGiven}
+use Rattle.base_words.specs.Texts.{IfGiven}
 use Rattle.bug_record.specs.declared.command.Change.{Change}
 use Rattle.bug_record.specs.declared.outcome.Outcome.{Outcome}
-use Rattle.desk_lines.specs.declared.store_fault.StoreFault.{StoreFault}
-use Rattle.desk_content.specs.Changes.{FitsContent, changed}
-use Rattle.desk_content.specs.Keeping.{kept_after}
-use Rattle.desk_store.specs.Store.{Holds, Applies, Branches}
+use Rattle.base_faults.specs.declared.store_fault.StoreFault.{StoreFault}
+use Rattle.table_content.specs.Changes.{FitsContent, changed}
+use Rattle.table_content.specs.KeptOutcomes.{kept_after}
+use Rattle.store_contract.specs.Store.{Holds, Applies, Branches}
 use Rattle.desk_tables.specs.Desk.{state_of, content_shown, desk_of, keeping_of, HasHonestDisk, HasKeptTables, KeepsOf}
 use Rattle.desk_tables.specs.Shown.{AreTablesOf, AreTablesAfter}
 use Rattle.desk_tables.specs.declared.desk.TableDesk.{TableDesk}

@@ -6,14 +6,14 @@ use Rattle.sqlite_trees.specs.declared.store.Store as store
 use Rattle.bug_record.specs.Desk.{Desk}
 use Rattle.bug_record.specs.declared.command.Change.{Change}
 use Rattle.bug_record.specs.declared.outcome.Outcome.{Outcome}
-use Rattle.desk_lines.specs.declared.store_fault.StoreFault.{StoreFault}
-use Rattle.desk_lines.specs.declared.store_fault.StoreFault.TheVariants.{Foreign}
-use Rattle.desk_content.specs.Content.{Content}
-use Rattle.desk_content.specs.View.{desk_in, keeping_in}
-use Rattle.desk_store.specs.Crashes.{Holding}
-use Rattle.desk_store.specs.Kept.{Keeping}
-use Rattle.desk_store.specs.Store.{Asks, Answers, Faults, MayBeKept, Keeps}
-use Rattle.desk_reads.specs.Known.{known_set}
+use Rattle.base_faults.specs.declared.store_fault.StoreFault.{StoreFault}
+use Rattle.base_faults.specs.declared.store_fault.StoreFault.TheVariants.{Foreign}
+use Rattle.table_content.specs.Content.{Content}
+use Rattle.table_content.specs.View.{desk_in, keeping_in}
+use Rattle.store_contract.specs.Crashes.{Holding}
+use Rattle.store_contract.specs.Kept.{Keeping}
+use Rattle.store_contract.specs.Store.{Asks, Answers, Faults, MayBeKept, Keeps}
+use Rattle.table_reads.specs.Known.{known_set}
 use Rattle.desk_tables.specs.Kept.{content_seen, IsKept, Remembered}
 use Rattle.desk_tables.specs.Shown.{LeavesOf}
 use Rattle.desk_tables.specs.declared.desk.TableDesk.{TableDesk}

@@ -6,8 +6,8 @@ use Rattle.sqlite_disk.specs.declared.Files.{Files}
 use Rattle.sqlite_trees.specs.Tree.{Trees}
 use Rattle.sqlite_wal.specs.Files.{outcomes}
 use Rattle.sqlite_wal.specs.Recovery.{Image}
-use Rattle.desk_content.specs.Content.{Content}
-use Rattle.desk_content.specs.Kept.{IsKeptContent}
+use Rattle.table_content.specs.Content.{Content}
+use Rattle.table_content.specs.Kept.{IsKeptContent}
 use Rattle.desk_tables.specs.Shown.{HoldTables}
 
 -- the two files hold a desk with this content, which is kept, under some schema of a desk

@@ -5,13 +5,13 @@ use Rattle.sqlite_trees.specs.declared.store.Store as store
 use Rattle.version_nodes.specs.Trees.{Ancestry}
 use Rattle.bug_record.specs.Desk.{Desk}
 use Rattle.bug_record.specs.declared.bug.SetImage.{SetImage}
-use Rattle.bugs_in_memory.specs.Keys.{key_of}
-use Rattle.desk_content.specs.Content.{Content}
-use Rattle.desk_content.specs.Kept.{IsKeptContent}
-use Rattle.desk_content.specs.View.{desk_in, image, keeping_in}
-use Rattle.desk_schema.specs.Steps.{seen}
-use Rattle.desk_store.specs.Kept.{Keeping}
-use Rattle.desk_writes.specs.Needs.{IsPlaceIn}
+use Rattle.store_keys.specs.Keys.{key_of}
+use Rattle.table_content.specs.Content.{Content}
+use Rattle.table_content.specs.Kept.{IsKeptContent}
+use Rattle.table_content.specs.View.{desk_in, image, keeping_in}
+use Rattle.table_schema.specs.Steps.{seen}
+use Rattle.store_contract.specs.Kept.{Keeping}
+use Rattle.table_writes.specs.Needs.{IsPlaceIn}
 use Rattle.desk_tables.specs.Shown.{HasContent}
 
 -- a connection between two calls: in no transaction, and its statements have no limit of steps

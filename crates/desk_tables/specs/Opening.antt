@@ -2,11 +2,11 @@
 use Rattle.std.specs.Prelude.{◌≡◌, ◌≢◌, ◌<◌, ◌≤◌, ℕ, false, None, IsTrue}
 use Rattle.sqlite.specs.Effect.{Database}
 use Rattle.sqlite.specs.State.{State, HasCleanDisk}
-use Rattle.desk_lines.specs.declared.store_fault.StoreFault.{StoreFault}
-use Rattle.desk_lines.specs.declared.store_fault.StoreFault.TheVariants.{Foreign}
-use Rattle.desk_content.specs.Content.{Content}
-use Rattle.desk_migrations.specs.Number.{SaysSchema, SaysNone}
-use Rattle.desk_migrations.specs.declared.history.TheConstants.{NEWEST}
+use Rattle.base_faults.specs.declared.store_fault.StoreFault.{StoreFault}
+use Rattle.base_faults.specs.declared.store_fault.StoreFault.TheVariants.{Foreign}
+use Rattle.table_content.specs.Content.{Content}
+use Rattle.table_history.specs.Number.{SaysSchema, SaysNone}
+use Rattle.table_history.specs.declared.history.TheConstants.{NEWEST}
 use Rattle.desk_tables.specs.Shown.{HasContent}
 use Rattle.desk_tables.specs.declared.open_fault.OpenFault.{OpenFault}
 use Rattle.desk_tables.specs.declared.open_fault.OpenFault.TheVariants.{NotADesk, NewerSchema, Store, NotEmpty}

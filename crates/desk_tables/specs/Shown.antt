@@ -6,16 +6,16 @@ use Rattle.sqlite.specs.Tree.{Trees}
 use Rattle.version_nodes.specs.Branches.{branched}
 use Rattle.version_nodes.specs.Nodes.{Node}
 use Rattle.version_nodes.specs.Trees.{Ancestry, IsForest}
-use Rattle.desk_content.specs.Branches.{with_nodes}
-use Rattle.desk_content.specs.Content.{Content}
-use Rattle.desk_content.specs.Kept.{IsKeptContent}
-use Rattle.desk_content.specs.View.{desk_in, keeping_in}
-use Rattle.desk_migrations.specs.History.{schema_at}
-use Rattle.desk_migrations.specs.Making.{AreUnder}
-use Rattle.desk_schema.specs.Tables.{desk_schema}
-use Rattle.desk_schema.specs.Rows.{content_of, AreShown}
-use Rattle.desk_schema.specs.Steps.{seen}
-use Rattle.desk_store.specs.Crashes.{Holding}
+use Rattle.table_content.specs.Branches.{with_nodes}
+use Rattle.table_content.specs.Content.{Content}
+use Rattle.table_content.specs.Kept.{IsKeptContent}
+use Rattle.table_content.specs.View.{desk_in, keeping_in}
+use Rattle.table_history.specs.History.{schema_at}
+use Rattle.table_history.specs.Making.{AreUnder}
+use Rattle.table_schema.specs.Tables.{desk_schema}
+use Rattle.table_schema.specs.Rows.{content_of, AreShown}
+use Rattle.table_schema.specs.Steps.{seen}
+use Rattle.store_contract.specs.Crashes.{Holding}
 
 -- the tables of a desk, as the last commit left them
 pub record IsDesk (s : State) : Type 0 where

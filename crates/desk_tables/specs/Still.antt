@@ -8,7 +8,7 @@ use Rattle.sqlite.specs.Effect.{Database}
 use Rattle.sqlite.specs.State.{State, HasCleanDisk}
 use Rattle.sqlite_schema.specs.contracts.schema.Schema.{the_row}
 use Rattle.sqlite_trees.specs.Props.{Trees-set}
-use Rattle.desk_content.specs.Content.{Content}
+use Rattle.table_content.specs.Content.{Content}
 use Rattle.desk_tables.specs.Shown.{HasContent}
 
 -- as far as the disk is honest and the connection serves, its tables are as they were

@@ -3,23 +3,23 @@ use Rattle.std.specs.Prelude.{◌≡◌, ◌≢◌, ◌⊎◌, ◌↔◌, ◌<�
 use Rattle.sqlite.specs.State.{State, HasCleanDisk, KeepsCommit, Survives, IsRolledBack, HasCause, store_error}
 use Rattle.sqlite_trees.specs.View.{Tells}
 use Rattle.sqlite_trees.specs.declared.error.StoreError.{StoreError}
-use Rattle.sql_forms.specs.Faults.{fault_of}
-use Rattle.desk_lines.specs.declared.store_fault.StoreFault.{StoreFault}
-use Rattle.desk_lines.specs.declared.store_fault.StoreFault.TheVariants.{Foreign}
+use Rattle.table_forms.specs.Faults.{fault_of}
+use Rattle.base_faults.specs.declared.store_fault.StoreFault.{StoreFault}
+use Rattle.base_faults.specs.declared.store_fault.StoreFault.TheVariants.{Foreign}
 use Rattle.version_nodes.specs.Branches.{IsBranched}
 use Rattle.version_nodes.specs.Nodes.{Node}
 use Rattle.version_nodes.specs.Trees.{Ancestry}
 use Rattle.version_nodes.specs.declared.fault.BranchFault.{BranchFault}
-use Rattle.desk_content.specs.Branches.{with_nodes}
-use Rattle.desk_content.specs.Content.{Content, no_content}
-use Rattle.desk_content.specs.Kept.{IsKeptContent}
-use Rattle.desk_schema.specs.Steps.{IsInside, seen}
-use Rattle.desk_store.specs.Store.{IsRefusal}
-use Rattle.desk_migrations.specs.Names.{no_tables, has_desk_table}
-use Rattle.desk_migrations.specs.Number.{Says, SaysSchema}
-use Rattle.desk_migrations.specs.declared.history.TheConstants.{NEWEST}
-use Rattle.desk_migrations.specs.declared.number.SchemaRead.{SchemaRead}
-use Rattle.desk_migrations.specs.declared.number.SchemaRead.TheVariants.{Number}
+use Rattle.table_content.specs.Branches.{with_nodes}
+use Rattle.table_content.specs.Content.{Content, no_content}
+use Rattle.table_content.specs.Kept.{IsKeptContent}
+use Rattle.table_schema.specs.Steps.{IsInside, seen}
+use Rattle.store_contract.specs.Store.{IsRefusal}
+use Rattle.table_history.specs.Names.{no_tables, has_desk_table}
+use Rattle.table_history.specs.Number.{Says, SaysSchema}
+use Rattle.table_history.specs.declared.history.TheConstants.{NEWEST}
+use Rattle.table_history.specs.declared.number.SchemaRead.{SchemaRead}
+use Rattle.table_history.specs.declared.number.SchemaRead.TheVariants.{Number}
 use Rattle.desk_tables.specs.Opening.{IsLeft, IsStoreFailure, IsReason, SaysEarlier, SaysDesk}
 use Rattle.desk_tables.specs.Shown.{IsDesk, HasContent, HasContentUnder, HoldsContent, AreTablesOf, AreTablesAfter}
 use Rattle.desk_tables.specs.Still.{IsAsBefore, StillShows}

@@ -4,9 +4,9 @@
 
 ghost use Rattle.std.specs.Prelude.{◌≡◌, IfOk, is_some, true};
 ghost use Rattle.std.specs.Option.{option_copied};
-ghost use Rattle.line_words.specs.Texts.{IsText};
-ghost use Rattle.desk_store.specs.Store.{IsRefusal};
-ghost use Rattle.desk_writes.specs.Needs.{HasTree, HasTreeIfAny, IsKnownIn, IsNextPlace};
+ghost use Rattle.base_words.specs.Texts.{IsText};
+ghost use Rattle.store_contract.specs.Store.{IsRefusal};
+ghost use Rattle.table_writes.specs.Needs.{HasTree, HasTreeIfAny, IsKnownIn, IsNextPlace};
 ghost use Rattle.desk_tables.specs.Changing.{FitsTables, FitsTablesIfAny, MakesChange, TakesBranch, KeepsLine};
 ghost use Rattle.desk_tables.specs.Changing.{LeavesMessages, ServesAfter, ServesAfterBranch};
 ghost use Rattle.desk_tables.specs.Changing.{SurvivesChange, SurvivesBranch, SurvivesLine};
@@ -14,8 +14,8 @@ ghost use Rattle.desk_tables.specs.Desk.{content_shown, faults_of, HasHonestDisk
 
 use crate::calls::{change_sets, keep_line, take_nodes};
 use crate::desk::TableDesk;
+use base_faults::StoreFault;
 use bug_record::{Change, Outcome, SetImage};
-use desk_lines::StoreFault;
 use sqlite::Alter;
 use std::snapshot::Snapshot;
 use version_nodes::{BranchFault, Node};

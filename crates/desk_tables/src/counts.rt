@@ -1,9 +1,9 @@
 //! How often a store has failed.
 
 ghost use Rattle.std.specs.Prelude.{◌≡◌};
-ghost use Rattle.desk_store.specs.Store.{faults_after, no_faults, total};
+ghost use Rattle.store_contract.specs.Store.{faults_after, no_faults, total};
 
-use desk_lines::StoreFault;
+use base_faults::StoreFault;
 use std::marker::Model;
 
 /// How often a store has answered each kind of fault, up to `u64::MAX`; out of memory is not
@@ -16,7 +16,7 @@ pub(crate) struct Counts {
 }
 
 impl Model for Counts {
-    ghost use Rattle.desk_store.specs.Store.{Faults};
+    ghost use Rattle.store_contract.specs.Store.{Faults};
 
     ghost Value = { Faults };
 

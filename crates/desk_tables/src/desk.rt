@@ -2,18 +2,18 @@
 
 ghost use Rattle.std.specs.Prelude.{◌≡◌, ℕ, None};
 ghost use Rattle.sqlite.specs.Held.{state};
-ghost use Rattle.desk_store.specs.Store.{no_faults};
-ghost use Rattle.desk_reads.specs.Known.{known_set};
+ghost use Rattle.store_contract.specs.Store.{no_faults};
+ghost use Rattle.table_reads.specs.Known.{known_set};
 ghost use Rattle.desk_tables.specs.Kept.{IsIdle};
 ghost use Rattle.desk_tables.specs.Still.{StillShows, StillShows-prop};
 
 use crate::counts::Counts;
-use desk_reads::KnownSets;
-use desk_writes::KnownPlace;
-use nearest_marks::Family;
 use sqlite::{Alter, Connection};
 use std::alloc::Global;
 use std::snapshot::Snapshot;
+use table_reads::KnownSets;
+use table_writes::KnownPlace;
+use version_marks::Family;
 
 /// A desk in the tables of a connection.
 ///

@@ -1,8 +1,7 @@
-//! A desk that is kept in tables.
-//!
-//! `TableDesk` is created, opened and closed, and is a `Records` of `desk_store`.
+//! A desk that is kept in tables: `TableDesk`, created, opened and closed, and a store.
 #![tactic(auto)]
 
+mod asking;
 mod calls;
 mod changing;
 mod counts;
@@ -10,7 +9,6 @@ mod desk;
 mod loading;
 mod open_fault;
 mod opening;
-mod question;
 mod questions;
 mod records;
 mod remembering;

@@ -4,20 +4,20 @@ ghost use Rattle.std.specs.Prelude.{◌≡◌, OnOk, IfOk, is_some, true};
 ghost use Rattle.std.specs.Option.{option_copied};
 ghost use Rattle.sqlite.specs.State.{Survives};
 ghost use Rattle.bug_record.specs.Images.{HasMember, IsSetOf};
-ghost use Rattle.desk_content.specs.Changes.{all_stay};
-ghost use Rattle.desk_store.specs.Store.{Asks, IsOpenHead};
-ghost use Rattle.desk_writes.specs.Needs.{HasTreeIfAny};
+ghost use Rattle.table_content.specs.Changes.{all_stay};
+ghost use Rattle.store_contract.specs.Store.{Asks, IsOpenHead};
+ghost use Rattle.table_writes.specs.Needs.{HasTreeIfAny};
 ghost use Rattle.desk_tables.specs.Desk.{state_of, content_shown, desk_of, faults_of};
 ghost use Rattle.desk_tables.specs.Desk.{HasHonestDisk, HasKeptTables, LeavesTables, IsAnswered, NeverForeign};
 
+use crate::asking::Question;
 use crate::calls::ask_within;
 use crate::desk::TableDesk;
-use crate::question::Question;
 use crate::questions::{MarksStay, OpenHead, Tree};
+use base_faults::StoreFault;
 use bug_record::{Change, SetImage};
-use desk_lines::StoreFault;
-use desk_writes::known_marks_stay;
 use sqlite::Alter;
+use table_writes::known_marks_stay;
 use version_nodes::Node;
 
 impl<S: Alter> TableDesk<S> {

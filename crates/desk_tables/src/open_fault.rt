@@ -1,6 +1,6 @@
 //! Why no desk is created or opened.
 
-use desk_lines::StoreFault;
+use base_faults::StoreFault;
 use thiserror::Error;
 
 /// Why no desk is created in a database, or opened.

@@ -4,14 +4,14 @@ ghost use Rattle.std.specs.Prelude.{◌≡◌, ◌≢◌, ◌↔◌, ◌<◌, �
 ghost use Rattle.std.specs.Prelude.{IfOk, IfErr, IsErrAnd, IsTrue, MatchResult};
 ghost use Rattle.sqlite.specs.Held.{state};
 ghost use Rattle.sqlite.specs.State.{HasCleanDisk, Survives};
-ghost use Rattle.line_words.specs.declared.named.TheConstants.{LARGEST_NUMBER};
-ghost use Rattle.desk_lines.specs.declared.store_fault.StoreFault.TheVariants.{Foreign};
-ghost use Rattle.bugs_in_memory.specs.Plain.{empty_desk};
-ghost use Rattle.desk_content.specs.Content.{Content, no_content};
-ghost use Rattle.desk_content.specs.Kept.{IsKeptContent};
-ghost use Rattle.desk_migrations.specs.Names.{no_tables, has_desk_table};
-ghost use Rattle.desk_store.specs.Kept.{none_kept};
-ghost use Rattle.desk_store.specs.Store.{no_faults};
+ghost use Rattle.base_words.specs.declared.named.TheConstants.{LARGEST_NUMBER};
+ghost use Rattle.base_faults.specs.declared.store_fault.StoreFault.TheVariants.{Foreign};
+ghost use Rattle.store_keys.specs.Keys.{empty_desk};
+ghost use Rattle.table_content.specs.Content.{Content, no_content};
+ghost use Rattle.table_content.specs.Kept.{IsKeptContent};
+ghost use Rattle.table_history.specs.Names.{no_tables, has_desk_table};
+ghost use Rattle.store_contract.specs.Kept.{none_kept};
+ghost use Rattle.store_contract.specs.Store.{no_faults};
 ghost use Rattle.desk_tables.specs.Desk.{connection_of, state_of, content_shown, desk_of};
 ghost use Rattle.desk_tables.specs.Desk.{keeping_of, faults_of, HasHonestDisk, HasKeptTables};
 ghost use Rattle.desk_tables.specs.Kept.{IsIdle};
@@ -24,11 +24,11 @@ ghost use Rattle.desk_tables.specs.declared.open_fault.OpenFault.TheVariants as 
 use crate::calls::{ask_schema, carry_desk, make_desk};
 use crate::desk::TableDesk;
 use crate::open_fault::OpenFault;
-use desk_lines::StoreFault;
-use desk_migrations::{NEWEST, SchemaRead, is_blank, names_a_desk_table};
+use base_faults::StoreFault;
 use sqlite::{Alter, Connection};
 use std::alloc::Global;
 use std::snapshot::Snapshot;
+use table_history::{NEWEST, SchemaRead, is_blank, names_a_desk_table};
 
 // Makes the tables of a new desk, unless there are tables.
 fn create_tables<S: Alter>(conn: &mut Connection<S>, first: u32) -> Result<(), OpenFault>

@@ -1,24 +1,24 @@
 //! The questions of what the tables of a desk say.
 
 ghost use Rattle.std.specs.Prelude.{◌≡◌};
-ghost use Rattle.desk_content.specs.Changes.{all_stay};
-ghost use Rattle.desk_content.specs.Kept.{IsKeptContent};
-ghost use Rattle.desk_content.specs.View.{desk_in, keeping_in};
-ghost use Rattle.desk_reads.specs.Asked.{IsAskedFor};
-ghost use Rattle.desk_reads.specs.FoundSets.{IsSetFound};
-ghost use Rattle.desk_store.specs.Store.{IsNext, AreWaitingOn, AreListed, IsOpenHead};
-ghost use Rattle.desk_writes.specs.Needs.{IsNextPlace};
+ghost use Rattle.table_content.specs.Changes.{all_stay};
+ghost use Rattle.table_content.specs.Kept.{IsKeptContent};
+ghost use Rattle.table_content.specs.View.{desk_in, keeping_in};
+ghost use Rattle.table_reads.specs.Asked.{IsAskedFor};
+ghost use Rattle.table_reads.specs.FoundSets.{IsSetFound};
+ghost use Rattle.store_contract.specs.Store.{IsNext, AreWaitingOn, AreListed, IsOpenHead};
+ghost use Rattle.table_writes.specs.Needs.{IsNextPlace};
 
-use crate::question::Question;
+use crate::asking::Question;
+use base_faults::StoreFault;
 use bug_record::{Change, ListRow, Numbers, Sequence, SetImage};
-use desk_lines::StoreFault;
-use desk_reads::{FoundSet, read_listed, read_open_head, read_set_of, read_waiting_on};
-use desk_rows::{read_family, read_next, read_next_place};
-use desk_store::Kept;
-use desk_writes::{read_kept, read_marks_stay};
-use nearest_marks::Family;
 use sqlite::{Alter, Transaction};
 use std::alloc::Global;
+use store_contract::Kept;
+use table_nodes::{read_family, read_next, read_next_place};
+use table_reads::{FoundSet, read_listed, read_open_head, read_set_of, read_waiting_on};
+use table_writes::{read_kept, read_marks_stay};
+use version_marks::Family;
 use version_nodes::Node;
 
 /// The set that the bug is in, if there is such a bug; none has a number that is no

@@ -7,14 +7,14 @@ ghost use Rattle.std.specs.Option.{option_copied};
 ghost use Rattle.sqlite.specs.State.{Survives};
 ghost use Rattle.bug_record.specs.Images.{AreApart, HasMember, IsSetOf, FitsDesk};
 ghost use Rattle.bug_record.specs.Sets.{Each};
-ghost use Rattle.line_words.specs.Texts.{IsText, IfGiven};
-ghost use Rattle.desk_content.specs.Changes.{changed};
-ghost use Rattle.desk_content.specs.Keeping.{kept_after};
-ghost use Rattle.desk_store.specs.Store.{Holds, Since, Applies, Branches, IsRefusal};
-ghost use Rattle.desk_store.specs.Store.{IsImageOf, IsNext, IsOpenHead, AreWaitingOn, AreListed};
-ghost use Rattle.desk_store.specs.Store.{faults_after, total};
-ghost use Rattle.desk_store.proofs.CrashLemmas.{or_other};
-ghost use Rattle.line_words.specs.Ids.{IsId};
+ghost use Rattle.base_words.specs.Texts.{IsText, IfGiven};
+ghost use Rattle.table_content.specs.Changes.{changed};
+ghost use Rattle.table_content.specs.KeptOutcomes.{kept_after};
+ghost use Rattle.store_contract.specs.Store.{Holds, Since, Applies, Branches, IsRefusal};
+ghost use Rattle.store_contract.specs.Store.{IsImageOf, IsNext, IsOpenHead, AreWaitingOn, AreListed};
+ghost use Rattle.store_contract.specs.Store.{faults_after, total};
+ghost use Rattle.store_contract.proofs.CrashLemmas.{or_other};
+ghost use Rattle.base_words.specs.Ids.{IsId};
 ghost use Rattle.desk_tables.specs.Desk.{state_of, content_shown, desk_of, keeping_of, faults_of};
 ghost use Rattle.desk_tables.specs.Desk.{HasHonestDisk, HasKeptTables, LeavesTables, IsAnswered, NeverForeign};
 ghost use Rattle.desk_tables.specs.Desk.{MayKeep, KeepsOf};
@@ -23,10 +23,10 @@ ghost use Rattle.desk_tables.specs.declared.desk.TableDesk.{TableDesk as SeenDes
 
 use crate::desk::TableDesk;
 use crate::questions::{KeptOf, Listed, Next, WaitingOn};
+use base_faults::StoreFault;
 use bug_record::{Change, ListRow, Numbers, Outcome, Sequence, SetImage};
-use desk_lines::StoreFault;
-use desk_store::{Kept, Records};
 use sqlite::Alter;
+use store_contract::{Kept, Records};
 use version_nodes::{BranchFault, Node};
 
 impl<S: Alter> Records for TableDesk<S> {

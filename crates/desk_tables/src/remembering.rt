@@ -2,14 +2,14 @@
 
 ghost use Rattle.std.specs.Prelude.{◌≡◌};
 ghost use Rattle.sqlite.specs.State.{Survives};
-ghost use Rattle.desk_store.specs.Store.{IsImageOf};
-ghost use Rattle.desk_writes.specs.Needs.{IsNextPlace};
+ghost use Rattle.store_contract.specs.Store.{IsImageOf};
+ghost use Rattle.table_writes.specs.Needs.{IsNextPlace};
 ghost use Rattle.desk_tables.specs.Desk.{state_of, content_shown, desk_of, faults_of, IsAnswered, NeverForeign};
 
 use crate::desk::TableDesk;
 use crate::questions::{NextPlace, SetOf};
+use base_faults::StoreFault;
 use bug_record::SetImage;
-use desk_lines::StoreFault;
 use sqlite::Alter;
 
 impl<S: Alter> TableDesk<S> {

@@ -7,7 +7,7 @@ use Rattle.version_nodes.specs.declared.fault.BranchFault.TheVariants.{EmptyBran
 use Rattle.desk_text.specs.Texts.{as_line, full_text, fault_text}
 use Rattle.desk_text.specs.declared.report_fault.ReportFault.{ReportFault}
 use Rattle.desk_text.specs.declared.report_fault.ReportFault.TheVariants.{BadPackage, BadVersion, BadSeverity, BadTitle, Full, Store}
-use Rattle.desk_lines.specs.declared.store_fault.StoreFault.{StoreFault}
+use Rattle.base_faults.specs.declared.store_fault.StoreFault.{StoreFault}
 
 -- the line of a refusal
 abbrev pub refused_line : List ℕ → List ℕ

@@ -9,12 +9,12 @@ use Rattle.bug_record.specs.declared.command.Refusal.TheVariants.{Unknown, Malfo
 use Rattle.bug_record.specs.declared.command.Refusal.TheVariants.{BadPackage, NoName, NoBug, Archived, NotArchived, Differ}
 use Rattle.bug_record.specs.declared.command.Refusal.TheVariants.{NotMerged, Merged, NameTaken, OwnSet, NotDone, StillFound, Full}
 use Rattle.version_nodes.specs.Nodes.{Node, node_text}
-use Rattle.desk_lines.specs.declared.store_fault.StoreFault.{StoreFault}
-use Rattle.desk_lines.specs.Faults.{fault_word}
+use Rattle.base_faults.specs.declared.store_fault.StoreFault.{StoreFault}
+use Rattle.base_faults.specs.Faults.{fault_word}
 use Rattle.bug_record.specs.declared.outcome.Outcome.{Outcome}
 use Rattle.bug_record.specs.declared.outcome.Outcome.TheVariants as outcomes
-use Rattle.desk_lines.specs.declared.store_fault.End.{End}
-use Rattle.desk_lines.specs.declared.store_fault.End.TheVariants as ends
+use Rattle.base_faults.specs.declared.store_fault.End.{End}
+use Rattle.base_faults.specs.declared.store_fault.End.TheVariants as ends
 
 -- a line of a transcript ends with one line feed
 abbrev pub as_line : List ℕ → List ℕ

@@ -7,7 +7,7 @@ ghost use Rattle.desk_text.specs.Answers.{no_bug_answer, bad_directive_answer, r
 
 use crate::report_fault::ReportFault;
 use crate::texts::{append_between, append_three, fault_text, full_text};
-use desk_lines::StoreFault;
+use base_faults::StoreFault;
 use itoa::Buffer;
 use std::alloc::{AllocError, Global};
 use version_nodes::BranchFault;

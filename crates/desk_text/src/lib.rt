@@ -11,8 +11,8 @@ pub use answers::{
     bad_directive_answer, bad_package_answer, bad_version_answer, branch_answer, fault_answer,
     no_bug_answer, nodes_refusal, report_answer, report_refusal,
 };
+pub use base_faults::{End, StoreFault};
 pub use bug_record::{ListRow, Outcome};
-pub use desk_lines::{End, StoreFault};
 pub use lists::list_text;
 pub use pages::{BugPage, bug_text};
 pub use report_fault::ReportFault;

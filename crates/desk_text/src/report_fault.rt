@@ -2,7 +2,7 @@
 
 ghost use Rattle.std.specs.Prelude.{◌≡◌};
 
-use desk_lines::StoreFault;
+use base_faults::StoreFault;
 use thiserror::Error;
 
 /// Why a report is not taken, in the order in which the causes are tested; a store fault at which

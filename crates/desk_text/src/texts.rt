@@ -7,8 +7,8 @@ ghost use Rattle.desk_text.specs.Texts.{full_text, said_of_bug, still_found_text
 ghost use Rattle.desk_text.specs.Texts.{as_line, echo, field_word, refusal_text, numbers_text, changed_text, answer_text};
 ghost use Rattle.desk_text.specs.Texts.{fault_text, outcome_text, store_end_text, end_text};
 
+use base_faults::{End, StoreFault};
 use bug_record::{Field, Outcome, Refusal};
-use desk_lines::{End, StoreFault};
 use itoa::{Buffer, write_digits};
 use std::alloc::{AllocError, Global};
 use version_nodes::Node;

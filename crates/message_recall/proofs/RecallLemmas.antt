@@ -11,18 +11,18 @@ use Rattle.std.proofs.lemmas.Option.{slice_get_within, same_Some}
 use Rattle.bug_record.specs.Clones.{name_refusal}
 use Rattle.bug_record.specs.Words.{Names}
 use Rattle.bug_record.specs.declared.command.Refusal.{Refusal}
-use Rattle.command_grammar.specs.Lines.{reading}
-use Rattle.command_grammar.specs.declared.line.Line.{Line}
-use Rattle.command_grammar.specs.declared.line.Line.TheVariants.{Blank, Comment, Stop, Do}
+use Rattle.control_grammar.specs.Lines.{reading}
+use Rattle.control_grammar.specs.declared.line.Line.{Line}
+use Rattle.control_grammar.specs.declared.line.Line.TheVariants.{Blank, Comment, Stop, Do}
 use Rattle.bug_record.specs.declared.outcome.Outcome.{Outcome}
 use Rattle.bug_record.specs.declared.outcome.Outcome.TheVariants.{Changed, Refused, Stopped}
-use Rattle.desk_lines.specs.declared.store_fault.End.{End}
-use Rattle.desk_lines.specs.declared.store_fault.End.TheVariants as ends
-use Rattle.desk_store.specs.Message.{Entry, is_stop, is_unreadable, unreadable_count, end_of, names_of, names_with, names_given, known_names}
-use Rattle.desk_store.specs.Kept.{has_outcome, reads_as_command, lines_told, told, names_by, new_names, GiveNames}
-use Rattle.desk_store.proofs.EndLemmas.{stops, open_tests, end_is}
-use Rattle.desk_store.specs.Progress.{goes_on, IsInStep, IsReady}
-use Rattle.desk_store.proofs.GivenLemmas.{known-push}
+use Rattle.base_faults.specs.declared.store_fault.End.{End}
+use Rattle.base_faults.specs.declared.store_fault.End.TheVariants as ends
+use Rattle.store_contract.specs.Message.{Entry, is_stop, is_unreadable, unreadable_count, end_of, names_of, names_with, names_given, known_names}
+use Rattle.store_contract.specs.Kept.{has_outcome, reads_as_command, lines_told, told, names_by, new_names, GiveNames}
+use Rattle.store_contract.proofs.EndLemmas.{stops, open_tests, end_is}
+use Rattle.store_contract.specs.Progress.{goes_on, IsInStep, IsReady}
+use Rattle.store_contract.proofs.GivenLemmas.{known-push}
 use Rattle.message_recall.specs.NamesRead.{names_read, names_accepted}
 use Rattle.message_recall.specs.Recalling.{AreOfLines, IsTaken}
 use Rattle.message_recall.proofs.ToldLemmas.{zip-append, zip-take, zip-push, zip-length, line-told, line-untold, one_told, lines-split, lines-more, told-more}

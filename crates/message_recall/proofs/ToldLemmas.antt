@@ -6,7 +6,7 @@ use Rattle.std.proofs.lemmas.List.{append-nil, take_more, take-append-drop}
 use Rattle.std.proofs.lemmas.List.Elements.{filter-append}
 use Rattle.std.proofs.lemmas.Option.{same_Some}
 use Rattle.bug_record.specs.declared.outcome.Outcome.{Outcome}
-use Rattle.desk_store.specs.Kept.{has_outcome, lines_told, told}
+use Rattle.store_contract.specs.Kept.{has_outcome, lines_told, told}
 
 -- ---- zips
 

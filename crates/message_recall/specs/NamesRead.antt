@@ -2,8 +2,8 @@
 use Rattle.std.specs.Prelude.{ℕ, List, [], Option, Some, None, Result, Ok, Err}
 use Rattle.bug_record.specs.Commands.{names_in}
 use Rattle.bug_record.specs.declared.command.Refusal.{Refusal}
-use Rattle.command_grammar.specs.declared.line.Line.{Line}
-use Rattle.command_grammar.specs.declared.line.Line.TheVariants.{Blank, Comment, Stop, Do}
+use Rattle.control_grammar.specs.declared.line.Line.{Line}
+use Rattle.control_grammar.specs.declared.line.Line.TheVariants.{Blank, Comment, Stop, Do}
 use Rattle.bug_record.specs.declared.outcome.Outcome.{Outcome}
 use Rattle.bug_record.specs.declared.outcome.Outcome.TheVariants.{Changed}
 

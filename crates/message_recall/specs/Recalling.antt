@@ -1,9 +1,9 @@
 -- What is recalled of kept outcomes.
 use Rattle.std.specs.Prelude.{ℕ, ◌≡◌, ◌≤◌, ◌-◌, List, [], length, take}
 use Rattle.bug_record.specs.declared.outcome.Outcome.{Outcome}
-use Rattle.desk_lines.specs.declared.store_fault.End.TheVariants as ends
-use Rattle.desk_store.specs.Message.{end_of}
-use Rattle.desk_store.specs.Kept.{lines_told, told, GiveNames}
+use Rattle.base_faults.specs.declared.store_fault.End.TheVariants as ends
+use Rattle.store_contract.specs.Message.{end_of}
+use Rattle.store_contract.specs.Kept.{lines_told, told, GiveNames}
 
 -- these outcomes can be those of the first lines: there are no more than lines that have one, none
 -- stands after one that ends the message, and names are given once

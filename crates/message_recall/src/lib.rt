@@ -1,5 +1,5 @@
-//! What is kept of a message that has an id, recalled: what had come of it, and at which of its
-//! lines it goes on.
+//! What is kept of a message that has an id, recalled: at which line it goes on.
+//! It is apart from `message_receiving` so that both are proved sooner.
 #![tactic(auto)]
 
 mod recalling;

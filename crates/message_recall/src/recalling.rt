@@ -2,20 +2,20 @@
 
 ghost use Rattle.std.specs.Prelude.{◌≡◌, ◌≤◌, ◌++◌, ◌∷◌, ◌<◌, [], vec_len, vec_capacity, true, None, IfOk, OnOk, OnErr, Result};
 ghost use Rattle.bug_record.specs.Clones.{name_refusal};
-ghost use Rattle.command_grammar.specs.Lines.{reading};
-ghost use Rattle.desk_store.specs.Message.{end_of, unreadable_count, known_names, names_of};
-ghost use Rattle.desk_store.specs.Kept.{has_outcome, told, new_names};
-ghost use Rattle.desk_store.specs.Progress.{IsInStep};
+ghost use Rattle.control_grammar.specs.Lines.{reading};
+ghost use Rattle.store_contract.specs.Message.{end_of, unreadable_count, known_names, names_of};
+ghost use Rattle.store_contract.specs.Kept.{has_outcome, told, new_names};
+ghost use Rattle.store_contract.specs.Progress.{IsInStep};
 ghost use Rattle.message_recall.specs.NamesRead.{names_read, names_accepted};
 ghost use Rattle.message_recall.specs.Recalling.{AreOfLines, IsTaken};
 
+use base_faults::End;
 use bug_record::{Outcome, Sequence};
-use command_grammar::Line;
-use command_parser::{LineFault, read_line};
+use control_grammar::Line;
+use control_parser::{LineFault, read_line};
 use debver::Text;
-use desk_lines::End;
-use desk_store::{KnownNames, Progress, copy_outcome, goes_on, into_names, make_room, settle};
 use std::alloc::{AllocError, Global};
+use store_contract::{KnownNames, Progress, copy_outcome, goes_on, into_names, make_room, settle};
 use thiserror::Error;
 
 /// What kept outcomes come to: what has come of the message so far, how many of its lines that is,

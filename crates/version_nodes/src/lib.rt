@@ -1,5 +1,5 @@
-//! Nodes (versions of source packages), as they are read, kept and ordered; and the definitions
-//! (`specs/`) of the tree that says which is based on which, of branches, and of the status of a
+//! Nodes, which are versions of source packages: read, kept and ordered.
+//! The definitions (`specs/`) say which is based on which, what a branch does, and the status of a
 //! bug at a node.
 #![tactic(auto)]
 

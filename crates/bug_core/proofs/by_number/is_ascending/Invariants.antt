@@ -1,6 +1,6 @@
 use Rattle.std.proofs.Common.{◌≡◌, None, drop}
 use Rattle.bug_record.specs.Images.{numbers_of}
-use Rattle.set_images.specs.Kept.{ascends}
+use Rattle.bug_images.specs.Kept.{ascends}
 use Rattle.bug_core.proofs.by_number.is_ascending.Given as goal
 
 abbrev pub invariant-loop-member : goal.invariant-loop-member

@@ -2,7 +2,7 @@ use Rattle.std.proofs.Common.{◌≡◌, ◌∷◌, [], true, None, sym, ap, ◌
 use Rattle.std.proofs.lemmas.Result.{IfOk-weaker}
 use Rattle.bug_record.specs.Images.{numbers_of}
 use Rattle.bug_record.specs.Sets.{with_items}
-use Rattle.set_images.specs.Kept.{ascends}
+use Rattle.bug_images.specs.Kept.{ascends}
 use Rattle.bug_core.specs.Joins.{with_members, number_of}
 use Rattle.bug_core.specs.Named.{named_numbers}
 use Rattle.bug_core.specs.Others.{those_meant}

@@ -4,11 +4,11 @@ use Rattle.bug_record.specs.Commands.{bug_named, bugs_named}
 use Rattle.bug_record.specs.Steps.{shared_after}
 use Rattle.bug_record.specs.declared.bug.Shared.{Shared}
 use Rattle.std.specs.Prelude.{map}
-use Rattle.record_changes.specs.Members.{member_after}
+use Rattle.bug_fields.specs.Members.{member_after}
 use Rattle.bug_record.specs.declared.command.Refusal.TheVariants.{NoBug}
 use Rattle.std.proofs.lemmas.Str.{is_utf8-from_IsUtf8}
 use Rattle.bug_core.specs.Others.{others}
-use Rattle.record_changes.proofs.MemberLemmas.{members-unchanged}
+use Rattle.bug_fields.proofs.MemberLemmas.{members-unchanged}
 use Rattle.bug_core.proofs.PlanLemmas.{begins-alike, records_step, planned-records, planned-memory, planned-nameless}
 use Rattle.bug_core.proofs.plans.change_records.Goals as goal
 

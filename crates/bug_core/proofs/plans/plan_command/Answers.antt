@@ -8,8 +8,8 @@ use Rattle.bug_record.specs.Clones.{cloned}
 use Rattle.std.specs.Option.{option_copied}
 use Rattle.bug_record.specs.declared.command.Command.{Command}
 use Rattle.bug_core.specs.Planned.{step_with, IsPlanned, IsPlannedOf}
-use Rattle.record_changes.specs.Members.{leaves_members}
-use Rattle.record_changes.proofs.MemberLemmas.{leaves-changes}
+use Rattle.bug_fields.specs.Members.{leaves_members}
+use Rattle.bug_fields.proofs.MemberLemmas.{leaves-changes}
 use Rattle.bug_core.proofs.StepLemmas.{planned-merge, planned-forcemerge, planned-others}
 use Rattle.bug_core.proofs.plans.plan_command.Goals as goal
 

@@ -7,8 +7,8 @@ use Rattle.bug_record.specs.declared.command.PlanFault.TheVariants.{Refused}
 use Rattle.bug_record.specs.declared.command.Refusal.TheVariants.{NoBug}
 use Rattle.bug_record.specs.declared.bug.SetImage.{SetImage}
 use Rattle.bug_record.specs.declared.command.Change.{Change}
-use Rattle.record_changes.specs.Members.{changes_members}
-use Rattle.set_images.specs.Alike.{BeginAlike}
+use Rattle.bug_fields.specs.Members.{changes_members}
+use Rattle.bug_images.specs.Alike.{BeginAlike}
 use Rattle.bug_core.specs.Planned.{IsRecordsPlan}
 use Rattle.bug_core.proofs.PlanLemmas.{planned-tested, planned-no_bug, planned-no_memory}
 use Rattle.bug_core.proofs.plans.plan_records.Goals as goal

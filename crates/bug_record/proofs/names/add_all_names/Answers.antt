@@ -1,5 +1,5 @@
 use Rattle.std.proofs.Common.{◌≡◌, List, ℕ, ◌++◌, ap, ◌∙◌}
-use Rattle.sequences.specs.Ordered.{with_each}
+use Rattle.base_sequences.specs.Ordered.{with_each}
 use Rattle.bug_record.specs.PackageSets.{name_cmp, name_set}
 use Rattle.bug_record.proofs.PackageLemmas.{each-names_append}
 use Rattle.bug_record.proofs.names.add_all_names.Goals as goal

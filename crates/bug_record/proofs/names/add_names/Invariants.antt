@@ -1,5 +1,5 @@
 use Rattle.std.proofs.Common.{◌≡◌, drop}
-use Rattle.sequences.specs.Ordered.{with_each}
+use Rattle.base_sequences.specs.Ordered.{with_each}
 use Rattle.bug_record.specs.PackageSets.{name_cmp}
 use Rattle.bug_record.proofs.names.add_names.Given as goal
 

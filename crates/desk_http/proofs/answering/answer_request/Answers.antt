@@ -1,7 +1,7 @@
 use Rattle.std.proofs.Common.{List, String, Global, map, string_bytes, sym, ap, ◌∙◌}
-use Rattle.desk_requests.specs.Requests.{Always, PostBranch}
-use Rattle.desk_requests.specs.Shown.{asked}
-use Rattle.desk_answers.proofs.AskedLemmas.{always_right}
+use Rattle.http_requests.specs.Requests.{Always, PostBranch}
+use Rattle.http_requests.specs.Shown.{asked}
+use Rattle.http_answers.proofs.AskedLemmas.{always_right}
 use Rattle.desk_http.proofs.answering.answer_request.Goals as goal
 
 pub returns-in-Report-clause-answer : goal.returns-in-Report-clause-answer

@@ -1,12 +1,12 @@
 use Rattle.std.proofs.Common.{◌≡◌, ◌∙◌, List, ℕ, subst, string_bytes}
-use Rattle.desk_lines.specs.Lines.{lines_of}
-use Rattle.desk_store.specs.Message.{IsReceived}
-use Rattle.desk_store.proofs.HoldsLemmas.{holds_weaker}
-use Rattle.desk_requests.specs.Requests.{PostControl}
-use Rattle.desk_answers.specs.Faults.{IsAnswer}
-use Rattle.desk_requests.specs.Shown.{shown}
-use Rattle.desk_answers.specs.Cases.{AnswersEnd}
-use Rattle.desk_answers.proofs.MessageLemmas.{message_right}
+use Rattle.control_lines.specs.Lines.{lines_of}
+use Rattle.store_contract.specs.Message.{IsReceived}
+use Rattle.store_contract.proofs.HoldsLemmas.{holds_weaker}
+use Rattle.http_requests.specs.Requests.{PostControl}
+use Rattle.http_answers.specs.Faults.{IsAnswer}
+use Rattle.http_requests.specs.Shown.{shown}
+use Rattle.http_answers.specs.Cases.{AnswersEnd}
+use Rattle.http_answers.proofs.MessageLemmas.{message_right}
 use Rattle.desk_http.proofs.messages.answer_message.Goals as goal
 
 pub returns-clause-answer : goal.returns-clause-answer

@@ -1,11 +1,11 @@
 use Rattle.std.proofs.Common.{◌≡◌, sym, List, ℕ, Ok, subst, string_bytes}
-use Rattle.desk_lines.specs.Lines.{lines_of}
-use Rattle.desk_store.specs.Store.{Holds}
-use Rattle.desk_store.proofs.HoldsLemmas.{holds_weaker}
-use Rattle.desk_messages.specs.Once.{IsOnce}
-use Rattle.desk_answers.specs.Cases.{AnswersEnd}
-use Rattle.desk_requests.specs.Shown.{message_asked}
-use Rattle.desk_answers.specs.Stored.{stored}
+use Rattle.control_lines.specs.Lines.{lines_of}
+use Rattle.store_contract.specs.Store.{Holds}
+use Rattle.store_contract.proofs.HoldsLemmas.{holds_weaker}
+use Rattle.message_receiving.specs.Once.{IsOnce}
+use Rattle.http_answers.specs.Cases.{AnswersEnd}
+use Rattle.http_requests.specs.Shown.{message_asked}
+use Rattle.http_answers.specs.Stored.{stored}
 use Rattle.desk_http.proofs.RepeatLemmas.{once_right}
 use Rattle.desk_http.proofs.once.answer_once.Goals as goal
 

@@ -1,18 +1,18 @@
 use Rattle.std.proofs.Common.{rules, ◌≡◌, Option, Some, Ok, refl, sym, subst, take}
-use Rattle.desk_lines.specs.declared.store_fault.StoreFault.{StoreFault}
-use Rattle.desk_lines.specs.declared.store_fault.StoreFault.TheVariants.{Memory}
-use Rattle.connection_bytes.specs.Found.{IsFound}
-use Rattle.connection_bytes.specs.declared.head.Head.{Head}
-use Rattle.desk_store.proofs.HoldsLemmas.{holds_none, holds_weaker}
-use Rattle.desk_answers.specs.Faults.{counted_with}
-use Rattle.desk_requests.specs.Shown.{asked, shown}
-use Rattle.desk_answers.specs.Stored.{stored}
-use Rattle.desk_requests.specs.Refused.{refused}
-use Rattle.desk_requests.specs.Steps.{Gives}
-use Rattle.desk_requests.specs.declared.refusal.Refusal.{Refusal}
+use Rattle.base_faults.specs.declared.store_fault.StoreFault.{StoreFault}
+use Rattle.base_faults.specs.declared.store_fault.StoreFault.TheVariants.{Memory}
+use Rattle.http_bytes.specs.Found.{IsFound}
+use Rattle.http_bytes.specs.declared.head.Head.{Head}
+use Rattle.store_contract.proofs.HoldsLemmas.{holds_none, holds_weaker}
+use Rattle.http_answers.specs.Faults.{counted_with}
+use Rattle.http_requests.specs.Shown.{asked, shown}
+use Rattle.http_answers.specs.Stored.{stored}
+use Rattle.http_requests.specs.Refused.{refused}
+use Rattle.http_requests.specs.Steps.{Gives}
+use Rattle.http_requests.specs.declared.refusal.RequestRefusal.{RequestRefusal}
 use Rattle.desk_http.specs.Exchange.{IsRight}
 use Rattle.desk_http.proofs.ExchangeLemmas.{complete_right, asked_right, memory_right, not_wrong, refused_right}
-use Rattle.desk_requests.proofs.TakenLemmas.{takes_head, takes_behind}
+use Rattle.http_requests.proofs.TakenLemmas.{takes_head, takes_behind}
 use Rattle.desk_http.proofs.serve.exchange.Goals as goal
 
 pub returns-in-Err-Memory-clause-answer : goal.returns-in-Err-Memory-clause-answer
@@ -48,7 +48,7 @@ returns-in-Err-Refused-clause-answer g c =
     let filled = c.in-Complete.filled in
     let reply = c.refuse-in-Err-Refused.result in
     let given : Gives (refused c.in-Err-Refused.refusal) reply =
-    subst (λ (r : Refusal). Gives (refused r) reply) c.in-Err-Refused.refusal-is c.refuse-in-Err-Refused.ensures.is in
+    subst (λ (r : RequestRefusal). Gives (refused r) reply) c.in-Err-Refused.refusal-is c.refuse-in-Err-Refused.ensures.is in
     holds_none g.S.Records.is_kept g.S.Records.is_honest c.args.store.now
     {P = IsRight before desk desk faults faults reply.fault (shown reply)} (record {
       answers = complete_right before after buf headers spans filled

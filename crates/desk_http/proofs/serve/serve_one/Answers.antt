@@ -1,6 +1,6 @@
 use Rattle.std.proofs.Common.{refl}
-use Rattle.desk_store.proofs.HoldsLemmas.{holds_weaker}
-use Rattle.desk_requests.specs.Shown.{shown}
+use Rattle.store_contract.proofs.HoldsLemmas.{holds_weaker}
+use Rattle.http_requests.specs.Shown.{shown}
 use Rattle.desk_http.proofs.ExchangeLemmas.{wrong_served, wrong_failed, went_well}
 use Rattle.desk_http.proofs.serve.serve_one.Goals as goal
 

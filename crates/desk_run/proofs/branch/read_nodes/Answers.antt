@@ -1,8 +1,8 @@
 use Rattle.std.proofs.Common.{rules, ◌≡◌, ◌<◌, ℕ, List, ◌∷◌, length, Err, Global, sym, ap, ◌∙◌, refl, subst, arith}
-use Rattle.line_words.specs.Words.{words}
+use Rattle.base_words.specs.Words.{words}
 use Rattle.version_nodes.specs.Nodes.{Node, node_of_text}
-use Rattle.desk_directives.specs.Branches.{nodes_of}
-use Rattle.desk_directives.proofs.BranchLemmas.{after_nodes, after_none, node_added, unread}
+use Rattle.message_directives.specs.Branches.{nodes_of}
+use Rattle.message_directives.proofs.BranchLemmas.{after_nodes, after_none, node_added, unread}
 use Rattle.desk_run.proofs.BranchLemmas.{no_bytes, some_bytes, nodes-all}
 use Rattle.desk_run.proofs.branch.read_nodes.Goals as goal
 

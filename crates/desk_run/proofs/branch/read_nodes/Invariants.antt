@@ -1,8 +1,8 @@
 use Rattle.std.proofs.Common.{◌≡◌, length}
 use Rattle.std.specs.Str.{IsUtf8}
-use Rattle.line_words.specs.Words.{words}
-use Rattle.desk_directives.specs.Branches.{nodes_of}
-use Rattle.desk_directives.proofs.BranchLemmas.{after_nodes}
+use Rattle.base_words.specs.Words.{words}
+use Rattle.message_directives.specs.Branches.{nodes_of}
+use Rattle.message_directives.proofs.BranchLemmas.{after_nodes}
 use Rattle.desk_run.proofs.branch.read_nodes.Given as goal
 
 abbrev pub invariant-loop-word : goal.invariant-loop-word

@@ -2,13 +2,13 @@ use Rattle.std.proofs.Common.{◌≡◌, Err, ℕ, ◌<◌, length, List, take, 
 use Rattle.std.specs.Prelude.{◌||◌}
 use Rattle.std.specs.Io.KnownBytes.{Appends}
 use Rattle.std.proofs.lemmas.Result.{err_from_is_err_and}
-use Rattle.desk_lines.specs.declared.fault.ScriptFault.TheVariants.{Write}
-use Rattle.desk_store.proofs.HoldsLemmas.{holds_weaker}
+use Rattle.control_lines.specs.declared.fault.ScriptFault.TheVariants.{Write}
+use Rattle.store_contract.proofs.HoldsLemmas.{holds_weaker}
 use Rattle.desk_run.specs.Script.{DirectiveLine, standing}
 use Rattle.desk_text.specs.Answers.{branch_answer}
 use Rattle.desk_run.proofs.PartLemmas.{untold}
 use Rattle.desk_run.proofs.BranchLemmas.{branch_whole, branch_fault, branch_carried, whole_count, fault_count, branch_count}
-use Rattle.desk_store.proofs.HoldsLemmas.{holds_where}
+use Rattle.store_contract.proofs.HoldsLemmas.{holds_where}
 use Rattle.desk_run.proofs.TriedLemmas.{branched_failed}
 use Rattle.desk_run.proofs.carrying.carry_nodes.Goals as goal
 

@@ -1,13 +1,13 @@
 use Rattle.std.proofs.Common.{inl, Global, ◌≡◌, None, Err, Result, refl, sym, ◌∙◌, ap, subst}
-use Rattle.desk_store.proofs.HoldsLemmas.{holds_none, holds_weaker}
+use Rattle.store_contract.proofs.HoldsLemmas.{holds_none, holds_weaker}
 use Rattle.version_nodes.specs.Trees.{Ancestry}
-use Rattle.line_words.specs.Words.{words}
-use Rattle.desk_directives.specs.Branches.{BranchRefusal, nodes_of}
-use Rattle.desk_directives.specs.BranchWords.{AreRead}
+use Rattle.base_words.specs.Words.{words}
+use Rattle.message_directives.specs.Branches.{BranchRefusal, nodes_of}
+use Rattle.message_directives.specs.BranchWords.{AreRead}
 use Rattle.desk_run.specs.Script.{From, Branch, ListOf, Show, Bad, standing, branch_text, after_branch}
 use Rattle.desk_run.proofs.WrittenLemmas.{appends_none}
 use Rattle.desk_run.proofs.PartLemmas.{order_done, order_refused}
-use Rattle.desk_directives.proofs.BranchLemmas.{branch_of_none}
+use Rattle.message_directives.proofs.BranchLemmas.{branch_of_none}
 use Rattle.desk_run.proofs.QuestionLemmas.{question_carried}
 use Rattle.desk_run.proofs.TriedLemmas.{parts_settled}
 use Rattle.desk_run.proofs.carrying.carry_out.Goals as goal

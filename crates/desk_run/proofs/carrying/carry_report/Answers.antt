@@ -1,13 +1,13 @@
 use Rattle.std.proofs.Common.{◌≡◌, Err, ℕ, ◌<◌, length, List, take, ◌∙◌, sym, subst, ap}
 use Rattle.std.specs.Io.KnownBytes.{Appends}
 use Rattle.std.proofs.lemmas.Result.{err_from_is_err_and}
-use Rattle.desk_lines.specs.declared.fault.ScriptFault.TheVariants.{Write}
-use Rattle.desk_store.proofs.HoldsLemmas.{holds_weaker}
+use Rattle.control_lines.specs.declared.fault.ScriptFault.TheVariants.{Write}
+use Rattle.store_contract.proofs.HoldsLemmas.{holds_weaker}
 use Rattle.desk_run.specs.Script.{DirectiveLine, standing}
 use Rattle.desk_text.specs.Answers.{report_answer}
 use Rattle.desk_run.proofs.PartLemmas.{untold, reported_carried, reported_whole, reported_refused, reported_fault, fault_count}
 use Rattle.desk_run.proofs.PartLemmas.{refused_count, report_count}
-use Rattle.desk_store.proofs.HoldsLemmas.{holds_where}
+use Rattle.store_contract.proofs.HoldsLemmas.{holds_where}
 use Rattle.desk_run.proofs.TriedLemmas.{reported_failed}
 use Rattle.desk_run.proofs.carrying.carry_report.Goals as goal
 

@@ -2,12 +2,12 @@ use Rattle.std.proofs.Common.{◌≡◌, Err, ℕ, ◌<◌, length, List, take, 
 use Rattle.std.specs.Prelude.{◌||◌}
 use Rattle.std.specs.Io.KnownBytes.{Appends}
 use Rattle.std.proofs.lemmas.Result.{err_from_is_err_and}
-use Rattle.desk_lines.specs.declared.fault.ScriptFault.TheVariants.{Write}
-use Rattle.desk_store.proofs.HoldsLemmas.{holds_weaker}
-use Rattle.desk_directives.specs.Transcripts.{received_text}
+use Rattle.control_lines.specs.declared.fault.ScriptFault.TheVariants.{Write}
+use Rattle.store_contract.proofs.HoldsLemmas.{holds_weaker}
+use Rattle.message_directives.specs.Transcripts.{received_text}
 use Rattle.desk_run.specs.Script.{Message, standing}
 use Rattle.desk_run.proofs.PartLemmas.{untold, received_carried, received_fault, received_whole, end_count, message_count}
-use Rattle.desk_store.proofs.HoldsLemmas.{holds_where}
+use Rattle.store_contract.proofs.HoldsLemmas.{holds_where}
 use Rattle.desk_run.proofs.TriedLemmas.{received_failed}
 use Rattle.desk_run.proofs.carrying.finish_message.Goals as goal
 

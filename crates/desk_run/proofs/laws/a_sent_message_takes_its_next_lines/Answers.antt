@@ -1,4 +1,4 @@
-use Rattle.desk_messages.specs.declared.once.OnceFault.TheVariants.{BadId, Reused, Store}
+use Rattle.message_receiving.specs.declared.once.OnceFault.TheVariants.{BadId, Reused, Store}
 use Rattle.desk_run.proofs.SentLemmas.{resumed_sent}
 use Rattle.desk_run.proofs.laws.a_sent_message_takes_its_next_lines.Goals as goal
 

@@ -1,7 +1,7 @@
 use Rattle.std.specs.Prelude.{⊤}
 use Rattle.std.proofs.Common.{sym, ap, [], ◌∷◌}
 use Rattle.std.proofs.lemmas.Result.{err_from_is_err_and}
-use Rattle.desk_store.proofs.HoldsLemmas.{holds_weaker}
+use Rattle.store_contract.proofs.HoldsLemmas.{holds_weaker}
 use Rattle.desk_run.specs.Script.{Message, end_of_script}
 use Rattle.desk_run.proofs.RunLemmas.{one_ran, one_stops, runs_ends, if_begun}
 use Rattle.desk_run.proofs.script.finish_script.Goals as goal

@@ -1,19 +1,19 @@
 use Rattle.std.proofs.Common.{inl, ◌≡◌, ℕ, ◌+◌, ◌≤◌, lit≤, arith, Err, List, [], ◌∷◌, ◌++◌, sym, ◌∙◌, ap, subst, refl, false}
 use Rattle.std.proofs.lemmas.Result.{err_from_is_err_and}
-use Rattle.line_words.specs.Texts.{is_text, IsText}
-use Rattle.desk_store.proofs.HoldsLemmas.{holds_weaker, holds_none, holds_then, holds_both}
+use Rattle.base_words.specs.Texts.{is_text, IsText}
+use Rattle.store_contract.proofs.HoldsLemmas.{holds_weaker, holds_none, holds_then, holds_both}
 use Rattle.desk_run.specs.Script.{standing, begin}
 use Rattle.desk_run.specs.Gathering.{parts_from}
-use Rattle.desk_lines.specs.Buffered.{Buffered, bytes_left}
-use Rattle.desk_lines.specs.declared.fault.ScriptFault.{ScriptFault}
-use Rattle.desk_lines.specs.declared.fault.ScriptFault.TheVariants.{Read}
+use Rattle.control_lines.specs.Buffered.{Buffered, bytes_left}
+use Rattle.control_lines.specs.declared.fault.ScriptFault.{ScriptFault}
+use Rattle.control_lines.specs.declared.fault.ScriptFault.TheVariants.{Read}
 use Rattle.desk_run.specs.declared.script.ScriptEnd.{ScriptEnd}
 use Rattle.desk_run.proofs.RunLemmas.{runs_then, runs_none}
 use Rattle.desk_run.proofs.ScriptLemmas.{ReadTo, nothing_read, read_more, cut_more, stops_reading, stops_at_once}
 use Rattle.desk_run.proofs.ScriptLemmas.{left_more, left_same, reading_counted, read_in_part, known_before, none_right, on_ok}
 use Rattle.desk_run.proofs.ScriptLemmas.{stops_in_line, last_line, ends_at_last, ends_at_end, one_line_more}
-use Rattle.desk_store.proofs.TriedLemmas.{tried_then, holds_three, holds_both_here}
-use Rattle.desk_lines.specs.Lines.{raw_lines}
+use Rattle.store_contract.proofs.TriedLemmas.{tried_then, holds_three, holds_both_here}
+use Rattle.control_lines.specs.Lines.{raw_lines}
 use Rattle.desk_run.specs.Script.{script_of}
 use Rattle.desk_run.proofs.ScriptLemmas.{no_lines_left}
 use Rattle.desk_run.proofs.TriedLemmas.{parts_settled, tried_in_line, tried_at_end, holds_all}

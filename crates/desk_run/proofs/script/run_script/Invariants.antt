@@ -1,10 +1,10 @@
 use Rattle.std.proofs.Common.{◌≡◌, ◌+◌, ◌≤◌, ◌++◌, ℕ, List, length}
-use Rattle.desk_store.specs.Store.{Holds}
-use Rattle.desk_lines.specs.Buffered.{bytes_left}
-use Rattle.desk_lines.specs.Reading.{Left}
+use Rattle.store_contract.specs.Store.{Holds}
+use Rattle.control_lines.specs.Buffered.{bytes_left}
+use Rattle.control_lines.specs.Reading.{Left}
 use Rattle.desk_run.specs.Script.{Part, begin, standing}
 use Rattle.desk_run.specs.Carrying.{Runs}
-use Rattle.desk_store.specs.Tried.{LeavesTried}
+use Rattle.store_contract.specs.Tried.{LeavesTried}
 use Rattle.desk_run.proofs.ScriptLemmas.{ReadTo, IsCut}
 use Rattle.desk_run.proofs.script.run_script.Given as goal
 

@@ -1,11 +1,11 @@
 use Rattle.std.proofs.Common.{◌≡◌, ℕ, List, [], ◌∷◌, sym, ◌∙◌, ap, refl, true, false, Err}
 use Rattle.std.proofs.lemmas.Result.{err_from_is_err_and}
-use Rattle.desk_store.proofs.HoldsLemmas.{holds_weaker, holds_none, holds_then}
+use Rattle.store_contract.proofs.HoldsLemmas.{holds_weaker, holds_none, holds_then}
 use Rattle.desk_run.specs.Script.{Message, DirectiveLine, is_directive, standing}
 use Rattle.desk_run.specs.Gathering.{parts_from}
 use Rattle.desk_run.proofs.RunLemmas.{stops_at_message, stops_at_order, parts_directive, parts_gathered, one_ran, runs_then}
 use Rattle.desk_run.proofs.RunLemmas.{runs_none, gathered_stops}
-use Rattle.desk_store.proofs.TriedLemmas.{holds_three}
+use Rattle.store_contract.proofs.TriedLemmas.{holds_three}
 use Rattle.desk_run.proofs.TriedLemmas.{failed_at_message, failed_at_directive, parts_settled}
 use Rattle.desk_run.proofs.script.take_line.Goals as goal
 

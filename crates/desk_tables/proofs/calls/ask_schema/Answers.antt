@@ -1,5 +1,5 @@
 use Rattle.desk_tables.proofs.Imports.{AsksSchema}
-use Rattle.desk_schema.proofs.Exports.{◌≡◌, rules, subst, state}
+use Rattle.table_schema.proofs.Exports.{◌≡◌, rules, subst, state}
 use Rattle.desk_tables.proofs.TransactionLemmas.{asks}
 use Rattle.desk_tables.proofs.calls.ask_schema.Goals as goal
 

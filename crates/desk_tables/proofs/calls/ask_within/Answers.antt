@@ -1,4 +1,4 @@
-use Rattle.desk_schema.proofs.Exports.{◌≡◌, rules}
+use Rattle.table_schema.proofs.Exports.{◌≡◌, rules}
 use Rattle.desk_tables.proofs.TransactionLemmas.{asked_over}
 use Rattle.desk_tables.proofs.calls.ask_within.Goals as goal
 

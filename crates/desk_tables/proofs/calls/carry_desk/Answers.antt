@@ -1,5 +1,5 @@
 use Rattle.desk_tables.proofs.Imports.{IsIdle, IsCarried}
-use Rattle.desk_schema.proofs.Exports.{◌≡◌, rules, subst, ◌∙◌, state, no_content}
+use Rattle.table_schema.proofs.Exports.{◌≡◌, rules, subst, ◌∙◌, state, no_content}
 use Rattle.desk_tables.proofs.TransactionLemmas.{carried}
 use Rattle.desk_tables.proofs.calls.carry_desk.Goals as goal
 

@@ -1,5 +1,5 @@
 use Rattle.desk_tables.proofs.Imports.{HasTree, IsChanged, IsKnownIn}
-use Rattle.desk_schema.proofs.Exports.{◌≡◌, rules, subst, option_copied, state, Content, FitsContent, changed, IsKeptContent, acts_weaker}
+use Rattle.table_schema.proofs.Exports.{◌≡◌, rules, subst, option_copied, state, Content, FitsContent, changed, IsKeptContent, acts_weaker}
 use Rattle.desk_tables.proofs.KeptLemmas.{FitsOver}
 use Rattle.desk_tables.proofs.TransactionLemmas.{altered}
 use Rattle.desk_tables.proofs.calls.change_sets.Goals as goal

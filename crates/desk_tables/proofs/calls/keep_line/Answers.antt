@@ -1,5 +1,5 @@
 use Rattle.desk_tables.proofs.Imports.{HasTreeIfAny, IsChanged, IsKnownIn, IsNextPlace}
-use Rattle.desk_schema.proofs.Exports.{◌≡◌, rules, subst, option_copied, state, Content, MayBePut, kept_after, IsKeptContent, acts_weaker}
+use Rattle.table_schema.proofs.Exports.{◌≡◌, rules, subst, option_copied, state, Content, MayBePut, kept_after, IsKeptContent, acts_weaker}
 use Rattle.desk_tables.proofs.KeepLemmas.{FitsLine}
 use Rattle.desk_tables.proofs.TransactionLemmas.{altered}
 use Rattle.desk_tables.proofs.calls.keep_line.Goals as goal

@@ -1,6 +1,6 @@
 use Rattle.desk_tables.proofs.Imports.{IsMade}
-use Rattle.desk_schema.proofs.Exports.{◌≡◌, rules, subst, state}
-use Rattle.desk_migrations.proofs.BuildLemmas.{blank_begun}
+use Rattle.table_schema.proofs.Exports.{◌≡◌, rules, subst, state}
+use Rattle.table_history.proofs.BuildLemmas.{blank_begun}
 use Rattle.desk_tables.proofs.TransactionLemmas.{made}
 use Rattle.desk_tables.proofs.calls.make_desk.Goals as goal
 

@@ -1,5 +1,5 @@
 use Rattle.desk_tables.proofs.Imports.{IsGrown, changed_of, IsChanged}
-use Rattle.desk_schema.proofs.Exports.{◌≡◌, ◌∙◌, rules, subst, state, with_nodes, Content, IsKeptContent, acts_weaker}
+use Rattle.table_schema.proofs.Exports.{◌≡◌, ◌∙◌, rules, subst, state, with_nodes, Content, IsKeptContent, acts_weaker}
 use Rattle.desk_tables.proofs.BranchLemmas.{changed_same}
 use Rattle.desk_tables.proofs.TransactionLemmas.{altered}
 use Rattle.desk_tables.proofs.calls.put_open.Goals as goal

@@ -1,5 +1,5 @@
 use Rattle.desk_tables.proofs.Imports.{IsGrown, changed_of}
-use Rattle.desk_schema.proofs.Exports.{◌≡◌, Err, rules, state}
+use Rattle.table_schema.proofs.Exports.{◌≡◌, Err, rules, state}
 use Rattle.desk_tables.proofs.BranchLemmas.{taken_ok, taken_fault}
 use Rattle.desk_tables.proofs.calls.take_open.Goals as goal
 

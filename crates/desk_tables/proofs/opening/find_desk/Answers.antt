@@ -1,4 +1,4 @@
-use Rattle.desk_schema.proofs.Exports.{◌≡◌, Err, rules, ap, state}
+use Rattle.table_schema.proofs.Exports.{◌≡◌, Err, rules, ap, state}
 use Rattle.desk_tables.specs.declared.open_fault.OpenFault.TheVariants.{Store}
 use Rattle.desk_tables.proofs.OpeningLemmas.{not_found, found_newest, found_earlier, not_earlier}
 use Rattle.desk_tables.proofs.opening.find_desk.Goals as goal

@@ -1,4 +1,4 @@
-use Rattle.desk_schema.proofs.Exports.{state}
+use Rattle.table_schema.proofs.Exports.{state}
 use Rattle.desk_tables.proofs.OpeningLemmas.{known, newer, no_number}
 use Rattle.desk_tables.proofs.opening.recognise.Goals as goal
 

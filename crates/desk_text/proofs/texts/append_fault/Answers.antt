@@ -1,7 +1,7 @@
 use Rattle.std.proofs.Common.{◌++◌, codes, sym, ap}
 use Rattle.std.proofs.lemmas.List.{append_assoc}
 use Rattle.std.proofs.lemmas.Result.{IfOk-equal}
-use Rattle.desk_lines.specs.Faults.{fault_word}
+use Rattle.base_faults.specs.Faults.{fault_word}
 use Rattle.desk_text.specs.Texts.{fault_answer, fault_text}
 use Rattle.desk_text.proofs.texts.append_fault.Goals as goal
 

@@ -4,9 +4,9 @@ use Rattle.std.proofs.lemmas.Bool.{false≢true}
 use Rattle.std.proofs.lemmas.Option.{slice_get_read}
 use Rattle.std.proofs.lemmas.Result.{err_from_is_err_and}
 use Rattle.bug_record.specs.Clones.{name_refusal}
-use Rattle.desk_store.specs.Message.{unreadable_count, known_names, end_of}
-use Rattle.desk_store.specs.Kept.{new_names}
-use Rattle.desk_store.proofs.EndLemmas.{at_start_open}
+use Rattle.store_contract.specs.Message.{unreadable_count, known_names, end_of}
+use Rattle.store_contract.specs.Kept.{new_names}
+use Rattle.store_contract.proofs.EndLemmas.{at_start_open}
 use Rattle.message_recall.specs.declared.recalling.RecallFault.TheVariants.{Mismatch}
 use Rattle.message_recall.proofs.ToldLemmas.{told-taken}
 use Rattle.message_recall.proofs.RecallLemmas.{not_taken, told-length, recall-more, few-more, taken-at, never-few, ends-not}

@@ -1,6 +1,6 @@
 use Rattle.std.proofs.Common.{◌≡◌, ◌≤◌, length, take}
-use Rattle.desk_store.specs.Message.{end_of, unreadable_count, known_names}
-use Rattle.desk_store.specs.Kept.{lines_told, told}
+use Rattle.store_contract.specs.Message.{end_of, unreadable_count, known_names}
+use Rattle.store_contract.specs.Kept.{lines_told, told}
 use Rattle.message_recall.proofs.recalling.recall.Given as goal
 
 abbrev pub invariant-loop-i : goal.invariant-loop-i

@@ -1,5 +1,5 @@
 use Rattle.std.proofs.Common.{◌++◌, ◌∙◌, ap, refl}
-use Rattle.desk_store.specs.Message.{names_of}
+use Rattle.store_contract.specs.Message.{names_of}
 use Rattle.message_recall.proofs.RecallLemmas.{ready-recalled, recalled-some, recalled-none}
 use Rattle.message_recall.proofs.recalling.recall_line.Goals as goal
 

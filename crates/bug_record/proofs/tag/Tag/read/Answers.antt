@@ -1,6 +1,6 @@
 use Rattle.std.proofs.Common.{◌∙◌, ap}
 use Rattle.std.specs.List.{find}
-use Rattle.line_words.specs.AnyCase.{is_word}
+use Rattle.base_words.specs.AnyCase.{is_word}
 use Rattle.bug_record.specs.Tags.{tag_name}
 use Rattle.bug_record.proofs.tag.Tag.read.Goals as goal
 

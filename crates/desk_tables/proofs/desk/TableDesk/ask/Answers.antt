@@ -1,5 +1,5 @@
 use Rattle.desk_tables.proofs.Imports.{remembered}
-use Rattle.desk_schema.proofs.Exports.{refl}
+use Rattle.table_schema.proofs.Exports.{refl}
 use Rattle.desk_tables.proofs.StillLemmas.{still_then}
 use Rattle.desk_tables.proofs.CrashLemmas.{left_as_before}
 use Rattle.desk_tables.proofs.KeptLemmas.{noted}

@@ -1,5 +1,5 @@
 use Rattle.desk_tables.proofs.Imports.{IsPlaceIn, content_seen, state_of}
-use Rattle.desk_schema.proofs.Exports.{refl, subst}
+use Rattle.table_schema.proofs.Exports.{refl, subst}
 use Rattle.desk_tables.proofs.BranchLemmas.{survives_same}
 use Rattle.desk_tables.proofs.desk.TableDesk.find_place.Goals as goal
 

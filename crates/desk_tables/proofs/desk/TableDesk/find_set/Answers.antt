@@ -1,6 +1,6 @@
 use Rattle.desk_tables.proofs.Imports.{content_seen, state_of}
-use Rattle.desk_schema.proofs.Exports.{refl}
-use Rattle.desk_reads.specs.Known.{known_key, known_set}
+use Rattle.table_schema.proofs.Exports.{refl}
+use Rattle.table_reads.specs.Known.{known_key, known_set}
 use Rattle.desk_tables.proofs.BranchLemmas.{survives_same}
 use Rattle.desk_tables.proofs.KeptLemmas.{known_image}
 use Rattle.desk_tables.proofs.desk.TableDesk.find_set.Goals as goal

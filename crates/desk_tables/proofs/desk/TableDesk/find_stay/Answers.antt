@@ -1,6 +1,6 @@
 use Rattle.desk_tables.proofs.Imports.{content_seen}
-use Rattle.desk_schema.proofs.Exports.{◌≡◌, IfOk, refl, sym, subst, all_stay}
-use Rattle.desk_reads.specs.Known.{known_key, known_set}
+use Rattle.table_schema.proofs.Exports.{◌≡◌, IfOk, refl, sym, subst, all_stay}
+use Rattle.table_reads.specs.Known.{known_key, known_set}
 use Rattle.desk_tables.proofs.KeptLemmas.{answered, recalled_in}
 use Rattle.desk_tables.proofs.desk.TableDesk.find_stay.Goals as goal
 

@@ -1,7 +1,7 @@
 use Rattle.desk_tables.proofs.Imports.{MayBeKept, content_seen, IsKept, remembered}
-use Rattle.desk_schema.proofs.Exports.{◌≡◌, Err, refl, rules, option_copied, state, HasCleanDisk, desk_in, keeping_in}
-use Rattle.desk_reads.specs.Known.{known_set}
-use Rattle.desk_writes.proofs.PlaceLemmas.{known_place_behind}
+use Rattle.table_schema.proofs.Exports.{◌≡◌, Err, refl, rules, option_copied, state, HasCleanDisk, desk_in, keeping_in}
+use Rattle.table_reads.specs.Known.{known_set}
+use Rattle.table_writes.proofs.PlaceLemmas.{known_place_behind}
 use Rattle.desk_tables.proofs.StillLemmas.{still_then}
 use Rattle.desk_tables.proofs.KeptLemmas.{never_foreign, crashed, taken, made, refused}
 use Rattle.desk_tables.proofs.KeepLemmas.{line_known, line_is, line_stays, line_fact}

@@ -1,5 +1,5 @@
 use Rattle.desk_tables.proofs.Imports.{content_seen}
-use Rattle.desk_schema.proofs.Exports.{◌≡◌, sym, subst, ◌∙◌}
+use Rattle.table_schema.proofs.Exports.{◌≡◌, sym, subst, ◌∙◌}
 use Rattle.desk_tables.proofs.KeptLemmas.{no_tree}
 use Rattle.desk_tables.proofs.desk.TableDesk.load.Goals as goal
 

@@ -1,6 +1,6 @@
 use Rattle.desk_tables.proofs.Imports.{content_seen, desk_seen, AreTablesOf}
-use Rattle.desk_schema.proofs.Exports.{◌≡◌, Err, ap, rules, state, survives_then, survives_weaker, changed}
-use Rattle.desk_reads.specs.Known.{known_key, known_set}
+use Rattle.table_schema.proofs.Exports.{◌≡◌, Err, ap, rules, state, survives_then, survives_weaker, changed}
+use Rattle.table_reads.specs.Known.{known_key, known_set}
 use Rattle.desk_tables.proofs.KeptLemmas.{recalled_in}
 use Rattle.desk_tables.proofs.desk.TableDesk.load_and_make.Goals as goal
 

@@ -1,5 +1,5 @@
 use Rattle.desk_tables.proofs.Imports.{HasTreeIfAny, content_seen}
-use Rattle.desk_schema.proofs.Exports.{◌≡◌, is_some, false, OnOk, option_copied, sym, ap, subst, ◌∙◌}
+use Rattle.table_schema.proofs.Exports.{◌≡◌, is_some, false, OnOk, option_copied, sym, ap, subst, ◌∙◌}
 use Rattle.desk_tables.proofs.KeptLemmas.{tree_there, tree_spared, tree_read}
 use Rattle.desk_tables.proofs.desk.TableDesk.load_for.Goals as goal
 

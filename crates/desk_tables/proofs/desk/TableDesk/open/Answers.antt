@@ -1,5 +1,5 @@
 use Rattle.desk_tables.proofs.Imports.{content_seen, remembered}
-use Rattle.desk_schema.proofs.Exports.{◌≡◌, Ok, Err, IfSome, refl, sym, ap, subst, ◌∙◌, state}
+use Rattle.table_schema.proofs.Exports.{◌≡◌, Ok, Err, IfSome, refl, sym, ap, subst, ◌∙◌, state}
 use Rattle.desk_tables.proofs.KeptLemmas.{content_is, noted_kept, none_known}
 use Rattle.desk_tables.proofs.OpeningLemmas.{opened}
 use Rattle.desk_tables.proofs.desk.TableDesk.open.Goals as goal

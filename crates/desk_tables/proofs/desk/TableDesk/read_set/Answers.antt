@@ -1,7 +1,7 @@
 use Rattle.desk_tables.proofs.Imports.{content_seen}
-use Rattle.desk_schema.proofs.Exports.{◌≡◌, Some, sym, subst}
-use Rattle.desk_content.specs.View.{image}
-use Rattle.desk_reads.specs.Known.{known_set}
+use Rattle.table_schema.proofs.Exports.{◌≡◌, Some, sym, subst}
+use Rattle.table_content.specs.View.{image}
+use Rattle.table_reads.specs.Known.{known_set}
 use Rattle.desk_tables.proofs.KeptLemmas.{known_learnt, known_less}
 use Rattle.desk_tables.proofs.desk.TableDesk.read_set.Goals as goal
 

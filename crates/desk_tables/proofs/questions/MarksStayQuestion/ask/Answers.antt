@@ -1,4 +1,4 @@
-use Rattle.desk_schema.proofs.Exports.{◌≡◌, true, length, rules, all_stay, IsKeptContent}
+use Rattle.table_schema.proofs.Exports.{◌≡◌, true, length, rules, all_stay, IsKeptContent}
 use Rattle.desk_tables.proofs.KeptLemmas.{none_change}
 use Rattle.desk_tables.proofs.TransactionLemmas.{asks_known, asks_read}
 use Rattle.desk_tables.proofs.questions.MarksStayQuestion.ask.Goals as goal

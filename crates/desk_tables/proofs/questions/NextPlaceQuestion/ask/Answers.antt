@@ -1,5 +1,5 @@
-use Rattle.desk_schema.proofs.Exports.{◌∙◌}
-use Rattle.desk_writes.proofs.PlaceLemmas.{place_is}
+use Rattle.table_schema.proofs.Exports.{◌∙◌}
+use Rattle.table_writes.proofs.PlaceLemmas.{place_is}
 use Rattle.desk_tables.proofs.TransactionLemmas.{asks_read}
 use Rattle.desk_tables.proofs.questions.NextPlaceQuestion.ask.Goals as goal
 

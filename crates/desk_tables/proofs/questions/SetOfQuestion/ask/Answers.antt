@@ -1,6 +1,6 @@
-use Rattle.desk_schema.proofs.Exports.{◌≤◌, ◌^◌, subst, arith, None, IsKeptContent}
-use Rattle.desk_reads.specs.FoundSets.{IsSetFound}
-use Rattle.desk_reads.proofs.KeyLemmas.{no_bug}
+use Rattle.table_schema.proofs.Exports.{◌≤◌, ◌^◌, subst, arith, None, IsKeptContent}
+use Rattle.table_reads.specs.FoundSets.{IsSetFound}
+use Rattle.table_reads.proofs.KeyLemmas.{no_bug}
 use Rattle.desk_tables.proofs.TransactionLemmas.{asks_read, asks_known}
 use Rattle.desk_tables.proofs.questions.SetOfQuestion.ask.Goals as goal
 

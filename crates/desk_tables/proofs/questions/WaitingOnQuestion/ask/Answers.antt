@@ -1,6 +1,6 @@
 use Rattle.desk_tables.proofs.Imports.{AreWaitingOn}
-use Rattle.desk_schema.proofs.Exports.{◌≤◌, ◌^◌, ◌∙◌, subst, arith, IsKeptContent, desk_in}
-use Rattle.desk_reads.proofs.WaitingLemmas.{none_waits}
+use Rattle.table_schema.proofs.Exports.{◌≤◌, ◌^◌, ◌∙◌, subst, arith, IsKeptContent, desk_in}
+use Rattle.table_reads.proofs.WaitingLemmas.{none_waits}
 use Rattle.desk_tables.proofs.TransactionLemmas.{asks_read, asks_known}
 use Rattle.desk_tables.proofs.questions.WaitingOnQuestion.ask.Goals as goal
 

@@ -1,4 +1,4 @@
-use Rattle.desk_schema.proofs.Exports.{option_copied}
+use Rattle.table_schema.proofs.Exports.{option_copied}
 use Rattle.desk_tables.specs.Desk.{content_shown}
 use Rattle.desk_tables.proofs.CrashLemmas.{change_leaves, branch_leaves, keep_leaves}
 use Rattle.desk_tables.proofs.KeepLemmas.{line_fits}

@@ -1,5 +1,0 @@
-use Rattle.bts_jobs.proofs.CutLemmas.{cut_again}
-use Rattle.bts_jobs.proofs.laws.sent_lines_are_cut_again.Goals as goal
-
-pub returns : goal.returns
-returns c = cut_again

@@ -1,6 +1,0 @@
-use Rattle.std.proofs.Common.{inr}
-use Rattle.bts_jobs.proofs.making.make_desk.Goals as goal
-
-pub returns-in-Ok : goal.returns-in-Ok
-returns-in-Ok g c =
-    inr (inr (record { made = c.in-Ok.desk; is_new = c.in-Ok.ensures.made; told = c.give_text-end.ensures; left_by = c.close_desk.ensures }))

@@ -1,0 +1,5 @@
+use Rattle.std.proofs.Common.{rules}
+use Rattle.bug_fields.proofs.fields.set_forwarded.Goals as goal
+
+pub returns : goal.returns
+returns c = search rules

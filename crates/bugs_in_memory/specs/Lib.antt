@@ -1,8 +1,0 @@
-pub mod Keys
-pub mod Places
-pub mod Plain
--- definitions that only private functions cite
-pub mod Passing
-pub mod PlacesOfImages
-pub mod Named
-pub mod Sums

@@ -1,5 +1,0 @@
-use Rattle.command_grammar.proofs.RefusalLemmas.{reading-of}
-use Rattle.command_grammar.proofs.laws.refusals_of_lines.Goals as goal
-
-pub returns : goal.returns
-returns c = reading-of

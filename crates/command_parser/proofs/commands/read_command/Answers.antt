@@ -1,5 +1,0 @@
-use Rattle.std.proofs.Common.{rules}
-use Rattle.command_parser.proofs.commands.read_command.Goals as goal
-
-pub returns-in_ok-bug-in-NotFound : goal.returns-in_ok-bug-in-NotFound
-returns-in_ok-bug-in-NotFound c = search rules

@@ -1,8 +1,0 @@
-use Rattle.std.proofs.Common.{map, take}
-use Rattle.httparse.specs.Spans.{header_bytes}
-use Rattle.connection_bytes.specs.Headers.{values_of}
-use Rattle.connection_bytes.specs.Shown.{AreShown}
-use Rattle.connection_bytes.proofs.headers.values_of.Given as goal
-
-abbrev pub invariant-loop-header : goal.invariant-loop-header
-invariant-loop-header l = AreShown l.values (values_of l.name (map (header_bytes l.buf) (take l.header-index l.headers)))

@@ -1,7 +1,0 @@
-use Rattle.std.proofs.Common.{◌≡◌, map, string_bytes}
-use Rattle.desk_directives.specs.Branches.{nodes_of}
-use Rattle.desk_answers.proofs.NodesLemmas.{nodes_from}
-use Rattle.desk_answers.proofs.branches.read_nodes.Given as goal
-
-abbrev pub invariant-loop-word : goal.invariant-loop-word
-invariant-loop-word l = nodes_of (map string_bytes l.words) ≡ nodes_from l.nodes.items l.words l.word-index

@@ -1,5 +1,0 @@
-use Rattle.desk_content.proofs.QuestionLemmas.{nearest_kind}
-use Rattle.desk_content.proofs.laws.kinds_are_nearest.Goals as goal
-
-pub returns : goal.returns
-returns c = nearest_kind

@@ -1,6 +1,0 @@
-use Rattle.std.proofs.Common.{◌≡◌, drop}
-use Rattle.desk_content.specs.Moving.{is_part}
-use Rattle.desk_content.proofs.moving.is_part.Given as goal
-
-abbrev pub invariant-loop-node : goal.invariant-loop-node
-invariant-loop-node l = is_part l.left (drop l.node-index l.nodes) ≡ is_part l.fn.part l.nodes

@@ -1,5 +1,0 @@
-use Rattle.desk_crashes.proofs.CrashLemmas.{settled_alone}
-use Rattle.desk_crashes.proofs.laws.settled_desks_are_left.Goals as goal
-
-pub returns : goal.returns
-returns g c = settled_alone g.S.Store c.args._desk.now

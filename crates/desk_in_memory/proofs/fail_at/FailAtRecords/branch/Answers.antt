@@ -1,5 +1,0 @@
-use Rattle.desk_store.proofs.CrashLemmas.{failed_none}
-use Rattle.desk_in_memory.proofs.fail_at.FailAtRecords.branch.Goals as goal
-
-pub returns-then-is_due-clause-crash : goal.returns-then-is_due-clause-crash
-returns-then-is_due-clause-crash g c = failed_none _ _ _ g.met.S.Records.either _ _ _ c.is_due.ensures.inner

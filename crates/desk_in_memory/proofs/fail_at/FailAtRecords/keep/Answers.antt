@@ -1,6 +1,0 @@
-use Rattle.desk_store.proofs.CrashLemmas.{failed_since}
-use Rattle.desk_in_memory.proofs.fail_at.FailAtRecords.keep.Goals as goal
-
-pub returns-in-true-clause-crash : goal.returns-in-true-clause-crash
-returns-in-true-clause-crash g c = λ earlier since.
-    failed_since _ _ _ g.met.S.Records.either earlier _ _ _ c.is_due.ensures.inner since

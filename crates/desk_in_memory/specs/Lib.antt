@@ -1,2 +1,0 @@
-pub mod FailAt
-pub mod KeptMessages

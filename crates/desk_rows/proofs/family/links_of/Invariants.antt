@@ -1,6 +1,0 @@
-use Rattle.desk_rows.proofs.Imports.{link_row, IsLink}
-use Rattle.desk_schema.proofs.Exports.{◌≡◌, take, map, AllByRecursion, Ancestry}
-use Rattle.desk_rows.proofs.family.links_of.Given as goal
-
-abbrev pub invariant-loop-row : goal.invariant-loop-row
-invariant-loop-row l = (ls : Ancestry) → AllByRecursion IsLink ls → l.rows ≡ map link_row ls → l.links.items ≡ take l.row-index ls

@@ -1,5 +1,0 @@
-use Rattle.desk_rows.proofs.GrownLemmas.{grown}
-use Rattle.desk_rows.proofs.laws.branches_grow.Goals as goal
-
-pub returns : goal.returns
-returns c = λ t u nodes old new ext all. grown t u nodes ext old new all

@@ -1,5 +1,0 @@
-use Rattle.desk_rows.proofs.FirstMarkLemmas.{goes_on}
-use Rattle.desk_rows.proofs.laws.first_marks_go_on.Goals as goal
-
-pub returns : goal.returns
-returns c = λ found fixed ns v found_keys fixed_keys k p q. goes_on found fixed v ns found_keys fixed_keys k p q

@@ -1,5 +1,0 @@
-use Rattle.desk_rows.proofs.RowLemmas.{rows_more}
-use Rattle.desk_rows.proofs.laws.rows_go_on.Goals as goal
-
-pub returns : goal.returns
-returns c = λ x u nodes rows v first kept known new sorted are on. rows_more x u nodes rows v first kept known new sorted are on

@@ -1,5 +1,0 @@
-use Rattle.desk_schema.proofs.Exports.{rules}
-use Rattle.desk_rows.proofs.places.above_row.Goals as goal
-
-pub returns-in-Some-checked_add-clause-value : goal.returns-in-Some-checked_add-clause-value
-returns-in-Some-checked_add-clause-value c = search rules

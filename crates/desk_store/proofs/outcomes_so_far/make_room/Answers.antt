@@ -1,5 +1,0 @@
-use Rattle.std.proofs.Common.{rules}
-use Rattle.desk_store.proofs.outcomes_so_far.make_room.Goals as goal
-
-pub returns-clause-text : goal.returns-clause-text
-returns-clause-text c = search rules

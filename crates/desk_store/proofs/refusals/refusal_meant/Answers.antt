@@ -1,5 +1,0 @@
-use Rattle.std.proofs.Common.{rules}
-use Rattle.desk_store.proofs.refusals.refusal_meant.Goals as goal
-
-pub returns-in-NoBug : goal.returns-in-NoBug
-returns-in-NoBug c = search rules

@@ -1,5 +1,0 @@
-use Rattle.std.proofs.Common.{rules}
-use Rattle.desk_store.proofs.telling.names_in.Goals as goal
-
-pub returns-in-Clone : goal.returns-in-Clone
-returns-in-Clone c = search rules

@@ -1,5 +1,0 @@
-use Rattle.std.proofs.Common.{rules}
-use Rattle.job_words.proofs.jobs.job_of_word.Goals as goal
-
-pub returns-in-run : goal.returns-in-run
-returns-in-run c = search rules

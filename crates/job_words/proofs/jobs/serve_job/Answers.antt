@@ -1,5 +1,0 @@
-use Rattle.std.proofs.Common.{rules}
-use Rattle.job_words.proofs.jobs.serve_job.Goals as goal
-
-pub returns : goal.returns
-returns c = search rules

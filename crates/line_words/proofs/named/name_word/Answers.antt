@@ -1,5 +1,0 @@
-use Rattle.std.proofs.Common.{rules}
-use Rattle.line_words.proofs.named.name_word.Goals as goal
-
-pub returns-in-Some-Name : goal.returns-in-Some-Name
-returns-in-Some-Name c = search rules

@@ -1,8 +1,0 @@
-use Rattle.std.proofs.Common.{rules}
-use Rattle.line_words.proofs.words.split_word_by.Goals as goal
-
-pub returns-else-is_empty-clause-cut : goal.returns-else-is_empty-clause-cut
-returns-else-is_empty-clause-cut c = search rules
-
-pub returns-else-is_empty-clause-shorter : goal.returns-else-is_empty-clause-shorter
-returns-else-is_empty-clause-shorter c = search rules

@@ -1,5 +1,0 @@
-use Rattle.nearest_marks.proofs.LineLemmas.{sees_still}
-use Rattle.nearest_marks.proofs.laws.nearest_after_branches.Goals as goal
-
-pub returns : goal.returns
-returns c = λ t u nodes found fixed v near old new ext h. sees_still t u nodes found fixed v near old new ext h

@@ -1,5 +1,0 @@
-use Rattle.nearest_marks.proofs.LineLemmas.{by_parent}
-use Rattle.nearest_marks.proofs.laws.nearest_by_parents.Goals as goal
-
-pub returns : goal.returns
-returns c = λ t found fixed v forest known. by_parent found fixed t v forest known

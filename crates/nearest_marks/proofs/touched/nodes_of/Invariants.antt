@@ -1,5 +1,0 @@
-use Rattle.std.proofs.Common.{◌≡◌, ◌++◌, map}
-use Rattle.nearest_marks.proofs.touched.nodes_of.Given as goal
-
-abbrev pub invariant-loop-row : goal.invariant-loop-row
-invariant-loop-row l = l.nodes.items ++ map (λ row. row.node) l.row-iterator.rest.items ≡ map (λ row. row.node) l.fn.rows.items

@@ -1,7 +1,0 @@
-pub mod BlockerLemmas
-pub mod NodeLemmas
-pub mod FieldLemmas
-pub mod MemberLemmas
-pub mod SoundLemmas
-pub mod AddedLemmas
-pub mod ReportLemmas

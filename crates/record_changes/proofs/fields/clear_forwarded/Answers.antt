@@ -1,5 +1,0 @@
-use Rattle.std.proofs.Common.{rules}
-use Rattle.record_changes.proofs.fields.clear_forwarded.Goals as goal
-
-pub returns : goal.returns
-returns c = search rules

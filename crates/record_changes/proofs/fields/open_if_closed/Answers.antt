@@ -1,8 +1,0 @@
-use Rattle.std.proofs.Common.{rules}
-use Rattle.record_changes.proofs.fields.open_if_closed.Goals as goal
-
-pub returns-else-shared : goal.returns-else-shared
-returns-else-shared c = search rules
-
-pub returns-then-shared : goal.returns-then-shared
-returns-then-shared c = search rules

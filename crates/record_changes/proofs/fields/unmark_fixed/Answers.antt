@@ -1,5 +1,0 @@
-use Rattle.std.proofs.Common.{rules}
-use Rattle.record_changes.proofs.fields.unmark_fixed.Goals as goal
-
-pub returns-clause-done : goal.returns-clause-done
-returns-clause-done c = search rules

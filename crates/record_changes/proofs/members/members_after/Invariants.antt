@@ -1,6 +1,0 @@
-use Rattle.std.proofs.Common.{◌≡◌, map, take}
-use Rattle.record_changes.specs.Members.{member_after}
-use Rattle.record_changes.proofs.members.members_after.Given as goal
-
-abbrev pub invariant-loop-member : goal.invariant-loop-member
-invariant-loop-member l = l.after ≡ map (member_after l.from l.command l.old) (take l.member-index l.members)

@@ -1,7 +1,0 @@
-use Rattle.std.proofs.Common.{rules}
-use Rattle.serde_json.proofs.OnLiterals.{serde_json_on_literals}
-use Rattle.routes_and_json.proofs.answers.bug_json.Goals as goal
-
-pub returns-clause-text : goal.returns-clause-text
-unfolding serde_json_on_literals
-returns-clause-text c = search rules

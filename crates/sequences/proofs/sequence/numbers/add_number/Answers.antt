@@ -1,6 +1,0 @@
-use Rattle.std.proofs.Common.{◌∙◌}
-use Rattle.sequences.proofs.OrderedLemmas.{with_key}
-use Rattle.sequences.proofs.sequence.numbers.add_number.Goals as goal
-
-pub returns : goal.returns
-returns c = c.in_ok-insert.ensures.keys ∙ with_key c.args.set.now.keys c.args.number

@@ -1,7 +1,0 @@
-use Rattle.std.proofs.Common.{◌≡◌, drop}
-use Rattle.sequences.specs.Sets.{with_items}
-use Rattle.sequences.proofs.sequence.numbers.add_numbers.Given as goal
-
-abbrev pub invariant-loop-number : goal.invariant-loop-number
-invariant-loop-number l =
-    with_items (λ n. n) l.set.keys (drop l.number-index l.numbers) ≡ with_items (λ n. n) l.fn.set.keys l.numbers

@@ -1,8 +1,0 @@
--- The elements that a list keeps.
-use Rattle.std.specs.Prelude.{List}
-use Rattle.sequences.specs.declared.sequence.Kept.{Kept}
-use Rattle.sequences.specs.declared.sequence.Kept.TheVariants.{One, Many}
-
-abbrev pub kept_items : {T : Type 0} → Kept T → List T
-kept_items (One one _) = one
-kept_items (Many items) = items.items

@@ -1,5 +1,0 @@
-use Rattle.bug_record.proofs.NewBugLemmas.{changed-new}
-use Rattle.set_images.proofs.laws.new_bugs_are_changed.Goals as goal
-
-pub returns : goal.returns
-returns c d new many sound = changed-new d new many sound

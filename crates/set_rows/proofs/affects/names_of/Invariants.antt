@@ -1,6 +1,0 @@
-use Rattle.set_rows.proofs.Imports.{text_row}
-use Rattle.desk_schema.proofs.Exports.{◌≡◌, ℕ, List, [], map, drop, AllByRecursion, IsUtf8, with_each, name_cmp}
-use Rattle.set_rows.proofs.affects.names_of.Given as goal
-
-abbrev pub invariant-loop-row : goal.invariant-loop-row
-invariant-loop-row l = (ns : List (List ℕ)) → AllByRecursion IsUtf8 ns → l.rows ≡ map text_row ns → with_each name_cmp l.names (drop l.row-index ns) ≡ with_each name_cmp [] ns

@@ -1,6 +1,0 @@
-use Rattle.set_rows.proofs.Imports.{AreMemberRows}
-use Rattle.desk_schema.proofs.Exports.{◌≡◌, List, take, Member}
-use Rattle.set_rows.proofs.bugs.members_of.Given as goal
-
-abbrev pub invariant-loop-row : goal.invariant-loop-row
-invariant-loop-row l = (ms : List Member) → AreMemberRows l.rows ms → l.members ≡ take l.row-index ms

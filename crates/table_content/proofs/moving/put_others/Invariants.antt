@@ -1,0 +1,9 @@
+use Rattle.std.proofs.Common.{◌≡◌, ◌++◌, drop}
+use Rattle.table_content.specs.EditLists.{mark_puts}
+use Rattle.table_content.specs.Moving.{others}
+use Rattle.table_content.proofs.moving.put_others.Given as goal
+
+abbrev pub invariant-loop-node : goal.invariant-loop-node
+invariant-loop-node l =
+    l.edits ++ mark_puts l.key l.kind (others l.stood (drop l.node-index l.nodes))
+    ≡ l.fn.edits ++ mark_puts l.key l.kind (others l.stood l.nodes)

@@ -1,0 +1,12 @@
+use Rattle.table_schema.proofs.Exports.{state, acts_query, serves_query}
+use Rattle.table_nodes.proofs.ReadNext.{next_read}
+use Rattle.table_nodes.proofs.meta.next_rows.Goals as goal
+
+pub returns-clause-reads : goal.returns-clause-reads
+returns-clause-reads g c =
+    rw c.told.ensures.told (acts_query (λ rows. rows.items) _ _ _ next_read (state g.S.Store c.args.tx.now.conn.now) (state g.S.Store c.query_all.new.self.conn.now) c.query_all.result c.query_all.ensures.survives
+    c.query_all.ensures.ok c.query_all.ensures.err)
+
+pub returns-clause-serves : goal.returns-clause-serves
+returns-clause-serves g c =
+    rw c.told.ensures.told (serves_query (λ rows. rows.items) _ _ (state g.S.Store c.args.tx.now.conn.now) (state g.S.Store c.query_all.new.self.conn.now) c.query_all.result c.query_all.ensures.ok)

@@ -1,0 +1,12 @@
+use Rattle.table_schema.proofs.Exports.{state, acts_write, serves_write}
+use Rattle.table_nodes.proofs.NearestStatements.{clear_is}
+use Rattle.table_nodes.proofs.nearest.clear_near.Goals as goal
+
+pub returns-clause-plays : goal.returns-clause-plays
+returns-clause-plays g c =
+    rw c.written.ensures.told (acts_write _ _ _ _ (clear_is c.args.key) (state g.S.Store c.args.tx.now.conn.now) (state g.S.Store c.execute.new.self.conn.now) c.execute.result c.execute.ensures.survives
+    (rw c.params-to_sql.ensures at c.execute.ensures.runs))
+
+pub returns-clause-serves : goal.returns-clause-serves
+returns-clause-serves g c =
+    rw c.written.ensures.told (serves_write _ _ (state g.S.Store c.args.tx.now.conn.now) (state g.S.Store c.execute.new.self.conn.now) c.execute.result c.execute.ensures.runs)

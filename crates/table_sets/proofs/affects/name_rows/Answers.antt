@@ -1,0 +1,12 @@
+use Rattle.table_schema.proofs.Exports.{state, acts_query, serves_query}
+use Rattle.table_sets.proofs.AffectStatements.{names_read}
+use Rattle.table_sets.proofs.affects.name_rows.Goals as goal
+
+pub returns-clause-reads : goal.returns-clause-reads
+returns-clause-reads g c =
+    rw c.told.ensures.told (acts_query (λ rows. rows.items) _ _ _ (names_read c.args.key) (state g.S.Store c.args.tx.now.conn.now) (state g.S.Store c.query_all.new.self.conn.now) c.query_all.result c.query_all.ensures.survives
+    (rw c.params-to_sql.ensures at c.query_all.ensures.ok) (rw c.params-to_sql.ensures at c.query_all.ensures.err))
+
+pub returns-clause-serves : goal.returns-clause-serves
+returns-clause-serves g c =
+    rw c.told.ensures.told (serves_query (λ rows. rows.items) _ _ (state g.S.Store c.args.tx.now.conn.now) (state g.S.Store c.query_all.new.self.conn.now) c.query_all.result c.query_all.ensures.ok)

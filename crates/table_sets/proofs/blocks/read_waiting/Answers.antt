@@ -1,0 +1,13 @@
+use Rattle.table_schema.proofs.Exports.{◌≡◌, ℕ, List, map, ◌∙◌, Err, rules, ⊤, state, number_row, acts_stop, reads_work, answer_is}
+use Rattle.table_sets.specs.Waiting.{AreKeysOf}
+use Rattle.table_sets.proofs.blocks.read_waiting.Goals as goal
+
+pub returns-in_err-rows-clause-reads : goal.returns-in_err-rows-clause-reads
+returns-in_err-rows-clause-reads g c =
+    let is : c.from_residual.result ≡ Err c.in_err-rows.field-0.0 = search rules in
+    rw is (acts_stop (state g.S.Store c.args.tx.now.conn.now) (state g.S.Store c.waiting_rows.new.tx.conn.now) c.in_err-rows.field-0.0 (λ _. ⊤) _ _ _ (λ _ _. tt) c.in_err-rows.ensures.reads)
+
+pub returns-clause-reads : goal.returns-clause-reads
+returns-clause-reads g c =
+    reads_work (state g.S.Store c.args.tx.now.conn.now) (state g.S.Store c.waiting_rows.new.tx.conn.now) c.in_ok-rows.rows c.numbers_of.result (λ _. ⊤) (λ k rows. (keys : List ℕ) × (rows.items ≡ map number_row keys) × AreKeysOf c.args.blocker k keys) (λ k keys. AreKeysOf c.args.blocker k keys)
+    (λ k p. let is = c.as_slice.ensures.value ∙ p.1 in (answer_is (λ keys. keys) (AreKeysOf c.args.blocker k) p.0 c.numbers_of.result p.2 (c.numbers_of.ensures.value _ is), c.numbers_of.ensures.sure _ is)) c.in_ok-rows.ensures.reads

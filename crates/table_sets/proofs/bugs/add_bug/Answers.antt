@@ -1,0 +1,13 @@
+use Rattle.table_schema.proofs.Exports.{state, acts_write, serves_write}
+use Rattle.table_sets.proofs.BugStatements.{add_is}
+use Rattle.table_sets.proofs.bugs.add_bug.Goals as goal
+
+pub returns-clause-plays : goal.returns-clause-plays
+returns-clause-plays g c =
+    rw c.written.ensures.told (acts_write _ _ _ _ (add_is c.args.key (record { number = c.args.number; title = c.args.title.now; submitter = c.args.submitter.now }) c.utf8.title c.utf8.submitter)
+    (state g.S.Store c.args.tx.now.conn.now) (state g.S.Store c.execute.new.self.conn.now) c.execute.result c.execute.ensures.survives
+    (rw (c.params-to_sql.ensures, c.params-to_sql-2.ensures, c.params-to_sql-3.ensures, c.params-to_sql-4.ensures) at c.execute.ensures.runs))
+
+pub returns-clause-serves : goal.returns-clause-serves
+returns-clause-serves g c =
+    rw c.written.ensures.told (serves_write _ _ (state g.S.Store c.args.tx.now.conn.now) (state g.S.Store c.execute.new.self.conn.now) c.execute.result c.execute.ensures.runs)

@@ -1,0 +1,12 @@
+use Rattle.table_schema.proofs.Exports.{◌≡◌, [], ◌∷◌, ◌∙◌, Err, rules, option_map_or, ⊤, state, number_row, acts_stop, reads_work}
+use Rattle.table_sets.proofs.bugs.read_key.Goals as goal
+
+pub returns-in_err-rows-clause-reads : goal.returns-in_err-rows-clause-reads
+returns-in_err-rows-clause-reads g c =
+    let is : c.from_residual.result ≡ Err c.in_err-rows.field-0.0 = search rules in
+    rw is (acts_stop (state g.S.Store c.args.tx.now.conn.now) (state g.S.Store c.key_rows.new.tx.conn.now) c.in_err-rows.field-0.0 (λ _. ⊤) _ _ _ (λ _ _. tt) c.in_err-rows.ensures.reads)
+
+pub returns-clause-reads : goal.returns-clause-reads
+returns-clause-reads g c =
+    reads_work (state g.S.Store c.args.tx.now.conn.now) (state g.S.Store c.key_rows.new.tx.conn.now) c.in_ok-rows.rows c.number_in.result (λ _. ⊤) (λ k rows. rows.items ≡ option_map_or (λ n. number_row n ∷ []) (k.key c.args.number) []) (λ k key. key ≡ k.key c.args.number)
+    (λ k p. let is = c.as_slice.ensures.value ∙ p in (c.number_in.ensures.value _ is, c.number_in.ensures.sure _ is)) c.in_ok-rows.ensures.reads

@@ -1,0 +1,83 @@
+//! Desks that crash or are closed between two calls, and are opened again.
+
+use crate::desks::{desk_after, writes};
+use crate::tasks::{Came, CrashTask, over_new_files};
+use desk_tables::TableDesk;
+use sqlite::{Alter, Connection, FileStore, Options};
+use sqlite_trees::store::Reopen;
+use std::alloc::Global;
+use table_crashes::{close_and_crash, close_and_open, crash_and_open};
+use test_doubles::{File, connected, new_disks};
+
+// Two bugs that are merged, and a branch.
+const SCRIPT: &str =
+    "@from ann\n@branch foo/2 foo/1\n@report foo 1 normal a\n@report foo 1 normal b\nmerge 1 2\n";
+
+const ANSWERS: &str = "OK\nOK 1\nOK 2\n> merge 1 2\nOK 1 2\n";
+
+// Questions that show all that the script has done, and the number that the next bug gets.
+const QUESTIONS: &str = "@list foo 2\nmerge 1 2\n@report foo - normal c\n";
+
+const SHOWN: &str =
+    "Bugs in foo at foo/2: 2\n        1  normal     open  a\n        2  normal     open  b\n\
+    > merge 1 2\nOK, no change.\nOK 3\n";
+
+// The script, and a crash.
+struct Crash;
+
+/// Whether there is a desk, and it is as after the script.
+pub(crate) fn shows_all<S: Alter + Drop>(alloc: Global, desk: Option<TableDesk<S>>) -> bool {
+    match desk {
+        Some(mut desk) => writes(alloc, &mut desk, QUESTIONS, SHOWN),
+        None => false,
+    }
+}
+
+impl CrashTask for Crash {
+    fn run_over<S: Alter + Reopen + Drop>(&self, alloc: Global, conn: Connection<S>) -> Came {
+        let Some(desk) = desk_after(alloc, conn, SCRIPT, ANSWERS) else {
+            return Came::NoDesk;
+        };
+        if shows_all(alloc, crash_and_open(alloc, desk)) {
+            Came::Done
+        } else {
+            Came::Wrong
+        }
+    }
+}
+
+/// The desk after the script, in two files.
+pub(crate) fn desk_in_files(alloc: Global) -> Option<TableDesk<FileStore<File>>> {
+    match connected(alloc, new_disks(alloc), Options::new(1)) {
+        Ok(conn) => desk_after(alloc, conn, SCRIPT, ANSWERS),
+        Err(_) => None,
+    }
+}
+
+// Whether all is there after a close, or after a close and a crash.
+fn survives_a_close(alloc: Global, crashes: bool) -> bool {
+    let Some(desk) = desk_in_files(alloc) else {
+        return false;
+    };
+    let again = if crashes {
+        close_and_crash(alloc, desk, Options::new(1))
+    } else {
+        close_and_open(alloc, desk, Options::new(1))
+    };
+    shows_all(alloc, again)
+}
+
+#[test]
+fn a_crash_between_two_calls_loses_nothing(rt: HostRuntime) {
+    assert!(rt; over_new_files(rt.alloc(), u64::MAX, &Crash) == Came::Done);
+}
+
+#[test]
+fn a_desk_that_was_closed_is_found_as_it_was(rt: HostRuntime) {
+    assert!(rt; survives_a_close(rt.alloc(), false));
+}
+
+#[test]
+fn a_crash_after_a_close_loses_nothing(rt: HostRuntime) {
+    assert!(rt; survives_a_close(rt.alloc(), true));
+}

@@ -1,0 +1,397 @@
+//! A clock and two ends of a connection that pass the time by themselves: how long a server waits.
+
+use crate::exchanges::{REPORT, serve};
+use desk_http::{Limits, ServeFault, Served, serve_within};
+use memory_desk::PlainDesk;
+use std::alloc::Global;
+use std::cell::Cell;
+use std::io::{self, ErrorKind, Read, Write};
+use std::test::Fail;
+use std::time::{Clock, Duration};
+use store_contract::Records;
+
+// A call at a pace: so many bytes after each pause, the first after another, in milliseconds.
+#[derive(Clone, Copy)]
+struct Pace {
+    first: u64,
+    pause: u64,
+    piece: usize,
+}
+
+// The paces of a client: it sends its request, takes its answer, and sends so many bytes more.
+#[derive(Clone, Copy)]
+struct Paces {
+    sends: Pace,
+    takes: Pace,
+    more: usize,
+    sends_more: Pace,
+}
+
+// A client at its paces, and the clock, which goes on where somebody waits, in milliseconds.
+#[derive(Drop)]
+struct Client {
+    now: Cell<u64>,
+    request: String,
+    paces: Paces,
+    // How many bytes were read and written, and the limits of the calls.
+    read: Cell<usize>,
+    written: Cell<usize>,
+    read_limit: Cell<u64>,
+    write_limit: Cell<u64>,
+}
+
+// How long a limit is, in milliseconds.
+fn millis(limit: Duration) -> u64 {
+    limit
+        .as_secs()
+        .saturating_mul(1_000)
+        .saturating_add(u64::from(limit.subsec_millis()))
+}
+
+impl Client {
+    fn new(request: String, paces: Paces) -> Client {
+        Client {
+            now: Cell::new(0),
+            request,
+            paces,
+            read: Cell::new(0),
+            written: Cell::new(0),
+            read_limit: Cell::new(0),
+            write_limit: Cell::new(0),
+        }
+    }
+
+    // Waits so long, but no longer than the limit; whether that was long enough.
+    fn waits(&self, pause: u64, limit: u64) -> bool {
+        self.now
+            .set(self.now.get().saturating_add(pause.min(limit)));
+        pause <= limit
+    }
+
+    // Whether a call at a pace, after so many bytes, has waited long enough.
+    fn comes(&self, pace: Pace, done: usize, limit: u64) -> bool {
+        self.waits(if done == 0 { pace.first } else { pace.pause }, limit)
+    }
+
+    // What the client sends after so many bytes: how many more, and at which pace.
+    fn sends(&self, done: usize) -> (usize, Pace) {
+        let length = self.request.len();
+        if done < length {
+            return (length.saturating_sub(done), self.paces.sends);
+        }
+        let all = length.saturating_add(self.paces.more);
+        (all.saturating_sub(done), self.paces.sends_more)
+    }
+
+    // Puts what is left of the request after so many bytes into a buffer, as far as it fits.
+    fn put(&self, done: usize, buf: &mut [u8]) {
+        let left = self.request.as_bytes().get(done..).unwrap_or(&[]);
+        for (place, byte) in buf.iter_mut().zip(left) {
+            *place = *byte;
+        }
+    }
+}
+
+impl Clock for Client {
+    fn monotonic(&self) -> io::Result<Duration> {
+        Ok(Duration::from_millis(self.now.get()))
+    }
+
+    fn since_1970(&self) -> io::Result<Duration> {
+        Ok(Duration::from_millis(self.now.get()))
+    }
+}
+
+impl Limits for &Client {
+    fn limit_reads(&self, limit: Duration) -> io::Result<()> {
+        self.read_limit.set(millis(limit));
+        Ok(())
+    }
+
+    fn limit_writes(&self, limit: Duration) -> io::Result<()> {
+        self.write_limit.set(millis(limit));
+        Ok(())
+    }
+
+    fn end_writes(&self) -> io::Result<()> {
+        Ok(())
+    }
+}
+
+impl Read for &Client {
+    fn read(&mut self, buf: &mut [u8]) -> io::Result<usize> {
+        let done = self.read.get();
+        let (count, pace) = self.sends(done);
+        if count == 0 {
+            return Ok(0);
+        }
+        if !self.comes(pace, done, self.read_limit.get()) {
+            return Err(io::Error::from(ErrorKind::WouldBlock));
+        }
+        let len = count.min(buf.len()).min(pace.piece);
+        self.put(done, buf);
+        self.read.set(done.saturating_add(len));
+        Ok(len)
+    }
+}
+
+impl Write for &Client {
+    fn write(&mut self, buf: &[u8]) -> io::Result<usize> {
+        let done = self.written.get();
+        if !self.comes(self.paces.takes, done, self.write_limit.get()) {
+            return Err(io::Error::from(ErrorKind::WouldBlock));
+        }
+        let len = buf.len().min(self.paces.takes.piece);
+        self.written.set(done.saturating_add(len));
+        Ok(len)
+    }
+
+    fn flush(&mut self) -> io::Result<()> {
+        Ok(())
+    }
+}
+
+const AT_ONCE: Pace = Pace {
+    first: 0,
+    pause: 0,
+    piece: usize::MAX,
+};
+
+// What came of serving a client.
+#[derive(Clone, Copy, PartialEq, Eq)]
+enum Outcome {
+    Answered,
+    Closed,
+    ReadFault,
+    WriteFault,
+}
+
+fn outcome_of(told: &Result<Served, ServeFault>) -> Outcome {
+    match told {
+        Ok(Served::Answered(_)) => Outcome::Answered,
+        Ok(Served::Closed) => Outcome::Closed,
+        Err(ServeFault::Read) => Outcome::ReadFault,
+        Err(ServeFault::Write) => Outcome::WriteFault,
+    }
+}
+
+// What came of a request at these paces: how it ended and when, and how many bugs there are then.
+fn ends(alloc: Global, client: &Client) -> (Outcome, u64, u64) {
+    let mut desk = PlainDesk::new(alloc, 1);
+    let told = serve_within(client, alloc, &mut desk, client, client);
+    let bugs = desk.next().unwrap_or(0).saturating_sub(1);
+    (outcome_of(&told), client.now.get(), bugs)
+}
+
+// The same of a report that is sent and whose answer is taken at these paces.
+fn report_at(alloc: Global, sends: Pace, takes: Pace) -> Result<(Outcome, u64, u64), Fail> {
+    let paces = Paces {
+        sends,
+        takes,
+        more: 0,
+        sends_more: AT_ONCE,
+    };
+    let client = Client::new(String::from_str(alloc, REPORT)?, paces);
+    Ok(ends(alloc, &client))
+}
+
+// The first call waits so long, and no other waits.
+fn late(first: u64) -> Pace {
+    Pace { first, ..AT_ONCE }
+}
+
+// A byte after each pause, the first at once.
+fn trickle(pause: u64) -> Pace {
+    Pace {
+        first: 0,
+        pause,
+        piece: 1,
+    }
+}
+
+#[test]
+fn a_client_may_be_silent_for_a_second(rt: HostRuntime) -> Result<(), Fail> {
+    let alloc = rt.alloc();
+    assert!(rt; report_at(alloc, late(1_000), AT_ONCE)? == (Outcome::Answered, 1_000, 1));
+    assert!(rt; report_at(alloc, late(1_001), AT_ONCE)? == (Outcome::ReadFault, 1_000, 0));
+    Ok(())
+}
+
+// A request that stops in its body, after 60 bytes of 105.
+fn stops(pause: u64) -> Pace {
+    Pace {
+        first: 500,
+        pause,
+        piece: 60,
+    }
+}
+
+#[test]
+fn a_request_has_ten_seconds(rt: HostRuntime) -> Result<(), Fail> {
+    let alloc = rt.alloc();
+    assert!(rt; report_at(alloc, stops(9_500), AT_ONCE)? == (Outcome::Answered, 10_000, 1));
+    assert!(rt; report_at(alloc, stops(9_501), AT_ONCE)? == (Outcome::ReadFault, 10_000, 0));
+    // Of 104 pauses the head, of 43 bytes, has 42.
+    assert!(rt; report_at(alloc, trickle(96), AT_ONCE)? == (Outcome::Answered, 9_984, 1));
+    assert!(rt; report_at(alloc, trickle(97), AT_ONCE)? == (Outcome::ReadFault, 10_000, 0));
+    assert!(rt; report_at(alloc, trickle(300), AT_ONCE)? == (Outcome::ReadFault, 10_000, 0));
+    Ok(())
+}
+
+#[test]
+fn a_short_answer_has_five_seconds(rt: HostRuntime) -> Result<(), Fail> {
+    let alloc = rt.alloc();
+    assert!(rt; report_at(alloc, AT_ONCE, late(5_000))? == (Outcome::Answered, 5_000, 1));
+    assert!(rt; report_at(alloc, AT_ONCE, late(5_001))? == (Outcome::WriteFault, 5_000, 1));
+    // 103 bytes, and so 102 pauses.
+    assert!(rt; report_at(alloc, AT_ONCE, trickle(49))? == (Outcome::Answered, 4_998, 1));
+    assert!(rt; report_at(alloc, AT_ONCE, trickle(50))? == (Outcome::WriteFault, 5_000, 1));
+    Ok(())
+}
+
+// A list of all bugs.
+const LIST: &str = "GET /list/foo/1 HTTP/1.1\r\n\r\n";
+
+// A report whose title has 200 bytes, so that its row of a list has 229.
+fn long_report(alloc: Global) -> Result<String, Fail> {
+    let mut request = String::from_str(
+        alloc,
+        "POST /bugs HTTP/1.1\r\nContent-Length: 261\r\n\r\n",
+    )?;
+    request.push_str("{\"from\":\"ann\",\"package\":\"foo\",\"severity\":\"normal\",\"title\":\"")?;
+    for _ in 0..200 {
+        request.push_str("x")?;
+    }
+    request.push_str("\"}")?;
+    Ok(request)
+}
+
+// A desk with so many bugs, each of which has a row of 229 bytes in a list.
+fn full_desk(alloc: Global, bugs: usize) -> Result<PlainDesk, Fail> {
+    let mut desk = PlainDesk::new(alloc, 1);
+    let request = long_report(alloc)?;
+    for _ in 0..bugs {
+        let mut written = Vec::new(alloc);
+        serve(alloc, &mut desk, &request, &mut written);
+    }
+    Ok(desk)
+}
+
+// What comes of an answer: how it ends, when, and how many bytes of it are taken.
+type Taken = (Outcome, u64, usize);
+
+// What comes of a list of all bugs that is taken at this pace.
+fn list_at(alloc: Global, desk: &mut PlainDesk, takes: Pace) -> Result<Taken, Fail> {
+    let paces = Paces {
+        sends: AT_ONCE,
+        takes,
+        more: 0,
+        sends_more: AT_ONCE,
+    };
+    let client = Client::new(String::from_str(alloc, LIST)?, paces);
+    let told = serve_within(&client, alloc, desk, &client, &client);
+    Ok((outcome_of(&told), client.now.get(), client.written.get()))
+}
+
+// The same of lists of so many bugs, one after another.
+fn lists_at(alloc: Global, bugs: usize, takes: &[Pace]) -> Result<Vec<Taken>, Fail> {
+    let mut desk = full_desk(alloc, bugs)?;
+    let mut all = Vec::new(alloc);
+    for pace in takes {
+        all.push(list_at(alloc, &mut desk, *pace)?)?;
+    }
+    Ok(all)
+}
+
+// The first line of these lists has 27 bytes, so 4,366 bugs make 999,841 and 4,367 make 1,000,070,
+// after a head of 103 and 104 bytes.
+#[test]
+fn an_answer_has_a_second_more_for_each_million_bytes(rt: HostRuntime) -> Result<(), Fail> {
+    let below = lists_at(rt.alloc(), 4_366, &[late(4_999), late(5_001)])?;
+    assert!(rt;
+        below[..]
+            == [
+                (Outcome::Answered, 4_999, 999_944),
+                (Outcome::WriteFault, 5_000, 0)
+            ]
+    );
+    let above = lists_at(rt.alloc(), 4_367, &[late(5_999), late(6_001)])?;
+    assert!(rt;
+        above[..]
+            == [
+                (Outcome::Answered, 5_999, 1_000_174),
+                (Outcome::WriteFault, 6_000, 0)
+            ]
+    );
+    Ok(())
+}
+
+// A client that takes 4,096 bytes after each pause, the first at once.
+fn takes_after(pause: u64) -> Pace {
+    Pace {
+        first: 0,
+        pause,
+        piece: 4_096,
+    }
+}
+
+// 18,000 bugs make 4,122,028 bytes, after a head of 104, which are 1,007 pieces.
+#[test]
+fn a_list_of_four_megabytes_has_nine_seconds(rt: HostRuntime) -> Result<(), Fail> {
+    let paces = [late(u64::MAX), takes_after(2), takes_after(8)];
+    let taken = lists_at(rt.alloc(), 18_000, &paces)?;
+    assert!(rt;
+        taken[..]
+            == [
+                (Outcome::WriteFault, 9_000, 0),
+                (Outcome::Answered, 2_012, 4_122_132),
+                (Outcome::Answered, 8_048, 4_122_132)
+            ]
+    );
+    Ok(())
+}
+
+// How many bytes are read of those that a client sends after its request, at this pace, and how
+// long that takes.
+fn drained(alloc: Global, more: usize, sends_more: Pace) -> Result<(usize, u64), Fail> {
+    let paces = Paces {
+        sends: AT_ONCE,
+        takes: AT_ONCE,
+        more,
+        sends_more,
+    };
+    let client = Client::new(String::from_str(alloc, REPORT)?, paces);
+    ends(alloc, &client);
+    Ok((
+        client.read.get().saturating_sub(REPORT.len()),
+        client.now.get(),
+    ))
+}
+
+// How many bytes a client sends after its request, in which pieces and after which pauses, and then
+// how many of them are read, and how long that takes.
+const DRAINS: [(usize, usize, u64, (usize, u64)); 8] = [
+    (100_000, usize::MAX, 0, (100_000, 0)),
+    (16_777_216, usize::MAX, 0, (16_777_216, 0)),
+    (16_777_217, usize::MAX, 0, (16_777_216, 0)),
+    (100, 10, 1_000, (40, 4_000)),
+    (100, 10, 900, (40, 4_000)),
+    (100, 10, 1_001, (0, 1_000)),
+    (100, 10, 400, (100, 4_000)),
+    // The pieces may be small.
+    (3_000, 1, 0, (3_000, 0)),
+];
+
+#[test]
+fn what_a_connection_leaves_unread_is_drained(rt: HostRuntime) -> Result<(), Fail> {
+    for (more, piece, pause, read) in DRAINS.iter() {
+        let sends_more = Pace {
+            first: 0,
+            pause: *pause,
+            piece: *piece,
+        };
+        let told = drained(rt.alloc(), *more, sends_more)?;
+        assert!(rt; told == *read, "{more} {piece} {pause}");
+    }
+    Ok(())
+}
