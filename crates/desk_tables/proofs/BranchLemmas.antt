@@ -5,7 +5,7 @@ use Rattle.sqlite_trees.specs.declared.store.Store as store
 use Rattle.version_nodes.specs.declared.fault.BranchFault.{BranchFault}
 use Rattle.version_nodes.specs.declared.fault.BranchFault.TheVariants.{Memory}
 use Rattle.table_content.proofs.QuestionLemmas.{branch_kept}
-use Rattle.desk_tables.proofs.StillLemmas.{shows_now, still_same}
+use Rattle.table_opening.proofs.StillLemmas.{shows_now, still_same}
 use Rattle.desk_tables.proofs.KeptLemmas.{content_is, noted_kept}
 
 abbrev pub Answer : Type 0

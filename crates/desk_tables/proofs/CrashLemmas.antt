@@ -16,7 +16,7 @@ use Rattle.store_contract.proofs.CrashLemmas.{or_other}
 use Rattle.desk_tables.specs.Desk.{desk_of, keeping_of, HasHonestDisk, MayKeep, KeepsOf}
 use Rattle.desk_tables.specs.declared.desk.TableDesk.{TableDesk}
 use Rattle.desk_tables.proofs.KeptLemmas.{kept_shows}
-use Rattle.desk_tables.proofs.HeldLemmas.{committed_tables}
+use Rattle.table_opening.proofs.HeldLemmas.{committed_tables}
 use Rattle.desk_tables.proofs.KeepLemmas.{changed_desk}
 
 -- what is left alone is left, or another

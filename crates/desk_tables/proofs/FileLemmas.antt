@@ -8,7 +8,7 @@ use Rattle.sqlite_store.specs.declared.store.FileStore.{FileStore}
 use Rattle.sqlite_trees.specs.Props.{Trees-set}
 use Rattle.sqlite_trees.specs.Tree.{Trees}
 use Rattle.sqlite_wal.specs.Recovery.{Image}
-use Rattle.desk_tables.proofs.HeldLemmas.{holds_tables, committed_tables, newest_held}
+use Rattle.table_opening.proofs.HeldLemmas.{holds_tables, committed_tables, newest_held}
 
 -- ---- files that are opened
 

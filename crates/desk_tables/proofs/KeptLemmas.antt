@@ -21,7 +21,7 @@ use Rattle.std.specs.Option.{option_and_then}
 use Rattle.std.specs.Prelude.{◌==◌}
 use Rattle.table_reads.specs.declared.images.FoundSet.{FoundSet}
 use Rattle.desk_tables.specs.declared.desk.TableDesk.{TableDesk}
-use Rattle.desk_tables.proofs.StillLemmas.{shows_now}
+use Rattle.table_opening.proofs.StillLemmas.{shows_now}
 
 -- what a connection shows is what its tables say
 pub content_is : {S : Type 0} (g : store.Ghosts S) (h : Held S) → content_seen g h ≡ seen (state g h)

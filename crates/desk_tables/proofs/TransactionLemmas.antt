@@ -1,42 +1,13 @@
 -- What a transaction comes to: a question that is rolled back, and a change that is committed.
-use Rattle.desk_tables.proofs.Imports.{IsBlank, IsDeskOf, IsUnder, Builds, Says, ReadsSchema, IsLeft, IsDesk, HasContent, HasContentUnder, AreTablesOf, IsAsBefore, StillShows, AsksInside, IsAsked, IsChanged, IsDone, IsMade, IsCarried, AsksSchema, IsCommitFault, Ends}
-use Rattle.table_schema.proofs.Exports.{◌≡◌, ◌≢◌, ℕ, ◌⊎◌, inl, inr, [], Result, Ok, Err, IfOk, IfErr, IsTrue, IsOk, None, false, true, true≢false, arith, refl, sym, ap, subst, ◌∙◌, ⊤, Database, IsDatabase, Held, state, Ghosts, State, Shows, KeepsCounts, HasCleanDisk, KeepsCommit, Survives, IsUnchanged, IsRolledBack, Error, survives_then, survives_weaker, StoreFault, Foreign, fault_of, commit_free, Content, no_content, content_of, AreShown, IsInside, seen, Goes, Acts, Serves, done, failed, acts_none}
-use Rattle.sqlite.specs.Steps.{FailsToCommit}
-use Rattle.table_history.specs.declared.number.SchemaRead.{SchemaRead}
-use Rattle.desk_tables.proofs.StillLemmas.{shows_now, left_still}
+use Rattle.desk_tables.proofs.Imports.{IsDeskOf, IsLeft, HasContent, IsAsBefore, AsksInside, IsAsked, IsChanged, IsDone, Ends}
+use Rattle.table_schema.proofs.Exports.{◌≡◌, Result, Ok, Err, IfOk, IfErr, IsTrue, None, false, arith, refl, sym, ap, subst, ◌∙◌, ⊤, Held, state, Ghosts, State, HasCleanDisk, Survives, IsRolledBack, survives_then, StoreFault, Content, no_content, IsInside, seen, Goes, Acts, Serves, acts_none}
+use Rattle.table_opening.proofs.StillLemmas.{left_still}
+use Rattle.table_opening.proofs.TransactionLemmas.{begun, undone, Leads, committed}
 
 -- ---- a question in a transaction that is rolled back
 
-abbrev pub begun : State → State
-begun s = record s { in_transaction = true }
-
 begins : (s : State) (c : Content) → s.step_limit ≡ None → HasCleanDisk s → HasContent c s → IsInside (begun s)
 begins s c limit clean shows = record { begun = refl; unlimited = limit; schema = λ o. (shows clean o).0.schema; sound = λ o. (shows clean o).0.sound; shown = λ o. (shows clean o).0.shown }
-
-begins_under : (k : ℕ) (s : State) (c : Content) → s.step_limit ≡ None → HasCleanDisk s → HasContentUnder k c s → IsUnder k c (begun s)
-begins_under k s c limit clean shows = record { begun = refl; unlimited = limit; schema = λ o. (shows clean o).schema; sound = λ o. (shows clean o).sound; shown = λ o. (shows clean o).shown }
-
--- what was begun is undone, and so the tables are as they were
-undone : (old mid new : State) → (HasCleanDisk new → HasCleanDisk old) → (HasCleanDisk new → KeepsCommit (begun old) mid) → (HasCleanDisk new → IsRolledBack mid new) → StillShows old new
-undone old mid new early kept back c shows = record {
-  honest = early;
-  was_open = λ clean o. (kept clean).was_open ((back clean).was_open o);
-  tables = λ clean o.
-      let live = (back clean).was_open o in
-      ((back clean).undone o).0 ∙ (kept clean).committed live ∙ sym (shows (early clean) ((kept clean).was_open live)).0.settled;
-  committed = λ clean o. ((back clean).undone o).1 ∙ (kept clean).committed ((back clean).was_open o);
-}
-
-left_undone : (old mid new : State) → (HasCleanDisk new → HasCleanDisk old) → (HasCleanDisk new → KeepsCommit (begun old) mid) → (HasCleanDisk new → IsRolledBack mid new)
-    → new.in_transaction ≡ false → IsLeft old new
-left_undone old mid new early kept back idle = record {
-  honest = early;
-  idle = idle;
-  was_open = λ clean o. (kept clean).was_open ((back clean).was_open o);
-  committed = λ clean o. ((back clean).undone o).1 ∙ (kept clean).committed ((back clean).was_open o);
-  now = λ clean o same. ((back clean).undone o).0 ∙ (kept clean).committed ((back clean).was_open o) ∙ sym same;
-  content = λ c shows. shows_now old new c (undone old mid new early kept back c shows) shows;
-}
 
 module _ {A : Type 0} (r : Result A StoreFault) (Fits : Content → Type 0) (P : Content → A → Type 0) where
   asked : (old mid new : State) → old.step_limit ≡ None → AsksInside (begun old) mid r Fits P → (HasCleanDisk new → IsRolledBack mid new) → Survives mid new (λ _. ⊥) → IsAsked old new r Fits P
@@ -85,146 +56,9 @@ asks_known s a Fits P known =
     let none = acts_none s a Fits (λ c d b. ⊤) (λ c. tt) in
     record { survives = none.survives; keeps = none.keeps; ok = λ c clean inside says fits. known c fits; sure = λ c clean inside says fits. tt }
 
--- the number of the schema is asked for
-pub asks : (old mid new : State) (r : Result SchemaRead StoreFault) → old.step_limit ≡ None → ReadsSchema (begun old) mid r → new.in_transaction ≡ false → (HasCleanDisk new → IsRolledBack mid new) → Survives mid new (λ _. ⊥)
-    → AsksSchema old new r
-asks old mid new r limit reads idle back survives = record {
-  survives = survives_then old mid new _ _ (λ _. ⊥) (λ _ db none. none) (λ _ db none. none) (record { clean = one.clean; shield = one.shield; counts = one.counts; limit = one.limit; closes = one.closes; crash = one.crash }) survives;
-  left = left_undone old mid new early kept back idle;
-  ok = λ clean. said r (reads.ok (late clean) limit);
-  sure = reads.sure;
-  under = λ k c clean shows. reads.under k c (late clean) (begins_under k old c limit (early clean) shows);
-}
-  where
-    one : Survives (begun old) mid (λ _. ⊥)
-    one = reads.survives
-
-    late : HasCleanDisk new → HasCleanDisk mid
-    late clean = omega (arith, survives.clean, clean)
-
-    early : HasCleanDisk new → HasCleanDisk old
-    early clean = omega (arith, survives.clean, one.clean, clean)
-
-    kept : HasCleanDisk new → KeepsCommit (begun old) mid
-    kept clean = reads.keeps (late clean)
-
-    said : (r : Result SchemaRead StoreFault) → IfOk r (λ read. IsUnchanged (begun old) mid × Says old.now read) → IfOk r (λ read. IsTrue old.is_open × Says old.now read)
-    said (Ok read) h = (h.0.0.was_open, h.1)
-    said (Err e) h = tt
-
--- ---- the end of a transaction
-
-pub ends_ok : (mid new : State) → (HasCleanDisk new → IsTrue mid.in_transaction × Shows mid new mid.now mid.now false × KeepsCounts mid new × (new.marks ≡ [])) → Survives mid new (λ db. db ≡ mid.now.trees) → Ends mid new done done
-ends_ok mid new ok survives = record {
-  survives = survives_weaker mid new _ _ (λ clean db is. (refl, is)) survives;
-  ok = λ clean. let h = (ok clean).1 in (refl, h.was_open, h.is_open, h.now_is, h.committed_is);
-  err = λ clean inside. tt;
-  cause = λ clean did inside. tt;
-}
-
-pub ends_failed : (mid new : State) (e : Error) → (HasCleanDisk new → FailsToCommit mid new e) → Survives mid new (λ db. db ≡ mid.now.trees) → Ends mid new done (failed (fault_of e))
-ends_failed mid new e fails survives = record {
-  survives = survives_weaker mid new _ _ (λ clean db is. (refl, is)) survives;
-  ok = λ clean. tt;
-  err = λ clean inside. go (inside refl) (fails clean);
-  cause = λ clean did inside. named inside (fails clean);
-}
-  where
-    named : IsTrue mid.in_transaction → FailsToCommit mid new e → IsCommitFault mid new (fault_of e)
-    named inside (inl fails) = (fails.0, ap fault_of fails.1, fails.2, fails.4)
-    named inside (inr (why, off, same)) = absurd (true≢false (sym inside ∙ off))
-
-    go : IsTrue mid.in_transaction → FailsToCommit mid new e → IsRolledBack mid new × (fault_of e ≢ Foreign ⊎ (done ≡ failed (fault_of e)))
-    go inside (inl fails) = (fails.3, inl (commit_free mid new e inside (inl fails)))
-    go inside (inr (why, off, same)) = absurd (true≢false (sym inside ∙ off))
-
-pub ends_undone : (mid new : State) (fault : StoreFault) → (HasCleanDisk new → IsRolledBack mid new) → Survives mid new (λ _. ⊥) → Ends mid new (failed fault) (failed fault)
-ends_undone mid new fault back survives = record {
-  survives = survives_weaker mid new _ _ (λ clean db none. absurd none) survives;
-  ok = λ clean. tt;
-  err = λ clean inside. (back clean, inr refl);
-  cause = λ clean did inside. absurd (true≢false (sym did));
-}
-
-it_went : {X : Type 0} (did : Result (Unit {0}) StoreFault) → IsOk did → IfOk did (λ _. X) → X
-it_went (Ok u) o x = x
-it_went (Err e) o x = absurd (true≢false (sym o))
-
--- ---- a transaction that leads to the tables of a desk
-
--- what its steps come to before it ends
-pub record Leads (Begun Fits : Type 0) (after : Content) (old mid : State) (did : Result (Unit {0}) StoreFault) : Type 0 where
-  pub survives : Survives old mid (λ _. ⊥)
-  pub keeps : HasCleanDisk mid → Begun → KeepsCommit old mid
-  pub goes_on : HasCleanDisk mid → Begun → IfOk did (λ _. IsTrue mid.in_transaction)
-  pub went : HasCleanDisk mid → Begun → Fits → IfOk did (λ _. IsTrue old.is_open × IsTrue mid.is_open × IsDeskOf after mid)
-  pub sure : HasCleanDisk mid → Begun → Fits → IfErr did (λ fault. fault ≢ Foreign)
-
-module _ (Begun Fits : Type 0) (after : Content) (old mid new : State) (did : Result (Unit {0}) StoreFault) (leads : Leads Begun Fits after (begun old) mid did) where
-  steps : Survives (begun old) mid (λ _. ⊥)
-  steps = leads.survives
-
-  abbrev Failed : StoreFault → Type 0
-  Failed fault = IsRolledBack mid new × (fault ≢ Foreign ⊎ (did ≡ failed fault))
-
-  pub committed : (r : Result (Unit {0}) StoreFault) → Ends mid new did r → new.in_transaction ≡ false → IsDone Begun Fits after old new r
-  committed r ends idle = record { honest = early; ok = oks r ends.ok; err = errs r ends.err; sure = sures r ends.err; crash = crash }
-    where
-      late : HasCleanDisk new → HasCleanDisk mid
-      late clean = omega (arith, ends.survives.clean, clean)
-
-      early : HasCleanDisk new → HasCleanDisk old
-      early clean = omega (arith, ends.survives.clean, steps.clean, clean)
-
-      inside : HasCleanDisk new → Begun → IsOk did → IsTrue mid.in_transaction
-      inside clean was o = it_went did o (leads.goes_on (late clean) was)
-
-      went : HasCleanDisk new → Begun → Fits → IsOk did → IsTrue old.is_open × IsTrue mid.is_open × IsDeskOf after mid
-      went clean was fits o = it_went did o (leads.went (late clean) was fits)
-
-      oks : (r : Result (Unit {0}) StoreFault) → (HasCleanDisk new → IfOk r (λ _. IsOk did × IsTrue mid.is_open × IsTrue new.is_open × (new.now ≡ mid.now) × (new.committed ≡ mid.now)))
-          → HasCleanDisk new → Begun → Fits → IfOk r (λ _. IsTrue new.is_open × IsDesk new × (seen new ≡ after))
-      oks (Err e) ended clean was fits = tt
-      oks (Ok u) ended clean was fits =
-          let h = ended clean in
-          let g = (went clean was fits h.0).2 in (
-            h.2,
-            record {
-              settled = h.3 ∙ sym h.4;
-              schema = ap (λ (d : Database). d.schema) h.3 ∙ g.inside.schema h.1;
-              sound = subst IsDatabase (sym h.3) (g.inside.sound h.1);
-              shown = subst (λ (d : Database). AreShown d.trees) (sym h.3) (g.inside.shown h.1);
-            },
-            ap (λ (d : Database). content_of d.trees) h.3 ∙ g.says,
-          )
-
-      errs : (r : Result (Unit {0}) StoreFault) → (HasCleanDisk new → (IsOk did → IsTrue mid.in_transaction) → IfErr r Failed) → Begun → IfErr r (λ _. IsLeft old new)
-      errs (Ok u) ended was = tt
-      errs (Err e) ended was = left_undone old mid new early (λ clean. leads.keeps (late clean) was) (λ clean. (ended clean (inside clean was)).0) idle
-
-      sures : (r : Result (Unit {0}) StoreFault) → (HasCleanDisk new → (IsOk did → IsTrue mid.in_transaction) → IfErr r Failed)
-          → HasCleanDisk new → Begun → Fits → IfErr r (λ fault. fault ≢ Foreign)
-      sures (Ok u) ended clean was fits = tt
-      sures (Err e) ended clean was fits = elim ((ended clean (inside clean was)).1) [
-        | inl sure ↦ sure
-        | inr same ↦ subst (λ r. IfErr r (λ fault. fault ≢ Foreign)) same (leads.sure (late clean) was fits)
-      ]
-
-      crash : (HasCleanDisk new → Begun × Fits) → Survives old new (AreTablesOf after)
-      crash both = survives_then old mid new _ _ (AreTablesOf after) (λ _ db none. absurd none)
-          (λ clean db p.
-          let g = went clean (both clean).0 (both clean).1 p.0 in
-          subst (AreTablesOf after) (sym p.1) (record {
-            sound = subst (λ s. IsDatabase (record { schema = s; trees = mid.now.trees })) (g.2.inside.schema g.1) (g.2.inside.sound g.1);
-            shown = g.2.inside.shown g.1;
-            content = g.2.says;
-          }))
-          (record { clean = steps.clean; shield = steps.shield; counts = steps.counts; limit = steps.limit; closes = steps.closes; crash = steps.crash }) ends.survives
-
--- ---- those transactions
+-- ---- a change in a transaction that is committed
 
 module _ (old mid new : State) (did r : Result (Unit {0}) StoreFault) (limit : old.step_limit ≡ None) (ends : Ends mid new did r) (idle : new.in_transaction ≡ false) where
-  -- a change is made
   pub altered : (Fits : Content → Type 0) (after : Content → Content) → Acts (begun old) mid did Fits (λ c d _. Fits c → d ≡ after c) → Serves (begun old) mid did → IsChanged old new r Fits after
   altered Fits after runs serves = record {
     honest = (all (no_content 0)).honest;
@@ -264,23 +98,3 @@ module _ (old mid new : State) (did r : Result (Unit {0}) StoreFault) (limit : o
         went = λ clean shows fits. goes did c (λ o. (shows (early clean) o).1) fits (serves clean (inside c clean shows)) (runs.ok clean (inside c clean shows));
         sure = λ clean shows fits. runs.sure clean (inside c clean shows) (λ o. subst Fits (sym (shows (early clean) o).1) fits);
       }) r ends idle
-
-  -- tables are made, from what held before
-  built : (Fits : Type 0) (Before : State → Type 0) (c : Content) → (HasCleanDisk old → Fits → Before (begun old)) → Builds Before (IsDeskOf c) (begun old) mid did → IsDone ⊤ Fits c old new r
-  built Fits Before c before builds =
-      let one : Survives (begun old) mid (λ _. ⊥) = builds.survives in
-      committed ⊤ Fits c old mid new did (record {
-        survives = one;
-        keeps = λ clean _. builds.keeps clean refl;
-        goes_on = λ clean _. builds.goes_on clean refl;
-        went = λ clean _ fits. builds.ok clean (before (omega (arith, one.clean, clean)) fits);
-        sure = λ clean _ fits. builds.sure clean (before (omega (arith, one.clean, clean)) fits);
-      }) r ends idle
-
-  -- those of a new desk
-  pub made : (first : ℕ) → IsBlank (begun old) → Builds IsBlank (IsDeskOf (no_content first)) (begun old) mid did → IsMade first old new r
-  made first blank builds = built ⊤ IsBlank (no_content first) (λ _ _. blank) builds
-
-  -- those of an earlier schema are carried over
-  pub carried : (k : ℕ) → ((c : Content) → Builds (IsUnder k c) (IsDeskOf c) (begun old) mid did) → IsCarried k old new r
-  carried k builds = λ c. built (HasContentUnder k c old) (IsUnder k c) c (λ clean shows. begins_under k old c limit clean shows) (builds c)

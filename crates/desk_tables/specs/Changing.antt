@@ -13,7 +13,8 @@ use Rattle.table_content.specs.Changes.{FitsContent, changed}
 use Rattle.table_content.specs.KeptOutcomes.{kept_after}
 use Rattle.store_contract.specs.Store.{Holds, Applies, Branches}
 use Rattle.desk_tables.specs.Desk.{state_of, content_shown, desk_of, keeping_of, HasHonestDisk, HasKeptTables, KeepsOf}
-use Rattle.desk_tables.specs.Shown.{AreTablesOf, AreTablesAfter}
+use Rattle.table_opening.specs.Shown.{AreTablesOf}
+use Rattle.desk_tables.specs.Crashes.{AreTablesAfter}
 use Rattle.desk_tables.specs.declared.desk.TableDesk.{TableDesk}
 
 module _ {S : Type 0} {g : store.Ghosts S} where

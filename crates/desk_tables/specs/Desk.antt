@@ -15,7 +15,7 @@ use Rattle.store_contract.specs.Kept.{Keeping}
 use Rattle.store_contract.specs.Store.{Asks, Answers, Faults, MayBeKept, Keeps}
 use Rattle.table_reads.specs.Known.{known_set}
 use Rattle.desk_tables.specs.Kept.{content_seen, IsKept, Remembered}
-use Rattle.desk_tables.specs.Shown.{LeavesOf}
+use Rattle.desk_tables.specs.Crashes.{LeavesOf}
 use Rattle.desk_tables.specs.declared.desk.TableDesk.{TableDesk}
 
 module _ {S : Type 0} {g : store.Ghosts S} where

@@ -8,7 +8,7 @@ use Rattle.sqlite_wal.specs.Files.{outcomes}
 use Rattle.sqlite_wal.specs.Recovery.{Image}
 use Rattle.table_content.specs.Content.{Content}
 use Rattle.table_content.specs.Kept.{IsKeptContent}
-use Rattle.desk_tables.specs.Shown.{HoldTables}
+use Rattle.table_opening.specs.Shown.{HoldTables}
 
 -- the two files hold a desk with this content, which is kept, under some schema of a desk
 pub record HoldDesk (image : Image) (c : Content) : Type 0 where

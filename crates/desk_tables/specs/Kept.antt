@@ -1,5 +1,5 @@
 -- A desk over a connection, whose content is remembered also once a fault has shut the connection.
-use Rattle.std.specs.Prelude.{ℕ, List, ◌≡◌, Option, Some, IfSome, None, false}
+use Rattle.std.specs.Prelude.{ℕ, List, ◌≡◌, Option, Some, IfSome}
 use Rattle.sqlite.specs.Held.{Held, state}
 use Rattle.sqlite_trees.specs.declared.store.Store as store
 use Rattle.version_nodes.specs.Trees.{Ancestry}
@@ -12,12 +12,7 @@ use Rattle.table_content.specs.View.{desk_in, image, keeping_in}
 use Rattle.table_schema.specs.Steps.{seen}
 use Rattle.store_contract.specs.Kept.{Keeping}
 use Rattle.table_writes.specs.Needs.{IsPlaceIn}
-use Rattle.desk_tables.specs.Shown.{HasContent}
-
--- a connection between two calls: in no transaction, and its statements have no limit of steps
-pub record IsIdle {S : Type 0} (conn : Held S) : Type 0 where
-  pub autocommit : conn.in_transaction ≡ false
-  pub unlimited : conn.step_limit ≡ None
+use Rattle.table_opening.specs.Shown.{HasContent}
 
 -- the images that are known of a content are those of its sets, each under the number of its first
 -- bug

@@ -1,8 +1,6 @@
-pub mod Shown
-pub mod Still
+pub mod Crashes
 pub mod Kept
 pub mod Desk
-pub mod Opening
 pub mod Files
 -- definitions that only private functions cite
 pub mod Changing

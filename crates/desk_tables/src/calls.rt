@@ -1,28 +1,25 @@
 //! Transactions over a connection, one for each call.
 
-ghost use Rattle.std.specs.Prelude.{◌≡◌, false};
+ghost use Rattle.std.specs.Prelude.{◌≡◌};
 ghost use Rattle.std.specs.Option.{option_copied};
 ghost use Rattle.sqlite.specs.Held.{state};
-ghost use Rattle.sqlite.specs.State.{IsLive};
 ghost use Rattle.version_nodes.specs.Trees.{IsForest};
 ghost use Rattle.table_nodes.specs.Grown.{IsGrown, unknown_of, roots_of, changed_of};
 ghost use Rattle.table_content.specs.Branches.{with_nodes};
 ghost use Rattle.table_content.specs.Changes.{FitsContent, changed};
 ghost use Rattle.table_content.specs.KeptOutcomes.{MayBePut, kept_after};
 ghost use Rattle.table_content.specs.Kept.{IsKeptContent};
-ghost use Rattle.table_history.specs.Names.{no_tables};
 ghost use Rattle.table_writes.specs.Needs.{HasTree, HasTreeIfAny, IsKnownIn, IsNextPlace};
-ghost use Rattle.desk_tables.specs.Kept.{IsIdle};
-ghost use Rattle.desk_tables.specs.Transactions.{IsAsked, IsChanged, IsTaken, IsMade, IsCarried, AsksSchema, Ends};
+ghost use Rattle.table_opening.specs.Idle.{IsIdle};
+ghost use Rattle.desk_tables.specs.Transactions.{IsAsked, IsChanged, IsTaken};
 
 use crate::asking::Question;
 use base_faults::StoreFault;
 use bug_record::{Change, Outcome, SetImage};
-use sqlite::{Alter, Connection, Transaction};
+use sqlite::{Alter, Connection};
 use std::alloc::Global;
-use table_history::{SchemaRead, carry_over, make_tables, read_schema};
 use table_nodes::{OpenNodes, branches_grow, changed_nodes, open_nodes};
-use table_schema::fault_of;
+use table_opening::finish;
 use table_writes::{put_branch, put_change, put_kept};
 use version_marks::Family;
 use version_nodes::{BranchFault, Node};
@@ -41,24 +38,6 @@ pub(crate) fn ask_within<S: Alter, Q: Question>(
     let answer = question.ask(&mut tx);
     tx.rollback();
     answer
-}
-
-// Ends a transaction: with a commit where its steps were done, and else undone.
-fn finish<S: Alter>(tx: Transaction<'_, S>, done: Result<(), StoreFault>) -> Result<(), StoreFault>
-    ensures ended { tx.exit.0.now.in_transaction ≡ false }
-    ensures ends { Ends (state S.Store tx.entry.conn.now)
-        (state S.Store tx.exit.0.now) done result }
-{
-    match done {
-        Ok(()) => match tx.commit() {
-            Ok(()) => Ok(()),
-            Err(error) => Err(fault_of(&error)),
-        },
-        Err(fault) => {
-            tx.rollback();
-            Err(fault)
-        }
-    }
 }
 
 // Keeps an outcome at the place that comes next, and carries its change out, if there is one; the
@@ -176,40 +155,4 @@ pub(crate) fn take_nodes<S: Alter>(
 {
     let before = open_nodes(alloc, family.tree(), nodes)?;
     take_open(alloc, conn, family, nodes, before)
-}
-
-// Makes the tables of a new desk, which gives `first` to its first bug, in a database with none.
-pub(crate) fn make_desk<S: Alter>(conn: &mut Connection<S>, first: u32) -> Result<(), StoreFault>
-    requires idle { IsIdle conn.old }
-    requires blank { (state S.Store conn.old).now.schema ≡ no_tables }
-    requires live { IsLive (state S.Store conn.old) }
-    ensures idle { IsIdle conn.new }
-    ensures made { IsMade first (state S.Store conn.old) (state S.Store conn.new) result }
-{
-    let mut tx = conn.transaction();
-    let done = make_tables(&mut tx, first);
-    finish(tx, done)
-}
-
-// What the database says of the number of its schema, whatever that schema is.
-pub(crate) fn ask_schema<S: Alter>(conn: &mut Connection<S>) -> Result<SchemaRead, StoreFault>
-    requires idle { IsIdle conn.old }
-    ensures idle { IsIdle conn.new }
-    ensures asked { AsksSchema (state S.Store conn.old) (state S.Store conn.new) result }
-{
-    let mut tx = conn.transaction();
-    let answer = read_schema(&mut tx);
-    tx.rollback();
-    answer
-}
-
-// Carries the tables of a desk under this schema over to the newest.
-pub(crate) fn carry_desk<S: Alter>(conn: &mut Connection<S>, from: u64) -> Result<(), StoreFault>
-    requires idle { IsIdle conn.old }
-    ensures idle { IsIdle conn.new }
-    ensures carried { IsCarried from (state S.Store conn.old) (state S.Store conn.new) result }
-{
-    let mut tx = conn.transaction();
-    let done = carry_over(&mut tx, from);
-    finish(tx, done)
 }

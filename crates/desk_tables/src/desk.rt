@@ -4,8 +4,8 @@ ghost use Rattle.std.specs.Prelude.{◌≡◌, ℕ, None};
 ghost use Rattle.sqlite.specs.Held.{state};
 ghost use Rattle.store_contract.specs.Store.{no_faults};
 ghost use Rattle.table_reads.specs.Known.{known_set};
-ghost use Rattle.desk_tables.specs.Kept.{IsIdle};
-ghost use Rattle.desk_tables.specs.Still.{StillShows, StillShows-prop};
+ghost use Rattle.table_opening.specs.Idle.{IsIdle};
+ghost use Rattle.table_opening.specs.Still.{StillShows, StillShows-prop};
 
 use crate::counts::Counts;
 use sqlite::{Alter, Connection};

@@ -7,11 +7,10 @@ mod changing;
 mod counts;
 mod desk;
 mod loading;
-mod open_fault;
 mod opening;
 mod questions;
 mod records;
 mod remembering;
 
 pub use desk::TableDesk;
-pub use open_fault::OpenFault;
+pub use table_opening::OpenFault;

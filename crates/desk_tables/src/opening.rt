@@ -14,68 +14,16 @@ ghost use Rattle.store_contract.specs.Kept.{none_kept};
 ghost use Rattle.store_contract.specs.Store.{no_faults};
 ghost use Rattle.desk_tables.specs.Desk.{connection_of, state_of, content_shown, desk_of};
 ghost use Rattle.desk_tables.specs.Desk.{keeping_of, faults_of, HasHonestDisk, HasKeptTables};
-ghost use Rattle.desk_tables.specs.Kept.{IsIdle};
-ghost use Rattle.desk_tables.specs.Opening.{unlimited, IsLeft, IsStoreFailure, IsReason};
-ghost use Rattle.desk_tables.specs.Opening.{SaysEarlier, SaysDesk};
-ghost use Rattle.desk_tables.specs.Shown.{HasContent, HasContentUnder, HoldsContent, AreTablesOf};
-ghost use Rattle.desk_tables.specs.Transactions.{IsCreated, IsRecognised, IsFound};
-ghost use Rattle.desk_tables.specs.declared.open_fault.OpenFault.TheVariants as fault;
+ghost use Rattle.table_opening.specs.Opening.{unlimited, IsLeft, IsStoreFailure, IsReason, SaysEarlier, SaysDesk};
+ghost use Rattle.table_opening.specs.Shown.{HasContent, HasContentUnder, HoldsContent, AreTablesOf};
+ghost use Rattle.table_opening.specs.declared.open_fault.OpenFault.TheVariants as fault;
 
-use crate::calls::{ask_schema, carry_desk, make_desk};
 use crate::desk::TableDesk;
-use crate::open_fault::OpenFault;
-use base_faults::StoreFault;
 use sqlite::{Alter, Connection};
 use std::alloc::Global;
 use std::snapshot::Snapshot;
-use table_history::{NEWEST, SchemaRead, is_blank, names_a_desk_table};
-
-// Makes the tables of a new desk, unless there are tables.
-fn create_tables<S: Alter>(conn: &mut Connection<S>, first: u32) -> Result<(), OpenFault>
-    requires idle { IsIdle conn.old }
-    ensures idle { IsIdle conn.new }
-    ensures created { IsCreated first (state S.Store conn.old) (state S.Store conn.new) result }
-{
-    let schema = conn.schema();
-    if names_a_desk_table(schema) {
-        return Err(OpenFault::NotEmpty);
-    }
-    if !is_blank(schema) {
-        return Err(OpenFault::Store(StoreFault::Foreign));
-    }
-    make_desk(conn, first)?;
-    Ok(())
-}
-
-// Asks the database whether it is a desk's, and under which schema.
-fn recognise<S: Alter>(conn: &mut Connection<S>) -> Result<u64, OpenFault>
-    requires idle { IsIdle conn.old }
-    ensures idle { IsIdle conn.new }
-    ensures recognised { IsRecognised (state S.Store conn.old) (state S.Store conn.new) result }
-{
-    match ask_schema(conn)? {
-        SchemaRead::Number(number) if number <= NEWEST => Ok(number),
-        SchemaRead::Number(number) => Err(OpenFault::NewerSchema(number)),
-        SchemaRead::NoNumber => Err(OpenFault::NotADesk),
-    }
-}
-
-// Recognises a desk, and carries it over where it is kept under an earlier schema.
-// The answer remembers the connection that showed its content under the newest.
-fn find_desk<S: Alter>(conn: &mut Connection<S>) -> Result<Snapshot<Connection<S>>, OpenFault>
-    requires idle { IsIdle conn.old }
-    ensures idle { IsIdle conn.new }
-    ensures found { IsFound (λ last. state S.Store last.value) (state S.Store conn.old)
-        (state S.Store conn.new) result }
-{
-    let last = Snapshot::of(conn);
-    let from = recognise(conn)?;
-    if from == NEWEST {
-        return Ok(last);
-    }
-    carry_desk(conn, from)?;
-    Ok(Snapshot::of(conn))
-}
+use table_history::NEWEST;
+use table_opening::{OpenFault, create_tables, find_desk};
 
 impl<S: Alter> TableDesk<S> {
     /// Creates a desk in a database with no tables; its first bug gets this number: 1 to

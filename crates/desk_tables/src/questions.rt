@@ -21,8 +21,7 @@ use table_writes::{read_kept, read_marks_stay};
 use version_marks::Family;
 use version_nodes::Node;
 
-/// The set that the bug is in, if there is such a bug; none has a number that is no
-/// u32.
+/// The set that the bug is in, if there is such a bug; none has a number that is no u32.
 #[derive(Drop)]
 pub(crate) struct SetOf {
     pub(crate) alloc: Global,

@@ -1,8 +1,8 @@
 -- What an open finds where the files held a desk.
 use Rattle.sqlite.specs.State.{State}
-use Rattle.desk_tables.specs.Opening.{IsReason}
-use Rattle.desk_tables.specs.declared.open_fault.OpenFault.{OpenFault}
-use Rattle.desk_tables.specs.declared.open_fault.OpenFault.TheVariants.{NotADesk, NewerSchema, Store, NotEmpty}
+use Rattle.table_opening.specs.Opening.{IsReason}
+use Rattle.table_opening.specs.declared.open_fault.OpenFault.{OpenFault}
+use Rattle.table_opening.specs.declared.open_fault.OpenFault.TheVariants.{NotADesk, NewerSchema, Store, NotEmpty}
 use Rattle.program_jobs.specs.Endings.{cause_of_opening}
 use Rattle.program_jobs.specs.InFile.{IsOpenCause, IsInitCause}
 

@@ -20,9 +20,9 @@ use Rattle.table_history.specs.History.{schema_at}
 use Rattle.table_history.specs.Making.{AreUnder}
 use Rattle.table_history.specs.declared.history.TheConstants.{NEWEST}
 use Rattle.desk_tables.proofs.KeptLemmas.{kept_shows}
-use Rattle.desk_tables.proofs.HeldLemmas.{shows_newest}
+use Rattle.table_opening.proofs.HeldLemmas.{shows_newest}
 use Rattle.desk_tables.specs.Files.{HoldDesk, HoldCopy, IsFoundIn}
-use Rattle.desk_tables.specs.Shown.{IsDeskUnder, AreTablesUnder, HoldTables}
+use Rattle.table_opening.specs.Shown.{IsDeskUnder, AreTablesUnder, HoldTables}
 use Rattle.desk_tables.specs.declared.desk.TableDesk.{TableDesk}
 use Rattle.program_jobs.specs.InFile.{HasHonestFile, IsKeptInFile, IsOpenedInFile}
 use Rattle.program_jobs.specs.Left.{AreCopied, AreUncopied, content_in_file, IsSameDesk}

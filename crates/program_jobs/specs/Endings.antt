@@ -17,8 +17,8 @@ use Rattle.desk_run.specs.declared.script.ScriptEnd.{ScriptEnd}
 use Rattle.desk_run.specs.declared.script.ScriptEnd.TheVariants as ends
 use Rattle.desk_http.specs.declared.port.ServerFault.{ServerFault}
 use Rattle.desk_http.specs.declared.port.ServerFault.TheVariants as servers
-use Rattle.desk_tables.specs.declared.open_fault.OpenFault.{OpenFault}
-use Rattle.desk_tables.specs.declared.open_fault.OpenFault.TheVariants as openings
+use Rattle.table_opening.specs.declared.open_fault.OpenFault.{OpenFault}
+use Rattle.table_opening.specs.declared.open_fault.OpenFault.TheVariants as openings
 use Rattle.program_jobs.specs.declared.ending.Cause.{Cause}
 use Rattle.program_jobs.specs.declared.ending.Cause.TheVariants.{Memory, Input, Output, NotUtf8, LineTooLong, Store, ServedStore, Port}
 use Rattle.program_jobs.specs.declared.ending.Cause.TheVariants.{NoFile, InUse, NotADesk, NewerSchema, NotEmpty, CannotOpen}

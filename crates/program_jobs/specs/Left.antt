@@ -16,7 +16,7 @@ use Rattle.sqlite_wal.specs.Reads.{AreClean}
 use Rattle.table_content.specs.Content.{Content}
 use Rattle.desk_tables.specs.Files.{LeaveDesk}
 use Rattle.desk_tables.specs.Desk.{content_shown}
-use Rattle.desk_tables.specs.Shown.{HoldTables}
+use Rattle.table_opening.specs.Shown.{HoldTables}
 use Rattle.desk_tables.specs.declared.desk.TableDesk.{TableDesk}
 use Rattle.program_jobs.specs.InFile.{FileDesk, host, file_disk, desk_in_file, keeping_in_file, IsKeptInFile, HasHonestFile}
 use Rattle.program_jobs.specs.declared.left.LeftFiles.{LeftFiles}

@@ -16,7 +16,7 @@ use Rattle.table_content.specs.Content.{Content}
 use Rattle.table_content.specs.View.{desk_in, keeping_in}
 use Rattle.desk_tables.specs.Files.{HoldDesk, LeaveDesk}
 use Rattle.desk_tables.specs.Desk.{content_shown, desk_of, keeping_of}
-use Rattle.desk_tables.specs.Shown.{AreTablesOf, HoldTables}
+use Rattle.table_opening.specs.Shown.{AreTablesOf, HoldTables}
 use Rattle.desk_tables.specs.declared.desk.TableDesk.{TableDesk}
 use Rattle.desk_tables.proofs.FileLemmas.{found_trees}
 use Rattle.table_crashes.specs.Settled.{HasHonestDisk, HasKeptTables, IsSettled, IsOpenedOver}

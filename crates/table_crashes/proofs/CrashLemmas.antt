@@ -31,7 +31,8 @@ use Rattle.store_contract.specs.Store.{Holds, Applies, Branches, Keeps, MayBeKep
 use Rattle.store_contract.proofs.HoldsLemmas.{holds_none}
 use Rattle.store_contract.proofs.KeepLemmas.{kept_also-good}
 use Rattle.desk_tables.specs.Desk.{content_shown, desk_of, keeping_of, MayKeep, LeavesTables}
-use Rattle.desk_tables.specs.Shown.{AreTablesOf, AreTablesAfter, AreTablesHolding}
+use Rattle.table_opening.specs.Shown.{AreTablesOf}
+use Rattle.desk_tables.specs.Crashes.{AreTablesAfter, AreTablesHolding}
 use Rattle.desk_tables.specs.declared.desk.TableDesk.{TableDesk}
 use Rattle.desk_tables.proofs.KeepLemmas.{changed_desk}
 use Rattle.table_crashes.specs.Settled.{HasHonestDisk, HasKeptTables, IsSettled, IsOpenedOver, HasTakenBranch, HasTakenLine}

@@ -14,12 +14,12 @@ use Rattle.table_history.specs.declared.history.TheConstants.{NEWEST}
 use Rattle.table_content.specs.Kept.{IsKeptContent}
 use Rattle.table_content.specs.View.{desk_in, keeping_in}
 use Rattle.desk_tables.specs.Desk.{content_shown, desk_of, keeping_of}
-use Rattle.desk_tables.specs.Opening.{unlimited}
-use Rattle.desk_tables.specs.Shown.{HasContentUnder, HoldsContent, AreTablesOf, AreTablesUnder, HoldTables}
+use Rattle.table_opening.specs.Opening.{unlimited}
+use Rattle.table_opening.specs.Shown.{HasContentUnder, HoldsContent, AreTablesOf, AreTablesUnder, HoldTables}
 use Rattle.desk_tables.specs.declared.desk.TableDesk.{TableDesk}
 use Rattle.desk_tables.proofs.CrashLemmas.{Settles}
 use Rattle.desk_tables.proofs.KeptLemmas.{kept_shows}
-use Rattle.desk_tables.proofs.HeldLemmas.{shows_tables, committed_tables, are_newest, newest_held, of_newest}
+use Rattle.table_opening.proofs.HeldLemmas.{shows_tables, committed_tables, are_newest, newest_held, of_newest}
 use Rattle.table_crashes.specs.Settled.{HasHonestDisk, HasKeptTables, HoldTablesFrom, IsSettled, IsOpenedOver}
 
 module _ {S : Type 0} (g : store.Ghosts S) where

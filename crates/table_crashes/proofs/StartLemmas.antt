@@ -12,8 +12,8 @@ use Rattle.store_contract.specs.Kept.{Keeping, none_kept}
 use Rattle.table_content.specs.Content.{Content, no_content}
 use Rattle.table_content.proofs.NewLemmas.{new_kept}
 use Rattle.desk_tables.specs.Desk.{desk_of, keeping_of}
-use Rattle.desk_tables.specs.Opening.{unlimited}
-use Rattle.desk_tables.specs.Shown.{AreTablesOf, AreTablesUnder}
+use Rattle.table_opening.specs.Opening.{unlimited}
+use Rattle.table_opening.specs.Shown.{AreTablesOf, AreTablesUnder}
 use Rattle.desk_tables.specs.declared.desk.TableDesk.{TableDesk}
 use Rattle.table_crashes.specs.Settled.{HasHonestDisk, HasKeptTables, HoldTablesFrom, IsSettled, IsOpenedOver}
 use Rattle.desk_tables.proofs.CrashLemmas.{Settles}

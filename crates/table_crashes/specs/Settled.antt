@@ -13,7 +13,7 @@ use Rattle.table_content.specs.Kept.{IsKeptContent}
 use Rattle.table_content.specs.View.{desk_in, keeping_in}
 use Rattle.desk_tables.specs.Desk.{content_shown, desk_of, keeping_of, remembered}
 use Rattle.desk_tables.specs.Kept.{IsKept}
-use Rattle.desk_tables.specs.Shown.{AreTablesOf, AreTablesUnder, HoldTables}
+use Rattle.table_opening.specs.Shown.{AreTablesOf, AreTablesUnder, HoldTables}
 use Rattle.bug_record.specs.declared.outcome.Outcome.{Outcome}
 use Rattle.store_contract.specs.Kept.{Keeping}
 use Rattle.desk_run.specs.Calls.{TookOne}

@@ -12,7 +12,7 @@ ghost use Rattle.table_content.specs.Content.{Content};
 ghost use Rattle.table_content.specs.View.{desk_in, keeping_in};
 ghost use Rattle.desk_tables.specs.Files.{HoldDesk, LeaveDesk};
 ghost use Rattle.desk_tables.specs.Desk.{content_shown, desk_of, keeping_of};
-ghost use Rattle.desk_tables.specs.Shown.{AreTablesOf};
+ghost use Rattle.table_opening.specs.Shown.{AreTablesOf};
 ghost use Rattle.table_crashes.specs.Settled.{HasHonestDisk, HasKeptTables, IsSettled};
 
 use crate::opening::open_connection;

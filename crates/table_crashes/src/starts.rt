@@ -11,7 +11,7 @@ ghost use Rattle.store_keys.specs.Keys.{empty_desk};
 ghost use Rattle.store_contract.specs.Kept.{none_kept};
 ghost use Rattle.table_content.specs.Content.{Content};
 ghost use Rattle.table_content.specs.Kept.{IsKeptContent};
-ghost use Rattle.desk_tables.specs.Shown.{AreTablesOf, AreTablesUnder, HoldTables};
+ghost use Rattle.table_opening.specs.Shown.{AreTablesOf, AreTablesUnder, HoldTables};
 ghost use Rattle.table_crashes.specs.Settled.{HasHonestDisk, HoldTablesFrom, IsSettled, IsOpenedOver};
 
 use crate::calls::crash_and_open;

@@ -4,9 +4,9 @@ use Rattle.sqlite.specs.Files.{file_state}
 use Rattle.sqlite.specs.State.{HasCleanDisk}
 use Rattle.sqlite_trees.specs.Props.{Trees-set}
 use Rattle.table_content.specs.View.{desk_in, keeping_in}
-use Rattle.desk_tables.specs.Shown.{HoldsContent}
+use Rattle.table_opening.specs.Shown.{HoldsContent}
 use Rattle.program_jobs.specs.InFile.{IsOpenCause}
-use Rattle.desk_tables.proofs.HeldLemmas.{holds_tables}
+use Rattle.table_opening.proofs.HeldLemmas.{holds_tables}
 use Rattle.program_jobs.proofs.FileLemmas.{open_cause}
 use Rattle.program_jobs.proofs.file_desk.open_over.Goals as goal
 

@@ -3,7 +3,7 @@ use Rattle.sqlite.specs.Held.{state}
 use Rattle.sqlite.specs.State.{HasCleanDisk}
 use Rattle.table_content.specs.Content.{Content}
 use Rattle.table_content.specs.Kept.{IsKeptContent}
-use Rattle.desk_tables.specs.Shown.{AreTablesOf, AreTablesUnder, HoldTables}
+use Rattle.table_opening.specs.Shown.{AreTablesOf, AreTablesUnder, HoldTables}
 use Rattle.table_crashes.specs.Settled.{HoldTablesFrom}
 use Rattle.table_crashes.proofs.OpenLemmas.{Leaves, left_then, left_held, left_newest}
 use Rattle.table_crashes.proofs.starts.crash_in_open.Goals as goal

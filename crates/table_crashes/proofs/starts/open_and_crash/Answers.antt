@@ -3,7 +3,7 @@ use Rattle.sqlite.specs.Held.{state}
 use Rattle.sqlite.specs.State.{HasCleanDisk}
 use Rattle.sqlite_trees.specs.View.{IsClean}
 use Rattle.table_content.specs.Content.{Content}
-use Rattle.desk_tables.specs.Shown.{AreTablesUnder}
+use Rattle.table_opening.specs.Shown.{AreTablesUnder}
 use Rattle.table_crashes.specs.Settled.{HoldTablesFrom}
 use Rattle.table_crashes.proofs.StartLemmas.{found_again, clean_again}
 use Rattle.table_crashes.proofs.starts.open_and_crash.Goals as goal

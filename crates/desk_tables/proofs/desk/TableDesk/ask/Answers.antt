@@ -1,6 +1,6 @@
 use Rattle.desk_tables.proofs.Imports.{remembered}
 use Rattle.table_schema.proofs.Exports.{refl}
-use Rattle.desk_tables.proofs.StillLemmas.{still_then}
+use Rattle.table_opening.proofs.StillLemmas.{still_then}
 use Rattle.desk_tables.proofs.CrashLemmas.{left_as_before}
 use Rattle.desk_tables.proofs.KeptLemmas.{noted}
 use Rattle.desk_tables.proofs.desk.TableDesk.ask.Goals as goal

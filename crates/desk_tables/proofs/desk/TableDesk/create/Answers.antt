@@ -1,6 +1,6 @@
 use Rattle.table_schema.proofs.Exports.{ap, subst, ◌∙◌, state, HasCleanDisk}
 use Rattle.desk_tables.proofs.Imports.{remembered}
-use Rattle.desk_tables.proofs.StillLemmas.{still_is}
+use Rattle.table_opening.proofs.StillLemmas.{still_is}
 use Rattle.desk_tables.proofs.OpeningLemmas.{new_is_kept, new_is_empty, none_is_kept, left_before}
 use Rattle.desk_tables.proofs.desk.TableDesk.create.Goals as goal
 

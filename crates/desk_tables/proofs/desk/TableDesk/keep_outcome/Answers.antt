@@ -2,7 +2,7 @@ use Rattle.desk_tables.proofs.Imports.{MayBeKept, content_seen, IsKept, remember
 use Rattle.table_schema.proofs.Exports.{◌≡◌, Err, refl, rules, option_copied, state, HasCleanDisk, desk_in, keeping_in}
 use Rattle.table_reads.specs.Known.{known_set}
 use Rattle.table_writes.proofs.PlaceLemmas.{known_place_behind}
-use Rattle.desk_tables.proofs.StillLemmas.{still_then}
+use Rattle.table_opening.proofs.StillLemmas.{still_then}
 use Rattle.desk_tables.proofs.KeptLemmas.{never_foreign, crashed, taken, made, refused}
 use Rattle.desk_tables.proofs.KeepLemmas.{line_known, line_is, line_stays, line_fact}
 use Rattle.desk_tables.proofs.desk.TableDesk.keep_outcome.Goals as goal

@@ -3,7 +3,7 @@ use Rattle.table_schema.proofs.Exports.{◌≡◌, Err, refl, option_copied, ap,
 use Rattle.table_content.proofs.KeepLemmas.{change_keeping}
 use Rattle.table_reads.specs.Known.{known_set}
 use Rattle.table_writes.proofs.PlaceLemmas.{known_place_after}
-use Rattle.desk_tables.proofs.StillLemmas.{still_then}
+use Rattle.table_opening.proofs.StillLemmas.{still_then}
 use Rattle.desk_tables.proofs.KeptLemmas.{never_foreign, crashed, taken, change_stays, fits_over, known_after, made, refused}
 use Rattle.desk_tables.proofs.desk.TableDesk.make.Goals as goal
 

@@ -1,6 +1,6 @@
 use Rattle.desk_tables.proofs.Imports.{IsKept, remembered}
 use Rattle.table_schema.proofs.Exports.{◌≡◌, Err, refl, sym, ◌∙◌, rules}
-use Rattle.desk_tables.proofs.StillLemmas.{still_then}
+use Rattle.table_opening.proofs.StillLemmas.{still_then}
 use Rattle.desk_tables.proofs.BranchLemmas.{faulty, taken, refused, never_foreign, noted_anew, refused_desk, refusal_is, crashed}
 use Rattle.desk_tables.proofs.desk.TableDesk.take.Goals as goal
 

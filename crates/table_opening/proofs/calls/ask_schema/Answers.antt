@@ -1,7 +1,7 @@
-use Rattle.desk_tables.proofs.Imports.{AsksSchema}
+use Rattle.table_opening.proofs.Imports.{AsksSchema}
 use Rattle.table_schema.proofs.Exports.{◌≡◌, rules, subst, state}
-use Rattle.desk_tables.proofs.TransactionLemmas.{asks}
-use Rattle.desk_tables.proofs.calls.ask_schema.Goals as goal
+use Rattle.table_opening.proofs.TransactionLemmas.{asks}
+use Rattle.table_opening.proofs.calls.ask_schema.Goals as goal
 
 pub returns-clause-asked : goal.returns-clause-asked
 returns-clause-asked g c =

@@ -1,5 +1,5 @@
 -- What is shown of trees that hold a desk.
-use Rattle.desk_tables.proofs.Imports.{AreUnder, IsDesk, HasContent, HasContentUnder, HoldsContent, AreTablesOf, AreTablesUnder, HoldTables}
+use Rattle.table_opening.proofs.Imports.{AreUnder, IsDesk, HasContent, HasContentUnder, HoldsContent, AreTablesOf, AreTablesUnder, HoldTables}
 use Rattle.table_schema.proofs.Exports.{◌≡◌, ℕ, List, [], ◌∷◌, inl, inr, ne_eqb, arith, sym, ap, subst, ◌∙◌, cases_eq, Database, IsDatabase, Row, State, Opens, IsLive, with_tree, Content, META, desk_schema, meta_cells, next_in, content_of, AreShown, seen}
 use mathlib.Core.Path.{fun_ext}
 use Rattle.sqlite_catalog.proofs.ReadLemmas.{lists_once}

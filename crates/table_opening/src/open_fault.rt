@@ -25,7 +25,7 @@ pub enum OpenFault {
 
 impl From<StoreFault> for OpenFault {
     ghost use Rattle.std.specs.Prelude.{◌≡◌};
-    ghost use Rattle.desk_tables.specs.declared.open_fault.OpenFault.TheVariants.{Store};
+    ghost use Rattle.table_opening.specs.declared.open_fault.OpenFault.TheVariants.{Store};
 
     ghost from_gives = { λ fault e. e ≡ Store fault };
 

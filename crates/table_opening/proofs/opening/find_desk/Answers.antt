@@ -1,7 +1,7 @@
 use Rattle.table_schema.proofs.Exports.{◌≡◌, Err, rules, ap, state}
-use Rattle.desk_tables.specs.declared.open_fault.OpenFault.TheVariants.{Store}
-use Rattle.desk_tables.proofs.OpeningLemmas.{not_found, found_newest, found_earlier, not_earlier}
-use Rattle.desk_tables.proofs.opening.find_desk.Goals as goal
+use Rattle.table_opening.specs.declared.open_fault.OpenFault.TheVariants.{Store}
+use Rattle.table_opening.proofs.OpeningLemmas.{not_found, found_newest, found_earlier, not_earlier}
+use Rattle.table_opening.proofs.opening.find_desk.Goals as goal
 
 pub returns-in_err-from-clause-found : goal.returns-in_err-from-clause-found
 returns-in_err-from-clause-found g c =

@@ -1,5 +1,5 @@
 -- What a connection goes on to show.
-use Rattle.desk_tables.proofs.Imports.{IsLeft, HasContent, IsAsBefore, StillShows}
+use Rattle.table_opening.proofs.Imports.{IsLeft, HasContent, IsAsBefore, StillShows}
 use Rattle.table_schema.proofs.Exports.{◌≡◌, refl, sym, ap, subst, ◌∙◌, Database, IsDatabase, State, Content, content_of, AreShown}
 
 -- tables that are as they were show the same desk

@@ -1,6 +1,6 @@
 use Rattle.table_schema.proofs.Exports.{state}
-use Rattle.desk_tables.proofs.OpeningLemmas.{known, newer, no_number}
-use Rattle.desk_tables.proofs.opening.recognise.Goals as goal
+use Rattle.table_opening.proofs.OpeningLemmas.{known, newer, no_number}
+use Rattle.table_opening.proofs.opening.recognise.Goals as goal
 
 pub returns-in-Number-clause-recognised : goal.returns-in-Number-clause-recognised
 returns-in-Number-clause-recognised g c =

@@ -7,9 +7,9 @@ use Rattle.base_faults.specs.declared.store_fault.StoreFault.TheVariants.{Foreig
 use Rattle.table_content.specs.Content.{Content}
 use Rattle.table_history.specs.Number.{SaysSchema, SaysNone}
 use Rattle.table_history.specs.declared.history.TheConstants.{NEWEST}
-use Rattle.desk_tables.specs.Shown.{HasContent}
-use Rattle.desk_tables.specs.declared.open_fault.OpenFault.{OpenFault}
-use Rattle.desk_tables.specs.declared.open_fault.OpenFault.TheVariants.{NotADesk, NewerSchema, Store, NotEmpty}
+use Rattle.table_opening.specs.Shown.{HasContent}
+use Rattle.table_opening.specs.declared.open_fault.OpenFault.{OpenFault}
+use Rattle.table_opening.specs.declared.open_fault.OpenFault.TheVariants.{NotADesk, NewerSchema, Store, NotEmpty}
 
 -- the same connection, with no limit of steps for its statements
 abbrev pub unlimited : State → State

@@ -1,8 +1,8 @@
-use Rattle.desk_tables.proofs.Imports.{IsMade}
+use Rattle.table_opening.proofs.Imports.{IsMade}
 use Rattle.table_schema.proofs.Exports.{◌≡◌, rules, subst, state}
 use Rattle.table_history.proofs.BuildLemmas.{blank_begun}
-use Rattle.desk_tables.proofs.TransactionLemmas.{made}
-use Rattle.desk_tables.proofs.calls.make_desk.Goals as goal
+use Rattle.table_opening.proofs.TransactionLemmas.{made}
+use Rattle.table_opening.proofs.calls.make_desk.Goals as goal
 
 pub returns-clause-made : goal.returns-clause-made
 returns-clause-made g c =

@@ -1,7 +1,7 @@
-use Rattle.desk_tables.proofs.Imports.{IsIdle, IsCarried}
+use Rattle.table_opening.proofs.Imports.{IsIdle, IsCarried}
 use Rattle.table_schema.proofs.Exports.{◌≡◌, rules, subst, ◌∙◌, state, no_content}
-use Rattle.desk_tables.proofs.TransactionLemmas.{carried}
-use Rattle.desk_tables.proofs.calls.carry_desk.Goals as goal
+use Rattle.table_opening.proofs.TransactionLemmas.{carried}
+use Rattle.table_opening.proofs.calls.carry_desk.Goals as goal
 
 pub returns-clause-idle : goal.returns-clause-idle
 returns-clause-idle g c =

@@ -9,7 +9,7 @@ use Rattle.sqlite.specs.State.{State, HasCleanDisk}
 use Rattle.sqlite_schema.specs.contracts.schema.Schema.{the_row}
 use Rattle.sqlite_trees.specs.Props.{Trees-set}
 use Rattle.table_content.specs.Content.{Content}
-use Rattle.desk_tables.specs.Shown.{HasContent}
+use Rattle.table_opening.specs.Shown.{HasContent}
 
 -- as far as the disk is honest and the connection serves, its tables are as they were
 pub record IsAsBefore (old new : State) : Type 0 where

@@ -1,0 +1,5 @@
+pub mod StillLemmas
+pub mod TransactionLemmas
+pub mod HeldLemmas
+pub mod OpeningLemmas
+pub mod Imports

@@ -1,0 +1,5 @@
+pub mod Idle
+pub mod Shown
+pub mod Still
+pub mod Opening
+pub mod Transactions

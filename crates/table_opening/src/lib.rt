@@ -1,0 +1,10 @@
+//! A database made, recognised or carried over as that of a desk, each in one transaction.
+#![tactic(auto)]
+
+mod calls;
+mod open_fault;
+mod opening;
+
+pub use calls::finish;
+pub use open_fault::OpenFault;
+pub use opening::{create_tables, find_desk};
