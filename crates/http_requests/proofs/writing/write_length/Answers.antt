@@ -2,8 +2,8 @@ use Rattle.std.proofs.Common.{List, ℕ, ◌≡◌, ◌++◌, ◌∙◌, subst, 
 use Rattle.std.specs.Io.KnownBytes.{Appends}
 use Rattle.http_requests.proofs.writing.write_length.Goals as goal
 
-pub returns-clause-all : goal.returns-clause-all
-returns-clause-all g c =
+pub returns : goal.returns
+returns g c =
     let number : c.as_bytes.result.now ≡ decimal c.args.length =
     c.as_bytes.ensures.value ∙ c.format-number.ensures.text in
     subst (λ (n : List ℕ). OnOk c.write_three.result (Appends (g.W.Write.contents c.args.writer.now)

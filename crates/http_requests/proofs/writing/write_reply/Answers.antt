@@ -6,8 +6,8 @@ use Rattle.http_requests.specs.Shown.{media_of, body_of}
 use Rattle.http_requests.proofs.WrittenLemmas.{written_then}
 use Rattle.http_requests.proofs.writing.write_reply.Goals as goal
 
-pub returns-clause-all : goal.returns-clause-all
-returns-clause-all g c =
+pub returns : goal.returns
+returns g c =
     let reply = c.args.reply.now in
     let body = body_of reply.body in
     let a = g.W.Write.contents c.args.writer.now in

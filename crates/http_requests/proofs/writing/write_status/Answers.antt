@@ -5,8 +5,8 @@ use Rattle.http.specs.StatusCode.{reason_phrase, status_text}
 use Rattle.http_requests.proofs.WrittenLemmas.{written_then}
 use Rattle.http_requests.proofs.writing.write_status.Goals as goal
 
-pub returns-clause-all : goal.returns-clause-all
-returns-clause-all g c =
+pub returns : goal.returns
+returns g c =
     let before = g.W.Write.contents c.args.writer.now in
     let first = g.W.Write.contents c.write_whole.new.writer in
     let second = g.W.Write.contents c.write_three.new.writer in
