@@ -2,7 +2,7 @@
 
 use bug_record::{Tag, Tags};
 use std::alloc::{AllocError, Global};
-use table_content::{number_of_tags, severity_of_number, tags_of_number};
+use table_encodings::{number_of_tags, severity_of_number, tags_of_number};
 
 // Adds the names of tags; `-` where there is none.
 fn add_names(out: &mut String, tags: &[Tag]) -> Result<(), AllocError> {

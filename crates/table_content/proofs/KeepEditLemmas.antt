@@ -16,7 +16,7 @@ use Rattle.table_content.specs.Free.{AreFree}
 use Rattle.table_content.specs.KeptOutcomes.{with_kept}
 use Rattle.table_content.specs.KeptOutcomeLists.{number_puts, message_puts, keep_puts}
 use Rattle.table_content.specs.Kept.{IsKeptContent, is_accepted, is_accepted_at}
-use Rattle.table_content.specs.Outcomes.{bare, numbers_of}
+use Rattle.table_encodings.specs.Outcomes.{bare, numbers_of}
 use Rattle.table_content.specs.View.{outcomes_of, keeping_in}
 use Rattle.table_content.specs.declared.edit.Edit.{Edit}
 use Rattle.table_content.specs.declared.edit.Edit.TheVariants.{PutMessage, PutOutcome}

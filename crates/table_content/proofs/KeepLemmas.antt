@@ -21,7 +21,7 @@ use Rattle.table_content.specs.Edits.{put_at, places_of}
 use Rattle.table_content.specs.Images.{without_image, with_image}
 use Rattle.table_content.specs.KeptOutcomes.{with_kept, changed_by}
 use Rattle.table_content.specs.Kept.{IsKeptContent, is_accepted, is_accepted_at}
-use Rattle.table_content.specs.Outcomes.{bare, numbered, numbers_of}
+use Rattle.table_encodings.specs.Outcomes.{bare, numbered, numbers_of}
 use Rattle.table_content.specs.View.{with_their_numbers, outcomes_of, keeping_in}
 use Rattle.table_content.specs.declared.edit.SentMessage.{SentMessage}
 use Rattle.table_content.specs.declared.edit.ToldOutcome.{ToldOutcome}

@@ -7,13 +7,11 @@ pub mod ClosedLemmas
 pub mod ChangeLemmas
 pub mod ReadyLemmas
 pub mod FreeLemmas
-pub mod TagLemmas
 pub mod BranchLemmas
 pub mod QuestionLemmas
 pub mod NewLemmas
 pub mod KeepLemmas
 pub mod KeepEditLemmas
-pub mod OutcomeLemmas
 pub mod AfterLemmas
 pub mod StandLemmas
 pub mod StayLemmas

@@ -20,7 +20,7 @@ use Rattle.table_content.specs.Content.{Content}
 use Rattle.bug_record.specs.declared.tag.Tag.{Tag}
 use Rattle.table_content.specs.declared.edit.SetFields.{SetFields}
 use Rattle.table_content.specs.Edits.{put_at, placed, kept_fields, edited_all}
-use Rattle.table_content.proofs.TagLemmas.{read_back}
+use Rattle.table_encodings.proofs.TagLemmas.{read_back}
 use Rattle.table_content.specs.EditLists.{member_puts, blocker_puts, affected_puts, mark_puts, near_puts, set_puts, all_mark_puts}
 use Rattle.table_content.specs.Images.{with_image, IsGoodImage, IsCleared}
 use Rattle.table_content.specs.View.{fields_of}

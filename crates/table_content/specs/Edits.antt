@@ -12,8 +12,8 @@ use Rattle.bug_record.specs.declared.bug.Member.{Member}
 use Rattle.version_marks.specs.declared.near.Near.{Near}
 use Rattle.table_content.specs.Content.{Content}
 use Rattle.bug_record.specs.declared.outcome.Outcome.{Outcome}
-use Rattle.table_content.specs.Encodings.{tags_number, tags_in}
-use Rattle.table_content.specs.Outcomes.{bare}
+use Rattle.table_encodings.specs.Encodings.{tags_number, tags_in}
+use Rattle.table_encodings.specs.Outcomes.{bare}
 use Rattle.table_content.specs.declared.edit.Edit.{Edit}
 use Rattle.table_content.specs.declared.edit.Edit.TheVariants as edits
 use Rattle.table_content.specs.declared.edit.SetFields.{SetFields}

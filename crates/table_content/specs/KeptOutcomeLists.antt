@@ -1,7 +1,7 @@
 -- The edits of an outcome that is kept, one after another.
 use Rattle.std.specs.Prelude.{ℕ, ◌==◌, List, [], ◌∷◌, ◌++◌, map, if◌then◌else◌}
 use Rattle.bug_record.specs.declared.outcome.Outcome.{Outcome}
-use Rattle.table_content.specs.Outcomes.{numbers_of}
+use Rattle.table_encodings.specs.Outcomes.{numbers_of}
 use Rattle.table_content.specs.declared.edit.Edit.{Edit}
 use Rattle.table_content.specs.declared.edit.Edit.TheVariants.{PutMessage, PutOutcome, PutOutcomeNumber}
 

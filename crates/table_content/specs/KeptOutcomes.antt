@@ -8,7 +8,7 @@ use Rattle.store_contract.specs.Kept.{IsGoodOutcome, IsOfMessage}
 use Rattle.table_content.specs.Changes.{changed, FitsContent}
 use Rattle.table_content.specs.Content.{Content}
 use Rattle.table_content.specs.Edits.{put_at, put_of}
-use Rattle.table_content.specs.Outcomes.{bare, numbers_of}
+use Rattle.table_encodings.specs.Outcomes.{bare, numbers_of}
 use Rattle.table_content.specs.View.{keeping_in}
 
 -- of the id this message is known, and the outcome stands behind those of the id, with its numbers

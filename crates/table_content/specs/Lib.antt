@@ -1,7 +1,5 @@
 pub mod Content
 pub mod View
-pub mod Encodings
-pub mod Outcomes
 pub mod Kept
 pub mod Edits
 pub mod Free

@@ -9,7 +9,7 @@ use Rattle.store_keys.specs.Keys.{keyed_desk}
 use Rattle.bug_record.specs.declared.outcome.Outcome.{Outcome}
 use Rattle.store_contract.specs.Kept.{Keeping}
 use Rattle.table_content.specs.Content.{Content}
-use Rattle.table_content.specs.Outcomes.{numbered}
+use Rattle.table_encodings.specs.Outcomes.{numbered}
 use Rattle.table_content.specs.declared.edit.SetFields.{SetFields}
 use Rattle.table_content.specs.declared.edit.ToldOutcome.{ToldOutcome}
 

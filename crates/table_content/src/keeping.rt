@@ -8,7 +8,7 @@ ghost use Rattle.table_content.specs.Free.{AreFree};
 ghost use Rattle.table_content.specs.Kept.{IsKeptContent};
 ghost use Rattle.table_content.specs.KeptOutcomes.{with_kept};
 ghost use Rattle.table_content.specs.KeptOutcomeLists.{number_puts, message_puts, outcome_puts};
-ghost use Rattle.table_content.specs.Outcomes.{numbers_of};
+ghost use Rattle.table_encodings.specs.Outcomes.{numbers_of};
 ghost use Rattle.table_content.specs.View.{keeping_in};
 
 use crate::edit::Edit;

@@ -1,19 +1,14 @@
 //! Laws of the definitions that the contracts of this crate cite.
 //! Each body is empty: the contract is the law.
 
-ghost use Rattle.std.specs.Prelude.{◌≡◌, ◌<◌, ◌≤◌, ◌^◌, ℕ, Bool, List, ◌∷◌, ◌++◌, length, Some};
+ghost use Rattle.std.specs.Prelude.{◌≡◌, ◌<◌, ◌≤◌, ℕ, Bool, List, ◌∷◌, ◌++◌};
 ghost use Rattle.version_nodes.specs.Nodes.{Node};
 ghost use Rattle.version_nodes.specs.Trees.{Ancestry, IsForest, line};
 ghost use Rattle.version_nodes.specs.Statuses.{first_kind};
-ghost use Rattle.version_nodes.specs.declared.statuses.MarkKind.{MarkKind};
 ghost use Rattle.bug_record.specs.Asked.{numbers_where};
 ghost use Rattle.bug_record.specs.Sets.{has, IsAscending};
 ghost use Rattle.bug_record.specs.Images.{put, HasMember};
 ghost use Rattle.store_keys.specs.Keys.{key_of};
-ghost use Rattle.bug_record.specs.Severities.{rank};
-ghost use Rattle.bug_record.specs.Tags.{IsTagSet, all_tags};
-ghost use Rattle.bug_record.specs.declared.severity.Severity.{Severity};
-ghost use Rattle.bug_record.specs.declared.tag.Tag.{Tag};
 ghost use Rattle.bug_record.specs.declared.bug.SetImage.{SetImage};
 ghost use Rattle.bug_record.specs.declared.bug.Shared.{Shared};
 ghost use Rattle.bug_record.specs.declared.command.Change.{Change};
@@ -22,7 +17,6 @@ ghost use Rattle.store_keys.specs.Keys.{empty_desk};
 ghost use Rattle.table_content.specs.Content.{Content, no_content};
 ghost use Rattle.table_content.specs.View.{desk_in, keeping_in};
 ghost use Rattle.table_content.specs.KeptOutcomes.{with_kept};
-ghost use Rattle.table_content.specs.Outcomes.{bare, outcome_kind, outcome_number, outcome_field, outcome_node, outcome_in};
 ghost use Rattle.bug_record.specs.declared.outcome.Outcome.{Outcome};
 ghost use Rattle.store_contract.specs.Kept.{none_kept, kept_also, AreGoodKept};
 ghost use Rattle.table_content.specs.Kept.{IsKeptContent};
@@ -30,7 +24,6 @@ ghost use Rattle.table_content.specs.Branches.{with_nodes};
 ghost use Rattle.table_content.specs.KindsAtNodes.{bug_passes, kind_of};
 ghost use Rattle.table_content.specs.Images.{IsGoodImage, IsCleared};
 ghost use Rattle.table_content.specs.Staying.{Stays};
-ghost use Rattle.table_content.specs.Encodings.{severity_in, flag, flag_in, kind_number, kind_in, tags_number, tags_in};
 ghost use Rattle.table_content.specs.Changes.{keeps_marks, with_images, cleared_for, changed, FitsContent};
 
 /// Where the rows of all images of a change are cleared and put, and last the next number, the
@@ -71,20 +64,6 @@ pub fn outcomes_are_kept()
         keeping_in (with_kept id sender message outcome c) ≡ kept_also id sender message outcome (keeping_in c) }
     ensures kept { (c : Content) (id sender message : List ℕ) (outcome : Outcome) → IsKeptContent c →
         AreGoodKept (kept_also id sender message outcome (keeping_in c)) → IsKeptContent (with_kept id sender message outcome c) }
-{}
-
-/// Each severity, flag and kind of marks is read back from its number, each set of tags from its
-/// own, and each outcome, without the numbers of an accepted line, from those that stand for it.
-/// The numbers of tags are those below 131,072, and each is that of its tags.
-pub fn numbers_are_read_back()
-    ensures severity { (severity : Severity) → severity_in (rank severity) ≡ Some severity }
-    ensures flags { (is_set : Bool) → flag_in (flag is_set) ≡ Some is_set }
-    ensures kinds { (kind : MarkKind) → kind_in (kind_number kind) ≡ Some kind }
-    ensures tags { (tags : List Tag) → IsTagSet tags → tags_in (tags_number tags) ≡ tags }
-    ensures below { (tags : List Tag) → tags_number tags < 2 ^ length all_tags }
-    ensures numbers { (number : ℕ) → number < 2 ^ length all_tags → tags_number (tags_in number) ≡ number }
-    ensures outcomes { (outcome : Outcome) →
-        outcome_in (outcome_kind outcome) (outcome_number outcome) (outcome_field outcome) (outcome_node outcome) ≡ Some (bare outcome) }
 {}
 
 /// A content over another ancestry, with the nearest marks there, shows the desk over that

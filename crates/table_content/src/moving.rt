@@ -11,7 +11,7 @@ ghost use Rattle.table_content.specs.declared.edit.Edit.TheVariants.{DropNearAt,
 ghost use Rattle.table_content.specs.Moving.{is_marked, are_marked, loses_none, stood, is_part, others};
 
 use crate::edit::Edit;
-use crate::images::{put_marks, put_shared};
+use crate::image_edits::{put_marks, put_shared};
 use crate::kinds_at_nodes::has_node;
 use bug_record::{Sequence, SetImage};
 use std::alloc::{AllocError, Global};

@@ -10,7 +10,7 @@ ghost use Rattle.table_content.specs.Staying.{Stays, HasNearest, StandThere, Has
 ghost use Rattle.table_content.specs.EditLists.{key_drops};
 
 use crate::edit::Edit;
-use crate::images::{drop_marks, has_marks, put_all_marks, put_shared};
+use crate::image_edits::{drop_marks, has_marks, put_all_marks, put_shared};
 use crate::moving::{drop_rows, loses_none, moving_edits};
 use crate::sparing::{same_rows, spare};
 use bug_record::{Sequence, SetImage, Shared};

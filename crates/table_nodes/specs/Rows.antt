@@ -9,7 +9,7 @@ use Rattle.sqlite.specs.Values.{or_null}
 use Rattle.sqlite.specs.declared.types.Value.TheVariants.{Int, Text, Blob}
 use Rattle.version_nodes.specs.Nodes.{Node, IsNode}
 use Rattle.base_words.specs.Texts.{IfGiven}
-use Rattle.table_content.specs.Outcomes.{bare, outcome_kind, outcome_number, outcome_field, outcome_node}
+use Rattle.table_encodings.specs.Outcomes.{bare, outcome_kind, outcome_number, outcome_field, outcome_node}
 use Rattle.table_content.specs.declared.edit.SentMessage.{SentMessage}
 use Rattle.table_content.specs.declared.edit.ToldOutcome.{ToldOutcome}
 

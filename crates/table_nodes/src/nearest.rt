@@ -7,7 +7,7 @@ ghost use Rattle.table_schema.specs.Steps.{Plays, Serves};
 
 use base_faults::StoreFault;
 use sqlite::{Alter, Transaction, params};
-use table_content::number_of_kind;
+use table_encodings::number_of_kind;
 use table_schema::written;
 use version_marks::Near;
 use version_nodes::Node;

@@ -18,9 +18,9 @@ use bug_record::{Outcome, Sequence};
 use sqlite::types::ValueRef;
 use sqlite::{Alter, Row, Transaction, params};
 use std::alloc::Global;
-use table_content::{
-    ToldOutcome, field_of_outcome, kind_of_outcome, node_of_outcome, number_of_outcome,
-    outcome_of_numbers,
+use table_content::ToldOutcome;
+use table_encodings::{
+    field_of_outcome, kind_of_outcome, node_of_outcome, number_of_outcome, outcome_of_numbers,
 };
 use table_schema::{fault_of, maybe_number_at, maybe_parameter, node_at, number_at, told, written};
 use version_nodes::Node;

@@ -21,11 +21,11 @@ pub use Rattle.table_content.specs.Branches.{with_nodes}
 pub use Rattle.table_content.specs.Changes.{FitsContent, all_stay, changed, cleared_for}
 pub use Rattle.table_content.specs.Content.{Content, no_content}
 pub use Rattle.table_content.specs.Edits.{edited, placed, places_of, put_at, put_of}
-pub use Rattle.table_content.specs.Encodings.{flag, flag_in, kind_in, kind_number, severity_in, tags_number}
+pub use Rattle.table_encodings.specs.Encodings.{flag, flag_in, kind_in, kind_number, severity_in, tags_number}
 pub use Rattle.table_content.specs.Free.{IsFree, marks_of}
 pub use Rattle.table_content.specs.KeptOutcomes.{MayBePut, changed_by, kept_after}
 pub use Rattle.table_content.specs.Kept.{IsKeptContent}
-pub use Rattle.table_content.specs.Outcomes.{bare, outcome_field, outcome_kind, outcome_node, outcome_number}
+pub use Rattle.table_encodings.specs.Outcomes.{bare, outcome_field, outcome_kind, outcome_node, outcome_number}
 pub use Rattle.table_content.specs.View.{desk_in, keeping_in}
 pub use Rattle.table_content.specs.declared.edit.Edit.TheVariants.{DropAffects, DropBlockers, DropFields, DropLink, DropMarks, DropMember, DropNear, DropNearAt, PutAffects, PutBlocker, PutFields, PutLink, PutMark, PutMember, PutMessage, PutNear, PutOutcome, PutOutcomeNumber}
 pub use Rattle.table_content.specs.declared.edit.ToldOutcome.{ToldOutcome}

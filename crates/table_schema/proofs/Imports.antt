@@ -13,9 +13,9 @@ pub use Rattle.debver.specs.Names.{IsName, in_name, name_fault}
 pub use Rattle.debver.specs.Parts.{IsEpoch, IsRevision, epoch_text, in_revision, in_upstream, revision_text, written}
 pub use Rattle.table_content.specs.Content.{Content}
 pub use Rattle.table_content.specs.Edits.{edited, edited_all, placed, places_of, put_at}
-pub use Rattle.table_content.specs.Encodings.{flag, flag_in, kind_in, kind_number, severity_in}
+pub use Rattle.table_encodings.specs.Encodings.{flag, flag_in, kind_in, kind_number, severity_in}
 pub use Rattle.table_content.specs.Free.{AreFree, IsFree}
-pub use Rattle.table_content.specs.Outcomes.{outcome_field, outcome_in, outcome_kind, outcome_node, outcome_number}
+pub use Rattle.table_encodings.specs.Outcomes.{outcome_field, outcome_in, outcome_kind, outcome_node, outcome_number}
 pub use Rattle.table_content.specs.declared.edit.Edit.{Edit}
 pub use Rattle.table_schema.specs.BlockRows.{BlockRow, IsBlockRow, block_cells, block_in, blockers_in}
 pub use Rattle.table_schema.specs.BugRows.{BugRow, IsBugRow, bug_cells, bug_in, key_in, member_of, members_in}

@@ -5,7 +5,7 @@ use Rattle.bug_record.specs.Severities.{rank}
 use Rattle.bug_record.specs.declared.outcome.Outcome.TheVariants.{Stopped}
 use Rattle.bug_record.specs.declared.severity.Severity.{Severity}
 use Rattle.bug_record.specs.declared.severity.Severity.TheVariants.{Critical}
-use Rattle.table_content.proofs.OutcomeLemmas.{outcome_back}
+use Rattle.table_encodings.proofs.OutcomeLemmas.{outcome_back}
 
 severity_back : (s : Severity) → severity_in (rank s) ≡ Some s
 severity_back Critical = refl

@@ -10,7 +10,7 @@ use Rattle.version_nodes.specs.declared.statuses.MarkKind.{MarkKind}
 use Rattle.version_nodes.specs.declared.statuses.MarkKind.TheVariants.{Found}
 use Rattle.bug_record.specs.Marks.{with_node}
 use Rattle.table_forms.specs.Numbers.{number_in}
-use Rattle.table_content.specs.Encodings.{kind_number, kind_in}
+use Rattle.table_encodings.specs.Encodings.{kind_number, kind_in}
 use Rattle.table_schema.specs.Cells.{text_in}
 
 pub record MarkRow : Type 0 where

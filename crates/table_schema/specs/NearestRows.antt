@@ -8,7 +8,7 @@ use Rattle.version_nodes.specs.Nodes.{Node, IsNode, node, same_node}
 use Rattle.version_nodes.specs.declared.statuses.MarkKind.TheVariants.{Found}
 use Rattle.version_marks.specs.declared.near.Near.{Near}
 use Rattle.table_forms.specs.Numbers.{number_in}
-use Rattle.table_content.specs.Encodings.{kind_number, kind_in}
+use Rattle.table_encodings.specs.Encodings.{kind_number, kind_in}
 use Rattle.table_schema.specs.Cells.{text_in}
 use Rattle.table_schema.specs.LastRow.{last_row}
 

@@ -13,7 +13,7 @@ use Rattle.bug_record.specs.declared.outcome.Outcome.{Outcome}
 use Rattle.bug_record.specs.declared.outcome.Outcome.TheVariants.{Stopped}
 use Rattle.table_forms.specs.Numbers.{number_in}
 use Rattle.table_content.specs.Edits.{placed}
-use Rattle.table_content.specs.Outcomes.{bare, outcome_kind, outcome_number, outcome_field, outcome_node, outcome_in}
+use Rattle.table_encodings.specs.Outcomes.{bare, outcome_kind, outcome_number, outcome_field, outcome_node, outcome_in}
 use Rattle.table_content.specs.declared.edit.ToldOutcome.{ToldOutcome}
 use Rattle.table_schema.specs.Cells.{maybe_number, maybe_text, text_in}
 use Rattle.table_schema.specs.NodeRows.{node_between}

@@ -11,7 +11,7 @@ use Rattle.base_words.specs.Texts.{IfGiven}
 use Rattle.bug_record.specs.declared.severity.Severity.{Severity}
 use Rattle.bug_record.specs.declared.severity.Severity.TheVariants.{Critical}
 use Rattle.table_forms.specs.Numbers.{number_in}
-use Rattle.table_content.specs.Encodings.{severity_in, flag, flag_in, tags_in}
+use Rattle.table_encodings.specs.Encodings.{severity_in, flag, flag_in, tags_in}
 use Rattle.table_content.specs.declared.edit.SetFields.{SetFields}
 use Rattle.table_schema.specs.Cells.{maybe_text, text_in}
 use Rattle.table_schema.specs.LastRow.{last_row}

@@ -7,7 +7,7 @@ use Rattle.sqlite.specs.declared.types.Value.TheVariants.{Int, Text}
 use Rattle.bug_record.specs.Severities.{rank}
 use Rattle.base_words.specs.Texts.{IfGiven}
 use Rattle.table_content.specs.Content.{Content}
-use Rattle.table_content.specs.Encodings.{flag}
+use Rattle.table_encodings.specs.Encodings.{flag}
 use Rattle.table_schema.specs.SetRows.{SetRow, IsSetRow, fields_of_row}
 
 -- a row of an answer: all but the key

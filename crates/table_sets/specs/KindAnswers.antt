@@ -4,7 +4,7 @@ use Rattle.std.specs.Option.{option_map_or}
 use Rattle.sqlite.specs.Order.{Row}
 use Rattle.sqlite.specs.declared.types.Value.TheVariants.{Int}
 use Rattle.version_nodes.specs.declared.statuses.MarkKind.{MarkKind}
-use Rattle.table_content.specs.Encodings.{kind_number}
+use Rattle.table_encodings.specs.Encodings.{kind_number}
 
 abbrev pub kind_row : MarkKind → Row
 kind_row kind = Int (pos (kind_number kind)) ∷ []

@@ -2,7 +2,7 @@
 use Rattle.std.specs.Prelude.{pos, [], ◌∷◌}
 use Rattle.sqlite.specs.Order.{Row}
 use Rattle.sqlite.specs.declared.types.Value.TheVariants.{Int}
-use Rattle.table_content.specs.Encodings.{kind_number}
+use Rattle.table_encodings.specs.Encodings.{kind_number}
 use Rattle.table_sets.specs.declared.node_marks.SetMark.{SetMark}
 
 -- a row of a mark: the key of its set, and its kind

@@ -9,7 +9,7 @@ use Rattle.version_nodes.specs.declared.statuses.MarkKind.{MarkKind}
 use Rattle.version_nodes.specs.declared.statuses.MarkKind.TheVariants.{Found, Fixed}
 use Rattle.bug_record.specs.Marks.{with_node}
 use Rattle.table_content.specs.Content.{Content}
-use Rattle.table_content.specs.Encodings.{kind_number}
+use Rattle.table_encodings.specs.Encodings.{kind_number}
 use Rattle.table_sets.specs.declared.marks.Marks.{Marks}
 
 pub record Mark : Type 0 where

@@ -5,7 +5,7 @@ use Rattle.version_nodes.specs.Nodes.{Node}
 use Rattle.version_nodes.specs.Trees.{has_node}
 use Rattle.version_nodes.specs.declared.statuses.MarkKind.{MarkKind}
 use Rattle.table_content.specs.Content.{Content}
-use Rattle.table_content.specs.Encodings.{kind_number}
+use Rattle.table_encodings.specs.Encodings.{kind_number}
 use Rattle.table_content.specs.Free.{marks_of}
 use Rattle.table_sets.specs.declared.node_marks.SetMark.{SetMark}
 

@@ -3,7 +3,7 @@ use Rattle.std.specs.Prelude.{pos, [], ◌∷◌}
 use Rattle.sqlite.specs.Order.{Row}
 use Rattle.sqlite.specs.declared.types.Value.TheVariants.{Int}
 use Rattle.bug_record.specs.Severities.{rank}
-use Rattle.table_content.specs.Encodings.{flag}
+use Rattle.table_encodings.specs.Encodings.{flag}
 use Rattle.table_sets.specs.declared.listed.ListedSet.{ListedSet}
 
 -- a row of a set: its key, severity and whether it is closed

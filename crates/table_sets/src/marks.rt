@@ -12,7 +12,7 @@ use base_faults::StoreFault;
 use bug_record::{Nodes, Sequence, add_node};
 use sqlite::{Alter, Row, Transaction, params};
 use std::alloc::Global;
-use table_content::{kind_of_number, number_of_kind};
+use table_encodings::{kind_of_number, number_of_kind};
 use table_schema::{node_at, number_at, told, written};
 use version_nodes::{MarkKind, Node};
 

@@ -9,7 +9,7 @@ ghost use Rattle.table_sets.specs.KindAnswers.{kind_row, kind_rows};
 
 use base_faults::StoreFault;
 use sqlite::{Alter, Row, Transaction, params};
-use table_content::kind_of_number;
+use table_encodings::kind_of_number;
 use table_schema::{number_at, told};
 use version_nodes::{MarkKind, Node};
 

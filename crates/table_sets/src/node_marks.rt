@@ -11,7 +11,7 @@ ghost use Rattle.table_sets.specs.declared.node_marks.SetMark.{SetMark as SeenMa
 use base_faults::StoreFault;
 use sqlite::{Alter, Row, Transaction, params};
 use std::alloc::Global;
-use table_content::kind_of_number;
+use table_encodings::kind_of_number;
 use table_schema::{number_at, told};
 use version_nodes::{MarkKind, Node};
 

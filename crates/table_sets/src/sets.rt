@@ -9,7 +9,7 @@ ghost use Rattle.bug_record.specs.Severities.{rank};
 ghost use Rattle.base_words.specs.Texts.{IfGiven};
 ghost use Rattle.bug_record.specs.declared.severity.Severity.{Severity as SeenSeverity};
 ghost use Rattle.base_faults.specs.declared.store_fault.StoreFault.TheVariants.{Foreign};
-ghost use Rattle.table_content.specs.Encodings.{flag, tags_in};
+ghost use Rattle.table_encodings.specs.Encodings.{flag, tags_in};
 ghost use Rattle.table_content.specs.declared.edit.Edit.TheVariants.{PutFields, DropFields};
 ghost use Rattle.table_schema.specs.SetRows.{SetRow, IsSetRow, fields_of_row};
 ghost use Rattle.table_schema.specs.Steps.{Plays, Reads, Serves};
@@ -20,8 +20,9 @@ use bug_record::{Severity, Tags};
 use debver::Text;
 use sqlite::{Alter, Row, Transaction, params};
 use std::alloc::Global;
-use table_content::{
-    SetFields, flag_of_number, number_of_flag, number_of_tags, severity_of_number, tags_of_number,
+use table_content::SetFields;
+use table_encodings::{
+    flag_of_number, number_of_flag, number_of_tags, severity_of_number, tags_of_number,
 };
 use table_schema::{maybe_text_at, number_at, text_at, told, written};
 

@@ -11,7 +11,7 @@ use Rattle.table_content.specs.Changes.{FitsContent, changed, with_images, clear
 use Rattle.table_content.specs.Edits.{edited_all}
 use Rattle.table_content.specs.Free.{AreFree}
 use Rattle.table_content.specs.Kept.{IsKeptContent}
-use Rattle.table_content.specs.declared.images.RowEdits.{RowEdits}
+use Rattle.table_content.specs.declared.image_edits.RowEdits.{RowEdits}
 use Rattle.table_schema.specs.Steps.{Acts, PlaysAll, Reads}
 use Rattle.table_schema.proofs.StepLemmas.{done, failed, none, acts_stop, acts_then, acts_weaker}
 use Rattle.table_writes.specs.Needs.{IsTreeFor, HasTree, IsKnownIn}

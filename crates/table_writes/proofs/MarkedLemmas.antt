@@ -12,7 +12,7 @@ use Rattle.version_marks.specs.Nearest.{nearest_on}
 use Rattle.version_marks.specs.declared.near.Near.{Near}
 use Rattle.version_marks.proofs.LineLemmas.{longer}
 use Rattle.table_content.specs.Content.{Content}
-use Rattle.table_content.specs.Encodings.{kind_number}
+use Rattle.table_encodings.specs.Encodings.{kind_number}
 use Rattle.table_nodes.specs.FirstMarks.{mark_at}
 use Rattle.table_nodes.proofs.FirstMarkLemmas.{goes_on}
 use Rattle.table_sets.specs.MarkedAt.{has_mark, AreMarksAt}

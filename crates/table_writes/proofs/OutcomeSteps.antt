@@ -1,7 +1,7 @@
 -- Outcomes with their numbers, one after another.
 use Rattle.std.proofs.Common.{◌≡◌, ◌<◌, ◌+◌, ℕ, suc, add-one, List, [], ◌∷◌, ◌++◌, append_assoc, length, get_or, drop, drop-cons, sym, ap, ◌∙◌}
 use Rattle.bug_record.specs.declared.outcome.Outcome.{Outcome}
-use Rattle.table_content.specs.Outcomes.{numbered}
+use Rattle.table_encodings.specs.Outcomes.{numbered}
 use Rattle.table_content.specs.View.{with_their_numbers}
 use Rattle.table_content.specs.declared.edit.ToldOutcome.{ToldOutcome}
 

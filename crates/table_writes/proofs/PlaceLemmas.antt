@@ -10,7 +10,7 @@ use Rattle.table_content.specs.Content.{Content}
 use Rattle.table_content.specs.Edits.{places_of}
 use Rattle.table_content.specs.KeptOutcomes.{changed_by, kept_after}
 use Rattle.table_content.specs.Kept.{IsKeptContent}
-use Rattle.table_content.specs.Outcomes.{bare}
+use Rattle.table_encodings.specs.Outcomes.{bare}
 use Rattle.table_content.specs.declared.edit.ToldOutcome.{ToldOutcome}
 use Rattle.table_content.proofs.KeepLemmas.{images_say, own_id}
 use Rattle.table_writes.specs.Needs.{IsNextPlace, IsPlaceIn}

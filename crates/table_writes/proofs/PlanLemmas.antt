@@ -10,7 +10,7 @@ use Rattle.table_content.specs.Edits.{edited_all}
 use Rattle.table_content.specs.Free.{AreFree}
 use Rattle.table_content.specs.Images.{with_image, without_image}
 use Rattle.table_content.specs.Kept.{IsKeptContent}
-use Rattle.table_content.specs.declared.images.RowEdits.{RowEdits}
+use Rattle.table_content.specs.declared.image_edits.RowEdits.{RowEdits}
 use Rattle.table_content.proofs.ClosedLemmas.{put_nodes, no_nodes}
 use Rattle.table_content.proofs.EditLemmas.{edited_all-append}
 use Rattle.table_content.proofs.FreeLemmas.{free-append}

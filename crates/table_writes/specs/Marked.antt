@@ -1,7 +1,7 @@
 -- The keys of marks of a kind.
 use Rattle.std.specs.Prelude.{ℕ, ◌==◌, List, [], ◌∷◌, if◌then◌else◌}
 use Rattle.version_nodes.specs.declared.statuses.MarkKind.{MarkKind}
-use Rattle.table_content.specs.Encodings.{kind_number}
+use Rattle.table_encodings.specs.Encodings.{kind_number}
 use Rattle.table_sets.specs.declared.node_marks.SetMark.{SetMark}
 
 -- the keys of the marks of a kind

@@ -14,7 +14,7 @@ use Rattle.table_content.specs.Staying.{Stays, HasNearest, HasRows, IsNeeded}
 use Rattle.table_content.specs.View.{shared_of}
 use Rattle.table_content.specs.declared.edit.Edit.{Edit}
 use Rattle.table_content.specs.declared.edit.SetFields.{SetFields}
-use Rattle.table_content.specs.declared.images.RowEdits.{RowEdits}
+use Rattle.table_content.specs.declared.image_edits.RowEdits.{RowEdits}
 
 -- the edits that put an image, where these marks stand under its key
 pub record IsPlan (t : Ancestry) (found fixed : List Node) (i : SetImage) (plan : RowEdits) : Type 0 where

@@ -15,7 +15,7 @@ use base_faults::StoreFault;
 use sqlite::{Alter, Transaction};
 use std::alloc::{AllocError, Global};
 use std::collections::BTreeMap;
-use table_content::number_of_kind;
+use table_encodings::number_of_kind;
 use table_nodes::add_first_marks;
 use table_sets::{SetMark, read_marks_at};
 use version_marks::Near;

@@ -2,7 +2,7 @@
 
 ghost use Rattle.std.specs.Prelude.{◌≡◌, ◌≢◌, Some, IfOk, IfErr};
 ghost use Rattle.sqlite.specs.Held.{state};
-ghost use Rattle.table_content.specs.Outcomes.{numbered};
+ghost use Rattle.table_encodings.specs.Outcomes.{numbered};
 ghost use Rattle.table_content.specs.View.{with_their_numbers, outcomes_of, keeping_in};
 ghost use Rattle.table_schema.specs.Steps.{Reads, Serves};
 ghost use Rattle.bug_record.specs.declared.outcome.Outcome.TheVariants.{Changed};

@@ -1,5 +1,5 @@
 use Rattle.table_schema.proofs.Exports.{subst, IsUtf8, state, IsSetRow, acts_write, serves_write, maybe_bound}
-use Rattle.table_content.proofs.TagLemmas.{number_below}
+use Rattle.table_encodings.proofs.TagLemmas.{number_below}
 use Rattle.table_sets.proofs.SetStatements.{new_row, add_is}
 use Rattle.table_sets.proofs.sets.add_fields.Goals as goal
 

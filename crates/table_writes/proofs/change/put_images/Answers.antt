@@ -1,6 +1,6 @@
 use Rattle.std.proofs.Common.{◌≡◌, Err, rules, ◌∙◌}
 use Rattle.sqlite.specs.Held.{state}
-use Rattle.table_content.specs.declared.images.RowEdits.{RowEdits}
+use Rattle.table_content.specs.declared.image_edits.RowEdits.{RowEdits}
 use Rattle.table_schema.proofs.StepLemmas.{lists_step, lists_stop, lists_end}
 use Rattle.table_writes.proofs.change.put_images.Goals as goal
 

@@ -1,7 +1,7 @@
 use Rattle.std.proofs.Common.{◌≡◌, flat_map}
 use Rattle.sqlite.specs.Held.{state}
 use Rattle.table_content.specs.Free.{AreFree}
-use Rattle.table_content.specs.declared.images.RowEdits.{RowEdits}
+use Rattle.table_content.specs.declared.image_edits.RowEdits.{RowEdits}
 use Rattle.table_schema.specs.Steps.{Acts}
 use Rattle.table_schema.proofs.StepLemmas.{AreLeft, done}
 use Rattle.table_writes.proofs.change.put_images.Given as goal

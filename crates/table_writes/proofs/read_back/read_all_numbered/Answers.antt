@@ -1,6 +1,6 @@
 use Rattle.std.proofs.Common.{◌≡◌, ◌++◌, ◌+◌, drop, ◌∙◌, rules}
 use Rattle.sqlite.specs.Held.{state}
-use Rattle.table_content.specs.Outcomes.{numbered}
+use Rattle.table_encodings.specs.Outcomes.{numbered}
 use Rattle.table_content.specs.View.{with_their_numbers}
 use Rattle.table_schema.proofs.ReadSteps.{known_then, known_weaker}
 use Rattle.table_writes.proofs.OutcomeSteps.{one_more}

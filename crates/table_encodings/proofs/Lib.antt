@@ -1,0 +1,2 @@
+pub mod TagLemmas
+pub mod OutcomeLemmas
