@@ -16,6 +16,7 @@ PINNED = (
 )
 NAME = re.compile(r"\*\*(\w+)\*\*")
 SENTENCE = re.compile(r"^- (\*\*.*?\*\*) \(([^)]*)\): (.*(?:\n  .*)*)", re.MULTILINE)
+ALONE = re.compile(r"by `(\w+)` alone(?:, [^,]*,)? on ([^;]*)")
 SUBGRAPH = re.compile(r'^  subgraph \w+\["(.*)"\]\n((?:    .*\n)*)  end$', re.MULTILINE)
 PUBLIC_TYPE = re.compile(r"^\s*pub (?:struct|enum|trait|type) (\w+)", re.MULTILINE)
 
@@ -28,13 +29,15 @@ class Layer(NamedTuple):
 
 
 class Sentence(NamedTuple):
-    """What is said of a layer: at which line, its names, its pinned crates, and other layers."""
+    """What is said of a layer: at which line, its names, its pinned crates, other layers, and those
+    on which one crate stands alone."""
 
     line: int
     names: list
     pinned: list
     stands_on: set
     never_knows: set
+    alone: dict
 
     def holds(self, crate):
         """Whether a crate of this name may stand in the layer."""
@@ -76,8 +79,9 @@ def sentences_of(text):
         pinned = [word for word in re.findall(r"`([\w.]+)`", it[2]) if word not in prefixes]
         told, _, never = re.sub(r"\s+", " ", it[3]).partition("never knows")
         stands_on = set(below) if "all below" in told else layers_named(told, every)
+        alone = {crate: layers_named(rest, every) for crate, rest in ALONE.findall(told)}
         line = text.count("\n", 0, it.start()) + 1
-        sentences.append(Sentence(line, names, pinned, stands_on, layers_named(never, every)))
+        sentences.append(Sentence(line, names, pinned, stands_on, layers_named(never, every), alone))
         below += names
     return sentences
 
@@ -116,6 +120,17 @@ def check_sentences(listed, text):
     for layer, sentence in pairs:
         yield from check_names(layer, sentence)
         yield from check_below(layer, sentence, names)
+        yield from check_alone(layer, sentence, names)
+
+
+def check_alone(layer, sentence, names):
+    """Where a crate is said to stand on a layer alone, no other crate of its layer does."""
+    for alone, wanted in sentence.alone.items():
+        for crate, words in layer.crates.items():
+            known = {name for word in words for name in names.get(word, ())}
+            if crate != alone:
+                for name in sorted(wanted & known):
+                    yield f"{sentence.line}: `{crate}` stands on {name} too, not `{alone}` alone"
 
 
 # The drawing and the table.

@@ -242,6 +242,9 @@ class CheckLayers(unittest.TestCase):
         self.assert_told(self.sentences("on no other layer", "on the top"), "not stand on top")
         self.assert_told(self.sentences("knows more", "knows bases"), "top knows base")
         self.assert_told(self.sentences("on base;", "on all below it;"))
+        self.assert_told(self.sentences("on base;", "by `top_b` alone on base;"))
+        alone = self.sentences("on base;", "by `top_c` alone, which is new, on base;")
+        self.assert_told(alone, "`top_b` stands on base too, not `top_c` alone")
         self.assert_told(self.sentences("# High\n", ""), "2 layers have a sentence")
 
     def test_headings(self):
