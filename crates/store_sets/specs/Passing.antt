@@ -7,6 +7,7 @@ use Rattle.bug_record.specs.declared.bug.SetImage.{SetImage}
 use Rattle.bug_record.specs.declared.bug.Shared.{Shared}
 use Rattle.bug_record.specs.Rows.{row_of}
 use Rattle.bug_record.specs.declared.row.ListRow.{ListRow}
+use Rattle.store_keys.specs.Listing.{is_listed_on}
 use Rattle.store_sets.specs.declared.places.Place.{Place}
 use Rattle.store_sets.specs.declared.places.Place.TheVariants.{First, After}
 use Rattle.store_sets.specs.declared.passing.Question.{Question}
