@@ -10,6 +10,7 @@ import sqlite3
 import subprocess
 import unittest
 
+import check_layers
 import desks
 from desks import TOOLS, folder, make_desk, run, written
 
@@ -34,6 +35,31 @@ libfoo (0.9-1) unstable; urgency=medium
   * First version.
 
  -- Ann Maintainer <ann@foo.example>  Sat, 30 Dec 2023 10:00:00 +0000
+"""
+# Crates in two layers, and what a document says of them.
+LISTED = "# Lowest first.\n# Low\nbase_a: kit\ndebver: base_a\n# High\ntop_b: base_a debver kit\n"
+LAYERS = """- **base** (`base_..`, `debver`): stands on no other layer, and never knows
+  the top.
+- **top** (`top_..`): stands on base; it never knows more.
+
+```mermaid
+  subgraph base["Low"]
+    base_a
+    debver --> base_a
+  end
+  subgraph top["High"]
+    top_b --> debver
+  end
+```
+
+| Crate | Lines | Holds |
+|---|---|---|
+| **Low** | | |
+| `base_a` | 1 | this |
+| `debver` | 1 | that |
+| **High** | | |
+| `top_b` | 1 | more |
+
 """
 # A program that answers nothing, and calls each script good.
 SILENT = "#!/bin/sh\ncat >/dev/null\n"
@@ -175,9 +201,9 @@ class Gate(unittest.TestCase):
     def test_copy(self):
         """A copy has the crates named and all below them, no others, and no wrong bodies."""
         with folder() as place:
-            run([TOOLS / "copy_crates", place, "version_nodes", "line_words"])
+            run([TOOLS / "copy_crates", place, "version_nodes", "base_words"])
             copied = sorted(path.name for path in pathlib.Path(place, "crates").iterdir())
-            self.assertEqual(copied, ["debver", "line_words", "version_nodes"])
+            self.assertEqual(copied, ["base_words", "debver", "version_nodes"])
             listed = pathlib.Path(place, "crates.txt").read_text(encoding="utf-8").splitlines()
             self.assertEqual(sorted(line.split(":")[0] for line in listed), copied)
             parts = {path.name for path in pathlib.Path(place, "crates", "debver").iterdir()}
@@ -187,6 +213,63 @@ class Gate(unittest.TestCase):
         """At least one check runs, and at most one a processor."""
         output, _ = run([TOOLS / "checks_at_once"])
         self.assertIn(int(output), range(1, os.cpu_count() + 1))
+
+
+class CheckLayers(unittest.TestCase):
+    """`check_layers`, by which `check_documents` compares layers and names."""
+
+    def assert_told(self, told, *wanted):
+        """There are as many complaints as these, each with its text."""
+        self.assertEqual(len(told), len(wanted), told)
+        for complaint, text in zip(told, wanted):
+            self.assertIn(text, complaint)
+
+    def sentences(self, old, new):
+        """The complaints of sentences in which a text is another."""
+        self.assertIn(old, LISTED + LAYERS)
+        told = LISTED.replace(old, new), LAYERS.replace(old, new)
+        return list(check_layers.check_sentences(*told))
+
+    def test_sentences(self):
+        """What is right has no complaint, and each thing that is wrong has its own."""
+        self.assert_told(self.sentences("Low", "Low"))
+        self.assert_told(self.sentences("top_b: ", "base_b: "), "`base_b` has no name")
+        self.assert_told(self.sentences(", `debver`", ""), "`debver` has no name")
+        self.assert_told(self.sentences("`debver`)", "`base_a`, `debver`)"), "has to have a prefix")
+        self.assert_told(self.sentences("`debver`)", "`debver`, `bts`)"), "`bts` is no crate")
+        self.assert_told(self.sentences("`top_..`", "`tops_..`"), "`tops_..` is no crate")
+        self.assert_told(self.sentences("on base;", "on nothing;"), "top stands on base")
+        self.assert_told(self.sentences("on no other layer", "on the top"), "not stand on top")
+        self.assert_told(self.sentences("knows more", "knows bases"), "top knows base")
+        self.assert_told(self.sentences("on base;", "on all below it;"))
+        self.assert_told(self.sentences("on base;", "by `top_b` alone on base;"))
+        alone = self.sentences("on base;", "by `top_c` alone, which is new, on base;")
+        self.assert_told(alone, "`top_b` stands on base too, not `top_c` alone")
+        self.assert_told(self.sentences("# High\n", ""), "2 layers have a sentence")
+
+    def test_headings(self):
+        """A heading or a crate that stands elsewhere in the drawing or the table is told."""
+        for old, new, *wanted in (
+            ("Low", "Low"),
+            ('["Low"]', '["Lower"]', "layer 1 of the drawing"),
+            ("**High**", "**Higher**", "layer 2 of the table"),
+            ("| **High** | | |\n", "", "layer 1 of the table", "the table has 1"),
+            ("    debver --> base_a\n", "", "layer 1 of the drawing"),
+        ):
+            told = list(check_layers.check_headings(LISTED, LAYERS.replace(old, new)))
+            self.assert_told(told, *wanted)
+
+    def test_edges(self):
+        """An edge that follows from others is not drawn, and headings are no crates."""
+        drawn = {"base_a": [], "debver": ["base_a"], "top_b": ["debver"]}
+        self.assertEqual(check_layers.edges_drawn(LISTED), drawn)
+
+    def test_names(self):
+        """Types of one name, and files that differ by a plural."""
+        texts = {"a.rt": "pub struct It;\nstruct Own;\n", "b.rt": "pub enum It {}\nenum Own {}\n"}
+        self.assert_told(list(check_layers.check_types(texts)), "`It` is a public type of a.rt too")
+        files = ["a/job.rt", "a/jobs.rt", "b/job.rt", "c/jobs.rt"]
+        self.assert_told(list(check_layers.check_plurals(files)), "a/job.rt:1: it and a/jobs.rt")
 
 
 class CheckOptions(unittest.TestCase):

@@ -107,22 +107,6 @@ pub(crate) fn end_alone<D: Disk + Drop>(done: (JobEnd, LeftFiles<D>)) -> JobEnd
     end
 }
 
-/// Carries a job out, as `do_job_from` does for any files, and closes these.
-/// `Wary` supposes nothing of a write that a loss of power cuts short.
-/// What a contract says at `Wary` is about new files alone; `do_job_from` has the same clause for
-/// any.
-pub fn do_job<R: Read, W: Write>(
-    rt: &HostRuntime,
-    alloc: Global,
-    job: &Job,
-    reader: &mut R,
-    writer: &mut W,
-) -> JobEnd
-    ensures { IsJobDone wary job.now (R.remaining reader.old) (W.contents writer.old) (W.contents writer.new) result }
-{
-    end_alone(do_job_from(rt, alloc, Wary, job, reader, writer))
-}
-
 /// Carries a job out, as `do_job_from` does, closes what is left of its files, and answers the exit
 /// status.
 pub fn run_job_from<S: Start, R: Read, W: Write>(
@@ -139,7 +123,10 @@ pub fn run_job_from<S: Start, R: Read, W: Write>(
     end_alone(do_job_from(rt, alloc, start, job, reader, writer)).status()
 }
 
-/// Carries a job out, as `run_job_from` does at `Wary`.
+/// Carries a job out, as `run_job_from` does at `Wary`, which supposes nothing of a write that a
+/// loss of power cuts short.
+/// What a contract says at `Wary` is about new files alone; `run_job_from` has the same clause for
+/// any.
 pub fn run_job<R: Read, W: Write>(
     rt: &HostRuntime,
     alloc: Global,

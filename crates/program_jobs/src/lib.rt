@@ -17,7 +17,7 @@ mod server;
 
 pub use ending::{Cause, Ending, JobEnd, end_output};
 pub use file_desk::{FileDesk, close_desk, create_desk, open_desk};
-pub use jobs::{do_job, do_job_from, run_job, run_job_from};
+pub use jobs::{do_job_from, run_job, run_job_from};
 pub use laws::{a_job_leaves_a_desk, sent_lines_are_cut_again, the_next_job_finds_the_desk};
 pub use left::LeftFiles;
 pub use program::{

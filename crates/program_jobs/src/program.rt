@@ -37,8 +37,8 @@ fn do_words_from<S: Start, R: Read, W: Write>(
 /// Does what words ask, over the input and the two outputs that are handed in; the program's own
 /// name is not one of the words.
 ///
-/// The words are read by `program_options::read_words`, and the job is carried out by `do_job_from`, for
-/// files of which `start` says what they hold; what is left of them is closed.
+/// The words are read by `program_options::read_words`, and the job is carried out by
+/// `do_job_from`, for files of which `start` says what they hold; what is left of them is closed.
 /// `--help` writes clap's text, which is a fault where it can't be written.
 /// Of bad words, and of words for which there is no memory, nothing is written.
 /// Then the complaint of the end, if it has one, is written to the error output: `bts: bad words`

@@ -1,20 +1,13 @@
 -- What is asked of bugs, as a test of their shared fields, and the rows of those that pass.
-use Rattle.std.specs.Prelude.{ℕ, ◌==◌, ◌&&◌, Bool, not, List, [], Option, Some, None, map, if◌then◌else◌}
-use Rattle.version_nodes.specs.Nodes.{Node}
-use Rattle.version_nodes.specs.Statuses.{status_on}
-use Rattle.bug_record.specs.Heads.{is_found}
+use Rattle.std.specs.Prelude.{ℕ, Bool, List, [], Option, Some, None, map, if◌then◌else◌}
 use Rattle.bug_record.specs.Images.{numbers_of, bug_of}
-use Rattle.bug_record.specs.Lists.{concerns}
-use Rattle.bug_record.specs.Severities.{rank}
 use Rattle.bug_record.specs.Sets.{has}
 use Rattle.bug_record.specs.declared.bug.Member.{Member}
 use Rattle.bug_record.specs.declared.bug.SetImage.{SetImage}
 use Rattle.bug_record.specs.declared.bug.Shared.{Shared}
-use Rattle.bug_record.specs.declared.severity.Severity.{Severity}
-use Rattle.bug_record.specs.declared.severity.Severity.TheVariants.{Critical, Grave, Serious, Important, Normal, Minor, Wishlist}
 use Rattle.bug_record.specs.Rows.{row_of}
 use Rattle.bug_record.specs.declared.row.ListRow.{ListRow}
-use Rattle.store_keys.specs.declared.order.RowsBySeverity.{RowsBySeverity}
+use Rattle.store_keys.specs.Listing.{is_listed_on}
 use Rattle.store_sets.specs.declared.places.Place.{Place}
 use Rattle.store_sets.specs.declared.places.Place.TheVariants.{First, After}
 use Rattle.store_sets.specs.declared.passing.Question.{Question}

@@ -16,13 +16,13 @@ returns-in_default c =
     merge-no_bug (difference_of c.args.agreement) c.args.images.now c.args.next c.args.first c.args.others.now
     c.in_default.ensures
 
-pub returns-in-Some-first_refused : goal.returns-in-Some-first_refused
-returns-in-Some-first_refused c =
+pub returns-in-Some-first_bug_refused : goal.returns-in-Some-first_bug_refused
+returns-in-Some-first_bug_refused c =
     merge-refused (difference_of c.args.agreement) c.args.images.now c.args.next c.args.first c.args.others.now
-    c.in-Some.image.now c.in-Some-first_refused.refusal c.in-Some.ensures
+    c.in-Some.image.now c.in-Some-first_bug_refused.refusal c.in-Some.ensures
     (archived-seen c.args.first c.fields-shared.ensures c.archived_refusal.ensures ∙ c.in_default-archived_refusal.is)
     (ap (λ (is : List SetImage). first_bug_refusal false (bug_in is) c.args.others.now) (sym c.in_ok-lookup.ensures)
-    ∙ sym c.first_refused.ensures ∙ c.in-Some-first_refused.is)
+    ∙ sym c.first_bug_refused.ensures ∙ c.in-Some-first_bug_refused.is)
 
 pub returns-in-Some-first_differing : goal.returns-in-Some-first_differing
 returns-in-Some-first_differing c =
@@ -30,7 +30,7 @@ returns-in-Some-first_differing c =
     c.in-Some.image.now c.in-Some-first_differing.refusal c.in-Some.ensures
     (archived-seen c.args.first c.fields-shared.ensures c.archived_refusal.ensures ∙ c.in_default-archived_refusal.is)
     (ap (λ (is : List SetImage). first_bug_refusal false (bug_in is) c.args.others.now) (sym c.in_ok-lookup.ensures)
-    ∙ sym c.first_refused.ensures ∙ c.in_default-first_refused.is)
+    ∙ sym c.first_bug_refused.ensures ∙ c.in_default-first_bug_refused.is)
     ((λ j. first_refusal (differing (difference_of c.args.agreement (sym c.fields-shared.ensures j)))
     (bug_in (sym c.in_ok-lookup.ensures j)) c.args.others.now) ∙ sym c.first_differing.ensures ∙ c.in-Some-first_differing.is)
 
@@ -40,7 +40,7 @@ returns c =
     c.requires.apart c.in-Some.ensures
     (archived-seen c.args.first c.fields-shared.ensures c.archived_refusal.ensures ∙ c.in_default-archived_refusal.is)
     (ap (λ (is : List SetImage). first_bug_refusal false (bug_in is) c.args.others.now) (sym c.in_ok-lookup.ensures)
-    ∙ sym c.first_refused.ensures ∙ c.in_default-first_refused.is)
+    ∙ sym c.first_bug_refused.ensures ∙ c.in_default-first_bug_refused.is)
     ((λ j. first_refusal (differing (difference_of c.args.agreement (sym c.fields-shared.ensures j)))
     (bug_in (sym c.in_ok-lookup.ensures j)) c.args.others.now) ∙ sym c.first_differing.ensures ∙ c.in_default-first_differing.is)
     c.in_ok-joined.field-0
