@@ -1,4 +1,5 @@
-//! A database made, recognised or carried over as that of a desk, each in one transaction.
+//! What creating or opening a desk finds in a database, and the fault where that is refused.
+//! A database is made, recognised or carried over as that of a desk, each in one transaction.
 #![tactic(auto)]
 
 mod calls;
