@@ -22,7 +22,7 @@ use std::alloc::{AllocError, Global};
 use std::fmt::Display;
 use std::io;
 use store_contract::Records;
-use test_doubles::{ConnectionTask, new_disks, over_files};
+use test_doubles::{ConnectionTask, new_files, over_files};
 use thiserror::Error;
 use version_nodes::{Node, NodeFault, Status};
 
@@ -240,7 +240,7 @@ fn print_desks(rt: &HostRuntime) -> io::Result<()> {
     print(rt, "desk_http", answer(alloc, &mut desk, request))?;
     let mut text = Vec::new(alloc);
     let task = Script { text: script };
-    drop(over_files(alloc, new_disks(alloc), Options::new(1), &task, &mut text));
+    drop(over_files(alloc, new_files(alloc), Options::new(1), &task, &mut text));
     print_bytes(rt, "desk_tables", text.as_slice())
 }
 
