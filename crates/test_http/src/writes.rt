@@ -59,6 +59,7 @@ fn writes_needed(
     None
 }
 
+// Each answer is written in one piece, and in pieces of one byte.
 #[test]
 fn a_write_that_fails_is_told_and_no_other_follows(rt: HostRuntime) {
     let alloc = rt.alloc();
@@ -66,15 +67,6 @@ fn a_write_that_fails_is_told_and_no_other_follows(rt: HostRuntime) {
         for failure in [WriterFailure::Interrupted, WriterFailure::Full] {
             let writes = writes_needed(alloc, place, request, answer, usize::MAX, failure);
             assert!(rt; writes.is_some(), "{request}");
-        }
-    }
-}
-
-#[test]
-fn a_writer_of_one_byte_a_write_gets_the_whole_answer(rt: HostRuntime) {
-    let alloc = rt.alloc();
-    for (place, (request, answer)) in EXCHANGES.iter().enumerate() {
-        for failure in [WriterFailure::Interrupted, WriterFailure::Full] {
             let writes = writes_needed(alloc, place, request, answer, 1, failure);
             assert!(rt; writes == Some(answer.len()), "{request}");
         }
