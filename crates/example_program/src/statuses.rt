@@ -3,7 +3,7 @@
 use crate::files;
 use crate::help::print_help;
 use crate::ports::{FREE, TAKEN, free_port, words_of};
-use crate::streams::{Caller, Input, Output};
+use crate::streams::{Caller, GivenInput, KeptOutput};
 use base_words::number_word;
 use program_jobs::{Ending, close_desk, open_desk, run_program, run_words};
 use sqlite::Wary;
@@ -76,12 +76,12 @@ fn print_ending(
 // Runs words, and prints what came of them.
 fn run_on(rt: &HostRuntime, words: &[&str], run: &Run, port: Option<&str>) -> io::Result<()> {
     let alloc = rt.alloc();
-    let mut reader = Input {
+    let mut reader = GivenInput {
         left: run.input.as_slice(),
         fails: run.is_input_bad,
     };
-    let mut output = Output::new(alloc, run.output_room);
-    let mut errors = Output::new(alloc, run.errors_room);
+    let mut output = KeptOutput::new(alloc, run.output_room);
+    let mut errors = KeptOutput::new(alloc, run.errors_room);
     let ending = run_words(rt, alloc, words, &mut reader, &mut output, &mut errors);
     print_output(rt, &output.bytes)?;
     print_ending(rt, ending, &errors.bytes, port)
@@ -101,12 +101,12 @@ fn run_on_taken_port(rt: &HostRuntime, call: &str, run: &Run) -> io::Result<()> 
 // Runs words that name this port; the input is sent to it as a request.
 fn run_and_call(rt: &HostRuntime, words: &[&str], run: &Run, port: u16) -> io::Result<()> {
     let alloc = rt.alloc();
-    let mut reader = Input {
+    let mut reader = GivenInput {
         left: run.input.as_slice(),
         fails: run.is_input_bad,
     };
     let mut caller = Caller::new(rt, port, run.input.as_slice());
-    let mut errors = Output::new(alloc, run.errors_room);
+    let mut errors = KeptOutput::new(alloc, run.errors_room);
     let ending = run_words(rt, alloc, words, &mut reader, &mut caller, &mut errors);
     print_ending(rt, ending, &errors.bytes, None)
 }
@@ -235,12 +235,12 @@ pub(crate) fn run_file(rt: &HostRuntime, table: &str) -> io::Result<()> {
 pub(crate) fn run_process(rt: &HostRuntime) -> io::Result<()> {
     let alloc = rt.alloc();
     let run = Run::new(alloc);
-    let mut reader = Input {
+    let mut reader = GivenInput {
         left: run.input.as_slice(),
         fails: run.is_input_bad,
     };
-    let mut output = Output::new(alloc, run.output_room);
-    let mut errors = Output::new(alloc, run.errors_room);
+    let mut output = KeptOutput::new(alloc, run.output_room);
+    let mut errors = KeptOutput::new(alloc, run.errors_room);
     let ending = run_program(rt, alloc, &mut reader, &mut output, &mut errors);
     println!(rt; "== the words of this process")?;
     print_output(rt, &output.bytes)?;

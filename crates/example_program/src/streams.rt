@@ -6,12 +6,12 @@ use std::net::{Ipv4Addr, Shutdown, TcpStream};
 
 /// Gives its bytes, or fails at each read.
 #[derive(Drop)]
-pub(crate) struct Input<'a> {
+pub(crate) struct GivenInput<'a> {
     pub left: &'a [u8],
     pub fails: bool,
 }
 
-impl Read for Input<'_> {
+impl Read for GivenInput<'_> {
     fn read(&mut self, buf: &mut [u8]) -> io::Result<usize> {
         if self.fails {
             return Err(io::Error::from(ErrorKind::Other));
@@ -25,21 +25,21 @@ impl Read for Input<'_> {
 
 /// Keeps what is written, and has room for so many more bytes.
 #[derive(Drop)]
-pub(crate) struct Output {
+pub(crate) struct KeptOutput {
     pub bytes: Vec<u8>,
     room: usize,
 }
 
-impl Output {
-    pub fn new(alloc: Global, room: usize) -> Output {
-        Output {
+impl KeptOutput {
+    pub fn new(alloc: Global, room: usize) -> KeptOutput {
+        KeptOutput {
             bytes: Vec::new(alloc),
             room,
         }
     }
 }
 
-impl Write for Output {
+impl Write for KeptOutput {
     fn write(&mut self, buf: &[u8]) -> io::Result<usize> {
         let len = buf.len().min(self.room);
         self.bytes.extend_from_slice(&buf[..len])?;

@@ -1,6 +1,6 @@
 //! A message that is sent to the desk in files, whatever becomes of them.
 
-use crate::sending::{Ended, Sending};
+use crate::message_with_id::{Ended, MessageWithId};
 use base_faults::StoreFault;
 use desk_run::{End, OnceFault, Records};
 use sqlite::{Alter, Connection};
@@ -20,18 +20,18 @@ pub(crate) struct Attempt {
 
 /// A message that is sent to a desk, and what the desk is asked after it.
 #[derive(Clone, Copy)]
-pub(crate) struct Sent<'a> {
-    pub sending: &'a Sending,
+pub(crate) struct SendTask<'a> {
+    pub message: &'a MessageWithId,
     pub questions: &'a str,
 }
 
-impl DeskTask<Attempt> for Sent<'_> {
+impl DeskTask<Attempt> for SendTask<'_> {
     fn run_on<R: Records>(&self, alloc: Global, desk: &mut R, attempt: &mut Attempt) {
         attempt.send(alloc, desk, *self);
     }
 }
 
-impl ConnectionTask<Attempt> for Sent<'_> {
+impl ConnectionTask<Attempt> for SendTask<'_> {
     fn run_over<S: Alter>(
         &self,
         alloc: Global,
@@ -53,9 +53,9 @@ impl Attempt {
     }
 
     // Sends a message to a desk, and asks the desk the questions.
-    fn send<R: Records>(&mut self, alloc: Global, desk: &mut R, sent: Sent<'_>) {
+    fn send<R: Records>(&mut self, alloc: Global, desk: &mut R, sent: SendTask<'_>) {
         self.ended = sent
-            .sending
+            .message
             .send(alloc, desk, &mut self.text)
             .unwrap_or(None);
         let _ = run_into(alloc, desk, sent.questions, &mut self.shown);
@@ -71,11 +71,11 @@ impl Attempt {
 
     /// The line at which a stop was told, 0 where it was met before any, and one more than the
     /// message has where it came to its end; nothing where something else is told.
-    pub fn stopped_at(&self, sending: &Sending) -> Option<u64> {
+    pub fn stopped_at(&self, message: &MessageWithId) -> Option<u64> {
         match self.ended {
             None | Some(Err(OnceFault::Store(StoreFault::Device))) => Some(0),
             Some(Ok(End::Store(StoreFault::Device, line))) => Some(line),
-            _ if self.is_done() => Some(sending.lines.saturating_add(1)),
+            _ if self.is_done() => Some(message.lines.saturating_add(1)),
             _ => None,
         }
     }

@@ -1,9 +1,9 @@
 //! HTTP exchanges, each run on two desks: to one a request comes at once, to the other one byte at
 //! a time.
 
-use crate::exchange::{Trickle, served};
-use crate::exchange_lines::{Line, read_line};
+use crate::data_lines::{DataLine, read_data_line};
 use crate::requests::request_of;
+use crate::serving::{Trickle, served};
 use base_words::LARGEST_NUMBER;
 use memory_desk::PlainDesk;
 use std::alloc::Global;
@@ -56,16 +56,16 @@ pub(crate) fn run_file(rt: &HostRuntime, text: &str) -> io::Result<()> {
     let mut desks = Desks::new(rt.alloc(), 1);
     let mut request = Vec::new(rt.alloc());
     for line in text.split_terminator('\n') {
-        let part = read_line(line);
-        if !matches!(part, Line::More(_)) {
+        let part = read_data_line(line);
+        if !matches!(part, DataLine::More(_)) {
             serve_lines(rt, &mut desks, &request)?;
             request.clear();
         }
         println!(rt; "{line}")?;
         match part {
-            Line::Desk { first } => desks = Desks::new(rt.alloc(), first),
-            Line::Note => {}
-            Line::Request(text) | Line::More(text) => request.push(text)?,
+            DataLine::Desk { first } => desks = Desks::new(rt.alloc(), first),
+            DataLine::Note => {}
+            DataLine::Request(text) | DataLine::More(text) => request.push(text)?,
         }
     }
     serve_lines(rt, &mut desks, &request)

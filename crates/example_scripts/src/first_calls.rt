@@ -22,7 +22,7 @@ use std::alloc::{AllocError, Global};
 use std::fmt::Display;
 use std::io;
 use store_contract::Records;
-use test_doubles::{ConnectionTask, new_disks, over_files};
+use test_doubles::{ConnectionTask, new_files, over_files};
 use thiserror::Error;
 use version_nodes::{Node, NodeFault, Status};
 
@@ -112,13 +112,13 @@ fn next_after_report(alloc: Global, from: &str, title: &str) -> Result<Option<u6
     Ok(Some(change.next))
 }
 
-// desk_store: the number of the next bug, of any store.
+// store_contract: the number of the next bug, of any store.
 fn next_number<S: Records>(store: &mut S) -> Result<u64, Stopped> {
     let next = store.next()?;
     Ok(next)
 }
 
-// desk_messages: how many lines of a message a desk answers; none where the sender is no text.
+// message_receiving: how many lines of a message a desk answers; none where the sender is no text.
 fn lines_answered<S: Records>(alloc: Global, desk: &mut S, from: &str, message: &str) -> usize {
     if !is_text(from) {
         return 0;
@@ -232,15 +232,15 @@ fn print_desks(rt: &HostRuntime) -> io::Result<()> {
     let alloc = rt.alloc();
     let script = "@report hello - normal it crashes\nseverity 1 grave\n";
     let mut desk = PlainDesk::new(alloc, 1);
-    print(rt, "desk_store", next_number(&mut desk))?;
+    print(rt, "store_contract", next_number(&mut desk))?;
     print_text(rt, "desk_run", written(alloc, &mut desk, script))?;
     let answered = lines_answered(alloc, &mut desk, "ann", "# two lines\nclose 1\nclose 2\n");
-    println!(rt; "desk_messages: {answered}")?;
+    println!(rt; "message_receiving: {answered}")?;
     let request = "GET /bugs/1 HTTP/1.1\r\nHost: 127.0.0.1\r\n\r\n";
     print(rt, "desk_http", answer(alloc, &mut desk, request))?;
     let mut text = Vec::new(alloc);
     let task = Script { text: script };
-    drop(over_files(alloc, new_disks(alloc), Options::new(1), &task, &mut text));
+    drop(over_files(alloc, new_files(alloc), Options::new(1), &task, &mut text));
     print_bytes(rt, "desk_tables", text.as_slice())
 }
 

@@ -1,4 +1,4 @@
-//! The headers of examples.
+//! The headers of scripts.
 
 use base_words::number_word;
 

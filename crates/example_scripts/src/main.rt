@@ -3,16 +3,16 @@
 
 mod answers;
 mod attempt;
-mod exchange;
-mod exchange_lines;
+mod data_lines;
 mod exchanges;
 mod first_calls;
 mod header;
+mod message_with_id;
 mod plan;
 mod requests;
 mod scripts;
-mod sending;
 mod sends;
+mod serving;
 mod stops;
 
 use std::{fs, io};

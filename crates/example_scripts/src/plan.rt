@@ -1,13 +1,14 @@
 //! What is sent while a disk stops, and what has to come of it.
 
-use crate::attempt::{Attempt, Sent};
-use crate::sending::Sending;
+use crate::attempt::{Attempt, SendTask};
+use crate::message_with_id::MessageWithId;
 use desk_run::Records;
 use sqlite::{Alter, Connection};
 use sqlite_pager::Options;
 use std::alloc::{AllocError, Global};
 use test_doubles::{
-    ConnectionTask, DeskTask, Disks, answer_to, in_memory, new_desk, on_made, open, over_files,
+    ConnectionTask, DatabaseFiles, DeskTask, answer_to, in_memory, new_desk, on_made, open,
+    over_files,
 };
 
 /// A message, what is run on the desk before it, and what the desk is asked after it.
@@ -15,7 +16,7 @@ use test_doubles::{
 pub(crate) struct Plan {
     before: String,
     /// The message.
-    pub sending: Sending,
+    pub message: MessageWithId,
     /// The questions.
     pub questions: String,
 }
@@ -59,10 +60,10 @@ impl DeskTask<Attempt> for Plan {
 impl Plan {
     /// Nothing to send yet, and nothing to ask.
     pub fn new(alloc: Global) -> Result<Plan, AllocError> {
-        let sending = Sending::new(alloc)?;
+        let message = MessageWithId::new(alloc)?;
         Ok(Plan {
             before: String::new(alloc),
-            sending,
+            message,
             questions: String::new(alloc),
         })
     }
@@ -79,20 +80,20 @@ impl Plan {
                 add_line(&mut self.questions, question)?;
                 Ok(true)
             }
-            None => self.sending.take(line),
+            None => self.message.take(line),
         }
     }
 
     /// The message, and the questions after it.
-    pub fn sent(&self) -> Sent<'_> {
-        Sent {
-            sending: &self.sending,
+    pub fn sent(&self) -> SendTask<'_> {
+        SendTask {
+            message: &self.message,
             questions: self.questions.as_str(),
         }
     }
 
     /// The files of a new desk on which the script before the message was run.
-    pub fn base(&self, alloc: Global) -> Disks {
+    pub fn base(&self, alloc: Global) -> DatabaseFiles {
         let before = Before {
             script: self.before.as_str(),
         };

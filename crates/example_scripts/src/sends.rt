@@ -1,6 +1,6 @@
 //! Messages that are sent to a desk in memory, and to one in tables, again and again.
 
-use crate::sending::Sending;
+use crate::message_with_id::MessageWithId;
 use base_faults::StoreFault;
 use base_words::number_word;
 use desk_run::Records;
@@ -20,13 +20,13 @@ fn next_text<S: Records>(alloc: Global, desk: &mut S) -> Result<String, AllocErr
 fn take_line<S: Records>(
     alloc: Global,
     desk: &mut S,
-    sending: &mut Sending,
+    message: &mut MessageWithId,
     line: &str,
     text: &mut Vec<u8>,
 ) -> Result<(), AllocError> {
     text.extend_from_slice(line.as_bytes())?;
     text.push(b'\n')?;
-    if sending.take(line)? {
+    if message.take(line)? {
         return Ok(());
     }
     if let Some(script) = line.strip_prefix("! ") {
@@ -35,7 +35,7 @@ fn take_line<S: Records>(
     }
     match line {
         "send" => {
-            sending.send(alloc, desk, text)?;
+            message.send(alloc, desk, text)?;
             Ok(())
         }
         "next" => text.extend_from_slice(next_text(alloc, desk)?.as_bytes()),
@@ -47,12 +47,12 @@ fn take_line<S: Records>(
 fn take_lines<S: Records>(
     alloc: Global,
     desk: &mut S,
-    sending: &mut Sending,
+    message: &mut MessageWithId,
     example: &str,
     text: &mut Vec<u8>,
 ) -> Result<(), AllocError> {
     for line in example.lines() {
-        take_line(alloc, desk, sending, line, text)?;
+        take_line(alloc, desk, message, line, text)?;
     }
     Ok(())
 }
@@ -64,34 +64,34 @@ fn run_lines<S: Records>(
     example: &str,
     text: &mut Vec<u8>,
 ) -> Result<(), AllocError> {
-    let mut sending = Sending::new(alloc)?;
-    take_lines(alloc, desk, &mut sending, example, text)
+    let mut message = MessageWithId::new(alloc)?;
+    take_lines(alloc, desk, &mut message, example, text)
 }
 
 // The lines of an example, which are taken on a desk.
 #[derive(Clone, Copy)]
-struct Lines<'a> {
+struct ExampleLines<'a> {
     example: &'a str,
 }
 
 // What the lines of an example come to, and whether there was memory for all of it.
 #[derive(Drop)]
-struct Answers {
+struct ExampleAnswers {
     text: Vec<u8>,
     is_whole: bool,
 }
 
-impl DeskTask<Answers> for Lines<'_> {
-    fn run_on<R: Records>(&self, alloc: Global, desk: &mut R, answers: &mut Answers) {
+impl DeskTask<ExampleAnswers> for ExampleLines<'_> {
+    fn run_on<R: Records>(&self, alloc: Global, desk: &mut R, answers: &mut ExampleAnswers) {
         let told = run_lines(alloc, desk, self.example, &mut answers.text);
         answers.is_whole = told.is_ok();
     }
 }
 
-impl Answers {
+impl ExampleAnswers {
     // Nothing yet.
-    fn new(alloc: Global) -> Answers {
-        Answers {
+    fn new(alloc: Global) -> ExampleAnswers {
+        ExampleAnswers {
             text: Vec::new(alloc),
             is_whole: true,
         }
@@ -137,7 +137,11 @@ fn print_text(rt: &HostRuntime, bytes: &[u8]) -> io::Result<()> {
 }
 
 // Prints what comes of an example on a desk in memory, and whether a desk in tables answers alike.
-fn print_both(rt: &HostRuntime, in_memory: &Answers, in_tables: &Answers) -> io::Result<()> {
+fn print_both(
+    rt: &HostRuntime,
+    in_memory: &ExampleAnswers,
+    in_tables: &ExampleAnswers,
+) -> io::Result<()> {
     in_memory.whole()?;
     in_tables.whole()?;
     print_text(rt, &in_memory.text)?;
@@ -151,10 +155,10 @@ fn print_both(rt: &HostRuntime, in_memory: &Answers, in_tables: &Answers) -> io:
 // Runs an example on both desks, and prints what comes of it.
 fn run_example(rt: &HostRuntime, example: &str) -> io::Result<()> {
     let alloc = rt.alloc();
-    let lines = Lines { example };
+    let lines = ExampleLines { example };
     let (call, fault) = fails(example);
-    let mut in_memory = Answers::new(alloc);
-    let mut in_tables = Answers::new(alloc);
+    let mut in_memory = ExampleAnswers::new(alloc);
+    let mut in_tables = ExampleAnswers::new(alloc);
     in_memory_failing(alloc, call, fault, &lines, &mut in_memory);
     in_tables_failing(alloc, call, fault, &lines, &mut in_tables);
     print_both(rt, &in_memory, &in_tables)

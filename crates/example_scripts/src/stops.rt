@@ -1,11 +1,12 @@
 //! A message that is sent again after each stop of the disk, until it comes to its end.
 
-use crate::attempt::{Attempt, Sent};
+use crate::attempt::{Attempt, SendTask};
 use crate::plan::Plan;
 use std::alloc::Global;
 use std::{fmt, io};
 use test_doubles::{
-    BothLeft, Disks, Setting, both_left, files_with, goes_on, over_files, setting_of, stopping,
+    DatabaseFiles, DatabaseRemains, StopSetting, files_with, goes_on, over_files, remains_of,
+    setting_of, stopping,
 };
 
 /// More calls than any run makes.
@@ -18,7 +19,7 @@ const MOST_TRIES: u64 = 64;
 #[derive(Clone, Copy)]
 struct Sweep<'a> {
     plan: &'a Plan,
-    setting: Setting,
+    setting: StopSetting,
     goal: &'a Attempt,
 }
 
@@ -57,16 +58,22 @@ impl fmt::Display for Swept {
 }
 
 // What the machine finds in files once it has stopped.
-fn after_crash(alloc: Global, files: Disks) -> io::Result<Disks> {
-    let left = both_left(alloc, files)?;
+fn after_crash(alloc: Global, files: DatabaseFiles) -> io::Result<DatabaseFiles> {
+    let left = remains_of(alloc, files)?;
     files_with(alloc, &left.log.synced, &left.db.synced)
 }
 
 impl<'a> Sweep<'a> {
     // Sends the message over files, and asks the questions.
-    fn send(&self, alloc: Global, files: Disks, attempt: &mut Attempt, questions: &str) -> Disks {
-        let sent = Sent {
-            sending: &self.plan.sending,
+    fn send(
+        &self,
+        alloc: Global,
+        files: DatabaseFiles,
+        attempt: &mut Attempt,
+        questions: &str,
+    ) -> DatabaseFiles {
+        let sent = SendTask {
+            message: &self.plan.message,
             questions,
         };
         over_files(alloc, files, self.setting.options, &sent, attempt)
@@ -74,7 +81,7 @@ impl<'a> Sweep<'a> {
 
     // Whether the message, sent once more, is answered as one that met no stop, and the desk shows
     // what it shows then.
-    fn is_goal(&self, alloc: Global, files: Disks) -> bool {
+    fn is_goal(&self, alloc: Global, files: DatabaseFiles) -> bool {
         let mut attempt = Attempt::new(alloc);
         drop(self.send(alloc, files, &mut attempt, self.plan.questions.as_str()));
         attempt.text == self.goal.text && attempt.shown == self.goal.shown
@@ -85,7 +92,7 @@ impl<'a> Sweep<'a> {
     fn send_again(
         &self,
         alloc: Global,
-        files: &mut Disks,
+        files: &mut DatabaseFiles,
         calls: u64,
         attempt: &mut Attempt,
     ) -> io::Result<()> {
@@ -97,7 +104,12 @@ impl<'a> Sweep<'a> {
 
     // Does so, and says whether the message came to its end as if there were no stop; nothing
     // where it did not come to its end.
-    fn try_again(&self, alloc: Global, files: &mut Disks, calls: u64) -> io::Result<Option<bool>> {
+    fn try_again(
+        &self,
+        alloc: Global,
+        files: &mut DatabaseFiles,
+        calls: u64,
+    ) -> io::Result<Option<bool>> {
         let mut attempt = Attempt::new(alloc);
         self.send_again(alloc, files, calls, &mut attempt)?;
         if attempt.is_done() {
@@ -109,7 +121,7 @@ impl<'a> Sweep<'a> {
 
     // Sends the message again and again over files that a stop left, with twice the calls before
     // the next stop each time; whether it comes to its end as if there were no stop.
-    fn try_on(&self, alloc: Global, files: &mut Disks, calls: u64) -> io::Result<bool> {
+    fn try_on(&self, alloc: Global, files: &mut DatabaseFiles, calls: u64) -> io::Result<bool> {
         let mut calls = calls;
         for _ in 0..MOST_TRIES {
             calls = calls.saturating_mul(2).max(1);
@@ -138,10 +150,10 @@ impl<'a> Sweep<'a> {
     fn always_comes_to_its_end(
         &self,
         alloc: Global,
-        left: &BothLeft,
+        left: &DatabaseRemains,
         calls: u64,
     ) -> io::Result<bool> {
-        let BothLeft { log, db } = left;
+        let DatabaseRemains { log, db } = left;
         Ok(
             self.comes_to_its_end(alloc, &log.written, &db.written, calls)?
                 && self.comes_to_its_end(alloc, &log.synced, &db.synced, calls)?
@@ -155,7 +167,7 @@ impl<'a> Sweep<'a> {
         &self,
         alloc: Global,
         place: Option<u64>,
-        left: &BothLeft,
+        left: &DatabaseRemains,
         calls: u64,
         is_whole: bool,
     ) -> io::Result<Stop> {
@@ -168,14 +180,14 @@ impl<'a> Sweep<'a> {
 
     // Sends the message over files of which one stops after so many calls, and then again until it
     // comes to its end.
-    fn stop_after(&self, alloc: Global, base: &Disks, calls: u64) -> io::Result<Stop> {
+    fn stop_after(&self, alloc: Global, base: &DatabaseFiles, calls: u64) -> io::Result<Stop> {
         let is_log = self.setting.is_log;
         let files = stopping(alloc, base, is_log, calls)?;
         let mut attempt = Attempt::new(alloc);
         let mut files = self.send(alloc, files, &mut attempt, "");
         let is_whole = attempt.is_done() && goes_on(&mut files, is_log);
-        let place = attempt.stopped_at(&self.plan.sending);
-        let left = both_left(alloc, files)?;
+        let place = attempt.stopped_at(&self.plan.message);
+        let left = remains_of(alloc, files)?;
         self.judged(alloc, place, &left, calls, is_whole)
     }
 }
@@ -185,7 +197,7 @@ fn are_all_met(sweep: &Sweep<'_>, met: &[u64]) -> bool {
     if !sweep.setting.is_log {
         return !met.is_empty();
     }
-    for line in 0..sweep.plan.sending.lines.saturating_add(1) {
+    for line in 0..sweep.plan.message.lines.saturating_add(1) {
         if !met.contains(&line) {
             return false;
         }
@@ -194,7 +206,12 @@ fn are_all_met(sweep: &Sweep<'_>, met: &[u64]) -> bool {
 }
 
 // Has a file stop after each number of calls in turn, and notes the lines at which stops were told.
-fn stops(alloc: Global, base: &Disks, sweep: &Sweep<'_>, met: &mut Vec<u64>) -> io::Result<Swept> {
+fn stops(
+    alloc: Global,
+    base: &DatabaseFiles,
+    sweep: &Sweep<'_>,
+    met: &mut Vec<u64>,
+) -> io::Result<Swept> {
     for calls in 0..MOST_CALLS {
         match sweep.stop_after(alloc, base, calls)? {
             Stop::Never if are_all_met(sweep, met) => return Ok(Swept::Well),
@@ -207,7 +224,7 @@ fn stops(alloc: Global, base: &Disks, sweep: &Sweep<'_>, met: &mut Vec<u64>) -> 
 }
 
 // Has a file stop after each number of calls in turn.
-fn run_sweep(alloc: Global, plan: &Plan, setting: Setting) -> io::Result<Swept> {
+fn run_sweep(alloc: Global, plan: &Plan, setting: StopSetting) -> io::Result<Swept> {
     let goal = plan.goal(alloc);
     let base = plan.base(alloc);
     let mut met = Vec::new(alloc);

@@ -37,8 +37,8 @@ fn end_text(alloc: Global, end: Result<ScriptEnd, ScriptFault>) -> Result<String
 
 // Runs a script, and tells what it writes and how it ends.
 fn run_taken<R: Records>(alloc: Global, desk: &mut R, script: &str, example: &mut Example) {
-    let end = run_into(alloc, desk, script, &mut example.report.text);
-    example.report.add_made(end_text(alloc, end));
+    let end = run_into(alloc, desk, script, &mut example.output.text);
+    example.output.add_made(end_text(alloc, end));
 }
 
 // Takes the lines of a script, runs it, and tells what it writes and how it ends.
@@ -46,7 +46,7 @@ fn run_lines<R: Records>(alloc: Global, desk: &mut R, example: &mut Example) {
     let mut script = String::new(alloc);
     match take_script(example, &mut script) {
         Ok(()) => run_taken(alloc, desk, script.as_str(), example),
-        Err(error) => example.report.note(Err(error)),
+        Err(error) => example.output.note(Err(error)),
     }
 }
 
@@ -93,7 +93,7 @@ fn take_line<R: Records>(alloc: Global, desk: &mut R, example: &mut Example) {
 // Notes what the questions are answered.
 fn ask_before<R: Records>(alloc: Global, desk: &mut R, example: &mut Example) {
     let told = ask_all(alloc, desk, &mut example.answers);
-    example.report.note(told);
+    example.output.note(told);
 }
 
 /// Takes the lines of a desk, up to one that closes it or asks for other files; before calls or

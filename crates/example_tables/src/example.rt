@@ -1,10 +1,10 @@
 //! A file of examples while it is run.
 
-use crate::questions::Answers;
+use crate::questions::QuestionAnswers;
 use base_faults::StoreFault;
 use desk_tables::OpenFault;
 use std::alloc::{AllocError, Global};
-use test_trials::Report;
+use test_trials::ExampleText;
 
 /// The lines of a file, what is told of them, and what is to be known of one line at a later one.
 #[derive(Drop)]
@@ -12,9 +12,9 @@ pub(crate) struct Example {
     lines: Vec<String>,
     // How many lines were taken.
     taken: usize,
-    pub report: Report,
+    pub output: ExampleText,
     /// What the questions were answered when they were last asked.
-    pub answers: Answers,
+    pub answers: QuestionAnswers,
     /// Whether there is a desk, which is to be opened once its files are opened anew.
     pub is_desk: bool,
 }
@@ -25,7 +25,7 @@ impl Example {
         Example {
             lines: Vec::new(alloc),
             taken: 0,
-            report: Report::new(alloc),
+            output: ExampleText::new(alloc),
             answers: Vec::new(alloc),
             is_desk: false,
         }
@@ -80,37 +80,37 @@ impl Example {
     // Takes the next line, and tells it.
     fn take(&mut self) {
         let told = match self.lines.get(self.taken) {
-            Some(line) => self.report.text.extend_from_slice(line.as_bytes()),
+            Some(line) => self.output.text.extend_from_slice(line.as_bytes()),
             None => Ok(()),
         };
-        self.report.note(told);
+        self.output.note(told);
         self.taken = self.taken.saturating_add(1);
     }
 
     /// Takes the next line, and tells it alone.
     pub fn pass(&mut self) {
         self.take();
-        self.report.add("\n");
+        self.output.add("\n");
     }
 
     /// Takes the next line, and tells it with what it is answered.
     pub fn answer(&mut self, answer: &str) {
         self.take();
-        self.report.add(" -> ");
-        self.report.add(answer);
-        self.report.add("\n");
+        self.output.add(" -> ");
+        self.output.add(answer);
+        self.output.add("\n");
     }
 
     /// Takes the next line, and tells it with a number.
     pub fn answer_number(&mut self, alloc: Global, number: u64) {
         self.take();
-        self.report.add_made(format!(in alloc; " -> {number}\n"));
+        self.output.add_made(format!(in alloc; " -> {number}\n"));
     }
 
     /// Takes the next line, and tells it with a fault.
     pub fn answer_fault(&mut self, alloc: Global, fault: StoreFault) {
         self.take();
-        self.report.add_made(format!(in alloc; " -> {fault:?}\n"));
+        self.output.add_made(format!(in alloc; " -> {fault:?}\n"));
     }
 
     /// Takes the next line, and tells why no desk was made; nothing where it was not asked.
@@ -118,7 +118,7 @@ impl Example {
         match fault {
             Some(fault) => {
                 self.take();
-                self.report.add_made(format!(in alloc; " -> {fault:?}\n"));
+                self.output.add_made(format!(in alloc; " -> {fault:?}\n"));
             }
             None => self.answer("not asked"),
         }

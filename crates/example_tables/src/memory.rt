@@ -4,8 +4,8 @@ use base_words::number_word;
 use sqlite_pager::Options;
 use std::alloc::Global;
 use std::{fmt, io};
-use test_doubles::{BothLeft, Disks, both_left, copy_of, new_desk};
-use test_trials::{Fronts, Judge, Reach, Trial, Work};
+use test_doubles::{DatabaseFiles, DatabaseRemains, copy_of, new_desk, remains_of};
+use test_trials::{Fronts, Judge, Reach, Trial, TrialScript};
 
 /// More runs than any sweep has.
 const MOST_RUNS: usize = 100_000;
@@ -89,7 +89,7 @@ fn run_of(trial: &Trial, fronts: &Fronts, reach: Reach) -> Run {
 
 // Runs the script over a desk in memory, which is asked all questions.
 fn run_in_memory(alloc: Global, fronts: &Fronts, trial: &mut Trial, questions: &str) -> Run {
-    let work = Work {
+    let work = TrialScript {
         script: fronts.script.as_str(),
         questions,
     };
@@ -101,8 +101,13 @@ fn run_in_memory(alloc: Global, fronts: &Fronts, trial: &mut Trial, questions: &
 }
 
 // Whether what is left of the files has the desk in this reach.
-fn are_shown(alloc: Global, left: &BothLeft, fronts: &Fronts, reach: Reach) -> io::Result<bool> {
-    let BothLeft { log, db } = left;
+fn are_shown(
+    alloc: Global,
+    left: &DatabaseRemains,
+    fronts: &Fronts,
+    reach: Reach,
+) -> io::Result<bool> {
+    let DatabaseRemains { log, db } = left;
     Judge::new(fronts, Options::new(1)).is_shown(alloc, &log.written, &db.written, reach)
 }
 
@@ -112,7 +117,12 @@ fn is_asked_well(trial: &Trial, fronts: &Fronts, reach: Reach) -> bool {
 }
 
 // What came of a run over a desk in tables, of whose files this is left.
-fn judged(alloc: Global, left: &BothLeft, fronts: &Fronts, trial: &Trial) -> io::Result<Run> {
+fn judged(
+    alloc: Global,
+    left: &DatabaseRemains,
+    fronts: &Fronts,
+    trial: &Trial,
+) -> io::Result<Run> {
     match trial.reached(fronts) {
         Some(reach)
             if is_asked_well(trial, fronts, reach) && are_shown(alloc, left, fronts, reach)? => {
@@ -125,17 +135,17 @@ fn judged(alloc: Global, left: &BothLeft, fronts: &Fronts, trial: &Trial) -> io:
 // Runs the script over a desk in tables.
 fn run_in_tables(
     alloc: Global,
-    files: Disks,
+    files: DatabaseFiles,
     fronts: &Fronts,
     trial: &mut Trial,
 ) -> io::Result<Run> {
-    let work = Work {
+    let work = TrialScript {
         script: fronts.script.as_str(),
         questions: fronts.questions.as_str(),
     };
     let files = trial.run_over(alloc, files, Options::new(1), work);
     trial.held.give_back();
-    let left = both_left(alloc, files)?;
+    let left = remains_of(alloc, files)?;
     judged(alloc, &left, fronts, trial)
 }
 
@@ -168,7 +178,7 @@ fn run_short_in_memory(
 // Runs the script over a desk in tables with so many blocks of memory, or with all of it.
 fn run_short_in_tables(
     alloc: Global,
-    base: &Disks,
+    base: &DatabaseFiles,
     size: usize,
     fronts: &Fronts,
     trial: &mut Trial,
@@ -185,7 +195,7 @@ fn run_short_in_tables(
 // Runs the script with so many blocks of memory, or with all of it.
 fn run_with(
     alloc: Global,
-    base: &Disks,
+    base: &DatabaseFiles,
     setting: Setting,
     fronts: &Fronts,
     trial: &mut Trial,
@@ -202,7 +212,7 @@ fn run_with(
 // Whether the run with all memory is whole, and all memory can be held back after it.
 fn is_ready(
     alloc: Global,
-    base: &Disks,
+    base: &DatabaseFiles,
     setting: Setting,
     fronts: &Fronts,
     trial: &mut Trial,
@@ -214,7 +224,7 @@ fn is_ready(
 // Runs the script with no block of memory, then with one, and so on.
 fn runs(
     alloc: Global,
-    base: &Disks,
+    base: &DatabaseFiles,
     setting: Setting,
     fronts: &Fronts,
     trial: &mut Trial,
@@ -231,7 +241,12 @@ fn runs(
 }
 
 // Runs the script with all memory, and then with more and more of it.
-fn sweep(alloc: Global, base: &Disks, setting: Setting, fronts: &Fronts) -> io::Result<Swept> {
+fn sweep(
+    alloc: Global,
+    base: &DatabaseFiles,
+    setting: Setting,
+    fronts: &Fronts,
+) -> io::Result<Swept> {
     let mut trial = Trial::with_room(alloc, TEXT_ROOM)?;
     if is_ready(alloc, base, setting, fronts, &mut trial)? {
         runs(alloc, base, setting, fronts, &mut trial)
@@ -241,7 +256,12 @@ fn sweep(alloc: Global, base: &Disks, setting: Setting, fronts: &Fronts) -> io::
 }
 
 // Takes a line.
-fn take_line(rt: &HostRuntime, base: &Disks, fronts: &mut Fronts, line: &str) -> io::Result<()> {
+fn take_line(
+    rt: &HostRuntime,
+    base: &DatabaseFiles,
+    fronts: &mut Fronts,
+    line: &str,
+) -> io::Result<()> {
     if fronts.take(rt.alloc(), line)? {
         return println!(rt; "{line}");
     }
@@ -255,7 +275,12 @@ fn take_line(rt: &HostRuntime, base: &Disks, fronts: &mut Fronts, line: &str) ->
 }
 
 // Takes the lines of a file.
-fn take_lines(rt: &HostRuntime, base: &Disks, fronts: &mut Fronts, text: &str) -> io::Result<()> {
+fn take_lines(
+    rt: &HostRuntime,
+    base: &DatabaseFiles,
+    fronts: &mut Fronts,
+    text: &str,
+) -> io::Result<()> {
     for line in text.lines() {
         take_line(rt, base, fronts, line)?;
     }

@@ -17,13 +17,13 @@ const QUESTIONS: [&str; 5] = [
 const DEVICE: &str = "Store fault: device.\n";
 
 /// What the questions were answered.
-pub(crate) type Answers = Vec<Vec<u8>>;
+pub(crate) type QuestionAnswers = Vec<Vec<u8>>;
 
 /// Asks all questions, and keeps the answers.
 pub(crate) fn ask_all<S: Records>(
     alloc: Global,
     store: &mut S,
-    answers: &mut Answers,
+    answers: &mut QuestionAnswers,
 ) -> Result<(), AllocError> {
     answers.clear();
     for question in QUESTIONS {

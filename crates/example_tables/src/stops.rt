@@ -3,9 +3,10 @@
 use std::alloc::Global;
 use std::{fmt, fs, io};
 use test_doubles::{
-    BothLeft, Disks, Setting, both_left, disks_in, goes_on, new_desk, setting_of, stopping,
+    DatabaseFiles, DatabaseRemains, StopSetting, files_in, goes_on, new_desk, remains_of,
+    setting_of, stopping,
 };
-use test_trials::{Found, Fronts, Judge, Schema, Trial, Work, schema_in};
+use test_trials::{Fronts, Judge, Schema, SchemasFound, Trial, TrialScript, schema_in};
 
 /// More calls than any run makes.
 const MOST_CALLS: u64 = 100_000;
@@ -48,7 +49,7 @@ impl fmt::Display for Swept {
 fn judged(
     alloc: Global,
     trial: &Trial,
-    left: &BothLeft,
+    left: &DatabaseRemains,
     judge: &mut Judge<'_>,
     is_whole: bool,
 ) -> io::Result<Stop> {
@@ -67,12 +68,12 @@ fn judged(
 // Runs the script over files of which one stops after so many calls.
 fn stop_after(
     alloc: Global,
-    base: &Disks,
+    base: &DatabaseFiles,
     is_log: bool,
     judge: &mut Judge<'_>,
     calls: u64,
 ) -> io::Result<Stop> {
-    let work = Work {
+    let work = TrialScript {
         script: judge.fronts.script.as_str(),
         questions: "",
     };
@@ -80,7 +81,7 @@ fn stop_after(
     let mut trial = Trial::new(alloc);
     let mut files = trial.run_over(alloc, files, judge.options, work);
     let is_whole = trial.is_whole(judge.fronts) && goes_on(&mut files, is_log);
-    let left = both_left(alloc, files)?;
+    let left = remains_of(alloc, files)?;
     judged(alloc, &trial, &left, judge, is_whole)
 }
 
@@ -96,7 +97,7 @@ fn are_all_met(fronts: &Fronts, met: &[usize]) -> bool {
 
 // Whether stops leave the desk under the schemas that they may: under that under which it began,
 // and, where that is an earlier one and the log stops, under schema 3 too.
-fn are_found(began: Schema, is_log: bool, found: Found) -> bool {
+fn are_found(began: Schema, is_log: bool, found: SchemasFound) -> bool {
     match began {
         Schema::First => found.first && !found.second && (found.third || !is_log),
         Schema::Second => found.second && !found.first && (found.third || !is_log),
@@ -118,8 +119,8 @@ fn swept_well(fronts: &Fronts, is_log: bool, met: &[usize]) -> Swept {
 // Has a file stop after each number of calls in turn, and notes after how many lines it did.
 fn stops(
     alloc: Global,
-    base: &Disks,
-    setting: Setting,
+    base: &DatabaseFiles,
+    setting: StopSetting,
     judge: &mut Judge<'_>,
     met: &mut Vec<usize>,
 ) -> io::Result<Swept> {
@@ -139,7 +140,12 @@ fn stops(
 }
 
 // Has a file stop after each number of calls in turn.
-fn sweep(alloc: Global, base: &Disks, setting: Setting, fronts: &Fronts) -> io::Result<Swept> {
+fn sweep(
+    alloc: Global,
+    base: &DatabaseFiles,
+    setting: StopSetting,
+    fronts: &Fronts,
+) -> io::Result<Swept> {
     let mut judge = Judge::new(fronts, setting.options);
     let mut met = Vec::new(alloc);
     stops(alloc, base, setting, &mut judge, &mut met)
@@ -154,18 +160,23 @@ fn take_script(rt: &HostRuntime, fronts: &mut Fronts, name: &str) -> io::Result<
 // Takes a line that names the file with which each run begins, and the script that it was left by.
 fn take_file(
     rt: &HostRuntime,
-    base: &mut Disks,
+    base: &mut DatabaseFiles,
     fronts: &mut Fronts,
     names: &str,
 ) -> io::Result<()> {
     let (file, script) = names.split_once(" script ").unwrap_or((names, ""));
     take_script(rt, fronts, script)?;
-    *base = disks_in(rt, file)?;
+    *base = files_in(rt, file)?;
     Ok(())
 }
 
 // Takes a line that asks for a sweep, or has no meaning.
-fn take_other(rt: &HostRuntime, base: &Disks, fronts: &Fronts, line: &str) -> io::Result<()> {
+fn take_other(
+    rt: &HostRuntime,
+    base: &DatabaseFiles,
+    fronts: &Fronts,
+    line: &str,
+) -> io::Result<()> {
     match setting_of(line) {
         Some(setting) => {
             let end = sweep(rt.alloc(), base, setting, fronts)?;
@@ -178,7 +189,7 @@ fn take_other(rt: &HostRuntime, base: &Disks, fronts: &Fronts, line: &str) -> io
 // Takes a line.
 fn take_line(
     rt: &HostRuntime,
-    base: &mut Disks,
+    base: &mut DatabaseFiles,
     fronts: &mut Fronts,
     line: &str,
 ) -> io::Result<()> {
@@ -194,7 +205,7 @@ fn take_line(
 // Takes the lines of a file.
 fn take_lines(
     rt: &HostRuntime,
-    base: &mut Disks,
+    base: &mut DatabaseFiles,
     fronts: &mut Fronts,
     text: &str,
 ) -> io::Result<()> {

@@ -9,7 +9,8 @@ use sqlite_pager::Options;
 use std::alloc::Global;
 use std::io;
 use test_doubles::{
-    ConnectionTask, Disks, Made, create, disks_in, limited, new_disks, open, over_files, with_room,
+    ConnectionTask, DatabaseFiles, MadeDesk, create, files_in, limited, new_files, open,
+    over_files, with_room,
 };
 use test_trials::number_asked;
 
@@ -41,7 +42,7 @@ fn use_desk<S: Alter>(alloc: Global, desk: TableDesk<S>, example: &mut Example) 
 }
 
 // Tells what came of a line that makes a desk, and takes the lines of the desk.
-fn use_made<S: Alter>(alloc: Global, made: Made<S>, example: &mut Example) -> Connection<S> {
+fn use_made<S: Alter>(alloc: Global, made: MadeDesk<S>, example: &mut Example) -> Connection<S> {
     match made {
         Ok(desk) => {
             example.answer("ok");
@@ -137,9 +138,9 @@ fn take_none(example: &mut Example) {
 }
 
 // Takes the lines of a connection, up to one that asks for other files.
-struct Lines;
+struct ConnectionLines;
 
-impl ConnectionTask<Example> for Lines {
+impl ConnectionTask<Example> for ConnectionLines {
     fn run_over<S: Alter>(
         &self,
         alloc: Global,
@@ -151,15 +152,15 @@ impl ConnectionTask<Example> for Lines {
 }
 
 // The files of a line that names a file of data, or that begins a new database.
-fn begun_files(rt: &HostRuntime, line: &str) -> io::Result<Disks> {
+fn begun_files(rt: &HostRuntime, line: &str) -> io::Result<DatabaseFiles> {
     match line.strip_prefix("file ") {
-        Some(name) => disks_in(rt, name),
-        None => Ok(new_disks(rt.alloc())),
+        Some(name) => files_in(rt, name),
+        None => Ok(new_files(rt.alloc())),
     }
 }
 
 // The files that a line asks for: those before, with fewer calls or less room, or others.
-fn other_files(rt: &HostRuntime, files: &Disks, line: &str) -> io::Result<Disks> {
+fn other_files(rt: &HostRuntime, files: &DatabaseFiles, line: &str) -> io::Result<DatabaseFiles> {
     if let Some(word) = line.strip_prefix("calls-left ") {
         return limited(rt.alloc(), files, word.parse::<u64>().ok());
     }
@@ -178,17 +179,27 @@ fn pass_files(example: &mut Example) {
 }
 
 // Takes a line that asks for other files, and the lines of those files.
-fn take_files(rt: &HostRuntime, files: &mut Disks, example: &mut Example) -> io::Result<()> {
+fn take_files(
+    rt: &HostRuntime,
+    files: &mut DatabaseFiles,
+    example: &mut Example,
+) -> io::Result<()> {
     let begun = other_files(rt, files, example.line())?;
     pass_files(example);
-    *files = over_files(rt.alloc(), begun, Options::new(1), &Lines, example);
+    *files = over_files(
+        rt.alloc(),
+        begun,
+        Options::new(1),
+        &ConnectionLines,
+        example,
+    );
     take_none(example);
     Ok(())
 }
 
 // Takes all lines.
 fn take_file(rt: &HostRuntime, example: &mut Example) -> io::Result<()> {
-    let mut files = new_disks(rt.alloc());
+    let mut files = new_files(rt.alloc());
     for _ in 0..example.left() {
         if example.left() > 0 {
             take_files(rt, &mut files, example)?;
@@ -201,5 +212,5 @@ fn take_file(rt: &HostRuntime, example: &mut Example) -> io::Result<()> {
 pub(crate) fn run_file(rt: &HostRuntime, text: &str) -> io::Result<()> {
     let mut example = Example::new(rt.alloc(), text)?;
     take_file(rt, &mut example)?;
-    example.report.print(rt)
+    example.output.print(rt)
 }

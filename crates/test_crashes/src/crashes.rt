@@ -7,7 +7,7 @@ use sqlite::{Alter, Connection, FileStore, Options};
 use sqlite_trees::store::Reopen;
 use std::alloc::Global;
 use table_crashes::{close_and_crash, close_and_open, crash_and_open};
-use test_doubles::{File, connected, new_disks};
+use test_doubles::{MemoryFile, connected, new_files};
 
 // Two bugs that are merged, and a branch.
 const SCRIPT: &str =
@@ -47,8 +47,8 @@ impl CrashTask for Crash {
 }
 
 /// The desk after the script, in two files.
-pub(crate) fn desk_in_files(alloc: Global) -> Option<TableDesk<FileStore<File>>> {
-    match connected(alloc, new_disks(alloc), Options::new(1)) {
+pub(crate) fn desk_in_files(alloc: Global) -> Option<TableDesk<FileStore<MemoryFile>>> {
+    match connected(alloc, new_files(alloc), Options::new(1)) {
         Ok(conn) => desk_after(alloc, conn, SCRIPT, ANSWERS),
         Err(_) => None,
     }

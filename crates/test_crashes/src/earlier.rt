@@ -2,7 +2,7 @@
 
 use crate::crashes::desk_in_files;
 use std::alloc::Global;
-use test_doubles::Disks;
+use test_doubles::DatabaseFiles;
 
 /// What takes tables of schema 3 back to schema 2, which has none of messages.
 pub(crate) const TO_SECOND: &str =
@@ -15,7 +15,7 @@ pub(crate) const TO_FIRST: &str =
 
 /// Files with the desk after the script, closed once its tables were taken back by these
 /// statements.
-pub(crate) fn earlier_files(alloc: Global, back: &str) -> Option<Disks> {
+pub(crate) fn earlier_files(alloc: Global, back: &str) -> Option<DatabaseFiles> {
     let Some(desk) = desk_in_files(alloc) else {
         return None;
     };

@@ -11,7 +11,7 @@ use sqlite_trees::store::Reopen;
 use std::alloc::Global;
 use std::io;
 use table_crashes::{crash_in_open, create_and_crash, open_and_crash};
-use test_doubles::{Disks, stopping};
+use test_doubles::{DatabaseFiles, stopping};
 
 // More calls of the log than an open takes.
 const CALLS_OF_AN_OPEN: u64 = 256;
@@ -37,7 +37,7 @@ impl CrashTask for Create {
 
 // The files whose desk is opened, after a crash, and whether it was answered as opened; `None`
 // where no database is opened or comes back.
-fn crashed(alloc: Global, files: Disks) -> Option<(bool, Disks)> {
+fn crashed(alloc: Global, files: DatabaseFiles) -> Option<(bool, DatabaseFiles)> {
     if !files.may_be_used() {
         return None;
     }
@@ -54,7 +54,7 @@ fn crashed(alloc: Global, files: Disks) -> Option<(bool, Disks)> {
 }
 
 // What comes of files whose desk is opened, with a crash right after it.
-fn found(alloc: Global, files: Disks) -> Came {
+fn found(alloc: Global, files: DatabaseFiles) -> Came {
     if !files.may_be_used() {
         return Came::NoDesk;
     }
@@ -69,7 +69,7 @@ fn found(alloc: Global, files: Disks) -> Came {
 
 // Whether the desk is found in files whose log stops again as they are opened, after so many calls
 // and after half of these.
-fn is_found_again(alloc: Global, files: &Disks, calls: u64) -> io::Result<bool> {
+fn is_found_again(alloc: Global, files: &DatabaseFiles, calls: u64) -> io::Result<bool> {
     for again in [calls / 2, calls] {
         let files = stopping(alloc, files, true, again)?;
         if found(alloc, files) == Came::Wrong {
@@ -81,7 +81,7 @@ fn is_found_again(alloc: Global, files: &Disks, calls: u64) -> io::Result<bool> 
 
 // Whether the log stops some open of the desk, and the desk is found after each, and after another
 // stop; each has one call of the log more.
-fn survives_stops(alloc: Global, base: &Disks) -> io::Result<bool> {
+fn survives_stops(alloc: Global, base: &DatabaseFiles) -> io::Result<bool> {
     let mut has_failed = false;
     for calls in 0..CALLS_OF_AN_OPEN {
         let files = stopping(alloc, base, true, calls)?;

@@ -4,12 +4,12 @@ use std::io::{self, Read};
 
 /// Gives these bytes at each read, and counts the reads.
 #[derive(Drop)]
-pub struct Pieces<'a> {
+pub struct RepeatingReader<'a> {
     pub piece: &'a [u8],
     pub reads: u64,
 }
 
-impl Read for Pieces<'_> {
+impl Read for RepeatingReader<'_> {
     fn read(&mut self, buf: &mut [u8]) -> io::Result<usize> {
         self.reads = self.reads.saturating_add(1);
         let len = self.piece.len().min(buf.len());
@@ -21,15 +21,15 @@ impl Read for Pieces<'_> {
 /// Gives one of these bytes a read, round and round, and counts the reads.
 /// Of no bytes it gives none.
 #[derive(Drop)]
-pub struct Round<'a> {
+pub struct RoundReader<'a> {
     all: &'a [u8],
     left: &'a [u8],
     pub reads: u64,
 }
 
-impl<'a> Round<'a> {
-    pub fn new(all: &'a [u8]) -> Round<'a> {
-        Round {
+impl<'a> RoundReader<'a> {
+    pub fn new(all: &'a [u8]) -> RoundReader<'a> {
+        RoundReader {
             all,
             left: all,
             reads: 0,
@@ -37,7 +37,7 @@ impl<'a> Round<'a> {
     }
 }
 
-impl Read for Round<'_> {
+impl Read for RoundReader<'_> {
     fn read(&mut self, buf: &mut [u8]) -> io::Result<usize> {
         self.reads = self.reads.saturating_add(1);
         if self.left.is_empty() {

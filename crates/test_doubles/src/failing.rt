@@ -5,16 +5,16 @@ use std::io::{self, ErrorKind, Read, Write};
 /// Gives at most so many bytes a read.
 /// The read after so many is interrupted; later ones would go on, and are counted.
 #[derive(Drop)]
-pub struct Feed<'a> {
+pub struct FailingReader<'a> {
     left: &'a [u8],
     piece: usize,
     good_reads: usize,
     later: Option<u64>,
 }
 
-impl<'a> Feed<'a> {
-    pub fn new(bytes: &'a [u8], piece: usize, good_reads: usize) -> Feed<'a> {
-        Feed {
+impl<'a> FailingReader<'a> {
+    pub fn new(bytes: &'a [u8], piece: usize, good_reads: usize) -> FailingReader<'a> {
+        FailingReader {
             left: bytes,
             piece,
             good_reads,
@@ -28,7 +28,7 @@ impl<'a> Feed<'a> {
     }
 }
 
-impl Read for Feed<'_> {
+impl Read for FailingReader<'_> {
     fn read(&mut self, buf: &mut [u8]) -> io::Result<usize> {
         match self.later {
             Some(later) => self.later = Some(later.saturating_add(1)),
@@ -49,7 +49,7 @@ impl Read for Feed<'_> {
 
 /// How a writer fails.
 #[derive(Clone, Copy)]
-pub enum Failure {
+pub enum WriterFailure {
     /// It is interrupted.
     Interrupted,
     /// It takes no byte.
@@ -59,17 +59,22 @@ pub enum Failure {
 /// Takes at most so many bytes a write.
 /// The write after so many fails; later ones would go on, and are counted.
 #[derive(Drop)]
-pub struct Sink {
+pub struct FailingWriter {
     pub taken: Vec<u8>,
     piece: usize,
     good_writes: usize,
-    failure: Failure,
+    failure: WriterFailure,
     later: Option<u64>,
 }
 
-impl Sink {
-    pub fn new(taken: Vec<u8>, piece: usize, good_writes: usize, failure: Failure) -> Sink {
-        Sink {
+impl FailingWriter {
+    pub fn new(
+        taken: Vec<u8>,
+        piece: usize,
+        good_writes: usize,
+        failure: WriterFailure,
+    ) -> FailingWriter {
+        FailingWriter {
             taken,
             piece,
             good_writes,
@@ -84,7 +89,7 @@ impl Sink {
     }
 }
 
-impl Write for Sink {
+impl Write for FailingWriter {
     fn write(&mut self, buf: &[u8]) -> io::Result<usize> {
         match self.later {
             Some(later) => self.later = Some(later.saturating_add(1)),
@@ -92,8 +97,8 @@ impl Write for Sink {
                 if self.good_writes == 0 {
                     self.later = Some(0);
                     return match self.failure {
-                        Failure::Interrupted => Err(io::Error::from(ErrorKind::Interrupted)),
-                        Failure::Full => Ok(0),
+                        WriterFailure::Interrupted => Err(io::Error::from(ErrorKind::Interrupted)),
+                        WriterFailure::Full => Ok(0),
                     };
                 }
                 self.good_writes -= 1;

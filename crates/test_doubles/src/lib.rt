@@ -2,33 +2,35 @@
 //! And random scripts, and bytes out of a text with signs.
 #![tactic(auto)]
 
-mod desks;
-mod disks;
 mod endless;
 mod exchanges;
 mod failing;
-mod left;
 mod limits;
-mod lines;
+mod made_desks;
+mod memory_files;
+mod random_scripts;
+mod remains;
 mod room;
-mod scripts;
-mod signs;
-mod stops;
+mod script_answers;
+mod stopping_files;
 mod tasks;
+mod text_with_signs;
 
-pub use desks::{Made, create, new_desk, open};
-pub use disks::{Disks, File, connected, copy_of, disks_in, files_with, new_disks, with_room};
-pub use endless::{Pieces, Round};
+pub use endless::{RepeatingReader, RoundReader};
 pub use exchanges::serve_into;
-pub use failing::{Failure, Feed, Sink};
-pub use left::{BothLeft, both_left};
+pub use failing::{FailingReader, FailingWriter, WriterFailure};
 pub use limits::limited;
-pub use lines::Maker;
+pub use made_desks::{MadeDesk, create, new_desk, open};
+pub use memory_files::{
+    DatabaseFiles, MemoryFile, connected, copy_of, files_in, files_with, new_files, with_room,
+};
+pub use random_scripts::ScriptMaker;
+pub use remains::{DatabaseRemains, remains_of};
 pub use room::Room;
-pub use scripts::{answer_to, run_into};
-pub use signs::add_text;
-pub use stops::{Setting, goes_on, setting_of, stopping};
+pub use script_answers::{answer_to, run_into};
+pub use stopping_files::{StopSetting, goes_on, setting_of, stopping};
 pub use tasks::{
     ConnectionTask, DeskTask, in_memory, in_memory_failing, in_tables_failing, on_made, over_bytes,
     over_files,
 };
+pub use text_with_signs::add_text;

@@ -2,8 +2,8 @@
 //!
 //! The desks and connections are made and let go of here, so that a program owns none of them.
 
-use crate::desks::{Made, new_desk, open};
-use crate::disks::{connected, files_with};
+use crate::made_desks::{MadeDesk, new_desk, open};
+use crate::memory_files::{connected, files_with};
 use base_faults::StoreFault;
 use desk_run::{FailAt, PlainDesk, Records};
 use sqlite::{Alter, Connection};
@@ -58,7 +58,7 @@ pub fn in_memory_failing<T, K: DeskTask<T>>(
 /// Does a task on a desk that was made, and closes it; nothing where there is none.
 pub fn on_made<S: Alter, T, K: DeskTask<T>>(
     alloc: Global,
-    made: Made<S>,
+    made: MadeDesk<S>,
     task: &K,
     told: &mut T,
 ) -> Connection<S> {

@@ -1,27 +1,24 @@
 //! Requests that are cut by the end of input.
 
 use crate::exchanges::{BAD_REQUEST, EXCHANGES, answers, desk_after, is_after, status_told};
-use desk_http::{ServeFault, Served};
+use desk_http::Served;
 use memory_desk::PlainDesk;
 use std::alloc::Global;
 use test_doubles::serve_into;
 
-// Whether an exchange ended as it has to where its request is cut and this was written.
-fn ends_well(told: &Result<Served, ServeFault>, request: &[u8], written: &[u8]) -> bool {
-    if request.is_empty() {
-        return matches!(told, Ok(Served::Closed)) && written.is_empty();
-    }
-    status_told(told) == Some(400) && written == BAD_REQUEST.as_bytes()
-}
-
-// Whether the first bytes of a request are answered as a request that is cut.
+// Whether the first bytes of a request are answered as a request that is cut; no bytes are not
+// answered.
 fn is_cut(alloc: Global, desk: &mut PlainDesk, request: &str, length: usize) -> bool {
     let Some(front) = request.as_bytes().get(..length) else {
         return false;
     };
     let mut written = Vec::new(alloc);
     let told = serve_into(alloc, desk, front, &mut written);
-    ends_well(&told, front, &written)
+    if front.is_empty() {
+        matches!(told, Ok(Served::Closed)) && written.is_empty()
+    } else {
+        status_told(&told) == Some(400) && written.as_slice() == BAD_REQUEST.as_bytes()
+    }
 }
 
 // Whether a request that is cut anywhere is so answered and changes nothing, and the whole request

@@ -109,17 +109,12 @@ fn shown(alloc: Global, desk: &mut PlainDesk) -> Vec<u8> {
     written
 }
 
-// Whether two desks show the same.
-fn show_the_same(alloc: Global, desk: &mut PlainDesk, other: &mut PlainDesk) -> bool {
-    let first = shown(alloc, desk);
-    let second = shown(alloc, other);
-    first.as_slice() == second.as_slice()
-}
-
 /// Whether a desk shows what it shows after so many of the exchanges.
 pub(crate) fn is_after(alloc: Global, desk: &mut PlainDesk, count: usize) -> bool {
     let mut other = desk_after(alloc, count);
-    desk.next() == other.next() && show_the_same(alloc, desk, &mut other)
+    let first = shown(alloc, desk);
+    let second = shown(alloc, &mut other);
+    desk.next() == other.next() && first.as_slice() == second.as_slice()
 }
 
 #[test]

@@ -11,13 +11,9 @@ mod connections;
 #[cfg(test)]
 mod cuts;
 #[cfg(test)]
-mod exchange_faults;
-#[cfg(test)]
 mod exchanges;
 #[cfg(test)]
 mod loopback;
-#[cfg(test)]
-mod message_faults;
 #[cfg(test)]
 mod paces;
 #[cfg(test)]
@@ -25,6 +21,10 @@ mod port;
 #[cfg(test)]
 mod reads;
 #[cfg(test)]
+mod sent_again;
+#[cfg(test)]
 mod statuses;
+#[cfg(test)]
+mod store_faults;
 #[cfg(test)]
 mod writes;

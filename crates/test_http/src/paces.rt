@@ -159,32 +159,32 @@ const AT_ONCE: Pace = Pace {
 
 // What came of serving a client.
 #[derive(Clone, Copy, PartialEq, Eq)]
-enum Outcome {
+enum ServeEnd {
     Answered,
     Closed,
     ReadFault,
     WriteFault,
 }
 
-fn outcome_of(told: &Result<Served, ServeFault>) -> Outcome {
+fn end_of(told: &Result<Served, ServeFault>) -> ServeEnd {
     match told {
-        Ok(Served::Answered(_)) => Outcome::Answered,
-        Ok(Served::Closed) => Outcome::Closed,
-        Err(ServeFault::Read) => Outcome::ReadFault,
-        Err(ServeFault::Write) => Outcome::WriteFault,
+        Ok(Served::Answered(_)) => ServeEnd::Answered,
+        Ok(Served::Closed) => ServeEnd::Closed,
+        Err(ServeFault::Read) => ServeEnd::ReadFault,
+        Err(ServeFault::Write) => ServeEnd::WriteFault,
     }
 }
 
 // What came of a request at these paces: how it ended and when, and how many bugs there are then.
-fn ends(alloc: Global, client: &Client) -> (Outcome, u64, u64) {
+fn ends(alloc: Global, client: &Client) -> (ServeEnd, u64, u64) {
     let mut desk = PlainDesk::new(alloc, 1);
     let told = serve_within(client, alloc, &mut desk, client, client);
     let bugs = desk.next().unwrap_or(0).saturating_sub(1);
-    (outcome_of(&told), client.now.get(), bugs)
+    (end_of(&told), client.now.get(), bugs)
 }
 
 // The same of a report that is sent and whose answer is taken at these paces.
-fn report_at(alloc: Global, sends: Pace, takes: Pace) -> Result<(Outcome, u64, u64), Fail> {
+fn report_at(alloc: Global, sends: Pace, takes: Pace) -> Result<(ServeEnd, u64, u64), Fail> {
     let paces = Paces {
         sends,
         takes,
@@ -200,21 +200,13 @@ fn late(first: u64) -> Pace {
     Pace { first, ..AT_ONCE }
 }
 
-// A byte after each pause, the first at once.
-fn trickle(pause: u64) -> Pace {
+// So many bytes after each pause, the first at once.
+fn after_each(pause: u64, piece: usize) -> Pace {
     Pace {
         first: 0,
         pause,
-        piece: 1,
+        piece,
     }
-}
-
-#[test]
-fn a_client_may_be_silent_for_a_second(rt: HostRuntime) -> Result<(), Fail> {
-    let alloc = rt.alloc();
-    assert!(rt; report_at(alloc, late(1_000), AT_ONCE)? == (Outcome::Answered, 1_000, 1));
-    assert!(rt; report_at(alloc, late(1_001), AT_ONCE)? == (Outcome::ReadFault, 1_000, 0));
-    Ok(())
 }
 
 // A request that stops in its body, after 60 bytes of 105.
@@ -227,25 +219,33 @@ fn stops(pause: u64) -> Pace {
 }
 
 #[test]
-fn a_request_has_ten_seconds(rt: HostRuntime) -> Result<(), Fail> {
-    let alloc = rt.alloc();
-    assert!(rt; report_at(alloc, stops(9_500), AT_ONCE)? == (Outcome::Answered, 10_000, 1));
-    assert!(rt; report_at(alloc, stops(9_501), AT_ONCE)? == (Outcome::ReadFault, 10_000, 0));
-    // Of 104 pauses the head, of 43 bytes, has 42.
-    assert!(rt; report_at(alloc, trickle(96), AT_ONCE)? == (Outcome::Answered, 9_984, 1));
-    assert!(rt; report_at(alloc, trickle(97), AT_ONCE)? == (Outcome::ReadFault, 10_000, 0));
-    assert!(rt; report_at(alloc, trickle(300), AT_ONCE)? == (Outcome::ReadFault, 10_000, 0));
-    Ok(())
-}
-
-#[test]
-fn a_short_answer_has_five_seconds(rt: HostRuntime) -> Result<(), Fail> {
-    let alloc = rt.alloc();
-    assert!(rt; report_at(alloc, AT_ONCE, late(5_000))? == (Outcome::Answered, 5_000, 1));
-    assert!(rt; report_at(alloc, AT_ONCE, late(5_001))? == (Outcome::WriteFault, 5_000, 1));
-    // 103 bytes, and so 102 pauses.
-    assert!(rt; report_at(alloc, AT_ONCE, trickle(49))? == (Outcome::Answered, 4_998, 1));
-    assert!(rt; report_at(alloc, AT_ONCE, trickle(50))? == (Outcome::WriteFault, 5_000, 1));
+fn a_report_has_so_long_to_come_and_its_answer_to_go(rt: HostRuntime) -> Result<(), Fail> {
+    let cases = [
+        // A client may be silent for a second.
+        (late(1_000), AT_ONCE, (ServeEnd::Answered, 1_000, 1)),
+        (late(1_001), AT_ONCE, (ServeEnd::ReadFault, 1_000, 0)),
+        // A request has ten seconds.
+        (stops(9_500), AT_ONCE, (ServeEnd::Answered, 10_000, 1)),
+        (stops(9_501), AT_ONCE, (ServeEnd::ReadFault, 10_000, 0)),
+        // Of 104 pauses the head, of 43 bytes, has 42.
+        (after_each(96, 1), AT_ONCE, (ServeEnd::Answered, 9_984, 1)),
+        (after_each(97, 1), AT_ONCE, (ServeEnd::ReadFault, 10_000, 0)),
+        (
+            after_each(300, 1),
+            AT_ONCE,
+            (ServeEnd::ReadFault, 10_000, 0),
+        ),
+        // A short answer has five seconds.
+        (AT_ONCE, late(5_000), (ServeEnd::Answered, 5_000, 1)),
+        (AT_ONCE, late(5_001), (ServeEnd::WriteFault, 5_000, 1)),
+        // 103 bytes, and so 102 pauses.
+        (AT_ONCE, after_each(49, 1), (ServeEnd::Answered, 4_998, 1)),
+        (AT_ONCE, after_each(50, 1), (ServeEnd::WriteFault, 5_000, 1)),
+    ];
+    for (place, (sends, takes, ended)) in cases.iter().enumerate() {
+        let told = report_at(rt.alloc(), *sends, *takes)?;
+        assert!(rt; told == *ended, "{place}");
+    }
     Ok(())
 }
 
@@ -278,7 +278,7 @@ fn full_desk(alloc: Global, bugs: usize) -> Result<PlainDesk, Fail> {
 }
 
 // What comes of an answer: how it ends, when, and how many bytes of it are taken.
-type Taken = (Outcome, u64, usize);
+type Taken = (ServeEnd, u64, usize);
 
 // What comes of a list of all bugs that is taken at this pace.
 fn list_at(alloc: Global, desk: &mut PlainDesk, takes: Pace) -> Result<Taken, Fail> {
@@ -290,7 +290,7 @@ fn list_at(alloc: Global, desk: &mut PlainDesk, takes: Pace) -> Result<Taken, Fa
     };
     let client = Client::new(String::from_str(alloc, LIST)?, paces);
     let told = serve_within(&client, alloc, desk, &client, &client);
-    Ok((outcome_of(&told), client.now.get(), client.written.get()))
+    Ok((end_of(&told), client.now.get(), client.written.get()))
 }
 
 // The same of lists of so many bugs, one after another.
@@ -311,41 +311,32 @@ fn an_answer_has_a_second_more_for_each_million_bytes(rt: HostRuntime) -> Result
     assert!(rt;
         below[..]
             == [
-                (Outcome::Answered, 4_999, 999_944),
-                (Outcome::WriteFault, 5_000, 0)
+                (ServeEnd::Answered, 4_999, 999_944),
+                (ServeEnd::WriteFault, 5_000, 0)
             ]
     );
     let above = lists_at(rt.alloc(), 4_367, &[late(5_999), late(6_001)])?;
     assert!(rt;
         above[..]
             == [
-                (Outcome::Answered, 5_999, 1_000_174),
-                (Outcome::WriteFault, 6_000, 0)
+                (ServeEnd::Answered, 5_999, 1_000_174),
+                (ServeEnd::WriteFault, 6_000, 0)
             ]
     );
     Ok(())
 }
 
-// A client that takes 4,096 bytes after each pause, the first at once.
-fn takes_after(pause: u64) -> Pace {
-    Pace {
-        first: 0,
-        pause,
-        piece: 4_096,
-    }
-}
-
-// 18,000 bugs make 4,122,028 bytes, after a head of 104, which are 1,007 pieces.
+// 18,000 bugs make 4,122,028 bytes, after a head of 104, which are 1,007 pieces of 4,096 bytes.
 #[test]
 fn a_list_of_four_megabytes_has_nine_seconds(rt: HostRuntime) -> Result<(), Fail> {
-    let paces = [late(u64::MAX), takes_after(2), takes_after(8)];
+    let paces = [late(u64::MAX), after_each(2, 4_096), after_each(8, 4_096)];
     let taken = lists_at(rt.alloc(), 18_000, &paces)?;
     assert!(rt;
         taken[..]
             == [
-                (Outcome::WriteFault, 9_000, 0),
-                (Outcome::Answered, 2_012, 4_122_132),
-                (Outcome::Answered, 8_048, 4_122_132)
+                (ServeEnd::WriteFault, 9_000, 0),
+                (ServeEnd::Answered, 2_012, 4_122_132),
+                (ServeEnd::Answered, 8_048, 4_122_132)
             ]
     );
     Ok(())
@@ -385,12 +376,7 @@ const DRAINS: [(usize, usize, u64, (usize, u64)); 8] = [
 #[test]
 fn what_a_connection_leaves_unread_is_drained(rt: HostRuntime) -> Result<(), Fail> {
     for (more, piece, pause, read) in DRAINS.iter() {
-        let sends_more = Pace {
-            first: 0,
-            pause: *pause,
-            piece: *piece,
-        };
-        let told = drained(rt.alloc(), *more, sends_more)?;
+        let told = drained(rt.alloc(), *more, after_each(*pause, *piece))?;
         assert!(rt; told == *read, "{more} {piece} {pause}");
     }
     Ok(())

@@ -4,7 +4,7 @@ use crate::exchanges::{EXCHANGES, desk_after, is_after};
 use desk_http::{ServeFault, Served, serve_one};
 use memory_desk::PlainDesk;
 use std::alloc::Global;
-use test_doubles::Feed;
+use test_doubles::FailingReader;
 
 // Whether an exchange is told as it has to be, where so many reads followed the one that failed.
 fn is_told_well(told: &Result<Served, ServeFault>, later: Option<u64>) -> bool {
@@ -43,7 +43,7 @@ fn meets_failure(
     good_reads: usize,
 ) -> Option<bool> {
     let mut desk = desk_after(alloc, place);
-    let mut reader = Feed::new(request.as_bytes(), piece, good_reads);
+    let mut reader = FailingReader::new(request.as_bytes(), piece, good_reads);
     let mut written = Vec::new(alloc);
     let told = serve_one(alloc, &mut desk, &mut reader, &mut written);
     let has_failed = reader.later().is_some();
@@ -81,7 +81,7 @@ const WITHOUT_BODIES: [&str; 5] = [
 // Whether a request is answered, and nothing is read after the piece that has its head.
 fn is_answered_by_its_head(alloc: Global, request: &str) -> bool {
     let mut desk = desk_after(alloc, 0);
-    let mut reader = Feed::new(request.as_bytes(), usize::MAX, 1);
+    let mut reader = FailingReader::new(request.as_bytes(), usize::MAX, 1);
     let mut written = Vec::new(alloc);
     let told = serve_one(alloc, &mut desk, &mut reader, &mut written);
     matches!(told, Ok(Served::Answered(_))) && reader.later().is_none()

@@ -3,7 +3,7 @@
 use crate::exchanges::{EXCHANGES, desk_after, is_after};
 use desk_http::{ServeFault, Served, serve_one};
 use std::alloc::Global;
-use test_doubles::{Failure, Sink};
+use test_doubles::{FailingWriter, WriterFailure};
 
 // Whether the bytes are the first ones of the answer, but not all.
 fn is_front(taken: &[u8], answer: &[u8]) -> bool {
@@ -11,7 +11,7 @@ fn is_front(taken: &[u8], answer: &[u8]) -> bool {
 }
 
 // Whether an exchange is told as it has to be, and this writer has what it has to have.
-fn is_told_well(told: &Result<Served, ServeFault>, writer: &Sink, answer: &[u8]) -> bool {
+fn is_told_well(told: &Result<Served, ServeFault>, writer: &FailingWriter, answer: &[u8]) -> bool {
     let taken = writer.taken.as_slice();
     match writer.later() {
         Some(later) => {
@@ -30,7 +30,7 @@ fn meets_failure(
     place: usize,
     request: &str,
     answer: &str,
-    writer: &mut Sink,
+    writer: &mut FailingWriter,
 ) -> Option<bool> {
     let mut desk = desk_after(alloc, place);
     let mut reader = request.as_bytes();
@@ -48,10 +48,10 @@ fn writes_needed(
     request: &str,
     answer: &str,
     piece: usize,
-    failure: Failure,
+    failure: WriterFailure,
 ) -> Option<usize> {
     for good_writes in 0..=answer.len() {
-        let mut writer = Sink::new(Vec::new(alloc), piece, good_writes, failure);
+        let mut writer = FailingWriter::new(Vec::new(alloc), piece, good_writes, failure);
         if !meets_failure(alloc, place, request, answer, &mut writer)? {
             return Some(good_writes);
         }
@@ -59,22 +59,14 @@ fn writes_needed(
     None
 }
 
+// Each answer is written in one piece, and in pieces of one byte.
 #[test]
 fn a_write_that_fails_is_told_and_no_other_follows(rt: HostRuntime) {
     let alloc = rt.alloc();
     for (place, (request, answer)) in EXCHANGES.iter().enumerate() {
-        for failure in [Failure::Interrupted, Failure::Full] {
+        for failure in [WriterFailure::Interrupted, WriterFailure::Full] {
             let writes = writes_needed(alloc, place, request, answer, usize::MAX, failure);
             assert!(rt; writes.is_some(), "{request}");
-        }
-    }
-}
-
-#[test]
-fn a_writer_of_one_byte_a_write_gets_the_whole_answer(rt: HostRuntime) {
-    let alloc = rt.alloc();
-    for (place, (request, answer)) in EXCHANGES.iter().enumerate() {
-        for failure in [Failure::Interrupted, Failure::Full] {
             let writes = writes_needed(alloc, place, request, answer, 1, failure);
             assert!(rt; writes == Some(answer.len()), "{request}");
         }

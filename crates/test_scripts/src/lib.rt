@@ -4,21 +4,23 @@
 #![tactic(auto)]
 
 #[cfg(test)]
-mod fails;
+mod each_fault;
 #[cfg(test)]
-mod faults;
+mod failing_store;
+#[cfg(test)]
+mod left_as_before;
 #[cfg(test)]
 mod lines;
+#[cfg(test)]
+mod long_inputs;
 #[cfg(test)]
 mod memory;
 #[cfg(test)]
 mod messages;
 #[cfg(test)]
-mod script_faults;
+mod readers_and_writers;
 #[cfg(test)]
 mod scripts;
-#[cfg(test)]
-mod stores;
 #[cfg(test)]
 mod texts;
 #[cfg(test)]

@@ -5,7 +5,7 @@ use std::alloc::{AllocError, Global};
 use std::io::Read;
 use std::process::Abort;
 use std::test::Fail;
-use test_doubles::{Failure, Feed, Pieces, Sink};
+use test_doubles::{FailingReader, FailingWriter, RepeatingReader, WriterFailure};
 
 fn shown(piece: &Piece) -> (&str, &str) {
     match piece {
@@ -67,7 +67,7 @@ fn lines_are_the_same_in_whatever_pieces_they_are_read(rt: HostRuntime) -> Resul
         ("end", ""),
     ];
     assert_pieces(&rt, rt.alloc(), &mut text.as_slice(), &want)?;
-    let mut slow = Feed::new(text, 1, 100);
+    let mut slow = FailingReader::new(text, 1, 100);
     assert_pieces(&rt, rt.alloc(), &mut slow, &want)?;
     Ok(())
 }
@@ -96,7 +96,7 @@ fn a_line_has_65_536_bytes_at_most(rt: HostRuntime) -> Result<(), Fail> {
 fn a_long_line_is_refused_at_its_first_byte_too_many(rt: HostRuntime) -> Result<(), Fail> {
     let alloc = rt.alloc();
     let bytes = long(alloc, 70_000, b"")?;
-    let mut reader = Feed::new(&bytes, 1, 65_537);
+    let mut reader = FailingReader::new(&bytes, 1, 65_537);
     let fault = next_line(alloc, &mut Source::new(), &mut reader, 7).err();
     assert!(rt; fault == Some(ScriptFault::LineTooLong(7)));
     Ok(())
@@ -106,7 +106,7 @@ fn a_long_line_is_refused_at_its_first_byte_too_many(rt: HostRuntime) -> Result<
 fn a_read_that_fails_is_the_fault(rt: HostRuntime) -> Result<(), Fail> {
     let alloc = rt.alloc();
     let mut source = Source::new();
-    let mut reader = Feed::new(b"a\nbc\n", 1, 3);
+    let mut reader = FailingReader::new(b"a\nbc\n", 1, 3);
     assert!(rt; gives(alloc, &mut source, &mut reader, 1, ("line", "a"))?);
     let fault = next_line(alloc, &mut source, &mut reader, 2).err();
     assert!(rt; fault == Some(ScriptFault::Read) && reader.later() == Some(0));
@@ -118,7 +118,7 @@ fn a_read_that_fails_is_the_fault(rt: HostRuntime) -> Result<(), Fail> {
 // no read.
 fn reads_until(alloc: Global, piece: &[u8], last: u64) -> Result<Option<u64>, ScriptFault> {
     let mut source = Source::new();
-    let mut reader = Pieces { piece, reads: 0 };
+    let mut reader = RepeatingReader { piece, reads: 0 };
     for number in 0..last {
         next_line(alloc, &mut source, &mut reader, number)?;
     }
@@ -168,7 +168,7 @@ fn gets_both(alloc: Global) -> Result<bool, ScriptFault> {
 
 // Whether a writer that takes one byte at a time gets all.
 fn gets_each(alloc: Global) -> Result<bool, ScriptFault> {
-    let mut narrow = Sink::new(Vec::new(alloc), 1, 3, Failure::Full);
+    let mut narrow = FailingWriter::new(Vec::new(alloc), 1, 3, WriterFailure::Full);
     write_out(&mut narrow, b"abc")?;
     Ok(narrow.taken.as_slice() == b"abc".as_slice())
 }
@@ -181,19 +181,19 @@ fn all_bytes_are_written_in_any_pieces(rt: HostRuntime) -> Result<(), Fail> {
 }
 
 // Whether these bytes are the fault Write, and no write follows the one that fails.
-fn fails_at_once(writer: &mut Sink, bytes: &[u8]) -> bool {
+fn fails_at_once(writer: &mut FailingWriter, bytes: &[u8]) -> bool {
     write_out(writer, bytes) == Err(ScriptFault::Write) && writer.later() == Some(0)
 }
 
 // Whether a writer that takes no third byte has the first two.
 fn keeps_the_first_two(alloc: Global) -> bool {
-    let mut narrow = Sink::new(Vec::new(alloc), 1, 2, Failure::Full);
+    let mut narrow = FailingWriter::new(Vec::new(alloc), 1, 2, WriterFailure::Full);
     fails_at_once(&mut narrow, b"abc") && narrow.taken.as_slice() == b"ab".as_slice()
 }
 
 // Whether a writer that fails at once takes no bytes, and not one.
 fn takes_nothing(alloc: Global) -> bool {
-    let mut broken = Sink::new(Vec::new(alloc), usize::MAX, 0, Failure::Interrupted);
+    let mut broken = FailingWriter::new(Vec::new(alloc), usize::MAX, 0, WriterFailure::Interrupted);
     write_out(&mut broken, b"") == Ok(()) && fails_at_once(&mut broken, b"a")
 }
 

@@ -6,7 +6,7 @@ use memory_desk::PlainDesk;
 use std::alloc::{AllocError, Global};
 use std::test::Fail;
 use store_contract::Records;
-use test_trials::Held;
+use test_trials::HeldMemory;
 
 /// How many lines a long message has.
 const LINES: usize = 200_000;
@@ -38,8 +38,8 @@ fn long_message(alloc: Global) -> Result<String, AllocError> {
 }
 
 // All memory but the room for the calls.
-fn held(alloc: Global) -> Result<Held, AllocError> {
-    let mut held = Held::nothing(alloc);
+fn held(alloc: Global) -> Result<HeldMemory, AllocError> {
+    let mut held = HeldMemory::nothing(alloc);
     held.make_room()?;
     held.hold_all(alloc)?;
     Ok(held)
@@ -49,7 +49,7 @@ fn held(alloc: Global) -> Result<Held, AllocError> {
 // less.
 fn refused<S: Records>(
     alloc: Global,
-    held: &mut Held,
+    held: &mut HeldMemory,
     store: &mut S,
     id: &str,
     message: &str,

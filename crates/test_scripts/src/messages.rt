@@ -1,6 +1,6 @@
 //! Messages and their transcripts, as calls.
 
-use crate::stores::failing;
+use crate::left_as_before::failing;
 use base_faults::{End, StoreFault};
 use desk_run::{Received, receive, received_text};
 use memory_desk::PlainDesk;

@@ -1,20 +1,20 @@
 //! What a desk may answer to a script, and be after its disk stopped or memory was short.
 #![tactic(auto)]
 
+mod example_text;
 mod fronts;
-mod held;
-mod look;
-mod outcomes;
-mod report;
+mod held_memory;
+mod judge;
 mod schema;
-mod told;
+mod script_run;
+mod shown_desk;
 mod trial;
 
+pub use example_text::ExampleText;
 pub use fronts::{Fronts, Reach};
-pub use held::Held;
-pub use look::{Look, schema_in};
-pub use outcomes::{Found, Judge};
-pub use report::Report;
+pub use held_memory::HeldMemory;
+pub use judge::{Judge, SchemasFound};
 pub use schema::{Schema, number_asked};
-pub use told::{Task, Told};
-pub use trial::{Trial, Work};
+pub use script_run::{ScriptRun, ScriptTask};
+pub use shown_desk::{ShownDesk, schema_in};
+pub use trial::{Trial, TrialScript};

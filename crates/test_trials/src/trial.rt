@@ -1,7 +1,7 @@
 //! A script over the desk in files, whatever becomes of them, and what it leaves.
 
 use crate::fronts::{DEVICE, Fronts, MEMORY, Reach};
-use crate::held::Held;
+use crate::held_memory::HeldMemory;
 use base_faults::StoreFault;
 use desk_run::{Records, ScriptEnd, ScriptFault};
 use sqlite::{Alter, Connection};
@@ -17,7 +17,7 @@ pub struct Trial {
     /// What the questions were answered after the script.
     pub shown: Vec<u8>,
     /// The memory that the script does not have.
-    pub held: Held,
+    pub held: HeldMemory,
     // Nothing where no desk could be opened.
     end: Option<Result<ScriptEnd, ScriptFault>>,
     faults: u64,
@@ -26,19 +26,19 @@ pub struct Trial {
 
 /// What is done on a desk.
 #[derive(Clone, Copy)]
-pub struct Work<'a> {
+pub struct TrialScript<'a> {
     pub script: &'a str,
     /// What the desk is asked after it.
     pub questions: &'a str,
 }
 
-impl DeskTask<Trial> for Work<'_> {
+impl DeskTask<Trial> for TrialScript<'_> {
     fn run_on<R: Records>(&self, alloc: Global, desk: &mut R, trial: &mut Trial) {
         trial.run(alloc, desk, *self);
     }
 }
 
-impl ConnectionTask<Trial> for Work<'_> {
+impl ConnectionTask<Trial> for TrialScript<'_> {
     fn run_over<S: Alter>(
         &self,
         alloc: Global,
@@ -62,7 +62,7 @@ impl Trial {
         Trial {
             text: Vec::new(alloc),
             shown: Vec::new(alloc),
-            held: Held::nothing(alloc),
+            held: HeldMemory::nothing(alloc),
             end: None,
             faults: 0,
             counts_well: true,
@@ -99,7 +99,7 @@ impl Trial {
 
     // Runs a script on a desk with the memory that is left, and then, with all of it, asks for the
     // next number three times, and the questions.
-    fn run<R: Records>(&mut self, alloc: Global, desk: &mut R, work: Work<'_>) {
+    fn run<R: Records>(&mut self, alloc: Global, desk: &mut R, work: TrialScript<'_>) {
         self.end = Some(run_into(alloc, desk, work.script, &mut self.text));
         self.held.give_back();
         self.faults = desk.faults();
@@ -108,7 +108,7 @@ impl Trial {
     }
 
     /// Runs a script on a new desk in memory.
-    pub fn run_in_memory(&mut self, alloc: Global, work: Work<'_>) {
+    pub fn run_in_memory(&mut self, alloc: Global, work: TrialScript<'_>) {
         in_memory(alloc, &work, self);
     }
 
@@ -118,7 +118,7 @@ impl Trial {
         alloc: Global,
         files: Files<D>,
         options: Options,
-        work: Work<'_>,
+        work: TrialScript<'_>,
     ) -> Files<D> {
         over_files(alloc, files, options, &work, self)
     }

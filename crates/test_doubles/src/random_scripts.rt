@@ -130,7 +130,7 @@ const WRONG: [&str; 28] = [
 
 /// Makes random scripts, one after another.
 #[derive(Drop)]
-pub struct Maker {
+pub struct ScriptMaker {
     random: Pcg32,
     // How many bugs there may be, and how many names the message has given.
     bugs: u32,
@@ -138,9 +138,9 @@ pub struct Maker {
     script: String,
 }
 
-impl Maker {
-    pub fn new(alloc: Global, seed: u64) -> Maker {
-        Maker {
+impl ScriptMaker {
+    pub fn new(alloc: Global, seed: u64) -> ScriptMaker {
+        ScriptMaker {
             random: Pcg32::new(seed, 1),
             bugs: 0,
             names: 0,

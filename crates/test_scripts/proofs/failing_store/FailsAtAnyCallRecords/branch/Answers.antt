@@ -1,5 +1,5 @@
 use Rattle.store_contract.proofs.CrashLemmas.{failed_none}
-use Rattle.test_scripts.proofs.fails.FailsRecords.apply.Goals as goal
+use Rattle.test_scripts.proofs.failing_store.FailsAtAnyCallRecords.branch.Goals as goal
 
 -- a call that fails leaves the other store as it was
 pub returns-then-is_due-clause-crash : goal.returns-then-is_due-clause-crash

@@ -1,10 +1,10 @@
-//! The lines of a file of examples.
+//! The lines of a file of exchanges.
 
 use base_words::number_word;
 
-/// A line of a file of examples, by its sign.
+/// A line of a file of exchanges, by its sign.
 #[derive(Clone, Copy)]
-pub(crate) enum Line<'a> {
+pub(crate) enum DataLine<'a> {
     /// `== NAME` or `== NAME from N`: a new desk, whose first bug has the number N, or 1.
     Desk { first: u64 },
     /// `-- NAME`: what the next exchange shows.
@@ -24,17 +24,17 @@ fn first_number(heading: &str) -> u64 {
 }
 
 /// What a line is.
-pub(crate) fn read_line(line: &str) -> Line<'_> {
+pub(crate) fn read_data_line(line: &str) -> DataLine<'_> {
     if let Some(heading) = line.strip_prefix("== ") {
-        return Line::Desk {
+        return DataLine::Desk {
             first: first_number(heading),
         };
     }
     if line.starts_with("-- ") {
-        return Line::Note;
+        return DataLine::Note;
     }
     match line.strip_prefix("> ") {
-        Some(text) => Line::Request(text),
-        None => Line::More(line),
+        Some(text) => DataLine::Request(text),
+        None => DataLine::More(line),
     }
 }

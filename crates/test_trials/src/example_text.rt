@@ -5,15 +5,15 @@ use std::io;
 
 /// What is told, and whether there was memory for all of it.
 #[derive(Drop)]
-pub struct Report {
+pub struct ExampleText {
     pub text: Vec<u8>,
     is_whole: bool,
 }
 
-impl Report {
-    /// A report of nothing yet.
-    pub fn new(alloc: Global) -> Report {
-        Report {
+impl ExampleText {
+    /// Nothing told yet.
+    pub fn new(alloc: Global) -> ExampleText {
+        ExampleText {
             text: Vec::new(alloc),
             is_whole: true,
         }

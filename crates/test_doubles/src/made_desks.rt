@@ -1,6 +1,6 @@
 //! How a desk is made over a connection, or found there.
 
-use crate::disks::{Disks, new_disks};
+use crate::memory_files::{DatabaseFiles, new_files};
 use crate::tasks::{ConnectionTask, over_files};
 use base_words::LARGEST_NUMBER;
 use desk_tables::{OpenFault, TableDesk};
@@ -10,13 +10,13 @@ use std::alloc::Global;
 
 /// A desk, or the connection with what kept it from being one: nothing where it was not asked, in a
 /// transaction that is open.
-pub type Made<S> = Result<TableDesk<S>, (Option<OpenFault>, Connection<S>)>;
+pub type MadeDesk<S> = Result<TableDesk<S>, (Option<OpenFault>, Connection<S>)>;
 
 // Creates a desk, and closes it.
 struct Creation;
 
 /// Creates a desk, whose first bug gets the number that is nearest to this one.
-pub fn create<S: Alter>(alloc: Global, conn: Connection<S>, first: u64) -> Made<S> {
+pub fn create<S: Alter>(alloc: Global, conn: Connection<S>, first: u64) -> MadeDesk<S> {
     if !conn.is_autocommit() {
         return Err((None, conn));
     }
@@ -27,7 +27,7 @@ pub fn create<S: Alter>(alloc: Global, conn: Connection<S>, first: u64) -> Made<
 }
 
 /// Opens the desk.
-pub fn open<S: Alter>(alloc: Global, conn: Connection<S>) -> Made<S> {
+pub fn open<S: Alter>(alloc: Global, conn: Connection<S>) -> MadeDesk<S> {
     if !conn.is_autocommit() {
         return Err((None, conn));
     }
@@ -52,6 +52,6 @@ impl ConnectionTask<()> for Creation {
 }
 
 /// Files with a new desk.
-pub fn new_desk(alloc: Global) -> Disks {
-    over_files(alloc, new_disks(alloc), Options::new(1), &Creation, &mut ())
+pub fn new_desk(alloc: Global) -> DatabaseFiles {
+    over_files(alloc, new_files(alloc), Options::new(1), &Creation, &mut ())
 }

@@ -6,7 +6,7 @@ use std::alloc::{AllocError, Global};
 
 /// A message that has an id.
 #[derive(Drop)]
-pub(crate) struct Sending {
+pub(crate) struct MessageWithId {
     id: String,
     from: String,
     message: String,
@@ -38,11 +38,11 @@ fn fault_text(alloc: Global, fault: OnceFault) -> Result<String, AllocError> {
     }
 }
 
-impl Sending {
+impl MessageWithId {
     /// A message without an id, and without lines.
-    pub fn new(alloc: Global) -> Result<Sending, AllocError> {
+    pub fn new(alloc: Global) -> Result<MessageWithId, AllocError> {
         let from = String::from_str(alloc, "ann")?;
-        Ok(Sending {
+        Ok(MessageWithId {
             id: String::new(alloc),
             from,
             message: String::new(alloc),

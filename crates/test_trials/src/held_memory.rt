@@ -16,7 +16,7 @@ type Blocks = Vec<Vec<u8>>;
 
 /// Memory that is held back.
 #[derive(Drop)]
-pub struct Held {
+pub struct HeldMemory {
     // All but the room for the runs.
     all: Blocks,
     // What is held of that room during a run.
@@ -65,10 +65,10 @@ fn take_all(alloc: Global, largest: usize, blocks: &mut Blocks) -> bool {
     true
 }
 
-impl Held {
+impl HeldMemory {
     /// Nothing, and no list for it.
-    pub fn nothing(alloc: Global) -> Held {
-        Held {
+    pub fn nothing(alloc: Global) -> HeldMemory {
+        HeldMemory {
             all: Vec::new(alloc),
             rest: Vec::new(alloc),
             left: Vec::new(alloc),

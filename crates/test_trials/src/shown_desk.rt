@@ -7,12 +7,13 @@ use sqlite_pager::Options;
 use std::alloc::Global;
 use std::io;
 use test_doubles::{
-    ConnectionTask, DeskTask, Disks, copy_of, on_made, open, over_bytes, over_files, run_into,
+    ConnectionTask, DatabaseFiles, DeskTask, copy_of, on_made, open, over_bytes, over_files,
+    run_into,
 };
 
 /// What the files of a desk show.
 #[derive(Drop)]
-pub struct Look {
+pub struct ShownDesk {
     /// What the questions are answered.
     pub text: Vec<u8>,
     /// The schema before the desk is opened.
@@ -27,18 +28,18 @@ struct Asking<'a> {
     questions: &'a str,
 }
 
-impl DeskTask<Look> for Asking<'_> {
-    fn run_on<R: Records>(&self, alloc: Global, desk: &mut R, look: &mut Look) {
+impl DeskTask<ShownDesk> for Asking<'_> {
+    fn run_on<R: Records>(&self, alloc: Global, desk: &mut R, look: &mut ShownDesk) {
         let _ = run_into(alloc, desk, self.questions, &mut look.text);
     }
 }
 
-impl ConnectionTask<Look> for Asking<'_> {
+impl ConnectionTask<ShownDesk> for Asking<'_> {
     fn run_over<S: Alter>(
         &self,
         alloc: Global,
         conn: Connection<S>,
-        look: &mut Look,
+        look: &mut ShownDesk,
     ) -> Connection<S> {
         let mut conn = conn;
         look.found = schema_of(&mut conn);
@@ -48,10 +49,10 @@ impl ConnectionTask<Look> for Asking<'_> {
     }
 }
 
-impl Look {
+impl ShownDesk {
     /// Nothing seen yet.
-    pub fn new(alloc: Global) -> Look {
-        Look {
+    pub fn new(alloc: Global) -> ShownDesk {
+        ShownDesk {
             text: Vec::new(alloc),
             found: Schema::Other,
             left: Schema::Other,
@@ -72,9 +73,9 @@ impl Look {
 }
 
 /// Under which schema the desk in files is.
-pub fn schema_in(alloc: Global, files: &Disks) -> io::Result<Schema> {
+pub fn schema_in(alloc: Global, files: &DatabaseFiles) -> io::Result<Schema> {
     let files = copy_of(alloc, files, u64::MAX, u64::MAX)?;
-    let mut look = Look::new(alloc);
+    let mut look = ShownDesk::new(alloc);
     let asking = Asking { questions: "" };
     drop(over_files(alloc, files, Options::new(1), &asking, &mut look));
     Ok(look.found)

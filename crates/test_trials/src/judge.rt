@@ -1,16 +1,16 @@
 //! What files hold once their use has ended at some call, and what the desks in them show.
 
 use crate::fronts::{Fronts, Reach};
-use crate::look::Look;
 use crate::schema::Schema;
+use crate::shown_desk::ShownDesk;
 use sqlite_pager::Options;
 use std::alloc::Global;
 use std::io;
-use test_doubles::BothLeft;
+use test_doubles::DatabaseRemains;
 
 /// The schemas under which desks were found.
 #[derive(Clone, Copy)]
-pub struct Found {
+pub struct SchemasFound {
     pub first: bool,
     pub second: bool,
     pub third: bool,
@@ -21,7 +21,7 @@ pub struct Found {
 pub struct Judge<'a> {
     pub fronts: &'a Fronts,
     pub options: Options,
-    pub found: Found,
+    pub found: SchemasFound,
 }
 
 impl<'a> Judge<'a> {
@@ -30,7 +30,7 @@ impl<'a> Judge<'a> {
         Judge {
             fronts,
             options,
-            found: Found {
+            found: SchemasFound {
                 first: false,
                 second: false,
                 third: false,
@@ -51,13 +51,13 @@ impl<'a> Judge<'a> {
 
     // Whether a look saw a desk in this reach, under one of the schemas, and under schema 3 once it
     // was opened.
-    fn is_well(&mut self, look: &Look, reach: Reach) -> bool {
+    fn is_well(&mut self, look: &ShownDesk, reach: Reach) -> bool {
         let is_found = self.note(look.found);
         is_found && look.left == Schema::Third && self.fronts.shows(reach, &look.text)
     }
 
     // Looks at the files with these bytes.
-    fn look(&self, alloc: Global, log: &[u8], db: &[u8], look: &mut Look) -> io::Result<()> {
+    fn look(&self, alloc: Global, log: &[u8], db: &[u8], look: &mut ShownDesk) -> io::Result<()> {
         let questions = self.fronts.all_questions(alloc)?;
         look.look_at(alloc, log, db, self.options, questions.as_str())
     }
@@ -71,7 +71,7 @@ impl<'a> Judge<'a> {
         db: &[u8],
         reach: Reach,
     ) -> io::Result<bool> {
-        let mut look = Look::new(alloc);
+        let mut look = ShownDesk::new(alloc);
         self.look(alloc, log, db, &mut look)?;
         Ok(self.is_well(&look, reach))
     }
@@ -81,10 +81,10 @@ impl<'a> Judge<'a> {
     pub fn is_always_shown(
         &mut self,
         alloc: Global,
-        left: &BothLeft,
+        left: &DatabaseRemains,
         reach: Reach,
     ) -> io::Result<bool> {
-        let BothLeft { log, db } = left;
+        let DatabaseRemains { log, db } = left;
         let log_loses = log.written != log.synced;
         let db_loses = db.written != db.synced;
         let mut is_shown = self.is_shown(alloc, &log.written, &db.written, reach)?;

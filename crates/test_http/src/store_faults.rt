@@ -52,17 +52,13 @@ fn a_message_is_cut_at_the_line_where_the_store_fails(rt: HostRuntime) {
     assert!(rt; answers(alloc, &mut store, request, answer));
 }
 
-// Whether the next bug of a store is its first one.
-fn has_no_bug(store: &mut FailAt<PlainDesk>) -> bool {
-    store.next() == Ok(1)
-}
-
 #[test]
 fn a_report_at_which_the_store_fails_adds_no_bug(rt: HostRuntime) {
     let alloc = rt.alloc();
     let mut store = failing(alloc, 0, 1);
     assert!(rt; fails_at(alloc, &mut store, REPORT, STORE_FAULT));
-    assert!(rt; has_no_bug(&mut store));
+    // no bug is there: the next one is the first
+    assert!(rt; store.next() == Ok(1));
     assert!(rt; answers(alloc, &mut store, "GET /bugs/1 HTTP/1.1\r\n\r\n", NOT_FOUND));
     assert!(rt; answers(alloc, &mut store, REPORT, FIRST_BUG));
 }

@@ -1,4 +1,4 @@
-use Rattle.test_scripts.proofs.fails.FailsRecords.keep.Goals as goal
+use Rattle.test_scripts.proofs.failing_store.FailsAtAnyCallRecords.keep.Goals as goal
 
 -- an earlier moment of this store is one of the other store
 pub returns-clause-answer : goal.returns-clause-answer

@@ -1,6 +1,6 @@
 //! Each fault of a store, at each call that a script makes of it.
 
-use crate::fails::Fails;
+use crate::failing_store::FailsAtAnyCall;
 use crate::scripts::writes;
 use base_faults::StoreFault;
 use desk_run::{ScriptEnd, ScriptFault, run_script};
@@ -88,7 +88,7 @@ fn ends_so(
     before: &str,
     line: &str,
 ) -> bool {
-    let mut store = Fails::new(PlainDesk::new(alloc, 1), at, fault);
+    let mut store = FailsAtAnyCall::new(PlainDesk::new(alloc, 1), at, fault);
     let mut reader = script.as_bytes();
     let mut writer = Vec::new(alloc);
     let end = run_script(alloc, &mut store, &mut reader, &mut writer);
@@ -124,35 +124,46 @@ fn assert_all_end(rt: &impl Abort, alloc: Global, script: &str, calls: &[(u64, &
 
 #[test]
 fn a_fault_of_the_store_ends_the_script_as_that_fault(rt: HostRuntime) {
-    assert_all_end(&rt, rt.alloc(), SCRIPT, BEFORE.as_slice());
-}
-
-#[test]
-fn a_fault_of_the_store_at_a_clone_ends_the_script_as_that_fault(rt: HostRuntime) {
-    assert_all_end(&rt, rt.alloc(), CLONES, BEFORE_IN_CLONES.as_slice());
-}
-
-#[test]
-fn a_fault_of_the_store_at_a_question_ends_the_script_as_that_fault(rt: HostRuntime) {
-    assert_all_end(&rt, rt.alloc(), QUESTIONS, BEFORE_IN_QUESTIONS.as_slice());
+    let scripts = [
+        (SCRIPT, BEFORE.as_slice()),
+        (CLONES, BEFORE_IN_CLONES.as_slice()),
+        (QUESTIONS, BEFORE_IN_QUESTIONS.as_slice()),
+    ];
+    for (script, calls) in scripts {
+        assert_all_end(&rt, rt.alloc(), script, calls);
+    }
 }
 
 // How many calls of the store a script makes that is accepted and writes this, where the call of
 // this number would fail; `None` where it ends otherwise.
 fn calls_made(alloc: Global, script: &str, at: u64, written: &str) -> Option<u64> {
-    let mut store = Fails::new(PlainDesk::new(alloc, 1), at, StoreFault::Device);
+    let mut store = FailsAtAnyCall::new(PlainDesk::new(alloc, 1), at, StoreFault::Device);
     let end = Ok(ScriptEnd::Accepted);
     writes(alloc, &mut store, script.as_bytes(), end, written).then_some(store.calls())
 }
 
-#[test]
-fn a_script_whose_store_does_not_fail_makes_sixteen_calls(rt: HostRuntime) {
-    let written = "OK 1\nOK 2\n> merge 1 2\nOK 1 2\n> close 1\nOK 1 2\n> archive 1\nOK 1 2\nOK\n";
-    assert!(rt; calls_made(rt.alloc(), SCRIPT, 17, written) == Some(16));
-}
+// Scripts, a call that they do not come to, what they write, and how many calls they make.
+const WITHOUT_FAULT: [(&str, u64, &str, u64); 2] = [
+    (
+        SCRIPT,
+        17,
+        "OK 1\nOK 2\n> merge 1 2\nOK 1 2\n> close 1\nOK 1 2\n> archive 1\nOK 1 2\nOK\n",
+        16,
+    ),
+    (
+        CLONES,
+        9,
+        "OK 1\n> clone 1 -1 -2\nOK 2 3\n> retitle -2 b\nOK 3\n",
+        8,
+    ),
+];
 
 #[test]
-fn a_script_of_clones_whose_store_does_not_fail_makes_eight_calls(rt: HostRuntime) {
-    let written = "OK 1\n> clone 1 -1 -2\nOK 2 3\n> retitle -2 b\nOK 3\n";
-    assert!(rt; calls_made(rt.alloc(), CLONES, 9, written) == Some(8));
+fn a_script_whose_store_does_not_fail_makes_so_many_calls(rt: HostRuntime) {
+    for (script, at, written, calls) in WITHOUT_FAULT.iter() {
+        assert!(rt;
+            calls_made(rt.alloc(), script, *at, written) == Some(*calls),
+            "{calls}"
+        );
+    }
 }

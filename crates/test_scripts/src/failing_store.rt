@@ -1,7 +1,7 @@
 //! A store that fails once, at any of its calls, in any way.
 
 ghost use Rattle.std.specs.Prelude.{◌≡◌, ◌⊎◌, ◌||◌, true, false, Err};
-ghost use Rattle.test_scripts.specs.Fails.{faults_with};
+ghost use Rattle.store_failing.specs.FailAt.{faults_with};
 
 use base_faults::StoreFault;
 use bug_record::{Change, ListRow, Numbers, Outcome, Sequence, SetImage};
@@ -13,7 +13,7 @@ use version_nodes::{BranchFault, Node};
 /// `keep` answers this fault, and changes nothing; every other call is the other store's.
 /// Its calls are counted, and the images of the changes that `apply` is given.
 #[derive(Drop)]
-pub(crate) struct Fails<S> {
+pub(crate) struct FailsAtAnyCall<S> {
     inner: S,
     fault: StoreFault,
     // Which call is to fail, counted from 1.
@@ -23,10 +23,10 @@ pub(crate) struct Fails<S> {
     has_failed: bool,
 }
 
-impl<S: Records> Fails<S> {
+impl<S: Records> FailsAtAnyCall<S> {
     /// The call of this number is to fail, counted from 1; none where it is 0.
-    pub fn new(inner: S, at: u64, fault: StoreFault) -> Fails<S> {
-        Fails {
+    pub fn new(inner: S, at: u64, fault: StoreFault) -> FailsAtAnyCall<S> {
+        FailsAtAnyCall {
             inner,
             fault,
             at,
@@ -60,7 +60,7 @@ impl<S: Records> Fails<S> {
     }
 }
 
-impl<S: Records> Records for Fails<S> {
+impl<S: Records> Records for FailsAtAnyCall<S> {
     ghost desk = { λ s. S.desk s.inner };
 
     ghost keeping = { λ s. S.keeping s.inner };

@@ -9,13 +9,13 @@ use std::alloc::Global;
 use std::{fs, io};
 
 /// A file in memory, with so much room and so many calls left.
-pub type File = Fuse<Room<Memory>>;
+pub type MemoryFile = Fuse<Room<Memory>>;
 
 /// The two files of a database.
-pub type Disks = Files<File>;
+pub type DatabaseFiles = Files<MemoryFile>;
 
 /// Two empty files.
-pub fn new_disks(alloc: Global) -> Disks {
+pub fn new_files(alloc: Global) -> DatabaseFiles {
     Files {
         log: Fuse::new(Room::new(Memory::new(alloc), usize::MAX), u64::MAX),
         db: Fuse::new(Room::new(Memory::new(alloc), usize::MAX), u64::MAX),
@@ -23,7 +23,7 @@ pub fn new_disks(alloc: Global) -> Disks {
 }
 
 // A file in memory with these bytes, which has so much room and passes so many calls on.
-fn file_within(alloc: Global, bytes: &[u8], room: usize, calls: u64) -> io::Result<File> {
+fn file_within(alloc: Global, bytes: &[u8], room: usize, calls: u64) -> io::Result<MemoryFile> {
     let mut file = Memory::new(alloc);
     file.write_at(0, bytes)?;
     file.sync()?;
@@ -31,44 +31,53 @@ fn file_within(alloc: Global, bytes: &[u8], room: usize, calls: u64) -> io::Resu
 }
 
 /// A file in memory with these bytes, which passes so many calls on.
-pub fn file_of(alloc: Global, bytes: &[u8], calls: u64) -> io::Result<File> {
+pub fn file_of(alloc: Global, bytes: &[u8], calls: u64) -> io::Result<MemoryFile> {
     file_within(alloc, bytes, usize::MAX, calls)
 }
 
 /// The bytes of a file.
-pub fn bytes_of(file: &File) -> &[u8] {
+pub fn bytes_of(file: &MemoryFile) -> &[u8] {
     file.inner().inner().bytes()
 }
 
 /// Files with these bytes, which pass all calls on.
-pub fn files_with(alloc: Global, log: &[u8], db: &[u8]) -> io::Result<Disks> {
+pub fn files_with(alloc: Global, log: &[u8], db: &[u8]) -> io::Result<DatabaseFiles> {
     let log = file_of(alloc, log, u64::MAX)?;
     let db = file_of(alloc, db, u64::MAX)?;
     Ok(Files { log, db })
 }
 
 /// A file of data, with an empty log beside it.
-pub fn disks_in(rt: &HostRuntime, name: &str) -> io::Result<Disks> {
+pub fn files_in(rt: &HostRuntime, name: &str) -> io::Result<DatabaseFiles> {
     let bytes = fs::read(rt, name)?;
     files_with(rt.alloc(), &[], &bytes)
 }
 
 /// Files with the bytes of these, which pass so many calls on: the log, and the other.
-pub fn copy_of(alloc: Global, disks: &Disks, log: u64, db: u64) -> io::Result<Disks> {
-    let log = file_of(alloc, bytes_of(&disks.log), log)?;
-    let db = file_of(alloc, bytes_of(&disks.db), db)?;
+pub fn copy_of(
+    alloc: Global,
+    files: &DatabaseFiles,
+    log: u64,
+    db: u64,
+) -> io::Result<DatabaseFiles> {
+    let log = file_of(alloc, bytes_of(&files.log), log)?;
+    let db = file_of(alloc, bytes_of(&files.db), db)?;
     Ok(Files { log, db })
 }
 
 /// Files with the bytes of these, of which the log has room for so many bytes more, or for all.
-pub fn with_room(alloc: Global, disks: &Disks, more: Option<usize>) -> io::Result<Disks> {
-    let held = bytes_of(&disks.log);
+pub fn with_room(
+    alloc: Global,
+    files: &DatabaseFiles,
+    more: Option<usize>,
+) -> io::Result<DatabaseFiles> {
+    let held = bytes_of(&files.log);
     let room = match more {
         Some(more) => held.len().saturating_add(more),
         None => usize::MAX,
     };
     let log = file_within(alloc, held, room, u64::MAX)?;
-    let db = file_of(alloc, bytes_of(&disks.db), u64::MAX)?;
+    let db = file_of(alloc, bytes_of(&files.db), u64::MAX)?;
     Ok(Files { log, db })
 }
 

@@ -1,6 +1,6 @@
 //! What a desk tells of a script.
 
-use crate::report::Report;
+use crate::example_text::ExampleText;
 use desk_run::{Records, ScriptEnd, ScriptFault};
 use std::alloc::{AllocError, Global};
 use test_doubles::{DeskTask, run_into};
@@ -14,7 +14,7 @@ const QUESTIONS: &str = "@show 1\n@show 2\n@show 3\n@show 4\n@show 5\n@show 6\n@
 
 /// What a desk is given to do.
 #[derive(Clone, Copy)]
-pub enum Task<'a> {
+pub enum ScriptTask<'a> {
     Nothing,
     /// A script, and then the questions.
     Script(&'a str),
@@ -25,8 +25,8 @@ pub enum Task<'a> {
 
 /// What a desk told of a script, and how the script goes where it runs part by part.
 #[derive(Drop)]
-pub struct Told {
-    pub report: Report,
+pub struct ScriptRun {
+    pub output: ExampleText,
     // Who sends the messages of the next part.
     sender: String,
     is_refused: bool,
@@ -48,17 +48,17 @@ fn script_of(alloc: Global, sender: &str, part: &str) -> Result<String, AllocErr
     format!(in alloc; "@from {sender}\n@{part}\n")
 }
 
-impl DeskTask<Told> for Task<'_> {
-    fn run_on<R: Records>(&self, alloc: Global, desk: &mut R, told: &mut Told) {
+impl DeskTask<ScriptRun> for ScriptTask<'_> {
+    fn run_on<R: Records>(&self, alloc: Global, desk: &mut R, told: &mut ScriptRun) {
         told.run_task(alloc, desk, *self);
     }
 }
 
-impl Told {
+impl ScriptRun {
     /// Nothing yet.
-    pub fn new(alloc: Global) -> Told {
-        Told {
-            report: Report::new(alloc),
+    pub fn new(alloc: Global) -> ScriptRun {
+        ScriptRun {
+            output: ExampleText::new(alloc),
             sender: String::new(alloc),
             is_refused: false,
             fault: None,
@@ -72,15 +72,15 @@ impl Told {
 
     // Runs a script, and tells what it writes and how it ends.
     fn run<R: Records>(&mut self, alloc: Global, desk: &mut R, script: &str) {
-        let end = run_into(alloc, desk, script, &mut self.report.text);
-        self.report.add(end_text(end, desk.faults()));
+        let end = run_into(alloc, desk, script, &mut self.output.text);
+        self.output.add(end_text(end, desk.faults()));
     }
 
     // Takes another sender.
     fn name(&mut self, sender: &str) {
         self.sender.clear();
         let named = self.sender.push_str(sender);
-        self.report.note(named);
+        self.output.note(named);
     }
 
     // Notes how a part ended, and who sends the next one.
@@ -100,23 +100,23 @@ impl Told {
         }
         match script_of(alloc, self.sender.as_str(), part) {
             Ok(script) => {
-                let end = run_into(alloc, desk, script.as_str(), &mut self.report.text);
+                let end = run_into(alloc, desk, script.as_str(), &mut self.output.text);
                 self.go_on(part, end);
             }
-            Err(error) => self.report.note(Err(error)),
+            Err(error) => self.output.note(Err(error)),
         }
     }
 
     // Has a desk do a task, and tells of it.
-    fn run_task<R: Records>(&mut self, alloc: Global, desk: &mut R, task: Task<'_>) {
+    fn run_task<R: Records>(&mut self, alloc: Global, desk: &mut R, task: ScriptTask<'_>) {
         match task {
-            Task::Nothing => {}
-            Task::Script(script) => {
+            ScriptTask::Nothing => {}
+            ScriptTask::Script(script) => {
                 self.run(alloc, desk, script);
                 self.run(alloc, desk, QUESTIONS);
             }
-            Task::Part(part) => self.run_part(alloc, desk, part),
-            Task::Questions => self.run(alloc, desk, QUESTIONS),
+            ScriptTask::Part(part) => self.run_part(alloc, desk, part),
+            ScriptTask::Questions => self.run(alloc, desk, QUESTIONS),
         }
     }
 
@@ -127,11 +127,11 @@ impl Told {
             None if self.is_refused => Ok(ScriptEnd::Refused),
             None => Ok(ScriptEnd::Accepted),
         };
-        self.report.add(end_text(end, 0));
+        self.output.add(end_text(end, 0));
     }
 
     /// Whether the other told the same.
-    pub fn is_like(&self, other: &Told) -> bool {
-        self.report.text == other.report.text
+    pub fn is_like(&self, other: &ScriptRun) -> bool {
+        self.output.text == other.output.text
     }
 }

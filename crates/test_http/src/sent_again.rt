@@ -3,7 +3,7 @@
 
 use crate::exchanges::{REPORT, serve};
 use base_faults::StoreFault;
-use std::alloc::{AllocError, Global};
+use std::alloc::Global;
 use store_contract::Records;
 use test_doubles::{DeskTask, in_memory_failing, in_tables_failing};
 
@@ -63,11 +63,6 @@ impl DeskTask<Vec<u8>> for Twice<'_> {
     }
 }
 
-// One answer, and then another.
-fn both(alloc: Global, first: &str, second: &str) -> Result<String, AllocError> {
-    format!(in alloc; "{first}{second}")
-}
-
 // Whether a message at whose line the store fails so is told so, and the same once more so, over
 // both desks.
 // The line is counted from 1; the three reports before it are changes, too.
@@ -85,7 +80,7 @@ fn are_told(
     let mut in_tables = Vec::new(alloc);
     in_memory_failing(alloc, call, fault, &task, &mut in_memory);
     in_tables_failing(alloc, call, fault, &task, &mut in_tables);
-    match both(alloc, first, second) {
+    match format!(in alloc; "{first}{second}") {
         Ok(answers) => {
             in_memory.as_slice() == answers.as_bytes() && in_tables.as_slice() == answers.as_bytes()
         }
@@ -93,22 +88,24 @@ fn are_told(
     }
 }
 
-#[test]
-fn a_fault_at_the_first_line_is_told_with_its_transcript(rt: HostRuntime) {
-    let alloc = rt.alloc();
-    let (device, full) = (StoreFault::Device, StoreFault::Full);
-    assert!(rt; are_told(alloc, 1, device, MESSAGE, DEVICE_AT_FIRST, TAKEN));
-    assert!(rt; are_told(alloc, 1, full, MESSAGE, FULL_AT_FIRST, TAKEN));
-    assert!(rt; are_told(alloc, 1, device, WITH_ID, DEVICE_AT_FIRST, TAKEN));
-    assert!(rt; are_told(alloc, 1, full, WITH_ID, FULL_AT_FIRST, TAKEN));
-}
+// At which line of which message the store fails, how, and how the message is answered, both times.
+const FAILURES: [(u64, StoreFault, &str, &str, &str); 8] = [
+    (1, StoreFault::Device, MESSAGE, DEVICE_AT_FIRST, TAKEN),
+    (1, StoreFault::Full, MESSAGE, FULL_AT_FIRST, TAKEN),
+    (1, StoreFault::Device, WITH_ID, DEVICE_AT_FIRST, TAKEN),
+    (1, StoreFault::Full, WITH_ID, FULL_AT_FIRST, TAKEN),
+    (3, StoreFault::Device, MESSAGE, DEVICE_AT_THIRD, LAST_TAKEN),
+    (3, StoreFault::Full, MESSAGE, FULL_AT_THIRD, LAST_TAKEN),
+    (3, StoreFault::Device, WITH_ID, DEVICE_AT_THIRD, TAKEN),
+    (3, StoreFault::Full, WITH_ID, FULL_AT_THIRD, TAKEN),
+];
 
 #[test]
-fn a_fault_at_a_later_line_is_told_with_the_lines_before_it(rt: HostRuntime) {
-    let alloc = rt.alloc();
-    let (device, full) = (StoreFault::Device, StoreFault::Full);
-    assert!(rt; are_told(alloc, 3, device, MESSAGE, DEVICE_AT_THIRD, LAST_TAKEN));
-    assert!(rt; are_told(alloc, 3, full, MESSAGE, FULL_AT_THIRD, LAST_TAKEN));
-    assert!(rt; are_told(alloc, 3, device, WITH_ID, DEVICE_AT_THIRD, TAKEN));
-    assert!(rt; are_told(alloc, 3, full, WITH_ID, FULL_AT_THIRD, TAKEN));
+fn a_fault_at_a_line_is_told_with_the_transcript_up_to_it(rt: HostRuntime) {
+    for (line, fault, request, first, second) in FAILURES.iter() {
+        assert!(rt;
+            are_told(rt.alloc(), *line, *fault, request, first, second),
+            "{line} {first}"
+        );
+    }
 }

@@ -1,6 +1,6 @@
 //! Files of which one stops after so many calls.
 
-use crate::disks::{Disks, File, copy_of};
+use crate::memory_files::{DatabaseFiles, MemoryFile, copy_of};
 use sqlite_disk::Disk;
 use sqlite_pager::Options;
 use std::alloc::Global;
@@ -16,25 +16,25 @@ const TIGHT: Options = Options {
 
 /// Which file stops, and how the files are used.
 #[derive(Clone, Copy)]
-pub struct Setting {
+pub struct StopSetting {
     pub is_log: bool,
     pub options: Options,
 }
 
 /// What a line asks for: `log` or `database`, with `tight` after it for little memory; nothing
 /// where it is another line.
-pub fn setting_of(line: &str) -> Option<Setting> {
+pub fn setting_of(line: &str) -> Option<StopSetting> {
     let (file, rest) = line.split_once(' ').unwrap_or((line, ""));
     let options = match rest {
         "tight" => TIGHT,
         _ => Options::new(1),
     };
     match file {
-        "log" => Some(Setting {
+        "log" => Some(StopSetting {
             is_log: true,
             options,
         }),
-        "database" => Some(Setting {
+        "database" => Some(StopSetting {
             is_log: false,
             options,
         }),
@@ -43,12 +43,17 @@ pub fn setting_of(line: &str) -> Option<Setting> {
 }
 
 // Whether a file passes a further call on.
-fn passes_on(file: &mut File) -> bool {
+fn passes_on(file: &mut MemoryFile) -> bool {
     file.may_be_used() && file.len().is_ok()
 }
 
 /// The files of a base, of which one stops after so many calls.
-pub fn stopping(alloc: Global, base: &Disks, is_log: bool, calls: u64) -> io::Result<Disks> {
+pub fn stopping(
+    alloc: Global,
+    base: &DatabaseFiles,
+    is_log: bool,
+    calls: u64,
+) -> io::Result<DatabaseFiles> {
     if is_log {
         copy_of(alloc, base, calls, u64::MAX)
     } else {
@@ -57,7 +62,7 @@ pub fn stopping(alloc: Global, base: &Disks, is_log: bool, calls: u64) -> io::Re
 }
 
 /// Whether the file that stops passes a further call on.
-pub fn goes_on(files: &mut Disks, is_log: bool) -> bool {
+pub fn goes_on(files: &mut DatabaseFiles, is_log: bool) -> bool {
     if is_log {
         passes_on(&mut files.log)
     } else {
