@@ -1,0 +1,101 @@
+"""Which version is based on which, from the table `nodes` of a desk's file.
+
+A version is written source/version here, as the desk writes it, and is called a node.
+"""
+
+import contextlib
+import pathlib
+import sqlite3
+
+from .desk_file import IN_USE
+from .faults import Fault
+
+SECONDS = 1
+# Sources of which a version is based on one of another source.
+SOURCES = "SELECT DISTINCT source, parent_source FROM nodes WHERE source <> parent_source"
+NODES = """SELECT source || '/' || version, parent_source || '/' || parent_version
+FROM nodes WHERE source = ?"""
+
+
+def source_of(node):
+    """The source of a node."""
+    return node.partition("/")[0]
+
+
+# The table of a file.
+
+
+@contextlib.contextmanager
+def opened(path):
+    """A connection that reads the file of a desk and can't change it."""
+    connection = None
+    try:
+        uri = f"{pathlib.Path(path).resolve().as_uri()}?mode=ro"
+        connection = sqlite3.connect(uri, uri=True, timeout=SECONDS)
+        yield connection
+    except sqlite3.Error as error:
+        if "locked" in str(error):
+            raise Fault(f"{path}: the store's file is {IN_USE}") from error
+        raise Fault(f"{path}: its table of branches can't be read: {error}") from error
+    finally:
+        if connection:
+            connection.close()
+
+
+def neighbours(pairs):
+    """What each source is paired with."""
+    near = {}
+    for one, other in pairs:
+        near.setdefault(one, []).append(other)
+        near.setdefault(other, []).append(one)
+    return near
+
+
+def joined_sources(pairs, sources):
+    """These sources, and all that branches join with them."""
+    near = neighbours(pairs)
+    found, waiting = set(sources), list(sources)
+    while waiting:
+        new = set(near.get(waiting.pop(), ())) - found
+        found |= new
+        waiting.extend(new)
+    return found
+
+
+def read_nodes(path, sources):
+    """What each node is based on, or None, of these sources and of all that are joined to them."""
+    with opened(path) as connection:
+        pairs = connection.execute(SOURCES).fetchall()
+        return {
+            node: parent for source in sorted(joined_sources(pairs, sources))
+            for node, parent in connection.execute(NODES, (source,))
+        }
+
+
+# Trees.
+
+
+def children_of(parents):
+    """The nodes that are based on each node; those based on none stand under None."""
+    children = {}
+    for node, parent in parents.items():
+        children.setdefault(parent, []).append(node)
+    return children
+
+
+def tree_from(children, root):
+    """All nodes of a tree, each after what it is based on."""
+    nodes = [root]
+    for node in nodes:
+        nodes.extend(children.get(node, ()))
+    return nodes
+
+
+def wanted_trees(parents, package, marks):
+    """The trees that have a version of the package, or a marked one, each as its nodes."""
+    children, marks = children_of(parents), set(marks)
+    trees = [tree_from(children, root) for root in children.get(None, ())]
+    return [
+        tree for tree in trees
+        if any(source_of(node) == package or node in marks for node in tree)
+    ]
