@@ -13,47 +13,65 @@ Standard error says what is left out, with its file and line:
 Equal versions that are written differently, such as 1.0 and 1.0-0, are two versions.
 
 The exit status is 0, even if entries are left out; 1 if a changelog can't be read or none of its
-entries counts, and the others are still written; 2 for a wrong command line.
+entries counts, and the others are still written; 2 for a wrong command line; 3 if output can't be
+written.
 """
-import argparse
+
+import json
 import sys
 
 from . import changelogs
+from .command import DONE, REFUSED, make_parser, run, tell, write_lines
+from .terminal import json_text, shown
+
+NAME = "branches"
 
 
-def write_branches(path, output):
-    """Writes the branches of one changelog, and tells what is left out of them."""
+def read_branches(path: str) -> list[str]:
+    """The branches of one changelog; it tells what is left out of them."""
     taken, left_out = changelogs.select(changelogs.read_changelog(path))
     for left in left_out:
-        print(f"{path}:{left.line}: {left.reason}", file=sys.stderr)
+        sys.stderr.write(f"{shown(path)}:{left.line}: {left.reason}\n")
     if not taken:
         raise changelogs.ChangelogError(f"{path}: every entry is left out")
-    for line in changelogs.branch_lines([entry.node for entry in taken]):
-        print(line, file=output)
+    return changelogs.branch_lines([entry.node for entry in taken])
 
 
-def write_all(paths, output):
+def value_of(path: str, lines: list[str]) -> dict[str, object]:
+    """The branches of a changelog, as JSON has them."""
+    return {"changelog": path, "branches": [line.split()[1:] for line in lines]}
+
+
+def write_all(paths: list[str], is_json: bool) -> int:
     """Writes the branches of all changelogs, and answers the exit status."""
-    status = 0
+    status, values = DONE, []
     for path in paths:
         try:
-            write_branches(path, output)
+            lines = read_branches(path)
         except changelogs.ChangelogError as error:
-            print(f"branches: {error}", file=sys.stderr)
-            status = 1
+            tell(NAME, error)
+            status = REFUSED
+            continue
+        if is_json:
+            values.append(value_of(path, lines))
+        else:
+            write_lines(lines)
+    if is_json:
+        write_lines([json_text(json.dumps(values, ensure_ascii=False, indent=1))])
     return status
 
 
-def main(words):
-    parser = argparse.ArgumentParser(
-        prog="branches", description=__doc__, formatter_class=argparse.RawDescriptionHelpFormatter)
+def work(words: list[str]) -> int:
+    """Writes the branches of the changelogs that are named."""
+    parser = make_parser(NAME, __doc__, "branches [--json] CHANGELOG ..")
+    parser.add_argument("--json", action="store_true", help="write JSON instead of lines")
     parser.add_argument(
         "changelogs", nargs="+", metavar="CHANGELOG",
         help="a changelog, plain or gzipped; - is standard input")
     options = parser.parse_args(words)
-    try:
-        with open(1, "w", encoding="ascii", closefd=False) as output:
-            return write_all(options.changelogs, output)
-    except OSError as error:
-        print(f"branches: standard output can't be written: {error.strerror}", file=sys.stderr)
-        return 1
+    return write_all(options.changelogs, options.json)
+
+
+def main(words: list[str]) -> int:
+    """Writes the branches, and answers the exit status."""
+    return run(NAME, work, words)

@@ -36,22 +36,22 @@ class Entry:
 
     source: str
     version: str
-    distributions: list
+    distributions: list[str]
     line: int
-    changes: list = field(default_factory=list)
+    changes: list[str] = field(default_factory=list)
 
     @property
-    def node(self):
+    def node(self) -> str:
         """The version as a desk is told it."""
         return f"{self.source}/{self.version}"
 
-    def is_released(self):
+    def is_released(self) -> bool:
         """Whether it was made for an upload."""
         return "UNRELEASED" not in self.distributions
 
-    def closes(self):
+    def closes(self) -> list[int]:
         """The numbers of the bugs that it closes, each once, in their order."""
-        numbers = []
+        numbers: list[int] = []
         for words in CLOSES.findall("\n".join(self.changes)):
             numbers += [int(digits) for digits in re.findall(r"[0-9]+", words)]
         return list(dict.fromkeys(numbers))
@@ -69,17 +69,17 @@ class LeftOut:
 class Changelog:
     """The entries of a changelog, newest first, and its unindented lines that are no heading."""
 
-    entries: list
-    no_headings: list
+    entries: list[Entry]
+    no_headings: list[LeftOut]
 
 
-def read_bytes(path):
+def read_bytes(path: str) -> bytes:
     """All bytes of a file, or of standard input where the path is `-`."""
     with open(0 if path == "-" else path, "rb", closefd=path != "-") as file:
         return file.read()
 
 
-def read_text(path):
+def read_text(path: str) -> str:
     """The text of a changelog, unpacked where it is gzip's; bytes that are no UTF-8 are kept."""
     try:
         content = read_bytes(path)
@@ -92,16 +92,16 @@ def read_text(path):
     return content.decode("utf-8", "surrogateescape")
 
 
-def shown(text):
+def shown(text: str) -> str:
     """The text as one short line that any terminal can show."""
     short = text if len(text) <= SHOWN_LENGTH else text[:SHOWN_LENGTH] + ".."
     return ascii(short)[1:-1]
 
 
-def parse(text):
+def parse(text: str) -> Changelog:
     """The changelog of a text: every heading in it counts, wherever it stands."""
     changelog = Changelog([], [])
-    entry = None
+    entry: Entry | None = None
     for number, line in enumerate(text.split("\n"), 1):
         heading = HEADING.match(line)
         if heading:
@@ -120,7 +120,7 @@ def parse(text):
     return changelog
 
 
-def read_changelog(path):
+def read_changelog(path: str) -> Changelog:
     """The changelog in a file."""
     changelog = parse(read_text(path))
     if not changelog.entries:
@@ -128,7 +128,7 @@ def read_changelog(path):
     return changelog
 
 
-def name_fault(name):
+def name_fault(name: str) -> str | None:
     """What is wrong with a source package's name, or None."""
     if len(name) > NAME_LENGTH:
         return f"the source's name has more than {NAME_LENGTH} bytes"
@@ -137,18 +137,14 @@ def name_fault(name):
     return None
 
 
-def version_parts(version):
+def version_parts(version: str) -> tuple[str | None, str, str | None]:
     """The epoch, the upstream part and the revision of a version's text, or None for each."""
-    epoch, colon, rest = version.partition(":")
-    if not colon:
-        epoch, rest = None, version
+    epoch, _, rest = version.partition(":") if ":" in version else (None, "", version)
     upstream, hyphen, revision = rest.rpartition("-")
-    if not hyphen:
-        upstream, revision = rest, None
-    return epoch, upstream, revision
+    return epoch, upstream if hyphen else rest, revision if hyphen else None
 
 
-def version_fault(version):
+def version_fault(version: str) -> str | None:
     """What is wrong with a version by Policy 5.6.12, or None; colons may follow an epoch."""
     epoch, upstream, revision = version_parts(version)
     if len(version) > VERSION_LENGTH:
@@ -162,7 +158,7 @@ def version_fault(version):
     return None
 
 
-def entry_fault(entry, oldest, is_above_uploads):
+def entry_fault(entry: Entry, oldest: Entry, is_above_uploads: bool) -> str | None:
     """Why a desk is not told of an entry, or None."""
     if oldest is not entry:
         return f"it stands again in line {oldest.line}, and is told from there"
@@ -171,7 +167,7 @@ def entry_fault(entry, oldest, is_above_uploads):
     return name_fault(entry.source) or version_fault(entry.version)
 
 
-def select(changelog):
+def select(changelog: Changelog) -> tuple[list[Entry], list[LeftOut]]:
     """The entries that a desk is told of, newest first, and what is left out, by its line.
 
     Where a version stands twice, its oldest entry counts: there it began.
@@ -191,7 +187,7 @@ def select(changelog):
     return taken, sorted(left_out, key=lambda left: left.line)
 
 
-def branch_lines(nodes):
+def branch_lines(nodes: list[str]) -> list[str]:
     """The `@branch` lines of nodes, newest first; each begins with the last node of that above."""
     starts = range(0, max(len(nodes) - 1, 1), BRANCH_LENGTH - 1)
     return ["@branch " + " ".join(nodes[start:start + BRANCH_LENGTH]) for start in starts]

@@ -8,6 +8,7 @@ import pathlib
 import re
 import subprocess
 import tempfile
+from collections.abc import Callable, Iterator
 
 from .answers import next_line
 from .desk_file import asked, why_ended
@@ -18,14 +19,14 @@ BRANCH = re.compile(r"@branch(?=[ \t\r\n]|$)")
 TAKEN = "OK"
 
 
-def branch_lines(path):
+def branch_lines(path: str) -> Iterator[tuple[int, str]]:
     """The `@branch` lines of a script, each with its number."""
     for number, line in numbered_lines(path):
         if BRANCH.match(line):
             yield number, line.removesuffix("\n")
 
 
-def make_desk(program, store):
+def make_desk(program: str, store: str) -> None:
     """Makes the file of a new desk."""
     with tempfile.TemporaryFile() as errors:
         try:
@@ -37,7 +38,7 @@ def make_desk(program, store):
             raise Fault(why_ended(program, ran.returncode, errors))
 
 
-def send_branches(program, store, path, tell):
+def send_branches(program: str, store: str, path: str, tell: Callable[[str], None]) -> None:
     """Sends the `@branch` lines of a script to a desk, and tells which are left out."""
     lines = list(branch_lines(path))
     answers = asked(
@@ -53,7 +54,7 @@ def send_branches(program, store, path, tell):
 class HandedIn:
     """Branches that are handed in: a desk of their own, in a folder that is removed at the end."""
 
-    def __init__(self, program, path, tell):
+    def __init__(self, program: str, path: str, tell: Callable[[str], None]) -> None:
         self.folder = tempfile.TemporaryDirectory(prefix="graph-")
         self.store = str(pathlib.Path(self.folder.name, "branches.db"))
         try:
@@ -63,6 +64,6 @@ class HandedIn:
             self.close()
             raise
 
-    def close(self):
+    def close(self) -> None:
         """Removes the folder."""
         self.folder.cleanup()

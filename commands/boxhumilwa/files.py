@@ -4,11 +4,12 @@ import contextlib
 import os
 import stat
 import tempfile
+from collections.abc import Iterable
 
 from .faults import Fault
 
 
-def test_path(path, what):
+def test_path(path: str, what: str) -> None:
     """Tests early that a file can take the place of what is there; `what` names it."""
     if os.path.exists(path) and not stat.S_ISREG(os.stat(path).st_mode):
         raise Fault(f"{path}: {what} can't be written: it is no regular file")
@@ -17,7 +18,7 @@ def test_path(path, what):
         raise Fault(f"{path}: {what} can't be written: its folder is not there or not writable")
 
 
-def write_lines(path, lines, what):
+def write_lines(path: str, lines: Iterable[str], what: str) -> None:
     """Writes the lines of a file, which is there whole or not at all."""
     place = os.path.realpath(path)
     written = None
@@ -36,7 +37,7 @@ def write_lines(path, lines, what):
                 os.unlink(written)
 
 
-def umask():
+def umask() -> int:
     """The rights that new files of this process don't have."""
     mask = os.umask(0)
     os.umask(mask)

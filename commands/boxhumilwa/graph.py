@@ -7,7 +7,8 @@ SUITE=PATH names a suite and its packages, as for `release`; suites are shown be
 Successive versions with nothing to show are folded, with their count.
 An archived bug is in no list, so only its marks are drawn.
 
-The desk is in a file that no other process has open, or served on a port of this machine.
+The desk is in a file that no other process has open, or served on a port of this machine or on a
+Unix socket.
 The file has the branches too; a server doesn't tell them, so it needs --branches=FILE, a script
 with the `@branch` lines, plain or compressed by gzip or xz; `-` is standard input.
 
@@ -17,58 +18,60 @@ desk, its branches or an index can't be read, or output can't be written.
 
 import argparse
 import contextlib
-import os
+import json
 import re
-import signal
-import sys
+from collections.abc import Iterable, Iterator
 
 from . import picture_svg, picture_text
-from .bug_pages import MISSING, listed, open_desk, page_of, page_text
+from .bug_pages import MISSING, Page, listed, page_of, page_text
+from .command import (
+    DONE,
+    REFUSED,
+    Desk,
+    Parser,
+    add_desk,
+    add_program,
+    make_parser,
+    named_path,
+    open_desk,
+    run,
+    tell,
+    write_lines,
+)
 from .desk_copy import HandedIn
-from .desk_file import IN_USE, PROGRAM
-from .desk_served import is_port
 from .faults import Fault
 from .indexes import candidates
 from .nodes import children_of, read_nodes, source_of, wanted_trees
-from .picture_rows import Version, make_picture
-from .terminal import safe, shown
+from .picture_rows import Picture, Version, make_picture
+from .terminal import Progress, json_text, safe, shown
 from .versions import highest_versions, order_of
 
-MISSING_STATUS, FAULT_STATUS = 1, 3
+NAME = "graph"
 STANDARD = "-"
-HINT = "a server may have it open: ask that one by --port=N, with its branches by --branches=FILE"
 
 
 # The words of the command line.
 
 
-def port_number(word):
-    """The port of a word."""
-    if not is_port(word):
-        raise argparse.ArgumentTypeError("a port is a number from 1 to 65,535")
-    return int(word)
-
-
-def bug_or_suite(word):
+def bug_or_suite(word: str) -> int | tuple[str, str]:
     """The number of a bug, or the name of a suite and the path of its index."""
     number = re.fullmatch("#?([0-9]{1,9})", word)
     if number and int(number[1]):
         return int(number[1])
-    name, sign, path = word.partition("=")
-    if not (sign and path and name.isprintable()) or name != name.strip() or not name:
-        raise argparse.ArgumentTypeError(f"{word!r} is neither a bug's number nor SUITE=PATH")
-    return name, path
+    try:
+        return named_path(word)
+    except argparse.ArgumentTypeError:
+        told = f"{word!r} is neither a bug's number nor SUITE=PATH"
+        raise argparse.ArgumentTypeError(told) from None
 
 
-def make_parser():
+def graph_parser() -> Parser:
     """What the command line may be."""
-    parser = argparse.ArgumentParser(
-        prog="graph", description=__doc__, allow_abbrev=False,
-        usage="graph (--store=FILE | --port=N --branches=FILE) [options] [SUITE=PATH ..] N",
-        formatter_class=argparse.RawDescriptionHelpFormatter)
-    desk = parser.add_mutually_exclusive_group(required=True)
-    desk.add_argument("--store", metavar="FILE", help="the file of the desk")
-    desk.add_argument("--port", type=port_number, metavar="N", help="the port of the desk's server")
+    parser = make_parser(
+        NAME, __doc__,
+        "graph (--store=FILE | (--port=N | --socket=PATH) --branches=FILE) [options] "
+        "[SUITE=PATH ..] N")
+    add_desk(parser)
     parser.add_argument(
         "--branches", metavar="FILE", help="a script with the @branch lines of the served desk")
     kind = parser.add_mutually_exclusive_group()
@@ -77,15 +80,15 @@ def make_parser():
         "--svg", nargs="?", metavar="FILE",
         help="draw into this file, bug-N.svg if left out")
     kind.add_argument("--dot", action="store_true", help="write input for dot(1)")
-    parser.add_argument(
-        "--program", default=str(PROGRAM), metavar="FILE", help="the program of the desk")
+    kind.add_argument("--json", action="store_true", help="write JSON instead of a picture")
+    add_program(parser)
     parser.add_argument("words", nargs="+", type=bug_or_suite, metavar="SUITE=PATH .. N")
     return parser
 
 
-def read_options(words):
+def read_options(words: list[str]) -> argparse.Namespace:
     """The options, of which each is good by itself and with the others."""
-    parser = make_parser()
+    parser = graph_parser()
     options = parser.parse_intermixed_args(
         ["--svg=" if word == "--svg" else word for word in words])
     numbers = [word for word in options.words if isinstance(word, int)]
@@ -95,10 +98,10 @@ def read_options(words):
     options.number = numbers[0]
     if options.svg == "":
         options.svg = f"bug-{options.number}.svg"
-    if options.port and not options.branches:
-        parser.error("--port needs --branches: a server tells nobody its branches")
+    if options.store is None and not options.branches:
+        parser.error("a server needs --branches: it tells nobody its branches")
     if options.store and options.branches:
-        parser.error("--branches goes with --port: the file of a desk has its branches")
+        parser.error("--branches goes with a server: the file of a desk has its branches")
     if len({name for name, _ in options.suites}) != len(options.suites):
         parser.error("two suites have one name")
     if [options.branches, *(path for _, path in options.suites)].count(STANDARD) > 1:
@@ -109,36 +112,35 @@ def read_options(words):
 # What is drawn.
 
 
-def tell(text):
-    """Tells something on standard error."""
-    print(f"graph: {text}", file=sys.stderr)
-
-
-def suite_versions(program, path, sources):
+def suite_versions(program: str, path: str, sources: Iterable[str]) -> dict[str, str]:
     """The version of each of these sources in a suite, the highest where there are several."""
-    refused = []
+    refused: list[tuple[str, str, int, str]] = []
     found = candidates(path, set(sources), lambda entry, reason: refused.append((*entry, reason)))
     highest = highest_versions(
         program, found, lambda source, version, reason: refused.append(
             (source, version, found[source][version], reason)))
     for source, version, line, reason in sorted(refused, key=lambda entry: entry[2]):
         words = shown(f"{source} {version}"[:100])
-        tell(f"{path}:{line}: {words} is left out: {reason}")
+        tell(NAME, f"{path}:{line}: {words} is left out: {reason}")
     return highest
 
 
-def read_suites(options, package, sources):
+def read_suites(
+    options: argparse.Namespace, package: str, sources: set[str],
+) -> tuple[dict[str, list[str]], list[str]]:
     """The suites that have each node, and those that have no version of the package."""
     suites = {
         name: suite_versions(options.program, path, sources) for name, path in options.suites}
     pairs = (("/".join(pair), name) for name in suites for pair in suites[name].items())
-    having = {}
+    having: dict[str, list[str]] = {}
     for node, name in pairs:
         having.setdefault(node, []).append(name)
     return having, [name for name, versions in suites.items() if package not in versions]
 
 
-def notes_of(page, trees, nodes, missing):
+def notes_of(
+    page: Page, trees: list[list[str]], nodes: list[str], missing: list[str],
+) -> Iterator[str]:
     """What is said of a picture that lacks something."""
     of_package = any(source_of(node) == page.package for tree in trees for node in tree)
     if not nodes:
@@ -149,7 +151,16 @@ def notes_of(page, trees, nodes, missing):
         yield f"{safe(name)} has no {page.package}."
 
 
-def drawn(options, desk, store, page):
+def listed_states(
+    desk: Desk, page: Page, nodes: list[str],
+) -> tuple[dict[str, bool], str | None]:
+    """Whether each node lists the bug, and its page then; an archived one is in no list."""
+    return ({}, None) if page.is_archived else listed(desk, page, nodes, Progress(NAME))
+
+
+def drawn(
+    options: argparse.Namespace, desk: Desk, store: str, page: Page,
+) -> tuple[Picture, str | None]:
     """The picture of a bug, and the text of its page after the lists were asked for."""
     parents = read_nodes(store, {page.package, *map(source_of, page.marks())})
     trees = wanted_trees(parents, page.package, page.marks())
@@ -158,7 +169,7 @@ def drawn(options, desk, store, page):
     having, missing = read_suites(options, page.package, sources)
     alone = [*page.marks(), *(node for node in having if source_of(node) == page.package)]
     nodes = list(dict.fromkeys([*placed, *alone]))
-    states, text = ({}, None) if page.is_archived else listed(desk, page, nodes)
+    states, text = listed_states(desk, page, nodes)
     ends = set(placed) - set(children_of(parents))
     versions = {
         node: Version(
@@ -172,7 +183,7 @@ def drawn(options, desk, store, page):
     return make_picture(page, parents, trees, versions, order, notes), text
 
 
-def gather(options, desk):
+def gather(options: argparse.Namespace, desk: Desk) -> tuple[Picture | None, str]:
     """The picture of the bug, or the desk's words where there is none."""
     before = page_text(desk, options.number)
     if before.startswith(MISSING):
@@ -181,57 +192,63 @@ def gather(options, desk):
     with contextlib.ExitStack() as stack:
         store = options.store
         if options.branches:
-            handed_in = HandedIn(options.program, options.branches, tell)
+            handed_in = HandedIn(
+                options.program, options.branches, lambda told: tell(NAME, told))
             store = stack.enter_context(contextlib.closing(handed_in)).store
         picture, after = drawn(options, desk, store, page)
     if after not in (None, before):
         raise Fault(f"bug {options.number} was changed meanwhile: ask again")
-    return picture, None
+    return picture, ""
 
 
 # Pictures.
 
 
-def write(options, picture):
+def version_value(version: Version) -> dict[str, object]:
+    """A version, as JSON has it."""
+    return {
+        "version": version.node, "listed": version.is_listed, "found": version.is_found,
+        "fixed": version.is_fixed, "head": version.is_head, "suites": list(version.suites)}
+
+
+def picture_value(picture: Picture) -> dict[str, object]:
+    """A picture, as JSON has it: each version with what it is based on."""
+    page = picture.page
+    return {
+        "bug": page.number, "title": page.title, "package": page.package,
+        "severity": page.severity, "state": page.state, "archived": page.is_archived,
+        "merged": list(page.merged), "notes": picture.notes,
+        "versions": [
+            version_value(version) | {"based_on": picture.parents.get(version.node)}
+            for version in picture.versions()],
+    }
+
+
+def write(options: argparse.Namespace, picture: Picture) -> None:
     """Writes the picture as the options ask."""
     if options.svg:
         picture_svg.write_picture(options.svg, picture_svg.svg_lines(picture))
-        lines = [options.svg]
+        write_lines([safe(options.svg)])
+    elif options.json:
+        value = picture_value(picture)
+        write_lines([json_text(json.dumps(value, ensure_ascii=False, indent=1))])
     else:
-        lines = picture_text.dot_lines(picture) if options.dot else picture_text.text_lines(picture)
-    with open(1, "w", encoding="utf-8", closefd=False) as output:
-        output.writelines(f"{line}\n" for line in lines)
+        write_lines(
+            picture_text.dot_lines(picture) if options.dot else picture_text.text_lines(picture))
 
 
-def draw(options):
+def draw(options: argparse.Namespace) -> int:
     """Draws the bug, and answers the exit status."""
     if options.svg:
         picture_svg.test_path(options.svg)
     picture, refusal = gather(options, open_desk(options))
-    if refusal:
-        tell(refusal)
-        return MISSING_STATUS
+    if picture is None:
+        tell(NAME, refusal)
+        return REFUSED
     write(options, picture)
-    return 0
+    return DONE
 
 
-def main(words):
+def main(words: list[str]) -> int:
     """Draws, and answers the exit status."""
-    signal.signal(signal.SIGTERM, lambda *_: sys.exit(128 + signal.SIGTERM))
-    options = read_options(words)
-    try:
-        return draw(options)
-    except Fault as fault:
-        told = str(fault)
-        tell(f"{told.partition(chr(10))[0]}\ngraph: {HINT}" if IN_USE in told else told)
-    except MemoryError:
-        tell("out of memory")
-    except BrokenPipeError:
-        os.dup2(os.open(os.devnull, os.O_WRONLY), 1)
-        tell("standard output can't be written: nobody reads it")
-    except OSError as error:
-        tell(f"standard output can't be written: {error.strerror}")
-    except KeyboardInterrupt:
-        tell("interrupted")
-        return 128 + signal.SIGINT
-    return FAULT_STATUS
+    return run(NAME, lambda words: draw(read_options(words)), words)

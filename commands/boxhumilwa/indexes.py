@@ -5,15 +5,20 @@ It may be packed by gzip or xz, which its first byte tells, and is read line by 
 What a source or a version may be is left to the desk: here they are words.
 """
 
+import contextlib
 import gzip
 import io
 import itertools
 import lzma
 import zlib
-from typing import NamedTuple
+from collections.abc import Callable, Iterator
+from typing import NamedTuple, cast
 
 from .faults import Fault
 
+# Lines with their numbers, and the fields of a paragraph.
+Lines = Iterator[tuple[int, str]]
+Fields = dict[str, str]
 MOST_PACKAGES = 250_000
 MOST_VERSIONS = 1_000
 LONGEST_LINE = 1 << 20
@@ -35,21 +40,25 @@ class Entry(NamedTuple):
 # Lines.
 
 
-def open_index(path):
+@contextlib.contextmanager
+def opened_index(path: str) -> Iterator[io.BufferedIOBase]:
     """The bytes of an index, unpacked."""
-    file = open(0 if path == "-" else path, "rb", closefd=path != "-")
-    first = file.peek(1)[:1]
-    if first == GZIP:
-        return io.BufferedReader(gzip.GzipFile(fileobj=file))
-    if first == XZ:
-        return io.BufferedReader(lzma.LZMAFile(file))
-    return file
+    with open(0 if path == "-" else path, "rb", closefd=path != "-") as file:
+        first = file.peek(1)[:1]
+        if first == GZIP:
+            with gzip.GzipFile(fileobj=file) as unpacked:
+                yield io.BufferedReader(cast(io.RawIOBase, unpacked))
+        elif first == XZ:
+            with lzma.LZMAFile(file) as unpacked_xz:
+                yield io.BufferedReader(cast(io.RawIOBase, unpacked_xz))
+        else:
+            yield file
 
 
-def numbered_lines(path):
+def numbered_lines(path: str) -> Lines:
     """The lines of an index, each with its number and with its line feed."""
     try:
-        with open_index(path) as file:
+        with opened_index(path) as file:
             for number in itertools.count(1):
                 line = file.readline(LONGEST_LINE + 1)
                 if not line:
@@ -65,7 +74,7 @@ def numbered_lines(path):
         raise Fault(f"{path}: it can't be read: {error.strerror or error}") from error
 
 
-def decoded(path, number, line):
+def decoded(path: str, number: int, line: bytes) -> str:
     """The text of a line."""
     try:
         return line.decode()
@@ -76,14 +85,15 @@ def decoded(path, number, line):
 # Paragraphs.
 
 
-def is_paragraphs(line):
+def is_paragraphs(line: str) -> bool:
     """Whether an index that begins with this line has paragraphs of fields."""
     return ":" in line.split(maxsplit=1)[0]
 
 
-def paragraphs(path, lines):
+def paragraphs(path: str, lines: Lines) -> Iterator[tuple[int, Fields]]:
     """The paragraphs of an index: the number of the first line, and the fields that are read."""
-    start, fields = 0, {}
+    start = 0
+    fields: Fields = {}
     for number, line in lines:
         if not line.endswith("\n"):
             raise Fault(f"{path}:{number}: it is cut: its last line has no end")
@@ -98,7 +108,7 @@ def paragraphs(path, lines):
         yield start, fields
 
 
-def read_field(path, number, line, fields):
+def read_field(path: str, number: int, line: str, fields: Fields) -> None:
     """Puts the field of a line to the others of its paragraph."""
     name, colon, value = line.partition(":")
     name = name.lower()
@@ -110,7 +120,7 @@ def read_field(path, number, line, fields):
         fields[name] = value.strip(" \t\r\n")
 
 
-def is_left_out(fields):
+def is_left_out(fields: Fields) -> bool:
     """Whether a paragraph is of no package of the suite.
 
     Such are packages of dpkg that are not installed, and sources that are kept for others alone.
@@ -119,7 +129,7 @@ def is_left_out(fields):
     return state in NOT_INSTALLED or fields.get("extra-source-only") == "yes"
 
 
-def paragraph_entry(path, start, fields):
+def paragraph_entry(path: str, start: int, fields: Fields) -> Entry:
     """The source and the version of a paragraph."""
     name, version = fields.get("package"), fields.get("version")
     if not name or not version:
@@ -130,7 +140,7 @@ def paragraph_entry(path, start, fields):
     return Entry(source or name, version, start)
 
 
-def paragraph_entries(path, lines):
+def paragraph_entries(path: str, lines: Lines) -> Iterator[Entry]:
     """The entries of an index that has paragraphs."""
     for start, fields in paragraphs(path, lines):
         if not is_left_out(fields):
@@ -140,20 +150,20 @@ def paragraph_entries(path, lines):
 # Lines of a source and a version.
 
 
-def line_entries(path, lines):
+def line_entries(path: str, lines: Lines) -> Iterator[Entry]:
     """The entries of an index that has a source and a version on each line."""
     for number, line in lines:
         words = line.split()
         if words and not line.startswith("#"):
             if len(words) != 2:
                 raise Fault(f"{path}:{number}: neither a source and a version, nor a field")
-            yield Entry(*words, number)
+            yield Entry(words[0], words[1], number)
 
 
 # Suites.
 
 
-def entries(path):
+def entries(path: str) -> Iterator[Entry]:
     """All entries of an index, as they stand."""
     lines = numbered_lines(path)
     for number, line in lines:
@@ -162,13 +172,16 @@ def entries(path):
             yield from read(path, itertools.chain([(number, line)], lines))
 
 
-def candidates(path, packages, refuse):
+def candidates(
+    path: str, packages: set[str], refuse: Callable[[Entry, str], None],
+) -> dict[str, dict[str, int]]:
     """The versions of each source of an index, with their lines, as {source: {version: line}}.
 
     Where packages are named, only those count.
     Words that are too long for a question are handed on, and left out.
     """
-    found, count, is_empty = {}, 0, True
+    found: dict[str, dict[str, int]] = {}
+    count, is_empty = 0, True
     for entry in entries(path):
         is_empty = False
         if packages and entry.source not in packages:

@@ -6,10 +6,14 @@ A version is written source/version here, as the desk writes it, and is called a
 import contextlib
 import pathlib
 import sqlite3
+from collections.abc import Iterable, Iterator
 
 from .desk_file import IN_USE
 from .faults import Fault
 
+# What each node is based on, and the nodes that are based on each; of none where it is None.
+Parents = dict[str, str | None]
+Children = dict[str | None, list[str]]
 SECONDS = 1
 # Sources of which a version is based on one of another source.
 SOURCES = "SELECT DISTINCT source, parent_source FROM nodes WHERE source <> parent_source"
@@ -17,7 +21,7 @@ NODES = """SELECT source || '/' || version, parent_source || '/' || parent_versi
 FROM nodes WHERE source = ?"""
 
 
-def source_of(node):
+def source_of(node: str) -> str:
     """The source of a node."""
     return node.partition("/")[0]
 
@@ -26,7 +30,7 @@ def source_of(node):
 
 
 @contextlib.contextmanager
-def opened(path):
+def opened(path: str) -> Iterator[sqlite3.Connection]:
     """A connection that reads the file of a desk and can't change it."""
     connection = None
     try:
@@ -42,16 +46,16 @@ def opened(path):
             connection.close()
 
 
-def neighbours(pairs):
+def neighbours(pairs: Iterable[tuple[str, str]]) -> dict[str, list[str]]:
     """What each source is paired with."""
-    near = {}
+    near: dict[str, list[str]] = {}
     for one, other in pairs:
         near.setdefault(one, []).append(other)
         near.setdefault(other, []).append(one)
     return near
 
 
-def joined_sources(pairs, sources):
+def joined_sources(pairs: Iterable[tuple[str, str]], sources: Iterable[str]) -> set[str]:
     """These sources, and all that branches join with them."""
     near = neighbours(pairs)
     found, waiting = set(sources), list(sources)
@@ -62,7 +66,7 @@ def joined_sources(pairs, sources):
     return found
 
 
-def read_nodes(path, sources):
+def read_nodes(path: str, sources: Iterable[str]) -> Parents:
     """What each node is based on, or None, of these sources and of all that are joined to them."""
     with opened(path) as connection:
         pairs = connection.execute(SOURCES).fetchall()
@@ -75,15 +79,15 @@ def read_nodes(path, sources):
 # Trees.
 
 
-def children_of(parents):
+def children_of(parents: Parents) -> Children:
     """The nodes that are based on each node; those based on none stand under None."""
-    children = {}
+    children: Children = {}
     for node, parent in parents.items():
         children.setdefault(parent, []).append(node)
     return children
 
 
-def tree_from(children, root):
+def tree_from(children: Children, root: str) -> list[str]:
     """All nodes of a tree, each after what it is based on."""
     nodes = [root]
     for node in nodes:
@@ -91,11 +95,11 @@ def tree_from(children, root):
     return nodes
 
 
-def wanted_trees(parents, package, marks):
+def wanted_trees(parents: Parents, package: str, marks: Iterable[str]) -> list[list[str]]:
     """The trees that have a version of the package, or a marked one, each as its nodes."""
-    children, marks = children_of(parents), set(marks)
+    children, marked = children_of(parents), set(marks)
     trees = [tree_from(children, root) for root in children.get(None, ())]
     return [
         tree for tree in trees
-        if any(source_of(node) == package or node in marks for node in tree)
+        if any(source_of(node) == package or node in marked for node in tree)
     ]

@@ -7,8 +7,11 @@ The picture is written beside its file and then takes its place, so that none is
 
 import html
 import itertools
+from collections.abc import Iterable, Iterator
+from typing import Any
 
 from . import files
+from .picture_rows import Picture, Row
 from .picture_text import (
     ALONE,
     WIDTH,
@@ -41,7 +44,7 @@ text { font: 13px "DejaVu Sans Mono", "Liberation Mono", Menlo, Consolas, monosp
 """
 
 
-def text_at(x, y, words, kind=None):
+def text_at(x: int, y: int, words: str, kind: str | None = None) -> str:
     """A text at a place."""
     told = f' class="{kind}"' if kind else ""
     return f'<text x="{x}" y="{y}"{told}>{html.escape(words)}</text>'
@@ -50,7 +53,10 @@ def text_at(x, y, words, kind=None):
 # Signs.
 
 
-def sign(x, y, state, is_folded=False, is_found=False, is_fixed=False):
+def sign(
+    x: int, y: int, state: str, is_folded: bool = False, is_found: bool = False,
+    is_fixed: bool = False,
+) -> Iterator[str]:
     """The sign of a version, or of several, with the outlines of its marks."""
     if is_folded:
         yield (f'<rect class="{state}" x="{x - HALF_LENGTH}" y="{y - RADIUS}" '
@@ -64,12 +70,13 @@ def sign(x, y, state, is_folded=False, is_found=False, is_fixed=False):
                f'width="{2 * HALF_SQUARE}" height="{2 * HALF_SQUARE}"/>')
 
 
-def legend(picture, y):
+def legend(picture: Picture, y: int) -> Iterator[str]:
     """What the signs mean, in a line."""
-    states = [(None, "not asked")] if picture.page.is_archived else [
+    states: list[tuple[bool | None, str]] = [(None, "not asked")] if picture.page.is_archived else [
         (True, "listed"), (False, "not listed")]
     plain = STATES[states[-1][0]]
-    signs = [(word, {"state": STATES[state]}) for state, word in states]
+    signs: list[tuple[str, dict[str, Any]]] = [
+        (word, {"state": STATES[state]}) for state, word in states]
     signs += [("found", {"state": plain, "is_found": True}),
               ("fixed", {"state": plain, "is_fixed": True}),
               ("several versions", {"state": plain, "is_folded": True})]
@@ -83,12 +90,12 @@ def legend(picture, y):
 # Rows.
 
 
-def lane_x(lane):
+def lane_x(lane: int) -> int:
     """The middle of a lane."""
     return MARGIN + HALF_SQUARE + lane * LANE
 
 
-def line_down(row, y, base_y):
+def line_down(row: Row, y: int, base_y: int) -> str:
     """The line from a row to what it is based on."""
     x = lane_x(row.lane)
     if not row.leaves:
@@ -98,7 +105,7 @@ def line_down(row, y, base_y):
             f'{left} {low}V{base_y}"/>')
 
 
-def row_parts(picture, row, y, width):
+def row_parts(picture: Picture, row: Row, y: int, width: int) -> Iterator[str]:
     """The sign and the words of a row."""
     first, is_folded = row.versions[0], len(row.versions) > 1
     label, words = row_label(picture.page.package, row), row_words(row)
@@ -112,16 +119,17 @@ def row_parts(picture, row, y, width):
     yield "</g>"
 
 
-def row_title(row):
+def row_title(row: Row) -> str:
     """What a row says where it is pointed at."""
     told = {True: "listed", False: "not listed", None: "not asked"}[row.versions[0].is_listed]
     words = [told, *version_words(row.versions[0])] if len(row.versions) == 1 else [told]
     return f"{' '.join(version.node for version in row.versions)}: {', '.join(words)}"
 
 
-def placed(picture, y):
+def placed(picture: Picture, y: int) -> tuple[list[int], int | None, int]:
     """The places from above of the rows, of the heading of those in no branch, and of the end."""
-    places, heading = [], None
+    places: list[int] = []
+    heading = None
     for rows in picture.trees:
         places.extend(y + ROW * place for place in range(len(rows)))
         y += ROW * len(rows) + ROW // 2
@@ -132,7 +140,7 @@ def placed(picture, y):
     return places, heading, y
 
 
-def row_width(picture, row, width):
+def row_width(picture: Picture, row: Row, width: int) -> int:
     """How many pixels a row needs."""
     label = max(width, columns(row_label(picture.page.package, row)))
     return lane_x(picture.lanes()) + LETTER * (label + 2 + columns(row_words(row))) + MARGIN
@@ -141,7 +149,7 @@ def row_width(picture, row, width):
 # The picture.
 
 
-def head_lines(picture):
+def head_lines(picture: Picture) -> list[tuple[str | None, str]]:
     """The lines above the rows, each with its kind."""
     told = (wrapped(line, WIDTH) for line in (facts_of(picture), *picture.notes))
     return [
@@ -149,7 +157,7 @@ def head_lines(picture):
         *((None, line) for line in itertools.chain(*told))]
 
 
-def size_of(picture, heads, bottom):
+def size_of(picture: Picture, heads: list[tuple[str | None, str]], bottom: int) -> tuple[int, int]:
     """The width and the height of a picture whose rows end at a place from above."""
     rows, labels = picture.rows(), label_width(picture)
     widths = [
@@ -158,7 +166,7 @@ def size_of(picture, heads, bottom):
     return max(widths), bottom + (MARGIN if rows else -ROW // 2)
 
 
-def svg_lines(picture):
+def svg_lines(picture: Picture) -> Iterator[str]:
     """The lines of a picture as SVG."""
     heads, rows = head_lines(picture), picture.rows()
     places, alone, bottom = placed(picture, MARGIN + LINE * len(heads) + ROW)
@@ -178,7 +186,7 @@ def svg_lines(picture):
     yield "</svg>"
 
 
-def lines_drawn(rows, places):
+def lines_drawn(rows: list[Row], places: list[int]) -> Iterator[str]:
     """The lines from all rows to what they are based on."""
     place_of = {
         version.node: place for row, place in zip(rows, places) for version in row.versions
@@ -188,18 +196,18 @@ def lines_drawn(rows, places):
             yield line_down(row, place, place_of[row.base])
 
 
-def rows_drawn(picture, rows, places):
+def rows_drawn(picture: Picture, rows: list[Row], places: list[int]) -> Iterator[str]:
     """The signs and the words of all rows."""
     labels = label_width(picture)
     for row, place in zip(rows, places):
         yield from row_parts(picture, row, place, labels)
 
 
-def test_path(path):
+def test_path(path: str) -> None:
     """Tests early that a picture can take the place of what is there."""
     files.test_path(path, "the picture")
 
 
-def write_picture(path, lines):
+def write_picture(path: str, lines: Iterable[str]) -> None:
     """Writes a picture, which is there whole or not at all."""
     files.write_lines(path, lines, "the picture")

@@ -5,7 +5,8 @@ dpkg's `status`, or lines of a source and a version; plain or compressed by gzip
 `-` is standard input.
 If a source appears twice, its highest version counts.
 
-The desk is in a file that no other process has open, or served on a port of this machine.
+The desk is in a file that no other process has open, or served on a port of this machine or on a
+Unix socket.
 The report has the bugs of each suite by severity, the packages with the most release-critical ones
 (critical, grave or serious), and these bugs by package.
 Package names and versions that the desk refuses are left out, with a message.
@@ -15,50 +16,41 @@ index or the desk can't be read, or output can't be written.
 """
 
 import argparse
-import os
-import signal
-import sys
+from collections.abc import Iterable, Iterator
 
 from . import report_page, report_text
 from .answers import SEVERITIES
-from .desk_file import PROGRAM, FileDesk
-from .desk_served import PortDesk, is_port
+from .command import (
+    DONE,
+    REFUSED,
+    Desk,
+    Parser,
+    add_desk,
+    add_program,
+    make_parser,
+    named_path,
+    open_desk,
+    run,
+    tell,
+)
 from .faults import Fault
 from .indexes import Entry, candidates
 from .report import CRITICAL, Suite, at_least, compare, gather, listed_numbers
 from .terminal import Progress, shown
 from .versions import highest_versions
 
-FAILED, FAULT_STATUS = 1, 3
+NAME = "release"
 
 
 # The words of the command line.
 
 
-def port_number(word):
-    """The port of a word."""
-    if not is_port(word):
-        raise argparse.ArgumentTypeError("a port is a number from 1 to 65,535")
-    return int(word)
-
-
-def named_path(word):
-    """The name of a suite, and the path of its index."""
-    name, sign, path = word.partition("=")
-    if not (sign and path and name.isprintable()) or name != name.strip() or not name:
-        raise argparse.ArgumentTypeError(f"{word!r} is not SUITE=PATH")
-    return name, path
-
-
-def make_parser():
+def release_parser() -> Parser:
     """What the command line may be."""
-    parser = argparse.ArgumentParser(
-        prog="release", description=__doc__, allow_abbrev=False,
-        usage="release (--store=FILE | --port=N) [options] SUITE=PATH ..",
-        formatter_class=argparse.RawDescriptionHelpFormatter)
-    desk = parser.add_mutually_exclusive_group(required=True)
-    desk.add_argument("--store", metavar="FILE", help="the file of the desk")
-    desk.add_argument("--port", type=port_number, metavar="N", help="the port of the desk's server")
+    parser = make_parser(
+        NAME, __doc__,
+        "release (--store=FILE | --port=N | --socket=PATH) [options] SUITE=PATH ..")
+    add_desk(parser)
     parser.add_argument(
         "--severity", choices=SEVERITIES, default=CRITICAL, metavar="S",
         help="list bugs from this severity up; serious if left out")
@@ -73,15 +65,14 @@ def make_parser():
     parser.add_argument(
         "--fail-on", choices=SEVERITIES, metavar="S",
         help="end with status 1 if the first suite has a bug of this severity or a graver one")
-    parser.add_argument(
-        "--program", default=str(PROGRAM), metavar="FILE", help="the program of the desk")
+    add_program(parser)
     parser.add_argument("suites", nargs="+", type=named_path, metavar="SUITE=PATH")
     return parser
 
 
-def read_options(words):
+def read_options(words: list[str]) -> argparse.Namespace:
     """The options, of which each is good by itself and with the others."""
-    parser = make_parser()
+    parser = release_parser()
     options = parser.parse_args(words)
     names = [name for name, _ in options.suites]
     if len(set(names)) != len(names):
@@ -97,9 +88,9 @@ def read_options(words):
 # The report.
 
 
-def read_suite(options, name, path):
+def read_suite(options: argparse.Namespace, name: str, path: str) -> Suite:
     """A suite, of which each source has one version."""
-    refused = []
+    refused: list[tuple[Entry, str]] = []
     found = candidates(
         path, set(options.package), lambda entry, reason: refused.append((entry, reason)))
     doubled = {source: versions for source, versions in found.items() if len(versions) > 1}
@@ -114,33 +105,29 @@ def read_suite(options, name, path):
     return Suite(name, path, versions, lines, refused)
 
 
-def tell_refusals(suites):
+def tell_refusals(suites: list[Suite]) -> None:
     """Tells what is left out of suites; one of which nothing is left can't be reported."""
     for suite in suites:
-        sys.stderr.writelines(f"release: {told}\n" for told in suite.told_refusals())
+        for told in suite.told_refusals():
+            tell(NAME, told)
         if suite.refused and not suite.versions:
             raise Fault(f"{suite.path}: the desk takes no package of it")
 
 
-def tell_missing(packages, suites):
+def tell_missing(packages: list[str], suites: list[Suite]) -> None:
     """Tells of packages that were named and are in no suite."""
     for package in packages:
         if not any(package in suite.versions for suite in suites):
-            tell(f"no suite has the package {shown(package)}")
+            tell(NAME, f"no suite has the package {shown(package)}")
 
 
-def tell(text):
-    """Tells something on standard error."""
-    print(f"release: {text}", file=sys.stderr)
-
-
-def report(options):
+def report(options: argparse.Namespace) -> int:
     """Makes the report, and answers the exit status."""
     if options.html:
         report_page.test_path(options.html)
-    desk = PortDesk(options.port) if options.port else FileDesk(options.program, options.store)
+    desk = open_desk(options)
     suites = [read_suite(options, name, path) for name, path in options.suites]
-    progress = Progress()
+    progress = Progress(NAME)
     gather(desk, suites, at_least(options.severity), progress)
     tell_refusals(suites)
     tell_missing(options.package, suites)
@@ -153,32 +140,19 @@ def report(options):
     with open(1, "w", encoding="utf-8", closefd=False) as output:
         write(output, suites, comparison, options.severity)
     has_failed = options.fail_on and suites[0].count(at_least(options.fail_on))
-    return FAILED if has_failed else 0
+    return REFUSED if has_failed else DONE
 
 
-def with_pages(desk, numbers, progress):
+def with_pages(
+    desk: Desk, numbers: list[int], progress: Progress,
+) -> Iterator[tuple[int, str]]:
     """The listed bugs, each with its page."""
-    for number, page in zip(numbers, desk.pages(numbers), strict=True):
+    answers: Iterable[str] = desk.pages(numbers)
+    for number, page in zip(numbers, answers, strict=True):
         progress(len(numbers), "pages")
         yield number, page
 
 
-def main(words):
+def main(words: list[str]) -> int:
     """Reports, and answers the exit status."""
-    signal.signal(signal.SIGTERM, lambda *_: sys.exit(128 + signal.SIGTERM))
-    options = read_options(words)
-    try:
-        return report(options)
-    except Fault as fault:
-        tell(fault)
-    except MemoryError:
-        tell("out of memory")
-    except BrokenPipeError:
-        os.dup2(os.open(os.devnull, os.O_WRONLY), 1)
-        tell("standard output can't be written: nobody reads it")
-    except OSError as error:
-        tell(f"standard output can't be written: {error.strerror}")
-    except KeyboardInterrupt:
-        tell("interrupted")
-        return 128 + signal.SIGINT
-    return FAULT_STATUS
+    return run(NAME, lambda words: report(read_options(words)), words)

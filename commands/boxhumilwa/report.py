@@ -6,8 +6,10 @@ It is listed under each of them, and counts once in a suite.
 
 import collections
 import dataclasses
+from collections.abc import Callable, Iterable, Iterator
+from typing import Protocol
 
-from .answers import SEVERITIES
+from .answers import SEVERITIES, Bug, Question
 from .indexes import Entry
 from .terminal import shown
 
@@ -15,9 +17,16 @@ CRITICAL = "serious"
 MOST_SHOWN = 10
 
 
-def at_least(severity):
+def at_least(severity: str) -> tuple[str, ...]:
     """The severities that are this one or graver."""
     return SEVERITIES[: SEVERITIES.index(severity) + 1]
+
+
+class ListDesk(Protocol):
+    """A desk that is asked for lists."""
+
+    def lists(self, questions: Iterable[Question]) -> Iterator[tuple[list[Bug], str | None]]:
+        """For each source and version the bugs of its list, and why it is refused."""
 
 
 @dataclasses.dataclass
@@ -31,15 +40,15 @@ class Suite:
 
     name: str
     path: str
-    versions: dict
-    lines: dict
-    refused: list
-    numbers: dict = dataclasses.field(
+    versions: dict[str, str]
+    lines: dict[str, int]
+    refused: list[tuple[Entry, str]]
+    numbers: dict[str, set[int]] = dataclasses.field(
         default_factory=lambda: {severity: set() for severity in SEVERITIES})
-    critical: collections.Counter = dataclasses.field(default_factory=collections.Counter)
-    listed: dict = dataclasses.field(default_factory=dict)
+    critical: collections.Counter[str] = dataclasses.field(default_factory=collections.Counter)
+    listed: dict[str, list[Bug]] = dataclasses.field(default_factory=dict)
 
-    def take(self, package, bugs, listed):
+    def take(self, package: str, bugs: list[Bug], listed: Iterable[str]) -> None:
         """Takes the list of a package."""
         for bug in bugs:
             self.numbers[bug.severity].add(bug.number)
@@ -50,41 +59,44 @@ class Suite:
         if kept:
             self.listed[package] = kept
 
-    def leave_out(self, package, reason):
+    def leave_out(self, package: str, reason: str) -> None:
         """Leaves out a package that the desk refuses."""
         entry = Entry(package, self.versions.pop(package), self.lines[package])
         self.refused.append((entry, reason))
 
-    def told_refusals(self):
+    def told_refusals(self) -> Iterator[str]:
         """What is told of the entries that are left out, in their order."""
         for entry, reason in sorted(self.refused, key=lambda refused: refused[0].line):
             words = shown(f"{entry.source} {entry.version}"[:100])
             yield f"{self.path}:{entry.line}: {words} is left out: {reason}"
 
-    def count(self, severities=SEVERITIES):
+    def count(self, severities: Iterable[str] = SEVERITIES) -> int:
         """How many bugs of these severities are in the suite."""
         return sum(len(self.numbers[severity]) for severity in severities)
 
-    def most(self):
+    def most(self) -> list[tuple[str, int]]:
         """The packages with the most release-critical bugs, and how many each has."""
         order = sorted(self.critical.items(), key=lambda item: (-item[1], item[0]))
         return order[:MOST_SHOWN]
 
-    def listed_packages(self):
+    def listed_packages(self) -> list[str]:
         """The packages that have listed bugs, by name."""
         return sorted(self.listed)
 
 
-def questions_of(suites):
+def questions_of(suites: Iterable[Suite]) -> dict[Question, list[Suite]]:
     """Each source and version that some suite has, once, with those suites."""
-    having = {}
+    having: dict[Question, list[Suite]] = {}
     pairs = ((question, suite) for suite in suites for question in suite.versions.items())
     for question, suite in pairs:
         having.setdefault(question, []).append(suite)
     return having
 
 
-def gather(desk, suites, listed, progress):
+def gather(
+    desk: ListDesk, suites: list[Suite], listed: Iterable[str],
+    progress: Callable[[int, str], None],
+) -> None:
     """Asks the desk for the lists of all packages, and puts the answers to their suites."""
     having = questions_of(suites)
     questions = sorted(having)
@@ -93,7 +105,9 @@ def gather(desk, suites, listed, progress):
         progress(len(questions), "lists")
 
 
-def give(suites, package, answer, listed):
+def give(
+    suites: list[Suite], package: str, answer: tuple[list[Bug], str | None], listed: Iterable[str],
+) -> None:
     """Gives the list of a package to the suites that have it, or leaves it out of them."""
     bugs, refusal = answer
     for suite in suites:
@@ -103,7 +117,7 @@ def give(suites, package, answer, listed):
             suite.leave_out(package, refusal)
 
 
-def listed_numbers(suites):
+def listed_numbers(suites: Iterable[Suite]) -> list[int]:
     """The numbers of all bugs that are listed, ascending."""
     return sorted({
         bug.number for suite in suites for bugs in suite.listed.values() for bug in bugs
@@ -123,33 +137,33 @@ class Comparison:
 
     first: Suite
     second: Suite
-    counts: dict
-    alone: dict
-    brought: dict
-    common: dict
+    counts: dict[str, tuple[int, int, int]]
+    alone: dict[str, list[Bug]]
+    brought: dict[str, list[Bug]]
+    common: dict[str, list[Bug]]
 
-    def versions_of(self, package):
+    def versions_of(self, package: str) -> tuple[str | None, str | None]:
         """The versions of a package in both suites, None where it is in none."""
         return self.first.versions.get(package), self.second.versions.get(package)
 
-    def differing(self):
+    def differing(self) -> list[str]:
         """The packages whose versions differ, or that one of the suites has not, by name."""
         packages = self.first.versions.keys() | self.second.versions.keys()
         return sorted(package for package in packages if len(set(self.versions_of(package))) > 1)
 
-    def total(self, place, severities=SEVERITIES):
+    def total(self, place: int, severities: Iterable[str] = SEVERITIES) -> int:
         """How many bugs of these severities one column of the counts has."""
         return sum(self.counts[severity][place] for severity in severities)
 
 
-def compare(first, second):
+def compare(first: Suite, second: Suite) -> Comparison:
     """Compares two suites."""
     counts = {}
     for severity in SEVERITIES:
         here, there = first.numbers[severity], second.numbers[severity]
         counts[severity] = len(here - there), len(there - here), len(here & there)
-    in_first = set().union(*first.numbers.values())
-    in_second = set().union(*second.numbers.values())
+    in_first: set[int] = set().union(*first.numbers.values())
+    in_second: set[int] = set().union(*second.numbers.values())
     return Comparison(
         first, second, counts,
         by_package([first], in_first - in_second),
@@ -157,9 +171,9 @@ def compare(first, second):
         by_package([first, second], in_first & in_second))
 
 
-def by_package(suites, numbers):
+def by_package(suites: Iterable[Suite], numbers: set[int]) -> dict[str, list[Bug]]:
     """The listed bugs that have these numbers, by package, each once in a package."""
-    found = {}
+    found: dict[str, dict[int, Bug]] = {}
     rows = (
         (package, bug) for suite in suites for package, bugs in suite.listed.items()
         for bug in bugs if bug.number in numbers
@@ -171,6 +185,6 @@ def by_package(suites, numbers):
     }
 
 
-def bug_order(bug):
+def bug_order(bug: Bug) -> tuple[int, int]:
     """The order of rows in a list of the desk."""
     return SEVERITIES.index(bug.severity), bug.number

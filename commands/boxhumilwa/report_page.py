@@ -7,9 +7,11 @@ Bars are drawings without text: a text browser leaves them out, and loses no fig
 import html
 import re
 import time
+from collections.abc import Callable, Iterable, Iterator
 
 from . import files
-from .report import CRITICAL, SEVERITIES, at_least
+from .answers import SEVERITIES, Bug
+from .report import CRITICAL, Comparison, Suite, at_least
 from .report_text import NONE, comparison_parts, listed_title, versions_told
 from .terminal import capitalized, plural
 
@@ -45,13 +47,13 @@ svg { display: block; margin-top: 0.3rem }
 """
 
 
-def text(words):
+def text(words: object) -> str:
     """A text as HTML has it: nothing in it is markup, and no control character is left."""
     return CONTROL.sub(
         lambda found: found[0].encode("unicode_escape").decode(), html.escape(str(words)))
 
 
-def title(words):
+def title(words: str) -> str:
     """A bug's title, whose direction of writing does not reach beyond it."""
     return f"<bdi>{text(words)}</bdi>"
 
@@ -59,7 +61,7 @@ def title(words):
 # Figures.
 
 
-def bar(count, most, severity):
+def bar(count: int, most: int, severity: str) -> str:
     """A bar as long as a count is beside the largest one."""
     width = max(1, round(BAR_WIDTH * count / most)) if count else 0
     return (
@@ -67,7 +69,7 @@ def bar(count, most, severity):
         f'<rect class="{severity}" width="{width}" height="{BAR_HEIGHT}"/></svg>')
 
 
-def figures(suite, most):
+def figures(suite: Suite, most: int) -> Iterator[str]:
     """The table of a suite's bugs by severity."""
     yield f"<table><caption>{text(suite.name)}: {plural(len(suite.versions), 'package')}</caption>"
     yield '<thead><tr><th>Severity<th class="count">Bugs<th></thead><tbody>'
@@ -79,13 +81,13 @@ def figures(suite, most):
     yield "</tbody></table>"
 
 
-def sum_row(name, counts):
+def sum_row(name: str, counts: Iterable[int]) -> str:
     """The row of a sum."""
     return f'<tr class="sum"><td>{name}' + "".join(
         f'<td class="count">{count:,}' for count in counts)
 
 
-def overview(suites):
+def overview(suites: list[Suite]) -> Iterator[str]:
     """The bars of all suites, on one scale."""
     most = max([1, *(suite.count([name]) for suite in suites for name in SEVERITIES)])
     yield '<h2 id="severities">Bugs by severity</h2>'
@@ -100,7 +102,7 @@ def overview(suites):
 # Suites.
 
 
-def suite_part(place, suite, severity):
+def suite_part(place: int, suite: Suite, severity: str) -> Iterator[str]:
     """The part of a suite: its worst packages, and the bugs listed."""
     yield f'<h2 id="suite-{place}">{text(suite.name)}</h2>'
     yield f"<p>{plural(len(suite.versions), 'package')}, {plural(suite.count(), 'bug')}, "
@@ -112,7 +114,7 @@ def suite_part(place, suite, severity):
         suite.listed, lambda package: f"{text(package)} {text(suite.versions[package])}")
 
 
-def most_table(suite):
+def most_table(suite: Suite) -> Iterator[str]:
     """The packages with the most release-critical bugs."""
     yield "<h3>Packages with the most release-critical bugs</h3>"
     yield '<table><thead><tr><th>Package<th>Version<th class="count">Bugs</thead><tbody>'
@@ -122,7 +124,7 @@ def most_table(suite):
     yield "</tbody></table>"
 
 
-def bug_table(bugs, heading):
+def bug_table(bugs: dict[str, list[Bug]], heading: Callable[[str], str]) -> Iterator[str]:
     """The bugs of packages, each package with its heading and each bug linked to its page."""
     if not bugs:
         yield "<p>None.</p>"
@@ -136,7 +138,7 @@ def bug_table(bugs, heading):
     yield "</table>"
 
 
-def bug_row(bug):
+def bug_row(bug: Bug) -> str:
     """The row of a bug."""
     return (
         f'<tr><td class="count"><a href="#bug-{bug.number}">{bug.number}</a>'
@@ -146,7 +148,7 @@ def bug_row(bug):
 # Two suites.
 
 
-def comparison_part(comparison, severity):
+def comparison_part(comparison: Comparison, severity: str) -> Iterator[str]:
     """The part of two suites that are compared."""
     yield f'<h2 id="comparison">{text(comparison_title(comparison))}</h2>'
     yield from count_table(comparison)
@@ -157,12 +159,12 @@ def comparison_part(comparison, severity):
     yield from differing_table(comparison)
 
 
-def comparison_title(comparison):
+def comparison_title(comparison: Comparison) -> str:
     """The heading of two suites that are compared."""
     return f"{comparison.first.name} and {comparison.second.name} compared"
 
 
-def count_table(comparison):
+def count_table(comparison: Comparison) -> Iterator[str]:
     """How many bugs are in one suite alone, and in both."""
     first, second = text(comparison.first.name), text(comparison.second.name)
     yield '<table><thead><tr><th>Severity'
@@ -177,7 +179,7 @@ def count_table(comparison):
     yield "</tbody></table>"
 
 
-def differing_table(comparison):
+def differing_table(comparison: Comparison) -> Iterator[str]:
     """The packages whose versions differ; many of them are folded up."""
     packages = comparison.differing()
     yield '<h3 id="comparison-versions">Packages whose versions differ</h3>'
@@ -195,7 +197,7 @@ def differing_table(comparison):
 # The page.
 
 
-def head(suites):
+def head(suites: list[Suite]) -> Iterator[str]:
     """The beginning of the page."""
     names = text(", ".join(suite.name for suite in suites))
     made = time.strftime("%Y-%m-%d at %H:%M UTC", time.gmtime())
@@ -205,7 +207,7 @@ def head(suites):
     yield f"<h1>Bugs of {names}</h1><p>Made on {made}.</p>"
 
 
-def contents(suites, comparison, severity):
+def contents(suites: list[Suite], comparison: Comparison | None, severity: str) -> Iterator[str]:
     """The contents list."""
     listed = listed_title(severity)
     yield '<nav><h2>Contents</h2><ul><li><a href="#severities">Bugs by severity</a>'
@@ -217,7 +219,7 @@ def contents(suites, comparison, severity):
     yield '<li><a href="#bugs">What is known of each bug</a></ul></nav>'
 
 
-def comparison_contents(comparison):
+def comparison_contents(comparison: Comparison) -> Iterator[str]:
     """What the contents list has of a comparison."""
     yield f'<li><a href="#comparison">{text(comparison_title(comparison))}</a>: '
     for place, (words, _) in enumerate(comparison_parts(comparison), 1):
@@ -225,7 +227,7 @@ def comparison_contents(comparison):
     yield '<a href="#comparison-versions">packages whose versions differ</a>'
 
 
-def bug_part(pages):
+def bug_part(pages: Iterable[tuple[int, str]]) -> Iterator[str]:
     """What the desk tells of each listed bug."""
     yield '<h2 id="bugs">What is known of each bug</h2>'
     is_empty = True
@@ -237,7 +239,10 @@ def bug_part(pages):
         yield "<p>No bug is listed.</p>"
 
 
-def parts(suites, comparison, severity, pages):
+def parts(
+    suites: list[Suite], comparison: Comparison | None, severity: str,
+    pages: Iterable[tuple[int, str]],
+) -> Iterator[str]:
     """All parts of the page."""
     yield from head(suites)
     yield from contents(suites, comparison, severity)
@@ -250,12 +255,15 @@ def parts(suites, comparison, severity, pages):
     yield "</body></html>"
 
 
-def test_path(path):
+def test_path(path: str) -> None:
     """Tests early that a page can take the place of what is there."""
     files.test_path(path, "the page")
 
 
-def write_page(path, suites, comparison, severity, pages):
+def write_page(
+    path: str, suites: list[Suite], comparison: Comparison | None, severity: str,
+    pages: Iterable[tuple[int, str]],
+) -> None:
     """Writes the page, which is there whole or not at all."""
     lines = parts(suites, comparison, severity, pages)
     files.write_lines(path, lines, "the page")

@@ -1,14 +1,17 @@
 """The report as plain text, and as JSON."""
 
 import json
+from collections.abc import Callable, Iterable, Iterator
+from typing import TextIO
 
-from .report import CRITICAL, SEVERITIES, at_least
-from .terminal import capitalized, plural, shown
+from .answers import SEVERITIES, Bug
+from .report import CRITICAL, Comparison, Suite, at_least
+from .terminal import capitalized, json_text, plural, shown
 
 NONE = "-"
 
 
-def listed_title(severity):
+def listed_title(severity: str) -> str:
     """What the bugs are called that are listed."""
     if severity == CRITICAL:
         return "release-critical bugs"
@@ -19,7 +22,7 @@ def listed_title(severity):
     return f"bugs that are {severity} or graver"
 
 
-def bug_row(bug):
+def bug_row(bug: Bug) -> str:
     """The row of a bug, as the desk's lists have it."""
     return f"  {bug.number:9}  {bug.severity:<9}  {bug.state}  {shown(bug.title)}"
 
@@ -27,7 +30,7 @@ def bug_row(bug):
 # Text.
 
 
-def suite_lines(suite, severity):
+def suite_lines(suite: Suite, severity: str) -> Iterator[str]:
     """The lines of a suite: its figures, its worst packages, and the bugs listed."""
     critical = suite.count(at_least(CRITICAL))
     yield f"{suite.name}: {plural(len(suite.versions), 'package')}, {plural(suite.count(), 'bug')}"
@@ -46,7 +49,7 @@ def suite_lines(suite, severity):
         suite.listed, lambda package: f"{package} {suite.versions[package]}")
 
 
-def package_lines(bugs, heading):
+def package_lines(bugs: dict[str, list[Bug]], heading: Callable[[str], str]) -> Iterator[str]:
     """The bugs of packages, each package with its heading."""
     if not bugs:
         yield ""
@@ -57,7 +60,7 @@ def package_lines(bugs, heading):
         yield from map(bug_row, bugs[package])
 
 
-def comparison_parts(comparison):
+def comparison_parts(comparison: Comparison) -> Iterator[tuple[str, dict[str, list[Bug]]]]:
     """The three parts of a comparison: a title, and the listed bugs by package."""
     first, second = comparison.first.name, comparison.second.name
     yield f"in {first} alone: {second}'s versions mend them", comparison.alone
@@ -65,7 +68,7 @@ def comparison_parts(comparison):
     yield f"in both {first} and {second}", comparison.common
 
 
-def comparison_lines(comparison, severity):
+def comparison_lines(comparison: Comparison, severity: str) -> Iterator[str]:
     """The lines of a comparison."""
     first, second = comparison.first.name, comparison.second.name
     yield f"{first} and {second} compared"
@@ -82,7 +85,7 @@ def comparison_lines(comparison, severity):
     yield from differing_lines(comparison)
 
 
-def part_lines(comparison, severity):
+def part_lines(comparison: Comparison, severity: str) -> Iterator[str]:
     """The listed bugs of a comparison, in its three parts."""
     for title, bugs in comparison_parts(comparison):
         yield f"{capitalized(listed_title(severity))} {title}"
@@ -90,13 +93,13 @@ def part_lines(comparison, severity):
         yield ""
 
 
-def count_line(name, counts, widths):
+def count_line(name: str, counts: Iterable[str], widths: Iterable[int]) -> str:
     """A line of a table of counts."""
     cells = [f"{count:>{width}}" for count, width in zip(counts, widths)]
     return "  ".join([f"  {name:<16}", *cells])
 
 
-def versions_told(comparison, package):
+def versions_told(comparison: Comparison, package: str) -> str:
     """A package with its versions in both suites, in words."""
     first, second = comparison.versions_of(package)
     if first == second:
@@ -107,12 +110,12 @@ def versions_told(comparison, package):
     return f"{package} {first or second}, not in {missing.name}"
 
 
-def version_line(comparison, package):
+def version_line(comparison: Comparison, package: str) -> str:
     """A package with its versions in both suites, a hyphen where there is none."""
     return " ".join([package, *(version or NONE for version in comparison.versions_of(package))])
 
 
-def differing_lines(comparison):
+def differing_lines(comparison: Comparison) -> Iterator[str]:
     """The lines of the packages whose versions differ."""
     first, second = comparison.first.name, comparison.second.name
     packages = comparison.differing()
@@ -123,7 +126,9 @@ def differing_lines(comparison):
         yield f"  {version_line(comparison, package)}"
 
 
-def write_text(output, suites, comparison, severity):
+def write_text(
+    output: TextIO, suites: list[Suite], comparison: Comparison | None, severity: str,
+) -> None:
     """Writes the report as text."""
     for place, suite in enumerate(suites):
         if place:
@@ -137,14 +142,14 @@ def write_text(output, suites, comparison, severity):
 # JSON.
 
 
-def bugs_value(bugs):
+def bugs_value(bugs: dict[str, list[Bug]]) -> dict[str, object]:
     """Bugs by package, as JSON has them."""
     return {
         package: [bug._asdict() for bug in bugs[package]] for package in sorted(bugs)
     }
 
 
-def suite_value(suite):
+def suite_value(suite: Suite) -> dict[str, object]:
     """A suite, as JSON has it."""
     return {
         "name": suite.name,
@@ -162,7 +167,7 @@ def suite_value(suite):
     }
 
 
-def comparison_value(comparison):
+def comparison_value(comparison: Comparison) -> dict[str, object]:
     """A comparison, as JSON has it."""
     places = ("first_alone", "second_alone", "both")
     parts = (comparison.alone, comparison.brought, comparison.common)
@@ -179,10 +184,12 @@ def comparison_value(comparison):
     }
 
 
-def write_json(output, suites, comparison, severity):
+def write_json(
+    output: TextIO, suites: list[Suite], comparison: Comparison | None, severity: str,
+) -> None:
     """Writes the report as JSON."""
-    value = {"severity": severity, "suites": [suite_value(suite) for suite in suites]}
+    value: dict[str, object] = {
+        "severity": severity, "suites": [suite_value(suite) for suite in suites]}
     if comparison:
         value["comparison"] = comparison_value(comparison)
-    json.dump(value, output, ensure_ascii=False, indent=1)
-    output.write("\n")
+    output.write(json_text(json.dumps(value, ensure_ascii=False, indent=1)) + "\n")

@@ -1,13 +1,19 @@
 """The order of versions, as the program has it: a new desk in memory is asked for it."""
 
+from collections.abc import Callable, Collection, Iterable, Iterator, Mapping
+
 from .desk_file import FileDesk, asked
 from .faults import Fault
 
+# The versions of each source, and what is told of a source and a version that a desk refuses.
+Choices = Mapping[str, Collection[str]]
+Refuse = Callable[[str, str, str], None]
 
-def good_versions(program, choices, refuse):
+
+def good_versions(program: str, choices: Choices, refuse: Refuse) -> dict[str, list[str]]:
     """The sources and those of their versions that a desk takes, as {source: [version]}."""
     questions = [(source, version) for source in choices for version in choices[source]]
-    taken = {}
+    taken: dict[str, list[str]] = {}
     answers = FileDesk(program, None).lists(questions)
     for (source, version), (_, refusal) in zip(questions, answers, strict=True):
         if refusal is None:
@@ -17,7 +23,7 @@ def good_versions(program, choices, refuse):
     return taken
 
 
-def order_script(taken):
+def order_script(taken: dict[str, list[str]]) -> Iterator[str]:
     """A script that reports a bug for each source, found in all its versions, and asks for it."""
     for number, (source, versions) in enumerate(taken.items(), 1):
         yield f"@report {source} - normal x"
@@ -25,7 +31,7 @@ def order_script(taken):
         yield f"@show {number}"
 
 
-def highest_versions(program, choices, refuse):
+def highest_versions(program: str, choices: Choices, refuse: Refuse) -> dict[str, str]:
     """Of each source of {source: versions} the highest version, by the program's order.
 
     A new desk in memory is told of a bug that is found in all of them, and shows them in order.
@@ -42,7 +48,7 @@ def highest_versions(program, choices, refuse):
     return {source: line.rpartition("/")[2] for source, line in zip(taken, found)}
 
 
-def order_of(program, nodes):
+def order_of(program: str, nodes: Iterable[str]) -> dict[str, int]:
     """The place of each node in the program's order, which is by source and then by version.
 
     A new desk in memory is told of a bug that is found in all of them, and shows them in order.

@@ -331,8 +331,8 @@ class OverPort(InFolder):
             self.assertEqual(drawn(*words, 3).count("\n*  "), 3)
             output, errors = graph(f"--store={store}", f"--svg={old}", "1", status=3)
             self.assertEqual(output, "")
-            self.assertRegex(errors, "^graph: .*: the store's file is in use by another process\n"
-                                     "graph: .*--port=N.*--branches=FILE\n$")
+            self.assertRegex(errors, "^graph: .*: the store's file is in use by another process; "
+                                     "a server may have it open: .*--port=N.*\n$")
             _, errors = graph(f"--port={port}", f"--branches={day}", "9", status=1)
             self.assertEqual(errors, "graph: NO no such bug 9\n")
         self.assertEqual(old.read_text(), "old")

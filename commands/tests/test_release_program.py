@@ -230,10 +230,14 @@ class OverFile(unittest.TestCase):
         self.assertEqual(sorted(os.listdir(self.folder)), ["asked", "one", "page", "program"])
 
     def test_progress(self):
-        """On a terminal standard error tells how far the report is, and elsewhere it doesn't."""
+        """On a terminal standard error tells how far a long report is, and elsewhere it doesn't."""
         words = self.day()
+        program = written(
+            self.folder, "slow", f'#!/bin/sh\nsleep 2.5\nexec "{desks.program()}" "$@"\n')
+        program.chmod(0o755)
         terminal, side = os.openpty()
-        release_words = [*desks.command("release"), f"--program={desks.program()}"]
+        os.set_blocking(terminal, False)
+        release_words = [*desks.command("release"), f"--program={program}"]
         subprocess.run([*release_words, *words], stdout=subprocess.DEVNULL, stderr=side, check=True)
         told = os.read(terminal, 10_000).decode()
         os.close(terminal)
@@ -340,7 +344,7 @@ class OverPort(unittest.TestCase):
             with self.subTest(answer), desks.answering(answer) as port:
                 with unittest.mock.patch.object(desk_served, "SECONDS", 0.3):
                     with self.assertRaises(Fault) as raised:
-                        desk_served.PortDesk(port)
+                        desk_served.ServedDesk(desk_served.Place(port))
                 self.assertIn(told, str(raised.exception))
 
     def test_always_alike(self):

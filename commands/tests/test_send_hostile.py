@@ -14,7 +14,7 @@ import unittest
 from unittest import mock
 
 import desks
-from boxhumilwa import desk_served, sending
+from boxhumilwa import command, desk_served, sending
 from boxhumilwa import send as TOOL
 from boxhumilwa.faults import Fault
 from boxhumilwa.orders import ORDERS
@@ -63,7 +63,7 @@ def run_tool(*words):
     """The status, the output and the error output of the tool, as it is run in this process."""
     output, errors = [], io.StringIO()
     with contextlib.redirect_stderr(errors), mock.patch.object(TOOL, "write", output.append):
-        with mock.patch.object(TOOL.signal, "signal"):
+        with mock.patch.object(command.signal, "signal"):
             status = TOOL.main(list(words))
     return status, "".join(output), errors.getvalue()
 
