@@ -11,7 +11,7 @@ import subprocess
 import unittest
 
 import desks
-from desks import TOOLS, folder, make_desk, program, run, served
+from desks import ROOT, folder, make_desk, program, run, served
 
 NOBODY = 65534
 # The causes of a file that is not opened, as the manual has them.
@@ -121,7 +121,7 @@ class OutOfMemory(unittest.TestCase):
             library = str(pathlib.Path(place, "refuse.so"))
             compiler = os.environ.get("CC", "cc")
             run([compiler, "-O2", "-shared", "-fPIC", "-nostdlib", "-o", library,
-                 TOOLS / "refuse_memory.c"])
+                 ROOT / "tools/compare/refuse_memory.c"])
             little = {"LD_PRELOAD": library, "ABOVE": str(self.ABOVE)}
             with served(store, variables=little) as port:
                 self.assertEqual(self.send(port, short)[0], 200)

@@ -1,0 +1,1 @@
+"""The commands of Boxhumilwa: what they share, a module for each subject."""

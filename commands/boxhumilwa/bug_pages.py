@@ -1,0 +1,117 @@
+"""What a desk answers of one bug: its page, and the versions that list it.
+
+A version is written source/version here, as the desk writes it, and is called a node.
+Whether a node is listed is read from the program's `@list` at that node alone.
+"""
+
+import urllib.parse
+from collections.abc import Callable, Iterator
+from typing import NamedTuple
+
+from .answers import Unexpected, next_line, read_page, read_row
+from .desk_file import FileDesk, asked
+from .desk_served import ServedDesk
+from .faults import Fault
+
+Desk = FileDesk | ServedDesk
+# What is told of each list that came, of so many.
+TellOne = Callable[[int, str], None]
+NONE = "-"
+MISSING = "NO "
+# Each has a line of its own on a page, and all but the title are words of ASCII.
+FIELDS = (
+    "Title", "Package", "Severity", "State", "Archived", "Found", "Fixed", "Merged with")
+
+
+class Page(NamedTuple):
+    """What the page of a bug says, as far as a picture shows it."""
+
+    number: int
+    title: str
+    package: str
+    severity: str
+    state: str
+    is_archived: bool
+    found: tuple[str, ...]
+    fixed: tuple[str, ...]
+    merged: tuple[str, ...]
+
+    def marks(self) -> list[str]:
+        """The nodes that are marked, each once."""
+        return list(dict.fromkeys([*self.found, *self.fixed]))
+
+
+def words_of(value: str) -> tuple[str, ...]:
+    """The words of a field, of which there is none where a hyphen stands."""
+    return () if value == NONE else tuple(value.split(" "))
+
+
+def page_of(number: int, text: str) -> Page:
+    """The page of a bug from its text."""
+    fields = dict(line.partition(": ")[::2] for line in text.split("\n")[1:])
+    title, *others = (fields.get(name, "") for name in FIELDS)
+    if not title or not all(value and value.isascii() and value.isprintable() for value in others):
+        raise Fault(f"bug {number}: its page lacks a line that each page of a desk has")
+    package, severity, state, archived, found, fixed, merged = others
+    return Page(
+        number, title, package, severity, state, archived == "yes",
+        words_of(found), words_of(fixed), words_of(merged))
+
+
+def page_text(desk: Desk, number: int) -> str:
+    """The text of a bug's page, or the desk's words where there is no such bug."""
+    (text,) = desk.pages([number])
+    return text
+
+
+# Lists.
+
+
+def read_listed(lines: Iterator[str], package: str, node: str, number: int) -> bool:
+    """Whether a bug is in the list of a package at a node."""
+    heading = next_line(lines)
+    start = f"Bugs in {package} at {node}: "
+    count = heading.removeprefix(start)
+    if not heading.startswith(start) or not count.isdecimal():
+        raise Unexpected(heading)
+    rows = [read_row(next_line(lines)).number for _ in range(int(count))]
+    return number in rows
+
+
+def listed_in_file(desk: FileDesk, page: Page, nodes: list[str]) -> tuple[dict[str, bool], str]:
+    """Whether each node lists the bug, and the text of its page after that, by one run."""
+    script = [*(f"@list {page.package} {node}" for node in nodes), f"@show {page.number}"]
+
+    def read(lines: Iterator[str]) -> Iterator[bool | str]:
+        """Each answer, the page last."""
+        yield from (read_listed(lines, page.package, node, page.number) for node in nodes)
+        yield read_page(lines, page.number)
+
+    *states, text = asked(desk.program, desk.store, script, read)
+    return {node: bool(state) for node, state in zip(nodes, states)}, str(text)
+
+
+def listed_at_port(desk: ServedDesk, page: Page, node: str) -> bool:
+    """Whether a node lists the bug, by a server."""
+    source, _, version = node.partition("/")
+    words = (urllib.parse.quote(word, safe="") for word in (page.package, source, version))
+    refusal: bool | None = None
+    answer = desk.read(
+        "/list/" + "/".join(words),
+        lambda lines: read_listed(lines, page.package, node, page.number), refusal)
+    if answer is None:
+        raise desk.place.no_desk("status 404")
+    return answer
+
+
+def listed(
+    desk: Desk, page: Page, nodes: list[str], tell_one: TellOne,
+) -> tuple[dict[str, bool], str]:
+    """Whether each node lists the bug, and the text of its page after that."""
+    if isinstance(desk, ServedDesk):
+        states = {}
+        for node in nodes:
+            states[node] = listed_at_port(desk, page, node)
+            tell_one(len(nodes), "lists")
+        return states, page_text(desk, page.number)
+    return listed_in_file(desk, page, nodes)

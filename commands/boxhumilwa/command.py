@@ -1,0 +1,128 @@
+"""One way in for all commands: their options, the desk that these name, and how they end.
+
+The exit statuses are those of the program: 0; 1 where something was refused; 2 for a wrong command
+line; 3 for a fault.
+"""
+
+import argparse
+import os
+import signal
+import sys
+from collections.abc import Callable, Iterable
+from typing import NoReturn
+
+from .desk_file import IN_USE, PROGRAM, FileDesk
+from .desk_served import Place, ServedDesk, is_port
+from .faults import BadWords, Fault
+from .terminal import shown
+
+Desk = FileDesk | ServedDesk
+DONE, REFUSED, BAD_WORDS, FAULT = 0, 1, 2, 3
+HINT = "a server may have it open: ask that one by --port=N or --socket=PATH"
+
+
+def tell(name: str, text: object) -> None:
+    """Tells something on standard error: one line, with nothing in it that steers a terminal."""
+    line = shown(" ".join(str(text).split("\n")))
+    sys.stderr.write(f"{name}: {line}\n")
+    sys.stderr.flush()
+
+
+class Parser(argparse.ArgumentParser):
+    """A command line, of which a fault is told in one line."""
+
+    def error(self, message: str) -> NoReturn:
+        """Tells what is wrong, and ends."""
+        tell(self.prog, f"error: {message}; {self.prog} --help says what there is")
+        sys.exit(BAD_WORDS)
+
+
+def make_parser(name: str, told: str | None, usage: str) -> Parser:
+    """The parser of a command."""
+    return Parser(
+        prog=name, description=told, usage=usage, allow_abbrev=False,
+        formatter_class=argparse.RawDescriptionHelpFormatter)
+
+
+# Options that commands share.
+
+
+def port_number(word: str) -> int:
+    """The port of a word."""
+    if not is_port(word):
+        raise argparse.ArgumentTypeError("a port is a number from 1 to 65,535")
+    return int(word)
+
+
+def named_path(word: str) -> tuple[str, str]:
+    """The name of a suite, and the path of its index."""
+    name, sign, path = word.partition("=")
+    if not (sign and path and name.isprintable()) or name != name.strip() or not name:
+        raise argparse.ArgumentTypeError(f"{word!r} is not SUITE=PATH")
+    return name, path
+
+
+def add_desk(
+    parser: Parser, is_required: bool = True, port: str = "the port of the desk's server",
+) -> None:
+    """Puts the options that name a desk; `port` says what that option does."""
+    desk = parser.add_mutually_exclusive_group(required=is_required)
+    desk.add_argument("--store", metavar="FILE", help="the file of the desk")
+    desk.add_argument("--port", type=port_number, metavar="N", help=port)
+    desk.add_argument(
+        "--socket", metavar="PATH", help="the Unix socket of the desk's server, for HTTP")
+
+
+def add_program(parser: Parser) -> None:
+    """Puts the option that names the program."""
+    parser.add_argument(
+        "--program", default=str(PROGRAM), metavar="FILE", help="the program of the desk")
+
+
+def place_of(options: argparse.Namespace) -> Place:
+    """Where the desk of the options is served."""
+    return Place(port=options.port or 0, path=options.socket or "")
+
+
+def open_desk(options: argparse.Namespace) -> Desk:
+    """The desk that the options name."""
+    if options.store is not None:
+        return FileDesk(options.program, options.store)
+    return ServedDesk(place_of(options))
+
+
+# The end.
+
+
+def write_lines(lines: Iterable[str]) -> None:
+    """Writes lines to standard output."""
+    with open(1, "w", encoding="utf-8", closefd=False) as output:
+        output.writelines(f"{line}\n" for line in lines)
+
+
+def carried_out(name: str, main: Callable[[list[str]], int], words: list[str]) -> int:
+    """The exit status of a command's work, whose faults are told."""
+    try:
+        return main(words)
+    except BadWords as bad:
+        tell(name, bad)
+        return BAD_WORDS
+    except Fault as fault:
+        tell(name, f"{fault}; {HINT}" if IN_USE in str(fault) else fault)
+    except MemoryError:
+        tell(name, "out of memory: ask for less, or give it more")
+    except BrokenPipeError:
+        os.dup2(os.open(os.devnull, os.O_WRONLY), 1)
+        tell(name, "standard output can't be written: nobody reads it")
+    except OSError as error:
+        tell(name, f"standard output can't be written: {error.strerror}")
+    except KeyboardInterrupt:
+        tell(name, "interrupted")
+        return 128 + signal.SIGINT
+    return FAULT
+
+
+def run(name: str, main: Callable[[list[str]], int], words: list[str]) -> int:
+    """Carries out a command's work, which a signal ends, and answers the exit status."""
+    signal.signal(signal.SIGTERM, lambda *_: sys.exit(128 + signal.SIGTERM))
+    return carried_out(name, main, words)

@@ -1,0 +1,210 @@
+"""Tests of what all commands share: where a desk is, JSON, errors in a line, and hostile text."""
+
+import contextlib
+import io
+import json
+import os
+import re
+import socket
+import subprocess
+import sys
+import threading
+import time
+import unittest
+from unittest import mock
+
+import desks
+from desks import DAY, STABLE, command, folder, make_desk, run, served, written
+
+from boxhumilwa import terminal
+
+COMMANDS = ("branches", "graph", "release", "send")
+PACKAGE = desks.COMMANDS / "boxhumilwa"
+# What would steer a terminal, a line, or the direction of writing.
+STEERING = "\x1b[2J\u202e\x9b\u2028"
+
+
+def hand_on(source, target):
+    """Hands on all bytes of a socket to another."""
+    with contextlib.suppress(OSError):
+        while data := source.recv(65_536):
+            target.sendall(data)
+        target.shutdown(socket.SHUT_WR)
+
+
+def serve_socket(server, port):
+    """Hands on each connection of a Unix socket to a port, one after another."""
+    with contextlib.suppress(OSError):
+        while True:
+            client = server.accept()[0]
+            with client, socket.create_connection(("127.0.0.1", port)) as desk:
+                back = threading.Thread(target=hand_on, args=(client, desk), daemon=True)
+                back.start()
+                hand_on(desk, client)
+                with contextlib.suppress(OSError):
+                    client.shutdown(socket.SHUT_RDWR)
+                back.join()
+
+
+@contextlib.contextmanager
+def over_socket(store):
+    """The port of a server of a desk, and a Unix socket that leads to it."""
+    with folder() as place, served(store) as port, socket.socket(socket.AF_UNIX) as server:
+        path = os.path.join(place, "desk.socket")
+        server.bind(path)
+        server.listen()
+        thread = threading.Thread(target=serve_socket, args=(server, port), daemon=True)
+        thread.start()
+        yield port, path
+        server.shutdown(socket.SHUT_RDWR)
+        thread.join()
+
+
+def program():
+    """The option that names the program."""
+    return f"--program={desks.program()}"
+
+
+class Places(unittest.TestCase):
+    """A desk in a file, at a port and at a socket is the same to each command."""
+
+    def test_socket(self):
+        """What is asked over a socket is answered as over the port."""
+        with folder() as place:
+            store = make_desk(place, DAY)
+            suite, day = written(place, "stable", STABLE), written(place, "day", DAY)
+            with over_socket(store) as (port, path):
+                for words in (
+                    ["release", program(), f"s={suite}"],
+                    ["graph", program(), f"--branches={day}", "1"],
+                    ["send", "--from=ann", "severity", "2", "important"],
+                    ["send", "--list", "foo", "2.0-1"], ["send", "--show", "1"],
+                    ["send", "--json", "--show", "1"],
+                ):
+                    name, *rest = words
+                    told = [
+                        run([*command(name), where, *rest])
+                        for where in (f"--port={port}", f"--socket={path}")]
+                    with self.subTest(words):
+                        self.assertEqual(told[0], told[1])
+                        self.assertNotEqual(told[0][0], "")
+            words = [*command("send"), f"--socket={place}/none", "--show", "1"]
+            self.assertIn("no desk is served there", run(words, status=3)[1])
+
+    def test_file(self):
+        """What `send` does over a file is what it does over a server of another such file."""
+        with folder() as place:
+            store, other = make_desk(place, DAY), make_desk(place, DAY, "other.db")
+            with served(other) as port:
+                for words, given, status in (
+                    (["--from=ann", "severity", "2", "grave", ",", "owner", "it", "!"], "", 0),
+                    (["--from=ann", "close", "9"], "", 1), (["--from=ann"], "# x\nclose 2\n", 0),
+                    (["--from=ann", "--id=m1", "clone", "2", "-1"], "", 0),
+                    (["--from=ann", "--id=m1", "clone", "2", "-1"], "", 0),
+                    (["--from=bob", "--id=m1", "clone", "2", "-1"], "", 1),
+                    (["--from=ann", "--report", "foo", "1", "minor", "a  b"], "", 0),
+                    (["--branch", "foo/9", "foo/2.0-1"], "", 0), (["--show", "99"], "", 1),
+                    (["--list", "foo", "9"], "", 0), (["--list"], "foo 9\n@list foo 1\n", 0),
+                ):
+                    with self.subTest(words):
+                        told = [
+                            run([*command("send"), where, program(), *words], given, status)
+                            for where in (f"--store={store}", f"--port={port}")]
+                        self.assertEqual(told[0], told[1])
+
+    def test_jobs(self):
+        """No word makes the program do something else than a message, and no line a directive."""
+        with folder() as place:
+            words = [*command("send"), f"--store={make_desk(place, DAY)}", program(), "--from=ann"]
+            for more, given in (
+                (["--id=x", "init"], ""), (["--id=x", "serve"], ""), ([], "@show 1"),
+            ):
+                self.assertEqual(run([*words, *more], given, 2)[0], "")
+            self.assertEqual(run([*words, "serve"], "", 1)[0], "> serve\nNO unknown command\n")
+
+
+class Answers(unittest.TestCase):
+    """JSON, and faults."""
+
+    def test_json(self):
+        """Each command writes JSON."""
+        with folder() as place:
+            store = f"--store={make_desk(place, DAY)}"
+            suite = written(place, "stable", STABLE)
+            log = written(place, "log", "foo (1) sid; urgency=low\n\n -- A <a@b.example>  x\n")
+            for words in (
+                ["release", store, program(), "--json", f"s={suite}"],
+                ["graph", store, program(), "--json", f"s={suite}", "1"],
+                ["send", store, program(), "--json", "--show", "1"], ["branches", "--json", log],
+            ):
+                name, *rest = words
+                self.assertTrue(json.loads(run([*command(name), *rest])[0]), words)
+            told = json.loads(run([*command("graph"), store, program(), "--json", "1"])[0])
+            bases = {it["version"]: it["based_on"] for it in told["versions"]}
+            self.assertEqual(
+                bases, {"foo/2.0-1": "foo/1.0-2", "foo/1.0-2": "foo/1.0-1", "foo/1.0-1": None})
+
+    def test_lines(self):
+        """An error is one line, and each command has its help."""
+        for name in COMMANDS:
+            _, errors = run([*command(name), "--nothing"], status=2)
+            self.assertRegex(errors, f"^{name}: error: [^\n]*; {name} --help says what there is\n$")
+            self.assertIn("usage: ", run([*command(name), "--help"])[0])
+        _, errors = run([*command("release"), program(), "--store=/none", "s=/none"], status=3)
+        self.assertEqual(errors.count("\n"), 1)
+
+    def test_steering(self):
+        """What is told has nothing that steers a terminal, and JSON means what it meant."""
+        self.assertEqual(json.loads(terminal.json_text(json.dumps(
+            [STEERING], ensure_ascii=False))), [STEERING])
+        told = terminal.json_text(json.dumps([STEERING, "\u00e9 \u00a0"], ensure_ascii=False))
+        self.assertTrue(told.replace("\u00a0", " ").isprintable())
+        for name, words in (
+            ("branches", [f"/none{STEERING}"]), ("release", ["--store=x", f"s=/n{STEERING}"]),
+            ("release", ["--store=x", f"{STEERING}"]),
+        ):
+            ran = subprocess.run([*command(name), *words], capture_output=True, check=False)
+            self.assertTrue(ran.stderr.decode().replace("\n", "").isprintable(), words)
+
+
+class Package(unittest.TestCase):
+    """The package itself."""
+
+    def test_imports(self):
+        """No module imports anything but the standard library and the package."""
+        for path in [*PACKAGE.glob("*.py"), *(desks.COMMANDS / name for name in COMMANDS)]:
+            names = re.findall(r"^ *(?:from|import) ([\w.]+)", path.read_text(), re.MULTILINE)
+            for name in names:
+                first = name.split(".")[0]
+                self.assertIn(first, {"", "boxhumilwa", *sys.stdlib_module_names}, path)
+
+    def test_warnings(self):
+        """With each warning an error, nothing is told."""
+        with folder() as place:
+            store = f"--store={make_desk(place, DAY)}"
+            packed = subprocess.run(["gzip", "-c"], input=STABLE.encode(), capture_output=True)
+            suite = written(place, "stable.gz", packed.stdout)
+            for name, *words in (
+                ("release", store, program(), f"s={suite}"),
+                ("graph", store, program(), f"s={suite}", "1"),
+                ("send", store, program(), "--show", "1"),
+            ):
+                python, *rest = command(name)
+                self.assertEqual(run([python, "-W", "error", *rest, *words])[1], "")
+
+    def test_progress(self):
+        """How far it is is told on a terminal, after two seconds."""
+        for waits, count in ((0, 0), (terminal.PATIENCE + 1, 1)):
+            stream = io.StringIO()
+            stream.isatty = lambda: True
+            with mock.patch.object(terminal.sys, "stderr", stream):
+                progress = terminal.Progress("x")
+                now = time.monotonic() + waits
+                with mock.patch.object(terminal.time, "monotonic", return_value=now):
+                    progress(2, "lists")
+                    progress(2, "lists")
+            self.assertEqual(stream.getvalue().count("x: 2 of 2 lists\n"), count)
+
+
+if __name__ == "__main__":
+    unittest.main()

@@ -1,0 +1,177 @@
+"""Tests of the gate's own tools: each passes what is right and no more."""
+
+import importlib.machinery
+import importlib.util
+import os
+import pathlib
+import subprocess
+import unittest
+
+import check_layers
+import desks
+from desks import ROOT, folder, run
+
+GATE = ROOT / "tools/gate"
+
+# Crates in two layers, and what a document says of them.
+LISTED = "# Lowest first.\n# Low\nbase_a: kit\ndebver: base_a\n# High\ntop_b: base_a debver kit\n"
+LAYERS = """- **base** (`base_..`, `debver`): stands on no other layer, and never knows
+  the top.
+- **top** (`top_..`): stands on base; it never knows more.
+
+```mermaid
+  subgraph base["Low"]
+    base_a
+    debver --> base_a
+  end
+  subgraph top["High"]
+    top_b --> debver
+  end
+```
+
+| Crate | Lines | Holds |
+|---|---|---|
+| **Low** | | |
+| `base_a` | 1 | this |
+| `debver` | 1 | that |
+| **High** | | |
+| `top_b` | 1 | more |
+
+"""
+
+
+class Gate(unittest.TestCase):
+    """`with_minutes` and `checks_at_once`, which the gate runs."""
+
+    def test_minutes(self):
+        """All lines but that of the status are handed on, and what is proved has its minutes."""
+        said = b"rt: foo proved\nrt: foo: its tests are proved\nrt: bar NOT PROVED\n\xff\n"
+        for status in (0, 2):
+            given = said + b"1 passed, 1 failed\nstatus %d\n" % status
+            command = [GATE / "with_minutes"]
+            ran = subprocess.run(command, input=given, capture_output=True, check=False)
+            self.assertEqual(ran.returncode, status)
+            told = [line for line in ran.stdout.splitlines() if line.startswith(b"gate: ")]
+            self.assertEqual(told, [
+                b"gate: foo after 0.0 minutes (0.0 without stolen time)",
+                b"gate: foo's tests after 0.0 minutes (0.0 without stolen time)",
+                b"gate: all after 0.0 minutes (0.0 without stolen time)",
+                b"gate: minutes (without stolen time): "
+                b"foo 0.0 (0.0), foo's tests 0.0 (0.0), all 0.0 (0.0)"])
+            handed = [line for line in ran.stdout.splitlines() if line not in told]
+            self.assertEqual(handed, given.splitlines()[:-1])
+
+    def test_cut(self):
+        """Where no status comes, the gate fails."""
+        self.assertEqual(run([GATE / "with_minutes"], "rt: foo proved\n", 1)[0].count("gate: "), 3)
+
+    def test_stolen_time(self):
+        """Of a minute in which the host took a third of the wanted time, 40 seconds are left."""
+        loader = importlib.machinery.SourceFileLoader("with_minutes", str(GATE / "with_minutes"))
+        spec = importlib.util.spec_from_loader(loader.name, loader)
+        module = importlib.util.module_from_spec(spec)
+        loader.exec_module(module)
+        self.assertEqual(module.processor_times("cpu  1 2 3 100 200 4 5 6 0 0\ncpu0 1\n"), (21, 6))
+        clock = module.Clock()
+        clock.last = clock.began = clock.last - 60
+        clock.times = (0, 0)
+        clock.read = lambda: (300, 100)
+        minutes, own = clock.minutes()
+        self.assertAlmostEqual(minutes, 1.0, 2)
+        self.assertAlmostEqual(own, 2 / 3, 2)
+
+    def test_copy(self):
+        """A copy has the crates named and all below them, no others, and no wrong bodies."""
+        with folder() as place:
+            run([GATE / "copy_crates", place, "version_nodes", "base_words"])
+            copied = sorted(path.name for path in pathlib.Path(place, "crates").iterdir())
+            self.assertEqual(copied, ["base_words", "debver", "version_nodes"])
+            listed = pathlib.Path(place, "crates.txt").read_text(encoding="utf-8").splitlines()
+            self.assertEqual(sorted(line.split(":")[0] for line in listed), copied)
+            parts = {path.name for path in pathlib.Path(place, "crates", "debver").iterdir()}
+            self.assertEqual(parts & {"src", "must-fail", "wrong-bodies", "out"}, {"src"})
+
+    def test_checks(self):
+        """At least one check runs, and at most one a processor."""
+        output, _ = run([GATE / "checks_at_once"])
+        self.assertIn(int(output), range(1, os.cpu_count() + 1))
+
+
+class CheckLayers(unittest.TestCase):
+    """`check_layers`, by which `check_documents` compares layers and names."""
+
+    def assert_told(self, told, *wanted):
+        """There are as many complaints as these, each with its text."""
+        self.assertEqual(len(told), len(wanted), told)
+        for complaint, text in zip(told, wanted):
+            self.assertIn(text, complaint)
+
+    def sentences(self, old, new):
+        """The complaints of sentences in which a text is another."""
+        self.assertIn(old, LISTED + LAYERS)
+        told = LISTED.replace(old, new), LAYERS.replace(old, new)
+        return list(check_layers.check_sentences(*told))
+
+    def test_sentences(self):
+        """What is right has no complaint, and each thing that is wrong has its own."""
+        self.assert_told(self.sentences("Low", "Low"))
+        self.assert_told(self.sentences("top_b: ", "base_b: "), "`base_b` has no name")
+        self.assert_told(self.sentences(", `debver`", ""), "`debver` has no name")
+        self.assert_told(self.sentences("`debver`)", "`base_a`, `debver`)"), "has to have a prefix")
+        self.assert_told(self.sentences("`debver`)", "`debver`, `bts`)"), "`bts` is no crate")
+        self.assert_told(self.sentences("`top_..`", "`tops_..`"), "`tops_..` is no crate")
+        self.assert_told(self.sentences("on base;", "on nothing;"), "top stands on base")
+        self.assert_told(self.sentences("on no other layer", "on the top"), "not stand on top")
+        self.assert_told(self.sentences("knows more", "knows bases"), "top knows base")
+        self.assert_told(self.sentences("on base;", "on all below it;"))
+        self.assert_told(self.sentences("on base;", "by `top_b` alone on base;"))
+        alone = self.sentences("on base;", "by `top_c` alone, which is new, on base;")
+        self.assert_told(alone, "`top_b` stands on base too, not `top_c` alone")
+        self.assert_told(self.sentences("# High\n", ""), "2 layers have a sentence")
+
+    def test_headings(self):
+        """A heading or a crate that stands elsewhere in the drawing or the table is told."""
+        for old, new, *wanted in (
+            ("Low", "Low"),
+            ('["Low"]', '["Lower"]', "layer 1 of the drawing"),
+            ("**High**", "**Higher**", "layer 2 of the table"),
+            ("| **High** | | |\n", "", "layer 1 of the table", "the table has 1"),
+            ("    debver --> base_a\n", "", "layer 1 of the drawing"),
+        ):
+            told = list(check_layers.check_headings(LISTED, LAYERS.replace(old, new)))
+            self.assert_told(told, *wanted)
+
+    def test_edges(self):
+        """An edge that follows from others is not drawn, and headings are no crates."""
+        drawn = {"base_a": [], "debver": ["base_a"], "top_b": ["debver"]}
+        self.assertEqual(check_layers.edges_drawn(LISTED), drawn)
+
+    def test_names(self):
+        """Types of one name, and files that differ by a plural."""
+        texts = {"a.rt": "pub struct It;\nstruct Own;\n", "b.rt": "pub enum It {}\nenum Own {}\n"}
+        self.assert_told(list(check_layers.check_types(texts)), "`It` is a public type of a.rt too")
+        files = ["a/job.rt", "a/jobs.rt", "b/job.rt", "c/jobs.rt"]
+        self.assert_told(list(check_layers.check_plurals(files)), "a/job.rt:1: it and a/jobs.rt")
+
+
+class CheckOptions(unittest.TestCase):
+    """`check_options`, which compares manual pages and completion with the help."""
+
+    def test_program(self):
+        """The program's help has what the manual pages and the completion have."""
+        self.assertEqual(run([GATE / "check_options", desks.program()]), ("", ""))
+
+    def test_wrong_help(self):
+        """A help without the option of a store differs."""
+        told, _ = run([desks.program(), "--help"])
+        with folder() as place:
+            program = pathlib.Path(place, "program")
+            wrong = told.replace("--store", "--stow")
+            program.write_text(f"#!/bin/sh\ncat <<'END'\n{wrong}\nEND\n")
+            program.chmod(0o755)
+            output, _ = run([GATE / "check_options", program], status=1)
+            self.assertIn("store", output)
+
+
+if __name__ == "__main__":
+    unittest.main()
