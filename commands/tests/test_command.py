@@ -1,6 +1,7 @@
 """Tests of what all commands share: where a desk is, JSON, errors in a line, and hostile text."""
 
 import contextlib
+import gzip
 import io
 import json
 import os
@@ -18,8 +19,9 @@ from desks import DAY, STABLE, command, folder, make_desk, run, served, written
 
 from boxhumilwa import terminal
 
-COMMANDS = ("branches", "graph", "release", "send")
+COMMANDS = sorted(path.name for path in desks.COMMANDS.iterdir() if path.is_file())
 PACKAGE = desks.COMMANDS / "boxhumilwa"
+LOG = "foo (1) sid; urgency=low\n\n -- A <a@b.example>  x\n"
 # What would steer a terminal, a line, or the direction of writing.
 STEERING = "\x1b[2J\u202e\x9b\u2028"
 
@@ -131,11 +133,12 @@ class Answers(unittest.TestCase):
         with folder() as place:
             store = f"--store={make_desk(place, DAY)}"
             suite = written(place, "stable", STABLE)
-            log = written(place, "log", "foo (1) sid; urgency=low\n\n -- A <a@b.example>  x\n")
+            log = written(place, "log", LOG)
             for words in (
                 ["release", store, program(), "--json", f"s={suite}"],
                 ["graph", store, program(), "--json", f"s={suite}", "1"],
                 ["send", store, program(), "--json", "--show", "1"], ["branches", "--json", log],
+                ["count", store, program(), "--json", "foo", "2.0-1"],
             ):
                 name, *rest = words
                 self.assertTrue(json.loads(run([*command(name), *rest])[0]), words)
@@ -182,12 +185,13 @@ class Package(unittest.TestCase):
         """With each warning an error, nothing is told."""
         with folder() as place:
             store = f"--store={make_desk(place, DAY)}"
-            packed = subprocess.run(["gzip", "-c"], input=STABLE.encode(), capture_output=True)
-            suite = written(place, "stable.gz", packed.stdout)
+            suite = written(place, "stable.gz", gzip.compress(STABLE.encode()))
+            log = written(place, "log.gz", gzip.compress(LOG.encode()))
             for name, *words in (
                 ("release", store, program(), f"s={suite}"),
                 ("graph", store, program(), f"s={suite}", "1"),
-                ("send", store, program(), "--show", "1"),
+                ("send", store, program(), "--show", "1"), ("branches", log),
+                ("count", store, program(), "foo", "2.0-1"),
             ):
                 python, *rest = command(name)
                 self.assertEqual(run([python, "-W", "error", *rest, *words])[1], "")

@@ -1,8 +1,9 @@
-"""Tests that `check_options` tells where a packaged tool's page or completion lacks an option."""
+"""Tests that `check_options` tells where a command's page lacks an option, and completes all."""
 
 import importlib.machinery
 import importlib.util
 import unittest
+import unittest.mock
 
 import desks
 from desks import command, run
@@ -19,17 +20,12 @@ def load_check():
 
 
 CHECK = load_check()
-# What is changed in a page and in a completion, and what has to be told then.
+# What is changed in a page, and what has to be told then.
 WRONG_PAGES = (
     (".It Fl Fl id Ns = Ns Ar TEXT\n", "", "id"), ("Fl Fl port Ns = Ns Ar N\n", "", "port"),
     (".It Fl Fl show\n", ".It Fl Fl show Ns = Ns Ar N\n", "show"),
     (".It Fl Fl from Ns = Ns Ar TEXT", ".It Fl Fl from Ns = Ns Ar WHO", "from"),
     (".It Fl h , Fl Fl help\n", "", "help"), (".It Fl Fl list\n", ".It Fl Fl lists\n", "lists"),
-)
-WRONG_COMPLETIONS = (
-    ("--id= --report", "--report", "--id="), ("--from= --port=", "--from --port=", "--from"),
-    ("--show --help", "--show --help --shown", "--shown"),
-    ("complete -F _boxhumilwa_tool boxhumilwa-send\n", "", "send is not completed"),
 )
 # An option whose value may be left out, and one with two values.
 HELP = """usage: x
@@ -47,51 +43,45 @@ Draws.
 .It Fl Fl package Ns = Ns Ar NAME
 .It Fl h , Fl Fl help
 """
-COMPLETION = """_boxhumilwa_x_options="--svg --svg= --compare
-    --package= --help"
-complete -F _boxhumilwa_tool boxhumilwa-x
-"""
 
 
 class CheckTools(unittest.TestCase):
     """`check_options`, of the tools."""
 
     def test_send(self):
-        """The page and the completion of `send` have its options, and wrong ones are told."""
+        """The page of `send` has its options, and wrong ones are told."""
         told, _ = run([*command("send"), "--help"])
-        page, completion = CHECK.read("packaging/boxhumilwa-send.1"), CHECK.read(
-            "packaging/completion-tools")
-        self.assertEqual(CHECK.compare_tool("send", told, page, completion), [])
+        page = CHECK.read("packaging/boxhumilwa-send.1")
+        self.assertEqual(CHECK.compare_tool("send", told, page), [])
         for old, new, name in WRONG_PAGES:
             self.assertIn(old, page)
-            lines = CHECK.compare_tool("send", told, page.replace(old, new), completion)
+            lines = CHECK.compare_tool("send", told, page.replace(old, new))
             with self.subTest(old):
                 self.assertTrue(lines)
                 self.assertIn(name, "".join(lines))
-        for old, new, name in WRONG_COMPLETIONS:
-            self.assertIn(old, completion)
-            lines = CHECK.compare_tool("send", told, page, completion.replace(old, new))
-            with self.subTest(old):
-                self.assertEqual(len(lines), 1)
-                self.assertIn(name, lines[0])
 
     def test_values(self):
         """A value that may be left out, and two values."""
-        self.assertEqual(CHECK.compare_tool("x", HELP, PAGE, COMPLETION), [])
+        self.assertEqual(CHECK.compare_tool("x", HELP, PAGE), [])
         self.assertEqual(CHECK.help_of_tool(HELP), {
             "help": [], "svg": ["[FILE]"], "compare": ["A", "B"], "package": ["NAME"]})
-        for page, completion in (
-            (PAGE.replace("svg Op", "svg"), COMPLETION), (PAGE, COMPLETION.replace("--svg=", "")),
-            (PAGE.replace("A B", "A"), COMPLETION), (PAGE, COMPLETION.replace("re\n", "re=\n")),
-        ):
-            self.assertEqual(len(CHECK.compare_tool("x", HELP, page, completion)), 1)
+        for page in (PAGE.replace("svg Op", "svg"), PAGE.replace("A B", "A")):
+            self.assertEqual(len(CHECK.compare_tool("x", HELP, page)), 1)
+        self.assertEqual(
+            CHECK.completed(CHECK.help_of_tool(HELP)),
+            {"--svg", "--svg=", "--compare", "--package=", "--help"})
 
     def test_all(self):
-        """Each tool that is packaged has its page and its completion."""
+        """Each command that is there has its page, and its options complete it."""
         self.assertEqual(CHECK.compare_tools(), [])
-        for tool in ("branches", "release", "send"):
+        for tool in ("branches", "count", "release", "send"):
             self.assertIn(tool, CHECK.COMMANDS)
-            self.assertTrue((desks.COMMANDS / tool).is_file())
+        self.assertEqual(
+            run([TOOL, "--completed=count"])[0],
+            "--help --json --port= --program= --socket= --store=\n")
+        with unittest.mock.patch.object(CHECK, "COMMANDS", ["none"]):
+            self.assertEqual(
+                CHECK.compare_tools(), ["packaging/boxhumilwa-none.1: commands/none has no page"])
 
 
 if __name__ == "__main__":
