@@ -87,20 +87,61 @@ def free_port():
 
 
 @contextlib.contextmanager
-def served(store, *options, variables=None):
-    """The port of a server of a desk, which ends with the block; these variables are set for it."""
+def server_of(store, *options):
+    """A server of a desk, which ends with the block: its port, and its process."""
     port = free_port()
     words = [program(), f"--port={port}", f"--store={store}", *options, "serve"]
-    server = subprocess.Popen(
-        words, stdout=subprocess.PIPE, stderr=subprocess.DEVNULL,
-        env=os.environ | (variables or {}))
+    server = subprocess.Popen(words, stdout=subprocess.PIPE, stderr=subprocess.DEVNULL)
     try:
         server.stdout.readline()
-        yield port
+        yield port, server
     finally:
         server.terminate()
         server.wait()
         server.stdout.close()
+
+
+@contextlib.contextmanager
+def served(store, *options):
+    """The port of a server of a desk, which ends with the block."""
+    with server_of(store, *options) as (port, _):
+        yield port
+
+
+def hand_on(source, target):
+    """Hands on all bytes of a socket to another."""
+    with contextlib.suppress(OSError):
+        while data := source.recv(65_536):
+            target.sendall(data)
+        target.shutdown(socket.SHUT_WR)
+
+
+def serve_socket(server, port):
+    """Hands on each connection of a Unix socket to a port, one after another."""
+    with contextlib.suppress(OSError):
+        while True:
+            client = server.accept()[0]
+            with client, socket.create_connection(("127.0.0.1", port)) as desk:
+                back = threading.Thread(target=hand_on, args=(client, desk), daemon=True)
+                back.start()
+                hand_on(desk, client)
+                with contextlib.suppress(OSError):
+                    client.shutdown(socket.SHUT_RDWR)
+                back.join()
+
+
+@contextlib.contextmanager
+def over_socket(store):
+    """The port of a server of a desk, and a Unix socket that leads to it."""
+    with folder() as place, served(store) as port, socket.socket(socket.AF_UNIX) as server:
+        path = os.path.join(place, "desk.socket")
+        server.bind(path)
+        server.listen()
+        thread = threading.Thread(target=serve_socket, args=(server, port), daemon=True)
+        thread.start()
+        yield port, path
+        server.shutdown(socket.SHUT_RDWR)
+        thread.join()
 
 
 @contextlib.contextmanager

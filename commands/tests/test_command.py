@@ -1,21 +1,18 @@
 """Tests of what all commands share: where a desk is, JSON, errors in a line, and hostile text."""
 
-import contextlib
 import gzip
 import io
 import json
-import os
 import re
-import socket
+import shutil
 import subprocess
 import sys
-import threading
 import time
 import unittest
 from unittest import mock
 
 import desks
-from desks import DAY, STABLE, command, folder, make_desk, run, served, written
+from desks import DAY, STABLE, command, folder, make_desk, over_socket, run, served, written
 
 from boxhumilwa import terminal
 
@@ -26,42 +23,6 @@ LOG = "foo (1) sid; urgency=low\n\n -- A <a@b.example>  x\n"
 STEERING = "\x1b[2J\u202e\x9b\u2028"
 
 
-def hand_on(source, target):
-    """Hands on all bytes of a socket to another."""
-    with contextlib.suppress(OSError):
-        while data := source.recv(65_536):
-            target.sendall(data)
-        target.shutdown(socket.SHUT_WR)
-
-
-def serve_socket(server, port):
-    """Hands on each connection of a Unix socket to a port, one after another."""
-    with contextlib.suppress(OSError):
-        while True:
-            client = server.accept()[0]
-            with client, socket.create_connection(("127.0.0.1", port)) as desk:
-                back = threading.Thread(target=hand_on, args=(client, desk), daemon=True)
-                back.start()
-                hand_on(desk, client)
-                with contextlib.suppress(OSError):
-                    client.shutdown(socket.SHUT_RDWR)
-                back.join()
-
-
-@contextlib.contextmanager
-def over_socket(store):
-    """The port of a server of a desk, and a Unix socket that leads to it."""
-    with folder() as place, served(store) as port, socket.socket(socket.AF_UNIX) as server:
-        path = os.path.join(place, "desk.socket")
-        server.bind(path)
-        server.listen()
-        thread = threading.Thread(target=serve_socket, args=(server, port), daemon=True)
-        thread.start()
-        yield port, path
-        server.shutdown(socket.SHUT_RDWR)
-        thread.join()
-
-
 def program():
     """The option that names the program."""
     return f"--program={desks.program()}"
@@ -70,28 +31,37 @@ def program():
 class Places(unittest.TestCase):
     """A desk in a file, at a port and at a socket is the same to each command."""
 
-    def test_socket(self):
-        """What is asked over a socket is answered as over the port."""
+    def test_same(self):
+        """What is asked of a file is answered as by its server, at the port and over a socket."""
         with folder() as place:
             store = make_desk(place, DAY)
             suite, day = written(place, "stable", STABLE), written(place, "day", DAY)
+            branches, copy = f"--branches={day}", shutil.copy(desks.program(), f"{place}/bts")
+            orders = (
+                ["release", f"s={suite}"], ["release", "--json", f"s={suite}"],
+                ["graph", "1"], ["graph", "--json", f"s={suite}", "2"],
+                ["send", "--from=ann", "severity", "2", "important"],
+                ["send", "--list", "foo", "2.0-1"], ["send", "--json", "--show", "1"],
+                ["count", "foo", "2.0-1"], ["count", "--json", "bar", "3"],
+            )
+            told = [self.told(order, f"--store={store}", program()) for order in orders]
+            other = [self.told(order, f"--store={store}", f"--program={copy}") for order in orders]
+            self.assertEqual(told, other)
+            self.assertNotIn("", [output for output, _ in told])
             with over_socket(store) as (port, path):
-                for words in (
-                    ["release", program(), f"s={suite}"],
-                    ["graph", program(), f"--branches={day}", "1"],
-                    ["send", "--from=ann", "severity", "2", "important"],
-                    ["send", "--list", "foo", "2.0-1"], ["send", "--show", "1"],
-                    ["send", "--json", "--show", "1"],
-                ):
-                    name, *rest = words
-                    told = [
-                        run([*command(name), where, *rest])
-                        for where in (f"--port={port}", f"--socket={path}")]
-                    with self.subTest(words):
-                        self.assertEqual(told[0], told[1])
-                        self.assertNotEqual(told[0][0], "")
+                for order, wanted in zip(orders, told):
+                    more = [branches] if order[0] == "graph" else []
+                    for where in (f"--port={port}", f"--socket={path}"):
+                        with self.subTest(order, where=where):
+                            found = self.told(order, where, program(), *more)
+                            self.assertEqual(found, wanted)
             words = [*command("send"), f"--socket={place}/none", "--show", "1"]
             self.assertIn("no desk is served there", run(words, status=3)[1])
+
+    def told(self, order, *options):
+        """What a command prints and tells with these options."""
+        name, *rest = order
+        return run([*command(name), *options, *rest])
 
     def test_file(self):
         """What `send` does over a file is what it does over a server of another such file."""

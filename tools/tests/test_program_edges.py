@@ -5,13 +5,14 @@ import http.client
 import json
 import os
 import pathlib
+import resource
 import shutil
 import sqlite3
 import subprocess
 import unittest
 
 import desks
-from desks import ROOT, folder, make_desk, program, run, served
+from desks import folder, make_desk, program, run, served, server_of
 
 NOBODY = 65534
 # The causes of a file that is not opened, as the manual has them.
@@ -98,8 +99,8 @@ class Files(unittest.TestCase):
 class OutOfMemory(unittest.TestCase):
     """A message with an id for whose lines there is no memory."""
 
-    # More than a request takes at once, and less than the lines of a message of so many.
-    ABOVE = 250_000
+    # More than a request takes, and less than the lines of a message of so many.
+    MORE = 500_000
     LINES = 32_000
 
     def send(self, port, words):
@@ -118,13 +119,11 @@ class OutOfMemory(unittest.TestCase):
         new = {"id": "m2", "message": "\n" * self.LINES}
         with folder() as place:
             store = make_desk(place, desks.RELEASE_DAY)
-            library = str(pathlib.Path(place, "refuse.so"))
-            compiler = os.environ.get("CC", "cc")
-            run([compiler, "-O2", "-shared", "-fPIC", "-nostdlib", "-o", library,
-                 ROOT / "tools/compare/refuse_memory.c"])
-            little = {"LD_PRELOAD": library, "ABOVE": str(self.ABOVE)}
-            with served(store, variables=little) as port:
+            with server_of(store) as (port, server):
                 self.assertEqual(self.send(port, short)[0], 200)
+                pages = int(pathlib.Path(f"/proc/{server.pid}/statm").read_text().split()[0])
+                most = pages * resource.getpagesize() + self.MORE
+                resource.prlimit(server.pid, resource.RLIMIT_AS, (most, most))
                 self.assertEqual(self.send(port, used), (409, {"error": "id in use"}))
                 self.assertEqual(self.send(port, new), (500, {"error": "store fault"}))
             with served(store) as port:

@@ -140,7 +140,7 @@ class Served(unittest.TestCase):
             self.assertEqual(server.stdout.readline(), f"Listening on 127.0.0.1:{port}\n".encode())
             for _ in range(2):
                 self.assertIsNone(server.poll())
-                connection = http.client.HTTPConnection("127.0.0.1", port, timeout=10)
+                connection = http.client.HTTPConnection("127.0.0.1", port, timeout=desks.TIME_LIMIT)
                 connection.request("GET", "/bugs/1")
                 self.assertEqual(connection.getresponse().status, 404)
                 connection.close()
