@@ -33,8 +33,11 @@ class Count(unittest.TestCase):
         with folder() as place:
             store = make_desk(place, DAY)
             where = f"--store={store}"
-            self.assertEqual(count(where, "FOO", "1", status=1), ("", "count: NO bad package name\n"))
-            self.assertEqual(count(where, "foo", "1_", status=1), ("", "count: NO bad version\n"))
+            for package, version, told in (
+                ("FOO", "1", "bad package name"), ("foo", "1_", "bad version"),
+            ):
+                self.assertEqual(
+                    count(where, package, version, status=1), ("", f"count: NO {told}\n"))
             with served(store) as port:
                 self.assertIn("404", count(f"--port={port}", "FOO", "1", status=1)[1])
             for words in (("foo", "1\n@show 1"), ("foo bar", "1"), ("", "1"), ("f\u00f6o", "1")):

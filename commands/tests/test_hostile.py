@@ -71,7 +71,8 @@ class Hostile(unittest.TestCase):
         self.told("release", f"--html={page}", f"s={self.index}")
         text = page.read_text(encoding="utf-8")
         self.assertNotIn("<script>", text)
-        self.assertEqual({letter for letter in text if unicodedata.category(letter) == "Cc"}, {"\n"})
+        controls = {letter for letter in text if unicodedata.category(letter) == "Cc"}
+        self.assertEqual(controls, {"\n"})
         self.assertEqual(text.count("<bdi>"), len(TITLES))
         for number in range(1, len(TITLES) + 1):
             path = pathlib.Path(self.folder, "picture.svg")
@@ -82,7 +83,7 @@ class Hostile(unittest.TestCase):
             self.assert_steers_nothing(path.read_text(encoding="utf-8"))
 
     def test_packages(self):
-        """A package that looks like an option or steers is refused, in a line that steers nothing."""
+        """A package that looks like an option or steers is refused, in a harmless line."""
         lines = "".join(f"{name} 1\n" for name in PACKAGES)
         index = written(self.folder, "hostile", f"foo 1\n{lines}")
         output, errors = self.told("release", f"s={index}")
