@@ -3,6 +3,7 @@
 import contextlib
 import gzip
 import io
+import os
 import pathlib
 import random
 import re
@@ -17,6 +18,8 @@ from desks import RELEASE_DAY, folder, make_desk, run, written
 
 # The release day of the manual with its stable branch, before its archive, and its suites.
 DAY = RELEASE_DAY + "@branch foo/1.0-2+s1 foo/1.0-2\n"
+# How many random desks there are.
+DESKS = int(os.environ.get("DESKS", "2"))
 SUITES = {"stable": "foo 1.0-2+s1\n", "testing": "foo 2.0-1\nbar 7\n"}
 DAY_TEXT = """Bug 1 in foo: crashes at start
 grave, done, listed at 3 of 4 versions
@@ -293,9 +296,9 @@ o    2.7         in d
     def test_random(self):
         """On random desks each version is drawn listed as `@list` has it, each mark as the page."""
         chance, folded = random.Random(4), 0
-        for name in ("one", "two"):
+        for name in range(DESKS):
             script = [*random_day(chance)]
-            store = random_desk(self.folder, name, script)
+            store = random_desk(self.folder, f"desk.{name}", script)
             for number in range(1, BUGS + 1):
                 picture, _ = picture_of(f"--store={store}", number)
                 self.compare(store, script, number, picture)

@@ -18,6 +18,8 @@ from boxhumilwa import desk_served
 from boxhumilwa.answers import SEVERITIES
 from boxhumilwa.faults import Fault
 
+# How many random desks there are.
+DESKS = int(os.environ.get("DESKS", "3"))
 # What the report of the release day says, below its figures.
 STABLE_BUGS = """stable: release-critical bugs
 
@@ -269,8 +271,8 @@ class OverFile(unittest.TestCase):
     def test_random(self):
         """Over random desks the counts are those of `@list`, counted from its text."""
         chance, repeated = random.Random(8), 0
-        for name in ("one", "two", "three"):
-            store = make_desk(self.folder, "\n".join(random_day(chance)), name)
+        for name in range(DESKS):
+            store = make_desk(self.folder, "\n".join(random_day(chance)), f"desk.{name}")
             suite = [f"{package} {chance.choice('1234')}" for package in PACKAGES]
             index = written(self.folder, "index", "\n".join(suite))
             output, _ = release(f"--store={store}", "--json", "--severity=wishlist", f"s={index}")
